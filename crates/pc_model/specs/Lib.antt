@@ -1,0 +1,5 @@
+pub mod Sums
+pub mod Greatest
+pub mod Walk
+pub mod Network
+pub mod Schedule
