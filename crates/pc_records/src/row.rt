@@ -57,7 +57,7 @@ impl Row {
     pub fn field(&self, i: usize) -> &[u8]
         ensures { result.now ≡ field_at self.now i }
     {
-        self.fields.get(i).unwrap_or(&[])
+        self.get(i).unwrap_or(&[])
     }
 
     /// Whether all fields are empty. Such a record is no card.
@@ -71,11 +71,6 @@ impl Row {
     pub fn is_blank_from(&self, start: usize) -> bool
         ensures { result ≡ is_blank (drop start self.now) }
     {
-        for i in start..self.fields.len() {
-            if !self.field(i).is_empty() {
-                return false;
-            }
-        }
-        true
+        (start..self.len()).all(|i| self.field(i).is_empty())
     }
 }

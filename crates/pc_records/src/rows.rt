@@ -1,7 +1,10 @@
 // The records of a deck in turn.
 
-ghost use Rattle.std.specs.Prelude.{◌≡◌, ◌+◌, ◌≤◌, ◌∷◌, [], List, ℕ, true, false, length, IfOk, OnErr};
+ghost use Rattle.std.specs.Prelude.{◌≡◌, ◌+◌, ◌≤◌, ◌∷◌, [], List, ℕ, true, false, length, IfOk, OnErr, Some};
+ghost use Rattle.csv.specs.Reading.{reader_state, strip_bom};
+ghost use Rattle.csv.specs.declared.parser.State.TheVariants as st;
 ghost use Rattle.pc_records.specs.Deck.{deck_records, without_mark};
+ghost use Rattle.pc_records.specs.Reading.{bytes_left, IsGoing};
 
 use crate::row::Row;
 use csv::{Reader, ReaderBuilder};
@@ -78,7 +81,11 @@ fn unmarked(bytes: &[u8]) -> &[u8]
 }
 
 // A reader of records of any length, with no header row.
-fn reader_of(alloc: Global, bytes: &[u8]) -> Reader<&[u8]> {
+fn reader_of(alloc: Global, bytes: &[u8]) -> Reader<&[u8]>
+    ensures going { IsGoing result }
+    ensures state { reader_state result ≡ st.StartRecord }
+    ensures bytes { bytes_left result ≡ Some (strip_bom bytes.now) }
+{
     ReaderBuilder::new()
         .has_headers(false)
         .flexible(true)
