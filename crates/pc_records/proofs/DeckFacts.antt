@@ -43,7 +43,7 @@ start_field-EndsBetween cfg c =
 
 start_record-EndsBetween : (cfg : Config) (c : ℕ) → EndsBetween (start_record cfg c)
 start_record-EndsBetween cfg c =
-    if-EndsBetween (ends_with cfg.terminator c) (st.StartRecord, act.Skip) _ (λ e. cc e) (
+    if-EndsBetween (ends_with cfg.terminator c) (st.StartRecord, act.Skip) _ (λ _. refl) (
       if-EndsBetween (is_byte cfg.comment c) (st.InComment, act.Skip) (start_field cfg c) (λ e. cc e) (start_field-EndsBetween cfg c))
 
 step-EndsBetween : (cfg : Config) (s : State) (c : ℕ) → EndsBetween (step cfg s c)
@@ -57,9 +57,9 @@ step-EndsBetween cfg st.InEscape c = λ e. cc e
 step-EndsBetween cfg st.AfterQuote c =
     if-EndsBetween (cfg.quoting && cfg.double_quote && (c == cfg.quote)) (st.InQuoted, act.Copy) (in_field cfg c) (λ e. cc e) (in_field-EndsBetween cfg c)
 step-EndsBetween cfg st.InComment c =
-    if-EndsBetween (c == 10) (st.StartRecord, act.Skip) (st.InComment, act.Skip) (λ e. cc e) (λ e. cc e)
+    if-EndsBetween (c == 10) (st.StartRecord, act.Skip) (st.InComment, act.Skip) (λ _. refl) (λ e. cc e)
 step-EndsBetween cfg st.AfterCr c =
-    if-EndsBetween (c == 10) (st.StartRecord, act.Skip) (start_record cfg c) (λ e. cc e) (start_record-EndsBetween cfg c)
+    if-EndsBetween (c == 10) (st.StartRecord, act.Skip) (start_record cfg c) (λ _. refl) (start_record-EndsBetween cfg c)
 
 -- what a record leaves: a state between two records, and fewer bytes
 record Leaves (s : State) (xs : List ℕ) (p : Read) : Type 0 where

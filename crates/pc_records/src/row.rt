@@ -71,6 +71,11 @@ impl Row {
     pub fn is_blank_from(&self, start: usize) -> bool
         ensures { result ≡ is_blank (drop start self.now) }
     {
-        (start..self.len()).all(|i| self.field(i).is_empty())
+        for i in start..self.len() {
+            if !self.field(i).is_empty() {
+                return false;
+            }
+        }
+        true
     }
 }

@@ -1,6 +1,7 @@
--- `csv` counts the fields as a slice does its elements.
-use Rattle.csv.specs.Records.{fields_of}
+-- A field that is there, or an empty one.
+use Rattle.std.proofs.Common.{refl}
+use Rattle.pc_records.proofs.FieldFacts.{now-unwrap_or}
 use Rattle.pc_records.proofs.row.Row.field.Goals as goal
 
 pub returns : goal.returns
-returns c = ?
+returns c = rw c.unwrap_or.ensures (now-unwrap_or c.get.result _ c.args.self.now c.args.i refl c.get.ensures)
