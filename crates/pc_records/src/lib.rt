@@ -7,6 +7,8 @@
 
 mod row;
 mod rows;
+#[cfg(test)]
+mod tests;
 
 pub use crate::row::Row;
 pub use crate::rows::Rows;
