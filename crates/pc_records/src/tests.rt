@@ -7,7 +7,7 @@ fn spelled(alloc: Global, deck: &[u8]) -> Result<Vec<u8>, AllocError> {
     let mut rows = Rows::new(alloc, deck);
     let mut row = Row::new(alloc);
     let mut text = Vec::new(alloc);
-    while rows.next_row(&mut row)? {
+    'rows: while rows.next_row(&mut row)? {
         text.push(b'[')?;
         for i in 0..row.len() {
             if i > 0 {
