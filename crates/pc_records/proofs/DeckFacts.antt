@@ -1,9 +1,9 @@
 -- How many records a deck has, and how the records that are left follow from the next one.
-use Rattle.std.proofs.Common.{◌≡◌, ◌≤◌, ◌<◌, ◌-◌, ◌+◌, ◌∙◌, ℕ, Bool, true, false, zero, suc, List, [], ◌∷◌, ◌++◌, drop, length, nat_eq, Option, Some, None, refl, sym, ap, subst, unwrap_or, ◌==◌, ◌&&◌, if◌then◌else◌, arith}
+use Rattle.std.proofs.Common.{◌≡◌, ◌≤◌, ◌<◌, ◌+◌, ◌∙◌, ℕ, Bool, true, false, zero, suc, List, [], ◌∷◌, ◌++◌, drop, length, nat_eq, Option, Some, None, refl, sym, ap, subst, unwrap_or, ◌==◌, ◌&&◌, if◌then◌else◌, arith}
 use Rattle.std.proofs.lemmas.List.{length-drop}
 use Rattle.std.specs.List.{starts_with}
 use Rattle.csv.specs.Machine.{Read, after_end, ends_at_end, ends_with, field_after, fields_after, in_field, is_byte, is_end, next_record, start_field, start_record, step}
-use Rattle.csv.specs.Reading.{default_config, is_bom, records, records_from, records_next, strip_bom}
+use Rattle.csv.specs.Reading.{default_config, is_bom, records_from, records_next, strip_bom}
 use Rattle.csv.specs.declared.parser.Action.{Action}
 use Rattle.csv.specs.declared.parser.Action.TheVariants as act
 use Rattle.csv.specs.declared.parser.Config.{Config}
@@ -33,9 +33,9 @@ after_end-between (term.Any t) c = refl
 in_field-EndsBetween : (cfg : Config) (c : ℕ) → EndsBetween (in_field cfg c)
 in_field-EndsBetween cfg c =
     if-EndsBetween (c == cfg.delimiter) (st.StartField, act.EndField) _ (λ e. cc e) (
-      if-EndsBetween (ends_with cfg.terminator c) (after_end cfg.terminator c, act.EndRecord) (st.InField, act.Copy)
-        (λ _. after_end-between cfg.terminator c)
-        (λ e. cc e))
+    if-EndsBetween (ends_with cfg.terminator c) (after_end cfg.terminator c, act.EndRecord) (st.InField, act.Copy)
+    (λ _. after_end-between cfg.terminator c)
+    (λ e. cc e))
 
 start_field-EndsBetween : (cfg : Config) (c : ℕ) → EndsBetween (start_field cfg c)
 start_field-EndsBetween cfg c =
@@ -44,7 +44,7 @@ start_field-EndsBetween cfg c =
 start_record-EndsBetween : (cfg : Config) (c : ℕ) → EndsBetween (start_record cfg c)
 start_record-EndsBetween cfg c =
     if-EndsBetween (ends_with cfg.terminator c) (st.StartRecord, act.Skip) _ (λ _. refl) (
-      if-EndsBetween (is_byte cfg.comment c) (st.InComment, act.Skip) (start_field cfg c) (λ e. cc e) (start_field-EndsBetween cfg c))
+    if-EndsBetween (is_byte cfg.comment c) (st.InComment, act.Skip) (start_field cfg c) (λ e. cc e) (start_field-EndsBetween cfg c))
 
 step-EndsBetween : (cfg : Config) (s : State) (c : ℕ) → EndsBetween (step cfg s c)
 step-EndsBetween cfg st.StartRecord c = start_record-EndsBetween cfg c
@@ -52,7 +52,7 @@ step-EndsBetween cfg st.StartField c = start_field-EndsBetween cfg c
 step-EndsBetween cfg st.InField c = in_field-EndsBetween cfg c
 step-EndsBetween cfg st.InQuoted c =
     if-EndsBetween (cfg.quoting && (c == cfg.quote)) (st.AfterQuote, act.Skip) _ (λ e. cc e) (
-      if-EndsBetween (cfg.quoting && is_byte cfg.escape c) (st.InEscape, act.Skip) (st.InQuoted, act.Copy) (λ e. cc e) (λ e. cc e))
+    if-EndsBetween (cfg.quoting && is_byte cfg.escape c) (st.InEscape, act.Skip) (st.InQuoted, act.Copy) (λ e. cc e) (λ e. cc e))
 step-EndsBetween cfg st.InEscape c = λ e. cc e
 step-EndsBetween cfg st.AfterQuote c =
     if-EndsBetween (cfg.quoting && cfg.double_quote && (c == cfg.quote)) (st.InQuoted, act.Copy) (in_field cfg c) (λ e. cc e) (in_field-EndsBetween cfg c)
@@ -85,7 +85,7 @@ next_record-leaves cfg s fields field (c ∷ rest) p e =
   where
     by : (b : Bool) → is_end (step cfg s c).1 ≡ b
         → (if b then Some (fields_after (step cfg s c).1 fields field, (step cfg s c).0, rest)
-          else next_record cfg (step cfg s c).0 (fields_after (step cfg s c).1 fields field) (field_after (step cfg s c).1 c field) rest) ≡ Some p
+        else next_record cfg (step cfg s c).0 (fields_after (step cfg s c).1 fields field) (field_after (step cfg s c).1 c field) rest) ≡ Some p
         → (next_record cfg (step cfg s c).0 (fields_after (step cfg s c).1 fields field) (field_after (step cfg s c).1 c field) rest ≡ Some p → Leaves (step cfg s c).0 rest p)
         → Leaves s (c ∷ rest) p
     by true b e more =

@@ -1,5 +1,5 @@
 -- The fields of a record by their places.
-use Rattle.std.proofs.Common.{◌≡◌, ◌≤◌, ◌<◌, ◌+◌, ◌∙◌, ℕ, Bool, true, false, zero, suc, List, [], ◌∷◌, drop, length, get_or, Option, Some, None, refl, ap, slice_get, unwrap_or, option_map, ◌&&◌, Bor, arith}
+use Rattle.std.proofs.Common.{◌≡◌, ◌≤◌, ◌<◌, ◌+◌, ◌∙◌, ℕ, true, zero, suc, List, [], ◌∷◌, drop, length, Option, Some, None, refl, ap, slice_get, unwrap_or, option_map, ◌&&◌, Bor, arith}
 use Rattle.std.proofs.lemmas.List.{drop_all}
 use Rattle.std.proofs.lemmas.Option.{unwrap_or-slice_get}
 use Rattle.csv.specs.Records as csv

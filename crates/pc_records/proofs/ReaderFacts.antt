@@ -1,7 +1,7 @@
 -- What a read of a record does to the records that a reader has left.
-use Rattle.std.proofs.Common.{◌≡◌, ◌++◌, ◌∙◌, Bor, ℕ, List, [], ◌∷◌, Option, Some, None, true, false, refl, inl, not, Bool}
+use Rattle.std.proofs.Common.{◌≡◌, ◌∙◌, Bor, ℕ, List, [], ◌∷◌, Option, Some, None, true, false, refl, inl, not, Bool}
 use Rattle.std.specs.Prelude.{IsSome}
-use Rattle.csv.specs.Machine.{Read, ends_at_end, next_record}
+use Rattle.csv.specs.Machine.{ends_at_end}
 use Rattle.csv.specs.Reading.{ReadRecord, Reached, default_config, is_flexible, reader_state, took_first}
 use Rattle.csv.specs.declared.parser.State.{State}
 use Rattle.csv.proofs.ReadFacts.{rows-end, rows-more}
@@ -53,7 +53,7 @@ read-going old new fields g r first flexible =
       config = r.2 ∙ g.config;
       flexible = flexible ∙ g.flexible;
       known = found.known;
-      between = found.between
+      between = found.between;
     }
 
 -- a reader that found no record had none left

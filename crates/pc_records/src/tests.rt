@@ -20,36 +20,41 @@ fn spelled(alloc: Global, deck: &[u8]) -> Result<Vec<u8>, AllocError> {
     Ok(text)
 }
 
+// Decks, and their records as `spelled` writes them.
+const CASES: [(&[u8], &[u8]); 20] = [
+    // Line ends: LF, CRLF, a lone CR, none at the end, blank lines.
+    (b"", b""),
+    (b"a,b\nc\n", b"[a|b][c]"),
+    (b"a,b\r\nc,d,e\r\n", b"[a|b][c|d|e]"),
+    (b"a,b\rc\r", b"[a|b][c]"),
+    (b"a\nb", b"[a][b]"),
+    (b"\n\na\n\r\n\n\rb\n\n", b"[a][b]"),
+    // Rows that a spreadsheet pads, and rows of nothing but commas.
+    (b"a,,\n", b"[a||]"),
+    (b",,\n,\n", b"[||][|]"),
+    (b"a,", b"[a|]"),
+    (b"\"\"\n", b"[]"),
+    // White space stays, and the first record is no header.
+    (b" a ,\tb\nc , d\n", b"[ a |\tb][c | d]"),
+    // Quoted fields: commas, doubled quotes, line ends; a quote inside a field; other delimiters.
+    (b"\"a,b\",c\n", b"[a,b|c]"),
+    (b"\"say \"\"so\"\"\",\"\"\n", b"[say \"so\"|]"),
+    (b"\"a\nb\r\nc\",d\n", b"[a\nb\r\nc|d]"),
+    (b"a\"b,'c;d\te'\n", b"[a\"b|'c;d\te']"),
+    (b"#a\n\"b\\\"\n", b"[#a][b\\]"),
+    // The mark in front: once, twice, three times, and elsewhere.
+    (b"\xEF\xBB\xBFa,b\n", b"[a|b]"),
+    (b"\xEF\xBB\xBF\xEF\xBB\xBFa\n", b"[a]"),
+    (
+        b"\xEF\xBB\xBF\xEF\xBB\xBF\xEF\xBB\xBFa\n",
+        b"[\xEF\xBB\xBFa]",
+    ),
+    (b"\xEF\xBBa,\xEF\xBB\xBF\n", b"[\xEF\xBBa|\xEF\xBB\xBF]"),
+];
+
 #[test]
 fn reads_decks(rt: HostRuntime) -> Result<(), Fail> {
-    let cases: [(&[u8], &[u8]); 20] = [
-        // Line ends: LF, CRLF, a lone CR, none at the end, blank lines.
-        (b"", b""),
-        (b"a,b\nc\n", b"[a|b][c]"),
-        (b"a,b\r\nc,d,e\r\n", b"[a|b][c|d|e]"),
-        (b"a,b\rc\r", b"[a|b][c]"),
-        (b"a\nb", b"[a][b]"),
-        (b"\n\na\n\r\n\n\rb\n\n", b"[a][b]"),
-        // Rows that a spreadsheet pads, and rows of nothing but commas.
-        (b"a,,\n", b"[a||]"),
-        (b",,\n,\n", b"[||][|]"),
-        (b"a,", b"[a|]"),
-        (b"\"\"\n", b"[]"),
-        // White space stays, and the first record is no header.
-        (b" a ,\tb\nc , d\n", b"[ a |\tb][c | d]"),
-        // Quoted fields: commas, doubled quotes, line ends; a quote inside a field; other delimiters.
-        (b"\"a,b\",c\n", b"[a,b|c]"),
-        (b"\"say \"\"so\"\"\",\"\"\n", b"[say \"so\"|]"),
-        (b"\"a\nb\r\nc\",d\n", b"[a\nb\r\nc|d]"),
-        (b"a\"b,'c;d\te'\n", b"[a\"b|'c;d\te']"),
-        (b"#a\n\"b\\\"\n", b"[#a][b\\]"),
-        // The mark in front: once, twice, three times, and elsewhere.
-        (b"\xEF\xBB\xBFa,b\n", b"[a|b]"),
-        (b"\xEF\xBB\xBF\xEF\xBB\xBFa\n", b"[a]"),
-        (b"\xEF\xBB\xBF\xEF\xBB\xBF\xEF\xBB\xBFa\n", b"[\xEF\xBB\xBFa]"),
-        (b"\xEF\xBBa,\xEF\xBB\xBF\n", b"[\xEF\xBBa|\xEF\xBB\xBF]"),
-    ];
-    for (deck, want) in cases {
+    for (deck, want) in CASES {
         let text = spelled(rt.alloc(), deck)?;
         assert_eq!(rt; text.as_slice(), want);
     }

@@ -1,5 +1,4 @@
 -- A deck has at most one record more than it has bytes.
-use Rattle.std.proofs.Common.{rules}
 use Rattle.pc_records.proofs.DeckFacts.{length-deck_records}
 use Rattle.pc_records.proofs.rows.Rows.new.Goals as goal
 

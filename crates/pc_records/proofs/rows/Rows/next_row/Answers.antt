@@ -1,5 +1,4 @@
 -- A read that found a record gives the first of those left, and one that found none shows that none was left.
-use Rattle.std.proofs.Common.{◌∙◌, sym}
 use Rattle.csv.specs.Records.{fields_of}
 use Rattle.pc_records.proofs.ReaderFacts.{read-found, read-going, read-none, true-from_not}
 use Rattle.pc_records.proofs.rows.Rows.next_row.Goals as goal
