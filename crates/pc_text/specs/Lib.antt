@@ -3,3 +3,4 @@ pub mod Code
 pub mod CodeCells
 pub mod Title
 pub mod Number
+pub mod Line

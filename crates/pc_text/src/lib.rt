@@ -2,10 +2,14 @@
 #![tactic(auto)]
 
 mod code;
+mod decimal;
+mod line;
 mod number;
 mod title;
 mod words;
 
 pub use code::{Code, is_code};
-pub use number::read_number;
+pub use decimal::Digits;
+pub use line::Line;
+pub use number::{digits, read_number};
 pub use title::{Title, is_title_shape};

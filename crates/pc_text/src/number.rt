@@ -1,8 +1,10 @@
 //! Numbers as a deck writes them.
-ghost use Rattle.std.specs.Prelude.{◌≡◌, ◌≤◌, ℕ, IfSome, IsTrue, Some, length};
+ghost use Rattle.std.specs.Prelude.{◌≡◌, ◌≤◌, ℕ, IfSome, IsTrue, Some, decimal, length};
 ghost use Rattle.std.specs.List.{list_all};
 ghost use Rattle.std.specs.Char.{is_ascii_digit};
 ghost use Rattle.pc_text.specs.Number.{is_number, value_after, number_of, IsDecimal};
+
+use crate::decimal::Digits;
 
 /// The most digits that a number has.
 const LIMIT: usize = 13;
@@ -48,4 +50,12 @@ fn value_of(digits: &[u8]) -> u64
         number = number * 10 + u64::from(digit - b'0');
     }
     number
+}
+
+/// The decimal form of a number.
+pub fn digits(n: u64) -> Digits
+    ensures value { result ≡ decimal n }
+    ensures short { length result ≤ 20 }
+{
+    Digits::of(n)
 }
