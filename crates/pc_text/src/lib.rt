@@ -13,3 +13,6 @@ pub use decimal::Digits;
 pub use line::Line;
 pub use number::{digits, read_number};
 pub use title::{Title, is_title_shape};
+
+#[cfg(test)]
+mod tests;
