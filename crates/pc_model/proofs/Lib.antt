@@ -1,0 +1,3 @@
+pub mod MySums
+pub mod LeastCost
+pub mod Midpoint
