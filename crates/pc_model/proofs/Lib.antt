@@ -1,3 +1,4 @@
 pub mod MySums
 pub mod LeastCost
 pub mod Midpoint
+pub mod Raising
