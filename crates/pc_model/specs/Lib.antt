@@ -3,3 +3,6 @@ pub mod Greatest
 pub mod Walk
 pub mod Network
 pub mod Schedule
+pub mod Flow
+pub mod Segment
+pub mod Cover
