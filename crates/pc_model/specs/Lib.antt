@@ -5,4 +5,5 @@ pub mod Network
 pub mod Schedule
 pub mod Flow
 pub mod Segment
+pub mod Knees
 pub mod Cover
