@@ -2,7 +2,7 @@
 -- cost no more than the two: so the least cost is convex.
 use Rattle.std.proofs.Common.{◌≡◌, ◌≤◌, ◌<◌, ◌+◌, ◌*◌, ◌-◌, ◌/◌, ℕ, zero, suc, min, List, length, arith, subst, sym}
 use Rattle.std.proofs.Math.Nat.{mul-le-mul_left}
-use Rattle.pc_model.proofs.MySums.{sum_to-add, sum_to-le}
+use Rattle.pc_model.proofs.SumLaws.{sum_to-add, sum_to-le}
 use Rattle.pc_model.specs.declared.Term.{Term}
 use Rattle.pc_model.specs.Sums.{sum_to}
 use Rattle.pc_model.specs.Walk.{from_of, to_of}

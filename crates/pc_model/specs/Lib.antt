@@ -5,5 +5,6 @@ pub mod Network
 pub mod Schedule
 pub mod Flow
 pub mod Segment
+pub mod Knees
 pub mod Cover
 pub mod State
