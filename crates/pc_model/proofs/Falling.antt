@@ -2,7 +2,7 @@
 -- that they fall through is a segment.
 use Rattle.std.proofs.Common.{◌≡◌, ◌≢◌, ◌≤◌, ◌<◌, ◌+◌, ◌-◌, ◌*◌, ◌⊎◌, inl, inr, ⊎_elim, ℕ, zero, List, [], ◌∷◌, length, Bool, true, false, not, ◌&&◌, arith, refl, sym, ◌∙◌, subst, ap}
 use Rattle.std.specs.Prelude.{if◌then◌else◌}
-use Rattle.std.proofs.lemmas.Bool.{cases_order, cases_lt, cases_eq, cases_Bool}
+use Rattle.std.proofs.lemmas.Bool.{cases_order, cases_lt, cases_eq, cases_Bool, cond-true, cond-false, false≢true}
 use Rattle.pc_model.specs.declared.Term.{Term}
 use Rattle.pc_model.specs.Walk.{from_of, to_of, IsWalk}
 use Rattle.pc_model.specs.Network.{Network, IsInRange, IsSound}
@@ -73,3 +73,157 @@ tight_after true false term s t f1 f2 fall tight most fw bw =
     zero_or_more : (n : ℕ) → (n ≡ 0) ⊎ (0 < n)
     zero_or_more zero = inl refl
     zero_or_more n = inr (omega arith)
+
+-- tight at a gap is tight at the same gap between later times
+shifted : (term : Term) (s t x y f1 f2 : ℕ) → x ≡ s → y ≡ t → IsTight term s t f1 f2 → IsTight term x y f1 f2
+shifted term s t x y f1 f2 p q tight =
+    subst (λ v. IsTight term v y f1 f2) (sym p) (subst (λ v. IsTight term s v f1 f2) (sym q) tight)
+
+-- tight at head and tail is tight between the times that have fallen
+shifted_back : (term : Term) (s t f1 f2 from to : ℕ) → from ≤ s → to ≤ t → IsTight term (s + to) (t + from) f1 f2
+    → IsTight term (s - from) (t - to) f1 f2
+shifted_back term s t f1 f2 from to p q tight = record {
+    room = (let r = tight.room in omega arith);
+    slack = record {
+      above_normal = λ l. tight.slack.above_normal (omega arith);
+      below_normal = λ l. tight.slack.below_normal (omega arith);
+      above_crash = λ l. tight.slack.above_crash (omega arith) } }
+
+-- how far an event has fallen is nothing before the fall
+drop_none : (moves : ℕ → Bool) (e : ℕ) → drop moves 0 e ≡ 0
+drop_none moves e = elim (cases_Bool (moves e)) [ inl t ↦ cond-true (moves e) 0 0 t | inr f ↦ cond-false (moves e) 0 0 f ]
+
+forward_at : (b c : Bool) (s t d n : ℕ) → (not b && c) ≡ true → s + d + n ≡ t → t + (if b then n else 0) ≡ s + (if c then n else 0) + d
+forward_at true c s t d n forward at = absurd (false≢true forward)
+forward_at false true s t d n forward at = omega arith
+forward_at false false s t d n forward at = absurd (false≢true forward)
+
+backward_at : (b c : Bool) (s t d n : ℕ) → (b && not c) ≡ true → s + d ≡ t + n → t + (if b then n else 0) ≡ s + (if c then n else 0) + d
+backward_at false c s t d n backward at = absurd (false≢true backward)
+backward_at true false s t d n backward at = omega arith
+backward_at true true s t d n backward at = absurd (false≢true backward)
+
+module _ (net : Network) (terms : List Term) (st : State) (moves : ℕ → Bool) (fall : ℕ)
+    (optimal : IsOptimal net terms st) (stuck : IsStuck net terms st moves) (falls : IsFall net terms st moves fall) where
+
+  shortens : (a : ℕ) → a < length net.arcs → is_forward net.arcs moves a ≡ true
+      → Shortens (term_at terms a) (st.time (from_of net.arcs a)) (st.time (to_of net.arcs a)) (st.f1 a) fall
+  shortens a l forward =
+      let room = (optimal.tight a l).room in
+      let s : ℕ = st.time (from_of net.arcs a) in
+      let t : ℕ = st.time (to_of net.arcs a) in
+      record {
+        full = λ at. ⊎_elim (λ some. absurd (stuck.forward a l forward (inl (at, some)))) (λ none. none) (cases_lt (st.f1 a) (slope_of terms a));
+        opened = ⊎_elim (λ at. absurd (stuck.forward a l forward (inr at))) (λ ne. omega arith) (cases_eq (s + crash_of terms a) t);
+        to_crash = omega (arith, falls.least a (t - (s + crash_of terms a)) l (inl (record { forward = forward; at_crash = omega arith })));
+        to_normal = λ dear above. omega (arith, falls.least a (t - (s + normal_of terms a)) l
+          (inr (inl (record { forward = forward; dear = dear; above = omega arith; at_normal = omega arith })))) }
+
+  lengthens : (a : ℕ) → a < length net.arcs → is_backward net.arcs moves a ≡ true
+      → Lengthens (term_at terms a) (st.time (from_of net.arcs a)) (st.time (to_of net.arcs a)) (st.f1 a) (st.f2 a) fall
+  lengthens a l backward =
+      let s : ℕ = st.time (from_of net.arcs a) in
+      let t : ℕ = st.time (to_of net.arcs a) in
+      record {
+        empty_normal = λ at. ⊎_elim (λ some. absurd (stuck.backward a l backward (inl (at, some)))) (λ none. omega arith) (cases_lt 0 (st.f1 a));
+        empty_crash = λ at. ⊎_elim (λ some. absurd (stuck.backward a l backward (inr (at, some)))) (λ none. omega arith) (cases_lt 0 (st.f2 a));
+        up_to_normal = λ dear below. omega (arith, falls.least a (s + normal_of terms a - t) l
+          (inr (inr (record { backward = backward; dear = dear; below = omega arith; at_normal = omega arith })))) }
+
+  -- the fall is at least 1
+  pub fall_positive : 0 < fall
+  fall_positive =
+      let (a, l, stops) = falls.stops in
+      ⊎_elim (λ crash. let open_now = (shortens a l crash.forward).opened in let at = crash.at_crash in omega arith)
+        (⊎_elim (λ normal. normal.above) (λ restored. restored.below)) stops
+
+  -- each activity is tight when the moving events have fallen
+  tight_fallen : (a : ℕ) → a < length net.arcs → IsTightAt net terms (segment_of net terms st moves fall) fall a
+  tight_fallen a l =
+      tight_after (moves (from_of net.arcs a)) (moves (to_of net.arcs a)) (term_at terms a) _ _ _ _ fall
+        (optimal.tight a l) (optimal.flow.capacity a l) (shortens a l) (lengthens a l)
+
+  -- a forward activity's gap shrinks by the fall
+  forward_meets : (a d n : ℕ) → is_forward net.arcs moves a ≡ true → st.time (from_of net.arcs a) + d + n ≡ st.time (to_of net.arcs a)
+      → head_at net.arcs (segment_of net terms st moves fall) n a ≡ tail_at net.arcs (segment_of net terms st moves fall) n a + d
+  forward_meets a d n forward at =
+      forward_at (moves (from_of net.arcs a)) (moves (to_of net.arcs a)) _ _ d n forward at
+
+  -- and a backward one's grows by it
+  backward_meets : (a d n : ℕ) → is_backward net.arcs moves a ≡ true → st.time (from_of net.arcs a) + d ≡ st.time (to_of net.arcs a) + n
+      → head_at net.arcs (segment_of net terms st moves fall) n a ≡ tail_at net.arcs (segment_of net terms st moves fall) n a + d
+  backward_meets a d n backward at =
+      backward_at (moves (from_of net.arcs a)) (moves (to_of net.arcs a)) _ _ d n backward at
+
+  -- along a walk from the start no event falls below 0
+  falls_along : (walk : List ℕ) (e f : ℕ) → IsWalk net.arcs e walk f → drop moves fall e ≤ st.time e → drop moves fall f ≤ st.time f
+  falls_along [] e f at h = subst (λ x. drop moves fall x ≤ st.time x) at h
+  falls_along (a ∷ walk) e f (l, at, rest) h =
+      falls_along walk (to_of net.arcs a) f rest
+        (let r = (tight_fallen a l).room in
+         let k : drop moves fall (from_of net.arcs a) ≤ st.time (from_of net.arcs a) = subst (λ x. drop moves fall x ≤ st.time x) (sym at) h in
+         omega arith)
+
+  module _ (range : IsInRange net) (sound : IsSound net) where
+
+    falls_above : (e : ℕ) → e < net.events → drop moves fall e ≤ st.time e
+    falls_above e l =
+        let (walk, walked) = sound.reached e l in
+        falls_along walk net.start e walked (omega (arith, cond-false (moves net.start) fall 0 stuck.start_rests))
+
+    -- and no further than the present length
+    pub fall_within : fall ≤ st.limit
+    fall_within = omega (arith, falls_above net.end range.end_in, cond-true (moves net.end) fall 0 stuck.end_moves, optimal.end_time)
+
+    span_is : span (segment_of net terms st moves fall) ≡ fall
+    span_is = omega (arith, fall_within)
+
+    -- the stretch that the end falls through is a right segment
+    pub segment_of_fall : IsSegment net terms (segment_of net terms st moves fall)
+    segment_of_fall = record {
+        proper = record { ordered = omega arith; degenerate = λ same. absurd (omega (arith, same, fall_within, fall_positive)) };
+        ends = record {
+          start_time = optimal.start_time;
+          start_rests = stuck.start_rests;
+          end_time = optimal.end_time;
+          end_moves = λ l. stuck.end_moves };
+        durations = λ a l. refl;
+        flow = optimal.flow;
+        at_upper = λ a l.
+          subst (λ d. IsTight (term_at terms a) (st.time (from_of net.arcs a) + d) (st.time (to_of net.arcs a) + drop moves 0 (from_of net.arcs a)) (st.f1 a) (st.f2 a))
+            (sym (drop_none moves (to_of net.arcs a)))
+            (subst (λ d. IsTight (term_at terms a) (st.time (from_of net.arcs a) + 0) (st.time (to_of net.arcs a) + d) (st.f1 a) (st.f2 a))
+              (sym (drop_none moves (from_of net.arcs a))) (same_tight a l));
+        at_lower = λ a l. subst (λ n. IsTightAt net terms (segment_of net terms st moves fall) n a) (sym span_is) (tight_fallen a l);
+        costs = refl }
+      where
+        same_tight : (a : ℕ) → a < length net.arcs → IsTight (term_at terms a) (st.time (from_of net.arcs a) + 0) (st.time (to_of net.arcs a) + 0) (st.f1 a) (st.f2 a)
+        same_tight a l = (let h = optimal.tight a l in shifted (term_at terms a) _ _ _ _ _ _ (omega arith) (omega arith) h)
+
+    -- and it ends where an activity stops
+    pub stops_at_lower : StopsAtLower net terms (segment_of net terms st moves fall)
+    stops_at_lower =
+        let (a, l, stops) = falls.stops in
+        (a, l,
+          ⊎_elim (λ crash. inl (record {
+              forward = crash.forward;
+              at_crash = forward_meets a (crash_of terms a) (span (segment_of net terms st moves fall)) crash.forward (omega (arith, span_is, crash.at_crash)) }))
+            (⊎_elim
+              (λ normal. inr (inl (record {
+                forward = normal.forward;
+                above = omega (arith, normal.at_normal, normal.above, drop_none moves (from_of net.arcs a), drop_none moves (to_of net.arcs a));
+                at_normal = forward_meets a (normal_of terms a) (span (segment_of net terms st moves fall)) normal.forward (omega (arith, span_is, normal.at_normal)) })))
+              (λ restored. inr (inr (record {
+                backward = restored.backward;
+                below = omega (arith, restored.at_normal, restored.below, drop_none moves (from_of net.arcs a), drop_none moves (to_of net.arcs a));
+                at_normal = backward_meets a (normal_of terms a) (span (segment_of net terms st moves fall)) restored.backward (omega (arith, span_is, restored.at_normal)) }))))
+            stops)
+
+    -- between two labellings the same holds after the fall
+    pub optimal_fallen : IsOptimal net terms (fallen st moves fall)
+    optimal_fallen = record {
+        start_time = omega (arith, optimal.start_time);
+        end_time = omega (arith, optimal.end_time, cond-true (moves net.end) fall 0 stuck.end_moves);
+        flow = optimal.flow;
+        tight = λ a l. shifted_back (term_at terms a) _ _ _ _ (drop moves fall (from_of net.arcs a)) (drop moves fall (to_of net.arcs a))
+          (falls_above (from_of net.arcs a) (range.from_in a l)) (falls_above (to_of net.arcs a) (range.to_in a l)) (tight_fallen a l) }
