@@ -6,3 +6,4 @@ pub mod LeastCost
 pub mod Midpoint
 pub mod Raising
 pub mod Falling
+pub mod Stops
