@@ -1,3 +1,4 @@
 pub mod SumLaws
 pub mod FlowLaws
 pub mod KneeLaws
+pub mod DualityLaws
