@@ -1,7 +1,8 @@
 -- Laws of a flow, over plain functions: `along a` is the whole flow along activity a.
 use Rattle.std.proofs.Common.{◌≡◌, ◌≢◌, ℕ, ◌+◌, ◌*◌, ◌<◌, ◌≤◌, ap, arith}
+use Rattle.std.proofs.Math.Nat.{add-mul, mul-le-mul_right}
 use Rattle.pc_model.specs.Sums.{sum_to, at_event}
-use Rattle.pc_model.proofs.SumLaws.{sum_to-change_two, swap_sums}
+use Rattle.pc_model.proofs.SumLaws.{sum_to-add, sum_to-le, sum_to-same, sum_to-change_two, swap_sums}
 
 -- n events and m activities from `from` to `to`: nothing enters the start or leaves the end, what enters any other
 -- event leaves it, and the value leaves the start
@@ -17,9 +18,6 @@ pub record IsBalanced (n m : ℕ) (from to : ℕ → ℕ) (start end : ℕ) (alo
   pub leaves : at_event m from along start ≡ value
 
 module _ (n m : ℕ) (from to : ℕ → ℕ) (start end : ℕ) (along : ℕ → ℕ) (value : ℕ) (flow : IsBalanced n m from to start end along value) where
-  into : ℕ → ℕ
-  into e = at_event m to along e
-
   potential_into : (T : ℕ → ℕ) →
       sum_to m (λ a. T (to a) * along a) + T start * value ≡ sum_to m (λ a. T (from a) * along a) + T end * at_event m to along end
   potential_into T =
@@ -40,3 +38,29 @@ module _ (n m : ℕ) (from to : ℕ → ℕ) (start end : ℕ) (along : ℕ → 
   pub potential : (T : ℕ → ℕ) →
       sum_to m (λ a. T (to a) * along a) + T start * value ≡ sum_to m (λ a. T (from a) * along a) + T end * value
   potential T = omega (arith, potential_into T, ap (λ x. T end * x) value_in)
+
+  -- weak duality: where no activity asks more than its cost and its duration times its flow, and the durations fit
+  -- the times, all together ask no more than all costs and the end's time times the value
+  pub asked_at_most : (T d asks costs : ℕ → ℕ) → T start ≡ 0 → ((a : ℕ) → a < m → T (from a) + d a ≤ T (to a)) →
+      ((a : ℕ) → a < m → asks a ≤ costs a + d a * along a) → sum_to m asks ≤ sum_to m costs + T end * value
+  asked_at_most T d asks costs starts fits each =
+      omega (arith,
+          sum_to-le m (λ a. asks a + T (from a) * along a) (λ a. costs a + T (to a) * along a)
+              (λ a h. omega (arith, each a h, mul-le-mul_right (along a) (fits a h), add-mul (T (from a)) (d a) (along a))),
+          sum_to-add m asks (λ a. T (from a) * along a),
+          sum_to-add m costs (λ a. T (to a) * along a),
+          potential T,
+          ap (λ x. x * value) starts)
+
+  -- complementary slackness: where each asks exactly that, and flows only where its duration spans its gap, they are equal
+  pub asked_exactly : (T d asks costs : ℕ → ℕ) → T start ≡ 0 →
+      ((a : ℕ) → a < m → T (from a) * along a + d a * along a ≡ T (to a) * along a) →
+      ((a : ℕ) → a < m → asks a ≡ costs a + d a * along a) → sum_to m asks ≡ sum_to m costs + T end * value
+  asked_exactly T d asks costs starts spans each =
+      omega (arith,
+          sum_to-same m (λ a. asks a + T (from a) * along a) (λ a. costs a + T (to a) * along a)
+              (λ a h. omega (arith, each a h, spans a h)),
+          sum_to-add m asks (λ a. T (from a) * along a),
+          sum_to-add m costs (λ a. T (to a) * along a),
+          potential T,
+          ap (λ x. x * value) starts)

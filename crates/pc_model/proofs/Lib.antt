@@ -7,3 +7,4 @@ pub mod Midpoint
 pub mod Raising
 pub mod Falling
 pub mod Stops
+pub mod DualityLaws

@@ -4,7 +4,7 @@ use Rattle.std.proofs.Common.{◌≡◌, ◌≢◌, ◌≤◌, ◌<◌, ◌+◌,
 use Rattle.std.specs.Prelude.{◌==◌, if◌then◌else◌, nat_eq}
 use Rattle.std.proofs.lemmas.Bool.{eq-eqb, ne_eqb, cond-true, cond-false, cases_eq}
 use Rattle.pc_model.proofs.StepSums.{at_event-change}
-use Rattle.pc_model.proofs.SumLaws.{sum_to-zero}
+use Rattle.pc_model.proofs.DualityLaws.{at_event-none}
 use Rattle.pc_model.specs.Walk.{from_of, to_of}
 use Rattle.pc_model.specs.declared.Term.{Term}
 use Rattle.pc_model.specs.Network.{Network, IsInRange, IsSound}
@@ -82,8 +82,7 @@ module _ (net : Network) (old : ℕ → ℕ) (room : ℕ) where
 -- nothing flows into the start
 pub unentered : (net : Network) (flow : ℕ → ℕ) → IsSound net → inflow net flow net.start ≡ 0
 unentered net flow sound =
-    sum_to-zero (length net.arcs) (λ a. if to_of net.arcs a == net.start then flow a else 0)
-      (λ a l. cond-false (to_of net.arcs a == net.start) (flow a) 0 (ne_eqb (to_of net.arcs a) net.start (λ at. sound.not_entered (a, l, at))))
+    at_event-none (length net.arcs) (to_of net.arcs) flow net.start (λ a l at. sound.not_entered (a, l, at))
 
 -- gaps of normal and of crash are the only ones at which the flows of a tight activity may change
 still_tight : (term : Term) (tail head f1 f2 g1 g2 : ℕ) → IsTight term tail head f1 f2

@@ -4,6 +4,7 @@ pub mod Walk
 pub mod Network
 pub mod Schedule
 pub mod Flow
+pub mod Slack
 pub mod Segment
 pub mod Knees
 pub mod Cover

@@ -7,6 +7,7 @@ use Rattle.pc_model.specs.Walk.{from_of, to_of}
 use Rattle.pc_model.specs.Network.{Network}
 use Rattle.pc_model.specs.Schedule.{term_at, normal_of, crash_of, slope_of, cost_of, IsSchedule, IsLeastCost}
 use Rattle.pc_model.specs.Flow.{IsFlow, promise, bound_of}
+use Rattle.pc_model.specs.Slack.{lesser_of, IsTight}
 
 -- a stretch of the curve between two lengths: the cost at its upper end, what each unit of length less costs, a
 -- time at the upper end and a moving bit for each event, and a duration there and two flows for each activity
@@ -40,14 +41,6 @@ drop moves fall e = if moves e then fall else 0
 abbrev pub times_at : Segment → ℕ → ℕ → ℕ
 times_at seg limit e = seg.time e - drop seg.moves (seg.upper - limit) e
 
--- the gap of activity a: the time of its ending event less that of its beginning event
-abbrev pub gap_of : List Arc → (ℕ → ℕ) → ℕ → ℕ
-gap_of arcs times a = times (to_of arcs a) - times (from_of arcs a)
-
--- the duration of activity a: the lesser of its normal duration and its gap
-abbrev pub lesser_of : Network → List Term → (ℕ → ℕ) → ℕ → ℕ
-lesser_of net terms times a = min (normal_of terms a) (gap_of net.arcs times a)
-
 -- the duration of activity a at a length: the lesser of its normal duration and its gap there
 abbrev pub durations_at : Network → List Term → Segment → ℕ → ℕ → ℕ
 durations_at net terms seg limit = lesser_of net terms (times_at seg limit)
@@ -67,21 +60,6 @@ head_at arcs seg fall a = seg.time (to_of arcs a) + drop seg.moves fall (from_of
 -- its ending event has fallen
 abbrev pub tail_at : List Arc → Segment → ℕ → ℕ → ℕ
 tail_at arcs seg fall a = seg.time (from_of arcs a) + drop seg.moves fall (to_of arcs a)
-
--- the gap is at least the crash duration
-abbrev pub HasRoom : Term → ℕ → ℕ → Type 0
-HasRoom term tail head = tail + term.crash ≤ head
-
--- where the gap is above normal f1 is 0, where it is below normal f1 is the slope, and where it is above crash f2 is 0
-pub record IsSlack (term : Term) (tail head f1 f2 : ℕ) : Type 0 where
-  pub above_normal : tail + term.normal < head → f1 ≡ 0
-  pub below_normal : head < tail + term.normal → f1 ≡ term.slope
-  pub above_crash : tail + term.crash < head → f2 ≡ 0
-
--- the gap, head less tail, leaves the crash duration its room, and the flows are those that it allows
-pub record IsTight (term : Term) (tail head f1 f2 : ℕ) : Type 0 where
-  pub room : HasRoom term tail head
-  pub slack : IsSlack term tail head f1 f2
 
 -- activity a is tight when the moving events have fallen by `fall`
 abbrev pub IsTightAt : Network → List Term → Segment → ℕ → ℕ → Type 0
