@@ -8,7 +8,8 @@ use Rattle.pc_model.specs.Walk.{from_of, to_of, IsWalk}
 use Rattle.pc_model.specs.Network.{Network, IsInRange, IsSound}
 use Rattle.pc_model.specs.Schedule.{term_at, slope_of, normal_of, crash_of, cost_of}
 use Rattle.pc_model.specs.Flow.{IsFlow}
-use Rattle.pc_model.specs.Segment.{Segment, IsTight, IsSlack, IsTightAt, IsSegment, StopsAtLower, StopsAtCrash, FallsToNormal, RisesToNormal, drop, span, head_at, tail_at, is_forward, is_backward, lesser_of}
+use Rattle.pc_model.specs.Slack.{IsTight, IsSlack, lesser_of}
+use Rattle.pc_model.specs.Segment.{Segment, IsTightAt, IsSegment, StopsAtLower, StopsAtCrash, FallsToNormal, RisesToNormal, drop, span, head_at, tail_at, is_forward, is_backward}
 use Rattle.pc_model.specs.State.{State, IsOptimal, IsStuck, IsFall, StopsAfter, CrashesAfter, NormalAfter, RestoredAfter, CanRaise, CanLower, IsAtNormal, IsAtCrash, segment_of, fallen}
 
 -- what is known of a forward activity from s to t before a fall
@@ -109,7 +110,7 @@ module _ (net : Network) (terms : List Term) (st : State) (moves : ℕ → Bool)
   shortens : (a : ℕ) → a < length net.arcs → is_forward net.arcs moves a ≡ true
       → Shortens (term_at terms a) (st.time (from_of net.arcs a)) (st.time (to_of net.arcs a)) (st.f1 a) fall
   shortens a l forward =
-      let room = (optimal.tight a l).room in
+      let room = (optimal.fits.tight a l).room in
       let s : ℕ = st.time (from_of net.arcs a) in
       let t : ℕ = st.time (to_of net.arcs a) in
       record {
@@ -141,7 +142,7 @@ module _ (net : Network) (terms : List Term) (st : State) (moves : ℕ → Bool)
   tight_fallen : (a : ℕ) → a < length net.arcs → IsTightAt net terms (segment_of net terms st moves fall) fall a
   tight_fallen a l =
       tight_after (moves (from_of net.arcs a)) (moves (to_of net.arcs a)) (term_at terms a) _ _ _ _ fall
-        (optimal.tight a l) (optimal.flow.capacity a l) (shortens a l) (lengthens a l)
+        (optimal.fits.tight a l) (optimal.flow.capacity a l) (shortens a l) (lengthens a l)
 
   -- a forward activity's gap shrinks by the fall
   forward_meets : (a d n : ℕ) → is_forward net.arcs moves a ≡ true → st.time (from_of net.arcs a) + d + n ≡ st.time (to_of net.arcs a)
@@ -173,7 +174,7 @@ module _ (net : Network) (terms : List Term) (st : State) (moves : ℕ → Bool)
 
     -- and no further than the present length
     pub fall_within : fall ≤ st.limit
-    fall_within = omega (arith, falls_above net.end range.end_in, cond-true (moves net.end) fall 0 stuck.end_moves, optimal.end_time)
+    fall_within = omega (arith, falls_above net.end range.end_in, cond-true (moves net.end) fall 0 stuck.end_moves, optimal.ends)
 
     span_is : span (segment_of net terms st moves fall) ≡ fall
     span_is = omega (arith, fall_within)
@@ -183,9 +184,9 @@ module _ (net : Network) (terms : List Term) (st : State) (moves : ℕ → Bool)
     segment_of_fall = record {
         proper = record { ordered = omega arith; degenerate = λ same. absurd (omega (arith, same, fall_within, fall_positive)) };
         ends = record {
-          start_time = optimal.start_time;
+          start_time = optimal.fits.starts;
           start_rests = stuck.start_rests;
-          end_time = optimal.end_time;
+          end_time = optimal.ends;
           end_moves = λ l. stuck.end_moves };
         durations = λ a l. refl;
         flow = optimal.flow;
@@ -198,7 +199,7 @@ module _ (net : Network) (terms : List Term) (st : State) (moves : ℕ → Bool)
         costs = refl }
       where
         same_tight : (a : ℕ) → a < length net.arcs → IsTight (term_at terms a) (st.time (from_of net.arcs a) + 0) (st.time (to_of net.arcs a) + 0) (st.f1 a) (st.f2 a)
-        same_tight a l = (let h = optimal.tight a l in shifted (term_at terms a) _ _ _ _ _ _ (omega arith) (omega arith) h)
+        same_tight a l = (let h = optimal.fits.tight a l in shifted (term_at terms a) _ _ _ _ _ _ (omega arith) (omega arith) h)
 
     -- and it ends where an activity stops
     pub stops_at_lower : StopsAtLower net terms (segment_of net terms st moves fall)
@@ -222,8 +223,9 @@ module _ (net : Network) (terms : List Term) (st : State) (moves : ℕ → Bool)
     -- between two labellings the same holds after the fall
     pub optimal_fallen : IsOptimal net terms (fallen st moves fall)
     optimal_fallen = record {
-        start_time = omega (arith, optimal.start_time);
-        end_time = omega (arith, optimal.end_time, cond-true (moves net.end) fall 0 stuck.end_moves);
-        flow = optimal.flow;
-        tight = λ a l. shifted_back (term_at terms a) _ _ _ _ (drop moves fall (from_of net.arcs a)) (drop moves fall (to_of net.arcs a))
-          (falls_above (from_of net.arcs a) (range.from_in a l)) (falls_above (to_of net.arcs a) (range.to_in a l)) (tight_fallen a l) }
+        fits = record {
+          starts = omega (arith, optimal.fits.starts);
+          tight = λ a l. shifted_back (term_at terms a) _ _ _ _ (drop moves fall (from_of net.arcs a)) (drop moves fall (to_of net.arcs a))
+            (falls_above (from_of net.arcs a) (range.from_in a l)) (falls_above (to_of net.arcs a) (range.to_in a l)) (tight_fallen a l) };
+        ends = omega (arith, optimal.ends, cond-true (moves net.end) fall 0 stuck.end_moves);
+        flow = optimal.flow }

@@ -10,7 +10,7 @@ use Rattle.pc_model.specs.declared.Term.{Term}
 use Rattle.pc_model.specs.Network.{Network, IsInRange, IsSound}
 use Rattle.pc_model.specs.Schedule.{term_at, slope_of, normal_of, crash_of}
 use Rattle.pc_model.specs.Flow.{IsFlow, whole_flow, inflow, outflow}
-use Rattle.pc_model.specs.Segment.{IsTight, IsSlack}
+use Rattle.pc_model.specs.Slack.{IsTight, IsSlack}
 use Rattle.pc_model.specs.State.{State, IsOptimal, IsPart, IsRaising, IsAtNormal, IsAtCrash, raised}
 
 -- what enters and leaves one event, before and after a step forward; b: the activity ends there, c: it begins there
@@ -147,12 +147,13 @@ module _ (net : Network) (terms : List Term) (st : State) (room : ℕ) where
   pub optimal_raised : (f1 f2 : ℕ → ℕ) → IsInRange net → IsSound net → IsOptimal net terms st
       → IsRaising net terms st f1 f2 net.start room → IsOptimal net terms (raised st f1 f2 room)
   optimal_raised f1 f2 range sound optimal raising = record {
-      start_time = optimal.start_time;
-      end_time = optimal.end_time;
+      fits = record {
+        starts = optimal.fits.starts;
+        tight = λ a l. still_tight (term_at terms a) _ _ _ _ _ _ (optimal.fits.tight a l) (raising.at_normal a l) (raising.at_crash a l) };
+      ends = optimal.ends;
       flow = record {
         capacity = raising.capacity;
         through = λ e l ns ne. part_through net (whole_flow st.f1 st.f2) room (whole_flow f1 f2) e raising.part l ns ne (optimal.flow.through e l ns ne);
         leaves = omega (arith, optimal.flow.leaves,
           part_leaves net (whole_flow st.f1 st.f2) room (whole_flow f1 f2) raising.part range.start_in range.apart
-            (unentered net (whole_flow st.f1 st.f2) sound) (unentered net (whole_flow f1 f2) sound)) };
-      tight = λ a l. still_tight (term_at terms a) _ _ _ _ _ _ (optimal.tight a l) (raising.at_normal a l) (raising.at_crash a l) }
+            (unentered net (whole_flow st.f1 st.f2) sound) (unentered net (whole_flow f1 f2) sound)) } }

@@ -54,7 +54,7 @@ module _ (net : Network) (terms : List Term) (st : State) (moves : ℕ → Bool)
   crash_searched a l =
       ⊎_elim
         (λ forward.
-          let room = (optimal.tight a l).room in
+          let room = (optimal.fits.tight a l).room in
           inl (st.time (to_of net.arcs a) - (st.time (from_of net.arcs a) + crash_of terms a),
             record { has = record { forward = forward; at_crash = omega arith }; least = λ k h. (let at = h.at_crash in omega arith) }))
         (λ not_forward. inr (λ k h. false≢true (sym not_forward ∙ h.forward)))
@@ -122,7 +122,7 @@ module _ (net : Network) (terms : List Term) (st : State) (moves : ℕ → Bool)
         (λ none.
           let (walk, walked) = sound.reached net.end range.end_in in
           let (a, l, forward) = crosses net moves walk net.start net.end walked stuck.start_rests stuck.end_moves in
-          let room = (optimal.tight a l).room in
+          let room = (optimal.fits.tight a l).room in
           absurd (none (st.time (to_of net.arcs a) - (st.time (from_of net.arcs a) + crash_of terms a))
             (a, l, inl (record { forward = forward; at_crash = omega arith }))))
         (stops_searched (length net.arcs) (omega arith))

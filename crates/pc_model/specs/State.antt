@@ -4,9 +4,10 @@ use Rattle.std.specs.Prelude.{◌≡◌, ◌==◌, if◌then◌else◌, ℕ, ◌
 use Rattle.pc_model.specs.declared.Term.{Term}
 use Rattle.pc_model.specs.Walk.{from_of, to_of}
 use Rattle.pc_model.specs.Network.{Network}
-use Rattle.pc_model.specs.Schedule.{term_at, normal_of, crash_of, slope_of, cost_of}
+use Rattle.pc_model.specs.Schedule.{normal_of, crash_of, slope_of, cost_of}
 use Rattle.pc_model.specs.Flow.{IsFlow, whole_flow, inflow, outflow}
-use Rattle.pc_model.specs.Segment.{Segment, IsTight, drop, lesser_of, is_forward, is_backward}
+use Rattle.pc_model.specs.Slack.{lesser_of, AreTight}
+use Rattle.pc_model.specs.Segment.{Segment, drop, is_forward, is_backward}
 
 -- the present length, a time for each event, two flows for each activity, and the value of the flow
 pub record State : Type 0 where
@@ -16,14 +17,12 @@ pub record State : Type 0 where
   pub f2 : ℕ → ℕ
   pub value : ℕ
 
--- what holds between two labellings: the start is at 0 and the end at the present length, the flow has its value,
--- and each activity's gap leaves room for its crash duration and fits its flows
+-- what holds between two labellings: the times of the state are 0 at the start and the present length at the end,
+-- its flow has its value, and each activity's gap leaves room for its crash duration and fits its flows
 pub record IsOptimal (net : Network) (terms : List Term) (st : State) : Type 0 where
-  pub start_time : st.time net.start ≡ 0
-  pub end_time : st.time net.end ≡ st.limit
+  pub fits : AreTight net terms st.f1 st.f2 st.time
+  pub ends : st.time net.end ≡ st.limit
   pub flow : IsFlow net terms st.f1 st.f2 st.value
-  pub tight : (a : ℕ) → a < length net.arcs →
-    IsTight (term_at terms a) (st.time (from_of net.arcs a)) (st.time (to_of net.arcs a)) (st.f1 a) (st.f2 a)
 
 -- the gap of activity a is its normal duration
 abbrev pub IsAtNormal : Network → List Term → State → ℕ → Type 0
