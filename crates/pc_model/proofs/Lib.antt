@@ -8,3 +8,6 @@ pub mod Raising
 pub mod Falling
 pub mod Stops
 pub mod DualityLaws
+pub mod WalkLaws
+pub mod OrderLaws
+pub mod WorkedDeck
