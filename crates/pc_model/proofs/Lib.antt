@@ -11,3 +11,4 @@ pub mod DualityLaws
 pub mod WalkLaws
 pub mod OrderLaws
 pub mod WorkedDeck
+pub mod Values

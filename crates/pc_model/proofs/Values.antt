@@ -1,0 +1,82 @@
+-- What the value of a flow is at most, and what it is at least: by cuts of the events, each given by a weight of 0 or 1.
+use Rattle.std.proofs.Common.{◌≡◌, ◌≢◌, ◌≤◌, ◌<◌, ◌+◌, ◌*◌, ◌⊎◌, inl, inr, ⊎_elim, ℕ, zero, suc, List, [], ◌∷◌, length, slice_index, Bool, true, false, arith, refl, sym, ◌∙◌, subst, ap}
+use Rattle.std.specs.Prelude.{◌==◌, if◌then◌else◌, nat_lt}
+use Rattle.std.proofs.lemmas.Bool.{cases_eq, cases_lt, eq-eqb, ne_eqb, lt-ltb, le-ltb, cond-true, cond-false}
+use Rattle.pc_model.specs.declared.Term.{Term}
+use Rattle.pc_model.specs.Sums.{sum_to}
+use Rattle.pc_model.specs.Greatest.{StandsBelow}
+use Rattle.pc_model.specs.Walk.{from_of, to_of, IsWalk}
+use Rattle.pc_model.specs.Network.{Network, IsInRange, IsSound, IsOrder, IsPartOrder}
+use Rattle.pc_model.specs.Schedule.{AreTerms, IsSchedule, IsLeastCost, slope_of, normal_of, crash_of, cost_of}
+use Rattle.pc_model.specs.Flow.{IsFlow, whole_flow}
+use Rattle.pc_model.specs.Slack.{lesser_of}
+use Rattle.pc_model.specs.State.{State, IsOptimal}
+use Rattle.pc_model.proofs.SumLaws.{sum_to-add, sum_to-le, sum_to-pick}
+use Rattle.pc_model.proofs.FlowLaws.{potential}
+use Rattle.pc_model.proofs.DualityLaws.{balanced, tight_least}
+use Rattle.pc_model.proofs.OrderLaws.{stands_in_order, same_place}
+
+module _ (net : Network) (terms : List Term) (range : IsInRange net) (sound : IsSound net) (f1 f2 : ℕ → ℕ) (value : ℕ) (flow : IsFlow net terms f1 f2 value) where
+
+  across : (W : ℕ → ℕ) → W net.start ≡ 0 → W net.end ≡ 1
+      → sum_to (length net.arcs) (λ a. W (to_of net.arcs a) * whole_flow f1 f2 a)
+        ≡ sum_to (length net.arcs) (λ a. W (from_of net.arcs a) * whole_flow f1 f2 a) + value
+  across W rests moves =
+      omega (arith, ap (λ x. x * value) rests, ap (λ x. x * value) moves,
+        potential net.events (length net.arcs) (from_of net.arcs) (to_of net.arcs) net.start net.end (whole_flow f1 f2) value
+          (balanced net (whole_flow f1 f2) value range sound flow.through flow.leaves) W)
+
+  -- where the weight of the ending event asks no more flow than that of the beginning one and a bound for the
+  -- activity, the value is at most the sum of these bounds
+  pub value_below : (W bound : ℕ → ℕ) → W net.start ≡ 0 → W net.end ≡ 1
+      → ((a : ℕ) → a < length net.arcs → W (to_of net.arcs a) * whole_flow f1 f2 a ≤ W (from_of net.arcs a) * whole_flow f1 f2 a + bound a)
+      → value ≤ sum_to (length net.arcs) bound
+  value_below W bound rests moves each =
+      omega (arith, across W rests moves,
+        sum_to-le (length net.arcs) (λ a. W (to_of net.arcs a) * whole_flow f1 f2 a) (λ a. W (from_of net.arcs a) * whole_flow f1 f2 a + bound a) each,
+        sum_to-add (length net.arcs) (λ a. W (from_of net.arcs a) * whole_flow f1 f2 a) bound)
+
+  -- where it asks as much at least, and more by a bound, the value is at least the sum of these bounds
+  pub value_above : (W bound : ℕ → ℕ) → W net.start ≡ 0 → W net.end ≡ 1
+      → ((a : ℕ) → a < length net.arcs → W (from_of net.arcs a) * whole_flow f1 f2 a + bound a ≤ W (to_of net.arcs a) * whole_flow f1 f2 a)
+      → sum_to (length net.arcs) bound ≤ value
+  value_above W bound rests moves each =
+      omega (arith, across W rests moves,
+        sum_to-le (length net.arcs) (λ a. W (from_of net.arcs a) * whole_flow f1 f2 a + bound a) (λ a. W (to_of net.arcs a) * whole_flow f1 f2 a) each,
+        sum_to-add (length net.arcs) (λ a. W (from_of net.arcs a) * whole_flow f1 f2 a) bound)
+
+-- 1 where the first number is below the second
+abbrev later : ℕ → ℕ → ℕ
+later x y = if nat_lt x y then 1 else 0
+
+-- the flow of a tight activity between times s and t is at most its slope where another schedule's times c and k
+-- differ so that the gap must be above crash
+cut_at : (c k s t crash d f1 f2 slope : ℕ) → crash ≤ d → c + d ≤ k → f1 ≤ slope → (s + crash < t → f2 ≡ 0)
+    → later k t * (f1 + f2) ≤ later c s * (f1 + f2) + slope
+cut_at c k s t crash d f1 f2 slope enough fits most none =
+    ⊎_elim
+      (λ earlier. ⊎_elim
+        (λ early. omega (arith, ap (λ b. (if b then 1 else 0) * (f1 + f2)) (lt-ltb c s early), ap (λ b. (if b then 1 else 0) * (f1 + f2)) (lt-ltb k t earlier)))
+        (λ late. omega (arith, none (omega arith), ap (λ b. (if b then 1 else 0) * (f1 + f2)) (lt-ltb k t earlier)))
+        (cases_lt c s))
+      (λ late. omega (arith, ap (λ b. (if b then 1 else 0) * (f1 + f2)) (le-ltb k t late)))
+      (cases_lt k t)
+
+-- while some schedule is shorter than the present length, the value is at most the sum of slopes
+pub value_at_most : (net : Network) (terms : List Term) (st : State) (limit : ℕ) (durations times : ℕ → ℕ) → IsInRange net → IsSound net
+    → IsOptimal net terms st → IsSchedule net terms limit durations times → limit < st.limit
+    → st.value ≤ sum_to (length net.arcs) (slope_of terms)
+value_at_most net terms st limit durations times range sound optimal schedule shorter =
+    value_below net terms range sound st.f1 st.f2 st.value optimal.flow (λ e. later (times e) (st.time e)) (slope_of terms)
+      (ap (λ b. if b then 1 else 0) (le-ltb (times net.start) (st.time net.start) (let s = schedule.starts in let t = optimal.fits.starts in omega arith)))
+      (ap (λ b. if b then 1 else 0) (lt-ltb (times net.end) (st.time net.end) (let s = schedule.ends in let t = optimal.ends in omega arith)))
+      (λ a l. cut_at (times (from_of net.arcs a)) (times (to_of net.arcs a)) (st.time (from_of net.arcs a)) (st.time (to_of net.arcs a))
+        (crash_of terms a) (durations a) (st.f1 a) (st.f2 a) (slope_of terms a) (schedule.enough a l) (schedule.fits a l)
+        (optimal.flow.capacity a l) (optimal.fits.tight a l).slack.above_crash)
+
+-- the cost at the present length is the least for it
+pub optimal_is_least : (net : Network) (terms : List Term) (st : State) → IsInRange net → IsSound net → AreTerms net terms
+    → IsOptimal net terms st → IsLeastCost net terms st.limit (cost_of terms (lesser_of net terms st.time))
+optimal_is_least net terms st range sound sized optimal =
+    subst (λ n. IsLeastCost net terms n (cost_of terms (lesser_of net terms st.time))) optimal.ends
+      (tight_least net terms range sound sized st.f1 st.f2 st.value optimal.flow st.time optimal.fits)
