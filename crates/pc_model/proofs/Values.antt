@@ -80,3 +80,79 @@ pub optimal_is_least : (net : Network) (terms : List Term) (st : State) → IsIn
 optimal_is_least net terms st range sound sized optimal =
     subst (λ n. IsLeastCost net terms n (cost_of terms (lesser_of net terms st.time))) optimal.ends
       (tight_least net terms range sound sized st.f1 st.f2 st.value optimal.flow st.time optimal.fits)
+
+-- 1 where the event is none of the first n of a list
+beyond : List ℕ → ℕ → ℕ → ℕ
+beyond xs zero e = 1
+beyond xs (suc n) e = if slice_index xs n == e then 0 else beyond xs n e
+
+beyond_one : (xs : List ℕ) (n e : ℕ) → (StandsBelow xs n e → ⊥) → beyond xs n e ≡ 1
+unfolding beyond
+beyond_one xs zero e none = refl
+beyond_one xs (suc n) e none =
+    cond-false (slice_index xs n == e) 0 (beyond xs n e) (ne_eqb (slice_index xs n) e (λ at. none (n, omega arith, at)))
+    ∙ beyond_one xs n e (λ s. none (s.0, omega (arith, s.1), s.2))
+
+beyond_none : (xs : List ℕ) (n e : ℕ) → StandsBelow xs n e → beyond xs n e ≡ 0
+unfolding beyond
+beyond_none xs zero e (j, l, at) = absurd (omega arith)
+beyond_none xs (suc n) e (j, l, at) =
+    ⊎_elim
+      (λ here. cond-true (slice_index xs n == e) 0 (beyond xs n e) (eq-eqb (slice_index xs n) e here))
+      (λ not_here. cond-false (slice_index xs n == e) 0 (beyond xs n e) (ne_eqb (slice_index xs n) e not_here)
+        ∙ beyond_none xs n e (j, ⊎_elim (λ is. absurd (not_here (ap (slice_index xs) (sym is) ∙ at))) (λ ne. omega arith) (cases_eq j n), at))
+      (cases_eq (slice_index xs n) e)
+
+beyond_or_not : (xs : List ℕ) (n e : ℕ) → StandsBelow xs n e ⊎ (StandsBelow xs n e → ⊥)
+beyond_or_not xs zero e = inr (λ s. omega (arith, s.1))
+beyond_or_not xs (suc n) e =
+    ⊎_elim (λ here. inl (n, omega arith, here))
+      (λ not_here. ⊎_elim (λ s. inl (s.0, omega (arith, s.1), s.2))
+        (λ none. inr (λ s. ⊎_elim (λ is. not_here (ap (slice_index xs) (sym is) ∙ s.2)) (λ ne. none (s.0, omega (arith, s.1), s.2)) (cases_eq s.0 n)))
+        (beyond_or_not xs n e))
+      (cases_eq (slice_index xs n) e)
+
+module _ (net : Network) (order : List ℕ) (part : IsPartOrder net order) (n : ℕ) (within : n ≤ length order) where
+
+  -- among the first n events of the order is each activity's beginning event whose ending event is
+  begins_below : (a : ℕ) → a < length net.arcs → StandsBelow order n (to_of net.arcs a) → StandsBelow order n (from_of net.arcs a)
+  begins_below a l (k, below, at) =
+      let s = part.before k a (omega arith) l (sym at) in (s.0, omega (arith, s.1), s.2)
+
+  -- and so is the beginning of each walk that ends among them
+  walk_below : (walk : List ℕ) (e f : ℕ) → IsWalk net.arcs e walk f → StandsBelow order n f → StandsBelow order n e
+  walk_below [] e f at s = subst (StandsBelow order n) (sym at) s
+  walk_below (a ∷ walk) e f (l, at, rest) s =
+      subst (StandsBelow order n) at (begins_below a l (walk_below walk (to_of net.arcs a) f rest s))
+
+-- no activity has more flow than the value
+pub flow_at_most : (net : Network) (terms : List Term) (order : List ℕ) (f1 f2 : ℕ → ℕ) (value : ℕ) → IsInRange net → IsSound net → IsOrder net order
+    → IsFlow net terms f1 f2 value → (a : ℕ) → a < length net.arcs → f1 a + f2 a ≤ value
+flow_at_most net terms order f1 f2 value range sound ordered flow a l =
+    let (p, inside, at) = stands_in_order net order ordered (from_of net.arcs a) (range.from_in a l) in
+    let part = ordered.part in
+    let here : StandsBelow order (p + 1) (from_of net.arcs a) = (p, omega arith, at) in
+    let there : StandsBelow order (p + 1) (to_of net.arcs a) → ⊥ = λ (k, below, is).
+          (let (j, before, begins) = part.before k a (omega arith) l (sym is) in
+           omega (arith, same_place net order part j p (omega arith) inside (begins ∙ sym at))) in
+    let starts : StandsBelow order (p + 1) net.start =
+          (let (walk, walked) = sound.reached (from_of net.arcs a) (range.from_in a l) in walk_below net order part (p + 1) (omega arith) walk net.start _ walked here) in
+    let ends : StandsBelow order (p + 1) net.end → ⊥ = λ s.
+          (let (walk, walked) = sound.reaches (to_of net.arcs a) (range.to_in a l) in there (walk_below net order part (p + 1) (omega arith) walk _ net.end walked s)) in
+    omega (arith,
+      sum_to-pick (length net.arcs) (whole_flow f1 f2) a l,
+      value_above net terms range sound f1 f2 value flow (beyond order (p + 1)) (λ b. if a == b then whole_flow f1 f2 b else 0)
+        (beyond_none order (p + 1) net.start starts) (beyond_one order (p + 1) net.end ends)
+        (λ b k. ⊎_elim
+          (λ is. subst (λ c. beyond order (p + 1) (from_of net.arcs c) * whole_flow f1 f2 c + (if a == c then whole_flow f1 f2 c else 0) ≤ beyond order (p + 1) (to_of net.arcs c) * whole_flow f1 f2 c) is
+            (omega (arith, cond-true (a == a) (whole_flow f1 f2 a) 0 (eq-eqb a a refl),
+              ap (λ x. x * whole_flow f1 f2 a) (beyond_none order (p + 1) (from_of net.arcs a) here),
+              ap (λ x. x * whole_flow f1 f2 a) (beyond_one order (p + 1) (to_of net.arcs a) there))))
+          (λ ne. ⊎_elim
+            (λ s. omega (arith, cond-false (a == b) (whole_flow f1 f2 b) 0 (ne_eqb a b ne),
+              ap (λ x. x * whole_flow f1 f2 b) (beyond_none order (p + 1) (from_of net.arcs b) s)))
+            (λ none. omega (arith, cond-false (a == b) (whole_flow f1 f2 b) 0 (ne_eqb a b ne),
+              ap (λ x. x * whole_flow f1 f2 b) (beyond_one order (p + 1) (from_of net.arcs b) none),
+              ap (λ x. x * whole_flow f1 f2 b) (beyond_one order (p + 1) (to_of net.arcs b) (λ s. none (begins_below net order part (p + 1) (omega arith) b k s)))))
+            (beyond_or_not order (p + 1) (from_of net.arcs b)))
+          (cases_eq a b)))
