@@ -2,3 +2,5 @@ pub mod SumLaws
 pub mod FlowLaws
 pub mod KneeLaws
 pub mod DualityLaws
+pub mod FallLaws
+pub mod SegmentLaws

@@ -2,6 +2,8 @@
 //! schedules and costs that every contract above cites. `specs/` has the definitions, `proofs/` their laws.
 #![tactic(auto)]
 
+pub mod duality_laws;
+
 /// An activity's place in the network: the events where it begins and ends, numbered in card order from 0.
 #[derive(Clone, Copy, Debug, PartialEq, Eq, Hash)]
 pub struct Arc {
