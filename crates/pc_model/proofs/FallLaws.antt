@@ -8,7 +8,7 @@ use Rattle.pc_model.specs.Segment.{drop}
 use Rattle.pc_model.specs.Knees.{IsSlackAtKnee}
 
 -- the side of a gap that grows by the fall where an event moves
-abbrev side : Bool → ℕ → ℕ → ℕ
+abbrev pub side : Bool → ℕ → ℕ → ℕ
 side moves time fall = time + (if moves then fall else 0)
 
 -- an event that falls by 0 does not fall

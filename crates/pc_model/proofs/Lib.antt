@@ -4,3 +4,4 @@ pub mod KneeLaws
 pub mod DualityLaws
 pub mod FallLaws
 pub mod SegmentLaws
+pub mod CutLaws
