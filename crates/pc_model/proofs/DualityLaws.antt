@@ -8,7 +8,7 @@ use Rattle.pc_model.specs.Sums.{sum_to, at_event}
 use Rattle.pc_model.specs.Walk.{from_of, to_of}
 use Rattle.pc_model.specs.Network.{Network, IsInRange, IsSound}
 use Rattle.pc_model.specs.Schedule.{term_at, normal_of, crash_of, base_cost_of, slope_of, AreTerms, IsSchedule, cost_of, IsLeastCost}
-use Rattle.pc_model.specs.Flow.{whole_flow, outflow, IsConserved, IsFlow, promise, bound_of}
+use Rattle.pc_model.specs.Flow.{IsPriced, whole_flow, outflow, IsConserved, IsFlow, promise, bound_of}
 use Rattle.pc_model.specs.Slack.{gap_of, lesser_of, IsSlack, IsTight, AreTight}
 use Rattle.pc_model.specs.Knees.{IsSlackAtKnee}
 use Rattle.pc_model.proofs.SumLaws.{sum_to-add, sum_to-zero}
@@ -49,13 +49,10 @@ pub promise-asks : (terms : List Term) (f1 f2 : ℕ → ℕ) → promise terms f
 promise-asks terms f1 f2 =
     sym (sum_to-add (length terms) (base_cost_of terms) (λ a. normal_of terms a * f1 a + crash_of terms a * f2 a))
 
-module _ (net : Network) (terms : List Term) (range : IsInRange net) (sound : IsSound net) (are : AreTerms net terms)
+module _ (net : Network) (terms : List Term) (priced : IsPriced net terms)
     (f1 f2 : ℕ → ℕ) (value : ℕ) (flow : IsFlow net terms f1 f2 value) where
-  m : ℕ
-  m = length net.arcs
-
   is_balanced : IsBalanced net.events (length net.arcs) (from_of net.arcs) (to_of net.arcs) net.start net.end (whole_flow f1 f2) value
-  is_balanced = balanced net (whole_flow f1 f2) value range sound flow.through flow.leaves
+  is_balanced = balanced net (whole_flow f1 f2) value priced.range priced.sound flow.through flow.leaves
 
   asks_of_schedule : (d : ℕ → ℕ) (a : ℕ) → f1 a ≤ slope_of terms a → crash_of terms a ≤ d a → asks terms f1 f2 a ≤ costs terms d a + d a * (f1 a + f2 a)
   asks_of_schedule d a within enough =
@@ -66,8 +63,8 @@ module _ (net : Network) (terms : List Term) (range : IsInRange net) (sound : Is
   weak_duality-promise limit d T s =
       omega (arith,
           promise-asks terms f1 f2,
-          ap (λ n. sum_to n (asks terms f1 f2)) are.one_each,
-          ap (λ n. sum_to n (costs terms d)) are.one_each,
+          ap (λ n. sum_to n (asks terms f1 f2)) priced.terms_fit.one_each,
+          ap (λ n. sum_to n (costs terms d)) priced.terms_fit.one_each,
           asked_at_most net.events (length net.arcs) (from_of net.arcs) (to_of net.arcs) net.start net.end (whole_flow f1 f2) value is_balanced
               T d (asks terms f1 f2) (costs terms d) s.starts s.fits
               (λ a h. asks_of_schedule d a (flow.capacity a h) (s.enough a h)),
@@ -79,7 +76,7 @@ module _ (net : Network) (terms : List Term) (range : IsInRange net) (sound : Is
   -- complementary slackness: where the activities are tight, the lesser of normal and gap makes a schedule
   pub tight_schedule : (T : ℕ → ℕ) → AreTight net terms f1 f2 T → IsSchedule net terms (T net.end) (lesser_of net terms T) T
   tight_schedule T are_tight = record {
-      enough = λ a h. let room = (are_tight.tight a h).room in omega (arith, are.ordered a (omega arith), room);
+      enough = λ a h. let room = (are_tight.tight a h).room in omega (arith, priced.terms_fit.ordered a (omega arith), room);
       within = λ a h. omega arith;
       starts = are_tight.starts;
       fits = λ a h. let room = (are_tight.tight a h).room in omega (arith, room);
@@ -92,7 +89,7 @@ module _ (net : Network) (terms : List Term) (range : IsInRange net) (sound : Is
       let tight = are_tight.tight a h in
       let room = tight.room in
       let slack = tight.slack in
-      let low : crash_of terms a ≤ normal_of terms a = are.ordered a (omega arith) in
+      let low : crash_of terms a ≤ normal_of terms a = priced.terms_fit.ordered a (omega arith) in
       omega (arith,
           knee_balances (T (from_of net.arcs a)) (T (to_of net.arcs a)) (normal_of terms a) (slope_of terms a) (f1 a) (normal_of terms a) (lesser_of net terms T a)
               (record { above = slack.above_normal; below = slack.below_normal }) (omega arith) (omega arith) refl,
@@ -106,7 +103,7 @@ module _ (net : Network) (terms : List Term) (range : IsInRange net) (sound : Is
       let tight = are_tight.tight a h in
       let room = tight.room in
       let slack = tight.slack in
-      let low : crash_of terms a ≤ normal_of terms a = are.ordered a (omega arith) in
+      let low : crash_of terms a ≤ normal_of terms a = priced.terms_fit.ordered a (omega arith) in
       flow_spans (T (from_of net.arcs a)) (T (to_of net.arcs a)) (normal_of terms a) (f1 a + f2 a) (lesser_of net terms T a)
           (λ above. omega (arith, slack.above_normal above, slack.above_crash (omega arith))) (omega arith) refl
 
@@ -115,8 +112,8 @@ module _ (net : Network) (terms : List Term) (range : IsInRange net) (sound : Is
   tight_promise T are_tight =
       omega (arith,
           promise-asks terms f1 f2,
-          ap (λ n. sum_to n (asks terms f1 f2)) are.one_each,
-          ap (λ n. sum_to n (costs terms (lesser_of net terms T))) are.one_each,
+          ap (λ n. sum_to n (asks terms f1 f2)) priced.terms_fit.one_each,
+          ap (λ n. sum_to n (costs terms (lesser_of net terms T))) priced.terms_fit.one_each,
           asked_exactly net.events (length net.arcs) (from_of net.arcs) (to_of net.arcs) net.start net.end (whole_flow f1 f2) value is_balanced
               T (lesser_of net terms T) (asks terms f1 f2) (costs terms (lesser_of net terms T)) are_tight.starts
               (spans_exactly T are_tight) (asks_exactly T are_tight))

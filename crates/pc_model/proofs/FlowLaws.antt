@@ -1,5 +1,5 @@
 -- Laws of a flow, over plain functions: `along a` is the whole flow along activity a.
-use Rattle.std.proofs.Common.{◌≡◌, ◌≢◌, ℕ, ◌+◌, ◌*◌, ◌<◌, ◌≤◌, ap, arith}
+use Rattle.std.proofs.Common.{◌≡◌, ◌≢◌, ℕ, ◌+◌, ◌*◌, ◌<◌, ◌≤◌, Bool, true, false, not, ◌&&◌, cond, if◌then◌else◌, ap, arith}
 use Rattle.std.proofs.Math.Nat.{add-mul, mul-le-mul_right}
 use Rattle.pc_model.specs.Sums.{sum_to, at_event}
 use Rattle.pc_model.proofs.SumLaws.{sum_to-add, sum_to-le, sum_to-same, sum_to-change_two, swap_sums}
@@ -16,6 +16,18 @@ pub record IsBalanced (n m : ℕ) (from to : ℕ → ℕ) (start end : ℕ) (alo
   pub not_left : at_event m from along end ≡ 0
   pub through : (e : ℕ) → e < n → e ≢ start → e ≢ end → at_event m to along e ≡ at_event m from along e
   pub leaves : at_event m from along start ≡ value
+
+-- an event's weight at a cut: 1 where it moves
+abbrev weight : Bool → ℕ
+weight moves = if moves then 1 else 0
+
+-- along one activity, the weights at its two ends and its part in the cut's two directions
+crosses : (f t : Bool) (along : ℕ) →
+    weight t * along + (if f && not t then along else 0) ≡ weight f * along + (if not f && t then along else 0)
+crosses true true along = omega arith
+crosses true false along = omega arith
+crosses false true along = omega arith
+crosses false false along = omega arith
 
 module _ (n m : ℕ) (from to : ℕ → ℕ) (start end : ℕ) (along : ℕ → ℕ) (value : ℕ) (flow : IsBalanced n m from to start end along value) where
   potential_into : (T : ℕ → ℕ) →
@@ -64,3 +76,19 @@ module _ (n m : ℕ) (from to : ℕ → ℕ) (start end : ℕ) (along : ℕ → 
           sum_to-add m costs (λ a. T (to a) * along a),
           potential T,
           ap (λ x. x * value) starts)
+
+  -- across a cut between the start and the end, what flows forward exceeds what flows backward by the value
+  pub crossing : (moves : ℕ → Bool) → moves start ≡ false → moves end ≡ true →
+      sum_to m (λ a. if not (moves (from a)) && moves (to a) then along a else 0)
+        ≡ sum_to m (λ a. if moves (from a) && not (moves (to a)) then along a else 0) + value
+  crossing moves start_rests end_moves =
+      omega (arith,
+          sum_to-same m
+              (λ a. weight (moves (to a)) * along a + (if moves (from a) && not (moves (to a)) then along a else 0))
+              (λ a. weight (moves (from a)) * along a + (if not (moves (from a)) && moves (to a) then along a else 0))
+              (λ a h. crosses (moves (from a)) (moves (to a)) (along a)),
+          sum_to-add m (λ a. weight (moves (to a)) * along a) (λ a. if moves (from a) && not (moves (to a)) then along a else 0),
+          sum_to-add m (λ a. weight (moves (from a)) * along a) (λ a. if not (moves (from a)) && moves (to a) then along a else 0),
+          potential (λ e. weight (moves e)),
+          ap (λ b. weight b * value) start_rests,
+          ap (λ b. weight b * value) end_moves)

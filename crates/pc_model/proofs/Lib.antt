@@ -12,3 +12,6 @@ pub mod WalkLaws
 pub mod OrderLaws
 pub mod WorkedDeck
 pub mod Values
+pub mod FallLaws
+pub mod SegmentLaws
+pub mod CutLaws

@@ -3,8 +3,14 @@ use Rattle.std.specs.Prelude.{◌≡◌, ◌≢◌, ℕ, ℤ, pos, ◌-ℤ◌, �
 use Rattle.pc_model.specs.declared.Term.{Term}
 use Rattle.pc_model.specs.Sums.{sum_to, at_event}
 use Rattle.pc_model.specs.Walk.{from_of, to_of}
-use Rattle.pc_model.specs.Network.{Network}
-use Rattle.pc_model.specs.Schedule.{normal_of, crash_of, base_cost_of, slope_of}
+use Rattle.pc_model.specs.Network.{Network, IsInRange, IsSound}
+use Rattle.pc_model.specs.Schedule.{normal_of, crash_of, base_cost_of, slope_of, AreTerms}
+
+-- a sound network, and a term for each of its activities
+pub record IsPriced (net : Network) (terms : List Term) : Type 0 where
+  pub range : IsInRange net
+  pub sound : IsSound net
+  pub terms_fit : AreTerms net terms
 
 -- the whole flow along activity a: f1 runs on an arc of its normal duration, f2 beside it on one of its crash duration
 abbrev pub whole_flow : (ℕ → ℕ) → (ℕ → ℕ) → ℕ → ℕ
