@@ -10,6 +10,7 @@ use Rattle.pc_model.specs.Schedule.{term_at, slope_of, normal_of, crash_of, cost
 use Rattle.pc_model.specs.Flow.{IsFlow}
 use Rattle.pc_model.specs.Slack.{IsTight, IsSlack, lesser_of}
 use Rattle.pc_model.specs.Segment.{Segment, IsTightAt, IsSegment, StopsAtLower, StopsAtCrash, FallsToNormal, RisesToNormal, drop, span, head_at, tail_at, is_forward, is_backward}
+use Rattle.pc_model.proofs.FallLaws.{drop-zero, tight_shifted, falls_along}
 use Rattle.pc_model.specs.State.{State, IsOptimal, IsStuck, IsFall, StopsAfter, CrashesAfter, NormalAfter, RestoredAfter, CanRaise, CanLower, IsAtNormal, IsAtCrash, segment_of, fallen}
 
 -- what is known of a forward activity from s to t before a fall
@@ -75,30 +76,13 @@ tight_after true false term s t f1 f2 fall tight most fw bw =
     zero_or_more zero = inl refl
     zero_or_more n = inr (omega arith)
 
--- tight at a gap is tight at the same gap between later times
-shifted : (term : Term) (s t x y f1 f2 : ℕ) → x ≡ s → y ≡ t → IsTight term s t f1 f2 → IsTight term x y f1 f2
-shifted term s t x y f1 f2 p q tight =
-    subst (λ v. IsTight term v y f1 f2) (sym p) (subst (λ v. IsTight term s v f1 f2) (sym q) tight)
-
--- tight at head and tail is tight between the times that have fallen
-shifted_back : (term : Term) (s t f1 f2 from to : ℕ) → from ≤ s → to ≤ t → IsTight term (s + to) (t + from) f1 f2
-    → IsTight term (s - from) (t - to) f1 f2
-shifted_back term s t f1 f2 from to p q tight = record {
-    room = (let r = tight.room in omega arith);
-    slack = record {
-      above_normal = λ l. tight.slack.above_normal (omega arith);
-      below_normal = λ l. tight.slack.below_normal (omega arith);
-      above_crash = λ l. tight.slack.above_crash (omega arith) } }
-
--- how far an event has fallen is nothing before the fall
-drop_none : (moves : ℕ → Bool) (e : ℕ) → drop moves 0 e ≡ 0
-drop_none moves e = elim (cases_Bool (moves e)) [ inl t ↦ cond-true (moves e) 0 0 t | inr f ↦ cond-false (moves e) 0 0 f ]
-
+-- a forward activity that spans a duration and a fall spans the duration after the fall
 forward_at : (b c : Bool) (s t d n : ℕ) → (not b && c) ≡ true → s + d + n ≡ t → t + (if b then n else 0) ≡ s + (if c then n else 0) + d
 forward_at true c s t d n forward at = absurd (false≢true forward)
 forward_at false true s t d n forward at = omega arith
 forward_at false false s t d n forward at = absurd (false≢true forward)
 
+-- and a backward one that spans a duration less a fall
 backward_at : (b c : Bool) (s t d n : ℕ) → (b && not c) ≡ true → s + d ≡ t + n → t + (if b then n else 0) ≡ s + (if c then n else 0) + d
 backward_at false c s t d n backward at = absurd (false≢true backward)
 backward_at true false s t d n backward at = omega arith
@@ -156,21 +140,13 @@ module _ (net : Network) (terms : List Term) (st : State) (moves : ℕ → Bool)
   backward_meets a d n backward at =
       backward_at (moves (from_of net.arcs a)) (moves (to_of net.arcs a)) _ _ d n backward at
 
-  -- along a walk from the start no event falls below 0
-  falls_along : (walk : List ℕ) (e f : ℕ) → IsWalk net.arcs e walk f → drop moves fall e ≤ st.time e → drop moves fall f ≤ st.time f
-  falls_along [] e f at h = subst (λ x. drop moves fall x ≤ st.time x) at h
-  falls_along (a ∷ walk) e f (l, at, rest) h =
-      falls_along walk (to_of net.arcs a) f rest
-        (let r = (tight_fallen a l).room in
-         let k : drop moves fall (from_of net.arcs a) ≤ st.time (from_of net.arcs a) = subst (λ x. drop moves fall x ≤ st.time x) (sym at) h in
-         omega arith)
-
   module _ (range : IsInRange net) (sound : IsSound net) where
 
     falls_above : (e : ℕ) → e < net.events → drop moves fall e ≤ st.time e
     falls_above e l =
         let (walk, walked) = sound.reached e l in
-        falls_along walk net.start e walked (omega (arith, cond-false (moves net.start) fall 0 stuck.start_rests))
+        falls_along net.arcs st.time moves fall (λ a here. let room = (tight_fallen a here).room in omega arith) walk net.start e walked
+          (omega (arith, cond-false (moves net.start) fall 0 stuck.start_rests))
 
     -- and no further than the present length
     pub fall_within : fall ≤ st.limit
@@ -190,16 +166,11 @@ module _ (net : Network) (terms : List Term) (st : State) (moves : ℕ → Bool)
           end_moves = λ l. stuck.end_moves };
         durations = λ a l. refl;
         flow = optimal.flow;
-        at_upper = λ a l.
-          subst (λ d. IsTight (term_at terms a) (st.time (from_of net.arcs a) + d) (st.time (to_of net.arcs a) + drop moves 0 (from_of net.arcs a)) (st.f1 a) (st.f2 a))
-            (sym (drop_none moves (to_of net.arcs a)))
-            (subst (λ d. IsTight (term_at terms a) (st.time (from_of net.arcs a) + 0) (st.time (to_of net.arcs a) + d) (st.f1 a) (st.f2 a))
-              (sym (drop_none moves (from_of net.arcs a))) (same_tight a l));
+        at_upper = λ a l. tight_shifted (term_at terms a) (st.time (from_of net.arcs a)) (st.time (to_of net.arcs a))
+          (tail_at net.arcs (segment_of net terms st moves fall) 0 a) (head_at net.arcs (segment_of net terms st moves fall) 0 a) _ _
+          (omega (arith, drop-zero (moves (from_of net.arcs a)), drop-zero (moves (to_of net.arcs a)))) (optimal.fits.tight a l);
         at_lower = λ a l. subst (λ n. IsTightAt net terms (segment_of net terms st moves fall) n a) (sym span_is) (tight_fallen a l);
         costs = refl }
-      where
-        same_tight : (a : ℕ) → a < length net.arcs → IsTight (term_at terms a) (st.time (from_of net.arcs a) + 0) (st.time (to_of net.arcs a) + 0) (st.f1 a) (st.f2 a)
-        same_tight a l = (let h = optimal.fits.tight a l in shifted (term_at terms a) _ _ _ _ _ _ (omega arith) (omega arith) h)
 
     -- and it ends where an activity stops
     pub stops_at_lower : StopsAtLower net terms (segment_of net terms st moves fall)
@@ -212,11 +183,11 @@ module _ (net : Network) (terms : List Term) (st : State) (moves : ℕ → Bool)
             (⊎_elim
               (λ normal. inr (inl (record {
                 forward = normal.forward;
-                above = omega (arith, normal.at_normal, normal.above, drop_none moves (from_of net.arcs a), drop_none moves (to_of net.arcs a));
+                above = omega (arith, normal.at_normal, normal.above, drop-zero (moves (from_of net.arcs a)), drop-zero (moves (to_of net.arcs a)));
                 at_normal = forward_meets a (normal_of terms a) (span (segment_of net terms st moves fall)) normal.forward (omega (arith, span_is, normal.at_normal)) })))
               (λ restored. inr (inr (record {
                 backward = restored.backward;
-                below = omega (arith, restored.at_normal, restored.below, drop_none moves (from_of net.arcs a), drop_none moves (to_of net.arcs a));
+                below = omega (arith, restored.at_normal, restored.below, drop-zero (moves (from_of net.arcs a)), drop-zero (moves (to_of net.arcs a)));
                 at_normal = backward_meets a (normal_of terms a) (span (segment_of net terms st moves fall)) restored.backward (omega (arith, span_is, restored.at_normal)) }))))
             stops)
 
@@ -225,7 +196,9 @@ module _ (net : Network) (terms : List Term) (st : State) (moves : ℕ → Bool)
     optimal_fallen = record {
         fits = record {
           starts = omega (arith, optimal.fits.starts);
-          tight = λ a l. shifted_back (term_at terms a) _ _ _ _ (drop moves fall (from_of net.arcs a)) (drop moves fall (to_of net.arcs a))
-            (falls_above (from_of net.arcs a) (range.from_in a l)) (falls_above (to_of net.arcs a) (range.to_in a l)) (tight_fallen a l) };
+          tight = λ a l. tight_shifted (term_at terms a)
+            (tail_at net.arcs (segment_of net terms st moves fall) fall a) (head_at net.arcs (segment_of net terms st moves fall) fall a)
+            (st.time (from_of net.arcs a) - drop moves fall (from_of net.arcs a)) (st.time (to_of net.arcs a) - drop moves fall (to_of net.arcs a)) _ _
+            (omega (arith, falls_above (from_of net.arcs a) (range.from_in a l), falls_above (to_of net.arcs a) (range.to_in a l))) (tight_fallen a l) };
         ends = omega (arith, optimal.ends, cond-true (moves net.end) fall 0 stuck.end_moves);
         flow = optimal.flow }

@@ -8,7 +8,7 @@ use Rattle.pc_model.specs.Greatest.{StandsBelow}
 use Rattle.pc_model.specs.Walk.{from_of, to_of, IsWalk}
 use Rattle.pc_model.specs.Network.{Network, IsInRange, IsSound, IsOrder, IsPartOrder}
 use Rattle.pc_model.specs.Schedule.{AreTerms, IsSchedule, IsLeastCost, slope_of, normal_of, crash_of, cost_of}
-use Rattle.pc_model.specs.Flow.{IsFlow, whole_flow}
+use Rattle.pc_model.specs.Flow.{IsPriced, IsFlow, whole_flow}
 use Rattle.pc_model.specs.Slack.{lesser_of}
 use Rattle.pc_model.specs.State.{State, IsOptimal}
 use Rattle.pc_model.proofs.SumLaws.{sum_to-add, sum_to-le, sum_to-pick}
@@ -75,11 +75,11 @@ value_at_most net terms st limit durations times range sound optimal schedule sh
         (optimal.flow.capacity a l) (optimal.fits.tight a l).slack.above_crash)
 
 -- the cost at the present length is the least for it
-pub optimal_is_least : (net : Network) (terms : List Term) (st : State) → IsInRange net → IsSound net → AreTerms net terms
-    → IsOptimal net terms st → IsLeastCost net terms st.limit (cost_of terms (lesser_of net terms st.time))
-optimal_is_least net terms st range sound sized optimal =
+pub optimal_is_least : (net : Network) (terms : List Term) (st : State) → IsPriced net terms → IsOptimal net terms st
+    → IsLeastCost net terms st.limit (cost_of terms (lesser_of net terms st.time))
+optimal_is_least net terms st priced optimal =
     subst (λ n. IsLeastCost net terms n (cost_of terms (lesser_of net terms st.time))) optimal.ends
-      (tight_least net terms range sound sized st.f1 st.f2 st.value optimal.flow st.time optimal.fits)
+      (tight_least net terms priced st.f1 st.f2 st.value optimal.flow st.time optimal.fits)
 
 -- 1 where the event is none of the first n of a list
 beyond : List ℕ → ℕ → ℕ → ℕ
