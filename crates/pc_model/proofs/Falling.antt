@@ -7,10 +7,12 @@ use Rattle.pc_model.specs.declared.Term.{Term}
 use Rattle.pc_model.specs.Walk.{from_of, to_of, IsWalk}
 use Rattle.pc_model.specs.Network.{Network, IsInRange, IsSound}
 use Rattle.pc_model.specs.Schedule.{term_at, slope_of, normal_of, crash_of, cost_of}
-use Rattle.pc_model.specs.Flow.{IsFlow}
+use Rattle.pc_model.specs.Flow.{IsFlow, IsPriced}
 use Rattle.pc_model.specs.Slack.{IsTight, IsSlack, lesser_of}
-use Rattle.pc_model.specs.Segment.{Segment, IsTightAt, IsSegment, StopsAtLower, StopsAtCrash, FallsToNormal, RisesToNormal, drop, span, head_at, tail_at, is_forward, is_backward}
+use Rattle.pc_model.specs.Segment.{Segment, IsTightAt, IsSegment, IsWholeSegment, StopsAtLower, StopsAtCrash, FallsToNormal, RisesToNormal, drop, span, head_at, tail_at, is_forward, is_backward}
 use Rattle.pc_model.proofs.FallLaws.{drop-zero, tight_shifted, falls_along}
+use Rattle.pc_model.proofs.SegmentLaws.{right_at}
+use Rattle.pc_model.proofs.CutLaws.{cut_is_slope}
 use Rattle.pc_model.specs.State.{State, IsOptimal, IsStuck, IsFall, StopsAfter, CrashesAfter, NormalAfter, RestoredAfter, CanRaise, CanLower, IsAtNormal, IsAtCrash, segment_of, fallen}
 
 -- what is known of a forward activity from s to t before a fall
@@ -140,17 +142,17 @@ module _ (net : Network) (terms : List Term) (st : State) (moves : ℕ → Bool)
   backward_meets a d n backward at =
       backward_at (moves (from_of net.arcs a)) (moves (to_of net.arcs a)) _ _ d n backward at
 
-  module _ (range : IsInRange net) (sound : IsSound net) where
+  module _ (priced : IsPriced net terms) where
 
     falls_above : (e : ℕ) → e < net.events → drop moves fall e ≤ st.time e
     falls_above e l =
-        let (walk, walked) = sound.reached e l in
+        let (walk, walked) = priced.sound.reached e l in
         falls_along net.arcs st.time moves fall (λ a here. let room = (tight_fallen a here).room in omega arith) walk net.start e walked
           (omega (arith, cond-false (moves net.start) fall 0 stuck.start_rests))
 
     -- and no further than the present length
     pub fall_within : fall ≤ st.limit
-    fall_within = omega (arith, falls_above net.end range.end_in, cond-true (moves net.end) fall 0 stuck.end_moves, optimal.ends)
+    fall_within = omega (arith, falls_above net.end priced.range.end_in, cond-true (moves net.end) fall 0 stuck.end_moves, optimal.ends)
 
     span_is : span (segment_of net terms st moves fall) ≡ fall
     span_is = omega (arith, fall_within)
@@ -191,6 +193,19 @@ module _ (net : Network) (terms : List Term) (st : State) (moves : ℕ → Bool)
                 at_normal = backward_meets a (normal_of terms a) (span (segment_of net terms st moves fall)) restored.backward (omega (arith, span_is, restored.at_normal)) }))))
             stops)
 
+    -- so that it meets every condition: the labels are a cut whose gain is the value
+    pub whole_segment_of_fall : IsWholeSegment net terms (segment_of net terms st moves fall)
+    whole_segment_of_fall = record {
+        segment = segment_of_fall;
+        cut = λ l. cut_is_slope net terms priced (segment_of net terms st moves fall) segment_of_fall;
+        stops = λ l. stops_at_lower }
+
+    -- the fall costs the value for each unit
+    pub cost_fallen : cost_of terms (lesser_of net terms (fallen st moves fall).time) ≡ cost_of terms (lesser_of net terms st.time) + st.value * fall
+    cost_fallen =
+        subst (λ n. cost_of terms (lesser_of net terms (λ e. st.time e - drop moves n e)) ≡ cost_of terms (lesser_of net terms st.time) + st.value * n)
+          span_is (right_at net terms priced (segment_of net terms st moves fall) segment_of_fall (st.limit - fall) (omega arith) (omega arith)).costs
+
     -- between two labellings the same holds after the fall
     pub optimal_fallen : IsOptimal net terms (fallen st moves fall)
     optimal_fallen = record {
@@ -199,6 +214,6 @@ module _ (net : Network) (terms : List Term) (st : State) (moves : ℕ → Bool)
           tight = λ a l. tight_shifted (term_at terms a)
             (tail_at net.arcs (segment_of net terms st moves fall) fall a) (head_at net.arcs (segment_of net terms st moves fall) fall a)
             (st.time (from_of net.arcs a) - drop moves fall (from_of net.arcs a)) (st.time (to_of net.arcs a) - drop moves fall (to_of net.arcs a)) _ _
-            (omega (arith, falls_above (from_of net.arcs a) (range.from_in a l), falls_above (to_of net.arcs a) (range.to_in a l))) (tight_fallen a l) };
+            (omega (arith, falls_above (from_of net.arcs a) (priced.range.from_in a l), falls_above (to_of net.arcs a) (priced.range.to_in a l))) (tight_fallen a l) };
         ends = omega (arith, optimal.ends, cond-true (moves net.end) fall 0 stuck.end_moves);
         flow = optimal.flow }

@@ -12,6 +12,7 @@ pub mod WalkLaws
 pub mod OrderLaws
 pub mod WorkedDeck
 pub mod Values
+pub mod Opening
 pub mod FallLaws
 pub mod SegmentLaws
 pub mod CutLaws

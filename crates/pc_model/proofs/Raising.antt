@@ -9,7 +9,7 @@ use Rattle.pc_model.specs.Walk.{from_of, to_of}
 use Rattle.pc_model.specs.declared.Term.{Term}
 use Rattle.pc_model.specs.Network.{Network, IsInRange, IsSound}
 use Rattle.pc_model.specs.Schedule.{term_at, slope_of, normal_of, crash_of}
-use Rattle.pc_model.specs.Flow.{IsFlow, whole_flow, inflow, outflow}
+use Rattle.pc_model.specs.Flow.{IsPriced, IsFlow, whole_flow, inflow, outflow}
 use Rattle.pc_model.specs.Slack.{IsTight, IsSlack}
 use Rattle.pc_model.specs.State.{State, IsOptimal, IsPart, IsRaising, IsAtNormal, IsAtCrash, raised}
 
@@ -144,9 +144,9 @@ module _ (net : Network) (terms : List Term) (st : State) (room : ℕ) where
           (part_backward net (whole_flow st.f1 st.f2) room (whole_flow f1 f2) (whole_flow g1 g2) a x l at less both raising.part)
 
   -- back at the start, what holds between two labellings holds of the raised flows
-  pub optimal_raised : (f1 f2 : ℕ → ℕ) → IsInRange net → IsSound net → IsOptimal net terms st
+  pub optimal_raised : (f1 f2 : ℕ → ℕ) → IsPriced net terms → IsOptimal net terms st
       → IsRaising net terms st f1 f2 net.start room → IsOptimal net terms (raised st f1 f2 room)
-  optimal_raised f1 f2 range sound optimal raising = record {
+  optimal_raised f1 f2 priced optimal raising = record {
       fits = record {
         starts = optimal.fits.starts;
         tight = λ a l. still_tight (term_at terms a) _ _ _ _ _ _ (optimal.fits.tight a l) (raising.at_normal a l) (raising.at_crash a l) };
@@ -155,5 +155,5 @@ module _ (net : Network) (terms : List Term) (st : State) (room : ℕ) where
         capacity = raising.capacity;
         through = λ e l ns ne. part_through net (whole_flow st.f1 st.f2) room (whole_flow f1 f2) e raising.part l ns ne (optimal.flow.through e l ns ne);
         leaves = omega (arith, optimal.flow.leaves,
-          part_leaves net (whole_flow st.f1 st.f2) room (whole_flow f1 f2) raising.part range.start_in range.apart
-            (unentered net (whole_flow st.f1 st.f2) sound) (unentered net (whole_flow f1 f2) sound)) } }
+          part_leaves net (whole_flow st.f1 st.f2) room (whole_flow f1 f2) raising.part priced.range.start_in priced.range.apart
+            (unentered net (whole_flow st.f1 st.f2) priced.sound) (unentered net (whole_flow f1 f2) priced.sound)) } }

@@ -5,6 +5,7 @@ use Rattle.pc_model.specs.declared.Term.{Term}
 use Rattle.pc_model.specs.Walk.{from_of, to_of, IsWalk}
 use Rattle.pc_model.specs.Network.{Network, IsInRange, IsSound}
 use Rattle.pc_model.specs.Schedule.{slope_of, normal_of, crash_of}
+use Rattle.pc_model.specs.Flow.{IsPriced}
 use Rattle.pc_model.specs.Segment.{is_forward, is_backward}
 use Rattle.pc_model.specs.State.{State, IsOptimal, IsStuck, IsFall, StopsAfter, CrashesAfter, NormalAfter, RestoredAfter}
 
@@ -114,13 +115,13 @@ module _ (net : Network) (terms : List Term) (st : State) (moves : ℕ → Bool)
       found k (a, l, stops) = ⊎_elim (λ is. inr (subst (λ b. StopsAfter net terms st moves b k) is stops)) (λ ne. inl (a, omega arith, stops)) (cases_eq a n)
 
   -- where the start rests and the end moves, there is a fall
-  pub fall_exists : IsInRange net → IsSound net → IsStuck net terms st moves → (fall : ℕ) × IsFall net terms st moves fall
+  pub fall_exists : IsPriced net terms → IsStuck net terms st moves → (fall : ℕ) × IsFall net terms st moves fall
   unfolding Searched StopsAmong
-  fall_exists range sound stuck =
+  fall_exists priced stuck =
       ⊎_elim
         (λ x. (x.0, record { stops = x.1.has; least = λ a n l s. x.1.least n (a, l, s) }))
         (λ none.
-          let (walk, walked) = sound.reached net.end range.end_in in
+          let (walk, walked) = priced.sound.reached net.end priced.range.end_in in
           let (a, l, forward) = crosses net moves walk net.start net.end walked stuck.start_rests stuck.end_moves in
           let room = (optimal.fits.tight a l).room in
           absurd (none (st.time (to_of net.arcs a) - (st.time (from_of net.arcs a) + crash_of terms a))

@@ -16,7 +16,7 @@ use Rattle.pc_model.proofs.FlowLaws.{potential}
 use Rattle.pc_model.proofs.DualityLaws.{balanced, tight_least}
 use Rattle.pc_model.proofs.OrderLaws.{stands_in_order, same_place}
 
-module _ (net : Network) (terms : List Term) (range : IsInRange net) (sound : IsSound net) (f1 f2 : ℕ → ℕ) (value : ℕ) (flow : IsFlow net terms f1 f2 value) where
+module _ (net : Network) (terms : List Term) (priced : IsPriced net terms) (f1 f2 : ℕ → ℕ) (value : ℕ) (flow : IsFlow net terms f1 f2 value) where
 
   across : (W : ℕ → ℕ) → W net.start ≡ 0 → W net.end ≡ 1
       → sum_to (length net.arcs) (λ a. W (to_of net.arcs a) * whole_flow f1 f2 a)
@@ -24,7 +24,7 @@ module _ (net : Network) (terms : List Term) (range : IsInRange net) (sound : Is
   across W rests moves =
       omega (arith, ap (λ x. x * value) rests, ap (λ x. x * value) moves,
         potential net.events (length net.arcs) (from_of net.arcs) (to_of net.arcs) net.start net.end (whole_flow f1 f2) value
-          (balanced net (whole_flow f1 f2) value range sound flow.through flow.leaves) W)
+          (balanced net (whole_flow f1 f2) value priced.range priced.sound flow.through flow.leaves) W)
 
   -- where the weight of the ending event asks no more flow than that of the beginning one and a bound for the
   -- activity, the value is at most the sum of these bounds
@@ -63,11 +63,11 @@ cut_at c k s t crash d f1 f2 slope enough fits most none =
       (cases_lt k t)
 
 -- while some schedule is shorter than the present length, the value is at most the sum of slopes
-pub value_at_most : (net : Network) (terms : List Term) (st : State) (limit : ℕ) (durations times : ℕ → ℕ) → IsInRange net → IsSound net
+pub value_at_most : (net : Network) (terms : List Term) (st : State) (limit : ℕ) (durations times : ℕ → ℕ) → IsPriced net terms
     → IsOptimal net terms st → IsSchedule net terms limit durations times → limit < st.limit
     → st.value ≤ sum_to (length net.arcs) (slope_of terms)
-value_at_most net terms st limit durations times range sound optimal schedule shorter =
-    value_below net terms range sound st.f1 st.f2 st.value optimal.flow (λ e. later (times e) (st.time e)) (slope_of terms)
+value_at_most net terms st limit durations times priced optimal schedule shorter =
+    value_below net terms priced st.f1 st.f2 st.value optimal.flow (λ e. later (times e) (st.time e)) (slope_of terms)
       (ap (λ b. if b then 1 else 0) (le-ltb (times net.start) (st.time net.start) (let s = schedule.starts in let t = optimal.fits.starts in omega arith)))
       (ap (λ b. if b then 1 else 0) (lt-ltb (times net.end) (st.time net.end) (let s = schedule.ends in let t = optimal.ends in omega arith)))
       (λ a l. cut_at (times (from_of net.arcs a)) (times (to_of net.arcs a)) (st.time (from_of net.arcs a)) (st.time (to_of net.arcs a))
@@ -126,22 +126,22 @@ module _ (net : Network) (order : List ℕ) (part : IsPartOrder net order) (n : 
       subst (StandsBelow order n) at (begins_below a l (walk_below walk (to_of net.arcs a) f rest s))
 
 -- no activity has more flow than the value
-pub flow_at_most : (net : Network) (terms : List Term) (order : List ℕ) (f1 f2 : ℕ → ℕ) (value : ℕ) → IsInRange net → IsSound net → IsOrder net order
+pub flow_at_most : (net : Network) (terms : List Term) (order : List ℕ) (f1 f2 : ℕ → ℕ) (value : ℕ) → IsPriced net terms → IsOrder net order
     → IsFlow net terms f1 f2 value → (a : ℕ) → a < length net.arcs → f1 a + f2 a ≤ value
-flow_at_most net terms order f1 f2 value range sound ordered flow a l =
-    let (p, inside, at) = stands_in_order net order ordered (from_of net.arcs a) (range.from_in a l) in
+flow_at_most net terms order f1 f2 value priced ordered flow a l =
+    let (p, inside, at) = stands_in_order net order ordered (from_of net.arcs a) (priced.range.from_in a l) in
     let part = ordered.part in
     let here : StandsBelow order (p + 1) (from_of net.arcs a) = (p, omega arith, at) in
     let there : StandsBelow order (p + 1) (to_of net.arcs a) → ⊥ = λ (k, below, is).
           (let (j, before, begins) = part.before k a (omega arith) l (sym is) in
            omega (arith, same_place net order part j p (omega arith) inside (begins ∙ sym at))) in
     let starts : StandsBelow order (p + 1) net.start =
-          (let (walk, walked) = sound.reached (from_of net.arcs a) (range.from_in a l) in walk_below net order part (p + 1) (omega arith) walk net.start _ walked here) in
+          (let (walk, walked) = priced.sound.reached (from_of net.arcs a) (priced.range.from_in a l) in walk_below net order part (p + 1) (omega arith) walk net.start _ walked here) in
     let ends : StandsBelow order (p + 1) net.end → ⊥ = λ s.
-          (let (walk, walked) = sound.reaches (to_of net.arcs a) (range.to_in a l) in there (walk_below net order part (p + 1) (omega arith) walk _ net.end walked s)) in
+          (let (walk, walked) = priced.sound.reaches (to_of net.arcs a) (priced.range.to_in a l) in there (walk_below net order part (p + 1) (omega arith) walk _ net.end walked s)) in
     omega (arith,
       sum_to-pick (length net.arcs) (whole_flow f1 f2) a l,
-      value_above net terms range sound f1 f2 value flow (beyond order (p + 1)) (λ b. if a == b then whole_flow f1 f2 b else 0)
+      value_above net terms priced f1 f2 value flow (beyond order (p + 1)) (λ b. if a == b then whole_flow f1 f2 b else 0)
         (beyond_none order (p + 1) net.start starts) (beyond_one order (p + 1) net.end ends)
         (λ b k. ⊎_elim
           (λ is. subst (λ c. beyond order (p + 1) (from_of net.arcs c) * whole_flow f1 f2 c + (if a == c then whole_flow f1 f2 c else 0) ≤ beyond order (p + 1) (to_of net.arcs c) * whole_flow f1 f2 c) is

@@ -124,3 +124,13 @@ fallen st moves fall = record {
     f1 = st.f1;
     f2 = st.f2;
     value = st.value }
+
+-- The first state
+
+-- all durations normal, with the times that leave them room, and nothing flows
+abbrev pub opening : ℕ → (ℕ → ℕ) → State
+opening limit times = record { limit = limit; time = times; f1 = λ a. 0; f2 = λ a. 0; value = 0 }
+
+-- nothing moves
+abbrev pub rests : ℕ → Bool
+rests e = false
