@@ -11,7 +11,7 @@ use Rattle.pc_model.specs.Network.{Network, IsInRange, IsSound}
 use Rattle.pc_model.specs.Schedule.{term_at, slope_of, normal_of, crash_of}
 use Rattle.pc_model.specs.Flow.{IsPriced, IsFlow, whole_flow, inflow, outflow}
 use Rattle.pc_model.specs.Slack.{IsTight, IsSlack}
-use Rattle.pc_model.specs.State.{State, IsOptimal, IsPart, IsRaising, IsAtNormal, IsAtCrash, raised}
+use Rattle.pc_model.specs.State.{State, IsOptimal, IsPart, IsRaising, IsStep, IsAtNormal, IsAtCrash, raised}
 
 -- what enters and leaves one event, before and after a step forward; b: the activity ends there, c: it begins there
 forward_at : (b c : Bool) (ni nu xi xo oi oo at next room ends : ℕ) → next ≡ at + room
@@ -105,29 +105,26 @@ module _ (net : Network) (terms : List Term) (st : State) (room : ℕ) where
       at_normal = λ a l. inl refl;
       at_crash = λ a l. inl refl }
 
-  module _ (f1 f2 g1 g2 : ℕ → ℕ) (a x : ℕ) (l : a < length net.arcs)
-      (full : g1 a ≤ slope_of terms a)
-      (normal : (g1 a ≡ f1 a) ⊎ IsAtNormal net terms st a) (crash : (g2 a ≡ f2 a) ⊎ IsAtCrash net terms st a)
-      (first : (b : ℕ) → b < length net.arcs → b ≢ a → f1 b ≡ g1 b) (second : (b : ℕ) → b < length net.arcs → b ≢ a → f2 b ≡ g2 b)
+  module _ (f1 f2 g1 g2 : ℕ → ℕ) (a x : ℕ) (l : a < length net.arcs) (step : IsStep net terms st f1 f2 g1 g2 a)
       (raising : IsRaising net terms st f1 f2 x room) where
 
     both : (b : ℕ) → b < length net.arcs → b ≢ a → whole_flow f1 f2 b ≡ whole_flow g1 g2 b
-    both b k ne = omega (arith, first b k ne, second b k ne)
+    both b k ne = omega (arith, step.others_1 b k ne, step.others_2 b k ne)
 
     -- the fields but the first, where the flows change on activity a alone
     stepped : (y : ℕ) → IsPart net (whole_flow st.f1 st.f2) (whole_flow g1 g2) y room → IsRaising net terms st g1 g2 y room
     stepped y part = record {
         part = part;
-        capacity = λ b k. ⊎_elim (λ is. subst (λ c. g1 c ≤ slope_of terms c) (sym is) full)
-          (λ ne. subst (λ v. v ≤ slope_of terms b) (first b k ne) (raising.capacity b k)) (cases_eq b a);
+        capacity = λ b k. ⊎_elim (λ is. subst (λ c. g1 c ≤ slope_of terms c) (sym is) step.capacity)
+          (λ ne. subst (λ v. v ≤ slope_of terms b) (step.others_1 b k ne) (raising.capacity b k)) (cases_eq b a);
         at_normal = λ b k. ⊎_elim
           (λ is. subst (λ c. (g1 c ≡ st.f1 c) ⊎ IsAtNormal net terms st c) (sym is)
-            (⊎_elim (λ same. ⊎_elim (λ was. inl (same ∙ was)) inr (raising.at_normal a l)) inr normal))
-          (λ ne. ⊎_elim (λ was. inl (sym (first b k ne) ∙ was)) inr (raising.at_normal b k)) (cases_eq b a);
+            (⊎_elim (λ same. ⊎_elim (λ was. inl (same ∙ was)) inr (raising.at_normal a l)) inr step.at_normal))
+          (λ ne. ⊎_elim (λ was. inl (sym (step.others_1 b k ne) ∙ was)) inr (raising.at_normal b k)) (cases_eq b a);
         at_crash = λ b k. ⊎_elim
           (λ is. subst (λ c. (g2 c ≡ st.f2 c) ⊎ IsAtCrash net terms st c) (sym is)
-            (⊎_elim (λ same. ⊎_elim (λ was. inl (same ∙ was)) inr (raising.at_crash a l)) inr crash))
-          (λ ne. ⊎_elim (λ was. inl (sym (second b k ne) ∙ was)) inr (raising.at_crash b k)) (cases_eq b a) }
+            (⊎_elim (λ same. ⊎_elim (λ was. inl (same ∙ was)) inr (raising.at_crash a l)) inr step.at_crash))
+          (λ ne. ⊎_elim (λ was. inl (sym (step.others_2 b k ne) ∙ was)) inr (raising.at_crash b k)) (cases_eq b a) }
 
     -- a step back along an activity that ends at x: the room flows on it too
     pub raising_forward : to_of net.arcs a ≡ x → whole_flow g1 g2 a ≡ whole_flow f1 f2 a + room

@@ -1,6 +1,6 @@
 -- The state between two labellings of the events, what stays true of it, and the two ways on from it: a raising of
 -- the flow, where the labels reach the end, and a fall of the length, where they do not.
-use Rattle.std.specs.Prelude.{◌≡◌, ◌==◌, if◌then◌else◌, ℕ, ◌+◌, ◌-◌, ◌<◌, ◌≤◌, ◌⊎◌, Bool, true, false, List, length}
+use Rattle.std.specs.Prelude.{◌≡◌, ◌≢◌, ◌==◌, if◌then◌else◌, ℕ, ◌+◌, ◌-◌, ◌<◌, ◌≤◌, ◌⊎◌, Bool, true, false, List, length}
 use Rattle.pc_model.specs.declared.Term.{Term}
 use Rattle.pc_model.specs.Walk.{from_of, to_of}
 use Rattle.pc_model.specs.Network.{Network}
@@ -57,6 +57,15 @@ pub record IsRaising (net : Network) (terms : List Term) (st : State) (f1 f2 : �
   pub capacity : (a : ℕ) → a < length net.arcs → f1 a ≤ slope_of terms a
   pub at_normal : (a : ℕ) → a < length net.arcs → (f1 a ≡ st.f1 a) ⊎ IsAtNormal net terms st a
   pub at_crash : (a : ℕ) → a < length net.arcs → (f2 a ≡ st.f2 a) ⊎ IsAtCrash net terms st a
+
+-- a step changes the flows of activity a alone: f1 only at a gap of normal and to at most the slope, f2 only at a gap
+-- of crash
+pub record IsStep (net : Network) (terms : List Term) (st : State) (f1 f2 g1 g2 : ℕ → ℕ) (a : ℕ) : Type 0 where
+  pub capacity : g1 a ≤ slope_of terms a
+  pub at_normal : (g1 a ≡ f1 a) ⊎ IsAtNormal net terms st a
+  pub at_crash : (g2 a ≡ f2 a) ⊎ IsAtCrash net terms st a
+  pub others_1 : (b : ℕ) → b < length net.arcs → b ≢ a → f1 b ≡ g1 b
+  pub others_2 : (b : ℕ) → b < length net.arcs → b ≢ a → f2 b ≡ g2 b
 
 -- the state with the raised flows
 abbrev pub raised : State → (ℕ → ℕ) → (ℕ → ℕ) → ℕ → State
