@@ -5,3 +5,4 @@ pub mod DualityLaws
 pub mod FallLaws
 pub mod SegmentLaws
 pub mod CutLaws
+pub mod CoverLaws
