@@ -16,3 +16,4 @@ pub mod Opening
 pub mod FallLaws
 pub mod SegmentLaws
 pub mod CutLaws
+pub mod CoverLaws

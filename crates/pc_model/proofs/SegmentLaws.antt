@@ -13,6 +13,7 @@ use Rattle.pc_model.specs.Slack.{lesser_of, IsTight, AreTight}
 use Rattle.pc_model.specs.Segment.{Segment, span, drop, times_at, durations_at, cost_at, head_at, tail_at, IsTightAt, IsSegment, IsRight}
 use Rattle.pc_model.proofs.SumLaws.{sum_to-same}
 use Rattle.pc_model.proofs.DualityLaws.{weak_duality-promise, tight_schedule, tight_promise}
+use Rattle.pc_model.proofs.CutLaws.{cut_is_slope}
 use Rattle.pc_model.proofs.FallLaws.{drop-zero, tight_between, tight_shifted, falls_along}
 
 module _ (net : Network) (terms : List Term) (priced : IsPriced net terms) (seg : Segment) (right : IsSegment net terms seg) where
@@ -88,6 +89,7 @@ module _ (net : Network) (terms : List Term) (priced : IsPriced net terms) (seg 
       let split : seg.upper ≡ (seg.upper - limit) + limit = omega arith in
       omega (arith, promise_upper, ap (λ x. x * seg.slope) split, mul_comm seg.slope seg.upper, mul-add seg.slope (seg.upper - limit) limit, mul_comm seg.slope limit, ap (λ x. seg.slope * x) split)
 
+  -- what is read for a length between the ends is right
   pub right_at : (limit : ℕ) → seg.lower ≤ limit → limit ≤ seg.upper → IsRight net terms seg limit
   right_at limit above below =
       let read = tight_read limit above below in
@@ -102,10 +104,12 @@ module _ (net : Network) (terms : List Term) (priced : IsPriced net terms) (seg 
         schedule = scheduled;
         ends = ends;
         costs = costs;
+        flow = right.flow;
         promised = promised;
         bound = omega (arith, ints, promised);
         least = record {
           reached = (durations_at net terms seg limit, times_at seg limit, scheduled, costs);
           least = λ d T s. omega (arith, promised, weak_duality-promise net terms priced seg.f1 seg.f2 seg.slope right.flow limit d T s);
         };
+        cut = cut_is_slope net terms priced seg right;
       }

@@ -4,7 +4,7 @@ use Rattle.pc_model.specs.declared.Term.{Term}
 use Rattle.pc_model.specs.Walk.{IsWalk, walk_sum}
 use Rattle.pc_model.specs.Network.{Network}
 use Rattle.pc_model.specs.Schedule.{normal_of, normals, crashes}
-use Rattle.pc_model.specs.Segment.{Segment, IsSegment, IsRight}
+use Rattle.pc_model.specs.Segment.{Segment, Holds, IsSegment, IsRight}
 
 -- the first upper end is `high`, each later upper end is the lower end before it, and the last lower end is `low`
 abbrev pub Joins : ℕ → List Segment → ℕ → Type 0
@@ -38,3 +38,8 @@ pub record IsCovering (net : Network) (terms : List Term) (segments : List Segme
   pub normal : BeginsNormal net terms segments
   pub normal_walk : (walk : List ℕ) × IsThroughWalk net (normals terms) walk high
   pub crash_walk : (walk : List ℕ) × IsThroughWalk net (crashes terms) walk low
+
+-- what is read for a length from the segments is right
+abbrev pub IsReadRight : Network → List Term → List Segment → ℕ → Type 0
+IsReadRight net terms segments limit =
+    IsSomeAnd (segment_for segments limit) (λ seg. Holds seg limit × IsRight net terms seg limit)

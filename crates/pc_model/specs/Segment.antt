@@ -164,12 +164,14 @@ pub record IsWholeSegment (net : Network) (terms : List Term) (seg : Segment) : 
 
 -- What a right segment gives at every length between its ends
 
--- what is read for a length is a schedule that ends at it and costs what is said; the bound of the segment's flow
--- is that cost; and no schedule for the length costs less
+-- what is read for a length is a schedule that ends at it and costs what is said; the segment's flow has the slope as
+-- its value and the cost as its bound; no schedule for the length costs less; and the slope is the cut gain
 pub record IsRight (net : Network) (terms : List Term) (seg : Segment) (limit : ℕ) : Type 0 where
   pub schedule : IsSchedule net terms limit (durations_at net terms seg limit) (times_at seg limit)
   pub ends : times_at seg limit net.end ≡ limit
   pub costs : cost_of terms (durations_at net terms seg limit) ≡ cost_at seg limit
+  pub flow : IsFlow net terms seg.f1 seg.f2 seg.slope
   pub promised : promise terms seg.f1 seg.f2 ≡ cost_at seg limit + limit * seg.slope
   pub bound : bound_of terms seg.f1 seg.f2 seg.slope limit ≡ pos (cost_at seg limit)
   pub least : IsLeastCost net terms limit (cost_at seg limit)
+  pub cut : cut_gain net terms seg ≡ pos seg.slope
