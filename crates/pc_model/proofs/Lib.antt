@@ -13,6 +13,7 @@ pub mod OrderLaws
 pub mod WorkedDeck
 pub mod Values
 pub mod Opening
+pub mod Breaks
 pub mod FallLaws
 pub mod SegmentLaws
 pub mod CutLaws

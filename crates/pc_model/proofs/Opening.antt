@@ -2,7 +2,6 @@
 use Rattle.std.proofs.Common.{◌≡◌, ◌≤◌, ◌<◌, ◌+◌, ◌-◌, ◌*◌, ℕ, List, length, get_or, slice_index, map, Bool, true, false, arith, refl, sym, ◌∙◌, subst, ap}
 use Rattle.std.specs.Prelude.{◌==◌, if◌then◌else◌}
 use Rattle.std.proofs.lemmas.Bool.{cond_both}
-use Rattle.std.proofs.lemmas.List.{get_or-map}
 use Rattle.pc_model.specs.declared.Term.{Term}
 use Rattle.pc_model.specs.Sums.{sum_to, at_event}
 use Rattle.pc_model.specs.Walk.{from_of, to_of, IsWalk}
@@ -13,7 +12,8 @@ use Rattle.pc_model.specs.Slack.{IsTight, lesser_of}
 use Rattle.pc_model.specs.Segment.{IsSegment, IsWholeSegment, IsTightAt}
 use Rattle.pc_model.specs.State.{State, IsOptimal, segment_of, opening, rests}
 use Rattle.pc_model.proofs.SumLaws.{sum_to-zero}
-use Rattle.pc_model.proofs.WalkLaws.{times_bound_walk}
+use Rattle.pc_model.proofs.DualityLaws.{tight_schedule}
+use Rattle.pc_model.proofs.CoverLaws.{crash_walk_within}
 use Rattle.pc_model.proofs.FallLaws.{tight_shifted}
 
 -- nothing is put at an event where nothing flows
@@ -67,8 +67,6 @@ pub within_range : (net : Network) (terms : List Term) (st : State) (shortest : 
     → IsAllCrashLength net terms shortest → shortest ≤ st.limit
 within_range net terms st shortest priced optimal longest =
     let (walk, walked, sum) = longest.attained in
-    omega (arith, sum, optimal.ends, optimal.fits.starts,
-      times_bound_walk net.arcs (crashes terms) st.time
-        (λ a l. let room = (optimal.fits.tight a l).room in
-          omega (arith, room, get_or-map (λ (t : Term). t.crash) terms a (record { normal = 0; crash = 0; cost = 0; slope = 0 }) 0 (omega (arith, priced.terms_fit.one_each))))
-        net.start net.end walk walked)
+    omega (arith, sum, optimal.ends,
+      crash_walk_within net terms (st.time net.end) (lesser_of net terms st.time) st.time priced.terms_fit
+        (tight_schedule net terms priced st.f1 st.f2 st.value optimal.flow st.time optimal.fits) walk walked)

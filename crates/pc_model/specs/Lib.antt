@@ -9,3 +9,4 @@ pub mod Segment
 pub mod Knees
 pub mod Cover
 pub mod State
+pub mod Curve
