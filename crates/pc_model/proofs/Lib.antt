@@ -14,6 +14,7 @@ pub mod WorkedDeck
 pub mod Values
 pub mod Opening
 pub mod Breaks
+pub mod WorkedCurve
 pub mod FallLaws
 pub mod SegmentLaws
 pub mod CutLaws
