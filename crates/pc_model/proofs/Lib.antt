@@ -15,6 +15,9 @@ pub mod Values
 pub mod Opening
 pub mod Breaks
 pub mod WorkedCurve
+pub mod WorkedBreaks
+pub mod WorkedState
+pub mod WorkedLevel
 pub mod FallLaws
 pub mod SegmentLaws
 pub mod CutLaws
