@@ -90,3 +90,12 @@ module _ (net : Network) (terms : List Term) (priced : IsPriced net terms) where
         omega (arith, costs.0, costs.1,
           convex net terms (later.upper - 1) a b c priced.terms_fit known.below
             (subst (λ n. IsLeastCost net terms n b) back known.at) (subst (λ n. IsLeastCost net terms n c) next known.above))
+
+  -- the costs at the upper end of a segment and a unit below
+  pub upper_costs : (seg : Segment) → IsSegment net terms seg → seg.lower < seg.upper
+      → IsLeastCost net terms seg.upper seg.cost × IsLeastCost net terms (seg.upper - 1) (seg.cost + seg.slope)
+  upper_costs seg right long =
+      let none : seg.upper - seg.upper ≡ 0 = omega arith in
+      let one : seg.upper - (seg.upper - 1) ≡ 1 = omega arith in
+      (subst (λ n. IsLeastCost net terms seg.upper n) (omega (arith, ap (λ x. seg.slope * x) none)) (least_read seg right seg.upper (omega arith) (omega arith)),
+       subst (λ n. IsLeastCost net terms (seg.upper - 1) n) (omega (arith, ap (λ x. seg.slope * x) one)) (least_read seg right (seg.upper - 1) (omega arith) (omega arith)))

@@ -14,6 +14,7 @@ pub mod WorkedDeck
 pub mod Values
 pub mod Opening
 pub mod Breaks
+pub mod BreakLists
 pub mod WorkedCurve
 pub mod WorkedBreaks
 pub mod WorkedState
