@@ -1,6 +1,8 @@
 pub mod SumLaws
 pub mod FlowLaws
 pub mod KneeLaws
+pub mod KneeDuality
+pub mod KneeSegments
 pub mod DualityLaws
 pub mod FallLaws
 pub mod SegmentLaws
