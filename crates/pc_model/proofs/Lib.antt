@@ -3,6 +3,7 @@ pub mod FlowLaws
 pub mod KneeLaws
 pub mod KneeDuality
 pub mod KneeSegments
+pub mod OneKnee
 pub mod DualityLaws
 pub mod FallLaws
 pub mod SegmentLaws
