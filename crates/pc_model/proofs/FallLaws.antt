@@ -50,18 +50,6 @@ slack_at_knee_between f t u v knee rise flow s x h p q = record {
     below = below_between (flow ≡ rise) f t u v knee s x h p.below q.below;
   }
 
--- an activity that is tight at both ends is tight between them
-pub tight_between : (f t : Bool) (term : Term) (u v f1 f2 s x : ℕ) → x ≤ s →
-    IsTight term (side t u 0) (side f v 0) f1 f2 → IsTight term (side t u s) (side f v s) f1 f2 → IsTight term (side t u x) (side f v x) f1 f2
-tight_between f t term u v f1 f2 s x h p q = record {
-    room = enough_between f t u v term.crash s x h p.room q.room;
-    slack = record {
-      above_normal = above_between (f1 ≡ 0) f t u v term.normal s x h p.slack.above_normal q.slack.above_normal;
-      below_normal = below_between (f1 ≡ term.slope) f t u v term.normal s x h p.slack.below_normal q.slack.below_normal;
-      above_crash = above_between (f2 ≡ 0) f t u v term.crash s x h p.slack.above_crash q.slack.above_crash;
-    };
-  }
-
 -- an activity that is tight at its knees at both ends is so between them
 pub tight_at_knees_between : (f t : Bool) (terms : List Term) (knees : Knees) (a u v : ℕ) (flow : ℕ → ℕ) (g s x : ℕ) → x ≤ s →
     IsTightAtKnees terms knees a (side t u 0) (side f v 0) flow g → IsTightAtKnees terms knees a (side t u s) (side f v s) flow g →

@@ -198,6 +198,7 @@ module _ (net : Network) (terms : List Term) (priced : IsPriced net terms) (knee
       let costs : knee_cost_of terms knees (durations_at net terms seg limit) ≡ cost_at seg limit =
           omega (arith, promised, knee_tight_promise net terms priced knees are f g seg.slope right.flow (times_at seg limit) read, ap (λ t. t * seg.slope) ends) in
       record {
+        exact = λ e inside. knee_falls_within (seg.upper - limit) (omega arith) e inside;
         schedule = scheduled;
         ends = ends;
         costs = costs;

@@ -6,7 +6,7 @@ use Rattle.pc_model.specs.Walk.{from_of, to_of}
 use Rattle.pc_model.specs.Network.{Network}
 use Rattle.pc_model.specs.Schedule.{normal_of, crash_of, base_cost_of, slope_of, IsSchedule}
 use Rattle.pc_model.specs.Flow.{IsConserved, outflow}
-use Rattle.pc_model.specs.Segment.{Segment, span, times_at, durations_at, cost_at, head_at, tail_at, HasEnds, HasDuration, is_forward, is_backward, StopsAtCrash}
+use Rattle.pc_model.specs.Segment.{Segment, span, drop, times_at, durations_at, cost_at, head_at, tail_at, HasEnds, HasDuration, is_forward, is_backward, StopsAtCrash}
 
 -- how many knees activity a has, the duration at its k-th knee, and by how much its slope rises below that knee
 pub record Knees : Type 0 where
@@ -143,9 +143,11 @@ StopsAtAKnee net terms knees seg =
     × (StopsAtCrash net terms seg a
       ⊎ ((k : ℕ) × (k < knees.count a) × (FallsToKnee net knees seg a k ⊎ RisesToKnee net knees seg a k)))
 
--- what is read for a length is a schedule that ends at it and costs what is said; the segment's flow has the slope as
--- its value and the cost as its bound; no schedule for the length costs less; and the slope is the cut gain
+-- what is read for a length cuts no time off at 0, is a schedule that ends at the length, and costs what is said; the
+-- segment's flow has the slope as its value and the cost as its bound; no schedule for the length costs less; and the
+-- slope is the cut gain
 pub record IsKneeRight (net : Network) (terms : List Term) (knees : Knees) (seg : Segment) (f : ℕ → ℕ → ℕ) (g : ℕ → ℕ) (limit : ℕ) : Type 0 where
+  pub exact : (e : ℕ) → e < net.events → drop seg.moves (seg.upper - limit) e ≤ seg.time e
   pub schedule : IsSchedule net terms limit (durations_at net terms seg limit) (times_at seg limit)
   pub ends : times_at seg limit net.end ≡ limit
   pub costs : knee_cost_of terms knees (durations_at net terms seg limit) ≡ cost_at seg limit

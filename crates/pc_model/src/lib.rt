@@ -3,6 +3,7 @@
 #![tactic(auto)]
 
 pub mod duality_laws;
+pub mod knee_laws;
 pub mod segment_laws;
 
 /// An activity's place in the network: the events where it begins and ends, numbered in card order from 0.
