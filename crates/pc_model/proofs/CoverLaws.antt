@@ -13,7 +13,7 @@ use Rattle.pc_model.specs.Network.{Network}
 use Rattle.pc_model.specs.Schedule.{term_at, normal_of, crash_of, normals, crashes, AreTerms, IsSchedule, IsAllNormalLength, IsAllCrashLength}
 use Rattle.pc_model.specs.Flow.{IsPriced}
 use Rattle.pc_model.specs.Segment.{Segment, Holds, times_at, IsSegment, IsRight}
-use Rattle.pc_model.specs.Cover.{Joins, is_held, segment_for, IsThroughWalk, BeginsNormal, IsCovering, IsReadRight}
+use Rattle.pc_model.specs.Cover.{Joins, is_held, segment_for, BeginsNormal, IsCovering, IsReadRight}
 use Rattle.pc_model.proofs.SegmentLaws.{right_at, tight_upper}
 
 -- where times leave each activity its length, they rise along a walk by the sum of the lengths at least
@@ -112,18 +112,16 @@ module _ (net : Network) (terms : List Term) (priced : IsPriced net terms) (segm
   -- the first upper end is the all-normal length
   pub covers_longest : IsAllNormalLength net terms high
   covers_longest =
-      let way = covering.normal_walk in
       record {
-        attained = (way.0, way.1.leads, way.1.sums);
+        attained = covering.normal_walk;
         bound = λ n (walk, leads, sums). omega (arith, normal_walk_at_high net terms priced segments high low each_right covering.joined covering.normal walk leads);
       }
 
   -- the last lower end is the all-crash length
   pub covers_shortest : IsAllCrashLength net terms low
   covers_shortest =
-      let way = covering.crash_walk in
       record {
-        attained = (way.0, way.1.leads, way.1.sums);
+        attained = covering.crash_walk;
         bound = λ n (walk, leads, sums). omega (arith, crash_walk_at_low net terms priced segments high low each_right covering.joined walk leads);
       }
 

@@ -3,9 +3,10 @@ use Rattle.std.proofs.Common.{◌≡◌, ℕ, zero, ◌+◌, ◌-◌, ◌<◌, �
 use Rattle.pc_model.specs.declared.Arc.{Arc}
 use Rattle.pc_model.specs.declared.Term.{Term}
 use Rattle.pc_model.specs.Walk.{from_of, to_of, IsWalk}
+use Rattle.pc_model.specs.Schedule.{crash_of}
 use Rattle.pc_model.specs.Slack.{IsSlack, IsTight}
 use Rattle.pc_model.specs.Segment.{drop}
-use Rattle.pc_model.specs.Knees.{IsSlackAtKnee}
+use Rattle.pc_model.specs.Knees.{Knees, IsSlackAtKnee, IsTightAtKnees}
 
 -- the side of a gap that grows by the fall where an event moves
 abbrev pub side : Bool → ℕ → ℕ → ℕ
@@ -49,17 +50,28 @@ slack_at_knee_between f t u v knee rise flow s x h p q = record {
     below = below_between (flow ≡ rise) f t u v knee s x h p.below q.below;
   }
 
--- an activity that is tight at both ends is tight between them
-pub tight_between : (f t : Bool) (term : Term) (u v f1 f2 s x : ℕ) → x ≤ s →
-    IsTight term (side t u 0) (side f v 0) f1 f2 → IsTight term (side t u s) (side f v s) f1 f2 → IsTight term (side t u x) (side f v x) f1 f2
-tight_between f t term u v f1 f2 s x h p q = record {
-    room = enough_between f t u v term.crash s x h p.room q.room;
-    slack = record {
-      above_normal = above_between (f1 ≡ 0) f t u v term.normal s x h p.slack.above_normal q.slack.above_normal;
-      below_normal = below_between (f1 ≡ term.slope) f t u v term.normal s x h p.slack.below_normal q.slack.below_normal;
-      above_crash = above_between (f2 ≡ 0) f t u v term.crash s x h p.slack.above_crash q.slack.above_crash;
-    };
+-- an activity that is tight at its knees at both ends is so between them
+pub tight_at_knees_between : (f t : Bool) (terms : List Term) (knees : Knees) (a u v : ℕ) (flow : ℕ → ℕ) (g s x : ℕ) → x ≤ s →
+    IsTightAtKnees terms knees a (side t u 0) (side f v 0) flow g → IsTightAtKnees terms knees a (side t u s) (side f v s) flow g →
+    IsTightAtKnees terms knees a (side t u x) (side f v x) flow g
+tight_at_knees_between f t terms knees a u v flow g s x h p q = record {
+    room = enough_between f t u v (crash_of terms a) s x h p.room q.room;
+    at_knees = λ k inside. slack_at_knee_between f t u v (knees.knee a k) (knees.rise a k) (flow k) s x h (p.at_knees k inside) (q.at_knees k inside);
+    above_crash = above_between (g ≡ 0) f t u v (crash_of terms a) s x h p.above_crash q.above_crash;
   }
+
+-- what is tight at its knees depends on the gap alone
+pub tight_at_knees_shifted : (terms : List Term) (knees : Knees) (a tail head tail' head' : ℕ) (flow : ℕ → ℕ) (g : ℕ) → tail + head' ≡ head + tail' →
+    IsTightAtKnees terms knees a tail head flow g → IsTightAtKnees terms knees a tail' head' flow g
+tight_at_knees_shifted terms knees a tail head tail' head' flow g same p =
+    let room = p.room in
+    record {
+      room = omega arith;
+      at_knees = λ k inside.
+        let at = p.at_knees k inside in
+        record { above = λ h. at.above (omega arith); below = λ h. at.below (omega arith) };
+      above_crash = λ h. p.above_crash (omega arith);
+    }
 
 -- what is tight depends on the gap alone
 pub tight_shifted : (term : Term) (tail head tail' head' f1 f2 : ℕ) → tail + head' ≡ head + tail' → IsTight term tail head f1 f2 → IsTight term tail' head' f1 f2

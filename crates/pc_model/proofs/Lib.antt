@@ -7,6 +7,9 @@ pub mod Midpoint
 pub mod Raising
 pub mod Falling
 pub mod Stops
+pub mod KneeDuality
+pub mod KneeSegments
+pub mod OneKnee
 pub mod DualityLaws
 pub mod WalkLaws
 pub mod OrderLaws

@@ -1,7 +1,7 @@
 -- Segments that join, and the one that is read for a length.
 use Rattle.std.specs.Prelude.{◌≡◌, ℕ, ◌<◌, ◌≤◌, Bool, ◌&&◌, nat_le, List, [], ◌∷◌, length, All, find, Option, IsSomeAnd}
 use Rattle.pc_model.specs.declared.Term.{Term}
-use Rattle.pc_model.specs.Walk.{IsWalk, walk_sum}
+use Rattle.pc_model.specs.Walk.{IsSumOfWalk}
 use Rattle.pc_model.specs.Network.{Network}
 use Rattle.pc_model.specs.Schedule.{normal_of, normals, crashes}
 use Rattle.pc_model.specs.Segment.{Segment, Holds, IsSegment, IsRight}
@@ -20,24 +20,19 @@ is_held limit seg = nat_le seg.lower limit && nat_le limit seg.upper
 abbrev pub segment_for : List Segment → ℕ → Option Segment
 segment_for segments limit = find (is_held limit) segments
 
--- a through walk, and the sum of the lengths along it
-pub record IsThroughWalk (net : Network) (lengths walk : List ℕ) (n : ℕ) : Type 0 where
-  pub leads : IsWalk net.arcs net.start walk net.end
-  pub sums : walk_sum lengths walk ≡ n
-
 -- the durations at the upper end of the first segment are the normal ones
 abbrev pub BeginsNormal : Network → List Term → List Segment → Type 0
 BeginsNormal net terms [] = ⊥
 BeginsNormal net terms (seg ∷ rest) = (a : ℕ) → a < length net.arcs → seg.duration a ≡ normal_of terms a
 
--- right segments that join from the sum of normal durations along a through walk, at which all durations are
--- normal, down to the sum of crash durations along a through walk
+-- right segments that join from a sum of normal durations over a walk from the start to the end, where all durations
+-- are normal, down to a sum of crash durations over such a walk
 pub record IsCovering (net : Network) (terms : List Term) (segments : List Segment) (high low : ℕ) : Type 0 where
   pub each : All (IsSegment net terms) segments
   pub joined : Joins high segments low
   pub normal : BeginsNormal net terms segments
-  pub normal_walk : (walk : List ℕ) × IsThroughWalk net (normals terms) walk high
-  pub crash_walk : (walk : List ℕ) × IsThroughWalk net (crashes terms) walk low
+  pub normal_walk : IsSumOfWalk net.arcs (normals terms) net.start net.end high
+  pub crash_walk : IsSumOfWalk net.arcs (crashes terms) net.start net.end low
 
 -- what is read for a length from the segments is right
 abbrev pub IsReadRight : Network → List Term → List Segment → ℕ → Type 0

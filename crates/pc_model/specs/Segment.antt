@@ -164,9 +164,11 @@ pub record IsWholeSegment (net : Network) (terms : List Term) (seg : Segment) : 
 
 -- What a right segment gives at every length between its ends
 
--- what is read for a length is a schedule that ends at it and costs what is said; the segment's flow has the slope as
--- its value and the cost as its bound; no schedule for the length costs less; and the slope is the cut gain
+-- what is read for a length cuts no time off at 0, is a schedule that ends at the length, and costs what is said; the
+-- segment's flow has the slope as its value and the cost as its bound; no schedule for the length costs less; and the
+-- slope is the cut gain
 pub record IsRight (net : Network) (terms : List Term) (seg : Segment) (limit : ℕ) : Type 0 where
+  pub exact : (e : ℕ) → e < net.events → drop seg.moves (seg.upper - limit) e ≤ seg.time e
   pub schedule : IsSchedule net terms limit (durations_at net terms seg limit) (times_at seg limit)
   pub ends : times_at seg limit net.end ≡ limit
   pub costs : cost_of terms (durations_at net terms seg limit) ≡ cost_at seg limit

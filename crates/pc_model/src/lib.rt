@@ -5,6 +5,7 @@
 pub mod curve_laws;
 pub mod duality_laws;
 pub mod state_laws;
+pub mod knee_laws;
 pub mod segment_laws;
 
 /// An activity's place in the network: the events where it begins and ends, numbered in card order from 0.
