@@ -16,8 +16,8 @@ deck_covering = record {
     each = All-from_recursion (IsSegment deck_net deck_terms) (first_segment ∷ second_segment ∷ []) (first_is_whole.segment, (second_is_whole.segment, tt));
     joined = (refl, (refl, refl));
     normal = each3 (λ a. first_segment.duration a ≡ normal_of deck_terms a) refl refl refl;
-    normal_walk = (0 ∷ 1 ∷ [], record { leads = (omega arith, refl, (omega arith, refl, refl)); sums = refl });
-    crash_walk = (0 ∷ 1 ∷ [], record { leads = (omega arith, refl, (omega arith, refl, refl)); sums = refl }) }
+    normal_walk = (0 ∷ 1 ∷ [], (omega arith, refl, (omega arith, refl, refl)), refl);
+    crash_walk = (0 ∷ 1 ∷ [], (omega arith, refl, (omega arith, refl, refl)), refl) }
 
 -- at 7 units the curve turns: a unit less costs 7, and a unit more saves 3
 deck_turns : IsTurn deck_net deck_terms 7
