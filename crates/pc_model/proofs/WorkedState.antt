@@ -7,7 +7,7 @@ use Rattle.pc_model.specs.State.{State, IsOptimal, IsAtNormal, IsAtCrash, CanRai
 use Rattle.pc_model.proofs.WorkedDeck.{deck_net, deck_terms, deck_times, deck_schedule}
 use Rattle.pc_model.proofs.WorkedCurve.{deck_priced, each3, moves_after_S}
 use Rattle.pc_model.proofs.Opening.{optimal_opening}
-use Rattle.pc_model.proofs.Raising.{optimal_raised}
+use Rattle.pc_model.proofs.StateLaws.{optimal_raised}
 
 -- at 9 units, with no flow
 abbrev pub deck_opening : State
@@ -27,7 +27,7 @@ pub deck_raising : IsRaising deck_net deck_terms deck_opening three_along_A_and_
 deck_raising = record {
     part = each3 _ refl refl refl;
     capacity = each3 _ (omega arith) (omega arith) (omega arith);
-    at_normal = each3 (λ a. (three_along_A_and_B a ≡ deck_opening.f1 a) ⊎ IsAtNormal deck_net deck_terms deck_opening a) (inr refl) (inr refl) (inl refl);
+    at_normal = each3 (λ a. (three_along_A_and_B a ≡ deck_opening.f1 a) ⊎ IsAtNormal deck_net deck_terms deck_opening.time a) (inr refl) (inr refl) (inl refl);
     at_crash = λ a l. inl refl }
 
 -- the next state
@@ -36,7 +36,7 @@ deck_raised = raised deck_opening three_along_A_and_B none 3
 
 pub deck_raised_is_optimal : IsOptimal deck_net deck_terms deck_raised
 deck_raised_is_optimal =
-    optimal_raised deck_net deck_terms deck_opening 3 three_along_A_and_B none deck_priced deck_opening_is_optimal deck_raising
+    optimal_raised deck_net deck_terms deck_opening three_along_A_and_B none 3 deck_priced deck_opening_is_optimal deck_raising
 
 -- now A is full, and M and T have no label
 pub deck_is_stuck : IsStuck deck_net deck_terms deck_raised moves_after_S
@@ -53,10 +53,10 @@ deck_is_stuck = record {
       (λ backward can. false≢true backward) }
 
 -- after 2 units A is at its crash duration, and C at its normal one
-pub deck_fall : IsFall deck_net deck_terms deck_raised moves_after_S 2
+pub deck_fall : IsFall deck_net deck_terms deck_raised.time moves_after_S 2
 deck_fall = record {
     stops = (0, omega arith, inl (record { forward = refl; at_crash = refl }));
-    least = λ a n l. each3 (λ a. StopsAfter deck_net deck_terms deck_raised moves_after_S a n → 2 ≤ n)
+    least = λ a n l. each3 (λ a. StopsAfter deck_net deck_terms deck_raised.time moves_after_S a n → 2 ≤ n)
       (⊎_elim (λ c. let at = c.at_crash in omega arith)
         (⊎_elim (λ c. let at = c.at_normal in let some = c.above in omega arith) (λ c. absurd (false≢true c.backward))))
       (⊎_elim (λ c. absurd (false≢true c.forward))

@@ -9,4 +9,5 @@ pub mod Segment
 pub mod Knees
 pub mod Cover
 pub mod State
+pub mod KneeState
 pub mod Curve

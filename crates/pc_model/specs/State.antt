@@ -25,20 +25,20 @@ pub record IsOptimal (net : Network) (terms : List Term) (st : State) : Type 0 w
   pub flow : IsFlow net terms st.f1 st.f2 st.value
 
 -- the gap of activity a is its normal duration
-abbrev pub IsAtNormal : Network → List Term → State → ℕ → Type 0
-IsAtNormal net terms st a = st.time (from_of net.arcs a) + normal_of terms a ≡ st.time (to_of net.arcs a)
+abbrev pub IsAtNormal : Network → List Term → (ℕ → ℕ) → ℕ → Type 0
+IsAtNormal net terms time a = time (from_of net.arcs a) + normal_of terms a ≡ time (to_of net.arcs a)
 
 -- the gap of activity a is its crash duration
-abbrev pub IsAtCrash : Network → List Term → State → ℕ → Type 0
-IsAtCrash net terms st a = st.time (from_of net.arcs a) + crash_of terms a ≡ st.time (to_of net.arcs a)
+abbrev pub IsAtCrash : Network → List Term → (ℕ → ℕ) → ℕ → Type 0
+IsAtCrash net terms time a = time (from_of net.arcs a) + crash_of terms a ≡ time (to_of net.arcs a)
 
 -- more can flow along activity a: its gap is normal and f1 is below the slope, or its gap is crash
 abbrev pub CanRaise : Network → List Term → State → ℕ → Type 0
-CanRaise net terms st a = (IsAtNormal net terms st a × (st.f1 a < slope_of terms a)) ⊎ IsAtCrash net terms st a
+CanRaise net terms st a = (IsAtNormal net terms st.time a × (st.f1 a < slope_of terms a)) ⊎ IsAtCrash net terms st.time a
 
 -- less can flow along activity a: its gap is normal and f1 is above 0, or its gap is crash and f2 is above 0
 abbrev pub CanLower : Network → List Term → State → ℕ → Type 0
-CanLower net terms st a = (IsAtNormal net terms st a × (0 < st.f1 a)) ⊎ (IsAtCrash net terms st a × (0 < st.f2 a))
+CanLower net terms st a = (IsAtNormal net terms st.time a × (0 < st.f1 a)) ⊎ (IsAtCrash net terms st.time a × (0 < st.f2 a))
 
 -- The way on where the labels reach the end
 
@@ -55,15 +55,15 @@ IsPart net old now x room =
 pub record IsRaising (net : Network) (terms : List Term) (st : State) (f1 f2 : ℕ → ℕ) (x room : ℕ) : Type 0 where
   pub part : IsPart net (whole_flow st.f1 st.f2) (whole_flow f1 f2) x room
   pub capacity : (a : ℕ) → a < length net.arcs → f1 a ≤ slope_of terms a
-  pub at_normal : (a : ℕ) → a < length net.arcs → (f1 a ≡ st.f1 a) ⊎ IsAtNormal net terms st a
-  pub at_crash : (a : ℕ) → a < length net.arcs → (f2 a ≡ st.f2 a) ⊎ IsAtCrash net terms st a
+  pub at_normal : (a : ℕ) → a < length net.arcs → (f1 a ≡ st.f1 a) ⊎ IsAtNormal net terms st.time a
+  pub at_crash : (a : ℕ) → a < length net.arcs → (f2 a ≡ st.f2 a) ⊎ IsAtCrash net terms st.time a
 
 -- a step changes the flows of activity a alone: f1 only at a gap of normal and to at most the slope, f2 only at a gap
 -- of crash
 pub record IsStep (net : Network) (terms : List Term) (st : State) (f1 f2 g1 g2 : ℕ → ℕ) (a : ℕ) : Type 0 where
   pub capacity : g1 a ≤ slope_of terms a
-  pub at_normal : (g1 a ≡ f1 a) ⊎ IsAtNormal net terms st a
-  pub at_crash : (g2 a ≡ f2 a) ⊎ IsAtCrash net terms st a
+  pub at_normal : (g1 a ≡ f1 a) ⊎ IsAtNormal net terms st.time a
+  pub at_crash : (g2 a ≡ f2 a) ⊎ IsAtCrash net terms st.time a
   pub others_1 : (b : ℕ) → b < length net.arcs → b ≢ a → f1 b ≡ g1 b
   pub others_2 : (b : ℕ) → b < length net.arcs → b ≢ a → f2 b ≡ g2 b
 
@@ -82,35 +82,35 @@ pub record IsStuck (net : Network) (terms : List Term) (st : State) (moves : ℕ
   pub backward : (a : ℕ) → a < length net.arcs → is_backward net.arcs moves a ≡ true → CanLower net terms st a → ⊥
 
 -- activity a is forward, and its gap is crash when the moving events have fallen by n
-pub record CrashesAfter (net : Network) (terms : List Term) (st : State) (moves : ℕ → Bool) (a n : ℕ) : Type 0 where
+pub record CrashesAfter (net : Network) (terms : List Term) (time : ℕ → ℕ) (moves : ℕ → Bool) (a n : ℕ) : Type 0 where
   pub forward : is_forward net.arcs moves a ≡ true
-  pub at_crash : st.time (from_of net.arcs a) + crash_of terms a + n ≡ st.time (to_of net.arcs a)
+  pub at_crash : time (from_of net.arcs a) + crash_of terms a + n ≡ time (to_of net.arcs a)
 
 -- activity a can be shortened at a cost and is forward, and its gap, now above normal, is normal when the moving
 -- events have fallen by n
-pub record NormalAfter (net : Network) (terms : List Term) (st : State) (moves : ℕ → Bool) (a n : ℕ) : Type 0 where
+pub record NormalAfter (net : Network) (terms : List Term) (time : ℕ → ℕ) (moves : ℕ → Bool) (a n : ℕ) : Type 0 where
   pub forward : is_forward net.arcs moves a ≡ true
   pub dear : 0 < slope_of terms a
   pub above : 0 < n
-  pub at_normal : st.time (from_of net.arcs a) + normal_of terms a + n ≡ st.time (to_of net.arcs a)
+  pub at_normal : time (from_of net.arcs a) + normal_of terms a + n ≡ time (to_of net.arcs a)
 
 -- activity a can be shortened at a cost and is backward, and its gap, now below normal, is normal when the moving
 -- events have fallen by n
-pub record RestoredAfter (net : Network) (terms : List Term) (st : State) (moves : ℕ → Bool) (a n : ℕ) : Type 0 where
+pub record RestoredAfter (net : Network) (terms : List Term) (time : ℕ → ℕ) (moves : ℕ → Bool) (a n : ℕ) : Type 0 where
   pub backward : is_backward net.arcs moves a ≡ true
   pub dear : 0 < slope_of terms a
   pub below : 0 < n
-  pub at_normal : st.time (from_of net.arcs a) + normal_of terms a ≡ st.time (to_of net.arcs a) + n
+  pub at_normal : time (from_of net.arcs a) + normal_of terms a ≡ time (to_of net.arcs a) + n
 
 -- activity a stops when the moving events have fallen by n
-abbrev pub StopsAfter : Network → List Term → State → (ℕ → Bool) → ℕ → ℕ → Type 0
-StopsAfter net terms st moves a n =
-    CrashesAfter net terms st moves a n ⊎ (NormalAfter net terms st moves a n ⊎ RestoredAfter net terms st moves a n)
+abbrev pub StopsAfter : Network → List Term → (ℕ → ℕ) → (ℕ → Bool) → ℕ → ℕ → Type 0
+StopsAfter net terms time moves a n =
+    CrashesAfter net terms time moves a n ⊎ (NormalAfter net terms time moves a n ⊎ RestoredAfter net terms time moves a n)
 
--- the fall is the least number of units after which an activity stops
-pub record IsFall (net : Network) (terms : List Term) (st : State) (moves : ℕ → Bool) (fall : ℕ) : Type 0 where
-  pub stops : (a : ℕ) × (a < length net.arcs) × StopsAfter net terms st moves a fall
-  pub least : (a n : ℕ) → a < length net.arcs → StopsAfter net terms st moves a n → fall ≤ n
+-- the fall from these times is the least number of units after which an activity stops
+pub record IsFall (net : Network) (terms : List Term) (time : ℕ → ℕ) (moves : ℕ → Bool) (fall : ℕ) : Type 0 where
+  pub stops : (a : ℕ) × (a < length net.arcs) × StopsAfter net terms time moves a fall
+  pub least : (a n : ℕ) → a < length net.arcs → StopsAfter net terms time moves a n → fall ≤ n
 
 -- the segment from the present length down to the one at which the fall ends
 abbrev pub segment_of : Network → List Term → State → (ℕ → Bool) → ℕ → Segment

@@ -101,15 +101,15 @@ pub fn raising_keeps_optimal()
 pub fn fall_exists()
     ensures exists {
         (net : Network) (terms : List Term) (st : State) (moves : ℕ → Bool) → IsPriced net terms →
-        IsOptimal net terms st → IsStuck net terms st moves → (fall : ℕ) × IsFall net terms st moves fall
+        IsOptimal net terms st → IsStuck net terms st moves → (fall : ℕ) × IsFall net terms st.time moves fall
     }
     ensures positive {
         (net : Network) (terms : List Term) (st : State) (moves : ℕ → Bool) (fall : ℕ) → IsPriced net terms →
-        IsOptimal net terms st → IsStuck net terms st moves → IsFall net terms st moves fall → 0 < fall
+        IsOptimal net terms st → IsStuck net terms st moves → IsFall net terms st.time moves fall → 0 < fall
     }
     ensures within {
         (net : Network) (terms : List Term) (st : State) (moves : ℕ → Bool) (fall : ℕ) → IsPriced net terms →
-        IsOptimal net terms st → IsStuck net terms st moves → IsFall net terms st moves fall → fall ≤ st.limit
+        IsOptimal net terms st → IsStuck net terms st moves → IsFall net terms st.time moves fall → fall ≤ st.limit
     }
 {
 }
@@ -120,17 +120,17 @@ pub fn fall_exists()
 pub fn fall_gives_a_segment()
     ensures segment {
         (net : Network) (terms : List Term) (st : State) (moves : ℕ → Bool) (fall : ℕ) → IsPriced net terms →
-        IsOptimal net terms st → IsStuck net terms st moves → IsFall net terms st moves fall →
+        IsOptimal net terms st → IsStuck net terms st moves → IsFall net terms st.time moves fall →
         IsWholeSegment net terms (segment_of net terms st moves fall)
     }
     ensures optimal {
         (net : Network) (terms : List Term) (st : State) (moves : ℕ → Bool) (fall : ℕ) → IsPriced net terms →
-        IsOptimal net terms st → IsStuck net terms st moves → IsFall net terms st moves fall →
+        IsOptimal net terms st → IsStuck net terms st moves → IsFall net terms st.time moves fall →
         IsOptimal net terms (fallen st moves fall)
     }
     ensures cost {
         (net : Network) (terms : List Term) (st : State) (moves : ℕ → Bool) (fall : ℕ) → IsPriced net terms →
-        IsOptimal net terms st → IsStuck net terms st moves → IsFall net terms st moves fall →
+        IsOptimal net terms st → IsStuck net terms st moves → IsFall net terms st.time moves fall →
         cost_of terms (lesser_of net terms (fallen st moves fall).time)
           ≡ cost_of terms (lesser_of net terms st.time) + st.value * fall
     }
