@@ -1,18 +1,17 @@
 -- The ends of the range, and the segments that cover it.
-use Rattle.std.proofs.Common.{◌≡◌, ℕ, zero, ◌+◌, ◌-◌, ◌*◌, ◌<◌, ◌≤◌, leb, min, Bool, true, false, ◌&&◌, cond, List, [], ◌∷◌, length, map, get_or, Option, Some, None, ◌⊎◌, inl, inr, refl, ap, sym, subst, ◌∙◌, arith}
-use Rattle.std.specs.Prelude.{All, find, nat_le, slice_index, slice_index_or, IsSomeAnd}
+use Rattle.std.proofs.Common.{◌≡◌, ℕ, ◌+◌, ◌<◌, ◌≤◌, true, false, List, [], ◌∷◌, length, Option, Some, None, inl, inr, ap, sym, subst, arith}
+use Rattle.std.specs.Prelude.{find, nat_le, slice_index, IsSomeAnd}
 use Rattle.std.proofs.lemmas.Bool.{cases_lt, le-leb, lt-leb, and_from, and_left, cond-true, cond-false}
 use Rattle.std.proofs.lemmas.List.{get_or-map}
 use Rattle.std.proofs.lemmas.List.Elements.{recursion_from_All}
 use Rattle.std.specs.List.{AllByRecursion as ByRecursion}
 use Rattle.pc_model.specs.declared.Arc.{Arc}
 use Rattle.pc_model.specs.declared.Term.{Term}
-use Rattle.pc_model.specs.Greatest.{IsGreatest}
 use Rattle.pc_model.specs.Walk.{from_of, to_of, IsWalk, walk_sum}
 use Rattle.pc_model.specs.Network.{Network}
-use Rattle.pc_model.specs.Schedule.{term_at, normal_of, crash_of, normals, crashes, AreTerms, IsSchedule, IsAllNormalLength, IsAllCrashLength}
+use Rattle.pc_model.specs.Schedule.{normal_of, crash_of, normals, crashes, AreTerms, IsSchedule, IsAllNormalLength, IsAllCrashLength}
 use Rattle.pc_model.specs.Flow.{IsPriced}
-use Rattle.pc_model.specs.Segment.{Segment, Holds, times_at, IsSegment, IsRight}
+use Rattle.pc_model.specs.Segment.{Segment, Holds, IsSegment, IsRight}
 use Rattle.pc_model.specs.Cover.{Joins, is_held, segment_for, BeginsNormal, IsCovering, IsReadRight}
 use Rattle.pc_model.proofs.SegmentLaws.{right_at, tight_upper}
 
@@ -36,11 +35,14 @@ normals-at terms a inside = get_or-map (λ (t : Term). t.normal) terms a _ 0 ins
 pub crash_walk_within : (net : Network) (terms : List Term) (limit : ℕ) (d T : ℕ → ℕ) → AreTerms net terms → IsSchedule net terms limit d T →
     (walk : List ℕ) → IsWalk net.arcs net.start walk net.end → walk_sum (crashes terms) walk ≤ limit
 crash_walk_within net terms limit d T are s walk leads =
-    omega (arith,
-        rises_along net.arcs T (crashes terms)
-            (λ a h. omega (arith, s.fits a h, s.enough a h, crashes-at terms a (omega (arith, are.one_each))))
-            walk net.start net.end leads,
-        s.starts, s.ends)
+    omega (
+      arith,
+      rises_along net.arcs T (crashes terms)
+          (λ a h. omega (arith, s.fits a h, s.enough a h, crashes-at terms a (omega (arith, are.one_each))))
+          walk net.start net.end leads,
+      s.starts,
+      s.ends,
+    )
 
 -- no through walk has a greater sum of normal durations than the upper end of a right segment whose durations are normal
 pub normal_walk_within : (net : Network) (terms : List Term) (seg : Segment) → IsPriced net terms → IsSegment net terms seg →
@@ -48,12 +50,15 @@ pub normal_walk_within : (net : Network) (terms : List Term) (seg : Segment) →
     (walk : List ℕ) → IsWalk net.arcs net.start walk net.end → walk_sum (normals terms) walk ≤ seg.upper
 normal_walk_within net terms seg priced right normal walk leads =
     let upper = tight_upper net terms priced seg right in
-    omega (arith,
-        rises_along net.arcs seg.time (normals terms)
-            (λ a h. let room = (upper.tight a h).room in
-              omega (arith, room, right.durations a h, normal a h, normals-at terms a (omega (arith, priced.terms_fit.one_each))))
-            walk net.start net.end leads,
-        right.ends.start_time, right.ends.end_time)
+    omega (
+      arith,
+      rises_along net.arcs seg.time (normals terms)
+          (λ a h. let room = (upper.tight a h).room in
+          omega (arith, room, right.durations a h, normal a h, normals-at terms a (omega (arith, priced.terms_fit.one_each))))
+          walk net.start net.end leads,
+      right.ends.start_time,
+      right.ends.end_time,
+    )
 
 -- no through walk has a greater sum of crash durations than the lower end of a right segment
 pub crash_walk_at_lower : (net : Network) (terms : List Term) (seg : Segment) → IsPriced net terms → IsSegment net terms seg →
@@ -87,17 +92,17 @@ found_for P limit [] high low each joined above below = absurd joined
 found_for P limit (seg ∷ []) high low (p, none) (upper, lower) above below =
     let held : is_held limit seg ≡ true = and_from (nat_le seg.lower limit) (nat_le limit seg.upper) (le-leb seg.lower limit (omega arith)) (le-leb limit seg.upper (omega arith)) in
     subst (λ (o : Option Segment). IsSomeAnd o (λ s. Holds s limit × P s)) (sym (cond-true (is_held limit seg) (Some seg) (find (is_held limit) []) held))
-        (record { above = omega arith; below = omega arith }, p)
+    (record { above = omega arith; below = omega arith }, p)
 found_for P limit (seg ∷ next ∷ rest) high low (p, others) (upper, joined) above below =
     elim (cases_lt limit seg.lower) [
-      inl h ↦
-        let past : is_held limit seg ≡ false = and_left (nat_le seg.lower limit) (nat_le limit seg.upper) (lt-leb seg.lower limit h) in
-        subst (λ (o : Option Segment). IsSomeAnd o (λ s. Holds s limit × P s)) (sym (cond-false (is_held limit seg) (Some seg) (find (is_held limit) (next ∷ rest)) past))
-            (found_for P limit (next ∷ rest) seg.lower low others joined above (omega arith))
-    | inr h ↦
-        let held : is_held limit seg ≡ true = and_from (nat_le seg.lower limit) (nat_le limit seg.upper) (le-leb seg.lower limit h) (le-leb limit seg.upper (omega arith)) in
-        subst (λ (o : Option Segment). IsSomeAnd o (λ s. Holds s limit × P s)) (sym (cond-true (is_held limit seg) (Some seg) (find (is_held limit) (next ∷ rest)) held))
-            (record { above = h; below = omega arith }, p)
+      | inl h ↦
+          let past : is_held limit seg ≡ false = and_left (nat_le seg.lower limit) (nat_le limit seg.upper) (lt-leb seg.lower limit h) in
+          subst (λ (o : Option Segment). IsSomeAnd o (λ s. Holds s limit × P s)) (sym (cond-false (is_held limit seg) (Some seg) (find (is_held limit) (next ∷ rest)) past))
+          (found_for P limit (next ∷ rest) seg.lower low others joined above (omega arith))
+      | inr h ↦
+          let held : is_held limit seg ≡ true = and_from (nat_le seg.lower limit) (nat_le limit seg.upper) (le-leb seg.lower limit h) (le-leb limit seg.upper (omega arith)) in
+          subst (λ (o : Option Segment). IsSomeAnd o (λ s. Holds s limit × P s)) (sym (cond-true (is_held limit seg) (Some seg) (find (is_held limit) (next ∷ rest)) held))
+          (record { above = h; below = omega arith }, p)
     ]
 
 -- what holds of a found element, weakened
@@ -129,5 +134,5 @@ module _ (net : Network) (terms : List Term) (priced : IsPriced net terms) (segm
   pub covers_range : (limit : ℕ) → low ≤ limit → limit ≤ high → IsReadRight net terms segments limit
   covers_range limit above below =
       some_weaker (segment_for segments limit) (λ seg. Holds seg limit × IsSegment net terms seg) (λ seg. Holds seg limit × IsRight net terms seg limit)
-          (λ seg (holds, right). (holds, right_at net terms priced seg right limit holds.above holds.below))
-          (found_for (IsSegment net terms) limit segments high low each_right covering.joined above below)
+      (λ seg (holds, right). (holds, right_at net terms priced seg right limit holds.above holds.below))
+      (found_for (IsSegment net terms) limit segments high low each_right covering.joined above below)

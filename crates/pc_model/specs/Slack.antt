@@ -35,4 +35,4 @@ pub record IsTight (term : Term) (tail head f1 f2 : ℕ) : Type 0 where
 pub record AreTight (net : Network) (terms : List Term) (f1 f2 times : ℕ → ℕ) : Type 0 where
   pub starts : times net.start ≡ 0
   pub tight : (a : ℕ) → a < length net.arcs →
-    IsTight (term_at terms a) (times (from_of net.arcs a)) (times (to_of net.arcs a)) (f1 a) (f2 a)
+      IsTight (term_at terms a) (times (from_of net.arcs a)) (times (to_of net.arcs a)) (f1 a) (f2 a)
