@@ -38,9 +38,6 @@ balanced net along value range sound through leaves = record {
 
 module _ (net : Network) (terms : List Term) (priced : IsPriced net terms) (knees : Knees) (are : AreKnees net terms knees)
     (f : ℕ → ℕ → ℕ) (g : ℕ → ℕ) (value : ℕ) (flow : IsKneeFlow net knees f g value) where
-  along : ℕ → ℕ
-  along = knee_flow knees f g
-
   is_balanced : IsBalanced net.events (length net.arcs) (from_of net.arcs) (to_of net.arcs) net.start net.end (knee_flow knees f g) value
   is_balanced = balanced net (knee_flow knees f g) value priced.range priced.sound flow.through flow.leaves
 
