@@ -8,3 +8,5 @@ pub mod Slack
 pub mod Segment
 pub mod Knees
 pub mod Cover
+pub mod State
+pub mod Curve

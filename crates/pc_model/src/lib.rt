@@ -2,7 +2,9 @@
 //! schedules and costs that every contract above cites. `specs/` has the definitions, `proofs/` their laws.
 #![tactic(auto)]
 
+pub mod curve_laws;
 pub mod duality_laws;
+pub mod state_laws;
 pub mod knee_laws;
 pub mod segment_laws;
 

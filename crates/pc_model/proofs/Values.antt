@@ -1,0 +1,158 @@
+-- What the value of a flow is at most, and what it is at least: by cuts of the events, each given by a weight of 0 or 1.
+use Rattle.std.proofs.Common.{◌≡◌, ◌≢◌, ◌≤◌, ◌<◌, ◌+◌, ◌*◌, ◌⊎◌, inl, inr, ⊎_elim, ℕ, zero, suc, List, [], ◌∷◌, length, slice_index, Bool, true, false, arith, refl, sym, ◌∙◌, subst, ap}
+use Rattle.std.specs.Prelude.{◌==◌, if◌then◌else◌, nat_lt}
+use Rattle.std.proofs.lemmas.Bool.{cases_eq, cases_lt, eq-eqb, ne_eqb, lt-ltb, le-ltb, cond-true, cond-false}
+use Rattle.pc_model.specs.declared.Term.{Term}
+use Rattle.pc_model.specs.Sums.{sum_to}
+use Rattle.pc_model.specs.Greatest.{StandsBelow}
+use Rattle.pc_model.specs.Walk.{from_of, to_of, IsWalk}
+use Rattle.pc_model.specs.Network.{Network, IsInRange, IsSound, IsOrder, IsPartOrder}
+use Rattle.pc_model.specs.Schedule.{AreTerms, IsSchedule, IsLeastCost, slope_of, normal_of, crash_of, cost_of}
+use Rattle.pc_model.specs.Flow.{IsPriced, IsFlow, whole_flow}
+use Rattle.pc_model.specs.Slack.{lesser_of}
+use Rattle.pc_model.specs.State.{State, IsOptimal}
+use Rattle.pc_model.proofs.SumLaws.{sum_to-add, sum_to-le, sum_to-pick}
+use Rattle.pc_model.proofs.FlowLaws.{potential}
+use Rattle.pc_model.proofs.DualityLaws.{balanced, tight_least}
+use Rattle.pc_model.proofs.OrderLaws.{stands_in_order, same_place}
+
+module _ (net : Network) (terms : List Term) (priced : IsPriced net terms) (f1 f2 : ℕ → ℕ) (value : ℕ) (flow : IsFlow net terms f1 f2 value) where
+
+  across : (W : ℕ → ℕ) → W net.start ≡ 0 → W net.end ≡ 1
+      → sum_to (length net.arcs) (λ a. W (to_of net.arcs a) * whole_flow f1 f2 a)
+        ≡ sum_to (length net.arcs) (λ a. W (from_of net.arcs a) * whole_flow f1 f2 a) + value
+  across W rests moves =
+      omega (arith, ap (λ x. x * value) rests, ap (λ x. x * value) moves,
+        potential net.events (length net.arcs) (from_of net.arcs) (to_of net.arcs) net.start net.end (whole_flow f1 f2) value
+          (balanced net (whole_flow f1 f2) value priced.range priced.sound flow.through flow.leaves) W)
+
+  -- where the weight of the ending event asks no more flow than that of the beginning one and a bound for the
+  -- activity, the value is at most the sum of these bounds
+  pub value_below : (W bound : ℕ → ℕ) → W net.start ≡ 0 → W net.end ≡ 1
+      → ((a : ℕ) → a < length net.arcs → W (to_of net.arcs a) * whole_flow f1 f2 a ≤ W (from_of net.arcs a) * whole_flow f1 f2 a + bound a)
+      → value ≤ sum_to (length net.arcs) bound
+  value_below W bound rests moves each =
+      omega (arith, across W rests moves,
+        sum_to-le (length net.arcs) (λ a. W (to_of net.arcs a) * whole_flow f1 f2 a) (λ a. W (from_of net.arcs a) * whole_flow f1 f2 a + bound a) each,
+        sum_to-add (length net.arcs) (λ a. W (from_of net.arcs a) * whole_flow f1 f2 a) bound)
+
+  -- where it asks as much at least, and more by a bound, the value is at least the sum of these bounds
+  pub value_above : (W bound : ℕ → ℕ) → W net.start ≡ 0 → W net.end ≡ 1
+      → ((a : ℕ) → a < length net.arcs → W (from_of net.arcs a) * whole_flow f1 f2 a + bound a ≤ W (to_of net.arcs a) * whole_flow f1 f2 a)
+      → sum_to (length net.arcs) bound ≤ value
+  value_above W bound rests moves each =
+      omega (arith, across W rests moves,
+        sum_to-le (length net.arcs) (λ a. W (from_of net.arcs a) * whole_flow f1 f2 a + bound a) (λ a. W (to_of net.arcs a) * whole_flow f1 f2 a) each,
+        sum_to-add (length net.arcs) (λ a. W (from_of net.arcs a) * whole_flow f1 f2 a) bound)
+
+-- 1 where the first number is below the second
+abbrev later : ℕ → ℕ → ℕ
+later x y = if nat_lt x y then 1 else 0
+
+-- the flow of a tight activity between times s and t is at most its slope where another schedule's times c and k
+-- differ so that the gap must be above crash
+cut_at : (c k s t crash d f1 f2 slope : ℕ) → crash ≤ d → c + d ≤ k → f1 ≤ slope → (s + crash < t → f2 ≡ 0)
+    → later k t * (f1 + f2) ≤ later c s * (f1 + f2) + slope
+cut_at c k s t crash d f1 f2 slope enough fits most none =
+    ⊎_elim
+      (λ earlier. ⊎_elim
+        (λ early. omega (arith, ap (λ b. (if b then 1 else 0) * (f1 + f2)) (lt-ltb c s early), ap (λ b. (if b then 1 else 0) * (f1 + f2)) (lt-ltb k t earlier)))
+        (λ late. omega (arith, none (omega arith), ap (λ b. (if b then 1 else 0) * (f1 + f2)) (lt-ltb k t earlier)))
+        (cases_lt c s))
+      (λ late. omega (arith, ap (λ b. (if b then 1 else 0) * (f1 + f2)) (le-ltb k t late)))
+      (cases_lt k t)
+
+-- while some schedule is shorter than the present length, the value is at most the sum of slopes
+pub value_at_most : (net : Network) (terms : List Term) (st : State) (limit : ℕ) (durations times : ℕ → ℕ) → IsPriced net terms
+    → IsOptimal net terms st → IsSchedule net terms limit durations times → limit < st.limit
+    → st.value ≤ sum_to (length net.arcs) (slope_of terms)
+value_at_most net terms st limit durations times priced optimal schedule shorter =
+    value_below net terms priced st.f1 st.f2 st.value optimal.flow (λ e. later (times e) (st.time e)) (slope_of terms)
+      (ap (λ b. if b then 1 else 0) (le-ltb (times net.start) (st.time net.start) (let s = schedule.starts in let t = optimal.fits.starts in omega arith)))
+      (ap (λ b. if b then 1 else 0) (lt-ltb (times net.end) (st.time net.end) (let s = schedule.ends in let t = optimal.ends in omega arith)))
+      (λ a l. cut_at (times (from_of net.arcs a)) (times (to_of net.arcs a)) (st.time (from_of net.arcs a)) (st.time (to_of net.arcs a))
+        (crash_of terms a) (durations a) (st.f1 a) (st.f2 a) (slope_of terms a) (schedule.enough a l) (schedule.fits a l)
+        (optimal.flow.capacity a l) (optimal.fits.tight a l).slack.above_crash)
+
+-- the cost at the present length is the least for it
+pub optimal_is_least : (net : Network) (terms : List Term) (st : State) → IsPriced net terms → IsOptimal net terms st
+    → IsLeastCost net terms st.limit (cost_of terms (lesser_of net terms st.time))
+optimal_is_least net terms st priced optimal =
+    subst (λ n. IsLeastCost net terms n (cost_of terms (lesser_of net terms st.time))) optimal.ends
+      (tight_least net terms priced st.f1 st.f2 st.value optimal.flow st.time optimal.fits)
+
+-- 1 where the event is none of the first n of a list
+beyond : List ℕ → ℕ → ℕ → ℕ
+beyond xs zero e = 1
+beyond xs (suc n) e = if slice_index xs n == e then 0 else beyond xs n e
+
+beyond_one : (xs : List ℕ) (n e : ℕ) → (StandsBelow xs n e → ⊥) → beyond xs n e ≡ 1
+unfolding beyond
+beyond_one xs zero e none = refl
+beyond_one xs (suc n) e none =
+    cond-false (slice_index xs n == e) 0 (beyond xs n e) (ne_eqb (slice_index xs n) e (λ at. none (n, omega arith, at)))
+    ∙ beyond_one xs n e (λ s. none (s.0, omega (arith, s.1), s.2))
+
+beyond_none : (xs : List ℕ) (n e : ℕ) → StandsBelow xs n e → beyond xs n e ≡ 0
+unfolding beyond
+beyond_none xs zero e (j, l, at) = absurd (omega arith)
+beyond_none xs (suc n) e (j, l, at) =
+    ⊎_elim
+      (λ here. cond-true (slice_index xs n == e) 0 (beyond xs n e) (eq-eqb (slice_index xs n) e here))
+      (λ not_here. cond-false (slice_index xs n == e) 0 (beyond xs n e) (ne_eqb (slice_index xs n) e not_here)
+        ∙ beyond_none xs n e (j, ⊎_elim (λ is. absurd (not_here (ap (slice_index xs) (sym is) ∙ at))) (λ ne. omega arith) (cases_eq j n), at))
+      (cases_eq (slice_index xs n) e)
+
+beyond_or_not : (xs : List ℕ) (n e : ℕ) → StandsBelow xs n e ⊎ (StandsBelow xs n e → ⊥)
+beyond_or_not xs zero e = inr (λ s. omega (arith, s.1))
+beyond_or_not xs (suc n) e =
+    ⊎_elim (λ here. inl (n, omega arith, here))
+      (λ not_here. ⊎_elim (λ s. inl (s.0, omega (arith, s.1), s.2))
+        (λ none. inr (λ s. ⊎_elim (λ is. not_here (ap (slice_index xs) (sym is) ∙ s.2)) (λ ne. none (s.0, omega (arith, s.1), s.2)) (cases_eq s.0 n)))
+        (beyond_or_not xs n e))
+      (cases_eq (slice_index xs n) e)
+
+module _ (net : Network) (order : List ℕ) (part : IsPartOrder net order) (n : ℕ) (within : n ≤ length order) where
+
+  -- among the first n events of the order is each activity's beginning event whose ending event is
+  begins_below : (a : ℕ) → a < length net.arcs → StandsBelow order n (to_of net.arcs a) → StandsBelow order n (from_of net.arcs a)
+  begins_below a l (k, below, at) =
+      let s = part.before k a (omega arith) l (sym at) in (s.0, omega (arith, s.1), s.2)
+
+  -- and so is the beginning of each walk that ends among them
+  walk_below : (walk : List ℕ) (e f : ℕ) → IsWalk net.arcs e walk f → StandsBelow order n f → StandsBelow order n e
+  walk_below [] e f at s = subst (StandsBelow order n) (sym at) s
+  walk_below (a ∷ walk) e f (l, at, rest) s =
+      subst (StandsBelow order n) at (begins_below a l (walk_below walk (to_of net.arcs a) f rest s))
+
+-- no activity has more flow than the value
+pub flow_at_most : (net : Network) (terms : List Term) (order : List ℕ) (f1 f2 : ℕ → ℕ) (value : ℕ) → IsPriced net terms → IsOrder net order
+    → IsFlow net terms f1 f2 value → (a : ℕ) → a < length net.arcs → f1 a + f2 a ≤ value
+flow_at_most net terms order f1 f2 value priced ordered flow a l =
+    let (p, inside, at) = stands_in_order net order ordered (from_of net.arcs a) (priced.range.from_in a l) in
+    let part = ordered.part in
+    let here : StandsBelow order (p + 1) (from_of net.arcs a) = (p, omega arith, at) in
+    let there : StandsBelow order (p + 1) (to_of net.arcs a) → ⊥ = λ (k, below, is).
+          (let (j, before, begins) = part.before k a (omega arith) l (sym is) in
+           omega (arith, same_place net order part j p (omega arith) inside (begins ∙ sym at))) in
+    let starts : StandsBelow order (p + 1) net.start =
+          (let (walk, walked) = priced.sound.reached (from_of net.arcs a) (priced.range.from_in a l) in walk_below net order part (p + 1) (omega arith) walk net.start _ walked here) in
+    let ends : StandsBelow order (p + 1) net.end → ⊥ = λ s.
+          (let (walk, walked) = priced.sound.reaches (to_of net.arcs a) (priced.range.to_in a l) in there (walk_below net order part (p + 1) (omega arith) walk _ net.end walked s)) in
+    omega (arith,
+      sum_to-pick (length net.arcs) (whole_flow f1 f2) a l,
+      value_above net terms priced f1 f2 value flow (beyond order (p + 1)) (λ b. if a == b then whole_flow f1 f2 b else 0)
+        (beyond_none order (p + 1) net.start starts) (beyond_one order (p + 1) net.end ends)
+        (λ b k. ⊎_elim
+          (λ is. subst (λ c. beyond order (p + 1) (from_of net.arcs c) * whole_flow f1 f2 c + (if a == c then whole_flow f1 f2 c else 0) ≤ beyond order (p + 1) (to_of net.arcs c) * whole_flow f1 f2 c) is
+            (omega (arith, cond-true (a == a) (whole_flow f1 f2 a) 0 (eq-eqb a a refl),
+              ap (λ x. x * whole_flow f1 f2 a) (beyond_none order (p + 1) (from_of net.arcs a) here),
+              ap (λ x. x * whole_flow f1 f2 a) (beyond_one order (p + 1) (to_of net.arcs a) there))))
+          (λ ne. ⊎_elim
+            (λ s. omega (arith, cond-false (a == b) (whole_flow f1 f2 b) 0 (ne_eqb a b ne),
+              ap (λ x. x * whole_flow f1 f2 b) (beyond_none order (p + 1) (from_of net.arcs b) s)))
+            (λ none. omega (arith, cond-false (a == b) (whole_flow f1 f2 b) 0 (ne_eqb a b ne),
+              ap (λ x. x * whole_flow f1 f2 b) (beyond_one order (p + 1) (from_of net.arcs b) none),
+              ap (λ x. x * whole_flow f1 f2 b) (beyond_one order (p + 1) (to_of net.arcs b) (λ s. none (begins_below net order part (p + 1) (omega arith) b k s)))))
+            (beyond_or_not order (p + 1) (from_of net.arcs b)))
+          (cases_eq a b)))

@@ -1,0 +1,9 @@
+use Rattle.pc_model.proofs.Values.{optimal_is_least}
+use Rattle.pc_model.proofs.Opening.{within_range}
+use Rattle.pc_model.proofs.state_laws.optimal_state_is_cheapest.Goals as goal
+
+pub returns : goal.returns
+returns c = record {
+    least = optimal_is_least;
+    within = within_range;
+  }
