@@ -13,15 +13,8 @@ use Rattle.pc_model.specs.Schedule.{normal_of, crash_of, normals, crashes, AreTe
 use Rattle.pc_model.specs.Flow.{IsPriced}
 use Rattle.pc_model.specs.Segment.{Segment, Holds, IsSegment, IsRight}
 use Rattle.pc_model.specs.Cover.{Joins, is_held, segment_for, BeginsNormal, IsCovering, IsReadRight}
+use Rattle.pc_model.proofs.WalkLaws.{times_bound_walk}
 use Rattle.pc_model.proofs.SegmentLaws.{right_at, tight_upper}
-
--- where times leave each activity its length, they rise along a walk by the sum of the lengths at least
-pub rises_along : (arcs : List Arc) (T : ℕ → ℕ) (lengths : List ℕ) →
-    ((a : ℕ) → a < length arcs → T (from_of arcs a) + slice_index lengths a ≤ T (to_of arcs a)) →
-    (walk : List ℕ) (e f : ℕ) → IsWalk arcs e walk f → T e + walk_sum lengths walk ≤ T f
-rises_along arcs T lengths fits [] e f is = omega (arith, ap T is)
-rises_along arcs T lengths fits (a ∷ walk) e f (inside, from, rest) =
-    omega (arith, rises_along arcs T lengths fits walk (to_of arcs a) f rest, fits a inside, ap T from)
 
 -- a list of the crash durations has that of activity a at its place
 pub crashes-at : (terms : List Term) (a : ℕ) → a < length terms → slice_index (crashes terms) a ≡ crash_of terms a
@@ -37,9 +30,9 @@ pub crash_walk_within : (net : Network) (terms : List Term) (limit : ℕ) (d T :
 crash_walk_within net terms limit d T are s walk leads =
     omega (
       arith,
-      rises_along net.arcs T (crashes terms)
+      times_bound_walk net.arcs (crashes terms) T
           (λ a h. omega (arith, s.fits a h, s.enough a h, crashes-at terms a (omega (arith, are.one_each))))
-          walk net.start net.end leads,
+          net.start net.end walk leads,
       s.starts,
       s.ends,
     )
@@ -52,10 +45,10 @@ normal_walk_within net terms seg priced right normal walk leads =
     let upper = tight_upper net terms priced seg right in
     omega (
       arith,
-      rises_along net.arcs seg.time (normals terms)
+      times_bound_walk net.arcs (normals terms) seg.time
           (λ a h. let room = (upper.tight a h).room in
           omega (arith, room, right.durations a h, normal a h, normals-at terms a (omega (arith, priced.terms_fit.one_each))))
-          walk net.start net.end leads,
+          net.start net.end walk leads,
       right.ends.start_time,
       right.ends.end_time,
     )
