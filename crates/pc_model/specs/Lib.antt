@@ -8,5 +8,6 @@ pub mod Slack
 pub mod Segment
 pub mod Knees
 pub mod Cover
+pub mod KneeCover
 pub mod State
 pub mod Curve

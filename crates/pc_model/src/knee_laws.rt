@@ -7,9 +7,10 @@
 ghost use Rattle.std.specs.Prelude.{◌≡◌, ℕ, pos, ◌≤ℤ◌, ◌+◌, ◌*◌, ◌≤◌, List};
 ghost use Rattle.pc_model.specs.declared.Term.{Term};
 ghost use Rattle.pc_model.specs.Network.{Network};
-ghost use Rattle.pc_model.specs.Schedule.{IsSchedule, cost_of};
+ghost use Rattle.pc_model.specs.Schedule.{IsSchedule, cost_of, IsAllNormalLength, IsAllCrashLength};
 ghost use Rattle.pc_model.specs.Flow.{IsPriced, IsFlow, promise};
 ghost use Rattle.pc_model.specs.Segment.{Segment, Holds, IsSegment};
+ghost use Rattle.pc_model.specs.KneeCover.{IsKneeCovering, IsReadRightAtKnees};
 ghost use Rattle.pc_model.specs.Knees.{
   Knees,
   AreKnees,
@@ -63,4 +64,18 @@ pub fn slope_is_cut_gain_at_knees()
     ensures gained { (net : Network) (terms : List Term) (knees : Knees) (segment : Segment) (f : ℕ → ℕ → ℕ) (g : ℕ → ℕ) →
         IsPriced net terms → AreKnees net terms knees → IsKneeSegment net terms knees segment f g →
         knee_cut_gain net knees segment ≡ pos segment.slope }
+{}
+
+/// Right segments that join from a through walk's sum of normal durations down to a through walk's sum of crash
+/// durations run from the all-normal to the all-crash length, and what is read for each length between them is right.
+pub fn segments_cover_the_range_at_knees()
+    ensures longest { (net : Network) (terms : List Term) (knees : Knees) (segments : List Segment) (high low : ℕ) →
+        IsPriced net terms → AreKnees net terms knees → IsKneeCovering net terms knees segments high low →
+        IsAllNormalLength net terms high }
+    ensures shortest { (net : Network) (terms : List Term) (knees : Knees) (segments : List Segment) (high low : ℕ) →
+        IsPriced net terms → AreKnees net terms knees → IsKneeCovering net terms knees segments high low →
+        IsAllCrashLength net terms low }
+    ensures read { (net : Network) (terms : List Term) (knees : Knees) (segments : List Segment) (high low limit : ℕ) →
+        IsPriced net terms → AreKnees net terms knees → IsKneeCovering net terms knees segments high low →
+        low ≤ limit → limit ≤ high → IsReadRightAtKnees net terms knees segments limit }
 {}
