@@ -114,32 +114,36 @@ module _ (net : Network) (terms : List Term) (priced : IsPriced net terms) (knee
   -- the first upper end is the all-normal length
   pub knee_covers_longest : IsAllNormalLength net terms high
   knee_covers_longest = record {
-      attained = covering.normal_walk;
-      bound = λ n (walk, leads, sums).
-          omega (arith,
-              at_first_upper net terms (HasKneeFlows net terms knees) (λ end. walk_sum (normals terms) walk ≤ end)
-                  (λ seg has normal. normal_walk_within net terms knees seg priced are has normal walk leads)
-                  segments high low each_has_flows covering.joined covering.normal);
-    }
+    attained = covering.normal_walk;
+    bound = λ n (walk, leads, sums).
+        omega (
+          arith,
+          at_first_upper net terms (HasKneeFlows net terms knees) (λ end. walk_sum (normals terms) walk ≤ end)
+              (λ seg has normal. normal_walk_within net terms knees seg priced are has normal walk leads)
+              segments high low each_has_flows covering.joined covering.normal,
+        );
+  }
 
   -- the last lower end is the all-crash length
   pub knee_covers_shortest : IsAllCrashLength net terms low
   knee_covers_shortest = record {
-      attained = covering.crash_walk;
-      bound = λ n (walk, leads, sums).
-          omega (arith,
-              at_last_lower (HasKneeFlows net terms knees) (λ end. walk_sum (crashes terms) walk ≤ end)
-                  (λ seg has. crash_walk_at_lower net terms knees seg priced are has walk leads)
-                  segments high low each_has_flows covering.joined);
-    }
+    attained = covering.crash_walk;
+    bound = λ n (walk, leads, sums).
+        omega (
+          arith,
+          at_last_lower (HasKneeFlows net terms knees) (λ end. walk_sum (crashes terms) walk ≤ end)
+              (λ seg has. crash_walk_at_lower net terms knees seg priced are has walk leads)
+              segments high low each_has_flows covering.joined,
+        );
+  }
 
   -- what is read for each length of the range is right
   pub knee_covers_range : (limit : ℕ) → low ≤ limit → limit ≤ high → IsReadRightAtKnees net terms knees segments limit
   knee_covers_range limit above below =
       some_weaker (segment_for segments limit) (λ seg. Holds seg limit × HasKneeFlows net terms knees seg)
-          (λ seg. Holds seg limit × ((f : ℕ → ℕ → ℕ) × (g : ℕ → ℕ) × IsKneeRight net terms knees seg f g limit))
-          (λ seg (holds, (f, g, right)). (holds, (f, g, knee_right_at net terms priced knees are seg f g right limit holds.above holds.below)))
-          (found_for (HasKneeFlows net terms knees) limit segments high low each_has_flows covering.joined above below)
+      (λ seg. Holds seg limit × ((f : ℕ → ℕ → ℕ) × (g : ℕ → ℕ) × IsKneeRight net terms knees seg f g limit))
+      (λ seg (holds, (f, g, right)). (holds, (f, g, knee_right_at net terms priced knees are seg f g right limit holds.above holds.below)))
+      (found_for (HasKneeFlows net terms knees) limit segments high low each_has_flows covering.joined above below)
 
 -- For costs with one slope
 
@@ -147,12 +151,12 @@ module _ (net : Network) (terms : List Term) (priced : IsPriced net terms) (knee
 pub one_knee_covering : (net : Network) (terms : List Term) (segments : List Segment) (high low : ℕ) → IsCovering net terms segments high low →
     IsKneeCovering net terms (one_knee terms) segments high low
 one_knee_covering net terms segments high low covering = record {
-    each = λ k d inside. (at_one_knee (slice_index_or segments k d).f1, (slice_index_or segments k d).f2, one_knee_segment net terms (slice_index_or segments k d) (covering.each k d inside));
-    joined = covering.joined;
-    normal = covering.normal;
-    normal_walk = covering.normal_walk;
-    crash_walk = covering.crash_walk;
-  }
+  each = λ k d inside. (at_one_knee (slice_index_or segments k d).f1, (slice_index_or segments k d).f2, one_knee_segment net terms (slice_index_or segments k d) (covering.each k d inside));
+  joined = covering.joined;
+  normal = covering.normal;
+  normal_walk = covering.normal_walk;
+  crash_walk = covering.crash_walk;
+}
 
 module _ (net : Network) (terms : List Term) (priced : IsPriced net terms) (segments : List Segment) (high low : ℕ) (covering : IsCovering net terms segments high low) where
   -- the first upper end is the all-normal length
@@ -169,5 +173,5 @@ module _ (net : Network) (terms : List Term) (priced : IsPriced net terms) (segm
   pub covers_range : (limit : ℕ) → low ≤ limit → limit ≤ high → IsReadRight net terms segments limit
   covers_range limit above below =
       some_weaker (segment_for segments limit) (λ seg. Holds seg limit × IsSegment net terms seg) (λ seg. Holds seg limit × IsRight net terms seg limit)
-          (λ seg (holds, right). (holds, right_at net terms priced seg right limit holds.above holds.below))
-          (found_for (IsSegment net terms) limit segments high low (recursion_from_All (IsSegment net terms) segments covering.each) covering.joined above below)
+      (λ seg (holds, right). (holds, right_at net terms priced seg right limit holds.above holds.below))
+      (found_for (IsSegment net terms) limit segments high low (recursion_from_All (IsSegment net terms) segments covering.each) covering.joined above below)

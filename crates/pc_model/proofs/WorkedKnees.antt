@@ -37,8 +37,9 @@ lone_knees = record { count = λ a. 2; knee = λ a. slice_index (5 ∷ 3 ∷ [])
 -- both knees are within the normal duration
 pub lone_are_knees : AreKnees lone_net lone_terms lone_knees
 lone_are_knees = record {
-    below = λ a k inside. each1 (λ a. k < 2 → lone_knees.knee a k ≤ normal_of lone_terms a)
-      (each2 (λ k. lone_knees.knee 0 k ≤ 5) (omega arith) (omega arith) k) a inside }
+  below = λ a k inside. each1 (λ a. k < 2 → lone_knees.knee a k ≤ normal_of lone_terms a)
+      (each2 (λ k. lone_knees.knee 0 k ≤ 5) (omega arith) (omega arith) k) a inside;
+}
 
 -- from where the activity ends nothing goes on
 no_way_on : (walk : List ℕ) (f : ℕ) → IsWalk lone_net.arcs 1 walk f → f ≡ 1
@@ -54,20 +55,23 @@ no_cycle (a ∷ walk) (some, (e, (inside, from, rest))) =
 -- the network is sound
 pub lone_priced : IsPriced lone_net lone_terms
 lone_priced = record {
-    range = record {
-      start_in = omega arith;
-      end_in = omega arith;
-      apart = λ same. omega arith;
-      from_in = each1 (λ a. from_of lone_net.arcs a < 2) (omega arith);
-      to_in = each1 (λ a. to_of lone_net.arcs a < 2) (omega arith);
-      not_looped = each1 (λ a. from_of lone_net.arcs a ≢ to_of lone_net.arcs a) (λ same. omega arith) };
-    sound = record {
-      not_entered = λ (a, inside, ends). each1 (λ a. to_of lone_net.arcs a ≡ 0 → ⊥) (λ e. omega arith) a inside ends;
-      not_left = λ (a, inside, begins). each1 (λ a. from_of lone_net.arcs a ≡ 1 → ⊥) (λ e. omega arith) a inside begins;
-      reached = each2 (λ e. (walk : List ℕ) × IsWalk lone_net.arcs 0 walk e) ([], refl) (0 ∷ [], (omega arith, refl, refl));
-      reaches = each2 (λ e. (walk : List ℕ) × IsWalk lone_net.arcs e walk 1) (0 ∷ [], (omega arith, refl, refl)) ([], refl);
-      no_cycle = no_cycle };
-    terms_fit = record { one_each = refl; ordered = each1 (λ a. crash_of lone_terms a ≤ normal_of lone_terms a) (omega arith) } }
+  range = record {
+    start_in = omega arith;
+    end_in = omega arith;
+    apart = λ same. omega arith;
+    from_in = each1 (λ a. from_of lone_net.arcs a < 2) (omega arith);
+    to_in = each1 (λ a. to_of lone_net.arcs a < 2) (omega arith);
+    not_looped = each1 (λ a. from_of lone_net.arcs a ≢ to_of lone_net.arcs a) (λ same. omega arith);
+  };
+  sound = record {
+    not_entered = λ (a, inside, ends). each1 (λ a. to_of lone_net.arcs a ≡ 0 → ⊥) (λ e. omega arith) a inside ends;
+    not_left = λ (a, inside, begins). each1 (λ a. from_of lone_net.arcs a ≡ 1 → ⊥) (λ e. omega arith) a inside begins;
+    reached = each2 (λ e. (walk : List ℕ) × IsWalk lone_net.arcs 0 walk e) ([], refl) (0 ∷ [], (omega arith, refl, refl));
+    reaches = each2 (λ e. (walk : List ℕ) × IsWalk lone_net.arcs e walk 1) (0 ∷ [], (omega arith, refl, refl)) ([], refl);
+    no_cycle = no_cycle;
+  };
+  terms_fit = record { one_each = refl; ordered = each1 (λ a. crash_of lone_terms a ≤ normal_of lone_terms a) (omega arith) };
+}
 
 -- the end moves
 abbrev pub end_moves : ℕ → Bool
@@ -85,7 +89,8 @@ lone_first = record {
   moves = end_moves;
   duration = slice_index (5 ∷ []);
   f1 = λ a. 0;
-  f2 = λ a. 0 }
+  f2 = λ a. 0;
+}
 
 -- from 3 units down to 1 a unit costs 5, of which 2 flow at the first knee and 3 at the second
 abbrev pub lone_second : Segment
@@ -98,7 +103,8 @@ lone_second = record {
   moves = end_moves;
   duration = slice_index (3 ∷ []);
   f1 = λ a. 0;
-  f2 = λ a. 0 }
+  f2 = λ a. 0;
+}
 
 abbrev first_flows : ℕ → ℕ → ℕ
 first_flows a = slice_index (2 ∷ 0 ∷ [])
@@ -111,37 +117,41 @@ none a = 0
 
 pub first_is_right : IsKneeSegment lone_net lone_terms lone_knees lone_first first_flows none
 first_is_right = record {
-    ordered = omega arith;
-    degenerate = λ same. absurd (omega arith);
-    ends = record { start_time = refl; start_rests = refl; end_time = refl; end_moves = λ l. refl };
-    durations = each1 (HasDuration lone_net lone_terms lone_first) refl;
-    flow = record {
-      capacity = λ a k inside. each2 (λ k. first_flows a k ≤ lone_knees.rise a k) (omega arith) (omega arith) k;
-      through = each2 (λ e. e ≢ 0 → e ≢ 1 → inflow lone_net (knee_flow lone_knees first_flows none) e ≡ outflow lone_net (knee_flow lone_knees first_flows none) e)
+  ordered = omega arith;
+  degenerate = λ same. absurd (omega arith);
+  ends = record { start_time = refl; start_rests = refl; end_time = refl; end_moves = λ l. refl };
+  durations = each1 (HasDuration lone_net lone_terms lone_first) refl;
+  flow = record {
+    capacity = λ a k inside. each2 (λ k. first_flows a k ≤ lone_knees.rise a k) (omega arith) (omega arith) k;
+    through = each2 (λ e. e ≢ 0 → e ≢ 1 → inflow lone_net (knee_flow lone_knees first_flows none) e ≡ outflow lone_net (knee_flow lone_knees first_flows none) e)
         (λ not_start not_end. absurd (not_start refl)) (λ not_start not_end. absurd (not_end refl));
-      leaves = refl };
-    at_upper = each1 (IsTightAtKneesAt lone_net lone_terms lone_knees lone_first first_flows none 0)
+    leaves = refl;
+  };
+  at_upper = each1 (IsTightAtKneesAt lone_net lone_terms lone_knees lone_first first_flows none 0)
       (record { room = omega arith; at_knees = each2 (λ k. IsSlackAtKnee 0 5 (lone_knees.knee 0 k) (lone_knees.rise 0 k) (first_flows 0 k)) (omega arith) (omega arith); above_crash = λ l. refl });
-    at_lower = each1 (IsTightAtKneesAt lone_net lone_terms lone_knees lone_first first_flows none 2)
+  at_lower = each1 (IsTightAtKneesAt lone_net lone_terms lone_knees lone_first first_flows none 2)
       (record { room = omega arith; at_knees = each2 (λ k. IsSlackAtKnee 2 5 (lone_knees.knee 0 k) (lone_knees.rise 0 k) (first_flows 0 k)) (omega arith) (omega arith); above_crash = λ l. refl });
-    costs = refl }
+  costs = refl;
+}
 
 pub second_is_right : IsKneeSegment lone_net lone_terms lone_knees lone_second second_flows none
 second_is_right = record {
-    ordered = omega arith;
-    degenerate = λ same. absurd (omega arith);
-    ends = record { start_time = refl; start_rests = refl; end_time = refl; end_moves = λ l. refl };
-    durations = each1 (HasDuration lone_net lone_terms lone_second) refl;
-    flow = record {
-      capacity = λ a k inside. each2 (λ k. second_flows a k ≤ lone_knees.rise a k) (omega arith) (omega arith) k;
-      through = each2 (λ e. e ≢ 0 → e ≢ 1 → inflow lone_net (knee_flow lone_knees second_flows none) e ≡ outflow lone_net (knee_flow lone_knees second_flows none) e)
+  ordered = omega arith;
+  degenerate = λ same. absurd (omega arith);
+  ends = record { start_time = refl; start_rests = refl; end_time = refl; end_moves = λ l. refl };
+  durations = each1 (HasDuration lone_net lone_terms lone_second) refl;
+  flow = record {
+    capacity = λ a k inside. each2 (λ k. second_flows a k ≤ lone_knees.rise a k) (omega arith) (omega arith) k;
+    through = each2 (λ e. e ≢ 0 → e ≢ 1 → inflow lone_net (knee_flow lone_knees second_flows none) e ≡ outflow lone_net (knee_flow lone_knees second_flows none) e)
         (λ not_start not_end. absurd (not_start refl)) (λ not_start not_end. absurd (not_end refl));
-      leaves = refl };
-    at_upper = each1 (IsTightAtKneesAt lone_net lone_terms lone_knees lone_second second_flows none 0)
+    leaves = refl;
+  };
+  at_upper = each1 (IsTightAtKneesAt lone_net lone_terms lone_knees lone_second second_flows none 0)
       (record { room = omega arith; at_knees = each2 (λ k. IsSlackAtKnee 0 3 (lone_knees.knee 0 k) (lone_knees.rise 0 k) (second_flows 0 k)) (omega arith) (omega arith); above_crash = λ l. refl });
-    at_lower = each1 (IsTightAtKneesAt lone_net lone_terms lone_knees lone_second second_flows none 2)
+  at_lower = each1 (IsTightAtKneesAt lone_net lone_terms lone_knees lone_second second_flows none 2)
       (record { room = omega arith; at_knees = each2 (λ k. IsSlackAtKnee 2 3 (lone_knees.knee 0 k) (lone_knees.rise 0 k) (second_flows 0 k)) (omega arith) (omega arith); above_crash = λ l. refl });
-    costs = refl }
+  costs = refl;
+}
 
 -- the first ends where the gap comes to the second knee, and the second where it comes to the crash duration
 pub first_stops : StopsAtAKnee lone_net lone_terms lone_knees lone_first
@@ -153,12 +163,13 @@ second_stops = (0, omega arith, inl (record { forward = refl; at_crash = refl })
 -- the two segments are the whole curve
 pub lone_covering : IsKneeCovering lone_net lone_terms lone_knees (lone_first ∷ lone_second ∷ []) 5 1
 lone_covering = record {
-    each = λ k d. each2 (λ k. HasKneeFlows lone_net lone_terms lone_knees (slice_index_or (lone_first ∷ lone_second ∷ []) k d))
+  each = λ k d. each2 (λ k. HasKneeFlows lone_net lone_terms lone_knees (slice_index_or (lone_first ∷ lone_second ∷ []) k d))
       (first_flows, none, first_is_right) (second_flows, none, second_is_right) k;
-    joined = (refl, (refl, refl));
-    normal = each1 (λ a. lone_first.duration a ≡ normal_of lone_terms a) refl;
-    normal_walk = (0 ∷ [], (omega arith, refl, refl), refl);
-    crash_walk = (0 ∷ [], (omega arith, refl, refl), refl) }
+  joined = (refl, (refl, refl));
+  normal = each1 (λ a. lone_first.duration a ≡ normal_of lone_terms a) refl;
+  normal_walk = (0 ∷ [], (omega arith, refl, refl), refl);
+  crash_walk = (0 ∷ [], (omega arith, refl, refl), refl);
+}
 
 -- four units cost 12 at least, two cost 19
 pub least_at_4 : IsKneeLeastCost lone_net lone_terms lone_knees 4 12
