@@ -1,5 +1,5 @@
 -- The slope of a right segment is the cut gain between its resting and its moving events, for costs with one slope.
-use Rattle.std.proofs.Common.{◌≡◌, ℤ, pos, ◌-ℤ◌, ◌+◌, List, arith}
+use Rattle.std.proofs.Common.{◌≡◌, pos, ◌+◌, List, arith}
 use Rattle.std.proofs.lemmas.Int.{ints}
 use Rattle.pc_model.specs.declared.Term.{Term}
 use Rattle.pc_model.specs.Network.{Network}
@@ -13,10 +13,12 @@ module _ (net : Network) (terms : List Term) (priced : IsPriced net terms) (seg 
   -- the slopes across the cut, forward and backward, differ by the segment's slope
   pub cut_slopes : forward_slopes net terms seg ≡ backward_slopes net terms seg + seg.slope
   cut_slopes =
-      omega (arith,
-          knee_cut_rises net terms priced (one_knee terms) (one_knee_fits net terms) seg (at_one_knee seg.f1) seg.f2 (one_knee_segment net terms seg right),
-          one_knee_forward net terms seg,
-          one_knee_backward net terms seg)
+      omega (
+        arith,
+        knee_cut_rises net terms priced (one_knee terms) (one_knee_fits net terms) seg (at_one_knee seg.f1) seg.f2 (one_knee_segment net terms seg right),
+        one_knee_forward net terms seg,
+        one_knee_backward net terms seg,
+      )
 
   -- the slope is the cut gain
   pub cut_is_slope : cut_gain net terms seg ≡ pos seg.slope

@@ -1,10 +1,10 @@
 -- Laws of gaps while some events fall together: a gap that is linear needs only its two ends.
-use Rattle.std.proofs.Common.{◌≡◌, ℕ, zero, ◌+◌, ◌-◌, ◌<◌, ◌≤◌, Bool, true, false, cond, if◌then◌else◌, List, [], ◌∷◌, length, refl, sym, subst, arith}
+use Rattle.std.proofs.Common.{◌≡◌, ℕ, zero, ◌+◌, ◌<◌, ◌≤◌, Bool, true, false, if◌then◌else◌, List, [], ◌∷◌, length, refl, sym, subst, arith}
 use Rattle.pc_model.specs.declared.Arc.{Arc}
 use Rattle.pc_model.specs.declared.Term.{Term}
 use Rattle.pc_model.specs.Walk.{from_of, to_of, IsWalk}
 use Rattle.pc_model.specs.Schedule.{crash_of}
-use Rattle.pc_model.specs.Slack.{IsSlack, IsTight}
+use Rattle.pc_model.specs.Slack.{IsTight}
 use Rattle.pc_model.specs.Segment.{drop}
 use Rattle.pc_model.specs.Knees.{Knees, IsSlackAtKnee, IsTightAtKnees}
 
@@ -46,19 +46,19 @@ pub slack_at_knee_between : (f t : Bool) (u v knee rise flow s x : ℕ) → x �
     IsSlackAtKnee (side t u 0) (side f v 0) knee rise flow → IsSlackAtKnee (side t u s) (side f v s) knee rise flow →
     IsSlackAtKnee (side t u x) (side f v x) knee rise flow
 slack_at_knee_between f t u v knee rise flow s x h p q = record {
-    above = above_between (flow ≡ 0) f t u v knee s x h p.above q.above;
-    below = below_between (flow ≡ rise) f t u v knee s x h p.below q.below;
-  }
+  above = above_between (flow ≡ 0) f t u v knee s x h p.above q.above;
+  below = below_between (flow ≡ rise) f t u v knee s x h p.below q.below;
+}
 
 -- an activity that is tight at its knees at both ends is so between them
 pub tight_at_knees_between : (f t : Bool) (terms : List Term) (knees : Knees) (a u v : ℕ) (flow : ℕ → ℕ) (g s x : ℕ) → x ≤ s →
     IsTightAtKnees terms knees a (side t u 0) (side f v 0) flow g → IsTightAtKnees terms knees a (side t u s) (side f v s) flow g →
     IsTightAtKnees terms knees a (side t u x) (side f v x) flow g
 tight_at_knees_between f t terms knees a u v flow g s x h p q = record {
-    room = enough_between f t u v (crash_of terms a) s x h p.room q.room;
-    at_knees = λ k inside. slack_at_knee_between f t u v (knees.knee a k) (knees.rise a k) (flow k) s x h (p.at_knees k inside) (q.at_knees k inside);
-    above_crash = above_between (g ≡ 0) f t u v (crash_of terms a) s x h p.above_crash q.above_crash;
-  }
+  room = enough_between f t u v (crash_of terms a) s x h p.room q.room;
+  at_knees = λ k inside. slack_at_knee_between f t u v (knees.knee a k) (knees.rise a k) (flow k) s x h (p.at_knees k inside) (q.at_knees k inside);
+  above_crash = above_between (g ≡ 0) f t u v (crash_of terms a) s x h p.above_crash q.above_crash;
+}
 
 -- what is tight at its knees depends on the gap alone
 pub tight_at_knees_shifted : (terms : List Term) (knees : Knees) (a tail head tail' head' : ℕ) (flow : ℕ → ℕ) (g : ℕ) → tail + head' ≡ head + tail' →
@@ -68,8 +68,8 @@ tight_at_knees_shifted terms knees a tail head tail' head' flow g same p =
     record {
       room = omega arith;
       at_knees = λ k inside.
-        let at = p.at_knees k inside in
-        record { above = λ h. at.above (omega arith); below = λ h. at.below (omega arith) };
+          let at = p.at_knees k inside in
+          record { above = λ h. at.above (omega arith); below = λ h. at.below (omega arith) };
       above_crash = λ h. p.above_crash (omega arith);
     }
 

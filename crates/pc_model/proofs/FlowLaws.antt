@@ -1,5 +1,5 @@
 -- Laws of a flow, over plain functions: `along a` is the whole flow along activity a.
-use Rattle.std.proofs.Common.{◌≡◌, ◌≢◌, ℕ, ◌+◌, ◌*◌, ◌<◌, ◌≤◌, Bool, true, false, not, ◌&&◌, cond, if◌then◌else◌, ap, arith}
+use Rattle.std.proofs.Common.{◌≡◌, ◌≢◌, ℕ, ◌+◌, ◌*◌, ◌<◌, ◌≤◌, Bool, true, false, not, ◌&&◌, if◌then◌else◌, ap, arith}
 use Rattle.std.proofs.Math.Nat.{add-mul, mul-le-mul_right}
 use Rattle.pc_model.specs.Sums.{sum_to, at_event}
 use Rattle.pc_model.proofs.SumLaws.{sum_to-add, sum_to-le, sum_to-same, sum_to-change_two, swap_sums}
@@ -33,14 +33,16 @@ module _ (n m : ℕ) (from to : ℕ → ℕ) (start end : ℕ) (along : ℕ → 
   potential_into : (T : ℕ → ℕ) →
       sum_to m (λ a. T (to a) * along a) + T start * value ≡ sum_to m (λ a. T (from a) * along a) + T end * at_event m to along end
   potential_into T =
-      omega (arith,
-          swap_sums n m T along to flow.to_in,
-          swap_sums n m T along from flow.from_in,
-          sum_to-change_two n (λ e. T e * at_event m to along e) (λ e. T e * at_event m from along e) start end flow.start_in flow.end_in flow.apart
-              (λ e inside s t. ap (λ x. T e * x) (flow.through e inside s t)),
-          ap (λ x. T start * x) flow.not_entered,
-          ap (λ x. T start * x) flow.leaves,
-          ap (λ x. T end * x) flow.not_left)
+      omega (
+        arith,
+        swap_sums n m T along to flow.to_in,
+        swap_sums n m T along from flow.from_in,
+        sum_to-change_two n (λ e. T e * at_event m to along e) (λ e. T e * at_event m from along e) start end flow.start_in flow.end_in flow.apart
+            (λ e inside s t. ap (λ x. T e * x) (flow.through e inside s t)),
+        ap (λ x. T start * x) flow.not_entered,
+        ap (λ x. T start * x) flow.leaves,
+        ap (λ x. T end * x) flow.not_left,
+      )
 
   -- what enters the end is the value
   pub value_in : at_event m to along end ≡ value
@@ -56,39 +58,45 @@ module _ (n m : ℕ) (from to : ℕ → ℕ) (start end : ℕ) (along : ℕ → 
   pub asked_at_most : (T d asks costs : ℕ → ℕ) → T start ≡ 0 → ((a : ℕ) → a < m → T (from a) + d a ≤ T (to a)) →
       ((a : ℕ) → a < m → asks a ≤ costs a + d a * along a) → sum_to m asks ≤ sum_to m costs + T end * value
   asked_at_most T d asks costs starts fits each =
-      omega (arith,
-          sum_to-le m (λ a. asks a + T (from a) * along a) (λ a. costs a + T (to a) * along a)
-              (λ a h. omega (arith, each a h, mul-le-mul_right (along a) (fits a h), add-mul (T (from a)) (d a) (along a))),
-          sum_to-add m asks (λ a. T (from a) * along a),
-          sum_to-add m costs (λ a. T (to a) * along a),
-          potential T,
-          ap (λ x. x * value) starts)
+      omega (
+        arith,
+        sum_to-le m (λ a. asks a + T (from a) * along a) (λ a. costs a + T (to a) * along a)
+            (λ a h. omega (arith, each a h, mul-le-mul_right (along a) (fits a h), add-mul (T (from a)) (d a) (along a))),
+        sum_to-add m asks (λ a. T (from a) * along a),
+        sum_to-add m costs (λ a. T (to a) * along a),
+        potential T,
+        ap (λ x. x * value) starts,
+      )
 
   -- complementary slackness: where each asks exactly that, and flows only where its duration spans its gap, they are equal
   pub asked_exactly : (T d asks costs : ℕ → ℕ) → T start ≡ 0 →
       ((a : ℕ) → a < m → T (from a) * along a + d a * along a ≡ T (to a) * along a) →
       ((a : ℕ) → a < m → asks a ≡ costs a + d a * along a) → sum_to m asks ≡ sum_to m costs + T end * value
   asked_exactly T d asks costs starts spans each =
-      omega (arith,
-          sum_to-same m (λ a. asks a + T (from a) * along a) (λ a. costs a + T (to a) * along a)
-              (λ a h. omega (arith, each a h, spans a h)),
-          sum_to-add m asks (λ a. T (from a) * along a),
-          sum_to-add m costs (λ a. T (to a) * along a),
-          potential T,
-          ap (λ x. x * value) starts)
+      omega (
+        arith,
+        sum_to-same m (λ a. asks a + T (from a) * along a) (λ a. costs a + T (to a) * along a)
+            (λ a h. omega (arith, each a h, spans a h)),
+        sum_to-add m asks (λ a. T (from a) * along a),
+        sum_to-add m costs (λ a. T (to a) * along a),
+        potential T,
+        ap (λ x. x * value) starts,
+      )
 
   -- across a cut between the start and the end, what flows forward exceeds what flows backward by the value
   pub crossing : (moves : ℕ → Bool) → moves start ≡ false → moves end ≡ true →
       sum_to m (λ a. if not (moves (from a)) && moves (to a) then along a else 0)
-        ≡ sum_to m (λ a. if moves (from a) && not (moves (to a)) then along a else 0) + value
+      ≡ sum_to m (λ a. if moves (from a) && not (moves (to a)) then along a else 0) + value
   crossing moves start_rests end_moves =
-      omega (arith,
-          sum_to-same m
-              (λ a. weight (moves (to a)) * along a + (if moves (from a) && not (moves (to a)) then along a else 0))
-              (λ a. weight (moves (from a)) * along a + (if not (moves (from a)) && moves (to a) then along a else 0))
-              (λ a h. crosses (moves (from a)) (moves (to a)) (along a)),
-          sum_to-add m (λ a. weight (moves (to a)) * along a) (λ a. if moves (from a) && not (moves (to a)) then along a else 0),
-          sum_to-add m (λ a. weight (moves (from a)) * along a) (λ a. if not (moves (from a)) && moves (to a) then along a else 0),
-          potential (λ e. weight (moves e)),
-          ap (λ b. weight b * value) start_rests,
-          ap (λ b. weight b * value) end_moves)
+      omega (
+        arith,
+        sum_to-same m
+            (λ a. weight (moves (to a)) * along a + (if moves (from a) && not (moves (to a)) then along a else 0))
+            (λ a. weight (moves (from a)) * along a + (if not (moves (from a)) && moves (to a) then along a else 0))
+            (λ a h. crosses (moves (from a)) (moves (to a)) (along a)),
+        sum_to-add m (λ a. weight (moves (to a)) * along a) (λ a. if moves (from a) && not (moves (to a)) then along a else 0),
+        sum_to-add m (λ a. weight (moves (from a)) * along a) (λ a. if not (moves (from a)) && moves (to a) then along a else 0),
+        potential (λ e. weight (moves e)),
+        ap (λ b. weight b * value) start_rests,
+        ap (λ b. weight b * value) end_moves,
+      )

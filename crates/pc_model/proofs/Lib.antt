@@ -28,3 +28,4 @@ pub mod FallLaws
 pub mod SegmentLaws
 pub mod CutLaws
 pub mod CoverLaws
+pub mod WorkedKnees

@@ -1,5 +1,5 @@
 -- Laws of sums over the numbers below a count.
-use Rattle.std.proofs.Common.{◌≡◌, ◌≢◌, ℕ, zero, suc, ◌+◌, ◌*◌, ◌<◌, ◌≤◌, ◌==◌, Bool, true, false, cond, ◌⊎◌, inl, inr, refl, ap, sym, ◌∙◌, arith}
+use Rattle.std.proofs.Common.{◌≡◌, ◌≢◌, ℕ, zero, suc, ◌+◌, ◌*◌, ◌<◌, ◌≤◌, ◌==◌, Bool, true, false, inl, inr, refl, ap, sym, arith}
 use Rattle.std.specs.Prelude.{if◌then◌else◌}
 use Rattle.std.proofs.lemmas.Bool.{cases_eq, eq-eqb, ne_eqb, cond-true, cond-false}
 use Rattle.std.proofs.Math.Nat.{mul-add}
@@ -33,8 +33,8 @@ pub sum_to-bound : (n : ℕ) (f : ℕ → ℕ) (k : ℕ) → k < n → f k ≤ s
 sum_to-bound zero f k h = absurd (omega arith)
 sum_to-bound (suc n) f k h =
     elim (cases_eq k n) [
-      inl e ↦ omega (arith, ap f e)
-    | inr ne ↦ omega (arith, sum_to-bound n f k (omega arith))
+      | inl e ↦ omega (arith, ap f e)
+      | inr ne ↦ omega (arith, sum_to-bound n f k (omega arith))
     ]
 
 -- functions that agree but at k have sums that differ as they do there
@@ -42,8 +42,8 @@ pub sum_to-change : (n : ℕ) (f g : ℕ → ℕ) (k : ℕ) → k < n → ((a : 
 sum_to-change zero f g k h same = absurd (omega arith)
 sum_to-change (suc n) f g k h same =
     elim (cases_eq k n) [
-      inl e ↦ omega (arith, ap f e, ap g e, sum_to-same n f g (λ a b. same a (omega arith) (omega arith)))
-    | inr ne ↦ omega (arith, sum_to-change n f g k (omega arith) (λ a b. same a (omega arith)), same n (omega arith) (λ x. ne (sym x)))
+      | inl e ↦ omega (arith, ap f e, ap g e, sum_to-same n f g (λ a b. same a (omega arith) (omega arith)))
+      | inr ne ↦ omega (arith, sum_to-change n f g k (omega arith) (λ a b. same a (omega arith)), same n (omega arith) (λ x. ne (sym x)))
     ]
 
 -- functions that agree but at j and k
@@ -51,10 +51,10 @@ pub sum_to-change_two : (n : ℕ) (f g : ℕ → ℕ) (j k : ℕ) → j < n → 
 sum_to-change_two zero f g j k hj hk ne same = absurd (omega arith)
 sum_to-change_two (suc n) f g j k hj hk ne same =
     elim (cases_eq j n) [
-      inl e ↦ omega (arith, ap f e, ap g e, sum_to-change n f g k (omega arith) (λ a b nk. same a (omega arith) (omega arith) nk))
-    | inr nj ↦ elim (cases_eq k n) [
-        inl e ↦ omega (arith, ap f e, ap g e, sum_to-change n f g j (omega arith) (λ a b na. same a (omega arith) na (omega arith)))
-      | inr nk ↦ omega (arith, sum_to-change_two n f g j k (omega arith) (omega arith) ne (λ a b. same a (omega arith)), same n (omega arith) (λ x. nj (sym x)) (λ x. nk (sym x)))
+      | inl e ↦ omega (arith, ap f e, ap g e, sum_to-change n f g k (omega arith) (λ a b nk. same a (omega arith) (omega arith) nk))
+      | inr nj ↦ elim (cases_eq k n) [
+        | inl e ↦ omega (arith, ap f e, ap g e, sum_to-change n f g j (omega arith) (λ a b na. same a (omega arith) na (omega arith)))
+        | inr nk ↦ omega (arith, sum_to-change_two n f g j k (omega arith) (omega arith) ne (λ a b. same a (omega arith)), same n (omega arith) (λ x. nj (sym x)) (λ x. nk (sym x)))
       ]
     ]
 
@@ -68,8 +68,8 @@ pub sum_to-pick : (n : ℕ) (f : ℕ → ℕ) (x : ℕ) → x < n → sum_to n (
 sum_to-pick zero f x h = absurd (omega arith)
 sum_to-pick (suc n) f x h =
     elim (cases_eq x n) [
-      inl e ↦ omega (arith, ap f e, cond-true (x == n) (f n) 0 (eq-eqb x n e), sum_to-zero n (λ a. if x == a then f a else 0) (λ a b. cond-false (x == a) (f a) 0 (ne_eqb x a (omega arith))))
-    | inr ne ↦ omega (arith, sum_to-pick n f x (omega arith), cond-false (x == n) (f n) 0 (ne_eqb x n ne))
+      | inl e ↦ omega (arith, ap f e, cond-true (x == n) (f n) 0 (eq-eqb x n e), sum_to-zero n (λ a. if x == a then f a else 0) (λ a b. cond-false (x == a) (f a) 0 (ne_eqb x a (omega arith))))
+      | inr ne ↦ omega (arith, sum_to-pick n f x (omega arith), cond-false (x == n) (f n) 0 (ne_eqb x n ne))
     ]
 
 -- a factor goes into a choice
@@ -83,10 +83,12 @@ pub swap_sums : (n m : ℕ) (weight f place : ℕ → ℕ) → ((a : ℕ) → a 
 swap_sums n zero weight f place inside = sum_to-zero n (λ e. weight e * 0) (λ e h. omega arith)
 swap_sums n (suc m) weight f place inside =
     let last : ℕ → ℕ = λ e. if place m == e then f m else 0 in
-    omega (arith,
-        sum_to-same n (λ e. weight e * (at_event m place f e + last e)) (λ e. weight e * at_event m place f e + weight e * last e)
-            (λ e h. mul-add (weight e) (at_event m place f e) (last e)),
-        sum_to-add n (λ e. weight e * at_event m place f e) (λ e. weight e * last e),
-        swap_sums n m weight f place (λ a h. inside a (omega arith)),
-        sum_to-same n (λ e. weight e * last e) (λ e. if place m == e then weight e * f m else 0) (λ e h. times-if (place m == e) (weight e) (f m)),
-        sum_to-pick n (λ e. weight e * f m) (place m) (inside m (omega arith)))
+    omega (
+      arith,
+      sum_to-same n (λ e. weight e * (at_event m place f e + last e)) (λ e. weight e * at_event m place f e + weight e * last e)
+          (λ e h. mul-add (weight e) (at_event m place f e) (last e)),
+      sum_to-add n (λ e. weight e * at_event m place f e) (λ e. weight e * last e),
+      swap_sums n m weight f place (λ a h. inside a (omega arith)),
+      sum_to-same n (λ e. weight e * last e) (λ e. if place m == e then weight e * f m else 0) (λ e h. times-if (place m == e) (weight e) (f m)),
+      sum_to-pick n (λ e. weight e * f m) (place m) (inside m (omega arith)),
+    )

@@ -1,5 +1,5 @@
 -- Segments that join, and the one that is read for a length.
-use Rattle.std.specs.Prelude.{◌≡◌, ℕ, ◌<◌, ◌≤◌, Bool, ◌&&◌, nat_le, List, [], ◌∷◌, length, All, find, Option, IsSomeAnd}
+use Rattle.std.specs.Prelude.{◌≡◌, ℕ, ◌<◌, Bool, ◌&&◌, nat_le, List, [], ◌∷◌, length, All, find, Option, IsSomeAnd}
 use Rattle.pc_model.specs.declared.Term.{Term}
 use Rattle.pc_model.specs.Walk.{IsSumOfWalk}
 use Rattle.pc_model.specs.Network.{Network}

@@ -1,5 +1,5 @@
 -- Convex costs: an activity's cost rises by a further slope below each of its knees.
-use Rattle.std.specs.Prelude.{◌≡◌, ℕ, ℤ, pos, ◌-ℤ◌, ◌+◌, ◌-◌, ◌*◌, ◌<◌, ◌≤◌, ◌&&◌, if◌then◌else◌, nat_lt, false, true, List, length, ◌⊎◌}
+use Rattle.std.specs.Prelude.{◌≡◌, ℕ, ℤ, pos, ◌-ℤ◌, ◌+◌, ◌-◌, ◌*◌, ◌<◌, ◌≤◌, if◌then◌else◌, nat_lt, false, true, List, length, ◌⊎◌}
 use Rattle.pc_model.specs.declared.Term.{Term}
 use Rattle.pc_model.specs.Sums.{sum_to}
 use Rattle.pc_model.specs.Walk.{from_of, to_of}
@@ -77,7 +77,7 @@ pub record IsTightAtKnees (terms : List Term) (knees : Knees) (a tail head : ℕ
 pub record AreTightAtKnees (net : Network) (terms : List Term) (knees : Knees) (f : ℕ → ℕ → ℕ) (g times : ℕ → ℕ) : Type 0 where
   pub starts : times net.start ≡ 0
   pub tight : (a : ℕ) → a < length net.arcs →
-    IsTightAtKnees terms knees a (times (from_of net.arcs a)) (times (to_of net.arcs a)) (f a) (g a)
+      IsTightAtKnees terms knees a (times (from_of net.arcs a)) (times (to_of net.arcs a)) (f a) (g a)
 
 -- Segments, with a flow f at each knee of each activity and the flow g beside them
 
@@ -108,7 +108,7 @@ pub record IsKneeSegment (net : Network) (terms : List Term) (knees : Knees) (se
 abbrev pub rises_above : Network → Knees → Segment → ℕ → ℕ → ℕ
 rises_above net knees seg fall a =
     sum_to (knees.count a)
-        (λ k. if nat_lt (head_at net.arcs seg fall a) (tail_at net.arcs seg fall a + knees.knee a k) then knees.rise a k else 0)
+    (λ k. if nat_lt (head_at net.arcs seg fall a) (tail_at net.arcs seg fall a + knees.knee a k) then knees.rise a k else 0)
 
 -- the sum of the rises of the forward activities' knees above the gap at the lower end
 abbrev pub forward_rises : Network → Knees → Segment → ℕ
@@ -141,7 +141,7 @@ abbrev pub StopsAtAKnee : Network → List Term → Knees → Segment → Type 0
 StopsAtAKnee net terms knees seg =
     (a : ℕ) × (a < length net.arcs)
     × (StopsAtCrash net terms seg a
-      ⊎ ((k : ℕ) × (k < knees.count a) × (FallsToKnee net knees seg a k ⊎ RisesToKnee net knees seg a k)))
+    ⊎ ((k : ℕ) × (k < knees.count a) × (FallsToKnee net knees seg a k ⊎ RisesToKnee net knees seg a k)))
 
 -- what is read for a length cuts no time off at 0, is a schedule that ends at the length, and costs what is said; the
 -- segment's flow has the slope as its value and the cost as its bound; no schedule for the length costs less; and the

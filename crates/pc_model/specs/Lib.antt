@@ -8,6 +8,7 @@ pub mod Slack
 pub mod Segment
 pub mod Knees
 pub mod Cover
+pub mod KneeCover
 pub mod State
 pub mod KneeState
 pub mod Curve

@@ -1,5 +1,5 @@
 -- Segments of the time-cost curve: what is read from one for a length, and the conditions that make it right.
-use Rattle.std.specs.Prelude.{◌≡◌, ◌≢◌, ℕ, ℤ, pos, ◌-ℤ◌, ◌+◌, ◌-◌, ◌*◌, ◌<◌, ◌≤◌, min, Bool, true, false, not, ◌&&◌, if◌then◌else◌, nat_lt, List, length, ◌⊎◌}
+use Rattle.std.specs.Prelude.{◌≡◌, ℕ, ℤ, pos, ◌-ℤ◌, ◌+◌, ◌-◌, ◌*◌, ◌<◌, ◌≤◌, Bool, true, false, not, ◌&&◌, if◌then◌else◌, nat_lt, List, length, ◌⊎◌}
 use Rattle.pc_model.specs.declared.Arc.{Arc}
 use Rattle.pc_model.specs.declared.Term.{Term}
 use Rattle.pc_model.specs.Sums.{sum_to}
@@ -121,13 +121,13 @@ is_shortened net terms seg fall a =
 abbrev pub forward_slopes : Network → List Term → Segment → ℕ
 forward_slopes net terms seg =
     sum_to (length net.arcs)
-        (λ a. if is_forward net.arcs seg.moves a && is_shortened net terms seg (span seg) a then slope_of terms a else 0)
+    (λ a. if is_forward net.arcs seg.moves a && is_shortened net terms seg (span seg) a then slope_of terms a else 0)
 
 -- the sum of the slopes of the backward activities whose gap at the upper end is below normal
 abbrev pub backward_slopes : Network → List Term → Segment → ℕ
 backward_slopes net terms seg =
     sum_to (length net.arcs)
-        (λ a. if is_backward net.arcs seg.moves a && is_shortened net terms seg 0 a then slope_of terms a else 0)
+    (λ a. if is_backward net.arcs seg.moves a && is_shortened net terms seg 0 a then slope_of terms a else 0)
 
 -- what a unit of length less costs across the cut: the first of these sums less the second
 abbrev pub cut_gain : Network → List Term → Segment → ℤ

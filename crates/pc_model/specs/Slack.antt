@@ -6,7 +6,8 @@ use Rattle.pc_model.specs.Walk.{from_of, to_of}
 use Rattle.pc_model.specs.Network.{Network}
 use Rattle.pc_model.specs.Schedule.{term_at, normal_of}
 
--- the gap of activity a: the time of its ending event less that of its beginning event
+-- the gap of activity a: the time of its ending event less that of its beginning event, and 0 where it is negative,
+-- which no gap with room for the crash duration is
 abbrev pub gap_of : List Arc → (ℕ → ℕ) → ℕ → ℕ
 gap_of arcs times a = times (to_of arcs a) - times (from_of arcs a)
 
@@ -35,4 +36,4 @@ pub record IsTight (term : Term) (tail head f1 f2 : ℕ) : Type 0 where
 pub record AreTight (net : Network) (terms : List Term) (f1 f2 times : ℕ → ℕ) : Type 0 where
   pub starts : times net.start ≡ 0
   pub tight : (a : ℕ) → a < length net.arcs →
-    IsTight (term_at terms a) (times (from_of net.arcs a)) (times (to_of net.arcs a)) (f1 a) (f2 a)
+      IsTight (term_at terms a) (times (from_of net.arcs a)) (times (to_of net.arcs a)) (f1 a) (f2 a)

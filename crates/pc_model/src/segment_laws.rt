@@ -15,44 +15,29 @@ ghost use Rattle.pc_model.specs.Cover.{IsCovering, IsReadRight};
 /// What is read from a right segment for a length between its ends is a schedule for that length, costs what is said,
 /// and no schedule for that length costs less.
 pub fn readings_are_right()
-    ensures {
-        (net : Network) (terms : List Term) (segment : Segment) (limit : ℕ) →
+    ensures { (net : Network) (terms : List Term) (segment : Segment) (limit : ℕ) →
         IsPriced net terms → IsSegment net terms segment → Holds segment limit →
-        IsRight net terms segment limit
-    }
-{
-}
+        IsRight net terms segment limit }
+{}
 
 /// The slope of a right segment is its cut gain, so that the slope can be checked by the cut alone.
 pub fn slope_is_cut_gain()
-    ensures crossed {
-        (net : Network) (terms : List Term) (segment : Segment) →
+    ensures crossed { (net : Network) (terms : List Term) (segment : Segment) →
         IsPriced net terms → IsSegment net terms segment →
-        forward_slopes net terms segment ≡ backward_slopes net terms segment + segment.slope
-    }
-    ensures gained {
-        (net : Network) (terms : List Term) (segment : Segment) →
+        forward_slopes net terms segment ≡ backward_slopes net terms segment + segment.slope }
+    ensures gained { (net : Network) (terms : List Term) (segment : Segment) →
         IsPriced net terms → IsSegment net terms segment →
-        cut_gain net terms segment ≡ pos segment.slope
-    }
-{
-}
+        cut_gain net terms segment ≡ pos segment.slope }
+{}
 
 /// Right segments that join from a through walk's sum of normal durations down to a through walk's sum of crash
 /// durations run from the all-normal to the all-crash length, and what is read for each length between them is right.
 pub fn segments_cover_the_range()
-    ensures longest {
-        (net : Network) (terms : List Term) (segments : List Segment) (high low : ℕ) →
-        IsPriced net terms → IsCovering net terms segments high low → IsAllNormalLength net terms high
-    }
-    ensures shortest {
-        (net : Network) (terms : List Term) (segments : List Segment) (high low : ℕ) →
-        IsPriced net terms → IsCovering net terms segments high low → IsAllCrashLength net terms low
-    }
-    ensures read {
-        (net : Network) (terms : List Term) (segments : List Segment) (high low limit : ℕ) →
+    ensures longest { (net : Network) (terms : List Term) (segments : List Segment) (high low : ℕ) →
+        IsPriced net terms → IsCovering net terms segments high low → IsAllNormalLength net terms high }
+    ensures shortest { (net : Network) (terms : List Term) (segments : List Segment) (high low : ℕ) →
+        IsPriced net terms → IsCovering net terms segments high low → IsAllCrashLength net terms low }
+    ensures read { (net : Network) (terms : List Term) (segments : List Segment) (high low limit : ℕ) →
         IsPriced net terms → IsCovering net terms segments high low → low ≤ limit → limit ≤ high →
-        IsReadRight net terms segments limit
-    }
-{
-}
+        IsReadRight net terms segments limit }
+{}
