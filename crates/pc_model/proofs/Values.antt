@@ -8,71 +8,85 @@ use Rattle.pc_model.specs.Greatest.{StandsBelow}
 use Rattle.pc_model.specs.Walk.{from_of, to_of, IsWalk}
 use Rattle.pc_model.specs.Network.{Network, IsInRange, IsSound, IsOrder, IsPartOrder}
 use Rattle.pc_model.specs.Schedule.{AreTerms, IsSchedule, IsLeastCost, slope_of, normal_of, crash_of, cost_of}
-use Rattle.pc_model.specs.Flow.{IsPriced, IsFlow, whole_flow}
+use Rattle.pc_model.specs.Flow.{IsPriced, IsConserved, outflow}
+use Rattle.pc_model.specs.Knees.{Knees, one_knee, knee_flow}
 use Rattle.pc_model.specs.Slack.{lesser_of}
 use Rattle.pc_model.specs.State.{State, IsOptimal}
-use Rattle.pc_model.proofs.SumLaws.{sum_to-add, sum_to-le, sum_to-pick}
+use Rattle.pc_model.specs.KneeState.{KneeState, IsKneeOptimal, last_slope}
+use Rattle.pc_model.proofs.OneKneeState.{knee_state, optimal_to}
+use Rattle.pc_model.proofs.SumLaws.{sum_to-add, sum_to-le, sum_to-same, sum_to-pick}
 use Rattle.pc_model.proofs.FlowLaws.{potential}
 use Rattle.pc_model.proofs.DualityLaws.{balanced, tight_least}
 use Rattle.pc_model.proofs.OrderLaws.{stands_in_order, same_place}
 
-module _ (net : Network) (terms : List Term) (priced : IsPriced net terms) (f1 f2 : ℕ → ℕ) (value : ℕ) (flow : IsFlow net terms f1 f2 value) where
+module _ (net : Network) (range : IsInRange net) (sound : IsSound net) (along : ℕ → ℕ) (value : ℕ)
+    (through : IsConserved net along) (leaves : outflow net along net.start ≡ value) where
 
+  -- by weights of 0 at the start and 1 at the end, what the activities bring exceeds what they take by the value
   across : (W : ℕ → ℕ) → W net.start ≡ 0 → W net.end ≡ 1
-      → sum_to (length net.arcs) (λ a. W (to_of net.arcs a) * whole_flow f1 f2 a)
-        ≡ sum_to (length net.arcs) (λ a. W (from_of net.arcs a) * whole_flow f1 f2 a) + value
+      → sum_to (length net.arcs) (λ a. W (to_of net.arcs a) * along a) ≡ sum_to (length net.arcs) (λ a. W (from_of net.arcs a) * along a) + value
   across W rests moves =
       omega (arith, ap (λ x. x * value) rests, ap (λ x. x * value) moves,
-        potential net.events (length net.arcs) (from_of net.arcs) (to_of net.arcs) net.start net.end (whole_flow f1 f2) value
-          (balanced net (whole_flow f1 f2) value priced.range priced.sound flow.through flow.leaves) W)
+        potential net.events (length net.arcs) (from_of net.arcs) (to_of net.arcs) net.start net.end along value
+          (balanced net along value range sound through leaves) W)
 
   -- where the weight of the ending event asks no more flow than that of the beginning one and a bound for the
   -- activity, the value is at most the sum of these bounds
   pub value_below : (W bound : ℕ → ℕ) → W net.start ≡ 0 → W net.end ≡ 1
-      → ((a : ℕ) → a < length net.arcs → W (to_of net.arcs a) * whole_flow f1 f2 a ≤ W (from_of net.arcs a) * whole_flow f1 f2 a + bound a)
+      → ((a : ℕ) → a < length net.arcs → W (to_of net.arcs a) * along a ≤ W (from_of net.arcs a) * along a + bound a)
       → value ≤ sum_to (length net.arcs) bound
   value_below W bound rests moves each =
       omega (arith, across W rests moves,
-        sum_to-le (length net.arcs) (λ a. W (to_of net.arcs a) * whole_flow f1 f2 a) (λ a. W (from_of net.arcs a) * whole_flow f1 f2 a + bound a) each,
-        sum_to-add (length net.arcs) (λ a. W (from_of net.arcs a) * whole_flow f1 f2 a) bound)
+        sum_to-le (length net.arcs) (λ a. W (to_of net.arcs a) * along a) (λ a. W (from_of net.arcs a) * along a + bound a) each,
+        sum_to-add (length net.arcs) (λ a. W (from_of net.arcs a) * along a) bound)
 
   -- where it asks as much at least, and more by a bound, the value is at least the sum of these bounds
   pub value_above : (W bound : ℕ → ℕ) → W net.start ≡ 0 → W net.end ≡ 1
-      → ((a : ℕ) → a < length net.arcs → W (from_of net.arcs a) * whole_flow f1 f2 a + bound a ≤ W (to_of net.arcs a) * whole_flow f1 f2 a)
+      → ((a : ℕ) → a < length net.arcs → W (from_of net.arcs a) * along a + bound a ≤ W (to_of net.arcs a) * along a)
       → sum_to (length net.arcs) bound ≤ value
   value_above W bound rests moves each =
       omega (arith, across W rests moves,
-        sum_to-le (length net.arcs) (λ a. W (from_of net.arcs a) * whole_flow f1 f2 a + bound a) (λ a. W (to_of net.arcs a) * whole_flow f1 f2 a) each,
-        sum_to-add (length net.arcs) (λ a. W (from_of net.arcs a) * whole_flow f1 f2 a) bound)
+        sum_to-le (length net.arcs) (λ a. W (from_of net.arcs a) * along a + bound a) (λ a. W (to_of net.arcs a) * along a) each,
+        sum_to-add (length net.arcs) (λ a. W (from_of net.arcs a) * along a) bound)
 
 -- 1 where the first number is below the second
 abbrev later : ℕ → ℕ → ℕ
 later x y = if nat_lt x y then 1 else 0
 
--- the flow of a tight activity between times s and t is at most its slope where another schedule's times c and k
--- differ so that the gap must be above crash
-cut_at : (c k s t crash d f1 f2 slope : ℕ) → crash ≤ d → c + d ≤ k → f1 ≤ slope → (s + crash < t → f2 ≡ 0)
-    → later k t * (f1 + f2) ≤ later c s * (f1 + f2) + slope
-cut_at c k s t crash d f1 f2 slope enough fits most none =
+-- a tight activity between times s and t carries at most its rises f where another schedule's times c and k differ so
+-- that its gap must be above crash
+cut_at : (c k s t crash d f g most : ℕ) → crash ≤ d → c + d ≤ k → f ≤ most → (s + crash < t → g ≡ 0)
+    → later k t * (f + g) ≤ later c s * (f + g) + most
+cut_at c k s t crash d f g most enough fits within none =
     ⊎_elim
       (λ earlier. ⊎_elim
-        (λ early. omega (arith, ap (λ b. (if b then 1 else 0) * (f1 + f2)) (lt-ltb c s early), ap (λ b. (if b then 1 else 0) * (f1 + f2)) (lt-ltb k t earlier)))
-        (λ late. omega (arith, none (omega arith), ap (λ b. (if b then 1 else 0) * (f1 + f2)) (lt-ltb k t earlier)))
+        (λ early. omega (arith, ap (λ b. (if b then 1 else 0) * (f + g)) (lt-ltb c s early), ap (λ b. (if b then 1 else 0) * (f + g)) (lt-ltb k t earlier)))
+        (λ late. omega (arith, none (omega arith), ap (λ b. (if b then 1 else 0) * (f + g)) (lt-ltb k t earlier)))
         (cases_lt c s))
-      (λ late. omega (arith, ap (λ b. (if b then 1 else 0) * (f1 + f2)) (le-ltb k t late)))
+      (λ late. omega (arith, ap (λ b. (if b then 1 else 0) * (f + g)) (le-ltb k t late)))
       (cases_lt k t)
 
--- while some schedule is shorter than the present length, the value is at most the sum of slopes
+-- while some schedule is shorter than the present length, the value is at most the sum of rises
+pub knee_value_at_most : (net : Network) (terms : List Term) (knees : Knees) (st : KneeState) (limit : ℕ) (durations times : ℕ → ℕ) → IsPriced net terms
+    → IsKneeOptimal net terms knees st → IsSchedule net terms limit durations times → limit < st.limit
+    → st.value ≤ sum_to (length net.arcs) (last_slope knees)
+knee_value_at_most net terms knees st limit durations times priced optimal schedule shorter =
+    value_below net priced.range priced.sound (knee_flow knees st.f st.g) st.value optimal.flow.through optimal.flow.leaves (λ e. later (times e) (st.time e)) (last_slope knees)
+      (ap (λ b. if b then 1 else 0) (le-ltb (times net.start) (st.time net.start) (let s = schedule.starts in let t = optimal.fits.starts in omega arith)))
+      (ap (λ b. if b then 1 else 0) (lt-ltb (times net.end) (st.time net.end) (let s = schedule.ends in let t = optimal.ends in omega arith)))
+      (λ a l. cut_at (times (from_of net.arcs a)) (times (to_of net.arcs a)) (st.time (from_of net.arcs a)) (st.time (to_of net.arcs a))
+        (crash_of terms a) (durations a) (sum_to (knees.count a) (st.f a)) (st.g a) (last_slope knees a) (schedule.enough a l) (schedule.fits a l)
+        (sum_to-le (knees.count a) (st.f a) (knees.rise a) (λ k below. optimal.flow.capacity a k l below))
+        (optimal.fits.tight a l).above_crash)
+
+-- and with one slope at most the sum of slopes
 pub value_at_most : (net : Network) (terms : List Term) (st : State) (limit : ℕ) (durations times : ℕ → ℕ) → IsPriced net terms
     → IsOptimal net terms st → IsSchedule net terms limit durations times → limit < st.limit
     → st.value ≤ sum_to (length net.arcs) (slope_of terms)
 value_at_most net terms st limit durations times priced optimal schedule shorter =
-    value_below net terms priced st.f1 st.f2 st.value optimal.flow (λ e. later (times e) (st.time e)) (slope_of terms)
-      (ap (λ b. if b then 1 else 0) (le-ltb (times net.start) (st.time net.start) (let s = schedule.starts in let t = optimal.fits.starts in omega arith)))
-      (ap (λ b. if b then 1 else 0) (lt-ltb (times net.end) (st.time net.end) (let s = schedule.ends in let t = optimal.ends in omega arith)))
-      (λ a l. cut_at (times (from_of net.arcs a)) (times (to_of net.arcs a)) (st.time (from_of net.arcs a)) (st.time (to_of net.arcs a))
-        (crash_of terms a) (durations a) (st.f1 a) (st.f2 a) (slope_of terms a) (schedule.enough a l) (schedule.fits a l)
-        (optimal.flow.capacity a l) (optimal.fits.tight a l).slack.above_crash)
+    omega (arith,
+      knee_value_at_most net terms (one_knee terms) (knee_state st) limit durations times priced (optimal_to net terms st optimal) schedule shorter,
+      sum_to-same (length net.arcs) (last_slope (one_knee terms)) (slope_of terms) (λ a l. omega arith))
 
 -- the cost at the present length is the least for it
 pub optimal_is_least : (net : Network) (terms : List Term) (st : State) → IsPriced net terms → IsOptimal net terms st
@@ -126,33 +140,33 @@ module _ (net : Network) (order : List ℕ) (part : IsPartOrder net order) (n : 
       subst (StandsBelow order n) at (begins_below a l (walk_below walk (to_of net.arcs a) f rest s))
 
 -- no activity has more flow than the value
-pub flow_at_most : (net : Network) (terms : List Term) (order : List ℕ) (f1 f2 : ℕ → ℕ) (value : ℕ) → IsPriced net terms → IsOrder net order
-    → IsFlow net terms f1 f2 value → (a : ℕ) → a < length net.arcs → f1 a + f2 a ≤ value
-flow_at_most net terms order f1 f2 value priced ordered flow a l =
-    let (p, inside, at) = stands_in_order net order ordered (from_of net.arcs a) (priced.range.from_in a l) in
+pub flow_at_most : (net : Network) (order : List ℕ) (along : ℕ → ℕ) (value : ℕ) → IsInRange net → IsSound net → IsOrder net order
+    → IsConserved net along → outflow net along net.start ≡ value → (a : ℕ) → a < length net.arcs → along a ≤ value
+flow_at_most net order along value range sound ordered through leaves a l =
+    let (p, inside, at) = stands_in_order net order ordered (from_of net.arcs a) (range.from_in a l) in
     let part = ordered.part in
     let here : StandsBelow order (p + 1) (from_of net.arcs a) = (p, omega arith, at) in
     let there : StandsBelow order (p + 1) (to_of net.arcs a) → ⊥ = λ (k, below, is).
           (let (j, before, begins) = part.before k a (omega arith) l (sym is) in
            omega (arith, same_place net order part j p (omega arith) inside (begins ∙ sym at))) in
     let starts : StandsBelow order (p + 1) net.start =
-          (let (walk, walked) = priced.sound.reached (from_of net.arcs a) (priced.range.from_in a l) in walk_below net order part (p + 1) (omega arith) walk net.start _ walked here) in
+          (let (walk, walked) = sound.reached (from_of net.arcs a) (range.from_in a l) in walk_below net order part (p + 1) (omega arith) walk net.start _ walked here) in
     let ends : StandsBelow order (p + 1) net.end → ⊥ = λ s.
-          (let (walk, walked) = priced.sound.reaches (to_of net.arcs a) (priced.range.to_in a l) in there (walk_below net order part (p + 1) (omega arith) walk _ net.end walked s)) in
+          (let (walk, walked) = sound.reaches (to_of net.arcs a) (range.to_in a l) in there (walk_below net order part (p + 1) (omega arith) walk _ net.end walked s)) in
     omega (arith,
-      sum_to-pick (length net.arcs) (whole_flow f1 f2) a l,
-      value_above net terms priced f1 f2 value flow (beyond order (p + 1)) (λ b. if a == b then whole_flow f1 f2 b else 0)
+      sum_to-pick (length net.arcs) along a l,
+      value_above net range sound along value through leaves (beyond order (p + 1)) (λ b. if a == b then along b else 0)
         (beyond_none order (p + 1) net.start starts) (beyond_one order (p + 1) net.end ends)
         (λ b k. ⊎_elim
-          (λ is. subst (λ c. beyond order (p + 1) (from_of net.arcs c) * whole_flow f1 f2 c + (if a == c then whole_flow f1 f2 c else 0) ≤ beyond order (p + 1) (to_of net.arcs c) * whole_flow f1 f2 c) is
-            (omega (arith, cond-true (a == a) (whole_flow f1 f2 a) 0 (eq-eqb a a refl),
-              ap (λ x. x * whole_flow f1 f2 a) (beyond_none order (p + 1) (from_of net.arcs a) here),
-              ap (λ x. x * whole_flow f1 f2 a) (beyond_one order (p + 1) (to_of net.arcs a) there))))
+          (λ is. subst (λ c. beyond order (p + 1) (from_of net.arcs c) * along c + (if a == c then along c else 0) ≤ beyond order (p + 1) (to_of net.arcs c) * along c) is
+            (omega (arith, cond-true (a == a) (along a) 0 (eq-eqb a a refl),
+              ap (λ x. x * along a) (beyond_none order (p + 1) (from_of net.arcs a) here),
+              ap (λ x. x * along a) (beyond_one order (p + 1) (to_of net.arcs a) there))))
           (λ ne. ⊎_elim
-            (λ s. omega (arith, cond-false (a == b) (whole_flow f1 f2 b) 0 (ne_eqb a b ne),
-              ap (λ x. x * whole_flow f1 f2 b) (beyond_none order (p + 1) (from_of net.arcs b) s)))
-            (λ none. omega (arith, cond-false (a == b) (whole_flow f1 f2 b) 0 (ne_eqb a b ne),
-              ap (λ x. x * whole_flow f1 f2 b) (beyond_one order (p + 1) (from_of net.arcs b) none),
-              ap (λ x. x * whole_flow f1 f2 b) (beyond_one order (p + 1) (to_of net.arcs b) (λ s. none (begins_below net order part (p + 1) (omega arith) b k s)))))
+            (λ s. omega (arith, cond-false (a == b) (along b) 0 (ne_eqb a b ne),
+              ap (λ x. x * along b) (beyond_none order (p + 1) (from_of net.arcs b) s)))
+            (λ none. omega (arith, cond-false (a == b) (along b) 0 (ne_eqb a b ne),
+              ap (λ x. x * along b) (beyond_one order (p + 1) (from_of net.arcs b) none),
+              ap (λ x. x * along b) (beyond_one order (p + 1) (to_of net.arcs b) (λ s. none (begins_below net order part (p + 1) (omega arith) b k s)))))
             (beyond_or_not order (p + 1) (from_of net.arcs b)))
           (cases_eq a b)))

@@ -1,6 +1,7 @@
 -- The state between two labellings for convex costs: an activity has a flow at each of its knees.
 use Rattle.std.specs.Prelude.{◌≡◌, ◌≢◌, ℕ, ◌+◌, ◌-◌, ◌<◌, ◌≤◌, ◌⊎◌, Bool, true, false, List, length}
 use Rattle.pc_model.specs.declared.Term.{Term}
+use Rattle.pc_model.specs.Sums.{sum_to}
 use Rattle.pc_model.specs.Walk.{from_of, to_of}
 use Rattle.pc_model.specs.Network.{Network}
 use Rattle.pc_model.specs.Slack.{lesser_of}
@@ -115,6 +116,10 @@ knee_fallen st moves fall = record {
     f = st.f;
     g = st.g;
     value = st.value }
+
+-- what a unit of activity a costs below its last knee: the sum of its rises
+abbrev pub last_slope : Knees → ℕ → ℕ
+last_slope knees a = sum_to (knees.count a) (knees.rise a)
 
 -- The first state
 
