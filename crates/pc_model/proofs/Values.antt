@@ -16,7 +16,7 @@ use Rattle.pc_model.specs.KneeState.{KneeState, IsKneeOptimal, last_slope}
 use Rattle.pc_model.proofs.OneKneeState.{knee_state, optimal_to}
 use Rattle.pc_model.proofs.SumLaws.{sum_to-add, sum_to-le, sum_to-same, sum_to-pick}
 use Rattle.pc_model.proofs.FlowLaws.{potential}
-use Rattle.pc_model.proofs.DualityLaws.{balanced, tight_least}
+use Rattle.pc_model.proofs.DualityLaws.{balanced}
 use Rattle.pc_model.proofs.OrderLaws.{stands_in_order, same_place}
 
 module _ (net : Network) (range : IsInRange net) (sound : IsSound net) (along : ℕ → ℕ) (value : ℕ)
@@ -87,13 +87,6 @@ value_at_most net terms st limit durations times priced optimal schedule shorter
     omega (arith,
       knee_value_at_most net terms (one_knee terms) (knee_state st) limit durations times priced (optimal_to net terms st optimal) schedule shorter,
       sum_to-same (length net.arcs) (last_slope (one_knee terms)) (slope_of terms) (λ a l. omega arith))
-
--- the cost at the present length is the least for it
-pub optimal_is_least : (net : Network) (terms : List Term) (st : State) → IsPriced net terms → IsOptimal net terms st
-    → IsLeastCost net terms st.limit (cost_of terms (lesser_of net terms st.time))
-optimal_is_least net terms st priced optimal =
-    subst (λ n. IsLeastCost net terms n (cost_of terms (lesser_of net terms st.time))) optimal.ends
-      (tight_least net terms priced st.f1 st.f2 st.value optimal.flow st.time optimal.fits)
 
 -- 1 where the event is none of the first n of a list
 beyond : List ℕ → ℕ → ℕ → ℕ

@@ -1,5 +1,4 @@
-use Rattle.pc_model.proofs.Values.{optimal_is_least}
-use Rattle.pc_model.proofs.Opening.{within_range}
+use Rattle.pc_model.proofs.Opening.{optimal_is_least, within_range}
 use Rattle.pc_model.proofs.state_laws.optimal_state_is_cheapest.Goals as goal
 
 pub returns : goal.returns
