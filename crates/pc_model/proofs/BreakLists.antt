@@ -2,11 +2,8 @@
 use Rattle.std.proofs.Common.{◌≡◌, ◌≢◌, ◌≤◌, ◌<◌, ◌+◌, ◌-◌, ◌*◌, ◌⊎◌, inl, inr, ⊎_elim, ℕ, zero, suc, List, [], ◌∷◌, length, Option, Some, None, arith, refl, sym, ◌∙◌, subst, ap}
 use Rattle.std.proofs.lemmas.Bool.{cases_lt, cases_order}
 use Rattle.std.specs.Option.{MatchOption}
-use Rattle.pc_model.specs.declared.Term.{Term}
-use Rattle.pc_model.specs.Network.{Network}
-use Rattle.pc_model.specs.Schedule.{IsLeastCost}
 use Rattle.pc_model.specs.Curve.{IsBreak, Breakpoint, IsBreakpoint, AreBreakpoints, point_at}
-use Rattle.pc_model.proofs.LeastCost.{unique}
+use Rattle.pc_model.proofs.Breaks.{IsCurve}
 
 -- lists of one length that agree at each place are equal
 same_points : (ps qs : List Breakpoint) → length ps ≡ length qs → ((k : ℕ) → k < length ps → point_at ps k ≡ point_at qs k) → ps ≡ qs
@@ -20,28 +17,28 @@ same_points (p ∷ ps) (q ∷ qs) long same =
 abbrev pointed : ℕ → ℕ → Option ℕ → Breakpoint
 pointed limit cost slope = record { limit = limit; cost = cost; slope = slope }
 
-module _ (net : Network) (terms : List Term) (shortest longest : ℕ) where
+module _ (curve : ℕ → ℕ → Type 0) (is : IsCurve curve) (shortest longest : ℕ) where
 
   -- at one length a breakpoint has one cost and one slope
   one_slope : (limit cost : ℕ) (s t : Option ℕ)
-      → MatchOption s (limit ≡ shortest) (λ slope. (shortest < limit) × IsLeastCost net terms (limit - 1) (cost + slope))
-      → MatchOption t (limit ≡ shortest) (λ slope. (shortest < limit) × IsLeastCost net terms (limit - 1) (cost + slope))
+      → MatchOption s (limit ≡ shortest) (λ slope. (shortest < limit) × curve (limit - 1) (cost + slope))
+      → MatchOption t (limit ≡ shortest) (λ slope. (shortest < limit) × curve (limit - 1) (cost + slope))
       → s ≡ t
   one_slope limit cost None None p q = refl
   one_slope limit cost None (Some y) p q = absurd (omega (arith, p, q.0))
   one_slope limit cost (Some x) None p q = absurd (omega (arith, p.0, q))
   one_slope limit cost (Some x) (Some y) p q =
-      ap (λ (n : ℕ). Some n) (let same = unique net terms (limit - 1) (cost + x) (cost + y) p.1 q.1 in omega arith)
+      ap (λ (n : ℕ). Some n) (let same = is.unique (limit - 1) (cost + x) (cost + y) p.1 q.1 in omega arith)
 
-  one_point : (p q : Breakpoint) → IsBreakpoint net terms shortest longest p → IsBreakpoint net terms shortest longest q → p.limit ≡ q.limit → p ≡ q
+  one_point : (p q : Breakpoint) → IsBreakpoint curve shortest longest p → IsBreakpoint curve shortest longest q → p.limit ≡ q.limit → p ≡ q
   one_point p q is_p is_q same =
-      let costs : p.cost ≡ q.cost = unique net terms p.limit p.cost q.cost is_p.least (subst (λ n. IsLeastCost net terms n q.cost) (sym same) is_q.least) in
+      let costs : p.cost ≡ q.cost = is.unique p.limit p.cost q.cost is_p.least (subst (λ n. curve n q.cost) (sym same) is_q.least) in
       let slopes : p.slope ≡ q.slope = one_slope p.limit p.cost p.slope q.slope is_p.slopes
-            (subst (λ c. MatchOption q.slope (p.limit ≡ shortest) (λ slope. (shortest < p.limit) × IsLeastCost net terms (p.limit - 1) (c + slope))) (sym costs)
-              (subst (λ n. MatchOption q.slope (n ≡ shortest) (λ slope. (shortest < n) × IsLeastCost net terms (n - 1) (q.cost + slope))) (sym same) is_q.slopes)) in
+            (subst (λ c. MatchOption q.slope (p.limit ≡ shortest) (λ slope. (shortest < p.limit) × curve (p.limit - 1) (c + slope))) (sym costs)
+              (subst (λ n. MatchOption q.slope (n ≡ shortest) (λ slope. (shortest < n) × curve (n - 1) (q.cost + slope))) (sym same) is_q.slopes)) in
       ap (λ n. pointed n p.cost p.slope) same ∙ ap (λ n. pointed q.limit n p.slope) costs ∙ ap (λ s. pointed q.limit q.cost s) slopes
 
-  module _ (ps qs : List Breakpoint) (p : AreBreakpoints net terms shortest longest ps) (q : AreBreakpoints net terms shortest longest qs) where
+  module _ (ps qs : List Breakpoint) (p : AreBreakpoints curve shortest longest ps) (q : AreBreakpoints curve shortest longest qs) where
 
     -- a length that stands in the one list stands in the other
     found : (k : ℕ) → k < length ps → (j : ℕ) × (j < length qs) × ((point_at qs j).limit ≡ (point_at ps k).limit)
@@ -64,30 +61,30 @@ module _ (net : Network) (terms : List Term) (shortest longest : ℕ) where
         ⊎_elim (λ before. absurd (omega (arith, at, same j before, p.falling j k before l))) (λ after. omega arith) (cases_lt j k)
 
 -- the lists of breakpoints of a curve are one
-pub one_list : (net : Network) (terms : List Term) (shortest longest : ℕ) (ps qs : List Breakpoint)
-    → AreBreakpoints net terms shortest longest ps → AreBreakpoints net terms shortest longest qs → ps ≡ qs
-one_list net terms shortest longest ps qs p q =
+pub one_list : (curve : ℕ → ℕ → Type 0) → IsCurve curve → (shortest longest : ℕ) (ps qs : List Breakpoint)
+    → AreBreakpoints curve shortest longest ps → AreBreakpoints curve shortest longest qs → ps ≡ qs
+one_list curve is shortest longest ps qs p q =
     same_points ps qs (omega (arith, longer ps qs p q, longer qs ps q p))
-      (λ k l. one_point net terms shortest longest (point_at ps k) (point_at qs k) (p.each k l) (q.each k (omega (arith, longer ps qs p q)))
+      (λ k l. one_point curve is shortest longest (point_at ps k) (point_at qs k) (p.each k l) (q.each k (omega (arith, longer ps qs p q)))
         (agree ps qs p q (k + 1) (omega arith) (omega (arith, longer ps qs p q)) k (omega arith)))
   where
-    agree : (ps qs : List Breakpoint) → AreBreakpoints net terms shortest longest ps → AreBreakpoints net terms shortest longest qs
+    agree : (ps qs : List Breakpoint) → AreBreakpoints curve shortest longest ps → AreBreakpoints curve shortest longest qs
         → (n : ℕ) → n ≤ length ps → n ≤ length qs → (k : ℕ) → k < n → (point_at ps k).limit ≡ (point_at qs k).limit
     agree ps qs p q zero l m k below = absurd (omega arith)
     agree ps qs p q (suc n) l m k below =
         let before = agree ps qs p q n (omega arith) (omega arith) in
         ⊎_elim (λ earlier. before k earlier)
-          (λ here. let is : k ≡ n = omega arith in
-            subst (λ x. (point_at ps x).limit ≡ (point_at qs x).limit) (sym is)
-              (omega (arith, not_above net terms shortest longest ps qs p q n (omega arith) (omega arith) before,
-                not_above net terms shortest longest qs ps q p n (omega arith) (omega arith) (λ j b. sym (before j b)))))
+          (λ here. let at : k ≡ n = omega arith in
+            subst (λ x. (point_at ps x).limit ≡ (point_at qs x).limit) (sym at)
+              (omega (arith, not_above curve is shortest longest ps qs p q n (omega arith) (omega arith) before,
+                not_above curve is shortest longest qs ps q p n (omega arith) (omega arith) (λ j b. sym (before j b)))))
           (cases_lt k n)
 
-    reached : (ps qs : List Breakpoint) → AreBreakpoints net terms shortest longest ps → AreBreakpoints net terms shortest longest qs
+    reached : (ps qs : List Breakpoint) → AreBreakpoints curve shortest longest ps → AreBreakpoints curve shortest longest qs
         → (n : ℕ) → n ≤ length ps → n ≤ length qs
     reached ps qs p q zero l = omega arith
     reached ps qs p q (suc n) l =
-        reaches net terms shortest longest ps qs p q n (omega arith) (agree ps qs p q n (omega arith) (reached ps qs p q n (omega arith)))
+        reaches curve is shortest longest ps qs p q n (omega arith) (agree ps qs p q n (omega arith) (reached ps qs p q n (omega arith)))
 
-    longer : (ps qs : List Breakpoint) → AreBreakpoints net terms shortest longest ps → AreBreakpoints net terms shortest longest qs → length ps ≤ length qs
+    longer : (ps qs : List Breakpoint) → AreBreakpoints curve shortest longest ps → AreBreakpoints curve shortest longest qs → length ps ≤ length qs
     longer ps qs p q = reached ps qs p q (length ps) (omega arith)

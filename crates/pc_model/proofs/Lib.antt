@@ -20,6 +20,7 @@ pub mod Values
 pub mod Opening
 pub mod Breaks
 pub mod BreakLists
+pub mod CurveLaws
 pub mod WorkedCurve
 pub mod WorkedBreaks
 pub mod WorkedState

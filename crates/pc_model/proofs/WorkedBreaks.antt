@@ -2,11 +2,12 @@
 use Rattle.std.proofs.Common.{◌≡◌, ◌≢◌, ℕ, ◌+◌, ◌-◌, ◌*◌, ◌<◌, ◌≤◌, ◌⊎◌, inl, inr, ⊎_elim, zero, suc, List, [], ◌∷◌, slice_index, Some, None, refl, sym, subst, arith}
 use Rattle.std.proofs.lemmas.Bool.{cases_eq}
 use Rattle.std.proofs.lemmas.List.Elements.{All-from_recursion}
-use Rattle.pc_model.specs.Schedule.{normal_of}
+use Rattle.pc_model.specs.Schedule.{normal_of, IsLeastCost}
 use Rattle.pc_model.specs.Segment.{Segment, IsSegment}
 use Rattle.pc_model.specs.Cover.{IsCovering}
 use Rattle.pc_model.specs.Curve.{AreAround, IsTurn, IsBreak, Breakpoint, IsBreakpoint, AreBreakpoints, point_at}
 use Rattle.pc_model.proofs.Breaks.{straight}
+use Rattle.pc_model.proofs.CurveLaws.{is_curve, lies_on}
 use Rattle.pc_model.proofs.WorkedDeck.{deck_net, deck_terms}
 use Rattle.pc_model.proofs.WorkedCurve.{deck_priced, each3, first_segment, second_segment, first_is_whole, second_is_whole, least_at_9, least_at_8, least_at_7, least_at_6, least_at_5}
 
@@ -20,7 +21,7 @@ deck_covering = record {
     crash_walk = (0 ∷ 1 ∷ [], (omega arith, refl, (omega arith, refl, refl)), refl) }
 
 -- at 7 units the curve turns: a unit less costs 7, and a unit more saves 3
-deck_turns : IsTurn deck_net deck_terms 7
+deck_turns : IsTurn (IsLeastCost deck_net deck_terms) 7
 deck_turns = (58, 51, 48, record { below = least_at_6; at = least_at_7; above = least_at_8 }, λ line. omega arith)
 
 -- the breakpoints from the longest down
@@ -32,9 +33,9 @@ deck_points =
     ∷ []
 
 -- they are those of the curve
-pub deck_breakpoints : AreBreakpoints deck_net deck_terms 5 9 deck_points
+pub deck_breakpoints : AreBreakpoints (IsLeastCost deck_net deck_terms) 5 9 deck_points
 deck_breakpoints = record {
-    each = each3 (λ k. IsBreakpoint deck_net deck_terms 5 9 (point_at deck_points k))
+    each = each3 (λ k. IsBreakpoint (IsLeastCost deck_net deck_terms) 5 9 (point_at deck_points k))
       (record { breaks = inl refl; least = least_at_9; slopes = (omega arith, least_at_8) })
       (record { breaks = inr (inr (omega arith, omega arith, deck_turns)); least = least_at_7; slopes = (omega arith, least_at_6) })
       (record { breaks = inr (inl refl); least = least_at_5; slopes = refl });
@@ -43,10 +44,10 @@ deck_breakpoints = record {
         (λ (above, below, turn). ⊎_elim (λ seven. (1, omega arith, sym seven)) (λ other. absurd (no_turn limit above below other turn)) (cases_eq limit 7)));
     falling = λ j k before below. omega (arith, at_place j (omega arith), at_place k below) }
   where
-    no_turn : (limit : ℕ) → 5 < limit → limit < 9 → limit ≢ 7 → IsTurn deck_net deck_terms limit → ⊥
+    no_turn : (limit : ℕ) → 5 < limit → limit < 9 → limit ≢ 7 → IsTurn (IsLeastCost deck_net deck_terms) limit → ⊥
     no_turn limit above below other turn =
-        ⊎_elim (λ six. straight deck_net deck_terms deck_priced second_segment second_is_whole.segment limit (omega arith) (omega arith) turn)
-          (λ not_six. straight deck_net deck_terms deck_priced first_segment first_is_whole.segment limit (omega arith) (omega arith) turn)
+        ⊎_elim (λ six. straight (IsLeastCost deck_net deck_terms) (is_curve deck_net deck_terms deck_priced) second_segment (lies_on deck_net deck_terms deck_priced second_segment second_is_whole.segment) limit (omega arith) (omega arith) turn)
+          (λ not_six. straight (IsLeastCost deck_net deck_terms) (is_curve deck_net deck_terms deck_priced) first_segment (lies_on deck_net deck_terms deck_priced first_segment first_is_whole.segment) limit (omega arith) (omega arith) turn)
           (cases_eq limit 6)
 
     at_place : (k : ℕ) → k < 3 → (point_at deck_points k).limit + 2 * k ≡ 9

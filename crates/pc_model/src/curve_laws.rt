@@ -35,12 +35,12 @@ pub fn curve_turns_where_slopes_differ()
     ensures inside {
         (net : Network) (terms : List Term) (segment : Segment) (limit : ℕ) →
         IsPriced net terms → IsSegment net terms segment → segment.lower < limit → limit < segment.upper →
-        IsTurn net terms limit → ⊥
+        IsTurn (IsLeastCost net terms) limit → ⊥
     }
     ensures between {
         (net : Network) (terms : List Term) (earlier later : Segment) →
         IsPriced net terms → IsSegment net terms earlier → IsSegment net terms later → Meet earlier later →
-        IsTurn net terms later.upper ↔ (earlier.slope ≢ later.slope)
+        IsTurn (IsLeastCost net terms) later.upper ↔ (earlier.slope ≢ later.slope)
     }
 {
 }
@@ -65,8 +65,8 @@ pub fn slopes_never_fall()
 /// A curve has one list of breakpoints.
 pub fn breakpoints_are_unique()
     ensures unique {
-        (net : Network) (terms : List Term) (shortest longest : ℕ) (points others : List Breakpoint) →
-        AreBreakpoints net terms shortest longest points → AreBreakpoints net terms shortest longest others →
+        (net : Network) (terms : List Term) (shortest longest : ℕ) (points others : List Breakpoint) → IsPriced net terms →
+        AreBreakpoints (IsLeastCost net terms) shortest longest points → AreBreakpoints (IsLeastCost net terms) shortest longest others →
         points ≡ others
     }
 {
