@@ -65,7 +65,7 @@ pub fn slopes_never_fall()
 /// A curve has one list of breakpoints.
 pub fn breakpoints_are_unique()
     ensures unique {
-        (net : Network) (terms : List Term) (shortest longest : ℕ) (points others : List Breakpoint) → IsPriced net terms →
+        (net : Network) (terms : List Term) (shortest longest : ℕ) (points others : List Breakpoint) →
         AreBreakpoints (IsLeastCost net terms) shortest longest points → AreBreakpoints (IsLeastCost net terms) shortest longest others →
         points ≡ others
     }

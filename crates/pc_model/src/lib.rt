@@ -5,6 +5,8 @@
 pub mod curve_laws;
 pub mod duality_laws;
 pub mod state_laws;
+pub mod knee_state_laws;
+pub mod knee_curve_laws;
 pub mod knee_laws;
 pub mod segment_laws;
 
