@@ -1,8 +1,8 @@
 -- A curve has one list of breakpoints.
-use Rattle.std.proofs.Common.{◌≡◌, ◌≢◌, ◌≤◌, ◌<◌, ◌+◌, ◌-◌, ◌*◌, ◌⊎◌, inl, inr, ⊎_elim, ℕ, zero, suc, List, [], ◌∷◌, length, Option, Some, None, arith, refl, sym, ◌∙◌, subst, ap}
+use Rattle.std.proofs.Common.{◌≡◌, ◌≤◌, ◌<◌, ◌+◌, ◌-◌, ⊎_elim, ℕ, zero, suc, List, [], ◌∷◌, length, Option, Some, None, arith, refl, sym, ◌∙◌, subst, ap}
 use Rattle.std.proofs.lemmas.Bool.{cases_lt, cases_order}
 use Rattle.std.specs.Option.{MatchOption}
-use Rattle.pc_model.specs.Curve.{IsBreak, Breakpoint, IsBreakpoint, AreBreakpoints, point_at}
+use Rattle.pc_model.specs.Curve.{Breakpoint, IsBreakpoint, AreBreakpoints, point_at}
 
 -- lists of one length that agree at each place are equal
 same_points : (ps qs : List Breakpoint) → length ps ≡ length qs → ((k : ℕ) → k < length ps → point_at ps k ≡ point_at qs k) → ps ≡ qs
@@ -17,7 +17,6 @@ abbrev pointed : ℕ → ℕ → Option ℕ → Breakpoint
 pointed limit cost slope = record { limit = limit; cost = cost; slope = slope }
 
 module _ (curve : ℕ → ℕ → Type 0) (one : (limit a b : ℕ) → curve limit a → curve limit b → a ≡ b) (shortest longest : ℕ) where
-
   -- at one length a breakpoint has one cost and one slope
   one_slope : (limit cost : ℕ) (s t : Option ℕ)
       → MatchOption s (limit ≡ shortest) (λ slope. (shortest < limit) × curve (limit - 1) (cost + slope))
@@ -33,12 +32,11 @@ module _ (curve : ℕ → ℕ → Type 0) (one : (limit a b : ℕ) → curve lim
   one_point p q is_p is_q same =
       let costs : p.cost ≡ q.cost = one p.limit p.cost q.cost is_p.least (subst (λ n. curve n q.cost) (sym same) is_q.least) in
       let slopes : p.slope ≡ q.slope = one_slope p.limit p.cost p.slope q.slope is_p.slopes
-            (subst (λ c. MatchOption q.slope (p.limit ≡ shortest) (λ slope. (shortest < p.limit) × curve (p.limit - 1) (c + slope))) (sym costs)
-              (subst (λ n. MatchOption q.slope (n ≡ shortest) (λ slope. (shortest < n) × curve (n - 1) (q.cost + slope))) (sym same) is_q.slopes)) in
+      (subst (λ c. MatchOption q.slope (p.limit ≡ shortest) (λ slope. (shortest < p.limit) × curve (p.limit - 1) (c + slope))) (sym costs)
+      (subst (λ n. MatchOption q.slope (n ≡ shortest) (λ slope. (shortest < n) × curve (n - 1) (q.cost + slope))) (sym same) is_q.slopes)) in
       ap (λ n. pointed n p.cost p.slope) same ∙ ap (λ n. pointed q.limit n p.slope) costs ∙ ap (λ s. pointed q.limit q.cost s) slopes
 
   module _ (ps qs : List Breakpoint) (p : AreBreakpoints curve shortest longest ps) (q : AreBreakpoints curve shortest longest qs) where
-
     -- a length that stands in the one list stands in the other
     found : (k : ℕ) → k < length ps → (j : ℕ) × (j < length qs) × ((point_at qs j).limit ≡ (point_at ps k).limit)
     found k l = q.every (point_at ps k).limit (p.each k l).breaks
@@ -49,9 +47,9 @@ module _ (curve : ℕ → ℕ → Type 0) (one : (limit a b : ℕ) → curve lim
     not_above k l m same =
         let (j, in_list, at) = found k l in
         ⊎_elim (λ is. omega (arith, at, ap (λ n. (point_at qs n).limit) is))
-          (⊎_elim (λ before. absurd (omega (arith, at, same j before, p.falling j k before l)))
-            (λ after. omega (arith, at, q.falling k j after in_list)))
-          (cases_order j k)
+        (⊎_elim (λ before. absurd (omega (arith, at, same j before, p.falling j k before l)))
+        (λ after. omega (arith, at, q.falling k j after in_list)))
+        (cases_order j k)
 
     -- and the other list reaches as far
     reaches : (k : ℕ) → k < length ps → ((j : ℕ) → j < k → (point_at ps j).limit ≡ (point_at qs j).limit) → k < length qs
@@ -64,8 +62,8 @@ pub one_list : (curve : ℕ → ℕ → Type 0) → ((limit a b : ℕ) → curve
     → AreBreakpoints curve shortest longest ps → AreBreakpoints curve shortest longest qs → ps ≡ qs
 one_list curve one shortest longest ps qs p q =
     same_points ps qs (omega (arith, longer ps qs p q, longer qs ps q p))
-      (λ k l. one_point curve one shortest longest (point_at ps k) (point_at qs k) (p.each k l) (q.each k (omega (arith, longer ps qs p q)))
-        (agree ps qs p q (k + 1) (omega arith) (omega (arith, longer ps qs p q)) k (omega arith)))
+    (λ k l. one_point curve one shortest longest (point_at ps k) (point_at qs k) (p.each k l) (q.each k (omega (arith, longer ps qs p q)))
+    (agree ps qs p q (k + 1) (omega arith) (omega (arith, longer ps qs p q)) k (omega arith)))
   where
     agree : (ps qs : List Breakpoint) → AreBreakpoints curve shortest longest ps → AreBreakpoints curve shortest longest qs
         → (n : ℕ) → n ≤ length ps → n ≤ length qs → (k : ℕ) → k < n → (point_at ps k).limit ≡ (point_at qs k).limit
@@ -73,11 +71,14 @@ one_list curve one shortest longest ps qs p q =
     agree ps qs p q (suc n) l m k below =
         let before = agree ps qs p q n (omega arith) (omega arith) in
         ⊎_elim (λ earlier. before k earlier)
-          (λ here. let at : k ≡ n = omega arith in
-            subst (λ x. (point_at ps x).limit ≡ (point_at qs x).limit) (sym at)
-              (omega (arith, not_above curve one shortest longest ps qs p q n (omega arith) (omega arith) before,
-                not_above curve one shortest longest qs ps q p n (omega arith) (omega arith) (λ j b. sym (before j b)))))
-          (cases_lt k n)
+        (λ here. let at : k ≡ n = omega arith in
+        subst (λ x. (point_at ps x).limit ≡ (point_at qs x).limit) (sym at)
+        (omega (
+          arith,
+          not_above curve one shortest longest ps qs p q n (omega arith) (omega arith) before,
+          not_above curve one shortest longest qs ps q p n (omega arith) (omega arith) (λ j b. sym (before j b)),
+        )))
+        (cases_lt k n)
 
     reached : (ps qs : List Breakpoint) → AreBreakpoints curve shortest longest ps → AreBreakpoints curve shortest longest qs
         → (n : ℕ) → n ≤ length ps → n ≤ length qs

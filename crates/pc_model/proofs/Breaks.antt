@@ -21,7 +21,6 @@ one_less seg limit below =
     omega (arith, ap (λ x. seg.slope * x) split, mul-add seg.slope (seg.upper - (limit + 1)) 1)
 
 module _ (curve : ℕ → ℕ → Type 0) (is : IsCurve curve) where
-
   -- the least costs around a length are three numbers
   around : (limit a b c x y z : ℕ) → AreAround curve limit a b c → curve (limit - 1) x → curve limit y → curve (limit + 1) z
       → (a ≡ x) × (b ≡ y) × (c ≡ z)
@@ -32,7 +31,7 @@ module _ (curve : ℕ → ℕ → Type 0) (is : IsCurve curve) where
   pub straight : (seg : Segment) → LiesOn curve seg → (limit : ℕ) → seg.lower < limit → limit < seg.upper → IsTurn curve limit → ⊥
   straight seg on limit above below (a, b, c, known, bent) =
       let same = around limit a b c _ _ _ known (on.reads (limit - 1) (omega arith) (omega arith)) (on.reads limit (omega arith) (omega arith))
-            (on.reads (limit + 1) (omega arith) (omega arith)) in
+      (on.reads (limit + 1) (omega arith) (omega arith)) in
       let back : limit ≡ (limit - 1) + 1 = omega arith in
       bent (omega (arith, same.0, same.1, same.2, one_less seg limit below, one_less seg (limit - 1) (omega arith), ap (cost_at seg) back))
 
@@ -41,12 +40,12 @@ module _ (curve : ℕ → ℕ → Type 0) (is : IsCurve curve) where
       → curve seg.upper seg.cost × curve (seg.upper - 1) (seg.cost + seg.slope)
   upper_costs seg on long =
       let none : seg.upper - seg.upper ≡ 0 = omega arith in
-      let one : seg.upper - (seg.upper - 1) ≡ 1 = omega arith in
-      (subst (λ n. curve seg.upper n) (omega (arith, ap (λ x. seg.slope * x) none)) (on.reads seg.upper (omega arith) (omega arith)),
-       subst (λ n. curve (seg.upper - 1) n) (omega (arith, ap (λ x. seg.slope * x) one)) (on.reads (seg.upper - 1) (omega arith) (omega arith)))
+      let one : seg.upper - (seg.upper - 1) ≡ 1 = omega arith in (
+        subst (λ n. curve seg.upper n) (omega (arith, ap (λ x. seg.slope * x) none)) (on.reads seg.upper (omega arith) (omega arith)),
+        subst (λ n. curve (seg.upper - 1) n) (omega (arith, ap (λ x. seg.slope * x) one)) (on.reads (seg.upper - 1) (omega arith) (omega arith)),
+      )
 
   module _ (earlier later : Segment) (first : LiesOn curve earlier) (second : LiesOn curve later) (meet : Meet earlier later) where
-
     -- the costs where two segments meet, a unit below and a unit above
     meeting_costs : (a b c : ℕ) → AreAround curve later.upper a b c → (b ≡ c + earlier.slope) × (a ≡ b + later.slope)
     meeting_costs a b c known =
@@ -58,20 +57,26 @@ module _ (curve : ℕ → ℕ → Type 0) (is : IsCurve curve) where
         let below : curve (later.upper - 1) (cost_at later (later.upper - 1)) = second.reads (later.upper - 1) (omega arith) (omega arith) in
         let above : curve (later.upper + 1) (cost_at earlier (later.upper + 1)) = first.reads (later.upper + 1) (omega arith) (omega arith) in
         let same = around later.upper a b c _ _ _ known below here above in
-        let back : later.upper ≡ (later.upper - 1) + 1 = omega arith in
-        (omega (arith, same.1, same.2, is.unique later.upper _ _ here there, one_less earlier later.upper (omega arith)),
-         omega (arith, same.0, same.1, one_less later (later.upper - 1) (omega arith), ap (cost_at later) back))
+        let back : later.upper ≡ (later.upper - 1) + 1 = omega arith in (
+          omega (arith, same.1, same.2, is.unique later.upper _ _ here there, one_less earlier later.upper (omega arith)),
+          omega (arith, same.0, same.1, one_less later (later.upper - 1) (omega arith), ap (cost_at later) back),
+        )
 
     -- there are such costs
     meeting_around : (a b c : ℕ) × AreAround curve later.upper a b c
     meeting_around =
         let joined = meet.joined in
         let long_1 = meet.first_long in
-        let long_2 = meet.second_long in
-        (cost_at later (later.upper - 1), cost_at later later.upper, cost_at earlier (later.upper + 1), record {
-          below = second.reads (later.upper - 1) (omega arith) (omega arith);
-          at = second.reads later.upper (omega arith) (omega arith);
-          above = first.reads (later.upper + 1) (omega arith) (omega arith) })
+        let long_2 = meet.second_long in (
+          cost_at later (later.upper - 1),
+          cost_at later later.upper,
+          cost_at earlier (later.upper + 1),
+          record {
+            below = second.reads (later.upper - 1) (omega arith) (omega arith);
+            at = second.reads later.upper (omega arith) (omega arith);
+            above = first.reads (later.upper + 1) (omega arith) (omega arith);
+          },
+        )
 
     -- where two segments meet the curve turns if their slopes differ
     pub turns : earlier.slope ≢ later.slope → IsTurn curve later.upper
@@ -94,5 +99,9 @@ module _ (curve : ℕ → ℕ → Type 0) (is : IsCurve curve) where
         let long = meet.second_long in
         let back : later.upper ≡ (later.upper - 1) + 1 = omega arith in
         let next : later.upper + 1 ≡ (later.upper - 1) + 2 = omega arith in
-        omega (arith, costs.0, costs.1,
-          is.convex (later.upper - 1) a b c known.below (subst (λ n. curve n b) back known.at) (subst (λ n. curve n c) next known.above))
+        omega (
+          arith,
+          costs.0,
+          costs.1,
+          is.convex (later.upper - 1) a b c known.below (subst (λ n. curve n b) back known.at) (subst (λ n. curve n c) next known.above),
+        )

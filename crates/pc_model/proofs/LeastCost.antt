@@ -1,9 +1,9 @@
 -- A length has one least cost, and a longer one costs no more.
-use Rattle.std.proofs.Common.{◌≡◌, ◌≤◌, ◌+◌, ℕ, List, arith}
+use Rattle.std.proofs.Common.{◌≡◌, ◌≤◌, ℕ, List, arith}
 use Rattle.pc_model.specs.declared.Term.{Term}
 use Rattle.pc_model.specs.Network.{Network}
-use Rattle.pc_model.specs.Schedule.{IsLeastCost, IsSchedule, cost_of}
-use Rattle.pc_model.specs.Knees.{Knees, knee_cost_of, IsKneeLeastCost}
+use Rattle.pc_model.specs.Schedule.{IsLeastCost, IsSchedule}
+use Rattle.pc_model.specs.Knees.{Knees, IsKneeLeastCost}
 
 -- a schedule for a length is one for a longer length
 pub longer : (net : Network) (terms : List Term) (short long : ℕ) (d t : ℕ → ℕ) → short ≤ long

@@ -1,10 +1,9 @@
 -- Halfway between two schedules for the lengths limit and limit + 2 there are two for limit + 1, which together
 -- cost no more than the two: so the least cost is convex.
-use Rattle.std.proofs.Common.{◌≡◌, ◌≤◌, ◌<◌, ◌+◌, ◌*◌, ◌-◌, ◌/◌, ℕ, zero, suc, min, List, length, arith, subst, sym, ◌∙◌}
+use Rattle.std.proofs.Common.{◌≤◌, ◌<◌, ◌+◌, ◌*◌, ◌-◌, ◌/◌, ℕ, min, List, length, arith, subst, sym, ◌∙◌}
 use Rattle.std.proofs.Math.Nat.{mul-le-mul_left}
 use Rattle.pc_model.proofs.SumLaws.{sum_to-add, sum_to-le}
 use Rattle.pc_model.specs.declared.Term.{Term}
-use Rattle.pc_model.specs.Sums.{sum_to}
 use Rattle.pc_model.specs.Walk.{from_of, to_of}
 use Rattle.pc_model.specs.Network.{Network}
 use Rattle.pc_model.specs.Schedule.{AreTerms, IsLeastCost, IsSchedule, normal_of, crash_of}
@@ -39,19 +38,19 @@ upper_fits crash d d2 s t s2 t2 a b p q = omega arith
 -- what is missing to a knee at the two durations halfway is together at most what is missing at the two
 pub halfway : (normal knee d d2 s t s2 t2 : ℕ) → knee ≤ normal → s + d ≤ t → s2 + d2 ≤ t2
     → (knee - fitted normal (lower_half s s2) (lower_half t t2)) + (knee - fitted normal (upper_half s s2) (upper_half t t2))
-      ≤ (knee - d) + (knee - d2)
+    ≤ (knee - d) + (knee - d2)
 halfway normal knee d d2 s t s2 t2 k p q = omega arith
 
 -- a least cost with one slope is one with one knee
 one_knee_least : (net : Network) (terms : List Term) (limit cost : ℕ) → IsLeastCost net terms limit cost → IsKneeLeastCost net terms (one_knee terms) limit cost
 one_knee_least net terms limit cost least = record {
-    reached = (let (d, t, s, is) = least.reached in (d, t, s, one_knee_cost terms d ∙ is));
-    least = λ d t s. omega (arith, one_knee_cost terms d, least.least d t s) }
+  reached = (let (d, t, s, is) = least.reached in (d, t, s, one_knee_cost terms d ∙ is));
+  least = λ d t s. omega (arith, one_knee_cost terms d, least.least d t s);
+}
 
 -- two schedules, and the two halfway between them
 module _ (net : Network) (terms : List Term) (sized : AreTerms net terms) (limit : ℕ) (d t d2 t2 : ℕ → ℕ)
     (short : IsSchedule net terms limit d t) (long : IsSchedule net terms (limit + 2) d2 t2) where
-
   abbrev pub lower_times : ℕ → ℕ
   lower_times e = lower_half (t e) (t2 e)
 
@@ -79,7 +78,8 @@ module _ (net : Network) (terms : List Term) (sized : AreTerms net terms) (limit
     within = λ a l. omega arith;
     starts = (let x = short.starts in let y = long.starts in omega arith);
     fits = λ a l. (let h = lower_gap a l in omega arith);
-    ends = (let x = short.ends in let y = long.ends in omega arith) }
+    ends = (let x = short.ends in let y = long.ends in omega arith);
+  }
 
   pub upper_schedule : IsSchedule net terms (limit + 1) upper_durations upper_times
   upper_schedule = record {
@@ -87,11 +87,11 @@ module _ (net : Network) (terms : List Term) (sized : AreTerms net terms) (limit
     within = λ a l. omega arith;
     starts = (let x = short.starts in let y = long.starts in omega arith);
     fits = λ a l. (let h = upper_gap a l in omega arith);
-    ends = (let x = short.ends in let y = long.ends in omega arith) }
+    ends = (let x = short.ends in let y = long.ends in omega arith);
+  }
 
   -- at any knees, the two together cost no more than the two schedules
   module _ (knees : Knees) (are : AreKnees net terms knees) where
-
     missing : (ℕ → ℕ) → ℕ → ℕ → ℕ
     missing durations a k = knees.rise a k * (knees.knee a k - durations a)
 
@@ -99,26 +99,35 @@ module _ (net : Network) (terms : List Term) (sized : AreTerms net terms) (limit
         → missing lower_durations a k + missing upper_durations a k ≤ missing d a k + missing d2 a k
     unfolding missing
     one_knee_halfway a k l below =
-        omega (arith, mul-le-mul_left (knees.rise a k)
-          (halfway (normal_of terms a) (knees.knee a k) (d a) (d2 a) _ _ _ _ (are.below a k l below) (short.fits a l) (long.fits a l)))
+        omega (
+          arith,
+          mul-le-mul_left (knees.rise a k)
+              (halfway (normal_of terms a) (knees.knee a k) (d a) (d2 a) _ _ _ _ (are.below a k l below) (short.fits a l) (long.fits a l)),
+        )
 
     one_halfway : (a : ℕ) → a < length net.arcs
         → knee_cost terms knees a (lower_durations a) + knee_cost terms knees a (upper_durations a) ≤ knee_cost terms knees a (d a) + knee_cost terms knees a (d2 a)
     unfolding missing
     one_halfway a l =
         let n : ℕ = knees.count a in
-        omega (arith, sum_to-add n (missing lower_durations a) (missing upper_durations a), sum_to-add n (missing d a) (missing d2 a),
-          sum_to-le n (λ k. missing lower_durations a k + missing upper_durations a k) (λ k. missing d a k + missing d2 a k) (λ k below. one_knee_halfway a k l below))
+        omega (
+          arith,
+          sum_to-add n (missing lower_durations a) (missing upper_durations a),
+          sum_to-add n (missing d a) (missing d2 a),
+          sum_to-le n (λ k. missing lower_durations a k + missing upper_durations a k) (λ k. missing d a k + missing d2 a k) (λ k below. one_knee_halfway a k l below),
+        )
 
     pub halfway_cost : knee_cost_of terms knees lower_durations + knee_cost_of terms knees upper_durations ≤ knee_cost_of terms knees d + knee_cost_of terms knees d2
     halfway_cost =
         let n : ℕ = length terms in
-        omega (arith,
+        omega (
+          arith,
           sum_to-add n (λ a. knee_cost terms knees a (lower_durations a)) (λ a. knee_cost terms knees a (upper_durations a)),
           sum_to-add n (λ a. knee_cost terms knees a (d a)) (λ a. knee_cost terms knees a (d2 a)),
           sum_to-le n (λ a. knee_cost terms knees a (lower_durations a) + knee_cost terms knees a (upper_durations a))
-            (λ a. knee_cost terms knees a (d a) + knee_cost terms knees a (d2 a))
-            (λ a l. one_halfway a (subst (λ k. a < k) sized.one_each l)))
+              (λ a. knee_cost terms knees a (d a) + knee_cost terms knees a (d2 a))
+              (λ a l. one_halfway a (subst (λ k. a < k) sized.one_each l)),
+        )
 
 -- of three lengths in a row the middle one's least cost is at most the mean of the outer ones', at any knees
 pub knee_convex : (net : Network) (terms : List Term) (knees : Knees) (limit a b c : ℕ) → AreTerms net terms → AreKnees net terms knees
@@ -127,13 +136,18 @@ pub knee_convex : (net : Network) (terms : List Term) (knees : Knees) (limit a b
 knee_convex net terms knees limit a b c sized are short middle long =
     let (d, t, s, p) = short.reached in
     let (d2, t2, s2, p2) = long.reached in
-    omega (arith, p, p2, halfway_cost net terms sized limit d t d2 t2 s s2 knees are,
+    omega (
+      arith,
+      p,
+      p2,
+      halfway_cost net terms sized limit d t d2 t2 s s2 knees are,
       middle.least _ _ (lower_schedule net terms sized limit d t d2 t2 s s2),
-      middle.least _ _ (upper_schedule net terms sized limit d t d2 t2 s s2))
+      middle.least _ _ (upper_schedule net terms sized limit d t d2 t2 s s2),
+    )
 
 -- and with one slope
 pub convex : (net : Network) (terms : List Term) (limit a b c : ℕ) → AreTerms net terms → IsLeastCost net terms limit a
     → IsLeastCost net terms (limit + 1) b → IsLeastCost net terms (limit + 2) c → 2 * b ≤ a + c
 convex net terms limit a b c sized short middle long =
     knee_convex net terms (one_knee terms) limit a b c sized (one_knee_fits net terms)
-      (one_knee_least net terms limit a short) (one_knee_least net terms (limit + 1) b middle) (one_knee_least net terms (limit + 2) c long)
+    (one_knee_least net terms limit a short) (one_knee_least net terms (limit + 1) b middle) (one_knee_least net terms (limit + 2) c long)

@@ -1,10 +1,8 @@
 -- The curve of the small deck, worked through by hand: its two segments, and its least costs from 9 units down to 5.
-use Rattle.std.proofs.Common.{◌≡◌, ◌≢◌, ℕ, ◌+◌, ◌-◌, ◌*◌, ◌<◌, ◌≤◌, zero, suc, List, [], ◌∷◌, slice_index, Bool, true, false, inl, inr, refl, arith}
-use Rattle.pc_model.specs.declared.Term.{Term}
-use Rattle.pc_model.specs.Walk.{from_of, to_of}
-use Rattle.pc_model.specs.Schedule.{normal_of, crash_of, slope_of, IsLeastCost}
+use Rattle.std.proofs.Common.{◌≡◌, ◌≢◌, ℕ, ◌<◌, ◌≤◌, zero, suc, [], ◌∷◌, slice_index, Bool, true, false, inl, refl, arith}
+use Rattle.pc_model.specs.Schedule.{slope_of, IsLeastCost}
 use Rattle.pc_model.specs.Flow.{IsPriced, IsFlow, inflow, outflow, whole_flow}
-use Rattle.pc_model.specs.Segment.{Segment, IsSegment, IsWholeSegment, IsTightAt, HasDuration}
+use Rattle.pc_model.specs.Segment.{Segment, IsWholeSegment, IsTightAt, HasDuration}
 use Rattle.pc_model.proofs.WorkedDeck.{deck_net, deck_terms, deck_in_range, deck_sound, deck_are_terms}
 use Rattle.pc_model.proofs.SegmentLaws.{right_at}
 
@@ -41,7 +39,8 @@ first_segment = record {
   moves = moves_after_S;
   duration = slice_index (4 ∷ 5 ∷ 7 ∷ []);
   f1 = slice_index (3 ∷ 3 ∷ 0 ∷ []);
-  f2 = slice_index (0 ∷ 0 ∷ 0 ∷ []) }
+  f2 = slice_index (0 ∷ 0 ∷ 0 ∷ []);
+}
 
 -- from 7 units down to 5 B and C are shortened, at 7 a unit together
 abbrev pub second_segment : Segment
@@ -54,51 +53,58 @@ second_segment = record {
   moves = moves_after_M;
   duration = slice_index (2 ∷ 5 ∷ 7 ∷ []);
   f1 = slice_index (3 ∷ 5 ∷ 2 ∷ []);
-  f2 = slice_index (2 ∷ 0 ∷ 0 ∷ []) }
+  f2 = slice_index (2 ∷ 0 ∷ 0 ∷ []);
+}
 
 -- A and B carry 3
 first_flow : IsFlow deck_net deck_terms first_segment.f1 first_segment.f2 3
 first_flow = record {
-    capacity = each3 (λ a. first_segment.f1 a ≤ slope_of deck_terms a) (omega arith) (omega arith) (omega arith);
-    through = each3 (λ e. e ≢ 0 → e ≢ 2 → inflow deck_net (whole_flow first_segment.f1 first_segment.f2) e ≡ outflow deck_net (whole_flow first_segment.f1 first_segment.f2) e)
+  capacity = each3 (λ a. first_segment.f1 a ≤ slope_of deck_terms a) (omega arith) (omega arith) (omega arith);
+  through = each3 (λ e. e ≢ 0 → e ≢ 2 → inflow deck_net (whole_flow first_segment.f1 first_segment.f2) e ≡ outflow deck_net (whole_flow first_segment.f1 first_segment.f2) e)
       (λ not_start not_end. absurd (not_start refl)) (λ not_start not_end. refl) (λ not_start not_end. absurd (not_end refl));
-    leaves = refl }
+  leaves = refl;
+}
 
 -- A and B carry 5, and C carries 2
 second_flow : IsFlow deck_net deck_terms second_segment.f1 second_segment.f2 7
 second_flow = record {
-    capacity = each3 (λ a. second_segment.f1 a ≤ slope_of deck_terms a) (omega arith) (omega arith) (omega arith);
-    through = each3 (λ e. e ≢ 0 → e ≢ 2 → inflow deck_net (whole_flow second_segment.f1 second_segment.f2) e ≡ outflow deck_net (whole_flow second_segment.f1 second_segment.f2) e)
+  capacity = each3 (λ a. second_segment.f1 a ≤ slope_of deck_terms a) (omega arith) (omega arith) (omega arith);
+  through = each3 (λ e. e ≢ 0 → e ≢ 2 → inflow deck_net (whole_flow second_segment.f1 second_segment.f2) e ≡ outflow deck_net (whole_flow second_segment.f1 second_segment.f2) e)
       (λ not_start not_end. absurd (not_start refl)) (λ not_start not_end. refl) (λ not_start not_end. absurd (not_end refl));
-    leaves = refl }
+  leaves = refl;
+}
 
 -- the first segment is right, its slope is the slope of A, and at 7 units A is at its crash duration
 pub first_is_whole : IsWholeSegment deck_net deck_terms first_segment
 first_is_whole = record {
-    segment = record {
-      proper = record { ordered = omega arith; degenerate = λ same. absurd (omega arith) };
-      ends = record { start_time = refl; start_rests = refl; end_time = refl; end_moves = λ l. refl };
-      durations = each3 (HasDuration deck_net deck_terms first_segment) refl refl refl;
-      flow = first_flow;
-      at_upper = each3 (IsTightAt deck_net deck_terms first_segment 0) (omega arith) (omega arith) (omega arith);
-      at_lower = each3 (IsTightAt deck_net deck_terms first_segment 2) (omega arith) (omega arith) (omega arith);
-      costs = refl };
-    cut = λ l. refl;
-    stops = λ l. (0, omega arith, inl (record { forward = refl; at_crash = refl })) }
+  segment = record {
+    proper = record { ordered = omega arith; degenerate = λ same. absurd (omega arith) };
+    ends = record { start_time = refl; start_rests = refl; end_time = refl; end_moves = λ l. refl };
+    durations = each3 (HasDuration deck_net deck_terms first_segment) refl refl refl;
+    flow = first_flow;
+    at_upper = each3 (IsTightAt deck_net deck_terms first_segment 0) (omega arith) (omega arith) (omega arith);
+    at_lower = each3 (IsTightAt deck_net deck_terms first_segment 2) (omega arith) (omega arith) (omega arith);
+    costs = refl;
+  };
+  cut = λ l. refl;
+  stops = λ l. (0, omega arith, inl (record { forward = refl; at_crash = refl }));
+}
 
 -- the second is right, its slope is those of B and C, and at 5 units both are at their crash durations
 pub second_is_whole : IsWholeSegment deck_net deck_terms second_segment
 second_is_whole = record {
-    segment = record {
-      proper = record { ordered = omega arith; degenerate = λ same. absurd (omega arith) };
-      ends = record { start_time = refl; start_rests = refl; end_time = refl; end_moves = λ l. refl };
-      durations = each3 (HasDuration deck_net deck_terms second_segment) refl refl refl;
-      flow = second_flow;
-      at_upper = each3 (IsTightAt deck_net deck_terms second_segment 0) (omega arith) (omega arith) (omega arith);
-      at_lower = each3 (IsTightAt deck_net deck_terms second_segment 2) (omega arith) (omega arith) (omega arith);
-      costs = refl };
-    cut = λ l. refl;
-    stops = λ l. (1, omega arith, inl (record { forward = refl; at_crash = refl })) }
+  segment = record {
+    proper = record { ordered = omega arith; degenerate = λ same. absurd (omega arith) };
+    ends = record { start_time = refl; start_rests = refl; end_time = refl; end_moves = λ l. refl };
+    durations = each3 (HasDuration deck_net deck_terms second_segment) refl refl refl;
+    flow = second_flow;
+    at_upper = each3 (IsTightAt deck_net deck_terms second_segment 0) (omega arith) (omega arith) (omega arith);
+    at_lower = each3 (IsTightAt deck_net deck_terms second_segment 2) (omega arith) (omega arith) (omega arith);
+    costs = refl;
+  };
+  cut = λ l. refl;
+  stops = λ l. (1, omega arith, inl (record { forward = refl; at_crash = refl }));
+}
 
 -- the least costs from 9 units down to 5
 pub least_at_9 : IsLeastCost deck_net deck_terms 9 45

@@ -31,7 +31,7 @@ pub record IsBreakpoint (curve : ℕ → ℕ → Type 0) (shortest longest : ℕ
   pub breaks : IsBreak curve shortest longest point.limit
   pub least : curve point.limit point.cost
   pub slopes : MatchOption point.slope (point.limit ≡ shortest)
-    (λ slope. (shortest < point.limit) × curve (point.limit - 1) (point.cost + slope))
+      (λ slope. (shortest < point.limit) × curve (point.limit - 1) (point.cost + slope))
 
 -- the point at a place of a list; past its end one of zeros
 abbrev pub point_at : List Breakpoint → ℕ → Breakpoint
@@ -41,7 +41,7 @@ point_at points k = slice_index_or points k (record { limit = 0; cost = 0; slope
 pub record AreBreakpoints (curve : ℕ → ℕ → Type 0) (shortest longest : ℕ) (points : List Breakpoint) : Type 0 where
   pub each : (k : ℕ) → k < length points → IsBreakpoint curve shortest longest (point_at points k)
   pub every : (limit : ℕ) → IsBreak curve shortest longest limit →
-    (k : ℕ) × (k < length points) × ((point_at points k).limit ≡ limit)
+      (k : ℕ) × (k < length points) × ((point_at points k).limit ≡ limit)
   pub falling : (j k : ℕ) → j < k → k < length points → (point_at points k).limit < (point_at points j).limit
 
 -- the later segment begins where the earlier one ends, and neither is of one length alone

@@ -98,24 +98,26 @@ pub record IsKneeFall (net : Network) (terms : List Term) (knees : Knees) (time 
 -- the segment from the present length down to the one at which the fall ends; its flows stand in the state
 abbrev pub knee_segment_of : Network → List Term → Knees → KneeState → (ℕ → Bool) → ℕ → Segment
 knee_segment_of net terms knees st moves fall = record {
-    upper = st.limit;
-    lower = st.limit - fall;
-    cost = knee_cost_of terms knees (lesser_of net terms st.time);
-    slope = st.value;
-    time = st.time;
-    moves = moves;
-    duration = lesser_of net terms st.time;
-    f1 = λ a. 0;
-    f2 = st.g }
+  upper = st.limit;
+  lower = st.limit - fall;
+  cost = knee_cost_of terms knees (lesser_of net terms st.time);
+  slope = st.value;
+  time = st.time;
+  moves = moves;
+  duration = lesser_of net terms st.time;
+  f1 = λ a. 0;
+  f2 = st.g;
+}
 
 -- the state after the fall
 abbrev pub knee_fallen : KneeState → (ℕ → Bool) → ℕ → KneeState
 knee_fallen st moves fall = record {
-    limit = st.limit - fall;
-    time = λ e. st.time e - drop moves fall e;
-    f = st.f;
-    g = st.g;
-    value = st.value }
+  limit = st.limit - fall;
+  time = λ e. st.time e - drop moves fall e;
+  f = st.f;
+  g = st.g;
+  value = st.value;
+}
 
 -- what a unit of activity a costs below its last knee: the sum of its rises
 abbrev pub last_slope : Knees → ℕ → ℕ

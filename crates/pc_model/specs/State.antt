@@ -47,8 +47,8 @@ CanLower net terms st a = (IsAtNormal net terms st.time a × (0 < st.f1 a)) ⊎ 
 abbrev pub IsPart : Network → (ℕ → ℕ) → (ℕ → ℕ) → ℕ → ℕ → Type 0
 IsPart net old now x room =
     (e : ℕ) → e < net.events →
-      inflow net now e + outflow net old e + (if x == e then room else 0)
-        ≡ outflow net now e + inflow net old e + (if net.end == e then room else 0)
+    inflow net now e + outflow net old e + (if x == e then room else 0)
+    ≡ outflow net now e + inflow net old e + (if net.end == e then room else 0)
 
 -- a raising by `room`, walked back from the end to event x: the two flows are those of the state with `room` more
 -- from x to the end, f1 keeps below the slope, and f1 differs only at gaps of normal and f2 only at gaps of crash
@@ -115,24 +115,26 @@ pub record IsFall (net : Network) (terms : List Term) (time : ℕ → ℕ) (move
 -- the segment from the present length down to the one at which the fall ends
 abbrev pub segment_of : Network → List Term → State → (ℕ → Bool) → ℕ → Segment
 segment_of net terms st moves fall = record {
-    upper = st.limit;
-    lower = st.limit - fall;
-    cost = cost_of terms (lesser_of net terms st.time);
-    slope = st.value;
-    time = st.time;
-    moves = moves;
-    duration = lesser_of net terms st.time;
-    f1 = st.f1;
-    f2 = st.f2 }
+  upper = st.limit;
+  lower = st.limit - fall;
+  cost = cost_of terms (lesser_of net terms st.time);
+  slope = st.value;
+  time = st.time;
+  moves = moves;
+  duration = lesser_of net terms st.time;
+  f1 = st.f1;
+  f2 = st.f2;
+}
 
 -- the state after the fall
 abbrev pub fallen : State → (ℕ → Bool) → ℕ → State
 fallen st moves fall = record {
-    limit = st.limit - fall;
-    time = λ e. st.time e - drop moves fall e;
-    f1 = st.f1;
-    f2 = st.f2;
-    value = st.value }
+  limit = st.limit - fall;
+  time = λ e. st.time e - drop moves fall e;
+  f1 = st.f1;
+  f2 = st.f2;
+  value = st.value;
+}
 
 -- The first state
 

@@ -4,11 +4,11 @@
 
 pub mod curve_laws;
 pub mod duality_laws;
-pub mod state_laws;
-pub mod knee_state_laws;
 pub mod knee_curve_laws;
 pub mod knee_laws;
+pub mod knee_state_laws;
 pub mod segment_laws;
+pub mod state_laws;
 
 /// An activity's place in the network: the events where it begins and ends, numbered in card order from 0.
 #[derive(Clone, Copy, Debug, PartialEq, Eq, Hash)]

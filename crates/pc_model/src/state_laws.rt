@@ -16,123 +16,94 @@ ghost use Rattle.pc_model.specs.Flow.{IsPriced, IsFlow, whole_flow};
 ghost use Rattle.pc_model.specs.Slack.{lesser_of};
 ghost use Rattle.pc_model.specs.Segment.{IsWholeSegment};
 ghost use Rattle.pc_model.specs.State.{
-    State, IsOptimal, IsRaising, IsStep, raised, IsStuck, IsFall, segment_of, fallen, opening, rests
+  State,
+  IsOptimal,
+  IsRaising,
+  IsStep,
+  raised,
+  IsStuck,
+  IsFall,
+  segment_of,
+  fallen,
+  opening,
+  rests,
 };
 
 /// The first state: at the normal durations, with times that end with the length, nothing needs to flow. A segment of
 /// this one length is right, which is the whole curve where no schedule is shorter.
 pub fn opening_is_optimal()
-    ensures optimal {
-        (net : Network) (terms : List Term) (limit : ℕ) (times : ℕ → ℕ) →
+    ensures optimal { (net : Network) (terms : List Term) (limit : ℕ) (times : ℕ → ℕ) →
         IsPriced net terms → IsSchedule net terms limit (normal_of terms) times → times net.end ≡ limit →
-        IsOptimal net terms (opening limit times)
-    }
-    ensures level {
-        (net : Network) (terms : List Term) (limit : ℕ) (times : ℕ → ℕ) →
+        IsOptimal net terms (opening limit times) }
+    ensures level { (net : Network) (terms : List Term) (limit : ℕ) (times : ℕ → ℕ) →
         IsPriced net terms → IsSchedule net terms limit (normal_of terms) times → times net.end ≡ limit →
-        IsWholeSegment net terms (segment_of net terms (opening limit times) rests 0)
-    }
-{
-}
+        IsWholeSegment net terms (segment_of net terms (opening limit times) rests 0) }
+{}
 
 /// In each state the durations that its times allow are a cheapest schedule for the present length, which is not below
 /// the all-crash length.
 pub fn optimal_state_is_cheapest()
-    ensures least {
-        (net : Network) (terms : List Term) (st : State) → IsPriced net terms → IsOptimal net terms st →
-        IsLeastCost net terms st.limit (cost_of terms (lesser_of net terms st.time))
-    }
-    ensures within {
-        (net : Network) (terms : List Term) (st : State) (shortest : ℕ) → IsPriced net terms → IsOptimal net terms st →
-        IsAllCrashLength net terms shortest → shortest ≤ st.limit
-    }
-{
-}
+    ensures least { (net : Network) (terms : List Term) (st : State) → IsPriced net terms → IsOptimal net terms st →
+        IsLeastCost net terms st.limit (cost_of terms (lesser_of net terms st.time)) }
+    ensures within { (net : Network) (terms : List Term) (st : State) (shortest : ℕ) → IsPriced net terms → IsOptimal net terms st →
+        IsAllCrashLength net terms shortest → shortest ≤ st.limit }
+{}
 
 /// The flow of a state is bounded: while some schedule is shorter than the present length, its value is at most the sum
 /// of slopes; and no activity has more flow than the value.
 pub fn flow_is_bounded()
-    ensures by_slopes {
-        (net : Network) (terms : List Term) (st : State) (limit : ℕ) (durations times : ℕ → ℕ) →
+    ensures by_slopes { (net : Network) (terms : List Term) (st : State) (limit : ℕ) (durations times : ℕ → ℕ) →
         IsPriced net terms → IsOptimal net terms st → IsSchedule net terms limit durations times → limit < st.limit →
-        st.value ≤ sum_to (length net.arcs) (slope_of terms)
-    }
-    ensures by_value {
-        (net : Network) (terms : List Term) (order : List ℕ) (f1 f2 : ℕ → ℕ) (value : ℕ) →
+        st.value ≤ sum_to (length net.arcs) (slope_of terms) }
+    ensures by_value { (net : Network) (terms : List Term) (order : List ℕ) (f1 f2 : ℕ → ℕ) (value : ℕ) →
         IsPriced net terms → IsOrder net order → IsFlow net terms f1 f2 value →
-        (a : ℕ) → a < length net.arcs → whole_flow f1 f2 a ≤ value
-    }
-{
-}
+        (a : ℕ) → a < length net.arcs → whole_flow f1 f2 a ≤ value }
+{}
 
 /// A raising is walked back from the end: it begins there with the state's own flows, and a step back along an activity
 /// that ends at the event reached, or against one that begins there, carries it on.
 pub fn raising_walks_back()
-    ensures begins {
-        (net : Network) (terms : List Term) (st : State) (room : ℕ) →
-        IsOptimal net terms st → IsRaising net terms st st.f1 st.f2 net.end room
-    }
-    ensures along {
-        (net : Network) (terms : List Term) (st : State) (room : ℕ) (f1 f2 g1 g2 : ℕ → ℕ) (a : ℕ) → a < length net.arcs →
+    ensures begins { (net : Network) (terms : List Term) (st : State) (room : ℕ) →
+        IsOptimal net terms st → IsRaising net terms st st.f1 st.f2 net.end room }
+    ensures along { (net : Network) (terms : List Term) (st : State) (room : ℕ) (f1 f2 g1 g2 : ℕ → ℕ) (a : ℕ) → a < length net.arcs →
         IsRaising net terms st f1 f2 (to_of net.arcs a) room →
         IsStep net terms st f1 f2 g1 g2 a → whole_flow g1 g2 a ≡ whole_flow f1 f2 a + room →
-        IsRaising net terms st g1 g2 (from_of net.arcs a) room
-    }
-    ensures against {
-        (net : Network) (terms : List Term) (st : State) (room : ℕ) (f1 f2 g1 g2 : ℕ → ℕ) (a : ℕ) → a < length net.arcs →
+        IsRaising net terms st g1 g2 (from_of net.arcs a) room }
+    ensures against { (net : Network) (terms : List Term) (st : State) (room : ℕ) (f1 f2 g1 g2 : ℕ → ℕ) (a : ℕ) → a < length net.arcs →
         IsRaising net terms st f1 f2 (from_of net.arcs a) room →
         IsStep net terms st f1 f2 g1 g2 a → whole_flow g1 g2 a + room ≡ whole_flow f1 f2 a →
-        IsRaising net terms st g1 g2 (to_of net.arcs a) room
-    }
-{
-}
+        IsRaising net terms st g1 g2 (to_of net.arcs a) room }
+{}
 
 /// A raising that has come back to the start gives the next state, with a higher value.
 pub fn raising_keeps_optimal()
-    ensures optimal {
-        (net : Network) (terms : List Term) (st : State) (f1 f2 : ℕ → ℕ) (room : ℕ) → IsPriced net terms →
+    ensures optimal { (net : Network) (terms : List Term) (st : State) (f1 f2 : ℕ → ℕ) (room : ℕ) → IsPriced net terms →
         IsOptimal net terms st → IsRaising net terms st f1 f2 net.start room →
-        IsOptimal net terms (raised st f1 f2 room)
-    }
-{
-}
+        IsOptimal net terms (raised st f1 f2 room) }
+{}
 
 /// Where the labels do not reach the end there is a fall, and it is at least 1 and at most the present length.
 pub fn fall_exists()
-    ensures exists {
-        (net : Network) (terms : List Term) (st : State) (moves : ℕ → Bool) → IsPriced net terms →
-        IsOptimal net terms st → IsStuck net terms st moves → (fall : ℕ) × IsFall net terms st.time moves fall
-    }
-    ensures positive {
-        (net : Network) (terms : List Term) (st : State) (moves : ℕ → Bool) (fall : ℕ) → IsPriced net terms →
-        IsOptimal net terms st → IsStuck net terms st moves → IsFall net terms st.time moves fall → 0 < fall
-    }
-    ensures within {
-        (net : Network) (terms : List Term) (st : State) (moves : ℕ → Bool) (fall : ℕ) → IsPriced net terms →
-        IsOptimal net terms st → IsStuck net terms st moves → IsFall net terms st.time moves fall → fall ≤ st.limit
-    }
-{
-}
+    ensures exists { (net : Network) (terms : List Term) (st : State) (moves : ℕ → Bool) → IsPriced net terms →
+        IsOptimal net terms st → IsStuck net terms st moves → (fall : ℕ) × IsFall net terms st.time moves fall }
+    ensures positive { (net : Network) (terms : List Term) (st : State) (moves : ℕ → Bool) (fall : ℕ) → IsPriced net terms →
+        IsOptimal net terms st → IsStuck net terms st moves → IsFall net terms st.time moves fall → 0 < fall }
+    ensures within { (net : Network) (terms : List Term) (st : State) (moves : ℕ → Bool) (fall : ℕ) → IsPriced net terms →
+        IsOptimal net terms st → IsStuck net terms st moves → IsFall net terms st.time moves fall → fall ≤ st.limit }
+{}
 
 /// The lengths that the end falls through are a segment that meets every condition: its slope, which is the value of the
 /// flow, is the gain of the cut between the events with a label and those without. After the fall the same holds as
 /// before, at a cost that is higher by the value for each unit.
 pub fn fall_gives_a_segment()
-    ensures segment {
-        (net : Network) (terms : List Term) (st : State) (moves : ℕ → Bool) (fall : ℕ) → IsPriced net terms →
+    ensures segment { (net : Network) (terms : List Term) (st : State) (moves : ℕ → Bool) (fall : ℕ) → IsPriced net terms →
         IsOptimal net terms st → IsStuck net terms st moves → IsFall net terms st.time moves fall →
-        IsWholeSegment net terms (segment_of net terms st moves fall)
-    }
-    ensures optimal {
-        (net : Network) (terms : List Term) (st : State) (moves : ℕ → Bool) (fall : ℕ) → IsPriced net terms →
+        IsWholeSegment net terms (segment_of net terms st moves fall) }
+    ensures optimal { (net : Network) (terms : List Term) (st : State) (moves : ℕ → Bool) (fall : ℕ) → IsPriced net terms →
         IsOptimal net terms st → IsStuck net terms st moves → IsFall net terms st.time moves fall →
-        IsOptimal net terms (fallen st moves fall)
-    }
-    ensures cost {
-        (net : Network) (terms : List Term) (st : State) (moves : ℕ → Bool) (fall : ℕ) → IsPriced net terms →
+        IsOptimal net terms (fallen st moves fall) }
+    ensures cost { (net : Network) (terms : List Term) (st : State) (moves : ℕ → Bool) (fall : ℕ) → IsPriced net terms →
         IsOptimal net terms st → IsStuck net terms st moves → IsFall net terms st.time moves fall →
         cost_of terms (lesser_of net terms (fallen st moves fall).time)
-          ≡ cost_of terms (lesser_of net terms st.time) + st.value * fall
-    }
-{
-}
+        ≡ cost_of terms (lesser_of net terms st.time) + st.value * fall }
+{}

@@ -1,4 +1,3 @@
-use Rattle.std.proofs.Common.{arith}
 use Rattle.pc_model.proofs.LeastCost.{unique}
 use Rattle.pc_model.proofs.curve_laws.least_cost_is_unique.Goals as goal
 

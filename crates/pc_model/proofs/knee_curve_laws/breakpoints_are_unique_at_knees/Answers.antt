@@ -5,6 +5,6 @@ use Rattle.pc_model.proofs.knee_curve_laws.breakpoints_are_unique_at_knees.Goals
 
 pub returns : goal.returns
 returns c = record {
-    unique = λ net terms knees shortest longest points others p q.
+  unique = λ net terms knees shortest longest points others p q.
       one_list (IsKneeLeastCost net terms knees) (knee_unique net terms knees) shortest longest points others p q;
-  }
+}

@@ -4,7 +4,7 @@ use Rattle.pc_model.proofs.knee_curve_laws.least_cost_is_convex_at_knees.Goals a
 
 pub returns : goal.returns
 returns c = record {
-    unique = knee_unique;
-    falls = knee_falls;
-    convex = knee_convex;
-  }
+  unique = knee_unique;
+  falls = knee_falls;
+  convex = knee_convex;
+}

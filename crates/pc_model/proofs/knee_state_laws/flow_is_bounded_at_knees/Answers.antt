@@ -4,7 +4,7 @@ use Rattle.pc_model.proofs.knee_state_laws.flow_is_bounded_at_knees.Goals as goa
 
 pub returns : goal.returns
 returns c = record {
-    by_slopes = knee_value_at_most;
-    by_value = λ net terms knees order f g value priced ordered flow.
+  by_slopes = knee_value_at_most;
+  by_value = λ net terms knees order f g value priced ordered flow.
       flow_at_most net order (knee_flow knees f g) value priced.range priced.sound ordered flow.through flow.leaves;
-  }
+}

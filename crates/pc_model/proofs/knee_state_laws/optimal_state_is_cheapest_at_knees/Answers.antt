@@ -3,6 +3,6 @@ use Rattle.pc_model.proofs.knee_state_laws.optimal_state_is_cheapest_at_knees.Go
 
 pub returns : goal.returns
 returns c = record {
-    least = knee_optimal_is_least;
-    within = knee_within_range;
-  }
+  least = knee_optimal_is_least;
+  within = knee_within_range;
+}

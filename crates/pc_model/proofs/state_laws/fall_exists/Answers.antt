@@ -3,7 +3,7 @@ use Rattle.pc_model.proofs.state_laws.fall_exists.Goals as goal
 
 pub returns : goal.returns
 returns c = record {
-    exists = StateLaws.fall_exists;
-    positive = λ net terms st moves fall priced optimal stuck falls. StateLaws.fall_positive net terms st moves priced optimal stuck fall falls;
-    within = λ net terms st moves fall priced optimal stuck falls. StateLaws.fall_within net terms st moves priced optimal stuck fall falls;
-  }
+  exists = StateLaws.fall_exists;
+  positive = λ net terms st moves fall priced optimal stuck falls. StateLaws.fall_positive net terms st moves priced optimal stuck fall falls;
+  within = λ net terms st moves fall priced optimal stuck falls. StateLaws.fall_within net terms st moves priced optimal stuck fall falls;
+}

@@ -4,7 +4,7 @@ use Rattle.pc_model.proofs.state_laws.flow_is_bounded.Goals as goal
 
 pub returns : goal.returns
 returns c = record {
-    by_slopes = value_at_most;
-    by_value = λ net terms order f1 f2 value priced ordered flow.
+  by_slopes = value_at_most;
+  by_value = λ net terms order f1 f2 value priced ordered flow.
       flow_at_most net order (whole_flow f1 f2) value priced.range priced.sound ordered flow.through flow.leaves;
-  }
+}

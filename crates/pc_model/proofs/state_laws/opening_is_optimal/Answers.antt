@@ -3,6 +3,6 @@ use Rattle.pc_model.proofs.state_laws.opening_is_optimal.Goals as goal
 
 pub returns : goal.returns
 returns c = record {
-    optimal = optimal_opening;
-    level = level_segment;
-  }
+  optimal = optimal_opening;
+  level = level_segment;
+}

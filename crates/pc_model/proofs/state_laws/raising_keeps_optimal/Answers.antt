@@ -3,5 +3,5 @@ use Rattle.pc_model.proofs.state_laws.raising_keeps_optimal.Goals as goal
 
 pub returns : goal.returns
 returns c = record {
-    optimal = optimal_raised;
-  }
+  optimal = optimal_raised;
+}
