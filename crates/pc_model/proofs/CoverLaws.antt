@@ -1,20 +1,19 @@
 -- The ends of the range, and the segments that cover it.
-use Rattle.std.proofs.Common.{◌≡◌, ℕ, ◌+◌, ◌<◌, ◌≤◌, true, false, List, [], ◌∷◌, length, Option, Some, None, inl, inr, ap, sym, subst, arith}
+use Rattle.std.proofs.Common.{◌≡◌, ℕ, ◌<◌, ◌≤◌, true, false, List, [], ◌∷◌, length, Option, Some, None, inl, inr, sym, subst, arith}
 use Rattle.std.specs.Prelude.{find, nat_le, slice_index, slice_index_or, IsSomeAnd}
 use Rattle.std.proofs.lemmas.Bool.{cases_lt, le-leb, lt-leb, and_from, and_left, cond-true, cond-false}
 use Rattle.std.proofs.lemmas.List.{get_or-map}
 use Rattle.std.proofs.lemmas.List.Elements.{recursion_from_All}
 use Rattle.std.specs.List.{AllByRecursion as ByRecursion}
-use Rattle.pc_model.specs.declared.Arc.{Arc}
 use Rattle.pc_model.specs.declared.Term.{Term}
-use Rattle.pc_model.specs.Walk.{from_of, to_of, IsWalk, walk_sum}
+use Rattle.pc_model.specs.Walk.{IsWalk, walk_sum}
 use Rattle.pc_model.specs.Network.{Network}
 use Rattle.pc_model.specs.Schedule.{normal_of, crash_of, normals, crashes, AreTerms, IsSchedule, IsAllNormalLength, IsAllCrashLength}
 use Rattle.pc_model.specs.Flow.{IsPriced}
 use Rattle.pc_model.specs.Segment.{Segment, Holds, IsSegment, IsRight}
 use Rattle.pc_model.specs.Cover.{Joins, is_held, segment_for, BeginsNormal, IsCovering, IsReadRight}
 use Rattle.pc_model.proofs.WalkLaws.{times_bound_walk}
-use Rattle.pc_model.specs.Knees.{Knees, AreKnees, one_knee, IsKneeSegment, IsKneeRight}
+use Rattle.pc_model.specs.Knees.{Knees, AreKnees, one_knee, IsKneeRight}
 use Rattle.pc_model.specs.KneeCover.{HasKneeFlows, IsKneeCovering, IsReadRightAtKnees}
 use Rattle.pc_model.proofs.KneeSegments.{knee_tight_upper, knee_right_at}
 use Rattle.pc_model.proofs.OneKnee.{at_one_knee, one_knee_fits, one_knee_segment}

@@ -1,15 +1,14 @@
 -- Costs with two slopes worked through by hand, to see that the words of knees mean what they should: one activity
 -- from event 0 to event 1 that takes 5 units, or 1 at least; it costs 10, and 2 more for each of the first two units
 -- saved, and 5 for each further one.
-use Rattle.std.proofs.Common.{◌≡◌, ◌≢◌, ℕ, ◌+◌, ◌-◌, ◌*◌, ◌<◌, ◌≤◌, zero, suc, Bool, true, false, List, [], ◌∷◌, slice_index, slice_index_or, inl, inr, refl, arith}
-use Rattle.std.specs.Prelude.{All}
+use Rattle.std.proofs.Common.{◌≡◌, ◌≢◌, ℕ, ◌<◌, ◌≤◌, zero, suc, Bool, true, false, List, [], ◌∷◌, slice_index, slice_index_or, inl, inr, refl, arith}
 use Rattle.pc_model.specs.declared.Term.{Term}
 use Rattle.pc_model.specs.Walk.{from_of, to_of, IsWalk, IsCycle}
-use Rattle.pc_model.specs.Network.{Network, IsInRange, IsSound}
-use Rattle.pc_model.specs.Schedule.{normal_of, crash_of, AreTerms}
+use Rattle.pc_model.specs.Network.{Network}
+use Rattle.pc_model.specs.Schedule.{normal_of, crash_of}
 use Rattle.pc_model.specs.Flow.{IsPriced, inflow, outflow}
 use Rattle.pc_model.specs.Segment.{Segment, HasDuration}
-use Rattle.pc_model.specs.Knees.{Knees, AreKnees, knee_flow, IsSlackAtKnee, IsTightAtKneesAt, IsKneeSegment, IsKneeRight, IsKneeLeastCost, StopsAtAKnee}
+use Rattle.pc_model.specs.Knees.{Knees, AreKnees, knee_flow, IsSlackAtKnee, IsTightAtKneesAt, IsKneeSegment, IsKneeLeastCost, StopsAtAKnee}
 use Rattle.pc_model.specs.KneeCover.{HasKneeFlows, IsKneeCovering}
 use Rattle.pc_model.proofs.KneeSegments.{knee_right_at}
 
