@@ -15,8 +15,10 @@ pub mod OneKnee
 pub mod DualityLaws
 pub mod WalkLaws
 pub mod OrderLaws
+pub mod EarlyLaws
 pub mod WorkedDeck
 pub mod Values
+pub mod EarlyExists
 pub mod Opening
 pub mod Breaks
 pub mod BreakLists
