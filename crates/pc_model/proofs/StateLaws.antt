@@ -3,7 +3,7 @@ use Rattle.std.proofs.Common.{◌≡◌, ◌≤◌, ◌<◌, ◌+◌, ◌*◌, �
 use Rattle.pc_model.specs.declared.Term.{Term}
 use Rattle.pc_model.specs.Walk.{from_of, to_of}
 use Rattle.pc_model.specs.Network.{Network}
-use Rattle.pc_model.specs.Schedule.{cost_of}
+use Rattle.pc_model.specs.Schedule.{cost_of, IsAllCrashLength}
 use Rattle.pc_model.specs.Flow.{IsPriced, whole_flow}
 use Rattle.pc_model.specs.Slack.{lesser_of}
 use Rattle.pc_model.specs.Segment.{IsSegment, IsWholeSegment}
@@ -15,6 +15,7 @@ use Rattle.pc_model.proofs.OneKneeState.{knee_state, optimal_to, optimal_back, r
 use Rattle.pc_model.proofs.KneeRaising.{knee_raising_begins, knee_raising_forward, knee_raising_backward, knee_optimal_raised}
 use Rattle.pc_model.proofs.KneeFalling.{knee_fall_positive, knee_fall_within, knee_segment_of_fall, knee_stops_at_lower, knee_cost_fallen, knee_optimal_fallen}
 use Rattle.pc_model.proofs.KneeStops.{knee_fall_exists}
+use Rattle.pc_model.proofs.Opening.{within_range}
 
 module _ (net : Network) (terms : List Term) (st : State) where
   -- a raising is walked back from the end: it begins there with the state's own flows
@@ -100,3 +101,8 @@ module _ (net : Network) (terms : List Term) (st : State) where
           optimal_back net terms (fallen st moves fall)
           (knee_optimal_fallen net terms (one_knee terms) (knee_state st) moves fall (optimal_to net terms st optimal) (stuck_to net terms st moves stuck)
           (fall_to net terms st moves fall falls) priced)
+
+      -- so that it does not pass the all-crash length
+      pub fall_in_range : (shortest : ℕ) → IsAllCrashLength net terms shortest → shortest + fall ≤ st.limit
+      fall_in_range shortest longest =
+          omega (arith, fall_within, within_range net terms (fallen st moves fall) shortest priced optimal_fallen longest)

@@ -7,7 +7,7 @@ use Rattle.pc_model.specs.Sums.{sum_to}
 use Rattle.pc_model.specs.Greatest.{StandsBelow}
 use Rattle.pc_model.specs.Walk.{from_of, to_of, IsWalk}
 use Rattle.pc_model.specs.Network.{Network, IsInRange, IsSound, IsOrder, IsPartOrder}
-use Rattle.pc_model.specs.Schedule.{IsSchedule, slope_of, crash_of}
+use Rattle.pc_model.specs.Schedule.{IsSchedule, slope_of, crash_of, IsAllCrashLength}
 use Rattle.pc_model.specs.Flow.{IsPriced, IsConserved, outflow}
 use Rattle.pc_model.specs.Knees.{Knees, one_knee, knee_flow}
 use Rattle.pc_model.specs.State.{State, IsOptimal}
@@ -16,6 +16,7 @@ use Rattle.pc_model.proofs.OneKneeState.{knee_state, optimal_to}
 use Rattle.pc_model.proofs.SumLaws.{sum_to-add, sum_to-le, sum_to-same, sum_to-pick}
 use Rattle.pc_model.proofs.FlowLaws.{potential}
 use Rattle.pc_model.proofs.DualityLaws.{balanced}
+use Rattle.pc_model.proofs.EarlyExists.{all_crash_schedule}
 use Rattle.pc_model.proofs.OrderLaws.{stands_in_order, same_place}
 
 module _ (net : Network) (range : IsInRange net) (sound : IsSound net) (along : ℕ → ℕ) (value : ℕ)
@@ -97,6 +98,21 @@ value_at_most net terms st limit durations times priced optimal schedule shorter
       knee_value_at_most net terms (one_knee terms) (knee_state st) limit durations times priced (optimal_to net terms st optimal) schedule shorter,
       sum_to-same (length net.arcs) (last_slope (one_knee terms)) (slope_of terms) (λ a l. omega arith),
     )
+
+-- so while the present length is above the all-crash length
+pub knee_value_above_crash : (net : Network) (terms : List Term) (knees : Knees) (order : List ℕ) (st : KneeState) (shortest : ℕ) → IsPriced net terms
+    → IsOrder net order → IsKneeOptimal net terms knees st → IsAllCrashLength net terms shortest → shortest < st.limit
+    → st.value ≤ sum_to (length net.arcs) (last_slope knees)
+knee_value_above_crash net terms knees order st shortest priced ordered optimal longest above =
+    let (times, schedule) = all_crash_schedule net terms order shortest priced ordered longest in
+    knee_value_at_most net terms knees st shortest (crash_of terms) times priced optimal schedule above
+
+pub value_above_crash : (net : Network) (terms : List Term) (order : List ℕ) (st : State) (shortest : ℕ) → IsPriced net terms
+    → IsOrder net order → IsOptimal net terms st → IsAllCrashLength net terms shortest → shortest < st.limit
+    → st.value ≤ sum_to (length net.arcs) (slope_of terms)
+value_above_crash net terms order st shortest priced ordered optimal longest above =
+    let (times, schedule) = all_crash_schedule net terms order shortest priced ordered longest in
+    value_at_most net terms st shortest (crash_of terms) times priced optimal schedule above
 
 -- 1 where the event is none of the first n of a list
 beyond : List ℕ → ℕ → ℕ → ℕ

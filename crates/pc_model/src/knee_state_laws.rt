@@ -68,6 +68,10 @@ pub fn flow_is_bounded_at_knees()
         IsPriced net terms → IsKneeOptimal net terms knees st →
         IsSchedule net terms limit durations times → limit < st.limit →
         st.value ≤ sum_to (length net.arcs) (last_slope knees) }
+    ensures above_all_crash { (net : Network) (terms : List Term) (knees : Knees) (order : List ℕ) (st : KneeState) (shortest : ℕ) →
+        IsPriced net terms → IsOrder net order → IsKneeOptimal net terms knees st →
+        IsAllCrashLength net terms shortest → shortest < st.limit →
+        st.value ≤ sum_to (length net.arcs) (last_slope knees) }
     ensures by_value { (net : Network) (terms : List Term) (knees : Knees) (order : List ℕ) (f : ℕ → ℕ → ℕ) (g : ℕ → ℕ) (value : ℕ) →
         IsPriced net terms → IsOrder net order → IsKneeFlow net knees f g value →
         (a : ℕ) → a < length net.arcs → knee_flow knees f g a ≤ value }

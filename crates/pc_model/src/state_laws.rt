@@ -49,11 +49,15 @@ pub fn optimal_state_is_cheapest()
         IsAllCrashLength net terms shortest → shortest ≤ st.limit }
 {}
 
-/// The flow of a state is bounded: while some schedule is shorter than the present length, its value is at most the sum
-/// of slopes; and no activity has more flow than the value.
+/// The flow of a state is bounded: while some schedule is shorter than the present length, as long as this length is above
+/// the all-crash length, its value is at most the sum of slopes; and no activity has more flow than the value.
 pub fn flow_is_bounded()
     ensures by_slopes { (net : Network) (terms : List Term) (st : State) (limit : ℕ) (durations times : ℕ → ℕ) →
         IsPriced net terms → IsOptimal net terms st → IsSchedule net terms limit durations times → limit < st.limit →
+        st.value ≤ sum_to (length net.arcs) (slope_of terms) }
+    ensures above_all_crash { (net : Network) (terms : List Term) (order : List ℕ) (st : State) (shortest : ℕ) →
+        IsPriced net terms → IsOrder net order → IsOptimal net terms st →
+        IsAllCrashLength net terms shortest → shortest < st.limit →
         st.value ≤ sum_to (length net.arcs) (slope_of terms) }
     ensures by_value { (net : Network) (terms : List Term) (order : List ℕ) (f1 f2 : ℕ → ℕ) (value : ℕ) →
         IsPriced net terms → IsOrder net order → IsFlow net terms f1 f2 value →
@@ -82,7 +86,7 @@ pub fn raising_keeps_optimal()
         IsOptimal net terms (raised st f1 f2 room) }
 {}
 
-/// Where the labels do not reach the end there is a fall, and it is at least 1 and at most the present length.
+/// Where the labels do not reach the end there is a fall. It is at least 1, and does not pass the all-crash length.
 pub fn fall_exists()
     ensures exists { (net : Network) (terms : List Term) (st : State) (moves : ℕ → Bool) → IsPriced net terms →
         IsOptimal net terms st → IsStuck net terms st moves → (fall : ℕ) × IsFall net terms st.time moves fall }
@@ -90,6 +94,9 @@ pub fn fall_exists()
         IsOptimal net terms st → IsStuck net terms st moves → IsFall net terms st.time moves fall → 0 < fall }
     ensures within { (net : Network) (terms : List Term) (st : State) (moves : ℕ → Bool) (fall : ℕ) → IsPriced net terms →
         IsOptimal net terms st → IsStuck net terms st moves → IsFall net terms st.time moves fall → fall ≤ st.limit }
+    ensures in_range { (net : Network) (terms : List Term) (st : State) (moves : ℕ → Bool) (fall shortest : ℕ) → IsPriced net terms →
+        IsOptimal net terms st → IsStuck net terms st moves → IsFall net terms st.time moves fall →
+        IsAllCrashLength net terms shortest → shortest + fall ≤ st.limit }
 {}
 
 /// The lengths that the end falls through are a segment that meets every condition: its slope, which is the value of the
