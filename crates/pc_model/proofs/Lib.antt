@@ -9,6 +9,7 @@ pub mod KneeFalling
 pub mod KneeStops
 pub mod OneKneeState
 pub mod StateLaws
+pub mod Augmenting
 pub mod KneeDuality
 pub mod KneeSegments
 pub mod OneKnee

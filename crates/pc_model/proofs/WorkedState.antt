@@ -1,13 +1,20 @@
 -- The small deck's first steps, worked through by hand: from 9 units with no flow, a raising by 3 along A and B, and
 -- then a fall by 2, through which its first segment leads.
-use Rattle.std.proofs.Common.{◌≡◌, ℕ, ◌≤◌, ◌⊎◌, inl, inr, ⊎_elim, [], ◌∷◌, slice_index, true, refl, arith}
+use Rattle.std.proofs.Common.{false, ◌≡◌, ℕ, ◌≤◌, ◌⊎◌, inl, inr, ⊎_elim, [], ◌∷◌, slice_index, true, refl, arith}
 use Rattle.std.proofs.lemmas.Bool.{false≢true}
 use Rattle.pc_model.specs.Segment.{is_forward, is_backward}
-use Rattle.pc_model.specs.State.{State, IsOptimal, IsAtNormal, CanRaise, CanLower, IsRaising, raised, IsStuck, IsFall, StopsAfter, opening}
+use Rattle.pc_model.specs.State.{State, IsOptimal, IsAtNormal, CanRaise, CanLower, IsRaising, raised, IsStuck, IsFall, StopsAfter, opening, Step, LeadToEnd, TakesEachOnce}
 use Rattle.pc_model.proofs.WorkedDeck.{deck_net, deck_terms, deck_times, deck_schedule}
 use Rattle.pc_model.proofs.WorkedCurve.{deck_priced, each3, moves_after_S}
 use Rattle.pc_model.proofs.Opening.{optimal_opening}
 use Rattle.pc_model.proofs.StateLaws.{optimal_raised}
+
+-- the steps along A and along B
+abbrev pub along_A : Step
+along_A = record { activity = 0; against = false }
+
+abbrev pub along_B : Step
+along_B = record { activity = 1; against = false }
 
 -- at 9 units, with no flow
 abbrev pub deck_opening : State
@@ -15,6 +22,13 @@ deck_opening = opening 9 deck_times
 
 pub deck_opening_is_optimal : IsOptimal deck_net deck_terms deck_opening
 deck_opening_is_optimal = optimal_opening deck_net deck_terms 9 deck_times deck_priced deck_schedule refl
+
+-- along A and B there is room for 3 from S to T
+pub deck_steps_lead : LeadToEnd deck_net deck_terms deck_opening 3 deck_net.start (along_A ∷ along_B ∷ [])
+deck_steps_lead = (omega arith, refl, inl (refl, omega arith), (omega arith, refl, inl (refl, omega arith), refl))
+
+pub deck_steps_once : TakesEachOnce (along_A ∷ along_B ∷ [])
+deck_steps_once = ((λ same. omega arith, tt), (tt, tt))
 
 -- 3 more along A and B
 abbrev pub three_along_A_and_B : ℕ → ℕ

@@ -1,6 +1,6 @@
 -- The state between two labellings of the events, what stays true of it, and the two ways on from it: a raising of
 -- the flow, where the labels reach the end, and a fall of the length, where they do not.
-use Rattle.std.specs.Prelude.{◌≡◌, ◌≢◌, ◌==◌, if◌then◌else◌, ℕ, ◌+◌, ◌-◌, ◌<◌, ◌≤◌, ◌⊎◌, Bool, true, false, List, length}
+use Rattle.std.specs.Prelude.{◌≡◌, ◌≢◌, ◌==◌, if◌then◌else◌, ℕ, ◌+◌, ◌-◌, ◌<◌, ◌≤◌, ◌⊎◌, Bool, true, false, List, length, ⊤, [], ◌∷◌}
 use Rattle.pc_model.specs.declared.Term.{Term}
 use Rattle.pc_model.specs.Walk.{from_of, to_of}
 use Rattle.pc_model.specs.Network.{Network}
@@ -70,6 +70,46 @@ pub record IsStep (net : Network) (terms : List Term) (st : State) (f1 f2 g1 g2 
 -- the state with the raised flows
 abbrev pub raised : State → (ℕ → ℕ) → (ℕ → ℕ) → ℕ → State
 raised st f1 f2 room = record { limit = st.limit; time = st.time; f1 = f1; f2 = f2; value = st.value + room }
+
+-- a step of a labelling: an activity, and whether it is taken against its direction
+pub record Step : Type 0 where
+  pub activity : ℕ
+  pub against : Bool
+
+-- the event from which the step leads
+abbrev pub near_of : Network → ℕ → Bool → ℕ
+near_of net a false = from_of net.arcs a
+near_of net a true = to_of net.arcs a
+
+-- the event to which the step leads
+abbrev pub far_of : Network → ℕ → Bool → ℕ
+far_of net a false = to_of net.arcs a
+far_of net a true = from_of net.arcs a
+
+-- a step by activity a has room for as much: along it so much more can flow, against it so much less
+abbrev pub HasRoomFor : Network → List Term → State → ℕ → ℕ → Bool → Type 0
+HasRoomFor net terms st room a false =
+    (IsAtNormal net terms st.time a × (st.f1 a + room ≤ slope_of terms a)) ⊎ IsAtCrash net terms st.time a
+HasRoomFor net terms st room a true =
+    (IsAtNormal net terms st.time a × (room ≤ st.f1 a)) ⊎ (IsAtCrash net terms st.time a × (room ≤ st.f2 a))
+
+-- the steps lead from event x to the end, each with room for as much
+abbrev pub LeadToEnd : Network → List Term → State → ℕ → ℕ → List Step → Type 0
+LeadToEnd net terms st room x [] = x ≡ net.end
+LeadToEnd net terms st room x (step ∷ steps) =
+    (step.activity < length net.arcs) × (near_of net step.activity step.against ≡ x)
+    × HasRoomFor net terms st room step.activity step.against
+    × LeadToEnd net terms st room (far_of net step.activity step.against) steps
+
+-- none of the steps is by activity a
+abbrev pub TakesNone : ℕ → List Step → Type 0
+TakesNone a [] = ⊤
+TakesNone a (step ∷ steps) = (step.activity ≢ a) × TakesNone a steps
+
+-- no two of the steps are by one activity
+abbrev pub TakesEachOnce : List Step → Type 0
+TakesEachOnce [] = ⊤
+TakesEachOnce (step ∷ steps) = TakesNone step.activity steps × TakesEachOnce steps
 
 -- The way on where they do not
 

@@ -27,6 +27,9 @@ ghost use Rattle.pc_model.specs.State.{
   fallen,
   opening,
   rests,
+  Step,
+  LeadToEnd,
+  TakesEachOnce,
 };
 
 /// The first state: at the normal durations, with times that end with the length, nothing needs to flow. A segment of
@@ -84,6 +87,13 @@ pub fn raising_keeps_optimal()
     ensures optimal { (net : Network) (terms : List Term) (st : State) (f1 f2 : ℕ → ℕ) (room : ℕ) → IsPriced net terms →
         IsOptimal net terms st → IsRaising net terms st f1 f2 net.start room →
         IsOptimal net terms (raised st f1 f2 room) }
+{}
+
+/// Steps with room that lead from the start to the end, no two by one activity, give such a raising.
+pub fn steps_to_the_end_raise()
+    ensures higher { (net : Network) (terms : List Term) (st : State) (room : ℕ) (steps : List Step) → IsPriced net terms →
+        IsOptimal net terms st → LeadToEnd net terms st room net.start steps → TakesEachOnce steps →
+        (f1 f2 : ℕ → ℕ) × IsOptimal net terms (raised st f1 f2 room) }
 {}
 
 /// Where the labels do not reach the end there is a fall. It is at least 1, and does not pass the all-crash length.
