@@ -10,6 +10,7 @@ pub mod KneeStops
 pub mod OneKneeState
 pub mod StateLaws
 pub mod Augmenting
+pub mod StopLaws
 pub mod KneeDuality
 pub mod KneeSegments
 pub mod OneKnee

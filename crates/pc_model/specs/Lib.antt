@@ -11,4 +11,5 @@ pub mod Cover
 pub mod KneeCover
 pub mod State
 pub mod KneeState
+pub mod Stop
 pub mod Curve
