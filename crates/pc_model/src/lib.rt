@@ -2,6 +2,14 @@
 //! schedules and costs that every contract above cites. `specs/` has the definitions, `proofs/` their laws.
 #![tactic(auto)]
 
+pub mod curve_laws;
+pub mod duality_laws;
+pub mod knee_curve_laws;
+pub mod knee_laws;
+pub mod knee_state_laws;
+pub mod segment_laws;
+pub mod state_laws;
+
 /// An activity's place in the network: the events where it begins and ends, numbered in card order from 0.
 #[derive(Clone, Copy, Debug, PartialEq, Eq, Hash)]
 pub struct Arc {
