@@ -1,0 +1,4 @@
+pub mod WalkLaws
+pub mod OrderLaws
+pub mod WorkedDeck
+pub mod ListedLaws

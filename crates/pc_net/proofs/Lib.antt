@@ -1,0 +1,5 @@
+mod ChainLaws
+mod CountLaws
+mod ListingLaws
+mod QueueLaws
+mod SideLaws

@@ -1,0 +1,4 @@
+pub mod Sides
+pub mod Chains
+pub mod Listings
+pub mod Queue
