@@ -3,3 +3,4 @@ mod CountLaws
 mod ListingLaws
 mod QueueLaws
 mod SideLaws
+mod SoundLaws

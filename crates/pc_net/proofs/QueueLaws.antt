@@ -2,14 +2,13 @@
 use Rattle.std.proofs.Common.{◌≡◌, ◌≢◌, ℕ, ◌+◌, ◌-◌, ◌<◌, ◌≤◌, ◌==◌, List, [], ◌∷◌, ◌++◌, length, slice_index, set, cond, count_by, refl, sym, ◌∙◌, ap, subst, ◌⊎◌, inl, inr, ⊎_elim, arith}
 use Rattle.std.proofs.lemmas.Bool.{cases_eq}
 use Rattle.std.proofs.lemmas.List.{get_or-set_same, get_or-set_other, length-set, get_or_append_left, get_or_push, length_push}
-use Rattle.pc_model.specs.declared.Arc.{Arc}
 use Rattle.pc_model.specs.Greatest.{StandsBelow, IsListed}
 use Rattle.pc_model.specs.Walk.{from_of, to_of}
 use Rattle.pc_model.specs.Network.{Network, IsPartOrder}
 use Rattle.pc_model.proofs.ListedLaws.{StandsBelow-more, StandsBelow-push, StandsBelow-unpush, StandsBelow-last}
 use Rattle.pc_net.specs.declared.side.Side.TheVariants.{Ends}
 use Rattle.pc_net.specs.Sides.{events_of}
-use Rattle.pc_net.specs.Queue.{unended, AreEntering, IsWaiting, IsQueue, IsMissing, IsStuck}
+use Rattle.pc_net.specs.Queue.{AreEntering, IsWaiting, IsQueue, IsMissing, IsStuck}
 use Rattle.pc_net.proofs.SideLaws.{events_of_at, length-events_of}
 use Rattle.pc_net.proofs.CountLaws.{one_at_same, one_at_other, count-set, count_none, count_some}
 
@@ -26,16 +25,16 @@ IsWaiting-same net order missing waits C D waiting there back = record {
 }
 
 -- nothing is crossed yet, and the events that nothing enters stand in the queue
-pub IsQueue-start : (events : ℕ) (arcs : List Arc) (counts order : List ℕ) → AreEntering events arcs counts → IsListed (λ v. slice_index counts v ≡ 0) (length counts) order → IsQueue (unended events arcs) order counts 0
-IsQueue-start events arcs counts order entering listed = (omega arith, (events_of Ends arcs, record {
+pub IsQueue-start : (net : Network) (counts order : List ℕ) → AreEntering net counts → IsListed (λ v. slice_index counts v ≡ 0) (length counts) order → IsQueue net order counts 0
+IsQueue-start net counts order entering listed = (omega arith, (events_of Ends net.arcs, record {
   missing_len = entering.counts_len;
-  waits_len = length-events_of Ends arcs;
+  waits_len = length-events_of Ends net.arcs;
   counted = entering.count;
-  waits_for = λ a below. inr ((λ stands. absurd (omega (arith, stands.1))), events_of_at Ends arcs a below);
+  waits_for = λ a below. inr ((λ stands. absurd (omega (arith, stands.1))), events_of_at Ends net.arcs a below);
   part = record {
     range = λ k below. omega (arith, entering.counts_len, (listed.each k below).0);
     once = λ j k before below same. omega (arith, listed.rising j k before below);
-    before = λ k a below a_in ends. absurd (count_none (slice_index order k) (events_of Ends arcs) (sym (entering.count (slice_index order k) (omega (arith, entering.counts_len, (listed.each k below).0))) ∙ (listed.each k below).1) a (omega (arith, length-events_of Ends arcs)) (events_of_at Ends arcs a a_in ∙ ends));
+    before = λ k a below a_in ends. absurd (count_none (slice_index order k) (events_of Ends net.arcs) (sym (entering.count (slice_index order k) (omega (arith, entering.counts_len, (listed.each k below).0))) ∙ (listed.each k below).1) a (omega (arith, length-events_of Ends net.arcs)) (events_of_at Ends net.arcs a a_in ∙ ends));
   };
   free = λ k below. (listed.each k below).1;
   placed = λ v known none. listed.every v (omega (arith, entering.counts_len)) none;

@@ -1,4 +1,6 @@
 pub mod Sides
 pub mod Chains
 pub mod Listings
+pub mod Networks
+pub mod Graphs
 pub mod Queue

@@ -1,20 +1,15 @@
 -- The queue of events whose entering activities are all crossed, as it grows into an order of the events.
 use Rattle.std.specs.Prelude.{◌≡◌, ◌≢◌, ℕ, ◌+◌, ◌<◌, ◌≤◌, ◌==◌, ◌⊎◌, List, length, slice_index, count_by}
-use Rattle.pc_model.specs.declared.Arc.{Arc}
 use Rattle.pc_model.specs.Greatest.{StandsBelow}
 use Rattle.pc_model.specs.Walk.{from_of, to_of}
 use Rattle.pc_model.specs.Network.{Network, IsPartOrder}
 use Rattle.pc_net.specs.declared.side.Side.TheVariants.{Ends}
 use Rattle.pc_net.specs.Sides.{events_of}
 
--- events and activities, where the start and the end do not matter
-abbrev pub unended : ℕ → List Arc → Network
-unended events arcs = record { events = events; start = 0; end = 0; arcs = arcs }
-
 -- the number of activities that enter each event
-pub record AreEntering (events : ℕ) (arcs : List Arc) (counts : List ℕ) : Type 0 where
-  pub counts_len : length counts ≡ events
-  pub count : (v : ℕ) → v < events → slice_index counts v ≡ count_by (λ w. w == v) (events_of Ends arcs)
+pub record AreEntering (net : Network) (counts : List ℕ) : Type 0 where
+  pub counts_len : length counts ≡ net.events
+  pub count : (v : ℕ) → v < net.events → slice_index counts v ≡ count_by (λ w. w == v) (events_of Ends net.arcs)
 
 -- `waits` has for each activity that is not crossed the event where it ends, and for a crossed one the number of
 -- events; `missing` has for each event how many of the activities that enter it are not crossed; `order` has the

@@ -3,8 +3,13 @@
 #![tactic(auto)]
 
 mod chains;
+mod graph;
+mod limits;
 mod listing;
 mod ordering;
+mod refusal;
 mod side;
 
+pub use limits::{MAX_ACTIVITIES, MAX_EVENTS};
 pub use pc_model::Arc;
+pub use refusal::NetError;

@@ -3,6 +3,6 @@ use Rattle.pc_net.specs.declared.side.Side.TheVariants.{Ends}
 use Rattle.pc_net.specs.Sides.{events_of}
 use Rattle.pc_net.proofs.ordering.entering.Given as goal
 
-abbrev pub invariant-loop-arc : goal.invariant-loop-arc
-invariant-loop-arc l =
-    (length l.counts.items ≡ l.events) × ((v : ℕ) → v < l.events → slice_index l.counts.items v ≡ count_by (λ w. w == v) (take l.arc-index (events_of Ends l.arcs)))
+abbrev pub invariant-loop-a : goal.invariant-loop-a
+invariant-loop-a l =
+    (length l.counts.items ≡ l.graph.events) × ((v : ℕ) → v < l.graph.events → slice_index l.counts.items v ≡ count_by (λ w. w == v) (take l.a (events_of Ends l.graph.arcs)))
