@@ -4,3 +4,6 @@ pub mod Listings
 pub mod Networks
 pub mod Graphs
 pub mod Queue
+pub mod Firmness
+pub mod Refusals
+pub mod Nets

@@ -1,4 +1,4 @@
-use std::alloc::{AllocError, AllocFailed};
+use std::alloc::AllocError;
 
 /// Why there is no network.
 #[derive(Clone, Copy, Debug, PartialEq, Eq, Drop)]
@@ -11,6 +11,7 @@ pub enum NetError {
 
 impl From<AllocError> for NetError {
     ghost use Rattle.std.specs.Prelude.{◌≡◌};
+    ghost use Rattle.pc_net.specs.declared.refusal.NetError.TheVariants.{OutOfMemory};
 
     ghost from_gives = { λ _ e. e ≡ OutOfMemory };
 
