@@ -1,3 +1,5 @@
 pub mod WalkLaws
 pub mod OrderLaws
+pub mod EarlyLaws
+pub mod AllNormal
 pub mod WorkedDeck
