@@ -1,5 +1,5 @@
 -- The basic laws of walks: how they are joined and split, the sums over them, and what bounds both.
-use Rattle.std.proofs.Common.{◌≡◌, ℕ, ◌+◌, ◌*◌, ◌<◌, ◌≤◌, zero, suc, List, [], ◌∷◌, ◌++◌, length, slice_index, take, drop, refl, sym, ◌∙◌, ap, subst, arith}
+use Rattle.std.proofs.Common.{◌≡◌, ℕ, ◌+◌, ◌*◌, ◌<◌, ◌≤◌, zero, suc, List, [], ◌∷◌, ◌++◌, length, slice_index, take, drop, refl, sym, ◌∙◌, ap, subst, ◌⊎◌, inl, inr, ⊎_elim, arith}
 use Rattle.pc_model.specs.declared.Arc.{Arc}
 use Rattle.pc_model.specs.Greatest.{IsGreatest}
 use Rattle.pc_model.specs.Walk.{from_of, to_of, IsWalk, walk_sum}
@@ -42,6 +42,14 @@ split_walk_at arcs e f (suc k) [] whole = (e, refl, whole)
 split_walk_at arcs e f (suc k) (a ∷ walk) whole =
     let (m, front, back) = split_walk_at arcs (to_of arcs a) f k walk whole.2 in
     (m, (whole.0, whole.1, front), back)
+
+-- a walk is empty and stays where it began, or it has a last activity
+pub last_of_walk : (arcs : List Arc) (e f : ℕ) (walk : List ℕ) → IsWalk arcs e walk f → ((walk ≡ []) × (e ≡ f)) ⊎ ((front : List ℕ) × (a : ℕ) × (walk ≡ front ++ a ∷ []) × (a < length arcs) × IsWalk arcs e front (from_of arcs a) × (to_of arcs a ≡ f))
+last_of_walk arcs e f [] walked = inl (refl, walked)
+last_of_walk arcs e f (a ∷ walk) walked =
+    ⊎_elim (λ (empty, ends). inr ([], a, ap (λ (w : List ℕ). a ∷ w) empty, walked.0, sym walked.1, ends))
+    (λ (front, b, is, below, before, ends). inr (a ∷ front, b, ap (λ (w : List ℕ). a ∷ w) is, below, (walked.0, walked.1, before), ends))
+    (last_of_walk arcs (to_of arcs a) f walk walked.2)
 
 -- a walk ends at one event only
 pub walk_end_unique : (arcs : List Arc) (e f g : ℕ) (walk : List ℕ) → IsWalk arcs e walk f → IsWalk arcs e walk g → f ≡ g
