@@ -1,0 +1,6 @@
+mod ChainLaws
+mod CountLaws
+mod ListingLaws
+mod QueueLaws
+mod SideLaws
+mod SoundLaws

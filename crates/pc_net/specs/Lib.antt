@@ -1,0 +1,9 @@
+pub mod Sides
+pub mod Chains
+pub mod Listings
+pub mod Networks
+pub mod Graphs
+pub mod Queue
+pub mod Firmness
+pub mod Refusals
+pub mod Nets

@@ -1,0 +1,21 @@
+//! The network of a project: its activities between events, found sound or refused, with an order of the events
+//! and the activities at each event.
+#![tactic(auto)]
+
+mod chains;
+mod faults;
+mod graph;
+mod limits;
+mod listing;
+mod network;
+mod ordering;
+mod refusal;
+mod side;
+
+pub use limits::{MAX_ACTIVITIES, MAX_EVENTS};
+pub use network::Net;
+pub use pc_model::Arc;
+pub use refusal::NetError;
+
+#[cfg(test)]
+mod tests;

@@ -1,0 +1,52 @@
+ghost use Rattle.std.specs.Prelude.{◌≡◌, ◌<◌, ◌^◌, IfOk, length};
+ghost use Rattle.pc_net.specs.Sides.{events_of, AreBelow};
+ghost use Rattle.pc_net.specs.Listings.{IsListing, HasPart, part_of};
+
+use crate::chains::chained;
+use crate::side::Side;
+use pc_model::Arc;
+use std::alloc::{AllocError, Global};
+
+/// For each event the activities at it, in card order: those of event e stand in `items` from `starts[e]` up to
+/// `starts[e + 1]`.
+#[derive(Drop)]
+pub(crate) struct Listing {
+    pub(crate) items: Vec<u32>,
+    pub(crate) starts: Vec<usize>,
+}
+
+impl Listing {
+    /// The activities by the event at one of their ends. Linear in events and activities.
+    pub(crate) fn of(
+        alloc: Global,
+        events: u32,
+        arcs: &[Arc],
+        side: Side,
+    ) -> Result<Listing, AllocError>
+        requires few { length arcs.now < 2 ^ 32 }
+        requires in_range { AreBelow (events_of side arcs.now) events }
+        ensures { IfOk result (IsListing (events_of side arcs.now) events) }
+    {
+        let chains = chained(alloc, events, arcs, side)?;
+        let mut items = Vec::with_capacity(alloc, arcs.len())?;
+        let mut starts = Vec::with_capacity(alloc, chains.heads.len() + 1)?;
+        starts.push(0)?;
+        'events: for head in &chains.heads {
+            let mut at = *head as usize;
+            'chain: while at < arcs.len() {
+                items.push(at as u32)?;
+                at = chains.nexts[at] as usize;
+            }
+            starts.push(items.len())?;
+        }
+        Ok(Listing { items, starts })
+    }
+
+    /// The activities at the event, in card order.
+    pub(crate) fn at(&self, event: u32) -> &[u32]
+        requires { HasPart self.now event }
+        ensures { result.now ≡ part_of self.now event }
+    {
+        &self.items[self.starts[event as usize]..self.starts[event as usize + 1]]
+    }
+}

@@ -1,0 +1,140 @@
+ghost use Rattle.std.specs.Prelude.{◌≡◌, ◌<◌, ◌≤◌, IfOk, IfErr, OnOk, length};
+ghost use Rattle.pc_model.specs.Greatest.{IsListed, places};
+ghost use Rattle.pc_model.specs.Walk.{from_of, to_of};
+ghost use Rattle.pc_model.specs.Network.{IsInRange, IsSound, IsOrder};
+ghost use Rattle.pc_net.specs.Networks.{network, events_from, events_to};
+ghost use Rattle.pc_net.specs.Refusals.{IsRefusal};
+
+use crate::faults::check;
+use crate::graph::Graph;
+use crate::limits::{MAX_ACTIVITIES, MAX_EVENTS};
+use crate::ordering::ordered;
+use crate::refusal::NetError;
+use pc_model::Arc;
+use std::alloc::Global;
+use std::marker::Model;
+
+/// A sound network, with an order of its events and the activities at each of them.
+#[derive(Drop)]
+pub struct Net {
+    graph: Graph,
+    order: Vec<u32>,
+}
+
+impl Model for Net {
+    ghost use Rattle.pc_model.specs.Network.{Network};
+
+    ghost Value = { Network };
+
+    ghost use Rattle.pc_net.specs.Nets.{graph_of, IsOrdered};
+
+    ghost view = { graph_of };
+
+    ghost invariant = { IsOrdered };
+}
+
+impl Net {
+    /// The network of these activities between the events 0, 1, .. below `events`.
+    ///
+    /// Linear in events and activities.
+    pub fn build(
+        alloc: Global,
+        events: u32,
+        start: u32,
+        end: u32,
+        arcs: &[Arc],
+    ) -> Result<Net, NetError>
+        requires few_events { events ≤ MAX_EVENTS }
+        requires few_activities { length arcs.now ≤ MAX_ACTIVITIES }
+        requires in_range { IsInRange (network events start end arcs.now) }
+        ensures network { IfOk result (λ net. net ≡ network events start end arcs.now) }
+        ensures sound { OnOk result (IsSound (network events start end arcs.now)) }
+        ensures refused { IfErr result (IsRefusal (network events start end arcs.now)) }
+    {
+        let graph = Graph::new(alloc, events, start, end, arcs)?;
+        check(&graph)?;
+        let order = ordered(alloc, &graph)?;
+        if order.len() < events as usize {
+            return Err(NetError::Unsound);
+        }
+        Ok(Net { graph, order })
+    }
+
+    /// How many events there are.
+    pub fn events(&self) -> u32
+        ensures events { result ≡ self.now.events }
+        ensures limit { result ≤ MAX_EVENTS }
+    {
+        self.graph.events()
+    }
+
+    /// How many activities there are.
+    pub fn activities(&self) -> u32
+        ensures activities { result ≡ length self.now.arcs }
+        ensures limit { result ≤ MAX_ACTIVITIES }
+    {
+        self.graph.activities()
+    }
+
+    /// The event where the project starts.
+    pub fn start(&self) -> u32
+        ensures start { result ≡ self.now.start }
+        ensures known { result < self.now.events }
+    {
+        self.graph.start()
+    }
+
+    /// The event where the project ends.
+    pub fn end(&self) -> u32
+        ensures end { result ≡ self.now.end }
+        ensures known { result < self.now.events }
+    {
+        self.graph.end()
+    }
+
+    /// The event where the activity begins.
+    pub fn from(&self, a: u32) -> u32
+        requires { a < length self.now.arcs }
+        ensures event { result ≡ from_of self.now.arcs a }
+        ensures known { result < self.now.events }
+    {
+        self.graph.from(a)
+    }
+
+    /// The event where the activity ends.
+    pub fn to(&self, a: u32) -> u32
+        requires { a < length self.now.arcs }
+        ensures event { result ≡ to_of self.now.arcs a }
+        ensures known { result < self.now.events }
+    {
+        self.graph.to(a)
+    }
+
+    /// All events, each activity's beginning before its end.
+    pub fn order(&self) -> &[u32]
+        ensures order { IsOrder self.now result.now }
+        ensures sound { IsSound self.now }
+        ensures in_range { IsInRange self.now }
+    {
+        let _ = self.graph.events();
+        &self.order
+    }
+
+    /// The activities that begin at the event, in card order.
+    pub fn out_arcs(&self, e: u32) -> &[u32]
+        requires { e < self.now.events }
+        ensures listed { IsListed (λ a. from_of self.now.arcs a ≡ e) (length self.now.arcs) result.now }
+        ensures places { result.now ≡ places e 0 (events_from self.now.arcs) }
+    {
+        self.graph.out_arcs(e)
+    }
+
+    /// The activities that end at the event, in card order.
+    pub fn in_arcs(&self, e: u32) -> &[u32]
+        requires { e < self.now.events }
+        ensures listed { IsListed (λ a. to_of self.now.arcs a ≡ e) (length self.now.arcs) result.now }
+        ensures places { result.now ≡ places e 0 (events_to self.now.arcs) }
+    {
+        self.graph.in_arcs(e)
+    }
+}
