@@ -1,16 +1,16 @@
 -- The picked walk: the test by sums finds the critical activities, and from an event on a longest walk it finds
 -- one until the end is reached.
-use Rattle.std.proofs.Common.{◌≡◌, ◌≢◌, ℕ, ◌+◌, ◌<◌, ◌≤◌, List, [], ◌∷◌, ◌++◌, length, slice_index, get_or, take, drop, refl, sym, ◌∙◌, ap, subst, ◌⊎◌, inl, inr, ⊎_elim, arith, append_assoc, append-nil, length-append}
+use Rattle.std.proofs.Common.{◌≡◌, ℕ, ◌+◌, ◌<◌, ◌≤◌, List, [], ◌∷◌, ◌++◌, length, slice_index, take, drop, refl, sym, ◌∙◌, ap, subst, ⊎_elim, arith, append_assoc, append-nil, length-append}
 use Rattle.std.specs.List.{Contains}
-use Rattle.std.proofs.lemmas.List.{take-append-drop, drop_more, get_or_at, get_or_default}
+use Rattle.std.proofs.lemmas.List.{take-append-drop, drop_more, get_or_at}
 use Rattle.std.proofs.lemmas.Bool.{cases_eq, cases_lt}
-use Rattle.pc_model.specs.Greatest.{IsGreatest, IsFirst, IsListed}
+use Rattle.pc_model.specs.Greatest.{IsFirst, IsListed}
 use Rattle.pc_model.specs.Walk.{from_of, to_of, IsWalk, walk_sum, IsSumOfWalk}
-use Rattle.pc_model.specs.Network.{Network, IsInRange, IsSound, IsOrder, IsEarly, IsLongest}
+use Rattle.pc_model.specs.Network.{Network, IsInRange, IsSound, IsLongest}
 use Rattle.pc_model.proofs.WalkLaws.{IsWalk-append, IsWalk-push, walk_sum-append, walk_sum-push, split_walk, greatest_unique}
 use Rattle.pc_model.proofs.EarlyLaws.{early_at_start, early_fits}
-use Rattle.pc_times.specs.Times.{IsTail, AreEarly, AreTails}
-use Rattle.pc_times.specs.Picked.{IsLongestWalk, IsCritical, IsCriticalAt, IsPickedFrom, IsPickedWalk}
+use Rattle.pc_times.specs.Times.{AreEarly, AreTails}
+use Rattle.pc_times.specs.Picked.{IsCriticalAt, IsPickedFrom, IsPickedWalk}
 use Rattle.pc_times.specs.Passes.{IsTight}
 
 -- the first of the listed activities that meets the test, all of one event, is the first that does
@@ -34,7 +34,6 @@ pub record IsPickedTo (net : Network) (lengths times tails path : List ℕ) (e :
   pub picked : (rest : List ℕ) → IsPickedFrom net lengths e rest → IsPickedFrom net lengths net.start (path ++ rest)
 
 module _ (net : Network) (lengths times tails : List ℕ) (ranged : IsInRange net) (early : AreEarly net lengths times) (late : AreTails net lengths tails) where
-
   -- the sums to an event and from it are the sum of a walk through it
   sum_at : (e : ℕ) → e < net.events → IsSumOfWalk net.arcs lengths net.start net.end (slice_index times e + slice_index tails e)
   sum_at e below =

@@ -5,7 +5,7 @@ use Rattle.std.specs.Ordering.{nat_cmp, ord_max}
 use Rattle.std.proofs.lemmas.List.{length-reverse, get_or-reverse, get_or_default}
 use Rattle.std.proofs.lemmas.Bool.{cases_eq, cases_lt}
 use Rattle.std.proofs.lemmas.Bool.Decides.{nat_tests}
-use Rattle.pc_model.specs.Greatest.{IsGreatest, IsListed}
+use Rattle.pc_model.specs.Greatest.{IsListed}
 use Rattle.pc_model.specs.Walk.{from_of, to_of, IsWalk, walk_sum, IsSumOfWalk}
 use Rattle.pc_model.specs.Network.{Network, IsInRange, IsSound, IsOrder, IsEntered, IsLeft, IsEarly}
 use Rattle.pc_model.proofs.WalkLaws.{IsWalk-push, walk_sum-push, last_of_walk, walk_sum-bound}
@@ -46,10 +46,10 @@ arrival_more net lengths times items k n m so_far is = record {
 pub arrival_all : (net : Network) (lengths times items : List ℕ) (e k n : ℕ) → IsListed (λ a. to_of net.arcs a ≡ e) (length net.arcs) items → k ≡ length items → IsArrivalOf net lengths times items k n → IsArrival net lengths times e n
 arrival_all net lengths times items e k n listed all so_far = record {
   above = λ a in_arcs ends. let (j, lower, at) = listed.every a in_arcs ends in
-    omega (arith, so_far.above j (omega arith), ap (λ (x : ℕ). slice_index times (from_of net.arcs x) + slice_index lengths x) at);
+      omega (arith, so_far.above j (omega arith), ap (λ (x : ℕ). slice_index times (from_of net.arcs x) + slice_index lengths x) at);
   attained = ⊎_elim (λ (j, lower, at). inl (slice_index items j, (listed.each j (omega arith)).0, (listed.each j (omega arith)).1, at))
-    (λ (zero_is, none). inr (zero_is, λ (a, in_arcs, ends). let (j, lower, at) = listed.every a in_arcs ends in omega arith))
-    so_far.attained;
+      (λ (zero_is, none). inr (zero_is, λ (a, in_arcs, ends). let (j, lower, at) = listed.every a in_arcs ends in omega arith))
+      so_far.attained;
 }
 
 -- the latest arrival at an event is its time, where the times of the events before it are right
@@ -63,12 +63,14 @@ early_from_arrival net sound lengths times e n below before arrival = record {
     by_activity (a, in_arcs, ends, is) =
         let (walk, walked, sums) = (before a in_arcs ends).attained in
         (walk ++ a ∷ [], subst (λ (x : ℕ). IsWalk net.arcs net.start (walk ++ a ∷ []) x) ends (IsWalk-push net.arcs net.start _ walk a walked in_arcs refl), omega (arith, walk_sum-push lengths walk a))
+
     at_start : (n ≡ 0) × (IsEntered net e → ⊥) → IsSumOfWalk net.arcs lengths net.start e n
     at_start (zero_is, alone) =
         let (walk, walked) = sound.reached e below in
         ⊎_elim (λ (empty, same). ([], same, sym zero_is))
         (λ (front, a, is, in_arcs, front_walked, ends). absurd (alone (a, in_arcs, ends)))
         (last_of_walk net.arcs net.start e walk walked)
+
     bound : (m : ℕ) (walk : List ℕ) → IsWalk net.arcs net.start walk e → walk_sum lengths walk ≡ m → m ≤ n
     bound m walk walked sums =
         ⊎_elim (λ (empty, same). omega (arith, ap (walk_sum lengths) empty))
@@ -103,10 +105,10 @@ departure_more net lengths tails items k n m so_far is = record {
 pub departure_all : (net : Network) (lengths tails items : List ℕ) (e k n : ℕ) → IsListed (λ a. from_of net.arcs a ≡ e) (length net.arcs) items → k ≡ length items → IsDepartureOf net lengths tails items k n → IsDeparture net lengths tails e n
 departure_all net lengths tails items e k n listed all so_far = record {
   above = λ a in_arcs begins. let (j, lower, at) = listed.every a in_arcs begins in
-    omega (arith, so_far.above j (omega arith), ap (λ (x : ℕ). slice_index lengths x + slice_index tails (to_of net.arcs x)) at);
+      omega (arith, so_far.above j (omega arith), ap (λ (x : ℕ). slice_index lengths x + slice_index tails (to_of net.arcs x)) at);
   attained = ⊎_elim (λ (j, lower, at). inl (slice_index items j, (listed.each j (omega arith)).0, (listed.each j (omega arith)).1, at))
-    (λ (zero_is, none). inr (zero_is, λ (a, in_arcs, begins). let (j, lower, at) = listed.every a in_arcs begins in omega arith))
-    so_far.attained;
+      (λ (zero_is, none). inr (zero_is, λ (a, in_arcs, begins). let (j, lower, at) = listed.every a in_arcs begins in omega arith))
+      so_far.attained;
 }
 
 -- the longest departure from an event is its tail, where the tails of the events after it are right
@@ -120,12 +122,14 @@ tail_from_departure net sound lengths tails e n below after departure = record {
     by_activity (a, in_arcs, begins, is) =
         let (walk, walked, sums) = (after a in_arcs begins).attained in
         (a ∷ walk, (in_arcs, begins, walked), omega arith)
+
     at_end : (n ≡ 0) × (IsLeft net e → ⊥) → IsSumOfWalk net.arcs lengths e net.end n
     at_end (zero_is, alone) = let (walk, walked) = sound.reaches e below in empty walk walked
       where
         empty : (walk : List ℕ) → IsWalk net.arcs e walk net.end → IsSumOfWalk net.arcs lengths e net.end n
         empty [] walked = ([], walked, sym zero_is)
         empty (a ∷ walk) walked = absurd (alone (a, walked.0, walked.1))
+
     bound : (m : ℕ) (walk : List ℕ) → IsWalk net.arcs e walk net.end → walk_sum lengths walk ≡ m → m ≤ n
     bound m [] walked sums = omega arith
     bound m (a ∷ walk) walked sums =
@@ -160,7 +164,7 @@ early_before net lengths times order k ordered so_far in_order = record {
   in_range = ordered.part.range k in_order;
   one_each = so_far.one_each;
   each = λ a in_arcs ends. let (j, lower, at) = ordered.part.before k a in_order in_arcs ends in
-    subst (λ (e : ℕ). IsEarly net lengths e (slice_index times e)) at (so_far.each j lower);
+      subst (λ (e : ℕ). IsEarly net lengths e (slice_index times e)) at (so_far.each j lower);
 }
 
 -- with its time the pass is one event further
@@ -168,8 +172,8 @@ pub early_more : (net : Network) (lengths times order : List ℕ) (k n : ℕ) �
 early_more net lengths times order k n ordered so_far in_order early = record {
   one_each = length-set times (slice_index order k) n ∙ so_far.one_each;
   each = below_more (λ j. IsEarly net lengths (slice_index order j) (slice_index (set times (slice_index order k) n) (slice_index order j))) k
-    (λ j lower. subst (λ (m : ℕ). IsEarly net lengths (slice_index order j) m) (sym (get_or-set_other times (slice_index order k) (slice_index order j) n 0 (ordered.part.once j k lower in_order))) (so_far.each j lower))
-    (subst (λ (m : ℕ). IsEarly net lengths (slice_index order k) m) (sym (get_or-set_same times (slice_index order k) n 0 (omega (arith, so_far.one_each, ordered.part.range k in_order)))) early);
+      (λ j lower. subst (λ (m : ℕ). IsEarly net lengths (slice_index order j) m) (sym (get_or-set_other times (slice_index order k) (slice_index order j) n 0 (ordered.part.once j k lower in_order))) (so_far.each j lower))
+      (subst (λ (m : ℕ). IsEarly net lengths (slice_index order k) m) (sym (get_or-set_same times (slice_index order k) n 0 (omega (arith, so_far.one_each, ordered.part.range k in_order)))) early);
 }
 
 -- after the last event all times are right
@@ -177,7 +181,7 @@ pub early_all : (net : Network) (lengths times order : List ℕ) (k : ℕ) → I
 early_all net lengths times order k ordered so_far all = record {
   one_each = so_far.one_each;
   each = λ e below. let (j, in_order, at) = stands_in_order net order ordered e below in
-    subst (λ (x : ℕ). IsEarly net lengths x (slice_index times x)) at (so_far.each j (omega arith));
+      subst (λ (x : ℕ). IsEarly net lengths x (slice_index times x)) at (so_far.each j (omega arith));
 }
 
 -- the tails of the last k events of the order are the greatest sums from them
@@ -225,6 +229,7 @@ tails_more net lengths tails order i k e {h = h} {n = n} ordered so_far in_order
     same_one j same =
         subst (λ (x : ℕ). IsTail net lengths x (slice_index (set tails e n) x)) (sym (ap (slice_index order) same ∙ at))
         (subst (λ (m : ℕ). IsTail net lengths e m) (sym (get_or-set_same tails e n 0 (omega (arith, so_far.one_each, at, ordered.part.range i in_order)))) tail)
+
     other_one : (j : ℕ) → j < length order → length order ≤ j + h → j ≢ i → IsTail net lengths (slice_index order j) (slice_index (set tails e n) (slice_index order j))
     other_one j j_in late other =
         subst (λ (m : ℕ). IsTail net lengths (slice_index order j) m) (sym (get_or-set_other tails e (slice_index order j) n 0 (λ same. other (same_place net order ordered.part j i j_in in_order (same ∙ sym at)))))
@@ -235,5 +240,5 @@ pub tails_all : (net : Network) (lengths tails order : List ℕ) (k : ℕ) → I
 tails_all net lengths tails order k ordered so_far all = record {
   one_each = so_far.one_each;
   each = λ e below. let (j, in_order, at) = stands_in_order net order ordered e below in
-    subst (λ (x : ℕ). IsTail net lengths x (slice_index tails x)) at (so_far.each j in_order (omega arith));
+      subst (λ (x : ℕ). IsTail net lengths x (slice_index tails x)) at (so_far.each j in_order (omega arith));
 }

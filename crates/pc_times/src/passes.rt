@@ -20,7 +20,11 @@ pub(crate) fn early_times(alloc: Global, net: &Net, lengths: &[u64]) -> Result<V
 }
 
 /// For each event the greatest sum of lengths over the walks from it to the end. One pass against the order.
-pub(crate) fn tails_to_end(alloc: Global, net: &Net, lengths: &[u64]) -> Result<Vec<u64>, AllocError>
+pub(crate) fn tails_to_end(
+    alloc: Global,
+    net: &Net,
+    lengths: &[u64],
+) -> Result<Vec<u64>, AllocError>
     requires { AreLengths net.now lengths.now }
     ensures tails { IfOk result (λ tails. AreTails net.now lengths.now tails.items) }
     ensures walks { OnOk result (HasBoundedWalks net.now lengths.now) }

@@ -1,4 +1,4 @@
-use Rattle.std.proofs.Common.{◌<◌, length, arith}
+use Rattle.std.proofs.Common.{arith}
 use Rattle.pc_times.proofs.TimesLaws.{has_bounded_walks, early_before, early_more, early_all}
 use Rattle.pc_times.proofs.passes.early_times.Goals as goal
 

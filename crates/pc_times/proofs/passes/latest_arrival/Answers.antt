@@ -1,5 +1,4 @@
-use Rattle.std.proofs.Common.{◌≡◌, ℕ, ◌+◌, ◌<◌, slice_index, ap, arith}
-use Rattle.pc_model.specs.Walk.{from_of}
+use Rattle.std.proofs.Common.{ℕ, ◌+◌, slice_index, ap, arith}
 use Rattle.pc_times.proofs.TimesLaws.{ord_max-nat, arrival_more, arrival_all, early_from_arrival}
 use Rattle.pc_times.proofs.passes.latest_arrival.Goals as goal
 

@@ -1,5 +1,4 @@
-use Rattle.std.proofs.Common.{◌≡◌, ℕ, ◌+◌, ◌<◌, slice_index, ap, arith}
-use Rattle.pc_model.specs.Walk.{to_of}
+use Rattle.std.proofs.Common.{ℕ, ◌+◌, slice_index, ap, arith}
 use Rattle.pc_times.proofs.TimesLaws.{ord_max-nat, departure_more, departure_all, tail_from_departure}
 use Rattle.pc_times.proofs.passes.longest_departure.Goals as goal
 

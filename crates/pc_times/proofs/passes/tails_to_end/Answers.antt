@@ -1,4 +1,4 @@
-use Rattle.std.proofs.Common.{◌≡◌, ℕ, ◌+◌, ◌<◌, ◌≤◌, List, length, slice_index, refl, subst, sym, arith}
+use Rattle.std.proofs.Common.{◌≡◌, ℕ, List, refl, subst, sym, arith}
 use Rattle.std.specs.Slice.Iter.{iter_rest}
 use Rattle.std.specs.Iterator.Adapters.{rev_source}
 use Rattle.std.proofs.lemmas.List.{length_push, length-reverse}
@@ -6,8 +6,7 @@ use Rattle.std.proofs.lemmas.Iterator.Adapters.{YieldsList-from_rev_slice}
 use Rattle.std.proofs.lemmas.Iterator.Consumers.{YieldsList-turn, YieldsList-end}
 use Rattle.pc_model.specs.Network.{IsOrder}
 use Rattle.pc_times.specs.Passes.{AreTailsAfter}
-use Rattle.pc_times.specs.Times.{IsTail}
-use Rattle.pc_times.proofs.TimesLaws.{AreTailsFrom, has_bounded_walks, place_from_end, tails_none, tails_after, tails_more, tails_all}
+use Rattle.pc_times.proofs.TimesLaws.{has_bounded_walks, place_from_end, tails_none, tails_after, tails_more, tails_all}
 use Rattle.pc_times.proofs.passes.tails_to_end.Goals as goal
 
 pub loop-event-init : goal.loop-event-init

@@ -1,4 +1,4 @@
-use Rattle.std.proofs.Common.{◌≡◌, ℕ, ◌+◌, ◌<◌, slice_index, ap, sym, ◌∙◌, arith}
+use Rattle.std.proofs.Common.{slice_index, ap, arith}
 use Rattle.pc_model.specs.Walk.{from_of}
 use Rattle.pc_times.specs.Passes.{IsTight}
 use Rattle.pc_times.proofs.PickedLaws.{first_listed}

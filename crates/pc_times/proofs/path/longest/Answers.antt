@@ -9,5 +9,5 @@ returns-clause-length c =
     let times = c.in_ok-times.times.items in
     let in_range : c.end.result < length times = omega (arith, c.end.ensures.known, early.one_each) in
     let read : c.index.result.now ≡ slice_index times c.args.net.now.end =
-        get_or_read times c.end.result c.index.result.now in_range c.index.ensures 0 ∙ ap (slice_index times) c.end.ensures.end in
+    get_or_read times c.end.result c.index.result.now in_range c.index.ensures 0 ∙ ap (slice_index times) c.end.ensures.end in
     subst (λ (n : ℕ). IsLongest c.args.net.now c.args.lengths.now n) (sym read) (early.each c.args.net.now.end (omega (arith, c.end.ensures.known, c.end.ensures.end)))

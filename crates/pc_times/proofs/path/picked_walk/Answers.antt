@@ -1,7 +1,7 @@
-use Rattle.std.proofs.Common.{◌≡◌, ℕ, ◌+◌, ◌<◌, List, [], ◌∷◌, ◌++◌, length, slice_index, subst, ap, ◌∙◌, arith}
+use Rattle.std.proofs.Common.{ℕ, length, slice_index, subst, ap, ◌∙◌, arith}
 use Rattle.std.proofs.lemmas.List.{length_push}
 use Rattle.pc_model.specs.Walk.{IsWalk}
-use Rattle.pc_times.proofs.PickedLaws.{IsPickedTo, picked_to_start, picked_to_next, end_when_none_tight, picked_at_end}
+use Rattle.pc_times.proofs.PickedLaws.{picked_to_start, picked_to_next, end_when_none_tight, picked_at_end}
 use Rattle.pc_times.proofs.path.picked_walk.Goals as goal
 
 pub loop-a-init : goal.loop-a-init
