@@ -1,0 +1,2 @@
+mod TimesLaws
+mod PickedLaws

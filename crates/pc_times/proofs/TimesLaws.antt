@@ -1,0 +1,244 @@
+-- How the greatest sum at one event comes from those at its neighbours.
+use Rattle.std.proofs.Common.{◌≡◌, ◌≢◌, ℕ, ◌+◌, ◌*◌, ◌^◌, ◌-◌, ◌<◌, ◌≤◌, List, [], ◌∷◌, ◌++◌, length, slice_index, reverse, get_or, set, get_or-set_same, get_or-set_other, length-set, ◌∙◌, refl, sym, ap, subst, ◌⊎◌, inl, inr, ⊎_elim, max, below_more, arith}
+use Rattle.std.proofs.Math.Nat.{mul-le-mul_right}
+use Rattle.std.specs.Ordering.{nat_cmp, ord_max}
+use Rattle.std.proofs.lemmas.List.{length-reverse, get_or-reverse, get_or_default}
+use Rattle.std.proofs.lemmas.Bool.{cases_eq, cases_lt}
+use Rattle.std.proofs.lemmas.Bool.Decides.{nat_tests}
+use Rattle.pc_model.specs.Greatest.{IsListed}
+use Rattle.pc_model.specs.Walk.{from_of, to_of, IsWalk, walk_sum, IsSumOfWalk}
+use Rattle.pc_model.specs.Network.{Network, IsInRange, IsSound, IsOrder, IsEntered, IsLeft, IsEarly}
+use Rattle.pc_model.proofs.WalkLaws.{IsWalk-push, walk_sum-push, last_of_walk, walk_sum-bound}
+use Rattle.pc_model.proofs.OrderLaws.{walk_is_short, stands_in_order, same_place}
+use Rattle.pc_times.specs.declared.TheConstants.{MAX_LENGTH}
+use Rattle.pc_times.specs.Times.{IsTail, AreLengths, AreEarly, AreTails}
+use Rattle.pc_times.specs.Passes.{HasBoundedWalks, AreEarlyBefore, AreTailsAfter}
+
+-- `max` of numbers
+pub ord_max-nat : (a b : ℕ) → ord_max nat_cmp a b ≡ max a b
+ord_max-nat a b = grind (arith, nat_tests)
+
+-- n bounds what the activities that enter event e bring, and one of them brings it, or none enters and n is 0
+pub record IsArrival (net : Network) (lengths times : List ℕ) (e n : ℕ) : Type 0 where
+  pub above : (a : ℕ) → a < length net.arcs → to_of net.arcs a ≡ e → slice_index times (from_of net.arcs a) + slice_index lengths a ≤ n
+  pub attained : ((a : ℕ) × (a < length net.arcs) × (to_of net.arcs a ≡ e) × (slice_index times (from_of net.arcs a) + slice_index lengths a ≡ n)) ⊎ ((n ≡ 0) × (IsEntered net e → ⊥))
+
+-- the same of the first k of the activities that are listed as entering an event
+pub record IsArrivalOf (net : Network) (lengths times items : List ℕ) (k n : ℕ) : Type 0 where
+  pub above : (j : ℕ) → j < k → slice_index times (from_of net.arcs (slice_index items j)) + slice_index lengths (slice_index items j) ≤ n
+  pub attained : ((j : ℕ) × (j < k) × (slice_index times (from_of net.arcs (slice_index items j)) + slice_index lengths (slice_index items j) ≡ n)) ⊎ ((n ≡ 0) × (k ≡ 0))
+
+-- before the first of them n is 0
+pub arrival_none : (net : Network) (lengths times items : List ℕ) → IsArrivalOf net lengths times items 0 0
+arrival_none net lengths times items = record {
+  above = λ j lower. absurd (omega arith);
+  attained = inr (refl, refl);
+}
+
+-- one of them more, which brings m: the greater of n and m
+pub arrival_more : (net : Network) (lengths times items : List ℕ) (k n m : ℕ) → IsArrivalOf net lengths times items k n → m ≡ slice_index times (from_of net.arcs (slice_index items k)) + slice_index lengths (slice_index items k) → IsArrivalOf net lengths times items (k + 1) (max n m)
+arrival_more net lengths times items k n m so_far is = record {
+  above = below_more (λ j. slice_index times (from_of net.arcs (slice_index items j)) + slice_index lengths (slice_index items j) ≤ max n m) k (λ j lower. omega (arith, so_far.above j lower)) (omega arith);
+  attained = ⊎_elim (λ less. inl (k, omega arith, omega arith)) (λ no_less. ⊎_elim (λ (j, lower, at). inl (j, omega arith, omega arith)) (λ (zero_is, none). inl (k, omega arith, omega arith)) so_far.attained) (cases_lt n m);
+}
+
+-- all of them
+pub arrival_all : (net : Network) (lengths times items : List ℕ) (e k n : ℕ) → IsListed (λ a. to_of net.arcs a ≡ e) (length net.arcs) items → k ≡ length items → IsArrivalOf net lengths times items k n → IsArrival net lengths times e n
+arrival_all net lengths times items e k n listed all so_far = record {
+  above = λ a in_arcs ends. let (j, lower, at) = listed.every a in_arcs ends in
+      omega (arith, so_far.above j (omega arith), ap (λ (x : ℕ). slice_index times (from_of net.arcs x) + slice_index lengths x) at);
+  attained = ⊎_elim (λ (j, lower, at). inl (slice_index items j, (listed.each j (omega arith)).0, (listed.each j (omega arith)).1, at))
+      (λ (zero_is, none). inr (zero_is, λ (a, in_arcs, ends). let (j, lower, at) = listed.every a in_arcs ends in omega arith))
+      so_far.attained;
+}
+
+-- the latest arrival at an event is its time, where the times of the events before it are right
+pub early_from_arrival : (net : Network) → IsSound net → (lengths times : List ℕ) (e n : ℕ) → e < net.events → ((a : ℕ) → a < length net.arcs → to_of net.arcs a ≡ e → IsEarly net lengths (from_of net.arcs a) (slice_index times (from_of net.arcs a))) → IsArrival net lengths times e n → IsEarly net lengths e n
+early_from_arrival net sound lengths times e n below before arrival = record {
+  attained = ⊎_elim by_activity at_start arrival.attained;
+  bound = λ m (walk, walked, sums). bound m walk walked sums;
+}
+  where
+    by_activity : (a : ℕ) × (a < length net.arcs) × (to_of net.arcs a ≡ e) × (slice_index times (from_of net.arcs a) + slice_index lengths a ≡ n) → IsSumOfWalk net.arcs lengths net.start e n
+    by_activity (a, in_arcs, ends, is) =
+        let (walk, walked, sums) = (before a in_arcs ends).attained in
+        (walk ++ a ∷ [], subst (λ (x : ℕ). IsWalk net.arcs net.start (walk ++ a ∷ []) x) ends (IsWalk-push net.arcs net.start _ walk a walked in_arcs refl), omega (arith, walk_sum-push lengths walk a))
+
+    at_start : (n ≡ 0) × (IsEntered net e → ⊥) → IsSumOfWalk net.arcs lengths net.start e n
+    at_start (zero_is, alone) =
+        let (walk, walked) = sound.reached e below in
+        ⊎_elim (λ (empty, same). ([], same, sym zero_is))
+        (λ (front, a, is, in_arcs, front_walked, ends). absurd (alone (a, in_arcs, ends)))
+        (last_of_walk net.arcs net.start e walk walked)
+
+    bound : (m : ℕ) (walk : List ℕ) → IsWalk net.arcs net.start walk e → walk_sum lengths walk ≡ m → m ≤ n
+    bound m walk walked sums =
+        ⊎_elim (λ (empty, same). omega (arith, ap (walk_sum lengths) empty))
+        (λ (front, a, is, in_arcs, front_walked, ends). omega (arith, ap (walk_sum lengths) is, walk_sum-push lengths front a, arrival.above a in_arcs ends, (before a in_arcs ends).bound (walk_sum lengths front) (front, front_walked, refl)))
+        (last_of_walk net.arcs net.start e walk walked)
+
+-- n bounds what the activities that leave event e lead to, and one of them leads to it, or none leaves and n is 0
+pub record IsDeparture (net : Network) (lengths tails : List ℕ) (e n : ℕ) : Type 0 where
+  pub above : (a : ℕ) → a < length net.arcs → from_of net.arcs a ≡ e → slice_index lengths a + slice_index tails (to_of net.arcs a) ≤ n
+  pub attained : ((a : ℕ) × (a < length net.arcs) × (from_of net.arcs a ≡ e) × (slice_index lengths a + slice_index tails (to_of net.arcs a) ≡ n)) ⊎ ((n ≡ 0) × (IsLeft net e → ⊥))
+
+-- the same of the first k of the activities that are listed as leaving an event
+pub record IsDepartureOf (net : Network) (lengths tails items : List ℕ) (k n : ℕ) : Type 0 where
+  pub above : (j : ℕ) → j < k → slice_index lengths (slice_index items j) + slice_index tails (to_of net.arcs (slice_index items j)) ≤ n
+  pub attained : ((j : ℕ) × (j < k) × (slice_index lengths (slice_index items j) + slice_index tails (to_of net.arcs (slice_index items j)) ≡ n)) ⊎ ((n ≡ 0) × (k ≡ 0))
+
+-- before the first of them n is 0
+pub departure_none : (net : Network) (lengths tails items : List ℕ) → IsDepartureOf net lengths tails items 0 0
+departure_none net lengths tails items = record {
+  above = λ j lower. absurd (omega arith);
+  attained = inr (refl, refl);
+}
+
+-- one of them more, which leads to m: the greater of n and m
+pub departure_more : (net : Network) (lengths tails items : List ℕ) (k n m : ℕ) → IsDepartureOf net lengths tails items k n → m ≡ slice_index lengths (slice_index items k) + slice_index tails (to_of net.arcs (slice_index items k)) → IsDepartureOf net lengths tails items (k + 1) (max n m)
+departure_more net lengths tails items k n m so_far is = record {
+  above = below_more (λ j. slice_index lengths (slice_index items j) + slice_index tails (to_of net.arcs (slice_index items j)) ≤ max n m) k (λ j lower. omega (arith, so_far.above j lower)) (omega arith);
+  attained = ⊎_elim (λ less. inl (k, omega arith, omega arith)) (λ no_less. ⊎_elim (λ (j, lower, at). inl (j, omega arith, omega arith)) (λ (zero_is, none). inl (k, omega arith, omega arith)) so_far.attained) (cases_lt n m);
+}
+
+-- all of them
+pub departure_all : (net : Network) (lengths tails items : List ℕ) (e k n : ℕ) → IsListed (λ a. from_of net.arcs a ≡ e) (length net.arcs) items → k ≡ length items → IsDepartureOf net lengths tails items k n → IsDeparture net lengths tails e n
+departure_all net lengths tails items e k n listed all so_far = record {
+  above = λ a in_arcs begins. let (j, lower, at) = listed.every a in_arcs begins in
+      omega (arith, so_far.above j (omega arith), ap (λ (x : ℕ). slice_index lengths x + slice_index tails (to_of net.arcs x)) at);
+  attained = ⊎_elim (λ (j, lower, at). inl (slice_index items j, (listed.each j (omega arith)).0, (listed.each j (omega arith)).1, at))
+      (λ (zero_is, none). inr (zero_is, λ (a, in_arcs, begins). let (j, lower, at) = listed.every a in_arcs begins in omega arith))
+      so_far.attained;
+}
+
+-- the longest departure from an event is its tail, where the tails of the events after it are right
+pub tail_from_departure : (net : Network) → IsSound net → (lengths tails : List ℕ) (e n : ℕ) → e < net.events → ((a : ℕ) → a < length net.arcs → from_of net.arcs a ≡ e → IsTail net lengths (to_of net.arcs a) (slice_index tails (to_of net.arcs a))) → IsDeparture net lengths tails e n → IsTail net lengths e n
+tail_from_departure net sound lengths tails e n below after departure = record {
+  attained = ⊎_elim by_activity at_end departure.attained;
+  bound = λ m (walk, walked, sums). bound m walk walked sums;
+}
+  where
+    by_activity : (a : ℕ) × (a < length net.arcs) × (from_of net.arcs a ≡ e) × (slice_index lengths a + slice_index tails (to_of net.arcs a) ≡ n) → IsSumOfWalk net.arcs lengths e net.end n
+    by_activity (a, in_arcs, begins, is) =
+        let (walk, walked, sums) = (after a in_arcs begins).attained in
+        (a ∷ walk, (in_arcs, begins, walked), omega arith)
+
+    at_end : (n ≡ 0) × (IsLeft net e → ⊥) → IsSumOfWalk net.arcs lengths e net.end n
+    at_end (zero_is, alone) = let (walk, walked) = sound.reaches e below in empty walk walked
+      where
+        empty : (walk : List ℕ) → IsWalk net.arcs e walk net.end → IsSumOfWalk net.arcs lengths e net.end n
+        empty [] walked = ([], walked, sym zero_is)
+        empty (a ∷ walk) walked = absurd (alone (a, walked.0, walked.1))
+
+    bound : (m : ℕ) (walk : List ℕ) → IsWalk net.arcs e walk net.end → walk_sum lengths walk ≡ m → m ≤ n
+    bound m [] walked sums = omega arith
+    bound m (a ∷ walk) walked sums =
+        omega (arith, departure.above a walked.0 walked.1, (after a walked.0 walked.1).bound (walk_sum lengths walk) (walk, walked.2, refl))
+
+-- where no activity is longer than a limit, no sum over a walk to an event is above the limit for each event
+pub walk_sum_fits : (net : Network) (order : List ℕ) → IsOrder net order → (lengths : List ℕ) (limit : ℕ) → ((a : ℕ) → a < length net.arcs → slice_index lengths a ≤ limit) → (e f n : ℕ) → f < net.events → IsSumOfWalk net.arcs lengths e f n → n ≤ net.events * limit
+walk_sum_fits net order ordered lengths limit small e f n below (walk, walked, sums) =
+    omega (arith, walk_sum-bound net.arcs lengths limit small e f walk walked, mul-le-mul_right limit (shorter walk walked))
+  where
+    shorter : (walk : List ℕ) → IsWalk net.arcs e walk f → length walk ≤ net.events
+    shorter walk walked = omega (arith, walk_is_short net order ordered e f walk walked below)
+
+-- what the passes need of a network, from its order and the lengths
+pub has_bounded_walks : (net : Network) (order lengths : List ℕ) → IsInRange net → IsSound net → IsOrder net order → net.events < 2 ^ 32 → AreLengths net lengths → HasBoundedWalks net lengths
+has_bounded_walks net order lengths ranged sound ordered few lengths_of = record {
+  ranged = ranged;
+  sound = sound;
+  few = few;
+  short = λ e f walk below walked. walk_is_short net order ordered e f walk walked below;
+  fits = walk_sum_fits net order ordered lengths MAX_LENGTH lengths_of.small;
+}
+
+-- the times of the first k events of the order are the greatest sums to them
+pub record AreEarlyTo (net : Network) (lengths times order : List ℕ) (k : ℕ) : Type 0 where
+  pub one_each : length times ≡ net.events
+  pub each : (j : ℕ) → j < k → IsEarly net lengths (slice_index order j) (slice_index times (slice_index order j))
+
+-- the next event in the order has all it needs before it
+pub early_before : (net : Network) (lengths times order : List ℕ) (k : ℕ) → IsOrder net order → AreEarlyTo net lengths times order k → k < length order → AreEarlyBefore net lengths times (slice_index order k)
+early_before net lengths times order k ordered so_far in_order = record {
+  in_range = ordered.part.range k in_order;
+  one_each = so_far.one_each;
+  each = λ a in_arcs ends. let (j, lower, at) = ordered.part.before k a in_order in_arcs ends in
+      subst (λ (e : ℕ). IsEarly net lengths e (slice_index times e)) at (so_far.each j lower);
+}
+
+-- with its time the pass is one event further
+pub early_more : (net : Network) (lengths times order : List ℕ) (k n : ℕ) → IsOrder net order → AreEarlyTo net lengths times order k → k < length order → IsEarly net lengths (slice_index order k) n → AreEarlyTo net lengths (set times (slice_index order k) n) order (k + 1)
+early_more net lengths times order k n ordered so_far in_order early = record {
+  one_each = length-set times (slice_index order k) n ∙ so_far.one_each;
+  each = below_more (λ j. IsEarly net lengths (slice_index order j) (slice_index (set times (slice_index order k) n) (slice_index order j))) k
+      (λ j lower. subst (λ (m : ℕ). IsEarly net lengths (slice_index order j) m) (sym (get_or-set_other times (slice_index order k) (slice_index order j) n 0 (ordered.part.once j k lower in_order))) (so_far.each j lower))
+      (subst (λ (m : ℕ). IsEarly net lengths (slice_index order k) m) (sym (get_or-set_same times (slice_index order k) n 0 (omega (arith, so_far.one_each, ordered.part.range k in_order)))) early);
+}
+
+-- after the last event all times are right
+pub early_all : (net : Network) (lengths times order : List ℕ) (k : ℕ) → IsOrder net order → AreEarlyTo net lengths times order k → length order ≤ k → AreEarly net lengths times
+early_all net lengths times order k ordered so_far all = record {
+  one_each = so_far.one_each;
+  each = λ e below. let (j, in_order, at) = stands_in_order net order ordered e below in
+      subst (λ (x : ℕ). IsEarly net lengths x (slice_index times x)) at (so_far.each j (omega arith));
+}
+
+-- the tails of the last k events of the order are the greatest sums from them
+pub record AreTailsFrom (net : Network) (lengths tails order : List ℕ) (k : ℕ) : Type 0 where
+  pub one_each : length tails ≡ net.events
+  pub each : (j : ℕ) → j < length order → length order ≤ j + k → IsTail net lengths (slice_index order j) (slice_index tails (slice_index order j))
+
+-- before the first step no tail is said to be right
+pub tails_none : (net : Network) (lengths tails order : List ℕ) → length tails ≡ net.events → AreTailsFrom net lengths tails order 0
+tails_none net lengths tails order one_each = record {
+  one_each = one_each;
+  each = λ j in_order late. absurd (omega arith);
+}
+
+-- what a list has at place k from its end
+pub place_from_end : (order : List ℕ) (k e : ℕ) → k < length (reverse order) → e ≡ get_or (reverse order) k e → (i : ℕ) × (i < length order) × (i + k + 1 ≡ length order) × (slice_index order i ≡ e)
+place_from_end order k e in_list is =
+    let all : length (reverse order) ≡ length order = length-reverse order in
+    let at : e ≡ get_or order (length order - 1 - k) e = is ∙ get_or-reverse order k e (omega arith) in
+    (length order - 1 - k, omega arith, omega arith, sym (at ∙ get_or_default order (length order - 1 - k) e 0 (omega arith)))
+
+-- the event before them in the order has all it needs after it
+pub tails_after : (net : Network) (lengths tails order : List ℕ) (i k : ℕ) → IsInRange net → IsOrder net order → AreTailsFrom net lengths tails order k → i < length order → i + k + 1 ≡ length order → AreTailsAfter net lengths tails (slice_index order i)
+tails_after net lengths tails order i k ranged ordered so_far in_order place = record {
+  in_range = ordered.part.range i in_order;
+  one_each = so_far.one_each;
+  each = λ a in_arcs begins. after a in_arcs begins;
+}
+  where
+    after : (a : ℕ) → a < length net.arcs → from_of net.arcs a ≡ slice_index order i → IsTail net lengths (to_of net.arcs a) (slice_index tails (to_of net.arcs a))
+    after a in_arcs begins =
+        let (j, j_in, at) = stands_in_order net order ordered (to_of net.arcs a) (ranged.to_in a in_arcs) in
+        let (h, lower, h_at) = ordered.part.before j a j_in in_arcs (sym at) in
+        let same : h ≡ i = same_place net order ordered.part h i (omega arith) in_order (h_at ∙ begins) in
+        subst (λ (x : ℕ). IsTail net lengths x (slice_index tails x)) at (so_far.each j j_in (omega arith))
+
+-- with its tail n the pass is one event further
+pub tails_more : (net : Network) (lengths tails order : List ℕ) (i k e : ℕ) {h n : ℕ} → IsOrder net order → AreTailsFrom net lengths tails order k → i < length order → i + k + 1 ≡ length order → slice_index order i ≡ e → h ≡ k + 1 → IsTail net lengths e n → AreTailsFrom net lengths (set tails e n) order h
+tails_more net lengths tails order i k e {h = h} {n = n} ordered so_far in_order place at more tail = record {
+  one_each = length-set tails e n ∙ so_far.one_each;
+  each = λ j j_in late. ⊎_elim (λ same. same_one j same) (λ other. other_one j j_in late other) (cases_eq j i);
+}
+  where
+    same_one : (j : ℕ) → j ≡ i → IsTail net lengths (slice_index order j) (slice_index (set tails e n) (slice_index order j))
+    same_one j same =
+        subst (λ (x : ℕ). IsTail net lengths x (slice_index (set tails e n) x)) (sym (ap (slice_index order) same ∙ at))
+        (subst (λ (m : ℕ). IsTail net lengths e m) (sym (get_or-set_same tails e n 0 (omega (arith, so_far.one_each, at, ordered.part.range i in_order)))) tail)
+
+    other_one : (j : ℕ) → j < length order → length order ≤ j + h → j ≢ i → IsTail net lengths (slice_index order j) (slice_index (set tails e n) (slice_index order j))
+    other_one j j_in late other =
+        subst (λ (m : ℕ). IsTail net lengths (slice_index order j) m) (sym (get_or-set_other tails e (slice_index order j) n 0 (λ same. other (same_place net order ordered.part j i j_in in_order (same ∙ sym at)))))
+        (so_far.each j j_in (omega arith))
+
+-- after the first event all tails are right
+pub tails_all : (net : Network) (lengths tails order : List ℕ) (k : ℕ) → IsOrder net order → AreTailsFrom net lengths tails order k → length order ≤ k → AreTails net lengths tails
+tails_all net lengths tails order k ordered so_far all = record {
+  one_each = so_far.one_each;
+  each = λ e below. let (j, in_order, at) = stands_in_order net order ordered e below in
+      subst (λ (x : ℕ). IsTail net lengths x (slice_index tails x)) at (so_far.each j in_order (omega arith));
+}

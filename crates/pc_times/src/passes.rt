@@ -1,0 +1,63 @@
+ghost use Rattle.std.specs.Prelude.{◌≡◌, IfOk, OnOk};
+ghost use Rattle.pc_model.specs.Network.{IsEarly};
+ghost use Rattle.pc_times.specs.Times.{AreLengths, AreEarly, AreTails, IsTail};
+ghost use Rattle.pc_times.specs.Passes.{HasBoundedWalks, AreEarlyBefore, AreTailsAfter};
+
+use pc_net::Net;
+use std::alloc::{AllocError, Global};
+
+/// For each event the greatest sum of lengths over the walks from the start to it. One pass in the order.
+pub(crate) fn early_times(alloc: Global, net: &Net, lengths: &[u64]) -> Result<Vec<u64>, AllocError>
+    requires { AreLengths net.now lengths.now }
+    ensures times { IfOk result (λ times. AreEarly net.now lengths.now times.items) }
+    ensures walks { OnOk result (HasBoundedWalks net.now lengths.now) }
+{
+    let mut times = vec![in alloc; 0; net.events() as usize]?;
+    for &event in net.order() {
+        times[event as usize] = latest_arrival(net, lengths, &times, event);
+    }
+    Ok(times)
+}
+
+/// For each event the greatest sum of lengths over the walks from it to the end. One pass against the order.
+pub(crate) fn tails_to_end(
+    alloc: Global,
+    net: &Net,
+    lengths: &[u64],
+) -> Result<Vec<u64>, AllocError>
+    requires { AreLengths net.now lengths.now }
+    ensures tails { IfOk result (λ tails. AreTails net.now lengths.now tails.items) }
+    ensures walks { OnOk result (HasBoundedWalks net.now lengths.now) }
+{
+    let mut tails = vec![in alloc; 0; net.events() as usize]?;
+    for &event in net.order().iter().rev() {
+        tails[event as usize] = longest_departure(net, lengths, &tails, event);
+    }
+    Ok(tails)
+}
+
+fn latest_arrival(net: &Net, lengths: &[u64], times: &[u64], event: u32) -> u64
+    requires lengths { AreLengths net.now lengths.now }
+    requires walks { HasBoundedWalks net.now lengths.now }
+    requires before { AreEarlyBefore net.now lengths.now times.now event }
+    ensures { IsEarly net.now lengths.now event result }
+{
+    let mut latest = 0;
+    for &a in net.in_arcs(event) {
+        latest = latest.max(times[net.from(a) as usize] + lengths[a as usize]);
+    }
+    latest
+}
+
+fn longest_departure(net: &Net, lengths: &[u64], tails: &[u64], event: u32) -> u64
+    requires lengths { AreLengths net.now lengths.now }
+    requires walks { HasBoundedWalks net.now lengths.now }
+    requires after { AreTailsAfter net.now lengths.now tails.now event }
+    ensures { IsTail net.now lengths.now event result }
+{
+    let mut longest = 0;
+    for &a in net.out_arcs(event) {
+        longest = longest.max(lengths[a as usize] + tails[net.to(a) as usize]);
+    }
+    longest
+}

@@ -1,0 +1,114 @@
+ghost use Rattle.std.specs.Prelude.{◌≡◌, ℕ, ◌<◌, length, slice_index, IfOk, IfSome, IfNone};
+ghost use Rattle.pc_model.specs.Greatest.{IsFirst};
+ghost use Rattle.pc_model.specs.Walk.{IsWalk, walk_sum};
+ghost use Rattle.pc_model.specs.Network.{IsLongest};
+ghost use Rattle.pc_times.specs.Times.{AreLengths, AreEarly, AreTails};
+ghost use Rattle.pc_times.specs.Picked.{IsPickedWalk};
+ghost use Rattle.pc_times.specs.Passes.{HasBoundedWalks, IsTight};
+
+use crate::found::Longest;
+use crate::passes::{early_times, tails_to_end};
+use pc_net::Net;
+use std::alloc::{AllocError, Global};
+
+/// The length of the network, its event times and its critical path, in two passes over the activities.
+///
+/// Where several walks have the greatest sum, the critical path takes at each event the first activity, in card
+/// order, that lies on one of them.
+pub fn longest(alloc: Global, net: &Net, lengths: &[u64]) -> Result<Longest, AllocError>
+    requires { AreLengths net.now lengths.now }
+    ensures times { IfOk result (λ found. AreEarly net.now lengths.now found.times) }
+    ensures length { IfOk result (λ found. IsLongest net.now lengths.now found.length) }
+    ensures end_time { IfOk result (λ found. slice_index found.times net.now.end ≡ found.length) }
+
+    ensures picked { IfOk result (λ found. IsPickedWalk net.now lengths.now found.path) }
+    ensures through { IfOk result (λ found. IsWalk net.now.arcs net.now.start found.path net.now.end) }
+    ensures sum { IfOk result (λ found. walk_sum lengths.now found.path ≡ found.length) }
+    ensures short { IfOk result (λ found. length found.path < net.now.events) }
+{
+    let times = early_times(alloc, net, lengths)?;
+    let tails = tails_to_end(alloc, net, lengths)?;
+    let path = picked_walk(alloc, net, lengths, &times, &tails)?;
+    Ok(Longest {
+        length: times[net.end() as usize],
+        times,
+        path,
+    })
+}
+
+/// The picked walk, by the sums to each event and from it.
+pub(crate) fn picked_walk(
+    alloc: Global,
+    net: &Net,
+    lengths: &[u64],
+    times: &[u64],
+    tails: &[u64],
+) -> Result<Vec<u32>, AllocError>
+    requires lengths { AreLengths net.now lengths.now }
+    requires walks { HasBoundedWalks net.now lengths.now }
+    requires times { AreEarly net.now lengths.now times.now }
+    requires tails { AreTails net.now lengths.now tails.now }
+    ensures picked { IfOk result (λ path. IsPickedWalk net.now lengths.now path.items) }
+    ensures through { IfOk result (λ path. IsWalk net.now.arcs net.now.start path.items net.now.end) }
+    ensures sum { IfOk result (λ path. walk_sum lengths.now path.items ≡ slice_index times.now net.now.end) }
+    ensures short { IfOk result (λ path. length path.items < net.now.events) }
+{
+    let mut path = Vec::with_capacity(alloc, net.events() as usize)?;
+    let mut event = net.start();
+    while let Some(a) = first_tight(net, lengths, times, tails, event) {
+        path.push(a)?;
+        event = net.to(a);
+    }
+    Ok(path)
+}
+
+/// The first activity at the event that lies on a longest walk.
+fn first_tight(net: &Net, lengths: &[u64], times: &[u64], tails: &[u64], event: u32) -> Option<u32>
+    requires event { event < net.now.events }
+    requires lengths { AreLengths net.now lengths.now }
+    requires walks { HasBoundedWalks net.now lengths.now }
+    requires times { AreEarly net.now lengths.now times.now }
+    requires tails { AreTails net.now lengths.now tails.now }
+    ensures found { IfSome result (λ a. IsFirst (IsTight net.now lengths.now times.now tails.now event) a) }
+    ensures none { IfNone result ((a : ℕ) → IsTight net.now lengths.now times.now tails.now event a → ⊥) }
+{
+    let longest = times[net.end() as usize];
+    for &a in net.out_arcs(event) {
+        if times[event as usize] + lengths[a as usize] + tails[net.to(a) as usize] == longest {
+            return Some(a);
+        }
+    }
+    None
+}
+
+#[cfg(test)]
+mod tests {
+    use super::*;
+    use pc_net::Arc;
+    use std::test::Fail;
+
+    #[test]
+    fn times_and_path_of_a_small_deck(rt: HostRuntime) -> Result<(), Fail> {
+        let arcs = [
+            Arc { from: 0, to: 1 },
+            Arc { from: 1, to: 2 },
+            Arc { from: 0, to: 2 },
+        ];
+        let net = Net::build(rt.alloc(), 3, 0, 2, &arcs)?;
+
+        let normal = longest(rt.alloc(), &net, &[4, 5, 7])?;
+        assert_eq!(rt; normal.length(), 9);
+        assert_eq!(rt; normal.times(), [0, 4, 9].as_slice());
+        assert_eq!(rt; normal.time(1), 4);
+        assert_eq!(rt; normal.path(), [0, 1].as_slice());
+
+        // Both walks take 5 units, and A stands before C.
+        let crash = longest(rt.alloc(), &net, &[2, 3, 5])?;
+        assert_eq!(rt; crash.length(), 5);
+        assert_eq!(rt; crash.path(), [0, 1].as_slice());
+
+        let direct = longest(rt.alloc(), &net, &[1, 1, 5])?;
+        assert_eq!(rt; direct.path(), [2].as_slice());
+        Ok(())
+    }
+}
