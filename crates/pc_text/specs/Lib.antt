@@ -1,0 +1,5 @@
+pub mod Words
+pub mod Code
+pub mod CodeCells
+pub mod Title
+pub mod Number
