@@ -1,6 +1,8 @@
 //! The cards of a deck as plain data, and the list of them.
-ghost use Rattle.std.specs.Prelude.{◌≡◌, ℕ};
+ghost use Rattle.std.specs.Prelude.{◌≡◌};
+ghost use Rattle.pc_deck.specs.Deck.{event_named};
 
+use indexmap::IndexSet;
 use pc_text::{Code, Title};
 use std::marker::Model;
 
@@ -48,44 +50,48 @@ pub struct ActCard {
 }
 
 /// The cards of a deck that was read, each kind in card order.
-#[derive(Debug, Drop)]
+#[derive(Drop)]
 pub struct Cards {
     project: ProjectCard,
     events: Vec<EventCard>,
+    event_names: IndexSet<Code>,
     acts: Vec<ActCard>,
 }
 
 impl Model for Cards {
     ghost use Rattle.pc_deck.specs.Deck.{Deck};
+    ghost use Rattle.pc_deck.specs.Within.{IsNamed};
 
     ghost Value = { Deck };
 
     ghost view = { λ cards. record { project = cards.project; events = cards.events.items; acts = cards.acts.items } };
+
+    ghost invariant = { λ cards. IsNamed cards.events.items cards.event_names.keys cards.acts.items };
 }
 
 impl Cards {
-    pub(crate) fn new(project: ProjectCard, events: Vec<EventCard>, acts: Vec<ActCard>) -> Cards
-        ensures project { result.project ≡ project }
-        ensures events { result.events ≡ events.items }
-        ensures acts { result.acts ≡ acts.items }
-    {
-        Cards { project, events, acts }
-    }
-
     pub fn project(&self) -> &ProjectCard
         ensures { result.now ≡ self.now.project }
     {
         &self.project
     }
 
-    /// The EVENT cards, in card order.
+    /// The EVENT cards.
     pub fn events(&self) -> &[EventCard]
         ensures { result.now ≡ self.now.events }
     {
         &self.events
     }
 
-    /// The ACT cards, in card order.
+    /// The number of the event with a code: its place in card order, from 0.
+    pub fn event_named(&self, code: &Code) -> Option<u32>
+        ensures { result ≡ event_named self.now code.now }
+    {
+        let number = self.event_names.get_index_of(code)?;
+        Some(number as u32)
+    }
+
+    /// The ACT cards.
     pub fn acts(&self) -> &[ActCard]
         ensures { result.now ≡ self.now.acts }
     {
