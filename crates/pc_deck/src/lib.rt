@@ -1,0 +1,10 @@
+//! The cards of a deck, or the refusal that the deck meets.
+//!
+//! A deck is a text of records, and each record that is not blank is a card: its first field is the card's kind.
+//! [`read_cards`] reads the whole deck. Codes are read but not looked up here: what refers to another card is
+//! judged where the project is put together.
+#![tactic(auto)]
+
+mod cards;
+
+pub use crate::cards::{ActCard, Cards, EventCard, ProjectCard};
