@@ -1,5 +1,5 @@
 -- The cards of a deck, as lists in card order.
-use Rattle.std.specs.Prelude.{ℕ, nat_eq, List, map, position, Option}
+use Rattle.std.specs.Prelude.{◌≢◌, ℕ, ◌<◌, nat_eq, List, [], length, map, position, slice_index_or, Option}
 use Rattle.std.specs.Cmp.Lexicographic.{pointwise}
 use Rattle.pc_deck.specs.declared.cards.ProjectCard.{ProjectCard}
 use Rattle.pc_deck.specs.declared.cards.EventCard.{EventCard}
@@ -22,3 +22,7 @@ act_codes deck = map (λ act. act.code) deck.acts
 -- the number of the event with a code: the place of its card among the EVENT cards, from 0; none where no card has it
 abbrev pub event_named : Deck → List ℕ → Option ℕ
 event_named deck code = position (pointwise nat_eq code) (event_codes deck)
+
+-- no code stands at two places
+abbrev pub IsNamedOnce : List (List ℕ) → Type 0
+IsNamedOnce codes = (j k : ℕ) → j < k → k < length codes → slice_index_or codes j [] ≢ slice_index_or codes k []

@@ -1,10 +1,17 @@
 //! The cards of a deck as plain data, and the list of them.
-ghost use Rattle.std.specs.Prelude.{◌≡◌};
+ghost use Rattle.std.specs.Prelude.{◌≡◌, ◌≤◌, length};
 ghost use Rattle.pc_deck.specs.Deck.{event_named};
+ghost use Rattle.pc_deck.specs.Within.{IsWithinLimits};
 
-use indexmap::IndexSet;
+use crate::named::{Coded, Named};
 use pc_text::{Code, Title};
 use std::marker::Model;
+
+/// How many EVENT cards a deck may have.
+pub const EVENT_LIMIT: usize = 5_000;
+
+/// How many ACT cards a deck may have.
+pub const ACT_LIMIT: usize = 10_000;
 
 /// The PROJECT card: what the project is called, where it starts and ends, and when.
 #[derive(Clone, Copy, Debug)]
@@ -49,27 +56,43 @@ pub struct ActCard {
     pub title: Title,
 }
 
+impl Coded for EventCard {
+    ghost own_code = { λ event. event.code };
+
+    fn code(&self) -> &Code {
+        &self.code
+    }
+}
+
+impl Coded for ActCard {
+    ghost own_code = { λ act. act.code };
+
+    fn code(&self) -> &Code {
+        &self.code
+    }
+}
+
 /// The cards of a deck that was read, each kind in card order.
 #[derive(Drop)]
 pub struct Cards {
-    project: ProjectCard,
-    events: Vec<EventCard>,
-    event_names: IndexSet<Code>,
-    acts: Vec<ActCard>,
+    pub(crate) project: ProjectCard,
+    pub(crate) events: Named<EventCard>,
+    pub(crate) acts: Named<ActCard>,
 }
 
 impl Model for Cards {
     ghost use Rattle.pc_deck.specs.Deck.{Deck};
-    ghost use Rattle.pc_deck.specs.Within.{IsNamed};
+    ghost use Rattle.pc_deck.specs.Within.{IsWithinLimits};
 
     ghost Value = { Deck };
 
-    ghost view = { λ cards. record { project = cards.project; events = cards.events.items; acts = cards.acts.items } };
+    ghost view = { λ cards. record { project = cards.project; events = cards.events; acts = cards.acts } };
 
-    ghost invariant = { λ cards. IsNamed cards.events.items cards.event_names.keys cards.acts.items };
+    ghost invariant = { λ cards. IsWithinLimits (record { project = cards.project; events = cards.events; acts = cards.acts }) };
 }
 
 impl Cards {
+    /// The PROJECT card.
     pub fn project(&self) -> &ProjectCard
         ensures { result.now ≡ self.now.project }
     {
@@ -78,23 +101,27 @@ impl Cards {
 
     /// The EVENT cards.
     pub fn events(&self) -> &[EventCard]
-        ensures { result.now ≡ self.now.events }
+        ensures cards { result.now ≡ self.now.events }
+        ensures few { length result.now ≤ EVENT_LIMIT }
+        ensures within { IsWithinLimits self.now }
     {
-        &self.events
+        self.events.as_slice()
     }
 
     /// The number of the event with a code: its place in card order, from 0.
     pub fn event_named(&self, code: &Code) -> Option<u32>
         ensures { result ≡ event_named self.now code.now }
     {
-        let number = self.event_names.get_index_of(code)?;
+        let number = self.events.place_of(code)?;
         Some(number as u32)
     }
 
     /// The ACT cards.
     pub fn acts(&self) -> &[ActCard]
-        ensures { result.now ≡ self.now.acts }
+        ensures cards { result.now ≡ self.now.acts }
+        ensures few { length result.now ≤ ACT_LIMIT }
+        ensures within { IsWithinLimits self.now }
     {
-        &self.acts
+        self.acts.as_slice()
     }
 }

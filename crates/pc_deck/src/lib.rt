@@ -5,6 +5,12 @@
 //! judged where the project is put together.
 #![tactic(auto)]
 
+mod card;
 mod cards;
+mod fault;
+mod fields;
+mod kind;
+mod named;
 
-pub use crate::cards::{ActCard, Cards, EventCard, ProjectCard};
+pub use crate::cards::{ACT_LIMIT, ActCard, Cards, EVENT_LIMIT, EventCard, ProjectCard};
+pub use crate::fault::{DeckError, Detail, Fault, NOT_PLAIN, TOO_LONG};

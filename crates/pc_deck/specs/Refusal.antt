@@ -1,0 +1,10 @@
+-- Refusals of a deck.
+use Rattle.std.specs.Prelude.{⊤}
+use Rattle.pc_deck.specs.declared.fault.Fault.{Fault as ADeckFault}
+use Rattle.pc_deck.specs.declared.fault.DeckError.{DeckError}
+use Rattle.pc_deck.specs.declared.fault.DeckError.TheVariants.{Fault, OutOfMemory}
+
+-- the fault that the error names has P; want of memory comes at any time
+abbrev pub Refuses : (ADeckFault → Type 0) → DeckError → Type 0
+Refuses P (Fault fault) = P fault
+Refuses P OutOfMemory = ⊤
