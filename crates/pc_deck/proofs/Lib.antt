@@ -1,0 +1,5 @@
+pub mod ChainLemmas
+pub mod NameLemmas
+pub mod WithinLemmas
+pub mod Utf8Lemmas
+pub mod ReadLemmas

@@ -4,4 +4,6 @@ pub mod Plain
 pub mod Named
 pub mod Deck
 pub mod Within
+pub mod Cards
+pub mod Plainness
 pub mod Refusal

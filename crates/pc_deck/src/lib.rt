@@ -7,10 +7,16 @@
 
 mod card;
 mod cards;
+mod draft;
 mod fault;
 mod fields;
 mod kind;
+mod limits;
 mod named;
+mod read;
+mod rows;
 
 pub use crate::cards::{ACT_LIMIT, ActCard, Cards, EVENT_LIMIT, EventCard, ProjectCard};
 pub use crate::fault::{DeckError, Detail, Fault, NOT_PLAIN, TOO_LONG};
+pub use crate::limits::DECK_LIMIT;
+pub use crate::read::read_cards;
