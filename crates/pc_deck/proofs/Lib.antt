@@ -3,3 +3,4 @@ pub mod NameLemmas
 pub mod WithinLemmas
 pub mod Utf8Lemmas
 pub mod ReadLemmas
+pub mod RefusalLemmas

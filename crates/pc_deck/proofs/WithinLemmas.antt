@@ -126,8 +126,8 @@ All-one act within = λ k d h. let first : 0 ≡ k = omega (arith, h) in subst (
 pub with_card_within : (draft : Draft) (card : Card) (next : Draft) → IsWithinLimits (deck_so_far draft) → IsCardWithin card → with_card draft card ≡ Some next → IsWithinLimits (deck_so_far next)
 with_card_within draft (Project project) next old within h = absurd (let h' = h in cc)
 with_card_within draft (Event event) next old within h =
-    after (with_named (λ (other : EventCard). other.code) EVENT_LIMIT draft.events event) _ next h (λ events is rest.
-    let more = IsExtended-with_named (λ (other : EventCard). other.code) EVENT_LIMIT draft.events event events is in
+    after (with_named (λ (other : EventCard). other.code) 5000 draft.events event) _ next h (λ events is rest.
+    let more = IsExtended-with_named (λ (other : EventCard). other.code) 5000 draft.events event events is in
     subst (λ (d : Draft). IsWithinLimits (deck_so_far d)) (Some-injective _ next rest) (record {
       few_events = more.few;
       few_acts = old.few_acts;
@@ -139,8 +139,8 @@ with_card_within draft (Event event) next old within h =
       directed_within = old.directed_within;
     }))
 with_card_within draft (Act act) next old within h =
-    after (with_named (λ (other : ActCard). other.code) ACT_LIMIT draft.acts act) _ next h (λ acts is rest.
-    let more = IsExtended-with_named (λ (other : ActCard). other.code) ACT_LIMIT draft.acts act acts is in
+    after (with_named (λ (other : ActCard). other.code) 10000 draft.acts act) _ next h (λ acts is rest.
+    let more = IsExtended-with_named (λ (other : ActCard). other.code) 10000 draft.acts act acts is in
     subst (λ (d : Draft). IsWithinLimits (deck_so_far d)) (Some-injective _ next rest) (record {
       few_events = old.few_events;
       few_acts = more.few;

@@ -7,3 +7,4 @@ pub mod Within
 pub mod Cards
 pub mod Plainness
 pub mod Refusal
+pub mod FaultText

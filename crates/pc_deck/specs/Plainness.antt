@@ -9,7 +9,6 @@ use Rattle.pc_deck.specs.Plain.{card_of}
 use Rattle.pc_deck.specs.declared.cards.ProjectCard.{ProjectCard}
 use Rattle.pc_deck.specs.declared.cards.EventCard.{EventCard}
 use Rattle.pc_deck.specs.declared.cards.ActCard.{ActCard}
-use Rattle.pc_deck.specs.declared.cards.TheConstants.{ACT_LIMIT, EVENT_LIMIT}
 use Rattle.pc_deck.specs.declared.card.Card.{Card}
 use Rattle.pc_deck.specs.declared.card.Card.TheVariants.{Project, Event, Act, End}
 use Rattle.pc_deck.specs.declared.draft.Draft.{Draft}
@@ -23,13 +22,13 @@ abbrev pub begun : ProjectCard → Draft
 begun project = record { project = project; events = []; acts = []; has_ended = false }
 
 -- the draft with one more card: a second PROJECT card is refused, and so is an EVENT or ACT card past its kind's
--- limit or with the code of an earlier one
+-- limit, 5,000 and 10,000, or with the code of an earlier one
 abbrev pub with_card : Draft → Card → Option Draft
 with_card draft (Project project) = None
 with_card draft (Event event) =
-    with_named (λ (other : EventCard). other.code) EVENT_LIMIT draft.events event >>= (λ events. Some (record draft { events = events }))
+    with_named (λ (other : EventCard). other.code) 5000 draft.events event >>= (λ events. Some (record draft { events = events }))
 with_card draft (Act act) =
-    with_named (λ (other : ActCard). other.code) ACT_LIMIT draft.acts act >>= (λ acts. Some (record draft { acts = acts }))
+    with_named (λ (other : ActCard). other.code) 10000 draft.acts act >>= (λ acts. Some (record draft { acts = acts }))
 with_card draft End = Some (record draft { has_ended = true })
 
 -- the draft with one more card, unless the END card came before it

@@ -15,8 +15,13 @@ mod limits;
 mod named;
 mod read;
 mod rows;
+mod tell;
 
 pub use crate::cards::{ACT_LIMIT, ActCard, Cards, EVENT_LIMIT, EventCard, ProjectCard};
 pub use crate::fault::{DeckError, Detail, Fault, NOT_PLAIN, TOO_LONG};
 pub use crate::limits::DECK_LIMIT;
 pub use crate::read::read_cards;
+pub use crate::tell::fault_line;
+
+#[cfg(test)]
+mod tests;

@@ -1,10 +1,11 @@
 //! Reading the cards of a deck, or why they are refused.
-ghost use Rattle.std.specs.Prelude.{◌≡◌, ◌≤◌, length, Some, IfOk, IfErr};
+ghost use Rattle.std.specs.Prelude.{◌≡◌, ◌≤◌, length, Some, IfOk, IfErr, OnOk};
 ghost use Rattle.pc_deck.specs.Cards.{deck_cards};
 ghost use Rattle.std.specs.Str.{is_utf8};
 ghost use Rattle.pc_deck.specs.Within.{IsWithinLimits};
 ghost use Rattle.pc_deck.specs.Plainness.{deck_of, deck_so_far, with_cards};
 ghost use Rattle.pc_deck.specs.Refusal.{first_unknown, IsCardRefusal, Refuses};
+ghost use Rattle.pc_deck.specs.declared.fault.Fault.{Fault};
 
 use crate::card::{Card, read_card};
 use crate::cards::Cards;
@@ -25,6 +26,7 @@ pub fn read_cards(alloc: Global, bytes: &[u8]) -> Result<Cards, DeckError>
     requires { length bytes.now ≤ DECK_LIMIT }
     ensures cards { IfOk result (λ cards. deck_of bytes.now ≡ Some cards) }
     ensures refused { IfErr result (Refuses (IsCardRefusal bytes.now)) }
+    ensures accepted { OnOk result ((fault : Fault) → IsCardRefusal bytes.now fault → ⊥) }
 {
     if let Some(cards) = plain_cards(alloc, bytes)? {
         return Ok(cards);
