@@ -1,0 +1,6 @@
+pub mod ChainLemmas
+pub mod NameLemmas
+pub mod WithinLemmas
+pub mod Utf8Lemmas
+pub mod ReadLemmas
+pub mod RefusalLemmas

@@ -1,0 +1,11 @@
+use Rattle.std.proofs.Common.{◌≡◌, ◌+◌, ◌^◌, ◌<◌, length}
+use Rattle.pc_deck.specs.Cards.{cards_from}
+use Rattle.pc_deck.proofs.rows.CardRows.next.Given as goal
+
+abbrev pub invariant-rows : goal.invariant-rows
+invariant-rows l =
+    (l.self-inside.number + length l.self-inside.rows < 2 ^ 32)
+    × (cards_from (l.self-inside.number + 1) l.self-inside.rows ≡ l.fn.self)
+
+abbrev pub decreases-rows : goal.decreases-rows
+decreases-rows l = length l.self-inside.rows

@@ -1,0 +1,10 @@
+pub mod Kinds
+pub mod Fields
+pub mod Plain
+pub mod Named
+pub mod Deck
+pub mod Within
+pub mod Cards
+pub mod Plainness
+pub mod Refusal
+pub mod FaultText
