@@ -1,0 +1,6 @@
+pub mod Faults
+pub mod Writes
+pub mod Supply
+pub mod Intake
+pub mod MemSource
+pub mod MemSink
