@@ -1,13 +1,18 @@
 -- What several writes to one sink leave, one after the other.
 --
 -- `Wrote` is where a writer stands after the calls so far; `?` leaves `Stopped`; both together are `Writes`.
-use Rattle.std.proofs.Common.{◌≡◌, ℕ, ◌+◌, ◌≤◌, zero, suc, List, [], ◌∷◌, ◌++◌, length, take, drop, Option, Result, Ok, Err, IsErr, refl, sym, ap, ◌∙◌, subst, arith, append_assoc}
+use Rattle.std.proofs.Common.{◌≡◌, ℕ, ◌+◌, ◌<◌, ◌≤◌, ◌⊎◌, inl, inr, zero, suc, List, [], ◌∷◌, ◌++◌, length, take, drop, Option, Result, Ok, Err, IsErr, refl, sym, ap, ◌∙◌, subst, arith, append_assoc, append-nil, add-one, get_or}
 use Rattle.std.proofs.lemmas.Bool.{false≢true}
-use Rattle.std.proofs.Math.Seq.{take-append-add}
+use Rattle.std.specs.List.{flat_map}
+use Rattle.std.proofs.Math.Nat.{eq-or-lt_of_le}
+use Rattle.std.proofs.lemmas.Grind.{flat_map-append}
+use Rattle.std.proofs.Math.Seq.{take-append-add, drop-cons}
+use Rattle.std.proofs.lemmas.List.{take-append-drop, take_more}
 use Rattle.std.proofs.KnownBytes.{Appends-nil, Appends-trans}
 use Rattle.std.specs.Io.KnownBytes.{Appends}
 use Rattle.pc_edges.specs.Faults.{Rose}
-use Rattle.pc_edges.specs.Writes.{Wrote, Stopped, Writes}
+use Rattle.pc_edges.specs.Writes.{Wrote, Stopped, Writes, Gathered}
+use Rattle.pc_edges.specs.Texts.{texts_to}
 
 -- ---- counts of faults
 
@@ -74,3 +79,73 @@ Writes-err (Err e) is_err count p = record { ok = tt; err = p; count = count }
 pub Writes-last : {A E : Type 0} (r : Result A E) {a b c : Option (List ℕ)} {s t u : ℕ} {x y : List ℕ} → Wrote a b s t x → Writes r b c t u y → Writes r a c s u (x ++ y)
 Writes-last (Ok v) p q = Writes-ok (Wrote-then p q.ok)
 Writes-last (Err e) p q = record { ok = tt; err = Stopped-after p q.err; count = omega (arith, p.no_fault, q.count) }
+
+-- ---- texts that are gathered before they are pushed
+
+-- nothing is written or pending yet
+pub Gathered-nil : (a : Option (List ℕ)) (s : ℕ) → Gathered a a [] s s []
+Gathered-nil a s = record { pushed = ([], Appends-nil a, refl); no_fault = refl }
+
+-- a text is added to what is pending
+pub Gathered-more : {a b : Option (List ℕ)} {s t : ℕ} {p x : List ℕ} (y p' : List ℕ) → p' ≡ p ++ y → Gathered a b p s t x → Gathered a b p' s t (x ++ y)
+Gathered-more {p = p} y p' e h =
+    let front = h.pushed.0 in
+    record { pushed = (front, h.pushed.1, ap (λ l. l ++ y) h.pushed.2 ∙ append_assoc front p y ∙ ap (λ l. front ++ l) (sym e)); no_fault = h.no_fault }
+
+-- some of what is pending, or all of it, is pushed
+pub Gathered-then : {a b c : Option (List ℕ)} {s t u : ℕ} {p q x : List ℕ} → Gathered a b p s t x → Gathered b c q t u p → Gathered a c q s u x
+Gathered-then {q = q} g h =
+    let front = g.pushed.0 in
+    let next = h.pushed.0 in
+    record {
+      pushed = (front ++ next, Appends-trans _ _ _ front next g.pushed.1 h.pushed.1, g.pushed.2 ∙ ap (λ l. front ++ l) h.pushed.2 ∙ sym (append_assoc front next q));
+      no_fault = h.no_fault ∙ g.no_fault;
+    }
+
+-- the same, where the text has a name
+pub Gathered-as : {a b : Option (List ℕ)} {s t : ℕ} {p x : List ℕ} (text : List ℕ) → x ≡ text → Gathered a b p s t x → Gathered a b p s t text
+Gathered-as {a = a} {b = b} {s = s} {t = t} {p = p} text e g = subst (Gathered a b p s t) e g
+
+-- what is pending was pushed whole
+pub Wrote-gathered : {a b c : Option (List ℕ)} {s t u : ℕ} {p x : List ℕ} → Gathered a b p s t x → Wrote b c t u p → Wrote a c s u x
+Wrote-gathered {a = a} {c = c} {s = s} {u = u} g h = subst (Wrote a c s u) (sym g.pushed.2) (Wrote-then (record { whole = g.pushed.1; no_fault = g.no_fault }) h)
+
+-- pushing what is pending failed
+pub Stopped-gathered : {a b c : Option (List ℕ)} {s t u : ℕ} {p x : List ℕ} → Gathered a b p s t x → Stopped b c t u p → Stopped a c s u x
+Stopped-gathered {a = a} {c = c} {s = s} {u = u} g h = subst (Stopped a c s u) (sym g.pushed.2) (Stopped-after (record { whole = g.pushed.1; no_fault = g.no_fault }) h)
+
+-- the last call pushes what is pending
+pub Writes-gathered : {A E : Type 0} (r : Result A E) {a b c : Option (List ℕ)} {s t u : ℕ} {p x : List ℕ} → Gathered a b p s t x → Writes r b c t u p → Writes r a c s u x
+Writes-gathered r {a = a} {c = c} {s = s} {u = u} g h = subst (Writes r a c s u) (sym g.pushed.2) (Writes-last r (record { whole = g.pushed.1; no_fault = g.no_fault }) h)
+
+-- ---- loops over lines
+
+-- the lines below i + 1
+pub texts_to-more : (i : ℕ) (f : ℕ → List ℕ) → texts_to (i + 1) f ≡ texts_to i f ++ f i
+texts_to-more i f = rw add-one refl
+
+-- below n + 1 is n or below n
+last_or_below : (n i : ℕ) → i < suc n → (i ≡ n) ⊎ (i < n)
+last_or_below n i below = eq-or-lt_of_le (omega (arith, below))
+
+-- the lines below i, the line i, and the others
+pub texts_to-split : (n i : ℕ) (f : ℕ → List ℕ) → i < n → (rest : List ℕ) × (texts_to n f ≡ texts_to i f ++ (f i ++ rest))
+texts_to-split zero i f below = absurd (omega (arith, below))
+texts_to-split (suc n) i f below =
+    elim (last_or_below n i below) [
+      | inl here ↦ ([], ap (λ k. texts_to n f ++ f k) (sym here) ∙ ap (λ k. texts_to k f ++ f i) (sym here) ∙ ap (λ l. texts_to i f ++ l) (sym (append-nil (f i))))
+      | inr before ↦ (let r = texts_to-split n i f before in
+          (r.0 ++ f n, ap (λ l. l ++ f n) r.1 ∙ append_assoc (texts_to i f) (f i ++ r.0) (f n) ∙ ap (λ l. texts_to i f ++ l) (append_assoc (f i) r.0 (f n))))
+    ]
+
+-- the items below i + 1 of a list
+pub flat_map-take_more : {X : Type 0} (f : X → List ℕ) (xs : List X) (i : ℕ) (x : X) → i < length xs → x ≡ get_or xs i x → flat_map f (take (i + 1) xs) ≡ flat_map f (take i xs) ++ f x
+flat_map-take_more f xs i x below is =
+    ap (flat_map f) (take_more xs i x below) ∙ flat_map-append f (take i xs) (get_or xs i x ∷ []) ∙ ap (λ l. flat_map f (take i xs) ++ l) (append-nil (f (get_or xs i x)) ∙ ap f (sym is))
+
+-- the items below i, the item i, and the others
+pub flat_map-split : {X : Type 0} (f : X → List ℕ) (xs : List X) (i : ℕ) (x : X) → i < length xs → x ≡ get_or xs i x → flat_map f xs ≡ flat_map f (take i xs) ++ (f x ++ flat_map f (drop (i + 1) xs))
+flat_map-split f xs i x below is =
+    let cut : xs ≡ take i xs ++ (x ∷ drop (i + 1) xs) =
+    sym (take-append-drop i xs) ∙ ap (λ l. take i xs ++ l) (drop-cons xs i x below ∙ ap (λ y. y ∷ drop (suc i) xs) (sym is) ∙ ap (λ k. x ∷ drop k xs) (sym (add-one i))) in
+    ap (flat_map f) cut ∙ flat_map-append f (take i xs) (x ∷ drop (i + 1) xs)

@@ -1,5 +1,6 @@
 pub mod Faults
 pub mod Writes
+pub mod Texts
 pub mod Supply
 pub mod Intake
 pub mod MemSource

@@ -1,5 +1,5 @@
 -- What contracts see of a sink in memory.
-use Rattle.std.specs.Prelude.{ℕ, ◌≤◌, vec_len, vec_capacity}
+use Rattle.std.specs.Prelude.{◌≤◌, vec_len, vec_capacity}
 use Rattle.pc_edges.specs.declared.mem_sink.MemSink.TheInside.{Inside}
 use Rattle.pc_edges.specs.Intake.{Intake}
 

@@ -1,5 +1,5 @@
 -- What contracts see of a source in memory.
-use Rattle.std.specs.Prelude.{ℕ, ◌≤◌, drop, vec_len}
+use Rattle.std.specs.Prelude.{◌≤◌, drop, vec_len}
 use Rattle.pc_edges.specs.declared.mem_source.MemSource.TheInside.{Inside}
 use Rattle.pc_edges.specs.Supply.{Supply}
 

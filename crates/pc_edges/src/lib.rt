@@ -12,6 +12,8 @@ mod pushing;
 mod read_source;
 mod sink;
 mod source;
+#[cfg(test)]
+mod tests;
 mod write_sink;
 
 pub use loading::{LoadError, load};

@@ -109,7 +109,10 @@ impl Sink for MemSink {
         ensures given { IfOk result (λ n. n ≡ min (length piece.now)
             (min self.old.piece (self.old.room - length self.old.taken))) }
         ensures counted { 0 < length piece.now → self.new ≡ record self.old {
-            taken = self.new.taken; calls = raised self.old.calls; faults = self.new.faults } }
+          taken = self.new.taken;
+          calls = raised self.old.calls;
+          faults = self.new.faults;
+        } }
         ensures risen { OnErr result (self.new.faults ≡ raised self.old.faults) }
     {
         if piece.is_empty() {

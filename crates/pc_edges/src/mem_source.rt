@@ -80,7 +80,10 @@ impl Source for MemSource {
         ensures fails { IsErr result ↔ (0 < length buffer.old) × Contains self.old.failing (raised self.old.pulls) }
         ensures given { IfOk result (λ n. n ≡ min (length buffer.old) (min self.old.piece (length self.old.left))) }
         ensures counted { 0 < length buffer.old → self.new ≡ record self.old {
-            left = self.new.left; pulls = raised self.old.pulls; faults = self.new.faults } }
+          left = self.new.left;
+          pulls = raised self.old.pulls;
+          faults = self.new.faults;
+        } }
         ensures risen { OnErr result (self.new.faults ≡ raised self.old.faults) }
     {
         if buffer.is_empty() {
