@@ -4,7 +4,9 @@ ghost use Rattle.std.specs.Prelude.{◌≡◌};
 use crate::{Failed, Source};
 use std::io::Read;
 
-/// A source that reads from `R`. It tells no bytes to contracts, and each error of a read is a fault.
+/// A source that reads from `R`, and tells its bytes where `R` does: standard input and files don't.
+///
+/// Each error of a read is a fault.
 #[derive(Drop)]
 pub struct ReadSource<R> {
     inner: R,
@@ -13,13 +15,16 @@ pub struct ReadSource<R> {
 
 impl<R: Read> ReadSource<R> {
     pub fn new(inner: R) -> ReadSource<R>
-        ensures { ⟦<ReadSource<R> as Source>⟧.faults result ≡ 0 }
+        ensures left { ⟦<ReadSource<R> as Source>⟧.left result ≡ R.remaining inner }
+        ensures faults { ⟦<ReadSource<R> as Source>⟧.faults result ≡ 0 }
     {
         ReadSource { inner, faults: 0 }
     }
 }
 
 impl<R: Read> Source for ReadSource<R> {
+    ghost left = { λ source. R.remaining source.inner };
+
     ghost faults = { λ source. source.faults };
 
     fn pull(&mut self, buffer: &mut [u8]) -> Result<usize, Failed> {

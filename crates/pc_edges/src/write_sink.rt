@@ -4,7 +4,7 @@ ghost use Rattle.std.specs.Prelude.{◌≡◌};
 use crate::{Failed, Sink};
 use std::io::Write;
 
-/// A sink that writes to `W`. It tells no bytes to contracts.
+/// A sink that writes to `W`, and tells its bytes where `W` does: standard output and files don't.
 ///
 /// Each error of a write or a flush is a fault, and so is a write that takes nothing of a piece that is not empty.
 #[derive(Drop)]
@@ -15,13 +15,16 @@ pub struct WriteSink<W> {
 
 impl<W: Write> WriteSink<W> {
     pub fn new(inner: W) -> WriteSink<W>
-        ensures { ⟦<WriteSink<W> as Sink>⟧.faults result ≡ 0 }
+        ensures taken { ⟦<WriteSink<W> as Sink>⟧.taken result ≡ W.contents inner }
+        ensures faults { ⟦<WriteSink<W> as Sink>⟧.faults result ≡ 0 }
     {
         WriteSink { inner, faults: 0 }
     }
 }
 
 impl<W: Write> Sink for WriteSink<W> {
+    ghost taken = { λ sink. W.contents sink.inner };
+
     ghost faults = { λ sink. sink.faults };
 
     fn push(&mut self, piece: &[u8]) -> Result<usize, Failed> {
