@@ -1,0 +1,3 @@
+pub mod DeckFacts
+mod ReaderFacts
+pub mod FieldFacts

@@ -1,0 +1,14 @@
+//! The records of a deck, one at a time: the rows of fields that `csv` reads from its bytes.
+//!
+//! A deck is a text of comma-separated values without a header, with records of any length, double quotes, and no
+//! trimming. A byte order mark in front is dropped once. [`Rows`] streams its records into one [`Row`] that is
+//! used again for each, so that nothing is allocated per record.
+#![tactic(auto)]
+
+mod row;
+mod rows;
+#[cfg(test)]
+mod tests;
+
+pub use crate::row::Row;
+pub use crate::rows::Rows;

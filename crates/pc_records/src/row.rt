@@ -1,0 +1,81 @@
+// One record of a deck.
+
+ghost use Rattle.std.specs.Prelude.{◌≡◌, ◌==◌, [], List, ℕ, drop, length, option_map, slice_get};
+ghost use Rattle.csv.specs.Records.{fields_of};
+ghost use Rattle.pc_records.specs.Deck.{field_at, is_blank};
+
+use csv::ByteRecord;
+use std::alloc::Global;
+use std::marker::Model;
+
+/// One record of a deck: a list of fields, each of any bytes.
+///
+/// [`Rows::next_row`](crate::Rows::next_row) fills it anew for each record and keeps its memory.
+#[derive(Drop)]
+pub struct Row {
+    pub(crate) fields: ByteRecord,
+}
+
+impl Model for Row {
+    ghost Value = { List (List ℕ) };
+
+    ghost view = { λ row. fields_of row.fields };
+}
+
+impl Row {
+    /// A row with no fields yet. It takes no memory before it is filled.
+    pub fn new(alloc: Global) -> Row
+        ensures { result ≡ [] }
+    {
+        Row {
+            fields: ByteRecord::new(alloc),
+        }
+    }
+
+    /// How many fields there are, the empty ones among them.
+    pub fn len(&self) -> usize
+        ensures { result ≡ length self.now }
+    {
+        self.fields.len()
+    }
+
+    /// Whether there is no field at all. A record of a deck has at least one; see [`Row::is_blank`].
+    pub fn is_empty(&self) -> bool
+        ensures { result ≡ (length self.now == 0) }
+    {
+        self.fields.is_empty()
+    }
+
+    /// The field at place `i`, counted from 0.
+    pub fn get(&self, i: usize) -> Option<&[u8]>
+        ensures { option_map (λ field. field.now) result ≡ slice_get self.now i }
+    {
+        self.fields.get(i)
+    }
+
+    /// The field at place `i`, counted from 0, or an empty one past the last.
+    pub fn field(&self, i: usize) -> &[u8]
+        ensures { result.now ≡ field_at self.now i }
+    {
+        self.get(i).unwrap_or(&[])
+    }
+
+    /// Whether all fields are empty. Such a record is no card.
+    pub fn is_blank(&self) -> bool
+        ensures { result ≡ is_blank self.now }
+    {
+        self.is_blank_from(0)
+    }
+
+    /// Whether all fields from place `start` on, counted from 0, are empty; so also past the last field.
+    pub fn is_blank_from(&self, start: usize) -> bool
+        ensures { result ≡ is_blank (drop start self.now) }
+    {
+        for i in start..self.len() {
+            if !self.field(i).is_empty() {
+                return false;
+            }
+        }
+        true
+    }
+}

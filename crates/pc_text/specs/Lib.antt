@@ -1,0 +1,6 @@
+pub mod Words
+pub mod Code
+pub mod CodeCells
+pub mod Title
+pub mod Number
+pub mod Line

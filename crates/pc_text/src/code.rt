@@ -1,0 +1,136 @@
+//! Codes: the short names of projects, events, items, activities and accounts.
+ghost use Rattle.std.specs.Prelude.{◌≡◌, IsTrue, Some, refl, nat_eq};
+ghost use Rattle.std.proofs.Common.{rules};
+ghost use Rattle.std.specs.Ordering.{nat_cmp};
+ghost use Rattle.std.specs.Hash as fed;
+ghost use Rattle.std.specs.Cmp.{partial_equiv_from_equiv};
+ghost use Rattle.std.specs.Cmp.Lexicographic.{pointwise, slice_cmp, nat_list_eq_equiv, nat_list_cmp_total, texts_ties, texts_po};
+ghost use Rattle.std.specs.Cmp.Rules.{hashing};
+ghost use Rattle.std.specs.List.{list_all};
+ghost use Rattle.pc_text.specs.Code.{is_code_byte, is_code, code_of};
+
+use crate::words::pad;
+use std::cmp::Ordering;
+use std::hash::{Hash, Hasher};
+use std::marker::Model;
+
+/// The most bytes that a code has.
+const LIMIT: usize = 16;
+
+/// A short name: 1 to 16 bytes, each a letter, a digit, or one of `.`, `_` and `-`.
+///
+/// Codes are ordered by their bytes.
+#[derive(Clone, Copy, Debug)]
+pub struct Code {
+    cells: [u8; LIMIT],
+    len: u8,
+}
+
+impl Model for Code {
+    ghost use Rattle.std.specs.Prelude.{◌≡◌, ℕ, List, length, take, true};
+    ghost use Rattle.pc_text.specs.Words.{padded, length-IsPadded};
+    ghost use Rattle.pc_text.specs.CodeCells.{IsCodeCells};
+    ghost use Rattle.std.proofs.Common.{sym};
+
+    ghost Value = { List ℕ };
+
+    ghost view = { λ s. take s.len s.cells };
+
+    ghost invariant = { λ s. IsCodeCells s.len s.cells };
+
+    ghost inverse = { λ bytes. record { cells = padded 16 bytes; len = length bytes } };
+
+    ghost inverse_ok = { λ s h i. record { cells = sym h.padded.zeros i; len = length-IsPadded h.padded i } };
+}
+
+impl Code {
+    /// The code that a field of a deck spells, or none where it spells none.
+    pub fn read(field: &[u8]) -> Option<Code>
+        ensures { result ≡ code_of field.now }
+    {
+        if !is_code(field) {
+            return None;
+        }
+        Some(Code {
+            cells: pad(field),
+            len: field.len() as u8,
+        })
+    }
+
+    /// The bytes of the code.
+    pub fn bytes(&self) -> &[u8]
+        ensures value { result.now ≡ self.now }
+        ensures code { IsTrue (is_code result.now) }
+    {
+        &self.cells[..self.len as usize]
+    }
+}
+
+/// Whether a byte may stand in a code.
+fn is_code_byte(byte: u8) -> bool
+    ensures { result ≡ is_code_byte byte }
+{
+    byte.is_ascii_alphanumeric() || matches!(byte, b'.' | b'_' | b'-')
+}
+
+/// Whether the field is a code: 1 to 16 bytes, each a letter, a digit, or one of `.`, `_` and `-`.
+pub fn is_code(field: &[u8]) -> bool
+    ensures { result ≡ is_code field.now }
+{
+    1 <= field.len() && field.len() <= LIMIT && has_code_bytes(field)
+}
+
+/// Whether each byte may stand in a code.
+fn has_code_bytes(field: &[u8]) -> bool
+    ensures { result ≡ list_all is_code_byte field.now }
+{
+    field.iter().all(|byte| is_code_byte(*byte))
+}
+
+impl PartialEq for Code {
+    ghost eq = { pointwise nat_eq };
+
+    ghost laws = { partial_equiv_from_equiv nat_list_eq_equiv };
+
+    fn eq(&self, other: &Code) -> bool {
+        self.bytes() == other.bytes()
+    }
+}
+
+impl Eq for Code {
+    ghost laws = { nat_list_eq_equiv };
+}
+
+impl PartialOrd for Code {
+    ghost partial_cmp = { λ a b. Some (slice_cmp nat_cmp a b) };
+
+    ghost laws = { texts_po };
+
+    fn partial_cmp(&self, other: &Code) -> Option<Ordering> {
+        Some(self.cmp(other))
+    }
+}
+
+impl Ord for Code {
+    ghost cmp = { slice_cmp nat_cmp };
+
+    ghost total = { nat_list_cmp_total };
+
+    ghost matches_partial_cmp = { λ a b. refl };
+
+    ghost matches_eq = { texts_ties };
+
+    fn cmp(&self, other: &Code) -> Ordering {
+        self.bytes().cmp(other.bytes())
+    }
+}
+
+impl Hash for Code {
+    ghost hash_input = { fed.slice fed.u8 };
+
+    ghost respects_eq = { Prim.search (hashing, rules) };
+
+    fn hash<H: Hasher>(&self, state: &mut H) {
+        self.bytes().hash(state);
+    }
+}

@@ -1,0 +1,67 @@
+//! The line that a report is written on, cell by cell, before it goes out in one piece.
+ghost use Rattle.std.specs.Prelude.{◌≡◌, ◌+◌, ◌≤◌, [], ◌++◌, length, IfOk};
+
+use std::alloc::{AllocError, Global};
+use std::marker::Model;
+
+/// A line of a report, which takes its memory once and is used again for each line.
+#[derive(Debug, Drop)]
+pub struct Line {
+    bytes: Vec<u8>,
+    room: usize,
+}
+
+impl Model for Line {
+    ghost use Rattle.std.specs.Prelude.{◌≤◌, vec_len, vec_capacity};
+    ghost use Rattle.pc_text.specs.Line.{Line as Bytes};
+
+    ghost Value = { Bytes };
+
+    ghost view = { λ s. record { bytes = s.bytes.items; room = s.room } };
+
+    ghost invariant = { λ s. (vec_len s.bytes ≤ s.room) × (s.room ≤ vec_capacity s.bytes) };
+}
+
+impl Line {
+    /// An empty line that can hold `room` bytes.
+    pub fn with_room(alloc: Global, room: usize) -> Result<Line, AllocError>
+        ensures empty { IfOk result (λ line. line.bytes ≡ []) }
+        ensures room { IfOk result (λ line. line.room ≡ room) }
+    {
+        Ok(Line {
+            bytes: Vec::with_capacity(alloc, room)?,
+            room,
+        })
+    }
+
+    /// How many more bytes the line can hold.
+    pub fn room_left(&self) -> usize
+        ensures { result + length self.now.bytes ≡ self.now.room }
+    {
+        self.room - self.bytes.len()
+    }
+
+    /// Takes all bytes off the line.
+    pub fn clear(&mut self)
+        ensures bytes { self.new.bytes ≡ [] }
+        ensures room { self.new.room ≡ self.old.room }
+    {
+        self.bytes.clear();
+    }
+
+    /// The bytes on the line.
+    pub fn bytes(&self) -> &[u8]
+        ensures { result.now ≡ self.now.bytes }
+    {
+        self.bytes.as_slice()
+    }
+
+    /// Appends the piece.
+    pub fn text(&mut self, piece: &[u8])
+        requires { length self.old.bytes + length piece.now ≤ self.old.room }
+        ensures bytes { self.new.bytes ≡ self.old.bytes ++ piece.now }
+        ensures room { self.new.room ≡ self.old.room }
+    {
+        self.bytes.extend_from_slice(piece).unwrap();
+    }
+}

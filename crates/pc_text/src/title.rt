@@ -1,0 +1,77 @@
+//! Titles: the free text that a card may carry.
+ghost use Rattle.std.specs.Prelude.{◌≡◌, nat_eq};
+ghost use Rattle.std.specs.Cmp.{partial_equiv_from_equiv};
+ghost use Rattle.std.specs.Cmp.Lexicographic.{pointwise, nat_list_eq_equiv};
+ghost use Rattle.pc_text.specs.Title.{is_title_shape, title_of};
+
+use crate::words::pad;
+use std::marker::Model;
+
+/// The most bytes that a title has.
+const LIMIT: usize = 80;
+
+/// A text of at most 80 bytes, none below 0x20 and none 0x7F. It may be empty.
+#[derive(Clone, Copy, Debug)]
+pub struct Title {
+    cells: [u8; LIMIT],
+    len: u8,
+}
+
+impl Model for Title {
+    ghost use Rattle.std.specs.Prelude.{◌≡◌, ℕ, List, length, take};
+    ghost use Rattle.pc_text.specs.Words.{padded, IsPadded, length-IsPadded};
+    ghost use Rattle.std.proofs.Common.{sym};
+
+    ghost Value = { List ℕ };
+
+    ghost view = { λ s. take s.len s.cells };
+
+    ghost invariant = { λ s. IsPadded 80 s.len s.cells };
+
+    ghost inverse = { λ bytes. record { cells = padded 80 bytes; len = length bytes } };
+
+    ghost inverse_ok = { λ s h i. record { cells = sym h.zeros i; len = length-IsPadded h i } };
+}
+
+impl Title {
+    /// The title that a field of a deck spells, or none where the field has no title's shape or is too long.
+    pub fn read(field: &[u8]) -> Option<Title>
+        ensures { result ≡ title_of field.now }
+    {
+        if !is_title_shape(field) || field.len() > LIMIT {
+            return None;
+        }
+        Some(Title {
+            cells: pad(field),
+            len: field.len() as u8,
+        })
+    }
+
+    /// The bytes of the title.
+    pub fn bytes(&self) -> &[u8]
+        ensures { result.now ≡ self.now }
+    {
+        &self.cells[..self.len as usize]
+    }
+}
+
+/// Whether the field has the shape of a title, however long it is.
+pub fn is_title_shape(field: &[u8]) -> bool
+    ensures { result ≡ is_title_shape field.now }
+{
+    field.iter().all(|byte| !byte.is_ascii_control())
+}
+
+impl PartialEq for Title {
+    ghost eq = { pointwise nat_eq };
+
+    ghost laws = { partial_equiv_from_equiv nat_list_eq_equiv };
+
+    fn eq(&self, other: &Title) -> bool {
+        self.bytes() == other.bytes()
+    }
+}
+
+impl Eq for Title {
+    ghost laws = { nat_list_eq_equiv };
+}
