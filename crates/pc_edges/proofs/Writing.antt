@@ -11,7 +11,7 @@ use Rattle.std.proofs.lemmas.List.{take-append-drop, take_more}
 use Rattle.std.proofs.KnownBytes.{Appends-nil, Appends-trans}
 use Rattle.std.specs.Io.KnownBytes.{Appends}
 use Rattle.pc_edges.specs.Faults.{Rose}
-use Rattle.pc_edges.specs.Writes.{Wrote, Stopped, Writes, Gathered}
+use Rattle.pc_edges.specs.Writes.{Wrote, Stopped, Writes, Gathered, Gathers}
 use Rattle.pc_edges.specs.Texts.{texts_to}
 
 -- ---- counts of faults
@@ -80,6 +80,10 @@ pub Writes-last : {A E : Type 0} (r : Result A E) {a b c : Option (List ℕ)} {s
 Writes-last (Ok v) p q = Writes-ok (Wrote-then p q.ok)
 Writes-last (Err e) p q = record { ok = tt; err = Stopped-after p q.err; count = omega (arith, p.no_fault, q.count) }
 
+-- the same, where the text has a name
+pub Writes-as : {A E : Type 0} (r : Result A E) {a b : Option (List ℕ)} {s t : ℕ} {x : List ℕ} (text : List ℕ) → x ≡ text → Writes r a b s t x → Writes r a b s t text
+Writes-as r {a = a} {b = b} {s = s} {t = t} text e w = subst (Writes r a b s t) e w
+
 -- ---- texts that are gathered before they are pushed
 
 -- nothing is written or pending yet
@@ -118,6 +122,19 @@ Stopped-gathered {a = a} {c = c} {s = s} {u = u} g h = subst (Stopped a c s u) (
 pub Writes-gathered : {A E : Type 0} (r : Result A E) {a b c : Option (List ℕ)} {s t u : ℕ} {p x : List ℕ} → Gathered a b p s t x → Writes r b c t u p → Writes r a c s u x
 Writes-gathered r {a = a} {c = c} {s = s} {u = u} g h = subst (Writes r a c s u) (sym g.pushed.2) (Writes-last r (record { whole = g.pushed.1; no_fault = g.no_fault }) h)
 
+-- a call that gathers went on
+pub Gathered-next : {a b c : Option (List ℕ)} {s t u : ℕ} {p q x : List ℕ} (y : List ℕ) → Gathered a b p s t x → Gathered b c q t u (p ++ y) → Gathered a c q s u (x ++ y)
+Gathered-next {p = p} y g h = Gathered-then (Gathered-more y (p ++ y) refl g) h
+
+-- a call that gathers failed
+pub Stopped-next : {a b c : Option (List ℕ)} {s t u : ℕ} {p x : List ℕ} (y : List ℕ) → Gathered a b p s t x → Stopped b c t u (p ++ y) → Stopped a c s u (x ++ y)
+Stopped-next {p = p} y g h = Stopped-gathered (Gathered-more y (p ++ y) refl g) h
+
+-- an exit by an error, as `Writes-err`
+pub Gathers-err : {A E : Type 0} (r : Result A E) {a b : Option (List ℕ)} {s t : ℕ} (p q x : List ℕ) → IsErr r → s ≤ t → Stopped a b s t (p ++ x) → Gathers r a p b q s t x
+Gathers-err (Ok v) p q x is_err count h = absurd (false≢true is_err)
+Gathers-err (Err e) p q x is_err count h = record { ok = tt; err = h; count = count }
+
 -- ---- loops over lines
 
 -- the lines below i + 1
@@ -149,3 +166,13 @@ flat_map-split f xs i x below is =
     let cut : xs ≡ take i xs ++ (x ∷ drop (i + 1) xs) =
     sym (take-append-drop i xs) ∙ ap (λ l. take i xs ++ l) (drop-cons xs i x below ∙ ap (λ y. y ∷ drop (suc i) xs) (sym is) ∙ ap (λ k. x ∷ drop k xs) (sym (add-one i))) in
     ap (flat_map f) cut ∙ flat_map-append f (take i xs) (x ∷ drop (i + 1) xs)
+
+-- the lines below i are gathered behind x, and the line i is added
+pub Gathered-line : {a b : Option (List ℕ)} {s t : ℕ} {p : List ℕ} (x p' : List ℕ) (i : ℕ) (f : ℕ → List ℕ) → p' ≡ p ++ f i → Gathered a b p s t (x ++ texts_to i f) → Gathered a b p' s t (x ++ texts_to (i + 1) f)
+Gathered-line x p' i f e g = Gathered-as _ (append_assoc x (texts_to i f) (f i) ∙ ap (λ l. x ++ l) (sym (texts_to-more i f))) (Gathered-more (f i) p' e g)
+
+-- the lines below i are gathered behind x, and pushing what is pending failed
+pub Stopped-line : {a b c : Option (List ℕ)} {s t u : ℕ} {p : List ℕ} (x : List ℕ) (n i : ℕ) (f : ℕ → List ℕ) → i < n → Gathered a b p s t (x ++ texts_to i f) → Stopped b c t u p → Stopped a c s u (x ++ texts_to n f)
+Stopped-line {a = a} {c = c} {s = s} {u = u} x n i f below g h =
+    let r = texts_to-split n i f below in
+    subst (Stopped a c s u) (append_assoc x (texts_to i f) (f i ++ r.0) ∙ ap (λ l. x ++ l) (sym r.1)) (Stopped-before (f i ++ r.0) (Stopped-gathered g h))
