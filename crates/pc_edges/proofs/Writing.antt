@@ -1,0 +1,178 @@
+-- What several writes to one sink leave, one after the other.
+--
+-- `Wrote` is where a writer stands after the calls so far; `?` leaves `Stopped`; both together are `Writes`.
+use Rattle.std.proofs.Common.{◌≡◌, ℕ, ◌+◌, ◌<◌, ◌≤◌, ◌⊎◌, inl, inr, zero, suc, List, [], ◌∷◌, ◌++◌, length, take, drop, Option, Result, Ok, Err, IsErr, refl, sym, ap, ◌∙◌, subst, arith, append_assoc, append-nil, add-one, get_or}
+use Rattle.std.proofs.lemmas.Bool.{false≢true}
+use Rattle.std.specs.List.{flat_map}
+use Rattle.std.proofs.Math.Nat.{eq-or-lt_of_le}
+use Rattle.std.proofs.lemmas.Grind.{flat_map-append}
+use Rattle.std.proofs.Math.Seq.{take-append-add, drop-cons}
+use Rattle.std.proofs.lemmas.List.{take-append-drop, take_more}
+use Rattle.std.proofs.KnownBytes.{Appends-nil, Appends-trans}
+use Rattle.std.specs.Io.KnownBytes.{Appends}
+use Rattle.pc_edges.specs.Faults.{Rose}
+use Rattle.pc_edges.specs.Writes.{Wrote, Stopped, Writes, Gathered, Gathers}
+use Rattle.pc_edges.specs.Texts.{texts_to}
+
+-- ---- counts of faults
+
+-- a count that rose and did not fall since
+pub Rose-later : (a b c : ℕ) → Rose a b → b ≤ c → Rose a c
+Rose-later a b c rose later = omega arith
+
+-- a count that did not fall and then rose
+pub Rose-earlier : (a b c : ℕ) → a ≤ b → Rose b c → Rose a c
+Rose-earlier a b c earlier rose = omega arith
+
+-- ---- after calls that answered Ok
+
+-- nothing is written yet
+pub Wrote-nil : (a : Option (List ℕ)) (s : ℕ) → Wrote a a s s []
+Wrote-nil a s = record { whole = Appends-nil a; no_fault = refl }
+
+-- one text, and then another
+pub Wrote-then : {a b c : Option (List ℕ)} {s t u : ℕ} {x y : List ℕ} → Wrote a b s t x → Wrote b c t u y → Wrote a c s u (x ++ y)
+Wrote-then {x = x} {y = y} p q = record { whole = Appends-trans _ _ _ x y p.whole q.whole; no_fault = q.no_fault ∙ p.no_fault }
+
+-- the same, where the text has a name
+pub Wrote-as : {a b : Option (List ℕ)} {s t : ℕ} {x : List ℕ} (text : List ℕ) → x ≡ text → Wrote a b s t x → Wrote a b s t text
+Wrote-as {a = a} {b = b} {s = s} {t = t} text e p = subst (Wrote a b s t) e p
+
+-- ---- after a call that failed
+
+-- a front of the first of two texts is a front of both
+pub take-front : (x y : List ℕ) (n : ℕ) → (m : ℕ) × (take m (x ++ y) ≡ take n x)
+take-front [] y zero = (0, refl)
+take-front [] y (suc n) = (0, refl)
+take-front (a ∷ x) y zero = (0, refl)
+take-front (a ∷ x) y (suc n) = let r = take-front x y n in (suc r.0, ap (λ l. a ∷ l) r.1)
+
+-- the text goes on
+pub Stopped-before : {a b : Option (List ℕ)} {s t : ℕ} {x : List ℕ} (rest : List ℕ) → Stopped a b s t x → Stopped a b s t (x ++ rest)
+Stopped-before {a = a} {b = b} {x = x} rest p =
+    let n = take-front x rest p.front.0 in
+    record { front = (n.0, subst (Appends a b) (sym n.1) p.front.1); fault = p.fault }
+
+-- the text was written so far, and the next call failed in it
+pub Stopped-after : {a b c : Option (List ℕ)} {s t u : ℕ} {x y : List ℕ} → Wrote a b s t x → Stopped b c t u y → Stopped a c s u (x ++ y)
+Stopped-after {a = a} {c = c} {s = s} {u = u} {x = x} {y = y} p q = record {
+  front = (length x + q.front.0, subst (Appends a c) (sym (take-append-add x y q.front.0)) (Appends-trans _ _ _ x _ p.whole q.front.1));
+  fault = subst (λ n. Rose n u) p.no_fault q.fault;
+}
+
+-- the exit of a `?`: x was written so far, the call failed in y, and the whole text goes on behind it
+pub Stopped-in : {a b c : Option (List ℕ)} {s t u : ℕ} {x y : List ℕ} (text rest : List ℕ) → text ≡ x ++ (y ++ rest) → Wrote a b s t x → Stopped b c t u y → Stopped a c s u text
+Stopped-in {a = a} {c = c} {s = s} {u = u} text rest e p q = subst (Stopped a c s u) (sym e) (Stopped-after p (Stopped-before rest q))
+
+-- ---- what a call that writes ensures
+
+-- an exit by Ok
+pub Writes-ok : {A E : Type 0} {v : A} {a b : Option (List ℕ)} {s t : ℕ} {x : List ℕ} → Wrote a b s t x → Writes {A = A} {E = E} (Ok v) a b s t x
+Writes-ok {s = s} {t = t} p = record { ok = p; err = tt; count = omega (arith, p.no_fault) }
+
+-- an exit by an error: the exit of a `?` has `r` and `is_err` as `c.from_residual.result` and `c.from_residual.ensures.0`
+pub Writes-err : {A E : Type 0} (r : Result A E) {a b : Option (List ℕ)} {s t : ℕ} {x : List ℕ} → IsErr r → s ≤ t → Stopped a b s t x → Writes r a b s t x
+Writes-err (Ok v) is_err count p = absurd (false≢true is_err)
+Writes-err (Err e) is_err count p = record { ok = tt; err = p; count = count }
+
+-- the last call's answer is the answer
+pub Writes-last : {A E : Type 0} (r : Result A E) {a b c : Option (List ℕ)} {s t u : ℕ} {x y : List ℕ} → Wrote a b s t x → Writes r b c t u y → Writes r a c s u (x ++ y)
+Writes-last (Ok v) p q = Writes-ok (Wrote-then p q.ok)
+Writes-last (Err e) p q = record { ok = tt; err = Stopped-after p q.err; count = omega (arith, p.no_fault, q.count) }
+
+-- the same, where the text has a name
+pub Writes-as : {A E : Type 0} (r : Result A E) {a b : Option (List ℕ)} {s t : ℕ} {x : List ℕ} (text : List ℕ) → x ≡ text → Writes r a b s t x → Writes r a b s t text
+Writes-as r {a = a} {b = b} {s = s} {t = t} text e w = subst (Writes r a b s t) e w
+
+-- ---- texts that are gathered before they are pushed
+
+-- nothing is written or pending yet
+pub Gathered-nil : (a : Option (List ℕ)) (s : ℕ) → Gathered a a [] s s []
+Gathered-nil a s = record { pushed = ([], Appends-nil a, refl); no_fault = refl }
+
+-- a text is added to what is pending
+pub Gathered-more : {a b : Option (List ℕ)} {s t : ℕ} {p x : List ℕ} (y p' : List ℕ) → p' ≡ p ++ y → Gathered a b p s t x → Gathered a b p' s t (x ++ y)
+Gathered-more {p = p} y p' e h =
+    let front = h.pushed.0 in
+    record { pushed = (front, h.pushed.1, ap (λ l. l ++ y) h.pushed.2 ∙ append_assoc front p y ∙ ap (λ l. front ++ l) (sym e)); no_fault = h.no_fault }
+
+-- some of what is pending, or all of it, is pushed
+pub Gathered-then : {a b c : Option (List ℕ)} {s t u : ℕ} {p q x : List ℕ} → Gathered a b p s t x → Gathered b c q t u p → Gathered a c q s u x
+Gathered-then {q = q} g h =
+    let front = g.pushed.0 in
+    let next = h.pushed.0 in
+    record {
+      pushed = (front ++ next, Appends-trans _ _ _ front next g.pushed.1 h.pushed.1, g.pushed.2 ∙ ap (λ l. front ++ l) h.pushed.2 ∙ sym (append_assoc front next q));
+      no_fault = h.no_fault ∙ g.no_fault;
+    }
+
+-- the same, where the text has a name
+pub Gathered-as : {a b : Option (List ℕ)} {s t : ℕ} {p x : List ℕ} (text : List ℕ) → x ≡ text → Gathered a b p s t x → Gathered a b p s t text
+Gathered-as {a = a} {b = b} {s = s} {t = t} {p = p} text e g = subst (Gathered a b p s t) e g
+
+-- what is pending was pushed whole
+pub Wrote-gathered : {a b c : Option (List ℕ)} {s t u : ℕ} {p x : List ℕ} → Gathered a b p s t x → Wrote b c t u p → Wrote a c s u x
+Wrote-gathered {a = a} {c = c} {s = s} {u = u} g h = subst (Wrote a c s u) (sym g.pushed.2) (Wrote-then (record { whole = g.pushed.1; no_fault = g.no_fault }) h)
+
+-- pushing what is pending failed
+pub Stopped-gathered : {a b c : Option (List ℕ)} {s t u : ℕ} {p x : List ℕ} → Gathered a b p s t x → Stopped b c t u p → Stopped a c s u x
+Stopped-gathered {a = a} {c = c} {s = s} {u = u} g h = subst (Stopped a c s u) (sym g.pushed.2) (Stopped-after (record { whole = g.pushed.1; no_fault = g.no_fault }) h)
+
+-- the last call pushes what is pending
+pub Writes-gathered : {A E : Type 0} (r : Result A E) {a b c : Option (List ℕ)} {s t u : ℕ} {p x : List ℕ} → Gathered a b p s t x → Writes r b c t u p → Writes r a c s u x
+Writes-gathered r {a = a} {c = c} {s = s} {u = u} g h = subst (Writes r a c s u) (sym g.pushed.2) (Writes-last r (record { whole = g.pushed.1; no_fault = g.no_fault }) h)
+
+-- a call that gathers went on
+pub Gathered-next : {a b c : Option (List ℕ)} {s t u : ℕ} {p q x : List ℕ} (y : List ℕ) → Gathered a b p s t x → Gathered b c q t u (p ++ y) → Gathered a c q s u (x ++ y)
+Gathered-next {p = p} y g h = Gathered-then (Gathered-more y (p ++ y) refl g) h
+
+-- a call that gathers failed
+pub Stopped-next : {a b c : Option (List ℕ)} {s t u : ℕ} {p x : List ℕ} (y : List ℕ) → Gathered a b p s t x → Stopped b c t u (p ++ y) → Stopped a c s u (x ++ y)
+Stopped-next {p = p} y g h = Stopped-gathered (Gathered-more y (p ++ y) refl g) h
+
+-- an exit by an error, as `Writes-err`
+pub Gathers-err : {A E : Type 0} (r : Result A E) {a b : Option (List ℕ)} {s t : ℕ} (p q x : List ℕ) → IsErr r → s ≤ t → Stopped a b s t (p ++ x) → Gathers r a p b q s t x
+Gathers-err (Ok v) p q x is_err count h = absurd (false≢true is_err)
+Gathers-err (Err e) p q x is_err count h = record { ok = tt; err = h; count = count }
+
+-- ---- loops over lines
+
+-- the lines below i + 1
+pub texts_to-more : (i : ℕ) (f : ℕ → List ℕ) → texts_to (i + 1) f ≡ texts_to i f ++ f i
+texts_to-more i f = rw add-one refl
+
+-- below n + 1 is n or below n
+last_or_below : (n i : ℕ) → i < suc n → (i ≡ n) ⊎ (i < n)
+last_or_below n i below = eq-or-lt_of_le (omega (arith, below))
+
+-- the lines below i, the line i, and the others
+pub texts_to-split : (n i : ℕ) (f : ℕ → List ℕ) → i < n → (rest : List ℕ) × (texts_to n f ≡ texts_to i f ++ (f i ++ rest))
+texts_to-split zero i f below = absurd (omega (arith, below))
+texts_to-split (suc n) i f below =
+    elim (last_or_below n i below) [
+      | inl here ↦ ([], ap (λ k. texts_to n f ++ f k) (sym here) ∙ ap (λ k. texts_to k f ++ f i) (sym here) ∙ ap (λ l. texts_to i f ++ l) (sym (append-nil (f i))))
+      | inr before ↦ (let r = texts_to-split n i f before in
+          (r.0 ++ f n, ap (λ l. l ++ f n) r.1 ∙ append_assoc (texts_to i f) (f i ++ r.0) (f n) ∙ ap (λ l. texts_to i f ++ l) (append_assoc (f i) r.0 (f n))))
+    ]
+
+-- the items below i + 1 of a list
+pub flat_map-take_more : {X : Type 0} (f : X → List ℕ) (xs : List X) (i : ℕ) (x : X) → i < length xs → x ≡ get_or xs i x → flat_map f (take (i + 1) xs) ≡ flat_map f (take i xs) ++ f x
+flat_map-take_more f xs i x below is =
+    ap (flat_map f) (take_more xs i x below) ∙ flat_map-append f (take i xs) (get_or xs i x ∷ []) ∙ ap (λ l. flat_map f (take i xs) ++ l) (append-nil (f (get_or xs i x)) ∙ ap f (sym is))
+
+-- the items below i, the item i, and the others
+pub flat_map-split : {X : Type 0} (f : X → List ℕ) (xs : List X) (i : ℕ) (x : X) → i < length xs → x ≡ get_or xs i x → flat_map f xs ≡ flat_map f (take i xs) ++ (f x ++ flat_map f (drop (i + 1) xs))
+flat_map-split f xs i x below is =
+    let cut : xs ≡ take i xs ++ (x ∷ drop (i + 1) xs) =
+    sym (take-append-drop i xs) ∙ ap (λ l. take i xs ++ l) (drop-cons xs i x below ∙ ap (λ y. y ∷ drop (suc i) xs) (sym is) ∙ ap (λ k. x ∷ drop k xs) (sym (add-one i))) in
+    ap (flat_map f) cut ∙ flat_map-append f (take i xs) (x ∷ drop (i + 1) xs)
+
+-- the lines below i are gathered behind x, and the line i is added
+pub Gathered-line : {a b : Option (List ℕ)} {s t : ℕ} {p : List ℕ} (x p' : List ℕ) (i : ℕ) (f : ℕ → List ℕ) → p' ≡ p ++ f i → Gathered a b p s t (x ++ texts_to i f) → Gathered a b p' s t (x ++ texts_to (i + 1) f)
+Gathered-line x p' i f e g = Gathered-as _ (append_assoc x (texts_to i f) (f i) ∙ ap (λ l. x ++ l) (sym (texts_to-more i f))) (Gathered-more (f i) p' e g)
+
+-- the lines below i are gathered behind x, and pushing what is pending failed
+pub Stopped-line : {a b c : Option (List ℕ)} {s t u : ℕ} {p : List ℕ} (x : List ℕ) (n i : ℕ) (f : ℕ → List ℕ) → i < n → Gathered a b p s t (x ++ texts_to i f) → Stopped b c t u p → Stopped a c s u (x ++ texts_to n f)
+Stopped-line {a = a} {c = c} {s = s} {u = u} x n i f below g h =
+    let r = texts_to-split n i f below in
+    subst (Stopped a c s u) (append_assoc x (texts_to i f) (f i ++ r.0) ∙ ap (λ l. x ++ l) (sym r.1)) (Stopped-before (f i ++ r.0) (Stopped-gathered g h))

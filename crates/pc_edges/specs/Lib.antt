@@ -1,0 +1,7 @@
+pub mod Faults
+pub mod Writes
+pub mod Texts
+pub mod Supply
+pub mod Intake
+pub mod MemSource
+pub mod MemSink

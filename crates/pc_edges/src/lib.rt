@@ -1,0 +1,26 @@
+//! Where bytes come in and go out: sources that are pulled from, sinks that are pushed to, and the calls that
+//! read a source to its end and write a text whole.
+//!
+//! A source or a sink may tell its bytes to contracts (`left`, `taken`), as those in memory do, and always keeps a
+//! count of faults that never falls. `Failed` comes only where that count rose.
+#![tactic(auto)]
+
+mod loading;
+mod mem_sink;
+mod mem_source;
+mod pushing;
+mod read_source;
+mod sink;
+mod source;
+#[cfg(test)]
+mod tests;
+mod write_sink;
+
+pub use loading::{LoadError, load};
+pub use mem_sink::MemSink;
+pub use mem_source::MemSource;
+pub use pushing::push_all;
+pub use read_source::ReadSource;
+pub use sink::Sink;
+pub use source::{Failed, Source};
+pub use write_sink::WriteSink;

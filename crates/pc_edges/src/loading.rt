@@ -1,0 +1,75 @@
+// Reading a source to its end.
+ghost use Rattle.std.specs.Prelude.{◌≡◌, ℕ, List, ◌^◌, ◌<◌, ◌≤◌, ◌↔◌, length, vec_len, IfOk, OnOk, IsErrOf};
+ghost use Rattle.std.specs.Io.KnownBytes.{Consumes, IsAtEnd};
+ghost use Rattle.pc_edges.specs.Faults.{Rose};
+
+use crate::Source;
+use std::alloc::Global;
+use thiserror::Error;
+
+/// Why a source was not read to its end.
+#[derive(Clone, Copy, Debug, PartialEq, Eq, Hash, Error)]
+pub enum LoadError {
+    #[error("the input could not be read")]
+    ReadFault,
+    #[error("the input is too long")]
+    TooLong,
+    #[error("out of memory")]
+    OutOfMemory,
+}
+
+// How many bytes a pull is offered room for.
+const PULL: usize = 65536;
+
+/// All bytes of `source` up to its end, where there are at most `limit`.
+///
+/// Each byte is copied once from the buffer that is pulled into.
+pub fn load<S: Source>(alloc: Global, source: &mut S, limit: usize) -> Result<Vec<u8>, LoadError>
+    requires { limit < 2 ^ 32 }
+    ensures all { IfOk result (λ v. Consumes (S.left source.old) (S.left source.new) v.items) }
+    ensures end { OnOk result (IsAtEnd (S.left source.new)) }
+    ensures within { IfOk result (λ v. vec_len v ≤ limit) }
+    ensures no_fault { OnOk result (S.faults source.new ≡ S.faults source.old) }
+
+    ensures fault { IsErrOf result LoadError.ReadFault → Rose (S.faults source.old) (S.faults source.new) }
+    ensures too_long { (bytes : List ℕ) × Consumes (S.left source.old) (S.left source.new) bytes
+        × (IsErrOf result LoadError.TooLong ↔ (limit < length bytes)) }
+    ensures count { S.faults source.old ≤ S.faults source.new }
+{
+    let mut buffer = vec![in alloc; 0u8; PULL].map_err(|_| LoadError::OutOfMemory)?;
+    load_by(alloc, source, limit, buffer.as_mut_slice())
+}
+
+// As `load`, by pulls into `buffer`.
+fn load_by<S: Source>(
+    alloc: Global,
+    source: &mut S,
+    limit: usize,
+    buffer: &mut [u8],
+) -> Result<Vec<u8>, LoadError>
+    requires { 0 < length buffer.old }
+    ensures all { IfOk result (λ v. Consumes (S.left source.old) (S.left source.new) v.items) }
+    ensures end { OnOk result (IsAtEnd (S.left source.new)) }
+    ensures within { IfOk result (λ v. vec_len v ≤ limit) }
+    ensures no_fault { OnOk result (S.faults source.new ≡ S.faults source.old) }
+    ensures fault { IsErrOf result LoadError.ReadFault → Rose (S.faults source.old) (S.faults source.new) }
+    ensures too_long { (bytes : List ℕ) × Consumes (S.left source.old) (S.left source.new) bytes
+        × (IsErrOf result LoadError.TooLong ↔ (limit < length bytes)) }
+    ensures count { S.faults source.old ≤ S.faults source.new }
+{
+    let mut bytes = Vec::new(alloc);
+    loop {
+        let Ok(n) = source.pull(buffer) else {
+            return Err(LoadError::ReadFault);
+        };
+        if n == 0 {
+            return Ok(bytes);
+        }
+        if limit - bytes.len() < n {
+            return Err(LoadError::TooLong);
+        }
+        let Ok(()) = bytes.extend_from_slice(&buffer[..n]) else {
+            return Err(LoadError::OutOfMemory);
+        };
+    }
+}

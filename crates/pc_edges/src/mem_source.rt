@@ -1,0 +1,102 @@
+// A source in memory.
+ghost use Rattle.std.specs.Prelude.{◌≡◌, ℕ, ◌<◌, ◌≤◌, ◌↔◌, ◌++◌, [], Some, Ok, length, take, min, IfOk, OnOk, OnErr, IsErr, Contains};
+ghost use Rattle.std.specs.Io.KnownBytes.{Consumes, Keeps, IsAtEnd};
+ghost use Rattle.pc_edges.specs.Faults.{Rose, raised};
+
+use crate::{Failed, Source};
+use std::alloc::{AllocError, Global};
+use std::marker::Model;
+
+/// A source of bytes in memory that gives them in small pieces and fails where it is told to.
+///
+/// It tells its bytes to contracts, which see it as a `Supply`.
+#[derive(Drop)]
+pub struct MemSource {
+    bytes: Vec<u8>,
+    at: usize,
+    piece: usize,
+    failing: Vec<u64>,
+    pulls: u64,
+    faults: u64,
+}
+
+impl Model for MemSource {
+    ghost use Rattle.pc_edges.specs.Supply.{Supply};
+
+    ghost Value = { Supply };
+
+    ghost use Rattle.pc_edges.specs.MemSource.{supply_of, IsSupplied};
+
+    ghost view = { supply_of };
+
+    ghost invariant = { IsSupplied };
+}
+
+impl MemSource {
+    /// A source of a copy of `bytes`. A pull gives at most `piece` of them, and the k-th pull on a buffer with
+    /// room, counted from 1, fails where k is in `failing`.
+    pub fn new(
+        alloc: Global,
+        bytes: &[u8],
+        piece: usize,
+        failing: &[u64],
+    ) -> Result<MemSource, AllocError>
+        requires { 1 ≤ piece }
+        ensures { IfOk result (λ source. source ≡ record {
+          left = bytes.now;
+          piece = piece;
+          failing = failing.now;
+          pulls = 0;
+          faults = 0;
+        }) }
+    {
+        Ok(MemSource {
+            bytes: Vec::from_slice(alloc, bytes)?,
+            at: 0,
+            piece,
+            failing: Vec::from_slice(alloc, failing)?,
+            pulls: 0,
+            faults: 0,
+        })
+    }
+}
+
+impl Source for MemSource {
+    ghost left = { λ source. Some source.left };
+
+    ghost faults = { λ source. source.faults };
+
+    fn pull(&mut self, buffer: &mut [u8]) -> Result<usize, Failed>
+        ensures fits { IfOk result (λ n. n ≤ length buffer.old) }
+        ensures bytes { IfOk result (λ n. self.old.left ≡ take n buffer.new ++ self.new.left) }
+        ensures end { IfOk result (λ n. n ≡ 0 → 0 < length buffer.old → self.new.left ≡ []) }
+        ensures empty { length buffer.old ≡ 0 → (result ≡ Ok 0) × (self.new ≡ self.old) }
+        ensures no_fault { OnOk result (self.new.faults ≡ self.old.faults) }
+        ensures failed { OnErr result (Rose self.old.faults self.new.faults) }
+        ensures kept { OnErr result (self.new.left ≡ self.old.left) }
+        ensures count { self.old.faults ≤ self.new.faults }
+
+        // which pulls fail, how much the others give, and what is counted
+        ensures fails { IsErr result ↔ (0 < length buffer.old) × Contains self.old.failing (raised self.old.pulls) }
+        ensures given { IfOk result (λ n. n ≡ min (length buffer.old) (min self.old.piece (length self.old.left))) }
+        ensures counted { 0 < length buffer.old → self.new ≡ record self.old {
+          left = self.new.left;
+          pulls = raised self.old.pulls;
+          faults = self.new.faults;
+        } }
+        ensures risen { OnErr result (self.new.faults ≡ raised self.old.faults) }
+    {
+        if buffer.is_empty() {
+            return Ok(0);
+        }
+        self.pulls = self.pulls.saturating_add(1);
+        if self.failing.contains(&self.pulls) {
+            self.faults = self.faults.saturating_add(1);
+            return Err(Failed);
+        }
+        let n = buffer.len().min(self.piece).min(self.bytes.len() - self.at);
+        buffer[..n].copy_from_slice(&self.bytes[self.at..self.at + n]);
+        self.at += n;
+        Ok(n)
+    }
+}

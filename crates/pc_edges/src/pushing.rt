@@ -1,0 +1,15 @@
+// Pushing a piece whole.
+ghost use Rattle.pc_edges.specs.Writes.{Writes};
+
+use crate::{Failed, Sink};
+
+/// Pushes all of `piece`, however small the fronts are that the sink takes.
+pub fn push_all<O: Sink>(sink: &mut O, piece: &[u8]) -> Result<(), Failed>
+    ensures { Writes result (O.taken sink.old) (O.taken sink.new) (O.faults sink.old) (O.faults sink.new) piece.now }
+{
+    let mut at = 0;
+    while at < piece.len() {
+        at += sink.push(&piece[at..])?;
+    }
+    Ok(())
+}

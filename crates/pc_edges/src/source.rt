@@ -1,0 +1,32 @@
+// Where bytes come from.
+ghost use Rattle.std.specs.Prelude.{◌≡◌, ℕ, ◌<◌, ◌≤◌, List, Option, None, Ok, length, take, IfOk, OnOk, OnErr};
+ghost use Rattle.std.specs.Io.KnownBytes.{Consumes, Keeps, IsAtEnd};
+ghost use Rattle.pc_edges.specs.Faults.{Rose};
+
+/// A pull, a push or a flush that failed: a fault of the source or the sink, whose count of faults rose.
+#[derive(Clone, Copy, Debug, PartialEq, Eq, Hash)]
+pub struct Failed;
+
+/// Where bytes come from, a piece at a time.
+pub trait Source {
+    // The bytes still to come, where the source tells them.
+    ghost left: { Self → Option (List ℕ) } = { λ _. None };
+
+    // How many faults there were. A count that stands at its type's end counts as one that rose.
+    ghost faults: { Self → ℕ };
+
+    /// Fills the front of `buffer` with the next bytes, and answers how many they are.
+    ///
+    /// `Ok(0)` on a buffer with room is the end of the input. The rest of the buffer, and all of it after
+    /// `Failed`, may hold anything.
+    fn pull(&mut self, buffer: &mut [u8]) -> Result<usize, Failed>
+        ensures fits { IfOk result (λ n. n ≤ length buffer.old) }
+        ensures bytes { IfOk result (λ n. Consumes (left self.old) (left self.new) (take n buffer.new)) }
+        ensures end { IfOk result (λ n. n ≡ 0 → 0 < length buffer.old → IsAtEnd (left self.new)) }
+        ensures empty { length buffer.old ≡ 0 → result ≡ Ok 0 }
+        ensures no_fault { OnOk result (faults self.new ≡ faults self.old) }
+
+        ensures failed { OnErr result (Rose (faults self.old) (faults self.new)) }
+        ensures kept { OnErr result (Keeps (left self.old) (left self.new)) }
+        ensures count { faults self.old ≤ faults self.new };
+}

@@ -1,0 +1,14 @@
+-- Lines of reports.
+use Rattle.std.specs.Prelude.{ℕ, List, [], ◌∷◌, ◌++◌, decimal, slice_index, slice_index_or}
+
+-- the word, the number, and the end of the line
+abbrev pub number_line : List ℕ → ℕ → List ℕ
+number_line word n = word ++ (decimal n ++ 10 ∷ [])
+
+-- the word, the code, a space, the number, and the end of the line
+abbrev pub named_line : List ℕ → List ℕ → ℕ → List ℕ
+named_line word code n = word ++ (code ++ (32 ∷ (decimal n ++ 10 ∷ [])))
+
+-- the line of the i-th code and the i-th number
+abbrev pub line_at : List ℕ → List (List ℕ) → List ℕ → ℕ → List ℕ
+line_at word names numbers i = named_line word (slice_index_or names i []) (slice_index numbers i)
