@@ -2,7 +2,7 @@
 use Rattle.std.specs.Prelude.{◌≡◌, ℕ, ◌<◌, ◌≤◌, List, length, slice_index}
 use Rattle.pc_model.specs.declared.Term.{Term}
 use Rattle.pc_model.specs.Schedule.{normal_of, base_cost_of, slope_of}
-use Rattle.pc_crash.specs.declared.limits.TheConstants.{MAX_ACTIVITIES, MAX_DURATION, MAX_COST, MAX_SLOPE}
+use Rattle.pc_model.specs.declared.limits.TheConstants.{MAX_ACTIVITIES, MAX_DURATION, MAX_COST, MAX_SLOPE}
 
 -- no more activities than a project may have, and none with a duration, a cost or a slope above its limit
 pub record AreWithinLimits (terms : List Term) : Type 0 where

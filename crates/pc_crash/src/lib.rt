@@ -2,8 +2,6 @@
 #![tactic(auto)]
 
 mod cost;
-mod limits;
 
 pub use cost::{cost_of, normal_cost};
-pub use limits::{MAX_ACTIVITIES, MAX_COST, MAX_DURATION, MAX_SLOPE};
-pub use pc_model::Term;
+pub use pc_model::{MAX_ACTIVITIES, MAX_COST, MAX_DURATION, MAX_SLOPE, Term};

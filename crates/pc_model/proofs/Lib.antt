@@ -18,7 +18,6 @@ pub mod DualityLaws
 pub mod WalkLaws
 pub mod OrderLaws
 pub mod EarlyLaws
-<<<<<<< HEAD
 pub mod WorkedDeck
 pub mod Values
 pub mod EarlyExists
@@ -35,9 +34,7 @@ pub mod SegmentLaws
 pub mod CutLaws
 pub mod CoverLaws
 pub mod WorkedKnees
-=======
 pub mod AllNormal
-pub mod WorkedDeck
 pub mod ListedLaws
 pub mod CycleLaws
->>>>>>> 62c9f194bb2abdf1749fac8533ab37d3661c77ea
+pub mod UnsoundLaws

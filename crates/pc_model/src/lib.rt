@@ -7,8 +7,11 @@ pub mod duality_laws;
 pub mod knee_curve_laws;
 pub mod knee_laws;
 pub mod knee_state_laws;
+mod limits;
 pub mod segment_laws;
 pub mod state_laws;
+
+pub use limits::{MAX_ACTIVITIES, MAX_COST, MAX_DURATION, MAX_EVENTS, MAX_SLOPE};
 
 /// An activity's place in the network: the events where it begins and ends, numbered in card order from 0.
 #[derive(Clone, Copy, Debug, PartialEq, Eq, Hash)]

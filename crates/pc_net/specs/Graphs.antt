@@ -1,7 +1,7 @@
 -- What a graph's fields say: a network, and the activities at each event.
 use Rattle.std.specs.Prelude.{◌≤◌, length}
 use Rattle.pc_model.specs.Network.{Network, IsInRange}
-use Rattle.pc_net.specs.declared.limits.TheConstants.{MAX_EVENTS, MAX_ACTIVITIES}
+use Rattle.pc_model.specs.declared.limits.TheConstants.{MAX_EVENTS, MAX_ACTIVITIES}
 use Rattle.pc_net.specs.declared.graph.Graph.TheInside.{Inside}
 use Rattle.pc_net.specs.declared.side.Side.TheVariants.{Begins, Ends}
 use Rattle.pc_net.specs.Sides.{events_of}

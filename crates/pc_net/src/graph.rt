@@ -4,10 +4,9 @@ ghost use Rattle.pc_model.specs.Walk.{from_of, to_of};
 ghost use Rattle.pc_model.specs.Network.{IsInRange};
 ghost use Rattle.pc_net.specs.Networks.{network, events_from, events_to};
 
-use crate::limits::{MAX_ACTIVITIES, MAX_EVENTS};
 use crate::listing::Listing;
 use crate::side::Side;
-use pc_model::Arc;
+use pc_model::{Arc, MAX_ACTIVITIES, MAX_EVENTS};
 use std::alloc::{AllocError, Global};
 use std::marker::Model;
 

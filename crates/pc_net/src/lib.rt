@@ -5,16 +5,14 @@
 mod chains;
 mod faults;
 mod graph;
-mod limits;
 mod listing;
 mod network;
 mod ordering;
 mod refusal;
 mod side;
 
-pub use limits::{MAX_ACTIVITIES, MAX_EVENTS};
 pub use network::Net;
-pub use pc_model::Arc;
+pub use pc_model::{Arc, MAX_ACTIVITIES, MAX_EVENTS};
 pub use refusal::NetError;
 
 #[cfg(test)]

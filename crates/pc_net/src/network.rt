@@ -7,10 +7,9 @@ ghost use Rattle.pc_net.specs.Refusals.{IsRefusal};
 
 use crate::faults::check;
 use crate::graph::Graph;
-use crate::limits::{MAX_ACTIVITIES, MAX_EVENTS};
 use crate::ordering::ordered;
 use crate::refusal::NetError;
-use pc_model::Arc;
+use pc_model::{Arc, MAX_ACTIVITIES, MAX_EVENTS};
 use std::alloc::Global;
 use std::marker::Model;
 

@@ -4,7 +4,7 @@ ghost use Rattle.pc_model.specs.Network.{IsPartOrder};
 ghost use Rattle.pc_net.specs.Queue.{AreEntering, IsQueue, IsStuck};
 
 use crate::graph::Graph;
-use crate::limits::MAX_EVENTS;
+use pc_model::MAX_EVENTS;
 use std::alloc::{AllocError, Global};
 
 /// The events, each after those from which an activity leads to it, as far as no cycle is in the way (Kahn 1962).

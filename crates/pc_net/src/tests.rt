@@ -2,8 +2,8 @@ ghost use Rattle.std.specs.Bool.{OnTrue};
 ghost use Rattle.pc_model.specs.Network.{IsInRange};
 ghost use Rattle.pc_net.specs.Networks.{network};
 
-use crate::limits::{MAX_ACTIVITIES, MAX_EVENTS};
 use crate::{Arc, Net, NetError};
+use pc_model::{MAX_ACTIVITIES, MAX_EVENTS};
 use std::alloc::Global;
 use std::test::Fail;
 

@@ -1,0 +1,3 @@
+pub mod MisfitLaws
+pub mod NumberLaws
+pub mod PlannedLaws

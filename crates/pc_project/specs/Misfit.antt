@@ -9,6 +9,12 @@ use Rattle.pc_project.specs.Project.{network_of}
 abbrev pub IsEvent : Deck → List ℕ → Type 0
 IsEvent deck code = IsSome (event_named deck code)
 
+-- the start and the end are two events
+pub record HasEnds (deck : Deck) : Type 0 where
+  pub starts : IsEvent deck deck.project.start
+  pub ends : IsEvent deck deck.project.end
+  pub apart : deck.project.start ≢ deck.project.end
+
 -- the activity leads from one event to another
 pub record Connects (deck : Deck) (act : ActCard) : Type 0 where
   pub begins : IsEvent deck act.from
@@ -24,9 +30,7 @@ pub record IsInOrder (act : ActCard) : Type 0 where
 -- the cards make a project: the start and the end are two events, each activity leads from one event to another
 -- with its numbers in order, and the network is sound
 pub record MakesProject (deck : Deck) : Type 0 where
-  pub starts : IsEvent deck deck.project.start
-  pub ends : IsEvent deck deck.project.end
-  pub apart : deck.project.start ≢ deck.project.end
+  pub ends : HasEnds deck
   pub connected : All (Connects deck) deck.acts
   pub ordered : All IsInOrder deck.acts
   pub sound : IsSound (network_of deck)

@@ -1,18 +1,19 @@
 //! The project as one value, and how it is made of the cards.
-ghost use Rattle.std.specs.Prelude.{◌≡◌, ◌≤◌, ◌<◌, ◌×◌, ℕ, List, length, map, IfOk, IfErr, All};
+ghost use Rattle.std.specs.Prelude.{◌≡◌, ◌≤◌, ◌<◌, ℕ, List, length, map, IfOk, IfErr, All};
 ghost use Rattle.pc_model.specs.Network.{IsSound};
 ghost use Rattle.pc_model.specs.Schedule.{AreTerms};
 ghost use Rattle.pc_deck.specs.Deck.{Deck};
-ghost use Rattle.pc_deck.specs.Refusal.{Refuses, not_plain};
-ghost use Rattle.pc_project.specs.Project.{project_in};
+ghost use Rattle.pc_deck.specs.Refusal.{Refuses};
+ghost use Rattle.pc_project.specs.Project.{network_of, project_in};
+ghost use Rattle.pc_project.specs.Planned.{IsPlanned};
 ghost use Rattle.pc_project.specs.Misfit.{HasMisfit, MakesProject};
 
-use crate::lists::{codes_of_acts, codes_of_events, connections, terms};
+use crate::lists::{codes_of_acts, codes_of_events, connections, ends, terms};
 use pc_deck::{Cards, DeckError, NOT_PLAIN};
 use pc_model::Term;
 use pc_net::{Net, NetError};
 use pc_text::Code;
-use std::alloc::Global;
+use std::alloc::{AllocError, Global};
 use std::marker::Model;
 
 /// What a deck says, with numbers for codes: events and activities are counted in card order from 0.
@@ -28,9 +29,13 @@ pub struct Project {
 impl Model for Project {
     ghost use Rattle.pc_project.specs.Project.{Project};
 
+    ghost use Rattle.pc_project.specs.Planned.{IsPlanned};
+
     ghost Value = { Project };
 
     ghost view = { λ p. record { code = p.code; network = p.net; terms = p.terms.items; events = p.events.items; activities = p.activities.items } };
+
+    ghost invariant = { λ p. IsPlanned (record { code = p.code; network = p.net; terms = p.terms.items; events = p.events.items; activities = p.activities.items }) };
 }
 
 impl Project {
@@ -41,7 +46,8 @@ impl Project {
     }
 
     pub fn net(&self) -> &Net
-        ensures { result.now ≡ self.now.network }
+        ensures network { result.now ≡ self.now.network }
+        ensures planned { IsPlanned self.now }
     {
         &self.net
     }
@@ -68,36 +74,58 @@ impl Project {
     }
 }
 
-/// The project of the cards. It is refused as not plain exactly where its cards make no project.
+/// The network of the cards. It is refused as not plain exactly where the cards make no project.
+fn network(alloc: Global, cards: &Cards) -> Result<Net, DeckError>
+    ensures network { IfOk result (λ net. net ≡ network_of cards.now) }
+    ensures makes { IfOk result (λ _. MakesProject cards.now) }
+    ensures refused { IfErr result (λ e. Refuses (λ fault. (fault ≡ NOT_PLAIN) × HasMisfit cards.now) e) }
+{
+    let Some((start, end)) = ends(cards) else {
+        return Err(DeckError::Fault(NOT_PLAIN));
+    };
+    let Some(arcs) = connections(alloc, cards)? else {
+        return Err(DeckError::Fault(NOT_PLAIN));
+    };
+    let events = cards.events().len() as u32;
+    match Net::build(alloc, events, start, end, &arcs) {
+        Ok(net) => Ok(net),
+        Err(NetError::Unsound) => Err(DeckError::Fault(NOT_PLAIN)),
+        Err(NetError::OutOfMemory) => Err(DeckError::OutOfMemory),
+    }
+}
+
+/// The project of cards that make one, around their network.
+fn planned(alloc: Global, cards: &Cards, net: Net) -> Result<Project, AllocError>
+    requires network { net ≡ network_of cards.now }
+    requires makes { MakesProject cards.now }
+    ensures { IfOk result (λ project. project ≡ project_in cards.now) }
+{
+    let acts = cards.acts();
+    let terms = terms(alloc, acts)?;
+    let events = codes_of_events(alloc, cards)?;
+    let activities = codes_of_acts(alloc, cards)?;
+    let code = cards.project().code;
+    Ok(Project {
+        code,
+        net,
+        terms,
+        events,
+        activities,
+    })
+}
+
+/// The project of the cards. It is refused as not plain exactly where the cards make no project.
 pub fn project_of(alloc: Global, cards: Cards) -> Result<Project, DeckError>
     ensures project { IfOk result (λ project. project ≡ project_in cards) }
     ensures makes { IfOk result (λ _. MakesProject cards) }
-    ensures refused { IfErr result (λ e. Refuses (λ fault. (fault ≡ not_plain) × HasMisfit cards) e) }
+    ensures refused { IfErr result (λ e. Refuses (λ fault. (fault ≡ NOT_PLAIN) × HasMisfit cards) e) }
 {
-    let project = cards.project();
-    let (Some(start), Some(end)) = (
-        cards.event_named(&project.start),
-        cards.event_named(&project.end),
-    ) else {
-        return Err(DeckError::Fault(NOT_PLAIN));
-    };
-    if start == end {
-        return Err(DeckError::Fault(NOT_PLAIN));
-    }
-    let Some(arcs) = connections(alloc, &cards)? else {
-        return Err(DeckError::Fault(NOT_PLAIN));
-    };
-    let events = codes_of_events(alloc, &cards)?;
-    let net = match Net::build(alloc, events.len() as u32, start, end, &arcs) {
+    let net = match network(alloc, &cards) {
         Ok(net) => net,
-        Err(NetError::Unsound) => return Err(DeckError::Fault(NOT_PLAIN)),
-        Err(NetError::OutOfMemory) => return Err(DeckError::OutOfMemory),
+        Err(e) => return Err(e),
     };
-    Ok(Project {
-        code: project.code,
-        net,
-        terms: terms(alloc, cards.acts())?,
-        events,
-        activities: codes_of_acts(alloc, &cards)?,
-    })
+    match planned(alloc, &cards, net) {
+        Ok(project) => Ok(project),
+        Err(_) => Err(DeckError::OutOfMemory),
+    }
 }

@@ -1,0 +1,4 @@
+mod FlushLaws
+mod WordLaws
+mod ScheduleLaws
+mod VerdictLaws

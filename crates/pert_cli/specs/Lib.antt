@@ -1,0 +1,9 @@
+pub mod Words
+pub mod Verdict
+pub mod Answer
+pub mod Sides
+pub mod Outcome
+pub use Rattle.pc_edges.specs.Faults
+pub use Rattle.pc_edges.specs.Writes
+pub use Rattle.pc_deck.specs.Deck
+pub use Rattle.pc_project.specs.Project

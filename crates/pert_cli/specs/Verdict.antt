@@ -1,0 +1,36 @@
+-- Which decks are accepted, and with which fault each other deck is refused.
+use Rattle.std.specs.Prelude.{◌≡◌, ℕ, ◌<◌, ◌≤◌, List, length, Some}
+use Rattle.pc_deck.specs.declared.limits.TheConstants.{DECK_LIMIT}
+use Rattle.pc_deck.specs.declared.fault.Fault.{Fault}
+use Rattle.pc_deck.specs.declared.fault.TheConstants.{NOT_PLAIN, TOO_LONG}
+use Rattle.pc_deck.specs.Deck.{Deck}
+use Rattle.pc_deck.specs.Plainness.{deck_of}
+use Rattle.pc_deck.specs.Refusal.{IsCardRefusal}
+use Rattle.pc_project.specs.Project.{Project, project_in}
+use Rattle.pc_project.specs.Misfit.{MakesProject, HasMisfit}
+
+-- the bytes are a plain deck of these cards, which make a project
+pub record IsAccepted (bytes : List ℕ) (deck : Deck) : Type 0 where
+  pub short : length bytes ≤ DECK_LIMIT
+  pub cards : deck_of bytes ≡ Some deck
+  pub makes : MakesProject deck
+
+-- the fault with which a deck is refused: it is too long, its cards are refused, or they make no project
+pub data IsFault (bytes : List ℕ) (fault : Fault) : Type 0 where
+  too_long : DECK_LIMIT < length bytes → fault ≡ TOO_LONG → IsFault bytes fault
+  card_refusal : length bytes ≤ DECK_LIMIT → IsCardRefusal bytes fault → IsFault bytes fault
+  misfit : (deck : Deck) → length bytes ≤ DECK_LIMIT → deck_of bytes ≡ Some deck → HasMisfit deck → fault ≡ NOT_PLAIN → IsFault bytes fault
+
+-- the project is that of the deck, which is accepted
+pub record IsProjectOf (bytes : List ℕ) (project : Project) : Type 0 where
+  pub deck : Deck
+  pub accepted : IsAccepted bytes deck
+  pub is : project ≡ project_in deck
+
+-- the deck is accepted
+abbrev pub AcceptedBy : List ℕ → Type 0
+AcceptedBy bytes = (deck : Deck) × IsAccepted bytes deck
+
+-- the deck has a fault
+abbrev pub RefusedBy : List ℕ → Type 0
+RefusedBy bytes = (fault : Fault) × IsFault bytes fault

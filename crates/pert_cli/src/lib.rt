@@ -1,0 +1,12 @@
+//! The top call of the program: words and bytes in, bytes and a status out.
+#![tactic(auto)]
+
+mod answering;
+mod schedule;
+mod sending;
+mod status;
+mod top;
+mod verdict;
+mod words;
+
+pub use crate::top::run;

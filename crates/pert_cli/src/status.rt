@@ -1,0 +1,18 @@
+//! How a run can end.
+
+/// The statuses of a run, as the program ends with them.
+#[derive(Clone, Copy, Debug, PartialEq, Eq)]
+pub(crate) enum Status {
+    /// The answer is whole.
+    Done = 0,
+    /// The deck is refused.
+    Refused = 1,
+    /// The words are none of the forms.
+    Usage = 2,
+    /// Memory ran out.
+    OutOfMemory = 3,
+    /// The deck could not be read.
+    ReadFault = 4,
+    /// The answer, or the line that says why there is none, could not be written.
+    WriteFault = 5,
+}
