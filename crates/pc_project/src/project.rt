@@ -61,14 +61,16 @@ impl Project {
 
     /// The codes of the events.
     pub fn event_codes(&self) -> &[Code]
-        ensures { result.now ≡ self.now.events }
+        ensures codes { result.now ≡ self.now.events }
+        ensures each { length result.now ≡ self.now.network.events }
     {
         &self.events
     }
 
     /// The codes of the activities.
     pub fn activity_codes(&self) -> &[Code]
-        ensures { result.now ≡ self.now.activities }
+        ensures codes { result.now ≡ self.now.activities }
+        ensures each { length result.now ≡ length self.now.network.arcs }
     {
         &self.activities
     }

@@ -2,3 +2,5 @@ mod FlushLaws
 mod WordLaws
 mod ScheduleLaws
 mod VerdictLaws
+mod OutcomeLaws
+mod DecidedLaws

@@ -4,10 +4,11 @@ use Rattle.std.proofs.lemmas.List.{length-map}
 use Rattle.pc_model.specs.Network.{IsEarly, IsLongest}
 use Rattle.pc_model.specs.Schedule.{IsSchedule, cost_of, normal_of, normals}
 use Rattle.pc_model.proofs.AllNormal.{all_normal_least_cost, all_normal_schedule, cost_of-normals, normals-normal_of}
+use Rattle.pc_reports.specs.Schedule.{schedule_text}
 use Rattle.pc_times.specs.Times.{AreEarly, AreLengths}
 use Rattle.pc_project.specs.Project.{Project}
 use Rattle.pc_project.specs.Planned.{IsPlanned}
-use Rattle.pert_cli.specs.Answer.{IsNormalSchedule, Printed}
+use Rattle.pert_cli.specs.Answer.{IsNormalSchedule, Printed, printed_text}
 
 -- the normal durations are lengths of the activities
 pub normals-lengths : (project : Project) → IsPlanned project → AreLengths project.network (normals project.terms)
@@ -20,6 +21,7 @@ normals-lengths project planned = record
 pub normal_schedule : (project : Project) (printed : Printed) → IsPlanned project → printed.durations ≡ normals project.terms → AreEarly project.network (normals project.terms) printed.times → IsLongest project.network (normals project.terms) printed.length → printed.cost ≡ cost_of project.terms (normal_of project.terms) → IsNormalSchedule project printed
 normal_schedule project printed planned normal early longest cost = record
     { time_each = early.one_each
+    ; duration_each = ap length normal ∙ (normals-lengths project planned).one_each
     ; length = longest
     ; normal = normal
     ; early = early.each
@@ -28,3 +30,8 @@ normal_schedule project printed planned normal early longest cost = record
     ; cost = ap (λ durations. cost_of project.terms (slice_index durations)) normal ∙ (cost_of-normals project.terms ∙ sym cost)
     ; least = (all_normal_least_cost project.network project.terms (slice_index printed.times) printed.length printed.cost planned.in_range planned.sound planned.terms early.each longest cost).least
     }
+
+-- the text of a printed schedule, from its parts
+pub printed_text-is : (project : Project) (printed : Printed) (total cost : ℕ) (events activities : List (List ℕ)) (times durations : List ℕ) → total ≡ printed.length → cost ≡ printed.cost → events ≡ project.events → times ≡ printed.times → activities ≡ project.activities → durations ≡ printed.durations → schedule_text total cost events times activities durations ≡ printed_text project printed
+printed_text-is project printed total cost events activities times durations same_total same_cost same_events same_times same_activities same_durations =
+    λ i. schedule_text (same_total i) (same_cost i) (same_events i) (same_times i) (same_activities i) (same_durations i)

@@ -9,6 +9,7 @@ use Rattle.pc_deck.specs.declared.fault.TheConstants.{NOT_PLAIN, TOO_LONG}
 use Rattle.pc_deck.specs.Deck.{Deck}
 use Rattle.pc_deck.specs.Plainness.{deck_of}
 use Rattle.pc_deck.specs.Refusal.{IsCardRefusal, Refuses}
+use Rattle.pc_deck.proofs.RefusalLemmas.{not_both as cards_not_refused}
 use Rattle.pc_project.specs.Misfit.{HasMisfit, MakesProject}
 use Rattle.pc_project.proofs.MisfitLaws.{no_misfit}
 use Rattle.pert_cli.specs.Verdict.{IsAccepted, IsFault, too_long, card_refusal, misfit}
@@ -18,3 +19,14 @@ pub refused_project : {A : Type 0} (result : Result A DeckError) (bytes : List �
 refused_project (Ok project) bytes deck short cards refused = tt
 refused_project (Err (Fault fault)) bytes deck short cards refused = misfit deck short cards refused.1 refused.0
 refused_project (Err OutOfMemory) bytes deck short cards refused = tt
+
+-- two decks that the same bytes spell are one deck
+same_deck : (bytes : List ℕ) (deck other : Deck) → deck_of bytes ≡ Some deck → deck_of bytes ≡ Some other → deck ≡ other
+same_deck bytes deck other is also = ap (λ o. unwrap_or o deck) (sym is ∙ also)
+
+-- a deck is not both accepted and refused
+pub not_both : (bytes : List ℕ) (deck : Deck) (fault : ADeckFault) → IsAccepted bytes deck → IsFault bytes fault → ⊥
+not_both bytes deck fault accepted (too_long long is) = omega (arith, accepted.short, long)
+not_both bytes deck fault accepted (card_refusal short refusal) = cards_not_refused bytes deck fault accepted.cards refusal
+not_both bytes deck fault accepted (misfit other short cards broken is) =
+    no_misfit deck accepted.makes (subst HasMisfit (same_deck bytes other deck cards accepted.cards) broken)

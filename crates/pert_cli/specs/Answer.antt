@@ -16,6 +16,7 @@ pub record Printed : Type 0 where
 -- at its normal duration; the cost is the cost of these durations, and no schedule for this length costs less
 pub record IsNormalSchedule (project : Project) (printed : Printed) : Type 0 where
   pub time_each : length printed.times ≡ project.network.events
+  pub duration_each : length printed.durations ≡ length project.network.arcs
   pub length : IsAllNormalLength project.network project.terms printed.length
   pub normal : printed.durations ≡ normals project.terms
   pub early : (e : ℕ) → e < project.network.events → IsEarly project.network (normals project.terms) e (slice_index printed.times e)

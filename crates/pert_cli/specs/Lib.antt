@@ -3,6 +3,7 @@ pub mod Verdict
 pub mod Answer
 pub mod Sides
 pub mod Outcome
+pub mod Status
 pub use Rattle.pc_edges.specs.Faults
 pub use Rattle.pc_edges.specs.Writes
 pub use Rattle.pc_deck.specs.Deck

@@ -65,7 +65,7 @@ pub fn run<S: Source, O: Sink, E: Sink>(
         → ReadsOn (source_run S.left S.faults source.old source.new)
         → TakesOn (sink_run E.taken E.faults err.old err.new) → (result ≡ 1) ⊎ (result ≡ 3)) }
 {
-    outcome(alloc, words, source, out, err) as u8
+    outcome(alloc, words, source, out, err).code()
 }
 
 /// Does what the words ask for, and answers how it ended.

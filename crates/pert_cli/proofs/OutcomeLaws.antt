@@ -1,0 +1,59 @@
+-- How the parts of a run make its outcome.
+use Rattle.std.proofs.Common.{◌≡◌, ◌≢◌, ℕ, ◌+◌, ◌<◌, ◌≤◌, List, ◌++◌, length, Option, Some, None, sym, ◌∙◌, ap, subst, refl, arith, length-append, append-nil}
+use Rattle.std.specs.Prelude.{IfSome, String}
+use Rattle.std.specs.Io.KnownBytes.{Consumes, IsAtEnd}
+use Rattle.std.specs.declared.alloc.Global.{Global}
+use Rattle.pc_deck.specs.declared.limits.TheConstants.{DECK_LIMIT}
+use Rattle.pc_deck.specs.declared.fault.Fault.{Fault}
+use Rattle.pc_deck.specs.declared.fault.TheConstants.{TOO_LONG}
+use Rattle.pc_project.specs.Project.{Project}
+use Rattle.pert_cli.specs.declared.status.Status.{Status}
+use Rattle.pert_cli.specs.declared.status.Status.TheVariants.{Done, Refused, Usage, OutOfMemory, ReadFault, WriteFault}
+use Rattle.pert_cli.specs.Words.{IsNormal}
+use Rattle.pert_cli.specs.Verdict.{IsFault, IsProjectOf, too_long}
+use Rattle.pert_cli.specs.Answer.{IsNormalText}
+use Rattle.pert_cli.specs.Sides.{Answering, Refusal}
+use Rattle.pert_cli.specs.Outcome.{IsAnswer, Outcome, SinkRun, SourceRun, done, refused, no_memory, write_fault, in_answer, in_fault}
+
+-- what holds of the bytes that were read to the end holds of the deck
+pub of_the_deck : (P : List ℕ → Type 0) (left left_after : Option (List ℕ)) (bytes : List ℕ) → Consumes left left_after bytes → IsAtEnd left_after → P bytes → IfSome left P
+of_the_deck P None left_after bytes consumed at_end holds = tt
+of_the_deck P (Some deck) None bytes consumed at_end holds = absurd consumed
+of_the_deck P (Some deck) (Some rest) bytes consumed at_end holds =
+    subst P (sym (consumed ∙ (ap (λ r. bytes ++ r) at_end ∙ append-nil bytes))) holds
+
+-- a deck of which too many bytes were taken is too long
+pub of_a_long_deck : (left left_after : Option (List ℕ)) (bytes : List ℕ) → Consumes left left_after bytes → DECK_LIMIT < length bytes → IfSome left (λ deck. IsFault deck TOO_LONG)
+of_a_long_deck None left_after bytes consumed long = tt
+of_a_long_deck (Some deck) None bytes consumed long = absurd consumed
+of_a_long_deck (Some deck) (Some rest) bytes consumed long =
+    too_long (omega (arith, ap length consumed, length-append bytes rest, long)) refl
+
+module _ (words : List (String Global)) (source : SourceRun) (out err : SinkRun) (same_source same_out same_err : Type 0) (normal : IsNormal words) where
+  -- the deck has a fault, and its line was handed to the error output
+  pub after_refusal : (fault : Fault) (status : Status) → IfSome source.left (λ bytes. IsFault bytes fault) → (fault ≢ TOO_LONG → IsAtEnd source.left_after) → same_out → Refusal fault err.taken err.taken_after err.faults err.faults_after same_err status → Outcome words source out err same_source same_out same_err status
+  after_refusal fault Refused is read unused took = refused normal (record { fault = fault; is = is; read = read; took = took }) unused
+  after_refusal fault OutOfMemory is read unused same = no_memory normal unused same
+  after_refusal fault WriteFault is read unused took = write_fault (in_fault normal (record { fault = fault; is = is; took = took }) unused)
+  after_refusal fault Done is read unused never = absurd never
+  after_refusal fault Usage is read unused never = absurd never
+  after_refusal fault ReadFault is read unused never = absurd never
+
+  -- the deck is accepted
+  accepted_text : (project : Project) (text : List ℕ) → IfSome source.left (λ bytes. IsProjectOf bytes project) → IsNormalText project text → IfSome source.left (λ bytes. IsAnswer bytes text)
+  accepted_text project text is normal_text = of source.left is
+    where
+      of : (left : Option (List ℕ)) → IfSome left (λ bytes. IsProjectOf bytes project) → IfSome left (λ bytes. IsAnswer bytes text)
+      of None is = tt
+      of (Some bytes) is = record { project = project; accepted = is; normal = normal_text }
+
+  -- the deck is accepted, and its answer was handed to the output
+  pub after_answer : (project : Project) (status : Status) → IfSome source.left (λ bytes. IsProjectOf bytes project) → IsAtEnd source.left_after → same_err → Answering project out.taken out.taken_after out.faults out.faults_after same_out status → Outcome words source out err same_source same_out same_err status
+  after_answer project Done is read unused answered =
+      done normal (record { read = read; text = answered.0; answer = accepted_text project answered.0 is answered.1; took = answered.2 }) unused
+  after_answer project OutOfMemory is read unused same = no_memory normal same unused
+  after_answer project WriteFault is read unused answered =
+      write_fault (in_answer normal (record { text = answered.0; answer = accepted_text project answered.0 is answered.1; took = answered.2 }) unused)
+  after_answer project Refused is read unused never = absurd never
+  after_answer project Usage is read unused never = absurd never
+  after_answer project ReadFault is read unused never = absurd never
