@@ -1,4 +1,4 @@
-use Rattle.std.proofs.Common.{◌≡◌, ℕ, List, [], ◌++◌, length, slice_index, ap, ◌∙◌, arith}
+use Rattle.std.proofs.Common.{◌≡◌, [], length, arith}
 use Rattle.std.proofs.lemmas.List.{get_or_read}
 use Rattle.pc_edges.proofs.Writing.{Gathers-err, Stopped-line, Gathered-line, Gathered-then}
 use Rattle.pc_reports.specs.Lines.{line_at}
