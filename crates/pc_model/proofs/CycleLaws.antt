@@ -1,9 +1,9 @@
 -- Long walks have cycles, and a network where all that can be reached has an order has none.
-use Rattle.std.proofs.Common.{◌≡◌, ◌≢◌, ℕ, zero, suc, ◌+◌, ◌<◌, ◌≤◌, List, [], ◌∷◌, length, slice_index, take, nat_eq, true, refl, sym, ◌∙◌, ap, subst, ◌⊎◌, inl, inr, ⊎_elim, arith}
+use Rattle.std.proofs.Common.{◌≡◌, ◌≢◌, ℕ, zero, suc, ◌+◌, ◌<◌, ◌≤◌, List, [], ◌∷◌, length, slice_index, take, nat_eq, true, refl, sym, ◌∙◌, subst, ◌⊎◌, inl, inr, ⊎_elim, arith}
 use Rattle.std.specs.List.{IsDistinct, range_with_len}
 use Rattle.std.specs.Set.{is_member}
 use Rattle.std.specs.Cmp.{unsigned_Decides}
-use Rattle.std.proofs.lemmas.Bool.{cases_eq, cases_lt, ne_eqb}
+use Rattle.std.proofs.lemmas.Bool.{cases_eq, ne_eqb}
 use Rattle.std.proofs.lemmas.Cmp.{nat_eq_equiv}
 use Rattle.std.proofs.lemmas.List.{get_or_default}
 use Rattle.std.proofs.lemmas.List.FromFn.{length-range_with_len, get_or-range_with_len}
@@ -11,8 +11,8 @@ use Rattle.std.proofs.lemmas.Map.Keys.{IsDistinct-from_apart}
 use Rattle.std.proofs.lemmas.Map.Made.{is_member-Decides, length-le_from_is_member}
 use Rattle.pc_model.specs.declared.Arc.{Arc}
 use Rattle.pc_model.specs.Greatest.{StandsBelow}
-use Rattle.pc_model.specs.Walk.{from_of, to_of, IsWalk, IsCycle}
-use Rattle.pc_model.specs.Network.{Network, IsInRange, IsPartOrder}
+use Rattle.pc_model.specs.Walk.{to_of, IsWalk, IsCycle}
+use Rattle.pc_model.specs.Network.{Network, IsInRange}
 use Rattle.pc_model.proofs.OrderLaws.{stands_or_not, room_below}
 
 -- no two elements are the same
@@ -74,14 +74,16 @@ pub long_walk_has_cycle : (net : Network) → IsInRange net → (e f : ℕ) (wal
 long_walk_has_cycle net ranged e f walk walked known long =
     ⊎_elim (λ cycle. cycle) (λ once. absurd (omega (arith, length-passed net.arcs e walk, room_below (passed net.arcs e walk) net.events (passed_below net ranged e f walk walked known) once))) (cycle_or_once net.arcs e f walk walked)
 
+-- what stands in a list is a member of it
+member_from_stands : (xs : List ℕ) (q : ℕ) → StandsBelow xs (length xs) q → is_member nat_eq xs q ≡ true
+member_from_stands xs q (j, j_in, at) =
+    (is_member-Decides unsigned_Decides xs q).1 (j, j_in, get_or_default xs j q 0 j_in ∙ at)
+
 -- numbers below n that all stand in a list are no more than it has elements
 pub all_stand : (xs : List ℕ) (n : ℕ) → ((v : ℕ) → v < n → StandsBelow xs (length xs) v) → n ≤ length xs
 all_stand xs n stand =
     omega (arith, length-range_with_len 0 n, length-le_from_is_member nat_eq_equiv (range_with_len 0 n) xs apart within)
   where
-    at : (i d : ℕ) → i < n → slice_index (range_with_len 0 n) i ≡ i
-    at i d below = omega (arith, get_or-range_with_len 0 n i 0 below)
-
     apart : IsDistinct nat_eq (range_with_len 0 n)
     apart = IsDistinct-from_apart nat_eq (range_with_len 0 n) (λ i j d before below. ne_eqb _ _ (λ same. omega (arith, length-range_with_len 0 n, get_or-range_with_len 0 n i d (omega (arith, length-range_with_len 0 n)), get_or-range_with_len 0 n j d (omega (arith, length-range_with_len 0 n)), same)))
 
@@ -90,8 +92,7 @@ all_stand xs n stand =
         let (k, in_list, at_k) = (is_member-Decides unsigned_Decides (range_with_len 0 n) q).0 is in
         let below : k < n = omega (arith, length-range_with_len 0 n, in_list) in
         let same : k ≡ q = omega (arith, get_or-range_with_len 0 n k q below, at_k) in
-        let (j, j_in, at_j) = stand q (omega arith) in
-        (is_member-Decides unsigned_Decides xs q).1 (j, j_in, get_or_default xs j q 0 j_in ∙ at_j)
+        member_from_stands xs q (stand q (omega arith))
 
 -- each number below n stands in a list, or one of them does not
 pub stand_or_misses : (xs : List ℕ) (n : ℕ) → ((v : ℕ) → v < n → StandsBelow xs (length xs) v) ⊎ ((v : ℕ) × (v < n) × ((j : ℕ) → j < length xs → slice_index xs j ≢ v))

@@ -1,6 +1,6 @@
 -- Numbers that stand in a list, and lists of the numbers below a bound that have a property.
-use Rattle.std.proofs.Common.{◌≡◌, ◌≢◌, ℕ, ◌+◌, ◌<◌, ◌≤◌, zero, suc, List, [], ◌∷◌, ◌++◌, length, slice_index, take, Bool, true, false, cond, eqb, refl, sym, ◌∙◌, ap, subst, ◌⊎◌, inl, inr, ⊎_elim, arith, eq-eqb, add-zero, length-take}
-use Rattle.std.proofs.lemmas.Bool.{cases_eq, cases_lt, ne_eqb}
+use Rattle.std.proofs.Common.{◌≡◌, ℕ, ◌+◌, ◌<◌, ◌≤◌, zero, suc, List, [], ◌∷◌, ◌++◌, length, slice_index, take, Bool, true, false, cond, eqb, refl, sym, ◌∙◌, ap, subst, ⊎_elim, arith, eq-eqb, add-zero, length-take}
+use Rattle.std.proofs.lemmas.Bool.{cases_eq, ne_eqb}
 use Rattle.std.proofs.lemmas.List.{get_or_append_left, get_or_push, length_push, take_more, take_all, append-nil}
 use Rattle.pc_model.specs.Greatest.{StandsBelow, IsListed, places}
 
@@ -34,20 +34,20 @@ IsListed-none P = record {
 pub IsListed-push : (P : ℕ → Type 0) (n : ℕ) (xs : List ℕ) → IsListed P n xs → P n → IsListed P (n + 1) (xs ++ n ∷ [])
 IsListed-push P n xs listed holds = record {
   each = λ k below. ⊎_elim
-    (λ same. (omega (arith, at_end k same), subst P (sym (at_end k same)) holds))
-    (λ other. let front : k < length xs = omega (arith, length_push xs n) in
+      (λ same. (omega (arith, at_end k same), subst P (sym (at_end k same)) holds))
+      (λ other. let front : k < length xs = omega (arith, length_push xs n) in
       (omega (arith, in_front k front, (listed.each k front).0), subst P (sym (in_front k front)) (listed.each k front).1))
-    (cases_eq k (length xs));
+      (cases_eq k (length xs));
   every = λ v below holds_v. ⊎_elim
-    (λ same. (length xs, omega (arith, length_push xs n), at_end (length xs) refl ∙ sym same))
-    (λ other. let stands = listed.every v (omega arith) holds_v in
+      (λ same. (length xs, omega (arith, length_push xs n), at_end (length xs) refl ∙ sym same))
+      (λ other. let stands = listed.every v (omega arith) holds_v in
       (stands.0, omega (arith, stands.1, length_push xs n), in_front stands.0 stands.1 ∙ stands.2))
-    (cases_eq v n);
+      (cases_eq v n);
   rising = λ j k before below. ⊎_elim
-    (λ same. let front : j < length xs = omega arith in omega (arith, at_end k same, in_front j front, (listed.each j front).0))
-    (λ other. let front : k < length xs = omega (arith, length_push xs n) in
+      (λ same. let front : j < length xs = omega arith in omega (arith, at_end k same, in_front j front, (listed.each j front).0))
+      (λ other. let front : k < length xs = omega (arith, length_push xs n) in
       omega (arith, in_front j (omega arith), in_front k front, listed.rising j k before front))
-    (cases_eq k (length xs));
+      (cases_eq k (length xs));
 }
   where
     in_front : (k : ℕ) → k < length xs → slice_index (xs ++ n ∷ []) k ≡ slice_index xs k
@@ -61,9 +61,9 @@ pub IsListed-keep : (P : ℕ → Type 0) (n : ℕ) (xs : List ℕ) → IsListed 
 IsListed-keep P n xs listed fails = record {
   each = λ k below. (omega (arith, (listed.each k below).0), (listed.each k below).1);
   every = λ v below holds_v. ⊎_elim
-    (λ same. absurd (fails (subst P same holds_v)))
-    (λ other. listed.every v (omega arith) holds_v)
-    (cases_eq v n);
+      (λ same. absurd (fails (subst P same holds_v)))
+      (λ other. listed.every v (omega arith) holds_v)
+      (cases_eq v n);
   rising = listed.rising;
 }
 
@@ -95,11 +95,11 @@ IsListed-places_front x ys (suc n) within =
     let y = slice_index ys n in
     let before = IsListed-places_front x ys n (omega arith) in
     let more : places x 0 (take (n + 1) ys) ≡ places x 0 (take n ys) ++ cond (eqb y x) (n ∷ []) [] =
-      ap (places x 0) (take_more ys n 0 (omega arith)) ∙ places-push x 0 (take n ys) y ∙ ap (λ k. places x 0 (take n ys) ++ cond (eqb y x) (k ∷ []) []) (omega (arith, length-take n ys)) in
+    ap (places x 0) (take_more ys n 0 (omega arith)) ∙ places-push x 0 (take n ys) y ∙ ap (λ k. places x 0 (take n ys) ++ cond (eqb y x) (k ∷ []) []) (omega (arith, length-take n ys)) in
     let after : IsListed P (n + 1) (places x 0 (take (n + 1) ys)) = ⊎_elim
-      (λ is. subst (IsListed P (n + 1)) (sym (more ∙ ap (λ b. places x 0 (take n ys) ++ cond b (n ∷ []) []) (eq-eqb y x is))) (IsListed-push P n _ before is))
-      (λ isnt. subst (IsListed P (n + 1)) (sym (more ∙ ap (λ b. places x 0 (take n ys) ++ cond b (n ∷ []) []) (ne_eqb y x isnt) ∙ append-nil _)) (IsListed-keep P n _ before isnt))
-      (cases_eq y x) in
+    (λ is. subst (IsListed P (n + 1)) (sym (more ∙ ap (λ b. places x 0 (take n ys) ++ cond b (n ∷ []) []) (eq-eqb y x is))) (IsListed-push P n _ before is))
+    (λ isnt. subst (IsListed P (n + 1)) (sym (more ∙ ap (λ b. places x 0 (take n ys) ++ cond b (n ∷ []) []) (ne_eqb y x isnt) ∙ append-nil _)) (IsListed-keep P n _ before isnt))
+    (cases_eq y x) in
     subst (λ m. IsListed P m (places x 0 (take m ys))) (omega arith) after
 
 -- the places of x in a list are listed

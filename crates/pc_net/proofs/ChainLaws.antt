@@ -1,5 +1,5 @@
 -- The chains of places, one place further to the front.
-use Rattle.std.proofs.Common.{◌≡◌, ◌≢◌, ℕ, zero, suc, ◌+◌, ◌<◌, ◌≤◌, List, [], ◌∷◌, length, slice_index, drop, set, replicate, true, false, cond, eqb, refl, sym, ◌∙◌, ap, subst, ⊎_elim, arith, eq-eqb}
+use Rattle.std.proofs.Common.{◌≡◌, ◌≢◌, ℕ, zero, suc, ◌+◌, ◌<◌, ◌≤◌, List, [], ◌∷◌, length, slice_index, set, replicate, cond, sym, ◌∙◌, ap, ⊎_elim, arith, eq-eqb}
 use Rattle.std.proofs.lemmas.Bool.{cases_eq, cases_lt, ne_eqb}
 use Rattle.std.proofs.lemmas.List.{drop_more, drop_all, length-set, get_or-set_same, get_or-set_other, length-replicate, get_or-replicate}
 use Rattle.pc_model.specs.Greatest.{places}
@@ -34,13 +34,13 @@ AreChains-step xs events i x heads nexts chains below is known = record {
   heads_len = length-set heads x i ∙ chains.heads_len;
   nexts_len = length-set nexts i _ ∙ chains.nexts_len;
   head = λ y y_known. ⊎_elim
-    (λ same. ap (slice_index (set heads x i)) same ∙ get_or-set_same heads x i 0 (omega (arith, chains.heads_len)) ∙ sym (ap (first_or (length xs)) (places_from_hit xs y i below (is ∙ sym same))))
-    (λ other. get_or-set_other heads x y i 0 other ∙ chains.head y y_known ∙ sym (ap (first_or (length xs)) (places_from_miss xs y i below (λ e. other (sym e ∙ is)))))
-    (cases_eq y x);
+      (λ same. ap (slice_index (set heads x i)) same ∙ get_or-set_same heads x i 0 (omega (arith, chains.heads_len)) ∙ sym (ap (first_or (length xs)) (places_from_hit xs y i below (is ∙ sym same))))
+      (λ other. get_or-set_other heads x y i 0 other ∙ chains.head y y_known ∙ sym (ap (first_or (length xs)) (places_from_miss xs y i below (λ e. other (sym e ∙ is)))))
+      (cases_eq y x);
   next = λ k past k_below. ⊎_elim
-    (λ same. ap (slice_index (set nexts i (slice_index heads x))) same ∙ get_or-set_same nexts i _ 0 (omega (arith, chains.nexts_len)) ∙ chains.head x known ∙ ap (λ y. first_or (length xs) (places_from xs y (i + 1))) (sym is) ∙ ap (λ j. first_or (length xs) (places_from xs (slice_index xs j) (j + 1))) (sym same))
-    (λ other. get_or-set_other nexts i k _ 0 other ∙ chains.next k (omega arith) k_below)
-    (cases_eq k i);
+      (λ same. ap (slice_index (set nexts i (slice_index heads x))) same ∙ get_or-set_same nexts i _ 0 (omega (arith, chains.nexts_len)) ∙ chains.head x known ∙ ap (λ y. first_or (length xs) (places_from xs y (i + 1))) (sym is) ∙ ap (λ j. first_or (length xs) (places_from xs (slice_index xs j) (j + 1))) (sym same))
+      (λ other. get_or-set_other nexts i k _ 0 other ∙ chains.next k (omega arith) k_below)
+      (cases_eq k i);
 }
 
 -- what the first place of x from place j on says: it is at j or further on and x stands there, or there is none

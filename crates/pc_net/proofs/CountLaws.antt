@@ -1,5 +1,5 @@
 -- How often a number stands in a list.
-use Rattle.std.proofs.Common.{◌≡◌, ◌≢◌, ℕ, zero, suc, ◌+◌, ◌<◌, ◌≤◌, ◌==◌, List, [], ◌∷◌, length, slice_index, set, Bool, true, false, cond, count_by, refl, sym, ◌∙◌, ap, ⊎_elim, arith, eq-eqb}
+use Rattle.std.proofs.Common.{◌≡◌, ◌≢◌, ℕ, zero, suc, ◌+◌, ◌<◌, ◌==◌, List, [], ◌∷◌, length, slice_index, set, cond, count_by, refl, ◌∙◌, ap, ⊎_elim, arith, eq-eqb}
 use Rattle.std.proofs.lemmas.Bool.{cases_eq, ne_eqb}
 use Rattle.std.proofs.lemmas.List.Sums.{sum_by-set, get_or-le-sum_by, sum_by-cons}
 use Rattle.pc_model.specs.Greatest.{StandsBelow}
@@ -26,7 +26,7 @@ count_some v [] some = absurd (some refl)
 count_some v (x ∷ xs) some =
     ⊎_elim (λ is. (zero, omega arith, is))
     (λ isnt.
-      let rest : count_by (λ w. w == v) xs ≢ 0 = λ none. some (sum_by-cons (λ w. cond (w == v) 1 0) x xs ∙ omega (arith, one_at_other v x isnt, none)) in
-      let stands = count_some v xs rest in
-      (suc stands.0, omega (arith, stands.1), stands.2))
+    let rest : count_by (λ w. w == v) xs ≢ 0 = λ none. some (sum_by-cons (λ w. cond (w == v) 1 0) x xs ∙ omega (arith, one_at_other v x isnt, none)) in
+    let stands = count_some v xs rest in
+    (suc stands.0, omega (arith, stands.1), stands.2))
     (cases_eq x v)

@@ -40,17 +40,17 @@ AreListed-push xs x items starts more listed is = record {
   starts_len = length_push starts end ∙ ap (λ n. n + 1) listed.starts_len;
   last = new;
   rises = λ y below. ⊎_elim
-    (λ same. omega (arith, ap (slice_index starts') same, ap (λ z. slice_index starts' (z + 1)) same, old x (omega arith), new, listed.last, length-append items more))
-    (λ other. omega (arith, old y (omega arith), old (y + 1) (omega arith), listed.rises y (omega arith)))
-    (cases_eq y x);
+      (λ same. omega (arith, ap (slice_index starts') same, ap (λ z. slice_index starts' (z + 1)) same, old x (omega arith), new, listed.last, length-append items more))
+      (λ other. omega (arith, old y (omega arith), old (y + 1) (omega arith), listed.rises y (omega arith)))
+      (cases_eq y x);
   within = λ y below. ⊎_elim
-    (λ same. omega (arith, ap (λ z. slice_index starts' (z + 1)) same, new))
-    (λ other. omega (arith, old (y + 1) (omega arith), listed.within y (omega arith), length-append items more))
-    (cases_eq y x);
+      (λ same. omega (arith, ap (λ z. slice_index starts' (z + 1)) same, new))
+      (λ other. omega (arith, old (y + 1) (omega arith), listed.within y (omega arith), length-append items more))
+      (cases_eq y x);
   part = λ y below. ⊎_elim
-    (λ same. ap (λ z. slice_range (items ++ more) (slice_index starts' z) (slice_index starts' (z + 1))) same ∙ ap (λ a. slice_range (items ++ more) a (slice_index starts' (x + 1))) (old x (omega arith) ∙ listed.last) ∙ ap (slice_range (items ++ more) (length items)) new ∙ range_last items more ∙ is ∙ ap (λ z. places z 0 xs) (sym same))
-    (λ other. ap (λ a. slice_range (items ++ more) a (slice_index starts' (y + 1))) (old y (omega arith)) ∙ ap (slice_range (items ++ more) (slice_index starts y)) (old (y + 1) (omega arith)) ∙ range-append items more _ _ (listed.rises y (omega arith)) (listed.within y (omega arith)) ∙ listed.part y (omega arith))
-    (cases_eq y x);
+      (λ same. ap (λ z. slice_range (items ++ more) (slice_index starts' z) (slice_index starts' (z + 1))) same ∙ ap (λ a. slice_range (items ++ more) a (slice_index starts' (x + 1))) (old x (omega arith) ∙ listed.last) ∙ ap (slice_range (items ++ more) (length items)) new ∙ range_last items more ∙ is ∙ ap (λ z. places z 0 xs) (sym same))
+      (λ other. ap (λ a. slice_range (items ++ more) a (slice_index starts' (y + 1))) (old y (omega arith)) ∙ ap (slice_range (items ++ more) (slice_index starts y)) (old (y + 1) (omega arith)) ∙ range-append items more _ _ (listed.rises y (omega arith)) (listed.within y (omega arith)) ∙ listed.part y (omega arith))
+      (cases_eq y x);
 }
   where
     end : ℕ

@@ -8,7 +8,7 @@ use Rattle.pc_model.specs.Network.{Network, IsPartOrder}
 use Rattle.pc_model.proofs.ListedLaws.{StandsBelow-more, StandsBelow-push, StandsBelow-unpush, StandsBelow-last}
 use Rattle.pc_net.specs.declared.side.Side.TheVariants.{Ends}
 use Rattle.pc_net.specs.Sides.{events_of}
-use Rattle.pc_net.specs.Queue.{AreEntering, IsWaiting, IsQueue, IsMissing, IsStuck}
+use Rattle.pc_net.specs.Queue.{AreEntering, IsWaiting, IsQueue, IsStuck}
 use Rattle.pc_net.proofs.SideLaws.{events_of_at, length-events_of}
 use Rattle.pc_net.proofs.CountLaws.{one_at_same, one_at_other, count-set, count_none, count_some}
 
@@ -26,19 +26,25 @@ IsWaiting-same net order missing waits C D waiting there back = record {
 
 -- nothing is crossed yet, and the events that nothing enters stand in the queue
 pub IsQueue-start : (net : Network) (counts order : List ℕ) → AreEntering net counts → IsListed (λ v. slice_index counts v ≡ 0) (length counts) order → IsQueue net order counts 0
-IsQueue-start net counts order entering listed = (omega arith, (events_of Ends net.arcs, record {
-  missing_len = entering.counts_len;
-  waits_len = length-events_of Ends net.arcs;
-  counted = entering.count;
-  waits_for = λ a below. inr ((λ stands. absurd (omega (arith, stands.1))), events_of_at Ends net.arcs a below);
-  part = record {
-    range = λ k below. omega (arith, entering.counts_len, (listed.each k below).0);
-    once = λ j k before below same. omega (arith, listed.rising j k before below);
-    before = λ k a below a_in ends. absurd (count_none (slice_index order k) (events_of Ends net.arcs) (sym (entering.count (slice_index order k) (omega (arith, entering.counts_len, (listed.each k below).0))) ∙ (listed.each k below).1) a (omega (arith, length-events_of Ends net.arcs)) (events_of_at Ends net.arcs a a_in ∙ ends));
-  };
-  free = λ k below. (listed.each k below).1;
-  placed = λ v known none. listed.every v (omega (arith, entering.counts_len)) none;
-}))
+IsQueue-start net counts order entering listed = (
+  omega arith,
+  (
+    events_of Ends net.arcs,
+    record {
+      missing_len = entering.counts_len;
+      waits_len = length-events_of Ends net.arcs;
+      counted = entering.count;
+      waits_for = λ a below. inr ((λ stands. absurd (omega (arith, stands.1))), events_of_at Ends net.arcs a below);
+      part = record {
+        range = λ k below. omega (arith, entering.counts_len, (listed.each k below).0);
+        once = λ j k before below same. omega (arith, listed.rising j k before below);
+        before = λ k a below a_in ends. absurd (count_none (slice_index order k) (events_of Ends net.arcs) (sym (entering.count (slice_index order k) (omega (arith, entering.counts_len, (listed.each k below).0))) ∙ (listed.each k below).1) a (omega (arith, length-events_of Ends net.arcs)) (events_of_at Ends net.arcs a a_in ∙ ends));
+      };
+      free = λ k below. (listed.each k below).1;
+      placed = λ v known none. listed.every v (omega (arith, entering.counts_len)) none;
+    },
+  ),
+)
 
 -- all events of the queue are crossed, and those that are left are entered from one another
 pub IsStuck-end : (net : Network) (order missing : List ℕ) (at : ℕ) → IsQueue net order missing at → length order ≤ at → IsStuck net order
@@ -83,9 +89,9 @@ module _ (net : Network) (order missing waits : List ℕ) (C : ℕ → Type 0) (
   waits_now k below = ⊎_elim
       (λ same. inl (inr same, ap (slice_index (set waits a net.events)) same ∙ get_or-set_same waits a _ 0 (omega (arith, waiting.waits_len))))
       (λ other. ⊎_elim
-        (λ crossed. inl (inl crossed.0, get_or-set_other waits a k _ 0 other ∙ crossed.1))
-        (λ waits_on. inr ((λ now. ⊎_elim waits_on.0 other now), get_or-set_other waits a k _ 0 other ∙ waits_on.1))
-        (waiting.waits_for k below))
+      (λ crossed. inl (inl crossed.0, get_or-set_other waits a k _ 0 other ∙ crossed.1))
+      (λ waits_on. inr ((λ now. ⊎_elim waits_on.0 other now), get_or-set_other waits a k _ 0 other ∙ waits_on.1))
+      (waiting.waits_for k below))
       (cases_eq k a)
 
   free_before : (k : ℕ) → k < length order → slice_index order k ≢ w
@@ -101,9 +107,9 @@ module _ (net : Network) (order missing waits : List ℕ) (C : ℕ → Type 0) (
     part = waiting.part;
     free = λ k below. missing_other (slice_index order k) (free_before k below) ∙ waiting.free k below;
     placed = λ v known none. ⊎_elim
-      (λ same. absurd (more (sym missing_same ∙ ap (slice_index (set missing w (slice_index missing w - 1))) (sym same) ∙ none)))
-      (λ other. waiting.placed v known (sym (missing_other v other) ∙ none))
-      (cases_eq v w);
+        (λ same. absurd (more (sym missing_same ∙ ap (slice_index (set missing w (slice_index missing w - 1))) (sym same) ∙ none)))
+        (λ other. waiting.placed v known (sym (missing_other v other) ∙ none))
+        (cases_eq v w);
   }
 
   in_front : (k : ℕ) → k < length order → slice_index (order ++ w ∷ []) k ≡ slice_index order k
@@ -122,17 +128,17 @@ module _ (net : Network) (order missing waits : List ℕ) (C : ℕ → Type 0) (
   part_now : slice_index missing w - 1 ≡ 0 → IsPartOrder net (order ++ w ∷ [])
   part_now none = record {
     range = λ k below. ⊎_elim
-      (λ same. omega (arith, at_end k same))
-      (λ other. let front : k < length order = omega (arith, length_push order w) in omega (arith, in_front k front, waiting.part.range k front))
-      (cases_eq k (length order));
+        (λ same. omega (arith, at_end k same))
+        (λ other. let front : k < length order = omega (arith, length_push order w) in omega (arith, in_front k front, waiting.part.range k front))
+        (cases_eq k (length order));
     once = λ j k before below same. ⊎_elim
-      (λ last. let front : j < length order = omega arith in free_before j front (sym (in_front j front) ∙ same ∙ at_end k last))
-      (λ other. let front : k < length order = omega (arith, length_push order w) in waiting.part.once j k before front (sym (in_front j (omega arith)) ∙ same ∙ in_front k front))
-      (cases_eq k (length order));
+        (λ last. let front : j < length order = omega arith in free_before j front (sym (in_front j front) ∙ same ∙ at_end k last))
+        (λ other. let front : k < length order = omega (arith, length_push order w) in waiting.part.once j k before front (sym (in_front j (omega arith)) ∙ same ∙ in_front k front))
+        (cases_eq k (length order));
     before = λ k b below b_in is. ⊎_elim
-      (λ last. StandsBelow-push order w k (from_of net.arcs b) (subst (λ n. StandsBelow order n (from_of net.arcs b)) (sym last) (all_crossed none b b_in (is ∙ at_end k last))) (omega arith))
-      (λ other. let front : k < length order = omega (arith, length_push order w) in StandsBelow-push order w k (from_of net.arcs b) (waiting.part.before k b front b_in (is ∙ in_front k front)) (omega arith))
-      (cases_eq k (length order));
+        (λ last. StandsBelow-push order w k (from_of net.arcs b) (subst (λ n. StandsBelow order n (from_of net.arcs b)) (sym last) (all_crossed none b b_in (is ∙ at_end k last))) (omega arith))
+        (λ other. let front : k < length order = omega (arith, length_push order w) in StandsBelow-push order w k (from_of net.arcs b) (waiting.part.before k b front b_in (is ∙ in_front k front)) (omega arith))
+        (cases_eq k (length order));
   }
 
   -- it was the last to enter the event where it ends, which is put behind the queue
@@ -144,14 +150,14 @@ module _ (net : Network) (order missing waits : List ℕ) (C : ℕ → Type 0) (
     waits_for = waits_now;
     part = part_now none;
     free = λ k below. ⊎_elim
-      (λ same. ap (slice_index (set missing w (slice_index missing w - 1))) (at_end k same) ∙ missing_same ∙ none)
-      (λ other. let front : k < length order = omega (arith, length_push order w) in
+        (λ same. ap (slice_index (set missing w (slice_index missing w - 1))) (at_end k same) ∙ missing_same ∙ none)
+        (λ other. let front : k < length order = omega (arith, length_push order w) in
         ap (slice_index (set missing w (slice_index missing w - 1))) (in_front k front) ∙ missing_other (slice_index order k) (free_before k front) ∙ waiting.free k front)
-      (cases_eq k (length order));
+        (cases_eq k (length order));
     placed = λ v known gone. ⊎_elim
-      (λ same. subst (StandsBelow (order ++ w ∷ []) (length (order ++ w ∷ []))) (sym same) (StandsBelow-last order w))
-      (λ other. StandsBelow-more (order ++ w ∷ []) (length order) (length (order ++ w ∷ [])) v (StandsBelow-push order w (length order) v (waiting.placed v known (sym (missing_other v other) ∙ gone)) (omega arith)) (omega (arith, length_push order w)))
-      (cases_eq v w);
+        (λ same. subst (StandsBelow (order ++ w ∷ []) (length (order ++ w ∷ []))) (sym same) (StandsBelow-last order w))
+        (λ other. StandsBelow-more (order ++ w ∷ []) (length order) (length (order ++ w ∷ [])) v (StandsBelow-push order w (length order) v (waiting.placed v known (sym (missing_other v other) ∙ gone)) (omega arith)) (omega (arith, length_push order w)))
+        (cases_eq v w);
   }
 
 -- the event at a place of the queue, of whose activities the first j are crossed
@@ -177,17 +183,17 @@ IsQueue-next net order missing at event leaving j listed crossing done =
   where
     there : (a : ℕ) → a < length net.arcs → StandsBelow order at (from_of net.arcs a) ⊎ StandsBelow leaving j a → StandsBelow order (at + 1) (from_of net.arcs a)
     there a below = ⊎_elim
-      (λ before. StandsBelow-more order at (at + 1) _ before (omega arith))
-      (λ out. (at, omega arith, crossing.here ∙ sym (leaves out)))
+        (λ before. StandsBelow-more order at (at + 1) _ before (omega arith))
+        (λ out. (at, omega arith, crossing.here ∙ sym (leaves out)))
       where
         leaves : StandsBelow leaving j a → from_of net.arcs a ≡ event
         leaves out = subst (λ k. from_of net.arcs k ≡ event) out.2 (listed.each out.0 (omega (arith, out.1, done))).1
 
     back : (a : ℕ) → a < length net.arcs → StandsBelow order (at + 1) (from_of net.arcs a) → StandsBelow order at (from_of net.arcs a) ⊎ StandsBelow leaving j a
     back a below stands = ⊎_elim
-      (λ same. inr (StandsBelow-more leaving (length leaving) j a (listed.every a below (sym stands.2 ∙ ap (slice_index order) same ∙ crossing.here)) (omega arith)))
-      (λ other. inl (stands.0, omega (arith, stands.1), stands.2))
-      (cases_eq stands.0 at)
+        (λ same. inr (StandsBelow-more leaving (length leaving) j a (listed.every a below (sym stands.2 ∙ ap (slice_index order) same ∙ crossing.here)) (omega arith)))
+        (λ other. inl (stands.0, omega (arith, stands.1), stands.2))
+        (cases_eq stands.0 at)
 
 module _ (net : Network) (order missing : List ℕ) (at event : ℕ) (leaving : List ℕ) (j : ℕ) (listed : IsListed (λ a. from_of net.arcs a ≡ event) (length net.arcs) leaving) (crossing : IsCrossing net order missing at event leaving j) (below : j < length leaving) (a w : ℕ) (is : slice_index leaving j ≡ a) (ends : to_of net.arcs a ≡ w) (w_in : w < net.events) where
   a_in : a < length net.arcs
@@ -229,8 +235,8 @@ module _ (net : Network) (order missing : List ℕ) (at event : ℕ) (leaving : 
     here = crossing.here;
     waits = set crossing.waits a net.events;
     waiting = IsWaiting-same net order _ _ _ _ (IsWaiting-cross net order missing crossing.waits _ a w crossing.waiting a_in ends w_in not_crossed crossed_within begins_within more)
-      (λ k k_in. ⊎_elim (⊎_elim (λ before. inl before) (λ out. inr (out_more k (inl out)))) (λ same. inr (out_more k (inr same))))
-      (λ k k_in. ⊎_elim (λ before. inl (inl before)) (λ out. ⊎_elim (λ old. inl (inr old)) (λ same. inr same) (out_less k out)));
+        (λ k k_in. ⊎_elim (⊎_elim (λ before. inl before) (λ out. inr (out_more k (inl out)))) (λ same. inr (out_more k (inr same))))
+        (λ k k_in. ⊎_elim (λ before. inl (inl before)) (λ out. ⊎_elim (λ old. inl (inr old)) (λ same. inr same) (out_less k out)));
   }
 
   -- the next activity is crossed, and the event where it ends is put behind the queue
@@ -240,6 +246,6 @@ module _ (net : Network) (order missing : List ℕ) (at event : ℕ) (leaving : 
     here = get_or_append_left order (w ∷ []) 0 at crossing.queued ∙ crossing.here;
     waits = set crossing.waits a net.events;
     waiting = IsWaiting-same net (order ++ w ∷ []) _ _ _ _ (IsWaiting-push net order missing crossing.waits _ a w crossing.waiting a_in ends w_in not_crossed crossed_within begins_within none)
-      (λ k k_in. ⊎_elim (⊎_elim (λ before. inl (StandsBelow-push order w at _ before (omega (arith, crossing.queued)))) (λ out. inr (out_more k (inl out)))) (λ same. inr (out_more k (inr same))))
-      (λ k k_in. ⊎_elim (λ before. inl (inl (StandsBelow-unpush order w at _ before (omega (arith, crossing.queued))))) (λ out. ⊎_elim (λ old. inl (inr old)) (λ same. inr same) (out_less k out)));
+        (λ k k_in. ⊎_elim (⊎_elim (λ before. inl (StandsBelow-push order w at _ before (omega (arith, crossing.queued)))) (λ out. inr (out_more k (inl out)))) (λ same. inr (out_more k (inr same))))
+        (λ k k_in. ⊎_elim (λ before. inl (inl (StandsBelow-unpush order w at _ before (omega (arith, crossing.queued))))) (λ out. ⊎_elim (λ old. inl (inr old)) (λ same. inr same) (out_less k out)));
   }

@@ -1,10 +1,9 @@
 -- The events at one end of the activities, one by one.
-use Rattle.std.proofs.Common.{◌≡◌, ℕ, ◌<◌, List, length, slice_index, get_or, sym, ◌∙◌, ap, subst, arith}
+use Rattle.std.proofs.Common.{◌≡◌, ℕ, ◌<◌, List, length, slice_index, arith}
 use Rattle.std.proofs.lemmas.List.{get_or-map, length-map}
 use Rattle.pc_model.specs.declared.Arc.{Arc}
-use Rattle.pc_model.specs.Walk.{arc_at, from_of, to_of}
+use Rattle.pc_model.specs.Walk.{arc_at}
 use Rattle.pc_net.specs.declared.side.Side.{Side}
-use Rattle.pc_net.specs.declared.side.Side.TheVariants.{Begins, Ends}
 use Rattle.pc_net.specs.Sides.{event_of, events_of, AreBelow}
 
 -- the k-th of these events is that of the k-th activity

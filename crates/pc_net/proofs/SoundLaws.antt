@@ -3,9 +3,8 @@
 use Rattle.std.proofs.Common.{◌≡◌, ◌≢◌, ℕ, zero, suc, ◌+◌, ◌<◌, ◌≤◌, List, [], ◌∷◌, ◌++◌, length, slice_index, refl, sym, ◌∙◌, ap, subst, ◌⊎◌, inl, inr, ⊎_elim, arith}
 use Rattle.std.proofs.lemmas.Bool.{cases_eq}
 use Rattle.std.proofs.lemmas.List.{length_push}
-use Rattle.pc_model.specs.Greatest.{StandsBelow}
-use Rattle.pc_model.specs.Walk.{from_of, to_of, IsWalk, IsCycle}
-use Rattle.pc_model.specs.Network.{Network, IsInRange, IsEntered, IsLeft, IsDangling, IsSound, IsPartOrder, IsOrder}
+use Rattle.pc_model.specs.Walk.{from_of, to_of, IsWalk}
+use Rattle.pc_model.specs.Network.{Network, IsInRange, IsEntered, IsLeft, IsDangling, IsSound, IsOrder}
 use Rattle.pc_model.proofs.WalkLaws.{IsWalk-push}
 use Rattle.pc_model.proofs.OrderLaws.{stands_in_order, same_place, no_cycle_from_order}
 use Rattle.pc_model.proofs.CycleLaws.{HasCycle, long_walk_has_cycle, all_stand, stand_or_misses}
@@ -17,8 +16,8 @@ value_or_not f v zero = inr (λ a below. absurd (omega arith))
 value_or_not f v (suc n) =
     ⊎_elim (λ found. inl (found.0, omega (arith, found.1), found.2))
     (λ none. ⊎_elim (λ is. inl (n, omega arith, is))
-      (λ isnt. inr (λ a below. ⊎_elim (λ same is. isnt (ap f (sym same) ∙ is)) (λ other. none a (omega arith)) (cases_eq a n)))
-      (cases_eq (f n) v))
+    (λ isnt. inr (λ a below. ⊎_elim (λ same is. isnt (ap f (sym same) ∙ is)) (λ other. none a (omega arith)) (cases_eq a n)))
+    (cases_eq (f n) v))
     (value_or_not f v n)
 
 module _ (net : Network) (order : List ℕ) (ranged : IsInRange net) (ordered : IsOrder net order) (firm : (e : ℕ) → e < net.events → IsDangling net e → ⊥) where
@@ -40,11 +39,11 @@ module _ (net : Network) (order : List ℕ) (ranged : IsInRange net) (ordered : 
   reached_at (suc n) k below in_order = ⊎_elim
       (λ same. ([], sym same))
       (λ other.
-        let (a, a_in, ends) = entered (slice_index order k) (ordered.part.range k in_order) other in
-        let (j, before, at_j) = ordered.part.before k a in_order a_in ends in
-        let (walk, walked) = reached_at n j (omega arith) (omega arith) in
-        let more : IsWalk net.arcs net.start (walk ++ a ∷ []) (to_of net.arcs a) = IsWalk-push net.arcs net.start (slice_index order j) walk a walked a_in (sym at_j) in
-        (walk ++ a ∷ [], subst (IsWalk net.arcs net.start (walk ++ a ∷ [])) ends more))
+      let (a, a_in, ends) = entered (slice_index order k) (ordered.part.range k in_order) other in
+      let (j, before, at_j) = ordered.part.before k a in_order a_in ends in
+      let (walk, walked) = reached_at n j (omega arith) (omega arith) in
+      let more : IsWalk net.arcs net.start (walk ++ a ∷ []) (to_of net.arcs a) = IsWalk-push net.arcs net.start (slice_index order j) walk a walked a_in (sym at_j) in
+      (walk ++ a ∷ [], subst (IsWalk net.arcs net.start (walk ++ a ∷ [])) ends more))
       (cases_eq (slice_index order k) net.start)
 
   -- by the places of the order from the back: a walk goes to the end
@@ -53,12 +52,12 @@ module _ (net : Network) (order : List ℕ) (ranged : IsInRange net) (ordered : 
   reaches_at (suc n) k near in_order = ⊎_elim
       (λ same. ([], same))
       (λ other.
-        let (a, a_in, begins) = left (slice_index order k) (ordered.part.range k in_order) other in
-        let (j, j_in, at_j) = stands_in_order net order ordered (to_of net.arcs a) (ranged.to_in a a_in) in
-        let (i, before, at_i) = ordered.part.before j a j_in a_in (sym at_j) in
-        let place : i ≡ k = same_place net order ordered.part i k (omega arith) in_order (at_i ∙ begins) in
-        let (walk, walked) = reaches_at n j (omega arith) j_in in
-        (a ∷ walk, (a_in, begins, subst (λ e. IsWalk net.arcs e walk net.end) at_j walked)))
+      let (a, a_in, begins) = left (slice_index order k) (ordered.part.range k in_order) other in
+      let (j, j_in, at_j) = stands_in_order net order ordered (to_of net.arcs a) (ranged.to_in a a_in) in
+      let (i, before, at_i) = ordered.part.before j a j_in a_in (sym at_j) in
+      let place : i ≡ k = same_place net order ordered.part i k (omega arith) in_order (at_i ∙ begins) in
+      let (walk, walked) = reaches_at n j (omega arith) j_in in
+      (a ∷ walk, (a_in, begins, subst (λ e. IsWalk net.arcs e walk net.end) at_j walked)))
       (cases_eq (slice_index order k) net.end)
 
   pub IsSound-from_order : (IsEntered net net.start → ⊥) → (IsLeft net net.end → ⊥) → IsSound net
@@ -66,13 +65,13 @@ module _ (net : Network) (order : List ℕ) (ranged : IsInRange net) (ordered : 
     not_entered = not_entered;
     not_left = not_left;
     reached = λ e below.
-      let (k, in_order, at) = stands_in_order net order ordered e below in
-      let (walk, walked) = reached_at (suc k) k (omega arith) in_order in
-      (walk, subst (IsWalk net.arcs net.start walk) at walked);
+        let (k, in_order, at) = stands_in_order net order ordered e below in
+        let (walk, walked) = reached_at (suc k) k (omega arith) in_order in
+        (walk, subst (IsWalk net.arcs net.start walk) at walked);
     reaches = λ e below.
-      let (k, in_order, at) = stands_in_order net order ordered e below in
-      let (walk, walked) = reaches_at (length order) k (omega arith) in_order in
-      (walk, subst (λ x. IsWalk net.arcs x walk net.end) at walked);
+        let (k, in_order, at) = stands_in_order net order ordered e below in
+        let (walk, walked) = reaches_at (length order) k (omega arith) in_order in
+        (walk, subst (λ x. IsWalk net.arcs x walk net.end) at walked);
     no_cycle = no_cycle_from_order net order ranged ordered;
   }
 
@@ -91,6 +90,6 @@ pub cycle_from_stuck : (net : Network) (order : List ℕ) → IsInRange net → 
 cycle_from_stuck net order ranged stuck short =
     ⊎_elim (λ all. absurd (omega (arith, all_stand order net.events all)))
     (λ missing.
-      let (e, e_in, behind) = walk_back net order ranged stuck net.events missing.0 missing.1 missing.2 in
-      long_walk_has_cycle net ranged e missing.0 behind.0 behind.2 e_in (omega (arith, behind.1)))
+    let (e, e_in, behind) = walk_back net order ranged stuck net.events missing.0 missing.1 missing.2 in
+    long_walk_has_cycle net ranged e missing.0 behind.0 behind.2 e_in (omega (arith, behind.1)))
     (stand_or_misses order net.events)

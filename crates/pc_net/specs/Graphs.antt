@@ -1,5 +1,5 @@
 -- What a graph's fields say: a network, and the activities at each event.
-use Rattle.std.specs.Prelude.{ℕ, ◌≤◌, length}
+use Rattle.std.specs.Prelude.{◌≤◌, length}
 use Rattle.pc_model.specs.Network.{Network, IsInRange}
 use Rattle.pc_net.specs.declared.limits.TheConstants.{MAX_EVENTS, MAX_ACTIVITIES}
 use Rattle.pc_net.specs.declared.graph.Graph.TheInside.{Inside}

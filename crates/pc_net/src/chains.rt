@@ -15,7 +15,12 @@ pub(crate) struct Chains {
 }
 
 /// The chains of the activities by the event at one of their ends.
-pub(crate) fn chained(alloc: Global, events: u32, arcs: &[Arc], side: Side) -> Result<Chains, AllocError>
+pub(crate) fn chained(
+    alloc: Global,
+    events: u32,
+    arcs: &[Arc],
+    side: Side,
+) -> Result<Chains, AllocError>
     requires few { length arcs.now < 2 ^ 32 }
     requires in_range { AreBelow (events_of side arcs.now) events }
     ensures { IfOk result (λ c. AreChains (events_of side arcs.now) events 0 c.heads.items c.nexts.items) }

@@ -16,3 +16,6 @@ pub use limits::{MAX_ACTIVITIES, MAX_EVENTS};
 pub use network::Net;
 pub use pc_model::Arc;
 pub use refusal::NetError;
+
+#[cfg(test)]
+mod tests;

@@ -17,7 +17,12 @@ pub(crate) struct Listing {
 
 impl Listing {
     /// The activities by the event at one of their ends. Linear in events and activities.
-    pub(crate) fn of(alloc: Global, events: u32, arcs: &[Arc], side: Side) -> Result<Listing, AllocError>
+    pub(crate) fn of(
+        alloc: Global,
+        events: u32,
+        arcs: &[Arc],
+        side: Side,
+    ) -> Result<Listing, AllocError>
         requires few { length arcs.now < 2 ^ 32 }
         requires in_range { AreBelow (events_of side arcs.now) events }
         ensures { IfOk result (IsListing (events_of side arcs.now) events) }

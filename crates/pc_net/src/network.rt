@@ -37,7 +37,13 @@ impl Net {
     /// The network of these activities between the events 0, 1, .. below `events`.
     ///
     /// Linear in events and activities.
-    pub fn build(alloc: Global, events: u32, start: u32, end: u32, arcs: &[Arc]) -> Result<Net, NetError>
+    pub fn build(
+        alloc: Global,
+        events: u32,
+        start: u32,
+        end: u32,
+        arcs: &[Arc],
+    ) -> Result<Net, NetError>
         requires few_events { events ≤ MAX_EVENTS }
         requires few_activities { length arcs.now ≤ MAX_ACTIVITIES }
         requires in_range { IsInRange (network events start end arcs.now) }

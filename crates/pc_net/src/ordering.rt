@@ -51,7 +51,12 @@ fn free_events(alloc: Global, missing: &[u32]) -> Result<Vec<u32>, AllocError>
 
 /// Crosses the activities that begin at the event at a place of the queue, and puts the events behind it that
 /// nothing else enters.
-fn cross(order: &mut Vec<u32>, missing: &mut Vec<u32>, at: usize, graph: &Graph) -> Result<(), AllocError>
+fn cross(
+    order: &mut Vec<u32>,
+    missing: &mut Vec<u32>,
+    at: usize,
+    graph: &Graph,
+) -> Result<(), AllocError>
     requires queued { at < vec_len order.old }
     requires queue { IsQueue graph.now order.old.items missing.old.items at }
     ensures queue { OnOk result (IsQueue graph.now order.new.items missing.new.items (at + 1)) }

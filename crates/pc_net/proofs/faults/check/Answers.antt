@@ -1,4 +1,4 @@
-use Rattle.std.proofs.Common.{◌≡◌, ℕ, ◌<◌, false, Option, Some, None, is_some, sym, ◌∙◌}
+use Rattle.std.proofs.Common.{◌≡◌, ℕ, false, Option, Some, None, is_some, sym, ◌∙◌}
 use Rattle.pc_net.specs.Firmness.{IsFirstIn}
 use Rattle.pc_net.proofs.faults.check.Goals as goal
 

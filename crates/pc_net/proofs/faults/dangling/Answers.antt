@@ -1,4 +1,4 @@
-use Rattle.std.proofs.Common.{ℕ, ◌+◌, ◌<◌, below_more, arith}
+use Rattle.std.proofs.Common.{below_more, arith}
 use Rattle.pc_model.specs.Network.{IsDangling}
 use Rattle.pc_net.proofs.faults.dangling.Goals as goal
 

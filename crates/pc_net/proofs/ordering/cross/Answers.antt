@@ -1,10 +1,9 @@
-use Rattle.std.proofs.Common.{◌≡◌, ◌≢◌, ℕ, ◌<◌, ◌≤◌, ◌-◌, ◌+◌, List, [], ◌∷◌, ◌++◌, length, slice_index, slice_index_or, slice_set, refl, sym, ◌∙◌, ap, subst, arith}
+use Rattle.std.proofs.Common.{◌≡◌, ℕ, ◌<◌, ◌-◌, List, length, slice_index, slice_index_or, slice_set, refl, sym, ◌∙◌, subst, arith}
 use Rattle.std.proofs.lemmas.List.{get_or_read, get_or-set_same, length-set}
 use Rattle.pc_model.specs.Greatest.{IsListed}
 use Rattle.pc_model.specs.Network.{Network}
-use Rattle.pc_model.specs.Walk.{from_of, to_of}
-use Rattle.pc_net.specs.Queue.{IsQueue}
-use Rattle.pc_net.proofs.QueueLaws.{IsCrossing, IsCrossing-entered, IsCrossing-cross, IsCrossing-push, IsQueue-next}
+use Rattle.pc_model.specs.Walk.{from_of}
+use Rattle.pc_net.proofs.QueueLaws.{IsCrossing-entered, IsCrossing-cross, IsCrossing-push, IsQueue-next}
 use Rattle.pc_net.proofs.ordering.cross.Goals as goal
 use Rattle.pc_net.proofs.ordering.cross.Goals.{then-index-eq0+in_ok-push, else-index-eq0}
 
@@ -36,9 +35,9 @@ loop-a-preserved c =
     let next_in : next < length missing = omega (arith, c.to-next.ensures.known, c.loop-a.invariant.waiting.missing_len) in
     let read : c.index_mut.result.now ≡ slice_index missing next = get_or_read missing next _ next_in c.index_mut.ensures.value 0 in
     let rest : c.index-in-loop-a.result.now ≡ less =
-      get_or_read (slice_set missing next less) next _ (omega (arith, length-set missing next less)) c.index-in-loop-a.ensures 0 ∙ get_or-set_same missing next less 0 next_in in
+    get_or_read (slice_set missing next less) next _ (omega (arith, length-set missing next less)) c.index-in-loop-a.ensures 0 ∙ get_or-set_same missing next less 0 next_in in
     elim c.if-index-eq0.branch [
-      then-index-eq0+in_ok-push w ↦ rw (w.order-is, read) (rw w.in_ok-push.ensures.items (IsCrossing-push net c.loop-a.order.items missing c.args.at _ _ c.loop-a.a-index listed c.loop-a.invariant c.loop-a-test.true a next refl (sym c.to-next.ensures.event) c.to-next.ensures.known (omega (arith, rest, read, w.if-index-eq0.true))))
+      | then-index-eq0+in_ok-push w ↦ rw (w.order-is, read) (rw w.in_ok-push.ensures.items (IsCrossing-push net c.loop-a.order.items missing c.args.at _ _ c.loop-a.a-index listed c.loop-a.invariant c.loop-a-test.true a next refl (sym c.to-next.ensures.event) c.to-next.ensures.known (omega (arith, rest, read, w.if-index-eq0.true))))
       | else-index-eq0 w ↦ rw (w.order-is, read) (IsCrossing-cross net c.loop-a.order.items missing c.args.at _ _ c.loop-a.a-index listed c.loop-a.invariant c.loop-a-test.true a next refl (sym c.to-next.ensures.event) c.to-next.ensures.known (λ none. w.if-index-eq0.false (omega (arith, rest, read, none))))
     ]
 

@@ -1,4 +1,4 @@
-use Rattle.std.proofs.Common.{◌≡◌, ◌<◌, ◌≤◌, ◌-◌, ◌+◌, length, slice_index, sym, ◌∙◌, ap, subst, arith}
+use Rattle.std.proofs.Common.{◌≡◌, length, slice_index, subst, arith}
 use Rattle.pc_model.specs.Greatest.{IsListed}
 use Rattle.pc_model.proofs.OrderLaws.{room_below}
 use Rattle.pc_net.proofs.QueueLaws.{IsQueue-start, IsStuck-end}

@@ -1,4 +1,4 @@
-use Rattle.std.proofs.Common.{◌≡◌, ◌<◌, length, sym, subst}
+use Rattle.std.proofs.Common.{◌<◌, sym, subst}
 use Rattle.pc_model.specs.Network.{Network}
 use Rattle.pc_net.specs.declared.side.Side.TheVariants.{Begins}
 use Rattle.pc_net.proofs.ListingLaws.{part_is_listed}

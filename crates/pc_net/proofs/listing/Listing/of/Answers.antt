@@ -1,11 +1,9 @@
-use Rattle.std.proofs.Common.{◌≡◌, ◌<◌, ◌-◌, ◌+◌, ◌^◌, ◌≤◌, [], ◌∷◌, ◌++◌, length, slice_index, refl, sym, ◌∙◌, ap, subst, arith, rules}
+use Rattle.std.proofs.Common.{◌≡◌, ◌<◌, ◌++◌, length, slice_index, refl, arith}
 use Rattle.std.proofs.lemmas.List.{get_or_read}
 use Rattle.pc_model.specs.Greatest.{places}
-use Rattle.pc_net.specs.Sides.{event_of, events_of, AreBelow}
-use Rattle.pc_net.specs.Chains.{AreChains}
-use Rattle.pc_net.specs.Listings.{AreListed}
+use Rattle.pc_net.specs.Sides.{events_of}
 use Rattle.pc_net.proofs.SideLaws.{length-events_of}
-use Rattle.pc_net.proofs.ListingLaws.{AreListed-push, IsFollowed, IsFollowed-step, IsFollowed-end}
+use Rattle.pc_net.proofs.ListingLaws.{AreListed-push, IsFollowed-step, IsFollowed-end}
 use Rattle.pc_net.proofs.listing.Listing.of.Goals as goal
 
 pub chain-smaller : goal.chain-smaller

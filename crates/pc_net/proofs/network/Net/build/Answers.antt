@@ -1,9 +1,7 @@
-use Rattle.std.proofs.Common.{◌≡◌, ◌<◌, length, sym, ◌∙◌, ap, subst, inl, inr, arith}
+use Rattle.std.proofs.Common.{◌≡◌, length, sym, ap, subst, inr, arith}
 use Rattle.std.proofs.lemmas.Result.{err_from_is_err_and}
 use Rattle.pc_model.specs.Network.{Network, IsInRange, IsSound, IsOrder, IsUnsound}
 use Rattle.pc_model.proofs.OrderLaws.{room_below}
-use Rattle.pc_net.specs.Networks.{network}
-use Rattle.pc_net.specs.Refusals.{IsRefusal}
 use Rattle.pc_net.proofs.SoundLaws.{IsSound-from_order, cycle_from_stuck}
 use Rattle.pc_net.proofs.network.Net.build.Goals as goal
 

@@ -1,0 +1,76 @@
+ghost use Rattle.std.specs.Bool.{OnTrue};
+ghost use Rattle.pc_model.specs.Network.{IsInRange};
+ghost use Rattle.pc_net.specs.Networks.{network};
+
+use crate::limits::{MAX_ACTIVITIES, MAX_EVENTS};
+use crate::{Arc, Net, NetError};
+use std::alloc::Global;
+use std::test::Fail;
+
+/// Whether a network may be built of these.
+fn is_in_range(events: u32, start: u32, end: u32, arcs: &[Arc]) -> bool
+    ensures { OnTrue result (IsInRange (network events start end arcs.now)) }
+{
+    for arc in arcs {
+        if arc.from >= events || arc.to >= events || arc.from == arc.to {
+            return false;
+        }
+    }
+    start < events && end < events && start != end
+}
+
+/// The network of these activities from event 0 to event 1, or none where they are out of range.
+fn built(alloc: Global, events: u32, arcs: &[Arc]) -> Option<Result<Net, NetError>> {
+    if events > MAX_EVENTS
+        || arcs.len() > MAX_ACTIVITIES as usize
+        || !is_in_range(events, 0, 1, arcs)
+    {
+        return None;
+    }
+    Some(Net::build(alloc, events, 0, 1, arcs))
+}
+
+/// Why that network is refused, or none where it is not.
+fn refusal(alloc: Global, events: u32, arcs: &[Arc]) -> Option<NetError> {
+    match built(alloc, events, arcs) {
+        Some(Err(e)) => Some(e),
+        _ => None,
+    }
+}
+
+const fn arc(from: u32, to: u32) -> Arc {
+    Arc { from, to }
+}
+
+#[test]
+fn builds_a_network(rt: HostRuntime) -> Result<(), Fail> {
+    // S = 0, T = 1, M = 2; A from S to M, B from M to T, C from S to T
+    let net = built(rt.alloc(), 3, &[arc(0, 2), arc(2, 1), arc(0, 1)]).ok_or("out of range")??;
+    assert_eq!(rt; net.events(), 3);
+    assert_eq!(rt; net.activities(), 3);
+    assert_eq!(rt; net.start(), 0);
+    assert_eq!(rt; net.end(), 1);
+    assert_eq!(rt; net.order(), [0, 2, 1].as_slice());
+    assert_eq!(rt; net.from(1), 2);
+    assert_eq!(rt; net.to(1), 1);
+    assert_eq!(rt; net.out_arcs(0), [0, 2].as_slice());
+    assert_eq!(rt; net.in_arcs(1), [1, 2].as_slice());
+    Ok(())
+}
+
+#[test]
+fn refuses_what_is_not_sound(rt: HostRuntime) {
+    let alloc = rt.alloc();
+    let sound = [arc(0, 2), arc(2, 1)];
+    assert_eq!(rt; refusal(alloc, 3, &sound), None);
+    let entered = [arc(0, 2), arc(2, 1), arc(2, 0)];
+    assert_eq!(rt; refusal(alloc, 3, &entered), Some(NetError::Unsound));
+    let left = [arc(0, 2), arc(2, 1), arc(1, 2)];
+    assert_eq!(rt; refusal(alloc, 3, &left), Some(NetError::Unsound));
+    let dangling = [arc(0, 1), arc(0, 2)];
+    assert_eq!(rt; refusal(alloc, 3, &dangling), Some(NetError::Unsound));
+    let alone = [arc(0, 1)];
+    assert_eq!(rt; refusal(alloc, 3, &alone), Some(NetError::Unsound));
+    let cycle = [arc(0, 2), arc(2, 3), arc(3, 2), arc(3, 1)];
+    assert_eq!(rt; refusal(alloc, 4, &cycle), Some(NetError::Unsound));
+}
