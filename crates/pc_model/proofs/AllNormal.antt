@@ -4,9 +4,8 @@ use Rattle.std.proofs.Common.{◌≡◌, ℕ, ◌+◌, ◌-◌, ◌*◌, ◌<◌
 use Rattle.std.proofs.Math.Nat.{mul-le-mul_left}
 use Rattle.pc_model.specs.declared.Term.{Term}
 use Rattle.pc_model.specs.Sums.{sum_to}
-use Rattle.pc_model.specs.Walk.{from_of, to_of}
 use Rattle.pc_model.specs.Network.{Network, IsInRange, IsSound, IsEarly}
-use Rattle.pc_model.specs.Schedule.{normals, normal_of, crash_of, base_cost_of, slope_of, cost_of, AreTerms, IsSchedule, IsLeastCost, IsAllNormalLength}
+use Rattle.pc_model.specs.Schedule.{normals, normal_of, base_cost_of, slope_of, cost_of, AreTerms, IsSchedule, IsLeastCost, IsAllNormalLength}
 use Rattle.pc_model.proofs.EarlyLaws.{early_at_start, early_fits}
 
 -- sums of terms that are no greater

@@ -1,8 +1,7 @@
 -- Laws of the greatest sums over the walks from the start.
-use Rattle.std.proofs.Common.{◌≡◌, ◌≢◌, ℕ, ◌+◌, ◌<◌, ◌≤◌, List, [], ◌∷◌, ◌++◌, length, slice_index, refl, sym, ap, ⊎_elim, ◌⊎◌, arith}
-use Rattle.pc_model.specs.Greatest.{IsGreatest}
-use Rattle.pc_model.specs.Walk.{from_of, to_of, IsWalk, walk_sum, IsSumOfWalk}
-use Rattle.pc_model.specs.Network.{Network, IsInRange, IsSound, IsEntered, IsEarly}
+use Rattle.std.proofs.Common.{◌≡◌, ℕ, ◌+◌, ◌<◌, ◌≤◌, List, [], ◌∷◌, ◌++◌, length, slice_index, refl, ap, arith}
+use Rattle.pc_model.specs.Walk.{from_of, to_of, IsWalk, walk_sum}
+use Rattle.pc_model.specs.Network.{Network, IsSound, IsEarly}
 use Rattle.pc_model.proofs.WalkLaws.{IsWalk-push, walk_sum-push}
 
 -- in a network with no cycle a walk that comes back to where it began is empty

@@ -1,2 +1,3 @@
 mod TimesLaws
 mod PickedLaws
+pub mod PickedWalks

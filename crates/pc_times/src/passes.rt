@@ -36,6 +36,7 @@ pub(crate) fn tails_to_end(
     Ok(tails)
 }
 
+/// The time of an event, from those of the events where the activities that enter it begin.
 fn latest_arrival(net: &Net, lengths: &[u64], times: &[u64], event: u32) -> u64
     requires lengths { AreLengths net.now lengths.now }
     requires walks { HasBoundedWalks net.now lengths.now }
@@ -49,6 +50,7 @@ fn latest_arrival(net: &Net, lengths: &[u64], times: &[u64], event: u32) -> u64
     latest
 }
 
+/// The tail of an event, from those of the events where the activities that leave it end.
 fn longest_departure(net: &Net, lengths: &[u64], tails: &[u64], event: u32) -> u64
     requires lengths { AreLengths net.now lengths.now }
     requires walks { HasBoundedWalks net.now lengths.now }
