@@ -65,7 +65,6 @@ impl Graph {
         ensures limit { result ≤ MAX_EVENTS }
         ensures in_range { IsInRange self.now }
     {
-        let _ = &self.arcs;
         self.events
     }
 

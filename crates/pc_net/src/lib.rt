@@ -3,6 +3,7 @@
 #![tactic(auto)]
 
 mod chains;
+mod cycle;
 mod faults;
 mod graph;
 mod limits;
@@ -15,7 +16,7 @@ mod side;
 pub use limits::{MAX_ACTIVITIES, MAX_EVENTS};
 pub use network::Net;
 pub use pc_model::Arc;
-pub use refusal::NetError;
+pub use refusal::{Indices, NetError};
 
 #[cfg(test)]
 mod tests;
