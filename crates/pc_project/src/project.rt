@@ -6,7 +6,7 @@ ghost use Rattle.pc_deck.specs.Deck.{Deck};
 ghost use Rattle.pc_deck.specs.Refusal.{Refuses};
 ghost use Rattle.pc_project.specs.Project.{network_of, project_in};
 ghost use Rattle.pc_project.specs.Planned.{IsPlanned};
-ghost use Rattle.pc_project.specs.Misfit.{HasMisfit, MakesProject};
+ghost use Rattle.pc_project.specs.Misfit.{HasMisfit, MakesProject, refusal_of};
 
 use crate::lists::{codes_of_acts, codes_of_events, connections, ends, terms};
 use pc_deck::{Cards, DeckError, NOT_PLAIN};
@@ -91,8 +91,18 @@ fn network(alloc: Global, cards: &Cards) -> Result<Net, DeckError>
     let events = cards.events().len() as u32;
     match Net::build(alloc, events, start, end, &arcs) {
         Ok(net) => Ok(net),
-        Err(NetError::Unsound) => Err(DeckError::Fault(NOT_PLAIN)),
-        Err(NetError::OutOfMemory) => Err(DeckError::OutOfMemory),
+        Err(e) => Err(refusal(e)),
+    }
+}
+
+/// How a deck is refused whose network is.
+fn refusal(error: NetError) -> DeckError
+    ensures { result ≡ refusal_of error }
+{
+    match error {
+        NetError::StartEntered { .. } | NetError::EndLeft { .. } => DeckError::Fault(NOT_PLAIN),
+        NetError::Dangling { .. } | NetError::Cycle(_) => DeckError::Fault(NOT_PLAIN),
+        NetError::OutOfMemory => DeckError::OutOfMemory,
     }
 }
 
