@@ -19,11 +19,11 @@ Writes-flushed (Ok v) a b c s t u text wrote kept no_fault failed count =
     record { ok = record { whole = Appends-kept a b c text wrote.whole kept; no_fault = no_fault ∙ wrote.no_fault }; err = tt; count = omega (arith, wrote.no_fault, count) }
 Writes-flushed (Err e) a b c s t u text wrote kept no_fault failed count =
     let whole : take (length text) text ≡ text = take_all (length text) text (omega arith) in
-    record
-      { ok = tt
-      ; err = record
-          { front = (length text, subst (Appends a c) (sym whole) (Appends-kept a b c text wrote.whole kept))
-          ; fault = subst (λ n. Rose n u) wrote.no_fault failed
-          }
-      ; count = omega (arith, wrote.no_fault, count)
-      }
+    record {
+      ok = tt;
+      err = record {
+        front = (length text, subst (Appends a c) (sym whole) (Appends-kept a b c text wrote.whole kept));
+        fault = subst (λ n. Rose n u) wrote.no_fault failed;
+      };
+      count = omega (arith, wrote.no_fault, count);
+    }
