@@ -4,3 +4,4 @@ pub mod WithinLemmas
 pub mod Utf8Lemmas
 pub mod ReadLemmas
 pub mod RefusalLemmas
+pub mod PlainLaw

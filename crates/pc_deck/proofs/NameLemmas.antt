@@ -1,5 +1,5 @@
 -- Lists of cards in which no code stands twice.
-use Rattle.std.proofs.Common.{◌≡◌, ◌≢◌, ℕ, ◌+◌, ◌<◌, ◌≤◌, Bool, true, false, not, ◌&&◌, nat_lt, nat_eq, List, [], ◌∷◌, ◌++◌, length, map, get_or, Option, Some, None, ◌⊎◌, inl, inr, refl, sym, ap, ◌∙◌, subst, arith, length-append}
+use Rattle.std.proofs.Common.{◌≡◌, ℕ, ◌+◌, ◌<◌, ◌≤◌, Bool, true, false, not, ◌&&◌, nat_lt, nat_eq, List, [], ◌∷◌, ◌++◌, length, map, get_or, Some, ◌⊎◌, inl, inr, refl, sym, ap, ◌∙◌, subst, arith, length-append}
 use Rattle.std.proofs.lemmas.List.{map-append, get_or_append_left}
 use Rattle.std.proofs.Math.Seq.{get_or-append_seam}
 use Rattle.std.proofs.lemmas.List.Folds.{list_any_at}
@@ -31,10 +31,10 @@ pub IsNamedOnce-push : (codes : List (List ℕ)) (code : List ℕ) → IsNamedOn
 IsNamedOnce-push codes code once new = λ j k before within same.
     let longer : length (codes ++ code ∷ []) ≡ length codes + 1 = length-append codes (code ∷ []) in
     elim (inner_or_last k (length codes) (omega arith)) [
-      inl inner ↦ once j k before inner (sym (get_or_append_left codes (code ∷ []) [] j (omega arith)) ∙ same ∙ get_or_append_left codes (code ∷ []) [] k inner)
-    | inr last ↦
-        let at_end : get_or (codes ++ code ∷ []) k [] ≡ code = rw last (get_or-append_seam codes code [] []) in
-        absent codes code j new (omega arith) (sym (get_or_append_left codes (code ∷ []) [] j (omega arith)) ∙ same ∙ at_end)
+      | inl inner ↦ once j k before inner (sym (get_or_append_left codes (code ∷ []) [] j (omega arith)) ∙ same ∙ get_or_append_left codes (code ∷ []) [] k inner)
+      | inr last ↦
+          let at_end : get_or (codes ++ code ∷ []) k [] ≡ code = rw last (get_or-append_seam codes code [] []) in
+          absent codes code j new (omega arith) (sym (get_or_append_left codes (code ∷ []) [] j (omega arith)) ∙ same ∙ at_end)
     ]
 
 -- what is known of a list that took one more card
@@ -60,9 +60,9 @@ IsExtended-with_named {C} code_of limit old card new h =
     record {
       whole = sym whole;
       few =
-        let room : length old + 1 ≤ limit = short (length old) limit both.0 in
-        omega (arith, room, length-append old (card ∷ []), ap length whole);
+          let room : length old + 1 ≤ limit = short (length old) limit both.0 in
+          omega (arith, room, length-append old (card ∷ []), ap length whole);
       once = λ once.
-        let codes : map code_of (old ++ card ∷ []) ≡ map code_of old ++ code_of card ∷ [] = map-append code_of old (card ∷ []) in
-        subst IsNamedOnce (sym codes ∙ ap (map code_of) whole) (IsNamedOnce-push (map code_of old) (code_of card) once both.1);
+          let codes : map code_of (old ++ card ∷ []) ≡ map code_of old ++ code_of card ∷ [] = map-append code_of old (card ∷ []) in
+          subst IsNamedOnce (sym codes ∙ ap (map code_of) whole) (IsNamedOnce-push (map code_of old) (code_of card) once both.1);
     }

@@ -1,5 +1,5 @@
 -- Reading one card after the other.
-use Rattle.std.proofs.Common.{◌≡◌, ℕ, Bool, true, false, List, [], ◌∷◌, Option, Some, None, if◌then◌else◌, MatchOption, refl, sym, ap, ◌∙◌, subst}
+use Rattle.std.proofs.Common.{◌≡◌, ℕ, Bool, true, List, [], ◌∷◌, Option, Some, None, if◌then◌else◌, MatchOption, ap, ◌∙◌, subst}
 use Rattle.pc_deck.specs.Fields.{◌>>=◌}
 use Rattle.pc_deck.specs.Cards.{Numbered}
 use Rattle.pc_deck.specs.Plain.{card_of}

@@ -1,17 +1,19 @@
 -- A deck is read or refused, and refused with one fault.
-use Rattle.std.proofs.Common.{◌≡◌, ℕ, Bool, true, false, List, [], ◌∷◌, Option, Some, None, if◌then◌else◌, find, is_none, option_map, MatchOption, refl, sym, ap, ◌∙◌, subst}
+use Rattle.std.proofs.Common.{◌≡◌, ℕ, Bool, false, List, [], ◌∷◌, Option, Some, None, if◌then◌else◌, find, is_none, option_map, MatchOption, refl, sym, ap, ◌∙◌, subst}
 use Rattle.std.specs.Str.{is_utf8}
 use Rattle.pc_records.specs.Deck.{field_at}
 use Rattle.pc_deck.specs.Fields.{◌>>=◌}
 use Rattle.pc_deck.specs.Cards.{Numbered, deck_cards}
 use Rattle.pc_deck.specs.Deck.{Deck}
 use Rattle.pc_deck.specs.Kinds.{kind_of}
-use Rattle.pc_deck.specs.Plain.{card_of, card_of_kind}
+use Rattle.pc_deck.specs.Plain.{card_of}
 use Rattle.pc_deck.specs.Plainness.{as_project, begun, with_cards, with_next, cards_of, deck_of}
 use Rattle.pc_deck.specs.Refusal.{is_unknown, first_unknown, IsCardRefusal, not_plain, unknown_kind}
 use Rattle.pc_deck.specs.declared.card.Card.{Card}
 use Rattle.pc_deck.specs.declared.draft.Draft.{Draft}
 use Rattle.pc_deck.specs.declared.fault.Fault.{Fault}
+use Rattle.pc_deck.specs.PlainDeck.{IsPlainDeck}
+use Rattle.pc_deck.proofs.PlainLaw.{deck_of-IsPlainDeck}
 use Rattle.pc_deck.proofs.ChainLemmas.{after, tested}
 
 -- a card that was read is of a kind
@@ -53,3 +55,7 @@ refused_once bytes fault other = by_first (first_unknown (deck_cards bytes))
     by_first : (first : Option ℕ) → MatchOption first ((deck_of bytes ≡ None) × (fault ≡ not_plain)) (λ row. fault ≡ unknown_kind row) → MatchOption first ((deck_of bytes ≡ None) × (other ≡ not_plain)) (λ row. other ≡ unknown_kind row) → fault ≡ other
     by_first None a b = a.1 ∙ sym b.1
     by_first (Some row) a b = a ∙ sym b
+
+-- a deck that is refused is not plain
+pub not_plain_refused : (bytes : List ℕ) (fault : Fault) → IsCardRefusal bytes fault → (deck : Deck) → IsPlainDeck bytes deck → ⊥
+not_plain_refused bytes fault refused deck plain = not_both bytes deck fault (deck_of-IsPlainDeck bytes deck plain) refused

@@ -1,5 +1,5 @@
 -- What was read keeps to the limits.
-use Rattle.std.proofs.Common.{◌≡◌, ℕ, ◌+◌, ◌<◌, ◌≤◌, Bool, true, false, ◌==◌, List, [], ◌∷◌, ◌++◌, length, map, get_or, Option, Some, None, if◌then◌else◌, All, refl, sym, ap, ◌∙◌, subst, arith}
+use Rattle.std.proofs.Common.{◌≡◌, ℕ, ◌≤◌, Bool, true, false, ◌==◌, List, [], ◌∷◌, length, get_or, Option, Some, None, if◌then◌else◌, All, sym, ◌∙◌, subst, arith}
 use Rattle.std.specs.Option.{ForSome}
 use Rattle.std.proofs.lemmas.List.Elements.{All-append, All-nil}
 use Rattle.pc_records.specs.Deck.{field_at}
@@ -9,19 +9,18 @@ use Rattle.pc_deck.specs.Fields.{◌>>=◌, date_of, number_within, directed_of}
 use Rattle.pc_deck.specs.Named.{with_named}
 use Rattle.pc_deck.specs.Kinds.{kind_of}
 use Rattle.pc_deck.specs.Plain.{project_of, event_of, act_of, card_of_kind, card_of}
-use Rattle.pc_deck.specs.Plainness.{as_project, begun, deck_so_far, with_card, with_next}
+use Rattle.pc_deck.specs.Plainness.{begun, deck_so_far, with_card, with_next}
 use Rattle.pc_deck.specs.Within.{IsActWithin, IsWithinLimits}
 use Rattle.pc_deck.specs.declared.cards.ProjectCard.{ProjectCard}
 use Rattle.pc_deck.specs.declared.cards.EventCard.{EventCard}
 use Rattle.pc_deck.specs.declared.cards.ActCard.{ActCard}
-use Rattle.pc_deck.specs.declared.cards.TheConstants.{ACT_LIMIT, EVENT_LIMIT}
 use Rattle.pc_deck.specs.declared.kind.Kind.{Kind}
 use Rattle.pc_deck.specs.declared.kind.Kind.TheVariants as kind
 use Rattle.pc_deck.specs.declared.card.Card.{Card}
 use Rattle.pc_deck.specs.declared.card.Card.TheVariants.{Project, Event, Act, End}
 use Rattle.pc_deck.specs.declared.draft.Draft.{Draft}
-use Rattle.pc_deck.proofs.ChainLemmas.{after, first_step, tested, Some-injective, number_within_limits}
-use Rattle.pc_deck.proofs.NameLemmas.{IsExtended, IsExtended-with_named, IsNamedOnce-nil}
+use Rattle.pc_deck.proofs.ChainLemmas.{after, tested, Some-injective, number_within_limits}
+use Rattle.pc_deck.proofs.NameLemmas.{IsExtended-with_named, IsNamedOnce-nil}
 
 -- the numbers of an activity that was read are within their limits
 pub IsActWithin-act_of : (row : ℕ) (fields : List (List ℕ)) (act : ActCard) → act_of row fields ≡ Some act → IsActWithin act
@@ -60,8 +59,8 @@ within_directed field directed h = by_length (length field == 0) h
     by_length : (empty : Bool) → (if empty then Some None else number_within 0 1000000 field >>= (λ days. Some (Some days))) ≡ Some directed → ForSome directed (λ days. days ≤ 1000000)
     by_length true h = λ days is. let none : None ≡ directed = Some-injective None directed h in absurd (no_days directed days none is)
     by_length false h = after (number_within 0 1000000 field) _ directed h (λ days read rest.
-      λ given is. let given_is : Some days ≡ Some given = Some-injective (Some days) directed rest ∙ is in
-      subst (λ (n : ℕ). n ≤ 1000000) (Some-injective days given given_is) (number_within_limits 0 1000000 field days read).1)
+        λ given is. let given_is : Some days ≡ Some given = Some-injective (Some days) directed rest ∙ is in
+        subst (λ (n : ℕ). n ≤ 1000000) (Some-injective days given given_is) (number_within_limits 0 1000000 field days read).1)
 
 -- the numbers of a PROJECT card that was read are within their limits
 pub record IsProjectWithin (project : ProjectCard) : Type 0 where
@@ -100,10 +99,10 @@ IsCardWithin-card_of row fields card read =
   where
     by_kind : (k : Kind) → card_of_kind k row fields ≡ Some card → IsCardWithin card
     by_kind kind.Project h = after (project_of row fields) _ card h (λ project is rest.
-      subst IsCardWithin (Some-injective _ card rest) (IsProjectWithin-project_of row fields project is))
+        subst IsCardWithin (Some-injective _ card rest) (IsProjectWithin-project_of row fields project is))
     by_kind kind.Event h = after (event_of row fields) _ card h (λ event is rest. subst IsCardWithin (Some-injective _ card rest) tt)
     by_kind kind.Act h = after (act_of row fields) _ card h (λ act is rest.
-      subst IsCardWithin (Some-injective _ card rest) (IsActWithin-act_of row fields act is))
+        subst IsCardWithin (Some-injective _ card rest) (IsActWithin-act_of row fields act is))
     by_kind kind.End h = let whole = tested (length fields == 1) (Some End) card h in subst IsCardWithin (Some-injective _ card whole.1) tt
 
 -- a deck of a PROJECT card alone

@@ -1,5 +1,5 @@
 -- What the fields of a card must be, beyond codes, titles and numbers.
-use Rattle.std.specs.Prelude.{ℕ, Bool, ◌&&◌, ◌==◌, nat_le, List, [], length, take, drop, slice_index, slice_range, Option, Some, None, option_and_then, if◌then◌else◌}
+use Rattle.std.specs.Prelude.{ℕ, Bool, ◌&&◌, ◌==◌, nat_le, List, length, take, drop, slice_index, slice_range, Option, Some, None, option_and_then, if◌then◌else◌}
 use Rattle.std.specs.List.{list_all}
 use Rattle.std.specs.Char.{is_ascii_digit}
 use Rattle.pc_text.specs.Number.{number_of}
@@ -14,9 +14,9 @@ abbrev pub is_date : List ℕ → Bool
 is_date field =
     length field == 10
     && (slice_index field 4 == 45
-        && (slice_index field 7 == 45
-            && (list_all is_ascii_digit (take 4 field)
-                && (list_all is_ascii_digit (slice_range field 5 7) && list_all is_ascii_digit (drop 8 field)))))
+    && (slice_index field 7 == 45
+    && (list_all is_ascii_digit (take 4 field)
+    && (list_all is_ascii_digit (slice_range field 5 7) && list_all is_ascii_digit (drop 8 field)))))
 
 -- the date that a field spells
 abbrev pub date_of : List ℕ → Option (List ℕ)

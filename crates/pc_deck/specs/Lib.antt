@@ -8,3 +8,4 @@ pub mod Cards
 pub mod Plainness
 pub mod Refusal
 pub mod FaultText
+pub mod PlainDeck

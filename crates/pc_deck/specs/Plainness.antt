@@ -1,5 +1,5 @@
 -- Plain decks: what their cards are, in their order, and what a deck says.
-use Rattle.std.specs.Prelude.{ℕ, Bool, true, false, List, [], ◌∷◌, Option, Some, None, if◌then◌else◌}
+use Rattle.std.specs.Prelude.{ℕ, true, false, List, [], ◌∷◌, Option, Some, None, if◌then◌else◌}
 use Rattle.std.specs.Str.{is_utf8}
 use Rattle.pc_deck.specs.Fields.{◌>>=◌}
 use Rattle.pc_deck.specs.Cards.{Numbered, deck_cards}

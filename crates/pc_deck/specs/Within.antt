@@ -1,8 +1,7 @@
 -- What holds of every deck that was read.
-use Rattle.std.specs.Prelude.{◌≡◌, ◌≢◌, ℕ, ◌<◌, ◌≤◌, List, length, All}
+use Rattle.std.specs.Prelude.{◌≤◌, length, All}
 use Rattle.std.specs.Option.{ForSome}
 use Rattle.pc_deck.specs.Deck.{Deck, event_codes, act_codes, IsNamedOnce}
-use Rattle.pc_deck.specs.declared.cards.ProjectCard.{ProjectCard}
 use Rattle.pc_deck.specs.declared.cards.ActCard.{ActCard}
 use Rattle.pc_deck.specs.declared.cards.TheConstants.{ACT_LIMIT, EVENT_LIMIT}
 

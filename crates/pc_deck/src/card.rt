@@ -10,8 +10,11 @@ use pc_text::{Code, Title};
 
 /// How many fields the cards of a kind have, the kind itself among them.
 const PROJECT_FIELDS: usize = 8;
+
 const EVENT_FIELDS: usize = 3;
+
 const ACT_FIELDS: usize = 13;
+
 const END_FIELDS: usize = 1;
 
 /// The most days that a unit has.

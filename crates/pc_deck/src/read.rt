@@ -4,6 +4,8 @@ ghost use Rattle.pc_deck.specs.Cards.{deck_cards};
 ghost use Rattle.std.specs.Str.{is_utf8};
 ghost use Rattle.pc_deck.specs.Within.{IsWithinLimits};
 ghost use Rattle.pc_deck.specs.Plainness.{deck_of, deck_so_far, with_cards};
+ghost use Rattle.pc_deck.specs.Deck.{Deck};
+ghost use Rattle.pc_deck.specs.PlainDeck.{IsPlainDeck};
 ghost use Rattle.pc_deck.specs.Refusal.{first_unknown, IsCardRefusal, Refuses};
 ghost use Rattle.pc_deck.specs.declared.fault.Fault.{Fault};
 
@@ -26,6 +28,8 @@ pub fn read_cards(alloc: Global, bytes: &[u8]) -> Result<Cards, DeckError>
     requires { length bytes.now ≤ DECK_LIMIT }
     ensures cards { IfOk result (λ cards. deck_of bytes.now ≡ Some cards) }
     ensures refused { IfErr result (Refuses (IsCardRefusal bytes.now)) }
+    ensures plain { IfOk result (IsPlainDeck bytes.now) }
+    ensures not_plain { IfErr result (Refuses (λ _. (deck : Deck) → IsPlainDeck bytes.now deck → ⊥)) }
     ensures accepted { OnOk result ((fault : Fault) → IsCardRefusal bytes.now fault → ⊥) }
 {
     if let Some(cards) = plain_cards(alloc, bytes)? {

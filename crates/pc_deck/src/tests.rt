@@ -4,7 +4,9 @@ use pc_text::Code;
 use std::test::Fail;
 
 const HEAD: &[u8] = b"PROJECT,E0,S,T,2024-01-01,1,,\"Example, none\"\n";
+
 const EVENTS: &[u8] = b"EVENT,S,Start\nEVENT,M,\nEVENT,T,End\n";
+
 const ACT: &[u8] = b"ACT,A,S,M,1.1,3,4,5,4,2,10,3,Dig\n";
 
 #[test]
@@ -53,7 +55,10 @@ fn refuses_decks(rt: HostRuntime) -> Result<(), Fail> {
         (b"PROJECT,E,S,T,2024-01-01,1,,\n", NOT_PLAIN),
         (b"PROJECT,E,S,T,2024-01-01,1,,\nEND\n\xFF\n", unknown(3)),
         (b"PROJECT,E,S,T,2024-01-01,1,,\xFF\nEND\n", NOT_PLAIN),
-        (b"PROJECT,E,S,T,2024-01-01,1,,\nPROJECT,E,S,T,2024-01-01,1,,\nEND\n", NOT_PLAIN),
+        (
+            b"PROJECT,E,S,T,2024-01-01,1,,\nPROJECT,E,S,T,2024-01-01,1,,\nEND\n",
+            NOT_PLAIN,
+        ),
         (b"PROJECT,E,S,T,2024-01-01,1,,\nEND\nEVENT,S,\n", NOT_PLAIN),
         (b"PROJECT,E,S,T,2024-01-01,1,,\nEND\nEND\n", NOT_PLAIN),
         (b"PROJECT,E,S,T,2024-01-01,1,,,\nEND\n", NOT_PLAIN),
@@ -61,8 +66,14 @@ fn refuses_decks(rt: HostRuntime) -> Result<(), Fail> {
         (b"PROJECT,E,S,T,2024-01-01,8,,\nEND\n", NOT_PLAIN),
         (b"PROJECT,E,S,T,2024-01-01,0,,\nEND\n", NOT_PLAIN),
         (b"PROJECT,E,S,T,2024-01-01,1,1000001,\nEND\n", NOT_PLAIN),
-        (b"PROJECT,E,S,T,2024-01-01,1,,\nEVENT,S,\nEVENT,S,\nEND\n", NOT_PLAIN),
-        (b"PROJECT,E,S,T,2024-01-01,1,,\nACT,A,S,T,1,0,0,0,0,0,0,100000001,\nEND\n", NOT_PLAIN),
+        (
+            b"PROJECT,E,S,T,2024-01-01,1,,\nEVENT,S,\nEVENT,S,\nEND\n",
+            NOT_PLAIN,
+        ),
+        (
+            b"PROJECT,E,S,T,2024-01-01,1,,\nACT,A,S,T,1,0,0,0,0,0,0,100000001,\nEND\n",
+            NOT_PLAIN,
+        ),
     ];
     for (deck, want) in cases {
         let read = read_cards(rt.alloc(), deck);

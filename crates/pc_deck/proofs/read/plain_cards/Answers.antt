@@ -1,8 +1,7 @@
-use Rattle.std.proofs.Common.{◌≡◌, Some, sym, subst, ap, ◌∙◌}
+use Rattle.std.proofs.Common.{sym, subst}
 use Rattle.pc_deck.specs.Plainness.{deck_so_far}
 use Rattle.pc_deck.specs.Within.{IsWithinLimits}
 use Rattle.pc_deck.specs.declared.draft.Draft.{Draft}
-use Rattle.pc_deck.specs.declared.card.Card.{Card}
 use Rattle.pc_deck.proofs.WithinLemmas.{begun_within, IsCardWithin, IsCardWithin-card_of}
 use Rattle.pc_deck.proofs.read.plain_cards.Goals as goal
 
