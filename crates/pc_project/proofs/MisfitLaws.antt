@@ -22,16 +22,16 @@ known_and_none {o} known none = false≢true (sym (ap is_some none) ∙ known)
 -- an activity whose numbers are not in order does not fit in
 pub misfit_of_disorder : (deck : Deck) (act : ActCard) → (IsInOrder act → ⊥) → ActMisfit deck act
 misfit_of_disorder deck act disorder =
-    elim (cases_lt act.likely act.opt)
-      [ inl above ↦ optimistic_above above
-      | inr optimistic ↦ elim (cases_lt act.pess act.likely)
-          [ inl above ↦ likely_above above
-          | inr pessimistic ↦ elim (cases_lt act.normal act.crash)
-              [ inl above ↦ crash_above above
-              | inr durations ↦ absurd (disorder (record { optimistic = optimistic; pessimistic = pessimistic; durations = durations }))
-              ]
-          ]
+    elim (cases_lt act.likely act.opt) [
+      | inl above ↦ optimistic_above above
+      | inr optimistic ↦ elim (cases_lt act.pess act.likely) [
+        | inl above ↦ likely_above above
+        | inr pessimistic ↦ elim (cases_lt act.normal act.crash) [
+          | inl above ↦ crash_above above
+          | inr durations ↦ absurd (disorder (record { optimistic = optimistic; pessimistic = pessimistic; durations = durations }))
+        ]
       ]
+    ]
 
 -- an activity that does not fit in keeps its deck from making a project
 pub misfit_at : (deck : Deck) (acts : List ActCard) (i : ℕ) (act : ActCard) → acts ≡ deck.acts → i < length acts → act ≡ get_or acts i act → ActMisfit deck act → HasMisfit deck

@@ -24,32 +24,32 @@ module _ (deck : Deck) where
   terms_count = length-map deck.acts term_of
 
   are_terms : All IsInOrder deck.acts → AreTerms (network_of deck) (map term_of deck.acts)
-  are_terms ordered = record
-    { one_each = terms_count ∙ sym (length-map deck.acts (arc_of deck))
-    ; ordered = λ a below.
+  are_terms ordered = record {
+    one_each = terms_count ∙ sym (length-map deck.acts (arc_of deck));
+    ordered = λ a below.
         let inside : a < length deck.acts = omega (arith, below, terms_count) in
         let is = term_there deck a inside in
-        omega (arith, ap (λ t. t.crash) is, ap (λ t. t.normal) is, (ordered a no_act inside).durations)
-    }
+        omega (arith, ap (λ t. t.crash) is, ap (λ t. t.normal) is, (ordered a no_act inside).durations);
+  }
 
   within_limits : IsWithinLimits deck → AreWithinLimits (map term_of deck.acts)
-  within_limits limits = record
-    { few = omega (arith, terms_count, limits.few_acts)
-    ; short = λ a below. let inside : a < length deck.acts = omega (arith, below, terms_count) in omega (arith, ap (λ t. t.normal) (term_there deck a inside), (limits.acts_within a no_act inside).normal)
-    ; cheap = λ a below. let inside : a < length deck.acts = omega (arith, below, terms_count) in omega (arith, ap (λ t. t.cost) (term_there deck a inside), (limits.acts_within a no_act inside).cost)
-    ; gentle = λ a below. let inside : a < length deck.acts = omega (arith, below, terms_count) in omega (arith, ap (λ t. t.slope) (term_there deck a inside), (limits.acts_within a no_act inside).slope)
-    }
+  within_limits limits = record {
+    few = omega (arith, terms_count, limits.few_acts);
+    short = λ a below. let inside : a < length deck.acts = omega (arith, below, terms_count) in omega (arith, ap (λ t. t.normal) (term_there deck a inside), (limits.acts_within a no_act inside).normal);
+    cheap = λ a below. let inside : a < length deck.acts = omega (arith, below, terms_count) in omega (arith, ap (λ t. t.cost) (term_there deck a inside), (limits.acts_within a no_act inside).cost);
+    gentle = λ a below. let inside : a < length deck.acts = omega (arith, below, terms_count) in omega (arith, ap (λ t. t.slope) (term_there deck a inside), (limits.acts_within a no_act inside).slope);
+  }
 
   pub project_in-planned : MakesProject deck → IsWithinLimits deck → IsPlanned (project_in deck)
-  project_in-planned makes limits = record
-    { in_range = network_of-in_range deck makes.ends makes.connected
-    ; sound = makes.sound
-    ; terms = are_terms makes.ordered
-    ; limits = within_limits limits
-    ; few_events = limits.few_events
-    ; event_codes = length-map deck.events (λ event. event.code)
-    ; activity_codes = length-map deck.acts (λ act. act.code) ∙ sym (length-map deck.acts (arc_of deck))
-    }
+  project_in-planned makes limits = record {
+    in_range = network_of-in_range deck makes.ends makes.connected;
+    sound = makes.sound;
+    terms = are_terms makes.ordered;
+    limits = within_limits limits;
+    few_events = limits.few_events;
+    event_codes = length-map deck.events (λ event. event.code);
+    activity_codes = length-map deck.acts (λ act. act.code) ∙ sym (length-map deck.acts (arc_of deck));
+  }
 
 -- the project of a deck, from its parts
 pub project_in-is : (deck : Deck) (code : List ℕ) (network : Network) (terms : List Term) (events activities : List (List ℕ)) → code ≡ deck.project.code → network ≡ network_of deck → terms ≡ map term_of deck.acts → events ≡ event_codes deck → activities ≡ act_codes deck → let project : Project = record { code = code; network = network; terms = terms; events = events; activities = activities } in project ≡ project_in deck

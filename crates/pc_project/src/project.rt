@@ -28,7 +28,6 @@ pub struct Project {
 
 impl Model for Project {
     ghost use Rattle.pc_project.specs.Project.{Project};
-
     ghost use Rattle.pc_project.specs.Planned.{IsPlanned};
 
     ghost Value = { Project };

@@ -51,9 +51,10 @@ fn left_by(alloc: Global, words: &[&str], deck: &[u8], edges: Edges) -> Result<L
     for word in words {
         owned.push(word.to_string(alloc)?)?;
     }
-    let mut source = MemSource::new(alloc, deck, edges.piece, &[edges.failing_pull])?;
-    let mut out = MemSink::new(alloc, edges.room, edges.piece, &[edges.failing_push])?;
-    let mut err = MemSink::new(alloc, edges.room, edges.piece, &[edges.failing_push])?;
+    let piece = edges.piece.max(1);
+    let mut source = MemSource::new(alloc, deck, piece, &[edges.failing_pull])?;
+    let mut out = MemSink::new(alloc, edges.room, piece, &[edges.failing_push])?;
+    let mut err = MemSink::new(alloc, edges.room, piece, &[edges.failing_push])?;
     let status = run(alloc, &owned, &mut source, &mut out, &mut err);
     Ok(Left {
         status,

@@ -12,12 +12,12 @@ use Rattle.pc_project.proofs.project.network.Goals as goal
 pub build-requires-clause-in_range : goal.build-requires-clause-in_range
 build-requires-clause-in_range c =
     let same = network_of-is c.args.cards.now (length c.events.result.now) c.in-Some.start c.in-Some.end c.deref.result.now
-        (ap length c.events.ensures.cards) c.in-Some.ensures.start c.in-Some.ensures.end (c.deref.ensures.value ∙ rw c.in-Some-2.is at c.in_ok-arcs.ensures.found) in
+    (ap length c.events.ensures.cards) c.in-Some.ensures.start c.in-Some.ensures.end (c.deref.ensures.value ∙ rw c.in-Some-2.is at c.in_ok-arcs.ensures.found) in
     subst IsInRange (sym same) (network_of-in_range c.args.cards.now c.in-Some.ensures.found (rw c.in-Some-2.is at c.in_ok-arcs.ensures.connected))
 
 pub returns-clause-refused : goal.returns-clause-refused
 returns-clause-refused c =
     let same = network_of-is c.args.cards.now (length c.events.result.now) c.in-Some.start c.in-Some.end c.deref.result.now
-        (ap length c.events.ensures.cards) c.in-Some.ensures.start c.in-Some.ensures.end (c.deref.ensures.value ∙ rw c.in-Some-2.is at c.in_ok-arcs.ensures.found) in
+    (ap length c.events.ensures.cards) c.in-Some.ensures.start c.in-Some.ensures.end (c.deref.ensures.value ∙ rw c.in-Some-2.is at c.in_ok-arcs.ensures.found) in
     subst (Refuses (λ fault. (fault ≡ NOT_PLAIN) × HasMisfit c.args.cards.now)) (sym c.refusal.ensures)
-        (refused_network c.args.cards.now (network (length c.events.result.now) c.in-Some.start c.in-Some.end c.deref.result.now) c.in-Err.e same c.in-Err.ensures.refused)
+    (refused_network c.args.cards.now (network (length c.events.result.now) c.in-Some.start c.in-Some.end c.deref.result.now) c.in-Err.e same c.in-Err.ensures.refused)
