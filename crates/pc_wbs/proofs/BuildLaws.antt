@@ -1,15 +1,15 @@
 -- The steps of the loops that build a tree.
-use Rattle.std.proofs.Common.{◌≡◌, ◌≢◌, ℕ, zero, suc, ◌+◌, ◌-◌, ◌*◌, ◌^◌, ◌<◌, ◌≤◌, ◌⊎◌, ◌++◌, ◌∷◌, [], below_more, List, length, get_or, Option, Some, None, refl, sym, ap, ◌∙◌, inl, inr, ⊎_elim, arith}
+use Rattle.std.proofs.Common.{◌≡◌, ◌≢◌, ℕ, ◌+◌, ◌<◌, ◌≤◌, ◌⊎◌, ◌++◌, ◌∷◌, [], below_more, List, length, get_or, Option, Some, None, refl, sym, ap, ◌∙◌, inl, inr, ⊎_elim, arith}
 use Rattle.std.specs.Prelude.{option_and_then, slice_index, min, max, IsTrue, is_none}
 use Rattle.std.proofs.lemmas.Bool.{cases_lt, cases_eq}
 use Rattle.std.proofs.lemmas.List.{length_push, get_or_push, get_or_append_left, get_or_default}
 use Rattle.pc_wbs.specs.declared.row.ItemRow.{ItemRow}
-use Rattle.pc_wbs.specs.Climb.{parent_of, AreInRange, climb, HasLevel, IsOnLoop, most_levels, IsLeaf, IsDepth, IsOnlyTop, IsTree}
+use Rattle.pc_wbs.specs.Climb.{parent_of, AreInRange, climb, HasLevel, most_levels, IsLeaf, IsDepth, IsOnlyTop, IsTree}
 use Rattle.pc_wbs.specs.Refusal.{IsFirst, IsLooped, IsTooDeep}
 use Rattle.pc_wbs.specs.Links.{link_at, IsFirstChild}
 use Rattle.pc_wbs.specs.Preorder.{StandsBelow}
 use Rattle.pc_wbs.specs.Ends.{AreEnds, AreDoubled, StayInside, IsLeastBelow, IsFirstLooped, AreLevels, AreGreatest, lesser}
-use Rattle.pc_wbs.proofs.ClimbLaws.{step-some, climb-add, climb-lower, climb-more, climb-range, HasLevel-same}
+use Rattle.pc_wbs.proofs.ClimbLaws.{climb-add, climb-lower, climb-more, climb-range, HasLevel-same}
 use Rattle.pc_wbs.proofs.LoopLaws.{IsOnLoop-end, end-IsOnLoop}
 
 -- a row from which so many steps lead somewhere is deeper than that
@@ -65,8 +65,10 @@ IsFirstLooped-ends rows steps ends (Some m) r long h ((x, (lt, e)), bound) = rec
   where
     in_rows : x < length rows
     in_rows = omega (arith, lt, h.one_each)
+
     ends_here : climb rows steps x ≡ Some m
     ends_here = sym (h.end x in_rows) ∙ e
+
     sooner : (y : ℕ) → y < m → (z : ℕ) × ((z < length rows) × (climb rows steps z ≡ Some y)) → ⊥
     sooner y less (z, (inside, is)) =
         let least = bound z y (omega (arith, inside, h.one_each)) (h.end z inside ∙ is) in
@@ -98,6 +100,7 @@ AreLevels-more rows n level levels h has le = record {
   where
     last : slice_index (levels ++ level ∷ []) n ≡ level
     last = get_or_push levels level 0 n h.one_each
+
     earlier : (x : ℕ) → x < n → slice_index (levels ++ level ∷ []) x ≡ slice_index levels x
     earlier x lt = get_or_append_left levels (level ∷ []) 0 x (omega (arith, h.one_each))
 
@@ -123,8 +126,10 @@ AreGreatest-more xs n greatest next h e = record {
   where
     newer : greatest ≤ next → StandsBelow xs (n + 1) (max greatest next)
     newer le = let is : max greatest next ≡ next = omega arith in (n, (omega arith, e ∙ sym is))
+
     keep : next ≤ greatest → StandsBelow xs n greatest → StandsBelow xs (n + 1) (max greatest next)
     keep ge (j, (lt, is)) = let m : max greatest next ≡ greatest = omega arith in (j, (omega arith, is ∙ sym m))
+
     by_order : (greatest < next) ⊎ (next ≤ greatest) → (n ≡ 0) ⊎ (n ≢ 0) → StandsBelow xs (n + 1) (max greatest next)
     by_order (inl lt) zero_or = newer (omega arith)
     by_order (inr ge) (inl z) = newer (omega (arith, h.none z))

@@ -1,9 +1,9 @@
 -- How climbs compose, and what levels they lead to.
-use Rattle.std.proofs.Common.{◌≡◌, ◌≢◌, ℕ, zero, suc, ◌+◌, ◌-◌, ◌*◌, ◌<◌, ◌≤◌, ◌⊎◌, List, length, Option, Some, None, refl, sym, ap, ◌∙◌, inl, inr, ⊎_elim, arith}
-use Rattle.std.specs.Prelude.{option_and_then, min}
-use Rattle.std.proofs.lemmas.Bool.{cases_lt, cases_order}
+use Rattle.std.proofs.Common.{◌≡◌, ℕ, zero, suc, ◌+◌, ◌-◌, ◌<◌, ◌≤◌, ◌⊎◌, List, length, Option, Some, None, refl, ap, ◌∙◌, inl, inr, ⊎_elim, arith}
+use Rattle.std.specs.Prelude.{option_and_then}
+use Rattle.std.proofs.lemmas.Bool.{cases_order}
 use Rattle.pc_wbs.specs.declared.row.ItemRow.{ItemRow}
-use Rattle.pc_wbs.specs.Climb.{parent_of, AreInRange, climb, IsBelow, IsTop, HasLevel, IsOnlyTop, IsTree, IsDepth, IsAtLevel}
+use Rattle.pc_wbs.specs.Climb.{parent_of, AreInRange, climb, IsBelow, HasLevel}
 
 -- a step that leads somewhere has a row to begin with
 pub step-some : (f : ℕ → Option ℕ) (o : Option ℕ) (y : ℕ) → option_and_then f o ≡ Some y → (p : ℕ) × ((o ≡ Some p) × (f p ≡ Some y))

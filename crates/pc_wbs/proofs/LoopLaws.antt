@@ -1,10 +1,10 @@
 -- Long climbs end on loops, and each row of a loop is the end of one.
-use Rattle.std.proofs.Common.{◌≡◌, ◌≢◌, ℕ, zero, suc, ◌+◌, ◌-◌, ◌*◌, ◌<◌, ◌≤◌, ◌⊎◌, ◌++◌, ◌∷◌, [], below_more, List, length, Option, Some, None, refl, sym, ap, ◌∙◌, inl, inr, ⊎_elim, arith}
-use Rattle.std.specs.Prelude.{option_and_then, unwrap_or, slice_index}
+use Rattle.std.proofs.Common.{◌≡◌, ◌≢◌, ℕ, zero, suc, ◌+◌, ◌-◌, ◌*◌, ◌<◌, ◌≤◌, ◌++◌, ◌∷◌, [], below_more, List, length, Option, Some, None, refl, sym, ap, ◌∙◌, arith}
+use Rattle.std.specs.Prelude.{unwrap_or, slice_index}
 use Rattle.pc_wbs.specs.declared.row.ItemRow.{ItemRow}
 use Rattle.pc_wbs.specs.Climb.{parent_of, AreInRange, climb, HasLevel, IsOnLoop}
 use Rattle.std.proofs.lemmas.List.{length_push, get_or_push, get_or_append_left}
-use Rattle.pc_wbs.specs.Refusal.{IsFirst, IsLooped, IsLoopFrom}
+use Rattle.pc_wbs.specs.Refusal.{IsLooped, IsLoopFrom}
 use Rattle.std.proofs.Math.Nat.{zero-mul}
 use Rattle.pc_wbs.proofs.Pigeon.{Repeats, repeats}
 use Rattle.pc_wbs.proofs.ClimbLaws.{climb-add, climb-more, climb-lower, climb-range}
@@ -130,10 +130,13 @@ IsLoopFrom-walked rows start steps found here h e = record {
   where
     loop : List ℕ
     loop = found ++ here ∷ []
+
     last : (n : ℕ) → length found ≡ n → slice_index (found ++ here ∷ []) n ≡ here
     last n is = get_or_push found here 0 n is
+
     all : (k : ℕ) → k < steps + 1 → climb rows k start ≡ Some (slice_index (found ++ here ∷ []) k)
     all = below_more _ _ (λ k lt. h.passed k lt ∙ ap Some (sym (get_or_append_left found (here ∷ []) 0 k (omega (arith, h.so_many))))) (h.now ∙ ap Some (sym (last steps h.so_many)))
+
     apart : (j k : ℕ) → j < k → k < steps + 1 → slice_index (found ++ here ∷ []) j ≡ slice_index (found ++ here ∷ []) k → ⊥
     apart j k lt within same =
         let rest = steps - k in

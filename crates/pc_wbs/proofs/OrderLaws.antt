@@ -1,17 +1,17 @@
 -- The row right behind another in preorder, and the preorder that is made of such steps.
 use Rattle.std.proofs.Common.{◌≡◌, ◌≢◌, ℕ, zero, suc, ◌+◌, ◌-◌, ◌<◌, ◌≤◌, ◌⊎◌, ◌++◌, ◌∷◌, [], below_more, List, length, Option, Some, None, refl, sym, ap, ◌∙◌, inl, inr, ⊎_elim, add-one, arith}
-use Rattle.std.specs.Prelude.{option_and_then, slice_index}
+use Rattle.std.specs.Prelude.{slice_index}
 use Rattle.std.proofs.lemmas.Bool.{cases_lt, cases_eq, cases_order}
 use Rattle.std.proofs.lemmas.List.{length_push, get_or_push, get_or_append_left, get_or_past}
 use Rattle.pc_wbs.specs.declared.row.ItemRow.{ItemRow}
-use Rattle.pc_wbs.specs.Climb.{parent_of, AreInRange, climb, IsBelow, IsOnLoop, HasLevel, IsOnlyTop, IsTree}
+use Rattle.pc_wbs.specs.Climb.{parent_of, AreInRange, climb, IsBelow, HasLevel, IsOnlyTop, IsTree}
 use Rattle.pc_wbs.specs.Links.{IsFirstChild, link_at, AreNextSiblings, IsNextBeside}
 use Rattle.pc_wbs.specs.Preorder.{StandsBelow, IsPreorder}
 use Rattle.pc_wbs.specs.Precedes.{IsUnder, Parts, Precedes, IsSuccessor}
 use Rattle.pc_wbs.proofs.Pigeon.{Repeats, repeats, length-apart}
-use Rattle.pc_wbs.proofs.ClimbLaws.{climb-add, climb-step, step-some, climb-range, IsBelow-self, IsBelow-parent}
+use Rattle.pc_wbs.proofs.ClimbLaws.{climb-add, step-some, climb-range, IsBelow-self, IsBelow-parent}
 use Rattle.pc_wbs.proofs.LoopLaws.{HasLevel-no_loop}
-use Rattle.pc_wbs.proofs.PrecedesLaws.{HasNoLoop, IsBelow-trans, IsBelow-under, IsUnder-below, cases_below, cases_above, IsUnder-self, siblings_apart, sibling_under, Precedes-self, Precedes-trans}
+use Rattle.pc_wbs.proofs.PrecedesLaws.{HasNoLoop, IsBelow-trans, IsBelow-under, cases_below, IsUnder-self, sibling_under, Precedes-self, Precedes-trans}
 
 -- what has a parent is a row
 pub parent-inside : (rows : List ItemRow) (x p : ℕ) → parent_of rows x ≡ Some p → x < length rows
@@ -50,6 +50,7 @@ IsSuccessor-child rows x c (from, inside, e, first) = (inside, inl (x, (e, IsBel
         ⊎_elim (λ same. below-precedes rows u c (rw same h))
         (λ apart. ⊎_elim (λ lt. inr (inr (record { earlier = c; later = d; parent = x; below_earlier = IsBelow-self rows c; below_later = h; parent_earlier = e; parent_later = f; order = lt }))) (λ gt. absurd (first d (omega arith) gt f)) apart)
         (cases_order c d)
+
     later : (u : ℕ) → u < length rows → Precedes rows x u → (u ≡ c) ⊎ Precedes rows c u
     later u lt (inl under) = of_child u (child_of rows u x under)
     later u lt (inr t) =
@@ -75,6 +76,7 @@ IsSuccessor-beside rows nexts x (Some s) r inside links childless (k, (y, (h, e,
   where
     within : y < length rows
     within = climb-range rows k x y r inside h
+
     below_y : (p : ℕ) → parent_of rows y ≡ Some p → IsFirstChild rows p (y + 1) (Some s) → (u : ℕ) → Parts rows x u → (u ≡ s) ⊎ Precedes rows s u
     below_y p ep (from, in_rows, es, first) u t =
         let a = t.later in
@@ -89,11 +91,13 @@ IsSuccessor-beside rows nexts x (Some s) r inside links childless (k, (y, (h, e,
         (λ under. inr (inr (record { earlier = b; later = a; parent = t.parent; below_earlier = IsBelow-under rows s b (sibling_under rows y s p b ep es under); below_later = t.below_later; parent_earlier = t.parent_earlier; parent_later = t.parent_later; order = t.order })))
         (cases_below rows y b up))
         (cases_lt t.below_earlier.0 k)
+
     later : (p : ℕ) → parent_of rows y ≡ Some p → IsFirstChild rows p (y + 1) (Some s) → (u : ℕ) → u < length rows → Precedes rows x u → (u ≡ s) ⊎ Precedes rows s u
     later p ep sibling u lt (inl under) =
         let d = child_of rows u x under in
         absurd (childless d.0 (omega arith) (parent-inside rows d.0 x d.1.0) d.1.0)
     later p ep sibling u lt (inr t) = below_y p ep sibling u t
+
     by_parent : (o : Option ℕ) → parent_of rows y ≡ o → IsSuccessor rows x (Some s)
     by_parent None top = let alone = links.alone y within top in absurd cc
     by_parent (Some p) ep =
@@ -134,10 +138,13 @@ front_push rows xs x h = (in_rows, λ j k lt within. behind j k lt within (cases
   where
     here : slice_index (xs ++ x ∷ []) (length xs) ≡ x
     here = get_or_push xs x 0 (length xs) refl
+
     earlier : (k : ℕ) → k < length xs → slice_index (xs ++ x ∷ []) k ≡ slice_index xs k
     earlier k lt = get_or_append_left xs (x ∷ []) 0 k lt
+
     in_rows : (k : ℕ) → k < length xs + 1 → slice_index (xs ++ x ∷ []) k < length rows
     in_rows = below_more _ _ (λ k lt. rw (earlier k lt) (h.range k lt)) (rw here h.continues.0)
+
     behind : (j k : ℕ) → j < k → k < length xs + 1 → (k ≡ length xs) ⊎ (k ≢ length xs) → Precedes rows (slice_index (xs ++ x ∷ []) j) (slice_index (xs ++ x ∷ []) k)
     behind j k lt within (inl last) =
         let low : j < length xs = omega arith in
@@ -156,15 +163,20 @@ IsFront-more rows xs x next h is = record {
   where
     here : slice_index (xs ++ x ∷ []) (length xs) ≡ x
     here = get_or_push xs x 0 (length xs) refl
+
     earlier : (k : ℕ) → k < length xs → slice_index (xs ++ x ∷ []) k ≡ slice_index xs k
     earlier k lt = get_or_append_left xs (x ∷ []) 0 k lt
+
     stands : (u : ℕ) → StandsBelow xs (length xs) u → StandsBelow (xs ++ x ∷ []) (length (xs ++ x ∷ [])) u
     stands u (j, (lt, e)) = (j, (omega (arith, lt, length_push xs x), earlier j lt ∙ e))
+
     stands_last : StandsBelow (xs ++ x ∷ []) (length (xs ++ x ∷ [])) x
     stands_last = (length xs, (omega (arith, length_push xs x), here))
+
     before : (t : ℕ) → Precedes rows x t → (k : ℕ) → k < length xs + 1 → Precedes rows (slice_index (xs ++ x ∷ []) k) t
     before t first =
         below_more _ _ (λ k lt. rw (earlier k lt) (Precedes-trans rows (slice_index xs k) x t (h.continues.1 k lt) first)) (rw here first)
+
     go : (o : Option ℕ) → IsSuccessor rows x o → Continues rows (xs ++ x ∷ []) o
     go None last = λ u lt. ⊎_elim (λ found. stands u found) (λ rest. ⊎_elim (λ same. rw same stands_last) (λ after. absurd (last u lt after)) rest) (h.continues.2 u lt)
     go (Some t) after =
@@ -199,8 +211,10 @@ all_there rows xs h =
   where
     spot : ℕ → ℕ
     spot u = place rows xs h u (cases_lt u (length rows))
+
     small : length xs < length rows → (i : ℕ) → i ≤ length xs → place rows xs h i (cases_lt i (length rows)) < length xs
     small short i le = (place-is rows xs h i (cases_lt i (length rows)) (omega arith)).0
+
     clash : length xs < length rows → Repeats (length xs) (λ u. place rows xs h u (cases_lt u (length rows))) → ⊥
     clash short (i, (j, (lt, le, e))) =
         let at_i = (place-is rows xs h i (cases_lt i (length rows)) (omega arith)).1 in
@@ -222,19 +236,23 @@ IsPreorder-front rows xs r t h = record {
   where
     none : HasNoLoop rows
     none = HasNoLoop-tree rows t
+
     never : (j k : ℕ) → j < k → k < length xs → Precedes rows (slice_index xs k) (slice_index xs j) → ⊥
     never j k lt within back =
         Precedes-self rows (slice_index xs k) none (Precedes-trans rows (slice_index xs k) (slice_index xs j) (slice_index xs k) back (h.sorted j k lt within))
+
     behind : (k p : ℕ) → k < length xs → parent_of rows (slice_index xs k) ≡ Some p → StandsBelow xs (length xs) p → StandsBelow xs k p
     behind k p lt e (j, (within, is)) =
         let under : IsUnder rows (slice_index xs k) p = (p, (e, IsBelow-self rows p)) in
         ⊎_elim (λ same. let here : slice_index xs k ≡ p = ap (λ n. slice_index xs n) (sym same) ∙ is in absurd (IsUnder-self rows p none (rw here at under)))
         (λ order. ⊎_elim (λ less. (j, (less, is))) (λ gt. absurd (never k j gt within (rw is (inl under)))) order)
         (cases_order j k)
+
     between : (j k m : ℕ) → j < k → k < m → m < length xs → IsBelow rows (slice_index xs m) (slice_index xs j) → Precedes rows (slice_index xs j) (slice_index xs k) → IsBelow rows (slice_index xs k) (slice_index xs j)
     between j k m lt less within below (inl under) = IsBelow-under rows (slice_index xs k) (slice_index xs j) under
     between j k m lt less within below (inr t) =
         absurd (never k m less within (inr (record { earlier = t.earlier; later = t.later; parent = t.parent; below_earlier = IsBelow-trans rows (slice_index xs m) (slice_index xs j) t.earlier below t.below_earlier; below_later = t.below_later; parent_earlier = t.parent_earlier; parent_later = t.parent_later; order = t.order })))
+
     ordered : (j k p : ℕ) → j < k → k < length xs → parent_of rows (slice_index xs j) ≡ Some p → parent_of rows (slice_index xs k) ≡ Some p → (slice_index xs j ≡ slice_index xs k) ⊎ ((slice_index xs j < slice_index xs k) ⊎ (slice_index xs k < slice_index xs j)) → slice_index xs j < slice_index xs k
     ordered j k p lt within ej ek (inl same) =
         absurd (apart rows xs none h.sorted j k lt within same)

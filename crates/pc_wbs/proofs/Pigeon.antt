@@ -1,5 +1,5 @@
 -- Among n + 1 numbers below n two are the same.
-use Rattle.std.proofs.Common.{◌≡◌, ◌≢◌, ℕ, zero, suc, ◌+◌, ◌<◌, ◌≤◌, ◌⊎◌, Bool, true, false, cond, List, length, get_or, refl, sym, ap, ◌∙◌, inl, inr, ⊎_elim, arith}
+use Rattle.std.proofs.Common.{◌≡◌, ◌≢◌, ℕ, zero, suc, ◌<◌, ◌≤◌, ◌⊎◌, List, length, inl, inr, ⊎_elim, arith}
 use Rattle.std.specs.Prelude.{◌==◌, if◌then◌else◌, slice_index}
 use Rattle.std.proofs.lemmas.Bool.{cases_lt, cases_eq, cases_Bool, eqb-true, eqb-false, cond-true, cond-false}
 
@@ -41,6 +41,7 @@ repeats (suc n) f h =
         let last = h (suc n) (omega arith) in
         let apart = none i (omega arith) in
         ⊎_elim (λ c. omega (arith, c.0, c.1)) (λ c. omega (arith, c.0, c.1)) (squeezed-cases n f i)
+
     same : (i j : ℕ) → ((i : ℕ) → i < suc n → f i ≢ f (suc n)) → i ≤ n → j ≤ n → squeezed n f i ≡ squeezed n f j → f i ≡ f j
     same i j none hi hj e =
         let ni = none i (omega arith) in
@@ -48,6 +49,7 @@ repeats (suc n) f h =
         ⊎_elim (λ c. ⊎_elim (λ d. omega (arith, c.0, d.0)) (λ d. absurd (omega (arith, c.1, d.1))) (squeezed-cases n f j))
         (λ c. ⊎_elim (λ d. absurd (omega (arith, c.1, d.1))) (λ d. omega (arith, c.1, d.1)) (squeezed-cases n f j))
         (squeezed-cases n f i)
+
     widen : ((i : ℕ) → i < suc n → f i ≢ f (suc n)) → Repeats n (squeezed n f) → Repeats (suc n) f
     widen none (i, (j, (lt, le, e))) =
         (i, (j, (lt, omega arith, same i j none (omega arith) le e)))

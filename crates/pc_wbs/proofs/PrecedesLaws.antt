@@ -1,11 +1,10 @@
 -- Which of two rows comes first in preorder: the one that the other is below, or else the one that lies below the
 -- earlier of two siblings.
-use Rattle.std.proofs.Common.{◌≡◌, ◌≢◌, ℕ, zero, suc, ◌+◌, ◌-◌, ◌<◌, ◌≤◌, ◌⊎◌, List, length, Option, Some, None, refl, sym, ap, ◌∙◌, inl, inr, ⊎_elim, add-one, arith}
-use Rattle.std.specs.Prelude.{option_and_then}
-use Rattle.std.proofs.lemmas.Bool.{cases_lt, cases_eq, cases_order}
+use Rattle.std.proofs.Common.{◌≡◌, ℕ, zero, suc, ◌+◌, ◌-◌, ◌⊎◌, List, Some, refl, sym, ap, ◌∙◌, inl, inr, ⊎_elim, add-one, arith}
+use Rattle.std.proofs.lemmas.Bool.{cases_lt}
 use Rattle.pc_wbs.specs.declared.row.ItemRow.{ItemRow}
 use Rattle.pc_wbs.specs.Climb.{parent_of, climb, IsBelow, IsOnLoop}
-use Rattle.pc_wbs.specs.Precedes.{IsUnder, Parts, Precedes}
+use Rattle.pc_wbs.specs.Precedes.{IsUnder, Precedes}
 use Rattle.pc_wbs.proofs.ClimbLaws.{climb-add, climb-step, step-some, IsBelow-self, IsBelow-parent, IsBelow-cases}
 
 -- no row is on a loop
@@ -70,6 +69,7 @@ Precedes-trans rows u v w (inl vu) (inr t) = above (cases_above rows v t.earlier
   where
     parted : IsBelow rows u t.earlier → Precedes rows u w
     parted h = inr (record { earlier = t.earlier; later = t.later; parent = t.parent; below_earlier = h; below_later = t.below_later; parent_earlier = t.parent_earlier; parent_later = t.parent_later; order = t.order })
+
     above : IsBelow rows t.earlier u ⊎ IsBelow rows u t.earlier → Precedes rows u w
     above (inr h) = parted h
     above (inl h) =
@@ -82,12 +82,15 @@ Precedes-trans rows u v w (inr s) (inr t) = above (cases_above rows v s.later t.
   where
     by_second : IsBelow rows u t.earlier → Precedes rows u w
     by_second h = inr (record { earlier = t.earlier; later = t.later; parent = t.parent; below_earlier = h; below_later = t.below_later; parent_earlier = t.parent_earlier; parent_later = t.parent_later; order = t.order })
+
     by_first : IsBelow rows w s.later → Precedes rows u w
     by_first h = inr (record { earlier = s.earlier; later = s.later; parent = s.parent; below_earlier = s.below_earlier; below_later = h; parent_earlier = s.parent_earlier; parent_later = s.parent_later; order = s.order })
+
     level_with : s.later ≡ t.earlier → Precedes rows u w
     level_with same =
         let parents : s.parent ≡ t.parent = let a = s.parent_later in let b = t.parent_earlier in let c = ap (λ n. parent_of rows n) same in cc in
         inr (record { earlier = s.earlier; later = t.later; parent = s.parent; below_earlier = s.below_earlier; below_later = t.below_later; parent_earlier = s.parent_earlier; parent_later = t.parent_later ∙ ap Some (sym parents); order = omega (arith, s.order, t.order) })
+
     above : IsBelow rows s.later t.earlier ⊎ IsBelow rows t.earlier s.later → Precedes rows u w
     above (inl h) =
         ⊎_elim level_with

@@ -1,6 +1,5 @@
 -- What holds of the parts of a tree.
-use Rattle.std.specs.Prelude.{ℕ, ◌≤◌, List, length}
-use Rattle.pc_wbs.specs.declared.row.ItemRow.{ItemRow}
+use Rattle.std.specs.Prelude.{◌≤◌, length}
 use Rattle.pc_wbs.specs.declared.tree.Tree.TheInside.{Inside}
 use Rattle.pc_wbs.specs.Climb.{AreInRange, IsTree, IsDepth}
 use Rattle.pc_wbs.specs.Ends.{AreLevels}

@@ -1,6 +1,5 @@
-use Rattle.std.proofs.Common.{arith, ◌≡◌, refl, ap, sym, ◌∙◌, nat_cmp}
+use Rattle.std.proofs.Common.{arith, ◌≡◌, refl}
 use Rattle.std.specs.Prelude.{max, slice_index}
-use Rattle.std.specs.Ordering.{ord_max}
 use Rattle.std.proofs.lemmas.Bool.Decides.{nat_tests}
 use Rattle.pc_wbs.proofs.BuildLaws.{AreGreatest-more}
 use Rattle.pc_wbs.proofs.levels.depth_of.Goals as goal

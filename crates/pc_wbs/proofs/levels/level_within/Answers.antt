@@ -1,4 +1,4 @@
-use Rattle.std.proofs.Common.{arith, ◌≡◌, Some, ap, sym, ◌∙◌}
+use Rattle.std.proofs.Common.{◌≡◌, Some, sym, ◌∙◌}
 use Rattle.pc_wbs.specs.Climb.{parent_of}
 use Rattle.pc_wbs.proofs.ClimbLaws.{climb-more}
 use Rattle.pc_wbs.proofs.levels.level_within.Goals as goal

@@ -1,6 +1,5 @@
-use Rattle.std.proofs.Common.{arith, ◌≡◌, ◌^◌, ◌+◌, length, sym, ap, add-one}
+use Rattle.std.proofs.Common.{arith, ◌≡◌, ◌^◌, ◌+◌, add-one}
 use Rattle.std.proofs.Math.Nat.{two-pow-succ}
-use Rattle.pc_wbs.specs.Ends.{AreDoubled, IsLeastBelow, StayInside}
 use Rattle.pc_wbs.proofs.BuildLaws.{StayInside-ends, AreEnds-twice, IsFirstLooped-ends}
 use Rattle.pc_wbs.proofs.loops.first_on_loop.Goals as goal
 

@@ -1,4 +1,4 @@
-use Rattle.std.proofs.Common.{arith, refl}
+use Rattle.std.proofs.Common.{refl}
 use Rattle.pc_wbs.proofs.BuildLaws.{IsLeastBelow-more}
 use Rattle.pc_wbs.proofs.loops.least.Goals as goal
 

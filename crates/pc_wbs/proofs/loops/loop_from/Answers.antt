@@ -1,7 +1,6 @@
-use Rattle.std.proofs.Common.{arith, ◌≡◌, Some, None, sym, ap, ◌∙◌}
+use Rattle.std.proofs.Common.{arith, ◌≡◌, Some, sym, ap, ◌∙◌}
 use Rattle.pc_wbs.specs.Climb.{parent_of}
-use Rattle.pc_wbs.specs.Refusal.{IsLoopFrom}
-use Rattle.pc_wbs.proofs.LoopLaws.{IsOnTheWay-none, IsOnTheWay-more, IsLoopFrom-walked, not_for_ever, loop-parent}
+use Rattle.pc_wbs.proofs.LoopLaws.{IsOnTheWay-more, IsLoopFrom-walked, not_for_ever, loop-parent}
 use Rattle.pc_wbs.proofs.loops.loop_from.Goals as goal
 use Rattle.pc_wbs.proofs.loops.loop_from.Goals.{in_default-via-in-Some+else-parent-start, in_default-via-in_default}
 

@@ -1,4 +1,4 @@
-use Rattle.std.proofs.Common.{arith, ◌≡◌, ◌<◌, length, Some, None, sym, ◌∙◌}
+use Rattle.std.proofs.Common.{arith, ◌≡◌, ◌<◌, length, Some, None, ◌∙◌}
 use Rattle.pc_wbs.specs.Links.{IsFirstChild, link_at}
 use Rattle.pc_wbs.proofs.BuildLaws.{link-read}
 use Rattle.pc_wbs.proofs.OrderLaws.{IsSuccessor-child, IsSuccessor-beside}

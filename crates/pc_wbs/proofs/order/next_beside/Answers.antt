@@ -1,7 +1,6 @@
-use Rattle.std.proofs.Common.{arith, below_more, ◌≡◌, ◌<◌, ◌≤◌, ◌⊎◌, ℕ, Some, None, sym, ap, ◌∙◌, ⊎_elim}
+use Rattle.std.proofs.Common.{arith, ◌≡◌, Some, None, sym, ◌∙◌, ⊎_elim}
 use Rattle.std.proofs.lemmas.Bool.{cases_lt}
-use Rattle.pc_wbs.specs.Climb.{parent_of, climb}
-use Rattle.pc_wbs.specs.Links.{link_at}
+use Rattle.pc_wbs.specs.Climb.{parent_of}
 use Rattle.pc_wbs.proofs.ClimbLaws.{climb-more}
 use Rattle.pc_wbs.proofs.BuildLaws.{HasLevel-deep, no_links_above, same_row}
 use Rattle.pc_wbs.proofs.order.next_beside.Goals as goal
