@@ -4,3 +4,5 @@ pub mod LoopLaws
 pub mod BuildLaws
 pub mod PrecedesLaws
 pub mod OrderLaws
+pub mod LevelLaws
+pub mod ExactLaws
