@@ -1,6 +1,6 @@
 -- What makes a deck's cards a project, and what keeps them from it: never both.
-use Rattle.std.proofs.Common.{◌≡◌, ◌≢◌, refl, ◌<◌, ◌≤◌, ℕ, List, length, get_or, map, sym, subst, ap, arith, rules, Option, None, ◌∙◌, inl, inr}
-use Rattle.std.specs.Prelude.{All, Contains, IsSome, is_some}
+use Rattle.std.proofs.Common.{◌≡◌, ◌≢◌, refl, ◌<◌, ℕ, List, length, get_or, sym, subst, ap, arith, Option, None, ◌∙◌, inl, inr}
+use Rattle.std.specs.Prelude.{Contains, IsSome, is_some}
 use Rattle.std.proofs.lemmas.Bool.{cases_lt, false≢true}
 use Rattle.pc_model.proofs.UnsoundLaws.{IsSound-not-IsUnsound}
 use Rattle.pc_project.specs.Project.{network_of}

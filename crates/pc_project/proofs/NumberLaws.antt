@@ -1,14 +1,12 @@
 -- The numbers of events by their codes, and the range of a network of such numbers.
-use Rattle.std.proofs.Common.{◌≡◌, ◌≢◌, ◌<◌, ℕ, List, [], length, get_or, map, sym, ap, ◌∙◌, subst, refl, arith, Option, Some, None, nat_eq}
-use Rattle.std.specs.Prelude.{All, IsSome, position, slice_index_or, unwrap_or}
-use Rattle.std.specs.Option.{is_some}
-use Rattle.std.specs.Cmp.{IsEquivalence}
-use Rattle.std.specs.Cmp.Lexicographic.{pointwise, bytes_decides, nat_list_eq_equiv}
+use Rattle.std.proofs.Common.{◌≡◌, ◌<◌, ℕ, List, [], length, get_or, sym, ap, ◌∙◌, refl, arith, Option, Some, None, nat_eq}
+use Rattle.std.specs.Prelude.{All, IsSome, unwrap_or}
+use Rattle.std.specs.Cmp.Lexicographic.{pointwise, bytes_decides}
 use Rattle.std.proofs.lemmas.Bool.{false≢true}
 use Rattle.std.proofs.lemmas.List.{get_or-map, length-map}
 use Rattle.std.proofs.lemmas.List.Quantifiers.{position-Some}
 use Rattle.pc_model.specs.declared.Arc.{Arc}
-use Rattle.pc_model.specs.Walk.{arc_at, from_of, to_of}
+use Rattle.pc_model.specs.Walk.{from_of, to_of}
 use Rattle.pc_model.specs.Network.{Network, IsInRange}
 use Rattle.pc_deck.specs.declared.cards.ActCard.{ActCard}
 use Rattle.pc_deck.specs.Deck.{Deck, event_codes, event_named}

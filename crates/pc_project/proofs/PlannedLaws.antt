@@ -1,12 +1,11 @@
 -- The project of a deck whose cards make one is planned.
-use Rattle.std.proofs.Common.{◌≡◌, ◌<◌, ◌≤◌, ℕ, List, [], length, get_or, map, sym, ap, ◌∙◌, subst, refl, arith}
+use Rattle.std.proofs.Common.{◌≡◌, ◌<◌, ℕ, List, length, get_or, map, sym, ap, ◌∙◌, arith}
 use Rattle.std.specs.Prelude.{All}
 use Rattle.std.proofs.lemmas.List.{get_or-map, length-map}
 use Rattle.pc_model.specs.declared.Term.{Term}
-use Rattle.pc_model.specs.Network.{Network, IsInRange}
-use Rattle.pc_model.specs.Schedule.{AreTerms, term_at, normal_of, crash_of}
+use Rattle.pc_model.specs.Network.{Network}
+use Rattle.pc_model.specs.Schedule.{AreTerms, term_at}
 use Rattle.pc_crash.specs.Terms.{AreWithinLimits}
-use Rattle.pc_deck.specs.declared.cards.ActCard.{ActCard}
 use Rattle.pc_deck.specs.Deck.{Deck, event_codes, act_codes}
 use Rattle.pc_deck.specs.Within.{IsWithinLimits}
 use Rattle.pc_project.specs.Project.{Project, arc_of, network_of, project_in, term_of}

@@ -1,7 +1,7 @@
 -- The schedule at the all-normal length: its durations, its times and its cost are right.
-use Rattle.std.proofs.Common.{◌≡◌, ℕ, ◌<◌, ◌≤◌, List, length, slice_index, sym, ◌∙◌, ap, subst, arith}
+use Rattle.std.proofs.Common.{◌≡◌, ℕ, List, length, slice_index, sym, ◌∙◌, ap, subst, arith}
 use Rattle.std.proofs.lemmas.List.{length-map}
-use Rattle.pc_model.specs.Network.{IsEarly, IsLongest}
+use Rattle.pc_model.specs.Network.{IsLongest}
 use Rattle.pc_model.specs.Schedule.{IsSchedule, cost_of, normal_of, normals}
 use Rattle.pc_model.proofs.AllNormal.{all_normal_least_cost, all_normal_schedule, cost_of-normals, normals-normal_of}
 use Rattle.pc_reports.specs.Schedule.{schedule_text}

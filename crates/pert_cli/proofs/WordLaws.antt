@@ -1,10 +1,9 @@
 -- The words of the command line.
-use Rattle.std.proofs.Common.{◌≡◌, ℕ, ◌≤◌, ◌<◌, List, [], ◌∷◌, length, map, get_or, Bool, true, sym, ◌∙◌, ap, subst, refl, arith, nat_eq}
+use Rattle.std.proofs.Common.{◌≡◌, ℕ, ◌≤◌, ◌<◌, List, [], ◌∷◌, length, map, get_or, Bool, sym, ◌∙◌, ap, arith, nat_eq}
 use Rattle.std.specs.Prelude.{String, IsTrue}
 use Rattle.std.specs.String.{string_bytes}
 use Rattle.std.specs.Cmp.Lexicographic.{pointwise, bytes_decides}
 use Rattle.std.specs.declared.alloc.Global.{Global}
-use Rattle.pert_cli.specs.Words.{IsNormal}
 
 -- a list of one element
 only_one : {X : Type 0} (xs : List X) (x : X) → 1 ≤ length xs → length xs < 2 → x ≡ get_or xs 0 x → xs ≡ x ∷ []

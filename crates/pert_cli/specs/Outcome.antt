@@ -1,6 +1,6 @@
 -- What a run means and leaves behind, by its status.
-use Rattle.std.specs.Prelude.{◌≡◌, ◌≢◌, ℕ, List, Option, IfSome, String}
-use Rattle.std.specs.Io.KnownBytes.{Appends, IsAtEnd}
+use Rattle.std.specs.Prelude.{◌≢◌, ℕ, List, Option, IfSome, String}
+use Rattle.std.specs.Io.KnownBytes.{IsAtEnd}
 use Rattle.std.specs.declared.alloc.Global.{Global}
 use Rattle.pc_edges.specs.Faults.{Rose}
 use Rattle.pc_edges.specs.Writes.{Wrote, Stopped}

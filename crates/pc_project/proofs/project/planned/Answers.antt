@@ -1,4 +1,4 @@
-use Rattle.std.proofs.Common.{◌≡◌, ◌∙◌, ap, map, sym, subst}
+use Rattle.std.proofs.Common.{◌∙◌, ap, map, sym, subst}
 use Rattle.pc_project.specs.Project.{term_of}
 use Rattle.pc_project.specs.Planned.{IsPlanned}
 use Rattle.pc_project.proofs.PlannedLaws.{project_in-is, project_in-planned}

@@ -1,6 +1,4 @@
-use Rattle.std.proofs.Common.{◌≡◌, ◌≤◌, ◌∙◌, List, length, slice_index, ap, sym, subst, arith}
-use Rattle.pc_edges.specs.Writes.{Writes}
-use Rattle.pc_reports.specs.Schedule.{schedule_text}
+use Rattle.std.proofs.Common.{◌∙◌, length, ap, sym, arith}
 use Rattle.pert_cli.specs.Answer.{printed_text}
 use Rattle.pc_edges.proofs.Writing.{Wrote-as}
 use Rattle.pert_cli.proofs.ScheduleLaws.{printed_text-is}

@@ -1,7 +1,5 @@
 use Rattle.std.proofs.Common.{◌≡◌, ap, subst, refl, Err}
 use Rattle.std.proofs.lemmas.Bool.{false≢true}
-use Rattle.std.specs.Prelude.{IfSome}
-use Rattle.pc_deck.specs.Refusal.{Refuses}
 use Rattle.pc_deck.specs.declared.fault.TheConstants.{TOO_LONG}
 use Rattle.pert_cli.specs.Verdict.{IsFault, IsProjectOf}
 use Rattle.pert_cli.specs.Outcome.{usage, no_memory, read_fault, write_fault, in_usage, source_run, sink_run}
