@@ -1,7 +1,8 @@
-pub mod ChainLemmas
-pub mod NameLemmas
-pub mod WithinLemmas
 pub mod Utf8Lemmas
+pub mod NameLemmas
+pub mod JudgeLemmas
+pub mod WithinLemmas
 pub mod ReadLemmas
+pub mod CardFaultLemmas
+pub mod SeenLemmas
 pub mod RefusalLemmas
-pub mod PlainLaw
