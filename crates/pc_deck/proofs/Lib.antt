@@ -1,6 +1,1 @@
-pub mod ChainLemmas
-pub mod NameLemmas
-pub mod WithinLemmas
 pub mod Utf8Lemmas
-pub mod ReadLemmas
-pub mod RefusalLemmas

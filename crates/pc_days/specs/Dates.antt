@@ -1,0 +1,76 @@
+-- The dates of a deck: how one is spelled, and the number of its day.
+use Rattle.std.specs.Prelude.{◌≡◌, ℕ, ◌+◌, ◌-◌, ◌*◌, ◌/◌, ◌%◌, ◌<◌, ◌≤◌, ◌⊎◌, Bool, ◌&&◌, ◌==◌, nat_le, if◌then◌else◌, List, [], ◌∷◌, length, slice_index, Result, Ok, Err, ℤ, pos}
+use Rattle.jiff_core.specs.Calendar.{IsCivilDate, days_from_civil, days_in_month}
+use Rattle.pc_days.specs.declared.error.DayError.{DayError}
+use Rattle.pc_days.specs.declared.error.DayError.TheVariants.{Shape, Years}
+
+-- `YYYY-MM-DD`: four digits of the year, two of the month and two of the day, with hyphens between them
+abbrev pub date_text : ℕ → ℕ → ℕ → List ℕ
+date_text y m d =
+    (48 + y / 1000) ∷ (48 + y / 100 % 10) ∷ (48 + y / 10 % 10) ∷ (48 + y % 10) ∷ 45
+    ∷ (48 + m / 10) ∷ (48 + m % 10) ∷ 45 ∷ (48 + d / 10) ∷ (48 + d % 10) ∷ []
+
+-- the text is a date of the calendar in the years 0000 to 9999
+pub record IsDateText (text : List ℕ) (y m d : ℕ) : Type 0 where
+  pub civil : IsCivilDate (pos y) m d
+  pub spelled : text ≡ date_text y m d
+
+-- the text is some date of the calendar
+abbrev pub NamesDate : List ℕ → Type 0
+NamesDate text = (y : ℕ) × ((m : ℕ) × ((d : ℕ) × IsDateText text y m d))
+
+-- the text is the date of this day, where a day is the number of days from 1970-01-01 to it
+abbrev pub NamesDay : List ℕ → ℤ → Type 0
+NamesDay text day = (y : ℕ) × ((m : ℕ) × ((d : ℕ) × (IsDateText text y m d × (days_from_civil (pos y) m d ≡ day))))
+
+-- the years of a deck's dates
+abbrev pub IsDeckYear : ℕ → Type 0
+IsDeckYear y = (1900 ≤ y) × (y ≤ 2199)
+
+-- the text is the date of this day, in a year of a deck's dates
+abbrev pub NamesDeckDay : List ℕ → ℤ → Type 0
+NamesDeckDay text day = (y : ℕ) × ((m : ℕ) × ((d : ℕ) × (IsDeckYear y × (IsDateText text y m d × (days_from_civil (pos y) m d ≡ day)))))
+
+-- the text is a date of the calendar in another year
+abbrev pub NamesOtherYear : List ℕ → Type 0
+NamesOtherYear text = (y : ℕ) × ((m : ℕ) × ((d : ℕ) × (((y < 1900) ⊎ (2199 < y)) × IsDateText text y m d)))
+
+-- the byte is a decimal digit
+abbrev pub is_digit : ℕ → Bool
+is_digit b = nat_le 48 b && nat_le b 57
+
+-- two bytes are digits
+abbrev pub are_digits : List ℕ → ℕ → Bool
+are_digits text i = is_digit (slice_index text i) && is_digit (slice_index text (i + 1))
+
+-- the number that two digits show
+abbrev pub number_at : List ℕ → ℕ → ℕ
+number_at text i = (slice_index text i - 48) * 10 + (slice_index text (i + 1) - 48)
+
+-- the year that a text of a date's form shows
+abbrev pub year_of : List ℕ → ℕ
+year_of text = 100 * number_at text 0 + number_at text 2
+
+-- ten bytes: digits, with hyphens after the year and the month
+unfoldable pub has_form : List ℕ → Bool
+has_form text =
+    (length text == 10) && (slice_index text 4 == 45) && (slice_index text 7 == 45)
+    && are_digits text 0 && are_digits text 2 && are_digits text 5 && are_digits text 8
+
+-- the calendar has this month and this day of it
+unfoldable pub has_day : ℕ → ℕ → ℕ → Bool
+has_day y m d =
+    nat_le 1 m && nat_le m 12 && nat_le 1 d && nat_le d (days_in_month (pos y) m)
+
+-- the same of the years of a deck's dates, as a test
+abbrev pub is_deck_year : ℕ → Bool
+is_deck_year y = nat_le 1900 y && nat_le y 2199
+
+-- what reading a field gives: the day that it names, or what is wrong with it
+unfoldable pub day_of : List ℕ → Result ℤ DayError
+day_of text =
+    let y = year_of text in
+    let m = number_at text 5 in
+    let d = number_at text 8 in
+    if has_form text && has_day y m d then (if is_deck_year y then Ok (days_from_civil (pos y) m d) else Err Years)
+    else Err Shape

@@ -1,0 +1,168 @@
+//! A day of the calendar as a number, read from a date and written as one.
+ghost use Rattle.std.specs.Prelude.{◌≡◌, ◌↔◌, ◌-ℤ◌, ◌+◌, ◌<◌, ℕ, ℤ, List, length, ◌/◌, ◌%◌, true, Ok, Err};
+ghost use Rattle.pc_days.specs.Dates.{day_of, has_form, are_digits, number_at, year_of, is_digit, is_deck_year, NamesDate, NamesDay, NamesDeckDay, NamesOtherYear, date_text};
+
+use crate::error::DayError;
+use jiff::civil::Date;
+use jiff_core::civil;
+use std::marker::Model;
+
+/// The bytes of `YYYY-MM-DD`.
+const LENGTH: usize = 10;
+
+/// A day of the calendar, from 1900-01-01 to 9999-12-31: the days that a deck can name and a report can print.
+///
+/// In contracts a day is its number, counted in days from 1970-01-01.
+#[derive(Clone, Copy, Debug, PartialEq, Eq, PartialOrd, Ord, Hash)]
+pub struct Day {
+    number: i32,
+}
+
+impl Model for Day {
+    ghost use Rattle.std.specs.Prelude.{ℤ, pos, neg_ℤ};
+    ghost use Rattle.jiff_core.specs.Calendar.{IsBetween};
+
+    ghost Value = { ℤ };
+
+    ghost view = { λ day. day.number };
+
+    ghost invariant = { λ day. IsBetween (neg_ℤ (pos 25_567)) (pos 2_932_896) day.number };
+
+    ghost inverse = { λ n. record { number = n } };
+}
+
+/// The day whose date the field is.
+pub fn read_day(field: &[u8]) -> Result<Day, DayError>
+    ensures reading { result ≡ day_of field.now }
+    ensures day { (day : ℤ) → (result ≡ Ok day) ↔ NamesDeckDay field.now day }
+    ensures years { (result ≡ Err DayError.Years) ↔ NamesOtherYear field.now }
+    ensures shape { (result ≡ Err DayError.Shape) ↔ (NamesDate field.now → ⊥) }
+{
+    if !has_form(field) {
+        return Err(DayError::Shape);
+    }
+    let year = year_of(field);
+    let (month, day) = (number_at(field, 5), number_at(field, 8));
+    let Ok(date) = Date::new(year as i16, month as i8, day as i8) else {
+        return Err(DayError::Shape);
+    };
+    if !is_deck_year(year) {
+        return Err(DayError::Years);
+    }
+    Ok(Day {
+        number: date.to_plain().to_unix_epoch_day(),
+    })
+}
+
+/// Whether the byte is a decimal digit.
+fn is_digit(byte: u8) -> bool
+    ensures { result ≡ is_digit byte }
+{
+    b'0' <= byte && byte <= b'9'
+}
+
+/// Whether the bytes at this place and after it are digits.
+fn are_digits(field: &[u8], at: usize) -> bool
+    requires { at + 1 < length field.now }
+    ensures { result ≡ are_digits field.now at }
+{
+    is_digit(field[at]) && is_digit(field[at + 1])
+}
+
+/// Whether a deck's dates may have this year.
+fn is_deck_year(year: u16) -> bool
+    ensures { result ≡ is_deck_year year }
+{
+    1900 <= year && year <= 2199
+}
+
+/// Whether the field is made of digits and hyphens as a date is.
+#[tactic(auto, unfolding(crate::specs::Dates::has_form))]
+fn has_form(field: &[u8]) -> bool
+    ensures { result ≡ has_form field.now }
+{
+    field.len() == LENGTH
+        && field[4] == b'-'
+        && field[7] == b'-'
+        && are_digits(field, 0)
+        && are_digits(field, 2)
+        && are_digits(field, 5)
+        && are_digits(field, 8)
+}
+
+/// The number that two digits show.
+fn number_at(field: &[u8], at: usize) -> u8
+    requires within { at + 1 < length field.now }
+    requires digits { are_digits field.now at ≡ true }
+    ensures number { result ≡ number_at field.now at }
+    ensures bound { result < 100 }
+{
+    (field[at] - b'0') * 10 + (field[at + 1] - b'0')
+}
+
+/// The year that a date shows.
+fn year_of(field: &[u8]) -> u16
+    requires { has_form field.now ≡ true }
+    ensures number { result ≡ year_of field.now }
+    ensures bound { result < 10000 }
+{
+    100 * u16::from(number_at(field, 0)) + u16::from(number_at(field, 2))
+}
+
+/// The date of the day, as `YYYY-MM-DD`.
+pub fn day_text(day: Day) -> [u8; LENGTH]
+    ensures named { NamesDay result day }
+
+    // A day that was read is written as it was read.
+    ensures back { (text : List ℕ) → day_of text ≡ Ok day → result ≡ text }
+{
+    let Ok(date) = civil::Date::from_unix_epoch_day(i64::from(day.number)) else {
+        unreachable!()
+    };
+    spelled(date.year as u16, date.month, date.day)
+}
+
+/// The days from the first day to the second, negative where the second comes before the first.
+pub fn days_between(a: Day, b: Day) -> i64
+    ensures { result ≡ b -ℤ a }
+{
+    i64::from(b.number) - i64::from(a.number)
+}
+
+/// The year, month and day in digits, with hyphens between them.
+fn spelled(year: u16, month: u8, day: u8) -> [u8; LENGTH]
+    requires year_in { year < 10000 }
+    requires month_in { month < 100 }
+    requires day_in { day < 100 }
+    ensures { result ≡ date_text year month day }
+{
+    let (century, rest) = ((year / 100) as u8, (year % 100) as u8);
+    [
+        tens(century),
+        ones(century),
+        tens(rest),
+        ones(rest),
+        b'-',
+        tens(month),
+        ones(month),
+        b'-',
+        tens(day),
+        ones(day),
+    ]
+}
+
+/// The first of the two digits of a number.
+fn tens(number: u8) -> u8
+    requires { number < 100 }
+    ensures { result ≡ 48 + number / 10 }
+{
+    b'0' + number / 10
+}
+
+/// The second of the two digits of a number.
+fn ones(number: u8) -> u8
+    requires { number < 100 }
+    ensures { result ≡ 48 + number % 10 }
+{
+    b'0' + number % 10
+}
