@@ -1,14 +1,15 @@
 -- The faults of a deck: which it has, and which is the first.
-use Rattle.std.specs.Prelude.{◌≡◌, ◌≢◌, ℕ, ◌+◌, ◌<◌, ◌≤◌, ◌⊎◌, Bool, true, false, not, List, [], ◌∷◌, ◌++◌, length, map, filter, Contains, Option, Some, None, if◌then◌else◌, bytes_eq, ⊤}
+use Rattle.std.specs.Prelude.{◌≡◌, ◌≢◌, ℕ, ◌+◌, ◌<◌, ◌≤◌, ◌⊎◌, Bool, true, false, not, List, [], ◌∷◌, ◌++◌, length, map, filter, Option, Some, None, if◌then◌else◌, bytes_eq, ⊤}
 use Rattle.std.specs.Str.{is_utf8}
 use Rattle.pc_records.specs.Deck.{deck_records, field_at}
 use Rattle.pc_text.specs.Code.{code_of}
 use Rattle.pc_deck.specs.Kinds.{kind_of, has_code_of_its_own, limit_of, stands_once, width_of, word_of}
 use Rattle.pc_deck.specs.Forms.{Slot, first_misshapen, first_over_limit, is_whole}
 use Rattle.pc_deck.specs.Cards.{Numbered, deck_cards}
+use Rattle.pc_deck.specs.Named.{is_among}
 use Rattle.pc_deck.specs.Judged.{Seen, plain_fault}
 use Rattle.pc_deck.specs.declared.kind.Kind.{Kind as ACardKind}
-use Rattle.pc_deck.specs.declared.kind.Kind.TheVariants as kind
+use Rattle.pc_deck.specs.declared.kind.Kind.TheVariants.{Project, End}
 use Rattle.pc_deck.specs.declared.fault.Detail.TheVariants.{Plain, Kind, Fields, Field, Name, TooMany}
 use Rattle.pc_deck.specs.declared.fault.Fault.{Fault as ADeckFault}
 use Rattle.pc_deck.specs.declared.fault.DeckError.{DeckError}
@@ -38,7 +39,7 @@ seen_among cards = record { is_first = are_none cards; count = λ kind. length (
 -- the faults of a card behind the cards that were seen, a case for each
 pub data HasCardFault (seen : Seen) (card : Numbered) (fault : ADeckFault) : Type 0 where
   -- F3: the first card is not PROJECT
-  not_project : seen.is_first ≡ true → kind_named card ≢ Some kind.Project → fault ≡ plain_fault card.0 3 → HasCardFault seen card fault
+  not_project : seen.is_first ≡ true → kind_named card ≢ Some Project → fault ≡ plain_fault card.0 3 → HasCardFault seen card fault
   -- F4: the first field names no kind
   unknown_kind : kind_named card ≡ None → fault ≡ plain_fault card.0 4 → HasCardFault seen card fault
   -- F5: a second PROJECT or ASOF card
@@ -57,26 +58,30 @@ pub data HasCardFault (seen : Seen) (card : Numbered) (fault : ADeckFault) : Typ
       → fault ≡ record { row = card.0; number = 8; detail = Field slot.0 } → HasCardFault seen card fault
   -- F9: a code that an earlier card of the kind has, where every shape is right
   repeated_code : (kind : ACardKind) (code : List ℕ) → kind_named card ≡ Some kind → is_whole kind card.1 ≡ true
-      → first_misshapen kind card.1 ≡ None → code_of (field_at card.1 1) ≡ Some code → Contains (seen.codes kind) code
+      → first_misshapen kind card.1 ≡ None → code_of (field_at card.1 1) ≡ Some code → is_among code (seen.codes kind) ≡ true
       → fault ≡ record { row = card.0; number = 9; detail = Name code } → HasCardFault seen card fault
   -- F10: the first card past the limit of its kind
   one_too_many : (kind : ACardKind) (limit : ℕ) → kind_named card ≡ Some kind → limit_of kind ≡ Some limit → seen.count kind ≡ limit
       → fault ≡ record { row = card.0; number = 10; detail = TooMany kind limit } → HasCardFault seen card fault
   -- F11: a card behind an END card
-  behind_end : (kind : ACardKind) → kind_named card ≡ Some kind → 0 < seen.count kind.End → fault ≡ plain_fault card.0 11
+  behind_end : (kind : ACardKind) → kind_named card ≡ Some kind → 0 < seen.count End → fault ≡ plain_fault card.0 11
       → HasCardFault seen card fault
 
 -- the faults of cards, where others came before them: those of each card, and F12 where no END card came; `end` is
 -- the number behind the last record
 abbrev pub HasFaultFrom : List Numbered → ℕ → List Numbered → ADeckFault → Type 0
-HasFaultFrom before end [] fault = (of_kind kind.End before ≡ []) × (fault ≡ plain_fault end 12)
+HasFaultFrom before end [] fault = ((seen_among before).count End ≡ 0) × (fault ≡ plain_fault end 12)
 HasFaultFrom before end (card ∷ cards) fault =
     HasCardFault (seen_among before) card fault ⊎ HasFaultFrom (before ++ card ∷ []) end cards fault
 
+-- the faults of a deck that is UTF-8 or not
+abbrev pub HasFaultWhere : Bool → List ℕ → ADeckFault → Type 0
+HasFaultWhere true bytes fault = HasFaultFrom [] (length (deck_records bytes) + 1) (deck_cards bytes) fault
+HasFaultWhere false bytes fault = fault ≡ plain_fault 0 2
+
 -- the faults of a deck: F2 where it is not UTF-8, and otherwise those of its cards
 abbrev pub HasFault : List ℕ → ADeckFault → Type 0
-HasFault bytes fault =
-    if is_utf8 bytes then HasFaultFrom [] (length (deck_records bytes) + 1) (deck_cards bytes) fault else (fault ≡ plain_fault 0 2)
+HasFault bytes fault = HasFaultWhere (is_utf8 bytes) bytes fault
 
 -- one fault comes no later than another: at an earlier record, or at the same one with no greater number
 abbrev pub IsNoLater : ADeckFault → ADeckFault → Type 0
