@@ -4,3 +4,5 @@ pub mod JudgeLemmas
 pub mod WithinLemmas
 pub mod ReadLemmas
 pub mod CardFaultLemmas
+pub mod SeenLemmas
+pub mod RefusalLemmas

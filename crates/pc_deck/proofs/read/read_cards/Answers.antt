@@ -1,2 +1,9 @@
-use Rattle.pc_deck.proofs.CardFaultLemmas.{found_of-card}
+use Rattle.std.proofs.Common.{◌≡◌, true, sym, ◌∙◌}
+use Rattle.pc_deck.proofs.RefusalLemmas.{refused_first, accepted_none}
 use Rattle.pc_deck.proofs.read.read_cards.Goals as goal
+
+pub returns-clause-first : goal.returns-clause-first
+returns-clause-first c = refused_first c.cards_of.result c.args.bytes.now (sym c.is_utf8.ensures ∙ c.if-not-is_utf8.false) c.cards_of.ensures.fault
+
+pub returns-clause-accepted : goal.returns-clause-accepted
+returns-clause-accepted c = accepted_none c.cards_of.result c.args.bytes.now (sym c.is_utf8.ensures ∙ c.if-not-is_utf8.false) c.cards_of.ensures.cards
