@@ -8,7 +8,7 @@ use Rattle.pc_deck.specs.Kinds.{kind_of, is_project, stands_once, limit_of, widt
 use Rattle.pc_deck.specs.Forms.{Slot, is_whole, first_misshapen, first_over_limit}
 use Rattle.pc_deck.specs.Cards.{Numbered}
 use Rattle.pc_deck.specs.Named.{is_among}
-use Rattle.pc_deck.specs.Judged.{Seen, or_else, where_so, plain_fault, not_project, second, wrong_fields, at_slot, fault_of_fields, repeated, one_too_many, after_end, fault_of_place, fault_of_kind, unless, judge_of, judge}
+use Rattle.pc_deck.specs.Judged.{Seen, or_else, where_so, plain_fault, not_project, second, wrong_fields, at_slot, fault_of_fields, repeated, one_too_many, fault_of_place, fault_of_kind, unless, judge_of, judge}
 use Rattle.pc_deck.specs.Refusal.{HasCardFault}
 use Rattle.pc_deck.specs.Refusal as has
 use Rattle.pc_deck.specs.declared.kind.Kind.{Kind as ACardKind}

@@ -1,12 +1,12 @@
 -- A card without a fault: what each test found of it.
-use Rattle.std.proofs.Common.{◌≡◌, ℕ, ◌≤◌, Bool, true, false, not, ◌&&◌, ◌||◌, ◌==◌, nat_lt, List, [], ◌∷◌, find, Option, Some, None, is_some, unwrap_or, if◌then◌else◌, Result, Ok, Err, refl, sym, ap, ◌∙◌, subst, arith}
+use Rattle.std.proofs.Common.{◌≡◌, ℕ, ◌≤◌, Bool, true, false, not, ◌&&◌, ◌||◌, ◌==◌, nat_lt, List, [], ◌∷◌, find, Option, Some, None, is_some, unwrap_or, if◌then◌else◌, Result, Ok, refl, ap, subst, arith}
 use Rattle.std.proofs.lemmas.Bool.Decides.{nat_tests}
 use Rattle.pc_records.specs.Deck.{field_at}
 use Rattle.pc_text.specs.Code.{is_code, code_of}
-use Rattle.pc_deck.specs.Kinds.{kind_of, is_project, stands_once, limit_of, width_of}
+use Rattle.pc_deck.specs.Kinds.{kind_of, is_project, stands_once, limit_of}
 use Rattle.pc_deck.specs.Forms.{Slot, AllFit, slots_of, field_numbered, has_shape, is_over_limit, is_outside, is_whole, first_misshapen, first_over_limit}
 use Rattle.pc_deck.specs.Named.{is_among}
-use Rattle.pc_deck.specs.Judged.{Seen, or_else, where_so, plain_fault, not_project, second, wrong_fields, at_slot, fault_of_fields, repeated, one_too_many, after_end, fault_of_place, fault_of_kind, unless, judge_of, judge}
+use Rattle.pc_deck.specs.Judged.{Seen, or_else, where_so, not_project, second, wrong_fields, at_slot, fault_of_fields, repeated, one_too_many, fault_of_kind, unless, judge_of, judge}
 use Rattle.pc_deck.specs.declared.kind.Kind.{Kind}
 use Rattle.pc_deck.specs.declared.kind.Kind.TheVariants.{End}
 use Rattle.pc_deck.specs.declared.fault.Fault.{Fault}

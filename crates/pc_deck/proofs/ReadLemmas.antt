@@ -1,5 +1,5 @@
 -- Reading one card after the other.
-use Rattle.std.proofs.Common.{◌≡◌, ℕ, List, [], ◌∷◌, Result, Ok, Err, refl, sym, ap, ◌∙◌, subst}
+use Rattle.std.proofs.Common.{◌≡◌, ℕ, List, ◌∷◌, Result, Ok, sym, ap, ◌∙◌, subst}
 use Rattle.pc_deck.specs.Cards.{Numbered, CardsLeft, Follows}
 use Rattle.pc_deck.specs.Judged.{judge}
 use Rattle.pc_deck.specs.Reading.{and_then, read_from, seen_in, with_card}

@@ -1,14 +1,13 @@
 -- Reading stops at the first fault of a deck, and a deck that is read to its end has none.
-use Rattle.std.proofs.Common.{◌≡◌, ℕ, ◌+◌, ◌<◌, ◌≤◌, Bool, true, false, not, List, [], ◌∷◌, ◌++◌, length, filter, Option, Some, None, is_none, if◌then◌else◌, Result, Ok, Err, inl, inr, ◌⊎◌, refl, sym, ap, ◌∙◌, subst, arith}
+use Rattle.std.proofs.Common.{◌≡◌, ℕ, ◌+◌, ◌≤◌, Bool, true, false, List, [], ◌∷◌, ◌++◌, length, Option, Some, None, is_none, if◌then◌else◌, Result, Ok, Err, inl, inr, ◌⊎◌, refl, sym, ap, ◌∙◌, subst, arith}
 use Rattle.std.specs.Prelude.{IfOk, IfErr, OnOk}
 use Rattle.std.specs.Str.{is_utf8}
-use Rattle.std.specs.List.{enumerate_from}
-use Rattle.pc_records.specs.Deck.{deck_records, is_blank}
+use Rattle.pc_records.specs.Deck.{deck_records}
 use Rattle.pc_deck.specs.Cards.{Numbered, is_card, cards_from, deck_cards}
 use Rattle.pc_deck.specs.Deck.{Deck}
-use Rattle.pc_deck.specs.Judged.{Seen, judge, plain_fault}
-use Rattle.pc_deck.specs.Reading.{no_cards, with_card, count_in, seen_in, deck_with, no_end, closed, closed_with, and_then, read_from, cards_of, deck_read, deck_of}
-use Rattle.pc_deck.specs.Refusal.{of_kind, are_none, seen_among, HasCardFault, HasFaultFrom, HasFaultWhere, HasFault, IsNoLater, IsFirst, IsCardRefusal, Refuses}
+use Rattle.pc_deck.specs.Judged.{Seen, judge}
+use Rattle.pc_deck.specs.Reading.{no_cards, with_card, seen_in, deck_with, no_end, closed, closed_with, and_then, read_from, cards_of, deck_read, deck_of}
+use Rattle.pc_deck.specs.Refusal.{of_kind, are_none, seen_among, HasCardFault, HasFaultFrom, HasFaultWhere, HasFault, IsFirst, IsCardRefusal, Refuses}
 use Rattle.pc_deck.specs.declared.cards.ProjectCard.{ProjectCard}
 use Rattle.pc_deck.specs.declared.kind.Kind.{Kind}
 use Rattle.pc_deck.specs.declared.kind.Kind.TheVariants.{End}

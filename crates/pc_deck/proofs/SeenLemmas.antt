@@ -1,11 +1,10 @@
 -- What counts of the cards so far is what counts of the cards that were read, as long as none of them has a fault.
-use Rattle.std.proofs.Common.{◌≡◌, ℕ, ◌+◌, ◌<◌, Bool, true, false, not, ◌&&◌, nat_lt, List, [], ◌∷◌, ◌++◌, length, map, filter, Option, Some, None, is_none, is_some, if◌then◌else◌, bytes_eq, Result, Ok, refl, sym, ap, ◌∙◌, subst, arith, length-append, append-nil}
-use Rattle.std.proofs.lemmas.Bool.Decides.{nat_tests}
+use Rattle.std.proofs.Common.{◌≡◌, ℕ, ◌+◌, Bool, true, false, ◌&&◌, nat_lt, List, [], ◌∷◌, ◌++◌, length, map, Option, Some, None, is_none, is_some, if◌then◌else◌, bytes_eq, Ok, refl, sym, ap, ◌∙◌, arith, length-append, append-nil}
 use Rattle.std.proofs.lemmas.List.{map-append}
 use Rattle.std.proofs.lemmas.List.Elements.{filter-append}
 use Rattle.std.specs.Cmp.Lexicographic.{bytes_decides}
 use Rattle.pc_records.specs.Deck.{field_at}
-use Rattle.pc_deck.specs.Kinds.{kind_of, word_of, has_code_of_its_own, is_project}
+use Rattle.pc_deck.specs.Kinds.{kind_of, word_of, has_code_of_its_own}
 use Rattle.pc_deck.specs.Cards.{Numbered}
 use Rattle.pc_deck.specs.Spelled.{item_of, event_of, act_of, account_of, money_of, status_of}
 use Rattle.pc_deck.specs.Judged.{Seen, judge}

@@ -1,6 +1,5 @@
 -- What was read keeps to the limits.
-use Rattle.std.proofs.Common.{◌≡◌, ℕ, ◌+◌, ◌<◌, ◌≤◌, Bool, true, false, ◌==◌, List, [], ◌∷◌, ◌++◌, length, map, get_or, Option, Some, None, All, Result, Ok, refl, sym, ap, ◌∙◌, subst, arith, length-append}
-use Rattle.std.specs.Option.{ForSome}
+use Rattle.std.proofs.Common.{◌≡◌, ℕ, ◌+◌, ◌≤◌, false, ◌==◌, List, [], ◌∷◌, ◌++◌, length, map, get_or, Option, Some, All, Ok, refl, sym, subst, arith, length-append}
 use Rattle.std.proofs.lemmas.List.{map-append}
 use Rattle.std.proofs.lemmas.List.Elements.{All-append, All-nil}
 use Rattle.std.proofs.lemmas.Bool.Decides.{nat_tests}
@@ -8,12 +7,11 @@ use Rattle.pc_records.specs.Deck.{field_at}
 use Rattle.pc_text.specs.Number.{number_of}
 use Rattle.pc_deck.specs.Deck.{IsNamedOnce}
 use Rattle.pc_deck.specs.Forms.{AllFit, slots_of, is_outside}
-use Rattle.pc_deck.specs.Named.{is_among, has_code}
-use Rattle.pc_deck.specs.Spelled.{project_of, as_of_of, item_of, event_of, act_of, account_of, money_of, status_of}
+use Rattle.pc_deck.specs.Named.{is_among}
+use Rattle.pc_deck.specs.Spelled.{project_of, item_of, event_of, act_of, account_of, money_of, status_of}
 use Rattle.pc_deck.specs.Judged.{judge}
 use Rattle.pc_deck.specs.Reading.{no_cards, with_card, seen_in}
 use Rattle.pc_deck.specs.Within.{IsActWithin, IsProjectWithin, IsBudgetWithin, IsAmountWithin, IsAny, IsListWithin, IsNamedWithin, IsDraftWithin}
-use Rattle.pc_deck.specs.declared.cards.ProjectCard.{ProjectCard}
 use Rattle.pc_deck.specs.declared.cards.ItemCard.{ItemCard}
 use Rattle.pc_deck.specs.declared.cards.EventCard.{EventCard}
 use Rattle.pc_deck.specs.declared.cards.ActCard.{ActCard}

@@ -1,5 +1,5 @@
 -- The line that tells a fault.
-use Rattle.std.specs.Prelude.{◌≡◌, ℕ, ◌==◌, List, [], ◌∷◌, ◌++◌, codes, decimal, if◌then◌else◌, ◌⊎◌, Contains}
+use Rattle.std.specs.Prelude.{ℕ, ◌==◌, List, [], ◌∷◌, ◌++◌, codes, decimal, if◌then◌else◌, Contains}
 use Rattle.pc_deck.specs.Kinds.{word_of}
 use Rattle.pc_deck.specs.declared.fault.Detail.{Detail}
 use Rattle.pc_deck.specs.declared.fault.Detail.TheVariants.{Plain, Kind, Fields, Field, Name, TooMany}

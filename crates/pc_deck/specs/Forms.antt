@@ -1,5 +1,5 @@
 -- What the fields of a card must be.
-use Rattle.std.specs.Prelude.{◌≡◌, ℕ, ◌-◌, Bool, true, false, not, ◌||◌, ◌==◌, nat_lt, List, [], ◌∷◌, length, drop, Option, Some, None, is_some, Result, Ok, Err, find, bytes_eq, codes, option_map, nat_le, ◌&&◌}
+use Rattle.std.specs.Prelude.{◌≡◌, ℕ, ◌-◌, Bool, true, false, not, ◌||◌, nat_lt, List, [], ◌∷◌, length, drop, Option, Some, None, is_some, Result, Ok, Err, find, bytes_eq, codes, nat_le, ◌&&◌}
 use Rattle.pc_records.specs.Deck.{field_at, is_blank, is_empty}
 use Rattle.pc_text.specs.Code.{is_code}
 use Rattle.pc_text.specs.Title.{is_title_shape}

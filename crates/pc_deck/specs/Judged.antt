@@ -7,7 +7,6 @@ use Rattle.pc_deck.specs.Forms.{Slot, is_whole, first_misshapen, first_over_limi
 use Rattle.pc_deck.specs.Named.{is_among}
 use Rattle.pc_deck.specs.declared.kind.Kind.{Kind as ACardKind}
 use Rattle.pc_deck.specs.declared.kind.Kind.TheVariants as kind
-use Rattle.pc_deck.specs.declared.fault.Detail.{Detail}
 use Rattle.pc_deck.specs.declared.fault.Detail.TheVariants.{Plain, Kind, Fields, Field, Name, TooMany}
 use Rattle.pc_deck.specs.declared.fault.Fault.{Fault}
 

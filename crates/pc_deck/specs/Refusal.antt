@@ -1,5 +1,5 @@
 -- The faults of a deck: which it has, and which is the first.
-use Rattle.std.specs.Prelude.{◌≡◌, ◌≢◌, ℕ, ◌+◌, ◌<◌, ◌≤◌, ◌⊎◌, Bool, true, false, not, List, [], ◌∷◌, ◌++◌, length, map, filter, Option, Some, None, if◌then◌else◌, bytes_eq, ⊤}
+use Rattle.std.specs.Prelude.{◌≡◌, ◌≢◌, ℕ, ◌+◌, ◌<◌, ◌≤◌, ◌⊎◌, Bool, true, false, List, [], ◌∷◌, ◌++◌, length, map, filter, Option, Some, None, if◌then◌else◌, bytes_eq, ⊤}
 use Rattle.std.specs.Str.{is_utf8}
 use Rattle.pc_records.specs.Deck.{deck_records, field_at}
 use Rattle.pc_text.specs.Code.{code_of}
@@ -10,7 +10,7 @@ use Rattle.pc_deck.specs.Named.{is_among}
 use Rattle.pc_deck.specs.Judged.{Seen, plain_fault}
 use Rattle.pc_deck.specs.declared.kind.Kind.{Kind as ACardKind}
 use Rattle.pc_deck.specs.declared.kind.Kind.TheVariants.{Project, End}
-use Rattle.pc_deck.specs.declared.fault.Detail.TheVariants.{Plain, Kind, Fields, Field, Name, TooMany}
+use Rattle.pc_deck.specs.declared.fault.Detail.TheVariants.{Kind, Fields, Field, Name, TooMany}
 use Rattle.pc_deck.specs.declared.fault.Fault.{Fault as ADeckFault}
 use Rattle.pc_deck.specs.declared.fault.DeckError.{DeckError}
 use Rattle.pc_deck.specs.declared.fault.DeckError.TheVariants.{Fault, OutOfMemory}

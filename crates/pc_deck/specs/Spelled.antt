@@ -1,5 +1,5 @@
 -- The card that a record spells, where each of its fields is what its kind wants.
-use Rattle.std.specs.Prelude.{ℕ, ℤ, pos, Bool, List, Option, Result, Ok, Err, unwrap_or, bytes_eq, codes}
+use Rattle.std.specs.Prelude.{ℕ, ℤ, pos, Bool, List, Result, Ok, Err, unwrap_or, bytes_eq, codes}
 use Rattle.pc_records.specs.Deck.{field_at}
 use Rattle.pc_text.specs.Code.{code_of}
 use Rattle.pc_text.specs.Number.{number_of}

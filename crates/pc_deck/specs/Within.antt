@@ -1,5 +1,5 @@
 -- What holds of every deck that was read.
-use Rattle.std.specs.Prelude.{◌≡◌, ◌≢◌, ℕ, ◌<◌, ◌≤◌, List, length, map, All}
+use Rattle.std.specs.Prelude.{ℕ, ◌≤◌, List, length, map, All}
 use Rattle.std.specs.Option.{ForSome}
 use Rattle.pc_deck.specs.Deck.{Deck, item_codes, event_codes, act_codes, account_codes, IsNamedOnce}
 use Rattle.pc_deck.specs.declared.cards.ProjectCard.{ProjectCard}

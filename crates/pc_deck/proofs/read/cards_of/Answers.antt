@@ -1,6 +1,5 @@
-use Rattle.std.proofs.Common.{◌≡◌, sym, subst, ◌∙◌}
+use Rattle.std.proofs.Common.{sym, subst, ◌∙◌}
 use Rattle.pc_deck.specs.Within.{IsDraftWithin}
-use Rattle.pc_deck.specs.declared.draft.Draft.{Draft}
 use Rattle.pc_deck.proofs.ReadLemmas.{read_from-added}
 use Rattle.pc_deck.proofs.WithinLemmas.{next_within}
 use Rattle.pc_deck.proofs.read.cards_of.Goals as goal

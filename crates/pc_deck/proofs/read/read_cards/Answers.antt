@@ -1,4 +1,4 @@
-use Rattle.std.proofs.Common.{◌≡◌, true, sym, ◌∙◌}
+use Rattle.std.proofs.Common.{sym, ◌∙◌}
 use Rattle.pc_deck.proofs.RefusalLemmas.{refused_first, accepted_none}
 use Rattle.pc_deck.proofs.read.read_cards.Goals as goal
 

@@ -1,4 +1,4 @@
-use Rattle.std.proofs.Common.{◌≡◌, ℕ, List, ap, sym, ◌∙◌, false}
+use Rattle.std.proofs.Common.{ap, ◌∙◌}
 use Rattle.pc_deck.specs.Named.{has_code}
 use Rattle.pc_deck.specs.Reading.{seen_in}
 use Rattle.pc_deck.specs.declared.cards.ItemCard.{ItemCard}
