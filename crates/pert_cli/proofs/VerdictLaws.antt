@@ -7,7 +7,7 @@ use Rattle.pc_deck.specs.declared.fault.DeckError.{DeckError}
 use Rattle.pc_deck.specs.declared.fault.DeckError.TheVariants.{Fault, OutOfMemory}
 use Rattle.pc_deck.specs.declared.fault.TheConstants.{NOT_PLAIN, TOO_LONG}
 use Rattle.pc_deck.specs.Deck.{Deck}
-use Rattle.pc_deck.specs.Plainness.{deck_of}
+use Rattle.pc_deck.specs.Reading.{deck_of}
 use Rattle.pc_deck.specs.Refusal.{IsCardRefusal, Refuses}
 use Rattle.pc_deck.proofs.RefusalLemmas.{not_both as cards_not_refused}
 use Rattle.pc_project.specs.Misfit.{HasMisfit, MakesProject}

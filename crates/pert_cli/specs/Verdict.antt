@@ -4,7 +4,7 @@ use Rattle.pc_deck.specs.declared.limits.TheConstants.{DECK_LIMIT}
 use Rattle.pc_deck.specs.declared.fault.Fault.{Fault}
 use Rattle.pc_deck.specs.declared.fault.TheConstants.{NOT_PLAIN, TOO_LONG}
 use Rattle.pc_deck.specs.Deck.{Deck}
-use Rattle.pc_deck.specs.Plainness.{deck_of}
+use Rattle.pc_deck.specs.Reading.{deck_of}
 use Rattle.pc_deck.specs.Refusal.{IsCardRefusal}
 use Rattle.pc_project.specs.Project.{Project, project_in}
 use Rattle.pc_project.specs.Misfit.{MakesProject, HasMisfit}
