@@ -1,8 +1,21 @@
 -- The dates of a deck: how one is spelled, and the number of its day.
-use Rattle.std.specs.Prelude.{◌≡◌, ℕ, ◌+◌, ◌-◌, ◌*◌, ◌/◌, ◌%◌, ◌<◌, ◌≤◌, ◌⊎◌, Bool, ◌&&◌, ◌==◌, nat_le, if◌then◌else◌, List, [], ◌∷◌, length, slice_index, Result, Ok, Err, ℤ, pos}
-use Rattle.jiff_core.specs.Calendar.{IsCivilDate, days_from_civil, days_in_month}
+use Rattle.std.specs.Prelude.{◌≡◌, ℕ, ◌+◌, ◌-◌, ◌*◌, ◌/◌, ◌%◌, ◌<◌, ◌≤◌, ◌⊎◌, Bool, ◌&&◌, ◌==◌, nat_le, if◌then◌else◌, List, [], ◌∷◌, length, slice_index, Result, Ok, Err, ℤ, pos, neg_ℤ, ◌+ℤ◌, ◌-ℤ◌, ◌*ℤ◌, ◌≤ℤ◌, ◌<ℤ◌}
+use Rattle.jiff_core.specs.Calendar.{IsCivilDate, IsBetween, days_from_civil, days_in_month}
 use Rattle.pc_days.specs.declared.error.DayError.{DayError}
 use Rattle.pc_days.specs.declared.error.DayError.TheVariants.{Shape, Years}
+
+-- the days that a deck can name and a report can print: 1900-01-01 to 9999-12-31, counted from 1970-01-01
+abbrev pub IsPrintedDay : ℤ → Type 0
+IsPrintedDay day = IsBetween (neg_ℤ (pos 25_567)) (pos 2_932_896) day
+
+-- so many days are so many sixths of a day, rounded up
+abbrev pub IsRoundedUp : ℤ → ℤ → Type 0
+IsRoundedUp sixths days =
+    (sixths ≤ℤ (pos 6 *ℤ days)) × ((pos 6 *ℤ days) <ℤ (sixths +ℤ pos 6))
+
+-- the day is the start and so many sixths of a day, rounded up to whole days
+abbrev pub IsAfterSixths : ℤ → ℤ → ℤ → Type 0
+IsAfterSixths start sixths day = IsRoundedUp sixths (day -ℤ start)
 
 -- `YYYY-MM-DD`: four digits of the year, two of the month and two of the day, with hyphens between them
 abbrev pub date_text : ℕ → ℕ → ℕ → List ℕ

@@ -1,6 +1,7 @@
 //! A day of the calendar as a number, read from a date and written as one.
-ghost use Rattle.std.specs.Prelude.{◌≡◌, ◌↔◌, ◌-ℤ◌, ◌+◌, ◌<◌, ℕ, ℤ, List, length, ◌/◌, ◌%◌, true, Ok, Err};
-ghost use Rattle.pc_days.specs.Dates.{day_of, has_form, are_digits, number_at, year_of, is_digit, is_deck_year, NamesDate, NamesDay, NamesDeckDay, NamesOtherYear, date_text};
+ghost use Rattle.std.specs.Prelude.{◌≡◌, ◌↔◌, ◌-ℤ◌, ◌<ℤ◌, ◌+◌, ◌<◌, ◌/◌, ◌%◌, ◌^◌, ℕ, ℤ, pos, neg_ℤ, List, length, true, Ok, Err, IfSome, IsNone};
+ghost use Rattle.jiff_core.specs.Calendar.{IsWithin};
+ghost use Rattle.pc_days.specs.Dates.{day_of, has_form, are_digits, number_at, year_of, is_digit, is_deck_year, NamesDate, NamesDay, NamesDeckDay, NamesOtherYear, date_text, IsPrintedDay, IsRoundedUp, IsAfterSixths};
 
 use crate::error::DayError;
 use jiff::civil::Date;
@@ -9,6 +10,12 @@ use std::marker::Model;
 
 /// The bytes of `YYYY-MM-DD`.
 const LENGTH: usize = 10;
+
+/// The number of 1900-01-01.
+const FIRST: i64 = -25_567;
+
+/// The number of 9999-12-31.
+const LAST: i64 = 2_932_896;
 
 /// A day of the calendar, from 1900-01-01 to 9999-12-31: the days that a deck can name and a report can print.
 ///
@@ -19,14 +26,14 @@ pub struct Day {
 }
 
 impl Model for Day {
-    ghost use Rattle.std.specs.Prelude.{ℤ, pos, neg_ℤ};
-    ghost use Rattle.jiff_core.specs.Calendar.{IsBetween};
+    ghost use Rattle.std.specs.Prelude.{ℤ};
+    ghost use Rattle.pc_days.specs.Dates.{IsPrintedDay};
 
     ghost Value = { ℤ };
 
     ghost view = { λ day. day.number };
 
-    ghost invariant = { λ day. IsBetween (neg_ℤ (pos 25_567)) (pos 2_932_896) day.number };
+    ghost invariant = { λ day. IsPrintedDay day.number };
 
     ghost inverse = { λ n. record { number = n } };
 }
@@ -124,9 +131,38 @@ pub fn day_text(day: Day) -> [u8; LENGTH]
 
 /// The days from the first day to the second, negative where the second comes before the first.
 pub fn days_between(a: Day, b: Day) -> i64
-    ensures { result ≡ b -ℤ a }
+    ensures days { result ≡ b -ℤ a }
+    ensures within { IsWithin 2_958_463 result }
 {
     i64::from(b.number) - i64::from(a.number)
+}
+
+/// The day that is the start and so many sixths of a day, rounded up to whole days.
+pub fn date_of_sixths(start: Day, t: i64) -> Option<Day>
+    requires early { neg_ℤ (pos (2 ^ 40)) <ℤ t }
+    requires late { t <ℤ pos (2 ^ 40) }
+    ensures after { IfSome result (IsAfterSixths start t) }
+    ensures printed { IfSome result IsPrintedDay }
+    ensures none { IsNone result
+        → (day : ℤ) → IsAfterSixths start t day → ¬ (IsPrintedDay day) }
+{
+    let number = i64::from(start.number) + whole_days(t);
+    if number < FIRST || LAST < number {
+        return None;
+    }
+    Some(Day {
+        number: number as i32,
+    })
+}
+
+/// The whole days of so many sixths of a day, rounded up.
+fn whole_days(sixths: i64) -> i64
+    requires early { neg_ℤ (pos (2 ^ 40)) <ℤ sixths }
+    requires late { sixths <ℤ pos (2 ^ 40) }
+    ensures rounded { IsRoundedUp sixths result }
+    ensures within { IsWithin (2 ^ 40) result }
+{
+    (sixths + 5).div_euclid(6)
 }
 
 /// The year, month and day in digits, with hyphens between them.

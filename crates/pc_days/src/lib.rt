@@ -4,7 +4,7 @@
 mod day;
 mod error;
 
-pub use day::{Day, day_text, days_between, read_day};
+pub use day::{Day, date_of_sixths, day_text, days_between, read_day};
 pub use error::DayError;
 
 #[cfg(test)]
@@ -46,5 +46,18 @@ mod tests {
         for field in outside {
             assert_eq!(rt; read_day(field), Err(DayError::Years));
         }
+    }
+
+    #[test]
+    fn rounds_sixths_up_to_days(rt: HostRuntime) -> Result<(), Fail> {
+        let start = read_day(b"2024-02-28")?;
+        let cases = [(-6, -1), (-5, 0), (0, 0), (1, 1), (6, 1), (7, 2), (13, 3)];
+        for (sixths, days) in cases {
+            let day = date_of_sixths(start, sixths).ok_or("out of print")?;
+            assert_eq!(rt; days_between(start, day), days);
+        }
+        assert_eq!(rt; date_of_sixths(start, 18_000_000), None);
+        assert_eq!(rt; date_of_sixths(start, -300_000), None);
+        Ok(())
     }
 }

@@ -7,10 +7,10 @@ use Rattle.pc_model.proofs.WalkLaws.{last_of_walk}
 -- a walk from the start to another event enters it
 entered_by : (net : Network) (e : ℕ) (walk : List ℕ) → IsWalk net.arcs net.start walk e → e ≢ net.start → IsEntered net e
 entered_by net e walk walked other =
-    elim (last_of_walk net.arcs net.start e walk walked)
-      [ inl stays ↦ absurd (other (sym stays.1))
+    elim (last_of_walk net.arcs net.start e walk walked) [
+      | inl stays ↦ absurd (other (sym stays.1))
       | inr last ↦ (last.1, last.3, last.5)
-      ]
+    ]
 
 -- a walk from an event other than the end leaves it
 left_by : (net : Network) (e : ℕ) (walk : List ℕ) → IsWalk net.arcs e walk net.end → e ≢ net.end → IsLeft net e

@@ -1,11 +1,24 @@
 -- The first number with a property, and networks without loose ends.
-use Rattle.std.specs.Prelude.{◌≢◌, ℕ, ◌<◌, Option, MatchOption}
+use Rattle.std.specs.Prelude.{◌≡◌, ◌≢◌, ℕ, ◌<◌, Option, MatchOption, length}
 use Rattle.pc_model.specs.Greatest.{IsFirst}
+use Rattle.pc_model.specs.Walk.{from_of, to_of}
 use Rattle.pc_model.specs.Network.{Network, IsEntered, IsLeft, IsDangling}
 
 -- the first number with P, or none where no number has it
 abbrev pub IsFirstIn : (ℕ → Type 0) → Option ℕ → Type 0
 IsFirstIn P found = MatchOption found ((a : ℕ) → P a → ⊥) (IsFirst P)
+
+-- activity a ends at the start
+abbrev pub EntersStart : Network → ℕ → Type 0
+EntersStart net a = (a < length net.arcs) × (to_of net.arcs a ≡ net.start)
+
+-- activity a begins at the end
+abbrev pub LeavesEnd : Network → ℕ → Type 0
+LeavesEnd net a = (a < length net.arcs) × (from_of net.arcs a ≡ net.end)
+
+-- e is an event that dangles
+abbrev pub Dangles : Network → ℕ → Type 0
+Dangles net e = (e < net.events) × IsDangling net e
 
 -- event e is not the start, and no activity enters it
 abbrev pub IsUnentered : Network → ℕ → Type 0

@@ -5,5 +5,6 @@ pub mod Networks
 pub mod Graphs
 pub mod Queue
 pub mod Firmness
+pub mod Cycles
 pub mod Refusals
 pub mod Nets

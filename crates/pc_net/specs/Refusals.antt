@@ -1,9 +1,23 @@
--- Why a network is refused.
-use Rattle.pc_model.specs.Network.{Network, IsUnsound}
+-- Why a network is refused: each cause with the first thing that it names, where none of the earlier causes holds.
+use Rattle.std.specs.Prelude.{ℕ, ◌↔◌, Bool, IsFalse}
+use Rattle.pc_model.specs.Greatest.{IsFirst}
+use Rattle.pc_model.specs.Network.{Network, IsEntered, IsLeft}
 use Rattle.pc_net.specs.declared.refusal.NetError.{NetError}
-use Rattle.pc_net.specs.declared.refusal.NetError.TheVariants.{Unsound, OutOfMemory}
+use Rattle.pc_net.specs.declared.refusal.NetError.TheVariants.{StartEntered, EndLeft, Dangling, Cycle, OutOfMemory}
+use Rattle.pc_net.specs.Firmness.{EntersStart, LeavesEnd, Dangles, IsUnentered, IsFirm}
+use Rattle.pc_net.specs.Cycles.{IsFirstCycle}
+
+-- the first event that dangles, and whether it is the start or entered, where the start and the end are free
+pub record IsFirstDangling (net : Network) (event : ℕ) (entered : Bool) : Type 0 where
+  pub not_entered : IsEntered net net.start → ⊥
+  pub not_left : IsLeft net net.end → ⊥
+  pub first : IsFirst (Dangles net) event
+  pub unentered : IsFalse entered ↔ IsUnentered net event
 
 -- the error says what is wrong with the network; memory may run out at any time
 abbrev pub IsRefusal : Network → NetError → Type 0
-IsRefusal net Unsound = IsUnsound net
+IsRefusal net (StartEntered arc) = IsFirst (EntersStart net) arc
+IsRefusal net (EndLeft arc) = (IsEntered net net.start → ⊥) × IsFirst (LeavesEnd net) arc
+IsRefusal net (Dangling event entered) = IsFirstDangling net event entered
+IsRefusal net (Cycle cycle) = IsFirm net × IsFirstCycle net.arcs cycle
 IsRefusal net OutOfMemory = Unit {0}

@@ -1,30 +1,33 @@
-ghost use Rattle.std.specs.Prelude.{◌≡◌, ◌<◌, MatchBool, MatchResult, length};
-ghost use Rattle.pc_model.specs.Walk.{from_of, to_of};
-ghost use Rattle.pc_model.specs.Network.{IsDangling, IsUnsound};
-ghost use Rattle.pc_net.specs.Firmness.{IsFirstIn, IsUnentered, IsUnleft, IsFirm};
+ghost use Rattle.std.specs.Prelude.{◌<◌, IfErr, IsErrOf, MatchBool, OnOk};
+ghost use Rattle.pc_model.specs.Network.{IsDangling};
+ghost use Rattle.pc_net.specs.Firmness.{IsFirstIn, EntersStart, LeavesEnd, Dangles, IsUnentered, IsUnleft, IsFirm};
+ghost use Rattle.pc_net.specs.Refusals.{IsRefusal};
 
 use crate::graph::Graph;
 use crate::refusal::NetError;
 
 /// Refuses a network where an activity enters the start or leaves the end, or where an event dangles.
 pub(crate) fn check(graph: &Graph) -> Result<(), NetError>
-    ensures { MatchResult result (λ _. IsFirm graph.now) (λ e. (e ≡ NetError.Unsound) × IsUnsound graph.now) }
+    ensures firm { OnOk result (IsFirm graph.now) }
+    ensures refused { IfErr result (IsRefusal graph.now) }
+    ensures in_memory { IsErrOf result NetError.OutOfMemory → ⊥ }
 {
-    if entering_start(graph).is_some() {
-        return Err(NetError::Unsound);
+    if let Some(arc) = entering_start(graph) {
+        return Err(NetError::StartEntered { arc });
     }
-    if leaving_end(graph).is_some() {
-        return Err(NetError::Unsound);
+    if let Some(arc) = leaving_end(graph) {
+        return Err(NetError::EndLeft { arc });
     }
-    if dangling(graph).is_some() {
-        return Err(NetError::Unsound);
+    if let Some(event) = dangling(graph) {
+        let entered = !is_unentered(graph, event);
+        return Err(NetError::Dangling { event, entered });
     }
     Ok(())
 }
 
 /// The first activity that ends at the start.
 fn entering_start(graph: &Graph) -> Option<u32>
-    ensures { IsFirstIn (λ a. (a < length graph.now.arcs) × (to_of graph.now.arcs a ≡ graph.now.start)) result }
+    ensures { IsFirstIn (EntersStart graph.now) result }
 {
     match graph.in_arcs(graph.start()) {
         [] => None,
@@ -34,7 +37,7 @@ fn entering_start(graph: &Graph) -> Option<u32>
 
 /// The first activity that begins at the end.
 fn leaving_end(graph: &Graph) -> Option<u32>
-    ensures { IsFirstIn (λ a. (a < length graph.now.arcs) × (from_of graph.now.arcs a ≡ graph.now.end)) result }
+    ensures { IsFirstIn (LeavesEnd graph.now) result }
 {
     match graph.out_arcs(graph.end()) {
         [] => None,
@@ -44,7 +47,7 @@ fn leaving_end(graph: &Graph) -> Option<u32>
 
 /// The first event that dangles.
 fn dangling(graph: &Graph) -> Option<u32>
-    ensures { IsFirstIn (λ e. (e < graph.now.events) × IsDangling graph.now e) result }
+    ensures { IsFirstIn (Dangles graph.now) result }
 {
     for event in 0..graph.events() {
         if is_dangling(graph, event) {

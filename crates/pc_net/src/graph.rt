@@ -64,7 +64,6 @@ impl Graph {
         ensures limit { result ≤ MAX_EVENTS }
         ensures in_range { IsInRange self.now }
     {
-        let _ = &self.arcs;
         self.events
     }
 

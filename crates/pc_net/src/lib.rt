@@ -3,6 +3,7 @@
 #![tactic(auto)]
 
 mod chains;
+mod cycle;
 mod faults;
 mod graph;
 mod listing;
@@ -13,7 +14,7 @@ mod side;
 
 pub use network::Net;
 pub use pc_model::{Arc, MAX_ACTIVITIES, MAX_EVENTS};
-pub use refusal::NetError;
+pub use refusal::{Indices, NetError};
 
 #[cfg(test)]
 mod tests;

@@ -5,10 +5,11 @@ ghost use Rattle.pc_model.specs.Network.{IsInRange, IsSound, IsOrder};
 ghost use Rattle.pc_net.specs.Networks.{network, events_from, events_to};
 ghost use Rattle.pc_net.specs.Refusals.{IsRefusal};
 
+use crate::cycle::first_cycle;
 use crate::faults::check;
 use crate::graph::Graph;
 use crate::ordering::ordered;
-use crate::refusal::NetError;
+use crate::refusal::{Indices, NetError};
 use pc_model::{Arc, MAX_ACTIVITIES, MAX_EVENTS};
 use std::alloc::Global;
 use std::marker::Model;
@@ -35,7 +36,7 @@ impl Model for Net {
 impl Net {
     /// The network of these activities between the events 0, 1, .. below `events`.
     ///
-    /// Linear in events and activities.
+    /// Linear in events and activities, but for the search for a cycle where there is one.
     pub fn build(
         alloc: Global,
         events: u32,
@@ -54,7 +55,10 @@ impl Net {
         check(&graph)?;
         let order = ordered(alloc, &graph)?;
         if order.len() < events as usize {
-            return Err(NetError::Unsound);
+            return match first_cycle(alloc, &graph)? {
+                Some(cycle) => Err(NetError::Cycle(Indices::new(cycle))),
+                None => unreachable!(),
+            };
         }
         Ok(Net { graph, order })
     }
@@ -115,7 +119,6 @@ impl Net {
         ensures sound { IsSound self.now }
         ensures in_range { IsInRange self.now }
     {
-        let _ = self.graph.events();
         &self.order
     }
 

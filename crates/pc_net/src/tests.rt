@@ -59,18 +59,49 @@ fn builds_a_network(rt: HostRuntime) -> Result<(), Fail> {
 }
 
 #[test]
-fn refuses_what_is_not_sound(rt: HostRuntime) {
+fn names_the_first_cause(rt: HostRuntime) -> Result<(), Fail> {
     let alloc = rt.alloc();
     let sound = [arc(0, 2), arc(2, 1)];
-    assert_eq!(rt; refusal(alloc, 3, &sound), None);
-    let entered = [arc(0, 2), arc(2, 1), arc(2, 0)];
-    assert_eq!(rt; refusal(alloc, 3, &entered), Some(NetError::Unsound));
-    let left = [arc(0, 2), arc(2, 1), arc(1, 2)];
-    assert_eq!(rt; refusal(alloc, 3, &left), Some(NetError::Unsound));
-    let dangling = [arc(0, 1), arc(0, 2)];
-    assert_eq!(rt; refusal(alloc, 3, &dangling), Some(NetError::Unsound));
-    let alone = [arc(0, 1)];
-    assert_eq!(rt; refusal(alloc, 3, &alone), Some(NetError::Unsound));
-    let cycle = [arc(0, 2), arc(2, 3), arc(3, 2), arc(3, 1)];
-    assert_eq!(rt; refusal(alloc, 4, &cycle), Some(NetError::Unsound));
+    assert!(rt; refusal(alloc, 3, &sound).is_none());
+    let entered = [arc(0, 2), arc(2, 1), arc(2, 0), arc(1, 0)];
+    assert!(rt;
+        matches!(
+            refusal(alloc, 3, &entered),
+            Some(NetError::StartEntered { arc: 2 })
+        )
+    );
+    let left = [arc(0, 2), arc(1, 2), arc(2, 1), arc(1, 2)];
+    assert!(rt; matches!(refusal(alloc, 3, &left), Some(NetError::EndLeft { arc: 1 })));
+    let unleft = [arc(0, 1), arc(0, 2)];
+    assert!(rt;
+        matches!(
+            refusal(alloc, 3, &unleft),
+            Some(NetError::Dangling {
+                event: 2,
+                entered: true
+            })
+        )
+    );
+    let unentered = [arc(0, 1), arc(2, 1)];
+    assert!(rt;
+        matches!(
+            refusal(alloc, 3, &unentered),
+            Some(NetError::Dangling {
+                event: 2,
+                entered: false
+            })
+        )
+    );
+    Ok(())
+}
+
+#[test]
+fn names_a_cycle(rt: HostRuntime) -> Result<(), Fail> {
+    // 2 to 3 to 4 to 2, entered at 2 and left at 4; the first activity on it is 1
+    let round = [arc(0, 2), arc(2, 3), arc(4, 1), arc(3, 4), arc(4, 2)];
+    match refusal(rt.alloc(), 5, &round) {
+        Some(NetError::Cycle(cycle)) => assert_eq!(rt; cycle.as_slice(), [1, 3, 4].as_slice()),
+        _ => return Err(Fail::from("no cycle")),
+    }
+    Ok(())
 }

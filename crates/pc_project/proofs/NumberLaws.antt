@@ -1,14 +1,12 @@
 -- The numbers of events by their codes, and the range of a network of such numbers.
-use Rattle.std.proofs.Common.{◌≡◌, ◌≢◌, ◌<◌, ℕ, List, [], length, get_or, map, sym, ap, ◌∙◌, subst, refl, arith, Option, Some, None, nat_eq}
-use Rattle.std.specs.Prelude.{All, IsSome, position, slice_index_or, unwrap_or}
-use Rattle.std.specs.Option.{is_some}
-use Rattle.std.specs.Cmp.{IsEquivalence}
-use Rattle.std.specs.Cmp.Lexicographic.{pointwise, bytes_decides, nat_list_eq_equiv}
+use Rattle.std.proofs.Common.{◌≡◌, ◌<◌, ℕ, List, [], length, get_or, sym, ap, ◌∙◌, refl, arith, Option, Some, None, nat_eq}
+use Rattle.std.specs.Prelude.{All, IsSome, unwrap_or}
+use Rattle.std.specs.Cmp.Lexicographic.{pointwise, bytes_decides}
 use Rattle.std.proofs.lemmas.Bool.{false≢true}
 use Rattle.std.proofs.lemmas.List.{get_or-map, length-map}
 use Rattle.std.proofs.lemmas.List.Quantifiers.{position-Some}
 use Rattle.pc_model.specs.declared.Arc.{Arc}
-use Rattle.pc_model.specs.Walk.{arc_at, from_of, to_of}
+use Rattle.pc_model.specs.Walk.{from_of, to_of}
 use Rattle.pc_model.specs.Network.{Network, IsInRange}
 use Rattle.pc_deck.specs.declared.cards.ActCard.{ActCard}
 use Rattle.pc_deck.specs.Deck.{Deck, event_codes, event_named}
@@ -30,10 +28,10 @@ has_place deck code known =
     let at = place_of (event_named deck code) known in
     let number : event_number deck code ≡ at.0 = ap (λ o. unwrap_or o (length deck.events)) at.1 in
     let found = position-Some (pointwise nat_eq code) (event_codes deck) at.0 [] at.1 in
-    record
-      { within = omega (arith, found.0, length-map deck.events (λ event. event.code), number)
-      ; code_there = ap (λ i. get_or (event_codes deck) i []) number ∙ sym ((bytes_decides code (get_or (event_codes deck) at.0 [])).0 found.1)
-      }
+    record {
+      within = omega (arith, found.0, length-map deck.events (λ event. event.code), number);
+      code_there = ap (λ i. get_or (event_codes deck) i []) number ∙ sym ((bytes_decides code (get_or (event_codes deck) at.0 [])).0 found.1);
+    }
 
 -- the number of an event that is there is below their count
 pub event_number-within : (deck : Deck) (code : List ℕ) → IsEvent deck code → event_number deck code < length deck.events
@@ -68,16 +66,16 @@ is_placed deck all a within =
 -- a deck whose start and end are two events, and whose activities lead from one event to another, has a network
 -- of its own events
 pub network_of-in_range : (deck : Deck) → HasEnds deck → All (Connects deck) deck.acts → IsInRange (network_of deck)
-network_of-in_range deck ends all = record
-    { start_in = event_number-within deck deck.project.start ends.starts
-    ; end_in = event_number-within deck deck.project.end ends.ends
-    ; apart = λ same. ends.apart (event_number-apart deck deck.project.start deck.project.end ends.starts ends.ends same)
-    ; from_in = λ a within. let p = is_placed deck all a within in omega (arith, p.from, event_number-within deck (card_at deck a).from p.card.begins)
-    ; to_in = λ a within. let p = is_placed deck all a within in omega (arith, p.to, event_number-within deck (card_at deck a).to p.card.ends)
-    ; not_looped = λ a within same.
-        let p = is_placed deck all a within in
-        p.card.apart (event_number-apart deck (card_at deck a).from (card_at deck a).to p.card.begins p.card.ends (sym p.from ∙ (same ∙ p.to)))
-    }
+network_of-in_range deck ends all = record {
+  start_in = event_number-within deck deck.project.start ends.starts;
+  end_in = event_number-within deck deck.project.end ends.ends;
+  apart = λ same. ends.apart (event_number-apart deck deck.project.start deck.project.end ends.starts ends.ends same);
+  from_in = λ a within. let p = is_placed deck all a within in omega (arith, p.from, event_number-within deck (card_at deck a).from p.card.begins);
+  to_in = λ a within. let p = is_placed deck all a within in omega (arith, p.to, event_number-within deck (card_at deck a).to p.card.ends);
+  not_looped = λ a within same.
+      let p = is_placed deck all a within in
+      p.card.apart (event_number-apart deck (card_at deck a).from (card_at deck a).to p.card.begins p.card.ends (sym p.from ∙ (same ∙ p.to)));
+}
 
 -- the network of a deck, from its parts
 pub network_of-is : (deck : Deck) (events start end : ℕ) (arcs : List Arc) → events ≡ length deck.events → start ≡ (network_of deck).start → end ≡ (network_of deck).end → arcs ≡ (network_of deck).arcs → let net : Network = record { events = events; start = start; end = end; arcs = arcs } in net ≡ network_of deck

@@ -1,12 +1,11 @@
 -- The project of a deck whose cards make one is planned.
-use Rattle.std.proofs.Common.{◌≡◌, ◌<◌, ◌≤◌, ℕ, List, [], length, get_or, map, sym, ap, ◌∙◌, subst, refl, arith}
+use Rattle.std.proofs.Common.{◌≡◌, ◌<◌, ℕ, List, length, get_or, map, sym, ap, ◌∙◌, arith}
 use Rattle.std.specs.Prelude.{All}
 use Rattle.std.proofs.lemmas.List.{get_or-map, length-map}
 use Rattle.pc_model.specs.declared.Term.{Term}
-use Rattle.pc_model.specs.Network.{Network, IsInRange}
-use Rattle.pc_model.specs.Schedule.{AreTerms, term_at, normal_of, crash_of}
+use Rattle.pc_model.specs.Network.{Network}
+use Rattle.pc_model.specs.Schedule.{AreTerms, term_at}
 use Rattle.pc_crash.specs.Terms.{AreWithinLimits}
-use Rattle.pc_deck.specs.declared.cards.ActCard.{ActCard}
 use Rattle.pc_deck.specs.Deck.{Deck, event_codes, act_codes}
 use Rattle.pc_deck.specs.Within.{IsWithinLimits}
 use Rattle.pc_project.specs.Project.{Project, arc_of, network_of, project_in, term_of}
@@ -24,32 +23,32 @@ module _ (deck : Deck) where
   terms_count = length-map deck.acts term_of
 
   are_terms : All IsInOrder deck.acts → AreTerms (network_of deck) (map term_of deck.acts)
-  are_terms ordered = record
-    { one_each = terms_count ∙ sym (length-map deck.acts (arc_of deck))
-    ; ordered = λ a below.
+  are_terms ordered = record {
+    one_each = terms_count ∙ sym (length-map deck.acts (arc_of deck));
+    ordered = λ a below.
         let inside : a < length deck.acts = omega (arith, below, terms_count) in
         let is = term_there deck a inside in
-        omega (arith, ap (λ t. t.crash) is, ap (λ t. t.normal) is, (ordered a no_act inside).durations)
-    }
+        omega (arith, ap (λ t. t.crash) is, ap (λ t. t.normal) is, (ordered a no_act inside).durations);
+  }
 
   within_limits : IsWithinLimits deck → AreWithinLimits (map term_of deck.acts)
-  within_limits limits = record
-    { few = omega (arith, terms_count, limits.few_acts)
-    ; short = λ a below. let inside : a < length deck.acts = omega (arith, below, terms_count) in omega (arith, ap (λ t. t.normal) (term_there deck a inside), (limits.acts_within a no_act inside).normal)
-    ; cheap = λ a below. let inside : a < length deck.acts = omega (arith, below, terms_count) in omega (arith, ap (λ t. t.cost) (term_there deck a inside), (limits.acts_within a no_act inside).cost)
-    ; gentle = λ a below. let inside : a < length deck.acts = omega (arith, below, terms_count) in omega (arith, ap (λ t. t.slope) (term_there deck a inside), (limits.acts_within a no_act inside).slope)
-    }
+  within_limits limits = record {
+    few = omega (arith, terms_count, limits.few_acts);
+    short = λ a below. let inside : a < length deck.acts = omega (arith, below, terms_count) in omega (arith, ap (λ t. t.normal) (term_there deck a inside), (limits.acts_within a no_act inside).normal);
+    cheap = λ a below. let inside : a < length deck.acts = omega (arith, below, terms_count) in omega (arith, ap (λ t. t.cost) (term_there deck a inside), (limits.acts_within a no_act inside).cost);
+    gentle = λ a below. let inside : a < length deck.acts = omega (arith, below, terms_count) in omega (arith, ap (λ t. t.slope) (term_there deck a inside), (limits.acts_within a no_act inside).slope);
+  }
 
   pub project_in-planned : MakesProject deck → IsWithinLimits deck → IsPlanned (project_in deck)
-  project_in-planned makes limits = record
-    { in_range = network_of-in_range deck makes.ends makes.connected
-    ; sound = makes.sound
-    ; terms = are_terms makes.ordered
-    ; limits = within_limits limits
-    ; few_events = limits.few_events
-    ; event_codes = length-map deck.events (λ event. event.code)
-    ; activity_codes = length-map deck.acts (λ act. act.code) ∙ sym (length-map deck.acts (arc_of deck))
-    }
+  project_in-planned makes limits = record {
+    in_range = network_of-in_range deck makes.ends makes.connected;
+    sound = makes.sound;
+    terms = are_terms makes.ordered;
+    limits = within_limits limits;
+    few_events = limits.few_events;
+    event_codes = length-map deck.events (λ event. event.code);
+    activity_codes = length-map deck.acts (λ act. act.code) ∙ sym (length-map deck.acts (arc_of deck));
+  }
 
 -- the project of a deck, from its parts
 pub project_in-is : (deck : Deck) (code : List ℕ) (network : Network) (terms : List Term) (events activities : List (List ℕ)) → code ≡ deck.project.code → network ≡ network_of deck → terms ≡ map term_of deck.acts → events ≡ event_codes deck → activities ≡ act_codes deck → let project : Project = record { code = code; network = network; terms = terms; events = events; activities = activities } in project ≡ project_in deck

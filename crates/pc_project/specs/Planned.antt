@@ -1,5 +1,5 @@
 -- What holds of every project.
-use Rattle.std.specs.Prelude.{◌≡◌, ℕ, ◌≤◌, length}
+use Rattle.std.specs.Prelude.{◌≡◌, ◌≤◌, length}
 use Rattle.pc_model.specs.Network.{IsInRange, IsSound}
 use Rattle.pc_model.specs.Schedule.{AreTerms}
 use Rattle.pc_crash.specs.Terms.{AreWithinLimits}

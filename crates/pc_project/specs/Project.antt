@@ -29,19 +29,19 @@ term_of act = record { normal = act.normal; crash = act.crash; cost = act.cost; 
 
 -- the network of a deck: an event for each EVENT card, an activity for each ACT card
 abbrev pub network_of : Deck → Network
-network_of deck = record
-    { events = length deck.events
-    ; start = event_number deck deck.project.start
-    ; end = event_number deck deck.project.end
-    ; arcs = map (arc_of deck) deck.acts
-    }
+network_of deck = record {
+  events = length deck.events;
+  start = event_number deck deck.project.start;
+  end = event_number deck deck.project.end;
+  arcs = map (arc_of deck) deck.acts;
+}
 
 -- the project of a deck
 abbrev pub project_in : Deck → Project
-project_in deck = record
-    { code = deck.project.code
-    ; network = network_of deck
-    ; terms = map term_of deck.acts
-    ; events = event_codes deck
-    ; activities = act_codes deck
-    }
+project_in deck = record {
+  code = deck.project.code;
+  network = network_of deck;
+  terms = map term_of deck.acts;
+  events = event_codes deck;
+  activities = act_codes deck;
+}

@@ -6,8 +6,8 @@ use Rattle.pc_deck.specs.declared.fault.Fault.{Fault}
 use Rattle.pert_cli.specs.declared.status.Status.{Status}
 use Rattle.pert_cli.specs.Status.{code_of}
 use Rattle.pert_cli.specs.Words.{IsNormal}
-use Rattle.pert_cli.specs.Verdict.{AcceptedBy, RefusedBy, IsFault, IsProjectOf}
-use Rattle.pert_cli.specs.Outcome.{IsAnswer, IsCut, Outcome, ReadsOn, SinkRun, SourceRun, TakesOn, done, refused, usage, no_memory, read_fault, write_fault, in_answer, in_fault, in_usage}
+use Rattle.pert_cli.specs.Verdict.{AcceptedBy, RefusedBy, IsFault}
+use Rattle.pert_cli.specs.Outcome.{IsAnswer, Outcome, ReadsOn, SinkRun, SourceRun, TakesOn, done, refused, usage, no_memory, read_fault, write_fault, in_answer, in_fault, in_usage}
 use Rattle.pert_cli.proofs.VerdictLaws.{not_both}
 
 -- a deck that has a fault is not accepted, where the source tells its bytes

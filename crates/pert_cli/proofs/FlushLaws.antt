@@ -1,10 +1,10 @@
 -- What a flush after a text leaves.
-use Rattle.std.proofs.Common.{◌≡◌, ℕ, ◌≤◌, List, ◌++◌, length, take, Option, Some, None, Result, Ok, Err, sym, ◌∙◌, ap, subst, refl, arith}
+use Rattle.std.proofs.Common.{◌≡◌, ℕ, ◌≤◌, List, length, take, Option, Some, None, Result, Ok, Err, sym, ◌∙◌, subst, arith}
 use Rattle.std.specs.Prelude.{OnOk, OnErr}
 use Rattle.std.specs.Io.KnownBytes.{Appends, Keeps}
 use Rattle.std.proofs.lemmas.List.{take_all}
 use Rattle.pc_edges.specs.Faults.{Rose}
-use Rattle.pc_edges.specs.Writes.{Wrote, Stopped, Writes}
+use Rattle.pc_edges.specs.Writes.{Wrote, Writes}
 
 -- a text is still there where a call keeps what was taken
 Appends-kept : (a b c : Option (List ℕ)) (text : List ℕ) → Appends a b text → Keeps b c → Appends a c text
@@ -19,11 +19,11 @@ Writes-flushed (Ok v) a b c s t u text wrote kept no_fault failed count =
     record { ok = record { whole = Appends-kept a b c text wrote.whole kept; no_fault = no_fault ∙ wrote.no_fault }; err = tt; count = omega (arith, wrote.no_fault, count) }
 Writes-flushed (Err e) a b c s t u text wrote kept no_fault failed count =
     let whole : take (length text) text ≡ text = take_all (length text) text (omega arith) in
-    record
-      { ok = tt
-      ; err = record
-          { front = (length text, subst (Appends a c) (sym whole) (Appends-kept a b c text wrote.whole kept))
-          ; fault = subst (λ n. Rose n u) wrote.no_fault failed
-          }
-      ; count = omega (arith, wrote.no_fault, count)
-      }
+    record {
+      ok = tt;
+      err = record {
+        front = (length text, subst (Appends a c) (sym whole) (Appends-kept a b c text wrote.whole kept));
+        fault = subst (λ n. Rose n u) wrote.no_fault failed;
+      };
+      count = omega (arith, wrote.no_fault, count);
+    }

@@ -1,5 +1,5 @@
 -- What the two sides of a run leave: the refusal of a deck on the error output, and the answer on the output.
-use Rattle.std.specs.Prelude.{◌≡◌, ℕ, List, Option, ⊤}
+use Rattle.std.specs.Prelude.{ℕ, List, Option}
 use Rattle.pc_edges.specs.Writes.{Wrote, Stopped}
 use Rattle.pc_deck.specs.declared.fault.Fault.{Fault}
 use Rattle.pc_deck.specs.FaultText.{fault_text}

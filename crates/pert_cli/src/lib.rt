@@ -10,3 +10,6 @@ mod verdict;
 mod words;
 
 pub use crate::top::run;
+
+#[cfg(test)]
+mod tests;

@@ -1,0 +1,22 @@
+use Rattle.std.proofs.Common.{◌≡◌, slice_index, below_more, sym, ◌∙◌, ap, arith}
+use Rattle.std.proofs.lemmas.List.{get_or_read}
+use Rattle.pc_model.specs.Walk.{to_of}
+use Rattle.pc_net.specs.Cycles.{LiesOnCycle}
+use Rattle.pc_net.proofs.SearchLaws.{off_cycle, way_round, IsFirstCycle-from_round}
+use Rattle.pc_net.proofs.cycle.first_cycle.Goals as goal
+
+pub returns-then-index-ne0 : goal.returns-then-index-ne0
+returns-then-index-ne0 c =
+    IsFirstCycle-from_round c.args.graph.now.arcs c.loop-a.a c.in_ok-cycle.cycle.items c.in_ok-cycle.ensures c.loop-a.invariant.1
+
+pub loop-a-preserved : goal.loop-a-preserved
+loop-a-preserved c =
+    let net = c.args.graph.now in
+    let ranks = c.search.new.ranks.items in
+    let search = c.in_ok-search.ensures.searched in
+    let read : c.index.result.now ≡ slice_index ranks c.to.result = get_or_read ranks c.to.result _ (omega (arith, c.to.ensures.known, search.ranks_len)) c.index.ensures 0 in
+    let none : slice_index ranks (to_of net.arcs c.loop-a.a) ≡ 0 = ap (slice_index ranks) (sym c.to.ensures.event) ∙ omega (arith, read, c.if-index-ne0.false) in
+    (omega (arith, c.search.ensures.sized), below_more (λ b. LiesOnCycle net.arcs b → ⊥) c.loop-a.a c.loop-a.invariant.1 (off_cycle net c.loop-a.a c.search.new.steps.items ranks search none))
+
+pub returns : goal.returns
+returns c = λ a lies. c.loop-a.invariant.1 a (omega (arith, (way_round c.args.graph.now.arcs a lies).0, c.activities-a-end.ensures.activities)) lies

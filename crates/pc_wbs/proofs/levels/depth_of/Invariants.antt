@@ -1,0 +1,5 @@
+use Rattle.pc_wbs.specs.Ends.{AreGreatest}
+use Rattle.pc_wbs.proofs.levels.depth_of.Given as goal
+
+abbrev pub invariant-loop-level : goal.invariant-loop-level
+invariant-loop-level l = AreGreatest l.levels l.level-index l.depth

@@ -1,0 +1,5 @@
+use Rattle.pc_wbs.specs.Ends.{AreDoubled}
+use Rattle.pc_wbs.proofs.loops.doubled.Given as goal
+
+abbrev pub invariant-loop-item : goal.invariant-loop-item
+invariant-loop-item l = AreDoubled l.ends l.item l.twice.items

@@ -1,0 +1,5 @@
+use Rattle.pc_wbs.specs.Ends.{IsLeastBelow}
+use Rattle.pc_wbs.proofs.loops.least.Given as goal
+
+abbrev pub invariant-loop-item : goal.invariant-loop-item
+invariant-loop-item l = IsLeastBelow l.ends l.item l.least

@@ -1,0 +1,32 @@
+//! Links from each row to its first child and to its next sibling.
+ghost use Rattle.std.specs.Prelude.{◌≤◌, length, IfOk};
+ghost use Rattle.pc_wbs.specs.Climb.{AreInRange};
+ghost use Rattle.pc_wbs.specs.Links.{AreFirstChildren, AreNextSiblings};
+
+use crate::row::{ItemRow, parent_of};
+use std::alloc::{AllocError, Global};
+
+/// The first child and the next sibling of each row.
+#[derive(Drop)]
+pub(crate) struct Links {
+    pub firsts: Vec<Option<u32>>,
+    pub nexts: Vec<Option<u32>>,
+}
+
+/// The links of the rows, made from the last row to the first.
+pub(crate) fn links_of(alloc: Global, rows: &[ItemRow]) -> Result<Links, AllocError>
+    requires count { length rows.now ≤ 10_000 }
+    requires in_range { AreInRange rows.now }
+    ensures firsts { IfOk result (λ links. AreFirstChildren rows.now 0 links.firsts.items) }
+    ensures nexts { IfOk result (λ links. AreNextSiblings rows.now 0 links.nexts.items) }
+{
+    let mut firsts = vec![in alloc; None; rows.len()]?;
+    let mut nexts = vec![in alloc; None; rows.len()]?;
+    for item in (0..rows.len() as u32).rev() {
+        if let Some(parent) = parent_of(rows, item) {
+            nexts[item as usize] = firsts[parent as usize];
+            firsts[parent as usize] = Some(item);
+        }
+    }
+    Ok(Links { firsts, nexts })
+}

@@ -1,0 +1,71 @@
+//! The preorder of a tree.
+ghost use Rattle.std.specs.Prelude.{◌<◌, ◌≤◌, length, IfOk};
+ghost use Rattle.pc_wbs.specs.Climb.{AreInRange, IsOnlyTop, IsTree};
+ghost use Rattle.pc_wbs.specs.Links.{AreFirstChildren, AreNextSiblings, IsNextBeside};
+ghost use Rattle.pc_wbs.specs.Precedes.{IsSuccessor};
+ghost use Rattle.pc_wbs.specs.Preorder.{IsPreorder};
+
+use crate::levels::MOST_LEVELS;
+use crate::links::Links;
+use crate::row::{ItemRow, parent_of};
+use std::alloc::{AllocError, Global};
+
+/// The items in preorder: behind each its first child, or else the next sibling of the nearest item that has one.
+pub(crate) fn preorder(
+    alloc: Global,
+    rows: &[ItemRow],
+    links: &Links,
+    top: u32,
+) -> Result<Vec<u32>, AllocError>
+    requires count { length rows.now ≤ 10_000 }
+    requires in_range { AreInRange rows.now }
+    requires tree { IsTree rows.now }
+    requires top { IsOnlyTop rows.now top }
+    requires firsts { AreFirstChildren rows.now 0 links.now.firsts.items }
+    requires nexts { AreNextSiblings rows.now 0 links.now.nexts.items }
+    ensures { IfOk result (λ order. IsPreorder rows.now order.items) }
+{
+    let mut order = Vec::with_capacity(alloc, rows.len())?;
+    let mut next = Some(top);
+    while let Some(item) = next {
+        order.push(item)?;
+        next = next_after(rows, links, item);
+    }
+    Ok(order)
+}
+
+/// The item behind this one in preorder.
+fn next_after(rows: &[ItemRow], links: &Links, item: u32) -> Option<u32>
+    requires in_range { AreInRange rows.now }
+    requires tree { IsTree rows.now }
+    requires item { item < length rows.now }
+    requires firsts { AreFirstChildren rows.now 0 links.now.firsts.items }
+    requires nexts { AreNextSiblings rows.now 0 links.now.nexts.items }
+    ensures { IsSuccessor rows.now item result }
+{
+    if let Some(child) = links.firsts[item as usize] {
+        return Some(child);
+    }
+    next_beside(rows, &links.nexts, item)
+}
+
+/// The next sibling of an item, or else of the nearest item above it that has one.
+fn next_beside(rows: &[ItemRow], nexts: &[Option<u32>], item: u32) -> Option<u32>
+    requires in_range { AreInRange rows.now }
+    requires tree { IsTree rows.now }
+    requires item { item < length rows.now }
+    requires nexts { AreNextSiblings rows.now 0 nexts.now }
+    ensures { IsNextBeside rows.now nexts.now item result }
+{
+    let mut at = item;
+    for _climbed in 0..MOST_LEVELS {
+        if let Some(sibling) = nexts[at as usize] {
+            return Some(sibling);
+        }
+        match parent_of(rows, at) {
+            Some(parent) => at = parent,
+            None => return None,
+        }
+    }
+    unreachable!()
+}

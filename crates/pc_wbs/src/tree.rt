@@ -1,0 +1,133 @@
+//! The tree of a work breakdown structure.
+ghost use Rattle.std.specs.Prelude.{◌≡◌, ℕ, ◌<◌, ◌≤◌, ◌↔◌, length, IsTrue, IsNone, IfOk, IfErr, IfSome};
+ghost use Rattle.pc_wbs.specs.Climb.{parent_of, AreInRange, HasLevel, IsTop, IsLeaf, IsTree, IsDepth, IsAtLevel, most_levels};
+ghost use Rattle.pc_wbs.specs.Preorder.{IsPreorder};
+ghost use Rattle.pc_wbs.specs.Refusal.{IsRefusal};
+
+use crate::error::TreeError;
+use crate::levels::{depth_of, levels_of, only_top};
+use crate::links::links_of;
+use crate::order;
+use crate::row::{ItemRow, parent_of};
+use std::alloc::Global;
+use std::marker::Model;
+
+/// A tree of items, each named by its row. In contracts it is its rows.
+#[derive(Debug, Drop)]
+pub struct Tree {
+    rows: Vec<ItemRow>,
+    levels: Vec<u32>,
+    depth: u32,
+    firsts: Vec<Option<u32>>,
+    order: Vec<u32>,
+}
+
+impl Model for Tree {
+    ghost use Rattle.std.specs.Prelude.{List};
+    ghost use Rattle.pc_wbs.specs.declared.row.ItemRow.{ItemRow};
+
+    ghost Value = { List ItemRow };
+
+    ghost view = { λ tree. tree.rows.items };
+
+    ghost use Rattle.pc_wbs.specs.Parts.{AreParts};
+
+    ghost invariant = { AreParts };
+}
+
+impl Tree {
+    /// The tree of the rows.
+    ///
+    /// It takes time in proportion to their number; to name a loop takes some fourteen passes more.
+    pub fn build(alloc: Global, rows: &[ItemRow]) -> Result<Tree, TreeError>
+        requires count { length rows.now ≤ 10_000 }
+        requires in_range { AreInRange rows.now }
+        ensures rows { IfOk result (λ tree. tree ≡ rows.now) }
+        ensures tree { IfOk result IsTree }
+        ensures refusal { IfErr result (IsRefusal rows.now) }
+    {
+        let top = only_top(rows)?;
+        let levels = levels_of(alloc, rows)?;
+        let links = links_of(alloc, rows)?;
+        let order = order::preorder(alloc, rows, &links, top)?;
+        Ok(Tree {
+            rows: Vec::from_slice(alloc, rows)?,
+            depth: depth_of(&levels),
+            levels,
+            firsts: links.firsts,
+            order,
+        })
+    }
+
+    /// How many items there are.
+    pub fn len(&self) -> u32
+        ensures len { result ≡ length self.now }
+        ensures count { length self.now ≤ 10_000 }
+        ensures in_range { AreInRange self.now }
+        ensures tree { IsTree self.now }
+    {
+        self.rows.len() as u32
+    }
+
+    /// The parent of an item.
+    pub fn parent(&self, i: u32) -> Option<u32>
+        requires { i < length self.now }
+        ensures parent { result ≡ parent_of self.now i }
+        ensures top { IsNone result ↔ IsTop self.now i }
+        ensures inside { IfSome result (λ p. p < length self.now) }
+    {
+        parent_of(&self.rows, i)
+    }
+
+    /// The level of an item, 1 at the top.
+    pub fn level(&self, i: u32) -> u32
+        requires { i < length self.now }
+        ensures level { HasLevel self.now i result }
+        ensures within { result ≤ most_levels }
+    {
+        self.levels[i as usize]
+    }
+
+    /// The greatest level of an item.
+    pub fn depth(&self) -> u32
+        ensures depth { IsDepth self.now result }
+        ensures within { result ≤ most_levels }
+    {
+        self.depth
+    }
+
+    /// Whether the item is nobody's parent.
+    pub fn is_leaf(&self, i: u32) -> bool
+        requires { i < length self.now }
+        ensures { IsTrue result ↔ IsLeaf self.now i }
+    {
+        self.firsts[i as usize].is_none()
+    }
+
+    /// The items in preorder: the top first, each item before its children, children in row order.
+    pub fn preorder(&self) -> &[u32]
+        ensures { IsPreorder self.now result.now }
+    {
+        self.order.as_slice()
+    }
+
+    /// The item itself or its ancestor, at the lesser of the level and the item's own.
+    ///
+    /// It takes as many steps as there are levels between.
+    pub fn ancestor_at(&self, i: u32, level: u32) -> u32
+        requires item { i < length self.now }
+        requires level { 1 ≤ level }
+        ensures at_level { IsAtLevel self.now i level result }
+        ensures inside { result < length self.now }
+    {
+        let own = self.level(i);
+        let mut at = i;
+        for _step in level..own {
+            let Some(parent) = self.parent(at) else {
+                unreachable!()
+            };
+            at = parent;
+        }
+        at
+    }
+}
