@@ -4,7 +4,12 @@ use Rattle.pc_deck.specs.Refusal.{fault_too_long}
 use Rattle.pert_cli.specs.Verdict.{IsFault, IsProjectOf}
 use Rattle.pert_cli.specs.Outcome.{usage, no_memory, read_fault, write_fault, in_usage, source_run, sink_run}
 use Rattle.pert_cli.proofs.OutcomeLaws.{after_answer, after_refusal, of_a_long_deck, of_the_deck}
+use Rattle.pert_cli.proofs.VerdictLaws.{told_of-fault}
 use Rattle.pert_cli.proofs.top.outcome.Goals as goal
+
+pub refuse-requires-in-Err-Fault : goal.refuse-requires-in-Err-Fault
+refuse-requires-in-Err-Fault g c =
+    told_of-fault c.deref.result.now c.in-Err-Fault.fault (rw c.in-Err-Fault.field-0-is at c.in-Err-Fault.ensures.refused)
 
 pub returns-in-Ok : goal.returns-in-Ok
 returns-in-Ok g c = usage (λ normal. false≢true (c.if-not-is_normal.ensures.1 normal)) c.in-Ok.ensures.ok refl refl
