@@ -6,3 +6,4 @@ pub mod ReadLemmas
 pub mod CardFaultLemmas
 pub mod SeenLemmas
 pub mod RefusalLemmas
+pub mod ToldLemmas

@@ -1,5 +1,6 @@
 -- The line that tells a fault.
-use Rattle.std.specs.Prelude.{ℕ, ◌==◌, List, [], ◌∷◌, ◌++◌, codes, decimal, if◌then◌else◌, Contains}
+use Rattle.std.specs.Prelude.{◌≡◌, ℕ, true, ◌==◌, List, [], ◌∷◌, ◌++◌, codes, decimal, if◌then◌else◌}
+use Rattle.std.specs.List.{list_any}
 use Rattle.pc_deck.specs.Kinds.{word_of}
 use Rattle.pc_deck.specs.declared.fault.Detail.{Detail}
 use Rattle.pc_deck.specs.declared.fault.Detail.TheVariants.{Plain, Kind, Fields, Field, Name, TooMany}
@@ -16,7 +17,7 @@ numbers_of (TooMany kind limit) = 10 ∷ []
 
 -- the number and the detail of the fault go together
 abbrev pub IsTold : Fault → Type 0
-IsTold fault = Contains (numbers_of fault.detail) fault.number
+IsTold fault = list_any (λ number. number == fault.number) (numbers_of fault.detail) ≡ true
 
 -- what is wrong, where a fault names nothing
 abbrev pub plain_words : ℕ → List ℕ

@@ -74,10 +74,22 @@ HasFaultFrom before end [] fault = ((seen_among before).count End ≡ 0) × (fau
 HasFaultFrom before end (card ∷ cards) fault =
     HasCardFault (seen_among before) card fault ⊎ HasFaultFrom (before ++ card ∷ []) end cards fault
 
+-- F1: the deck is too long
+abbrev pub fault_too_long : ADeckFault
+fault_too_long = plain_fault 0 1
+
+-- F2: the deck is not UTF-8
+abbrev pub fault_not_utf8 : ADeckFault
+fault_not_utf8 = plain_fault 0 2
+
+-- F0: the cards are none of a plain deck
+abbrev pub fault_not_plain : ADeckFault
+fault_not_plain = plain_fault 0 0
+
 -- the faults of a deck that is UTF-8 or not
 abbrev pub HasFaultWhere : Bool → List ℕ → ADeckFault → Type 0
 HasFaultWhere true bytes fault = HasFaultFrom [] (length (deck_records bytes) + 1) (deck_cards bytes) fault
-HasFaultWhere false bytes fault = fault ≡ plain_fault 0 2
+HasFaultWhere false bytes fault = fault ≡ fault_not_utf8
 
 -- the faults of a deck: F2 where it is not UTF-8, and otherwise those of its cards
 abbrev pub HasFault : List ℕ → ADeckFault → Type 0

@@ -5,8 +5,8 @@ use Rattle.std.specs.declared.alloc.Global.{Global}
 use Rattle.pc_edges.specs.Faults.{Rose}
 use Rattle.pc_edges.specs.Writes.{Wrote, Stopped}
 use Rattle.pc_deck.specs.declared.fault.Fault.{Fault}
-use Rattle.pc_deck.specs.declared.fault.TheConstants.{TOO_LONG}
 use Rattle.pc_deck.specs.FaultText.{fault_text}
+use Rattle.pc_deck.specs.Refusal.{fault_too_long}
 use Rattle.pc_project.specs.Project.{Project}
 use Rattle.pert_cli.specs.declared.status.Status.{Status}
 use Rattle.pert_cli.specs.declared.status.Status.TheVariants.{Done, Refused, Usage, OutOfMemory, ReadFault, WriteFault}
@@ -69,7 +69,7 @@ pub record IsDone (source : SourceRun) (out : SinkRun) : Type 0 where
 pub record IsRefused (source : SourceRun) (err : SinkRun) : Type 0 where
   pub fault : Fault
   pub is : IfSome source.left (λ bytes. IsFault bytes fault)
-  pub read : fault ≢ TOO_LONG → IsAtEnd source.left_after
+  pub read : fault ≢ fault_too_long → IsAtEnd source.left_after
   pub took : Took err (fault_text fault)
 
 -- a fault of the output came when it had taken a front of the answer
