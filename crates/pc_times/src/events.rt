@@ -21,7 +21,7 @@ pub fn early(alloc: Global, net: &Net, lengths: &[u64]) -> Result<Vec<u64>, Allo
 /// When each event is to be reached at the latest, in card order, so that the end can be reached at `by`. Linear in
 /// events and activities.
 ///
-/// A time is negative where `by` is too early for a walk from that event even from the day of the start.
+/// A time is negative where a walk from that event to the end takes longer than there is up to `by`.
 pub fn late(alloc: Global, net: &Net, lengths: &[u64], by: i64) -> Result<Vec<i64>, AllocError>
     requires lengths { AreLengths net.now lengths.now }
     requires by { unsigned_abs by < 2 ^ 40 }
