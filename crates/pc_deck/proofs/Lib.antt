@@ -7,3 +7,4 @@ pub mod CardFaultLemmas
 pub mod SeenLemmas
 pub mod RefusalLemmas
 pub mod ToldLemmas
+pub mod SaysLemmas

@@ -20,7 +20,7 @@ use Rattle.pc_deck.specs.declared.draft.Draft.{Draft}
 use Rattle.pc_deck.proofs.JudgeLemmas.{IsFaultless, faultless}
 
 -- whether two kinds have one word
-abbrev same_word : Kind → Kind → Bool
+abbrev pub same_word : Kind → Kind → Bool
 same_word kind other = bytes_eq (word_of kind) (word_of other)
 
 -- a choice that gave the kind by its test, or behind it
@@ -29,7 +29,7 @@ chosen true here kind rest field is behind h = let same : here ≡ kind = cc in 
 chosen false here kind rest field is behind h = behind h
 
 -- the first field is the word of the kind that it names
-word_of-kind : (field : List ℕ) (kind : Kind) → kind_of field ≡ Some kind → field ≡ word_of kind
+pub word_of-kind : (field : List ℕ) (kind : Kind) → kind_of field ≡ Some kind → field ≡ word_of kind
 word_of-kind field kind h =
     chosen _ Project kind _ field (λ is. (bytes_decides field (word_of Project)).0 is) (λ h.
     chosen _ AsOf kind _ field (λ is. (bytes_decides field (word_of AsOf)).0 is) (λ h.
@@ -56,7 +56,7 @@ code_if false true card = refl
 code_if false false card = refl
 
 -- the cards of a kind among those before and one more
-of_kind-more : (other kind : Kind) (before : List Numbered) (card : Numbered) → field_at card.1 0 ≡ word_of kind → of_kind other (before ++ card ∷ []) ≡ of_kind other before ++ (if same_word kind other then card ∷ [] else [])
+pub of_kind-more : (other kind : Kind) (before : List Numbered) (card : Numbered) → field_at card.1 0 ≡ word_of kind → of_kind other (before ++ card ∷ []) ≡ of_kind other before ++ (if same_word kind other then card ∷ [] else [])
 of_kind-more other kind before card is =
     filter-append (λ (c : Numbered). bytes_eq (field_at c.1 0) (word_of other)) before (card ∷ [])
     ∙ ap (λ (field : List ℕ). of_kind other before ++ (if bytes_eq field (word_of other) then card ∷ [] else [])) is

@@ -9,3 +9,4 @@ pub mod Reading
 pub mod Within
 pub mod Refusal
 pub mod FaultText
+pub mod Says

@@ -2,6 +2,8 @@
 ghost use Rattle.std.specs.Prelude.{◌≡◌, ◌≤◌, length, Some, Ok, Err, IfOk, IfErr, OnOk};
 ghost use Rattle.std.specs.Str.{is_utf8};
 ghost use Rattle.pc_deck.specs.Reading.{cards_of, deck_of};
+ghost use Rattle.pc_deck.specs.Cards.{deck_cards};
+ghost use Rattle.pc_deck.specs.Says.{Says};
 ghost use Rattle.pc_deck.specs.Refusal.{HasFault, IsCardRefusal, Refuses};
 ghost use Rattle.pc_deck.specs.declared.fault.Fault.{Fault};
 
@@ -23,6 +25,7 @@ use std::str;
 pub fn read_cards(alloc: Global, bytes: &[u8]) -> Result<Cards, DeckError>
     requires { length bytes.now ≤ DECK_LIMIT }
     ensures cards { IfOk result (λ cards. deck_of bytes.now ≡ Some cards) }
+    ensures says { IfOk result (λ cards. Says (deck_cards bytes.now) cards) }
     ensures first { IfErr result (Refuses (IsCardRefusal bytes.now)) }
     ensures accepted { OnOk result ((fault : Fault) → HasFault bytes.now fault → ⊥) }
 {

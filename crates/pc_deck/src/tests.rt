@@ -1,7 +1,7 @@
 //! Decks read whole, and the line of each fault.
 use super::*;
 use pc_days::day_text;
-use pc_text::Code;
+use pc_text::{Code, digits};
 use std::alloc::{AllocError, Global};
 use std::test::Fail;
 
@@ -126,6 +126,37 @@ fn tells_the_first_fault(rt: HostRuntime) -> Result<(), Fail> {
         let line = fault_line(rt.alloc(), &fault)?;
         assert_eq!(rt; line.bytes(), want);
     }
+    Ok(())
+}
+
+// A deck with so many EVENT cards.
+fn deck_with_events(alloc: Global, count: u32) -> Result<Vec<u8>, AllocError> {
+    let mut deck = Vec::new(alloc);
+    deck.extend_from_slice(b"PROJECT,E,S,T,2024-01-01,1,,\n")?;
+    for number in 0..count {
+        deck.extend_from_slice(b"EVENT,")?;
+        deck.extend_from_slice(digits(u64::from(number)).bytes())?;
+        deck.extend_from_slice(b",\n")?;
+    }
+    deck.extend_from_slice(b"END\n")?;
+    Ok(deck)
+}
+
+#[test]
+fn counts_cards_to_the_limit(rt: HostRuntime) -> Result<(), Fail> {
+    let full = deck_with_events(rt.alloc(), 5_000)?;
+    let cards = read_cards(rt.alloc(), &full)?;
+    assert_eq!(rt; cards.events().len(), EVENT_LIMIT);
+    let over = deck_with_events(rt.alloc(), 5_002)?;
+    let want = Fault {
+        row: 5_002,
+        number: 10,
+        detail: Detail::TooMany {
+            kind: Kind::Event,
+            limit: 5_000,
+        },
+    };
+    assert!(rt; matches!(read_cards(rt.alloc(), &over), Err(DeckError::Fault(fault)) if fault == want));
     Ok(())
 }
 
