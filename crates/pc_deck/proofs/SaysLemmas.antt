@@ -2,7 +2,7 @@
 use Rattle.std.proofs.Common.{◌≡◌, ℕ, Bool, true, false, ◌&&◌, nat_lt, List, [], ◌∷◌, ◌++◌, map, Option, Some, None, is_some, if◌then◌else◌, Result, Ok, Err, refl, sym, ap, ◌∙◌, subst, append-nil, append_assoc}
 use Rattle.std.specs.Prelude.{IfOk}
 use Rattle.std.proofs.lemmas.List.{map-append}
-use Rattle.pc_records.specs.Deck.{deck_records, field_at}
+use Rattle.pc_records.specs.Deck.{field_at}
 use Rattle.pc_deck.specs.Kinds.{word_of}
 use Rattle.pc_deck.specs.Cards.{Numbered, deck_cards}
 use Rattle.pc_deck.specs.Deck.{Deck}
@@ -12,7 +12,7 @@ use Rattle.pc_deck.specs.Spelled.{project_of, as_of_of, item_of, event_of, act_o
 use Rattle.pc_deck.specs.Says.{spelled, as_list, Says}
 use Rattle.pc_deck.specs.declared.cards.ProjectCard.{ProjectCard}
 use Rattle.pc_deck.specs.declared.kind.Kind.{Kind}
-use Rattle.pc_deck.specs.declared.kind.Kind.TheVariants.{Project, AsOf, Wbs, Event, Act, Acct, Charge, ToGo, Status, End}
+use Rattle.pc_deck.specs.declared.kind.Kind.TheVariants.{Project, AsOf, Wbs, Event, Act, Acct, Charge, ToGo, Status}
 use Rattle.pc_deck.specs.declared.fault.Fault.{Fault}
 use Rattle.pc_deck.specs.declared.fault.DeckError.{DeckError}
 use Rattle.pc_deck.specs.declared.draft.Draft.{Draft}
