@@ -167,8 +167,8 @@ judged_first seen row fields first other = by_kind (kind_of (field_at fields 0))
     by_kind (Some kind) is =
         let not_it = other_kind kind (λ same. other (is ∙ ap Some same)) in
         judged_as seen row fields kind 3 is
-            (earlier (not_project seen kind row) _ row 3
-                (caught_test _ (plain_fault row 3) row 3 (and_from _ _ first (not_flag (is_project kind) not_it)) refl (omega arith)))
+        (earlier (not_project seen kind row) _ row 3
+        (caught_test _ (plain_fault row 3) row 3 (and_from _ _ first (not_flag (is_project kind) not_it)) refl (omega arith)))
 
 -- where a card has a fault, one is found, and none comes later than that
 judged_row : (seen : Seen) (card : Numbered) (fault : Fault) → HasCardFault seen card fault → (fault.row ≡ card.0) × IsCaught (judge seen card.0 card.1) card.0 fault.number
@@ -176,48 +176,62 @@ judged_row seen card fault (has.not_project first other is) =
     (ap (λ (f : Fault). f.row) is, subst (IsCaught (judge seen card.0 card.1) card.0) (sym (ap (λ (f : Fault). f.number) is)) (judged_first seen card.0 card.1 first other))
 judged_row seen card fault (has.unknown_kind none is) =
     (ap (λ (f : Fault). f.row) is, subst (IsCaught (judge seen card.0 card.1) card.0) (sym (ap (λ (f : Fault). f.number) is)) (judged_unknown seen card.0 card.1 4 (up_to_4 seen.is_first) none))
-judged_row seen card fault (has.second_card kind named once some is) =
-    (ap (λ (f : Fault). f.row) is, subst (IsCaught (judge seen card.0 card.1) card.0) (sym (ap (λ (f : Fault). f.number) is))
-        (judged_as seen card.0 card.1 kind 5 named
-            (later_one _ _ card.0 5 (bounded_3 seen card.0 card.1 kind 5 (omega arith))
-                (earlier (second seen kind card.0) _ card.0 5
-                    (caught_test _ (record { row = card.0; number = 5; detail = detail.Kind kind }) card.0 5 (and_from _ _ once (above (seen.count kind) some)) refl (omega arith))))))
-judged_row seen card fault (has.wrong_fields kind named part is) =
-    (ap (λ (f : Fault). f.row) is, subst (IsCaught (judge seen card.0 card.1) card.0) (sym (ap (λ (f : Fault). f.number) is))
-        (judged_as seen card.0 card.1 kind 6 named
-            (at_fields seen card.0 card.1 kind 6 (omega arith)
-                (earlier (wrong_fields kind card.0 card.1) _ card.0 6
-                    (caught_test _ (record { row = card.0; number = 6; detail = detail.Fields kind (length card.1) (width_of kind) }) card.0 6 (not_flag (is_whole kind card.1) part) refl (omega arith))))))
-judged_row seen card fault (has.wrong_shape kind slot named whole found is) =
-    (ap (λ (f : Fault). f.row) is, subst (IsCaught (judge seen card.0 card.1) card.0) (sym (ap (λ (f : Fault). f.number) is))
-        (judged_as seen card.0 card.1 kind 7 named
-            (at_fields seen card.0 card.1 kind 7 (omega arith)
-                (later_one _ _ card.0 7 (bounded_6 seen card.0 card.1 kind 7 (omega arith))
-                    (earlier (at_slot card.0 7 (first_misshapen kind card.1)) _ card.0 7 (caught_slot card.0 7 7 (first_misshapen kind card.1) slot found (omega arith)))))))
-judged_row seen card fault (has.over_limit kind slot named whole shapes found is) =
-    (ap (λ (f : Fault). f.row) is, subst (IsCaught (judge seen card.0 card.1) card.0) (sym (ap (λ (f : Fault). f.number) is))
-        (judged_as seen card.0 card.1 kind 8 named
-            (at_fields seen card.0 card.1 kind 8 (omega arith)
-                (later_one _ _ card.0 8 (bounded_6 seen card.0 card.1 kind 8 (omega arith))
-                    (later_one _ _ card.0 8 (bounded_slot card.0 7 8 (first_misshapen kind card.1) (omega arith)) (caught_slot card.0 8 8 (first_over_limit kind card.1) slot found (omega arith)))))))
-judged_row seen card fault (has.repeated_code kind code named whole shapes own among is) =
-    (ap (λ (f : Fault). f.row) is, subst (IsCaught (judge seen card.0 card.1) card.0) (sym (ap (λ (f : Fault). f.number) is))
-        (judged_as seen card.0 card.1 kind 9 named
-            (at_place seen card.0 card.1 kind 9 (omega arith)
-                (earlier _ _ card.0 9 (caught_9 seen card.0 card.1 kind (code_of (field_at card.1 1)) code own among)))))
-judged_row seen card fault (has.one_too_many kind limit named few full is) =
-    (ap (λ (f : Fault). f.row) is, subst (IsCaught (judge seen card.0 card.1) card.0) (sym (ap (λ (f : Fault). f.number) is))
-        (judged_as seen card.0 card.1 kind 10 named
-            (at_place seen card.0 card.1 kind 10 (omega arith)
-                (later_one _ _ card.0 10 (bounded_9 seen card.0 card.1 kind 10 (code_of (field_at card.1 1)) (omega arith))
-                    (earlier _ _ card.0 10 (caught_10 seen card.0 card.1 kind (limit_of kind) limit few full))))))
-judged_row seen card fault (has.behind_end kind named ended is) =
-    (ap (λ (f : Fault). f.row) is, subst (IsCaught (judge seen card.0 card.1) card.0) (sym (ap (λ (f : Fault). f.number) is))
-        (judged_as seen card.0 card.1 kind 11 named
-            (at_place seen card.0 card.1 kind 11 (omega arith)
-                (later_one _ _ card.0 11 (bounded_9 seen card.0 card.1 kind 11 (code_of (field_at card.1 1)) (omega arith))
-                    (later_one _ _ card.0 11 (bounded_10 seen card.0 card.1 kind 11 (limit_of kind) (omega arith))
-                        (caught_test _ (plain_fault card.0 11) card.0 11 (above (seen.count End) ended) refl (omega arith)))))))
+judged_row seen card fault (has.second_card kind named once some is) = (
+  ap (λ (f : Fault). f.row) is,
+  subst (IsCaught (judge seen card.0 card.1) card.0) (sym (ap (λ (f : Fault). f.number) is))
+      (judged_as seen card.0 card.1 kind 5 named
+      (later_one _ _ card.0 5 (bounded_3 seen card.0 card.1 kind 5 (omega arith))
+      (earlier (second seen kind card.0) _ card.0 5
+      (caught_test _ (record { row = card.0; number = 5; detail = detail.Kind kind }) card.0 5 (and_from _ _ once (above (seen.count kind) some)) refl (omega arith))))),
+)
+judged_row seen card fault (has.wrong_fields kind named part is) = (
+  ap (λ (f : Fault). f.row) is,
+  subst (IsCaught (judge seen card.0 card.1) card.0) (sym (ap (λ (f : Fault). f.number) is))
+      (judged_as seen card.0 card.1 kind 6 named
+      (at_fields seen card.0 card.1 kind 6 (omega arith)
+      (earlier (wrong_fields kind card.0 card.1) _ card.0 6
+      (caught_test _ (record { row = card.0; number = 6; detail = detail.Fields kind (length card.1) (width_of kind) }) card.0 6 (not_flag (is_whole kind card.1) part) refl (omega arith))))),
+)
+judged_row seen card fault (has.wrong_shape kind slot named whole found is) = (
+  ap (λ (f : Fault). f.row) is,
+  subst (IsCaught (judge seen card.0 card.1) card.0) (sym (ap (λ (f : Fault). f.number) is))
+      (judged_as seen card.0 card.1 kind 7 named
+      (at_fields seen card.0 card.1 kind 7 (omega arith)
+      (later_one _ _ card.0 7 (bounded_6 seen card.0 card.1 kind 7 (omega arith))
+      (earlier (at_slot card.0 7 (first_misshapen kind card.1)) _ card.0 7 (caught_slot card.0 7 7 (first_misshapen kind card.1) slot found (omega arith)))))),
+)
+judged_row seen card fault (has.over_limit kind slot named whole shapes found is) = (
+  ap (λ (f : Fault). f.row) is,
+  subst (IsCaught (judge seen card.0 card.1) card.0) (sym (ap (λ (f : Fault). f.number) is))
+      (judged_as seen card.0 card.1 kind 8 named
+      (at_fields seen card.0 card.1 kind 8 (omega arith)
+      (later_one _ _ card.0 8 (bounded_6 seen card.0 card.1 kind 8 (omega arith))
+      (later_one _ _ card.0 8 (bounded_slot card.0 7 8 (first_misshapen kind card.1) (omega arith)) (caught_slot card.0 8 8 (first_over_limit kind card.1) slot found (omega arith)))))),
+)
+judged_row seen card fault (has.repeated_code kind code named whole shapes own among is) = (
+  ap (λ (f : Fault). f.row) is,
+  subst (IsCaught (judge seen card.0 card.1) card.0) (sym (ap (λ (f : Fault). f.number) is))
+      (judged_as seen card.0 card.1 kind 9 named
+      (at_place seen card.0 card.1 kind 9 (omega arith)
+      (earlier _ _ card.0 9 (caught_9 seen card.0 card.1 kind (code_of (field_at card.1 1)) code own among)))),
+)
+judged_row seen card fault (has.one_too_many kind limit named few full is) = (
+  ap (λ (f : Fault). f.row) is,
+  subst (IsCaught (judge seen card.0 card.1) card.0) (sym (ap (λ (f : Fault). f.number) is))
+      (judged_as seen card.0 card.1 kind 10 named
+      (at_place seen card.0 card.1 kind 10 (omega arith)
+      (later_one _ _ card.0 10 (bounded_9 seen card.0 card.1 kind 10 (code_of (field_at card.1 1)) (omega arith))
+      (earlier _ _ card.0 10 (caught_10 seen card.0 card.1 kind (limit_of kind) limit few full))))),
+)
+judged_row seen card fault (has.behind_end kind named ended is) = (
+  ap (λ (f : Fault). f.row) is,
+  subst (IsCaught (judge seen card.0 card.1) card.0) (sym (ap (λ (f : Fault). f.number) is))
+      (judged_as seen card.0 card.1 kind 11 named
+      (at_place seen card.0 card.1 kind 11 (omega arith)
+      (later_one _ _ card.0 11 (bounded_9 seen card.0 card.1 kind 11 (code_of (field_at card.1 1)) (omega arith))
+      (later_one _ _ card.0 11 (bounded_10 seen card.0 card.1 kind 11 (limit_of kind) (omega arith))
+      (caught_test _ (plain_fault card.0 11) card.0 11 (above (seen.count End) ended) refl (omega arith)))))),
+)
 
 -- a fault of a card is of its record
 pub row_of-card : (seen : Seen) (card : Numbered) (fault : Fault) → HasCardFault seen card fault → fault.row ≡ card.0
@@ -279,50 +293,50 @@ not_not false h = sym h
 module _ (seen : Seen) (row : ℕ) (fields : List (List ℕ)) (kind : ACardKind) (named : kind_of (field_at fields 0) ≡ Some kind) where
   in_fields : (fault : Fault) → fault_of_fields kind row fields ≡ Some fault → HasCardFault seen (row, fields) fault
   in_fields fault h =
-      elim (found_in (wrong_fields kind row fields) _ fault h)
-        [ inl here ↦ let test = tested (not (is_whole kind fields)) _ fault here in has.wrong_fields kind named (flag (is_whole kind fields) test.0) test.1
+      elim (found_in (wrong_fields kind row fields) _ fault h) [
+        | inl here ↦ let test = tested (not (is_whole kind fields)) _ fault here in has.wrong_fields kind named (flag (is_whole kind fields) test.0) test.1
         | inr on ↦
             let whole = not_not (is_whole kind fields) (not_so _ _ on.0) in
-            elim (found_in (at_slot row 7 (first_misshapen kind fields)) _ fault on.1)
-              [ inl here ↦ let slot = at_some_slot row 7 (first_misshapen kind fields) fault here in has.wrong_shape kind slot.0 named whole slot.1.0 slot.1.1
+            elim (found_in (at_slot row 7 (first_misshapen kind fields)) _ fault on.1) [
+              | inl here ↦ let slot = at_some_slot row 7 (first_misshapen kind fields) fault here in has.wrong_shape kind slot.0 named whole slot.1.0 slot.1.1
               | inr last ↦
                   let slot = at_some_slot row 8 (first_over_limit kind fields) fault last.1 in
                   has.over_limit kind slot.0 named whole (no_slot row 7 (first_misshapen kind fields) last.0) slot.1.0 slot.1.1
-              ]
-        ]
+            ]
+      ]
 
   in_place : (fault : Fault) → fault_of_fields kind row fields ≡ None → fault_of_place seen kind row fields ≡ Some fault → HasCardFault seen (row, fields) fault
   in_place fault none h =
       let own = neither (wrong_fields kind row fields) _ none in
       let shapes = neither (at_slot row 7 (first_misshapen kind fields)) _ own.1 in
-      elim (found_in (repeated seen kind row (code_of (field_at fields 1))) _ fault h)
-        [ inl here ↦
+      elim (found_in (repeated seen kind row (code_of (field_at fields 1))) _ fault h) [
+        | inl here ↦
             let code = some_code seen kind row (code_of (field_at fields 1)) fault here in
             has.repeated_code kind code.0 named (not_not (is_whole kind fields) (not_so _ _ own.0)) (no_slot row 7 (first_misshapen kind fields) shapes.0) code.1.0 code.1.1.0 code.1.1.1
-        | inr on ↦ elim (found_in (one_too_many seen kind row (limit_of kind)) _ fault on.1)
-            [ inl here ↦ let limit = some_limit seen kind row (limit_of kind) fault here in has.one_too_many kind limit.0 named limit.1.0 limit.1.1.0 limit.1.1.1
-            | inr last ↦ let test = tested (nat_lt 0 (seen.count End)) _ fault last.1 in has.behind_end kind named (is_above (seen.count End) test.0) test.1
-            ]
+        | inr on ↦ elim (found_in (one_too_many seen kind row (limit_of kind)) _ fault on.1) [
+          | inl here ↦ let limit = some_limit seen kind row (limit_of kind) fault here in has.one_too_many kind limit.0 named limit.1.0 limit.1.1.0 limit.1.1.1
+          | inr last ↦ let test = tested (nat_lt 0 (seen.count End)) _ fault last.1 in has.behind_end kind named (is_above (seen.count End) test.0) test.1
         ]
+      ]
 
   in_kind : (fault : Fault) → fault_of_kind seen kind row fields ≡ Some fault → HasCardFault seen (row, fields) fault
   in_kind fault h =
-      elim (found_in (not_project seen kind row) _ fault h)
-        [ inl here ↦
+      elim (found_in (not_project seen kind row) _ fault h) [
+        | inl here ↦
             let test = tested (seen.is_first && not (is_project kind)) _ fault here in
             let both = and_parts _ _ test.0 in
             has.not_project both.0 (λ project. project_only kind (flag (is_project kind) both.1) (Some-injective kind Project (sym named ∙ project))) test.1
-        | inr on ↦ elim (found_in (second seen kind row) _ fault on.1)
-            [ inl here ↦
-                let test = tested (stands_once kind && nat_lt 0 (seen.count kind)) _ fault here in
-                let both = and_parts _ _ test.0 in
-                has.second_card kind named both.0 (is_above (seen.count kind) both.1) test.1
-            | inr later ↦ elim (found_in (fault_of_fields kind row fields) _ fault later.1)
-                [ inl here ↦ in_fields fault here
-                | inr last ↦ in_place fault last.0 last.1
-                ]
-            ]
+        | inr on ↦ elim (found_in (second seen kind row) _ fault on.1) [
+          | inl here ↦
+              let test = tested (stands_once kind && nat_lt 0 (seen.count kind)) _ fault here in
+              let both = and_parts _ _ test.0 in
+              has.second_card kind named both.0 (is_above (seen.count kind) both.1) test.1
+          | inr later ↦ elim (found_in (fault_of_fields kind row fields) _ fault later.1) [
+            | inl here ↦ in_fields fault here
+            | inr last ↦ in_place fault last.0 last.1
+          ]
         ]
+      ]
 
 unless-Err : (kind : ACardKind) (found : Option Fault) (fault : Fault) → unless kind found ≡ Err fault → found ≡ Some fault
 unless-Err kind None fault h = absurd (let h' = h in cc)
@@ -346,6 +360,7 @@ found_of-card seen row fields fault h = by_kind (kind_of (field_at fields 0)) re
     unknown : (first : Bool) → seen.is_first ≡ first → kind_of (field_at fields 0) ≡ None → fault ≡ plain_fault row (if seen.is_first then 3 else 4) → HasCardFault seen (row, fields) fault
     unknown true first none is = has.not_project first (λ project. no_kind Project (sym none ∙ project)) (is ∙ first_unknown seen.is_first row first)
     unknown false first none is = has.unknown_kind none (is ∙ later_unknown seen.is_first row first)
+
     by_kind : (found : Option ACardKind) → kind_of (field_at fields 0) ≡ found → judge_of seen row fields found ≡ Err fault → HasCardFault seen (row, fields) fault
     by_kind None is h = unknown seen.is_first refl is (sym (Err-injective _ fault h))
     by_kind (Some kind) is h = in_kind seen row fields kind is fault (unless-Err kind (fault_of_kind seen kind row fields) fault h)

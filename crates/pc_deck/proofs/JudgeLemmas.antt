@@ -53,17 +53,17 @@ faultless_kind seen row fields kind named none =
     let own_1 = neither (at_slot row 7 (first_misshapen kind fields)) _ own.1 in
     let place = neither (repeated seen kind row (code_of (field_at fields 1))) _ all_2.1 in
     let place_1 = neither (one_too_many seen kind row (limit_of kind)) _ place.1 in
-    record
-      { named = named
-      ; placed = not_so _ _ all.0
-      ; once = not_so _ _ all_1.0
-      ; whole = not_not _ (not_so _ _ own.0)
-      ; shapes = no_slot row 7 _ own_1.0
-      ; limits = no_slot row 8 _ own_1.1
-      ; differs = place.0
-      ; room = place_1.0
-      ; before_end = not_so _ _ place_1.1
-      }
+    record {
+      named = named;
+      placed = not_so _ _ all.0;
+      once = not_so _ _ all_1.0;
+      whole = not_not _ (not_so _ _ own.0);
+      shapes = no_slot row 7 _ own_1.0;
+      limits = no_slot row 8 _ own_1.1;
+      differs = place.0;
+      room = place_1.0;
+      before_end = not_so _ _ place_1.1;
+    }
 
 unless-Ok : (kind other : Kind) (fault : Option Fault) → unless kind fault ≡ Ok other → (kind ≡ other) × (fault ≡ None)
 unless-Ok kind other None h = (Ok-injective kind other h, refl)

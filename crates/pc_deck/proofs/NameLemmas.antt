@@ -28,8 +28,8 @@ pub IsNamedOnce-push : (codes : List (List ℕ)) (code : List ℕ) → IsNamedOn
 IsNamedOnce-push codes code once new = λ j k before within same.
     let longer : length (codes ++ code ∷ []) ≡ length codes + 1 = length-append codes (code ∷ []) in
     elim (inner_or_last k (length codes) (omega arith)) [
-      inl inner ↦ once j k before inner (sym (get_or_append_left codes (code ∷ []) [] j (omega arith)) ∙ same ∙ get_or_append_left codes (code ∷ []) [] k inner)
-    | inr last ↦
-        let at_end : get_or (codes ++ code ∷ []) k [] ≡ code = rw last (get_or-append_seam codes code [] []) in
-        absent codes code j new (omega arith) (sym (get_or_append_left codes (code ∷ []) [] j (omega arith)) ∙ same ∙ at_end)
+      | inl inner ↦ once j k before inner (sym (get_or_append_left codes (code ∷ []) [] j (omega arith)) ∙ same ∙ get_or_append_left codes (code ∷ []) [] k inner)
+      | inr last ↦
+          let at_end : get_or (codes ++ code ∷ []) k [] ≡ code = rw last (get_or-append_seam codes code [] []) in
+          absent codes code j new (omega arith) (sym (get_or_append_left codes (code ∷ []) [] j (omega arith)) ∙ same ∙ at_end)
     ]

@@ -52,22 +52,22 @@ from_row before n end (card ∷ cards) fault rising (inr later) =
 -- faults that no card has change no verdict
 widened : (read : Result Deck ADeckFault) (Has More : ADeckFault → Type 0) → ((fault : ADeckFault) → More fault → ⊥) → IsVerdict read Has → IsVerdict read (λ fault. More fault ⊎ Has fault)
 widened (Ok deck) Has More never h = λ fault has. elim has [ inl more ↦ never fault more | inr is ↦ h fault is ]
-widened (Err found) Has More never h = record
-    { holds = inr h.holds
-    ; least = λ fault has. elim has [ inl more ↦ absurd (never fault more) | inr is ↦ h.least fault is ]
-    }
+widened (Err found) Has More never h = record {
+  holds = inr h.holds;
+  least = λ fault has. elim has [ inl more ↦ absurd (never fault more) | inr is ↦ h.least fault is ];
+}
 
 no_cards_before : (before : List Numbered) → are_none before ≡ true → before ≡ []
 no_cards_before [] h = refl
 no_cards_before (card ∷ cards) h = absurd (let h' = h in cc)
 
 only_one : (Has : ADeckFault → Type 0) (found : ADeckFault) → Has found → ((fault : ADeckFault) → Has fault → fault ≡ found) → IsFirst Has found
-only_one Has found holds same = record
-    { holds = holds
-    ; least = λ fault has.
-        let is = same fault has in
-        inr (sym (ap (λ (f : ADeckFault). f.row) is), subst (λ (n : ℕ). found.number ≤ n) (sym (ap (λ (f : ADeckFault). f.number) is)) (omega arith))
-    }
+only_one Has found holds same = record {
+  holds = holds;
+  least = λ fault has.
+      let is = same fault has in
+      inr (sym (ap (λ (f : ADeckFault). f.row) is), subst (λ (n : ℕ). found.number ≤ n) (sym (ap (λ (f : ADeckFault). f.number) is)) (omega arith));
+}
 
 -- at the end of the cards
 at_end : (draft : Draft) (before : List Numbered) (end : ℕ) → seen_among before ≡ seen_in draft → IsVerdict (closed draft end) (HasFaultFrom before end [])
@@ -75,11 +75,13 @@ at_end draft before end same = by_project draft.project refl
   where
     missing : (seen_among before).count End ≡ 0 → IsFirst (HasFaultFrom before end []) (no_end end)
     missing none = only_one (HasFaultFrom before end []) (no_end end) (none, refl) (λ fault has. has.1)
+
     by_end : (project : ProjectCard) (ended : Bool) → draft.has_ended ≡ ended → IsVerdict (if ended then Ok (deck_with draft project) else Err (no_end end)) (HasFaultFrom before end [])
     by_end project true is = λ fault has.
         let one : (seen_among before).count End ≡ 1 = ap (λ (s : Seen). s.count End) same ∙ ap (λ (b : Bool). if b then 1 else 0) is in
         omega (arith, has.0, one)
     by_end project false is = missing (ap (λ (s : Seen). s.count End) same ∙ ap (λ (b : Bool). if b then 1 else 0) is)
+
     by_project : (project : Option ProjectCard) → draft.project ≡ project → IsVerdict (closed_with draft end project) (HasFaultFrom before end [])
     by_project None is =
         let nothing = no_cards_before before (ap (λ (s : Seen). s.is_first) same ∙ ap is_none is) in
@@ -91,25 +93,25 @@ verdict : (cards : List Numbered) (draft : Draft) (before : List Numbered) (n en
 verdict [] draft before n end same rising = at_end draft before end same
 verdict (card ∷ cards) draft before n end same rising =
     by_judgement (judge (seen_in draft) card.0 card.1) refl
-        (λ kind judged. verdict cards (with_card draft kind card.0 card.1) (before ++ card ∷ []) (card.0 + 1) end (seen-more before draft kind card.0 card.1 same judged) rising.1)
+    (λ kind judged. verdict cards (with_card draft kind card.0 card.1) (before ++ card ∷ []) (card.0 + 1) end (seen-more before draft kind card.0 card.1 same judged) rising.1)
   where
     by_judgement : (judged : Result Kind ADeckFault) → judge (seen_in draft) card.0 card.1 ≡ judged
         → ((kind : Kind) → judge (seen_in draft) card.0 card.1 ≡ Ok kind → IsVerdict (read_from (with_card draft kind card.0 card.1) end cards) (HasFaultFrom (before ++ card ∷ []) end cards))
         → IsVerdict (and_then judged (λ kind. read_from (with_card draft kind card.0 card.1) end cards)) (HasFaultFrom before end (card ∷ cards))
     by_judgement (Ok kind) is more =
         widened (read_from (with_card draft kind card.0 card.1) end cards) (HasFaultFrom (before ++ card ∷ []) end cards) (HasCardFault (seen_among before) card)
-            (λ fault has. not_faultless (seen_in draft) card fault kind is (subst (λ (s : Seen). HasCardFault s card fault) same has))
-            (more kind is)
+        (λ fault has. not_faultless (seen_in draft) card fault kind is (subst (λ (s : Seen). HasCardFault s card fault) same has))
+        (more kind is)
     by_judgement (Err found) is more =
         let here = found_of-card (seen_in draft) card.0 card.1 found is in
         let row = row_of-card (seen_in draft) card found here in
-        record
-          { holds = inl (subst (λ (s : Seen). HasCardFault s card found) (sym same) here)
-          ; least = λ fault has. elim has
-              [ inl own ↦ inr (least_of-card (seen_in draft) card found fault is (subst (λ (s : Seen). HasCardFault s card fault) same own))
-              | inr later ↦ inl (let from = from_row (before ++ card ∷ []) (card.0 + 1) end cards fault rising.1 later in omega (arith, row, from))
-              ]
-          }
+        record {
+          holds = inl (subst (λ (s : Seen). HasCardFault s card found) (sym same) here);
+          least = λ fault has. elim has [
+            | inl own ↦ inr (least_of-card (seen_in draft) card found fault is (subst (λ (s : Seen). HasCardFault s card fault) same own))
+            | inr later ↦ inl (let from = from_row (before ++ card ∷ []) (card.0 + 1) end cards fault rising.1 later in omega (arith, row, from))
+          ];
+        }
 
 -- the reading of a deck's cards is a verdict on their faults
 pub cards_of-verdict : (bytes : List ℕ) → IsVerdict (cards_of bytes) (HasFaultFrom [] (length (deck_records bytes) + 1) (deck_cards bytes))

@@ -2,7 +2,7 @@
 use Rattle.std.proofs.Common.{◌≡◌, ℕ, Bool, true, false, ◌&&◌, nat_lt, List, [], ◌∷◌, ◌++◌, map, Option, Some, None, is_some, if◌then◌else◌, Result, Ok, Err, refl, sym, ap, ◌∙◌, subst, append-nil, append_assoc}
 use Rattle.std.specs.Prelude.{IfOk}
 use Rattle.std.proofs.lemmas.List.{map-append}
-use Rattle.pc_records.specs.Deck.{deck_records, field_at}
+use Rattle.pc_records.specs.Deck.{field_at}
 use Rattle.pc_deck.specs.Kinds.{word_of}
 use Rattle.pc_deck.specs.Cards.{Numbered, deck_cards}
 use Rattle.pc_deck.specs.Deck.{Deck}
@@ -12,7 +12,7 @@ use Rattle.pc_deck.specs.Spelled.{project_of, as_of_of, item_of, event_of, act_o
 use Rattle.pc_deck.specs.Says.{spelled, as_list, Says}
 use Rattle.pc_deck.specs.declared.cards.ProjectCard.{ProjectCard}
 use Rattle.pc_deck.specs.declared.kind.Kind.{Kind}
-use Rattle.pc_deck.specs.declared.kind.Kind.TheVariants.{Project, AsOf, Wbs, Event, Act, Acct, Charge, ToGo, Status, End}
+use Rattle.pc_deck.specs.declared.kind.Kind.TheVariants.{Project, AsOf, Wbs, Event, Act, Acct, Charge, ToGo, Status}
 use Rattle.pc_deck.specs.declared.fault.Fault.{Fault}
 use Rattle.pc_deck.specs.declared.fault.DeckError.{DeckError}
 use Rattle.pc_deck.specs.declared.draft.Draft.{Draft}
@@ -100,17 +100,17 @@ says-more : (before : List Numbered) (draft : Draft) (kind : Kind) (card : Numbe
 says-more before draft kind card old judged =
     let known = faultless (seen_in draft) card.0 card.1 kind judged in
     let word = word_of-kind (field_at card.1 0) kind known.named in
-    record
-      { project = grown project_of Project kind before card _ _ word old.project (project-more draft card.0 card.1 kind known)
-      ; as_of = grown as_of_of AsOf kind before card _ _ word old.as_of (as_of-more draft card.0 card.1 kind known)
-      ; items = grown item_of Wbs kind before card _ _ word old.items (items-more draft card.0 card.1 kind)
-      ; events = grown event_of Event kind before card _ _ word old.events (events-more draft card.0 card.1 kind)
-      ; acts = grown act_of Act kind before card _ _ word old.acts (acts-more draft card.0 card.1 kind)
-      ; accounts = grown account_of Acct kind before card _ _ word old.accounts (accounts-more draft card.0 card.1 kind)
-      ; charges = grown money_of Charge kind before card _ _ word old.charges (charges-more draft card.0 card.1 kind)
-      ; togos = grown money_of ToGo kind before card _ _ word old.togos (togos-more draft card.0 card.1 kind)
-      ; statuses = grown status_of Status kind before card _ _ word old.statuses (statuses-more draft card.0 card.1 kind)
-      }
+    record {
+      project = grown project_of Project kind before card _ _ word old.project (project-more draft card.0 card.1 kind known);
+      as_of = grown as_of_of AsOf kind before card _ _ word old.as_of (as_of-more draft card.0 card.1 kind known);
+      items = grown item_of Wbs kind before card _ _ word old.items (items-more draft card.0 card.1 kind);
+      events = grown event_of Event kind before card _ _ word old.events (events-more draft card.0 card.1 kind);
+      acts = grown act_of Act kind before card _ _ word old.acts (acts-more draft card.0 card.1 kind);
+      accounts = grown account_of Acct kind before card _ _ word old.accounts (accounts-more draft card.0 card.1 kind);
+      charges = grown money_of Charge kind before card _ _ word old.charges (charges-more draft card.0 card.1 kind);
+      togos = grown money_of ToGo kind before card _ _ word old.togos (togos-more draft card.0 card.1 kind);
+      statuses = grown status_of Status kind before card _ _ word old.statuses (statuses-more draft card.0 card.1 kind);
+    }
 
 says-none : Says_so_far [] no_cards
 says-none = record { project = refl; as_of = refl; items = refl; events = refl; acts = refl; accounts = refl; charges = refl; togos = refl; statuses = refl }
@@ -123,20 +123,22 @@ says-closed : (cards : List Numbered) (draft : Draft) (end : ℕ) (deck : Deck) 
 says-closed cards draft end deck says h = by_project draft.project refl h
   where
     whole : (project : ProjectCard) → draft.project ≡ Some project → Says cards (deck_with draft project)
-    whole project is = record
-        { project = says.project ∙ ap as_list is
-        ; as_of = says.as_of
-        ; items = says.items
-        ; events = says.events
-        ; acts = says.acts
-        ; accounts = says.accounts
-        ; charges = says.charges
-        ; togos = says.togos
-        ; statuses = says.statuses
-        }
+    whole project is = record {
+      project = says.project ∙ ap as_list is;
+      as_of = says.as_of;
+      items = says.items;
+      events = says.events;
+      acts = says.acts;
+      accounts = says.accounts;
+      charges = says.charges;
+      togos = says.togos;
+      statuses = says.statuses;
+    }
+
     by_end : (project : ProjectCard) (ended : Bool) → draft.project ≡ Some project → (if ended then Ok (deck_with draft project) else Err (no_end end)) ≡ Ok deck → Says cards deck
     by_end project true is h = subst (Says cards) (Ok-injective (deck_with draft project) deck h) (whole project is)
     by_end project false is h = absurd (let h' = h in cc)
+
     by_project : (project : Option ProjectCard) → draft.project ≡ project → closed_with draft end project ≡ Ok deck → Says cards deck
     by_project None is h = absurd (let h' = h in cc)
     by_project (Some project) is h = by_end project draft.has_ended is h
@@ -145,9 +147,9 @@ says-read : (cards : List Numbered) (before : List Numbered) (draft : Draft) (en
 says-read [] before draft end deck says h = subst (λ (all : List Numbered). Says all deck) (unchanged before) (says-closed before draft end deck says h)
 says-read (card ∷ cards) before draft end deck says h =
     by_judgement (judge (seen_in draft) card.0 card.1) refl
-        (λ kind judged more. subst (λ (all : List Numbered). Says all deck) (append_assoc before (card ∷ []) cards)
-            (says-read cards (before ++ card ∷ []) (with_card draft kind card.0 card.1) end deck (says-more before draft kind card says judged) more))
-        h
+    (λ kind judged more. subst (λ (all : List Numbered). Says all deck) (append_assoc before (card ∷ []) cards)
+    (says-read cards (before ++ card ∷ []) (with_card draft kind card.0 card.1) end deck (says-more before draft kind card says judged) more))
+    h
   where
     by_judgement : (judged : Result Kind Fault) → judge (seen_in draft) card.0 card.1 ≡ judged
         → ((kind : Kind) → judge (seen_in draft) card.0 card.1 ≡ Ok kind → read_from (with_card draft kind card.0 card.1) end cards ≡ Ok deck → Says (before ++ card ∷ cards) deck)

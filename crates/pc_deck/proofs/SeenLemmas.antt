@@ -163,6 +163,7 @@ seen-none = λ i. record { is_first = true; count = λ kind. none kind i; codes 
     none AsOf = refl
     none End = refl
     none other = refl
+
     no_codes : (kind : Kind) → own_codes kind [] ≡ codes_in no_cards kind
     no_codes Wbs = refl
     no_codes Event = refl
@@ -177,14 +178,18 @@ seen-more before draft kind row fields same judged =
   where
     known : IsFaultless (seen_in draft) row fields kind
     known = faultless (seen_in draft) row fields kind judged
+
     word : field_at fields 0 ≡ word_of kind
     word = word_of-kind (field_at fields 0) kind known.named
+
     first : are_none (before ++ (row, fields) ∷ []) ≡ is_none (with_card draft kind row fields).project
     first = some_more before (row, fields) ∙ sym (still_first draft kind row fields known)
+
     count : (other : Kind) → length (of_kind other (before ++ (row, fields) ∷ [])) ≡ count_in (with_card draft kind row fields) other
     count other =
         count-more other kind before (row, fields) word
         ∙ (ap (λ (s : Seen). s.count other + (if same_word kind other then 1 else 0)) same ∙ sym (count_in-more draft kind other row fields known))
+
     codes : (other : Kind) → own_codes other (before ++ (row, fields) ∷ []) ≡ codes_in (with_card draft kind row fields) other
     codes other =
         codes-more other kind before (row, fields) word

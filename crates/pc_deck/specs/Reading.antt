@@ -14,18 +14,18 @@ use Rattle.pc_deck.specs.declared.draft.Draft.{Draft}
 
 -- nothing is read yet
 abbrev pub no_cards : Draft
-no_cards = record
-    { project = None
-    ; as_of = None
-    ; items = []
-    ; events = []
-    ; acts = []
-    ; accounts = []
-    ; charges = []
-    ; togos = []
-    ; statuses = []
-    ; has_ended = false
-    }
+no_cards = record {
+  project = None;
+  as_of = None;
+  items = [];
+  events = [];
+  acts = [];
+  accounts = [];
+  charges = [];
+  togos = [];
+  statuses = [];
+  has_ended = false;
+}
 
 -- the cards so far and one more, which has no fault
 abbrev pub with_card : Draft → Kind → ℕ → List (List ℕ) → Draft
@@ -67,17 +67,17 @@ seen_in draft = record { is_first = is_none draft.project; count = count_in draf
 
 -- the cards so far with their PROJECT card, as a deck
 abbrev pub deck_with : Draft → ProjectCard → Deck
-deck_with draft project = record
-    { project = project
-    ; as_of = draft.as_of
-    ; items = draft.items
-    ; events = draft.events
-    ; acts = draft.acts
-    ; accounts = draft.accounts
-    ; charges = draft.charges
-    ; togos = draft.togos
-    ; statuses = draft.statuses
-    }
+deck_with draft project = record {
+  project = project;
+  as_of = draft.as_of;
+  items = draft.items;
+  events = draft.events;
+  acts = draft.acts;
+  accounts = draft.accounts;
+  charges = draft.charges;
+  togos = draft.togos;
+  statuses = draft.statuses;
+}
 
 -- F12: there is no END card; the number is that behind the last record
 abbrev pub no_end : ℕ → Fault

@@ -33,16 +33,16 @@ is_finish field = bytes_eq field (codes "F")
 
 -- PROJECT: code, start, end, date, days of a unit, directed end, title
 abbrev pub project_of : ℕ → List (List ℕ) → ProjectCard
-project_of row fields = record
-    { row = row
-    ; code = field_at fields 1
-    ; start = field_at fields 2
-    ; end = field_at fields 3
-    ; start_day = day_in (field_at fields 4)
-    ; unit_days = number_in (field_at fields 5)
-    ; directed = number_of (field_at fields 6)
-    ; title = field_at fields 7
-    }
+project_of row fields = record {
+  row = row;
+  code = field_at fields 1;
+  start = field_at fields 2;
+  end = field_at fields 3;
+  start_day = day_in (field_at fields 4);
+  unit_days = number_in (field_at fields 5);
+  directed = number_of (field_at fields 6);
+  title = field_at fields 7;
+}
 
 -- ASOF: date
 abbrev pub as_of_of : ℕ → List (List ℕ) → AsOfCard
@@ -58,46 +58,46 @@ event_of row fields = record { row = row; code = field_at fields 1; title = fiel
 
 -- ACT: code, from, to, item, three estimates, two durations, cost, slope, title
 abbrev pub act_of : ℕ → List (List ℕ) → ActCard
-act_of row fields = record
-    { row = row
-    ; code = field_at fields 1
-    ; from = field_at fields 2
-    ; to = field_at fields 3
-    ; item = field_at fields 4
-    ; opt = number_in (field_at fields 5)
-    ; likely = number_in (field_at fields 6)
-    ; pess = number_in (field_at fields 7)
-    ; normal = number_in (field_at fields 8)
-    ; crash = number_in (field_at fields 9)
-    ; cost = number_in (field_at fields 10)
-    ; slope = number_in (field_at fields 11)
-    ; title = field_at fields 12
-    }
+act_of row fields = record {
+  row = row;
+  code = field_at fields 1;
+  from = field_at fields 2;
+  to = field_at fields 3;
+  item = field_at fields 4;
+  opt = number_in (field_at fields 5);
+  likely = number_in (field_at fields 6);
+  pess = number_in (field_at fields 7);
+  normal = number_in (field_at fields 8);
+  crash = number_in (field_at fields 9);
+  cost = number_in (field_at fields 10);
+  slope = number_in (field_at fields 11);
+  title = field_at fields 12;
+}
 
 -- ACCT: code, item, budget, title
 abbrev pub account_of : ℕ → List (List ℕ) → AcctCard
-account_of row fields = record
-    { row = row
-    ; code = field_at fields 1
-    ; item = field_at fields 2
-    ; budget = number_in (field_at fields 3)
-    ; title = field_at fields 4
-    }
+account_of row fields = record {
+  row = row;
+  code = field_at fields 1;
+  item = field_at fields 2;
+  budget = number_in (field_at fields 3);
+  title = field_at fields 4;
+}
 
 -- CHARGE and TOGO: account, date, amount
 abbrev pub money_of : ℕ → List (List ℕ) → MoneyCard
-money_of row fields = record
-    { row = row
-    ; account = field_at fields 1
-    ; day = day_in (field_at fields 2)
-    ; amount = number_in (field_at fields 3)
-    }
+money_of row fields = record {
+  row = row;
+  account = field_at fields 1;
+  day = day_in (field_at fields 2);
+  amount = number_in (field_at fields 3);
+}
 
 -- STATUS: activity, letter, date
 abbrev pub status_of : ℕ → List (List ℕ) → StatusCard
-status_of row fields = record
-    { row = row
-    ; activity = field_at fields 1
-    ; finished = is_finish (field_at fields 2)
-    ; day = day_in (field_at fields 3)
-    }
+status_of row fields = record {
+  row = row;
+  activity = field_at fields 1;
+  finished = is_finish (field_at fields 2);
+  day = day_in (field_at fields 3);
+}

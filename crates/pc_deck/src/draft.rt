@@ -1,7 +1,9 @@
 //! The cards so far, while a deck is read.
 ghost use Rattle.std.specs.Prelude.{◌≡◌, ℕ, Ok, OnOk};
 
-use crate::cards::{AcctCard, ActCard, AsOfCard, Cards, EventCard, ItemCard, MoneyCard, ProjectCard, StatusCard};
+use crate::cards::{
+    AcctCard, ActCard, AsOfCard, Cards, EventCard, ItemCard, MoneyCard, ProjectCard, StatusCard,
+};
 use crate::fault::{Detail, Fault};
 use crate::kind::Kind;
 use crate::named::{Listed, Named};

@@ -32,14 +32,9 @@ pub enum Form {
     Title,
     Date,
     /// A number from `least` to `most`.
-    Number {
-        least: u64,
-        most: u64,
-    },
+    Number { least: u64, most: u64 },
     /// A number of at most `most`, or nothing.
-    NumberOrNone {
-        most: u64,
-    },
+    NumberOrNone { most: u64 },
     /// `S` or `F`.
     Letter,
 }
@@ -51,18 +46,22 @@ const UNIT_DAYS: Form = Form::Number {
     least: 1,
     most: UNIT_DAYS_LIMIT,
 };
+
 const DURATION: Form = Form::Number {
     least: 0,
     most: DURATION_LIMIT,
 };
+
 const MONEY: Form = Form::Number {
     least: 0,
     most: MONEY_LIMIT,
 };
+
 const SLOPE: Form = Form::Number {
     least: 0,
     most: SLOPE_LIMIT,
 };
+
 const DIRECTED: Form = Form::NumberOrNone {
     most: DIRECTED_LIMIT,
 };
@@ -76,9 +75,13 @@ const PROJECT: [Slot; 7] = [
     (7, DIRECTED),
     (8, Form::Title),
 ];
+
 const AS_OF: [Slot; 1] = [(2, Form::Date)];
+
 const WBS: [Slot; 3] = [(2, Form::Code), (3, Form::CodeOrNone), (4, Form::Title)];
+
 const EVENT: [Slot; 2] = [(2, Form::Code), (3, Form::Title)];
+
 const ACT: [Slot; 12] = [
     (2, Form::Code),
     (3, Form::Code),
@@ -93,13 +96,16 @@ const ACT: [Slot; 12] = [
     (12, SLOPE),
     (13, Form::Title),
 ];
+
 const ACCT: [Slot; 4] = [
     (2, Form::Code),
     (3, Form::Code),
     (4, MONEY),
     (5, Form::Title),
 ];
+
 const AMOUNT: [Slot; 3] = [(2, Form::Code), (3, Form::Date), (4, MONEY)];
+
 const STATUS: [Slot; 3] = [(2, Form::Code), (3, Form::Letter), (4, Form::Date)];
 
 /// What the fields of a kind's cards must be, in their order.

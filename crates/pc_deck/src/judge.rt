@@ -79,9 +79,7 @@ fn first_misshapen(kind: Kind, fields: &Row) -> Option<&'static Slot>
 fn first_over_limit(kind: Kind, fields: &Row) -> Option<&'static Slot>
     ensures { option_copied result ≡ first_over_limit kind fields.now }
 {
-    slots_of(kind)
-        .iter()
-        .find(|slot| slot.1.is_over_limit(field_numbered(fields, slot.0)))
+    slots_of(kind).iter().find(|slot| slot.1.is_over_limit(field_numbered(fields, slot.0)))
 }
 
 /// What is wrong with the fields of a card: their number, their shapes, their limits.

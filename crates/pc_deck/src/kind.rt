@@ -2,7 +2,9 @@
 ghost use Rattle.std.specs.Prelude.{◌≡◌, ◌≤◌, length};
 ghost use Rattle.pc_deck.specs.Kinds.{kind_of, word_of, is_project, stands_once, width_of, limit_of};
 
-use crate::cards::{ACCOUNT_LIMIT, ACT_LIMIT, CHARGE_LIMIT, EVENT_LIMIT, ITEM_LIMIT, STATUS_LIMIT, TOGO_LIMIT};
+use crate::cards::{
+    ACCOUNT_LIMIT, ACT_LIMIT, CHARGE_LIMIT, EVENT_LIMIT, ITEM_LIMIT, STATUS_LIMIT, TOGO_LIMIT,
+};
 
 /// What a card is, as its first field says.
 #[derive(Clone, Copy, Debug, PartialEq, Eq)]

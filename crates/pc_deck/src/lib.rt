@@ -19,7 +19,8 @@ mod spelled;
 mod tell;
 
 pub use crate::cards::{
-    ACCOUNT_LIMIT, ACT_LIMIT, AcctCard, ActCard, AsOfCard, CHARGE_LIMIT, Cards, EVENT_LIMIT, EventCard, ITEM_LIMIT, ItemCard, MoneyCard, ProjectCard, STATUS_LIMIT, StatusCard, TOGO_LIMIT,
+    ACCOUNT_LIMIT, ACT_LIMIT, AcctCard, ActCard, AsOfCard, CHARGE_LIMIT, Cards, EVENT_LIMIT,
+    EventCard, ITEM_LIMIT, ItemCard, MoneyCard, ProjectCard, STATUS_LIMIT, StatusCard, TOGO_LIMIT,
 };
 pub use crate::fault::{DeckError, Detail, Fault, NOT_PLAIN, NOT_UTF8, TOO_LONG};
 pub use crate::kind::Kind;

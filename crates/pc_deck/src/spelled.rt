@@ -5,7 +5,9 @@ ghost use Rattle.pc_deck.specs.Spelled.{project_of, as_of_of, item_of, event_of,
 ghost use Rattle.pc_deck.specs.declared.kind.Kind.TheVariants as kind;
 ghost use Rattle.pc_deck.specs.declared.form.Form.TheVariants as form;
 
-use crate::cards::{AcctCard, ActCard, AsOfCard, EventCard, ItemCard, MoneyCard, ProjectCard, StatusCard};
+use crate::cards::{
+    AcctCard, ActCard, AsOfCard, EventCard, ItemCard, MoneyCard, ProjectCard, StatusCard,
+};
 use pc_days::{Day, read_day};
 use pc_records::Row;
 use pc_text::{Code, Title, read_number};

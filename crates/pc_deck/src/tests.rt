@@ -5,7 +5,8 @@ use pc_text::{Code, digits};
 use std::alloc::{AllocError, Global};
 use std::test::Fail;
 
-const DECK: &[u8] = b"PROJECT,E1,S,T,2024-01-01,1,,\"Example, one\"\n,,\nWBS,1,,Whole\nWBS,1.1,1,\"Frame, north\"\nEVENT,S,Start\nEVENT,T,End\nACT,A,S,T,1.1,3,4,5,4,2,10,3,Dig\nACCT,X1,1.1,25,Frame account\nASOF,2024-01-08\nCHARGE,X1,2024-01-05,10\nTOGO,X1,2024-01-06,30\nSTATUS,A,S,2024-01-02\nSTATUS,A,F,2024-01-06\nEND\n,\n";
+const DECK: &[u8] =
+    b"PROJECT,E1,S,T,2024-01-01,1,,\"Example, one\"\n,,\nWBS,1,,Whole\nWBS,1.1,1,\"Frame, north\"\nEVENT,S,Start\nEVENT,T,End\nACT,A,S,T,1.1,3,4,5,4,2,10,3,Dig\nACCT,X1,1.1,25,Frame account\nASOF,2024-01-08\nCHARGE,X1,2024-01-05,10\nTOGO,X1,2024-01-06,30\nSTATUS,A,S,2024-01-02\nSTATUS,A,F,2024-01-06\nEND\n,\n";
 
 #[test]
 fn reads_a_deck(rt: HostRuntime) -> Result<(), Fail> {
@@ -13,7 +14,10 @@ fn reads_a_deck(rt: HostRuntime) -> Result<(), Fail> {
     let project = cards.project();
     assert_eq!(rt; project.row, 1);
     assert_eq!(rt; project.code.bytes(), b"E1".as_slice());
-    assert_eq!(rt; day_text(project.start_day).as_slice(), b"2024-01-01".as_slice());
+    assert_eq!(rt;
+        day_text(project.start_day).as_slice(),
+        b"2024-01-01".as_slice()
+    );
     assert_eq!(rt; project.directed, None);
     assert_eq!(rt; project.title.bytes(), b"Example, one".as_slice());
     let as_of = cards.as_of().ok_or("an ASOF card")?;
@@ -27,13 +31,22 @@ fn reads_a_deck(rt: HostRuntime) -> Result<(), Fail> {
     assert_eq!(rt; (act.row, act.opt, act.likely, act.pess), (7, 3, 4, 5));
     assert_eq!(rt; (act.normal, act.crash, act.cost, act.slope), (4, 2, 10, 3));
     let account = cards.accounts()[0];
-    assert_eq!(rt; (account.row, account.item.bytes(), account.budget), (8, b"1.1".as_slice(), 25));
+    assert_eq!(rt;
+        (account.row, account.item.bytes(), account.budget),
+        (8, b"1.1".as_slice(), 25)
+    );
     let charge = cards.charges()[0];
-    assert_eq!(rt; (charge.account.bytes(), day_text(charge.day), charge.amount), (b"X1".as_slice(), *b"2024-01-05", 10));
+    assert_eq!(rt;
+        (charge.account.bytes(), day_text(charge.day), charge.amount),
+        (b"X1".as_slice(), *b"2024-01-05", 10)
+    );
     let togo = cards.togos()[0];
     assert_eq!(rt; (cards.togos().len(), togo.row, togo.amount), (1, 11, 30));
     let statuses = cards.statuses();
-    assert_eq!(rt; (statuses[0].finished, statuses[1].finished, statuses[1].row), (false, true, 13));
+    assert_eq!(rt;
+        (statuses[0].finished, statuses[1].finished, statuses[1].row),
+        (false, true, 13)
+    );
     Ok(())
 }
 
@@ -64,38 +77,116 @@ const FAULTS: [(&[u8], &[u8]); 46] = [
     (b"P/P/END", b"F5 record 2: second PROJECT\n"),
     (b"P/PROJECT/END", b"F5 record 2: second PROJECT\n"),
     (b"P/ASOF,2024-01-01/ASOF/END", b"F5 record 3: second ASOF\n"),
-    (b"PROJECT,E,S,T,2024-01-01,1,/END", b"F6 record 1: 7 fields, PROJECT has 8\n"),
-    (b"P/EVENT,S,,,x/END", b"F6 record 2: 5 fields, EVENT has 3\n"),
+    (
+        b"PROJECT,E,S,T,2024-01-01,1,/END",
+        b"F6 record 1: 7 fields, PROJECT has 8\n",
+    ),
+    (
+        b"P/EVENT,S,,,x/END",
+        b"F6 record 2: 5 fields, EVENT has 3\n",
+    ),
     (b"P/ACT,A,/END", b"F6 record 2: 3 fields, ACT has 13\n"),
     (b"P/END,x", b"F6 record 2: 2 fields, END has 1\n"),
-    (b"P/STATUS,A,S/END", b"F6 record 2: 3 fields, STATUS has 4\n"),
-    (b"PROJECT,E,S,,2024-1-01,9,,/END", b"F7 record 1: field 4 has a wrong shape\n"),
-    (b"PROJECT,E,S,T,2024-1-01,9,,/END", b"F7 record 1: field 5 has a wrong shape\n"),
-    (b"PROJECT,E,S,T,2023-02-29,1,,/END", b"F7 record 1: field 5 has a wrong shape\n"),
-    (b"PROJECT,E,S,T,2024-01-01,01,,/END", b"F7 record 1: field 6 has a wrong shape\n"),
-    (b"PROJECT,E,S,T,2024-01-01,1,-1,/END", b"F7 record 1: field 7 has a wrong shape\n"),
-    (b"P/EVENT,12345678901234567,/END", b"F7 record 2: field 2 has a wrong shape\n"),
-    (b"P/EVENT,S,\x7F/END", b"F7 record 2: field 3 has a wrong shape\n"),
-    (b"P/WBS,1, ,/END", b"F7 record 2: field 3 has a wrong shape\n"),
-    (b"P/STATUS,A,s,2024-01-01/END", b"F7 record 2: field 3 has a wrong shape\n"),
-    (b"P/CHARGE,A,2024-01-01,/END", b"F7 record 2: field 4 has a wrong shape\n"),
-    (b"P/ACT,A,S,T,1,0,0,0,0,0,9999999999999,x,/END", b"F7 record 2: field 12 has a wrong shape\n"),
-    (b"PROJECT,E,S,T,1899-12-31,0,,/END", b"F8 record 1: field 5 is over its limit\n"),
-    (b"PROJECT,E,S,T,2024-01-01,0,,/END", b"F8 record 1: field 6 is over its limit\n"),
-    (b"PROJECT,E,S,T,2024-01-01,8,,/END", b"F8 record 1: field 6 is over its limit\n"),
-    (b"PROJECT,E,S,T,2024-01-01,7,1000001,/END", b"F8 record 1: field 7 is over its limit\n"),
-    (b"P/ACT,A,S,T,1,0,100001,0,0,0,0,100000001,/END", b"F8 record 2: field 7 is over its limit\n"),
-    (b"P/ACCT,X,1,1000000000001,/END", b"F8 record 2: field 4 is over its limit\n"),
-    (b"P/EVENT,S,123456789 123456789 123456789 123456789 123456789 123456789 123456789 123456789 1/END", b"F8 record 2: field 3 is over its limit\n"),
-    (b"P/EVENT,S,/EVENT,S,,,/END", b"F9 record 3: code S is repeated\n"),
-    (b"P/ACCT,X,1,5,/WBS,X,,/ACCT,X,1,1000000000001,/END", b"F8 record 4: field 4 is over its limit\n"),
-    (b"P/WBS,X,,/ACT,X,S,T,1,0,0,0,0,0,0,0,/WBS,X,X,/END", b"F9 record 4: code X is repeated\n"),
-    (b"P/EVENT,S,/END/EVENT,S,", b"F9 record 4: code S is repeated\n"),
+    (
+        b"P/STATUS,A,S/END",
+        b"F6 record 2: 3 fields, STATUS has 4\n",
+    ),
+    (
+        b"PROJECT,E,S,,2024-1-01,9,,/END",
+        b"F7 record 1: field 4 has a wrong shape\n",
+    ),
+    (
+        b"PROJECT,E,S,T,2024-1-01,9,,/END",
+        b"F7 record 1: field 5 has a wrong shape\n",
+    ),
+    (
+        b"PROJECT,E,S,T,2023-02-29,1,,/END",
+        b"F7 record 1: field 5 has a wrong shape\n",
+    ),
+    (
+        b"PROJECT,E,S,T,2024-01-01,01,,/END",
+        b"F7 record 1: field 6 has a wrong shape\n",
+    ),
+    (
+        b"PROJECT,E,S,T,2024-01-01,1,-1,/END",
+        b"F7 record 1: field 7 has a wrong shape\n",
+    ),
+    (
+        b"P/EVENT,12345678901234567,/END",
+        b"F7 record 2: field 2 has a wrong shape\n",
+    ),
+    (
+        b"P/EVENT,S,\x7F/END",
+        b"F7 record 2: field 3 has a wrong shape\n",
+    ),
+    (
+        b"P/WBS,1, ,/END",
+        b"F7 record 2: field 3 has a wrong shape\n",
+    ),
+    (
+        b"P/STATUS,A,s,2024-01-01/END",
+        b"F7 record 2: field 3 has a wrong shape\n",
+    ),
+    (
+        b"P/CHARGE,A,2024-01-01,/END",
+        b"F7 record 2: field 4 has a wrong shape\n",
+    ),
+    (
+        b"P/ACT,A,S,T,1,0,0,0,0,0,9999999999999,x,/END",
+        b"F7 record 2: field 12 has a wrong shape\n",
+    ),
+    (
+        b"PROJECT,E,S,T,1899-12-31,0,,/END",
+        b"F8 record 1: field 5 is over its limit\n",
+    ),
+    (
+        b"PROJECT,E,S,T,2024-01-01,0,,/END",
+        b"F8 record 1: field 6 is over its limit\n",
+    ),
+    (
+        b"PROJECT,E,S,T,2024-01-01,8,,/END",
+        b"F8 record 1: field 6 is over its limit\n",
+    ),
+    (
+        b"PROJECT,E,S,T,2024-01-01,7,1000001,/END",
+        b"F8 record 1: field 7 is over its limit\n",
+    ),
+    (
+        b"P/ACT,A,S,T,1,0,100001,0,0,0,0,100000001,/END",
+        b"F8 record 2: field 7 is over its limit\n",
+    ),
+    (
+        b"P/ACCT,X,1,1000000000001,/END",
+        b"F8 record 2: field 4 is over its limit\n",
+    ),
+    (
+        b"P/EVENT,S,123456789 123456789 123456789 123456789 123456789 123456789 123456789 123456789 1/END",
+        b"F8 record 2: field 3 is over its limit\n",
+    ),
+    (
+        b"P/EVENT,S,/EVENT,S,,,/END",
+        b"F9 record 3: code S is repeated\n",
+    ),
+    (
+        b"P/ACCT,X,1,5,/WBS,X,,/ACCT,X,1,1000000000001,/END",
+        b"F8 record 4: field 4 is over its limit\n",
+    ),
+    (
+        b"P/WBS,X,,/ACT,X,S,T,1,0,0,0,0,0,0,0,/WBS,X,X,/END",
+        b"F9 record 4: code X is repeated\n",
+    ),
+    (
+        b"P/EVENT,S,/END/EVENT,S,",
+        b"F9 record 4: code S is repeated\n",
+    ),
     (b"P/END/EVENT,S,", b"F11 record 3: card after END\n"),
     (b"P/END/,/END/XY", b"F11 record 4: card after END\n"),
     (b"P/EVENT,S,", b"F12 record 3: no END\n"),
     (b"P/EVENT,S,/,,/", b"F12 record 4: no END\n"),
-    (b"P/EVENT,S/EVENT,S/XY", b"F6 record 2: 2 fields, EVENT has 3\n"),
+    (
+        b"P/EVENT,S/EVENT,S/XY",
+        b"F6 record 2: 2 fields, EVENT has 3\n",
+    ),
     (b"P/XY/EVENT,S/P", b"F4 record 2: unknown kind\n"),
 ];
 
@@ -156,7 +247,9 @@ fn counts_cards_to_the_limit(rt: HostRuntime) -> Result<(), Fail> {
             limit: 5_000,
         },
     };
-    assert!(rt; matches!(read_cards(rt.alloc(), &over), Err(DeckError::Fault(fault)) if fault == want));
+    assert!(rt;
+        matches!(read_cards(rt.alloc(), &over), Err(DeckError::Fault(fault)) if fault == want)
+    );
     Ok(())
 }
 

@@ -155,7 +155,12 @@ const DECKS: [(&[u8], u8, &[u8], &[u8]); 20] = [
     (WHOLE, 0, SCHEDULE, b""),
     (PADDED, 0, SCHEDULE, b""),
     (STATED, 0, SCHEDULE, b""),
-    (WRONG_NUMBER, 1, b"", b"F7 record 9: field 11 has a wrong shape\n"),
+    (
+        WRONG_NUMBER,
+        1,
+        b"",
+        b"F7 record 9: field 11 has a wrong shape\n",
+    ),
     (TWICE, 1, b"", b"F9 record 9: code A is repeated\n"),
     (b"", 1, b"", b"F12 record 1: no END\n"),
     (b"END\n", 1, b"", NO_PROJECT),
