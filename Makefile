@@ -9,16 +9,19 @@ SOURCES := crates.txt $(shell find crates -path '*/out' -prune -o \( -name '*.rt
 
 all: $(PROGRAMS:%=bin/%)
 
-# `rt run` proves a program and what it stands on, and leaves it at crates/NAME/out/NAME, where `rt ci` leaves it too.
-# With no words and no input the program only prints its usage line, so its status says nothing here.
-crates/%/out/%: $(SOURCES)
-	@echo "proving and building $*: the first time takes some minutes"
-	@cd crates/$* && rt run </dev/null >/dev/null 2>out.log || true
-	@test -x $@ && touch $@ && rm -f crates/$*/out.log || { cat crates/$*/out.log; exit 1; }
+# `rt run` proves a program and all that it stands on, and leaves it at crates/NAME/out/NAME, where `rt ci` leaves it
+# too. It also runs it once; with no words the program only prints its usage line, so its status says nothing here.
+define program
+crates/$(1)/out/$(1): $(SOURCES)
+	@echo "proving and building $(1): some minutes the first time"
+	@cd crates/$(1) && rt run </dev/null >/tmp/$(1)-build.log 2>&1 || true
+	@test -x $$@ && touch $$@ || { cat /tmp/$(1)-build.log; exit 1; }
 
-bin/%: crates/%/out/%
+bin/$(1): crates/$(1)/out/$(1)
 	@mkdir -p bin
-	cp $< $@
+	cp $$< $$@
+endef
+$(foreach name,$(PROGRAMS),$(eval $(call program,$(name))))
 
 check:
 	.ci/run
@@ -31,4 +34,3 @@ clean:
 	rm -rf bin $(PROGRAMS:%=crates/%/out)
 
 .PHONY: all check install clean
-.SECONDARY:
