@@ -27,6 +27,3 @@ pub use crate::kind::Kind;
 pub use crate::limits::DECK_LIMIT;
 pub use crate::read::read_cards;
 pub use crate::tell::fault_line;
-
-#[cfg(test)]
-mod tests;
