@@ -1,7 +1,10 @@
-pub mod ChainLemmas
-pub mod NameLemmas
-pub mod WithinLemmas
 pub mod Utf8Lemmas
+pub mod NameLemmas
+pub mod JudgeLemmas
+pub mod WithinLemmas
 pub mod ReadLemmas
+pub mod CardFaultLemmas
+pub mod SeenLemmas
 pub mod RefusalLemmas
-pub mod PlainLaw
+pub mod ToldLemmas
+pub mod SaysLemmas

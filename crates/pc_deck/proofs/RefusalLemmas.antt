@@ -1,61 +1,153 @@
--- A deck is read or refused, and refused with one fault.
-use Rattle.std.proofs.Common.{◌≡◌, ℕ, Bool, false, List, [], ◌∷◌, Option, Some, None, if◌then◌else◌, find, is_none, option_map, MatchOption, refl, sym, ap, ◌∙◌, subst}
+-- Reading stops at the first fault of a deck, and a deck that is read to its end has none.
+use Rattle.std.proofs.Common.{◌≡◌, ℕ, ◌+◌, ◌≤◌, Bool, true, false, List, [], ◌∷◌, ◌++◌, length, Option, Some, None, is_none, if◌then◌else◌, Result, Ok, Err, inl, inr, ◌⊎◌, refl, sym, ap, ◌∙◌, subst, arith}
+use Rattle.std.specs.Prelude.{IfOk, IfErr, OnOk}
 use Rattle.std.specs.Str.{is_utf8}
-use Rattle.pc_records.specs.Deck.{field_at}
-use Rattle.pc_deck.specs.Fields.{◌>>=◌}
-use Rattle.pc_deck.specs.Cards.{Numbered, deck_cards}
+use Rattle.pc_records.specs.Deck.{deck_records}
+use Rattle.pc_deck.specs.Cards.{Numbered, is_card, cards_from, deck_cards}
 use Rattle.pc_deck.specs.Deck.{Deck}
-use Rattle.pc_deck.specs.Kinds.{kind_of}
-use Rattle.pc_deck.specs.Plain.{card_of}
-use Rattle.pc_deck.specs.Plainness.{as_project, begun, with_cards, with_next, cards_of, deck_of}
-use Rattle.pc_deck.specs.Refusal.{is_unknown, first_unknown, IsCardRefusal, not_plain, unknown_kind}
-use Rattle.pc_deck.specs.declared.card.Card.{Card}
+use Rattle.pc_deck.specs.Judged.{Seen, judge}
+use Rattle.pc_deck.specs.Reading.{no_cards, with_card, seen_in, deck_with, no_end, closed, closed_with, and_then, read_from, cards_of, deck_read, deck_of}
+use Rattle.pc_deck.specs.Refusal.{of_kind, are_none, seen_among, HasCardFault, HasFaultFrom, HasFaultWhere, HasFault, IsFirst, IsCardRefusal, Refuses}
+use Rattle.pc_deck.specs.declared.cards.ProjectCard.{ProjectCard}
+use Rattle.pc_deck.specs.declared.kind.Kind.{Kind}
+use Rattle.pc_deck.specs.declared.kind.Kind.TheVariants.{End}
+use Rattle.pc_deck.specs.declared.fault.Fault.{Fault as ADeckFault}
+use Rattle.pc_deck.specs.declared.fault.DeckError.{DeckError}
+use Rattle.pc_deck.specs.declared.fault.DeckError.TheVariants.{Fault, OutOfMemory}
 use Rattle.pc_deck.specs.declared.draft.Draft.{Draft}
-use Rattle.pc_deck.specs.declared.fault.Fault.{Fault}
-use Rattle.pc_deck.specs.PlainDeck.{IsPlainDeck}
-use Rattle.pc_deck.proofs.PlainLaw.{deck_of-IsPlainDeck}
-use Rattle.pc_deck.proofs.ChainLemmas.{after, tested}
+use Rattle.pc_deck.proofs.CardFaultLemmas.{row_of-card, not_faultless, least_of-card, found_of-card}
+use Rattle.pc_deck.proofs.SeenLemmas.{seen-none, seen-more}
 
--- a card that was read is of a kind
-known : (row : ℕ) (fields : List (List ℕ)) (card : Card) → card_of row fields ≡ Some card → is_unknown (row, fields) ≡ false
-known row fields card h = after (kind_of (field_at fields 0)) _ card h (λ kind is rest. ap is_none is)
+-- a deck is read where it has no fault, and otherwise its first fault is answered
+abbrev IsVerdict : Result Deck ADeckFault → (ADeckFault → Type 0) → Type 0
+IsVerdict (Ok deck) Has = (fault : ADeckFault) → Has fault → ⊥
+IsVerdict (Err fault) Has = IsFirst Has fault
 
--- an unknown card in front of known ones is none
-find-known : (card : Numbered) (rest : List Numbered) → is_unknown card ≡ false → find is_unknown rest ≡ None → find is_unknown (card ∷ rest) ≡ None
-find-known card rest is none = ap (λ (b : Bool). if b then Some card else find is_unknown rest) is ∙ none
+-- the numbers of the cards rise from n on, and stay below `end`
+abbrev Rises : ℕ → ℕ → List Numbered → Type 0
+Rises n end [] = n ≤ end
+Rises n end (card ∷ cards) = (n ≤ card.0) × Rises (card.0 + 1) end cards
 
--- no card of a list that was read is of an unknown kind
-none_unknown : (draft : Draft) (cards : List Numbered) (deck : Deck) → with_cards draft cards ≡ Some deck → find is_unknown cards ≡ None
-none_unknown draft [] deck h = refl
-none_unknown draft (card ∷ rest) deck h =
-    after (card_of card.0 card.1 >>= with_next draft) _ deck h (λ next step more.
-    after (card_of card.0 card.1) _ next step (λ read is _.
-    find-known card rest (known card.0 card.1 read is) (none_unknown next rest deck more)))
+lower : (n m end : ℕ) (cards : List Numbered) → n ≤ m → Rises m end cards → Rises n end cards
+lower n m end [] few h = omega (arith, few, h)
+lower n m end (card ∷ cards) few h = (omega (arith, few, h.0), h.1)
 
-none_in_deck : (cards : List Numbered) (deck : Deck) → cards_of cards ≡ Some deck → find is_unknown cards ≡ None
-none_in_deck [] deck h = refl
-none_in_deck (card ∷ rest) deck h =
-    after (card_of card.0 card.1 >>= as_project) _ deck h (λ project step more.
-    after (card_of card.0 card.1) _ project step (λ read is _.
-    find-known card rest (known card.0 card.1 read is) (none_unknown (begun project) rest deck more)))
+-- the numbers of a deck's cards rise
+rises : (n end : ℕ) (records : List (List (List ℕ))) → n + length records ≡ end → Rises n end (cards_from n records)
+rises n end [] is = omega (arith, is)
+rises n end (record_ ∷ records) is =
+    by_card (is_card (n, record_)) (rises (n + 1) end records (omega (arith, is)))
+  where
+    by_card : (test : Bool) → Rises (n + 1) end (cards_from (n + 1) records) → Rises n end (if test then (n, record_) ∷ cards_from (n + 1) records else cards_from (n + 1) records)
+    by_card true rest = (omega arith, rest)
+    by_card false rest = lower n (n + 1) end (cards_from (n + 1) records) (omega arith) rest
+
+-- a fault of cards is of no earlier record than the first of them
+from_row : (before : List Numbered) (n end : ℕ) (cards : List Numbered) (fault : ADeckFault) → Rises n end cards → HasFaultFrom before end cards fault → n ≤ fault.row
+from_row before n end [] fault rising h = subst (λ (row : ℕ). n ≤ row) (sym (ap (λ (f : ADeckFault). f.row) h.1)) rising
+from_row before n end (card ∷ cards) fault rising (inl here) = subst (λ (row : ℕ). n ≤ row) (sym (row_of-card (seen_among before) card fault here)) rising.0
+from_row before n end (card ∷ cards) fault rising (inr later) =
+    let rest = from_row (before ++ card ∷ []) (card.0 + 1) end cards fault rising.1 later in omega (arith, rest, rising.0)
+
+-- faults that no card has change no verdict
+widened : (read : Result Deck ADeckFault) (Has More : ADeckFault → Type 0) → ((fault : ADeckFault) → More fault → ⊥) → IsVerdict read Has → IsVerdict read (λ fault. More fault ⊎ Has fault)
+widened (Ok deck) Has More never h = λ fault has. elim has [ inl more ↦ never fault more | inr is ↦ h fault is ]
+widened (Err found) Has More never h = record {
+  holds = inr h.holds;
+  least = λ fault has. elim has [ inl more ↦ absurd (never fault more) | inr is ↦ h.least fault is ];
+}
+
+no_cards_before : (before : List Numbered) → are_none before ≡ true → before ≡ []
+no_cards_before [] h = refl
+no_cards_before (card ∷ cards) h = absurd (let h' = h in cc)
+
+only_one : (Has : ADeckFault → Type 0) (found : ADeckFault) → Has found → ((fault : ADeckFault) → Has fault → fault ≡ found) → IsFirst Has found
+only_one Has found holds same = record {
+  holds = holds;
+  least = λ fault has.
+      let is = same fault has in
+      inr (sym (ap (λ (f : ADeckFault). f.row) is), subst (λ (n : ℕ). found.number ≤ n) (sym (ap (λ (f : ADeckFault). f.number) is)) (omega arith));
+}
+
+-- at the end of the cards
+at_end : (draft : Draft) (before : List Numbered) (end : ℕ) → seen_among before ≡ seen_in draft → IsVerdict (closed draft end) (HasFaultFrom before end [])
+at_end draft before end same = by_project draft.project refl
+  where
+    missing : (seen_among before).count End ≡ 0 → IsFirst (HasFaultFrom before end []) (no_end end)
+    missing none = only_one (HasFaultFrom before end []) (no_end end) (none, refl) (λ fault has. has.1)
+
+    by_end : (project : ProjectCard) (ended : Bool) → draft.has_ended ≡ ended → IsVerdict (if ended then Ok (deck_with draft project) else Err (no_end end)) (HasFaultFrom before end [])
+    by_end project true is = λ fault has.
+        let one : (seen_among before).count End ≡ 1 = ap (λ (s : Seen). s.count End) same ∙ ap (λ (b : Bool). if b then 1 else 0) is in
+        omega (arith, has.0, one)
+    by_end project false is = missing (ap (λ (s : Seen). s.count End) same ∙ ap (λ (b : Bool). if b then 1 else 0) is)
+
+    by_project : (project : Option ProjectCard) → draft.project ≡ project → IsVerdict (closed_with draft end project) (HasFaultFrom before end [])
+    by_project None is =
+        let nothing = no_cards_before before (ap (λ (s : Seen). s.is_first) same ∙ ap is_none is) in
+        missing (ap (λ (cards : List Numbered). length (of_kind End cards)) nothing)
+    by_project (Some project) is = by_end project draft.has_ended refl
+
+-- the reading of cards is a verdict on their faults
+verdict : (cards : List Numbered) (draft : Draft) (before : List Numbered) (n end : ℕ) → seen_among before ≡ seen_in draft → Rises n end cards → IsVerdict (read_from draft end cards) (HasFaultFrom before end cards)
+verdict [] draft before n end same rising = at_end draft before end same
+verdict (card ∷ cards) draft before n end same rising =
+    by_judgement (judge (seen_in draft) card.0 card.1) refl
+    (λ kind judged. verdict cards (with_card draft kind card.0 card.1) (before ++ card ∷ []) (card.0 + 1) end (seen-more before draft kind card.0 card.1 same judged) rising.1)
+  where
+    by_judgement : (judged : Result Kind ADeckFault) → judge (seen_in draft) card.0 card.1 ≡ judged
+        → ((kind : Kind) → judge (seen_in draft) card.0 card.1 ≡ Ok kind → IsVerdict (read_from (with_card draft kind card.0 card.1) end cards) (HasFaultFrom (before ++ card ∷ []) end cards))
+        → IsVerdict (and_then judged (λ kind. read_from (with_card draft kind card.0 card.1) end cards)) (HasFaultFrom before end (card ∷ cards))
+    by_judgement (Ok kind) is more =
+        widened (read_from (with_card draft kind card.0 card.1) end cards) (HasFaultFrom (before ++ card ∷ []) end cards) (HasCardFault (seen_among before) card)
+        (λ fault has. not_faultless (seen_in draft) card fault kind is (subst (λ (s : Seen). HasCardFault s card fault) same has))
+        (more kind is)
+    by_judgement (Err found) is more =
+        let here = found_of-card (seen_in draft) card.0 card.1 found is in
+        let row = row_of-card (seen_in draft) card found here in
+        record {
+          holds = inl (subst (λ (s : Seen). HasCardFault s card found) (sym same) here);
+          least = λ fault has. elim has [
+            | inl own ↦ inr (least_of-card (seen_in draft) card found fault is (subst (λ (s : Seen). HasCardFault s card fault) same own))
+            | inr later ↦ inl (let from = from_row (before ++ card ∷ []) (card.0 + 1) end cards fault rising.1 later in omega (arith, row, from))
+          ];
+        }
+
+-- the reading of a deck's cards is a verdict on their faults
+pub cards_of-verdict : (bytes : List ℕ) → IsVerdict (cards_of bytes) (HasFaultFrom [] (length (deck_records bytes) + 1) (deck_cards bytes))
+cards_of-verdict bytes =
+    verdict (deck_cards bytes) no_cards [] 1 (length (deck_records bytes) + 1) seen-none (rises 1 (length (deck_records bytes) + 1) (deck_records bytes) (omega arith))
+
+-- where cards are answered, the deck has no fault
+pub none_of-read : (bytes : List ℕ) (deck : Deck) → is_utf8 bytes ≡ true → cards_of bytes ≡ Ok deck → (fault : ADeckFault) → HasFault bytes fault → ⊥
+none_of-read bytes deck utf8 read = λ fault has.
+    let all = subst (λ (r : Result Deck ADeckFault). IsVerdict r (HasFaultFrom [] (length (deck_records bytes) + 1) (deck_cards bytes))) read (cards_of-verdict bytes) in
+    all fault (subst (λ (b : Bool). HasFaultWhere b bytes fault) utf8 has)
+
+-- a fault that is answered is the first
+pub first_of-read : (bytes : List ℕ) (fault : ADeckFault) → is_utf8 bytes ≡ true → cards_of bytes ≡ Err fault → IsCardRefusal bytes fault
+first_of-read bytes fault utf8 read =
+    let first = subst (λ (r : Result Deck ADeckFault). IsVerdict r (HasFaultFrom [] (length (deck_records bytes) + 1) (deck_cards bytes))) read (cards_of-verdict bytes) in
+    subst (λ (b : Bool). IsFirst (HasFaultWhere b bytes) fault) (sym utf8) first
+
+-- the same of the answer of a call
+pub refused_first : {A : Type 0} (result : Result A DeckError) (bytes : List ℕ) → is_utf8 bytes ≡ true → IfErr result (Refuses (λ fault. cards_of bytes ≡ Err fault)) → IfErr result (Refuses (IsCardRefusal bytes))
+refused_first (Ok answer) bytes utf8 h = tt
+refused_first (Err (Fault fault)) bytes utf8 h = first_of-read bytes fault utf8 h
+refused_first (Err OutOfMemory) bytes utf8 h = tt
+
+pub accepted_none : (result : Result Deck DeckError) (bytes : List ℕ) → is_utf8 bytes ≡ true → IfOk result (λ deck. cards_of bytes ≡ Ok deck) → OnOk result ((fault : ADeckFault) → HasFault bytes fault → ⊥)
+accepted_none (Ok deck) bytes utf8 h = none_of-read bytes deck utf8 h
+accepted_none (Err error) bytes utf8 h = tt
+
+deck_read-Ok : (read : Result Deck ADeckFault) (deck : Deck) → deck_read read ≡ Some deck → read ≡ Ok deck
+deck_read-Ok (Ok other) deck h = let same : other ≡ deck = cc in ap Ok same
+deck_read-Ok (Err fault) deck h = absurd (let h' = h in cc)
 
 -- a deck that is read is not refused
-pub not_both : (bytes : List ℕ) (deck : Deck) (fault : Fault) → deck_of bytes ≡ Some deck → IsCardRefusal bytes fault → ⊥
-not_both bytes deck fault read refused =
-    let plain = tested (is_utf8 bytes) (cards_of (deck_cards bytes)) deck read in
-    let none = ap (option_map (λ (card : Numbered). card.0)) (none_in_deck (deck_cards bytes) deck plain.1) in
-    let plain_not = subst (λ (o : Option ℕ). MatchOption o ((deck_of bytes ≡ None) × (fault ≡ not_plain)) (λ row. fault ≡ unknown_kind row)) none refused in
-    let is_none : deck_of bytes ≡ None = plain_not.0 in
-    cc
-
--- a deck is refused with one fault
-pub refused_once : (bytes : List ℕ) (fault other : Fault) → IsCardRefusal bytes fault → IsCardRefusal bytes other → fault ≡ other
-refused_once bytes fault other = by_first (first_unknown (deck_cards bytes))
+pub not_both : (bytes : List ℕ) (deck : Deck) (fault : ADeckFault) → deck_of bytes ≡ Some deck → IsCardRefusal bytes fault → ⊥
+not_both bytes deck fault read refused = by_utf8 (is_utf8 bytes) refl read
   where
-    by_first : (first : Option ℕ) → MatchOption first ((deck_of bytes ≡ None) × (fault ≡ not_plain)) (λ row. fault ≡ unknown_kind row) → MatchOption first ((deck_of bytes ≡ None) × (other ≡ not_plain)) (λ row. other ≡ unknown_kind row) → fault ≡ other
-    by_first None a b = a.1 ∙ sym b.1
-    by_first (Some row) a b = a ∙ sym b
-
--- a deck that is refused is not plain
-pub not_plain_refused : (bytes : List ℕ) (fault : Fault) → IsCardRefusal bytes fault → (deck : Deck) → IsPlainDeck bytes deck → ⊥
-not_plain_refused bytes fault refused deck plain = not_both bytes deck fault (deck_of-IsPlainDeck bytes deck plain) refused
+    by_utf8 : (utf8 : Bool) → is_utf8 bytes ≡ utf8 → (if utf8 then deck_read (cards_of bytes) else None) ≡ Some deck → ⊥
+    by_utf8 true is h = none_of-read bytes deck is (deck_read-Ok (cards_of bytes) deck h) fault refused.holds
+    by_utf8 false is h = let h' = h in cc

@@ -1,161 +1,201 @@
 -- What was read keeps to the limits.
-use Rattle.std.proofs.Common.{◌≡◌, ℕ, ◌≤◌, Bool, true, false, ◌==◌, List, [], ◌∷◌, length, get_or, Option, Some, None, if◌then◌else◌, All, sym, ◌∙◌, subst, arith}
-use Rattle.std.specs.Option.{ForSome}
+use Rattle.std.proofs.Common.{◌≡◌, ℕ, ◌+◌, ◌≤◌, false, ◌==◌, List, [], ◌∷◌, ◌++◌, length, map, get_or, Option, Some, All, Ok, refl, sym, subst, arith, length-append}
+use Rattle.std.proofs.lemmas.List.{map-append}
 use Rattle.std.proofs.lemmas.List.Elements.{All-append, All-nil}
+use Rattle.std.proofs.lemmas.Bool.Decides.{nat_tests}
 use Rattle.pc_records.specs.Deck.{field_at}
-use Rattle.pc_text.specs.Code.{code_of}
-use Rattle.pc_text.specs.Title.{title_of}
-use Rattle.pc_deck.specs.Fields.{◌>>=◌, date_of, number_within, directed_of}
-use Rattle.pc_deck.specs.Named.{with_named}
-use Rattle.pc_deck.specs.Kinds.{kind_of}
-use Rattle.pc_deck.specs.Plain.{project_of, event_of, act_of, card_of_kind, card_of}
-use Rattle.pc_deck.specs.Plainness.{begun, deck_so_far, with_card, with_next}
-use Rattle.pc_deck.specs.Within.{IsActWithin, IsWithinLimits}
-use Rattle.pc_deck.specs.declared.cards.ProjectCard.{ProjectCard}
+use Rattle.pc_text.specs.Number.{number_of}
+use Rattle.pc_deck.specs.Deck.{IsNamedOnce}
+use Rattle.pc_deck.specs.Forms.{AllFit, slots_of, is_outside}
+use Rattle.pc_deck.specs.Named.{is_among}
+use Rattle.pc_deck.specs.Spelled.{project_of, item_of, event_of, act_of, account_of, money_of, status_of}
+use Rattle.pc_deck.specs.Judged.{judge}
+use Rattle.pc_deck.specs.Reading.{no_cards, with_card, seen_in}
+use Rattle.pc_deck.specs.Within.{IsActWithin, IsProjectWithin, IsBudgetWithin, IsAmountWithin, IsAny, IsListWithin, IsNamedWithin, IsDraftWithin}
+use Rattle.pc_deck.specs.declared.cards.ItemCard.{ItemCard}
 use Rattle.pc_deck.specs.declared.cards.EventCard.{EventCard}
 use Rattle.pc_deck.specs.declared.cards.ActCard.{ActCard}
+use Rattle.pc_deck.specs.declared.cards.AcctCard.{AcctCard}
 use Rattle.pc_deck.specs.declared.kind.Kind.{Kind}
-use Rattle.pc_deck.specs.declared.kind.Kind.TheVariants as kind
-use Rattle.pc_deck.specs.declared.card.Card.{Card}
-use Rattle.pc_deck.specs.declared.card.Card.TheVariants.{Project, Event, Act, End}
+use Rattle.pc_deck.specs.declared.kind.Kind.TheVariants.{Project, AsOf, Wbs, Event, Act, Acct, Charge, ToGo, Status, End}
 use Rattle.pc_deck.specs.declared.draft.Draft.{Draft}
-use Rattle.pc_deck.proofs.ChainLemmas.{after, tested, Some-injective, number_within_limits}
-use Rattle.pc_deck.proofs.NameLemmas.{IsExtended-with_named, IsNamedOnce-nil}
+use Rattle.pc_deck.proofs.JudgeLemmas.{fits_as, differs_as, room_as, number_fits}
+use Rattle.pc_deck.proofs.NameLemmas.{IsNamedOnce-nil, IsNamedOnce-push}
 
--- the numbers of an activity that was read are within their limits
-pub IsActWithin-act_of : (row : ℕ) (fields : List (List ℕ)) (act : ActCard) → act_of row fields ≡ Some act → IsActWithin act
-unfolding act_of
-IsActWithin-act_of row fields act read =
-    let whole = tested (length fields == 13) _ act read in
-    after (code_of (field_at fields 1)) _ act whole.1 (λ code _ rest_1.
-    after (code_of (field_at fields 2)) _ act rest_1 (λ from _ rest_2.
-    after (code_of (field_at fields 3)) _ act rest_2 (λ to _ rest_3.
-    after (code_of (field_at fields 4)) _ act rest_3 (λ item _ rest_4.
-    after (number_within 0 100000 (field_at fields 5)) _ act rest_4 (λ opt opt_is rest_5.
-    after (number_within 0 100000 (field_at fields 6)) _ act rest_5 (λ likely likely_is rest_6.
-    after (number_within 0 100000 (field_at fields 7)) _ act rest_6 (λ pess pess_is rest_7.
-    after (number_within 0 100000 (field_at fields 8)) _ act rest_7 (λ normal normal_is rest_8.
-    after (number_within 0 100000 (field_at fields 9)) _ act rest_8 (λ crash crash_is rest_9.
-    after (number_within 0 1000000000000 (field_at fields 10)) _ act rest_9 (λ cost cost_is rest_10.
-    after (number_within 0 100000000 (field_at fields 11)) _ act rest_10 (λ slope slope_is rest_11.
-    after (title_of (field_at fields 12)) _ act rest_11 (λ title _ rest_12.
-    subst IsActWithin (Some-injective _ act rest_12) (record {
-      opt = (number_within_limits 0 100000 (field_at fields 5) opt opt_is).1;
-      likely = (number_within_limits 0 100000 (field_at fields 6) likely likely_is).1;
-      pess = (number_within_limits 0 100000 (field_at fields 7) pess pess_is).1;
-      normal = (number_within_limits 0 100000 (field_at fields 8) normal normal_is).1;
-      crash = (number_within_limits 0 100000 (field_at fields 9) crash crash_is).1;
-      cost = (number_within_limits 0 1000000000000 (field_at fields 10) cost cost_is).1;
-      slope = (number_within_limits 0 100000000 (field_at fields 11) slope slope_is).1;
-    })))))))))))))
+Some-injective : {A : Type 0} (x y : A) → ◌≡◌ {A = Option A} (Some x) (Some y) → x ≡ y
+Some-injective x y h = cc
 
-no_days : (directed : Option ℕ) (days : ℕ) → None ≡ directed → directed ≡ Some days → ⊥
-no_days directed days none is = let none' = none in let is' = is in cc
-
--- the days of a directed end that was read are within their limit
-within_directed : (field : List ℕ) (directed : Option ℕ) → directed_of field ≡ Some directed → ForSome directed (λ days. days ≤ 1000000)
-within_directed field directed h = by_length (length field == 0) h
-  where
-    by_length : (empty : Bool) → (if empty then Some None else number_within 0 1000000 field >>= (λ days. Some (Some days))) ≡ Some directed → ForSome directed (λ days. days ≤ 1000000)
-    by_length true h = λ days is. let none : None ≡ directed = Some-injective None directed h in absurd (no_days directed days none is)
-    by_length false h = after (number_within 0 1000000 field) _ directed h (λ days read rest.
-        λ given is. let given_is : Some days ≡ Some given = Some-injective (Some days) directed rest ∙ is in
-        subst (λ (n : ℕ). n ≤ 1000000) (Some-injective days given given_is) (number_within_limits 0 1000000 field days read).1)
-
--- the numbers of a PROJECT card that was read are within their limits
-pub record IsProjectWithin (project : ProjectCard) : Type 0 where
-  pub unit_some : 1 ≤ project.unit_days
-  pub unit_within : project.unit_days ≤ 7
-  pub directed_within : ForSome project.directed (λ days. days ≤ 1000000)
-
-pub IsProjectWithin-project_of : (row : ℕ) (fields : List (List ℕ)) (project : ProjectCard) → project_of row fields ≡ Some project → IsProjectWithin project
-unfolding project_of
-IsProjectWithin-project_of row fields project read =
-    let whole = tested (length fields == 8) _ project read in
-    after (code_of (field_at fields 1)) _ project whole.1 (λ code _ rest_1.
-    after (code_of (field_at fields 2)) _ project rest_1 (λ start _ rest_2.
-    after (code_of (field_at fields 3)) _ project rest_2 (λ end _ rest_3.
-    after (date_of (field_at fields 4)) _ project rest_3 (λ start_day _ rest_4.
-    after (number_within 1 7 (field_at fields 5)) _ project rest_4 (λ unit_days unit_days_is rest_5.
-    after (directed_of (field_at fields 6)) _ project rest_5 (λ directed directed_is rest_6.
-    after (title_of (field_at fields 7)) _ project rest_6 (λ title _ rest_7.
-    subst IsProjectWithin (Some-injective _ project rest_7) (record {
-      unit_some = (number_within_limits 1 7 (field_at fields 5) unit_days unit_days_is).0;
-      unit_within = (number_within_limits 1 7 (field_at fields 5) unit_days unit_days_is).1;
-      directed_within = within_directed (field_at fields 6) directed directed_is;
-    }))))))))
-
--- what was read of an activity or of the project, whatever its kind
-abbrev pub IsCardWithin : Card → Type 0
-IsCardWithin (Project project) = IsProjectWithin project
-IsCardWithin (Event event) = Unit {0}
-IsCardWithin (Act act) = IsActWithin act
-IsCardWithin End = Unit {0}
-
--- the numbers of a card that was read are within their limits
-pub IsCardWithin-card_of : (row : ℕ) (fields : List (List ℕ)) (card : Card) → card_of row fields ≡ Some card → IsCardWithin card
-IsCardWithin-card_of row fields card read =
-    after (kind_of (field_at fields 0)) _ card read (λ kind _ rest. by_kind kind rest)
-  where
-    by_kind : (k : Kind) → card_of_kind k row fields ≡ Some card → IsCardWithin card
-    by_kind kind.Project h = after (project_of row fields) _ card h (λ project is rest.
-        subst IsCardWithin (Some-injective _ card rest) (IsProjectWithin-project_of row fields project is))
-    by_kind kind.Event h = after (event_of row fields) _ card h (λ event is rest. subst IsCardWithin (Some-injective _ card rest) tt)
-    by_kind kind.Act h = after (act_of row fields) _ card h (λ act is rest.
-        subst IsCardWithin (Some-injective _ card rest) (IsActWithin-act_of row fields act is))
-    by_kind kind.End h = let whole = tested (length fields == 1) (Some End) card h in subst IsCardWithin (Some-injective _ card whole.1) tt
-
--- a deck of a PROJECT card alone
-pub begun_within : (project : ProjectCard) → IsProjectWithin project → IsWithinLimits (deck_so_far (begun project))
-begun_within project within = record {
-  few_events = omega arith;
-  few_acts = omega arith;
-  events_differ = IsNamedOnce-nil;
-  acts_differ = IsNamedOnce-nil;
-  acts_within = All-nil IsActWithin;
-  unit_some = within.unit_some;
-  unit_within = within.unit_within;
-  directed_within = within.directed_within;
+-- the numbers of the cards that were read are within their limits
+project_within : (row : ℕ) (fields : List (List ℕ)) → AllFit (slots_of Project) fields → IsProjectWithin (project_of row fields)
+project_within row fields fit = record {
+  unit_some = (number_fits 1 7 (number_of (field_at fields 5)) fit.1.1.1.1.0.0 fit.1.1.1.1.0.1).0;
+  unit_within = (number_fits 1 7 (number_of (field_at fields 5)) fit.1.1.1.1.0.0 fit.1.1.1.1.0.1).1;
+  directed_within = λ days is. (number_fits 0 1000000 (Some days) refl (subst (λ (o : Option ℕ). is_outside 0 1000000 o ≡ false) is fit.1.1.1.1.1.0.1)).1;
 }
 
-All-one : (act : ActCard) → IsActWithin act → All IsActWithin (act ∷ [])
-All-one act within = λ k d h. let first : 0 ≡ k = omega (arith, h) in subst (λ (j : ℕ). IsActWithin (get_or (act ∷ []) j d)) first within
+act_within : (row : ℕ) (fields : List (List ℕ)) → AllFit (slots_of Act) fields → IsActWithin (act_of row fields)
+act_within row fields fit =
+    let from_6 = fit.1.1.1.1 in
+    let from_11 = from_6.1.1.1.1.1 in
+    record {
+      opt = (number_fits 0 100000 (number_of (field_at fields 5)) from_6.0.0 from_6.0.1).1;
+      likely = (number_fits 0 100000 (number_of (field_at fields 6)) from_6.1.0.0 from_6.1.0.1).1;
+      pess = (number_fits 0 100000 (number_of (field_at fields 7)) from_6.1.1.0.0 from_6.1.1.0.1).1;
+      normal = (number_fits 0 100000 (number_of (field_at fields 8)) from_6.1.1.1.0.0 from_6.1.1.1.0.1).1;
+      crash = (number_fits 0 100000 (number_of (field_at fields 9)) from_6.1.1.1.1.0.0 from_6.1.1.1.1.0.1).1;
+      cost = (number_fits 0 1000000000000 (number_of (field_at fields 10)) from_11.0.0 from_11.0.1).1;
+      slope = (number_fits 0 100000000 (number_of (field_at fields 11)) from_11.1.0.0 from_11.1.0.1).1;
+    }
 
--- one more card keeps a deck within its limits
-pub with_card_within : (draft : Draft) (card : Card) (next : Draft) → IsWithinLimits (deck_so_far draft) → IsCardWithin card → with_card draft card ≡ Some next → IsWithinLimits (deck_so_far next)
-with_card_within draft (Project project) next old within h = absurd (let h' = h in cc)
-with_card_within draft (Event event) next old within h =
-    after (with_named (λ (other : EventCard). other.code) 5000 draft.events event) _ next h (λ events is rest.
-    let more = IsExtended-with_named (λ (other : EventCard). other.code) 5000 draft.events event events is in
-    subst (λ (d : Draft). IsWithinLimits (deck_so_far d)) (Some-injective _ next rest) (record {
-      few_events = more.few;
-      few_acts = old.few_acts;
-      events_differ = more.once old.events_differ;
-      acts_differ = old.acts_differ;
-      acts_within = old.acts_within;
-      unit_some = old.unit_some;
-      unit_within = old.unit_within;
-      directed_within = old.directed_within;
-    }))
-with_card_within draft (Act act) next old within h =
-    after (with_named (λ (other : ActCard). other.code) 10000 draft.acts act) _ next h (λ acts is rest.
-    let more = IsExtended-with_named (λ (other : ActCard). other.code) 10000 draft.acts act acts is in
-    subst (λ (d : Draft). IsWithinLimits (deck_so_far d)) (Some-injective _ next rest) (record {
-      few_events = old.few_events;
-      few_acts = more.few;
-      events_differ = old.events_differ;
-      acts_differ = more.once old.acts_differ;
-      acts_within = subst (λ (all : List ActCard). All IsActWithin all) (sym more.whole) (All-append IsActWithin draft.acts (act ∷ []) old.acts_within (All-one act within));
-      unit_some = old.unit_some;
-      unit_within = old.unit_within;
-      directed_within = old.directed_within;
-    }))
-with_card_within draft End next old within h = subst (λ (d : Draft). IsWithinLimits (deck_so_far d)) (Some-injective _ next h) old
+budget_within : (row : ℕ) (fields : List (List ℕ)) → AllFit (slots_of Acct) fields → IsBudgetWithin (account_of row fields)
+budget_within row fields fit = (number_fits 0 1000000000000 (number_of (field_at fields 3)) fit.1.1.0.0 fit.1.1.0.1).1
 
--- the next card of a deck keeps it within its limits
-pub next_within : (draft : Draft) (card : Card) (next : Draft) (row : ℕ) (fields : List (List ℕ)) → IsWithinLimits (deck_so_far draft) → card_of row fields ≡ Some card → with_next draft card ≡ Some next → IsWithinLimits (deck_so_far next)
-next_within draft card next row fields old read h = by_end draft.has_ended h
-  where
-    by_end : (ended : Bool) → (if ended then None else with_card draft card) ≡ Some next → IsWithinLimits (deck_so_far next)
-    by_end true e = absurd (let e' = e in cc)
-    by_end false e = with_card_within draft card next old (IsCardWithin-card_of row fields card read) e
+amount_within : (row : ℕ) (fields : List (List ℕ)) → AllFit (slots_of Charge) fields → IsAmountWithin (money_of row fields)
+amount_within row fields fit = (number_fits 0 1000000000000 (number_of (field_at fields 3)) fit.1.1.0.0 fit.1.1.0.1).1
+
+All-one : {C : Type 0} (P : C → Type 0) (card : C) → P card → All P (card ∷ [])
+All-one P card within = λ k d h. let first : 0 ≡ k = omega (arith, h) in subst (λ (j : ℕ). P (get_or (card ∷ []) j d)) first within
+
+room_left : (n limit : ℕ) → n ≤ limit → (n == limit) ≡ false → n + 1 ≤ limit
+room_left n limit few room = grind (arith, nat_tests)
+
+-- one more card on a list
+list_more : {C : Type 0} (limit : ℕ) (P : C → Type 0) (cards : List C) (card : C) → IsListWithin limit P cards → (length cards == limit) ≡ false → P card → IsListWithin limit P (cards ++ card ∷ [])
+list_more limit P cards card old room within = record {
+  few = omega (arith, room_left (length cards) limit old.few room, length-append cards (card ∷ []));
+  within = All-append P cards (card ∷ []) old.within (All-one P card within);
+}
+
+named_more : {C : Type 0} (code_of : C → List ℕ) (limit : ℕ) (P : C → Type 0) (cards : List C) (card : C) → IsNamedWithin code_of limit P cards → (length cards == limit) ≡ false → is_among (code_of card) (map code_of cards) ≡ false → P card → IsNamedWithin code_of limit P (cards ++ card ∷ [])
+named_more code_of limit P cards card old room differs within = record {
+  list = list_more limit P cards card old.list room within;
+  differ = subst IsNamedOnce (sym (map-append code_of cards (card ∷ []))) (IsNamedOnce-push (map code_of cards) (code_of card) old.differ differs);
+}
+
+no_list : {C : Type 0} (limit : ℕ) (P : C → Type 0) → IsListWithin limit P []
+no_list limit P = record { few = omega arith; within = All-nil P }
+
+no_named : {C : Type 0} (code_of : C → List ℕ) (limit : ℕ) (P : C → Type 0) → IsNamedWithin code_of limit P []
+no_named code_of limit P = record { list = no_list limit P; differ = IsNamedOnce-nil }
+
+-- no cards are within the limits
+pub no_cards_within : IsDraftWithin no_cards
+no_cards_within = record {
+  project = λ project is. absurd (let is' = is in cc);
+  items = no_named _ _ _;
+  events = no_named _ _ _;
+  acts = no_named _ _ _;
+  accounts = no_named _ _ _;
+  charges = no_list _ _;
+  togos = no_list _ _;
+  statuses = no_list _ _;
+}
+
+-- one more card without a fault keeps the cards within the limits
+pub next_within : (draft : Draft) (kind : Kind) (row : ℕ) (fields : List (List ℕ)) → IsDraftWithin draft → judge (seen_in draft) row fields ≡ Ok kind → IsDraftWithin (with_card draft kind row fields)
+next_within draft Project row fields old h =
+    let fit = fits_as (seen_in draft) row fields Project Project h refl in
+    record {
+      project = λ project is. subst IsProjectWithin (Some-injective (project_of row fields) project is) (project_within row fields fit);
+      items = old.items;
+      events = old.events;
+      acts = old.acts;
+      accounts = old.accounts;
+      charges = old.charges;
+      togos = old.togos;
+      statuses = old.statuses;
+    }
+next_within draft AsOf row fields old h = record
+    { project = old.project; items = old.items; events = old.events; acts = old.acts; accounts = old.accounts; charges = old.charges; togos = old.togos; statuses = old.statuses }
+next_within draft Wbs row fields old h =
+    let seen = seen_in draft in
+    let fit = fits_as seen row fields Wbs Wbs h refl in
+    record {
+      project = old.project;
+      items = named_more (λ (item : ItemCard). item.code) 10000 IsAny draft.items (item_of row fields) old.items (room_as seen row fields Wbs Wbs 10000 h refl refl) (differs_as seen row fields Wbs Wbs h refl fit.0.0) tt;
+      events = old.events;
+      acts = old.acts;
+      accounts = old.accounts;
+      charges = old.charges;
+      togos = old.togos;
+      statuses = old.statuses;
+    }
+next_within draft Event row fields old h =
+    let seen = seen_in draft in
+    let fit = fits_as seen row fields Event Event h refl in
+    record {
+      project = old.project;
+      items = old.items;
+      events = named_more (λ (event : EventCard). event.code) 5000 IsAny draft.events (event_of row fields) old.events (room_as seen row fields Event Event 5000 h refl refl) (differs_as seen row fields Event Event h refl fit.0.0) tt;
+      acts = old.acts;
+      accounts = old.accounts;
+      charges = old.charges;
+      togos = old.togos;
+      statuses = old.statuses;
+    }
+next_within draft Act row fields old h =
+    let seen = seen_in draft in
+    let fit = fits_as seen row fields Act Act h refl in
+    record {
+      project = old.project;
+      items = old.items;
+      events = old.events;
+      acts = named_more (λ (act : ActCard). act.code) 10000 IsActWithin draft.acts (act_of row fields) old.acts (room_as seen row fields Act Act 10000 h refl refl) (differs_as seen row fields Act Act h refl fit.0.0) (act_within row fields fit);
+      accounts = old.accounts;
+      charges = old.charges;
+      togos = old.togos;
+      statuses = old.statuses;
+    }
+next_within draft Acct row fields old h =
+    let seen = seen_in draft in
+    let fit = fits_as seen row fields Acct Acct h refl in
+    record {
+      project = old.project;
+      items = old.items;
+      events = old.events;
+      acts = old.acts;
+      accounts = named_more (λ (account : AcctCard). account.code) 10000 IsBudgetWithin draft.accounts (account_of row fields) old.accounts (room_as seen row fields Acct Acct 10000 h refl refl) (differs_as seen row fields Acct Acct h refl fit.0.0) (budget_within row fields fit);
+      charges = old.charges;
+      togos = old.togos;
+      statuses = old.statuses;
+    }
+next_within draft Charge row fields old h =
+    let seen = seen_in draft in
+    let fit = fits_as seen row fields Charge Charge h refl in
+    record {
+      project = old.project;
+      items = old.items;
+      events = old.events;
+      acts = old.acts;
+      accounts = old.accounts;
+      charges = list_more 200000 IsAmountWithin draft.charges (money_of row fields) old.charges (room_as seen row fields Charge Charge 200000 h refl refl) (amount_within row fields fit);
+      togos = old.togos;
+      statuses = old.statuses;
+    }
+next_within draft ToGo row fields old h =
+    let seen = seen_in draft in
+    let fit = fits_as seen row fields ToGo ToGo h refl in
+    record {
+      project = old.project;
+      items = old.items;
+      events = old.events;
+      acts = old.acts;
+      accounts = old.accounts;
+      charges = old.charges;
+      togos = list_more 100000 IsAmountWithin draft.togos (money_of row fields) old.togos (room_as seen row fields ToGo ToGo 100000 h refl refl) (amount_within row fields fit);
+      statuses = old.statuses;
+    }
+next_within draft Status row fields old h =
+    let seen = seen_in draft in
+    record {
+      project = old.project;
+      items = old.items;
+      events = old.events;
+      acts = old.acts;
+      accounts = old.accounts;
+      charges = old.charges;
+      togos = old.togos;
+      statuses = list_more 20000 IsAny draft.statuses (status_of row fields) old.statuses (room_as seen row fields Status Status 20000 h refl refl) tt;
+    }
+next_within draft End row fields old h = record
+    { project = old.project; items = old.items; events = old.events; acts = old.acts; accounts = old.accounts; charges = old.charges; togos = old.togos; statuses = old.statuses }

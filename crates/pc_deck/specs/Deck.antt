@@ -2,14 +2,29 @@
 use Rattle.std.specs.Prelude.{◌≢◌, ℕ, ◌<◌, nat_eq, List, [], length, map, position, slice_index_or, Option}
 use Rattle.std.specs.Cmp.Lexicographic.{pointwise}
 use Rattle.pc_deck.specs.declared.cards.ProjectCard.{ProjectCard}
+use Rattle.pc_deck.specs.declared.cards.AsOfCard.{AsOfCard}
+use Rattle.pc_deck.specs.declared.cards.ItemCard.{ItemCard}
 use Rattle.pc_deck.specs.declared.cards.EventCard.{EventCard}
 use Rattle.pc_deck.specs.declared.cards.ActCard.{ActCard}
+use Rattle.pc_deck.specs.declared.cards.AcctCard.{AcctCard}
+use Rattle.pc_deck.specs.declared.cards.MoneyCard.{MoneyCard}
+use Rattle.pc_deck.specs.declared.cards.StatusCard.{StatusCard}
 
 -- what the cards of a deck say
 pub record Deck : Type 0 where
   pub project : ProjectCard
+  pub as_of : Option AsOfCard
+  pub items : List ItemCard
   pub events : List EventCard
   pub acts : List ActCard
+  pub accounts : List AcctCard
+  pub charges : List MoneyCard
+  pub togos : List MoneyCard
+  pub statuses : List StatusCard
+
+-- the codes of the items, in card order
+abbrev pub item_codes : Deck → List (List ℕ)
+item_codes deck = map (λ item. item.code) deck.items
 
 -- the codes of the events, in card order
 abbrev pub event_codes : Deck → List (List ℕ)
@@ -19,9 +34,25 @@ event_codes deck = map (λ event. event.code) deck.events
 abbrev pub act_codes : Deck → List (List ℕ)
 act_codes deck = map (λ act. act.code) deck.acts
 
--- the number of the event with a code: the place of its card among the EVENT cards, from 0; none where no card has it
+-- the codes of the accounts, in card order
+abbrev pub account_codes : Deck → List (List ℕ)
+account_codes deck = map (λ account. account.code) deck.accounts
+
+-- the number of the item with a code: the place of its card among the WBS cards, from 0; none where no card has it
+abbrev pub item_named : Deck → List ℕ → Option ℕ
+item_named deck code = position (pointwise nat_eq code) (item_codes deck)
+
+-- the number of the event with a code, as that of an item
 abbrev pub event_named : Deck → List ℕ → Option ℕ
 event_named deck code = position (pointwise nat_eq code) (event_codes deck)
+
+-- the number of the activity with a code, as that of an item
+abbrev pub act_named : Deck → List ℕ → Option ℕ
+act_named deck code = position (pointwise nat_eq code) (act_codes deck)
+
+-- the number of the account with a code, as that of an item
+abbrev pub account_named : Deck → List ℕ → Option ℕ
+account_named deck code = position (pointwise nat_eq code) (account_codes deck)
 
 -- no code stands at two places
 abbrev pub IsNamedOnce : List (List ℕ) → Type 0

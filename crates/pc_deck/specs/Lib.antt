@@ -1,11 +1,12 @@
 pub mod Kinds
-pub mod Fields
-pub mod Plain
+pub mod Forms
+pub mod Spelled
 pub mod Named
 pub mod Deck
-pub mod Within
 pub mod Cards
-pub mod Plainness
+pub mod Judged
+pub mod Reading
+pub mod Within
 pub mod Refusal
 pub mod FaultText
-pub mod PlainDeck
+pub mod Says

@@ -1,11 +1,24 @@
 //! Why a deck is refused.
 
+use crate::kind::Kind;
+use pc_text::Code;
 use std::alloc::AllocError;
 
-/// What a fault names beside its record. No fault names anything yet.
+/// What a fault names beside its record.
 #[derive(Clone, Copy, Debug, PartialEq, Eq)]
 pub enum Detail {
+    /// Nothing.
     Plain,
+    /// The kind of which this is a second card.
+    Kind(Kind),
+    /// How many fields the record has, the empty ones among them, and how many a card of its kind has.
+    Fields { kind: Kind, have: u64, want: u64 },
+    /// The number of a field, the kind being field 1.
+    Field(u8),
+    /// A code.
+    Name(Code),
+    /// The kind of which there are too many cards, and how many there may be.
+    TooMany { kind: Kind, limit: u64 },
 }
 
 /// A fault of a deck: what is wrong, by its number, and at which record. Records are counted from 1; 0 stands for the
@@ -21,6 +34,13 @@ pub struct Fault {
 pub const TOO_LONG: Fault = Fault {
     row: 0,
     number: 1,
+    detail: Detail::Plain,
+};
+
+/// The deck is not UTF-8.
+pub const NOT_UTF8: Fault = Fault {
+    row: 0,
+    number: 2,
     detail: Detail::Plain,
 };
 

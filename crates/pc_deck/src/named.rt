@@ -1,12 +1,53 @@
-//! Cards that other cards name by their codes.
-ghost use Rattle.std.specs.Prelude.{◌≡◌, [], List, ℕ, Some, None, nat_eq, map, position, IfOk, OnErr, if◌then◌else◌};
+//! Lists of cards, and of those that other cards name by their codes.
+ghost use Rattle.std.specs.Prelude.{◌≡◌, [], ◌∷◌, ◌++◌, List, ℕ, false, nat_eq, map, position, OnOk};
 ghost use Rattle.std.specs.Cmp.Lexicographic.{pointwise};
-ghost use Rattle.pc_deck.specs.Named.{with_named};
+ghost use Rattle.pc_deck.specs.Named.{has_code};
 
 use indexmap::IndexSet;
 use pc_text::Code;
 use std::alloc::{AllocError, Global};
 use std::marker::Model;
+
+/// Cards of one kind in card order.
+#[derive(Drop)]
+pub struct Listed<C: Copy> {
+    cards: Vec<C>,
+}
+
+impl<C: Copy> Model for Listed<C> {
+    ghost use Rattle.std.specs.Prelude.{List};
+
+    ghost Value = { List C };
+
+    ghost view = { λ listed. listed.cards.items };
+}
+
+impl<C: Copy> Listed<C> {
+    /// No cards.
+    pub fn new(alloc: Global) -> Self
+        ensures { result ≡ [] }
+    {
+        Listed {
+            cards: Vec::new(alloc),
+        }
+    }
+
+    /// Adds the card.
+    pub fn add(&mut self, card: C) -> Result<(), AllocError>
+        ensures { OnOk result (self.new ≡ self.old ++ card ∷ []) }
+    {
+        self.cards.reserve(1)?;
+        self.cards.push(card).unwrap();
+        Ok(())
+    }
+
+    /// The cards.
+    pub fn as_slice(&self) -> &[C]
+        ensures { result.now ≡ self.now }
+    {
+        self.cards.as_slice()
+    }
+}
 
 /// A card with a code of its own.
 pub trait Coded: Copy {
@@ -46,19 +87,15 @@ impl<C: Coded> Named<C> {
         }
     }
 
-    /// Adds the card, unless there are `limit` cards already or one of them has its code. Says whether it did.
-    pub fn add(&mut self, limit: usize, card: C) -> Result<bool, AllocError>
-        ensures added { IfOk result (λ added. with_named C.own_code limit self.old card ≡ (if added then Some self.new else None)) }
+    /// Adds a card whose code no card has yet.
+    pub fn add(&mut self, card: C) -> Result<(), AllocError>
+        requires { has_code C.own_code self.old (C.own_code card) ≡ false }
+        ensures { OnOk result (self.new ≡ self.old ++ card ∷ []) }
     {
-        if self.cards.len() >= limit {
-            return Ok(false);
-        }
         self.cards.reserve(1)?;
-        let is_new = self.names.insert(*card.code())?;
-        if is_new {
-            self.cards.push(card).unwrap();
-        }
-        Ok(is_new)
+        self.names.insert(*card.code())?;
+        self.cards.push(card).unwrap();
+        Ok(())
     }
 
     /// The cards.
@@ -66,6 +103,13 @@ impl<C: Coded> Named<C> {
         ensures { result.now ≡ self.now }
     {
         self.cards.as_slice()
+    }
+
+    /// Whether a card has the code.
+    pub fn has(&self, code: &Code) -> bool
+        ensures { result ≡ has_code C.own_code self.now code.now }
+    {
+        self.names.contains(code)
     }
 
     /// The place of the card with a code, from 0.

@@ -1,67 +1,38 @@
-//! Reading the cards of a deck, or why they are refused.
-ghost use Rattle.std.specs.Prelude.{◌≡◌, ◌≤◌, length, Some, IfOk, IfErr, OnOk};
-ghost use Rattle.pc_deck.specs.Cards.{deck_cards};
+//! Reading the cards of a deck, or its first fault.
+ghost use Rattle.std.specs.Prelude.{◌≡◌, ◌≤◌, length, Some, Ok, Err, IfOk, IfErr, OnOk};
 ghost use Rattle.std.specs.Str.{is_utf8};
-ghost use Rattle.pc_deck.specs.Within.{IsWithinLimits};
-ghost use Rattle.pc_deck.specs.Plainness.{deck_of, deck_so_far, with_cards};
-ghost use Rattle.pc_deck.specs.Deck.{Deck};
-ghost use Rattle.pc_deck.specs.PlainDeck.{IsPlainDeck};
-ghost use Rattle.pc_deck.specs.Refusal.{first_unknown, IsCardRefusal, Refuses};
+ghost use Rattle.pc_deck.specs.Reading.{cards_of, deck_of};
+ghost use Rattle.pc_deck.specs.Cards.{deck_cards};
+ghost use Rattle.pc_deck.specs.Says.{Says};
+ghost use Rattle.pc_deck.specs.Refusal.{HasFault, IsCardRefusal, Refuses};
 ghost use Rattle.pc_deck.specs.declared.fault.Fault.{Fault};
 
-use crate::card::{Card, read_card};
 use crate::cards::Cards;
 use crate::draft::Draft;
-use crate::fault::{DeckError, Detail, Fault, NOT_PLAIN};
-use crate::kind::Kind;
+use crate::fault::{DeckError, NOT_UTF8};
+use crate::judge::judge;
 use crate::limits::DECK_LIMIT;
-use crate::rows::CardRows;
+use crate::rows::{CardRows, Next};
 use pc_records::Row;
-use std::alloc::{AllocError, Global};
+use std::alloc::Global;
 use std::str;
 
-/// Reads the cards of a deck.
+/// Reads the cards of a deck, or answers its first fault: not UTF-8, or else the fault of the earliest record, and of
+/// that record the fault with the least number. That there is no END card counts as a fault of the record behind the
+/// last.
 ///
-/// Two faults refuse a deck here: the first card of an unknown kind, wherever it stands; and where there is none, that
-/// the deck is not UTF-8 or that its cards are not those of a plain deck. One pass reads an accepted deck.
+/// One pass reads the deck, up to the first fault.
 pub fn read_cards(alloc: Global, bytes: &[u8]) -> Result<Cards, DeckError>
     requires { length bytes.now ≤ DECK_LIMIT }
     ensures cards { IfOk result (λ cards. deck_of bytes.now ≡ Some cards) }
-    ensures refused { IfErr result (Refuses (IsCardRefusal bytes.now)) }
-    ensures plain { IfOk result (IsPlainDeck bytes.now) }
-    ensures not_plain { IfErr result (Refuses (λ _. (deck : Deck) → IsPlainDeck bytes.now deck → ⊥)) }
-    ensures accepted { OnOk result ((fault : Fault) → IsCardRefusal bytes.now fault → ⊥) }
-{
-    if let Some(cards) = plain_cards(alloc, bytes)? {
-        return Ok(cards);
-    }
-    match unknown_kind(alloc, bytes)? {
-        Some(row) => Err(DeckError::Fault(Fault {
-            row,
-            number: 4,
-            detail: Detail::Plain,
-        })),
-        None => Err(DeckError::Fault(NOT_PLAIN)),
-    }
-}
-
-/// The cards of a plain deck, or none where the deck is not plain.
-fn plain_cards(alloc: Global, bytes: &[u8]) -> Result<Option<Cards>, AllocError>
-    requires { length bytes.now ≤ DECK_LIMIT }
-    ensures { IfOk result (λ cards. cards ≡ deck_of bytes.now) }
+    ensures says { IfOk result (λ cards. Says (deck_cards bytes.now) cards) }
+    ensures first { IfErr result (Refuses (IsCardRefusal bytes.now)) }
+    ensures accepted { OnOk result ((fault : Fault) → HasFault bytes.now fault → ⊥) }
 {
     if !is_utf8(bytes) {
-        return Ok(None);
+        return Err(DeckError::Fault(NOT_UTF8));
     }
-    let mut rows = CardRows::new(alloc, bytes);
-    let mut fields = Row::new(alloc);
-    let Some(row) = rows.next(&mut fields)? else {
-        return Ok(None);
-    };
-    let Some(Card::Project(project)) = read_card(row, &fields) else {
-        return Ok(None);
-    };
-    cards_after(rows, fields, Draft::new(alloc, project))
+    cards_of(alloc, bytes)
 }
 
 fn is_utf8(bytes: &[u8]) -> bool
@@ -70,38 +41,28 @@ fn is_utf8(bytes: &[u8]) -> bool
     str::from_utf8(bytes).is_ok()
 }
 
-/// The cards of the draft and of the rows that follow, or none where one of them may not follow or the END card is
-/// wanting.
-fn cards_after(
-    mut rows: CardRows<'_>,
-    mut fields: Row,
-    mut draft: Draft,
-) -> Result<Option<Cards>, AllocError>
-    requires { IsWithinLimits (deck_so_far draft) }
-    ensures { IfOk result (λ cards. cards ≡ with_cards draft rows.entry) }
-{
-    'cards: while let Some(row) = rows.next(&mut fields)? {
-        let Some(card) = read_card(row, &fields) else {
-            return Ok(None);
-        };
-        if !draft.add(card)? {
-            return Ok(None);
-        }
-    }
-    Ok(draft.close())
-}
-
-/// The number of the first card of an unknown kind.
-fn unknown_kind(alloc: Global, bytes: &[u8]) -> Result<Option<u32>, AllocError>
+/// Reads the cards one by one, up to the first fault.
+fn cards_of(alloc: Global, bytes: &[u8]) -> Result<Cards, DeckError>
     requires { length bytes.now ≤ DECK_LIMIT }
-    ensures { IfOk result (λ row. row ≡ first_unknown (deck_cards bytes.now)) }
+    ensures cards { IfOk result (λ cards. cards_of bytes.now ≡ Ok cards) }
+    ensures fault { IfErr result (Refuses (λ fault. cards_of bytes.now ≡ Err fault)) }
 {
     let mut rows = CardRows::new(alloc, bytes);
     let mut fields = Row::new(alloc);
-    'cards: while let Some(row) = rows.next(&mut fields)? {
-        if Kind::read(fields.field(0)).is_none() {
-            return Ok(Some(row));
+    let mut draft = Draft::new(alloc);
+    'cards: loop {
+        let row = match rows.next(&mut fields)? {
+            Next::Card(row) => row,
+            Next::End(end) => {
+                return match draft.close(end) {
+                    Ok(cards) => Ok(cards),
+                    Err(fault) => Err(DeckError::Fault(fault)),
+                };
+            }
+        };
+        match judge(&draft, row, &fields) {
+            Ok(kind) => draft.add(kind, row, &fields)?,
+            Err(fault) => return Err(DeckError::Fault(fault)),
         }
     }
-    Ok(None)
 }

@@ -1,6 +1,7 @@
 //! The cards of a deck among its records.
-ghost use Rattle.std.specs.Prelude.{◌≡◌, ◌≤◌, ◌∷◌, [], length, IfOk, MatchOption};
-ghost use Rattle.pc_deck.specs.Cards.{deck_cards};
+ghost use Rattle.std.specs.Prelude.{◌≡◌, ◌≤◌, ◌+◌, length, IfOk};
+ghost use Rattle.pc_records.specs.Deck.{deck_records};
+ghost use Rattle.pc_deck.specs.Cards.{deck_cards, Follows};
 ghost use Rattle.pc_deck.specs.declared.limits.TheConstants.{DECK_LIMIT};
 
 use pc_records::{Row, Rows};
@@ -17,20 +18,30 @@ pub struct CardRows<'a> {
 
 impl<'a> Model for CardRows<'a> {
     ghost use Rattle.std.specs.Prelude.{ℕ, ◌+◌, ◌<◌, ◌^◌, List, length};
-    ghost use Rattle.pc_deck.specs.Cards.{cards_from};
+    ghost use Rattle.pc_deck.specs.Cards.{cards_from, CardsLeft};
 
-    ghost Value = { List (ℕ × List (List ℕ)) };
+    ghost Value = { CardsLeft };
 
-    ghost view = { λ cards. cards_from (cards.number + 1) cards.rows };
+    ghost view = { λ s. record { cards = cards_from (s.number + 1) s.rows; end = s.number + length s.rows + 1 } };
 
-    ghost invariant = { λ cards. cards.number + length cards.rows < 2 ^ 32 };
+    ghost invariant = { λ s. s.number + length s.rows + 1 < 2 ^ 32 };
+}
+
+/// What stands next in a deck.
+#[derive(Clone, Copy)]
+pub enum Next {
+    /// A card, with its record's number.
+    Card(u32),
+    /// Nothing; with the number behind the last record.
+    End(u32),
 }
 
 impl<'a> CardRows<'a> {
     /// The cards of a deck.
     pub fn new(alloc: Global, bytes: &'a [u8]) -> CardRows<'a>
         requires { length bytes.now ≤ DECK_LIMIT }
-        ensures { result ≡ deck_cards bytes.now }
+        ensures cards { result.cards ≡ deck_cards bytes.now }
+        ensures end { result.end ≡ length (deck_records bytes.now) + 1 }
     {
         CardRows {
             rows: Rows::new(alloc, bytes),
@@ -38,16 +49,16 @@ impl<'a> CardRows<'a> {
         }
     }
 
-    /// Reads the fields of the next card, and answers its number, or none where no card is left.
-    pub fn next(&mut self, fields: &mut Row) -> Result<Option<u32>, AllocError>
-        ensures { IfOk result (λ found. MatchOption found (self.old ≡ []) (λ number. self.old ≡ (number, fields.new) ∷ self.new)) }
+    /// Reads the fields of the next card, if a card is left.
+    pub fn next(&mut self, fields: &mut Row) -> Result<Next, AllocError>
+        ensures { IfOk result (λ next. Follows next self.old self.new fields.new) }
     {
         'rows: while self.rows.next_row(fields)? {
             self.number += 1;
             if !fields.is_blank() {
-                return Ok(Some(self.number));
+                return Ok(Next::Card(self.number));
             }
         }
-        Ok(None)
+        Ok(Next::End(self.number + 1))
     }
 }

@@ -7,8 +7,7 @@ use Rattle.pc_project.specs.Project.{network_of}
 use Rattle.pc_deck.specs.declared.cards.ActCard.{ActCard}
 use Rattle.pc_deck.specs.Deck.{Deck}
 use Rattle.pc_model.specs.Network.{Network, IsUnsound}
-use Rattle.pc_deck.specs.declared.fault.TheConstants.{NOT_PLAIN}
-use Rattle.pc_deck.specs.Refusal.{Refuses}
+use Rattle.pc_deck.specs.Refusal.{Refuses, fault_not_plain}
 use Rattle.pc_net.specs.declared.refusal.NetError.{NetError}
 use Rattle.pc_net.specs.declared.refusal.NetError.TheVariants.{StartEntered, EndLeft, Dangling, Cycle, OutOfMemory}
 use Rattle.pc_net.specs.Refusals.{IsRefusal}
@@ -57,10 +56,10 @@ no_misfit deck makes (misfit_act act (i, within, there) misfit) =
 no_misfit deck makes (unsound broken) = IsSound-not-IsUnsound (network_of deck) makes.sound broken
 
 -- a deck whose network is refused has a misfit, or memory ran out
-pub refused_network : (deck : Deck) (net : Network) (error : NetError) → net ≡ network_of deck → IsRefusal net error → Refuses (λ fault. (fault ≡ NOT_PLAIN) × HasMisfit deck) (refusal_of error)
+pub refused_network : (deck : Deck) (net : Network) (error : NetError) → net ≡ network_of deck → IsRefusal net error → Refuses (λ fault. (fault ≡ fault_not_plain) × HasMisfit deck) (refusal_of error)
 refused_network deck net error same refused = by error (λ other. unsound (subst IsUnsound same (refused_is_unsound net error refused other)))
   where
-    by : (error : NetError) → (error ≢ OutOfMemory → HasMisfit deck) → Refuses (λ fault. (fault ≡ NOT_PLAIN) × HasMisfit deck) (refusal_of error)
+    by : (error : NetError) → (error ≢ OutOfMemory → HasMisfit deck) → Refuses (λ fault. (fault ≡ fault_not_plain) × HasMisfit deck) (refusal_of error)
     by (StartEntered arc) misfit = (refl, misfit (λ same. cc))
     by (EndLeft arc) misfit = (refl, misfit (λ same. cc))
     by (Dangling event entered) misfit = (refl, misfit (λ same. cc))

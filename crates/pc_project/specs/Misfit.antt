@@ -5,10 +5,10 @@ use Rattle.pc_deck.specs.declared.cards.ActCard.{ActCard}
 use Rattle.pc_deck.specs.Deck.{Deck, event_named}
 use Rattle.pc_deck.specs.declared.fault.DeckError.{DeckError}
 use Rattle.pc_deck.specs.declared.fault.DeckError.TheVariants.{Fault, OutOfMemory}
-use Rattle.pc_deck.specs.declared.fault.TheConstants.{NOT_PLAIN}
 use Rattle.pc_net.specs.declared.refusal.NetError.{NetError}
 use Rattle.pc_net.specs.declared.refusal.NetError.TheVariants.{StartEntered, EndLeft, Dangling, Cycle}
 use Rattle.pc_net.specs.declared.refusal.NetError.TheVariants as net
+use Rattle.pc_deck.specs.Refusal.{fault_not_plain}
 use Rattle.pc_project.specs.Project.{network_of}
 
 -- some EVENT card has the code
@@ -60,8 +60,8 @@ pub data HasMisfit (deck : Deck) : Type 0 where
 
 -- how a deck is refused whose network is: it makes no project, or memory ran out
 abbrev pub refusal_of : NetError → DeckError
-refusal_of (StartEntered arc) = Fault NOT_PLAIN
-refusal_of (EndLeft arc) = Fault NOT_PLAIN
-refusal_of (Dangling event entered) = Fault NOT_PLAIN
-refusal_of (Cycle cycle) = Fault NOT_PLAIN
+refusal_of (StartEntered arc) = Fault fault_not_plain
+refusal_of (EndLeft arc) = Fault fault_not_plain
+refusal_of (Dangling event entered) = Fault fault_not_plain
+refusal_of (Cycle cycle) = Fault fault_not_plain
 refusal_of net.OutOfMemory = OutOfMemory

@@ -3,7 +3,7 @@ ghost use Rattle.std.specs.Prelude.{◌≡◌, ◌≤◌, ◌<◌, ℕ, List, le
 ghost use Rattle.pc_model.specs.Network.{IsSound};
 ghost use Rattle.pc_model.specs.Schedule.{AreTerms};
 ghost use Rattle.pc_deck.specs.Deck.{Deck};
-ghost use Rattle.pc_deck.specs.Refusal.{Refuses};
+ghost use Rattle.pc_deck.specs.Refusal.{Refuses, fault_not_plain};
 ghost use Rattle.pc_project.specs.Project.{network_of, project_in};
 ghost use Rattle.pc_project.specs.Planned.{IsPlanned};
 ghost use Rattle.pc_project.specs.Misfit.{HasMisfit, MakesProject, refusal_of};
@@ -79,7 +79,7 @@ impl Project {
 fn network(alloc: Global, cards: &Cards) -> Result<Net, DeckError>
     ensures network { IfOk result (λ net. net ≡ network_of cards.now) }
     ensures makes { IfOk result (λ _. MakesProject cards.now) }
-    ensures refused { IfErr result (λ e. Refuses (λ fault. (fault ≡ NOT_PLAIN) × HasMisfit cards.now) e) }
+    ensures refused { IfErr result (λ e. Refuses (λ fault. (fault ≡ fault_not_plain) × HasMisfit cards.now) e) }
 {
     let Some((start, end)) = ends(cards) else {
         return Err(DeckError::Fault(NOT_PLAIN));
@@ -129,7 +129,7 @@ fn planned(alloc: Global, cards: &Cards, net: Net) -> Result<Project, AllocError
 pub fn project_of(alloc: Global, cards: Cards) -> Result<Project, DeckError>
     ensures project { IfOk result (λ project. project ≡ project_in cards) }
     ensures makes { IfOk result (λ _. MakesProject cards) }
-    ensures refused { IfErr result (λ e. Refuses (λ fault. (fault ≡ NOT_PLAIN) × HasMisfit cards) e) }
+    ensures refused { IfErr result (λ e. Refuses (λ fault. (fault ≡ fault_not_plain) × HasMisfit cards) e) }
 {
     let net = match network(alloc, &cards) {
         Ok(net) => net,

@@ -1,9 +1,11 @@
 -- Writing a decimal form from its last digit on.
-use Rattle.std.proofs.Common.{◌≡◌, ℕ, ◌+◌, ◌-◌, ◌/◌, ◌%◌, ◌^◌, ◌<◌, ◌≤◌, List, [], ◌∷◌, ◌++◌, length, drop, set, sym, ap, ◌∙◌, arith, length-append, append-nil, append_assoc}
+use Rattle.std.proofs.Common.{◌≡◌, ℕ, ◌+◌, ◌-◌, ◌/◌, ◌%◌, ◌^◌, ◌<◌, ◌≤◌, ℤ, pos, negsuc, ◌≤ℤ◌, ◌<ℤ◌, List, [], ◌∷◌, ◌++◌, length, drop, set, refl, sym, ap, ◌∙◌, arith, length-append, length-drop, append-nil, append_assoc}
 use Rattle.std.proofs.lemmas.Fmt.{decimal_step, decimal_digit, decimal_nonempty, length-decimal-le}
 use Rattle.std.proofs.lemmas.List.{drop-set, drop_all}
+use Rattle.std.proofs.lemmas.Int.{ints}
 use Rattle.std.proofs.Math.ListN.{length-set}
-use Rattle.std.specs.Fmt.{decimal}
+use Rattle.std.specs.Prelude.{unsigned_abs}
+use Rattle.std.specs.Fmt.{decimal, signed_decimal}
 
 -- the cells from `start` on have the last digits of n, and `rest` is the number before them
 pub record IsWritten (n rest start : ℕ) (cells : List ℕ) : Type 0 where
@@ -54,3 +56,18 @@ last {n} {rest} {start} {cells} w few =
     let some = room_left w (omega arith) in
     written start (48 + rest) cells some (omega (arith, w.within, w.full))
     ∙ sym (w.whole ∙ ap (λ front. front ++ drop start cells) (decimal_digit rest few))
+
+-- fewer than 20 digits leave a cell before them
+pub room_for_sign : (n start : ℕ) (cells : List ℕ) → n < 10 ^ 19 → length cells ≡ 20 → start ≤ 20 → drop start cells ≡ decimal n → 1 ≤ start
+room_for_sign n start cells small full within whole =
+    omega (arith, length-decimal-le 19 n (omega arith) small (omega arith), ap length whole, length-drop start cells)
+
+-- the sign of a number below 0 goes before its digits
+pub with_sign : (z : ℤ) (start : ℕ) (cells : List ℕ) → z <ℤ pos 0 → 1 ≤ start → start ≤ length cells → drop start cells ≡ decimal (unsigned_abs z) → drop (start - 1) (set cells (start - 1) 45) ≡ signed_decimal z
+with_sign (pos n) start cells below some within whole = absurd (omega (arith, ints))
+with_sign (negsuc n) start cells below some within whole = written start 45 cells some within ∙ ap (λ back. 45 ∷ back) whole
+
+-- a number from 0 on has none
+pub without_sign : (z : ℤ) → pos 0 ≤ℤ z → decimal (unsigned_abs z) ≡ signed_decimal z
+without_sign (pos n) above = refl
+without_sign (negsuc n) above = absurd (omega (arith, ints))

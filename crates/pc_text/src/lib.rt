@@ -2,6 +2,7 @@
 #![tactic(auto)]
 
 mod code;
+mod codes;
 mod decimal;
 mod line;
 mod number;
@@ -9,9 +10,10 @@ mod title;
 mod words;
 
 pub use code::{Code, is_code};
-pub use decimal::Digits;
+pub use codes::Codes;
+pub use decimal::{Digits, Signed};
 pub use line::Line;
-pub use number::{digits, read_number};
+pub use number::{digits, read_number, signed};
 pub use title::{Title, is_title_shape};
 
 #[cfg(test)]

@@ -1,5 +1,6 @@
 //! The line that a report is written on, cell by cell, before it goes out in one piece.
-ghost use Rattle.std.specs.Prelude.{◌≡◌, ◌+◌, ◌≤◌, [], ◌++◌, length, IfOk};
+ghost use Rattle.std.specs.Prelude.{◌≡◌, ◌+◌, ◌-◌, ◌≤◌, max, [], ◌++◌, length, IfOk};
+ghost use Rattle.pc_text.specs.Line.{spaces};
 
 use std::alloc::{AllocError, Global};
 use std::marker::Model;
@@ -63,5 +64,36 @@ impl Line {
         ensures room { self.new.room ≡ self.old.room }
     {
         self.bytes.extend_from_slice(piece).unwrap();
+    }
+
+    /// Appends the piece at the left of a cell of this width. A longer piece is appended whole.
+    pub fn cell_left(&mut self, piece: &[u8], width: usize)
+        requires { length self.old.bytes + max (length piece.now) width ≤ self.old.room }
+        ensures bytes { self.new.bytes ≡ self.old.bytes ++ piece.now ++ spaces (width - length piece.now) }
+        ensures room { self.new.room ≡ self.old.room }
+    {
+        self.text(piece);
+        let behind = width.saturating_sub(piece.len());
+        self.spaces(behind);
+    }
+
+    /// Appends the piece at the right of a cell of this width. A longer piece is appended whole.
+    pub fn cell_right(&mut self, piece: &[u8], width: usize)
+        requires { length self.old.bytes + max (length piece.now) width ≤ self.old.room }
+        ensures bytes { self.new.bytes ≡ self.old.bytes ++ spaces (width - length piece.now) ++ piece.now }
+        ensures room { self.new.room ≡ self.old.room }
+    {
+        let before = width.saturating_sub(piece.len());
+        self.spaces(before);
+        self.text(piece);
+    }
+
+    /// Appends so many spaces.
+    fn spaces(&mut self, count: usize)
+        requires { length self.old.bytes + count ≤ self.old.room }
+        ensures bytes { self.new.bytes ≡ self.old.bytes ++ spaces count }
+        ensures room { self.new.room ≡ self.old.room }
+    {
+        self.bytes.resize(self.bytes.len() + count, b' ').unwrap();
     }
 }

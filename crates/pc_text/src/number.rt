@@ -2,9 +2,10 @@
 ghost use Rattle.std.specs.Prelude.{◌≡◌, ◌≤◌, ℕ, IfSome, IsTrue, Some, decimal, length};
 ghost use Rattle.std.specs.List.{list_all};
 ghost use Rattle.std.specs.Char.{is_ascii_digit};
+ghost use Rattle.std.specs.Fmt.{signed_decimal};
 ghost use Rattle.pc_text.specs.Number.{is_number, value_after, number_of, IsDecimal};
 
-use crate::decimal::Digits;
+use crate::decimal::{Digits, Signed};
 
 /// The most digits that a number has.
 const LIMIT: usize = 13;
@@ -58,4 +59,12 @@ pub fn digits(n: u64) -> Digits
     ensures short { length result ≤ 20 }
 {
     Digits::of(n)
+}
+
+/// The decimal form of a number, with `-` before a negative one.
+pub fn signed(n: i64) -> Signed
+    ensures value { result ≡ signed_decimal n }
+    ensures short { length result ≤ 20 }
+{
+    Signed::of(n)
 }

@@ -21,6 +21,8 @@ fn codes(rt: HostRuntime) -> Result<(), Fail> {
         assert_eq!(rt; is_code(field), is);
         assert_eq!(rt; Code::read(field).is_some(), is);
     }
+    let list = Codes::of(rt.alloc(), &[later, code])?;
+    assert_eq!(rt; list.as_slice(), [later, code].as_slice());
     let mut seen = HashSet::new(rt.alloc());
     assert!(rt; seen.insert(code)?);
     assert!(rt; seen.insert(later)?);
@@ -62,16 +64,31 @@ fn numbers(rt: HostRuntime) {
         digits(u64::MAX).bytes(),
         b"18446744073709551615".as_slice()
     );
+    let signs: [(i64, &[u8]); 5] = [
+        (0, b"0"),
+        (37, b"37"),
+        (-6, b"-6"),
+        (i64::MAX, b"9223372036854775807"),
+        (i64::MIN, b"-9223372036854775808"),
+    ];
+    for (number, text) in signs {
+        assert_eq!(rt; signed(number).bytes(), text);
+    }
 }
 
 #[test]
 fn lines(rt: HostRuntime) -> Result<(), Fail> {
-    let mut line = Line::with_room(rt.alloc(), 6)?;
+    let mut line = Line::with_room(rt.alloc(), 16)?;
     line.text(b"ACT ");
     line.text(b"A");
     assert_eq!(rt; line.bytes(), b"ACT A".as_slice());
-    assert_eq!(rt; line.room_left(), 1);
+    assert_eq!(rt; line.room_left(), 11);
     line.clear();
-    assert_eq!(rt; line.room_left(), 6);
+    assert_eq!(rt; line.room_left(), 16);
+    line.cell_left(b"AB", 4);
+    line.cell_right(b"C", 3);
+    line.cell_left(b"DEFG", 2);
+    line.cell_right(b"HI", 1);
+    assert_eq!(rt; line.bytes(), b"AB    CDEFGHI".as_slice());
     Ok(())
 }

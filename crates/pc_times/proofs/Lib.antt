@@ -1,3 +1,5 @@
 mod TimesLaws
+mod EstimateLaws
+mod LateLaws
 mod PickedLaws
 pub mod PickedWalks

@@ -1,5 +1,5 @@
 -- How the greatest sum at one event comes from those at its neighbours.
-use Rattle.std.proofs.Common.{◌≡◌, ◌≢◌, ℕ, ◌+◌, ◌*◌, ◌^◌, ◌-◌, ◌<◌, ◌≤◌, List, [], ◌∷◌, ◌++◌, length, slice_index, reverse, get_or, set, get_or-set_same, get_or-set_other, length-set, ◌∙◌, refl, sym, ap, subst, ◌⊎◌, inl, inr, ⊎_elim, max, below_more, arith}
+use Rattle.std.proofs.Common.{◌≡◌, ◌≢◌, ℕ, ◌+◌, ◌*◌, ◌-◌, ◌<◌, ◌≤◌, List, [], ◌∷◌, ◌++◌, length, slice_index, reverse, get_or, set, get_or-set_same, get_or-set_other, length-set, ◌∙◌, refl, sym, ap, subst, ◌⊎◌, inl, inr, ⊎_elim, max, below_more, arith}
 use Rattle.std.proofs.Math.Nat.{mul-le-mul_right}
 use Rattle.std.specs.Ordering.{nat_cmp, ord_max}
 use Rattle.std.proofs.lemmas.List.{length-reverse, get_or-reverse, get_or_default}
@@ -10,6 +10,7 @@ use Rattle.pc_model.specs.Walk.{from_of, to_of, IsWalk, walk_sum, IsSumOfWalk}
 use Rattle.pc_model.specs.Network.{Network, IsInRange, IsSound, IsOrder, IsEntered, IsLeft, IsEarly}
 use Rattle.pc_model.proofs.WalkLaws.{IsWalk-push, walk_sum-push, last_of_walk, walk_sum-bound}
 use Rattle.pc_model.proofs.OrderLaws.{walk_is_short, stands_in_order, same_place}
+use Rattle.pc_model.specs.declared.limits.TheConstants.{MAX_EVENTS}
 use Rattle.pc_times.specs.declared.TheConstants.{MAX_LENGTH}
 use Rattle.pc_times.specs.Times.{IsTail, AreLengths, AreEarly, AreTails}
 use Rattle.pc_times.specs.Passes.{HasBoundedWalks, AreEarlyBefore, AreTailsAfter}
@@ -144,7 +145,7 @@ walk_sum_fits net order ordered lengths limit small e f n below (walk, walked, s
     shorter walk walked = omega (arith, walk_is_short net order ordered e f walk walked below)
 
 -- what the passes need of a network, from its order and the lengths
-pub has_bounded_walks : (net : Network) (order lengths : List ℕ) → IsInRange net → IsSound net → IsOrder net order → net.events < 2 ^ 32 → AreLengths net lengths → HasBoundedWalks net lengths
+pub has_bounded_walks : (net : Network) (order lengths : List ℕ) → IsInRange net → IsSound net → IsOrder net order → net.events ≤ MAX_EVENTS → AreLengths net lengths → HasBoundedWalks net lengths
 has_bounded_walks net order lengths ranged sound ordered few lengths_of = record {
   ranged = ranged;
   sound = sound;

@@ -1,3 +1,5 @@
 pub mod Times
 pub mod Picked
 pub mod Passes
+pub mod Estimates
+pub mod Late

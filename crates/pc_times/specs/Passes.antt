@@ -1,15 +1,16 @@
 -- What the passes over the events and activities of a network need, and the test for critical activities.
-use Rattle.std.specs.Prelude.{◌≡◌, ℕ, ◌+◌, ◌*◌, ◌^◌, ◌<◌, ◌≤◌, List, length, slice_index}
+use Rattle.std.specs.Prelude.{◌≡◌, ℕ, ◌+◌, ◌*◌, ◌<◌, ◌≤◌, List, length, slice_index}
 use Rattle.pc_model.specs.Walk.{from_of, to_of, IsWalk, IsSumOfWalk}
 use Rattle.pc_model.specs.Network.{Network, IsInRange, IsSound, IsEarly}
 use Rattle.pc_times.specs.Times.{IsTail}
+use Rattle.pc_model.specs.declared.limits.TheConstants.{MAX_EVENTS}
 use Rattle.pc_times.specs.declared.TheConstants.{MAX_LENGTH}
 
 -- the network is sound, and each walk has fewer activities than there are events, so that sums over walks stay small
 pub record HasBoundedWalks (net : Network) (lengths : List ℕ) : Type 0 where
   pub ranged : IsInRange net
   pub sound : IsSound net
-  pub few : net.events < 2 ^ 32
+  pub few : net.events ≤ MAX_EVENTS
   pub short : (e f : ℕ) (walk : List ℕ) → f < net.events → IsWalk net.arcs e walk f → length walk < net.events
   pub fits : (e f n : ℕ) → f < net.events → IsSumOfWalk net.arcs lengths e f n → n ≤ net.events * MAX_LENGTH
 

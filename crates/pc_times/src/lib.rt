@@ -1,13 +1,23 @@
 //! Event times and the critical path: for given lengths of the activities the greatest sums of lengths over the
-//! walks of a network.
+//! walks of a network, and the lengths that estimates give.
 #![tactic(auto)]
 
+mod estimate;
+mod events;
 mod found;
 mod passes;
 mod path;
 
+pub use estimate::{expected_sixths, variance_36};
+pub use events::{early, late, slack};
 pub use found::Longest;
-pub use path::longest;
+pub use path::{critical_path, longest};
 
 /// The greatest length of an activity: 100,000 units of 7 days, in sixths of a day.
 pub const MAX_LENGTH: u64 = 4_200_000;
+
+/// The greatest time of an event: no walk has more than 5,000 activities, each of the greatest length.
+pub const MAX_TIME: u64 = 21_000_000_000;
+
+/// The most days of a unit in which durations are given.
+pub const MAX_UNIT_DAYS: u64 = 7;

@@ -1,8 +1,10 @@
-ghost use Rattle.std.specs.Prelude.{◌≡◌, IfOk, OnOk};
+ghost use Rattle.std.specs.Prelude.{◌≡◌, ◌≤◌, IfOk, OnOk};
+ghost use Rattle.std.specs.List.{All};
 ghost use Rattle.pc_model.specs.Network.{IsEarly};
 ghost use Rattle.pc_times.specs.Times.{AreLengths, AreEarly, AreTails, IsTail};
 ghost use Rattle.pc_times.specs.Passes.{HasBoundedWalks, AreEarlyBefore, AreTailsAfter};
 
+use crate::MAX_TIME;
 use pc_net::Net;
 use std::alloc::{AllocError, Global};
 
@@ -10,6 +12,7 @@ use std::alloc::{AllocError, Global};
 pub(crate) fn early_times(alloc: Global, net: &Net, lengths: &[u64]) -> Result<Vec<u64>, AllocError>
     requires { AreLengths net.now lengths.now }
     ensures times { IfOk result (λ times. AreEarly net.now lengths.now times.items) }
+    ensures limit { IfOk result (λ times. All (λ time. time ≤ MAX_TIME) times.items) }
     ensures walks { OnOk result (HasBoundedWalks net.now lengths.now) }
 {
     let mut times = vec![in alloc; 0; net.events() as usize]?;
@@ -27,6 +30,7 @@ pub(crate) fn tails_to_end(
 ) -> Result<Vec<u64>, AllocError>
     requires { AreLengths net.now lengths.now }
     ensures tails { IfOk result (λ tails. AreTails net.now lengths.now tails.items) }
+    ensures limit { IfOk result (λ tails. All (λ tail. tail ≤ MAX_TIME) tails.items) }
     ensures walks { OnOk result (HasBoundedWalks net.now lengths.now) }
 {
     let mut tails = vec![in alloc; 0; net.events() as usize]?;

@@ -3,7 +3,7 @@ ghost use Rattle.pc_model.specs.Greatest.{IsFirst};
 ghost use Rattle.pc_model.specs.Walk.{IsWalk, walk_sum};
 ghost use Rattle.pc_model.specs.Network.{IsLongest};
 ghost use Rattle.pc_times.specs.Times.{AreLengths, AreEarly, AreTails};
-ghost use Rattle.pc_times.specs.Picked.{IsPickedWalk};
+ghost use Rattle.pc_times.specs.Picked.{IsPickedWalk, IsLongestWalk};
 ghost use Rattle.pc_times.specs.Passes.{HasBoundedWalks, IsTight};
 
 use crate::found::Longest;
@@ -34,6 +34,16 @@ pub fn longest(alloc: Global, net: &Net, lengths: &[u64]) -> Result<Longest, All
         times,
         path,
     })
+}
+
+/// The critical path, in two passes over the activities: the walk that `longest` finds.
+pub fn critical_path(alloc: Global, net: &Net, lengths: &[u64]) -> Result<Vec<u32>, AllocError>
+    requires { AreLengths net.now lengths.now }
+    ensures picked { IfOk result (λ path. IsPickedWalk net.now lengths.now path.items) }
+    ensures longest { IfOk result (λ path. IsLongestWalk net.now lengths.now path.items) }
+    ensures short { IfOk result (λ path. length path.items < net.now.events) }
+{
+    Ok(longest(alloc, net, lengths)?.path)
 }
 
 /// The picked walk, by the sums to each event and from it.
@@ -109,6 +119,8 @@ mod tests {
 
         let direct = longest(rt.alloc(), &net, &[1, 1, 5])?;
         assert_eq!(rt; direct.path(), [2].as_slice());
+        let path = critical_path(rt.alloc(), &net, &[1, 1, 5])?;
+        assert_eq!(rt; path.as_slice(), [2].as_slice());
         Ok(())
     }
 }

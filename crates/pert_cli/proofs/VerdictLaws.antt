@@ -1,24 +1,31 @@
 -- Verdicts on a deck: accepted, or refused with a fault, and never both.
-use Rattle.std.proofs.Common.{◌≡◌, ℕ, ◌≤◌, List, length, Some, sym, ◌∙◌, ap, subst, arith, Result, Ok, Err}
+use Rattle.std.proofs.Common.{◌≡◌, ℕ, ◌≤◌, List, length, Some, sym, ◌∙◌, ap, subst, refl, arith, Result, Ok, Err}
 use Rattle.std.specs.Prelude.{IfErr, unwrap_or}
 use Rattle.pc_deck.specs.declared.limits.TheConstants.{DECK_LIMIT}
 use Rattle.pc_deck.specs.declared.fault.Fault.{Fault as ADeckFault}
 use Rattle.pc_deck.specs.declared.fault.DeckError.{DeckError}
 use Rattle.pc_deck.specs.declared.fault.DeckError.TheVariants.{Fault, OutOfMemory}
-use Rattle.pc_deck.specs.declared.fault.TheConstants.{NOT_PLAIN}
 use Rattle.pc_deck.specs.Deck.{Deck}
-use Rattle.pc_deck.specs.Plainness.{deck_of}
-use Rattle.pc_deck.specs.Refusal.{Refuses}
+use Rattle.pc_deck.specs.Reading.{deck_of}
+use Rattle.pc_deck.specs.Refusal.{Refuses, fault_not_plain}
+use Rattle.pc_deck.specs.FaultText.{IsTold}
+use Rattle.pc_deck.proofs.ToldLemmas.{told_of-refusal}
 use Rattle.pc_deck.proofs.RefusalLemmas.{not_both as cards_not_refused}
 use Rattle.pc_project.specs.Misfit.{HasMisfit}
 use Rattle.pc_project.proofs.MisfitLaws.{no_misfit}
 use Rattle.pert_cli.specs.Verdict.{IsAccepted, IsFault, too_long, card_refusal, misfit}
 
 -- the refusal of a project is the fault of its deck
-pub refused_project : {A : Type 0} (result : Result A DeckError) (bytes : List ℕ) (deck : Deck) → length bytes ≤ DECK_LIMIT → deck_of bytes ≡ Some deck → IfErr result (λ e. Refuses (λ fault. (fault ≡ NOT_PLAIN) × HasMisfit deck) e) → IfErr result (Refuses (IsFault bytes))
+pub refused_project : {A : Type 0} (result : Result A DeckError) (bytes : List ℕ) (deck : Deck) → length bytes ≤ DECK_LIMIT → deck_of bytes ≡ Some deck → IfErr result (λ e. Refuses (λ fault. (fault ≡ fault_not_plain) × HasMisfit deck) e) → IfErr result (Refuses (IsFault bytes))
 refused_project (Ok project) bytes deck short cards refused = tt
 refused_project (Err (Fault fault)) bytes deck short cards refused = misfit deck short cards refused.1 refused.0
 refused_project (Err OutOfMemory) bytes deck short cards refused = tt
+
+-- each fault of a deck can be told
+pub told_of-fault : (bytes : List ℕ) (fault : ADeckFault) → IsFault bytes fault → IsTold fault
+told_of-fault bytes fault (too_long long is) = subst IsTold (sym is) refl
+told_of-fault bytes fault (card_refusal short refusal) = told_of-refusal bytes fault refusal
+told_of-fault bytes fault (misfit deck short cards broken is) = subst IsTold (sym is) refl
 
 -- two decks that the same bytes spell are one deck
 same_deck : (bytes : List ℕ) (deck other : Deck) → deck_of bytes ≡ Some deck → deck_of bytes ≡ Some other → deck ≡ other

@@ -1,12 +1,12 @@
 -- What a run means and leaves behind, by its status.
-use Rattle.std.specs.Prelude.{◌≢◌, ℕ, List, Option, IfSome, String}
+use Rattle.std.specs.Prelude.{ℕ, ◌≤◌, List, length, Option, IfSome, String}
 use Rattle.std.specs.Io.KnownBytes.{IsAtEnd}
 use Rattle.std.specs.declared.alloc.Global.{Global}
 use Rattle.pc_edges.specs.Faults.{Rose}
 use Rattle.pc_edges.specs.Writes.{Wrote, Stopped}
 use Rattle.pc_deck.specs.declared.fault.Fault.{Fault}
-use Rattle.pc_deck.specs.declared.fault.TheConstants.{TOO_LONG}
 use Rattle.pc_deck.specs.FaultText.{fault_text}
+use Rattle.pc_deck.specs.declared.limits.TheConstants.{DECK_LIMIT}
 use Rattle.pc_project.specs.Project.{Project}
 use Rattle.pert_cli.specs.declared.status.Status.{Status}
 use Rattle.pert_cli.specs.declared.status.Status.TheVariants.{Done, Refused, Usage, OutOfMemory, ReadFault, WriteFault}
@@ -65,11 +65,11 @@ pub record IsDone (source : SourceRun) (out : SinkRun) : Type 0 where
   pub answer : IfSome source.left (λ bytes. IsAnswer bytes text)
   pub took : Took out text
 
--- the deck is refused, and the error output took the line of its fault; the deck was read to its end, or past its limit
+-- the deck is refused, and the error output took the line of its fault; the deck was read to its end, unless it is too long
 pub record IsRefused (source : SourceRun) (err : SinkRun) : Type 0 where
   pub fault : Fault
   pub is : IfSome source.left (λ bytes. IsFault bytes fault)
-  pub read : fault ≢ TOO_LONG → IsAtEnd source.left_after
+  pub read : IfSome source.left (λ bytes. length bytes ≤ DECK_LIMIT → IsAtEnd source.left_after)
   pub took : Took err (fault_text fault)
 
 -- a fault of the output came when it had taken a front of the answer

@@ -2,10 +2,9 @@
 use Rattle.std.specs.Prelude.{◌≡◌, ℕ, ◌<◌, ◌≤◌, List, length, Some}
 use Rattle.pc_deck.specs.declared.limits.TheConstants.{DECK_LIMIT}
 use Rattle.pc_deck.specs.declared.fault.Fault.{Fault}
-use Rattle.pc_deck.specs.declared.fault.TheConstants.{NOT_PLAIN, TOO_LONG}
 use Rattle.pc_deck.specs.Deck.{Deck}
-use Rattle.pc_deck.specs.Plainness.{deck_of}
-use Rattle.pc_deck.specs.Refusal.{IsCardRefusal}
+use Rattle.pc_deck.specs.Reading.{deck_of}
+use Rattle.pc_deck.specs.Refusal.{IsCardRefusal, fault_not_plain, fault_too_long}
 use Rattle.pc_project.specs.Project.{Project, project_in}
 use Rattle.pc_project.specs.Misfit.{MakesProject, HasMisfit}
 
@@ -17,9 +16,9 @@ pub record IsAccepted (bytes : List ℕ) (deck : Deck) : Type 0 where
 
 -- the fault with which a deck is refused: it is too long, its cards are refused, or they make no project
 pub data IsFault (bytes : List ℕ) (fault : Fault) : Type 0 where
-  too_long : DECK_LIMIT < length bytes → fault ≡ TOO_LONG → IsFault bytes fault
+  too_long : DECK_LIMIT < length bytes → fault ≡ fault_too_long → IsFault bytes fault
   card_refusal : length bytes ≤ DECK_LIMIT → IsCardRefusal bytes fault → IsFault bytes fault
-  misfit : (deck : Deck) → length bytes ≤ DECK_LIMIT → deck_of bytes ≡ Some deck → HasMisfit deck → fault ≡ NOT_PLAIN → IsFault bytes fault
+  misfit : (deck : Deck) → length bytes ≤ DECK_LIMIT → deck_of bytes ≡ Some deck → HasMisfit deck → fault ≡ fault_not_plain → IsFault bytes fault
 
 -- the project is that of the deck, which is accepted
 pub record IsProjectOf (bytes : List ℕ) (project : Project) : Type 0 where

@@ -12,12 +12,98 @@ ACT,B,M,T,1.2,4,5,12,5,3,20,5,Cover\n\
 ACT,C,S,T,1.1,7,7,7,7,5,15,2,Frame\n\
 END\n";
 
+// A deck with an item of each account, and the same deck as a spreadsheet pads it: fourteen fields in each record, and
+// a record of commas.
+const WHOLE: &[u8] = b"PROJECT,E1,S,T,2024-01-01,1,,Example one\n\
+WBS,1,,Whole\n\
+WBS,1.1,1,\"Frame, north\"\n\
+WBS,1.2,1,Roof\n\
+EVENT,S,Start\n\
+EVENT,M,Middle\n\
+EVENT,T,End\n\
+ACT,A,S,M,1.1,3,4,5,4,2,10,3,Dig\n\
+ACT,B,M,T,1.2,4,5,12,5,3,20,5,Cover\n\
+ACT,C,S,T,1.1,7,7,7,7,5,15,2,Frame\n\
+ACCT,X1,1.1,25,Frame account\n\
+ACCT,X2,1.2,20,Roof account\n\
+END\n";
+
+const PADDED: &[u8] = b"\xEF\xBB\xBFPROJECT,E1,S,T,2024-01-01,1,,Example one,,,,,,\r\n\
+,,,,,,,,,,,,,\r\n\
+WBS,1,,Whole,,,,,,,,,,\r\n\
+WBS,1.1,1,\"Frame, north\",,,,,,,,,,\r\n\
+WBS,1.2,1,Roof,,,,,,,,,,\r\n\
+EVENT,S,Start,,,,,,,,,,,\r\n\
+EVENT,M,Middle,,,,,,,,,,,\r\n\
+EVENT,T,End,,,,,,,,,,,\r\n\
+ACT,A,S,M,1.1,3,4,5,4,2,10,3,Dig,\r\n\
+ACT,B,M,T,1.2,4,5,12,5,3,20,5,Cover,\r\n\
+ACT,C,S,T,1.1,7,7,7,7,5,15,2,Frame,\r\n\
+ACCT,X1,1.1,25,Frame account,,,,,,,,,\r\n\
+ACCT,X2,1.2,20,Roof account,,,,,,,,,\r\n\
+END,,,,,,,,,,,,,\r\n";
+
+// The same deck with a wrong event and a wrong number.
+const WRONG_NUMBER: &[u8] = b"PROJECT,E1,S,T,2024-01-01,1,,Example one\n\
+WBS,1,,Whole\n\
+WBS,1.1,1,\"Frame, north\"\n\
+WBS,1.2,1,Roof\n\
+EVENT,S,Start\n\
+EVENT,M,Middle\n\
+EVENT,T,End\n\
+ACT,A,S,Q,1.1,3,4,5,4,2,10,3,Dig\n\
+ACT,B,M,T,1.2,4,5,12,5,3,2x,5,Cover\n\
+ACT,C,S,T,1.1,7,7,7,7,5,15,2,Frame\n\
+ACCT,X1,1.1,25,Frame account\n\
+ACCT,X2,1.2,20,Roof account\n\
+END\n";
+
+// The same deck with an activity twice.
+const TWICE: &[u8] = b"PROJECT,E1,S,T,2024-01-01,1,,Example one\n\
+WBS,1,,Whole\n\
+WBS,1.1,1,\"Frame, north\"\n\
+WBS,1.2,1,Roof\n\
+EVENT,S,Start\n\
+EVENT,M,Middle\n\
+EVENT,T,End\n\
+ACT,A,S,M,1.1,3,4,5,4,2,10,3,Dig\n\
+ACT,A,S,M,1.1,3,4,5,4,2,10,3,Dig\n\
+ACT,B,M,T,1.2,4,5,12,5,3,20,5,Cover\n\
+ACT,C,S,T,1.1,7,7,7,7,5,15,2,Frame\n\
+ACCT,X1,1.1,25,Frame account\n\
+ACCT,X2,1.2,20,Roof account\n\
+END\n";
+
+// The same deck with cards of the other kinds, and an event that no card has.
+const STATED: &[u8] = b"PROJECT,E1,S,T,2024-01-01,1,,Example one\n\
+WBS,1,,Whole\n\
+WBS,1.1,1,\"Frame, north\"\n\
+WBS,1.2,1,Roof\n\
+EVENT,S,Start\n\
+EVENT,M,Middle\n\
+EVENT,T,End\n\
+ACT,A,S,M,1.1,3,4,5,4,2,10,3,Dig\n\
+ACT,B,M,T,1.2,4,5,12,5,3,20,5,Cover\n\
+ACT,C,S,T,1.1,7,7,7,7,5,15,2,Frame\n\
+ACCT,X1,1.1,25,Frame account\n\
+ACCT,X2,1.2,20,Roof account\n\
+ASOF,2024-01-08\n\
+CHARGE,X1,2024-01-05,10\n\
+TOGO,X1,2024-01-06,30\n\
+STATUS,A,S,2024-01-02\n\
+STATUS,A,F,2024-01-06\n\
+END\n";
+
 const SCHEDULE: &[u8] =
     b"LENGTH 9\nCOST 45\nEVENT S 0\nEVENT M 4\nEVENT T 9\nACT A 4\nACT B 5\nACT C 7\n";
 
 const USAGE: &[u8] = b"usage: pert normal\n";
 
 const NOT_PLAIN: &[u8] = b"F0 record 0: not a plain deck\n";
+
+const NO_PROJECT: &[u8] = b"F3 record 1: first card is not PROJECT\n";
+
+const NOT_UTF8: &[u8] = b"F2 record 0: not UTF-8\n";
 
 // What the source and the sinks of a run do.
 #[derive(Clone, Copy)]
@@ -64,22 +150,38 @@ fn left_by(alloc: Global, words: &[&str], deck: &[u8], edges: Edges) -> Result<L
 }
 
 // Decks with the status, the output and the error output that they give.
-const DECKS: [(&[u8], u8, &[u8], &[u8]); 14] = [
+const DECKS: [(&[u8], u8, &[u8], &[u8]); 20] = [
     (PLAIN, 0, SCHEDULE, b""),
-    (b"", 1, b"", NOT_PLAIN),
-    (b"END\n", 1, b"", NOT_PLAIN),
+    (WHOLE, 0, SCHEDULE, b""),
+    (PADDED, 0, SCHEDULE, b""),
+    (STATED, 0, SCHEDULE, b""),
+    (
+        WRONG_NUMBER,
+        1,
+        b"",
+        b"F7 record 9: field 11 has a wrong shape\n",
+    ),
+    (TWICE, 1, b"", b"F9 record 9: code A is repeated\n"),
+    (b"", 1, b"", b"F12 record 1: no END\n"),
+    (b"END\n", 1, b"", NO_PROJECT),
     (b"PROJECT,P,S,T,2024-01-01,1,,\nEND\n", 1, b"", NOT_PLAIN),
     // A row of commas is no card, but it is counted; a blank line is no record.
     (
         b",,\n\nPROJECT,P,S,T,2024-01-01,1,,\nWBS,1,,W\nEND,x\n",
         1,
         b"",
-        b"F4 record 3: unknown kind\n",
+        b"F6 record 4: 2 fields, END has 1\n",
     ),
-    (b"Event,S,\n", 1, b"", b"F4 record 1: unknown kind\n"),
-    // An unknown kind is named wherever it stands, and in a deck that is not UTF-8 too.
-    (b"END\n\xff,\n", 1, b"", b"F4 record 2: unknown kind\n"),
-    (b"EVENT,S,\xff\nEND\n", 1, b"", NOT_PLAIN),
+    (b"Event,S,\n", 1, b"", NO_PROJECT),
+    (
+        b"PROJECT,P,S,T,2024-01-01,1,,\nEvent,S,\n",
+        1,
+        b"",
+        b"F4 record 2: unknown kind\n",
+    ),
+    // A deck that is not UTF-8 has no other fault.
+    (b"END\n\xff,\n", 1, b"", NOT_UTF8),
+    (b"EVENT,S,\xff\nEND\n", 1, b"", NOT_UTF8),
     // The smallest plain deck, and what spoils it: a missing event, one end twice, estimates and durations out of order.
     (
         b"PROJECT,P,S,T,2024-01-01,1,9,\nEVENT,S,\nEVENT,T,\nACT,A,S,T,1,0,0,0,0,0,0,0,\nEND",
@@ -211,16 +313,16 @@ fn a_failing_push_leaves_a_front(rt: HostRuntime) -> Result<(), Fail> {
 
 #[test]
 fn a_failing_push_of_a_refusal_leaves_a_front(rt: HostRuntime) -> Result<(), Fail> {
-    for failing_push in 1..=4 {
+    for failing_push in 1..=5 {
         let edges = Edges {
             piece: 10,
             failing_push,
             ..SOUND
         };
         let left = left_by(rt.alloc(), &["normal"], b"END\n", edges)?;
-        let taken = (10 * (failing_push as usize - 1)).min(NOT_PLAIN.len());
+        let taken = (10 * (failing_push as usize - 1)).min(NO_PROJECT.len());
         assert_eq!(rt; left.status, 5);
-        assert_eq!(rt; left.err.as_slice(), &NOT_PLAIN[..taken]);
+        assert_eq!(rt; left.err.as_slice(), &NO_PROJECT[..taken]);
         assert!(rt; left.out.is_empty());
     }
     Ok(())

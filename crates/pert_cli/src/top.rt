@@ -1,6 +1,8 @@
 //! The top call.
-ghost use Rattle.std.specs.Prelude.{◌≡◌, ◌≤◌, ◌⊎◌, ◌≢◌, IfSome};
+ghost use Rattle.std.specs.Prelude.{◌≡◌, ◌≤◌, ◌⊎◌, ◌≢◌, IfSome, length};
+ghost use Rattle.std.specs.Io.KnownBytes.{IsAtEnd};
 ghost use Rattle.pc_edges.specs.Faults.{Rose};
+ghost use Rattle.pc_deck.specs.declared.limits.TheConstants.{DECK_LIMIT};
 ghost use Rattle.pert_cli.specs.Words.{IsNormal, usage_text};
 ghost use Rattle.pert_cli.specs.Verdict.{AcceptedBy, RefusedBy};
 ghost use Rattle.pert_cli.specs.Outcome.{Outcome, source_run, sink_run, Took, ReadsOn, TakesOn, IsDone, IsRefused, IsCut};
@@ -30,10 +32,12 @@ pub fn run<S: Source, O: Sink, E: Sink>(
 
     // 0: the deck was read to its end and is accepted, and `out` took the schedule at its all-normal length.
     ensures done { result ≡ 0 → IsDone (source_run S.left S.faults source.old source.new) (sink_run O.taken O.faults out.old out.new) }
+    ensures done_read { result ≡ 0 → IsAtEnd (S.left source.new) }
     ensures done_only { result ≡ 0 → err.new ≡ err.old }
 
     // 1: the deck is refused, and `err` took the line of its fault.
     ensures refused { result ≡ 1 → IsRefused (source_run S.left S.faults source.old source.new) (sink_run E.taken E.faults err.old err.new) }
+    ensures refused_read { result ≡ 1 → IfSome (S.left source.old) (λ bytes. length bytes ≤ DECK_LIMIT → IsAtEnd (S.left source.new)) }
     ensures refused_only { result ≡ 1 → out.new ≡ out.old }
 
     // 2: the words are no form, and `err` took the usage line. Nothing was read.

@@ -1,8 +1,7 @@
 use Rattle.std.proofs.Common.{◌≡◌, ◌∙◌, length, sym, ap, subst}
 use Rattle.pc_model.specs.Network.{IsInRange}
 use Rattle.pc_net.specs.Networks.{network}
-use Rattle.pc_deck.specs.declared.fault.TheConstants.{NOT_PLAIN}
-use Rattle.pc_deck.specs.Refusal.{Refuses}
+use Rattle.pc_deck.specs.Refusal.{Refuses, fault_not_plain}
 use Rattle.pc_project.specs.Misfit.{HasMisfit}
 use Rattle.pc_project.proofs.MisfitLaws.{refused_network}
 use Rattle.pc_project.proofs.NumberLaws.{network_of-in_range, network_of-is}
@@ -19,5 +18,5 @@ pub returns-clause-refused : goal.returns-clause-refused
 returns-clause-refused c =
     let same = network_of-is c.args.cards.now (length c.events.result.now) c.in-Some.start c.in-Some.end c.deref.result.now
     (ap length c.events.ensures.cards) c.in-Some.ensures.start c.in-Some.ensures.end (c.deref.ensures.value ∙ rw c.in-Some-2.is at c.in_ok-arcs.ensures.found) in
-    subst (Refuses (λ fault. (fault ≡ NOT_PLAIN) × HasMisfit c.args.cards.now)) (sym c.refusal.ensures)
+    subst (Refuses (λ fault. (fault ≡ fault_not_plain) × HasMisfit c.args.cards.now)) (sym c.refusal.ensures)
     (refused_network c.args.cards.now (network (length c.events.result.now) c.in-Some.start c.in-Some.end c.deref.result.now) c.in-Err.e same c.in-Err.ensures.refused)

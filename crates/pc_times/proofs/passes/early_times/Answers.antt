@@ -1,5 +1,6 @@
 use Rattle.std.proofs.Common.{arith}
 use Rattle.pc_times.proofs.TimesLaws.{has_bounded_walks, early_before, early_more, early_all}
+use Rattle.pc_times.proofs.LateLaws.{early_limit}
 use Rattle.pc_times.proofs.passes.early_times.Goals as goal
 
 pub latest_arrival-requires-clause-walks : goal.latest_arrival-requires-clause-walks
@@ -19,6 +20,13 @@ pub returns-clause-times : goal.returns-clause-times
 returns-clause-times c =
     early_all _ _ _ _ _ c.order-event-items.ensures.order c.loop-event.invariant (omega arith)
 
+pub returns-clause-limit : goal.returns-clause-limit
+returns-clause-limit c =
+    let order = c.order-event-items.ensures in
+    let walks = has_bounded_walks _ _ _ order.in_range order.sound order.order (omega arith) c.requires in
+    early_limit c.args.net.now c.args.lengths.now _ walks (early_all _ _ _ _ _ order.order c.loop-event.invariant (omega arith))
+
 pub returns-clause-walks : goal.returns-clause-walks
 returns-clause-walks c =
-    has_bounded_walks _ _ _ c.order-event-items.ensures.in_range c.order-event-items.ensures.sound c.order-event-items.ensures.order (omega arith) c.requires
+    let order = c.order-event-items.ensures in
+    has_bounded_walks _ _ _ order.in_range order.sound order.order (omega arith) c.requires

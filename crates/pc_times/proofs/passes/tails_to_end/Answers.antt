@@ -7,6 +7,7 @@ use Rattle.std.proofs.lemmas.Iterator.Consumers.{YieldsList-turn, YieldsList-end
 use Rattle.pc_model.specs.Network.{IsOrder}
 use Rattle.pc_times.specs.Passes.{AreTailsAfter}
 use Rattle.pc_times.proofs.TimesLaws.{has_bounded_walks, place_from_end, tails_none, tails_after, tails_more, tails_all}
+use Rattle.pc_times.proofs.LateLaws.{tails_limit}
 use Rattle.pc_times.proofs.passes.tails_to_end.Goals as goal
 
 pub loop-event-init : goal.loop-event-init
@@ -42,6 +43,15 @@ returns-clause-tails c =
     let ordered : IsOrder c.args.net.now order = subst (λ (xs : List ℕ). IsOrder c.args.net.now xs) (sym same) c.order.ensures.order in
     let end = YieldsList-end (YieldsList-from_rev_slice order refl) c.loop-event.yielded _ c.loop-event.yielded_by _ _ c.in-None.is c.next.ensures.steps in
     tails_all _ _ _ order _ ordered c.loop-event.invariant (omega (arith, end.1, length-reverse order))
+
+pub returns-clause-limit : goal.returns-clause-limit
+returns-clause-limit c =
+    let order = iter_rest (rev_source c.into_iter-event-iterator.result) in
+    let same : order ≡ c.order.result.now = cc in
+    let ordered : IsOrder c.args.net.now order = subst (λ (xs : List ℕ). IsOrder c.args.net.now xs) (sym same) c.order.ensures.order in
+    let end = YieldsList-end (YieldsList-from_rev_slice order refl) c.loop-event.yielded _ c.loop-event.yielded_by _ _ c.in-None.is c.next.ensures.steps in
+    let walks = has_bounded_walks _ _ _ c.order.ensures.in_range c.order.ensures.sound c.order.ensures.order (omega arith) c.requires in
+    tails_limit c.args.net.now c.args.lengths.now _ walks (tails_all _ _ _ order _ ordered c.loop-event.invariant (omega (arith, end.1, length-reverse order)))
 
 pub returns-clause-walks : goal.returns-clause-walks
 returns-clause-walks c =

@@ -1,10 +1,15 @@
 use Rattle.std.proofs.Common.{◌≡◌, ap, subst, refl, Err}
 use Rattle.std.proofs.lemmas.Bool.{false≢true}
-use Rattle.pc_deck.specs.declared.fault.TheConstants.{TOO_LONG}
+use Rattle.pc_deck.specs.Refusal.{fault_too_long}
 use Rattle.pert_cli.specs.Verdict.{IsFault, IsProjectOf}
 use Rattle.pert_cli.specs.Outcome.{usage, no_memory, read_fault, write_fault, in_usage, source_run, sink_run}
-use Rattle.pert_cli.proofs.OutcomeLaws.{after_answer, after_refusal, of_a_long_deck, of_the_deck}
+use Rattle.pert_cli.proofs.OutcomeLaws.{after_answer, after_refusal, of_a_long_deck, of_a_read_deck, of_an_unread_deck, of_the_deck}
+use Rattle.pert_cli.proofs.VerdictLaws.{told_of-fault}
 use Rattle.pert_cli.proofs.top.outcome.Goals as goal
+
+pub refuse-requires-in-Err-Fault : goal.refuse-requires-in-Err-Fault
+refuse-requires-in-Err-Fault g c =
+    told_of-fault c.deref.result.now c.in-Err-Fault.fault (rw c.in-Err-Fault.field-0-is at c.in-Err-Fault.ensures.refused)
 
 pub returns-in-Ok : goal.returns-in-Ok
 returns-in-Ok g c = usage (λ normal. false≢true (c.if-not-is_normal.ensures.1 normal)) c.in-Ok.ensures.ok refl refl
@@ -23,9 +28,9 @@ returns-in-Err-TooLong g c =
     after_refusal c.args.words.now
     (source_run g.S.Source.left g.S.Source.faults c.args.source.now c.load.new.source) (sink_run g.O.Sink.taken g.O.Sink.faults c.args.out.now c.args.out.now) (sink_run g.E.Sink.taken g.E.Sink.faults c.args.err.now c.refuse.new.err)
     (c.load.new.source ≡ c.args.source.now) (c.args.out.now ≡ c.args.out.now) (c.refuse.new.err ≡ c.args.err.now) (c.if-not-is_normal.ensures.0 refl)
-    TOO_LONG c.refuse.result
+    fault_too_long c.refuse.result
     (of_a_long_deck _ _ c.in-Err-TooLong.ensures.too_long.0 c.in-Err-TooLong.ensures.too_long.1 (c.in-Err-TooLong.ensures.too_long.2.0 (ap Err c.in-Err-TooLong.field-0-is)))
-    (λ other. absurd (other refl)) refl c.refuse.ensures
+    (of_an_unread_deck _ _ c.in-Err-TooLong.ensures.too_long.0 c.in-Err-TooLong.ensures.too_long.1 (c.in-Err-TooLong.ensures.too_long.2.0 (ap Err c.in-Err-TooLong.field-0-is))) refl c.refuse.ensures
 
 pub returns-in-Ok-read_project : goal.returns-in-Ok-read_project
 returns-in-Ok-read_project g c =
@@ -45,7 +50,7 @@ returns-in-Err-Fault g c =
     c.in-Err-Fault.fault c.refuse-in-Err-Fault.result
     (of_the_deck (λ bytes. IsFault bytes c.in-Err-Fault.fault) _ _ c.in-Ok-load.bytes.items c.in-Ok-load.ensures.all c.in-Ok-load.ensures.end
     (subst (λ bytes. IsFault bytes c.in-Err-Fault.fault) c.deref.ensures.value (rw c.in-Err-Fault.field-0-is at c.in-Err-Fault.ensures.refused)))
-    (λ other. c.in-Ok-load.ensures.end) refl c.refuse-in-Err-Fault.ensures
+    (of_a_read_deck _ _ c.in-Ok-load.ensures.end) refl c.refuse-in-Err-Fault.ensures
 
 pub returns : goal.returns
 returns g c = no_memory (c.if-not-is_normal.ensures.0 refl) refl refl

@@ -4,8 +4,9 @@ use Rattle.pc_deck.proofs.rows.CardRows.next.Given as goal
 
 abbrev pub invariant-rows : goal.invariant-rows
 invariant-rows l =
-    (l.self-inside.number + length l.self-inside.rows < 2 ^ 32)
-    × (cards_from (l.self-inside.number + 1) l.self-inside.rows ≡ l.fn.self)
+    (l.self-inside.number + length l.self-inside.rows + 1 < 2 ^ 32)
+    × (cards_from (l.self-inside.number + 1) l.self-inside.rows ≡ l.fn.self.cards)
+    × (l.self-inside.number + length l.self-inside.rows + 1 ≡ l.fn.self.end)
 
 abbrev pub decreases-rows : goal.decreases-rows
 decreases-rows l = length l.self-inside.rows

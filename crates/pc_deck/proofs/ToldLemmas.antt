@@ -1,0 +1,33 @@
+-- Each fault of a deck can be told.
+use Rattle.std.proofs.Common.{ℕ, Bool, true, false, List, [], ◌∷◌, ◌++◌, inl, inr, refl, sym, subst}
+use Rattle.std.specs.Str.{is_utf8}
+use Rattle.pc_deck.specs.Cards.{Numbered, deck_cards}
+use Rattle.pc_deck.specs.Judged.{Seen}
+use Rattle.pc_deck.specs.Refusal.{HasCardFault, HasFaultFrom, HasFaultWhere, IsCardRefusal}
+use Rattle.pc_deck.specs.Refusal as has
+use Rattle.pc_deck.specs.FaultText.{IsTold}
+use Rattle.pc_deck.specs.declared.fault.Fault.{Fault}
+
+told_of-card : (seen : Seen) (card : Numbered) (fault : Fault) → HasCardFault seen card fault → IsTold fault
+told_of-card seen card fault (has.not_project first other is) = subst IsTold (sym is) refl
+told_of-card seen card fault (has.unknown_kind none is) = subst IsTold (sym is) refl
+told_of-card seen card fault (has.second_card kind named once some is) = subst IsTold (sym is) refl
+told_of-card seen card fault (has.wrong_fields kind named part is) = subst IsTold (sym is) refl
+told_of-card seen card fault (has.wrong_shape kind slot named whole found is) = subst IsTold (sym is) refl
+told_of-card seen card fault (has.over_limit kind slot named whole shapes found is) = subst IsTold (sym is) refl
+told_of-card seen card fault (has.repeated_code kind code named whole shapes own among is) = subst IsTold (sym is) refl
+told_of-card seen card fault (has.one_too_many kind limit named few full is) = subst IsTold (sym is) refl
+told_of-card seen card fault (has.behind_end kind named ended is) = subst IsTold (sym is) refl
+
+told_from : (before : List Numbered) (end : ℕ) (cards : List Numbered) (fault : Fault) → HasFaultFrom before end cards fault → IsTold fault
+told_from before end [] fault h = subst IsTold (sym h.1) refl
+told_from before end (card ∷ cards) fault (inl here) = told_of-card _ card fault here
+told_from before end (card ∷ cards) fault (inr later) = told_from (before ++ card ∷ []) end cards fault later
+
+told_where : (utf8 : Bool) (bytes : List ℕ) (fault : Fault) → HasFaultWhere utf8 bytes fault → IsTold fault
+told_where true bytes fault h = told_from [] _ (deck_cards bytes) fault h
+told_where false bytes fault h = subst IsTold (sym h) refl
+
+-- the first fault of a deck has a line
+pub told_of-refusal : (bytes : List ℕ) (fault : Fault) → IsCardRefusal bytes fault → IsTold fault
+told_of-refusal bytes fault refused = told_where (is_utf8 bytes) bytes fault refused.holds

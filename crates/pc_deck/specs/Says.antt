@@ -1,0 +1,29 @@
+-- What a deck says, in terms of its cards alone: of each kind the cards of that kind, in their order.
+use Rattle.std.specs.Prelude.{◌≡◌, ℕ, List, [], ◌∷◌, map, Option, Some, None}
+use Rattle.pc_deck.specs.Cards.{Numbered}
+use Rattle.pc_deck.specs.Deck.{Deck}
+use Rattle.pc_deck.specs.Refusal.{of_kind}
+use Rattle.pc_deck.specs.Spelled.{project_of, as_of_of, item_of, event_of, act_of, account_of, money_of, status_of}
+use Rattle.pc_deck.specs.declared.kind.Kind.{Kind}
+use Rattle.pc_deck.specs.declared.kind.Kind.TheVariants.{Project, AsOf, Wbs, Event, Act, Acct, Charge, ToGo, Status}
+
+-- what the cards of a kind spell
+abbrev pub spelled : {X : Type 0} → (ℕ → List (List ℕ) → X) → Kind → List Numbered → List X
+spelled card_of kind cards = map (λ card. card_of card.0 card.1) (of_kind kind cards)
+
+-- one element, or none
+abbrev pub as_list : {X : Type 0} → Option X → List X
+as_list None = []
+as_list (Some x) = x ∷ []
+
+-- the cards say this deck
+pub record Says (cards : List Numbered) (deck : Deck) : Type 0 where
+  pub project : spelled project_of Project cards ≡ deck.project ∷ []
+  pub as_of : spelled as_of_of AsOf cards ≡ as_list deck.as_of
+  pub items : spelled item_of Wbs cards ≡ deck.items
+  pub events : spelled event_of Event cards ≡ deck.events
+  pub acts : spelled act_of Act cards ≡ deck.acts
+  pub accounts : spelled account_of Acct cards ≡ deck.accounts
+  pub charges : spelled money_of Charge cards ≡ deck.charges
+  pub togos : spelled money_of ToGo cards ≡ deck.togos
+  pub statuses : spelled status_of Status cards ≡ deck.statuses

@@ -1,0 +1,38 @@
+//! Lists of codes.
+ghost use Rattle.std.specs.Prelude.{◌≡◌, IfOk};
+
+use crate::code::Code;
+use std::alloc::{AllocError, Global};
+use std::marker::Model;
+
+/// A list of codes, in an order that its maker chose.
+#[derive(Debug, Drop)]
+pub struct Codes {
+    items: Vec<Code>,
+}
+
+impl Model for Codes {
+    ghost use Rattle.std.specs.Prelude.{ℕ, List};
+
+    ghost Value = { List (List ℕ) };
+
+    ghost view = { λ codes. codes.items.items };
+}
+
+impl Codes {
+    /// A list of these codes.
+    pub fn of(alloc: Global, codes: &[Code]) -> Result<Codes, AllocError>
+        ensures { IfOk result (λ list. list ≡ codes.now) }
+    {
+        Ok(Codes {
+            items: codes.to_vec(alloc)?,
+        })
+    }
+
+    /// The codes, in order.
+    pub fn as_slice(&self) -> &[Code]
+        ensures { result.now ≡ self.now }
+    {
+        &self.items
+    }
+}

@@ -1,0 +1,50 @@
+//! The expected time of an activity and its variance, from the estimates of its duration.
+ghost use Rattle.std.specs.Prelude.{◌≡◌, ◌*◌, ◌≤◌};
+ghost use Rattle.pc_times.specs.Estimates.{expected_time, variance_of};
+
+use crate::{MAX_LENGTH, MAX_UNIT_DAYS};
+use pc_model::MAX_DURATION;
+
+/// The expected time of an activity, in sixths of a day.
+///
+/// The estimates are in units of `unit_days` days. The most likely one counts four times, as in Malcolm, Roseboom,
+/// Clark and Fazar 1959.
+pub fn expected_sixths(opt: u64, likely: u64, pess: u64, unit_days: u64) -> u64
+    requires opt { opt ≤ likely }
+    requires likely { likely ≤ pess }
+    requires pess { pess ≤ MAX_DURATION }
+    requires unit { unit_days ≤ MAX_UNIT_DAYS }
+    ensures value { result ≡ expected_time opt likely pess unit_days }
+    ensures least { 6 * (opt * unit_days) ≤ result }
+    ensures most { result ≤ 6 * (pess * unit_days) }
+    ensures limit { result ≤ MAX_LENGTH }
+{
+    (opt + 4 * likely + pess) * unit_days
+}
+
+/// The variance of an activity's time, in thirty-sixths of a square day.
+///
+/// The estimates are in units of `unit_days` days. Their range counts as six standard deviations.
+pub fn variance_36(opt: u64, pess: u64, unit_days: u64) -> u64
+    requires opt { opt ≤ pess }
+    requires pess { pess ≤ MAX_DURATION }
+    requires unit { unit_days ≤ MAX_UNIT_DAYS }
+    ensures { result ≡ variance_of opt pess unit_days }
+{
+    let range = (pess - opt) * unit_days;
+    range * range
+}
+
+#[cfg(test)]
+mod tests {
+    use super::*;
+
+    #[test]
+    fn times_of_estimates(rt: HostRuntime) {
+        assert_eq!(rt; expected_sixths(2, 4, 12, 5), 150);
+        assert_eq!(rt; expected_sixths(3, 3, 3, 1), 18);
+        assert_eq!(rt; expected_sixths(100_000, 100_000, 100_000, 7), 4_200_000);
+        assert_eq!(rt; variance_36(2, 12, 5), 2_500);
+        assert_eq!(rt; variance_36(3, 3, 1), 0);
+    }
+}

@@ -1,0 +1,82 @@
+//! When the events of a network are reached and when they must be, and the time between.
+ghost use Rattle.std.specs.Prelude.{◌≡◌, ◌^◌, ◌<◌, ◌≤◌, pos, ◌-ℤ◌, unsigned_abs, IfOk};
+ghost use Rattle.std.specs.List.{All};
+ghost use Rattle.pc_times.specs.Times.{AreLengths, AreEarly};
+ghost use Rattle.pc_times.specs.Late.{AreLate, IsUpTo};
+
+use crate::MAX_TIME;
+use crate::passes::{early_times, tails_to_end};
+use pc_net::Net;
+use std::alloc::{AllocError, Global};
+
+/// When each event is reached at the earliest, in card order. Linear in events and activities.
+pub fn early(alloc: Global, net: &Net, lengths: &[u64]) -> Result<Vec<u64>, AllocError>
+    requires { AreLengths net.now lengths.now }
+    ensures times { IfOk result (λ times. AreEarly net.now lengths.now times.items) }
+    ensures limit { IfOk result (λ times. All (λ time. time ≤ MAX_TIME) times.items) }
+{
+    early_times(alloc, net, lengths)
+}
+
+/// When each event is to be reached at the latest, in card order, so that the end can be reached at `by`. Linear in
+/// events and activities.
+///
+/// A time is negative where a walk from that event to the end takes longer than there is up to `by`.
+pub fn late(alloc: Global, net: &Net, lengths: &[u64], by: i64) -> Result<Vec<i64>, AllocError>
+    requires lengths { AreLengths net.now lengths.now }
+    requires by { unsigned_abs by < 2 ^ 40 }
+    ensures times { IfOk result (λ times. AreLate net.now lengths.now by times.items) }
+    ensures limit { IfOk result (λ times. All (IsUpTo by) times.items) }
+{
+    let tails = tails_to_end(alloc, net, lengths)?;
+    let mut times = Vec::with_capacity(alloc, net.events() as usize)?;
+    for &tail in &tails {
+        times.push(so_long_before(by, tail))?;
+    }
+    Ok(times)
+}
+
+/// The time that lies so long before another.
+fn so_long_before(by: i64, tail: u64) -> i64
+    requires by { unsigned_abs by < 2 ^ 40 }
+    requires tail { tail ≤ MAX_TIME }
+    ensures { result ≡ by -ℤ pos tail }
+{
+    by - tail as i64
+}
+
+/// How long an event can wait: its latest time less its earliest. It is negative where the end cannot be met.
+pub fn slack(late: i64, early: u64) -> i64
+    requires late { unsigned_abs late < 2 ^ 41 }
+    requires early { early < 2 ^ 41 }
+    ensures { result ≡ late -ℤ pos early }
+{
+    late - early as i64
+}
+
+#[cfg(test)]
+mod tests {
+    use super::*;
+    use pc_net::Arc;
+    use std::test::Fail;
+
+    #[test]
+    fn early_and_late_times_of_a_small_deck(rt: HostRuntime) -> Result<(), Fail> {
+        let arcs = [
+            Arc { from: 0, to: 1 },
+            Arc { from: 1, to: 2 },
+            Arc { from: 0, to: 2 },
+        ];
+        let net = Net::build(rt.alloc(), 3, 0, 2, &arcs)?;
+
+        let reached = early(rt.alloc(), &net, &[4, 5, 7])?;
+        assert_eq!(rt; reached.as_slice(), [0, 4, 9].as_slice());
+        let latest = late(rt.alloc(), &net, &[4, 5, 7], 12)?;
+        assert_eq!(rt; latest.as_slice(), [3, 7, 12].as_slice());
+        let too_early = late(rt.alloc(), &net, &[4, 5, 7], 6)?;
+        assert_eq!(rt; too_early.as_slice(), [-3, 1, 6].as_slice());
+        assert_eq!(rt; slack(7, 4), 3);
+        assert_eq!(rt; slack(1, 4), -3);
+        Ok(())
+    }
+}
