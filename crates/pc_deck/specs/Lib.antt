@@ -9,4 +9,5 @@ pub mod Reading
 pub mod Within
 pub mod Refusal
 pub mod FaultText
+pub mod FaultRoom
 pub mod Says

@@ -82,10 +82,6 @@ fault_too_long = plain_fault 0 1
 abbrev pub fault_not_utf8 : ADeckFault
 fault_not_utf8 = plain_fault 0 2
 
--- F0: the cards are none of a plain deck
-abbrev pub fault_not_plain : ADeckFault
-fault_not_plain = plain_fault 0 0
-
 -- the faults of a deck that is UTF-8 or not
 abbrev pub HasFaultWhere : Bool → List ℕ → ADeckFault → Type 0
 HasFaultWhere true bytes fault = HasFaultFrom [] (length (deck_records bytes) + 1) (deck_cards bytes) fault

@@ -1,11 +1,11 @@
 //! Why a deck is refused.
 
 use crate::kind::Kind;
-use pc_text::Code;
+use pc_text::{Code, Codes};
 use std::alloc::AllocError;
 
 /// What a fault names beside its record.
-#[derive(Clone, Copy, Debug, PartialEq, Eq)]
+#[derive(Debug, Drop)]
 pub enum Detail {
     /// Nothing.
     Plain,
@@ -19,11 +19,17 @@ pub enum Detail {
     Name(Code),
     /// The kind of which there are too many cards, and how many there may be.
     TooMany { kind: Kind, limit: u64 },
+    /// Several codes, in the order in which they are told.
+    Names(Codes),
+    /// An item, and its level in the tree of items.
+    Level { name: Code, level: u32 },
+    /// An event, and whether an activity enters it.
+    Side { name: Code, entered: bool },
 }
 
 /// A fault of a deck: what is wrong, by its number, and at which record. Records are counted from 1; 0 stands for the
 /// deck as a whole.
-#[derive(Clone, Copy, Debug, PartialEq, Eq)]
+#[derive(Debug, Drop)]
 pub struct Fault {
     pub row: u32,
     pub number: u8,
@@ -44,15 +50,8 @@ pub const NOT_UTF8: Fault = Fault {
     detail: Detail::Plain,
 };
 
-/// The deck's cards are none of a plain deck.
-pub const NOT_PLAIN: Fault = Fault {
-    row: 0,
-    number: 0,
-    detail: Detail::Plain,
-};
-
 /// Why cards or a project could not be made.
-#[derive(Clone, Copy, Debug, PartialEq, Eq)]
+#[derive(Debug, Drop)]
 pub enum DeckError {
     Fault(Fault),
     OutOfMemory,

@@ -90,6 +90,10 @@ Writes-as r {a = a} {b = b} {s = s} {t = t} text e w = subst (Writes r a b s t) 
 pub Gathered-nil : (a : Option (List ℕ)) (s : ℕ) → Gathered a a [] s s []
 Gathered-nil a s = record { pushed = ([], Appends-nil a, refl); no_fault = refl }
 
+-- a text is the first on a line that was emptied
+pub Gathered-first : (a : Option (List ℕ)) (s : ℕ) (p p' x : List ℕ) → p ≡ [] → p' ≡ p ++ x → Gathered a a p' s s x
+Gathered-first a s p p' x none e = record { pushed = ([], Appends-nil a, sym (e ∙ ap (λ l. l ++ x) none)); no_fault = refl }
+
 -- a text is added to what is pending
 pub Gathered-more : {a b : Option (List ℕ)} {s t : ℕ} {p x : List ℕ} (y p' : List ℕ) → p' ≡ p ++ y → Gathered a b p s t x → Gathered a b p' s t (x ++ y)
 Gathered-more {p = p} y p' e h =
@@ -134,6 +138,16 @@ Stopped-next {p = p} y g h = Stopped-gathered (Gathered-more y (p ++ y) refl g) 
 pub Gathers-err : {A E : Type 0} (r : Result A E) {a b : Option (List ℕ)} {s t : ℕ} (p q x : List ℕ) → IsErr r → s ≤ t → Stopped a b s t (p ++ x) → Gathers r a p b q s t x
 Gathers-err (Ok v) p q x is_err count h = absurd (false≢true is_err)
 Gathers-err (Err e) p q x is_err count h = record { ok = tt; err = h; count = count }
+
+-- the exit of a `?`: the call failed in x, and the whole text goes on behind it
+pub Gathers-stopped : {A E : Type 0} (r : Result A E) {a b : Option (List ℕ)} {s t : ℕ} (p q x rest : List ℕ) → IsErr r → s ≤ t → Stopped a b s t (p ++ x) → Gathers r a p b q s t (x ++ rest)
+Gathers-stopped r {a = a} {b = b} {s = s} {t = t} p q x rest is_err count h =
+    Gathers-err r p q (x ++ rest) is_err count (subst (Stopped a b s t) (append_assoc p x rest) (Stopped-before rest h))
+
+-- y is gathered behind w, and the last call's answer is the answer
+pub Gathers-last : {A E : Type 0} (r : Result A E) {a b c : Option (List ℕ)} {s t u : ℕ} {p q : List ℕ} (w y z : List ℕ) → Gathered a b p s t (w ++ y) → Gathers r b p c q t u z → Gathers r a w c q s u (y ++ z)
+Gathers-last (Ok v) w y z g h = record { ok = Gathered-as _ (append_assoc w y z) (Gathered-next z g h.ok); err = tt; count = omega (arith, g.no_fault, h.count) }
+Gathers-last (Err e) {a = a} {c = c} {s = s} {u = u} w y z g h = record { ok = tt; err = subst (Stopped a c s u) (append_assoc w y z) (Stopped-next z g h.err); count = omega (arith, g.no_fault, h.count) }
 
 -- ---- loops over lines
 

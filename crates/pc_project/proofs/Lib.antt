@@ -1,3 +1,10 @@
-pub mod MisfitLaws
-pub mod NumberLaws
-pub mod PlannedLaws
+pub mod RefusalLaws
+mod AnyLaws
+mod CardLaws
+mod FirstLaws
+mod FitLaws
+mod LoopLaws
+mod MisfitLaws
+mod NumberLaws
+mod PlannedLaws
+mod RangeLaws

@@ -1,67 +1,72 @@
--- What makes a deck's cards a project, and what keeps them from it: never both.
-use Rattle.std.proofs.Common.{◌≡◌, ◌≢◌, refl, ◌<◌, ℕ, List, length, get_or, sym, subst, ap, arith, Option, None, ◌∙◌, inl, inr}
-use Rattle.std.specs.Prelude.{Contains, IsSome, is_some}
-use Rattle.std.proofs.lemmas.Bool.{cases_lt, false≢true}
-use Rattle.pc_model.proofs.UnsoundLaws.{IsSound-not-IsUnsound}
-use Rattle.pc_project.specs.Project.{network_of}
-use Rattle.pc_deck.specs.declared.cards.ActCard.{ActCard}
+-- The first fault of a deck's cards, from those of the cards of each kind.
+use Rattle.std.proofs.Common.{Option, inl, inr, ◌⊎◌}
+use Rattle.std.specs.List.{Any}
 use Rattle.pc_deck.specs.Deck.{Deck}
-use Rattle.pc_model.specs.Network.{Network, IsUnsound}
-use Rattle.pc_deck.specs.Refusal.{Refuses, fault_not_plain}
-use Rattle.pc_net.specs.declared.refusal.NetError.{NetError}
-use Rattle.pc_net.specs.declared.refusal.NetError.TheVariants.{StartEntered, EndLeft, Dangling, Cycle, OutOfMemory}
-use Rattle.pc_net.specs.Refusals.{IsRefusal}
-use Rattle.pc_net.proofs.RefusalLaws.{refused_is_unsound}
-use Rattle.pc_project.specs.Misfit.{refusal_of, ActMisfit, HasMisfit, MakesProject, Connects, IsInOrder, misfit_act, optimistic_above, likely_above, crash_above, unknown_from, unknown_to, same_events, unknown_start, unknown_end, same_ends, unsound}
+use Rattle.pc_deck.specs.declared.fault.Fault.{Fault}
+use Rattle.pc_project.specs.First.{IsFirstIn, earliest}
+use Rattle.pc_project.specs.Misfit.{HasProjectFault, HasItemFault, HasActFault, HasAccountFault, HasMoneyFault, HasStatusFault, HasFigureFault, HasMisfit, account, charge, togo, status, project, item, act, figure}
+use Rattle.pc_project.proofs.FirstLaws.{earliest-first}
 
--- what is there is not missing
-known_and_none : {o : Option ℕ} → IsSome o → o ≡ None → ⊥
-known_and_none {o} known none = false≢true (sym (ap is_some none) ∙ known)
+module _ (deck : Deck) where
+  abbrev pub OfItems : Fault → Type 0
+  OfItems fault = Any (λ card. HasItemFault deck card fault) deck.items
 
--- an activity whose numbers are not in order does not fit in
-pub misfit_of_disorder : (deck : Deck) (act : ActCard) → (IsInOrder act → ⊥) → ActMisfit deck act
-misfit_of_disorder deck act disorder =
-    elim (cases_lt act.likely act.opt) [
-      | inl above ↦ optimistic_above above
-      | inr optimistic ↦ elim (cases_lt act.pess act.likely) [
-        | inl above ↦ likely_above above
-        | inr pessimistic ↦ elim (cases_lt act.normal act.crash) [
-          | inl above ↦ crash_above above
-          | inr durations ↦ absurd (disorder (record { optimistic = optimistic; pessimistic = pessimistic; durations = durations }))
-        ]
-      ]
-    ]
+  abbrev pub OfActs : Fault → Type 0
+  OfActs fault = Any (λ card. HasActFault deck card fault) deck.acts
 
--- an activity that does not fit in keeps its deck from making a project
-pub misfit_at : (deck : Deck) (acts : List ActCard) (i : ℕ) (act : ActCard) → acts ≡ deck.acts → i < length acts → act ≡ get_or acts i act → ActMisfit deck act → HasMisfit deck
-misfit_at deck acts i act same within is misfit =
-    misfit_act act (subst (λ xs. Contains xs act) same (i, within, sym is)) misfit
+  abbrev pub OfAccounts : Fault → Type 0
+  OfAccounts fault = Any (λ card. HasAccountFault deck card fault) deck.accounts
 
--- an activity that fits in has no misfit
-fits_in : (deck : Deck) (act : ActCard) → Connects deck act → IsInOrder act → ActMisfit deck act → ⊥
-fits_in deck act connects ordered (unknown_from none) = known_and_none connects.begins none
-fits_in deck act connects ordered (unknown_to none) = known_and_none connects.ends none
-fits_in deck act connects ordered (same_events same) = connects.apart same
-fits_in deck act connects ordered (optimistic_above above) = omega (arith, above, ordered.optimistic)
-fits_in deck act connects ordered (likely_above above) = omega (arith, above, ordered.pessimistic)
-fits_in deck act connects ordered (crash_above above) = omega (arith, above, ordered.durations)
+  abbrev pub OfCharges : Fault → Type 0
+  OfCharges fault = Any (λ card. HasMoneyFault deck card fault) deck.charges
 
--- cards that make a project have no misfit
-pub no_misfit : (deck : Deck) → MakesProject deck → HasMisfit deck → ⊥
-no_misfit deck makes (unknown_start none) = known_and_none makes.ends.starts none
-no_misfit deck makes (unknown_end none) = known_and_none makes.ends.ends none
-no_misfit deck makes (same_ends same) = makes.ends.apart same
-no_misfit deck makes (misfit_act act (i, within, there) misfit) =
-    fits_in deck act (subst (Connects deck) there (makes.connected i act within)) (subst IsInOrder there (makes.ordered i act within)) misfit
-no_misfit deck makes (unsound broken) = IsSound-not-IsUnsound (network_of deck) makes.sound broken
+  abbrev pub OfTogos : Fault → Type 0
+  OfTogos fault = Any (λ card. HasMoneyFault deck card fault) deck.togos
 
--- a deck whose network is refused has a misfit, or memory ran out
-pub refused_network : (deck : Deck) (net : Network) (error : NetError) → net ≡ network_of deck → IsRefusal net error → Refuses (λ fault. (fault ≡ fault_not_plain) × HasMisfit deck) (refusal_of error)
-refused_network deck net error same refused = by error (λ other. unsound (subst IsUnsound same (refused_is_unsound net error refused other)))
-  where
-    by : (error : NetError) → (error ≢ OutOfMemory → HasMisfit deck) → Refuses (λ fault. (fault ≡ fault_not_plain) × HasMisfit deck) (refusal_of error)
-    by (StartEntered arc) misfit = (refl, misfit (λ same. cc))
-    by (EndLeft arc) misfit = (refl, misfit (λ same. cc))
-    by (Dangling event entered) misfit = (refl, misfit (λ same. cc))
-    by (Cycle cycle) misfit = (refl, misfit (λ same. cc))
-    by OutOfMemory misfit = tt
+  abbrev pub OfStatuses : Fault → Type 0
+  OfStatuses fault = Any (λ card. HasStatusFault deck card fault) deck.statuses
+
+  into_figures : (f : Fault) → HasFigureFault deck f → (OfAccounts f ⊎ OfCharges f) ⊎ (OfTogos f ⊎ OfStatuses f)
+  into_figures f (account h) = inl (inl h)
+  into_figures f (charge h) = inl (inr h)
+  into_figures f (togo h) = inr (inl h)
+  into_figures f (status h) = inr (inr h)
+
+  from_first : (f : Fault) → OfAccounts f ⊎ OfCharges f → HasFigureFault deck f
+  from_first f (inl h) = account h
+  from_first f (inr h) = charge h
+
+  from_last : (f : Fault) → OfTogos f ⊎ OfStatuses f → HasFigureFault deck f
+  from_last f (inl h) = togo h
+  from_last f (inr h) = status h
+
+  -- the first fault of two kinds of cards
+  of_two : (P Q : Fault → Type 0) (one other : Option Fault) → IsFirstIn P one → IsFirstIn Q other → IsFirstIn (λ f. P f ⊎ Q f) (earliest one other)
+  of_two P Q one other p q = earliest-first P Q (λ f. P f ⊎ Q f) (λ f h. inl h) (λ f h. inr h) (λ f h. h) one other p q
+
+  -- the first fault of the cards that give figures
+  pub first_of_figures : (accounts charges togos statuses : Option Fault) → IsFirstIn OfAccounts accounts → IsFirstIn OfCharges charges → IsFirstIn OfTogos togos → IsFirstIn OfStatuses statuses → IsFirstIn (HasFigureFault deck) (earliest (earliest accounts charges) (earliest togos statuses))
+  first_of_figures accounts charges togos statuses a c t s =
+      earliest-first (λ f. OfAccounts f ⊎ OfCharges f) (λ f. OfTogos f ⊎ OfStatuses f) (HasFigureFault deck) from_first from_last into_figures
+      (earliest accounts charges) (earliest togos statuses) (of_two OfAccounts OfCharges accounts charges a c) (of_two OfTogos OfStatuses togos statuses t s)
+
+  abbrev pub Listed : Fault → Type 0
+  Listed f = (OfItems f ⊎ OfActs f) ⊎ HasFigureFault deck f
+
+  into_misfits : (f : Fault) → HasMisfit deck f → HasProjectFault deck deck.project f ⊎ Listed f
+  into_misfits f (project h) = inl h
+  into_misfits f (item h) = inr (inl (inl h))
+  into_misfits f (act h) = inr (inl (inr h))
+  into_misfits f (figure h) = inr (inr h)
+
+  from_listed : (f : Fault) → Listed f → HasMisfit deck f
+  from_listed f (inl (inl h)) = item h
+  from_listed f (inl (inr h)) = act h
+  from_listed f (inr h) = figure h
+
+  -- the first fault of all cards
+  pub first_of_cards : (card items acts figures : Option Fault) → IsFirstIn (HasProjectFault deck deck.project) card → IsFirstIn OfItems items → IsFirstIn OfActs acts → IsFirstIn (HasFigureFault deck) figures → IsFirstIn (HasMisfit deck) (earliest card (earliest (earliest items acts) figures))
+  first_of_cards card items acts figures p i a f =
+      earliest-first (HasProjectFault deck deck.project) Listed (HasMisfit deck) (λ f h. project h) from_listed into_misfits
+      card (earliest (earliest items acts) figures) p
+      (of_two (λ f. OfItems f ⊎ OfActs f) (HasFigureFault deck) (earliest items acts) figures (of_two OfItems OfActs items acts i a) f)

@@ -1,6 +1,9 @@
 pub mod Project
 pub mod Misfit
+pub mod First
+pub mod Refusal
 pub mod Planned
+pub mod Parts
 pub use Rattle.pc_model.specs.Network
 pub use Rattle.pc_model.specs.Schedule
 pub use Rattle.pc_deck.specs.Deck

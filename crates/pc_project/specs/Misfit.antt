@@ -1,67 +1,82 @@
--- What keeps the cards of a deck from making a project: a relation with a case for each cause.
-use Rattle.std.specs.Prelude.{◌≡◌, ◌≢◌, ℕ, ◌<◌, ◌≤◌, List, All, Contains, IsSome, None}
-use Rattle.pc_model.specs.Network.{IsSound, IsUnsound}
+-- The faults of single cards: what they name is not there, or their numbers are out of order (F13 to F19).
+use Rattle.std.specs.Prelude.{◌≡◌, ℕ, ◌<◌, ◌≤◌, List, IsSome, None, Some}
+use Rattle.std.specs.List.{Any}
+use Rattle.pc_deck.specs.declared.cards.AcctCard.{AcctCard}
 use Rattle.pc_deck.specs.declared.cards.ActCard.{ActCard}
-use Rattle.pc_deck.specs.Deck.{Deck, event_named}
-use Rattle.pc_deck.specs.declared.fault.DeckError.{DeckError}
-use Rattle.pc_deck.specs.declared.fault.DeckError.TheVariants.{Fault, OutOfMemory}
-use Rattle.pc_net.specs.declared.refusal.NetError.{NetError}
-use Rattle.pc_net.specs.declared.refusal.NetError.TheVariants.{StartEntered, EndLeft, Dangling, Cycle}
-use Rattle.pc_net.specs.declared.refusal.NetError.TheVariants as net
-use Rattle.pc_deck.specs.Refusal.{fault_not_plain}
-use Rattle.pc_project.specs.Project.{network_of}
+use Rattle.pc_deck.specs.declared.cards.ItemCard.{ItemCard}
+use Rattle.pc_deck.specs.declared.cards.MoneyCard.{MoneyCard}
+use Rattle.pc_deck.specs.declared.cards.ProjectCard.{ProjectCard}
+use Rattle.pc_deck.specs.declared.cards.StatusCard.{StatusCard}
+use Rattle.pc_deck.specs.Deck.{Deck, event_named, item_named, act_named, account_named}
+use Rattle.pc_deck.specs.declared.fault.Detail.TheVariants.{Name}
+use Rattle.pc_deck.specs.declared.fault.Fault.{Fault}
+use Rattle.pc_deck.specs.Judged.{plain_fault}
+
+-- a fault that names a code
+abbrev pub naming : ℕ → ℕ → List ℕ → Fault
+naming row number code = record { row = row; number = number; detail = Name code }
 
 -- some EVENT card has the code
 abbrev pub IsEvent : Deck → List ℕ → Type 0
 IsEvent deck code = IsSome (event_named deck code)
 
--- the start and the end are two events
-pub record HasEnds (deck : Deck) : Type 0 where
-  pub starts : IsEvent deck deck.project.start
-  pub ends : IsEvent deck deck.project.end
-  pub apart : deck.project.start ≢ deck.project.end
-
--- the activity leads from one event to another
-pub record Connects (deck : Deck) (act : ActCard) : Type 0 where
-  pub begins : IsEvent deck act.from
-  pub ends : IsEvent deck act.to
-  pub apart : act.from ≢ act.to
-
--- its estimates are in order, and its crash duration is not above the normal one
+-- the estimates are in order
 pub record IsInOrder (act : ActCard) : Type 0 where
   pub optimistic : act.opt ≤ act.likely
   pub pessimistic : act.likely ≤ act.pess
-  pub durations : act.crash ≤ act.normal
 
--- the cards make a project: the start and the end are two events, each activity leads from one event to another
--- with its numbers in order, and the network is sound
-pub record MakesProject (deck : Deck) : Type 0 where
-  pub ends : HasEnds deck
-  pub connected : All (Connects deck) deck.acts
-  pub ordered : All IsInOrder deck.acts
-  pub sound : IsSound (network_of deck)
+-- the faults of the PROJECT card
+pub data HasProjectFault (deck : Deck) (card : ProjectCard) (fault : Fault) : Type 0 where
+  -- F13: the start, or else the end, is no event
+  unknown_start : event_named deck card.start ≡ None → fault ≡ naming card.row 13 card.start → HasProjectFault deck card fault
+  unknown_end : IsEvent deck card.start → event_named deck card.end ≡ None → fault ≡ naming card.row 13 card.end → HasProjectFault deck card fault
+  -- F17: the start is the end
+  same_ends : card.start ≡ card.end → fault ≡ naming card.row 17 card.start → HasProjectFault deck card fault
 
--- what keeps an activity out of a project
-pub data ActMisfit (deck : Deck) (act : ActCard) : Type 0 where
-  unknown_from : event_named deck act.from ≡ None → ActMisfit deck act
-  unknown_to : event_named deck act.to ≡ None → ActMisfit deck act
-  same_events : act.from ≡ act.to → ActMisfit deck act
-  optimistic_above : act.likely < act.opt → ActMisfit deck act
-  likely_above : act.pess < act.likely → ActMisfit deck act
-  crash_above : act.normal < act.crash → ActMisfit deck act
+-- the fault of a WBS card, F14: its parent is no item
+pub data HasItemFault (deck : Deck) (card : ItemCard) (fault : Fault) : Type 0 where
+  unknown_parent : (code : List ℕ) → card.parent ≡ Some code → item_named deck code ≡ None → fault ≡ naming card.row 14 code → HasItemFault deck card fault
 
--- what keeps a deck from making a project
-pub data HasMisfit (deck : Deck) : Type 0 where
-  unknown_start : event_named deck deck.project.start ≡ None → HasMisfit deck
-  unknown_end : event_named deck deck.project.end ≡ None → HasMisfit deck
-  same_ends : deck.project.start ≡ deck.project.end → HasMisfit deck
-  misfit_act : (act : ActCard) → Contains deck.acts act → ActMisfit deck act → HasMisfit deck
-  unsound : IsUnsound (network_of deck) → HasMisfit deck
+-- the faults of an ACT card
+pub data HasActFault (deck : Deck) (card : ActCard) (fault : Fault) : Type 0 where
+  -- F13: where it begins, or else where it ends, is no event
+  unknown_from : event_named deck card.from ≡ None → fault ≡ naming card.row 13 card.from → HasActFault deck card fault
+  unknown_to : IsEvent deck card.from → event_named deck card.to ≡ None → fault ≡ naming card.row 13 card.to → HasActFault deck card fault
+  -- F14: its item is no item
+  unknown_item : item_named deck card.item ≡ None → fault ≡ naming card.row 14 card.item → HasActFault deck card fault
+  -- F17: it begins where it ends
+  same_events : card.from ≡ card.to → fault ≡ naming card.row 17 card.from → HasActFault deck card fault
+  -- F18: its estimates are out of order
+  unordered : (IsInOrder card → ⊥) → fault ≡ plain_fault card.row 18 → HasActFault deck card fault
+  -- F19: its crash duration is above the normal one
+  crash_above : card.normal < card.crash → fault ≡ plain_fault card.row 19 → HasActFault deck card fault
 
--- how a deck is refused whose network is: it makes no project, or memory ran out
-abbrev pub refusal_of : NetError → DeckError
-refusal_of (StartEntered arc) = Fault fault_not_plain
-refusal_of (EndLeft arc) = Fault fault_not_plain
-refusal_of (Dangling event entered) = Fault fault_not_plain
-refusal_of (Cycle cycle) = Fault fault_not_plain
-refusal_of net.OutOfMemory = OutOfMemory
+-- the fault of an ACCT card, F14: its item is no item
+pub data HasAccountFault (deck : Deck) (card : AcctCard) (fault : Fault) : Type 0 where
+  unknown_item : item_named deck card.item ≡ None → fault ≡ naming card.row 14 card.item → HasAccountFault deck card fault
+
+-- the fault of a CHARGE or TOGO card, F15: its account is no account
+pub data HasMoneyFault (deck : Deck) (card : MoneyCard) (fault : Fault) : Type 0 where
+  unknown_account : account_named deck card.account ≡ None → fault ≡ naming card.row 15 card.account → HasMoneyFault deck card fault
+
+-- the fault of a STATUS card, F16: its activity is no activity
+pub data HasStatusFault (deck : Deck) (card : StatusCard) (fault : Fault) : Type 0 where
+  unknown_activity : act_named deck card.activity ≡ None → fault ≡ naming card.row 16 card.activity → HasStatusFault deck card fault
+
+-- the faults of the cards that give figures: accounts, charges, amounts to go and status
+pub data HasFigureFault (deck : Deck) (fault : Fault) : Type 0 where
+  account : Any (λ card. HasAccountFault deck card fault) deck.accounts → HasFigureFault deck fault
+  charge : Any (λ card. HasMoneyFault deck card fault) deck.charges → HasFigureFault deck fault
+  togo : Any (λ card. HasMoneyFault deck card fault) deck.togos → HasFigureFault deck fault
+  status : Any (λ card. HasStatusFault deck card fault) deck.statuses → HasFigureFault deck fault
+
+-- the faults of the cards of a deck
+pub data HasMisfit (deck : Deck) (fault : Fault) : Type 0 where
+  project : HasProjectFault deck deck.project fault → HasMisfit deck fault
+  item : Any (λ card. HasItemFault deck card fault) deck.items → HasMisfit deck fault
+  act : Any (λ card. HasActFault deck card fault) deck.acts → HasMisfit deck fault
+  figure : HasFigureFault deck fault → HasMisfit deck fault
+
+-- no card of the deck has a fault
+abbrev pub HasNoMisfit : Deck → Type 0
+HasNoMisfit deck = (fault : Fault) → HasMisfit deck fault → ⊥

@@ -1,31 +1,77 @@
 -- The project of a deck: its lists in card order, with numbers for codes.
-use Rattle.std.specs.Prelude.{ℕ, List, length, map, unwrap_or}
+use Rattle.std.specs.Prelude.{ℕ, ℤ, List, [], length, map, Option, Some, None, unwrap_or, slice_index, slice_index_or, option_and_then}
 use Rattle.pc_model.specs.declared.Arc.{Arc}
 use Rattle.pc_model.specs.declared.Term.{Term}
 use Rattle.pc_model.specs.Network.{Network}
+use Rattle.pc_model.specs.Schedule.{term_at}
+use Rattle.pc_model.specs.Walk.{from_of, to_of}
+use Rattle.pc_times.specs.Estimates.{expected_time, variance_of}
+use Rattle.pc_wbs.specs.declared.row.ItemRow.{ItemRow}
 use Rattle.pc_deck.specs.declared.cards.ActCard.{ActCard}
-use Rattle.pc_deck.specs.Deck.{Deck, event_codes, act_codes, event_named}
+use Rattle.pc_deck.specs.declared.cards.AsOfCard.{AsOfCard}
+use Rattle.pc_deck.specs.declared.cards.ItemCard.{ItemCard}
+use Rattle.pc_deck.specs.Deck.{Deck, act_codes, event_codes, item_codes, event_named, item_named, account_named, act_named}
+use Rattle.pc_project.specs.declared.heading.Counts.{Counts}
+use Rattle.pc_project.specs.declared.heading.Heading.{Heading}
+use Rattle.pc_project.specs.declared.activity.Activity.{Activity}
+use Rattle.pc_project.specs.declared.placed.Placement.{Placement}
 
--- what a project is: its code, the network of its activities, what each of them costs, and the codes of its
--- events and activities, all in card order
+-- what a project is: what it is called and when, the network of its activities, the tree of its items, and the lists
+-- of its events (codes), its activities (codes, items, what each may last and cost, expected times in sixths of a day
+-- and their variances in thirty-sixths of a square day) and its items (codes, titles), all in card order
 pub record Project : Type 0 where
-  pub code : List ℕ
+  pub heading : Heading
   pub network : Network
-  pub terms : List Term
+  pub tree : List ItemRow
   pub events : List (List ℕ)
   pub activities : List (List ℕ)
+  pub places : List ℕ
+  pub terms : List Term
+  pub expected : List ℕ
+  pub variances : List ℕ
+  pub items : List (List ℕ)
+  pub titles : List (List ℕ)
+  pub counts : Counts
 
 -- the number of the event with a code; the number of events where no event has it
 abbrev pub event_number : Deck → List ℕ → ℕ
 event_number deck code = unwrap_or (event_named deck code) (length deck.events)
 
+-- the number of the item with a code; the number of items where no item has it
+abbrev pub item_number : Deck → List ℕ → ℕ
+item_number deck code = unwrap_or (item_named deck code) (length deck.items)
+
+-- the number of the account with a code; the number of accounts where no account has it
+abbrev pub account_number : Deck → List ℕ → ℕ
+account_number deck code = unwrap_or (account_named deck code) (length deck.accounts)
+
+-- the number of the activity with a code; the number of activities where no activity has it
+abbrev pub act_number : Deck → List ℕ → ℕ
+act_number deck code = unwrap_or (act_named deck code) (length deck.acts)
+
 -- the events where the activity of a card begins and ends
 abbrev pub arc_of : Deck → ActCard → Arc
 arc_of deck act = record { from = event_number deck act.from; to = event_number deck act.to }
 
+-- the item of the activity of a card
+abbrev pub place_of : Deck → ActCard → ℕ
+place_of deck act = item_number deck act.item
+
+-- where the activity of a card stands
+abbrev pub placement_of : Deck → ActCard → Placement
+placement_of deck act = record { arc = arc_of deck act; item = place_of deck act }
+
 -- what the activity of a card may last and costs
 abbrev pub term_of : ActCard → Term
 term_of act = record { normal = act.normal; crash = act.crash; cost = act.cost; slope = act.slope }
+
+-- the expected time of the activity of a card
+abbrev pub expected_of : Deck → ActCard → ℕ
+expected_of deck act = expected_time act.opt act.likely act.pess deck.project.unit_days
+
+-- the variance of the activity of a card
+abbrev pub variance_in : Deck → ActCard → ℕ
+variance_in deck act = variance_of act.opt act.pess deck.project.unit_days
 
 -- the network of a deck: an event for each EVENT card, an activity for each ACT card
 abbrev pub network_of : Deck → Network
@@ -36,12 +82,69 @@ network_of deck = record {
   arcs = map (arc_of deck) deck.acts;
 }
 
+-- the item of a WBS card by the number of its parent; none at a card without a parent
+abbrev pub row_of : Deck → ItemCard → ItemRow
+row_of deck item = record { parent = option_and_then (λ code. Some (item_number deck code)) item.parent }
+
+-- the items of a deck by their parents
+abbrev pub rows_of : Deck → List ItemRow
+rows_of deck = map (row_of deck) deck.items
+
+-- the day that the figures are of: the ASOF card's, or the start
+abbrev pub as_of_day : ℤ → Option AsOfCard → ℤ
+as_of_day start None = start
+as_of_day start (Some card) = card.day
+
+-- what a deck says of the project as a whole
+abbrev pub heading_of : Deck → Heading
+heading_of deck = record {
+  code = deck.project.code;
+  start_day = deck.project.start_day;
+  as_of = as_of_day deck.project.start_day deck.as_of;
+  unit_days = deck.project.unit_days;
+  directed = deck.project.directed;
+}
+
+-- how many cards of each kind a deck has
+abbrev pub counts_of : Deck → Counts
+counts_of deck = record {
+  events = length deck.events;
+  activities = length deck.acts;
+  items = length deck.items;
+  accounts = length deck.accounts;
+  charges = length deck.charges;
+  togos = length deck.togos;
+  statuses = length deck.statuses;
+}
+
 -- the project of a deck
 abbrev pub project_in : Deck → Project
 project_in deck = record {
-  code = deck.project.code;
+  heading = heading_of deck;
   network = network_of deck;
-  terms = map term_of deck.acts;
+  tree = rows_of deck;
   events = event_codes deck;
   activities = act_codes deck;
+  places = map (place_of deck) deck.acts;
+  terms = map term_of deck.acts;
+  expected = map (expected_of deck) deck.acts;
+  variances = map (variance_in deck) deck.acts;
+  items = item_codes deck;
+  titles = map (λ item. item.title) deck.items;
+  counts = counts_of deck;
+}
+
+-- what a project says of activity a
+abbrev pub activity_at : Project → ℕ → Activity
+activity_at project a = record {
+  code = slice_index_or project.activities a [];
+  from = from_of project.network.arcs a;
+  to = to_of project.network.arcs a;
+  item = slice_index project.places a;
+  expected = slice_index project.expected a;
+  variance = slice_index project.variances a;
+  normal = (term_at project.terms a).normal;
+  crash = (term_at project.terms a).crash;
+  cost = (term_at project.terms a).cost;
+  slope = (term_at project.terms a).slope;
 }

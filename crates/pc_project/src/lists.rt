@@ -1,76 +1,114 @@
 //! The lists of a project, each in card order.
-ghost use Rattle.std.specs.Prelude.{◌≡◌, ◌≤◌, ◌<◌, ℕ, List, length, map, All, IfOk, IfSome, IfNone, Contains, option_map, IsTrue, ◌↔◌};
-ghost use Rattle.pc_deck.specs.declared.cards.ActCard.{ActCard};
-ghost use Rattle.pc_deck.specs.declared.cards.TheConstants.{ACT_LIMIT};
-ghost use Rattle.pc_deck.specs.Deck.{Deck, act_codes, event_codes};
-ghost use Rattle.pc_project.specs.Project.{arc_of, network_of, term_of};
-ghost use Rattle.pc_project.specs.Misfit.{ActMisfit, Connects, HasEnds, HasMisfit, IsInOrder};
+ghost use Rattle.std.specs.Prelude.{◌≡◌, ◌≤◌, All, map, IfOk};
+ghost use Rattle.pc_times.specs.declared.TheConstants.{MAX_UNIT_DAYS};
+ghost use Rattle.pc_times.specs.Estimates.{expected_time, variance_of};
+ghost use Rattle.pc_deck.specs.Deck.{act_codes, event_codes, item_codes};
+ghost use Rattle.pc_deck.specs.Within.{IsActWithin, IsWithinLimits};
+ghost use Rattle.pc_project.specs.Misfit.{IsInOrder};
+ghost use Rattle.pc_project.specs.Project.{expected_of, place_of, placement_of, term_of, variance_in};
 
+use crate::placed::Placement;
 use pc_deck::{ActCard, Cards};
 use pc_model::{Arc, Term};
-use pc_text::Code;
+use pc_text::{Code, Title};
+use pc_times::{expected_sixths, variance_36};
 use std::alloc::{AllocError, Global};
 
-/// Where an activity begins and ends; none where it does not lead from one event to another.
-fn connection(cards: &Cards, act: &ActCard) -> Option<Arc>
-    ensures found { IfSome result (λ arc. (arc ≡ arc_of cards.now act.now) × Connects cards.now act.now) }
-    ensures none { IfNone result (ActMisfit cards.now act.now) }
-{
-    let from = cards.event_named(&act.from)?;
-    let to = cards.event_named(&act.to)?;
-    if act.from == act.to {
-        return None;
-    }
-    Some(Arc { from, to })
+/// The lists of a project's activities, events and items.
+#[derive(Drop)]
+pub(crate) struct Lists {
+    pub events: Vec<Code>,
+    pub activities: Vec<Code>,
+    pub places: Vec<u32>,
+    pub terms: Vec<Term>,
+    pub expected: Vec<u64>,
+    pub variances: Vec<u64>,
+    pub items: Vec<Code>,
+    pub titles: Vec<Title>,
 }
 
-/// The numbers of the start and the end; none where these are not two events.
-pub(crate) fn ends(cards: &Cards) -> Option<(u32, u32)>
-    ensures start { IfSome result (λ ends. ends.0 ≡ (network_of cards.now).start) }
-    ensures end { IfSome result (λ ends. ends.1 ≡ (network_of cards.now).end) }
-    ensures found { IfSome result (λ _. HasEnds cards.now) }
-    ensures none { IfNone result (HasMisfit cards.now) }
-{
-    let project = cards.project();
-    let start = cards.event_named(&project.start)?;
-    let end = cards.event_named(&project.end)?;
-    if project.start == project.end {
-        return None;
-    }
-    Some((start, end))
-}
-
-/// Whether the activity's estimates and durations are in order.
-fn is_in_order(act: &ActCard) -> bool
-    ensures { IsTrue result ↔ IsInOrder act.now }
-{
-    act.opt <= act.likely && act.likely <= act.pess && act.crash <= act.normal
-}
-
-/// Where the activities begin and end; none where some activity does not fit in.
-pub(crate) fn connections(alloc: Global, cards: &Cards) -> Result<Option<Vec<Arc>>, AllocError>
-    ensures found { IfOk result (λ found. IfSome found (λ arcs. arcs.items ≡ map (arc_of cards.now) cards.now.acts)) }
-    ensures few { IfOk result (λ found. IfSome found (λ arcs. length arcs.items ≤ ACT_LIMIT)) }
-    ensures connected { IfOk result (λ found. IfSome found (λ _. All (Connects cards.now) cards.now.acts)) }
-    ensures ordered { IfOk result (λ found. IfSome found (λ _. All IsInOrder cards.now.acts)) }
-    ensures none { IfOk result (λ found. IfNone found (HasMisfit cards.now)) }
+/// The lists of the cards.
+pub(crate) fn lists_of(
+    alloc: Global,
+    cards: &Cards,
+    placements: &[Placement],
+) -> Result<Lists, AllocError>
+    requires ordered { All IsInOrder cards.now.acts }
+    requires placements { placements.now ≡ map (placement_of cards.now) cards.now.acts }
+    ensures events { IfOk result (λ lists. lists.events.items ≡ event_codes cards.now) }
+    ensures activities { IfOk result (λ lists. lists.activities.items ≡ act_codes cards.now) }
+    ensures places { IfOk result (λ lists. lists.places.items ≡ map (place_of cards.now) cards.now.acts) }
+    ensures terms { IfOk result (λ lists. lists.terms.items ≡ map term_of cards.now.acts) }
+    ensures expected { IfOk result (λ lists. lists.expected.items ≡ map (expected_of cards.now) cards.now.acts) }
+    ensures variances { IfOk result (λ lists. lists.variances.items ≡ map (variance_in cards.now) cards.now.acts) }
+    ensures items { IfOk result (λ lists. lists.items.items ≡ item_codes cards.now) }
+    ensures titles { IfOk result (λ lists. lists.titles.items ≡ map (λ item. item.title) cards.now.items) }
+    ensures within { IsWithinLimits cards.now }
 {
     let acts = cards.acts();
-    let mut arcs = Vec::with_capacity(alloc, acts.len())?;
-    for act in acts {
-        let Some(arc) = connection(cards, act) else {
-            return Ok(None);
-        };
-        if !is_in_order(act) {
-            return Ok(None);
-        }
-        arcs.push(arc)?;
-    }
-    Ok(Some(arcs))
+    let unit_days = cards.project().unit_days;
+    Ok(Lists {
+        events: codes_of_events(alloc, cards)?,
+        activities: codes_of_acts(alloc, cards)?,
+        places: places(alloc, placements)?,
+        terms: terms(alloc, acts)?,
+        expected: expected_times(alloc, acts, unit_days)?,
+        variances: variances(alloc, acts, unit_days)?,
+        items: codes_of_items(alloc, cards)?,
+        titles: titles(alloc, cards)?,
+    })
+}
+
+/// The codes of the events.
+fn codes_of_events(alloc: Global, cards: &Cards) -> Result<Vec<Code>, AllocError>
+    ensures { IfOk result (λ codes. codes.items ≡ event_codes cards.now) }
+{
+    cards.events().iter().map(|event| event.code).collect(alloc)
+}
+
+/// The codes of the activities.
+pub(crate) fn codes_of_acts(alloc: Global, cards: &Cards) -> Result<Vec<Code>, AllocError>
+    ensures { IfOk result (λ codes. codes.items ≡ act_codes cards.now) }
+{
+    cards.acts().iter().map(|act| act.code).collect(alloc)
+}
+
+/// The codes of the items.
+pub(crate) fn codes_of_items(alloc: Global, cards: &Cards) -> Result<Vec<Code>, AllocError>
+    ensures { IfOk result (λ codes. codes.items ≡ item_codes cards.now) }
+{
+    cards.items().iter().map(|item| item.code).collect(alloc)
+}
+
+/// The titles of the items.
+fn titles(alloc: Global, cards: &Cards) -> Result<Vec<Title>, AllocError>
+    ensures { IfOk result (λ titles. titles.items ≡ map (λ item. item.title) cards.now.items) }
+{
+    cards.items().iter().map(|item| item.title).collect(alloc)
+}
+
+/// The items of the activities.
+fn places(alloc: Global, placements: &[Placement]) -> Result<Vec<u32>, AllocError>
+    ensures { IfOk result (λ places. places.items ≡ map (λ placement. placement.item) placements.now) }
+{
+    placements
+        .iter()
+        .map(|placement| placement.item)
+        .collect(alloc)
+}
+
+/// Where the activities begin and end.
+pub(crate) fn arcs(alloc: Global, placements: &[Placement]) -> Result<Vec<Arc>, AllocError>
+    ensures { IfOk result (λ arcs. arcs.items ≡ map (λ placement. placement.arc) placements.now) }
+{
+    placements
+        .iter()
+        .map(|placement| placement.arc)
+        .collect(alloc)
 }
 
 /// What the activities may last and cost.
-pub(crate) fn terms(alloc: Global, acts: &[ActCard]) -> Result<Vec<Term>, AllocError>
+fn terms(alloc: Global, acts: &[ActCard]) -> Result<Vec<Term>, AllocError>
     ensures { IfOk result (λ terms. terms.items ≡ map term_of acts.now) }
 {
     acts.iter()
@@ -83,16 +121,30 @@ pub(crate) fn terms(alloc: Global, acts: &[ActCard]) -> Result<Vec<Term>, AllocE
         .collect(alloc)
 }
 
-/// The codes of the events.
-pub(crate) fn codes_of_events(alloc: Global, cards: &Cards) -> Result<Vec<Code>, AllocError>
-    ensures { IfOk result (λ codes. codes.items ≡ event_codes cards.now) }
+/// The expected times of the activities, in sixths of a day.
+fn expected_times(alloc: Global, acts: &[ActCard], unit_days: u64) -> Result<Vec<u64>, AllocError>
+    requires unit { unit_days ≤ MAX_UNIT_DAYS }
+    requires ordered { All IsInOrder acts.now }
+    requires within { All IsActWithin acts.now }
+    ensures { IfOk result (λ times. times.items ≡ map (λ act. expected_time act.opt act.likely act.pess unit_days) acts.now) }
 {
-    cards.events().iter().map(|event| event.code).collect(alloc)
+    let mut times = Vec::with_capacity(alloc, acts.len())?;
+    for act in acts {
+        times.push(expected_sixths(act.opt, act.likely, act.pess, unit_days))?;
+    }
+    Ok(times)
 }
 
-/// The codes of the activities.
-pub(crate) fn codes_of_acts(alloc: Global, cards: &Cards) -> Result<Vec<Code>, AllocError>
-    ensures { IfOk result (λ codes. codes.items ≡ act_codes cards.now) }
+/// The variances of the activities, in thirty-sixths of a square day.
+fn variances(alloc: Global, acts: &[ActCard], unit_days: u64) -> Result<Vec<u64>, AllocError>
+    requires unit { unit_days ≤ MAX_UNIT_DAYS }
+    requires ordered { All IsInOrder acts.now }
+    requires within { All IsActWithin acts.now }
+    ensures { IfOk result (λ variances. variances.items ≡ map (λ act. variance_of act.opt act.pess unit_days) acts.now) }
 {
-    cards.acts().iter().map(|act| act.code).collect(alloc)
+    let mut variances = Vec::with_capacity(alloc, acts.len())?;
+    for act in acts {
+        variances.push(variance_36(act.opt, act.pess, unit_days))?;
+    }
+    Ok(variances)
 }

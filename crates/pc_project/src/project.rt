@@ -1,49 +1,85 @@
-//! The project as one value, and how it is made of the cards.
-ghost use Rattle.std.specs.Prelude.{◌≡◌, ◌≤◌, ◌<◌, ℕ, List, length, map, IfOk, IfErr, All};
-ghost use Rattle.pc_model.specs.Network.{IsSound};
-ghost use Rattle.pc_model.specs.Schedule.{AreTerms};
-ghost use Rattle.pc_deck.specs.Deck.{Deck};
-ghost use Rattle.pc_deck.specs.Refusal.{Refuses, fault_not_plain};
-ghost use Rattle.pc_project.specs.Project.{network_of, project_in};
+//! The project as one value.
+ghost use Rattle.std.specs.Prelude.{◌≡◌, ◌<◌, ◌≤◌, length, slice_index_or, []};
 ghost use Rattle.pc_project.specs.Planned.{IsPlanned};
-ghost use Rattle.pc_project.specs.Misfit.{HasMisfit, MakesProject, refusal_of};
+ghost use Rattle.pc_project.specs.Project.{activity_at};
 
-use crate::lists::{codes_of_acts, codes_of_events, connections, ends, terms};
-use pc_deck::{Cards, DeckError, NOT_PLAIN};
+use crate::activity::Activity;
+use crate::heading::{Counts, Heading};
+use pc_days::Day;
 use pc_model::Term;
-use pc_net::{Net, NetError};
-use pc_text::Code;
-use std::alloc::{AllocError, Global};
+use pc_net::Net;
+use pc_text::{Code, Title};
+use pc_wbs::Tree;
 use std::marker::Model;
 
-/// What a deck says, with numbers for codes: events and activities are counted in card order from 0.
+/// What a deck says, with numbers for codes: events, activities and items are counted in card order from 0.
 #[derive(Drop)]
 pub struct Project {
-    code: Code,
-    net: Net,
-    terms: Vec<Term>,
-    events: Vec<Code>,
-    activities: Vec<Code>,
+    pub(crate) heading: Heading,
+    pub(crate) net: Net,
+    pub(crate) tree: Tree,
+    pub(crate) events: Vec<Code>,
+    pub(crate) activities: Vec<Code>,
+    pub(crate) places: Vec<u32>,
+    pub(crate) terms: Vec<Term>,
+    pub(crate) expected: Vec<u64>,
+    pub(crate) variances: Vec<u64>,
+    pub(crate) items: Vec<Code>,
+    pub(crate) titles: Vec<Title>,
+    pub(crate) counts: Counts,
 }
 
 impl Model for Project {
     ghost use Rattle.pc_project.specs.Project.{Project};
-    ghost use Rattle.pc_project.specs.Planned.{IsPlanned};
 
     ghost Value = { Project };
 
-    ghost view = { λ p. record { code = p.code; network = p.net; terms = p.terms.items; events = p.events.items; activities = p.activities.items } };
+    ghost use Rattle.pc_project.specs.Parts.{project_from, IsPlannedInside};
 
-    ghost invariant = { λ p. IsPlanned (record { code = p.code; network = p.net; terms = p.terms.items; events = p.events.items; activities = p.activities.items }) };
+    ghost view = { project_from };
+
+    ghost invariant = { IsPlannedInside };
 }
 
 impl Project {
+    /// The project's code.
     pub fn code(&self) -> Code
-        ensures { result ≡ self.now.code }
+        ensures { result ≡ self.now.heading.code }
     {
-        self.code
+        self.heading.code
     }
 
+    /// The day on which the project starts.
+    pub fn start_day(&self) -> Day
+        ensures { result ≡ self.now.heading.start_day }
+    {
+        self.heading.start_day
+    }
+
+    /// The day that the figures are of: the ASOF card's, or the start day where there is no such card.
+    pub fn as_of(&self) -> Day
+        ensures { result ≡ self.now.heading.as_of }
+    {
+        self.heading.as_of
+    }
+
+    /// How many days a unit is, 1 to 7.
+    pub fn unit_days(&self) -> u64
+        ensures unit { result ≡ self.now.heading.unit_days }
+        ensures within { result ≤ 7 }
+    {
+        self.heading.unit_days
+    }
+
+    /// The end to be met, in days from the start, where one is given.
+    pub fn directed(&self) -> Option<u64>
+        ensures directed { result ≡ self.now.heading.directed }
+        ensures planned { IsPlanned self.now }
+    {
+        self.heading.directed
+    }
+
+    /// The network of the activities.
     pub fn net(&self) -> &Net
         ensures network { result.now ≡ self.now.network }
         ensures planned { IsPlanned self.now }
@@ -51,11 +87,63 @@ impl Project {
         &self.net
     }
 
-    /// What each activity may last, in units, and costs.
-    pub fn terms(&self) -> &[Term]
-        ensures { result.now ≡ self.now.terms }
+    /// The tree of the items.
+    pub fn tree(&self) -> &Tree
+        ensures tree { result.now ≡ self.now.tree }
+        ensures planned { IsPlanned self.now }
     {
-        &self.terms
+        &self.tree
+    }
+
+    /// How many cards of each kind the deck has.
+    pub fn counts(&self) -> Counts
+        ensures { result ≡ self.now.counts }
+    {
+        self.counts
+    }
+
+    /// The code of an event.
+    pub fn event_code(&self, e: u32) -> Code
+        requires { e < self.now.network.events }
+        ensures { result ≡ slice_index_or self.now.events e [] }
+    {
+        self.events[e as usize]
+    }
+
+    /// What is known of an activity.
+    pub fn activity(&self, a: u32) -> Activity
+        requires { a < length self.now.network.arcs }
+        ensures { result ≡ activity_at self.now a }
+    {
+        let term = self.terms[a as usize];
+        Activity {
+            code: self.activities[a as usize],
+            from: self.net.from(a),
+            to: self.net.to(a),
+            item: self.places[a as usize],
+            expected: self.expected[a as usize],
+            variance: self.variances[a as usize],
+            normal: term.normal,
+            crash: term.crash,
+            cost: term.cost,
+            slope: term.slope,
+        }
+    }
+
+    /// The code of an item.
+    pub fn item_code(&self, i: u32) -> Code
+        requires { i < length self.now.tree }
+        ensures { result ≡ slice_index_or self.now.items i [] }
+    {
+        self.items[i as usize]
+    }
+
+    /// The title of an item.
+    pub fn item_title(&self, i: u32) -> &Title
+        requires { i < length self.now.tree }
+        ensures { result.now ≡ slice_index_or self.now.titles i [] }
+    {
+        &self.titles[i as usize]
     }
 
     /// The codes of the events.
@@ -73,70 +161,29 @@ impl Project {
     {
         &self.activities
     }
-}
 
-/// The network of the cards. It is refused as not plain exactly where the cards make no project.
-fn network(alloc: Global, cards: &Cards) -> Result<Net, DeckError>
-    ensures network { IfOk result (λ net. net ≡ network_of cards.now) }
-    ensures makes { IfOk result (λ _. MakesProject cards.now) }
-    ensures refused { IfErr result (λ e. Refuses (λ fault. (fault ≡ fault_not_plain) × HasMisfit cards.now) e) }
-{
-    let Some((start, end)) = ends(cards) else {
-        return Err(DeckError::Fault(NOT_PLAIN));
-    };
-    let Some(arcs) = connections(alloc, cards)? else {
-        return Err(DeckError::Fault(NOT_PLAIN));
-    };
-    let events = cards.events().len() as u32;
-    match Net::build(alloc, events, start, end, &arcs) {
-        Ok(net) => Ok(net),
-        Err(e) => Err(refusal(e)),
+    /// What each activity may last, in units, and costs.
+    pub fn terms(&self) -> &[Term]
+        ensures terms { result.now ≡ self.now.terms }
+        ensures planned { IsPlanned self.now }
+    {
+        &self.terms
     }
-}
 
-/// How a deck is refused whose network is.
-fn refusal(error: NetError) -> DeckError
-    ensures { result ≡ refusal_of error }
-{
-    match error {
-        NetError::StartEntered { .. } | NetError::EndLeft { .. } => DeckError::Fault(NOT_PLAIN),
-        NetError::Dangling { .. } | NetError::Cycle(_) => DeckError::Fault(NOT_PLAIN),
-        NetError::OutOfMemory => DeckError::OutOfMemory,
+    /// The expected time of each activity, in sixths of a day.
+    pub fn expected(&self) -> &[u64]
+        ensures expected { result.now ≡ self.now.expected }
+        ensures planned { IsPlanned self.now }
+    {
+        &self.expected
     }
-}
 
-/// The project of cards that make one, around their network.
-fn planned(alloc: Global, cards: &Cards, net: Net) -> Result<Project, AllocError>
-    requires network { net ≡ network_of cards.now }
-    requires makes { MakesProject cards.now }
-    ensures { IfOk result (λ project. project ≡ project_in cards.now) }
-{
-    let acts = cards.acts();
-    let terms = terms(alloc, acts)?;
-    let events = codes_of_events(alloc, cards)?;
-    let activities = codes_of_acts(alloc, cards)?;
-    let code = cards.project().code;
-    Ok(Project {
-        code,
-        net,
-        terms,
-        events,
-        activities,
-    })
-}
-
-/// The project of the cards. It is refused as not plain exactly where the cards make no project.
-pub fn project_of(alloc: Global, cards: Cards) -> Result<Project, DeckError>
-    ensures project { IfOk result (λ project. project ≡ project_in cards) }
-    ensures makes { IfOk result (λ _. MakesProject cards) }
-    ensures refused { IfErr result (λ e. Refuses (λ fault. (fault ≡ fault_not_plain) × HasMisfit cards) e) }
-{
-    let net = match network(alloc, &cards) {
-        Ok(net) => net,
-        Err(e) => return Err(e),
-    };
-    match planned(alloc, &cards, net) {
-        Ok(project) => Ok(project),
-        Err(_) => Err(DeckError::OutOfMemory),
+    /// The variance of each activity's time, in thirty-sixths of a square day.
+    pub fn variances(&self) -> &[u64]
+        ensures variances { result.now ≡ self.now.variances }
+        ensures each { length result.now ≡ length self.now.network.arcs }
+        ensures planned { IsPlanned self.now }
+    {
+        &self.variances
     }
 }

@@ -1,1 +1,4 @@
 mod Heads
+mod DateLaws
+mod PathLaws
+mod WorkedRows

@@ -1,6 +1,10 @@
 -- Lines of reports.
 use Rattle.std.specs.Prelude.{ℕ, List, [], ◌∷◌, ◌++◌, decimal, slice_index, slice_index_or}
 
+-- the word, the code, and the end of the line
+abbrev pub code_line : List ℕ → List ℕ → List ℕ
+code_line word code = word ++ (code ++ 10 ∷ [])
+
 -- the word, the number, and the end of the line
 abbrev pub number_line : List ℕ → ℕ → List ℕ
 number_line word n = word ++ (decimal n ++ 10 ∷ [])

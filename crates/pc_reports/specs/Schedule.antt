@@ -2,6 +2,7 @@
 use Rattle.std.specs.Prelude.{◌≡◌, ℕ, ◌≤◌, List, ◌++◌, length, codes}
 use Rattle.pc_edges.specs.Texts.{texts_to}
 use Rattle.pc_reports.specs.Lines.{number_line, line_at}
+use Rattle.pc_reports.specs.declared.lines.TheConstants.{LINE_ROOM}
 
 -- the length and the cost, the time of each event, and the duration of each activity, a line each
 abbrev pub schedule_text : ℕ → ℕ → List (List ℕ) → List ℕ → List (List ℕ) → List ℕ → List ℕ
@@ -11,14 +12,13 @@ schedule_text total cost events times activities durations =
     ++ texts_to (length events) (line_at (codes "EVENT ") events times)
     ++ texts_to (length activities) (line_at (codes "ACT ") activities durations)
 
--- there is a number for each code, and each line finds room
-pub record IsPrintable (names : List (List ℕ)) (numbers word : List ℕ) (room : ℕ) : Type 0 where
+-- there is a number for each code, and the word is short
+pub record IsPrintable (names : List (List ℕ)) (numbers word : List ℕ) : Type 0 where
   pub numbered : length names ≡ length numbers
   pub short : length word ≤ 8
-  pub fits : 64 ≤ room
 
 -- there is a time for each event and a duration for each activity, and each line finds room
 pub record IsWhole (events : List (List ℕ)) (times : List ℕ) (activities : List (List ℕ)) (durations : List ℕ) (room : ℕ) : Type 0 where
   pub timed : length events ≡ length times
   pub lasting : length activities ≡ length durations
-  pub fits : 64 ≤ room
+  pub fits : LINE_ROOM ≤ room

@@ -1,16 +1,14 @@
 // The text of a schedule.
-ghost use Rattle.std.specs.Prelude.{◌≡◌, ◌+◌, ◌≤◌, ◌++◌, length};
+ghost use Rattle.std.specs.Prelude.{◌≡◌, ◌≤◌, length};
 ghost use Rattle.pc_edges.specs.Writes.{Gathers, Writes};
 ghost use Rattle.pc_edges.specs.Texts.{texts_to};
-ghost use Rattle.pc_reports.specs.Lines.{number_line, named_line, line_at};
+ghost use Rattle.pc_reports.specs.Lines.{line_at};
 ghost use Rattle.pc_reports.specs.Schedule.{schedule_text, IsPrintable, IsWhole};
 
-use crate::make_room;
+use crate::lines::{LINE_ROOM, put_named, put_number};
+use crate::table::{Table, gather_rows};
 use pc_edges::{Failed, Sink, push_all};
-use pc_text::{Code, Line, digits};
-
-/// The room that the line of a report has to have: more than its longest line takes.
-pub const LINE_ROOM: usize = 64;
+use pc_text::{Code, Line};
 
 /// Writes a schedule of `length` days that costs `cost`: the time of each event and the duration of each activity,
 /// in card order.
@@ -48,39 +46,40 @@ fn gather_lines<O: Sink>(
     names: &[Code],
     numbers: &[u64],
 ) -> Result<(), Failed>
-    requires { IsPrintable names.now numbers.now word.now line.old.room }
+    requires printable { IsPrintable names.now numbers.now word.now }
+    requires room { LINE_ROOM ≤ line.old.room }
     ensures text { Gathers result (O.taken sink.old) line.old.bytes (O.taken sink.new) line.new.bytes
         (O.faults sink.old) (O.faults sink.new) (texts_to (length names.now) (line_at word.now names.now numbers.now)) }
     ensures room { line.new.room ≡ line.old.room }
 {
-    for (i, name) in names.iter().enumerate() {
-        make_room(line, sink, LINE_ROOM)?;
-        put_named(line, word, name, numbers[i]);
+    let lines = Numbered {
+        word,
+        names,
+        numbers,
+    };
+    gather_rows(line, sink, &lines)
+}
+
+/// A line for each code and its number.
+#[derive(Clone, Copy)]
+pub(crate) struct Numbered<'a> {
+    pub(crate) word: &'a [u8],
+    pub(crate) names: &'a [Code],
+    pub(crate) numbers: &'a [u64],
+}
+
+impl<'a> Table for Numbered<'a> {
+    ghost row_count = { λ t. length t.names.now };
+
+    ghost row_text = { λ t. line_at t.word.now t.names.now t.numbers.now };
+
+    ghost IsReady = { λ t. IsPrintable t.names.now t.numbers.now t.word.now };
+
+    fn rows(&self) -> usize {
+        self.names.len()
     }
-    Ok(())
-}
 
-// Appends the word, the number, and the end of the line.
-fn put_number(line: &mut Line, word: &[u8], number: u64)
-    requires { length line.old.bytes + length word.now + 21 ≤ line.old.room }
-    ensures bytes { line.new.bytes ≡ line.old.bytes ++ number_line word.now number }
-    ensures long { length line.new.bytes ≤ length line.old.bytes + length word.now + 21 }
-    ensures room { line.new.room ≡ line.old.room }
-{
-    line.text(word);
-    line.text(digits(number).bytes());
-    line.text(b"\n");
-}
-
-// Appends the word, the code, a space, the number, and the end of the line.
-fn put_named(line: &mut Line, word: &[u8], name: &Code, number: u64)
-    requires { length line.old.bytes + length word.now + 38 ≤ line.old.room }
-    ensures bytes { line.new.bytes ≡ line.old.bytes ++ named_line word.now name.now number }
-    ensures room { line.new.room ≡ line.old.room }
-{
-    line.text(word);
-    line.text(name.bytes());
-    line.text(b" ");
-    line.text(digits(number).bytes());
-    line.text(b"\n");
+    fn put(&self, i: usize, line: &mut Line) {
+        put_named(line, self.word, &self.names[i], self.numbers[i]);
+    }
 }

@@ -1,4 +1,5 @@
-ghost use Rattle.std.specs.Prelude.{◌≡◌, ℕ, ◌<◌, length, slice_index, IfOk, IfSome, IfNone};
+ghost use Rattle.std.specs.Prelude.{◌≡◌, ℕ, ◌<◌, ◌≤◌, length, slice_index, IfOk, IfSome, IfNone};
+ghost use Rattle.std.specs.List.{All};
 ghost use Rattle.pc_model.specs.Greatest.{IsFirst};
 ghost use Rattle.pc_model.specs.Walk.{IsWalk, walk_sum};
 ghost use Rattle.pc_model.specs.Network.{IsLongest};
@@ -6,6 +7,7 @@ ghost use Rattle.pc_times.specs.Times.{AreLengths, AreEarly, AreTails};
 ghost use Rattle.pc_times.specs.Picked.{IsPickedWalk, IsLongestWalk};
 ghost use Rattle.pc_times.specs.Passes.{HasBoundedWalks, IsTight};
 
+use crate::MAX_TIME;
 use crate::found::Longest;
 use crate::passes::{early_times, tails_to_end};
 use pc_net::Net;
@@ -18,6 +20,7 @@ use std::alloc::{AllocError, Global};
 pub fn longest(alloc: Global, net: &Net, lengths: &[u64]) -> Result<Longest, AllocError>
     requires { AreLengths net.now lengths.now }
     ensures times { IfOk result (λ found. AreEarly net.now lengths.now found.times) }
+    ensures limit { IfOk result (λ found. All (λ time. time ≤ MAX_TIME) found.times) }
     ensures length { IfOk result (λ found. IsLongest net.now lengths.now found.length) }
     ensures end_time { IfOk result (λ found. slice_index found.times net.now.end ≡ found.length) }
 

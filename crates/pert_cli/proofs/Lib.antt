@@ -1,5 +1,4 @@
 mod FlushLaws
-mod WordLaws
 mod ScheduleLaws
 mod VerdictLaws
 mod OutcomeLaws

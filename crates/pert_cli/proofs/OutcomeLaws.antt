@@ -9,9 +9,10 @@ use Rattle.pc_deck.specs.Refusal.{fault_too_long}
 use Rattle.pc_project.specs.Project.{Project}
 use Rattle.pert_cli.specs.declared.status.Status.{Status}
 use Rattle.pert_cli.specs.declared.status.Status.TheVariants.{Done, Refused, Usage, OutOfMemory, ReadFault, WriteFault}
-use Rattle.pert_cli.specs.Words.{IsNormal}
+use Rattle.pert_cli.specs.declared.words.Form.{Form}
+use Rattle.pert_cli.specs.Words.{AskFor}
 use Rattle.pert_cli.specs.Verdict.{IsFault, IsProjectOf, too_long}
-use Rattle.pert_cli.specs.Answer.{IsNormalText}
+use Rattle.pert_cli.specs.Answer.{IsTextOf}
 use Rattle.pert_cli.specs.Sides.{Answering, Refusal}
 use Rattle.pert_cli.specs.Outcome.{IsAnswer, Outcome, SinkRun, SourceRun, done, refused, no_memory, write_fault, in_answer, in_fault}
 
@@ -41,31 +42,31 @@ of_an_unread_deck (Some deck) None bytes consumed long = absurd consumed
 of_an_unread_deck (Some deck) (Some rest) bytes consumed long =
     λ short. absurd (omega (arith, ap length consumed, length-append bytes rest, long, short))
 
-module _ (words : List (String Global)) (source : SourceRun) (out err : SinkRun) (same_source same_out same_err : Type 0) (normal : IsNormal words) where
+module _ (words : List (String Global)) (source : SourceRun) (out err : SinkRun) (same_source same_out same_err : Type 0) (form : Form) (asked : AskFor form words) where
   -- the deck has a fault, and its line was handed to the error output
   pub after_refusal : (fault : Fault) (status : Status) → IfSome source.left (λ bytes. IsFault bytes fault) → IfSome source.left (λ bytes. length bytes ≤ DECK_LIMIT → IsAtEnd source.left_after) → same_out → Refusal fault err.taken err.taken_after err.faults err.faults_after same_err status → Outcome words source out err same_source same_out same_err status
-  after_refusal fault Refused is read unused took = refused normal (record { fault = fault; is = is; read = read; took = took }) unused
-  after_refusal fault OutOfMemory is read unused same = no_memory normal unused same
-  after_refusal fault WriteFault is read unused took = write_fault (in_fault normal (record { fault = fault; is = is; took = took }) unused)
+  after_refusal fault Refused is read unused took = refused (form, asked) (record { fault = fault; is = is; read = read; took = took }) unused
+  after_refusal fault OutOfMemory is read unused same = no_memory (form, asked) unused same
+  after_refusal fault WriteFault is read unused took = write_fault (in_fault (form, asked) (record { fault = fault; is = is; took = took }) unused)
   after_refusal fault Done is read unused never = absurd never
   after_refusal fault Usage is read unused never = absurd never
   after_refusal fault ReadFault is read unused never = absurd never
 
   -- the deck is accepted
-  accepted_text : (project : Project) (text : List ℕ) → IfSome source.left (λ bytes. IsProjectOf bytes project) → IsNormalText project text → IfSome source.left (λ bytes. IsAnswer bytes text)
-  accepted_text project text is normal_text = of source.left is
+  accepted_text : (project : Project) (text : List ℕ) → IfSome source.left (λ bytes. IsProjectOf bytes project) → IsTextOf form project text → IfSome source.left (λ bytes. IsAnswer form bytes text)
+  accepted_text project text is right = of source.left is
     where
-      of : (left : Option (List ℕ)) → IfSome left (λ bytes. IsProjectOf bytes project) → IfSome left (λ bytes. IsAnswer bytes text)
+      of : (left : Option (List ℕ)) → IfSome left (λ bytes. IsProjectOf bytes project) → IfSome left (λ bytes. IsAnswer form bytes text)
       of None is = tt
-      of (Some bytes) is = record { project = project; accepted = is; normal = normal_text }
+      of (Some bytes) is = record { project = project; accepted = is; right = right }
 
   -- the deck is accepted, and its answer was handed to the output
-  pub after_answer : (project : Project) (status : Status) → IfSome source.left (λ bytes. IsProjectOf bytes project) → IsAtEnd source.left_after → same_err → Answering project out.taken out.taken_after out.faults out.faults_after same_out status → Outcome words source out err same_source same_out same_err status
+  pub after_answer : (project : Project) (status : Status) → IfSome source.left (λ bytes. IsProjectOf bytes project) → IsAtEnd source.left_after → same_err → Answering form project out.taken out.taken_after out.faults out.faults_after same_out status → Outcome words source out err same_source same_out same_err status
   after_answer project Done is read unused answered =
-      done normal (record { read = read; text = answered.0; answer = accepted_text project answered.0 is answered.1; took = answered.2 }) unused
-  after_answer project OutOfMemory is read unused same = no_memory normal same unused
+      done (record { form = form; asked = asked; read = read; text = answered.0; answer = accepted_text project answered.0 is answered.1; took = answered.2 }) unused
+  after_answer project OutOfMemory is read unused same = no_memory (form, asked) same unused
   after_answer project WriteFault is read unused answered =
-      write_fault (in_answer normal (record { text = answered.0; answer = accepted_text project answered.0 is answered.1; took = answered.2 }) unused)
+      write_fault (in_answer (record { form = form; asked = asked; text = answered.0; answer = accepted_text project answered.0 is answered.1; took = answered.2 }) unused)
   after_answer project Refused is read unused never = absurd never
   after_answer project Usage is read unused never = absurd never
   after_answer project ReadFault is read unused never = absurd never

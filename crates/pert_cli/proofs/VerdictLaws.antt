@@ -7,25 +7,25 @@ use Rattle.pc_deck.specs.declared.fault.DeckError.{DeckError}
 use Rattle.pc_deck.specs.declared.fault.DeckError.TheVariants.{Fault, OutOfMemory}
 use Rattle.pc_deck.specs.Deck.{Deck}
 use Rattle.pc_deck.specs.Reading.{deck_of}
-use Rattle.pc_deck.specs.Refusal.{Refuses, fault_not_plain}
+use Rattle.pc_deck.specs.Refusal.{Refuses}
 use Rattle.pc_deck.specs.FaultText.{IsTold}
 use Rattle.pc_deck.proofs.ToldLemmas.{told_of-refusal}
 use Rattle.pc_deck.proofs.RefusalLemmas.{not_both as cards_not_refused}
-use Rattle.pc_project.specs.Misfit.{HasMisfit}
-use Rattle.pc_project.proofs.MisfitLaws.{no_misfit}
-use Rattle.pert_cli.specs.Verdict.{IsAccepted, IsFault, too_long, card_refusal, misfit}
+use Rattle.pc_project.specs.Refusal.{IsRefusedWith}
+use Rattle.pc_project.proofs.RefusalLaws.{makes_not_refused, told_of-refused}
+use Rattle.pert_cli.specs.Verdict.{IsAccepted, IsFault, too_long, card_refusal, project_refusal}
 
 -- the refusal of a project is the fault of its deck
-pub refused_project : {A : Type 0} (result : Result A DeckError) (bytes : List ℕ) (deck : Deck) → length bytes ≤ DECK_LIMIT → deck_of bytes ≡ Some deck → IfErr result (λ e. Refuses (λ fault. (fault ≡ fault_not_plain) × HasMisfit deck) e) → IfErr result (Refuses (IsFault bytes))
+pub refused_project : {A : Type 0} (result : Result A DeckError) (bytes : List ℕ) (deck : Deck) → length bytes ≤ DECK_LIMIT → deck_of bytes ≡ Some deck → IfErr result (Refuses (IsRefusedWith deck)) → IfErr result (Refuses (IsFault bytes))
 refused_project (Ok project) bytes deck short cards refused = tt
-refused_project (Err (Fault fault)) bytes deck short cards refused = misfit deck short cards refused.1 refused.0
+refused_project (Err (Fault fault)) bytes deck short cards refused = project_refusal deck short cards refused
 refused_project (Err OutOfMemory) bytes deck short cards refused = tt
 
 -- each fault of a deck can be told
 pub told_of-fault : (bytes : List ℕ) (fault : ADeckFault) → IsFault bytes fault → IsTold fault
 told_of-fault bytes fault (too_long long is) = subst IsTold (sym is) refl
 told_of-fault bytes fault (card_refusal short refusal) = told_of-refusal bytes fault refusal
-told_of-fault bytes fault (misfit deck short cards broken is) = subst IsTold (sym is) refl
+told_of-fault bytes fault (project_refusal deck short cards refused) = told_of-refused deck fault refused
 
 -- two decks that the same bytes spell are one deck
 same_deck : (bytes : List ℕ) (deck other : Deck) → deck_of bytes ≡ Some deck → deck_of bytes ≡ Some other → deck ≡ other
@@ -35,5 +35,5 @@ same_deck bytes deck other is also = ap (λ o. unwrap_or o deck) (sym is ∙ als
 pub not_both : (bytes : List ℕ) (deck : Deck) (fault : ADeckFault) → IsAccepted bytes deck → IsFault bytes fault → ⊥
 not_both bytes deck fault accepted (too_long long is) = omega (arith, accepted.short, long)
 not_both bytes deck fault accepted (card_refusal short refusal) = cards_not_refused bytes deck fault accepted.cards refusal
-not_both bytes deck fault accepted (misfit other short cards broken is) =
-    no_misfit deck accepted.makes (subst HasMisfit (same_deck bytes other deck cards accepted.cards) broken)
+not_both bytes deck fault accepted (project_refusal other short cards refused) =
+    makes_not_refused deck fault accepted.makes (subst (λ d. IsRefusedWith d fault) (same_deck bytes other deck cards accepted.cards) refused)

@@ -1,9 +1,13 @@
--- What `pert normal` answers.
+-- What each form of the words is answered with.
 use Rattle.std.specs.Prelude.{◌≡◌, ℕ, ◌<◌, ◌≤◌, List, length, slice_index}
 use Rattle.pc_model.specs.Network.{IsEarly}
 use Rattle.pc_model.specs.Schedule.{IsAllNormalLength, IsSchedule, cost_of, normals}
+use Rattle.pc_reports.specs.Check.{check_text}
 use Rattle.pc_reports.specs.Schedule.{schedule_text}
+use Rattle.pc_reports.specs.TimesText.{IsTimesText}
 use Rattle.pc_project.specs.Project.{Project}
+use Rattle.pert_cli.specs.declared.words.Form.{Form}
+use Rattle.pert_cli.specs.declared.words.Form.TheVariants.{Check, Normal, Times}
 
 -- a schedule of a project, with its length and its cost, as it is printed
 pub record Printed : Type 0 where
@@ -34,3 +38,10 @@ pub record IsNormalText (project : Project) (text : List ℕ) : Type 0 where
   pub printed : Printed
   pub right : IsNormalSchedule project printed
   pub is : text ≡ printed_text project printed
+
+-- the text answers the form: `check` with the project's code and the counts of its cards, `normal` with the schedule at
+-- the all-normal length, `times` with the times of the events and the critical path
+abbrev pub IsTextOf : Form → Project → List ℕ → Type 0
+IsTextOf Check project text = text ≡ check_text project
+IsTextOf Normal project text = IsNormalText project text
+IsTextOf Times project text = IsTimesText project text

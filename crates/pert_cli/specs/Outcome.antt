@@ -10,15 +10,16 @@ use Rattle.pc_deck.specs.declared.limits.TheConstants.{DECK_LIMIT}
 use Rattle.pc_project.specs.Project.{Project}
 use Rattle.pert_cli.specs.declared.status.Status.{Status}
 use Rattle.pert_cli.specs.declared.status.Status.TheVariants.{Done, Refused, Usage, OutOfMemory, ReadFault, WriteFault}
-use Rattle.pert_cli.specs.Words.{IsNormal, usage_text}
+use Rattle.pert_cli.specs.declared.words.Form.{Form}
+use Rattle.pert_cli.specs.Words.{AskFor, AskForOne, AskForNone, usage_text}
 use Rattle.pert_cli.specs.Verdict.{IsFault, IsProjectOf}
-use Rattle.pert_cli.specs.Answer.{IsNormalText}
+use Rattle.pert_cli.specs.Answer.{IsTextOf}
 
--- the text is the schedule at the all-normal length of the project of an accepted deck
-pub record IsAnswer (bytes text : List ℕ) : Type 0 where
+-- the deck is accepted, and the text answers the form for its project
+pub record IsAnswer (form : Form) (bytes text : List ℕ) : Type 0 where
   pub project : Project
   pub accepted : IsProjectOf bytes project
-  pub normal : IsNormalText project text
+  pub right : IsTextOf form project text
 
 -- a source before and after a run: the bytes that it has left, where it tells them, and its count of faults
 pub record SourceRun : Type 0 where
@@ -58,11 +59,13 @@ Took sink text = Wrote sink.taken sink.taken_after sink.faults sink.faults_after
 abbrev pub TookFront : SinkRun → List ℕ → Type 0
 TookFront sink text = Stopped sink.taken sink.taken_after sink.faults sink.faults_after text
 
--- the deck was read to its end and is accepted, and the output took its answer
-pub record IsDone (source : SourceRun) (out : SinkRun) : Type 0 where
+-- the words ask for a form, the deck was read to its end and is accepted, and the output took its answer
+pub record IsDone (words : List (String Global)) (source : SourceRun) (out : SinkRun) : Type 0 where
+  pub form : Form
+  pub asked : AskFor form words
   pub read : IsAtEnd source.left_after
   pub text : List ℕ
-  pub answer : IfSome source.left (λ bytes. IsAnswer bytes text)
+  pub answer : IfSome source.left (λ bytes. IsAnswer form bytes text)
   pub took : Took out text
 
 -- the deck is refused, and the error output took the line of its fault; the deck was read to its end, unless it is too long
@@ -72,10 +75,12 @@ pub record IsRefused (source : SourceRun) (err : SinkRun) : Type 0 where
   pub read : IfSome source.left (λ bytes. length bytes ≤ DECK_LIMIT → IsAtEnd source.left_after)
   pub took : Took err (fault_text fault)
 
--- a fault of the output came when it had taken a front of the answer
-pub record IsAnswerCut (source : SourceRun) (out : SinkRun) : Type 0 where
+-- the words ask for a form, and a fault of the output came when it had taken a front of the answer
+pub record IsAnswerCut (words : List (String Global)) (source : SourceRun) (out : SinkRun) : Type 0 where
+  pub form : Form
+  pub asked : AskFor form words
   pub text : List ℕ
-  pub answer : IfSome source.left (λ bytes. IsAnswer bytes text)
+  pub answer : IfSome source.left (λ bytes. IsAnswer form bytes text)
   pub took : TookFront out text
 
 -- a fault of the error output came when it had taken a front of the line of the deck's fault
@@ -86,15 +91,15 @@ pub record IsFaultCut (source : SourceRun) (err : SinkRun) : Type 0 where
 
 -- where a write fault came: in the answer, in the line of a fault, or in the usage line. The other output is as it was
 pub data IsCut (words : List (String Global)) (source : SourceRun) (out err : SinkRun) (same_out same_err : Type 0) : Type 0 where
-  in_answer : IsNormal words → IsAnswerCut source out → same_err → IsCut words source out err same_out same_err
-  in_fault : IsNormal words → IsFaultCut source err → same_out → IsCut words source out err same_out same_err
-  in_usage : (IsNormal words → ⊥) → TookFront err usage_text → same_out → IsCut words source out err same_out same_err
+  in_answer : IsAnswerCut words source out → same_err → IsCut words source out err same_out same_err
+  in_fault : AskForOne words → IsFaultCut source err → same_out → IsCut words source out err same_out same_err
+  in_usage : AskForNone words → TookFront err usage_text → same_out → IsCut words source out err same_out same_err
 
 -- what a run that ended with the status means and leaves behind. What is said to be the same was not touched at all
 pub data Outcome (words : List (String Global)) (source : SourceRun) (out err : SinkRun) (same_source same_out same_err : Type 0) : Status → Type 0 where
-  done : IsNormal words → IsDone source out → same_err → Outcome words source out err same_source same_out same_err Done
-  refused : IsNormal words → IsRefused source err → same_out → Outcome words source out err same_source same_out same_err Refused
-  usage : (IsNormal words → ⊥) → Took err usage_text → same_source → same_out → Outcome words source out err same_source same_out same_err Usage
-  no_memory : IsNormal words → same_out → same_err → Outcome words source out err same_source same_out same_err OutOfMemory
-  read_fault : IsNormal words → Rose source.faults source.faults_after → same_out → same_err → Outcome words source out err same_source same_out same_err ReadFault
+  done : IsDone words source out → same_err → Outcome words source out err same_source same_out same_err Done
+  refused : AskForOne words → IsRefused source err → same_out → Outcome words source out err same_source same_out same_err Refused
+  usage : AskForNone words → Took err usage_text → same_source → same_out → Outcome words source out err same_source same_out same_err Usage
+  no_memory : AskForOne words → same_out → same_err → Outcome words source out err same_source same_out same_err OutOfMemory
+  read_fault : AskForOne words → Rose source.faults source.faults_after → same_out → same_err → Outcome words source out err same_source same_out same_err ReadFault
   write_fault : IsCut words source out err same_out same_err → Outcome words source out err same_source same_out same_err WriteFault

@@ -1,73 +1,23 @@
-//! Writing the answer, or the line that says why there is none.
-ghost use Rattle.std.specs.Prelude.{◌≡◌, ◌≤◌};
-ghost use Rattle.pc_edges.specs.Writes.{Writes};
-ghost use Rattle.pc_deck.specs.FaultText.{IsTold};
-ghost use Rattle.pert_cli.specs.Answer.{IsNormalSchedule, printed_text};
-ghost use Rattle.pert_cli.specs.Sides.{Refusal, Answering};
+//! The answer that a form asks for.
+ghost use Rattle.std.specs.Prelude.{◌≡◌};
+ghost use Rattle.pert_cli.specs.Sides.{Answering};
 
-use crate::schedule::NormalSchedule;
-use crate::sending::send;
+use crate::check::answer_check;
+use crate::normal::answer_normal;
 use crate::status::Status;
-use pc_deck::{Fault, fault_line};
-use pc_edges::{Failed, Sink};
+use crate::times::answer_times;
+use crate::words::Form;
+use pc_edges::Sink;
 use pc_project::Project;
-use pc_reports::write_schedule;
-use pc_text::Line;
 use std::alloc::Global;
 
-/// How many bytes are gathered before they are pushed.
-const ROOM: usize = 65_536;
-
-/// Says on `err` why the deck is refused.
-pub(crate) fn refuse<E: Sink>(alloc: Global, fault: &Fault, err: &mut E) -> Status
-    requires { IsTold fault.now }
-    ensures { Refusal fault.now (E.taken err.old) (E.taken err.new) (E.faults err.old) (E.faults err.new) (err.new ≡ err.old) result }
+/// Writes on `out` what the form asks for of a project. All memory is taken before the first byte is written.
+pub(crate) fn answer<O: Sink>(alloc: Global, form: Form, project: &Project, out: &mut O) -> Status
+    ensures { Answering form project.now (O.taken out.old) (O.taken out.new) (O.faults out.old) (O.faults out.new) (out.new ≡ out.old) result }
 {
-    let Ok(line) = fault_line(alloc, fault) else {
-        return Status::OutOfMemory;
-    };
-    match send(err, line.bytes()) {
-        Ok(()) => Status::Refused,
-        Err(Failed) => Status::WriteFault,
+    match form {
+        Form::Check => answer_check(alloc, project, out),
+        Form::Normal => answer_normal(alloc, project, out),
+        Form::Times => answer_times(alloc, project, out),
     }
-}
-
-/// Writes the schedule at the all-normal length of a project on `out`.
-pub(crate) fn answer<O: Sink>(alloc: Global, project: &Project, out: &mut O) -> Status
-    ensures { Answering project.now (O.taken out.old) (O.taken out.new) (O.faults out.old) (O.faults out.new) (out.new ≡ out.old) result }
-{
-    let Ok(schedule) = NormalSchedule::of(alloc, project) else {
-        return Status::OutOfMemory;
-    };
-    let Ok(mut line) = Line::with_room(alloc, ROOM) else {
-        return Status::OutOfMemory;
-    };
-    match write(project, &schedule, &mut line, out) {
-        Ok(()) => Status::Done,
-        Err(Failed) => Status::WriteFault,
-    }
-}
-
-/// Writes the schedule and flushes the sink.
-fn write<O: Sink>(
-    project: &Project,
-    schedule: &NormalSchedule,
-    line: &mut Line,
-    out: &mut O,
-) -> Result<(), Failed>
-    requires room { ROOM ≤ line.old.room }
-    requires schedule { IsNormalSchedule project.now schedule.now }
-    ensures { Writes result (O.taken out.old) (O.taken out.new) (O.faults out.old) (O.faults out.new) (printed_text project.now schedule.now) }
-{
-    write_schedule(
-        line,
-        out,
-        schedule.length(),
-        schedule.cost(),
-        project.event_codes(),
-        schedule.times(),
-        project.activity_codes(),
-        schedule.durations(),
-    )?;
-    out.flush()
 }

@@ -2,9 +2,13 @@
 #![tactic(auto)]
 
 mod answering;
+mod check;
+mod normal;
+mod refusing;
 mod schedule;
 mod sending;
 mod status;
+mod times;
 mod top;
 mod verdict;
 mod words;

@@ -3,17 +3,6 @@ use pc_edges::{MemSink, MemSource};
 use std::alloc::{AllocError, Global};
 use std::test::Fail;
 
-const PLAIN: &[u8] = b"PROJECT,E1,S,T,2024-01-01,1,,Example one\n\
-EVENT,S,Start\n\
-EVENT,M,Middle\n\
-EVENT,T,End\n\
-ACT,A,S,M,1.1,3,4,5,4,2,10,3,Dig\n\
-ACT,B,M,T,1.2,4,5,12,5,3,20,5,Cover\n\
-ACT,C,S,T,1.1,7,7,7,7,5,15,2,Frame\n\
-END\n";
-
-// A deck with an item of each account, and the same deck as a spreadsheet pads it: fourteen fields in each record, and
-// a record of commas.
 const WHOLE: &[u8] = b"PROJECT,E1,S,T,2024-01-01,1,,Example one\n\
 WBS,1,,Whole\n\
 WBS,1.1,1,\"Frame, north\"\n\
@@ -28,82 +17,50 @@ ACCT,X1,1.1,25,Frame account\n\
 ACCT,X2,1.2,20,Roof account\n\
 END\n";
 
-const PADDED: &[u8] = b"\xEF\xBB\xBFPROJECT,E1,S,T,2024-01-01,1,,Example one,,,,,,\r\n\
-,,,,,,,,,,,,,\r\n\
-WBS,1,,Whole,,,,,,,,,,\r\n\
-WBS,1.1,1,\"Frame, north\",,,,,,,,,,\r\n\
-WBS,1.2,1,Roof,,,,,,,,,,\r\n\
-EVENT,S,Start,,,,,,,,,,,\r\n\
-EVENT,M,Middle,,,,,,,,,,,\r\n\
-EVENT,T,End,,,,,,,,,,,\r\n\
-ACT,A,S,M,1.1,3,4,5,4,2,10,3,Dig,\r\n\
-ACT,B,M,T,1.2,4,5,12,5,3,20,5,Cover,\r\n\
-ACT,C,S,T,1.1,7,7,7,7,5,15,2,Frame,\r\n\
-ACCT,X1,1.1,25,Frame account,,,,,,,,,\r\n\
-ACCT,X2,1.2,20,Roof account,,,,,,,,,\r\n\
-END,,,,,,,,,,,,,\r\n";
-
-// The same deck with a wrong event and a wrong number.
-const WRONG_NUMBER: &[u8] = b"PROJECT,E1,S,T,2024-01-01,1,,Example one\n\
-WBS,1,,Whole\n\
-WBS,1.1,1,\"Frame, north\"\n\
-WBS,1.2,1,Roof\n\
-EVENT,S,Start\n\
-EVENT,M,Middle\n\
-EVENT,T,End\n\
-ACT,A,S,Q,1.1,3,4,5,4,2,10,3,Dig\n\
-ACT,B,M,T,1.2,4,5,12,5,3,2x,5,Cover\n\
-ACT,C,S,T,1.1,7,7,7,7,5,15,2,Frame\n\
-ACCT,X1,1.1,25,Frame account\n\
-ACCT,X2,1.2,20,Roof account\n\
-END\n";
-
-// The same deck with an activity twice.
-const TWICE: &[u8] = b"PROJECT,E1,S,T,2024-01-01,1,,Example one\n\
-WBS,1,,Whole\n\
-WBS,1.1,1,\"Frame, north\"\n\
-WBS,1.2,1,Roof\n\
-EVENT,S,Start\n\
-EVENT,M,Middle\n\
-EVENT,T,End\n\
-ACT,A,S,M,1.1,3,4,5,4,2,10,3,Dig\n\
-ACT,A,S,M,1.1,3,4,5,4,2,10,3,Dig\n\
-ACT,B,M,T,1.2,4,5,12,5,3,20,5,Cover\n\
-ACT,C,S,T,1.1,7,7,7,7,5,15,2,Frame\n\
-ACCT,X1,1.1,25,Frame account\n\
-ACCT,X2,1.2,20,Roof account\n\
-END\n";
-
-// The same deck with cards of the other kinds, and an event that no card has.
-const STATED: &[u8] = b"PROJECT,E1,S,T,2024-01-01,1,,Example one\n\
-WBS,1,,Whole\n\
-WBS,1.1,1,\"Frame, north\"\n\
-WBS,1.2,1,Roof\n\
+// Activities of an item that no card has.
+const NO_ITEMS: &[u8] = b"PROJECT,E0,S,T,2024-01-01,1,,Example\n\
 EVENT,S,Start\n\
 EVENT,M,Middle\n\
 EVENT,T,End\n\
 ACT,A,S,M,1.1,3,4,5,4,2,10,3,Dig\n\
 ACT,B,M,T,1.2,4,5,12,5,3,20,5,Cover\n\
-ACT,C,S,T,1.1,7,7,7,7,5,15,2,Frame\n\
-ACCT,X1,1.1,25,Frame account\n\
-ACCT,X2,1.2,20,Roof account\n\
-ASOF,2024-01-08\n\
-CHARGE,X1,2024-01-05,10\n\
-TOGO,X1,2024-01-06,30\n\
-STATUS,A,S,2024-01-02\n\
-STATUS,A,F,2024-01-06\n\
 END\n";
+
+// Two activities that go round beside the way from the start to the end.
+const ROUND: &[u8] = b"PROJECT,P,S,T,2024-01-01,1,,\n\
+WBS,1,,\n\
+EVENT,S,\n\
+EVENT,M,\n\
+EVENT,N,\n\
+EVENT,T,\n\
+ACT,A,S,M,1,1,1,1,1,1,1,1,\n\
+ACT,B,M,N,1,1,1,1,1,1,1,1,\n\
+ACT,C,N,M,1,1,1,1,1,1,1,1,\n\
+ACT,D,N,T,1,1,1,1,1,1,1,1,\n\
+END\n";
+
+const COUNTS: &[u8] =
+    b"accepted E1\nevents 3\nactivities 3\nitems 3\naccounts 2\ncharges 0\ntogos 0\nstatuses 0\n";
 
 const SCHEDULE: &[u8] =
     b"LENGTH 9\nCOST 45\nEVENT S 0\nEVENT M 4\nEVENT T 9\nACT A 4\nACT B 5\nACT C 7\n";
 
-const USAGE: &[u8] = b"usage: pert normal\n";
+const TIMES: &[u8] = b"TIMES E1\n\
+EVENT                      TE           TL        SLACK DATE\n\
+S                           0            0            0 2024-01-01\n\
+M                          24           24            0 2024-01-05\n\
+T                          60           60            0 2024-01-11\n\
+ACTIVITY             EXPECTED         VARIANCE        SLACK\n\
+A                          24                4            0\n\
+B                          36               64            0\n\
+C                          42                0           18\n\
+CRITICAL A\n\
+CRITICAL B\n\
+VARIANCE 68\n";
 
-const NOT_PLAIN: &[u8] = b"F0 record 0: not a plain deck\n";
+const USAGE: &[u8] = b"usage: pert check | normal | times\n";
 
 const NO_PROJECT: &[u8] = b"F3 record 1: first card is not PROJECT\n";
-
-const NOT_UTF8: &[u8] = b"F2 record 0: not UTF-8\n";
 
 // What the source and the sinks of a run do.
 #[derive(Clone, Copy)]
@@ -149,83 +106,32 @@ fn left_by(alloc: Global, words: &[&str], deck: &[u8], edges: Edges) -> Result<L
     })
 }
 
-// Decks with the status, the output and the error output that they give.
-const DECKS: [(&[u8], u8, &[u8], &[u8]); 20] = [
-    (PLAIN, 0, SCHEDULE, b""),
-    (WHOLE, 0, SCHEDULE, b""),
-    (PADDED, 0, SCHEDULE, b""),
-    (STATED, 0, SCHEDULE, b""),
+// A form and a deck, with the status, the output and the error output that they give.
+const RUNS: [(&str, &[u8], u8, &[u8], &[u8]); 6] = [
+    ("check", WHOLE, 0, COUNTS, b""),
+    ("normal", WHOLE, 0, SCHEDULE, b""),
+    ("times", WHOLE, 0, TIMES, b""),
+    ("check", b"END\n", 1, b"", NO_PROJECT),
     (
-        WRONG_NUMBER,
+        "check",
+        NO_ITEMS,
         1,
         b"",
-        b"F7 record 9: field 11 has a wrong shape\n",
+        b"F14 record 5: unknown item 1.1\n",
     ),
-    (TWICE, 1, b"", b"F9 record 9: code A is repeated\n"),
-    (b"", 1, b"", b"F12 record 1: no END\n"),
-    (b"END\n", 1, b"", NO_PROJECT),
-    (b"PROJECT,P,S,T,2024-01-01,1,,\nEND\n", 1, b"", NOT_PLAIN),
-    // A row of commas is no card, but it is counted; a blank line is no record.
     (
-        b",,\n\nPROJECT,P,S,T,2024-01-01,1,,\nWBS,1,,W\nEND,x\n",
+        "times",
+        ROUND,
         1,
         b"",
-        b"F6 record 4: 2 fields, END has 1\n",
-    ),
-    (b"Event,S,\n", 1, b"", NO_PROJECT),
-    (
-        b"PROJECT,P,S,T,2024-01-01,1,,\nEvent,S,\n",
-        1,
-        b"",
-        b"F4 record 2: unknown kind\n",
-    ),
-    // A deck that is not UTF-8 has no other fault.
-    (b"END\n\xff,\n", 1, b"", NOT_UTF8),
-    (b"EVENT,S,\xff\nEND\n", 1, b"", NOT_UTF8),
-    // The smallest plain deck, and what spoils it: a missing event, one end twice, estimates and durations out of order.
-    (
-        b"PROJECT,P,S,T,2024-01-01,1,9,\nEVENT,S,\nEVENT,T,\nACT,A,S,T,1,0,0,0,0,0,0,0,\nEND",
-        0,
-        b"LENGTH 0\nCOST 0\nEVENT S 0\nEVENT T 0\nACT A 0\n",
-        b"",
-    ),
-    (
-        b"PROJECT,P,S,T,2024-01-01,1,,\nEVENT,S,\nEVENT,T,\nACT,A,S,U,1,0,0,0,0,0,0,0,\nEND",
-        1,
-        b"",
-        NOT_PLAIN,
-    ),
-    (
-        b"PROJECT,P,S,S,2024-01-01,1,,\nEVENT,S,\nEVENT,T,\nACT,A,S,T,1,0,0,0,0,0,0,0,\nEND",
-        1,
-        b"",
-        NOT_PLAIN,
-    ),
-    (
-        b"PROJECT,P,S,T,2024-01-01,1,,\nEVENT,S,\nEVENT,T,\nACT,A,S,T,1,2,1,3,0,0,0,0,\nEND",
-        1,
-        b"",
-        NOT_PLAIN,
-    ),
-    (
-        b"PROJECT,P,S,T,2024-01-01,1,,\nEVENT,S,\nEVENT,T,\nACT,A,S,T,1,1,2,3,2,3,0,0,\nEND",
-        1,
-        b"",
-        NOT_PLAIN,
-    ),
-    // A cycle beside the way from the start to the end.
-    (
-        b"PROJECT,P,S,T,2024-01-01,1,,\nEVENT,S,\nEVENT,T,\nEVENT,U,\nEVENT,V,\nACT,A,S,T,1,1,1,1,1,1,1,1,\nACT,B,U,V,1,1,1,1,1,1,1,1,\nACT,C,V,U,1,1,1,1,1,1,1,1,\nEND",
-        1,
-        b"",
-        NOT_PLAIN,
+        b"F27 record 8: activities in a cycle: B C\n",
     ),
 ];
 
 #[test]
 fn answers_or_refuses_decks(rt: HostRuntime) -> Result<(), Fail> {
-    for (deck, status, out, err) in DECKS {
-        let left = left_by(rt.alloc(), &["normal"], deck, SOUND)?;
+    for (word, deck, status, out, err) in RUNS {
+        let left = left_by(rt.alloc(), &[word], deck, SOUND)?;
         assert_eq!(rt; left.status, status);
         assert_eq!(rt; left.out.as_slice(), out);
         assert_eq!(rt; left.err.as_slice(), err);
@@ -233,43 +139,17 @@ fn answers_or_refuses_decks(rt: HostRuntime) -> Result<(), Fail> {
     Ok(())
 }
 
-// The deck with CRLF for each LF, and a byte order mark in front.
-fn as_spreadsheets_write(alloc: Global, deck: &[u8]) -> Result<Vec<u8>, AllocError> {
-    let mut bytes = Vec::new(alloc);
-    bytes.extend_from_slice(b"\xEF\xBB\xBF")?;
-    for byte in deck {
-        if *byte == b'\n' {
-            bytes.push(b'\r')?;
-        }
-        bytes.push(*byte)?;
-    }
-    Ok(bytes)
-}
-
-#[test]
-fn reads_what_spreadsheets_write(rt: HostRuntime) -> Result<(), Fail> {
-    let deck = as_spreadsheets_write(rt.alloc(), PLAIN)?;
-    let left = left_by(rt.alloc(), &["normal"], &deck, SOUND)?;
-    assert_eq!(rt; left.status, 0);
-    assert_eq!(rt; left.out.as_slice(), SCHEDULE);
-    Ok(())
-}
-
-// Words that are no form.
-const WORDS: [&[&str]; 5] = [&[], &["NORMAL"], &["normal", "x"], &["normal "], &[""]];
+// Words that ask for no form.
+const WORDS: [&[&str]; 5] = [&[], &["NORMAL"], &["normal", "check"], &["times "], &[""]];
 
 #[test]
 fn refuses_words(rt: HostRuntime) -> Result<(), Fail> {
+    let edges = Edges {
+        failing_pull: 1,
+        ..SOUND
+    };
     for words in WORDS {
-        let left = left_by(
-            rt.alloc(),
-            words,
-            PLAIN,
-            Edges {
-                failing_pull: 1,
-                ..SOUND
-            },
-        )?;
+        let left = left_by(rt.alloc(), words, WHOLE, edges)?;
         assert_eq!(rt; left.status, 2);
         assert_eq!(rt; left.out.as_slice(), b"".as_slice());
         assert_eq!(rt; left.err.as_slice(), USAGE);
@@ -282,11 +162,11 @@ fn a_failing_pull_leaves_nothing(rt: HostRuntime) -> Result<(), Fail> {
     // The deck comes in three pulls, the last of which finds its end.
     for failing_pull in 1..=3 {
         let edges = Edges {
-            piece: 150,
+            piece: 200,
             failing_pull,
             ..SOUND
         };
-        let left = left_by(rt.alloc(), &["normal"], PLAIN, edges)?;
+        let left = left_by(rt.alloc(), &["normal"], WHOLE, edges)?;
         assert_eq!(rt; left.status, 4);
         assert!(rt; left.out.is_empty() && left.err.is_empty());
     }
@@ -302,7 +182,7 @@ fn a_failing_push_leaves_a_front(rt: HostRuntime) -> Result<(), Fail> {
             failing_push,
             ..SOUND
         };
-        let left = left_by(rt.alloc(), &["normal"], PLAIN, edges)?;
+        let left = left_by(rt.alloc(), &["normal"], WHOLE, edges)?;
         let taken = (10 * (failing_push as usize - 1)).min(SCHEDULE.len());
         assert_eq!(rt; left.status, 5);
         assert_eq!(rt; left.out.as_slice(), &SCHEDULE[..taken]);
@@ -330,7 +210,7 @@ fn a_failing_push_of_a_refusal_leaves_a_front(rt: HostRuntime) -> Result<(), Fai
 
 #[test]
 fn an_output_may_be_too_small(rt: HostRuntime) -> Result<(), Fail> {
-    let left = left_by(rt.alloc(), &["normal"], PLAIN, Edges { room: 5, ..SOUND })?;
+    let left = left_by(rt.alloc(), &["normal"], WHOLE, Edges { room: 5, ..SOUND })?;
     assert_eq!(rt; left.status, 5);
     assert_eq!(rt; left.out.as_slice(), b"LENGT".as_slice());
     Ok(())

@@ -1,15 +1,16 @@
 use Rattle.std.proofs.Common.{length, codes, arith}
 use Rattle.pc_edges.specs.Texts.{texts_to}
-use Rattle.pc_edges.proofs.Writing.{Writes-err, Writes-as, Writes-gathered, Stopped-before, Stopped-next, Gathered-next}
+use Rattle.pc_edges.proofs.Writing.{Writes-err, Writes-as, Writes-gathered, Stopped-before, Stopped-next, Gathered-first, Gathered-more, Gathered-next}
 use Rattle.pc_reports.specs.Lines.{number_line, line_at}
-use Rattle.pc_reports.proofs.Heads.{Gathered-two}
 use Rattle.pc_reports.proofs.schedule.write_schedule.Goals as goal
 
 pub returns-in_err-gather_lines-clause-text : goal.returns-in_err-gather_lines-clause-text
 returns-in_err-gather_lines-clause-text g c =
     let a = c.args in
     let o = g.O.Sink in
-    let head = Gathered-two (o.taken a.sink.now) (o.faults a.sink.now) _ _ _ (number_line (codes "LENGTH ") a.length) (number_line (codes "COST ") a.cost) c.clear.ensures.bytes c.put_number.ensures.bytes c.put_number-2.ensures.bytes in
+    let length_line = number_line (codes "LENGTH ") a.length in
+    let cost_line = number_line (codes "COST ") a.cost in
+    let head = Gathered-more cost_line _ c.put_number-2.ensures.bytes (Gathered-first (o.taken a.sink.now) (o.faults a.sink.now) _ _ length_line c.clear.ensures.bytes c.put_number.ensures.bytes) in
     let events = texts_to (length a.events.now) (line_at (codes "EVENT ") a.events.now a.times.now) in
     let acts = texts_to (length a.activities.now) (line_at (codes "ACT ") a.activities.now a.durations.now) in
     Writes-err c.from_residual.result c.from_residual.ensures.0 c.gather_lines.ensures.text.count
@@ -19,7 +20,9 @@ pub returns-in_err-gather_lines-2-clause-text : goal.returns-in_err-gather_lines
 returns-in_err-gather_lines-2-clause-text g c =
     let a = c.args in
     let o = g.O.Sink in
-    let head = Gathered-two (o.taken a.sink.now) (o.faults a.sink.now) _ _ _ (number_line (codes "LENGTH ") a.length) (number_line (codes "COST ") a.cost) c.clear.ensures.bytes c.put_number.ensures.bytes c.put_number-2.ensures.bytes in
+    let length_line = number_line (codes "LENGTH ") a.length in
+    let cost_line = number_line (codes "COST ") a.cost in
+    let head = Gathered-more cost_line _ c.put_number-2.ensures.bytes (Gathered-first (o.taken a.sink.now) (o.faults a.sink.now) _ _ length_line c.clear.ensures.bytes c.put_number.ensures.bytes) in
     let events = texts_to (length a.events.now) (line_at (codes "EVENT ") a.events.now a.times.now) in
     let acts = texts_to (length a.activities.now) (line_at (codes "ACT ") a.activities.now a.durations.now) in
     let timed = Gathered-next events head c.in_ok-gather_lines.ensures.text.ok in
@@ -30,7 +33,9 @@ pub returns-clause-text : goal.returns-clause-text
 returns-clause-text g c =
     let a = c.args in
     let o = g.O.Sink in
-    let head = Gathered-two (o.taken a.sink.now) (o.faults a.sink.now) _ _ _ (number_line (codes "LENGTH ") a.length) (number_line (codes "COST ") a.cost) c.clear.ensures.bytes c.put_number.ensures.bytes c.put_number-2.ensures.bytes in
+    let length_line = number_line (codes "LENGTH ") a.length in
+    let cost_line = number_line (codes "COST ") a.cost in
+    let head = Gathered-more cost_line _ c.put_number-2.ensures.bytes (Gathered-first (o.taken a.sink.now) (o.faults a.sink.now) _ _ length_line c.clear.ensures.bytes c.put_number.ensures.bytes) in
     let events = texts_to (length a.events.now) (line_at (codes "EVENT ") a.events.now a.times.now) in
     let acts = texts_to (length a.activities.now) (line_at (codes "ACT ") a.activities.now a.durations.now) in
     let timed = Gathered-next events head c.in_ok-gather_lines.ensures.text.ok in

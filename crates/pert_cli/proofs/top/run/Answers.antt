@@ -1,8 +1,11 @@
-use Rattle.pert_cli.proofs.DecidedLaws.{accepted_ends, refused_ends}
+use Rattle.pert_cli.proofs.DecidedLaws.{accepted_ends, five_is_cut, refused_ends}
 use Rattle.pert_cli.proofs.top.run.Goals as goal
 
 pub returns-clause-deck_accepted : goal.returns-clause-deck_accepted
-returns-clause-deck_accepted g c = λ normal. accepted_ends c.args.words.now _ _ _ _ _ _ c.code.result normal c.outcome.result c.outcome.ensures c.code.ensures
+returns-clause-deck_accepted g c = λ asked. accepted_ends c.args.words.now _ _ _ _ _ _ c.code.result asked c.outcome.result c.outcome.ensures c.code.ensures
 
 pub returns-clause-deck_refused : goal.returns-clause-deck_refused
-returns-clause-deck_refused g c = λ normal. refused_ends c.args.words.now _ _ _ _ _ _ c.code.result normal c.outcome.result c.outcome.ensures c.code.ensures
+returns-clause-deck_refused g c = λ asked. refused_ends c.args.words.now _ _ _ _ _ _ c.code.result asked c.outcome.result c.outcome.ensures c.code.ensures
+
+pub returns-clause-write_fault : goal.returns-clause-write_fault
+returns-clause-write_fault g c = λ five. five_is_cut c.args.words.now _ _ _ _ _ _ c.code.result c.outcome.result c.outcome.ensures c.code.ensures five

@@ -13,14 +13,14 @@ at P net network lengths others same_net same_lengths fact =
 pub longest-requires : goal.longest-requires
 longest-requires c =
     at AreLengths c.args.project.now.network c.net.result.now (normals c.args.project.now.terms) c.deref.result.now
-    (sym c.net.ensures.network) (sym (c.deref.ensures.value ∙ (c.in_ok-durations.ensures ∙ ap normals c.terms.ensures)))
+    (sym c.net.ensures.network) (sym (c.deref.ensures.value ∙ (c.in_ok-durations.ensures ∙ ap normals c.terms.ensures.terms)))
     (normals-lengths c.args.project.now c.net.ensures.planned)
 
 pub returns : goal.returns
 returns c =
-    let lengths = c.deref.ensures.value ∙ (c.in_ok-durations.ensures ∙ ap normals c.terms.ensures) in
+    let lengths = c.deref.ensures.value ∙ (c.in_ok-durations.ensures ∙ ap normals c.terms.ensures.terms) in
     normal_schedule c.args.project.now (record { length = c.in_ok-found.found.length; cost = c.normal_cost-cost.result; times = c.in_ok-found.found.times; durations = c.in_ok-durations.durations.items }) c.net.ensures.planned
-    (c.in_ok-durations.ensures ∙ ap normals c.terms.ensures)
+    (c.in_ok-durations.ensures ∙ ap normals c.terms.ensures.terms)
     (at (λ net lengths. AreEarly net lengths c.in_ok-found.found.times) c.net.result.now c.args.project.now.network c.deref.result.now (normals c.args.project.now.terms) c.net.ensures.network lengths c.in_ok-found.ensures.times)
     (at (λ net lengths. IsLongest net lengths c.in_ok-found.found.length) c.net.result.now c.args.project.now.network c.deref.result.now (normals c.args.project.now.terms) c.net.ensures.network lengths c.in_ok-found.ensures.length)
-    (c.normal_cost-cost.ensures ∙ ap (λ terms. cost_of terms (normal_of terms)) c.terms-2.ensures)
+    (c.normal_cost-cost.ensures ∙ ap (λ terms. cost_of terms (normal_of terms)) c.terms-2.ensures.terms)

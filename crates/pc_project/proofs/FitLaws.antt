@@ -1,0 +1,135 @@
+-- Cards without faults fit together: the network and the items are within their ranges.
+use Rattle.std.proofs.Common.{◌≡◌, ◌≢◌, ◌<◌, ◌≤◌, ℕ, List, [], length, get_or, sym, ap, ◌∙◌, refl, inl, inr, arith, Option, Some, None}
+use Rattle.std.specs.Prelude.{All, IsSome, option_and_then}
+use Rattle.std.specs.List.{Any}
+use Rattle.std.proofs.lemmas.Bool.{cases_lt}
+use Rattle.std.proofs.lemmas.List.{get_or-map, get_or_default, length-map}
+use Rattle.pc_model.specs.declared.Arc.{Arc}
+use Rattle.pc_model.specs.Walk.{from_of, to_of}
+use Rattle.pc_model.specs.Network.{Network, IsInRange}
+use Rattle.pc_wbs.specs.Climb.{AreInRange}
+use Rattle.pc_deck.specs.declared.cards.ActCard.{ActCard}
+use Rattle.pc_deck.specs.declared.cards.ItemCard.{ItemCard}
+use Rattle.pc_deck.specs.declared.fault.Fault.{Fault}
+use Rattle.pc_deck.specs.Deck.{Deck, event_named, item_named}
+use Rattle.pc_project.specs.Project.{arc_of, event_number, item_number, network_of, place_of, row_of, rows_of}
+use Rattle.pc_project.specs.Misfit.{HasActFault, HasItemFault, HasNoMisfit, IsEvent, IsInOrder, act, item, project}
+use Rattle.pc_project.specs.Misfit as has
+use Rattle.pc_project.proofs.NumberLaws.{event_number-within, event_number-apart, item_number-within}
+
+-- what is not missing is there
+known_unless : (o : Option ℕ) → (o ≡ None → ⊥) → IsSome o
+known_unless None never = absurd (never refl)
+known_unless (Some i) never = refl
+
+-- an element of a list is one of them
+Any-at : {X : Type 0} (P : X → Type 0) (xs : List X) (i : ℕ) (d : X) → i < length xs → P (get_or xs i d) → Any P xs
+Any-at P xs i d within holds = (i, get_or xs i d, within, get_or_default xs i (get_or xs i d) d within, holds)
+
+-- the start and the end are two events
+pub record HasEnds (deck : Deck) : Type 0 where
+  pub starts : IsEvent deck deck.project.start
+  pub ends : IsEvent deck deck.project.end
+  pub apart : deck.project.start ≢ deck.project.end
+
+-- the activity leads from one event to another and stands at an item, with its numbers in order
+pub record Fits (deck : Deck) (card : ActCard) : Type 0 where
+  pub begins : IsEvent deck card.from
+  pub ends : IsEvent deck card.to
+  pub placed : IsSome (item_named deck card.item)
+  pub apart : card.from ≢ card.to
+  pub ordered : IsInOrder card
+  pub durations : card.crash ≤ card.normal
+
+module _ (deck : Deck) (none : HasNoMisfit deck) where
+  has_ends : HasEnds deck
+  has_ends =
+      let starts = known_unless (event_named deck deck.project.start) (λ n. none _ (project (has.unknown_start n refl))) in record {
+        starts = starts;
+        ends = known_unless (event_named deck deck.project.end) (λ n. none _ (project (has.unknown_end starts n refl)));
+        apart = λ same. none _ (project (has.same_ends same refl));
+      }
+
+  fits_at : (card : ActCard) → ((fault : Fault) → HasActFault deck card fault → ⊥) → Fits deck card
+  fits_at card out =
+      let begins = known_unless (event_named deck card.from) (λ n. out _ (has.unknown_from n refl)) in record {
+        begins = begins;
+        ends = known_unless (event_named deck card.to) (λ n. out _ (has.unknown_to begins n refl));
+        placed = known_unless (item_named deck card.item) (λ n. out _ (has.HasActFault.unknown_item n refl));
+        apart = λ same. out _ (has.same_events same refl);
+        ordered = record {
+          optimistic = elim (cases_lt card.likely card.opt) [ inl above ↦ absurd (out _ (has.unordered (λ o. omega (arith, above, o.optimistic)) refl)) | inr fine ↦ fine ];
+          pessimistic = elim (cases_lt card.pess card.likely) [ inl above ↦ absurd (out _ (has.unordered (λ o. omega (arith, above, o.pessimistic)) refl)) | inr fine ↦ fine ];
+        };
+        durations = elim (cases_lt card.normal card.crash) [ inl above ↦ absurd (out _ (has.crash_above above refl)) | inr fine ↦ fine ];
+      }
+
+  pub all_fit : All (Fits deck) deck.acts
+  all_fit i d within =
+      fits_at (get_or deck.acts i d) (λ fault h. none fault (act (Any-at (λ card. HasActFault deck card fault) deck.acts i d within h)))
+
+  -- the parent of an item is an item
+  parent_known : (i : ℕ) (d : ItemCard) → i < length deck.items → (code : List ℕ) → (get_or deck.items i d).parent ≡ Some code → IsSome (item_named deck code)
+  parent_known i d within code there =
+      known_unless (item_named deck code)
+      (λ n. let fault : Fault = has.naming (get_or deck.items i d).row 14 code in
+      none fault (item (Any-at (λ card. HasItemFault deck card fault) deck.items i d within (has.unknown_parent code there n refl))))
+
+-- a card to read past the end of the cards, where no one looks
+pub no_act : ActCard
+no_act = record { row = 0; code = []; from = []; to = []; item = []; opt = 0; likely = 0; pess = 0; normal = 0; crash = 0; cost = 0; slope = 0; title = [] }
+
+no_item : ItemCard
+no_item = record { row = 0; code = []; parent = None; title = [] }
+
+-- the activity leads from the event that its card names first to the one that it names second
+record IsPlaced (deck : Deck) (a : ℕ) (card : ActCard) : Type 0 where
+  fits : Fits deck card
+  from : from_of (network_of deck).arcs a ≡ event_number deck card.from
+  to : to_of (network_of deck).arcs a ≡ event_number deck card.to
+
+is_placed : (deck : Deck) → HasNoMisfit deck → (a : ℕ) → a < length (network_of deck).arcs → IsPlaced deck a (get_or deck.acts a no_act)
+is_placed deck none a within =
+    let inside : a < length deck.acts = omega (arith, within, length-map deck.acts (arc_of deck)) in
+    let arc = get_or-map (arc_of deck) deck.acts a no_act (record { from = 0; to = 0 }) inside in
+    record { fits = all_fit deck none a no_act inside; from = ap (λ x. x.from) arc; to = ap (λ x. x.to) arc }
+
+-- a deck without misfits has a network of its own events
+pub network_of-in_range : (deck : Deck) → HasNoMisfit deck → IsInRange (network_of deck)
+network_of-in_range deck none =
+    let ends = has_ends deck none in record {
+      start_in = event_number-within deck deck.project.start ends.starts;
+      end_in = event_number-within deck deck.project.end ends.ends;
+      apart = λ same. ends.apart (event_number-apart deck deck.project.start deck.project.end ends.starts ends.ends same);
+      from_in = λ a within. let p = is_placed deck none a within in omega (arith, p.from, event_number-within deck (get_or deck.acts a no_act).from p.fits.begins);
+      to_in = λ a within. let p = is_placed deck none a within in omega (arith, p.to, event_number-within deck (get_or deck.acts a no_act).to p.fits.ends);
+      not_looped = λ a within same.
+          let p = is_placed deck none a within in
+          p.fits.apart (event_number-apart deck (get_or deck.acts a no_act).from (get_or deck.acts a no_act).to p.fits.begins p.fits.ends (sym p.from ∙ (same ∙ p.to)));
+    }
+
+-- the number of a parent that is named
+parent_within : (deck : Deck) (parent : Option (List ℕ)) (p : ℕ) → ((code : List ℕ) → parent ≡ Some code → IsSome (item_named deck code)) → option_and_then (λ code. Some (item_number deck code)) parent ≡ Some p → p < length deck.items
+parent_within deck None p known is = absurd (let never : None ≡ Some p = is in cc)
+parent_within deck (Some code) p known is =
+    let same : item_number deck code ≡ p = cc in
+    omega (arith, same, item_number-within deck code (known code refl))
+
+-- its items have items for parents
+pub rows_of-in_range : (deck : Deck) → HasNoMisfit deck → AreInRange (rows_of deck)
+rows_of-in_range deck none x p within is =
+    let count = length-map deck.items (row_of deck) in
+    let inside : x < length deck.items = omega (arith, within, count) in
+    let row = get_or-map (row_of deck) deck.items x no_item (record { parent = None }) inside in
+    let parent : option_and_then (λ code. Some (item_number deck code)) (get_or deck.items x no_item).parent ≡ Some p = sym (ap (λ r. r.parent) row) ∙ is in
+    omega (arith, count, parent_within deck (get_or deck.items x no_item).parent p (parent_known deck none x no_item inside) parent)
+
+-- the item of an activity is an item
+pub place_of-within : (deck : Deck) → HasNoMisfit deck → (a : ℕ) → a < length deck.acts → place_of deck (get_or deck.acts a no_act) < length deck.items
+place_of-within deck none a within =
+    item_number-within deck (get_or deck.acts a no_act).item (all_fit deck none a no_act within).placed
+
+-- the network of a deck, from its parts
+pub network_of-is : (deck : Deck) (events start end : ℕ) (arcs : List Arc) → events ≡ length deck.events → start ≡ (network_of deck).start → end ≡ (network_of deck).end → arcs ≡ (network_of deck).arcs → let net : Network = record { events = events; start = start; end = end; arcs = arcs } in net ≡ network_of deck
+network_of-is deck events start end arcs same_events same_start same_end same_arcs =
+    λ i. record { events = same_events i; start = same_start i; end = same_end i; arcs = same_arcs i }

@@ -1,0 +1,119 @@
+-- A deck is not both a project and refused, and each refusal can be told.
+use Rattle.std.proofs.Common.{◌≡◌, ◌≢◌, refl, sym, ◌∙◌, subst, ap}
+use Rattle.pc_wbs.specs.declared.error.TreeError.{TreeError}
+use Rattle.pc_wbs.specs.declared.error.TreeError.TheVariants as tree
+use Rattle.pc_wbs.specs.Climb.{IsTree}
+use Rattle.pc_wbs.specs.Refusal.{IsRefusal as IsTreeRefusal}
+use Rattle.pc_wbs.proofs.ExactLaws.{IsTree-not_refused}
+use Rattle.pc_net.specs.declared.refusal.NetError.{NetError}
+use Rattle.pc_net.specs.declared.refusal.NetError.TheVariants as net
+use Rattle.pc_net.specs.Refusals.{IsRefusal as IsNetRefusal}
+use Rattle.pc_net.proofs.RefusalLaws.{refused_is_not_sound}
+use Rattle.pc_deck.specs.declared.cards.AcctCard.{AcctCard}
+use Rattle.pc_deck.specs.declared.cards.ActCard.{ActCard}
+use Rattle.pc_deck.specs.declared.cards.ItemCard.{ItemCard}
+use Rattle.pc_deck.specs.declared.cards.MoneyCard.{MoneyCard}
+use Rattle.pc_deck.specs.declared.cards.ProjectCard.{ProjectCard}
+use Rattle.pc_deck.specs.declared.cards.StatusCard.{StatusCard}
+use Rattle.pc_deck.specs.Deck.{Deck}
+use Rattle.pc_deck.specs.FaultText.{IsTold}
+use Rattle.pc_deck.specs.Refusal.{Refuses}
+use Rattle.pc_deck.specs.declared.fault.Fault.{Fault as ADeckFault}
+use Rattle.pc_deck.specs.declared.fault.DeckError.{DeckError}
+use Rattle.pc_deck.specs.declared.fault.DeckError.TheVariants.{Fault, OutOfMemory}
+use Rattle.pc_project.specs.Project.{network_of, rows_of}
+use Rattle.pc_project.specs.Misfit.{HasProjectFault, HasItemFault, HasActFault, HasAccountFault, HasMoneyFault, HasStatusFault, HasFigureFault, HasMisfit, HasNoMisfit}
+use Rattle.pc_project.specs.Misfit as has
+use Rattle.pc_project.specs.Refusal.{tree_fault, net_fault, MakesProject, IsRefusedWith, of_cards, of_tree, of_network}
+
+-- want of memory is no fault
+no_fault : (fault : ADeckFault) → OutOfMemory ≡ Fault fault → ⊥
+no_fault fault is = cc
+
+tree_has_fault : (deck : Deck) (e : TreeError) (fault : ADeckFault) → tree_fault deck e ≡ Fault fault → e ≢ tree.OutOfMemory
+tree_has_fault deck e fault is same = no_fault fault (sym (ap (tree_fault deck) same) ∙ is)
+
+net_has_fault : (deck : Deck) (e : NetError) (fault : ADeckFault) → net_fault deck e ≡ Fault fault → e ≢ net.OutOfMemory
+net_has_fault deck e fault is same = no_fault fault (sym (ap (net_fault deck) same) ∙ is)
+
+-- cards that make a project are not refused
+pub makes_not_refused : (deck : Deck) (fault : ADeckFault) → MakesProject deck → IsRefusedWith deck fault → ⊥
+makes_not_refused deck fault makes (of_cards first) = makes.cards fault first.holds
+makes_not_refused deck fault makes (of_tree cards e refused is) =
+    tree_has_fault deck e fault is (IsTree-not_refused (rows_of deck) e makes.tree refused)
+makes_not_refused deck fault makes (of_network cards items e refused is) =
+    refused_is_not_sound (network_of deck) e refused (net_has_fault deck e fault is) makes.sound
+
+-- a fault that is this one can be told where this one can
+told : (fault known : ADeckFault) → fault ≡ known → IsTold known → IsTold fault
+told fault known is can = subst IsTold (sym is) can
+
+told_of-project : (deck : Deck) (card : ProjectCard) (fault : ADeckFault) → HasProjectFault deck card fault → IsTold fault
+told_of-project deck card fault (has.unknown_start none is) = told fault _ is refl
+told_of-project deck card fault (has.unknown_end known none is) = told fault _ is refl
+told_of-project deck card fault (has.same_ends same is) = told fault _ is refl
+
+told_of-item : (deck : Deck) (card : ItemCard) (fault : ADeckFault) → HasItemFault deck card fault → IsTold fault
+told_of-item deck card fault (has.unknown_parent code there none is) = told fault _ is refl
+
+told_of-act : (deck : Deck) (card : ActCard) (fault : ADeckFault) → HasActFault deck card fault → IsTold fault
+told_of-act deck card fault (has.unknown_from none is) = told fault _ is refl
+told_of-act deck card fault (has.unknown_to known none is) = told fault _ is refl
+told_of-act deck card fault (has.HasActFault.unknown_item none is) = told fault _ is refl
+told_of-act deck card fault (has.same_events same is) = told fault _ is refl
+told_of-act deck card fault (has.unordered not is) = told fault _ is refl
+told_of-act deck card fault (has.crash_above above is) = told fault _ is refl
+
+told_of-account : (deck : Deck) (card : AcctCard) (fault : ADeckFault) → HasAccountFault deck card fault → IsTold fault
+told_of-account deck card fault (has.HasAccountFault.unknown_item none is) = told fault _ is refl
+
+told_of-money : (deck : Deck) (card : MoneyCard) (fault : ADeckFault) → HasMoneyFault deck card fault → IsTold fault
+told_of-money deck card fault (has.unknown_account none is) = told fault _ is refl
+
+told_of-status : (deck : Deck) (card : StatusCard) (fault : ADeckFault) → HasStatusFault deck card fault → IsTold fault
+told_of-status deck card fault (has.unknown_activity none is) = told fault _ is refl
+
+told_of-figure : (deck : Deck) (fault : ADeckFault) → HasFigureFault deck fault → IsTold fault
+told_of-figure deck fault (has.account (k, card, within, at, here)) = told_of-account deck card fault here
+told_of-figure deck fault (has.charge (k, card, within, at, here)) = told_of-money deck card fault here
+told_of-figure deck fault (has.togo (k, card, within, at, here)) = told_of-money deck card fault here
+told_of-figure deck fault (has.status (k, card, within, at, here)) = told_of-status deck card fault here
+
+told_of-misfit : (deck : Deck) (fault : ADeckFault) → HasMisfit deck fault → IsTold fault
+told_of-misfit deck fault (has.project here) = told_of-project deck deck.project fault here
+told_of-misfit deck fault (has.item (k, card, within, at, here)) = told_of-item deck card fault here
+told_of-misfit deck fault (has.act (k, card, within, at, here)) = told_of-act deck card fault here
+told_of-misfit deck fault (has.figure here) = told_of-figure deck fault here
+
+-- the fault of an answer
+fault_of : (known fault : ADeckFault) → Fault known ≡ Fault fault → IsTold known → IsTold fault
+fault_of known fault is can = let same : fault ≡ known = cc in subst IsTold (sym same) can
+
+told_of-tree : (deck : Deck) (e : TreeError) (fault : ADeckFault) → tree_fault deck e ≡ Fault fault → IsTold fault
+told_of-tree deck tree.NoTop fault is = fault_of _ fault is refl
+told_of-tree deck (tree.SecondTop item) fault is = fault_of _ fault is refl
+told_of-tree deck (tree.Loop loop) fault is = fault_of _ fault is refl
+told_of-tree deck (tree.TooDeep item level) fault is = fault_of _ fault is refl
+told_of-tree deck tree.OutOfMemory fault is = absurd (no_fault fault is)
+
+told_of-net : (deck : Deck) (e : NetError) (fault : ADeckFault) → net_fault deck e ≡ Fault fault → IsTold fault
+told_of-net deck (net.StartEntered arc) fault is = fault_of _ fault is refl
+told_of-net deck (net.EndLeft arc) fault is = fault_of _ fault is refl
+told_of-net deck (net.Dangling event entered) fault is = fault_of _ fault is refl
+told_of-net deck (net.Cycle cycle) fault is = fault_of _ fault is refl
+told_of-net deck net.OutOfMemory fault is = absurd (no_fault fault is)
+
+-- the fault with which a deck is refused has a line
+pub told_of-refused : (deck : Deck) (fault : ADeckFault) → IsRefusedWith deck fault → IsTold fault
+told_of-refused deck fault (of_cards first) = told_of-misfit deck fault first.holds
+told_of-refused deck fault (of_tree cards e refused is) = told_of-tree deck e fault is
+told_of-refused deck fault (of_network cards items e refused is) = told_of-net deck e fault is
+
+-- what a refusal that is told as one of the tree, or of the network, says
+pub refused_by_tree : (deck : Deck) (e : TreeError) (result : DeckError) → HasNoMisfit deck → IsTreeRefusal (rows_of deck) e → Refuses (λ fault. tree_fault deck e ≡ Fault fault) result → Refuses (IsRefusedWith deck) result
+refused_by_tree deck e (Fault fault) cards refused is = of_tree cards e refused is
+refused_by_tree deck e OutOfMemory cards refused is = tt
+
+pub refused_by_net : (deck : Deck) (e : NetError) (result : DeckError) → HasNoMisfit deck → IsTree (rows_of deck) → IsNetRefusal (network_of deck) e → Refuses (λ fault. net_fault deck e ≡ Fault fault) result → Refuses (IsRefusedWith deck) result
+refused_by_net deck e (Fault fault) cards items refused is = of_network cards items e refused is
+refused_by_net deck e OutOfMemory cards items refused is = tt

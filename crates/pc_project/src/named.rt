@@ -1,0 +1,66 @@
+//! The cards that a refusal names by their numbers.
+ghost use Rattle.std.specs.Prelude.{◌≡◌, ◌<◌, All, length, map, slice_index, IfOk};
+ghost use Rattle.pc_deck.specs.Deck.{act_codes, event_codes, item_codes};
+ghost use Rattle.pc_project.specs.Refusal.{act_records, code_at, codes_at, event_records, item_records};
+
+use pc_deck::Cards;
+use pc_text::{Code, Codes};
+use std::alloc::{AllocError, Global};
+
+/// A card that is named: its record and its code.
+#[derive(Clone, Copy, Debug)]
+pub(crate) struct NamedCard {
+    pub row: u32,
+    pub code: Code,
+}
+
+/// The card of an item.
+pub(crate) fn item_card(cards: &Cards, item: u32) -> NamedCard
+    requires { item < length cards.now.items }
+    ensures row { result.row ≡ slice_index (item_records cards.now) item }
+    ensures code { result.code ≡ code_at (item_codes cards.now) item }
+{
+    let card = cards.items()[item as usize];
+    NamedCard {
+        row: card.row,
+        code: card.code,
+    }
+}
+
+/// The card of an event.
+pub(crate) fn event_card(cards: &Cards, event: u32) -> NamedCard
+    requires { event < length cards.now.events }
+    ensures row { result.row ≡ slice_index (event_records cards.now) event }
+    ensures code { result.code ≡ code_at (event_codes cards.now) event }
+{
+    let card = cards.events()[event as usize];
+    NamedCard {
+        row: card.row,
+        code: card.code,
+    }
+}
+
+/// The card of an activity.
+pub(crate) fn act_card(cards: &Cards, act: u32) -> NamedCard
+    requires { act < length cards.now.acts }
+    ensures row { result.row ≡ slice_index (act_records cards.now) act }
+    ensures code { result.code ≡ code_at (act_codes cards.now) act }
+{
+    let card = cards.acts()[act as usize];
+    NamedCard {
+        row: card.row,
+        code: card.code,
+    }
+}
+
+/// The codes with these numbers.
+pub(crate) fn codes_at(alloc: Global, codes: &[Code], numbers: &[u32]) -> Result<Codes, AllocError>
+    requires { All (λ number. number < length codes.now) numbers.now }
+    ensures { IfOk result (λ picked. picked ≡ codes_at codes.now numbers.now) }
+{
+    let mut picked = Vec::with_capacity(alloc, numbers.len())?;
+    for &number in numbers {
+        picked.push(codes[number as usize])?;
+    }
+    Codes::of(alloc, &picked)
+}

@@ -1,0 +1,100 @@
+//! The network of the activities, or why it is not sound.
+ghost use Rattle.std.specs.Prelude.{◌≡◌, ◌<◌, All, length, map, slice_index, IfOk, IfErr, OnOk};
+ghost use Rattle.pc_model.specs.Network.{IsSound};
+ghost use Rattle.pc_wbs.specs.Climb.{IsTree};
+ghost use Rattle.pc_net.specs.Refusals.{IsRefusal};
+ghost use Rattle.pc_net.specs.declared.refusal.NetError.TheVariants as net;
+ghost use Rattle.pc_deck.specs.Deck.{act_codes};
+ghost use Rattle.pc_deck.specs.Refusal.{Refuses};
+ghost use Rattle.pc_project.specs.Misfit.{HasNoMisfit};
+ghost use Rattle.pc_project.specs.Project.{arc_of, network_of, rows_of};
+ghost use Rattle.pc_project.specs.Refusal.{IsRefusedWith, codes_at, net_fault};
+
+use crate::faults::naming;
+use crate::lists::codes_of_acts;
+use crate::named::{act_card, codes_at, event_card};
+use crate::placed::Ends;
+use pc_deck::{Cards, DeckError, Detail, Fault};
+use pc_model::Arc;
+use pc_net::{Net, NetError};
+use pc_text::Codes;
+use std::alloc::{AllocError, Global};
+
+/// The network of the activities, or the fault that keeps it from being sound.
+pub(crate) fn net_of(
+    alloc: Global,
+    cards: &Cards,
+    ends: Ends,
+    arcs: &[Arc],
+) -> Result<Net, DeckError>
+    requires faultless { HasNoMisfit cards.now }
+    requires tree { IsTree (rows_of cards.now) }
+    requires start { ends.start ≡ (network_of cards.now).start }
+    requires end { ends.end ≡ (network_of cards.now).end }
+    requires arcs { arcs.now ≡ map (arc_of cards.now) cards.now.acts }
+    ensures network { IfOk result (λ net. net ≡ network_of cards.now) }
+    ensures sound { OnOk result (IsSound (network_of cards.now)) }
+    ensures refused { IfErr result (Refuses (IsRefusedWith cards.now)) }
+{
+    let events = cards.events().len() as u32;
+    match Net::build(alloc, events, ends.start, ends.end, arcs) {
+        Ok(net) => Ok(net),
+        Err(error) => Err(fault_of(alloc, cards, error)),
+    }
+}
+
+/// The fault by which a refusal of the network is told.
+fn fault_of(alloc: Global, cards: &Cards, error: NetError) -> DeckError
+    requires { IsRefusal (network_of cards.now) error }
+    ensures { Refuses (λ fault. net_fault cards.now error ≡ DeckError.Fault fault) result }
+{
+    match error {
+        NetError::StartEntered { arc } => {
+            let card = act_card(cards, arc);
+            DeckError::Fault(naming(card.row, 24, card.code))
+        }
+        NetError::EndLeft { arc } => {
+            let card = act_card(cards, arc);
+            DeckError::Fault(naming(card.row, 25, card.code))
+        }
+        NetError::Dangling { event, entered } => {
+            let card = event_card(cards, event);
+            DeckError::Fault(Fault {
+                row: card.row,
+                number: 26,
+                detail: Detail::Side {
+                    name: card.code,
+                    entered,
+                },
+            })
+        }
+        NetError::Cycle(acts) => fault_of_cycle(alloc, cards, acts.as_slice()),
+        NetError::OutOfMemory => DeckError::OutOfMemory,
+    }
+}
+
+/// The fault by which a cycle of activities is told.
+fn fault_of_cycle(alloc: Global, cards: &Cards, acts: &[u32]) -> DeckError
+    requires some { 0 < length acts.now }
+    requires known { All (λ act. act < length cards.now.acts) acts.now }
+    ensures { Refuses (λ fault. net_fault cards.now (net.Cycle acts.now) ≡ DeckError.Fault fault) result }
+{
+    let row = act_card(cards, acts[0]).row;
+    match names_of(alloc, cards, acts) {
+        Ok(names) => DeckError::Fault(Fault {
+            row,
+            number: 27,
+            detail: Detail::Names(names),
+        }),
+        Err(_) => DeckError::OutOfMemory,
+    }
+}
+
+/// The codes of these activities.
+fn names_of(alloc: Global, cards: &Cards, acts: &[u32]) -> Result<Codes, AllocError>
+    requires { All (λ act. act < length cards.now.acts) acts.now }
+    ensures { IfOk result (λ names. names ≡ codes_at (act_codes cards.now) acts.now) }
+{
+    let codes = codes_of_acts(alloc, cards)?;
+    codes_at(alloc, &codes, acts)
+}

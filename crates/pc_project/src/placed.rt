@@ -1,0 +1,166 @@
+//! What each kind of card names, looked up, or the card's first fault.
+ghost use Rattle.std.specs.Prelude.{◌≡◌, ◌↔◌, IsTrue, IfOk, IfErr, OnOk};
+ghost use Rattle.pc_deck.specs.Refusal.{IsFirst};
+ghost use Rattle.pc_deck.specs.declared.fault.Fault.{Fault};
+ghost use Rattle.pc_project.specs.Project.{network_of};
+ghost use Rattle.pc_project.specs.Misfit.{HasProjectFault, IsInOrder};
+
+use crate::faults::{naming, plain_fault};
+use crate::refers::Refers;
+use pc_deck::{AcctCard, ActCard, Cards, Fault, ItemCard, MoneyCard, StatusCard};
+use pc_model::Arc;
+use pc_wbs::ItemRow;
+
+/// Where an activity stands: between which events, and at which item.
+#[derive(Clone, Copy, Debug)]
+pub(crate) struct Placement {
+    pub arc: Arc,
+    pub item: u32,
+}
+
+/// The events where a project starts and ends.
+#[derive(Clone, Copy, Debug)]
+pub(crate) struct Ends {
+    pub start: u32,
+    pub end: u32,
+}
+
+/// Looks up the start and the end, or answers the PROJECT card's first fault.
+pub(crate) fn ends_of(cards: &Cards) -> Result<Ends, Fault>
+    ensures start { IfOk result (λ ends. ends.start ≡ (network_of cards.now).start) }
+    ensures end { IfOk result (λ ends. ends.end ≡ (network_of cards.now).end) }
+    ensures faultless { OnOk result ((fault : Fault) → HasProjectFault cards.now cards.now.project fault → ⊥) }
+    ensures first { IfErr result (IsFirst (HasProjectFault cards.now cards.now.project)) }
+{
+    let card = cards.project();
+    let Some(start) = cards.event_named(&card.start) else {
+        return Err(naming(card.row, 13, card.start));
+    };
+    let Some(end) = cards.event_named(&card.end) else {
+        return Err(naming(card.row, 13, card.end));
+    };
+    if card.start == card.end {
+        return Err(naming(card.row, 17, card.start));
+    }
+    Ok(Ends { start, end })
+}
+
+impl Refers for ItemCard {
+    ghost use Rattle.pc_project.specs.Project.{row_of};
+    ghost use Rattle.pc_project.specs.Misfit.{HasItemFault};
+
+    type Found = ItemRow;
+
+    ghost found_in = { row_of };
+
+    ghost HasFault = { HasItemFault };
+
+    fn look_up(&self, cards: &Cards) -> Result<ItemRow, Fault> {
+        let Some(code) = self.parent else {
+            return Ok(ItemRow { parent: None });
+        };
+        match cards.item_named(&code) {
+            Some(parent) => Ok(ItemRow {
+                parent: Some(parent),
+            }),
+            None => Err(naming(self.row, 14, code)),
+        }
+    }
+}
+
+/// Whether the estimates of an activity are in order.
+fn is_in_order(act: &ActCard) -> bool
+    ensures { IsTrue result ↔ IsInOrder act.now }
+{
+    act.opt <= act.likely && act.likely <= act.pess
+}
+
+impl Refers for ActCard {
+    ghost use Rattle.pc_project.specs.Project.{placement_of};
+    ghost use Rattle.pc_project.specs.Misfit.{HasActFault};
+
+    type Found = Placement;
+
+    ghost found_in = { placement_of };
+
+    ghost HasFault = { HasActFault };
+
+    fn look_up(&self, cards: &Cards) -> Result<Placement, Fault> {
+        let Some(from) = cards.event_named(&self.from) else {
+            return Err(naming(self.row, 13, self.from));
+        };
+        let Some(to) = cards.event_named(&self.to) else {
+            return Err(naming(self.row, 13, self.to));
+        };
+        let Some(item) = cards.item_named(&self.item) else {
+            return Err(naming(self.row, 14, self.item));
+        };
+        if self.from == self.to {
+            return Err(naming(self.row, 17, self.from));
+        }
+        if !is_in_order(self) {
+            return Err(plain_fault(self.row, 18));
+        }
+        if self.normal < self.crash {
+            return Err(plain_fault(self.row, 19));
+        }
+        Ok(Placement {
+            arc: Arc { from, to },
+            item,
+        })
+    }
+}
+
+impl Refers for AcctCard {
+    ghost use Rattle.pc_project.specs.Project.{item_number};
+    ghost use Rattle.pc_project.specs.Misfit.{HasAccountFault};
+
+    type Found = u32;
+
+    ghost found_in = { λ deck card. item_number deck card.item };
+
+    ghost HasFault = { HasAccountFault };
+
+    fn look_up(&self, cards: &Cards) -> Result<u32, Fault> {
+        match cards.item_named(&self.item) {
+            Some(item) => Ok(item),
+            None => Err(naming(self.row, 14, self.item)),
+        }
+    }
+}
+
+impl Refers for MoneyCard {
+    ghost use Rattle.pc_project.specs.Project.{account_number};
+    ghost use Rattle.pc_project.specs.Misfit.{HasMoneyFault};
+
+    type Found = u32;
+
+    ghost found_in = { λ deck card. account_number deck card.account };
+
+    ghost HasFault = { HasMoneyFault };
+
+    fn look_up(&self, cards: &Cards) -> Result<u32, Fault> {
+        match cards.account_named(&self.account) {
+            Some(account) => Ok(account),
+            None => Err(naming(self.row, 15, self.account)),
+        }
+    }
+}
+
+impl Refers for StatusCard {
+    ghost use Rattle.pc_project.specs.Project.{act_number};
+    ghost use Rattle.pc_project.specs.Misfit.{HasStatusFault};
+
+    type Found = u32;
+
+    ghost found_in = { λ deck card. act_number deck card.activity };
+
+    ghost HasFault = { HasStatusFault };
+
+    fn look_up(&self, cards: &Cards) -> Result<u32, Fault> {
+        match cards.act_named(&self.activity) {
+            Some(activity) => Ok(activity),
+            None => Err(naming(self.row, 16, self.activity)),
+        }
+    }
+}

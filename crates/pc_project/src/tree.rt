@@ -1,0 +1,88 @@
+//! The tree of the items, or why they are none.
+ghost use Rattle.std.specs.Prelude.{◌≡◌, ◌<◌, ◌≤◌, All, length, slice_index, IfOk, IfErr, OnOk};
+ghost use Rattle.pc_wbs.specs.Climb.{IsTree};
+ghost use Rattle.pc_wbs.specs.Refusal.{IsRefusal};
+ghost use Rattle.pc_wbs.specs.declared.error.TreeError.TheVariants as tree;
+ghost use Rattle.pc_deck.specs.Deck.{item_codes};
+ghost use Rattle.pc_deck.specs.Refusal.{Refuses};
+ghost use Rattle.pc_deck.specs.declared.cards.TheConstants.{ITEM_LIMIT};
+ghost use Rattle.pc_project.specs.Misfit.{HasNoMisfit};
+ghost use Rattle.pc_project.specs.Project.{rows_of};
+ghost use Rattle.pc_project.specs.Refusal.{IsRefusedWith, codes_at, tree_fault};
+
+use crate::faults::{naming, plain_fault};
+use crate::lists::codes_of_items;
+use crate::named::{codes_at, item_card};
+use pc_deck::{Cards, DeckError, Detail, Fault};
+use pc_text::Codes;
+use pc_wbs::{ItemRow, Tree, TreeError};
+use std::alloc::{AllocError, Global};
+
+/// The tree of the items, or the fault that keeps them from being one.
+pub(crate) fn tree_of(alloc: Global, cards: &Cards, rows: &[ItemRow]) -> Result<Tree, DeckError>
+    requires faultless { HasNoMisfit cards.now }
+    requires rows { rows.now ≡ rows_of cards.now }
+    requires few { length rows.now ≤ ITEM_LIMIT }
+    ensures rows { IfOk result (λ tree. tree ≡ rows_of cards.now) }
+    ensures tree { OnOk result (IsTree (rows_of cards.now)) }
+    ensures refused { IfErr result (Refuses (IsRefusedWith cards.now)) }
+{
+    match Tree::build(alloc, rows) {
+        Ok(tree) => Ok(tree),
+        Err(error) => Err(fault_of(alloc, cards, error)),
+    }
+}
+
+/// The fault by which a refusal of the tree is told.
+fn fault_of(alloc: Global, cards: &Cards, error: TreeError) -> DeckError
+    requires faultless { HasNoMisfit cards.now }
+    requires refused { IsRefusal (rows_of cards.now) error }
+    ensures { Refuses (λ fault. tree_fault cards.now error ≡ DeckError.Fault fault) result }
+{
+    match error {
+        TreeError::NoTop => DeckError::Fault(plain_fault(0, 20)),
+        TreeError::SecondTop { item } => {
+            let card = item_card(cards, item);
+            DeckError::Fault(naming(card.row, 21, card.code))
+        }
+        TreeError::Loop(items) => fault_of_loop(alloc, cards, items.as_slice()),
+        TreeError::TooDeep { item, level } => {
+            let card = item_card(cards, item);
+            DeckError::Fault(Fault {
+                row: card.row,
+                number: 23,
+                detail: Detail::Level {
+                    name: card.code,
+                    level,
+                },
+            })
+        }
+        TreeError::OutOfMemory => DeckError::OutOfMemory,
+    }
+}
+
+/// The fault by which a loop of items is told.
+fn fault_of_loop(alloc: Global, cards: &Cards, items: &[u32]) -> DeckError
+    requires some { 0 < length items.now }
+    requires known { All (λ item. item < length cards.now.items) items.now }
+    ensures { Refuses (λ fault. tree_fault cards.now (tree.Loop items.now) ≡ DeckError.Fault fault) result }
+{
+    let row = item_card(cards, items[0]).row;
+    match names_of(alloc, cards, items) {
+        Ok(names) => DeckError::Fault(Fault {
+            row,
+            number: 22,
+            detail: Detail::Names(names),
+        }),
+        Err(_) => DeckError::OutOfMemory,
+    }
+}
+
+/// The codes of these items.
+fn names_of(alloc: Global, cards: &Cards, items: &[u32]) -> Result<Codes, AllocError>
+    requires { All (λ item. item < length cards.now.items) items.now }
+    ensures { IfOk result (λ names. names ≡ codes_at (item_codes cards.now) items.now) }
+{
+    let codes = codes_of_items(alloc, cards)?;
+    codes_at(alloc, &codes, items)
+}

@@ -1,0 +1,20 @@
+-- The text that tells that a deck is accepted.
+use Rattle.std.specs.Prelude.{ℕ, List, ◌++◌, codes}
+use Rattle.pc_project.specs.Project.{Project}
+use Rattle.pc_project.specs.declared.heading.Counts.{Counts}
+use Rattle.pc_reports.specs.Lines.{code_line, number_line}
+
+-- how many cards of each kind there are, a line each
+abbrev pub counts_text : Counts → List ℕ
+counts_text counts =
+    number_line (codes "events ") counts.events
+    ++ number_line (codes "activities ") counts.activities
+    ++ number_line (codes "items ") counts.items
+    ++ number_line (codes "accounts ") counts.accounts
+    ++ number_line (codes "charges ") counts.charges
+    ++ number_line (codes "togos ") counts.togos
+    ++ number_line (codes "statuses ") counts.statuses
+
+-- the project is accepted, and so many cards of each kind it has
+abbrev pub check_text : Project → List ℕ
+check_text project = code_line (codes "accepted ") project.heading.code ++ counts_text project.counts

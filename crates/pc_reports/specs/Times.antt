@@ -1,0 +1,51 @@
+-- What the report of event times tells.
+use Rattle.std.specs.Prelude.{◌≡◌, ℕ, ◌*◌, ◌<◌, ◌≤◌, ℤ, pos, unsigned_abs, List, [], length, slice_index, slice_index_or, codes, Option, Some, None}
+use Rattle.std.specs.List.{All}
+use Rattle.pc_days.specs.Dates.{IsAfterSixths, IsPrintedDay, NamesDay}
+use Rattle.pc_model.specs.declared.limits.TheConstants.{MAX_EVENTS}
+use Rattle.pc_times.specs.Times.{AreEarly}
+use Rattle.pc_times.specs.Late.{AreLate}
+use Rattle.pc_times.specs.Picked.{IsPickedWalk}
+use Rattle.pc_times.specs.declared.TheConstants.{MAX_TIME}
+use Rattle.pc_project.specs.Project.{Project}
+
+-- for each event when it is reached at the earliest and when it must be at the latest, in sixths of a day from the
+-- start, and the date of its earliest time; and the activities of the critical path
+pub record Times : Type 0 where
+  pub early : List ℕ
+  pub late : List ℤ
+  pub path : List ℕ
+  pub dates : List (List ℕ)
+
+-- when the end is to be met, in sixths of a day: the directed number of days, or else when it is reached
+abbrev pub end_to_meet : Option ℕ → ℕ → ℤ
+end_to_meet None reached = pos reached
+end_to_meet (Some days) reached = pos (6 * days)
+
+-- ten hyphens, in place of a date
+abbrev pub no_date : List ℕ
+no_date = codes "----------"
+
+-- how the day that is the start and so many sixths of a day, rounded up, is told: by its date, or by ten hyphens where
+-- it is past the days that are printed
+pub data IsDate (start : ℤ) (sixths : ℕ) (text : List ℕ) : Type 0 where
+  printed : (day : ℤ) → IsAfterSixths start (pos sixths) day → IsPrintedDay day → NamesDay text day → IsDate start sixths text
+  past : ((day : ℤ) → IsAfterSixths start (pos sixths) day → IsPrintedDay day → ⊥) → text ≡ no_date → IsDate start sixths text
+
+-- one date for each time
+pub record AreDates (start : ℤ) (times : List ℕ) (dates : List (List ℕ)) : Type 0 where
+  pub one_each : length dates ≡ length times
+  pub each : (e : ℕ) → e < length times → IsDate start (slice_index times e) (slice_index_or dates e [])
+
+-- the times are those of the project
+pub record IsTimes (project : Project) (times : Times) : Type 0 where
+  pub early : AreEarly project.network project.expected times.early
+  pub late : AreLate project.network project.expected (end_to_meet project.heading.directed (slice_index times.early project.network.end)) times.late
+  pub path : IsPickedWalk project.network project.expected times.path
+  pub dates : AreDates project.heading.start_day times.early times.dates
+
+-- no time is longer than a project can take, and the path has no more activities than a project has events
+pub record AreSmall (times : Times) : Type 0 where
+  pub early : All (λ time. time ≤ MAX_TIME) times.early
+  pub late : All (λ time. unsigned_abs time ≤ MAX_TIME) times.late
+  pub path : length times.path ≤ MAX_EVENTS

@@ -1,0 +1,126 @@
+// What the report of event times tells.
+ghost use Rattle.std.specs.Prelude.{◌≡◌, ◌<◌, ◌≤◌, ◌≤ℤ◌, [], pos, unsigned_abs, length, slice_index, slice_index_or, IfOk};
+ghost use Rattle.std.specs.List.{All};
+ghost use Rattle.std.specs.Option.{ForSome};
+ghost use Rattle.pc_model.specs.declared.limits.TheConstants.{MAX_EVENTS};
+ghost use Rattle.pc_times.specs.declared.TheConstants.{MAX_TIME};
+ghost use Rattle.pc_reports.specs.Times.{IsTimes, IsDate, AreDates, end_to_meet};
+
+use pc_days::{Day, date_of_sixths, day_text};
+use pc_project::Project;
+use pc_times::{Longest, late, longest};
+use std::alloc::{AllocError, Global};
+use std::marker::Model;
+
+/// The bytes of a date.
+const DATE_LENGTH: usize = 10;
+
+/// For each event its earliest and its latest time and the date of the earliest, and the activities of the critical
+/// path.
+///
+/// Times are in sixths of a day from the project's start.
+#[derive(Drop)]
+pub struct Times {
+    longest: Longest,
+    late: Vec<i64>,
+    dates: Vec<[u8; DATE_LENGTH]>,
+}
+
+impl Model for Times {
+    ghost use Rattle.pc_reports.specs.Times.{Times};
+
+    ghost Value = { Times };
+
+    ghost use Rattle.pc_reports.specs.TimesInside.{times_from, AreSmallInside};
+
+    ghost view = { times_from };
+
+    ghost invariant = { AreSmallInside };
+}
+
+impl Times {
+    /// The times of the project. Linear in events and activities.
+    pub fn of(alloc: Global, project: &Project) -> Result<Times, AllocError>
+        ensures { IfOk result (IsTimes project.now) }
+    {
+        let longest = longest(alloc, project.net(), project.expected())?;
+        let by = end_to_meet(project.directed(), longest.length());
+        let late = late(alloc, project.net(), project.expected(), by)?;
+        let dates = dates_of(alloc, project.start_day(), longest.times())?;
+        Ok(Times {
+            longest,
+            late,
+            dates,
+        })
+    }
+
+    /// The earliest time of an event.
+    pub fn early(&self, e: usize) -> u64
+        requires { e < length self.now.early }
+        ensures time { result ≡ slice_index self.now.early e }
+        ensures limit { result ≤ MAX_TIME }
+    {
+        self.longest.times()[e]
+    }
+
+    /// The latest time of an event.
+    pub fn late(&self, e: usize) -> i64
+        requires { e < length self.now.late }
+        ensures time { result ≡ slice_index_or self.now.late e (pos 0) }
+        ensures limit { unsigned_abs result ≤ MAX_TIME }
+    {
+        self.late[e]
+    }
+
+    /// The date of an event's earliest time, or ten hyphens where it is past the days that are printed.
+    pub fn date(&self, e: usize) -> &[u8; DATE_LENGTH]
+        requires { e < length self.now.dates }
+        ensures { result.now ≡ slice_index_or self.now.dates e [] }
+    {
+        &self.dates[e]
+    }
+
+    /// The activities of the critical path, from the start event to the end event.
+    pub fn path(&self) -> &[u32]
+        ensures path { result.now ≡ self.now.path }
+        ensures short { length result.now ≤ MAX_EVENTS }
+    {
+        self.longest.path()
+    }
+}
+
+// When the end is to be met: the directed number of days, or else when it is reached.
+fn end_to_meet(directed: Option<u64>, reached: u64) -> i64
+    requires directed { ForSome directed (λ days. days ≤ 1000000) }
+    requires reached { reached ≤ MAX_TIME }
+    ensures end { result ≡ end_to_meet directed reached }
+    ensures limit { (pos 0 ≤ℤ result) × (result ≤ℤ pos MAX_TIME) }
+{
+    match directed {
+        Some(days) => 6 * days as i64,
+        None => reached as i64,
+    }
+}
+
+// The date of each of the times.
+fn dates_of(alloc: Global, start: Day, times: &[u64]) -> Result<Vec<[u8; DATE_LENGTH]>, AllocError>
+    requires { All (λ time. time ≤ MAX_TIME) times.now }
+    ensures { IfOk result (λ dates. AreDates start times.now dates.items) }
+{
+    let mut dates = Vec::with_capacity(alloc, times.len())?;
+    for &time in times {
+        dates.push(date_text(start, time))?;
+    }
+    Ok(dates)
+}
+
+// The date of the day that is the start and so many sixths of a day, or ten hyphens.
+fn date_text(start: Day, sixths: u64) -> [u8; DATE_LENGTH]
+    requires { sixths ≤ MAX_TIME }
+    ensures { IsDate start sixths result }
+{
+    match date_of_sixths(start, sixths as i64) {
+        Some(day) => day_text(day),
+        None => *b"----------",
+    }
+}
