@@ -1,6 +1,6 @@
 # make            builds the programs into bin/
 # make check      runs the gate (every proof, edit, test and program) and the acceptance cases
-# make install    copies the programs to $(PREFIX)/bin
+# make install    copies the programs to $(PREFIX)/bin and their manual pages to $(PREFIX)/share/man
 # make clean      removes what was built
 
 PREFIX ?= /usr/local
@@ -29,6 +29,8 @@ check:
 install: all
 	install -d $(DESTDIR)$(PREFIX)/bin
 	install -m 755 $(PROGRAMS:%=bin/%) $(DESTDIR)$(PREFIX)/bin
+	install -d $(DESTDIR)$(PREFIX)/share/man/man1
+	install -m 644 $(PROGRAMS:%=docs/man/%.1) $(DESTDIR)$(PREFIX)/share/man/man1
 
 clean:
 	rm -rf bin $(PROGRAMS:%=crates/%/out)
