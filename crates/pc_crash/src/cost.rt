@@ -1,3 +1,4 @@
+//! The cost of durations.
 ghost use Rattle.std.specs.Prelude.{◌≡◌, slice_index};
 ghost use Rattle.pc_model.specs.Schedule.{cost_of, normal_of};
 ghost use Rattle.pc_crash.specs.Terms.{AreWithinLimits, AreAtMostNormal};

@@ -1,4 +1,4 @@
-// Reading a source to its end.
+//! Reading a source to its end.
 ghost use Rattle.std.specs.Prelude.{◌≡◌, ℕ, List, ◌^◌, ◌<◌, ◌≤◌, ◌↔◌, length, vec_len, IfOk, OnOk, IsErrOf};
 ghost use Rattle.std.specs.Io.KnownBytes.{Consumes, IsAtEnd};
 ghost use Rattle.pc_edges.specs.Faults.{Rose};
@@ -18,7 +18,7 @@ pub enum LoadError {
     OutOfMemory,
 }
 
-// How many bytes a pull is offered room for.
+/// How many bytes a pull is offered room for.
 const PULL: usize = 65536;
 
 /// All bytes of `source` up to its end, where there are at most `limit`.
@@ -40,7 +40,7 @@ pub fn load<S: Source>(alloc: Global, source: &mut S, limit: usize) -> Result<Ve
     load_by(alloc, source, limit, buffer.as_mut_slice())
 }
 
-// As `load`, by pulls into `buffer`.
+/// As `load`, by pulls into `buffer`.
 fn load_by<S: Source>(
     alloc: Global,
     source: &mut S,

@@ -1,4 +1,4 @@
-// A sink in memory.
+//! A sink in memory.
 ghost use Rattle.std.specs.Prelude.{◌≡◌, ℕ, ◌-◌, ◌<◌, ◌≤◌, ◌↔◌, ◌⊎◌, ◌++◌, [], Some, Ok, length, take, min, IfOk, OnOk, OnErr, IsErr, IsTrue, Contains};
 ghost use Rattle.std.specs.Io.KnownBytes.{Appends, Keeps};
 ghost use Rattle.pc_edges.specs.Faults.{Rose, raised};
@@ -69,7 +69,7 @@ impl MemSink {
         self.taken.as_slice()
     }
 
-    // Counts a call, and answers whether it is one that fails.
+    /// Counts a call, and answers whether it is one that fails.
     fn count_call(&mut self) -> bool
         ensures fails { IsTrue result ↔ Contains self.old.failing (raised self.old.calls) }
         ensures counted { self.new ≡ record self.old { calls = raised self.old.calls } }
@@ -78,7 +78,7 @@ impl MemSink {
         self.failing.contains(&self.calls)
     }
 
-    // Counts a fault.
+    /// Counts a fault.
     fn fail(&mut self) -> Failed
         ensures counted { self.new ≡ record self.old { faults = raised self.old.faults } }
         ensures count { self.old.faults ≤ self.new.faults }

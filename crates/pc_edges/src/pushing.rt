@@ -1,4 +1,4 @@
-// Pushing a piece whole.
+//! Pushing a piece whole.
 ghost use Rattle.pc_edges.specs.Writes.{Writes};
 
 use crate::{Failed, Sink};

@@ -1,4 +1,4 @@
-// A source over std's `Read`.
+//! A source over std's `Read`.
 ghost use Rattle.std.specs.Prelude.{◌≡◌};
 
 use crate::{Failed, Source};

@@ -1,4 +1,4 @@
-// What no clause says: that the calls succeed, on their happy paths and with a fault at each place.
+//! What no clause says: that the calls succeed, on their happy paths and with a fault at each place.
 ghost use Rattle.std.specs.Prelude.{◌≤◌, IfOk};
 
 use super::*;
@@ -8,7 +8,7 @@ use std::test::Fail;
 
 const TEXT: &[u8] = b"breadboard";
 
-// Which pulls fail, the most that a pull gives, what three pulls of up to four bytes answer, and the faults.
+/// Which pulls fail, the most that a pull gives, what three pulls of up to four bytes answer, and the faults.
 #[test]
 fn mem_source_pulls(rt: HostRuntime) -> Result<(), Fail> {
     let cases: [(&[u64], usize, [Result<usize, Failed>; 4]); 5] = [
@@ -35,8 +35,8 @@ fn mem_source_pulls(rt: HostRuntime) -> Result<(), Fail> {
     Ok(())
 }
 
-// Which calls fail, the most that a push takes, what the pushes of what is left and a flush after the second
-// answer, and the bytes taken in the end. There is room for five bytes.
+/// Which calls fail, the most that a push takes, what the pushes of what is left and a flush after the second
+/// answer, and the bytes taken in the end. There is room for five bytes.
 #[test]
 fn mem_sink_pushes(rt: HostRuntime) -> Result<(), Fail> {
     let cases: [(
@@ -69,7 +69,7 @@ fn mem_sink_pushes(rt: HostRuntime) -> Result<(), Fail> {
     Ok(())
 }
 
-// Four bytes at a pull: the fourth pull finds the end.
+/// Four bytes at a pull: the fourth pull finds the end.
 #[test]
 fn load_reads_to_the_end(rt: HostRuntime) -> Result<(), Fail> {
     let cases: [(&[u64], usize, Result<(), LoadError>); 8] = [
@@ -97,7 +97,7 @@ fn load_reads_to_the_end(rt: HostRuntime) -> Result<(), Fail> {
     Ok(())
 }
 
-// Four bytes at a push.
+/// Four bytes at a push.
 #[test]
 fn push_all_pushes_each_byte(rt: HostRuntime) -> Result<(), Fail> {
     let cases: [(&[u64], usize, Result<(), Failed>, &[u8]); 7] = [
@@ -121,7 +121,7 @@ fn push_all_pushes_each_byte(rt: HostRuntime) -> Result<(), Fail> {
     Ok(())
 }
 
-// A stream that takes or gives a byte at its first turn, fails at its second, and takes or gives nothing then.
+/// A stream that takes or gives a byte at its first turn, fails at its second, and takes or gives nothing then.
 #[derive(Drop)]
 struct Faulty {
     turn: u8,

@@ -1,4 +1,4 @@
-// A sink over std's `Write`.
+//! A sink over std's `Write`.
 ghost use Rattle.std.specs.Prelude.{◌≡◌};
 
 use crate::{Failed, Sink};

@@ -1,3 +1,4 @@
+//! What is wrong with a network besides cycles: the start entered, the end left, an event that dangles.
 ghost use Rattle.std.specs.Prelude.{◌<◌, IfErr, IsErrOf, MatchBool, OnOk};
 ghost use Rattle.pc_model.specs.Network.{IsDangling};
 ghost use Rattle.pc_net.specs.Firmness.{IsFirstIn, EntersStart, LeavesEnd, Dangles, IsUnentered, IsUnleft, IsFirm};

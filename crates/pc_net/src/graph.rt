@@ -1,3 +1,4 @@
+//! A network of which it is not known yet whether it is sound.
 ghost use Rattle.std.specs.Prelude.{◌≡◌, ◌<◌, ◌≤◌, IfOk, length};
 ghost use Rattle.pc_model.specs.Greatest.{IsListed, places};
 ghost use Rattle.pc_model.specs.Walk.{from_of, to_of};

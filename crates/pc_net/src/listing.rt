@@ -1,3 +1,4 @@
+//! The activities at each event, in one list.
 ghost use Rattle.std.specs.Prelude.{◌≡◌, ◌<◌, ◌^◌, IfOk, length};
 ghost use Rattle.pc_net.specs.Sides.{events_of, AreBelow};
 ghost use Rattle.pc_net.specs.Listings.{IsListing, HasPart, part_of};

@@ -1,3 +1,4 @@
+//! A sound network.
 ghost use Rattle.std.specs.Prelude.{◌≡◌, ◌<◌, ◌≤◌, IfOk, IfErr, OnOk, length};
 ghost use Rattle.pc_model.specs.Greatest.{IsListed, places};
 ghost use Rattle.pc_model.specs.Walk.{from_of, to_of};

@@ -1,3 +1,4 @@
+//! An order of the events.
 ghost use Rattle.std.specs.Prelude.{◌≡◌, ℕ, ◌+◌, ◌<◌, ◌≤◌, ◌^◌, IfOk, OnOk, length, slice_index, vec_len};
 ghost use Rattle.pc_model.specs.Greatest.{IsListed};
 ghost use Rattle.pc_model.specs.Network.{IsPartOrder};

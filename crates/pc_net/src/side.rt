@@ -1,3 +1,4 @@
+//! The two ends of an activity.
 ghost use Rattle.std.specs.Prelude.{◌≡◌};
 ghost use Rattle.pc_net.specs.Sides.{event_of};
 

@@ -1,3 +1,4 @@
+//! Networks that are sound, and those that are refused.
 ghost use Rattle.std.specs.Bool.{OnTrue};
 ghost use Rattle.pc_model.specs.Network.{IsInRange};
 ghost use Rattle.pc_net.specs.Networks.{network};

@@ -1,4 +1,4 @@
-// The cells of a row, one after the other.
+//! The cells of a row, one after the other.
 ghost use Rattle.std.specs.Prelude.{◌≡◌, ◌+◌, ◌≤◌, [], ◌∷◌, ◌++◌, decimal, length};
 ghost use Rattle.std.specs.Fmt.{signed_decimal};
 ghost use Rattle.pc_reports.specs.Cells.{left, right};

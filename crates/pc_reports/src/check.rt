@@ -1,4 +1,4 @@
-// The text that tells that a deck is accepted.
+//! The text that tells that a deck is accepted.
 ghost use Rattle.std.specs.Prelude.{◌≡◌, ◌+◌, ◌≤◌, ◌++◌, length};
 ghost use Rattle.pc_edges.specs.Writes.{Writes};
 ghost use Rattle.pc_reports.specs.Check.{check_text, counts_text};
@@ -23,7 +23,7 @@ pub fn write_check<O: Sink>(line: &mut Line, sink: &mut O, project: &Project) ->
     push_all(sink, line.bytes())
 }
 
-// Appends a line for each kind of card.
+/// Appends a line for each kind of card.
 fn put_counts(line: &mut Line, counts: Counts)
     requires { length line.old.bytes + 220 ≤ line.old.room }
     ensures bytes { line.new.bytes ≡ line.old.bytes ++ counts_text counts }

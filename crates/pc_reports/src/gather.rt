@@ -1,4 +1,4 @@
-// Gathering many lines in one, so that a sink sees few and large pushes.
+//! Gathering many lines in one, so that a sink sees few and large pushes.
 ghost use Rattle.std.specs.Prelude.{◌≡◌, ◌+◌, ◌≤◌, length, OnOk, OnErr};
 ghost use Rattle.pc_edges.specs.Writes.{Gathered, Stopped};
 

@@ -1,4 +1,4 @@
-// Short lines, appended one after the other.
+//! Short lines, appended one after the other.
 ghost use Rattle.std.specs.Prelude.{◌≡◌, ◌+◌, ◌≤◌, ◌++◌, length};
 ghost use Rattle.pc_reports.specs.Lines.{code_line, number_line, named_line};
 

@@ -1,4 +1,4 @@
-// The text of a schedule.
+//! The text of a schedule.
 ghost use Rattle.std.specs.Prelude.{◌≡◌, ◌≤◌, length};
 ghost use Rattle.pc_edges.specs.Writes.{Gathers, Writes};
 ghost use Rattle.pc_edges.specs.Texts.{texts_to};
@@ -38,7 +38,7 @@ pub fn write_schedule<O: Sink>(
     push_all(sink, line.bytes())
 }
 
-// Gathers a line for each code and its number.
+/// Gathers a line for each code and its number.
 fn gather_lines<O: Sink>(
     line: &mut Line,
     sink: &mut O,

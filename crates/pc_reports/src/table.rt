@@ -1,4 +1,4 @@
-// Tables: rows that are put on a line one after the other, and pushed where it is full.
+//! Tables: rows that are put on a line one after the other, and pushed where it is full.
 ghost use Rattle.std.specs.Prelude.{◌≡◌, ℕ, ◌+◌, ◌<◌, ◌≤◌, List, ◌++◌, length};
 ghost use Rattle.pc_edges.specs.Writes.{Gathers};
 ghost use Rattle.pc_edges.specs.Texts.{texts_to};

@@ -1,4 +1,4 @@
-// A schedule and a table as they are printed, and what a sink that is full or fails leaves of a schedule.
+//! A schedule and a table as they are printed, and what a sink that is full or fails leaves of a schedule.
 use super::*;
 use crate::schedule::Numbered;
 use pc_edges::{Failed, MemSink, push_all};
@@ -8,8 +8,8 @@ use std::test::Fail;
 const TEXT: &[u8] =
     b"LENGTH 9\nCOST 45\nEVENT S 0\nEVENT M 4\nEVENT T 9\nACT A 4\nACT B 5\nACT C 7\n";
 
-// Room in the sink, room on the line, the pushes that fail, the answer, and how much of the text is written. A line
-// with room for 256 bytes is pushed first when 17 bytes stand on it, and then with 10 more at a time.
+/// Room in the sink, room on the line, the pushes that fail, the answer, and how much of the text is written. A line
+/// with room for 256 bytes is pushed first when 17 bytes stand on it, and then with 10 more at a time.
 #[test]
 fn schedule_is_written(rt: HostRuntime) -> Result<(), Fail> {
     let code = |field: &[u8]| Code::read(field).ok_or("no code");
@@ -47,7 +47,7 @@ fn schedule_is_written(rt: HostRuntime) -> Result<(), Fail> {
     Ok(())
 }
 
-// The head, the rows and the last line of a table, on a line that is pushed before each of them.
+/// The head, the rows and the last line of a table, on a line that is pushed before each of them.
 #[test]
 fn table_is_written(rt: HostRuntime) -> Result<(), Fail> {
     let names = [

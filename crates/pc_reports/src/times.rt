@@ -1,4 +1,4 @@
-// What the report of event times tells.
+//! What the report of event times tells.
 ghost use Rattle.std.specs.Prelude.{◌≡◌, ◌<◌, ◌≤◌, ◌≤ℤ◌, [], pos, unsigned_abs, length, slice_index, slice_index_or, IfOk};
 ghost use Rattle.std.specs.List.{All};
 ghost use Rattle.std.specs.Option.{ForSome};
@@ -89,7 +89,7 @@ impl Times {
     }
 }
 
-// When the end is to be met: the directed number of days, or else when it is reached.
+/// When the end is to be met: the directed number of days, or else when it is reached.
 fn end_to_meet(directed: Option<u64>, reached: u64) -> i64
     requires directed { ForSome directed (λ days. days ≤ 1000000) }
     requires reached { reached ≤ MAX_TIME }
@@ -102,7 +102,7 @@ fn end_to_meet(directed: Option<u64>, reached: u64) -> i64
     }
 }
 
-// The date of each of the times.
+/// The date of each of the times.
 fn dates_of(alloc: Global, start: Day, times: &[u64]) -> Result<Vec<[u8; DATE_LENGTH]>, AllocError>
     requires { All (λ time. time ≤ MAX_TIME) times.now }
     ensures { IfOk result (λ dates. AreDates start times.now dates.items) }
@@ -114,7 +114,7 @@ fn dates_of(alloc: Global, start: Day, times: &[u64]) -> Result<Vec<[u8; DATE_LE
     Ok(dates)
 }
 
-// The date of the day that is the start and so many sixths of a day, or ten hyphens.
+/// The date of the day that is the start and so many sixths of a day, or ten hyphens.
 fn date_text(start: Day, sixths: u64) -> [u8; DATE_LENGTH]
     requires { sixths ≤ MAX_TIME }
     ensures { IsDate start sixths result }

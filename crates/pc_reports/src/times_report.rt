@@ -1,4 +1,4 @@
-// The report of event times.
+//! The report of event times.
 ghost use Rattle.std.specs.Prelude.{◌≡◌, ◌≤◌, IfOk};
 ghost use Rattle.pc_edges.specs.Writes.{Gathers, Writes};
 ghost use Rattle.pc_model.specs.Walk.{walk_sum};
@@ -69,7 +69,7 @@ impl TimesReport {
     }
 }
 
-// Writes the report, by lines that are gathered on `line`.
+/// Writes the report, by lines that are gathered on `line`.
 fn write_times<O: Sink>(
     line: &mut Line,
     sink: &mut O,
@@ -90,7 +90,7 @@ fn write_times<O: Sink>(
     push_all(sink, line.bytes())
 }
 
-// Gathers the activities of the critical path, and the sum of their variances.
+/// Gathers the activities of the critical path, and the sum of their variances.
 fn gather_critical<O: Sink>(
     line: &mut Line,
     sink: &mut O,
@@ -107,7 +107,7 @@ fn gather_critical<O: Sink>(
     gather_number(line, sink, b"VARIANCE ", path_variance(project, times))
 }
 
-// The sum of the variances of the activities of the critical path, in thirty-sixths of a square day.
+/// The sum of the variances of the activities of the critical path, in thirty-sixths of a square day.
 fn path_variance(project: &Project, times: &Times) -> u64
     requires { IsTimes project.now times.now }
     ensures { result ≡ walk_sum project.now.variances times.now.path }

@@ -1,4 +1,4 @@
-// The rows of the report of event times.
+//! The rows of the report of event times.
 ghost use Rattle.std.specs.Prelude.{◌≡◌, ◌+◌, ◌<◌, ◌≤◌, ◌++◌, length, unsigned_abs};
 ghost use Rattle.pc_times.specs.declared.TheConstants.{MAX_TIME};
 ghost use Rattle.pc_reports.specs.Times.{IsTimes};
@@ -101,7 +101,7 @@ impl<'a> Table for CriticalRows<'a> {
     }
 }
 
-// Appends the row of an event.
+/// Appends the row of an event.
 fn put_event(line: &mut Line, code: &Code, early: u64, late: i64, date: &[u8; 10])
     requires early { early ≤ MAX_TIME }
     requires late { unsigned_abs late ≤ MAX_TIME }
@@ -116,7 +116,7 @@ fn put_event(line: &mut Line, code: &Code, early: u64, late: i64, date: &[u8; 10
     put_last(line, date);
 }
 
-// How long an activity can wait, in sixths of a day: the time that it has between its events, less its expected time.
+/// How long an activity can wait, in sixths of a day: the time that it has between its events, less its expected time.
 fn activity_slack(project: &Project, times: &Times, a: usize) -> i64
     requires times { IsTimes project.now times.now }
     requires known { a < length project.now.network.arcs }
@@ -131,7 +131,7 @@ fn activity_slack(project: &Project, times: &Times, a: usize) -> i64
     slack(between, project.expected()[a])
 }
 
-// Appends the row of an activity.
+/// Appends the row of an activity.
 fn put_activity(line: &mut Line, code: &Code, expected: u64, variance: u64, slack: i64)
     requires fits { length line.old.bytes + LINE_ROOM ≤ line.old.room }
     ensures bytes { line.new.bytes ≡ line.old.bytes ++ activity_cells code.now expected variance slack }

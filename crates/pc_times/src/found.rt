@@ -1,3 +1,4 @@
+//! What a search for the longest walk finds.
 ghost use Rattle.std.specs.Prelude.{◌≡◌, ◌<◌, length, slice_index};
 
 use std::marker::Model;

@@ -1,3 +1,4 @@
+//! The passes over the events: greatest sums from the start and to the end.
 ghost use Rattle.std.specs.Prelude.{◌≡◌, ◌≤◌, IfOk, OnOk};
 ghost use Rattle.std.specs.List.{All};
 ghost use Rattle.pc_model.specs.Network.{IsEarly};

@@ -1,3 +1,4 @@
+//! The longest walk, and the one of several that is picked.
 ghost use Rattle.std.specs.Prelude.{◌≡◌, ℕ, ◌<◌, ◌≤◌, length, slice_index, IfOk, IfSome, IfNone};
 ghost use Rattle.std.specs.List.{All};
 ghost use Rattle.pc_model.specs.Greatest.{IsFirst};

@@ -1,3 +1,5 @@
+//! Runs over sources and sinks in memory: what each status leaves behind.
+
 use crate::run;
 use pc_edges::{MemSink, MemSource};
 use std::alloc::{AllocError, Global};
