@@ -2,7 +2,7 @@
 use Rattle.std.specs.Prelude.{◌≡◌, ℕ, ◌≤◌, List, ◌++◌, length, codes}
 use Rattle.pc_edges.specs.Texts.{texts_to}
 use Rattle.pc_reports.specs.Lines.{number_line, line_at}
-use Rattle.pc_reports.specs.declared.lines.TheConstants.{LINE_ROOM}
+use Rattle.pc_reports.specs.declared.schedule.TheConstants.{SCHEDULE_ROOM}
 
 -- the length and the cost, the time of each event, and the duration of each activity, a line each
 abbrev pub schedule_text : ℕ → ℕ → List (List ℕ) → List ℕ → List (List ℕ) → List ℕ → List ℕ
@@ -21,4 +21,4 @@ pub record IsPrintable (names : List (List ℕ)) (numbers word : List ℕ) : Typ
 pub record IsWhole (events : List (List ℕ)) (times : List ℕ) (activities : List (List ℕ)) (durations : List ℕ) (room : ℕ) : Type 0 where
   pub timed : length events ≡ length times
   pub lasting : length activities ≡ length durations
-  pub fits : LINE_ROOM ≤ room
+  pub fits : SCHEDULE_ROOM ≤ room

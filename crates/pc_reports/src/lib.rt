@@ -16,6 +16,6 @@ mod times_rows;
 pub use check::write_check;
 pub use gather::make_room;
 pub use lines::LINE_ROOM;
-pub use schedule::write_schedule;
+pub use schedule::{SCHEDULE_ROOM, write_schedule};
 pub use table::{Table, gather_number, gather_rows, gather_table};
 pub use times_report::TimesReport;

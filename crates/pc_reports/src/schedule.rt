@@ -5,10 +5,13 @@ ghost use Rattle.pc_edges.specs.Texts.{texts_to};
 ghost use Rattle.pc_reports.specs.Lines.{line_at};
 ghost use Rattle.pc_reports.specs.Schedule.{schedule_text, IsPrintable, IsWhole};
 
-use crate::lines::{LINE_ROOM, put_named, put_number};
+use crate::lines::{put_named, put_number};
 use crate::table::{Table, gather_rows};
 use pc_edges::{Failed, Sink, push_all};
 use pc_text::{Code, Line};
+
+/// The room that the line of a schedule has to have: more than its longest line takes.
+pub const SCHEDULE_ROOM: usize = 64;
 
 /// Writes a schedule of `length` days that costs `cost`: the time of each event and the duration of each activity,
 /// in card order.
@@ -47,7 +50,7 @@ fn gather_lines<O: Sink>(
     numbers: &[u64],
 ) -> Result<(), Failed>
     requires printable { IsPrintable names.now numbers.now word.now }
-    requires room { LINE_ROOM ≤ line.old.room }
+    requires room { SCHEDULE_ROOM ≤ line.old.room }
     ensures text { Gathers result (O.taken sink.old) line.old.bytes (O.taken sink.new) line.new.bytes
         (O.faults sink.old) (O.faults sink.new) (texts_to (length names.now) (line_at word.now names.now numbers.now)) }
     ensures room { line.new.room ≡ line.old.room }
@@ -69,14 +72,22 @@ pub(crate) struct Numbered<'a> {
 }
 
 impl<'a> Table for Numbered<'a> {
+    ghost use Rattle.pc_reports.specs.declared.schedule.TheConstants.{SCHEDULE_ROOM};
+
     ghost row_count = { λ t. length t.names.now };
 
     ghost row_text = { λ t. line_at t.word.now t.names.now t.numbers.now };
+
+    ghost row_room = { λ _. SCHEDULE_ROOM };
 
     ghost IsReady = { λ t. IsPrintable t.names.now t.numbers.now t.word.now };
 
     fn rows(&self) -> usize {
         self.names.len()
+    }
+
+    fn room(&self) -> usize {
+        SCHEDULE_ROOM
     }
 
     fn put(&self, i: usize, line: &mut Line) {

@@ -17,6 +17,9 @@ pub trait Table {
     // The text of a row, with the end of its line.
     ghost row_text: { Self → ℕ → List ℕ };
 
+    // No fewer bytes than a row has.
+    ghost row_room: { Self → ℕ };
+
     // What has to hold for the rows to be put.
     ghost IsReady: { Self → Type 0 };
 
@@ -25,11 +28,15 @@ pub trait Table {
         requires { IsReady self.now }
         ensures { result ≡ row_count self.now };
 
+    /// How much room the line has to have for a row.
+    fn room(&self) -> usize
+        ensures { result ≡ row_room self.now };
+
     /// Appends the row `i` to the line.
     fn put(&self, i: usize, line: &mut Line)
         requires ready { IsReady self.now }
         requires known { i < row_count self.now }
-        requires fits { length line.old.bytes + LINE_ROOM ≤ line.old.room }
+        requires fits { length line.old.bytes + row_room self.now ≤ line.old.room }
         ensures bytes { line.new.bytes ≡ line.old.bytes ++ row_text self.now i }
         ensures room { line.new.room ≡ line.old.room };
 }
@@ -42,13 +49,14 @@ pub fn gather_rows<O: Sink, T: Table>(
     table: &T,
 ) -> Result<(), Failed>
     requires ready { T.IsReady table.now }
-    requires room { LINE_ROOM ≤ line.old.room }
+    requires room { T.row_room table.now ≤ line.old.room }
     ensures text { Gathers result (O.taken sink.old) line.old.bytes (O.taken sink.new) line.new.bytes
         (O.faults sink.old) (O.faults sink.new) (texts_to (T.row_count table.now) (T.row_text table.now)) }
     ensures room { line.new.room ≡ line.old.room }
 {
+    let need = table.room();
     for i in 0..table.rows() {
-        make_room(line, sink, LINE_ROOM)?;
+        make_room(line, sink, need)?;
         table.put(i, line);
     }
     Ok(())
@@ -64,6 +72,7 @@ pub fn gather_table<O: Sink, T: Table>(
     requires ready { T.IsReady table.now }
     requires short { length head.now ≤ LINE_ROOM }
     requires room { LINE_ROOM ≤ line.old.room }
+    requires rows { T.row_room table.now ≤ line.old.room }
     ensures text { Gathers result (O.taken sink.old) line.old.bytes (O.taken sink.new) line.new.bytes
         (O.faults sink.old) (O.faults sink.new) (head.now ++ texts_to (T.row_count table.now) (T.row_text table.now)) }
     ensures room { line.new.room ≡ line.old.room }

@@ -9,7 +9,7 @@ const TEXT: &[u8] =
     b"LENGTH 9\nCOST 45\nEVENT S 0\nEVENT M 4\nEVENT T 9\nACT A 4\nACT B 5\nACT C 7\n";
 
 /// Room in the sink, room on the line, the pushes that fail, the answer, and how much of the text is written. A line
-/// with room for 256 bytes is pushed first when 17 bytes stand on it, and then with 10 more at a time.
+/// with room for 64 bytes is pushed first when 17 bytes stand on it, and then with 10 more at a time.
 #[test]
 fn schedule_is_written(rt: HostRuntime) -> Result<(), Fail> {
     let code = |field: &[u8]| Code::read(field).ok_or("no code");
@@ -17,15 +17,15 @@ fn schedule_is_written(rt: HostRuntime) -> Result<(), Fail> {
     let activities = [code(b"A")?, code(b"B")?, code(b"C")?];
     let cases: [(usize, usize, &[u64], Result<(), Failed>, usize); 6] = [
         (200, 1000, &[], Ok(()), 71),
-        (200, 256, &[], Ok(()), 71),
-        (200, 256, &[1], Err(Failed), 0),
-        (200, 256, &[2], Err(Failed), 17),
+        (200, 64, &[], Ok(()), 71),
+        (200, 64, &[1], Err(Failed), 0),
+        (200, 64, &[2], Err(Failed), 17),
         (200, 1000, &[2], Ok(()), 71),
         (5, 1000, &[], Err(Failed), 5),
     ];
     for (room, line_room, failing, answer, written) in cases {
         let mut line = Line::with_room(rt.alloc(), line_room)?;
-        assert!(rt; line.room_left() >= LINE_ROOM);
+        assert!(rt; line.room_left() >= SCHEDULE_ROOM);
         let mut sink = MemSink::new(rt.alloc(), room, 1000, failing)?;
         let result = write_schedule(
             &mut line,

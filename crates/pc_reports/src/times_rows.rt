@@ -20,14 +20,22 @@ pub(crate) struct EventRows<'a> {
 }
 
 impl<'a> Table for EventRows<'a> {
+    ghost use Rattle.pc_reports.specs.declared.lines.TheConstants.{LINE_ROOM};
+
     ghost row_count = { λ t. length t.project.now.events };
 
     ghost row_text = { λ t. event_row t.project.now t.times.now };
+
+    ghost row_room = { λ _. LINE_ROOM };
 
     ghost IsReady = { λ t. IsTimes t.project.now t.times.now };
 
     fn rows(&self) -> usize {
         self.project.event_codes().len()
+    }
+
+    fn room(&self) -> usize {
+        LINE_ROOM
     }
 
     fn put(&self, i: usize, line: &mut Line) {
@@ -50,14 +58,22 @@ pub(crate) struct ActivityRows<'a> {
 }
 
 impl<'a> Table for ActivityRows<'a> {
+    ghost use Rattle.pc_reports.specs.declared.lines.TheConstants.{LINE_ROOM};
+
     ghost row_count = { λ t. length t.project.now.activities };
 
     ghost row_text = { λ t. activity_row t.project.now t.times.now };
+
+    ghost row_room = { λ _. LINE_ROOM };
 
     ghost IsReady = { λ t. IsTimes t.project.now t.times.now };
 
     fn rows(&self) -> usize {
         self.project.activity_codes().len()
+    }
+
+    fn room(&self) -> usize {
+        LINE_ROOM
     }
 
     fn put(&self, i: usize, line: &mut Line) {
@@ -81,14 +97,22 @@ pub(crate) struct CriticalRows<'a> {
 }
 
 impl<'a> Table for CriticalRows<'a> {
+    ghost use Rattle.pc_reports.specs.declared.lines.TheConstants.{LINE_ROOM};
+
     ghost row_count = { λ t. length t.times.now.path };
 
     ghost row_text = { λ t. critical_row t.project.now t.times.now };
+
+    ghost row_room = { λ _. LINE_ROOM };
 
     ghost IsReady = { λ t. IsTimes t.project.now t.times.now };
 
     fn rows(&self) -> usize {
         self.times.path().len()
+    }
+
+    fn room(&self) -> usize {
+        LINE_ROOM
     }
 
     fn put(&self, i: usize, line: &mut Line) {
