@@ -1,38 +1,50 @@
-# make            builds the programs into bin/
-# make check      runs the gate (every proof, edit, test and program) and the acceptance cases
-# make install    copies the programs to $(PREFIX)/bin and their manual pages to $(PREFIX)/share/man
-# make clean      removes what was built
+# make              proves all crates and builds the programs into bin/ (some minutes the first time)
+# make check        runs the gate (every proof, edit, test and program) and the acceptance cases
+# make install      copies programs, manual pages, docs, examples and completion below $(PREFIX)
+# make uninstall    takes them away again
+# make clean        removes all that was built
 
 PREFIX ?= /usr/local
 PROGRAMS := pert
-SOURCES := crates.txt $(shell find crates -path '*/out' -prune -o \( -name '*.rt' -o -name '*.antt' \) -print)
+SECTION1 := pert.1
+DOCS := README.md docs/deck.md docs/reports.md docs/curve.md
+EXAMPLES := examples/shed.csv examples/house.csv
+
+VERSION := $(shell cat VERSION)
+SOURCES := crates.txt VERSION Makefile tools/prove \
+	$(shell find crates -path '*/out' -prune -o -type f \( -name '*.rt' -o -name '*.antt' \) -print)
+ROOT := $(DESTDIR)$(PREFIX)
+DOC := $(ROOT)/share/doc/pert
+COMPLETIONS := $(ROOT)/share/bash-completion/completions
 
 all: $(PROGRAMS:%=bin/%)
 
-# `rt run` proves a program and all that it stands on, and leaves it at crates/NAME/out/NAME, where `rt ci` leaves it
-# too. It also runs it once; with no words the program only prints its usage line, so its status says nothing here.
-define program
-crates/$(1)/out/$(1): $(SOURCES)
-	@echo "proving and building $(1): some minutes the first time"
-	@cd crates/$(1) && rt run </dev/null >/tmp/$(1)-build.log 2>&1 || true
-	@test -x $$@ && touch $$@ || { cat /tmp/$(1)-build.log; exit 1; }
-
-bin/$(1): crates/$(1)/out/$(1)
+# All programs are proved and built by one run; what an earlier run built is removed first, and bin/ is written last.
+$(PROGRAMS:%=bin/%): out/built
+out/built: $(SOURCES)
+	@rm -f out/built $(PROGRAMS:%=bin/%)
+	@tools/prove $(PROGRAMS)
 	@mkdir -p bin
-	cp $$< $$@
-endef
-$(foreach name,$(PROGRAMS),$(eval $(call program,$(name))))
+	@for program in $(PROGRAMS); do cp "crates/$$program/out/$$program" "bin/$$program" || exit 1; done
+	@touch $@
+	@echo "built $(PROGRAMS:%=bin/%)"
 
 check:
 	.ci/run
 
 install: all
-	install -d $(DESTDIR)$(PREFIX)/bin
-	install -m 755 $(PROGRAMS:%=bin/%) $(DESTDIR)$(PREFIX)/bin
-	install -d $(DESTDIR)$(PREFIX)/share/man/man1
-	install -m 644 $(PROGRAMS:%=docs/man/%.1) $(DESTDIR)$(PREFIX)/share/man/man1
+	install -d "$(ROOT)/bin" "$(ROOT)/share/man/man1" "$(DOC)/examples" "$(COMPLETIONS)"
+	install -m 755 $(PROGRAMS:%=bin/%) "$(ROOT)/bin"
+	for page in $(SECTION1); do sed 's/@VERSION@/$(VERSION)/' "docs/man/$$page" >"$(ROOT)/share/man/man1/$$page" || exit 1; done
+	install -m 644 $(DOCS) "$(DOC)"
+	install -m 644 $(EXAMPLES) "$(DOC)/examples"
+	install -m 644 tools/completion.bash "$(COMPLETIONS)/pert"
+
+uninstall:
+	rm -f $(PROGRAMS:%="$(ROOT)/bin/%") $(SECTION1:%="$(ROOT)/share/man/man1/%") "$(COMPLETIONS)/pert"
+	rm -rf "$(DOC)"
 
 clean:
-	rm -rf bin $(PROGRAMS:%=crates/%/out)
+	rm -rf bin out crates/*/out
 
-.PHONY: all check install clean
+.PHONY: all check install uninstall clean

@@ -1,1 +1,7 @@
+pub mod PieceLaws
+mod GroupLaws
+mod KneeListLaws
+mod LaidLaws
+mod NameLaws
 mod CostLaws
+mod InsideLaws

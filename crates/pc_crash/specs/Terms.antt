@@ -1,5 +1,5 @@
--- What a project's terms and durations keep to, so that costs fit a number.
-use Rattle.std.specs.Prelude.{◌≡◌, ℕ, ◌<◌, ◌≤◌, List, length, slice_index}
+-- What a project's terms keep to, so that costs fit a number.
+use Rattle.std.specs.Prelude.{ℕ, ◌<◌, ◌≤◌, List, length}
 use Rattle.pc_model.specs.declared.Term.{Term}
 use Rattle.pc_model.specs.Schedule.{normal_of, base_cost_of, slope_of}
 use Rattle.pc_model.specs.declared.limits.TheConstants.{MAX_ACTIVITIES, MAX_DURATION, MAX_COST, MAX_SLOPE}
@@ -10,8 +10,3 @@ pub record AreWithinLimits (terms : List Term) : Type 0 where
   pub short : (a : ℕ) → a < length terms → normal_of terms a ≤ MAX_DURATION
   pub cheap : (a : ℕ) → a < length terms → base_cost_of terms a ≤ MAX_COST
   pub gentle : (a : ℕ) → a < length terms → slope_of terms a ≤ MAX_SLOPE
-
--- one duration for each activity, none above its normal one
-pub record AreAtMostNormal (terms : List Term) (durations : List ℕ) : Type 0 where
-  pub one_each : length durations ≡ length terms
-  pub within : (a : ℕ) → a < length terms → slice_index durations a ≤ normal_of terms a

@@ -1,7 +1,22 @@
-//! What shortening activities costs: the cost of given durations, and of the normal ones.
+//! Activities that can be shortened at a price: what durations cost, which are a schedule, and the knees where the price
+//! of a unit rises.
 #![tactic(auto)]
 
-mod cost;
+mod costing;
+mod counting;
+mod crash_net;
+mod grouping;
+mod knee_list;
+mod laying;
+mod looking;
+mod naming;
+mod scheduling;
+mod viewing;
 
-pub use cost::{cost_of, normal_cost};
-pub use pc_model::{MAX_ACTIVITIES, MAX_COST, MAX_DURATION, MAX_SLOPE, Term};
+pub use costing::{MAX_ACTIVITY_COST, MAX_PROJECT_COST, normal_cost};
+pub use counting::Steps;
+pub use crash_net::CrashNet;
+pub use knee_list::KneeList;
+pub use looking::Look;
+pub use pc_model::{Knee, PieceRow, Term};
+pub use viewing::SegmentView;

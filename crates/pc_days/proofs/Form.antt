@@ -216,7 +216,7 @@ epoch_day-casts date y m d hy hm hd h =
     let same_day : date.day ≡ d = cc in
     rw (year, same_month, same_day) refl
 
-day_count-1900 : day_count (pos 1900) 1 1 ≡ 4_346_386
+pub day_count-1900 : day_count (pos 1900) 1 1 ≡ 4_346_386
 day_count-1900 = day_count-early (pos 1900) 11899 1 1 refl (omega arith) (omega arith) (omega arith)
 
 day_count-from_1900 : (y m d : ℕ) → IsCivilDate (pos y) m d → 1900 ≤ y → 4_346_386 ≤ day_count (pos y) m d

@@ -1,6 +1,7 @@
 //! A day of the calendar as a number, read from a date and written as one.
 ghost use Rattle.std.specs.Prelude.{◌≡◌, ◌↔◌, ◌-ℤ◌, ◌<ℤ◌, ◌+◌, ◌<◌, ◌/◌, ◌%◌, ◌^◌, ℕ, ℤ, pos, neg_ℤ, List, length, true, Ok, Err, IfSome, IsNone};
 ghost use Rattle.jiff_core.specs.Calendar.{IsWithin};
+ghost use Rattle.pc_days.specs.Calendar.{text_of_day};
 ghost use Rattle.pc_days.specs.Dates.{day_of, has_form, are_digits, number_at, year_of, is_digit, is_deck_year, NamesDate, NamesDay, NamesDeckDay, NamesOtherYear, date_text, IsPrintedDay, IsRoundedUp, IsAfterSixths};
 
 use crate::error::DayError;
@@ -119,6 +120,7 @@ fn year_of(field: &[u8]) -> u16
 /// The date of the day, as `YYYY-MM-DD`.
 pub fn day_text(day: Day) -> [u8; LENGTH]
     ensures named { NamesDay result day }
+    ensures text { result ≡ text_of_day day }
 
     // A day that was read is written as it was read.
     ensures back { (text : List ℕ) → day_of text ≡ Ok day → result ≡ text }

@@ -1,10 +1,13 @@
 pub mod Utf8Lemmas
 pub mod NameLemmas
+pub mod FindLemmas
 pub mod JudgeLemmas
 pub mod WithinLemmas
 pub mod ReadLemmas
 pub mod CardFaultLemmas
+pub mod SoFarLemmas
 pub mod SeenLemmas
 pub mod RefusalLemmas
 pub mod ToldLemmas
 pub mod SaysLemmas
+pub mod DeckLaws

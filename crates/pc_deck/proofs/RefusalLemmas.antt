@@ -1,22 +1,24 @@
 -- Reading stops at the first fault of a deck, and a deck that is read to its end has none.
 use Rattle.std.proofs.Common.{◌≡◌, ℕ, ◌+◌, ◌≤◌, Bool, true, false, List, [], ◌∷◌, ◌++◌, length, Option, Some, None, is_none, if◌then◌else◌, Result, Ok, Err, inl, inr, ◌⊎◌, refl, sym, ap, ◌∙◌, subst, arith}
-use Rattle.std.specs.Prelude.{IfOk, IfErr, OnOk}
+use Rattle.std.specs.Prelude.{IfErr}
 use Rattle.std.specs.Str.{is_utf8}
 use Rattle.pc_records.specs.Deck.{deck_records}
 use Rattle.pc_deck.specs.Cards.{Numbered, is_card, cards_from, deck_cards}
 use Rattle.pc_deck.specs.Deck.{Deck}
 use Rattle.pc_deck.specs.Judged.{Seen, judge}
-use Rattle.pc_deck.specs.Reading.{no_cards, with_card, seen_in, deck_with, no_end, closed, closed_with, and_then, read_from, cards_of, deck_read, deck_of}
-use Rattle.pc_deck.specs.Refusal.{of_kind, are_none, seen_among, HasCardFault, HasFaultFrom, HasFaultWhere, HasFault, IsFirst, IsCardRefusal, Refuses}
-use Rattle.pc_deck.specs.declared.cards.ProjectCard.{ProjectCard}
-use Rattle.pc_deck.specs.declared.kind.Kind.{Kind}
-use Rattle.pc_deck.specs.declared.kind.Kind.TheVariants.{End}
-use Rattle.pc_deck.specs.declared.fault.Fault.{Fault as ADeckFault}
-use Rattle.pc_deck.specs.declared.fault.DeckError.{DeckError}
-use Rattle.pc_deck.specs.declared.fault.DeckError.TheVariants.{Fault, OutOfMemory}
+use Rattle.pc_faults.specs.Faults as faults
+use Rattle.pc_faults.specs.First.{IsFirst, Refuses}
+use Rattle.pc_deck.specs.Reading.{no_cards, with_card, seen_in, deck_with, closed, closed_with, and_then, read_from, cards_of}
+use Rattle.pc_deck.specs.Refusal.{are_none, seen_among, HasCardFault, HasFaultFrom, HasFaultWhere, HasFault, IsCardRefusal}
+use Rattle.pc_deck.specs.declared.kinds.project.ProjectCard.{ProjectCard}
+use Rattle.pc_faults.specs.declared.kind.Kind.{Kind}
+use Rattle.pc_faults.specs.declared.fault.Fault.{Fault as ADeckFault}
+use Rattle.pc_faults.specs.declared.fault.DeckError.{DeckError}
+use Rattle.pc_faults.specs.declared.fault.DeckError.TheVariants.{Fault, OutOfMemory}
 use Rattle.pc_deck.specs.declared.draft.Draft.{Draft}
 use Rattle.pc_deck.proofs.CardFaultLemmas.{row_of-card, not_faultless, least_of-card, found_of-card}
-use Rattle.pc_deck.proofs.SeenLemmas.{seen-none, seen-more}
+use Rattle.pc_deck.proofs.SoFarLemmas.{IsSoFar, so_far-none, so_far-more}
+use Rattle.pc_deck.proofs.SeenLemmas.{seen}
 
 -- a deck is read where it has no fault, and otherwise its first fault is answered
 abbrev IsVerdict : Result Deck ADeckFault → (ADeckFault → Type 0) → Type 0
@@ -70,31 +72,38 @@ only_one Has found holds same = record {
 }
 
 -- at the end of the cards
-at_end : (draft : Draft) (before : List Numbered) (end : ℕ) → seen_among before ≡ seen_in draft → IsVerdict (closed draft end) (HasFaultFrom before end [])
-at_end draft before end same = by_project draft.project refl
+at_end : (draft : Draft) (before : List Numbered) (end : ℕ) → IsSoFar before draft → IsVerdict (closed draft end) (HasFaultFrom before end [])
+at_end draft before end says = by_project draft.project refl
   where
-    missing : (seen_among before).count End ≡ 0 → IsFirst (HasFaultFrom before end []) (no_end end)
-    missing none = only_one (HasFaultFrom before end []) (no_end end) (none, refl) (λ fault has. has.1)
+    same : seen_among before ≡ seen_in draft
+    same = seen before draft says
 
-    by_end : (project : ProjectCard) (ended : Bool) → draft.has_ended ≡ ended → IsVerdict (if ended then Ok (deck_with draft project) else Err (no_end end)) (HasFaultFrom before end [])
+    missing : (seen_among before).has_ended ≡ false → IsFirst (HasFaultFrom before end []) (faults.no_end end)
+    missing none = only_one (HasFaultFrom before end []) (faults.no_end end) (none, refl) (λ fault has. has.1)
+
+    by_end : (project : ProjectCard) (ended : Bool) → draft.has_ended ≡ ended → IsVerdict (if ended then Ok (deck_with draft project) else Err (faults.no_end end)) (HasFaultFrom before end [])
     by_end project true is = λ fault has.
-        let one : (seen_among before).count End ≡ 1 = ap (λ (s : Seen). s.count End) same ∙ ap (λ (b : Bool). if b then 1 else 0) is in
-        omega (arith, has.0, one)
-    by_end project false is = missing (ap (λ (s : Seen). s.count End) same ∙ ap (λ (b : Bool). if b then 1 else 0) is)
+        let yes : (seen_among before).has_ended ≡ true = ap (λ (s : Seen). s.has_ended) same ∙ is in
+        let no = has.0 in
+        absurd (let apart : true ≡ false = sym yes ∙ no in cc)
+    by_end project false is = missing (ap (λ (s : Seen). s.has_ended) same ∙ is)
 
     by_project : (project : Option ProjectCard) → draft.project ≡ project → IsVerdict (closed_with draft end project) (HasFaultFrom before end [])
     by_project None is =
         let nothing = no_cards_before before (ap (λ (s : Seen). s.is_first) same ∙ ap is_none is) in
-        missing (ap (λ (cards : List Numbered). length (of_kind End cards)) nothing)
+        missing (ap (λ (cards : List Numbered). (seen_among cards).has_ended) nothing)
     by_project (Some project) is = by_end project draft.has_ended refl
 
 -- the reading of cards is a verdict on their faults
-verdict : (cards : List Numbered) (draft : Draft) (before : List Numbered) (n end : ℕ) → seen_among before ≡ seen_in draft → Rises n end cards → IsVerdict (read_from draft end cards) (HasFaultFrom before end cards)
-verdict [] draft before n end same rising = at_end draft before end same
-verdict (card ∷ cards) draft before n end same rising =
+verdict : (cards : List Numbered) (draft : Draft) (before : List Numbered) (n end : ℕ) → IsSoFar before draft → Rises n end cards → IsVerdict (read_from draft end cards) (HasFaultFrom before end cards)
+verdict [] draft before n end says rising = at_end draft before end says
+verdict (card ∷ cards) draft before n end says rising =
     by_judgement (judge (seen_in draft) card.0 card.1) refl
-    (λ kind judged. verdict cards (with_card draft kind card.0 card.1) (before ++ card ∷ []) (card.0 + 1) end (seen-more before draft kind card.0 card.1 same judged) rising.1)
+    (λ kind judged. verdict cards (with_card draft kind card.0 card.1) (before ++ card ∷ []) (card.0 + 1) end (so_far-more before draft kind card says judged) rising.1)
   where
+    same : seen_among before ≡ seen_in draft
+    same = seen before draft says
+
     by_judgement : (judged : Result Kind ADeckFault) → judge (seen_in draft) card.0 card.1 ≡ judged
         → ((kind : Kind) → judge (seen_in draft) card.0 card.1 ≡ Ok kind → IsVerdict (read_from (with_card draft kind card.0 card.1) end cards) (HasFaultFrom (before ++ card ∷ []) end cards))
         → IsVerdict (and_then judged (λ kind. read_from (with_card draft kind card.0 card.1) end cards)) (HasFaultFrom before end (card ∷ cards))
@@ -116,7 +125,7 @@ verdict (card ∷ cards) draft before n end same rising =
 -- the reading of a deck's cards is a verdict on their faults
 pub cards_of-verdict : (bytes : List ℕ) → IsVerdict (cards_of bytes) (HasFaultFrom [] (length (deck_records bytes) + 1) (deck_cards bytes))
 cards_of-verdict bytes =
-    verdict (deck_cards bytes) no_cards [] 1 (length (deck_records bytes) + 1) seen-none (rises 1 (length (deck_records bytes) + 1) (deck_records bytes) (omega arith))
+    verdict (deck_cards bytes) no_cards [] 1 (length (deck_records bytes) + 1) so_far-none (rises 1 (length (deck_records bytes) + 1) (deck_records bytes) (omega arith))
 
 -- where cards are answered, the deck has no fault
 pub none_of-read : (bytes : List ℕ) (deck : Deck) → is_utf8 bytes ≡ true → cards_of bytes ≡ Ok deck → (fault : ADeckFault) → HasFault bytes fault → ⊥
@@ -135,19 +144,3 @@ pub refused_first : {A : Type 0} (result : Result A DeckError) (bytes : List ℕ
 refused_first (Ok answer) bytes utf8 h = tt
 refused_first (Err (Fault fault)) bytes utf8 h = first_of-read bytes fault utf8 h
 refused_first (Err OutOfMemory) bytes utf8 h = tt
-
-pub accepted_none : (result : Result Deck DeckError) (bytes : List ℕ) → is_utf8 bytes ≡ true → IfOk result (λ deck. cards_of bytes ≡ Ok deck) → OnOk result ((fault : ADeckFault) → HasFault bytes fault → ⊥)
-accepted_none (Ok deck) bytes utf8 h = none_of-read bytes deck utf8 h
-accepted_none (Err error) bytes utf8 h = tt
-
-deck_read-Ok : (read : Result Deck ADeckFault) (deck : Deck) → deck_read read ≡ Some deck → read ≡ Ok deck
-deck_read-Ok (Ok other) deck h = let same : other ≡ deck = cc in ap Ok same
-deck_read-Ok (Err fault) deck h = absurd (let h' = h in cc)
-
--- a deck that is read is not refused
-pub not_both : (bytes : List ℕ) (deck : Deck) (fault : ADeckFault) → deck_of bytes ≡ Some deck → IsCardRefusal bytes fault → ⊥
-not_both bytes deck fault read refused = by_utf8 (is_utf8 bytes) refl read
-  where
-    by_utf8 : (utf8 : Bool) → is_utf8 bytes ≡ utf8 → (if utf8 then deck_read (cards_of bytes) else None) ≡ Some deck → ⊥
-    by_utf8 true is h = none_of-read bytes deck is (deck_read-Ok (cards_of bytes) deck h) fault refused.holds
-    by_utf8 false is h = let h' = h in cc

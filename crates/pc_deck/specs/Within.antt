@@ -1,58 +1,50 @@
 -- What holds of every deck that was read.
-use Rattle.std.specs.Prelude.{ℕ, ◌≤◌, List, length, map, All}
+use Rattle.std.specs.Prelude.{ℕ, ◌≤◌, ◌==◌, List, length, map, All, if◌then◌else◌}
 use Rattle.std.specs.Option.{ForSome}
-use Rattle.pc_deck.specs.Deck.{Deck, item_codes, event_codes, act_codes, account_codes, IsNamedOnce}
-use Rattle.pc_deck.specs.declared.cards.ProjectCard.{ProjectCard}
-use Rattle.pc_deck.specs.declared.cards.ItemCard.{ItemCard}
-use Rattle.pc_deck.specs.declared.cards.EventCard.{EventCard}
-use Rattle.pc_deck.specs.declared.cards.ActCard.{ActCard}
-use Rattle.pc_deck.specs.declared.cards.AcctCard.{AcctCard}
-use Rattle.pc_deck.specs.declared.cards.MoneyCard.{MoneyCard}
-use Rattle.pc_deck.specs.declared.cards.TheConstants.{ACCOUNT_LIMIT, ACT_LIMIT, CHARGE_LIMIT, EVENT_LIMIT, ITEM_LIMIT, STATUS_LIMIT, TOGO_LIMIT}
+use Rattle.pc_model.specs.declared.limits.TheConstants.{MAX_ACCOUNTS, MAX_ACTIVITIES, MAX_CHARGES, MAX_EVENTS, MAX_ITEMS, MAX_LOADS, MAX_PIECES, MAX_RESOURCES, MAX_STATUSES, MAX_TOGOS}
+use Rattle.pc_deck.specs.Kinds.{by_version}
+use Rattle.pc_deck.specs.Deck.{Deck, item_codes, event_codes, act_codes, account_codes, resource_codes, IsNamedOnce}
+use Rattle.pc_deck.specs.Project.{IsProjectWithin}
+use Rattle.pc_deck.specs.Terms.{AreTermsWithin}
+use Rattle.pc_deck.specs.Act.{IsActWithin}
+use Rattle.pc_deck.specs.Piece.{IsPieceWithin}
+use Rattle.pc_deck.specs.Acct.{IsBudgetWithin}
+use Rattle.pc_deck.specs.Money.{IsAmountWithin}
+use Rattle.pc_deck.specs.Load.{IsLoadWithin}
+use Rattle.pc_deck.specs.Reading.{version_of}
+use Rattle.pc_deck.specs.declared.kinds.wbs.ItemCard.{ItemCard}
+use Rattle.pc_deck.specs.declared.kinds.event.EventCard.{EventCard}
+use Rattle.pc_deck.specs.declared.kinds.act.ActCard.{ActCard}
+use Rattle.pc_deck.specs.declared.kinds.acct.AcctCard.{AcctCard}
+use Rattle.pc_deck.specs.declared.kinds.res.ResCard.{ResCard}
 use Rattle.pc_deck.specs.declared.draft.Draft.{Draft}
 
--- the numbers of an activity are within their limits
-pub record IsActWithin (act : ActCard) : Type 0 where
-  pub opt : act.opt ≤ 100000
-  pub likely : act.likely ≤ 100000
-  pub pess : act.pess ≤ 100000
-  pub normal : act.normal ≤ 100000
-  pub crash : act.crash ≤ 100000
-  pub cost : act.cost ≤ 1000000000000
-  pub slope : act.slope ≤ 100000000
-
--- the numbers of the project are within their limits
-pub record IsProjectWithin (project : ProjectCard) : Type 0 where
-  pub unit_some : 1 ≤ project.unit_days
-  pub unit_within : project.unit_days ≤ 7
-  pub directed_within : ForSome project.directed (λ days. days ≤ 1000000)
-
--- the budget of an account is within the limit of money
-abbrev pub IsBudgetWithin : AcctCard → Type 0
-IsBudgetWithin account = account.budget ≤ 1000000000000
-
--- the amount of a CHARGE or TOGO card is within the limit of money
-abbrev pub IsAmountWithin : MoneyCard → Type 0
-IsAmountWithin card = card.amount ≤ 1000000000000
-
--- no two items, events, activities or accounts have one code, and the lists and the numbers are within their limits
+-- no two items, events, activities, accounts or resources have one code, and the lists and the numbers are within
+-- their limits
 pub record IsWithinLimits (deck : Deck) : Type 0 where
-  pub few_items : length deck.items ≤ ITEM_LIMIT
-  pub few_events : length deck.events ≤ EVENT_LIMIT
-  pub few_acts : length deck.acts ≤ ACT_LIMIT
-  pub few_accounts : length deck.accounts ≤ ACCOUNT_LIMIT
-  pub few_charges : length deck.charges ≤ CHARGE_LIMIT
-  pub few_togos : length deck.togos ≤ TOGO_LIMIT
-  pub few_statuses : length deck.statuses ≤ STATUS_LIMIT
+  pub few_items : length deck.items ≤ MAX_ITEMS
+  pub few_events : length deck.events ≤ MAX_EVENTS
+  pub few_acts : length deck.acts ≤ MAX_ACTIVITIES
+  pub few_pieces : length deck.pieces ≤ MAX_PIECES
+  pub few_accounts : length deck.accounts ≤ MAX_ACCOUNTS
+  pub few_charges : length deck.charges ≤ MAX_CHARGES
+  pub few_togos : length deck.togos ≤ MAX_TOGOS
+  pub few_statuses : length deck.statuses ≤ MAX_STATUSES
+  pub few_resources : length deck.resources ≤ MAX_RESOURCES
+  pub few_loads : length deck.loads ≤ MAX_LOADS
   pub items_differ : IsNamedOnce (item_codes deck)
   pub events_differ : IsNamedOnce (event_codes deck)
   pub acts_differ : IsNamedOnce (act_codes deck)
   pub accounts_differ : IsNamedOnce (account_codes deck)
+  pub resources_differ : IsNamedOnce (resource_codes deck)
+  pub project_within : IsProjectWithin deck.project
+  pub terms_within : ForSome deck.terms AreTermsWithin
   pub acts_within : All IsActWithin deck.acts
+  pub pieces_within : All IsPieceWithin deck.pieces
   pub accounts_within : All IsBudgetWithin deck.accounts
   pub charges_within : All IsAmountWithin deck.charges
   pub togos_within : All IsAmountWithin deck.togos
-  pub project_within : IsProjectWithin deck.project
+  pub loads_within : All IsLoadWithin deck.loads
 
 -- a list of cards is no longer than its limit, and its numbers are within theirs
 pub record IsListWithin {C : Type 0} (limit : ℕ) (P : C → Type 0) (cards : List C) : Type 0 where
@@ -68,13 +60,17 @@ pub record IsNamedWithin {C : Type 0} (code_of : C → List ℕ) (limit : ℕ) (
 abbrev pub IsAny : {C : Type 0} → C → Type 0
 IsAny card = Unit {0}
 
--- the same of the cards so far
+-- the same of the cards so far, by the version of the deck
 pub record IsDraftWithin (draft : Draft) : Type 0 where
   pub project : ForSome draft.project IsProjectWithin
-  pub items : IsNamedWithin (λ (item : ItemCard). item.code) ITEM_LIMIT IsAny draft.items
-  pub events : IsNamedWithin (λ (event : EventCard). event.code) EVENT_LIMIT IsAny draft.events
-  pub acts : IsNamedWithin (λ (act : ActCard). act.code) ACT_LIMIT IsActWithin draft.acts
-  pub accounts : IsNamedWithin (λ (account : AcctCard). account.code) ACCOUNT_LIMIT IsBudgetWithin draft.accounts
-  pub charges : IsListWithin CHARGE_LIMIT IsAmountWithin draft.charges
-  pub togos : IsListWithin TOGO_LIMIT IsAmountWithin draft.togos
-  pub statuses : IsListWithin STATUS_LIMIT IsAny draft.statuses
+  pub terms : ForSome draft.terms AreTermsWithin
+  pub items : IsNamedWithin (λ (item : ItemCard). item.code) MAX_ITEMS IsAny draft.items
+  pub events : IsNamedWithin (λ (event : EventCard). event.code) (by_version (version_of draft.project) 5000 MAX_EVENTS) IsAny draft.events
+  pub acts : IsNamedWithin (λ (act : ActCard). act.code) (by_version (version_of draft.project) 10000 MAX_ACTIVITIES) IsActWithin draft.acts
+  pub pieces : IsListWithin (by_version (version_of draft.project) 40000 MAX_PIECES) IsPieceWithin draft.pieces
+  pub accounts : IsNamedWithin (λ (account : AcctCard). account.code) MAX_ACCOUNTS IsBudgetWithin draft.accounts
+  pub charges : IsListWithin (by_version (version_of draft.project) 200000 MAX_CHARGES) IsAmountWithin draft.charges
+  pub togos : IsListWithin MAX_TOGOS IsAmountWithin draft.togos
+  pub statuses : IsListWithin (by_version (version_of draft.project) 20000 MAX_STATUSES) IsAny draft.statuses
+  pub resources : IsNamedWithin (λ (resource : ResCard). resource.code) MAX_RESOURCES IsAny draft.resources
+  pub loads : IsListWithin MAX_LOADS IsLoadWithin draft.loads

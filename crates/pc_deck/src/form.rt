@@ -1,28 +1,26 @@
-//! What the fields of a card must be: the table of the kinds' fields, and the tests of one field.
-ghost use Rattle.std.specs.Prelude.{◌≡◌};
-ghost use Rattle.pc_deck.specs.Forms.{has_shape, is_over_limit, slots_of};
+//! What one field of a card must be, and what is wrong with fields that are not.
+ghost use Rattle.std.specs.Prelude.{◌≡◌, option_copied};
+ghost use Rattle.pc_deck.specs.Forms.{field_numbered, first_misshapen, first_over_limit, has_shape, is_over_limit};
 
-use crate::kind::Kind;
 use pc_days::{DayError, read_day};
+use pc_model::{MAX_COST, MAX_DURATION};
+use pc_records::Row;
 use pc_text::{is_code, is_title_shape, read_number};
 
 /// The most bytes of a title.
 const TITLE_LIMIT: usize = 80;
 
-/// The most days that a unit has.
-const UNIT_DAYS_LIMIT: u64 = 7;
+/// An estimate or a duration, in units.
+pub const DURATION: Form = Form::Number {
+    least: 0,
+    most: MAX_DURATION,
+};
 
-/// The most units of an estimate and of a duration.
-const DURATION_LIMIT: u64 = 100_000;
-
-/// The greatest amount of money.
-const MONEY_LIMIT: u64 = 1_000_000_000_000;
-
-/// The most that shortening an activity by a unit costs.
-const SLOPE_LIMIT: u64 = 100_000_000;
-
-/// The most days of a directed end.
-const DIRECTED_LIMIT: u64 = 1_000_000;
+/// An amount of money.
+pub const MONEY: Form = Form::Number {
+    least: 0,
+    most: MAX_COST,
+};
 
 /// What a field must be.
 #[derive(Clone, Copy)]
@@ -33,97 +31,14 @@ pub enum Form {
     Date,
     /// A number from `least` to `most`.
     Number { least: u64, most: u64 },
-    /// A number of at most `most`, or nothing.
-    NumberOrNone { most: u64 },
+    /// A number from `least` to `most`, or nothing.
+    NumberOrNone { least: u64, most: u64 },
     /// `S` or `F`.
     Letter,
 }
 
 /// The number of a field, the kind being field 1, and what the field must be.
 pub type Slot = (u8, Form);
-
-const UNIT_DAYS: Form = Form::Number {
-    least: 1,
-    most: UNIT_DAYS_LIMIT,
-};
-
-const DURATION: Form = Form::Number {
-    least: 0,
-    most: DURATION_LIMIT,
-};
-
-const MONEY: Form = Form::Number {
-    least: 0,
-    most: MONEY_LIMIT,
-};
-
-const SLOPE: Form = Form::Number {
-    least: 0,
-    most: SLOPE_LIMIT,
-};
-
-const DIRECTED: Form = Form::NumberOrNone {
-    most: DIRECTED_LIMIT,
-};
-
-const PROJECT: [Slot; 7] = [
-    (2, Form::Code),
-    (3, Form::Code),
-    (4, Form::Code),
-    (5, Form::Date),
-    (6, UNIT_DAYS),
-    (7, DIRECTED),
-    (8, Form::Title),
-];
-
-const AS_OF: [Slot; 1] = [(2, Form::Date)];
-
-const WBS: [Slot; 3] = [(2, Form::Code), (3, Form::CodeOrNone), (4, Form::Title)];
-
-const EVENT: [Slot; 2] = [(2, Form::Code), (3, Form::Title)];
-
-const ACT: [Slot; 12] = [
-    (2, Form::Code),
-    (3, Form::Code),
-    (4, Form::Code),
-    (5, Form::Code),
-    (6, DURATION),
-    (7, DURATION),
-    (8, DURATION),
-    (9, DURATION),
-    (10, DURATION),
-    (11, MONEY),
-    (12, SLOPE),
-    (13, Form::Title),
-];
-
-const ACCT: [Slot; 4] = [
-    (2, Form::Code),
-    (3, Form::Code),
-    (4, MONEY),
-    (5, Form::Title),
-];
-
-const AMOUNT: [Slot; 3] = [(2, Form::Code), (3, Form::Date), (4, MONEY)];
-
-const STATUS: [Slot; 3] = [(2, Form::Code), (3, Form::Letter), (4, Form::Date)];
-
-/// What the fields of a kind's cards must be, in their order.
-pub fn slots_of(kind: Kind) -> &'static [Slot]
-    ensures { result.now ≡ slots_of kind }
-{
-    match kind {
-        Kind::Project => &PROJECT,
-        Kind::AsOf => &AS_OF,
-        Kind::Wbs => &WBS,
-        Kind::Event => &EVENT,
-        Kind::Act => &ACT,
-        Kind::Acct => &ACCT,
-        Kind::Charge | Kind::ToGo => &AMOUNT,
-        Kind::Status => &STATUS,
-        Kind::End => &[],
-    }
-}
 
 impl Form {
     /// Whether the field has the shape of what it must be.
@@ -149,12 +64,32 @@ impl Form {
             Form::Code | Form::CodeOrNone | Form::Letter => false,
             Form::Title => field.len() > TITLE_LIMIT,
             Form::Date => read_day(field) == Err(DayError::Years),
-            Form::Number { least, most } => {
+            Form::Number { least, most } | Form::NumberOrNone { least, most } => {
                 read_number(field).is_some_and(|number| number < least || most < number)
-            }
-            Form::NumberOrNone { most } => {
-                read_number(field).is_some_and(|number| most < number)
             }
         }
     }
+}
+
+/// The field with a number, counted from 1.
+fn field_numbered<'a>(fields: &'a Row, number: u8) -> &'a [u8]
+    ensures { result.now ≡ field_numbered fields.now number }
+{
+    fields.field(usize::from(number).saturating_sub(1))
+}
+
+/// The first field that has not the shape of what it must be.
+pub fn first_misshapen<'s>(slots: &'s [Slot], fields: &Row) -> Option<&'s Slot>
+    ensures { option_copied result ≡ first_misshapen slots.now fields.now }
+{
+    slots
+        .iter()
+        .find(|slot| !slot.1.has_shape(field_numbered(fields, slot.0)))
+}
+
+/// The first field that is over its limit.
+pub fn first_over_limit<'s>(slots: &'s [Slot], fields: &Row) -> Option<&'s Slot>
+    ensures { option_copied result ≡ first_over_limit slots.now fields.now }
+{
+    slots.iter().find(|slot| slot.1.is_over_limit(field_numbered(fields, slot.0)))
 }

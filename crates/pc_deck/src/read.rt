@@ -1,18 +1,20 @@
 //! Reading the cards of a deck, or its first fault.
-ghost use Rattle.std.specs.Prelude.{◌≡◌, ◌≤◌, length, Some, Ok, Err, IfOk, IfErr, OnOk};
+ghost use Rattle.std.specs.Prelude.{◌≡◌, ◌≤◌, ◌+◌, length, Ok, Err, IfOk, IfErr, OnOk};
 ghost use Rattle.std.specs.Str.{is_utf8};
-ghost use Rattle.pc_deck.specs.Reading.{cards_of, deck_of};
+ghost use Rattle.pc_records.specs.Deck.{deck_records};
+ghost use Rattle.pc_faults.specs.First.{Refuses};
+ghost use Rattle.pc_deck.specs.Limits.{longest_deck};
+ghost use Rattle.pc_deck.specs.Reading.{cards_of, closed, read_from};
 ghost use Rattle.pc_deck.specs.Cards.{deck_cards};
-ghost use Rattle.pc_deck.specs.Says.{Says};
-ghost use Rattle.pc_deck.specs.Refusal.{HasFault, IsCardRefusal, Refuses};
-ghost use Rattle.pc_deck.specs.declared.fault.Fault.{Fault};
+ghost use Rattle.pc_deck.specs.Read.{IsDeckOf};
+ghost use Rattle.pc_deck.specs.Refusal.{IsCardRefusal};
+ghost use Rattle.pc_deck.specs.Within.{IsDraftWithin};
 
 use crate::cards::Cards;
 use crate::draft::Draft;
-use crate::fault::{DeckError, NOT_UTF8};
-use crate::judge::judge;
 use crate::limits::DECK_LIMIT;
 use crate::rows::{CardRows, Next};
+use pc_faults::{DeckError, NOT_UTF8};
 use pc_records::Row;
 use std::alloc::Global;
 use std::str;
@@ -23,11 +25,9 @@ use std::str;
 ///
 /// One pass reads the deck, up to the first fault.
 pub fn read_cards(alloc: Global, bytes: &[u8]) -> Result<Cards, DeckError>
-    requires { length bytes.now ≤ DECK_LIMIT }
-    ensures cards { IfOk result (λ cards. deck_of bytes.now ≡ Some cards) }
-    ensures says { IfOk result (λ cards. Says (deck_cards bytes.now) cards) }
+    requires { length bytes.now ≤ longest_deck }
+    ensures accepted { IfOk result (IsDeckOf bytes.now) }
     ensures first { IfErr result (Refuses (IsCardRefusal bytes.now)) }
-    ensures accepted { OnOk result ((fault : Fault) → HasFault bytes.now fault → ⊥) }
 {
     if !is_utf8(bytes) {
         return Err(DeckError::Fault(NOT_UTF8));
@@ -41,28 +41,40 @@ fn is_utf8(bytes: &[u8]) -> bool
     str::from_utf8(bytes).is_ok()
 }
 
-/// Reads the cards one by one, up to the first fault.
+/// The cards of a deck that is UTF-8, or its first fault.
 fn cards_of(alloc: Global, bytes: &[u8]) -> Result<Cards, DeckError>
     requires { length bytes.now ≤ DECK_LIMIT }
     ensures cards { IfOk result (λ cards. cards_of bytes.now ≡ Ok cards) }
     ensures fault { IfErr result (Refuses (λ fault. cards_of bytes.now ≡ Err fault)) }
 {
+    let mut draft = Draft::new(alloc);
+    let end = match take_all(alloc, bytes, &mut draft) {
+        Ok(end) => end,
+        Err(e) => return Err(e),
+    };
+    match draft.close(end) {
+        Ok(cards) => Ok(cards),
+        Err(fault) => Err(DeckError::Fault(fault)),
+    }
+}
+
+/// Takes the cards of a deck one by one, up to the first fault, and gives the number behind the last record.
+fn take_all(alloc: Global, bytes: &[u8], draft: &mut Draft) -> Result<u32, DeckError>
+    requires short { length bytes.now ≤ DECK_LIMIT }
+    requires within { IsDraftWithin draft.old }
+    ensures cards { IfOk result (λ end. closed draft.new end ≡ read_from draft.old (length (deck_records bytes.now) + 1) (deck_cards bytes.now)) }
+    ensures within { OnOk result (IsDraftWithin draft.new) }
+    ensures fault { IfErr result (Refuses (λ fault. read_from draft.old (length (deck_records bytes.now) + 1) (deck_cards bytes.now) ≡ Err fault)) }
+{
     let mut rows = CardRows::new(alloc, bytes);
     let mut fields = Row::new(alloc);
-    let mut draft = Draft::new(alloc);
     'cards: loop {
         let row = match rows.next(&mut fields)? {
             Next::Card(row) => row,
-            Next::End(end) => {
-                return match draft.close(end) {
-                    Ok(cards) => Ok(cards),
-                    Err(fault) => Err(DeckError::Fault(fault)),
-                };
-            }
+            Next::End(end) => return Ok(end),
         };
-        match judge(&draft, row, &fields) {
-            Ok(kind) => draft.add(kind, row, &fields)?,
-            Err(fault) => return Err(DeckError::Fault(fault)),
+        if let Err(e) = draft.take(row, &fields) {
+            return Err(e);
         }
     }
 }

@@ -1,17 +1,16 @@
 -- What several writes to one sink leave, one after the other.
 --
 -- `Wrote` is where a writer stands after the calls so far; `?` leaves `Stopped`; both together are `Writes`.
-use Rattle.std.proofs.Common.{◌≡◌, ℕ, ◌+◌, ◌<◌, ◌≤◌, ◌⊎◌, inl, inr, zero, suc, List, [], ◌∷◌, ◌++◌, length, take, drop, Option, Result, Ok, Err, IsErr, refl, sym, ap, ◌∙◌, subst, arith, append_assoc, append-nil, add-one, get_or}
+use Rattle.std.proofs.Common.{◌≡◌, ℕ, ◌+◌, ◌<◌, ◌≤◌, ◌⊎◌, inl, inr, zero, suc, List, [], ◌∷◌, ◌++◌, length, take, Option, Some, None, Result, Ok, Err, IsErr, refl, sym, ap, ◌∙◌, subst, arith, append_assoc, append-nil, add-one}
 use Rattle.std.proofs.lemmas.Bool.{false≢true}
-use Rattle.std.specs.List.{flat_map}
 use Rattle.std.proofs.Math.Nat.{eq-or-lt_of_le}
-use Rattle.std.proofs.lemmas.Grind.{flat_map-append}
-use Rattle.std.proofs.Math.Seq.{take-append-add, drop-cons}
-use Rattle.std.proofs.lemmas.List.{take-append-drop, take_more}
+use Rattle.std.proofs.Math.Seq.{take-append-add}
+use Rattle.std.proofs.lemmas.List.{take_all}
 use Rattle.std.proofs.KnownBytes.{Appends-nil, Appends-trans}
-use Rattle.std.specs.Io.KnownBytes.{Appends}
+use Rattle.std.specs.Prelude.{OnOk, OnErr}
+use Rattle.std.specs.Io.KnownBytes.{Appends, Keeps}
 use Rattle.pc_edges.specs.Faults.{Rose}
-use Rattle.pc_edges.specs.Writes.{Wrote, Stopped, Writes, Gathered, Gathers}
+use Rattle.pc_edges.specs.Writes.{Wrote, Stopped, Writes, Gathered}
 use Rattle.pc_edges.specs.Texts.{texts_to}
 
 -- ---- counts of faults
@@ -60,10 +59,6 @@ Stopped-after {a = a} {c = c} {s = s} {u = u} {x = x} {y = y} p q = record {
   fault = subst (λ n. Rose n u) p.no_fault q.fault;
 }
 
--- the exit of a `?`: x was written so far, the call failed in y, and the whole text goes on behind it
-pub Stopped-in : {a b c : Option (List ℕ)} {s t u : ℕ} {x y : List ℕ} (text rest : List ℕ) → text ≡ x ++ (y ++ rest) → Wrote a b s t x → Stopped b c t u y → Stopped a c s u text
-Stopped-in {a = a} {c = c} {s = s} {u = u} text rest e p q = subst (Stopped a c s u) (sym e) (Stopped-after p (Stopped-before rest q))
-
 -- ---- what a call that writes ensures
 
 -- an exit by Ok
@@ -84,15 +79,31 @@ Writes-last (Err e) p q = record { ok = tt; err = Stopped-after p q.err; count =
 pub Writes-as : {A E : Type 0} (r : Result A E) {a b : Option (List ℕ)} {s t : ℕ} {x : List ℕ} (text : List ℕ) → x ≡ text → Writes r a b s t x → Writes r a b s t text
 Writes-as r {a = a} {b = b} {s = s} {t = t} text e w = subst (Writes r a b s t) e w
 
+-- ---- a flush behind a text
+
+-- a text is still there where a call keeps what was taken
+Appends-kept : (a b c : Option (List ℕ)) (text : List ℕ) → Appends a b text → Keeps b c → Appends a c text
+Appends-kept None b c text grown kept = tt
+Appends-kept (Some xs) None c text grown kept = absurd grown
+Appends-kept (Some xs) (Some ys) None text grown kept = absurd kept
+Appends-kept (Some xs) (Some ys) (Some zs) text grown kept = kept ∙ grown
+
+-- the text was taken whole, and then the sink was flushed
+pub Writes-flushed : {A E : Type 0} (r : Result A E) {a b c : Option (List ℕ)} {s t u : ℕ} {text : List ℕ} → Wrote a b s t text → Keeps b c → OnOk r (u ≡ t) → OnErr r (Rose t u) → t ≤ u → Writes r a c s u text
+Writes-flushed (Ok v) {a = a} {b = b} {c = c} {text = text} wrote kept no_fault failed count =
+    record { ok = record { whole = Appends-kept a b c text wrote.whole kept; no_fault = no_fault ∙ wrote.no_fault }; err = tt; count = omega (arith, wrote.no_fault, count) }
+Writes-flushed (Err e) {a = a} {b = b} {c = c} {u = u} {text = text} wrote kept no_fault failed count =
+    let whole : take (length text) text ≡ text = take_all (length text) text (omega arith) in
+    record {
+      ok = tt;
+      err = record {
+        front = (length text, subst (Appends a c) (sym whole) (Appends-kept a b c text wrote.whole kept));
+        fault = subst (λ n. Rose n u) wrote.no_fault failed;
+      };
+      count = omega (arith, wrote.no_fault, count);
+    }
+
 -- ---- texts that are gathered before they are pushed
-
--- nothing is written or pending yet
-pub Gathered-nil : (a : Option (List ℕ)) (s : ℕ) → Gathered a a [] s s []
-Gathered-nil a s = record { pushed = ([], Appends-nil a, refl); no_fault = refl }
-
--- a text is the first on a line that was emptied
-pub Gathered-first : (a : Option (List ℕ)) (s : ℕ) (p p' x : List ℕ) → p ≡ [] → p' ≡ p ++ x → Gathered a a p' s s x
-Gathered-first a s p p' x none e = record { pushed = ([], Appends-nil a, sym (e ∙ ap (λ l. l ++ x) none)); no_fault = refl }
 
 -- a text is added to what is pending
 pub Gathered-more : {a b : Option (List ℕ)} {s t : ℕ} {p x : List ℕ} (y p' : List ℕ) → p' ≡ p ++ y → Gathered a b p s t x → Gathered a b p' s t (x ++ y)
@@ -114,17 +125,9 @@ Gathered-then {q = q} g h =
 pub Gathered-as : {a b : Option (List ℕ)} {s t : ℕ} {p x : List ℕ} (text : List ℕ) → x ≡ text → Gathered a b p s t x → Gathered a b p s t text
 Gathered-as {a = a} {b = b} {s = s} {t = t} {p = p} text e g = subst (Gathered a b p s t) e g
 
--- what is pending was pushed whole
-pub Wrote-gathered : {a b c : Option (List ℕ)} {s t u : ℕ} {p x : List ℕ} → Gathered a b p s t x → Wrote b c t u p → Wrote a c s u x
-Wrote-gathered {a = a} {c = c} {s = s} {u = u} g h = subst (Wrote a c s u) (sym g.pushed.2) (Wrote-then (record { whole = g.pushed.1; no_fault = g.no_fault }) h)
-
 -- pushing what is pending failed
 pub Stopped-gathered : {a b c : Option (List ℕ)} {s t u : ℕ} {p x : List ℕ} → Gathered a b p s t x → Stopped b c t u p → Stopped a c s u x
 Stopped-gathered {a = a} {c = c} {s = s} {u = u} g h = subst (Stopped a c s u) (sym g.pushed.2) (Stopped-after (record { whole = g.pushed.1; no_fault = g.no_fault }) h)
-
--- the last call pushes what is pending
-pub Writes-gathered : {A E : Type 0} (r : Result A E) {a b c : Option (List ℕ)} {s t u : ℕ} {p x : List ℕ} → Gathered a b p s t x → Writes r b c t u p → Writes r a c s u x
-Writes-gathered r {a = a} {c = c} {s = s} {u = u} g h = subst (Writes r a c s u) (sym g.pushed.2) (Writes-last r (record { whole = g.pushed.1; no_fault = g.no_fault }) h)
 
 -- a call that gathers went on
 pub Gathered-next : {a b c : Option (List ℕ)} {s t u : ℕ} {p q x : List ℕ} (y : List ℕ) → Gathered a b p s t x → Gathered b c q t u (p ++ y) → Gathered a c q s u (x ++ y)
@@ -133,21 +136,6 @@ Gathered-next {p = p} y g h = Gathered-then (Gathered-more y (p ++ y) refl g) h
 -- a call that gathers failed
 pub Stopped-next : {a b c : Option (List ℕ)} {s t u : ℕ} {p x : List ℕ} (y : List ℕ) → Gathered a b p s t x → Stopped b c t u (p ++ y) → Stopped a c s u (x ++ y)
 Stopped-next {p = p} y g h = Stopped-gathered (Gathered-more y (p ++ y) refl g) h
-
--- an exit by an error, as `Writes-err`
-pub Gathers-err : {A E : Type 0} (r : Result A E) {a b : Option (List ℕ)} {s t : ℕ} (p q x : List ℕ) → IsErr r → s ≤ t → Stopped a b s t (p ++ x) → Gathers r a p b q s t x
-Gathers-err (Ok v) p q x is_err count h = absurd (false≢true is_err)
-Gathers-err (Err e) p q x is_err count h = record { ok = tt; err = h; count = count }
-
--- the exit of a `?`: the call failed in x, and the whole text goes on behind it
-pub Gathers-stopped : {A E : Type 0} (r : Result A E) {a b : Option (List ℕ)} {s t : ℕ} (p q x rest : List ℕ) → IsErr r → s ≤ t → Stopped a b s t (p ++ x) → Gathers r a p b q s t (x ++ rest)
-Gathers-stopped r {a = a} {b = b} {s = s} {t = t} p q x rest is_err count h =
-    Gathers-err r p q (x ++ rest) is_err count (subst (Stopped a b s t) (append_assoc p x rest) (Stopped-before rest h))
-
--- y is gathered behind w, and the last call's answer is the answer
-pub Gathers-last : {A E : Type 0} (r : Result A E) {a b c : Option (List ℕ)} {s t u : ℕ} {p q : List ℕ} (w y z : List ℕ) → Gathered a b p s t (w ++ y) → Gathers r b p c q t u z → Gathers r a w c q s u (y ++ z)
-Gathers-last (Ok v) w y z g h = record { ok = Gathered-as _ (append_assoc w y z) (Gathered-next z g h.ok); err = tt; count = omega (arith, g.no_fault, h.count) }
-Gathers-last (Err e) {a = a} {c = c} {s = s} {u = u} w y z g h = record { ok = tt; err = subst (Stopped a c s u) (append_assoc w y z) (Stopped-next z g h.err); count = omega (arith, g.no_fault, h.count) }
 
 -- ---- loops over lines
 
@@ -168,25 +156,3 @@ texts_to-split (suc n) i f below =
       | inr before ↦ (let r = texts_to-split n i f before in
           (r.0 ++ f n, ap (λ l. l ++ f n) r.1 ∙ append_assoc (texts_to i f) (f i ++ r.0) (f n) ∙ ap (λ l. texts_to i f ++ l) (append_assoc (f i) r.0 (f n))))
     ]
-
--- the items below i + 1 of a list
-pub flat_map-take_more : {X : Type 0} (f : X → List ℕ) (xs : List X) (i : ℕ) (x : X) → i < length xs → x ≡ get_or xs i x → flat_map f (take (i + 1) xs) ≡ flat_map f (take i xs) ++ f x
-flat_map-take_more f xs i x below is =
-    ap (flat_map f) (take_more xs i x below) ∙ flat_map-append f (take i xs) (get_or xs i x ∷ []) ∙ ap (λ l. flat_map f (take i xs) ++ l) (append-nil (f (get_or xs i x)) ∙ ap f (sym is))
-
--- the items below i, the item i, and the others
-pub flat_map-split : {X : Type 0} (f : X → List ℕ) (xs : List X) (i : ℕ) (x : X) → i < length xs → x ≡ get_or xs i x → flat_map f xs ≡ flat_map f (take i xs) ++ (f x ++ flat_map f (drop (i + 1) xs))
-flat_map-split f xs i x below is =
-    let cut : xs ≡ take i xs ++ (x ∷ drop (i + 1) xs) =
-    sym (take-append-drop i xs) ∙ ap (λ l. take i xs ++ l) (drop-cons xs i x below ∙ ap (λ y. y ∷ drop (suc i) xs) (sym is) ∙ ap (λ k. x ∷ drop k xs) (sym (add-one i))) in
-    ap (flat_map f) cut ∙ flat_map-append f (take i xs) (x ∷ drop (i + 1) xs)
-
--- the lines below i are gathered behind x, and the line i is added
-pub Gathered-line : {a b : Option (List ℕ)} {s t : ℕ} {p : List ℕ} (x p' : List ℕ) (i : ℕ) (f : ℕ → List ℕ) → p' ≡ p ++ f i → Gathered a b p s t (x ++ texts_to i f) → Gathered a b p' s t (x ++ texts_to (i + 1) f)
-Gathered-line x p' i f e g = Gathered-as _ (append_assoc x (texts_to i f) (f i) ∙ ap (λ l. x ++ l) (sym (texts_to-more i f))) (Gathered-more (f i) p' e g)
-
--- the lines below i are gathered behind x, and pushing what is pending failed
-pub Stopped-line : {a b c : Option (List ℕ)} {s t u : ℕ} {p : List ℕ} (x : List ℕ) (n i : ℕ) (f : ℕ → List ℕ) → i < n → Gathered a b p s t (x ++ texts_to i f) → Stopped b c t u p → Stopped a c s u (x ++ texts_to n f)
-Stopped-line {a = a} {c = c} {s = s} {u = u} x n i f below g h =
-    let r = texts_to-split n i f below in
-    subst (Stopped a c s u) (append_assoc x (texts_to i f) (f i ++ r.0) ∙ ap (λ l. x ++ l) (sym r.1)) (Stopped-before (f i ++ r.0) (Stopped-gathered g h))

@@ -1,4 +1,5 @@
 pub mod Faults
+pub mod Pulls
 pub mod Writes
 pub mod Texts
 pub mod Supply

@@ -23,10 +23,3 @@ pub record Writes {A E : Type 0} (result : Result A E) (old new : Option (List �
 pub record Gathered (old now : Option (List ℕ)) (pending : List ℕ) (before after : ℕ) (text : List ℕ) : Type 0 where
   pub pushed : (front : List ℕ) × Appends old now front × (text ≡ front ++ pending)
   pub no_fault : after ≡ before
-
--- what a call that gathers the text behind what is pending leaves: at Ok all of it is pushed or pending, at an error
--- a front of it is pushed
-pub record Gathers {A E : Type 0} (result : Result A E) (old : Option (List ℕ)) (pending : List ℕ) (new : Option (List ℕ)) (pending' : List ℕ) (before after : ℕ) (text : List ℕ) : Type 0 where
-  pub ok : OnOk result (Gathered old new pending' before after (pending ++ text))
-  pub err : OnErr result (Stopped old new before after (pending ++ text))
-  pub count : before ≤ after

@@ -1,7 +1,8 @@
 //! Reading a source to its end.
-ghost use Rattle.std.specs.Prelude.{◌≡◌, ℕ, List, ◌^◌, ◌<◌, ◌≤◌, ◌↔◌, length, vec_len, IfOk, OnOk, IsErrOf};
+ghost use Rattle.std.specs.Prelude.{◌≡◌, ℕ, List, ◌+◌, ◌^◌, ◌<◌, ◌≤◌, ◌↔◌, length, vec_len, IfOk, OnOk, IsErrOf};
 ghost use Rattle.std.specs.Io.KnownBytes.{Consumes, IsAtEnd};
 ghost use Rattle.pc_edges.specs.Faults.{Rose};
+ghost use Rattle.pc_edges.specs.Pulls.{TakesPulls};
 
 use crate::Source;
 use std::alloc::Global;
@@ -23,7 +24,8 @@ const PULL: usize = 65536;
 
 /// All bytes of `source` up to its end, where there are at most `limit`.
 ///
-/// Each byte is copied once from the buffer that is pulled into.
+/// Each byte is copied once from the buffer that is pulled into. Each pull but the last gives a byte at least, so there are
+/// at most `limit + 2` of them.
 pub fn load<S: Source>(alloc: Global, source: &mut S, limit: usize) -> Result<Vec<u8>, LoadError>
     requires { limit < 2 ^ 32 }
     ensures all { IfOk result (λ v. Consumes (S.left source.old) (S.left source.new) v.items) }
@@ -35,6 +37,7 @@ pub fn load<S: Source>(alloc: Global, source: &mut S, limit: usize) -> Result<Ve
     ensures too_long { (bytes : List ℕ) × Consumes (S.left source.old) (S.left source.new) bytes
         × (IsErrOf result LoadError.TooLong ↔ (limit < length bytes)) }
     ensures count { S.faults source.old ≤ S.faults source.new }
+    ensures turns { TakesPulls (limit + 2) (S.pulls source.old) (S.pulls source.new) }
 {
     let mut buffer = vec![in alloc; 0u8; PULL].map_err(|_| LoadError::OutOfMemory)?;
     load_by(alloc, source, limit, buffer.as_mut_slice())
@@ -56,6 +59,7 @@ fn load_by<S: Source>(
     ensures too_long { (bytes : List ℕ) × Consumes (S.left source.old) (S.left source.new) bytes
         × (IsErrOf result LoadError.TooLong ↔ (limit < length bytes)) }
     ensures count { S.faults source.old ≤ S.faults source.new }
+    ensures turns { TakesPulls (limit + 2) (S.pulls source.old) (S.pulls source.new) }
 {
     let mut bytes = Vec::new(alloc);
     loop {

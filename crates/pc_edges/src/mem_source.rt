@@ -1,5 +1,5 @@
 //! A source in memory.
-ghost use Rattle.std.specs.Prelude.{◌≡◌, ℕ, ◌<◌, ◌≤◌, ◌↔◌, ◌++◌, [], Some, Ok, length, take, min, IfOk, OnOk, OnErr, IsErr, Contains};
+ghost use Rattle.std.specs.Prelude.{◌≡◌, ℕ, ◌<◌, ◌≤◌, ◌↔◌, ◌+◌, ◌++◌, [], Some, Ok, length, take, min, IfOk, OnOk, OnErr, IsErr, Contains};
 ghost use Rattle.std.specs.Io.KnownBytes.{Consumes, Keeps, IsAtEnd};
 ghost use Rattle.pc_edges.specs.Faults.{Rose, raised};
 
@@ -66,6 +66,8 @@ impl Source for MemSource {
 
     ghost faults = { λ source. source.faults };
 
+    ghost pulls = { λ source. Some source.pulls };
+
     fn pull(&mut self, buffer: &mut [u8]) -> Result<usize, Failed>
         ensures fits { IfOk result (λ n. n ≤ length buffer.old) }
         ensures bytes { IfOk result (λ n. self.old.left ≡ take n buffer.new ++ self.new.left) }
@@ -75,6 +77,7 @@ impl Source for MemSource {
         ensures failed { OnErr result (Rose self.old.faults self.new.faults) }
         ensures kept { OnErr result (self.new.left ≡ self.old.left) }
         ensures count { self.old.faults ≤ self.new.faults }
+        ensures pulled { self.new.pulls ≤ self.old.pulls + 1 }
 
         // which pulls fail, how much the others give, and what is counted
         ensures fails { IsErr result ↔ (0 < length buffer.old) × Contains self.old.failing (raised self.old.pulls) }

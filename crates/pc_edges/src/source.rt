@@ -2,6 +2,7 @@
 ghost use Rattle.std.specs.Prelude.{◌≡◌, ℕ, ◌<◌, ◌≤◌, List, Option, None, Ok, length, take, IfOk, OnOk, OnErr};
 ghost use Rattle.std.specs.Io.KnownBytes.{Consumes, Keeps, IsAtEnd};
 ghost use Rattle.pc_edges.specs.Faults.{Rose};
+ghost use Rattle.pc_edges.specs.Pulls.{TakesPulls};
 
 /// A pull, a push or a flush that failed: a fault of the source or the sink, whose count of faults rose.
 #[derive(Clone, Copy, Debug, PartialEq, Eq, Hash)]
@@ -14,6 +15,9 @@ pub trait Source {
 
     // How many faults there were. A count that stands at its type's end counts as one that rose.
     ghost faults: { Self → ℕ };
+
+    // How many pulls on a buffer with room there were, where the source counts them.
+    ghost pulls: { Self → Option ℕ } = { λ _. None };
 
     /// Fills the front of `buffer` with the next bytes, and answers how many they are.
     ///
@@ -28,5 +32,6 @@ pub trait Source {
 
         ensures failed { OnErr result (Rose (faults self.old) (faults self.new)) }
         ensures kept { OnErr result (Keeps (left self.old) (left self.new)) }
-        ensures count { faults self.old ≤ faults self.new };
+        ensures count { faults self.old ≤ faults self.new }
+        ensures pulled { TakesPulls 1 (pulls self.old) (pulls self.new) };
 }

@@ -3,13 +3,6 @@ pub mod Greatest
 pub mod Walk
 pub mod Network
 pub mod Schedule
-pub mod Flow
-pub mod Slack
-pub mod Segment
-pub mod Knees
-pub mod Cover
-pub mod KneeCover
-pub mod State
-pub mod KneeState
-pub mod Stop
-pub mod Curve
+pub mod Cost
+pub mod Pieces
+pub mod Worked

@@ -1,7 +1,7 @@
--- Schedules for a length, their cost, and the least of these costs.
-use Rattle.std.specs.Prelude.{◌≡◌, ℕ, ◌+◌, ◌-◌, ◌*◌, ◌<◌, ◌≤◌, List, length, map, slice_index_or}
+-- What the activities' durations may be, and schedules for a length.
+use Rattle.std.specs.Prelude.{◌≡◌, ℕ, ◌+◌, ◌-◌, ◌<◌, ◌≤◌, min, List, length, map, slice_index_or}
+use Rattle.pc_model.specs.declared.Arc.{Arc}
 use Rattle.pc_model.specs.declared.Term.{Term}
-use Rattle.pc_model.specs.Sums.{sum_to}
 use Rattle.pc_model.specs.Walk.{from_of, to_of}
 use Rattle.pc_model.specs.Network.{Network, IsLongest}
 
@@ -21,7 +21,7 @@ crash_of terms a = (term_at terms a).crash
 abbrev pub base_cost_of : List Term → ℕ → ℕ
 base_cost_of terms a = (term_at terms a).cost
 
--- what each unit by which it is shortened costs
+-- what each of the first units by which it is shortened costs
 abbrev pub slope_of : List Term → ℕ → ℕ
 slope_of terms a = (term_at terms a).slope
 
@@ -47,17 +47,6 @@ pub record IsSchedule (net : Network) (terms : List Term) (limit : ℕ) (duratio
   pub fits : (a : ℕ) → a < length net.arcs → times (from_of net.arcs a) + durations a ≤ times (to_of net.arcs a)
   pub ends : times net.end ≤ limit
 
--- the cost of durations: what the activities cost at their normal durations, and their slopes for the units
--- by which they are shortened
-abbrev pub cost_of : List Term → (ℕ → ℕ) → ℕ
-cost_of terms durations =
-    sum_to (length terms) (λ a. base_cost_of terms a + slope_of terms a * (normal_of terms a - durations a))
-
--- the least cost of a schedule for a length: some schedule for it has this cost, and none costs less
-pub record IsLeastCost (net : Network) (terms : List Term) (limit cost : ℕ) : Type 0 where
-  pub reached : (durations times : ℕ → ℕ) × IsSchedule net terms limit durations times × (cost_of terms durations ≡ cost)
-  pub least : (durations times : ℕ → ℕ) → IsSchedule net terms limit durations times → cost ≤ cost_of terms durations
-
 -- the greatest sum of normal durations over the walks from the start to the end
 abbrev pub IsAllNormalLength : Network → List Term → ℕ → Type 0
 IsAllNormalLength net terms n = IsLongest net (normals terms) n
@@ -65,3 +54,16 @@ IsAllNormalLength net terms n = IsLongest net (normals terms) n
 -- the greatest sum of crash durations over the walks from the start to the end
 abbrev pub IsAllCrashLength : Network → List Term → ℕ → Type 0
 IsAllCrashLength net terms n = IsLongest net (crashes terms) n
+
+-- some durations and times are a schedule for the length
+abbrev pub HasSchedule : Network → List Term → ℕ → Type 0
+HasSchedule net terms limit = (durations times : ℕ → ℕ) × IsSchedule net terms limit durations times
+
+-- the gap of activity a: the time of its ending event less that of its beginning event, and 0 where it is negative,
+-- which no gap with room for the crash duration is
+abbrev pub gap_of : List Arc → (ℕ → ℕ) → ℕ → ℕ
+gap_of arcs times a = times (to_of arcs a) - times (from_of arcs a)
+
+-- the lesser of activity a's normal duration and its gap: the longest duration that these times allow it
+abbrev pub lesser_of : Network → List Term → (ℕ → ℕ) → ℕ → ℕ
+lesser_of net terms times a = min (normal_of terms a) (gap_of net.arcs times a)

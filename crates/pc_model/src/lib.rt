@@ -1,17 +1,18 @@
-//! The vocabulary of the planning problem: activities as plain data, and the definitions of walks, lengths,
-//! schedules and costs that every contract above cites. `specs/` has the definitions, `proofs/` their laws.
+//! The vocabulary of the planning problem: activities as plain data, the limits of a project, and the definitions of
+//! walks, lengths, schedules and costs that every contract above cites. `specs/` has the definitions; their laws are
+//! the contracts of the public functions, and the lemmas in `proofs/`.
 #![tactic(auto)]
 
-pub mod curve_laws;
-pub mod duality_laws;
-pub mod knee_curve_laws;
-pub mod knee_laws;
-pub mod knee_state_laws;
+pub mod cost_laws;
 mod limits;
-pub mod segment_laws;
-pub mod state_laws;
+pub mod schedule_laws;
+pub mod worked_laws;
 
-pub use limits::{MAX_ACTIVITIES, MAX_COST, MAX_DURATION, MAX_EVENTS, MAX_SLOPE};
+pub use limits::{
+    MAX_ACCOUNTS, MAX_ACTIVITIES, MAX_CHARGES, MAX_COST, MAX_DIRECTED, MAX_DURATION, MAX_EVENTS,
+    MAX_ITEMS, MAX_LEVEL, MAX_LOADS, MAX_PIECES, MAX_PIECES_EACH, MAX_RESOURCES, MAX_SLOPE,
+    MAX_STATUSES, MAX_TERMS, MAX_TOGOS, MAX_UNIT_DAYS, MAX_VARIANCE,
+};
 
 /// An activity's place in the network: the events where it begins and ends, numbered in card order from 0.
 #[derive(Clone, Copy, Debug, PartialEq, Eq, Hash)]
@@ -22,11 +23,30 @@ pub struct Arc {
 
 /// What an activity's duration may be, in units, and what it costs.
 ///
-/// The activity costs `cost` at its normal duration, and `slope` more for each unit by which it is shortened.
+/// The activity costs `cost` at its normal duration, and `slope` more for each unit by which it is shortened; where
+/// its cost has further pieces, `slope` holds for the first of these units alone.
 #[derive(Clone, Copy, Debug, PartialEq, Eq, Hash)]
 pub struct Term {
     pub normal: u64,
     pub crash: u64,
     pub cost: u64,
     pub slope: u64,
+}
+
+/// A further piece of an activity's cost: so many units of its duration, and what each of them costs.
+///
+/// The pieces of an activity follow one another in their order, below the units to which its own slope applies, down to
+/// its crash duration.
+#[derive(Clone, Copy, Debug, Default, PartialEq, Eq, Hash)]
+pub struct PieceRow {
+    pub activity: u32,
+    pub units: u64,
+    pub slope: u64,
+}
+
+/// A knee of an activity's cost: a duration, in units, and by how much a unit less costs more below it than above.
+#[derive(Clone, Copy, Debug, PartialEq, Eq, Hash)]
+pub struct Knee {
+    pub at: u64,
+    pub rise: u64,
 }

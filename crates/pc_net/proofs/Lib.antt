@@ -1,5 +1,6 @@
 mod ChainLaws
 mod CountLaws
+mod DegreeLaws
 mod ListingLaws
 mod QueueLaws
 pub mod RefusalLaws

@@ -5,7 +5,7 @@ use Rattle.std.proofs.lemmas.List.{get_or_append_left, get_or_push, length_push,
 use Rattle.pc_model.specs.declared.Arc.{Arc}
 use Rattle.pc_model.specs.Greatest.{IsListed, places}
 use Rattle.pc_model.specs.Walk.{arc_at}
-use Rattle.pc_model.proofs.ListedLaws.{IsListed-places, IsListed-same}
+use Rattle.pc_model.proofs.Walks.ListedLaws.{IsListed-places, IsListed-same}
 use Rattle.pc_net.specs.Chains.{first_or, places_from, AreChains}
 use Rattle.pc_net.specs.declared.listing.Listing.{Listing}
 use Rattle.pc_net.specs.declared.side.Side.{Side}

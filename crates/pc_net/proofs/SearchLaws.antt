@@ -6,8 +6,8 @@ use Rattle.pc_model.specs.declared.Arc.{Arc}
 use Rattle.pc_model.specs.Greatest.{IsListed}
 use Rattle.pc_model.specs.Walk.{from_of, to_of, IsWalk, IsCycle}
 use Rattle.pc_model.specs.Network.{Network}
-use Rattle.pc_model.proofs.WalkLaws.{IsWalk-append, IsWalk-push, split_walk_at}
-use Rattle.pc_model.proofs.OrderLaws.{room_below}
+use Rattle.pc_model.proofs.Walks.WalkLaws.{IsWalk-append, IsWalk-push, split_walk_at}
+use Rattle.pc_model.proofs.Walks.OrderLaws.{room_below}
 use Rattle.pc_net.specs.Cycles.{LiesOnCycle, MeetsOnce, IsRound, IsFirstCycle, IsSearch}
 
 -- where the activity begins is found at once

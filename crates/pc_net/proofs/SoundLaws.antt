@@ -5,9 +5,9 @@ use Rattle.std.proofs.lemmas.Bool.{cases_eq}
 use Rattle.std.proofs.lemmas.List.{length_push}
 use Rattle.pc_model.specs.Walk.{from_of, to_of, IsWalk}
 use Rattle.pc_model.specs.Network.{Network, IsInRange, IsEntered, IsLeft, IsDangling, IsSound, IsOrder}
-use Rattle.pc_model.proofs.WalkLaws.{IsWalk-push}
-use Rattle.pc_model.proofs.OrderLaws.{stands_in_order, same_place, no_cycle_from_order}
-use Rattle.pc_model.proofs.CycleLaws.{HasCycle, long_walk_has_cycle, all_stand, stand_or_misses}
+use Rattle.pc_model.proofs.Walks.WalkLaws.{IsWalk-push}
+use Rattle.pc_model.proofs.Walks.OrderLaws.{stands_in_order, same_place, no_cycle_from_order}
+use Rattle.pc_model.proofs.Walks.CycleLaws.{HasCycle, long_walk_has_cycle, all_stand, stand_or_misses}
 use Rattle.pc_net.specs.Queue.{IsMissing, IsStuck}
 
 -- a function has a value somewhere below n, or nowhere

@@ -2,6 +2,7 @@ pub mod Sides
 pub mod Chains
 pub mod Listings
 pub mod Networks
+pub mod Degrees
 pub mod Graphs
 pub mod Queue
 pub mod Firmness

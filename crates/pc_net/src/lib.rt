@@ -4,6 +4,7 @@
 
 mod chains;
 mod cycle;
+pub mod degree_laws;
 mod faults;
 mod graph;
 mod listing;

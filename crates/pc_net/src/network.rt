@@ -76,6 +76,8 @@ impl Net {
     pub fn activities(&self) -> u32
         ensures activities { result ≡ length self.now.arcs }
         ensures limit { result ≤ MAX_ACTIVITIES }
+        ensures sound { IsSound self.now }
+        ensures in_range { IsInRange self.now }
     {
         self.graph.activities()
     }

@@ -2,8 +2,8 @@
 use Rattle.std.proofs.Common.{◌≡◌, ℕ, ◌<◌, ◌≤◌, Bool, true, false, ◌&&◌, ◌||◌, ◌==◌, nat_lt, nat_le, Option, Some, None, refl, sym, ◌∙◌, inl, inr, ⊎_elim, ◌⊎◌, arith, if◌then◌else◌}
 use Rattle.std.proofs.lemmas.Bool.{cases_order}
 use Rattle.std.proofs.lemmas.Bool.Decides.{nat_tests}
-use Rattle.pc_deck.specs.Refusal.{IsFirst, IsNoLater}
-use Rattle.pc_deck.specs.declared.fault.Fault.{Fault}
+use Rattle.pc_faults.specs.First.{IsFirst, IsNoLater}
+use Rattle.pc_faults.specs.declared.fault.Fault.{Fault}
 use Rattle.pc_project.specs.First.{IsFirstIn, earliest, is_no_later}
 
 -- the test in numbers: record and number of one fault and of another

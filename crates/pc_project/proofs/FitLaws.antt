@@ -8,14 +8,17 @@ use Rattle.pc_model.specs.declared.Arc.{Arc}
 use Rattle.pc_model.specs.Walk.{from_of, to_of}
 use Rattle.pc_model.specs.Network.{Network, IsInRange}
 use Rattle.pc_wbs.specs.Climb.{AreInRange}
-use Rattle.pc_deck.specs.declared.cards.ActCard.{ActCard}
-use Rattle.pc_deck.specs.declared.cards.ItemCard.{ItemCard}
-use Rattle.pc_deck.specs.declared.fault.Fault.{Fault}
-use Rattle.pc_deck.specs.Deck.{Deck, event_named, item_named}
-use Rattle.pc_project.specs.Project.{arc_of, event_number, item_number, network_of, place_of, row_of, rows_of}
-use Rattle.pc_project.specs.Misfit.{HasActFault, HasItemFault, HasNoMisfit, IsEvent, IsInOrder, act, item, project}
+use Rattle.pc_deck.specs.declared.kinds.act.ActCard.{ActCard}
+use Rattle.pc_deck.specs.declared.kinds.wbs.ItemCard.{ItemCard}
+use Rattle.pc_faults.specs.Faults as told
+use Rattle.pc_faults.specs.declared.fault.Fault.{Fault}
+use Rattle.pc_deck.specs.declared.kinds.load.LoadCard.{LoadCard}
+use Rattle.pc_deck.specs.declared.kinds.piece.PieceCard.{PieceCard}
+use Rattle.pc_deck.specs.Deck.{Deck, act_named, event_named, item_named, resource_named}
+use Rattle.pc_project.specs.Project.{act_number, arc_of, event_number, item_number, network_of, place_of, resource_number, row_of, rows_of}
+use Rattle.pc_project.specs.Misfit.{HasActFault, HasItemFault, HasLoadFault, HasPieceCardFault, HasNoMisfit, IsEvent, IsInOrder, act, item, project}
 use Rattle.pc_project.specs.Misfit as has
-use Rattle.pc_project.proofs.NumberLaws.{event_number-within, event_number-apart, item_number-within}
+use Rattle.pc_project.proofs.NumberLaws.{act_number-within, event_number-within, event_number-apart, item_number-within, resource_number-within}
 
 -- what is not missing is there
 known_unless : (o : Option ℕ) → (o ≡ None → ⊥) → IsSome o
@@ -72,7 +75,7 @@ module _ (deck : Deck) (none : HasNoMisfit deck) where
   parent_known : (i : ℕ) (d : ItemCard) → i < length deck.items → (code : List ℕ) → (get_or deck.items i d).parent ≡ Some code → IsSome (item_named deck code)
   parent_known i d within code there =
       known_unless (item_named deck code)
-      (λ n. let fault : Fault = has.naming (get_or deck.items i d).row 14 code in
+      (λ n. let fault : Fault = told.unknown_item (get_or deck.items i d).row code in
       none fault (item (Any-at (λ card. HasItemFault deck card fault) deck.items i d within (has.unknown_parent code there n refl))))
 
 -- a card to read past the end of the cards, where no one looks
@@ -133,3 +136,22 @@ place_of-within deck none a within =
 pub network_of-is : (deck : Deck) (events start end : ℕ) (arcs : List Arc) → events ≡ length deck.events → start ≡ (network_of deck).start → end ≡ (network_of deck).end → arcs ≡ (network_of deck).arcs → let net : Network = record { events = events; start = start; end = end; arcs = arcs } in net ≡ network_of deck
 network_of-is deck events start end arcs same_events same_start same_end same_arcs =
     λ i. record { events = same_events i; start = same_start i; end = same_end i; arcs = same_arcs i }
+
+-- the activity of a piece is an activity
+pub piece_activity-within : (deck : Deck) → HasNoMisfit deck → (i : ℕ) (d : PieceCard) → i < length deck.pieces → act_number deck (get_or deck.pieces i d).activity < length deck.acts
+piece_activity-within deck none i d within =
+    act_number-within deck (get_or deck.pieces i d).activity
+    (known_unless (act_named deck (get_or deck.pieces i d).activity)
+    (λ n. none (told.unknown_activity (get_or deck.pieces i d).row (get_or deck.pieces i d).activity) (has.piece (Any-at (λ card. HasPieceCardFault deck card (told.unknown_activity (get_or deck.pieces i d).row (get_or deck.pieces i d).activity)) deck.pieces i d within (has.HasPieceCardFault.unknown_activity n refl)))))
+
+-- the activity and the resource of a load are known
+pub load_known : (deck : Deck) → HasNoMisfit deck → (i : ℕ) (d : LoadCard) → i < length deck.loads → (act_number deck (get_or deck.loads i d).activity < length deck.acts) × (resource_number deck (get_or deck.loads i d).resource < length deck.resources)
+load_known deck none i d within =
+    let card = get_or deck.loads i d in (
+      act_number-within deck card.activity
+          (known_unless (act_named deck card.activity)
+          (λ n. none (told.unknown_activity card.row card.activity) (has.load (Any-at (λ c. HasLoadFault deck c (told.unknown_activity card.row card.activity)) deck.loads i d within (has.HasLoadFault.unknown_activity n refl))))),
+      resource_number-within deck card.resource
+          (known_unless (resource_named deck card.resource)
+          (λ n. none (told.unknown_resource card.row card.resource) (has.load (Any-at (λ c. HasLoadFault deck c (told.unknown_resource card.row card.resource)) deck.loads i d within (has.HasLoadFault.unknown_resource n refl))))),
+    )

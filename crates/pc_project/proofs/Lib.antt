@@ -8,3 +8,7 @@ mod MisfitLaws
 mod NumberLaws
 mod PlannedLaws
 mod RangeLaws
+mod CountLaws
+mod PieceLaws
+mod RunLaws
+mod PieceSteps

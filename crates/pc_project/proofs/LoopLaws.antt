@@ -2,8 +2,8 @@
 use Rattle.std.proofs.Common.{◌≡◌, ℕ, ◌+◌, ◌<◌, ◌≤◌, List, [], length, get_or, take, map, ◌∷◌, ◌++◌, Option, Some, None, sym, ap, ◌∙◌, inl, inr, subst}
 use Rattle.std.specs.List.{Any}
 use Rattle.std.proofs.lemmas.List.{take_all, take_more, map_push}
-use Rattle.pc_deck.specs.Refusal.{IsFirst}
-use Rattle.pc_deck.specs.declared.fault.Fault.{Fault}
+use Rattle.pc_faults.specs.First.{IsFirst}
+use Rattle.pc_faults.specs.declared.fault.Fault.{Fault}
 use Rattle.pc_project.specs.First.{IsFirstIn, earliest}
 use Rattle.pc_project.proofs.AnyLaws.{Any-kept, Any-here, Any-before, Any-none}
 use Rattle.pc_project.proofs.FirstLaws.{earliest-first}

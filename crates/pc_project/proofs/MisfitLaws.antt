@@ -2,9 +2,9 @@
 use Rattle.std.proofs.Common.{Option, inl, inr, ◌⊎◌}
 use Rattle.std.specs.List.{Any}
 use Rattle.pc_deck.specs.Deck.{Deck}
-use Rattle.pc_deck.specs.declared.fault.Fault.{Fault}
+use Rattle.pc_faults.specs.declared.fault.Fault.{Fault}
 use Rattle.pc_project.specs.First.{IsFirstIn, earliest}
-use Rattle.pc_project.specs.Misfit.{HasProjectFault, HasItemFault, HasActFault, HasAccountFault, HasMoneyFault, HasStatusFault, HasFigureFault, HasMisfit, account, charge, togo, status, project, item, act, figure}
+use Rattle.pc_project.specs.Misfit.{HasProjectFault, HasItemFault, HasActFault, HasAccountFault, HasMoneyFault, HasStatusFault, HasPieceCardFault, HasLoadFault, HasFigureFault, HasMisfit, account, charge, togo, status, project, item, act, piece, load, figure}
 use Rattle.pc_project.proofs.FirstLaws.{earliest-first}
 
 module _ (deck : Deck) where
@@ -13,6 +13,12 @@ module _ (deck : Deck) where
 
   abbrev pub OfActs : Fault → Type 0
   OfActs fault = Any (λ card. HasActFault deck card fault) deck.acts
+
+  abbrev pub OfPieces : Fault → Type 0
+  OfPieces fault = Any (λ card. HasPieceCardFault deck card fault) deck.pieces
+
+  abbrev pub OfLoads : Fault → Type 0
+  OfLoads fault = Any (λ card. HasLoadFault deck card fault) deck.loads
 
   abbrev pub OfAccounts : Fault → Type 0
   OfAccounts fault = Any (λ card. HasAccountFault deck card fault) deck.accounts
@@ -51,22 +57,32 @@ module _ (deck : Deck) where
       (earliest accounts charges) (earliest togos statuses) (of_two OfAccounts OfCharges accounts charges a c) (of_two OfTogos OfStatuses togos statuses t s)
 
   abbrev pub Listed : Fault → Type 0
-  Listed f = (OfItems f ⊎ OfActs f) ⊎ HasFigureFault deck f
+  Listed f = ((OfItems f ⊎ OfActs f) ⊎ (OfPieces f ⊎ OfLoads f)) ⊎ HasFigureFault deck f
 
   into_misfits : (f : Fault) → HasMisfit deck f → HasProjectFault deck deck.project f ⊎ Listed f
   into_misfits f (project h) = inl h
-  into_misfits f (item h) = inr (inl (inl h))
-  into_misfits f (act h) = inr (inl (inr h))
+  into_misfits f (item h) = inr (inl (inl (inl h)))
+  into_misfits f (act h) = inr (inl (inl (inr h)))
+  into_misfits f (piece h) = inr (inl (inr (inl h)))
+  into_misfits f (load h) = inr (inl (inr (inr h)))
   into_misfits f (figure h) = inr (inr h)
 
   from_listed : (f : Fault) → Listed f → HasMisfit deck f
-  from_listed f (inl (inl h)) = item h
-  from_listed f (inl (inr h)) = act h
+  from_listed f (inl (inl (inl h))) = item h
+  from_listed f (inl (inl (inr h))) = act h
+  from_listed f (inl (inr (inl h))) = piece h
+  from_listed f (inl (inr (inr h))) = load h
   from_listed f (inr h) = figure h
 
+  -- the first fault of the cards that are looked up
+  pub first_of_listed : (items acts pieces loads figures : Option Fault) → IsFirstIn OfItems items → IsFirstIn OfActs acts → IsFirstIn OfPieces pieces → IsFirstIn OfLoads loads → IsFirstIn (HasFigureFault deck) figures → IsFirstIn Listed (earliest (earliest (earliest items acts) (earliest pieces loads)) figures)
+  first_of_listed items acts pieces loads figures i a p l f =
+      of_two (λ f. (OfItems f ⊎ OfActs f) ⊎ (OfPieces f ⊎ OfLoads f)) (HasFigureFault deck) (earliest (earliest items acts) (earliest pieces loads)) figures
+      (of_two (λ f. OfItems f ⊎ OfActs f) (λ f. OfPieces f ⊎ OfLoads f) (earliest items acts) (earliest pieces loads) (of_two OfItems OfActs items acts i a) (of_two OfPieces OfLoads pieces loads p l))
+      f
+
   -- the first fault of all cards
-  pub first_of_cards : (card items acts figures : Option Fault) → IsFirstIn (HasProjectFault deck deck.project) card → IsFirstIn OfItems items → IsFirstIn OfActs acts → IsFirstIn (HasFigureFault deck) figures → IsFirstIn (HasMisfit deck) (earliest card (earliest (earliest items acts) figures))
-  first_of_cards card items acts figures p i a f =
+  pub first_of_cards : (card listed : Option Fault) → IsFirstIn (HasProjectFault deck deck.project) card → IsFirstIn Listed listed → IsFirstIn (HasMisfit deck) (earliest card listed)
+  first_of_cards card listed p l =
       earliest-first (HasProjectFault deck deck.project) Listed (HasMisfit deck) (λ f h. project h) from_listed into_misfits
-      card (earliest (earliest items acts) figures) p
-      (of_two (λ f. OfItems f ⊎ OfActs f) (HasFigureFault deck) (earliest items acts) figures (of_two OfItems OfActs items acts i a) f)
+      card listed p l

@@ -5,8 +5,8 @@ use Rattle.std.specs.Cmp.Lexicographic.{pointwise, bytes_decides}
 use Rattle.std.proofs.lemmas.Bool.{false≢true}
 use Rattle.std.proofs.lemmas.List.{length-map}
 use Rattle.std.proofs.lemmas.List.Quantifiers.{position-Some}
-use Rattle.pc_deck.specs.Deck.{Deck, event_codes, item_codes, item_named}
-use Rattle.pc_project.specs.Project.{event_number, item_number}
+use Rattle.pc_deck.specs.Deck.{Deck, act_codes, act_named, event_codes, item_codes, item_named, resource_codes, resource_named}
+use Rattle.pc_project.specs.Project.{act_number, event_number, item_number, resource_number}
 use Rattle.pc_project.specs.Misfit.{IsEvent}
 
 -- the place of a code among those, or a number past them
@@ -48,3 +48,13 @@ event_number-apart deck a b known_a known_b same =
 pub item_number-within : (deck : Deck) (code : List ℕ) → IsSome (item_named deck code) → item_number deck code < length deck.items
 item_number-within deck code known =
     omega (arith, (has_place (item_codes deck) code (length deck.items) known).within, length-map deck.items (λ item. item.code))
+
+-- the number of an activity that is there is below their count
+pub act_number-within : (deck : Deck) (code : List ℕ) → IsSome (act_named deck code) → act_number deck code < length deck.acts
+act_number-within deck code known =
+    omega (arith, (has_place (act_codes deck) code (length deck.acts) known).within, length-map deck.acts (λ act. act.code))
+
+-- and so is that of a resource
+pub resource_number-within : (deck : Deck) (code : List ℕ) → IsSome (resource_named deck code) → resource_number deck code < length deck.resources
+resource_number-within deck code known =
+    omega (arith, (has_place (resource_codes deck) code (length deck.resources) known).within, length-map deck.resources (λ resource. resource.code))

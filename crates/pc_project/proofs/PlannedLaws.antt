@@ -1,19 +1,34 @@
 -- The project of a deck whose cards make one is planned.
-use Rattle.std.proofs.Common.{◌≡◌, ◌<◌, ◌≤◌, ◌+◌, ◌-◌, ◌*◌, ◌^◌, ℕ, length, get_or, map, sym, ap, ◌∙◌, arith}
-use Rattle.std.specs.Prelude.{slice_index}
+use Rattle.std.proofs.Common.{◌≡◌, ◌<◌, ◌≤◌, ◌+◌, ◌-◌, ◌*◌, ◌^◌, ℕ, [], Option, Some, None, length, get_or, map, refl, sym, ap, ◌∙◌, inl, inr, arith}
+use Rattle.std.specs.Prelude.{All, slice_index}
+use Rattle.std.specs.Option.{ForSome}
 use Rattle.std.proofs.Math.Nat.{mul-le-mul, pow-le-pow_left}
+use Rattle.std.proofs.lemmas.Bool.{cases_lt}
 use Rattle.std.proofs.lemmas.List.{get_or-map, length-map}
+use Rattle.std.proofs.lemmas.List.Elements.{All-from_get_or}
+use Rattle.pc_model.specs.declared.PieceRow.{PieceRow}
+use Rattle.pc_model.specs.declared.limits.TheConstants.{MAX_DURATION, MAX_PIECES_EACH, MAX_SLOPE, MAX_UNIT_DAYS, MAX_VARIANCE}
+use Rattle.pc_model.specs.Pieces.{ArePieces, slope_in, units_of}
 use Rattle.pc_model.specs.Schedule.{AreTerms, term_at}
+use Rattle.pc_crash.specs.Priced.{ArePiecesWithinLimits, piece_at}
 use Rattle.pc_crash.specs.Terms.{AreWithinLimits}
 use Rattle.pc_times.specs.Times.{AreLengths}
-use Rattle.pc_deck.specs.declared.cards.ActCard.{ActCard}
-use Rattle.pc_deck.specs.Deck.{Deck, act_codes, event_codes, item_codes}
+use Rattle.pc_deck.specs.declared.kinds.act.ActCard.{ActCard}
+use Rattle.pc_deck.specs.declared.kinds.load.LoadCard.{LoadCard}
+use Rattle.pc_deck.specs.declared.kinds.piece.PieceCard.{PieceCard}
+use Rattle.pc_deck.specs.declared.kinds.terms.TermsCard.{TermsCard}
+use Rattle.pc_deck.specs.Deck.{Deck, act_codes, event_codes, item_codes, resource_codes}
+use Rattle.pc_deck.specs.Terms.{AreTermsWithin}
 use Rattle.pc_deck.specs.Within.{IsWithinLimits}
-use Rattle.pc_project.specs.Project.{Project, arc_of, counts_of, expected_of, heading_of, network_of, place_of, project_in, row_of, rows_of, term_of, variance_in}
+use Rattle.pc_project.specs.Project.{Project, arc_of, counts_of, expected_of, heading_of, load_of, network_of, piece_of, pieces_in, place_of, project_in, row_of, rows_of, term_of, terms_in, time_terms_of, variance_in}
 use Rattle.pc_project.specs.Misfit.{HasNoMisfit}
+use Rattle.pc_project.specs.declared.load.LoadItem.{LoadItem}
+use Rattle.pc_project.specs.PieceFaults.{HasNoPieceFault, pieces_before, one_too_many, not_rising, none_left}
+use Rattle.pc_project.specs.TermsFaults.{HasNoTermsFault, bonus_above}
 use Rattle.pc_project.specs.Refusal.{MakesProject}
-use Rattle.pc_project.specs.Planned.{IsPlanned}
-use Rattle.pc_project.proofs.FitLaws.{all_fit, network_of-in_range, no_act, place_of-within}
+use Rattle.pc_project.specs.Planned.{AreTimeTerms, IsLoad, IsPlanned}
+use Rattle.pc_project.proofs.FitLaws.{all_fit, load_known, network_of-in_range, no_act, piece_activity-within, place_of-within}
+use Rattle.pc_project.proofs.PieceLaws.{ArePieces-flawless}
 
 -- the card of activity a
 abbrev card_at : Deck → ℕ → ActCard
@@ -24,13 +39,13 @@ term_there : (deck : Deck) (a : ℕ) → a < length deck.acts → term_at (map t
 term_there deck a within = get_or-map term_of deck.acts a no_act (record { normal = 0; crash = 0; cost = 0; slope = 0 }) within
 
 -- an expected time is no longer than the longest estimate in the longest unit
-expected_small : (opt likely pess unit : ℕ) → opt ≤ likely → likely ≤ pess → pess ≤ 100000 → unit ≤ 7 → (opt + 4 * likely + pess) * unit ≤ 4200000
+expected_small : (opt likely pess unit : ℕ) → opt ≤ likely → likely ≤ pess → pess ≤ MAX_DURATION → unit ≤ MAX_UNIT_DAYS → (opt + 4 * likely + pess) * unit ≤ 4200000
 expected_small opt likely pess unit low high most few =
     let times : opt + 4 * likely + pess ≤ 600000 = omega arith in
     mul-le-mul times few
 
 -- a variance is no greater than that of the widest estimates in the longest unit
-variance_small : (opt pess unit : ℕ) → pess ≤ 100000 → unit ≤ 7 → (pess - opt) ^ 2 * unit ^ 2 ≤ 490000000000
+variance_small : (opt pess unit : ℕ) → pess ≤ MAX_DURATION → unit ≤ MAX_UNIT_DAYS → (pess - opt) ^ 2 * unit ^ 2 ≤ MAX_VARIANCE
 variance_small opt pess unit most few =
     let range : pess - opt ≤ 100000 = omega arith in
     let square : (pess - opt) ^ 2 ≤ 100000 ^ 2 = pow-le-pow_left range 2 in
@@ -72,7 +87,7 @@ module _ (deck : Deck) (limits : IsWithinLimits deck) (none : HasNoMisfit deck) 
         omega (arith, bound, get_or-map (expected_of deck) deck.acts a no_act 0 inside);
   }
 
-  small_variance : (a : ℕ) → a < length (network_of deck).arcs → slice_index (map (variance_in deck) deck.acts) a ≤ 490000000000
+  small_variance : (a : ℕ) → a < length (network_of deck).arcs → slice_index (map (variance_in deck) deck.acts) a ≤ MAX_VARIANCE
   small_variance a below =
       let inside = inside_arcs a below in
       let card = card_at deck a in
@@ -83,6 +98,67 @@ module _ (deck : Deck) (limits : IsWithinLimits deck) (none : HasNoMisfit deck) 
   item_there a below =
       let inside = inside_arcs a below in
       omega (arith, place_of-within deck none a inside, get_or-map (place_of deck) deck.acts a no_act 0 inside, length-map deck.items (row_of deck))
+
+-- cards to read past the end of the cards, where no one looks
+pub no_piece : PieceCard
+no_piece = record { row = 0; activity = []; units = 0; slope = 0 }
+
+no_load : LoadCard
+no_load = record { row = 0; activity = []; resource = []; quantity = 0 }
+
+-- the piece at a place is that of the card there
+pub piece_there : (deck : Deck) (i : ℕ) → i < length deck.pieces → piece_at (pieces_in deck) i ≡ piece_of deck (get_or deck.pieces i no_piece)
+piece_there deck i within = get_or-map (piece_of deck) deck.pieces i no_piece (record { activity = 0; units = 0; slope = 0 }) within
+
+-- the pieces of a deck without faults
+pieces_of_deck : (deck : Deck) → HasNoMisfit deck → HasNoPieceFault deck → ArePieces (terms_in deck) (pieces_in deck)
+pieces_of_deck deck cards none =
+    ArePieces-flawless (terms_in deck) (pieces_in deck)
+    (λ i within.
+    let inside : i < length deck.pieces = omega (arith, within, length-map deck.pieces (piece_of deck)) in
+    omega (arith, ap (λ (p : PieceRow). p.activity) (piece_there deck i inside), piece_activity-within deck cards i no_piece inside, length-map deck.acts term_of))
+    (λ i within.
+    let inside : i < length deck.pieces = omega (arith, within, length-map deck.pieces (piece_of deck)) in
+    let a = (piece_at (pieces_in deck) i).activity in
+    let before = pieces_before (pieces_in deck) i in
+    record {
+      few = elim (cases_lt (length before) MAX_PIECES_EACH) [ inl fine ↦ fine | inr many ↦ absurd (none _ (i, inside, one_too_many many refl)) ];
+      rising = elim (cases_lt (slope_in (term_at (terms_in deck) a) before (length before)) (piece_at (pieces_in deck) i).slope) [ inl fine ↦ fine | inr low ↦ absurd (none _ (i, inside, not_rising low refl)) ];
+      leaving = elim (cases_lt ((term_at (terms_in deck) a).crash + (units_of before + (piece_at (pieces_in deck) i).units)) (term_at (terms_in deck) a).normal) [ inl fine ↦ fine | inr long ↦ absurd (none _ (i, inside, none_left long refl)) ];
+    })
+
+-- they are within their limits
+within_pieces : (deck : Deck) → IsWithinLimits deck → ArePiecesWithinLimits (pieces_in deck)
+within_pieces deck limits = record {
+  few = omega (arith, length-map deck.pieces (piece_of deck), limits.few_pieces);
+  gentle = All-from_get_or (λ (piece : PieceRow). piece.slope ≤ MAX_SLOPE) (pieces_in deck) (record { activity = 0; units = 0; slope = 0 }) (λ i within.
+      let inside : i < length deck.pieces = omega (arith, within, length-map deck.pieces (piece_of deck)) in
+      omega (arith, ap (λ (p : PieceRow). p.slope) (piece_there deck i inside), (limits.pieces_within i no_piece inside).slope));
+}
+
+-- the loads of a deck without faults
+loads_of_deck : (deck : Deck) → HasNoMisfit deck → IsWithinLimits deck → All (IsLoad (project_in deck)) (map (load_of deck) deck.loads)
+loads_of_deck deck cards limits =
+    All-from_get_or (IsLoad (project_in deck)) (map (load_of deck) deck.loads) (record { activity = 0; resource = 0; quantity = 0 }) (λ i within.
+    let inside : i < length deck.loads = omega (arith, within, length-map deck.loads (load_of deck)) in
+    let load = get_or-map (load_of deck) deck.loads i no_load (record { activity = 0; resource = 0; quantity = 0 }) inside in
+    let known = load_known deck cards i no_load inside in
+    record {
+      activity = omega (arith, ap (λ (l : LoadItem). l.activity) load, known.0, length-map deck.acts (arc_of deck));
+      resource = omega (arith, ap (λ (l : LoadItem). l.resource) load, known.1, length-map deck.resources (λ resource. resource.code));
+      quantity = omega (arith, ap (λ (l : LoadItem). l.quantity) load, limits.loads_within i no_load inside);
+    })
+
+-- the terms of time
+time_terms_of_deck : (deck : Deck) (terms : Option TermsCard) → HasNoTermsFault deck → ForSome deck.terms AreTermsWithin → deck.terms ≡ terms → AreTimeTerms (time_terms_of terms)
+time_terms_of_deck deck None none within is = record { overhead = omega arith; target = omega arith; bonus = omega arith; penalty = omega arith }
+time_terms_of_deck deck (Some card) none within is =
+    let fit = within card is in record {
+      overhead = fit.overhead;
+      target = fit.target;
+      bonus = elim (cases_lt card.penalty card.bonus) [ inl above ↦ absurd (none _ (bonus_above card is above refl)) | inr fine ↦ fine ];
+      penalty = fit.penalty;
+    }
 
 -- the project of cards that make one
 pub project_in-planned : (deck : Deck) → MakesProject deck → IsWithinLimits deck → IsPlanned (project_in deck)
@@ -105,11 +181,19 @@ project_in-planned deck makes limits = record {
   item_titles = length-map deck.items (λ item. item.title) ∙ sym (length-map deck.items (row_of deck));
   unit_days = limits.project_within.unit_within;
   directed = limits.project_within.directed_within;
+  events_differ = limits.events_differ;
+  activities_differ = limits.acts_differ;
+  pieces = pieces_of_deck deck makes.cards makes.pieces;
+  piece_limits = within_pieces deck limits;
+  few_resources = omega (arith, length-map deck.resources (λ resource. resource.code), limits.few_resources);
+  few_loads = omega (arith, length-map deck.loads (load_of deck), limits.few_loads);
+  loads = loads_of_deck deck makes.cards limits;
+  time_terms = time_terms_of_deck deck deck.terms makes.terms limits.terms_within refl;
 }
 
 -- the project of a deck, from its parts
-pub project_in-is : (deck : Deck) (project : Project) → project.heading ≡ heading_of deck → project.network ≡ network_of deck → project.tree ≡ rows_of deck → project.events ≡ event_codes deck → project.activities ≡ act_codes deck → project.places ≡ map (place_of deck) deck.acts → project.terms ≡ map term_of deck.acts → project.expected ≡ map (expected_of deck) deck.acts → project.variances ≡ map (variance_in deck) deck.acts → project.items ≡ item_codes deck → project.titles ≡ map (λ item. item.title) deck.items → project.counts ≡ counts_of deck → project ≡ project_in deck
-project_in-is deck project heading network tree events activities places terms expected variances items titles counts =
+pub project_in-is : (deck : Deck) (project : Project) → project.heading ≡ heading_of deck → project.network ≡ network_of deck → project.tree ≡ rows_of deck → project.events ≡ event_codes deck → project.activities ≡ act_codes deck → project.places ≡ map (place_of deck) deck.acts → project.terms ≡ map term_of deck.acts → project.expected ≡ map (expected_of deck) deck.acts → project.variances ≡ map (variance_in deck) deck.acts → project.items ≡ item_codes deck → project.titles ≡ map (λ item. item.title) deck.items → project.pieces ≡ pieces_in deck → project.resources ≡ resource_codes deck → project.loads ≡ map (load_of deck) deck.loads → project.time_terms ≡ time_terms_of deck.terms → project.counts ≡ counts_of deck → project ≡ project_in deck
+project_in-is deck project heading network tree events activities places terms expected variances items titles pieces resources loads time_terms counts =
     λ i. record {
       heading = heading i;
       network = network i;
@@ -122,5 +206,9 @@ project_in-is deck project heading network tree events activities places terms e
       variances = variances i;
       items = items i;
       titles = titles i;
+      pieces = pieces i;
+      resources = resources i;
+      loads = loads i;
+      time_terms = time_terms i;
       counts = counts i;
     }

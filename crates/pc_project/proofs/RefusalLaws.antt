@@ -1,5 +1,6 @@
 -- A deck is not both a project and refused, and each refusal can be told.
 use Rattle.std.proofs.Common.{◌≡◌, ◌≢◌, refl, sym, ◌∙◌, subst, ap}
+use Rattle.pc_model.specs.Network.{IsSound}
 use Rattle.pc_wbs.specs.declared.error.TreeError.{TreeError}
 use Rattle.pc_wbs.specs.declared.error.TreeError.TheVariants as tree
 use Rattle.pc_wbs.specs.Climb.{IsTree}
@@ -9,22 +10,27 @@ use Rattle.pc_net.specs.declared.refusal.NetError.{NetError}
 use Rattle.pc_net.specs.declared.refusal.NetError.TheVariants as net
 use Rattle.pc_net.specs.Refusals.{IsRefusal as IsNetRefusal}
 use Rattle.pc_net.proofs.RefusalLaws.{refused_is_not_sound}
-use Rattle.pc_deck.specs.declared.cards.AcctCard.{AcctCard}
-use Rattle.pc_deck.specs.declared.cards.ActCard.{ActCard}
-use Rattle.pc_deck.specs.declared.cards.ItemCard.{ItemCard}
-use Rattle.pc_deck.specs.declared.cards.MoneyCard.{MoneyCard}
-use Rattle.pc_deck.specs.declared.cards.ProjectCard.{ProjectCard}
-use Rattle.pc_deck.specs.declared.cards.StatusCard.{StatusCard}
+use Rattle.pc_deck.specs.declared.kinds.acct.AcctCard.{AcctCard}
+use Rattle.pc_deck.specs.declared.kinds.act.ActCard.{ActCard}
+use Rattle.pc_deck.specs.declared.kinds.wbs.ItemCard.{ItemCard}
+use Rattle.pc_deck.specs.declared.kinds.load.LoadCard.{LoadCard}
+use Rattle.pc_deck.specs.declared.kinds.money.MoneyCard.{MoneyCard}
+use Rattle.pc_deck.specs.declared.kinds.piece.PieceCard.{PieceCard}
+use Rattle.pc_deck.specs.declared.kinds.project.ProjectCard.{ProjectCard}
+use Rattle.pc_deck.specs.declared.kinds.status.StatusCard.{StatusCard}
 use Rattle.pc_deck.specs.Deck.{Deck}
-use Rattle.pc_deck.specs.FaultText.{IsTold}
-use Rattle.pc_deck.specs.Refusal.{Refuses}
-use Rattle.pc_deck.specs.declared.fault.Fault.{Fault as ADeckFault}
-use Rattle.pc_deck.specs.declared.fault.DeckError.{DeckError}
-use Rattle.pc_deck.specs.declared.fault.DeckError.TheVariants.{Fault, OutOfMemory}
+use Rattle.pc_faults.specs.FaultText.{IsTold}
+use Rattle.pc_faults.specs.First.{IsFirst, Refuses}
+use Rattle.pc_faults.specs.declared.fault.Fault.{Fault as ADeckFault}
+use Rattle.pc_faults.specs.declared.fault.DeckError.{DeckError}
+use Rattle.pc_faults.specs.declared.fault.DeckError.TheVariants.{Fault, OutOfMemory}
 use Rattle.pc_project.specs.Project.{network_of, rows_of}
-use Rattle.pc_project.specs.Misfit.{HasProjectFault, HasItemFault, HasActFault, HasAccountFault, HasMoneyFault, HasStatusFault, HasFigureFault, HasMisfit, HasNoMisfit}
+use Rattle.pc_project.specs.Misfit.{HasProjectFault, HasItemFault, HasActFault, HasAccountFault, HasMoneyFault, HasStatusFault, HasPieceCardFault, HasLoadFault, HasFigureFault, HasMisfit, HasNoMisfit}
 use Rattle.pc_project.specs.Misfit as has
-use Rattle.pc_project.specs.Refusal.{tree_fault, net_fault, MakesProject, IsRefusedWith, of_cards, of_tree, of_network}
+use Rattle.pc_project.specs.PieceFaults as piece
+use Rattle.pc_project.specs.PieceFaults.{HasPieceFault}
+use Rattle.pc_project.specs.TermsFaults.{HasTermsFault, bonus_above}
+use Rattle.pc_project.specs.Refusal.{tree_fault, net_fault, MakesProject, IsRefusedWith, of_cards, of_tree, of_network, of_pieces, of_terms}
 
 -- want of memory is no fault
 no_fault : (fault : ADeckFault) → OutOfMemory ≡ Fault fault → ⊥
@@ -43,6 +49,8 @@ makes_not_refused deck fault makes (of_tree cards e refused is) =
     tree_has_fault deck e fault is (IsTree-not_refused (rows_of deck) e makes.tree refused)
 makes_not_refused deck fault makes (of_network cards items e refused is) =
     refused_is_not_sound (network_of deck) e refused (net_has_fault deck e fault is) makes.sound
+makes_not_refused deck fault makes (of_pieces plan first) = makes.pieces fault first.holds
+makes_not_refused deck fault makes (of_terms plan pieces first) = makes.terms fault first.holds
 
 -- a fault that is this one can be told where this one can
 told : (fault known : ADeckFault) → fault ≡ known → IsTold known → IsTold fault
@@ -71,7 +79,14 @@ told_of-money : (deck : Deck) (card : MoneyCard) (fault : ADeckFault) → HasMon
 told_of-money deck card fault (has.unknown_account none is) = told fault _ is refl
 
 told_of-status : (deck : Deck) (card : StatusCard) (fault : ADeckFault) → HasStatusFault deck card fault → IsTold fault
-told_of-status deck card fault (has.unknown_activity none is) = told fault _ is refl
+told_of-status deck card fault (has.HasStatusFault.unknown_activity none is) = told fault _ is refl
+
+told_of-piece_card : (deck : Deck) (card : PieceCard) (fault : ADeckFault) → HasPieceCardFault deck card fault → IsTold fault
+told_of-piece_card deck card fault (has.HasPieceCardFault.unknown_activity none is) = told fault _ is refl
+
+told_of-load : (deck : Deck) (card : LoadCard) (fault : ADeckFault) → HasLoadFault deck card fault → IsTold fault
+told_of-load deck card fault (has.HasLoadFault.unknown_activity none is) = told fault _ is refl
+told_of-load deck card fault (has.HasLoadFault.unknown_resource none is) = told fault _ is refl
 
 told_of-figure : (deck : Deck) (fault : ADeckFault) → HasFigureFault deck fault → IsTold fault
 told_of-figure deck fault (has.account (k, card, within, at, here)) = told_of-account deck card fault here
@@ -83,7 +98,17 @@ told_of-misfit : (deck : Deck) (fault : ADeckFault) → HasMisfit deck fault →
 told_of-misfit deck fault (has.project here) = told_of-project deck deck.project fault here
 told_of-misfit deck fault (has.item (k, card, within, at, here)) = told_of-item deck card fault here
 told_of-misfit deck fault (has.act (k, card, within, at, here)) = told_of-act deck card fault here
+told_of-misfit deck fault (has.piece (k, card, within, at, here)) = told_of-piece_card deck card fault here
+told_of-misfit deck fault (has.load (k, card, within, at, here)) = told_of-load deck card fault here
 told_of-misfit deck fault (has.figure here) = told_of-figure deck fault here
+
+told_of-piece : (deck : Deck) (fault : ADeckFault) → HasPieceFault deck fault → IsTold fault
+told_of-piece deck fault (i, within, piece.one_too_many many is) = told fault _ is refl
+told_of-piece deck fault (i, within, piece.not_rising low is) = told fault _ is refl
+told_of-piece deck fault (i, within, piece.none_left long is) = told fault _ is refl
+
+told_of-terms : (deck : Deck) (fault : ADeckFault) → HasTermsFault deck fault → IsTold fault
+told_of-terms deck fault (bonus_above card there above is) = told fault _ is refl
 
 -- the fault of an answer
 fault_of : (known fault : ADeckFault) → Fault known ≡ Fault fault → IsTold known → IsTold fault
@@ -108,6 +133,8 @@ pub told_of-refused : (deck : Deck) (fault : ADeckFault) → IsRefusedWith deck 
 told_of-refused deck fault (of_cards first) = told_of-misfit deck fault first.holds
 told_of-refused deck fault (of_tree cards e refused is) = told_of-tree deck e fault is
 told_of-refused deck fault (of_network cards items e refused is) = told_of-net deck e fault is
+told_of-refused deck fault (of_pieces plan first) = told_of-piece deck fault first.holds
+told_of-refused deck fault (of_terms plan pieces first) = told_of-terms deck fault first.holds
 
 -- what a refusal that is told as one of the tree, or of the network, says
 pub refused_by_tree : (deck : Deck) (e : TreeError) (result : DeckError) → HasNoMisfit deck → IsTreeRefusal (rows_of deck) e → Refuses (λ fault. tree_fault deck e ≡ Fault fault) result → Refuses (IsRefusedWith deck) result
@@ -117,3 +144,8 @@ refused_by_tree deck e OutOfMemory cards refused is = tt
 pub refused_by_net : (deck : Deck) (e : NetError) (result : DeckError) → HasNoMisfit deck → IsTree (rows_of deck) → IsNetRefusal (network_of deck) e → Refuses (λ fault. net_fault deck e ≡ Fault fault) result → Refuses (IsRefusedWith deck) result
 refused_by_net deck e (Fault fault) cards items refused is = of_network cards items e refused is
 refused_by_net deck e OutOfMemory cards items refused is = tt
+
+-- what a fault of the pieces, or of the terms of time, says
+pub refused_by_pieces : (deck : Deck) (result : DeckError) → HasNoMisfit deck → IsTree (rows_of deck) → IsSound (network_of deck) → Refuses (IsFirst (HasPieceFault deck)) result → Refuses (IsRefusedWith deck) result
+refused_by_pieces deck (Fault fault) cards items sound first = of_pieces (record { cards = cards; tree = items; sound = sound }) first
+refused_by_pieces deck OutOfMemory cards items sound first = tt

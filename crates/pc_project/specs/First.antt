@@ -1,7 +1,7 @@
 -- The first of several faults: at the least record, and there the least number.
 use Rattle.std.specs.Prelude.{Bool, ◌&&◌, ◌||◌, ◌==◌, nat_lt, nat_le, Option, Some, None, MatchOption, if◌then◌else◌}
-use Rattle.pc_deck.specs.Refusal.{IsFirst}
-use Rattle.pc_deck.specs.declared.fault.Fault.{Fault}
+use Rattle.pc_faults.specs.First.{IsFirst}
+use Rattle.pc_faults.specs.declared.fault.Fault.{Fault}
 
 -- the first of the faults, or none where there are none
 abbrev pub IsFirstIn : (Fault → Type 0) → Option Fault → Type 0

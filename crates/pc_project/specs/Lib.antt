@@ -1,7 +1,11 @@
 pub mod Project
 pub mod Misfit
 pub mod First
+pub mod PieceFaults
+pub mod TermsFaults
 pub mod Refusal
+pub mod Numbered
+pub mod Runs
 pub mod Planned
 pub mod Parts
 pub use Rattle.pc_model.specs.Network

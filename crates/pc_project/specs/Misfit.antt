@@ -1,20 +1,17 @@
--- The faults of single cards: what they name is not there, or their numbers are out of order (F13 to F19).
+-- The faults of single cards: what they name is not there, or their numbers are out of order (F13 to F19, F41).
 use Rattle.std.specs.Prelude.{◌≡◌, ℕ, ◌<◌, ◌≤◌, List, IsSome, None, Some}
 use Rattle.std.specs.List.{Any}
-use Rattle.pc_deck.specs.declared.cards.AcctCard.{AcctCard}
-use Rattle.pc_deck.specs.declared.cards.ActCard.{ActCard}
-use Rattle.pc_deck.specs.declared.cards.ItemCard.{ItemCard}
-use Rattle.pc_deck.specs.declared.cards.MoneyCard.{MoneyCard}
-use Rattle.pc_deck.specs.declared.cards.ProjectCard.{ProjectCard}
-use Rattle.pc_deck.specs.declared.cards.StatusCard.{StatusCard}
-use Rattle.pc_deck.specs.Deck.{Deck, event_named, item_named, act_named, account_named}
-use Rattle.pc_deck.specs.declared.fault.Detail.TheVariants.{Name}
-use Rattle.pc_deck.specs.declared.fault.Fault.{Fault}
-use Rattle.pc_deck.specs.Judged.{plain_fault}
-
--- a fault that names a code
-abbrev pub naming : ℕ → ℕ → List ℕ → Fault
-naming row number code = record { row = row; number = number; detail = Name code }
+use Rattle.pc_deck.specs.declared.kinds.acct.AcctCard.{AcctCard}
+use Rattle.pc_deck.specs.declared.kinds.act.ActCard.{ActCard}
+use Rattle.pc_deck.specs.declared.kinds.wbs.ItemCard.{ItemCard}
+use Rattle.pc_deck.specs.declared.kinds.load.LoadCard.{LoadCard}
+use Rattle.pc_deck.specs.declared.kinds.piece.PieceCard.{PieceCard}
+use Rattle.pc_deck.specs.declared.kinds.money.MoneyCard.{MoneyCard}
+use Rattle.pc_deck.specs.declared.kinds.project.ProjectCard.{ProjectCard}
+use Rattle.pc_deck.specs.declared.kinds.status.StatusCard.{StatusCard}
+use Rattle.pc_deck.specs.Deck.{Deck, event_named, item_named, act_named, account_named, resource_named}
+use Rattle.pc_faults.specs.Faults as told
+use Rattle.pc_faults.specs.declared.fault.Fault.{Fault}
 
 -- some EVENT card has the code
 abbrev pub IsEvent : Deck → List ℕ → Type 0
@@ -28,40 +25,51 @@ pub record IsInOrder (act : ActCard) : Type 0 where
 -- the faults of the PROJECT card
 pub data HasProjectFault (deck : Deck) (card : ProjectCard) (fault : Fault) : Type 0 where
   -- F13: the start, or else the end, is no event
-  unknown_start : event_named deck card.start ≡ None → fault ≡ naming card.row 13 card.start → HasProjectFault deck card fault
-  unknown_end : IsEvent deck card.start → event_named deck card.end ≡ None → fault ≡ naming card.row 13 card.end → HasProjectFault deck card fault
+  unknown_start : event_named deck card.start ≡ None → fault ≡ told.unknown_event card.row card.start → HasProjectFault deck card fault
+  unknown_end : IsEvent deck card.start → event_named deck card.end ≡ None → fault ≡ told.unknown_event card.row card.end → HasProjectFault deck card fault
   -- F17: the start is the end
-  same_ends : card.start ≡ card.end → fault ≡ naming card.row 17 card.start → HasProjectFault deck card fault
+  same_ends : card.start ≡ card.end → fault ≡ told.one_event card.row card.start → HasProjectFault deck card fault
 
 -- the fault of a WBS card, F14: its parent is no item
 pub data HasItemFault (deck : Deck) (card : ItemCard) (fault : Fault) : Type 0 where
-  unknown_parent : (code : List ℕ) → card.parent ≡ Some code → item_named deck code ≡ None → fault ≡ naming card.row 14 code → HasItemFault deck card fault
+  unknown_parent : (code : List ℕ) → card.parent ≡ Some code → item_named deck code ≡ None → fault ≡ told.unknown_item card.row code → HasItemFault deck card fault
 
 -- the faults of an ACT card
 pub data HasActFault (deck : Deck) (card : ActCard) (fault : Fault) : Type 0 where
   -- F13: where it begins, or else where it ends, is no event
-  unknown_from : event_named deck card.from ≡ None → fault ≡ naming card.row 13 card.from → HasActFault deck card fault
-  unknown_to : IsEvent deck card.from → event_named deck card.to ≡ None → fault ≡ naming card.row 13 card.to → HasActFault deck card fault
+  unknown_from : event_named deck card.from ≡ None → fault ≡ told.unknown_event card.row card.from → HasActFault deck card fault
+  unknown_to : IsEvent deck card.from → event_named deck card.to ≡ None → fault ≡ told.unknown_event card.row card.to → HasActFault deck card fault
   -- F14: its item is no item
-  unknown_item : item_named deck card.item ≡ None → fault ≡ naming card.row 14 card.item → HasActFault deck card fault
+  unknown_item : item_named deck card.item ≡ None → fault ≡ told.unknown_item card.row card.item → HasActFault deck card fault
   -- F17: it begins where it ends
-  same_events : card.from ≡ card.to → fault ≡ naming card.row 17 card.from → HasActFault deck card fault
+  same_events : card.from ≡ card.to → fault ≡ told.one_event card.row card.from → HasActFault deck card fault
   -- F18: its estimates are out of order
-  unordered : (IsInOrder card → ⊥) → fault ≡ plain_fault card.row 18 → HasActFault deck card fault
+  unordered : (IsInOrder card → ⊥) → fault ≡ told.estimates_disorder card.row → HasActFault deck card fault
   -- F19: its crash duration is above the normal one
-  crash_above : card.normal < card.crash → fault ≡ plain_fault card.row 19 → HasActFault deck card fault
+  crash_above : card.normal < card.crash → fault ≡ told.crash_above_normal card.row → HasActFault deck card fault
 
 -- the fault of an ACCT card, F14: its item is no item
 pub data HasAccountFault (deck : Deck) (card : AcctCard) (fault : Fault) : Type 0 where
-  unknown_item : item_named deck card.item ≡ None → fault ≡ naming card.row 14 card.item → HasAccountFault deck card fault
+  unknown_item : item_named deck card.item ≡ None → fault ≡ told.unknown_item card.row card.item → HasAccountFault deck card fault
 
 -- the fault of a CHARGE or TOGO card, F15: its account is no account
 pub data HasMoneyFault (deck : Deck) (card : MoneyCard) (fault : Fault) : Type 0 where
-  unknown_account : account_named deck card.account ≡ None → fault ≡ naming card.row 15 card.account → HasMoneyFault deck card fault
+  unknown_account : account_named deck card.account ≡ None → fault ≡ told.unknown_account card.row card.account → HasMoneyFault deck card fault
 
 -- the fault of a STATUS card, F16: its activity is no activity
 pub data HasStatusFault (deck : Deck) (card : StatusCard) (fault : Fault) : Type 0 where
-  unknown_activity : act_named deck card.activity ≡ None → fault ≡ naming card.row 16 card.activity → HasStatusFault deck card fault
+  unknown_activity : act_named deck card.activity ≡ None → fault ≡ told.unknown_activity card.row card.activity → HasStatusFault deck card fault
+
+-- the fault of a PIECE card, F16: its activity is no activity
+pub data HasPieceCardFault (deck : Deck) (card : PieceCard) (fault : Fault) : Type 0 where
+  unknown_activity : act_named deck card.activity ≡ None → fault ≡ told.unknown_activity card.row card.activity → HasPieceCardFault deck card fault
+
+-- the faults of a LOAD card
+pub data HasLoadFault (deck : Deck) (card : LoadCard) (fault : Fault) : Type 0 where
+  -- F16: its activity is no activity
+  unknown_activity : act_named deck card.activity ≡ None → fault ≡ told.unknown_activity card.row card.activity → HasLoadFault deck card fault
+  -- F41: its resource is no resource
+  unknown_resource : resource_named deck card.resource ≡ None → fault ≡ told.unknown_resource card.row card.resource → HasLoadFault deck card fault
 
 -- the faults of the cards that give figures: accounts, charges, amounts to go and status
 pub data HasFigureFault (deck : Deck) (fault : Fault) : Type 0 where
@@ -75,6 +83,8 @@ pub data HasMisfit (deck : Deck) (fault : Fault) : Type 0 where
   project : HasProjectFault deck deck.project fault → HasMisfit deck fault
   item : Any (λ card. HasItemFault deck card fault) deck.items → HasMisfit deck fault
   act : Any (λ card. HasActFault deck card fault) deck.acts → HasMisfit deck fault
+  piece : Any (λ card. HasPieceCardFault deck card fault) deck.pieces → HasMisfit deck fault
+  load : Any (λ card. HasLoadFault deck card fault) deck.loads → HasMisfit deck fault
   figure : HasFigureFault deck fault → HasMisfit deck fault
 
 -- no card of the deck has a fault

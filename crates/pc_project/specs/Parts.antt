@@ -16,6 +16,10 @@ project_from a = record {
   variances = a.variances.items;
   items = a.items.items;
   titles = a.titles.items;
+  pieces = a.pieces.items;
+  resources = a.resources.items;
+  loads = a.loads.items;
+  time_terms = a.time_terms;
   counts = a.counts;
 }
 

@@ -1,16 +1,34 @@
 -- What holds of every project.
-use Rattle.std.specs.Prelude.{◌≡◌, ℕ, ◌<◌, ◌≤◌, length, slice_index}
+use Rattle.std.specs.Prelude.{◌≡◌, ℕ, ◌<◌, ◌≤◌, All, length, slice_index}
 use Rattle.std.specs.Option.{ForSome}
 use Rattle.pc_model.specs.Network.{IsInRange, IsSound}
 use Rattle.pc_model.specs.Schedule.{AreTerms}
+use Rattle.pc_model.specs.Pieces.{ArePieces}
+use Rattle.pc_crash.specs.Priced.{ArePiecesWithinLimits, IsNamedOnce}
 use Rattle.pc_crash.specs.Terms.{AreWithinLimits}
 use Rattle.pc_wbs.specs.Climb.{IsTree}
 use Rattle.pc_times.specs.Times.{AreLengths}
-use Rattle.pc_deck.specs.declared.cards.TheConstants.{EVENT_LIMIT, ITEM_LIMIT}
+use Rattle.pc_model.specs.declared.limits.TheConstants.{MAX_COST, MAX_DIRECTED, MAX_EVENTS, MAX_ITEMS, MAX_LOADS, MAX_RESOURCES, MAX_TERMS, MAX_UNIT_DAYS, MAX_VARIANCE}
 use Rattle.pc_project.specs.Project.{Project}
+use Rattle.pc_project.specs.declared.heading.TimeTerms.{TimeTerms}
+use Rattle.pc_project.specs.declared.load.LoadItem.{LoadItem}
 
--- the network is sound and the items are a tree; each activity has its term within the limits, its expected time, its
--- variance and its item; and each event, activity and item has its code
+-- the load is one of an activity on a resource, and its quantity within the limit of money
+pub record IsLoad (project : Project) (load : LoadItem) : Type 0 where
+  pub activity : load.activity < length project.network.arcs
+  pub resource : load.resource < length project.resources
+  pub quantity : load.quantity ≤ MAX_COST
+
+-- the terms of time are within their limit, and the bonus is not above the penalty
+pub record AreTimeTerms (terms : TimeTerms) : Type 0 where
+  pub overhead : terms.overhead ≤ MAX_TERMS
+  pub target : terms.target ≤ MAX_TERMS
+  pub bonus : terms.bonus ≤ terms.penalty
+  pub penalty : terms.penalty ≤ MAX_TERMS
+
+-- the network is sound and the items are a tree; each activity has its term and the pieces of its cost within the limits,
+-- its expected time, its variance and its item; each event, activity and item has its code, no event and no activity that
+-- of another; and loads and terms of time are within their limits
 pub record IsPlanned (project : Project) : Type 0 where
   pub in_range : IsInRange project.network
   pub sound : IsSound project.network
@@ -19,14 +37,22 @@ pub record IsPlanned (project : Project) : Type 0 where
   pub limits : AreWithinLimits project.terms
   pub lengths : AreLengths project.network project.expected
   pub variance_each : length project.variances ≡ length project.network.arcs
-  pub small_variances : (a : ℕ) → a < length project.network.arcs → slice_index project.variances a ≤ 490000000000
+  pub small_variances : (a : ℕ) → a < length project.network.arcs → slice_index project.variances a ≤ MAX_VARIANCE
   pub place_each : length project.places ≡ length project.network.arcs
   pub placed : (a : ℕ) → a < length project.network.arcs → slice_index project.places a < length project.tree
-  pub few_events : project.network.events ≤ EVENT_LIMIT
-  pub few_items : length project.tree ≤ ITEM_LIMIT
+  pub few_events : project.network.events ≤ MAX_EVENTS
+  pub few_items : length project.tree ≤ MAX_ITEMS
   pub event_codes : length project.events ≡ project.network.events
   pub activity_codes : length project.activities ≡ length project.network.arcs
   pub item_codes : length project.items ≡ length project.tree
   pub item_titles : length project.titles ≡ length project.tree
-  pub unit_days : project.heading.unit_days ≤ 7
-  pub directed : ForSome project.heading.directed (λ days. days ≤ 1000000)
+  pub unit_days : project.heading.unit_days ≤ MAX_UNIT_DAYS
+  pub directed : ForSome project.heading.directed (λ days. days ≤ MAX_DIRECTED)
+  pub events_differ : IsNamedOnce project.events
+  pub activities_differ : IsNamedOnce project.activities
+  pub pieces : ArePieces project.terms project.pieces
+  pub piece_limits : ArePiecesWithinLimits project.pieces
+  pub few_resources : length project.resources ≤ MAX_RESOURCES
+  pub few_loads : length project.loads ≤ MAX_LOADS
+  pub loads : All (IsLoad project) project.loads
+  pub time_terms : AreTimeTerms project.time_terms

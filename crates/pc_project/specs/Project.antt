@@ -1,24 +1,31 @@
 -- The project of a deck: its lists in card order, with numbers for codes.
 use Rattle.std.specs.Prelude.{ℕ, ℤ, List, [], length, map, Option, Some, None, unwrap_or, slice_index, slice_index_or, option_and_then}
 use Rattle.pc_model.specs.declared.Arc.{Arc}
+use Rattle.pc_model.specs.declared.PieceRow.{PieceRow}
 use Rattle.pc_model.specs.declared.Term.{Term}
 use Rattle.pc_model.specs.Network.{Network}
 use Rattle.pc_model.specs.Schedule.{term_at}
 use Rattle.pc_model.specs.Walk.{from_of, to_of}
 use Rattle.pc_times.specs.Estimates.{expected_time, variance_of}
 use Rattle.pc_wbs.specs.declared.row.ItemRow.{ItemRow}
-use Rattle.pc_deck.specs.declared.cards.ActCard.{ActCard}
-use Rattle.pc_deck.specs.declared.cards.AsOfCard.{AsOfCard}
-use Rattle.pc_deck.specs.declared.cards.ItemCard.{ItemCard}
-use Rattle.pc_deck.specs.Deck.{Deck, act_codes, event_codes, item_codes, event_named, item_named, account_named, act_named}
+use Rattle.pc_deck.specs.declared.kinds.act.ActCard.{ActCard}
+use Rattle.pc_deck.specs.declared.kinds.as_of.AsOfCard.{AsOfCard}
+use Rattle.pc_deck.specs.declared.kinds.load.LoadCard.{LoadCard}
+use Rattle.pc_deck.specs.declared.kinds.piece.PieceCard.{PieceCard}
+use Rattle.pc_deck.specs.declared.kinds.terms.TermsCard.{TermsCard}
+use Rattle.pc_deck.specs.declared.kinds.wbs.ItemCard.{ItemCard}
+use Rattle.pc_deck.specs.Deck.{Deck, act_codes, event_codes, item_codes, event_named, item_named, account_named, act_named, resource_named, resource_codes}
 use Rattle.pc_project.specs.declared.heading.Counts.{Counts}
 use Rattle.pc_project.specs.declared.heading.Heading.{Heading}
+use Rattle.pc_project.specs.declared.heading.TimeTerms.{TimeTerms}
 use Rattle.pc_project.specs.declared.activity.Activity.{Activity}
+use Rattle.pc_project.specs.declared.load.LoadItem.{LoadItem}
 use Rattle.pc_project.specs.declared.placed.Placement.{Placement}
 
 -- what a project is: what it is called and when, the network of its activities, the tree of its items, and the lists
 -- of its events (codes), its activities (codes, items, what each may last and cost, expected times in sixths of a day
--- and their variances in thirty-sixths of a square day) and its items (codes, titles), all in card order
+-- and their variances in thirty-sixths of a square day), the further pieces of their costs, its items (codes, titles),
+-- its resources (codes) and the loads on them, all in card order; and what time costs
 pub record Project : Type 0 where
   pub heading : Heading
   pub network : Network
@@ -31,6 +38,10 @@ pub record Project : Type 0 where
   pub variances : List ℕ
   pub items : List (List ℕ)
   pub titles : List (List ℕ)
+  pub pieces : List PieceRow
+  pub resources : List (List ℕ)
+  pub loads : List LoadItem
+  pub time_terms : TimeTerms
   pub counts : Counts
 
 -- the number of the event with a code; the number of events where no event has it
@@ -49,6 +60,10 @@ account_number deck code = unwrap_or (account_named deck code) (length deck.acco
 abbrev pub act_number : Deck → List ℕ → ℕ
 act_number deck code = unwrap_or (act_named deck code) (length deck.acts)
 
+-- the number of the resource with a code; the number of resources where no resource has it
+abbrev pub resource_number : Deck → List ℕ → ℕ
+resource_number deck code = unwrap_or (resource_named deck code) (length deck.resources)
+
 -- the events where the activity of a card begins and ends
 abbrev pub arc_of : Deck → ActCard → Arc
 arc_of deck act = record { from = event_number deck act.from; to = event_number deck act.to }
@@ -64,6 +79,34 @@ placement_of deck act = record { arc = arc_of deck act; item = place_of deck act
 -- what the activity of a card may last and costs
 abbrev pub term_of : ActCard → Term
 term_of act = record { normal = act.normal; crash = act.crash; cost = act.cost; slope = act.slope }
+
+-- what the activities may last and cost
+abbrev pub terms_in : Deck → List Term
+terms_in deck = map term_of deck.acts
+
+-- the piece of a card
+abbrev pub piece_of : Deck → PieceCard → PieceRow
+piece_of deck piece = record { activity = act_number deck piece.activity; units = piece.units; slope = piece.slope }
+
+-- the pieces
+abbrev pub pieces_in : Deck → List PieceRow
+pieces_in deck = map (piece_of deck) deck.pieces
+
+-- the records of the PIECE cards, and the codes of the activities that they name
+abbrev pub piece_records : Deck → List ℕ
+piece_records deck = map (λ piece. piece.row) deck.pieces
+
+abbrev pub piece_codes : Deck → List (List ℕ)
+piece_codes deck = map (λ piece. piece.activity) deck.pieces
+
+-- the load of a card
+abbrev pub load_of : Deck → LoadCard → LoadItem
+load_of deck load = record { activity = act_number deck load.activity; resource = resource_number deck load.resource; quantity = load.quantity }
+
+-- what time costs, by the TERMS card; nothing without one
+abbrev pub time_terms_of : Option TermsCard → TimeTerms
+time_terms_of None = record { overhead = 0; target = 0; bonus = 0; penalty = 0 }
+time_terms_of (Some card) = record { overhead = card.overhead; target = card.target; bonus = card.bonus; penalty = card.penalty }
 
 -- the expected time of the activity of a card
 abbrev pub expected_of : Deck → ActCard → ℕ
@@ -126,11 +169,15 @@ project_in deck = record {
   events = event_codes deck;
   activities = act_codes deck;
   places = map (place_of deck) deck.acts;
-  terms = map term_of deck.acts;
+  terms = terms_in deck;
   expected = map (expected_of deck) deck.acts;
   variances = map (variance_in deck) deck.acts;
   items = item_codes deck;
   titles = map (λ item. item.title) deck.items;
+  pieces = pieces_in deck;
+  resources = resource_codes deck;
+  loads = map (load_of deck) deck.loads;
+  time_terms = time_terms_of deck.terms;
   counts = counts_of deck;
 }
 

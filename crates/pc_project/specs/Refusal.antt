@@ -1,6 +1,7 @@
 -- Why a deck whose cards were read is refused: the first fault, phase by phase. A phase counts only where none before
--- it has a fault: first the cards one by one (F13 to F19), then the tree of the items (F20 to F23, tried in that order),
--- then the network of the activities (F24 to F27, tried in that order).
+-- it has a fault: first the cards one by one (F13 to F19, F41), then the tree of the items (F20 to F23, tried in that
+-- order), then the network of the activities (F24 to F27, tried in that order), then the pieces of the activities' costs
+-- (F33 to F35), and last the terms of time (F36).
 use Rattle.std.specs.Prelude.{◌≡◌, ℕ, List, [], map, slice_index, slice_index_or}
 use Rattle.pc_model.specs.Network.{IsSound}
 use Rattle.pc_wbs.specs.Climb.{IsTree}
@@ -11,14 +12,15 @@ use Rattle.pc_net.specs.Refusals.{IsRefusal as IsNetRefusal}
 use Rattle.pc_net.specs.declared.refusal.NetError.{NetError}
 use Rattle.pc_net.specs.declared.refusal.NetError.TheVariants as net
 use Rattle.pc_deck.specs.Deck.{Deck, act_codes, event_codes, item_codes}
-use Rattle.pc_deck.specs.Judged.{plain_fault}
-use Rattle.pc_deck.specs.Refusal.{IsFirst}
-use Rattle.pc_deck.specs.declared.fault.Detail.TheVariants.{Names, Level, Side}
-use Rattle.pc_deck.specs.declared.fault.Fault.{Fault as ADeckFault}
-use Rattle.pc_deck.specs.declared.fault.DeckError.{DeckError}
-use Rattle.pc_deck.specs.declared.fault.DeckError.TheVariants.{Fault, OutOfMemory}
+use Rattle.pc_faults.specs.First.{IsFirst}
+use Rattle.pc_faults.specs.Faults.{no_top, second_top, item_loop, too_deep, enters_start, leaves_end, dangling, cycle}
+use Rattle.pc_faults.specs.declared.fault.Fault.{Fault as ADeckFault}
+use Rattle.pc_faults.specs.declared.fault.DeckError.{DeckError}
+use Rattle.pc_faults.specs.declared.fault.DeckError.TheVariants.{Fault, OutOfMemory}
+use Rattle.pc_project.specs.PieceFaults.{HasPieceFault, HasNoPieceFault}
 use Rattle.pc_project.specs.Project.{network_of, rows_of}
-use Rattle.pc_project.specs.Misfit.{HasMisfit, HasNoMisfit, naming}
+use Rattle.pc_project.specs.TermsFaults.{HasTermsFault, HasNoTermsFault}
+use Rattle.pc_project.specs.Misfit.{HasMisfit, HasNoMisfit}
 
 -- the code with a number among those; none past their end
 abbrev pub code_at : List (List ℕ) → ℕ → List ℕ
@@ -40,44 +42,39 @@ act_records deck = map (λ act. act.row) deck.acts
 
 -- the fault by which a refusal of the tree is told; it comes at the card of the item that is named first
 abbrev pub tree_fault : Deck → TreeError → DeckError
-tree_fault deck tree.NoTop = Fault (plain_fault 0 20)
-tree_fault deck (tree.SecondTop item) = Fault (naming (slice_index (item_records deck) item) 21 (code_at (item_codes deck) item))
-tree_fault deck (tree.Loop loop) = Fault (record {
-  row = slice_index (item_records deck) (slice_index loop 0);
-  number = 22;
-  detail = Names (codes_at (item_codes deck) loop);
-})
-tree_fault deck (tree.TooDeep item level) = Fault (record {
-  row = slice_index (item_records deck) item;
-  number = 23;
-  detail = Level (code_at (item_codes deck) item) level;
-})
+tree_fault deck tree.NoTop = Fault no_top
+tree_fault deck (tree.SecondTop item) = Fault (second_top (slice_index (item_records deck) item) (code_at (item_codes deck) item))
+tree_fault deck (tree.Loop loop) = Fault (item_loop (slice_index (item_records deck) (slice_index loop 0)) (codes_at (item_codes deck) loop))
+tree_fault deck (tree.TooDeep item level) = Fault (too_deep (slice_index (item_records deck) item) (code_at (item_codes deck) item) level)
 tree_fault deck tree.OutOfMemory = OutOfMemory
 
 -- the fault by which a refusal of the network is told; it comes at the card of the activity or event that is named first
 abbrev pub net_fault : Deck → NetError → DeckError
-net_fault deck (net.StartEntered arc) = Fault (naming (slice_index (act_records deck) arc) 24 (code_at (act_codes deck) arc))
-net_fault deck (net.EndLeft arc) = Fault (naming (slice_index (act_records deck) arc) 25 (code_at (act_codes deck) arc))
-net_fault deck (net.Dangling event entered) = Fault (record {
-  row = slice_index (event_records deck) event;
-  number = 26;
-  detail = Side (code_at (event_codes deck) event) entered;
-})
-net_fault deck (net.Cycle cycle) = Fault (record {
-  row = slice_index (act_records deck) (slice_index cycle 0);
-  number = 27;
-  detail = Names (codes_at (act_codes deck) cycle);
-})
+net_fault deck (net.StartEntered arc) = Fault (enters_start (slice_index (act_records deck) arc) (code_at (act_codes deck) arc))
+net_fault deck (net.EndLeft arc) = Fault (leaves_end (slice_index (act_records deck) arc) (code_at (act_codes deck) arc))
+net_fault deck (net.Dangling event entered) = Fault (dangling (slice_index (event_records deck) event) (code_at (event_codes deck) event) entered)
+net_fault deck (net.Cycle round) = Fault (cycle (slice_index (act_records deck) (slice_index round 0)) (codes_at (act_codes deck) round))
 net_fault deck net.OutOfMemory = OutOfMemory
 
--- the cards make a project: no card has a fault, the items are a tree, and the network is sound
-pub record MakesProject (deck : Deck) : Type 0 where
+-- the items are a tree and the network is sound, and no card by itself is wrong
+pub record HasSoundPlan (deck : Deck) : Type 0 where
   pub cards : HasNoMisfit deck
   pub tree : IsTree (rows_of deck)
   pub sound : IsSound (network_of deck)
 
--- the fault with which a deck is refused whose cards make no project
+-- the cards make a project: no card has a fault, the items are a tree, the network is sound, the pieces of each activity
+-- rise and leave units to its first slope, and the bonus is not above the penalty
+pub record MakesProject (deck : Deck) : Type 0 where
+  pub cards : HasNoMisfit deck
+  pub tree : IsTree (rows_of deck)
+  pub sound : IsSound (network_of deck)
+  pub pieces : HasNoPieceFault deck
+  pub terms : HasNoTermsFault deck
+
+-- the fault with which a deck is refused whose cards make no project; a phase counts only where none before it has a fault
 pub data IsRefusedWith (deck : Deck) (fault : ADeckFault) : Type 0 where
   of_cards : IsFirst (HasMisfit deck) fault → IsRefusedWith deck fault
   of_tree : HasNoMisfit deck → (e : TreeError) → IsTreeRefusal (rows_of deck) e → tree_fault deck e ≡ Fault fault → IsRefusedWith deck fault
   of_network : HasNoMisfit deck → IsTree (rows_of deck) → (e : NetError) → IsNetRefusal (network_of deck) e → net_fault deck e ≡ Fault fault → IsRefusedWith deck fault
+  of_pieces : HasSoundPlan deck → IsFirst (HasPieceFault deck) fault → IsRefusedWith deck fault
+  of_terms : HasSoundPlan deck → HasNoPieceFault deck → IsFirst (HasTermsFault deck) fault → IsRefusedWith deck fault

@@ -2,7 +2,7 @@
 ghost use Rattle.std.specs.Prelude.{◌≡◌, Some};
 ghost use Rattle.pc_project.specs.First.{earliest, is_no_later};
 
-use pc_deck::Fault;
+use pc_faults::Fault;
 
 /// The earlier of two faults, where there are any.
 pub(crate) fn earliest(one: Option<Fault>, other: Option<Fault>) -> Option<Fault>

@@ -4,23 +4,28 @@
 #![tactic(auto)]
 
 mod activity;
-mod faults;
 mod first;
 mod heading;
 mod lists;
+mod load;
 mod named;
 mod network;
 mod numbers;
 mod phases;
+mod pieces;
 mod placed;
+mod pricing;
 mod project;
 mod refers;
+mod terms;
 mod tree;
 
 pub use crate::activity::Activity;
 pub use crate::heading::Counts;
+pub use crate::load::LoadItem;
 pub use crate::phases::project_of;
 pub use crate::project::Project;
+pub use pc_model::PieceRow as Piece;
 
 #[cfg(test)]
 mod tests;

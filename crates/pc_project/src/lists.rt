@@ -1,9 +1,10 @@
 //! The lists of a project, each in card order.
 ghost use Rattle.std.specs.Prelude.{◌≡◌, ◌≤◌, All, map, IfOk};
-ghost use Rattle.pc_times.specs.declared.TheConstants.{MAX_UNIT_DAYS};
+ghost use Rattle.pc_model.specs.declared.limits.TheConstants.{MAX_UNIT_DAYS};
 ghost use Rattle.pc_times.specs.Estimates.{expected_time, variance_of};
-ghost use Rattle.pc_deck.specs.Deck.{act_codes, event_codes, item_codes};
-ghost use Rattle.pc_deck.specs.Within.{IsActWithin, IsWithinLimits};
+ghost use Rattle.pc_deck.specs.Deck.{act_codes, event_codes, item_codes, resource_codes};
+ghost use Rattle.pc_deck.specs.Act.{IsActWithin};
+ghost use Rattle.pc_deck.specs.Within.{IsWithinLimits};
 ghost use Rattle.pc_project.specs.Misfit.{IsInOrder};
 ghost use Rattle.pc_project.specs.Project.{expected_of, place_of, placement_of, term_of, variance_in};
 
@@ -25,6 +26,7 @@ pub(crate) struct Lists {
     pub variances: Vec<u64>,
     pub items: Vec<Code>,
     pub titles: Vec<Title>,
+    pub resources: Vec<Code>,
 }
 
 /// The lists of the cards.
@@ -43,6 +45,7 @@ pub(crate) fn lists_of(
     ensures variances { IfOk result (λ lists. lists.variances.items ≡ map (variance_in cards.now) cards.now.acts) }
     ensures items { IfOk result (λ lists. lists.items.items ≡ item_codes cards.now) }
     ensures titles { IfOk result (λ lists. lists.titles.items ≡ map (λ item. item.title) cards.now.items) }
+    ensures resources { IfOk result (λ lists. lists.resources.items ≡ resource_codes cards.now) }
     ensures within { IsWithinLimits cards.now }
 {
     let acts = cards.acts();
@@ -56,6 +59,7 @@ pub(crate) fn lists_of(
         variances: variances(alloc, acts, unit_days)?,
         items: codes_of_items(alloc, cards)?,
         titles: titles(alloc, cards)?,
+        resources: codes_of_resources(alloc, cards)?,
     })
 }
 
@@ -78,6 +82,17 @@ pub(crate) fn codes_of_items(alloc: Global, cards: &Cards) -> Result<Vec<Code>, 
     ensures { IfOk result (λ codes. codes.items ≡ item_codes cards.now) }
 {
     cards.items().iter().map(|item| item.code).collect(alloc)
+}
+
+/// The codes of the resources.
+fn codes_of_resources(alloc: Global, cards: &Cards) -> Result<Vec<Code>, AllocError>
+    ensures { IfOk result (λ codes. codes.items ≡ resource_codes cards.now) }
+{
+    cards
+        .resources()
+        .iter()
+        .map(|resource| resource.code)
+        .collect(alloc)
 }
 
 /// The titles of the items.

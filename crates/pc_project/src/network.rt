@@ -5,28 +5,39 @@ ghost use Rattle.pc_wbs.specs.Climb.{IsTree};
 ghost use Rattle.pc_net.specs.Refusals.{IsRefusal};
 ghost use Rattle.pc_net.specs.declared.refusal.NetError.TheVariants as net;
 ghost use Rattle.pc_deck.specs.Deck.{act_codes};
-ghost use Rattle.pc_deck.specs.Refusal.{Refuses};
+ghost use Rattle.pc_faults.specs.First.{Refuses};
 ghost use Rattle.pc_project.specs.Misfit.{HasNoMisfit};
+ghost use Rattle.pc_project.specs.Numbered.{AreNumbersOf};
 ghost use Rattle.pc_project.specs.Project.{arc_of, network_of, rows_of};
 ghost use Rattle.pc_project.specs.Refusal.{IsRefusedWith, codes_at, net_fault};
 
-use crate::faults::naming;
-use crate::lists::codes_of_acts;
+use crate::lists::{arcs, codes_of_acts};
 use crate::named::{act_card, codes_at, event_card};
+use crate::numbers::Numbers;
 use crate::placed::Ends;
-use pc_deck::{Cards, DeckError, Detail, Fault};
+use pc_deck::Cards;
+use pc_faults::{DeckError, Fault};
 use pc_model::Arc;
 use pc_net::{Net, NetError};
 use pc_text::Codes;
 use std::alloc::{AllocError, Global};
 
-/// The network of the activities, or the fault that keeps it from being sound.
-pub(crate) fn net_of(
-    alloc: Global,
-    cards: &Cards,
-    ends: Ends,
-    arcs: &[Arc],
-) -> Result<Net, DeckError>
+/// The network of the activities, or the fault that keeps it from being sound (F24 to F27).
+pub(crate) fn net_of(alloc: Global, cards: &Cards, numbers: &Numbers) -> Result<Net, DeckError>
+    requires numbers { AreNumbersOf cards.now numbers.now }
+    requires tree { IsTree (rows_of cards.now) }
+    ensures network { IfOk result (λ net. net ≡ network_of cards.now) }
+    ensures sound { OnOk result (IsSound (network_of cards.now)) }
+    ensures refused { IfErr result (Refuses (IsRefusedWith cards.now)) }
+{
+    match arcs(alloc, &numbers.placements) {
+        Ok(arcs) => net_between(alloc, cards, numbers.ends, &arcs),
+        Err(_) => Err(DeckError::OutOfMemory),
+    }
+}
+
+/// The network of activities between these ends, or the fault that keeps it from being sound.
+fn net_between(alloc: Global, cards: &Cards, ends: Ends, arcs: &[Arc]) -> Result<Net, DeckError>
     requires faultless { HasNoMisfit cards.now }
     requires tree { IsTree (rows_of cards.now) }
     requires start { ends.start ≡ (network_of cards.now).start }
@@ -51,22 +62,15 @@ fn fault_of(alloc: Global, cards: &Cards, error: NetError) -> DeckError
     match error {
         NetError::StartEntered { arc } => {
             let card = act_card(cards, arc);
-            DeckError::Fault(naming(card.row, 24, card.code))
+            DeckError::Fault(Fault::enters_start(card.row, card.code))
         }
         NetError::EndLeft { arc } => {
             let card = act_card(cards, arc);
-            DeckError::Fault(naming(card.row, 25, card.code))
+            DeckError::Fault(Fault::leaves_end(card.row, card.code))
         }
         NetError::Dangling { event, entered } => {
             let card = event_card(cards, event);
-            DeckError::Fault(Fault {
-                row: card.row,
-                number: 26,
-                detail: Detail::Side {
-                    name: card.code,
-                    entered,
-                },
-            })
+            DeckError::Fault(Fault::dangling(card.row, card.code, entered))
         }
         NetError::Cycle(acts) => fault_of_cycle(alloc, cards, acts.as_slice()),
         NetError::OutOfMemory => DeckError::OutOfMemory,
@@ -81,11 +85,7 @@ fn fault_of_cycle(alloc: Global, cards: &Cards, acts: &[u32]) -> DeckError
 {
     let row = act_card(cards, acts[0]).row;
     match names_of(alloc, cards, acts) {
-        Ok(names) => DeckError::Fault(Fault {
-            row,
-            number: 27,
-            detail: Detail::Names(names),
-        }),
+        Ok(names) => DeckError::Fault(Fault::cycle(row, names)),
         Err(_) => DeckError::OutOfMemory,
     }
 }

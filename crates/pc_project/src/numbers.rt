@@ -1,15 +1,17 @@
 //! The numbers of all that the cards name, or the first fault of any card.
-ghost use Rattle.std.specs.Prelude.{◌≡◌, ◌≤◌, length, map, Some, IfOk, OnOk, IfErr};
-ghost use Rattle.pc_deck.specs.Refusal.{IsFirst, Refuses};
-ghost use Rattle.pc_deck.specs.declared.cards.TheConstants.{ITEM_LIMIT};
+ghost use Rattle.std.specs.Prelude.{◌≡◌, Some, IfOk, IfErr};
+ghost use Rattle.pc_faults.specs.First.{IsFirst, Refuses};
 ghost use Rattle.pc_project.specs.First.{IsFirstIn, earliest};
-ghost use Rattle.pc_project.specs.Misfit.{HasFigureFault, HasMisfit, HasNoMisfit};
-ghost use Rattle.pc_project.specs.Project.{network_of, placement_of, rows_of};
+ghost use Rattle.pc_project.specs.Misfit.{HasFigureFault, HasMisfit};
+ghost use Rattle.pc_project.specs.Numbered.{AreNumbersOf};
 
 use crate::first::earliest;
+use crate::load::LoadItem;
 use crate::placed::{Ends, Placement, ends_of};
 use crate::refers::{first_fault, look_up_all};
-use pc_deck::{Cards, DeckError, Fault};
+use pc_deck::Cards;
+use pc_faults::{DeckError, Fault};
+use pc_model::PieceRow;
 use pc_wbs::ItemRow;
 use std::alloc::Global;
 
@@ -21,26 +23,31 @@ pub(crate) struct Numbers {
     pub rows: Vec<ItemRow>,
     /// One for each activity, in card order.
     pub placements: Vec<Placement>,
+    /// One for each PIECE card, in card order.
+    pub pieces: Vec<PieceRow>,
+    /// One for each LOAD card, in card order.
+    pub loads: Vec<LoadItem>,
 }
 
-/// Looks up once what each card names, or answers the first fault of any card.
+/// Looks up once what each card names, or answers the first fault of any card (F13 to F19, F41).
 pub(crate) fn numbers_of(alloc: Global, cards: &Cards) -> Result<Numbers, DeckError>
-    ensures start { IfOk result (λ numbers. numbers.ends.start ≡ (network_of cards.now).start) }
-    ensures end { IfOk result (λ numbers. numbers.ends.end ≡ (network_of cards.now).end) }
-    ensures rows { IfOk result (λ numbers. numbers.rows.items ≡ rows_of cards.now) }
-    ensures few { IfOk result (λ numbers. length numbers.rows.items ≤ ITEM_LIMIT) }
-    ensures placements { IfOk result (λ numbers. numbers.placements.items ≡ map (placement_of cards.now) cards.now.acts) }
-    ensures faultless { OnOk result (HasNoMisfit cards.now) }
+    ensures numbers { IfOk result (AreNumbersOf cards.now) }
     ensures first { IfErr result (Refuses (IsFirst (HasMisfit cards.now))) }
 {
     let rows = look_up_all(alloc, cards, cards.items())?;
     let acts = look_up_all(alloc, cards, cards.acts())?;
-    let fault = earliest(earliest(rows.fault, acts.fault), first_figure_fault(cards));
+    let pieces = look_up_all(alloc, cards, cards.pieces())?;
+    let loads = look_up_all(alloc, cards, cards.loads())?;
+    let of_acts = earliest(rows.fault, acts.fault);
+    let of_parts = earliest(pieces.fault, loads.fault);
+    let fault = earliest(earliest(of_acts, of_parts), first_figure_fault(cards));
     match (ends_of(cards), fault) {
         (Ok(ends), None) => Ok(Numbers {
             ends,
             rows: rows.numbers,
             placements: acts.numbers,
+            pieces: pieces.numbers,
+            loads: loads.numbers,
         }),
         (Ok(_), Some(fault)) => Err(DeckError::Fault(fault)),
         (Err(first), fault) => Err(DeckError::Fault(earlier_of(first, fault))),

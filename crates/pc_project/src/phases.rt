@@ -1,27 +1,27 @@
 //! From the cards of a deck to its project, phase by phase.
-ghost use Rattle.std.specs.Prelude.{◌≡◌, ◌≤◌, length, map, IfOk, IfErr, OnOk};
-ghost use Rattle.pc_model.specs.Network.{IsSound};
-ghost use Rattle.pc_wbs.specs.Climb.{IsTree};
-ghost use Rattle.pc_deck.specs.Refusal.{Refuses};
-ghost use Rattle.pc_deck.specs.declared.cards.TheConstants.{ITEM_LIMIT};
-ghost use Rattle.pc_project.specs.Misfit.{HasNoMisfit};
-ghost use Rattle.pc_project.specs.Project.{counts_of, heading_of, network_of, placement_of, project_in, rows_of};
+ghost use Rattle.std.specs.Prelude.{◌≡◌, IfOk, IfErr};
+ghost use Rattle.pc_faults.specs.First.{Refuses};
+ghost use Rattle.pc_project.specs.Numbered.{AreNumbersOf};
+ghost use Rattle.pc_project.specs.Project.{counts_of, heading_of, network_of, project_in, rows_of, time_terms_of};
 ghost use Rattle.pc_project.specs.Refusal.{IsRefusedWith, MakesProject};
 
-use crate::heading::{Counts, Heading};
-use crate::lists::{arcs, lists_of};
+use crate::heading::{Counts, Heading, TimeTerms};
+use crate::lists::lists_of;
 use crate::network::net_of;
 use crate::numbers::{Numbers, numbers_of};
-use crate::placed::Placement;
+use crate::pieces::check_pieces;
 use crate::project::Project;
+use crate::terms::terms_fault;
 use crate::tree::tree_of;
-use pc_deck::{Cards, DeckError};
+use pc_deck::Cards;
+use pc_faults::DeckError;
 use pc_net::Net;
 use pc_wbs::Tree;
 use std::alloc::{AllocError, Global};
 
 /// The project of the cards, or the first fault that keeps them from making one: of the cards one by one, or else of
-/// the tree of their items, or else of the network of their activities.
+/// the tree of their items, or else of the network of their activities, or else of the pieces of the activities' costs,
+/// or else of the terms of time.
 ///
 /// It takes time in proportion to the cards.
 pub fn project_of(alloc: Global, cards: Cards) -> Result<Project, DeckError>
@@ -29,60 +29,36 @@ pub fn project_of(alloc: Global, cards: Cards) -> Result<Project, DeckError>
     ensures makes { IfOk result (λ _. MakesProject cards) }
     ensures refused { IfErr result (Refuses (IsRefusedWith cards)) }
 {
-    made_of(alloc, &cards)
+    judged(alloc, &cards)
 }
 
-/// What `project_of` answers, while the cards are kept.
-fn made_of(alloc: Global, cards: &Cards) -> Result<Project, DeckError>
+/// What `project_of` answers, while the cards are kept: one phase after another, each of which may take it that those
+/// before it found no fault, and answers its own first one.
+fn judged(alloc: Global, cards: &Cards) -> Result<Project, DeckError>
     ensures project { IfOk result (λ project. project ≡ project_in cards.now) }
     ensures makes { IfOk result (λ _. MakesProject cards.now) }
     ensures refused { IfErr result (Refuses (IsRefusedWith cards.now)) }
 {
-    match numbers_of(alloc, cards) {
-        Ok(numbers) => numbered(alloc, cards, &numbers),
-        Err(error) => Err(error),
-    }
-}
-
-/// The project of cards that have no fault by themselves, or the fault of their tree or their network.
-fn numbered(alloc: Global, cards: &Cards, numbers: &Numbers) -> Result<Project, DeckError>
-    requires faultless { HasNoMisfit cards.now }
-    requires start { numbers.now.ends.start ≡ (network_of cards.now).start }
-    requires end { numbers.now.ends.end ≡ (network_of cards.now).end }
-    requires rows { numbers.now.rows.items ≡ rows_of cards.now }
-    requires few { length numbers.now.rows.items ≤ ITEM_LIMIT }
-    requires placements { numbers.now.placements.items ≡ map (placement_of cards.now) cards.now.acts }
-    ensures project { IfOk result (λ project. project ≡ project_in cards.now) }
-    ensures makes { IfOk result (λ _. MakesProject cards.now) }
-    ensures refused { IfErr result (Refuses (IsRefusedWith cards.now)) }
-{
-    let tree = match tree_of(alloc, cards, &numbers.rows) {
+    let numbers = match numbers_of(alloc, cards) {
+        Ok(numbers) => numbers,
+        Err(error) => return Err(error),
+    };
+    let tree = match tree_of(alloc, cards, &numbers) {
         Ok(tree) => tree,
         Err(error) => return Err(error),
     };
-    let net = match network(alloc, cards, numbers) {
+    let net = match net_of(alloc, cards, &numbers) {
         Ok(net) => net,
         Err(error) => return Err(error),
     };
-    match planned(alloc, cards, &numbers.placements, tree, net) {
-        Ok(project) => Ok(project),
-        Err(_) => Err(DeckError::OutOfMemory),
+    if let Err(error) = check_pieces(alloc, cards, &numbers) {
+        return Err(error);
     }
-}
-
-/// The network of the activities, or the fault that keeps it from being sound.
-fn network(alloc: Global, cards: &Cards, numbers: &Numbers) -> Result<Net, DeckError>
-    requires faultless { HasNoMisfit cards.now }
-    requires tree { IsTree (rows_of cards.now) }
-    requires start { numbers.now.ends.start ≡ (network_of cards.now).start }
-    requires end { numbers.now.ends.end ≡ (network_of cards.now).end }
-    requires placements { numbers.now.placements.items ≡ map (placement_of cards.now) cards.now.acts }
-    ensures network { IfOk result (λ net. net ≡ network_of cards.now) }
-    ensures sound { OnOk result (IsSound (network_of cards.now)) }
-    ensures refused { IfErr result (Refuses (IsRefusedWith cards.now)) }
-{
-    match arcs(alloc, &numbers.placements) {
-        Ok(arcs) => net_of(alloc, cards, numbers.ends, &arcs),
+    if let Some(fault) = terms_fault(cards) {
+        return Err(DeckError::Fault(fault));
+    }
+    match planned(alloc, cards, numbers, tree, net) {
+        Ok(project) => Ok(project),
         Err(_) => Err(DeckError::OutOfMemory),
     }
 }
@@ -124,17 +100,17 @@ fn counts(cards: &Cards) -> Counts
 fn planned(
     alloc: Global,
     cards: &Cards,
-    placements: &[Placement],
+    numbers: Numbers,
     tree: Tree,
     net: Net,
 ) -> Result<Project, AllocError>
     requires makes { MakesProject cards.now }
-    requires placements { placements.now ≡ map (placement_of cards.now) cards.now.acts }
+    requires numbers { AreNumbersOf cards.now numbers }
     requires tree { tree ≡ rows_of cards.now }
     requires network { net ≡ network_of cards.now }
     ensures { IfOk result (λ project. project ≡ project_in cards.now) }
 {
-    let lists = lists_of(alloc, cards, placements)?;
+    let lists = lists_of(alloc, cards, &numbers.placements)?;
     Ok(Project {
         heading: heading(cards),
         net,
@@ -147,6 +123,30 @@ fn planned(
         variances: lists.variances,
         items: lists.items,
         titles: lists.titles,
+        pieces: numbers.pieces,
+        resources: lists.resources,
+        loads: numbers.loads,
+        time_terms: time_terms(cards),
         counts: counts(cards),
     })
+}
+
+/// What time costs.
+fn time_terms(cards: &Cards) -> TimeTerms
+    ensures { result ≡ time_terms_of cards.now.terms }
+{
+    match cards.terms() {
+        Some(card) => TimeTerms {
+            overhead: card.overhead,
+            target: card.target,
+            bonus: card.bonus,
+            penalty: card.penalty,
+        },
+        None => TimeTerms {
+            overhead: 0,
+            target: 0,
+            bonus: 0,
+            penalty: 0,
+        },
+    }
 }

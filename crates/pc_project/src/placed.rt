@@ -1,14 +1,15 @@
 //! What each kind of card names, looked up, or the card's first fault.
 ghost use Rattle.std.specs.Prelude.{◌≡◌, ◌↔◌, IsTrue, IfOk, IfErr, OnOk};
-ghost use Rattle.pc_deck.specs.Refusal.{IsFirst};
-ghost use Rattle.pc_deck.specs.declared.fault.Fault.{Fault};
+ghost use Rattle.pc_faults.specs.First.{IsFirst};
+ghost use Rattle.pc_faults.specs.declared.fault.Fault.{Fault};
 ghost use Rattle.pc_project.specs.Project.{network_of};
 ghost use Rattle.pc_project.specs.Misfit.{HasProjectFault, IsInOrder};
 
-use crate::faults::{naming, plain_fault};
+use crate::load::LoadItem;
 use crate::refers::Refers;
-use pc_deck::{AcctCard, ActCard, Cards, Fault, ItemCard, MoneyCard, StatusCard};
-use pc_model::Arc;
+use pc_deck::{AcctCard, ActCard, Cards, ItemCard, LoadCard, MoneyCard, PieceCard, StatusCard};
+use pc_faults::Fault;
+use pc_model::{Arc, PieceRow};
 use pc_wbs::ItemRow;
 
 /// Where an activity stands: between which events, and at which item.
@@ -34,13 +35,13 @@ pub(crate) fn ends_of(cards: &Cards) -> Result<Ends, Fault>
 {
     let card = cards.project();
     let Some(start) = cards.event_named(&card.start) else {
-        return Err(naming(card.row, 13, card.start));
+        return Err(Fault::unknown_event(card.row, card.start));
     };
     let Some(end) = cards.event_named(&card.end) else {
-        return Err(naming(card.row, 13, card.end));
+        return Err(Fault::unknown_event(card.row, card.end));
     };
     if card.start == card.end {
-        return Err(naming(card.row, 17, card.start));
+        return Err(Fault::one_event(card.row, card.start));
     }
     Ok(Ends { start, end })
 }
@@ -63,7 +64,7 @@ impl Refers for ItemCard {
             Some(parent) => Ok(ItemRow {
                 parent: Some(parent),
             }),
-            None => Err(naming(self.row, 14, code)),
+            None => Err(Fault::unknown_item(self.row, code)),
         }
     }
 }
@@ -87,22 +88,22 @@ impl Refers for ActCard {
 
     fn look_up(&self, cards: &Cards) -> Result<Placement, Fault> {
         let Some(from) = cards.event_named(&self.from) else {
-            return Err(naming(self.row, 13, self.from));
+            return Err(Fault::unknown_event(self.row, self.from));
         };
         let Some(to) = cards.event_named(&self.to) else {
-            return Err(naming(self.row, 13, self.to));
+            return Err(Fault::unknown_event(self.row, self.to));
         };
         let Some(item) = cards.item_named(&self.item) else {
-            return Err(naming(self.row, 14, self.item));
+            return Err(Fault::unknown_item(self.row, self.item));
         };
         if self.from == self.to {
-            return Err(naming(self.row, 17, self.from));
+            return Err(Fault::one_event(self.row, self.from));
         }
         if !is_in_order(self) {
-            return Err(plain_fault(self.row, 18));
+            return Err(Fault::estimates_disorder(self.row));
         }
         if self.normal < self.crash {
-            return Err(plain_fault(self.row, 19));
+            return Err(Fault::crash_above_normal(self.row));
         }
         Ok(Placement {
             arc: Arc { from, to },
@@ -124,7 +125,7 @@ impl Refers for AcctCard {
     fn look_up(&self, cards: &Cards) -> Result<u32, Fault> {
         match cards.item_named(&self.item) {
             Some(item) => Ok(item),
-            None => Err(naming(self.row, 14, self.item)),
+            None => Err(Fault::unknown_item(self.row, self.item)),
         }
     }
 }
@@ -142,7 +143,7 @@ impl Refers for MoneyCard {
     fn look_up(&self, cards: &Cards) -> Result<u32, Fault> {
         match cards.account_named(&self.account) {
             Some(account) => Ok(account),
-            None => Err(naming(self.row, 15, self.account)),
+            None => Err(Fault::unknown_account(self.row, self.account)),
         }
     }
 }
@@ -160,7 +161,54 @@ impl Refers for StatusCard {
     fn look_up(&self, cards: &Cards) -> Result<u32, Fault> {
         match cards.act_named(&self.activity) {
             Some(activity) => Ok(activity),
-            None => Err(naming(self.row, 16, self.activity)),
+            None => Err(Fault::unknown_activity(self.row, self.activity)),
         }
+    }
+}
+
+impl Refers for PieceCard {
+    ghost use Rattle.pc_project.specs.Project.{piece_of};
+    ghost use Rattle.pc_project.specs.Misfit.{HasPieceCardFault};
+
+    type Found = PieceRow;
+
+    ghost found_in = { piece_of };
+
+    ghost HasFault = { HasPieceCardFault };
+
+    fn look_up(&self, cards: &Cards) -> Result<PieceRow, Fault> {
+        match cards.act_named(&self.activity) {
+            Some(activity) => Ok(PieceRow {
+                activity,
+                units: self.units,
+                slope: self.slope,
+            }),
+            None => Err(Fault::unknown_activity(self.row, self.activity)),
+        }
+    }
+}
+
+impl Refers for LoadCard {
+    ghost use Rattle.pc_project.specs.Project.{load_of};
+    ghost use Rattle.pc_project.specs.Misfit.{HasLoadFault};
+
+    type Found = LoadItem;
+
+    ghost found_in = { load_of };
+
+    ghost HasFault = { HasLoadFault };
+
+    fn look_up(&self, cards: &Cards) -> Result<LoadItem, Fault> {
+        let Some(activity) = cards.act_named(&self.activity) else {
+            return Err(Fault::unknown_activity(self.row, self.activity));
+        };
+        let Some(resource) = cards.resource_named(&self.resource) else {
+            return Err(Fault::unknown_resource(self.row, self.resource));
+        };
+        Ok(LoadItem {
+            activity,
+            resource,
+            quantity: self.quantity,
+        })
     }
 }

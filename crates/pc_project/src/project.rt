@@ -1,12 +1,14 @@
 //! The project as one value.
 ghost use Rattle.std.specs.Prelude.{◌≡◌, ◌<◌, ◌≤◌, length, slice_index_or, []};
+ghost use Rattle.pc_model.specs.declared.limits.TheConstants.{MAX_UNIT_DAYS};
 ghost use Rattle.pc_project.specs.Planned.{IsPlanned};
 ghost use Rattle.pc_project.specs.Project.{activity_at};
 
 use crate::activity::Activity;
-use crate::heading::{Counts, Heading};
+use crate::heading::{Counts, Heading, TimeTerms};
+use crate::load::LoadItem;
 use pc_days::Day;
-use pc_model::Term;
+use pc_model::{PieceRow, Term};
 use pc_net::Net;
 use pc_text::{Code, Title};
 use pc_wbs::Tree;
@@ -26,6 +28,10 @@ pub struct Project {
     pub(crate) variances: Vec<u64>,
     pub(crate) items: Vec<Code>,
     pub(crate) titles: Vec<Title>,
+    pub(crate) pieces: Vec<PieceRow>,
+    pub(crate) resources: Vec<Code>,
+    pub(crate) loads: Vec<LoadItem>,
+    pub(crate) time_terms: TimeTerms,
     pub(crate) counts: Counts,
 }
 
@@ -66,7 +72,7 @@ impl Project {
     /// How many days a unit is, 1 to 7.
     pub fn unit_days(&self) -> u64
         ensures unit { result ≡ self.now.heading.unit_days }
-        ensures within { result ≤ 7 }
+        ensures within { result ≤ MAX_UNIT_DAYS }
     {
         self.heading.unit_days
     }
@@ -150,6 +156,7 @@ impl Project {
     pub fn event_codes(&self) -> &[Code]
         ensures codes { result.now ≡ self.now.events }
         ensures each { length result.now ≡ self.now.network.events }
+        ensures planned { IsPlanned self.now }
     {
         &self.events
     }
@@ -158,12 +165,13 @@ impl Project {
     pub fn activity_codes(&self) -> &[Code]
         ensures codes { result.now ≡ self.now.activities }
         ensures each { length result.now ≡ length self.now.network.arcs }
+        ensures planned { IsPlanned self.now }
     {
         &self.activities
     }
 
     /// What each activity may last, in units, and costs.
-    pub fn terms(&self) -> &[Term]
+    pub fn activity_terms(&self) -> &[Term]
         ensures terms { result.now ≡ self.now.terms }
         ensures planned { IsPlanned self.now }
     {
@@ -185,5 +193,49 @@ impl Project {
         ensures planned { IsPlanned self.now }
     {
         &self.variances
+    }
+    /// The further pieces of the activities' costs.
+    pub fn pieces(&self) -> &[PieceRow]
+        ensures pieces { result.now ≡ self.now.pieces }
+        ensures planned { IsPlanned self.now }
+    {
+        &self.pieces
+    }
+
+    /// What each unit of the project's length costs, the target, and what each unit before it brings and each unit after it
+    /// costs. All are 0 where the deck has no TERMS card.
+    pub fn terms(&self) -> (u64, u64, u64, u64)
+        ensures overhead { result.0 ≡ self.now.time_terms.overhead }
+        ensures target { result.1 ≡ self.now.time_terms.target }
+        ensures bonus { result.2 ≡ self.now.time_terms.bonus }
+        ensures penalty { result.3 ≡ self.now.time_terms.penalty }
+        ensures planned { IsPlanned self.now }
+    {
+        let terms = self.time_terms;
+        (terms.overhead, terms.target, terms.bonus, terms.penalty)
+    }
+
+    /// How many resources there are.
+    pub fn resource_count(&self) -> u32
+        ensures count { result ≡ length self.now.resources }
+        ensures planned { IsPlanned self.now }
+    {
+        self.resources.len() as u32
+    }
+
+    /// The code of a resource.
+    pub fn resource_code(&self, r: u32) -> Code
+        requires { r < length self.now.resources }
+        ensures { result ≡ slice_index_or self.now.resources r [] }
+    {
+        self.resources[r as usize]
+    }
+
+    /// The loads of the activities on the resources.
+    pub fn loads(&self) -> &[LoadItem]
+        ensures loads { result.now ≡ self.now.loads }
+        ensures planned { IsPlanned self.now }
+    {
+        &self.loads
     }
 }

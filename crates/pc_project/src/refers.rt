@@ -2,12 +2,13 @@
 ghost use Rattle.std.specs.Prelude.{◌≡◌, ℕ, IfOk, IfErr, OnOk, None, map, take};
 ghost use Rattle.std.specs.List.{Any};
 ghost use Rattle.pc_deck.specs.Deck.{Deck};
-ghost use Rattle.pc_deck.specs.Refusal.{IsFirst};
-ghost use Rattle.pc_deck.specs.declared.fault.Fault.{Fault};
+ghost use Rattle.pc_faults.specs.First.{IsFirst};
+ghost use Rattle.pc_faults.specs.declared.fault.Fault.{Fault};
 ghost use Rattle.pc_project.specs.First.{IsFirstIn};
 
 use crate::first::earliest;
-use pc_deck::{Cards, Fault};
+use pc_deck::Cards;
+use pc_faults::Fault;
 use std::alloc::{AllocError, Global};
 
 /// A card that names other cards by their codes.

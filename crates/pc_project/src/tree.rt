@@ -1,33 +1,32 @@
 //! The tree of the items, or why they are none.
-ghost use Rattle.std.specs.Prelude.{◌≡◌, ◌<◌, ◌≤◌, All, length, slice_index, IfOk, IfErr, OnOk};
+ghost use Rattle.std.specs.Prelude.{◌≡◌, ◌<◌, All, length, slice_index, IfOk, IfErr, OnOk};
 ghost use Rattle.pc_wbs.specs.Climb.{IsTree};
 ghost use Rattle.pc_wbs.specs.Refusal.{IsRefusal};
 ghost use Rattle.pc_wbs.specs.declared.error.TreeError.TheVariants as tree;
 ghost use Rattle.pc_deck.specs.Deck.{item_codes};
-ghost use Rattle.pc_deck.specs.Refusal.{Refuses};
-ghost use Rattle.pc_deck.specs.declared.cards.TheConstants.{ITEM_LIMIT};
+ghost use Rattle.pc_faults.specs.First.{Refuses};
 ghost use Rattle.pc_project.specs.Misfit.{HasNoMisfit};
+ghost use Rattle.pc_project.specs.Numbered.{AreNumbersOf};
 ghost use Rattle.pc_project.specs.Project.{rows_of};
 ghost use Rattle.pc_project.specs.Refusal.{IsRefusedWith, codes_at, tree_fault};
 
-use crate::faults::{naming, plain_fault};
 use crate::lists::codes_of_items;
 use crate::named::{codes_at, item_card};
-use pc_deck::{Cards, DeckError, Detail, Fault};
+use crate::numbers::Numbers;
+use pc_deck::Cards;
+use pc_faults::{DeckError, Fault};
 use pc_text::Codes;
-use pc_wbs::{ItemRow, Tree, TreeError};
+use pc_wbs::{Tree, TreeError};
 use std::alloc::{AllocError, Global};
 
-/// The tree of the items, or the fault that keeps them from being one.
-pub(crate) fn tree_of(alloc: Global, cards: &Cards, rows: &[ItemRow]) -> Result<Tree, DeckError>
-    requires faultless { HasNoMisfit cards.now }
-    requires rows { rows.now ≡ rows_of cards.now }
-    requires few { length rows.now ≤ ITEM_LIMIT }
+/// The tree of the items, or the fault that keeps them from being one (F20 to F23).
+pub(crate) fn tree_of(alloc: Global, cards: &Cards, numbers: &Numbers) -> Result<Tree, DeckError>
+    requires { AreNumbersOf cards.now numbers.now }
     ensures rows { IfOk result (λ tree. tree ≡ rows_of cards.now) }
     ensures tree { OnOk result (IsTree (rows_of cards.now)) }
     ensures refused { IfErr result (Refuses (IsRefusedWith cards.now)) }
 {
-    match Tree::build(alloc, rows) {
+    match Tree::build(alloc, &numbers.rows) {
         Ok(tree) => Ok(tree),
         Err(error) => Err(fault_of(alloc, cards, error)),
     }
@@ -40,22 +39,15 @@ fn fault_of(alloc: Global, cards: &Cards, error: TreeError) -> DeckError
     ensures { Refuses (λ fault. tree_fault cards.now error ≡ DeckError.Fault fault) result }
 {
     match error {
-        TreeError::NoTop => DeckError::Fault(plain_fault(0, 20)),
+        TreeError::NoTop => DeckError::Fault(Fault::no_top()),
         TreeError::SecondTop { item } => {
             let card = item_card(cards, item);
-            DeckError::Fault(naming(card.row, 21, card.code))
+            DeckError::Fault(Fault::second_top(card.row, card.code))
         }
         TreeError::Loop(items) => fault_of_loop(alloc, cards, items.as_slice()),
         TreeError::TooDeep { item, level } => {
             let card = item_card(cards, item);
-            DeckError::Fault(Fault {
-                row: card.row,
-                number: 23,
-                detail: Detail::Level {
-                    name: card.code,
-                    level,
-                },
-            })
+            DeckError::Fault(Fault::too_deep(card.row, card.code, level))
         }
         TreeError::OutOfMemory => DeckError::OutOfMemory,
     }
@@ -69,11 +61,7 @@ fn fault_of_loop(alloc: Global, cards: &Cards, items: &[u32]) -> DeckError
 {
     let row = item_card(cards, items[0]).row;
     match names_of(alloc, cards, items) {
-        Ok(names) => DeckError::Fault(Fault {
-            row,
-            number: 22,
-            detail: Detail::Names(names),
-        }),
+        Ok(names) => DeckError::Fault(Fault::item_loop(row, names)),
         Err(_) => DeckError::OutOfMemory,
     }
 }

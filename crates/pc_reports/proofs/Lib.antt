@@ -1,4 +1,3 @@
-mod Heads
 mod DateLaws
 mod PathLaws
 mod WorkedRows

@@ -3,7 +3,7 @@ use Rattle.std.proofs.Common.{◌≡◌, ℕ, ◌+◌, ◌<◌, zero, suc, List,
 use Rattle.std.proofs.lemmas.List.{take_more}
 use Rattle.pc_model.specs.Network.{Network}
 use Rattle.pc_model.specs.Walk.{to_of, walk_sum}
-use Rattle.pc_model.proofs.WalkLaws.{walk_sum-push}
+use Rattle.pc_model.proofs.Walks.WalkLaws.{walk_sum-push}
 use Rattle.pc_times.specs.Picked.{IsPickedFrom}
 
 -- the activities of a picked walk are activities of the network

@@ -1,14 +1,5 @@
 -- Rows of cells.
-use Rattle.std.specs.Prelude.{ℕ, ◌-◌, List, [], ◌∷◌, ◌++◌, length}
-use Rattle.pc_text.specs.Line.{spaces}
-
--- a cell with the text at its left; a longer text stands whole
-abbrev pub left : ℕ → List ℕ → List ℕ
-left width text = text ++ spaces (width - length text)
-
--- a cell with the text at its right; a longer text stands whole
-abbrev pub right : ℕ → List ℕ → List ℕ
-right width text = spaces (width - length text) ++ text
+use Rattle.std.specs.Prelude.{ℕ, List, [], ◌∷◌, ◌++◌}
 
 -- the cells with a space between each two, and the end of the line
 abbrev pub row : List (List ℕ) → List ℕ

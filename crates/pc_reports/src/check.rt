@@ -1,39 +1,36 @@
 //! The text that tells that a deck is accepted.
-ghost use Rattle.std.specs.Prelude.{◌≡◌, ◌+◌, ◌≤◌, ◌++◌, length};
+ghost use Rattle.std.specs.Prelude.{◌≡◌};
 ghost use Rattle.pc_edges.specs.Writes.{Writes};
+ghost use Rattle.pc_page.specs.Page.{fresh};
+ghost use Rattle.pc_page.specs.Puts.{Puts};
 ghost use Rattle.pc_reports.specs.Check.{check_text, counts_text};
 
-use crate::lines::{LINE_ROOM, put_code, put_number};
-use pc_edges::{Failed, Sink, push_all};
+use crate::lines::{put_code, put_number};
+use pc_edges::{Failed, Sink};
+use pc_page::Page;
 use pc_project::{Counts, Project};
-use pc_text::Line;
 
-/// Writes the project's code and how many cards of each kind its deck has, in one push.
-///
-/// The text is put together on `line`, whose bytes are dropped first.
-pub fn write_check<O: Sink>(line: &mut Line, sink: &mut O, project: &Project) -> Result<(), Failed>
-    requires { LINE_ROOM ≤ line.old.room }
+/// Writes the project's code and how many cards of each kind its deck has, and flushes the sink.
+pub fn write_check<O: Sink>(page: &mut Page, sink: &mut O, project: &Project) -> Result<(), Failed>
+    requires { page.old ≡ fresh }
     ensures text { Writes result (O.taken sink.old) (O.taken sink.new) (O.faults sink.old) (O.faults sink.new)
         (check_text project.now) }
-    ensures room { line.new.room ≡ line.old.room }
+    ensures fresh { page.new ≡ fresh }
 {
-    line.clear();
-    put_code(line, b"accepted ", &project.code());
-    put_counts(line, project.counts());
-    push_all(sink, line.bytes())
+    put_code(page, sink, b"accepted ", &project.code());
+    put_counts(page, sink, project.counts());
+    page.finish(sink)
 }
 
-/// Appends a line for each kind of card.
-fn put_counts(line: &mut Line, counts: Counts)
-    requires { length line.old.bytes + 220 ≤ line.old.room }
-    ensures bytes { line.new.bytes ≡ line.old.bytes ++ counts_text counts }
-    ensures room { line.new.room ≡ line.old.room }
+/// Puts a line for each kind of card.
+fn put_counts<O: Sink>(page: &mut Page, sink: &mut O, counts: Counts)
+    ensures { Puts O.taken O.faults page.old sink.old page.new sink.new (counts_text counts) }
 {
-    put_number(line, b"events ", counts.events);
-    put_number(line, b"activities ", counts.activities);
-    put_number(line, b"items ", counts.items);
-    put_number(line, b"accounts ", counts.accounts);
-    put_number(line, b"charges ", counts.charges);
-    put_number(line, b"togos ", counts.togos);
-    put_number(line, b"statuses ", counts.statuses);
+    put_number(page, sink, b"events ", counts.events);
+    put_number(page, sink, b"activities ", counts.activities);
+    put_number(page, sink, b"items ", counts.items);
+    put_number(page, sink, b"accounts ", counts.accounts);
+    put_number(page, sink, b"charges ", counts.charges);
+    put_number(page, sink, b"togos ", counts.togos);
+    put_number(page, sink, b"statuses ", counts.statuses);
 }

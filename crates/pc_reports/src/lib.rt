@@ -1,12 +1,9 @@
-//! The texts of the reports, line by line, as they are pushed to a sink.
+//! The texts of the reports, line by line, as they are put on a page.
 #![tactic(auto)]
 
-mod cells;
 mod check;
-mod gather;
 mod lines;
 mod schedule;
-mod table;
 #[cfg(test)]
 mod tests;
 mod times;
@@ -14,8 +11,5 @@ mod times_report;
 mod times_rows;
 
 pub use check::write_check;
-pub use gather::make_room;
-pub use lines::LINE_ROOM;
-pub use schedule::{SCHEDULE_ROOM, write_schedule};
-pub use table::{Table, gather_number, gather_rows, gather_table};
+pub use schedule::{Schedule, put_schedule, write_schedule};
 pub use times_report::TimesReport;

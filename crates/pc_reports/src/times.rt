@@ -2,7 +2,7 @@
 ghost use Rattle.std.specs.Prelude.{◌≡◌, ◌<◌, ◌≤◌, ◌≤ℤ◌, [], pos, unsigned_abs, length, slice_index, slice_index_or, IfOk};
 ghost use Rattle.std.specs.List.{All};
 ghost use Rattle.std.specs.Option.{ForSome};
-ghost use Rattle.pc_model.specs.declared.limits.TheConstants.{MAX_EVENTS};
+ghost use Rattle.pc_model.specs.declared.limits.TheConstants.{MAX_DIRECTED, MAX_EVENTS};
 ghost use Rattle.pc_times.specs.declared.TheConstants.{MAX_TIME};
 ghost use Rattle.pc_reports.specs.Times.{IsTimes, IsDate, AreDates, end_to_meet};
 
@@ -55,29 +55,29 @@ impl Times {
     }
 
     /// The earliest time of an event.
-    pub fn early(&self, e: usize) -> u64
+    pub fn early(&self, e: u32) -> u64
         requires { e < length self.now.early }
         ensures time { result ≡ slice_index self.now.early e }
         ensures limit { result ≤ MAX_TIME }
     {
-        self.longest.times()[e]
+        self.longest.times()[e as usize]
     }
 
     /// The latest time of an event.
-    pub fn late(&self, e: usize) -> i64
+    pub fn late(&self, e: u32) -> i64
         requires { e < length self.now.late }
         ensures time { result ≡ slice_index_or self.now.late e (pos 0) }
         ensures limit { unsigned_abs result ≤ MAX_TIME }
     {
-        self.late[e]
+        self.late[e as usize]
     }
 
     /// The date of an event's earliest time, or ten hyphens where it is past the days that are printed.
-    pub fn date(&self, e: usize) -> &[u8; DATE_LENGTH]
+    pub fn date(&self, e: u32) -> &[u8; DATE_LENGTH]
         requires { e < length self.now.dates }
         ensures { result.now ≡ slice_index_or self.now.dates e [] }
     {
-        &self.dates[e]
+        &self.dates[e as usize]
     }
 
     /// The activities of the critical path, from the start event to the end event.
@@ -91,7 +91,7 @@ impl Times {
 
 /// When the end is to be met: the directed number of days, or else when it is reached.
 fn end_to_meet(directed: Option<u64>, reached: u64) -> i64
-    requires directed { ForSome directed (λ days. days ≤ 1000000) }
+    requires directed { ForSome directed (λ days. days ≤ MAX_DIRECTED) }
     requires reached { reached ≤ MAX_TIME }
     ensures end { result ≡ end_to_meet directed reached }
     ensures limit { (pos 0 ≤ℤ result) × (result ≤ℤ pos MAX_TIME) }

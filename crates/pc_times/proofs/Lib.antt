@@ -3,3 +3,4 @@ mod EstimateLaws
 mod LateLaws
 mod PickedLaws
 pub mod PickedWalks
+mod ForecastLaws

@@ -7,8 +7,8 @@ use Rattle.std.proofs.lemmas.Bool.{cases_eq, cases_lt}
 use Rattle.pc_model.specs.Greatest.{IsFirst, IsListed}
 use Rattle.pc_model.specs.Walk.{from_of, to_of, IsWalk, walk_sum, IsSumOfWalk}
 use Rattle.pc_model.specs.Network.{Network, IsInRange, IsSound, IsLongest}
-use Rattle.pc_model.proofs.WalkLaws.{IsWalk-append, IsWalk-push, walk_sum-append, walk_sum-push, split_walk, greatest_unique}
-use Rattle.pc_model.proofs.EarlyLaws.{early_at_start, early_fits}
+use Rattle.pc_model.proofs.Walks.WalkLaws.{IsWalk-append, IsWalk-push, walk_sum-append, walk_sum-push, split_walk, greatest_unique}
+use Rattle.pc_model.proofs.Walks.EarlyLaws.{early_at_start, early_fits}
 use Rattle.pc_times.specs.Times.{AreEarly, AreTails}
 use Rattle.pc_times.specs.Picked.{IsCriticalAt, IsPickedFrom, IsPickedWalk}
 use Rattle.pc_times.specs.Passes.{IsTight}

@@ -8,8 +8,8 @@ use Rattle.std.proofs.lemmas.Bool.Decides.{nat_tests}
 use Rattle.pc_model.specs.Greatest.{IsListed}
 use Rattle.pc_model.specs.Walk.{from_of, to_of, IsWalk, walk_sum, IsSumOfWalk}
 use Rattle.pc_model.specs.Network.{Network, IsInRange, IsSound, IsOrder, IsEntered, IsLeft, IsEarly}
-use Rattle.pc_model.proofs.WalkLaws.{IsWalk-push, walk_sum-push, last_of_walk, walk_sum-bound}
-use Rattle.pc_model.proofs.OrderLaws.{walk_is_short, stands_in_order, same_place}
+use Rattle.pc_model.proofs.Walks.WalkLaws.{IsWalk-push, walk_sum-push, last_of_walk, walk_sum-bound}
+use Rattle.pc_model.proofs.Walks.OrderLaws.{walk_is_short, stands_in_order, same_place}
 use Rattle.pc_model.specs.declared.limits.TheConstants.{MAX_EVENTS}
 use Rattle.pc_times.specs.declared.TheConstants.{MAX_LENGTH}
 use Rattle.pc_times.specs.Times.{IsTail, AreLengths, AreEarly, AreTails}

@@ -3,3 +3,4 @@ pub mod Picked
 pub mod Passes
 pub mod Estimates
 pub mod Late
+pub mod Forecast

@@ -2,13 +2,12 @@
 ghost use Rattle.std.specs.Prelude.{◌≡◌, ◌*◌, ◌≤◌};
 ghost use Rattle.pc_times.specs.Estimates.{expected_time, variance_of};
 
-use crate::{MAX_LENGTH, MAX_UNIT_DAYS};
-use pc_model::MAX_DURATION;
+use crate::MAX_LENGTH;
+use pc_model::{MAX_DURATION, MAX_UNIT_DAYS};
 
 /// The expected time of an activity, in sixths of a day.
 ///
-/// The estimates are in units of `unit_days` days. The most likely one counts four times, as in Malcolm, Roseboom,
-/// Clark and Fazar 1959.
+/// The estimates are in units of `unit_days` days. The most likely one counts four times.
 pub fn expected_sixths(opt: u64, likely: u64, pess: u64, unit_days: u64) -> u64
     requires opt { opt ≤ likely }
     requires likely { likely ≤ pess }

@@ -4,20 +4,23 @@
 
 mod estimate;
 mod events;
+mod expected;
+mod forecasts;
 mod found;
 mod passes;
 mod path;
+mod state;
 
 pub use estimate::{expected_sixths, variance_36};
 pub use events::{early, late, slack};
+pub use expected::Forecast;
+pub use forecasts::forecast;
 pub use found::Longest;
 pub use path::{critical_path, longest};
+pub use state::ActState;
 
 /// The greatest length of an activity: 100,000 units of 7 days, in sixths of a day.
 pub const MAX_LENGTH: u64 = 4_200_000;
 
-/// The greatest time of an event: no walk has more than 5,000 activities, each of the greatest length.
-pub const MAX_TIME: u64 = 21_000_000_000;
-
-/// The most days of a unit in which durations are given.
-pub const MAX_UNIT_DAYS: u64 = 7;
+/// The greatest time of an event: no walk has more than 10,000 activities, each of the greatest length.
+pub const MAX_TIME: u64 = 42_000_000_000;

@@ -4,7 +4,8 @@ use Rattle.std.specs.Prelude.{option_and_then, slice_index, min, max, IsTrue, is
 use Rattle.std.proofs.lemmas.Bool.{cases_lt, cases_eq}
 use Rattle.std.proofs.lemmas.List.{length_push, get_or_push, get_or_append_left, get_or_default}
 use Rattle.pc_wbs.specs.declared.row.ItemRow.{ItemRow}
-use Rattle.pc_wbs.specs.Climb.{parent_of, AreInRange, climb, HasLevel, most_levels, IsLeaf, IsDepth, IsOnlyTop, IsTree}
+use Rattle.pc_model.specs.declared.limits.TheConstants.{MAX_LEVEL}
+use Rattle.pc_wbs.specs.Climb.{parent_of, AreInRange, climb, HasLevel, IsLeaf, IsDepth, IsOnlyTop, IsTree}
 use Rattle.pc_wbs.specs.Refusal.{IsFirst, IsLooped, IsTooDeep}
 use Rattle.pc_wbs.specs.Links.{link_at, IsFirstChild}
 use Rattle.pc_wbs.specs.Preorder.{StandsBelow}
@@ -91,7 +92,7 @@ IsLeastBelow-more ends n (Some a) (Some b) h e =
     least (inr le) = let is : min a b ≡ b = omega arith in (n, (omega arith, e ∙ ap Some (sym is)))
 
 -- one level more
-pub AreLevels-more : (rows : List ItemRow) (n level : ℕ) (levels : List ℕ) → AreLevels rows n levels → HasLevel rows n level → level ≤ most_levels → AreLevels rows (n + 1) (levels ++ level ∷ [])
+pub AreLevels-more : (rows : List ItemRow) (n level : ℕ) (levels : List ℕ) → AreLevels rows n levels → HasLevel rows n level → level ≤ MAX_LEVEL → AreLevels rows (n + 1) (levels ++ level ∷ [])
 AreLevels-more rows n level levels h has le = record {
   one_each = length_push levels level ∙ ap (λ k. k + 1) h.one_each;
   level = below_more _ _ (λ x lt. rw (earlier x lt) (h.level x lt)) (rw last has);
@@ -105,7 +106,7 @@ AreLevels-more rows n level levels h has le = record {
     earlier x lt = get_or_append_left levels (level ∷ []) 0 x (omega (arith, h.one_each))
 
 -- the first row that is too deep
-pub IsFirst-too_deep : (rows : List ItemRow) (n level : ℕ) (levels : List ℕ) → AreLevels rows n levels → n < length rows → HasLevel rows n level → most_levels < level → IsFirst (IsTooDeep rows) n
+pub IsFirst-too_deep : (rows : List ItemRow) (n level : ℕ) (levels : List ℕ) → AreLevels rows n levels → n < length rows → HasLevel rows n level → MAX_LEVEL < level → IsFirst (IsTooDeep rows) n
 IsFirst-too_deep rows n level levels h lt has deep = record {
   holds = (lt, (level, (has, deep)));
   first = λ y less too. shallow y less too;
@@ -170,7 +171,7 @@ IsLeaf-first rows x None h = (λ _. λ y lt. h y (omega arith) lt, λ _. refl)
 IsLeaf-first rows x (Some c) h = (λ t. absurd cc, λ leaf. absurd (leaf c h.1 h.2))
 
 -- no depth is beyond the most levels
-pub IsDepth-within : (rows : List ItemRow) (levels : List ℕ) (depth : ℕ) → AreLevels rows (length rows) levels → IsDepth rows depth → depth ≤ most_levels
+pub IsDepth-within : (rows : List ItemRow) (levels : List ℕ) (depth : ℕ) → AreLevels rows (length rows) levels → IsDepth rows depth → depth ≤ MAX_LEVEL
 IsDepth-within rows levels depth h d =
     let x = d.attained in
     let same = HasLevel-same rows x.0 depth (slice_index levels x.0) x.1.1 (h.level x.0 x.1.0) in

@@ -1,5 +1,6 @@
 -- Where repeated parents lead: below, levels, leaves, loops, and what makes rows a tree.
 use Rattle.std.specs.Prelude.{◌≡◌, ◌≢◌, ℕ, zero, suc, ◌+◌, ◌<◌, ◌≤◌, min, List, length, Option, Some, None, option_and_then, slice_index_or}
+use Rattle.pc_model.specs.declared.limits.TheConstants.{MAX_LEVEL}
 use Rattle.pc_wbs.specs.declared.row.ItemRow.{ItemRow}
 
 -- the parent of row x; none past the end of the rows
@@ -41,14 +42,10 @@ pub record IsOnlyTop (rows : List ItemRow) (top : ℕ) : Type 0 where
   pub is_top : IsTop rows top
   pub only : (x : ℕ) → x < length rows → parent_of rows x ≡ None → x ≡ top
 
--- the most levels that a tree has
-abbrev pub most_levels : ℕ
-most_levels = 16
-
--- the rows are a tree: one row has no parent, and each row has a level, of at most 16
+-- the rows are a tree: one row has no parent, and each row has a level, none deeper than a tree may be
 pub record IsTree (rows : List ItemRow) : Type 0 where
   pub top : (x : ℕ) × IsOnlyTop rows x
-  pub levels : (x : ℕ) → x < length rows → (level : ℕ) × (HasLevel rows x level × (level ≤ most_levels))
+  pub levels : (x : ℕ) → x < length rows → (level : ℕ) × (HasLevel rows x level × (level ≤ MAX_LEVEL))
 
 -- some row has this level, and no row a deeper one
 pub record IsDepth (rows : List ItemRow) (depth : ℕ) : Type 0 where

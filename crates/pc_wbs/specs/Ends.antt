@@ -1,7 +1,8 @@
 -- Where climbs from all rows end, and the first row without a parent among the rows that were seen.
 use Rattle.std.specs.Prelude.{◌≡◌, ◌≢◌, ℕ, ◌<◌, ◌≤◌, min, List, length, Option, Some, None, option_and_then, slice_index}
+use Rattle.pc_model.specs.declared.limits.TheConstants.{MAX_LEVEL}
 use Rattle.pc_wbs.specs.declared.row.ItemRow.{ItemRow}
-use Rattle.pc_wbs.specs.Climb.{parent_of, climb, HasLevel, IsTop, most_levels}
+use Rattle.pc_wbs.specs.Climb.{parent_of, climb, HasLevel, IsTop}
 use Rattle.pc_wbs.specs.Preorder.{StandsBelow}
 use Rattle.pc_wbs.specs.Links.{link_at}
 use Rattle.pc_wbs.specs.Refusal.{IsFirst, IsLooped}
@@ -47,7 +48,7 @@ lesser (Some a) None = Some a
 pub record AreLevels (rows : List ItemRow) (n : ℕ) (levels : List ℕ) : Type 0 where
   pub one_each : length levels ≡ n
   pub level : (x : ℕ) → x < n → HasLevel rows x (slice_index levels x)
-  pub within : (x : ℕ) → x < n → slice_index levels x ≤ most_levels
+  pub within : (x : ℕ) → x < n → slice_index levels x ≤ MAX_LEVEL
 
 -- the greatest of the first n numbers; 0 where there are none
 pub record AreGreatest (xs : List ℕ) (n greatest : ℕ) : Type 0 where

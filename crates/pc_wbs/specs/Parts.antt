@@ -1,5 +1,6 @@
 -- What holds of the parts of a tree.
 use Rattle.std.specs.Prelude.{◌≤◌, length}
+use Rattle.pc_model.specs.declared.limits.TheConstants.{MAX_ITEMS}
 use Rattle.pc_wbs.specs.declared.tree.Tree.TheInside.{Inside}
 use Rattle.pc_wbs.specs.Climb.{AreInRange, IsTree, IsDepth}
 use Rattle.pc_wbs.specs.Ends.{AreLevels}
@@ -8,7 +9,7 @@ use Rattle.pc_wbs.specs.Preorder.{IsPreorder}
 
 -- a tree's parts are what its rows say
 pub record AreParts (a : Inside) : Type 0 where
-  pub count : length a.rows.items ≤ 10_000
+  pub count : length a.rows.items ≤ MAX_ITEMS
   pub in_range : AreInRange a.rows.items
   pub sound : IsTree a.rows.items
   pub levels : AreLevels a.rows.items (length a.rows.items) a.levels.items

@@ -1,9 +1,10 @@
 -- Why rows are not a tree, each cause with those before it denied.
 use Rattle.std.specs.Prelude.{◌≡◌, ◌≢◌, ℕ, ◌+◌, ◌<◌, List, length, slice_index, Some, None}
+use Rattle.pc_model.specs.declared.limits.TheConstants.{MAX_LEVEL}
 use Rattle.pc_wbs.specs.declared.row.ItemRow.{ItemRow}
 use Rattle.pc_wbs.specs.declared.error.TreeError.{TreeError}
 use Rattle.pc_wbs.specs.declared.error.TreeError.TheVariants.{NoTop, SecondTop, Loop, TooDeep, OutOfMemory}
-use Rattle.pc_wbs.specs.Climb.{parent_of, IsTop, IsOnlyTop, HasLevel, IsOnLoop, most_levels}
+use Rattle.pc_wbs.specs.Climb.{parent_of, IsTop, IsOnlyTop, HasLevel, IsOnLoop}
 
 -- x is the first number with P
 pub record IsFirst (P : ℕ → Type 0) (x : ℕ) : Type 0 where
@@ -29,7 +30,7 @@ IsLooped rows x = (x < length rows) × IsOnLoop rows x
 
 -- row x is deeper than a tree may be
 abbrev pub IsTooDeep : List ItemRow → ℕ → Type 0
-IsTooDeep rows x = (x < length rows) × ((level : ℕ) × (HasLevel rows x level × (most_levels < level)))
+IsTooDeep rows x = (x < length rows) × ((level : ℕ) × (HasLevel rows x level × (MAX_LEVEL < level)))
 
 -- the cause of each refusal
 abbrev pub IsRefusal : List ItemRow → TreeError → Type 0

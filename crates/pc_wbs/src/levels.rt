@@ -1,5 +1,6 @@
 //! The level of each row, by climbing at most as many steps as a tree has levels.
 ghost use Rattle.std.specs.Prelude.{◌≡◌, ℕ, ◌+◌, ◌<◌, ◌≤◌, ◌^◌, length, vec_len, Some, IfOk, IfErr, IfSome, IfNone, slice_index};
+ghost use Rattle.pc_model.specs.declared.limits.TheConstants.{MAX_ITEMS};
 ghost use Rattle.pc_wbs.specs.Climb.{AreInRange, climb, HasLevel, IsOnlyTop};
 ghost use Rattle.pc_wbs.specs.Refusal.{IsRefusal, IsLooped};
 ghost use Rattle.pc_wbs.specs.Ends.{IsTopBelow, AreLevels, AreGreatest};
@@ -7,14 +8,12 @@ ghost use Rattle.pc_wbs.specs.Ends.{IsTopBelow, AreLevels, AreGreatest};
 use crate::error::TreeError;
 use crate::loops;
 use crate::row::{ItemRow, parent_of};
+use pc_model::MAX_LEVEL;
 use std::alloc::Global;
-
-/// The most levels of a tree, the top being level 1.
-pub(crate) const MOST_LEVELS: u32 = 16;
 
 /// The only row without a parent.
 pub(crate) fn only_top(rows: &[ItemRow]) -> Result<u32, TreeError>
-    requires { length rows.now ≤ 10_000 }
+    requires { length rows.now ≤ MAX_ITEMS }
     ensures top { IfOk result (IsOnlyTop rows.now) }
     ensures refusal { IfErr result (IsRefusal rows.now) }
 {
@@ -34,7 +33,7 @@ pub(crate) fn only_top(rows: &[ItemRow]) -> Result<u32, TreeError>
 fn level_within(rows: &[ItemRow], item: u32, most: u32) -> Option<u32>
     requires in_range { AreInRange rows.now }
     requires item { item < length rows.now }
-    requires most { most ≤ 10_000 }
+    requires most { most ≤ MAX_ITEMS }
     ensures found { IfSome result (λ level. HasLevel rows.now item level) }
     ensures within { IfSome result (λ level. level ≤ most) }
     ensures none { IfNone result ((end : ℕ) × (climb rows.now most item ≡ Some end)) }
@@ -49,9 +48,9 @@ fn level_within(rows: &[ItemRow], item: u32, most: u32) -> Option<u32>
     None
 }
 
-/// The level of each row, where each is among the first 16.
+/// The level of each row, where each is among the first `MAX_LEVEL`.
 pub(crate) fn levels_of(alloc: Global, rows: &[ItemRow]) -> Result<Vec<u32>, TreeError>
-    requires count { length rows.now ≤ 10_000 }
+    requires count { length rows.now ≤ MAX_ITEMS }
     requires in_range { AreInRange rows.now }
     requires top { (top : ℕ) × IsOnlyTop rows.now top }
     ensures levels { IfOk result (λ levels. AreLevels rows.now (length rows.now) levels.items) }
@@ -59,7 +58,7 @@ pub(crate) fn levels_of(alloc: Global, rows: &[ItemRow]) -> Result<Vec<u32>, Tre
 {
     let mut levels = Vec::with_capacity(alloc, rows.len())?;
     for item in 0..rows.len() as u32 {
-        match level_within(rows, item, MOST_LEVELS) {
+        match level_within(rows, item, MAX_LEVEL) {
             Some(level) => levels.push(level)?,
             None => {
                 loops::refuse_loop(alloc, rows)?;
@@ -75,7 +74,7 @@ pub(crate) fn levels_of(alloc: Global, rows: &[ItemRow]) -> Result<Vec<u32>, Tre
 
 /// The level of a row, where there is no loop.
 fn level_of(rows: &[ItemRow], item: u32) -> u32
-    requires count { length rows.now ≤ 10_000 }
+    requires count { length rows.now ≤ MAX_ITEMS }
     requires in_range { AreInRange rows.now }
     requires item { item < length rows.now }
     requires no_loop { (x : ℕ) → IsLooped rows.now x → ⊥ }

@@ -1,5 +1,6 @@
 //! Links from each row to its first child and to its next sibling.
 ghost use Rattle.std.specs.Prelude.{◌≤◌, length, IfOk};
+ghost use Rattle.pc_model.specs.declared.limits.TheConstants.{MAX_ITEMS};
 ghost use Rattle.pc_wbs.specs.Climb.{AreInRange};
 ghost use Rattle.pc_wbs.specs.Links.{AreFirstChildren, AreNextSiblings};
 
@@ -15,7 +16,7 @@ pub(crate) struct Links {
 
 /// The links of the rows, made from the last row to the first.
 pub(crate) fn links_of(alloc: Global, rows: &[ItemRow]) -> Result<Links, AllocError>
-    requires count { length rows.now ≤ 10_000 }
+    requires count { length rows.now ≤ MAX_ITEMS }
     requires in_range { AreInRange rows.now }
     ensures firsts { IfOk result (λ links. AreFirstChildren rows.now 0 links.firsts.items) }
     ensures nexts { IfOk result (λ links. AreNextSiblings rows.now 0 links.nexts.items) }

@@ -1,5 +1,6 @@
 //! Loops: rows from which repeated parents lead back to them.
 ghost use Rattle.std.specs.Prelude.{◌≡◌, ℕ, ◌+◌, ◌<◌, ◌≤◌, length, IfOk, IfErr, OnOk};
+ghost use Rattle.pc_model.specs.declared.limits.TheConstants.{MAX_ITEMS};
 ghost use Rattle.pc_wbs.specs.Climb.{AreInRange, IsOnlyTop};
 ghost use Rattle.pc_wbs.specs.Refusal.{IsRefusal, IsLooped, IsLoopFrom};
 ghost use Rattle.pc_wbs.specs.Ends.{AreEnds, AreDoubled, StayInside, IsLeastBelow, IsFirstLooped, lesser};
@@ -13,7 +14,7 @@ const DOUBLINGS: u32 = 14;
 
 /// Refuses rows that have a loop.
 pub(crate) fn refuse_loop(alloc: Global, rows: &[ItemRow]) -> Result<(), TreeError>
-    requires count { length rows.now ≤ 10_000 }
+    requires count { length rows.now ≤ MAX_ITEMS }
     requires in_range { AreInRange rows.now }
     requires top { (top : ℕ) × IsOnlyTop rows.now top }
     ensures none { OnOk result ((x : ℕ) → IsLooped rows.now x → ⊥) }
@@ -30,7 +31,7 @@ pub(crate) fn refuse_loop(alloc: Global, rows: &[ItemRow]) -> Result<(), TreeErr
 /// A climb of at least as many steps as there are rows ends on a loop, and each row of a loop is the end of such a
 /// climb. Climbs from all rows at once are doubled until they are that long.
 fn first_on_loop(alloc: Global, rows: &[ItemRow]) -> Result<Option<u32>, AllocError>
-    requires count { length rows.now ≤ 10_000 }
+    requires count { length rows.now ≤ MAX_ITEMS }
     requires in_range { AreInRange rows.now }
     ensures { IfOk result (IsFirstLooped rows.now) }
 {
@@ -43,7 +44,7 @@ fn first_on_loop(alloc: Global, rows: &[ItemRow]) -> Result<Option<u32>, AllocEr
 
 /// The parent of each row.
 fn parents(alloc: Global, rows: &[ItemRow]) -> Result<Vec<Option<u32>>, AllocError>
-    requires { length rows.now ≤ 10_000 }
+    requires { length rows.now ≤ MAX_ITEMS }
     ensures { IfOk result (λ ends. AreEnds rows.now (length rows.now) 1 ends.items) }
 {
     let mut parents = Vec::with_capacity(alloc, rows.len())?;

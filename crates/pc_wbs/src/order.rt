@@ -1,13 +1,14 @@
 //! The preorder of a tree.
 ghost use Rattle.std.specs.Prelude.{◌<◌, ◌≤◌, length, IfOk};
+ghost use Rattle.pc_model.specs.declared.limits.TheConstants.{MAX_ITEMS};
 ghost use Rattle.pc_wbs.specs.Climb.{AreInRange, IsOnlyTop, IsTree};
 ghost use Rattle.pc_wbs.specs.Links.{AreFirstChildren, AreNextSiblings, IsNextBeside};
 ghost use Rattle.pc_wbs.specs.Precedes.{IsSuccessor};
 ghost use Rattle.pc_wbs.specs.Preorder.{IsPreorder};
 
-use crate::levels::MOST_LEVELS;
 use crate::links::Links;
 use crate::row::{ItemRow, parent_of};
+use pc_model::MAX_LEVEL;
 use std::alloc::{AllocError, Global};
 
 /// The items in preorder: behind each its first child, or else the next sibling of the nearest item that has one.
@@ -17,7 +18,7 @@ pub(crate) fn preorder(
     links: &Links,
     top: u32,
 ) -> Result<Vec<u32>, AllocError>
-    requires count { length rows.now ≤ 10_000 }
+    requires count { length rows.now ≤ MAX_ITEMS }
     requires in_range { AreInRange rows.now }
     requires tree { IsTree rows.now }
     requires top { IsOnlyTop rows.now top }
@@ -58,7 +59,7 @@ fn next_beside(rows: &[ItemRow], nexts: &[Option<u32>], item: u32) -> Option<u32
     ensures { IsNextBeside rows.now nexts.now item result }
 {
     let mut at = item;
-    for _climbed in 0..MOST_LEVELS {
+    for _climbed in 0..MAX_LEVEL {
         if let Some(sibling) = nexts[at as usize] {
             return Some(sibling);
         }

@@ -1,6 +1,7 @@
 //! The tree of a work breakdown structure.
 ghost use Rattle.std.specs.Prelude.{◌≡◌, ℕ, ◌<◌, ◌≤◌, ◌↔◌, length, IsTrue, IsNone, IfOk, IfErr, IfSome};
-ghost use Rattle.pc_wbs.specs.Climb.{parent_of, AreInRange, HasLevel, IsTop, IsLeaf, IsTree, IsDepth, IsAtLevel, most_levels};
+ghost use Rattle.pc_model.specs.declared.limits.TheConstants.{MAX_ITEMS, MAX_LEVEL};
+ghost use Rattle.pc_wbs.specs.Climb.{parent_of, AreInRange, HasLevel, IsTop, IsLeaf, IsTree, IsDepth, IsAtLevel};
 ghost use Rattle.pc_wbs.specs.Preorder.{IsPreorder};
 ghost use Rattle.pc_wbs.specs.Refusal.{IsRefusal};
 
@@ -40,7 +41,7 @@ impl Tree {
     ///
     /// It takes time in proportion to their number; to name a loop takes some fourteen passes more.
     pub fn build(alloc: Global, rows: &[ItemRow]) -> Result<Tree, TreeError>
-        requires count { length rows.now ≤ 10_000 }
+        requires count { length rows.now ≤ MAX_ITEMS }
         requires in_range { AreInRange rows.now }
         ensures rows { IfOk result (λ tree. tree ≡ rows.now) }
         ensures tree { IfOk result IsTree }
@@ -62,7 +63,7 @@ impl Tree {
     /// How many items there are.
     pub fn len(&self) -> u32
         ensures len { result ≡ length self.now }
-        ensures count { length self.now ≤ 10_000 }
+        ensures count { length self.now ≤ MAX_ITEMS }
         ensures in_range { AreInRange self.now }
         ensures tree { IsTree self.now }
     {
@@ -83,7 +84,7 @@ impl Tree {
     pub fn level(&self, i: u32) -> u32
         requires { i < length self.now }
         ensures level { HasLevel self.now i result }
-        ensures within { result ≤ most_levels }
+        ensures within { result ≤ MAX_LEVEL }
     {
         self.levels[i as usize]
     }
@@ -91,7 +92,7 @@ impl Tree {
     /// The greatest level of an item.
     pub fn depth(&self) -> u32
         ensures depth { IsDepth self.now result }
-        ensures within { result ≤ most_levels }
+        ensures within { result ≤ MAX_LEVEL }
     {
         self.depth
     }
@@ -106,7 +107,9 @@ impl Tree {
 
     /// The items in preorder: the top first, each item before its children, children in row order.
     pub fn preorder(&self) -> &[u32]
-        ensures { IsPreorder self.now result.now }
+        ensures order { IsPreorder self.now result.now }
+        ensures in_range { AreInRange self.now }
+        ensures tree { IsTree self.now }
     {
         self.order.as_slice()
     }

@@ -1,5 +1,6 @@
-mod FlushLaws
+mod ReadingLaws
+mod DecidedLaws
+mod HandingLaws
+mod OutcomeLaws
 mod ScheduleLaws
 mod VerdictLaws
-mod OutcomeLaws
-mod DecidedLaws

@@ -1,22 +1,22 @@
 -- Verdicts on a deck: accepted, or refused with a fault, and never both.
 use Rattle.std.proofs.Common.{◌≡◌, ℕ, ◌≤◌, List, length, Some, sym, ◌∙◌, ap, subst, refl, arith, Result, Ok, Err}
 use Rattle.std.specs.Prelude.{IfErr, unwrap_or}
-use Rattle.pc_deck.specs.declared.limits.TheConstants.{DECK_LIMIT}
-use Rattle.pc_deck.specs.declared.fault.Fault.{Fault as ADeckFault}
-use Rattle.pc_deck.specs.declared.fault.DeckError.{DeckError}
-use Rattle.pc_deck.specs.declared.fault.DeckError.TheVariants.{Fault, OutOfMemory}
+use Rattle.pc_deck.specs.Limits.{longest_deck}
+use Rattle.pc_faults.specs.declared.fault.Fault.{Fault as ADeckFault}
+use Rattle.pc_faults.specs.declared.fault.DeckError.{DeckError}
+use Rattle.pc_faults.specs.declared.fault.DeckError.TheVariants.{Fault, OutOfMemory}
 use Rattle.pc_deck.specs.Deck.{Deck}
-use Rattle.pc_deck.specs.Reading.{deck_of}
-use Rattle.pc_deck.specs.Refusal.{Refuses}
-use Rattle.pc_deck.specs.FaultText.{IsTold}
+use Rattle.pc_deck.specs.Read.{IsDeckOf}
+use Rattle.pc_faults.specs.First.{Refuses}
+use Rattle.pc_faults.specs.FaultText.{IsTold}
 use Rattle.pc_deck.proofs.ToldLemmas.{told_of-refusal}
-use Rattle.pc_deck.proofs.RefusalLemmas.{not_both as cards_not_refused}
+use Rattle.pc_deck.proofs.DeckLaws.{one_deck, not_both as cards_not_refused}
 use Rattle.pc_project.specs.Refusal.{IsRefusedWith}
 use Rattle.pc_project.proofs.RefusalLaws.{makes_not_refused, told_of-refused}
 use Rattle.pert_cli.specs.Verdict.{IsAccepted, IsFault, too_long, card_refusal, project_refusal}
 
 -- the refusal of a project is the fault of its deck
-pub refused_project : {A : Type 0} (result : Result A DeckError) (bytes : List ℕ) (deck : Deck) → length bytes ≤ DECK_LIMIT → deck_of bytes ≡ Some deck → IfErr result (Refuses (IsRefusedWith deck)) → IfErr result (Refuses (IsFault bytes))
+pub refused_project : {A : Type 0} (result : Result A DeckError) (bytes : List ℕ) (deck : Deck) → length bytes ≤ longest_deck → IsDeckOf bytes deck → IfErr result (Refuses (IsRefusedWith deck)) → IfErr result (Refuses (IsFault bytes))
 refused_project (Ok project) bytes deck short cards refused = tt
 refused_project (Err (Fault fault)) bytes deck short cards refused = project_refusal deck short cards refused
 refused_project (Err OutOfMemory) bytes deck short cards refused = tt
@@ -27,13 +27,9 @@ told_of-fault bytes fault (too_long long is) = subst IsTold (sym is) refl
 told_of-fault bytes fault (card_refusal short refusal) = told_of-refusal bytes fault refusal
 told_of-fault bytes fault (project_refusal deck short cards refused) = told_of-refused deck fault refused
 
--- two decks that the same bytes spell are one deck
-same_deck : (bytes : List ℕ) (deck other : Deck) → deck_of bytes ≡ Some deck → deck_of bytes ≡ Some other → deck ≡ other
-same_deck bytes deck other is also = ap (λ o. unwrap_or o deck) (sym is ∙ also)
-
 -- a deck is not both accepted and refused
 pub not_both : (bytes : List ℕ) (deck : Deck) (fault : ADeckFault) → IsAccepted bytes deck → IsFault bytes fault → ⊥
 not_both bytes deck fault accepted (too_long long is) = omega (arith, accepted.short, long)
 not_both bytes deck fault accepted (card_refusal short refusal) = cards_not_refused bytes deck fault accepted.cards refusal
 not_both bytes deck fault accepted (project_refusal other short cards refused) =
-    makes_not_refused deck fault accepted.makes (subst (λ d. IsRefusedWith d fault) (same_deck bytes other deck cards accepted.cards) refused)
+    makes_not_refused deck fault accepted.makes (subst (λ d. IsRefusedWith d fault) (one_deck bytes other deck cards accepted.cards) refused)

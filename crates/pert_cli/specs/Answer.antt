@@ -1,13 +1,15 @@
 -- What each form of the words is answered with.
 use Rattle.std.specs.Prelude.{◌≡◌, ℕ, ◌<◌, ◌≤◌, List, length, slice_index}
 use Rattle.pc_model.specs.Network.{IsEarly}
-use Rattle.pc_model.specs.Schedule.{IsAllNormalLength, IsSchedule, cost_of, normals}
+use Rattle.pc_model.specs.Schedule.{IsAllNormalLength, IsSchedule, normals}
+use Rattle.pc_model.specs.Cost.{cost_of}
+use Rattle.pc_model.specs.Pieces.{knees_of}
 use Rattle.pc_reports.specs.Check.{check_text}
 use Rattle.pc_reports.specs.Schedule.{schedule_text}
 use Rattle.pc_reports.specs.TimesText.{IsTimesText}
 use Rattle.pc_project.specs.Project.{Project}
-use Rattle.pert_cli.specs.declared.words.Form.{Form}
-use Rattle.pert_cli.specs.declared.words.Form.TheVariants.{Check, Normal, Times}
+use Rattle.pert_cli.specs.declared.forms.Form.{Form}
+use Rattle.pert_cli.specs.declared.forms.Form.TheVariants.{Check, Normal, Times}
 
 -- a schedule of a project, with its length and its cost, as it is printed
 pub record Printed : Type 0 where
@@ -25,8 +27,8 @@ pub record IsNormalSchedule (project : Project) (printed : Printed) : Type 0 whe
   pub normal : printed.durations ≡ normals project.terms
   pub early : (e : ℕ) → e < project.network.events → IsEarly project.network (normals project.terms) e (slice_index printed.times e)
   pub schedule : IsSchedule project.network project.terms printed.length (slice_index printed.durations) (slice_index printed.times)
-  pub cost : cost_of project.terms (slice_index printed.durations) ≡ printed.cost
-  pub least : (durations times : ℕ → ℕ) → IsSchedule project.network project.terms printed.length durations times → printed.cost ≤ cost_of project.terms durations
+  pub cost : cost_of project.terms (knees_of project.terms project.pieces) (slice_index printed.durations) ≡ printed.cost
+  pub least : (durations times : ℕ → ℕ) → IsSchedule project.network project.terms printed.length durations times → printed.cost ≤ cost_of project.terms (knees_of project.terms project.pieces) durations
 
 -- the text of a printed schedule
 abbrev pub printed_text : Project → Printed → List ℕ

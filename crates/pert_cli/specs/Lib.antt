@@ -2,6 +2,8 @@ pub mod Words
 pub mod Verdict
 pub mod Answer
 pub mod Sides
+pub mod Handing
+pub mod Reading
 pub mod Outcome
 pub mod Status
 pub use Rattle.pc_edges.specs.Faults

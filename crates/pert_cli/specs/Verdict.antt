@@ -1,25 +1,26 @@
 -- Which decks are accepted, and with which fault each other deck is refused.
-use Rattle.std.specs.Prelude.{◌≡◌, ℕ, ◌<◌, ◌≤◌, List, length, Some}
-use Rattle.pc_deck.specs.declared.limits.TheConstants.{DECK_LIMIT}
-use Rattle.pc_deck.specs.declared.fault.Fault.{Fault}
+use Rattle.std.specs.Prelude.{◌≡◌, ℕ, ◌<◌, ◌≤◌, List, length}
+use Rattle.pc_deck.specs.Limits.{longest_deck}
+use Rattle.pc_faults.specs.declared.fault.Fault.{Fault}
 use Rattle.pc_deck.specs.Deck.{Deck}
-use Rattle.pc_deck.specs.Reading.{deck_of}
-use Rattle.pc_deck.specs.Refusal.{IsCardRefusal, fault_too_long}
+use Rattle.pc_deck.specs.Read.{IsDeckOf}
+use Rattle.pc_deck.specs.Refusal.{IsCardRefusal}
+use Rattle.pc_faults.specs.Faults.{too_long as fault_too_long}
 use Rattle.pc_project.specs.Project.{Project, project_in}
 use Rattle.pc_project.specs.Refusal.{MakesProject, IsRefusedWith}
 
--- the bytes are the deck of these cards, which make a project
+-- the bytes are the deck of these cards: each kind has what its cards spell, and they have no fault; and they make a project
 pub record IsAccepted (bytes : List ℕ) (deck : Deck) : Type 0 where
-  pub short : length bytes ≤ DECK_LIMIT
-  pub cards : deck_of bytes ≡ Some deck
+  pub short : length bytes ≤ longest_deck
+  pub cards : IsDeckOf bytes deck
   pub makes : MakesProject deck
 
 -- the fault with which a deck is refused: it is too long (F1), its cards are refused (F2 to F12), or they were read and
 -- make no project (F13 to F27)
 pub data IsFault (bytes : List ℕ) (fault : Fault) : Type 0 where
-  too_long : DECK_LIMIT < length bytes → fault ≡ fault_too_long → IsFault bytes fault
-  card_refusal : length bytes ≤ DECK_LIMIT → IsCardRefusal bytes fault → IsFault bytes fault
-  project_refusal : (deck : Deck) → length bytes ≤ DECK_LIMIT → deck_of bytes ≡ Some deck → IsRefusedWith deck fault → IsFault bytes fault
+  too_long : longest_deck < length bytes → fault ≡ fault_too_long → IsFault bytes fault
+  card_refusal : length bytes ≤ longest_deck → IsCardRefusal bytes fault → IsFault bytes fault
+  project_refusal : (deck : Deck) → length bytes ≤ longest_deck → IsDeckOf bytes deck → IsRefusedWith deck fault → IsFault bytes fault
 
 -- the project is that of the deck, which is accepted
 pub record IsProjectOf (bytes : List ℕ) (project : Project) : Type 0 where

@@ -1,36 +1,40 @@
-//! The answer to `check`: that the deck is accepted, and what is in it.
-ghost use Rattle.std.specs.Prelude.{◌≡◌, ◌≤◌};
-ghost use Rattle.pc_edges.specs.Writes.{Writes};
+//! `check`: that the deck is accepted, and how many cards of each kind it has.
+ghost use Rattle.std.specs.Prelude.{◌≡◌, IfOk};
+ghost use Rattle.pc_page.specs.Page.{fresh};
 ghost use Rattle.pc_reports.specs.Check.{check_text};
-ghost use Rattle.pert_cli.specs.Sides.{Answering};
-ghost use Rattle.pert_cli.specs.declared.words.Form.TheVariants.{Check};
 
-use crate::sending::ROOM;
-use crate::status::Status;
+use crate::answer::Answer;
 use pc_edges::{Failed, Sink};
+use pc_page::{PAGE_ROOM, Page};
 use pc_project::Project;
 use pc_reports::write_check;
-use pc_text::Line;
-use std::alloc::Global;
+use std::alloc::{AllocError, Global};
 
-/// Writes on `out` that a project is accepted.
-pub(crate) fn answer_check<O: Sink>(alloc: Global, project: &Project, out: &mut O) -> Status
-    ensures { Answering Check project.now (O.taken out.old) (O.taken out.new) (O.faults out.old) (O.faults out.new) (out.new ≡ out.old) result }
-{
-    let Ok(mut line) = Line::with_room(alloc, ROOM) else {
-        return Status::OutOfMemory;
-    };
-    match write(project, &mut line, out) {
-        Ok(()) => Status::Done,
-        Err(Failed) => Status::WriteFault,
+/// The words of the form.
+pub(crate) const WORDS: &[u8] = b"check";
+
+/// The counts of a project's cards, and the page that they are written on.
+#[derive(Drop)]
+pub(crate) struct CheckAnswer {
+    page: Page,
+}
+
+impl CheckAnswer {
+    pub(crate) fn build(alloc: Global) -> Result<CheckAnswer, AllocError>
+        ensures { IfOk result (λ answer. answer.page ≡ fresh) }
+    {
+        Ok(CheckAnswer {
+            page: Page::with_room(alloc, PAGE_ROOM)?,
+        })
     }
 }
 
-/// Writes what is counted and flushes the sink.
-fn write<O: Sink>(project: &Project, line: &mut Line, out: &mut O) -> Result<(), Failed>
-    requires { ROOM ≤ line.old.room }
-    ensures { Writes result (O.taken out.old) (O.taken out.new) (O.faults out.old) (O.faults out.new) (check_text project.now) }
-{
-    write_check(line, out, project)?;
-    out.flush()
+impl Answer for CheckAnswer {
+    ghost IsFor = { λ answer project. answer.page ≡ fresh };
+
+    ghost text = { λ answer project. check_text project };
+
+    fn write_to<O: Sink>(&mut self, project: &Project, out: &mut O) -> Result<(), Failed> {
+        write_check(&mut self.page, out, project)
+    }
 }

@@ -1,55 +1,51 @@
-//! The answer to `normal`: the schedule at the all-normal length.
-ghost use Rattle.std.specs.Prelude.{◌≡◌, ◌≤◌};
-ghost use Rattle.pc_edges.specs.Writes.{Writes};
+//! `normal`: the schedule at the all-normal length.
+ghost use Rattle.std.specs.Prelude.{◌≡◌, IfOk};
+ghost use Rattle.pc_page.specs.Page.{fresh};
 ghost use Rattle.pert_cli.specs.Answer.{IsNormalSchedule, printed_text};
-ghost use Rattle.pert_cli.specs.Sides.{Answering};
-ghost use Rattle.pert_cli.specs.declared.words.Form.TheVariants.{Normal};
 
+use crate::answer::Answer;
 use crate::schedule::NormalSchedule;
-use crate::sending::ROOM;
-use crate::status::Status;
 use pc_edges::{Failed, Sink};
+use pc_page::{PAGE_ROOM, Page};
 use pc_project::Project;
-use pc_reports::write_schedule;
-use pc_text::Line;
-use std::alloc::Global;
+use pc_reports::{Schedule, write_schedule};
+use std::alloc::{AllocError, Global};
 
-/// Writes the schedule at the all-normal length of a project on `out`.
-pub(crate) fn answer_normal<O: Sink>(alloc: Global, project: &Project, out: &mut O) -> Status
-    ensures { Answering Normal project.now (O.taken out.old) (O.taken out.new) (O.faults out.old) (O.faults out.new) (out.new ≡ out.old) result }
-{
-    let Ok(schedule) = NormalSchedule::of(alloc, project) else {
-        return Status::OutOfMemory;
-    };
-    let Ok(mut line) = Line::with_room(alloc, ROOM) else {
-        return Status::OutOfMemory;
-    };
-    match write(project, &schedule, &mut line, out) {
-        Ok(()) => Status::Done,
-        Err(Failed) => Status::WriteFault,
+/// The words of the form.
+pub(crate) const WORDS: &[u8] = b"normal";
+
+/// The schedule at a project's all-normal length, and the page that it is written on.
+#[derive(Drop)]
+pub(crate) struct NormalAnswer {
+    page: Page,
+    schedule: NormalSchedule,
+}
+
+impl NormalAnswer {
+    pub(crate) fn build(alloc: Global, project: &Project) -> Result<NormalAnswer, AllocError>
+        ensures { IfOk result (λ answer. (answer.page ≡ fresh) × IsNormalSchedule project.now answer.schedule) }
+    {
+        Ok(NormalAnswer {
+            schedule: NormalSchedule::of(alloc, project)?,
+            page: Page::with_room(alloc, PAGE_ROOM)?,
+        })
     }
 }
 
-/// Writes the schedule and flushes the sink.
-fn write<O: Sink>(
-    project: &Project,
-    schedule: &NormalSchedule,
-    line: &mut Line,
-    out: &mut O,
-) -> Result<(), Failed>
-    requires room { ROOM ≤ line.old.room }
-    requires schedule { IsNormalSchedule project.now schedule.now }
-    ensures { Writes result (O.taken out.old) (O.taken out.new) (O.faults out.old) (O.faults out.new) (printed_text project.now schedule.now) }
-{
-    write_schedule(
-        line,
-        out,
-        schedule.length(),
-        schedule.cost(),
-        project.event_codes(),
-        schedule.times(),
-        project.activity_codes(),
-        schedule.durations(),
-    )?;
-    out.flush()
+impl Answer for NormalAnswer {
+    ghost IsFor = { λ answer project. (answer.page ≡ fresh) × IsNormalSchedule project answer.schedule };
+
+    ghost text = { λ answer project. printed_text project answer.schedule };
+
+    fn write_to<O: Sink>(&mut self, project: &Project, out: &mut O) -> Result<(), Failed> {
+        let schedule = Schedule {
+            length: self.schedule.length(),
+            cost: self.schedule.cost(),
+            events: project.event_codes(),
+            times: self.schedule.times(),
+            activities: project.activity_codes(),
+            durations: self.schedule.durations(),
+        };
+        write_schedule(&mut self.page, out, &schedule)
+    }
 }

@@ -1,18 +1,18 @@
 //! Writing the line that says why a deck is refused.
-ghost use Rattle.std.specs.Prelude.{◌≡◌};
-ghost use Rattle.pc_deck.specs.FaultText.{IsTold};
-ghost use Rattle.pert_cli.specs.Sides.{Refusal};
+ghost use Rattle.pc_faults.specs.FaultText.{IsTold};
+ghost use Rattle.pert_cli.specs.Handing.{Refusal};
+ghost use Rattle.pert_cli.specs.Sides.{side};
 
 use crate::sending::send;
 use crate::status::Status;
-use pc_deck::{Fault, fault_line};
 use pc_edges::{Failed, Sink};
+use pc_faults::{Fault, fault_line};
 use std::alloc::Global;
 
 /// Says on `err` why the deck is refused.
 pub(crate) fn refuse<E: Sink>(alloc: Global, fault: &Fault, err: &mut E) -> Status
     requires { IsTold fault.now }
-    ensures { Refusal fault.now (E.taken err.old) (E.taken err.new) (E.faults err.old) (E.faults err.new) (err.new ≡ err.old) result }
+    ensures { Refusal fault.now (side E.taken E.faults err.old err.new) result }
 {
     let Ok(line) = fault_line(alloc, fault) else {
         return Status::OutOfMemory;

@@ -3,7 +3,6 @@ ghost use Rattle.std.specs.Prelude.{◌≡◌, IfOk, ℕ, List, map, slice_index
 ghost use Rattle.pc_model.specs.Schedule.{normals};
 ghost use Rattle.pert_cli.specs.Answer.{IsNormalSchedule};
 
-use pc_crash::normal_cost;
 use pc_model::Term;
 use pc_project::Project;
 use pc_times::{Longest, longest};
@@ -27,13 +26,13 @@ impl Model for NormalSchedule {
 }
 
 impl NormalSchedule {
-    /// The schedule at the all-normal length of a project. Two passes over its activities.
+    /// The schedule at the all-normal length of a project. A few passes over its activities.
     pub(crate) fn of(alloc: Global, project: &Project) -> Result<NormalSchedule, AllocError>
         ensures { IfOk result (IsNormalSchedule project.now) }
     {
-        let durations = normal_durations(alloc, project.terms())?;
+        let durations = normal_durations(alloc, project.activity_terms())?;
         let found = longest(alloc, project.net(), &durations)?;
-        let cost = normal_cost(project.terms());
+        let cost = project.priced(alloc)?.cost_of(&durations);
         Ok(NormalSchedule {
             found,
             durations,

@@ -3,10 +3,7 @@ ghost use Rattle.pc_edges.specs.Writes.{Writes};
 
 use pc_edges::{Failed, Sink, push_all};
 
-/// How many bytes of an answer are gathered before they are pushed.
-pub(crate) const ROOM: usize = 65_536;
-
-/// Pushes the text and flushes the sink.
+/// Pushes the text and flushes the sink. It takes no memory.
 pub(crate) fn send<O: Sink>(sink: &mut O, text: &[u8]) -> Result<(), Failed>
     ensures { Writes result (O.taken sink.old) (O.taken sink.new) (O.faults sink.old) (O.faults sink.new) text.now }
 {

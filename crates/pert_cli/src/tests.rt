@@ -159,6 +159,22 @@ fn refuses_words(rt: HostRuntime) -> Result<(), Fail> {
     Ok(())
 }
 
+// The usage line is pushed once, and flushed.
+#[test]
+fn the_usage_line_is_flushed(rt: HostRuntime) -> Result<(), Fail> {
+    for (failing_push, status, taken) in [(1, 5, 0), (2, 5, USAGE.len()), (3, 2, USAGE.len())] {
+        let edges = Edges {
+            failing_push,
+            ..SOUND
+        };
+        let left = left_by(rt.alloc(), &[], WHOLE, edges)?;
+        assert_eq!(rt; left.status, status);
+        assert_eq!(rt; left.err.as_slice(), &USAGE[..taken]);
+        assert!(rt; left.out.is_empty());
+    }
+    Ok(())
+}
+
 #[test]
 fn a_failing_pull_leaves_nothing(rt: HostRuntime) -> Result<(), Fail> {
     // The deck comes in three pulls, the last of which finds its end.
@@ -210,17 +226,45 @@ fn a_failing_push_of_a_refusal_leaves_a_front(rt: HostRuntime) -> Result<(), Fai
     Ok(())
 }
 
+// Each form and its text.
+const FORMS: [(&str, &[u8]); 3] = [("check", COUNTS), ("normal", SCHEDULE), ("times", TIMES)];
+
 #[test]
-fn an_output_may_be_too_small(rt: HostRuntime) -> Result<(), Fail> {
-    let left = left_by(rt.alloc(), &["normal"], WHOLE, Edges { room: 5, ..SOUND })?;
-    assert_eq!(rt; left.status, 5);
-    assert_eq!(rt; left.out.as_slice(), b"LENGT".as_slice());
+fn an_output_fails_in_each_form(rt: HostRuntime) -> Result<(), Fail> {
+    for (word, text) in FORMS {
+        let small = left_by(rt.alloc(), &[word], WHOLE, Edges { room: 5, ..SOUND })?;
+        assert_eq!(rt; small.status, 5, "{word}");
+        assert_eq!(rt; small.out.as_slice(), &text[..5], "{word}");
+        assert!(rt; small.err.is_empty());
+    }
+    Ok(())
+}
+
+// One push of the whole text, and then the flush. No clause asks for a flush: what is seen of one is that it fails.
+#[test]
+fn each_form_is_flushed(rt: HostRuntime) -> Result<(), Fail> {
+    for (word, text) in FORMS {
+        for (failing_push, status, taken) in [(1, 5, 0), (2, 5, text.len()), (3, 0, text.len())] {
+            let edges = Edges {
+                failing_push,
+                ..SOUND
+            };
+            let left = left_by(rt.alloc(), &[word], WHOLE, edges)?;
+            assert_eq!(rt; left.status, status, "{word} {failing_push}");
+            assert_eq!(rt;
+                left.out.as_slice(),
+                &text[..taken],
+                "{word} {failing_push}"
+            );
+            assert!(rt; left.err.is_empty());
+        }
+    }
     Ok(())
 }
 
 #[test]
 fn a_deck_may_be_too_long(rt: HostRuntime) -> Result<(), Fail> {
-    let deck = vec![in rt.alloc(); b'\n'; 33_554_433]?;
+    let deck = vec![in rt.alloc(); b'\n'; 67_108_865]?;
     let left = left_by(
         rt.alloc(),
         &["normal"],
@@ -234,7 +278,7 @@ fn a_deck_may_be_too_long(rt: HostRuntime) -> Result<(), Fail> {
     assert_eq!(rt; left.out.as_slice(), b"".as_slice());
     assert_eq!(rt;
         left.err.as_slice(),
-        b"F1 record 0: more than 33554432 bytes\n".as_slice()
+        b"F1 record 0: more than 67108864 bytes\n".as_slice()
     );
     Ok(())
 }

@@ -5,6 +5,7 @@ use Rattle.jiff_core.specs.Calendar.{IsCivilDate}
 use Rattle.jiff_core.proofs.SignedLemmas.{signed_arith, signed_casts}
 use Rattle.pc_days.specs.Dates.{date_text}
 use Rattle.pc_days.proofs.Form.{day_number_year, year_fits}
+use Rattle.pc_days.proofs.CalendarLaws.{text_of-day}
 use Rattle.pc_days.proofs.Reading.{NamesDay-same, NamesDay-read, NamesDay-date}
 use Rattle.pc_days.proofs.day.day_text.Goals as goal
 
@@ -32,4 +33,4 @@ returns c =
     let fits : FitsSigned w16 date.year = omega (arith, signed_arith) in
     let spelled = c.spelled.ensures ∙ ap (λ y. date_text (unsigned_abs y) date.month date.day) (to_z-of_z w16 date.year fits) in
     let names = NamesDay-date c.spelled.result date.year date.month date.day c.args.day is_civil low spelled (e ∙ c.day.view_is) in
-    record { named = names; back = λ text is. NamesDay-same c.spelled.result text c.args.day names (NamesDay-read text c.args.day is) }
+    record { named = names; text = text_of-day c.spelled.result c.args.day (rw (← c.day.view_is) c.day.invariant) names; back = λ text is. NamesDay-same c.spelled.result text c.args.day names (NamesDay-read text c.args.day is) }

@@ -1,13 +1,10 @@
 use Rattle.std.proofs.Common.{sym, ◌∙◌}
-use Rattle.pc_deck.proofs.RefusalLemmas.{refused_first, accepted_none}
-use Rattle.pc_deck.proofs.SaysLemmas.{answer_says}
+use Rattle.pc_deck.proofs.DeckLaws.{answer_is}
+use Rattle.pc_deck.proofs.RefusalLemmas.{refused_first}
 use Rattle.pc_deck.proofs.read.read_cards.Goals as goal
 
-pub returns-clause-says : goal.returns-clause-says
-returns-clause-says c = answer_says c.cards_of.result c.args.bytes.now c.cards_of.ensures.cards
+pub returns-clause-accepted : goal.returns-clause-accepted
+returns-clause-accepted c = answer_is c.cards_of.result c.args.bytes.now (sym c.is_utf8.ensures ∙ c.if-not-is_utf8.false) c.cards_of.ensures.cards
 
 pub returns-clause-first : goal.returns-clause-first
 returns-clause-first c = refused_first c.cards_of.result c.args.bytes.now (sym c.is_utf8.ensures ∙ c.if-not-is_utf8.false) c.cards_of.ensures.fault
-
-pub returns-clause-accepted : goal.returns-clause-accepted
-returns-clause-accepted c = accepted_none c.cards_of.result c.args.bytes.now (sym c.is_utf8.ensures ∙ c.if-not-is_utf8.false) c.cards_of.ensures.cards

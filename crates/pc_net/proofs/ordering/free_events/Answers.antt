@@ -1,5 +1,5 @@
 use Rattle.std.proofs.Common.{◌≡◌, slice_index}
-use Rattle.pc_model.proofs.ListedLaws.{IsListed-push, IsListed-keep}
+use Rattle.pc_model.proofs.Walks.ListedLaws.{IsListed-push, IsListed-keep}
 use Rattle.pc_net.proofs.ordering.free_events.Goals as goal
 use Rattle.pc_net.proofs.ordering.free_events.Goals.{then-count-eq0+in_ok-push, else-count-eq0}
 

@@ -11,5 +11,5 @@ pub invariant_of-result : goal.invariant_of-result
 invariant_of-result c =
     let lists = c.in_ok-lists.ensures in
     subst IsPlanned
-    (sym (project_in-is c.args.cards.now _ c.heading.ensures c.requires.network c.requires.tree lists.events lists.activities lists.places lists.terms lists.expected lists.variances lists.items lists.titles c.counts.ensures))
+    (sym (project_in-is c.args.cards.now _ c.heading.ensures c.requires.network c.requires.tree lists.events lists.activities lists.places lists.terms lists.expected lists.variances lists.items lists.titles c.requires.numbers.pieces lists.resources c.requires.numbers.loads c.time_terms.ensures c.counts.ensures))
     (project_in-planned c.args.cards.now c.requires.makes lists.within)

@@ -1,11 +1,15 @@
 use Rattle.pert_cli.proofs.DecidedLaws.{accepted_ends, five_is_cut, refused_ends}
+use Rattle.pert_cli.proofs.VerdictLaws.{not_both}
 use Rattle.pert_cli.proofs.top.run.Goals as goal
 
 pub returns-clause-deck_accepted : goal.returns-clause-deck_accepted
-returns-clause-deck_accepted g c = λ asked. accepted_ends c.args.words.now _ _ _ _ _ _ c.code.result asked c.outcome.result c.outcome.ensures c.code.ensures
+returns-clause-deck_accepted g c = λ asked. accepted_ends c.args.words.now _ _ _ c.code.result asked c.outcome.result c.outcome.ensures c.code.ensures
 
 pub returns-clause-deck_refused : goal.returns-clause-deck_refused
-returns-clause-deck_refused g c = λ asked. refused_ends c.args.words.now _ _ _ _ _ _ c.code.result asked c.outcome.result c.outcome.ensures c.code.ensures
+returns-clause-deck_refused g c = λ asked. refused_ends c.args.words.now _ _ _ c.code.result asked c.outcome.result c.outcome.ensures c.code.ensures
 
 pub returns-clause-write_fault : goal.returns-clause-write_fault
-returns-clause-write_fault g c = λ five. five_is_cut c.args.words.now _ _ _ _ _ _ c.code.result c.outcome.result c.outcome.ensures c.code.ensures five
+returns-clause-write_fault g c = λ five. five_is_cut c.args.words.now _ _ _ c.code.result c.outcome.result c.outcome.ensures c.code.ensures five
+
+pub returns-clause-one_verdict : goal.returns-clause-one_verdict
+returns-clause-one_verdict g c = λ bytes accepted refused. not_both bytes accepted.0 refused.0 accepted.1 refused.1

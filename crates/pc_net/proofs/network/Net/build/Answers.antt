@@ -1,6 +1,6 @@
 use Rattle.std.proofs.Common.{◌≡◌, length, sym, ap, subst, arith}
 use Rattle.pc_model.specs.Network.{Network, IsInRange, IsSound, IsOrder}
-use Rattle.pc_model.proofs.OrderLaws.{room_below}
+use Rattle.pc_model.proofs.Walks.OrderLaws.{room_below}
 use Rattle.pc_net.proofs.SearchLaws.{LiesOnCycle-from_cycle}
 use Rattle.pc_net.proofs.SoundLaws.{IsSound-from_order, cycle_from_stuck}
 use Rattle.pc_net.proofs.network.Net.build.Goals as goal

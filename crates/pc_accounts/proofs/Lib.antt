@@ -1,0 +1,6 @@
+pub mod PartLaws
+mod DayLaws
+mod AmountLaws
+mod SecondLaws
+mod PackageLaws
+mod EntryLaws

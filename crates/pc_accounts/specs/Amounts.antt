@@ -1,0 +1,69 @@
+-- What a book says of each account: sums and choices over all charges and all amounts to go.
+use Rattle.std.specs.Prelude.{◌≡◌, ℕ, ◌-◌, ◌<◌, ◌≤◌, ◌==◌, ◌&&◌, ◌⊎◌, Bool, ℤ, pos, ◌≤ℤ◌, int_le, List, length, slice_index_or, filter, sum_by}
+use Rattle.pc_model.specs.declared.limits.TheConstants.{MAX_COST}
+use Rattle.pc_accounts.specs.declared.rows.AcctRow.{AcctRow}
+use Rattle.pc_accounts.specs.declared.rows.MoneyRow.{MoneyRow}
+use Rattle.pc_accounts.specs.declared.entry.Entry.{Entry}
+use Rattle.pc_accounts.specs.Entries.{entry_at}
+
+-- account a; past the end of the list one without a budget on item 0
+abbrev pub account_at : List AcctRow → ℕ → AcctRow
+account_at accounts a = slice_index_or accounts a (record { item = 0; budget = 0 })
+
+-- the item that account a stands on
+abbrev pub item_of : List AcctRow → ℕ → ℕ
+item_of accounts a = (account_at accounts a).item
+
+-- its budget
+abbrev pub budget_of : List AcctRow → ℕ → ℕ
+budget_of accounts a = (account_at accounts a).budget
+
+-- row k of charges or of amounts to go; past the end of the list nothing of account 0
+abbrev pub money_at : List MoneyRow → ℕ → MoneyRow
+money_at rows k = slice_index_or rows k (record { account = 0; day = pos 0; amount = 0 })
+
+-- a test for: the row is of account a, and dated up to as-of
+abbrev pub is_due : ℤ → ℕ → MoneyRow → Bool
+is_due as_of a row = (row.account == a) && int_le row.day as_of
+
+-- the sum of the account's charges dated up to as-of
+abbrev pub actual_of : List MoneyRow → ℤ → ℕ → ℕ
+actual_of charges as_of a = sum_by (λ row. row.amount) (filter (is_due as_of a) charges)
+
+-- row k is of account a, and dated up to as-of
+pub record IsDue (rows : List MoneyRow) (as_of : ℤ) (a k : ℕ) : Type 0 where
+  pub in_rows : k < length rows
+  pub account : (money_at rows k).account ≡ a
+  pub due : (money_at rows k).day ≤ℤ as_of
+
+-- and none of these rows has a later date
+pub record IsLatestDue (rows : List MoneyRow) (as_of : ℤ) (a k : ℕ) : Type 0 where
+  pub due : IsDue rows as_of a k
+  pub latest : (j : ℕ) → IsDue rows as_of a j → (money_at rows j).day ≤ℤ (money_at rows k).day
+
+-- what is to go: the amount to go with the latest date up to as-of; where there is none, what actual leaves of the
+-- budget, and nothing where it leaves none
+abbrev pub IsToGo : List MoneyRow → ℤ → ℕ → Entry → Type 0
+IsToGo togos as_of a entry =
+    ((k : ℕ) × IsLatestDue togos as_of a k × (entry.to_go ≡ (money_at togos k).amount))
+    ⊎ (((k : ℕ) → IsDue togos as_of a k → ⊥) × (entry.to_go ≡ entry.budget - entry.actual))
+
+-- the entry says the budget of account a, the sum of its charges up to as-of, and what is to go
+pub record IsEntryOf (accounts : List AcctRow) (charges togos : List MoneyRow) (as_of : ℤ) (a : ℕ) (entry : Entry) : Type 0 where
+  pub budget : entry.budget ≡ budget_of accounts a
+  pub actual : entry.actual ≡ actual_of charges as_of a
+  pub to_go : IsToGo togos as_of a entry
+
+-- one entry for each account
+pub record AreEntriesOf (accounts : List AcctRow) (charges togos : List MoneyRow) (as_of : ℤ) (entries : List Entry) : Type 0 where
+  pub one_each : length entries ≡ length accounts
+  pub each : (a : ℕ) → a < length accounts → IsEntryOf accounts charges togos as_of a (entry_at entries a)
+
+-- no budget is above the limit
+abbrev pub AreBudgets : List AcctRow → Type 0
+AreBudgets accounts = (a : ℕ) → a < length accounts → budget_of accounts a ≤ MAX_COST
+
+-- each row is of one of so many accounts, and no amount is above the limit
+pub record AreMoney (accounts : ℕ) (rows : List MoneyRow) : Type 0 where
+  pub known : (k : ℕ) → k < length rows → (money_at rows k).account < accounts
+  pub small : (k : ℕ) → k < length rows → (money_at rows k).amount ≤ MAX_COST

@@ -1,0 +1,5 @@
+pub mod Entries
+pub mod Amounts
+pub mod Second
+pub mod Packages
+pub mod Parts

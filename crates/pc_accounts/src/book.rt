@@ -1,0 +1,167 @@
+//! The book of all accounts.
+ghost use Rattle.std.specs.Prelude.{◌≡◌, ℕ, ◌+◌, ◌*◌, ◌<◌, ◌≤◌, length, slice_index, sum, sum_by, IsTrue, IsFalse, IfOk, IfErr, IfSome, OnOk};
+ghost use Rattle.pc_model.specs.declared.limits.TheConstants.{MAX_ACCOUNTS, MAX_CHARGES, MAX_TOGOS, MAX_COST};
+ghost use Rattle.pc_accounts.specs.Entries.{entry_at, latest_of, value_of, AreSmall, IsShare};
+ghost use Rattle.pc_accounts.specs.Amounts.{AreBudgets, AreMoney, AreEntriesOf};
+ghost use Rattle.pc_accounts.specs.Parts.{AreActuals, AreKnown, AreMade, entry_from};
+ghost use Rattle.pc_accounts.specs.Second.{IsRepeated, IsRefusal};
+
+use crate::entry::Entry;
+use crate::error::BookError;
+use crate::rows::{AcctRow, MoneyRow};
+use crate::togos::{latest_togos, refuse_second};
+use pc_days::Day;
+use std::alloc::{AllocError, Global};
+use std::marker::Model;
+
+/// What each account has spent up to as-of and what is to go, in card order.
+#[derive(Debug, Drop)]
+pub struct Book {
+    entries: Vec<Entry>,
+}
+
+impl Model for Book {
+    ghost use Rattle.std.specs.Prelude.{List};
+    ghost use Rattle.pc_accounts.specs.declared.entry.Entry.{Entry};
+    ghost use Rattle.pc_accounts.specs.Entries.{AreSmall};
+
+    ghost Value = { List Entry };
+
+    ghost view = { λ book. book.entries.items };
+
+    ghost invariant = { λ book. AreSmall book.entries.items };
+}
+
+impl Book {
+    /// The book of these accounts: charges and amounts to go that are dated after `as_of` do not count.
+    ///
+    /// It takes time in proportion to the rows.
+    pub fn build(
+        alloc: Global,
+        accounts: &[AcctRow],
+        charges: &[MoneyRow],
+        togos: &[MoneyRow],
+        as_of: Day,
+    ) -> Result<Book, BookError>
+        requires few_accounts { length accounts.now ≤ MAX_ACCOUNTS }
+        requires few_charges { length charges.now ≤ MAX_CHARGES }
+        requires few_togos { length togos.now ≤ MAX_TOGOS }
+        requires budgets { AreBudgets accounts.now }
+        requires charges { AreMoney (length accounts.now) charges.now }
+        requires togos { AreMoney (length accounts.now) togos.now }
+        ensures entries { IfOk result (λ book. AreEntriesOf accounts.now charges.now togos.now as_of book) }
+        ensures once { OnOk result ((k : ℕ) → IsRepeated togos.now k → ⊥) }
+        ensures refused { IfErr result (IsRefusal togos.now) }
+    {
+        refuse_second(alloc, togos)?;
+        let actuals = actuals(alloc, accounts.len(), charges, as_of)?;
+        let latest = latest_togos(alloc, accounts.len(), togos, as_of)?;
+        Ok(Book {
+            entries: entries(alloc, accounts, togos, &actuals, &latest)?,
+        })
+    }
+
+    /// One entry for each account, in card order.
+    pub fn entries(&self) -> &[Entry]
+        ensures entries { result.now ≡ self.now }
+        ensures small { AreSmall self.now }
+    {
+        &self.entries
+    }
+
+    /// What the account has spent: the sum of its charges dated up to as-of.
+    pub fn actual(&self, a: u32) -> u64
+        requires { a < length self.now }
+        ensures actual { result ≡ (entry_at self.now a).actual }
+        ensures limit { result ≤ MAX_CHARGES * MAX_COST }
+    {
+        self.entries[a as usize].actual
+    }
+
+    /// What is still to go.
+    pub fn to_go(&self, a: u32) -> u64
+        requires { a < length self.now }
+        ensures to_go { result ≡ (entry_at self.now a).to_go }
+        ensures limit { result ≤ MAX_COST }
+    {
+        self.entries[a as usize].to_go
+    }
+
+    /// What the account will have cost: what it has spent and what is to go.
+    pub fn latest(&self, a: u32) -> u64
+        requires { a < length self.now }
+        ensures latest { result ≡ latest_of (entry_at self.now a) }
+        ensures limit { result ≤ (MAX_CHARGES + 1) * MAX_COST }
+    {
+        self.entries[a as usize].latest()
+    }
+
+    /// What the account's work is worth, where `finished` says whether its package is finished; `Entry::value` says how.
+    pub fn value(&self, a: u32, finished: bool) -> u64
+        requires { a < length self.now }
+        ensures value { result ≡ value_of finished (entry_at self.now a) }
+        ensures done { IsTrue finished → result ≡ (entry_at self.now a).budget }
+        ensures share { IsFalse finished → 0 < latest_of (entry_at self.now a) → IsShare (entry_at self.now a) result }
+        ensures nothing { IsFalse finished → latest_of (entry_at self.now a) ≡ 0 → result ≡ 0 }
+        ensures limit { result ≤ MAX_COST }
+    {
+        self.entries[a as usize].value(finished)
+    }
+}
+
+/// The sum of each account's charges up to as-of.
+fn actuals(
+    alloc: Global,
+    accounts: usize,
+    charges: &[MoneyRow],
+    as_of: Day,
+) -> Result<Vec<u64>, AllocError>
+    requires few { length charges.now ≤ MAX_CHARGES }
+    requires charges { AreMoney accounts charges.now }
+    ensures { IfOk result (λ actuals. AreActuals accounts charges.now as_of (length charges.now) actuals.items) }
+{
+    let mut actuals = vec![in alloc; 0; accounts]?;
+    for charge in charges {
+        if charge.day <= as_of {
+            actuals[charge.account as usize] += charge.amount;
+        }
+    }
+    Ok(actuals)
+}
+
+/// The entries, from the sums of the charges and the amounts to go that count.
+fn entries(
+    alloc: Global,
+    accounts: &[AcctRow],
+    togos: &[MoneyRow],
+    actuals: &[u64],
+    latest: &[Option<u32>],
+) -> Result<Vec<Entry>, AllocError>
+    requires actuals { length actuals.now ≡ length accounts.now }
+    requires latest { length latest.now ≡ length accounts.now }
+    requires known { AreKnown togos.now latest.now }
+    ensures { IfOk result (λ entries. AreMade accounts.now togos.now actuals.now latest.now (length accounts.now) entries.items) }
+{
+    let mut entries = Vec::with_capacity(alloc, accounts.len())?;
+    for a in 0..accounts.len() {
+        let budget = accounts[a].budget;
+        entries.push(entry(budget, actuals[a], latest[a], togos))?;
+    }
+    Ok(entries)
+}
+
+/// An account's entry, where `latest` is the amount to go that counts, if there is one.
+fn entry(budget: u64, actual: u64, latest: Option<u32>, togos: &[MoneyRow]) -> Entry
+    requires { IfSome latest (λ row. row < length togos.now) }
+    ensures { result ≡ entry_from togos.now budget actual latest }
+{
+    let to_go = match latest {
+        Some(row) => togos[row as usize].amount,
+        None => budget.saturating_sub(actual),
+    };
+    Entry {
+        budget,
+        actual,
+        to_go,
+    }
+}

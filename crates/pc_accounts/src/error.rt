@@ -1,0 +1,53 @@
+//! Why amounts to go are refused, and why packages are uneven.
+ghost use Rattle.std.specs.Prelude.{◌≡◌};
+
+use std::alloc::{AllocError, AllocFailed};
+
+/// Why no book is made.
+#[derive(Clone, Copy, Debug, PartialEq, Eq)]
+pub enum BookError {
+    /// The first amount to go that has the account and the day of an earlier one, and the earliest such one.
+    SecondToGo { first: u32, second: u32 },
+    OutOfMemory,
+}
+
+impl From<AllocError> for BookError {
+    ghost use Rattle.std.specs.Prelude.{◌≡◌};
+    ghost use Rattle.pc_accounts.specs.declared.error.BookError.TheVariants.{OutOfMemory};
+
+    ghost from_gives = { λ _ e. e ≡ OutOfMemory };
+
+    fn from(_error: AllocError) -> BookError {
+        BookError::OutOfMemory
+    }
+}
+
+impl<T: Drop> From<AllocFailed<T>> for BookError {
+    ghost use Rattle.std.specs.Prelude.{◌≡◌};
+    ghost use Rattle.pc_accounts.specs.declared.error.BookError.TheVariants.{OutOfMemory};
+
+    ghost from_gives = { λ _ e. e ≡ OutOfMemory };
+
+    fn from(_error: AllocFailed<T>) -> BookError {
+        BookError::OutOfMemory
+    }
+}
+
+/// Why budgets do not fit the work.
+#[derive(Clone, Copy, Debug, PartialEq, Eq)]
+pub enum Uneven {
+    /// The first item with work whose accounts' budgets and whose activities' costs have different sums.
+    Item { item: u32, budgets: u64, costs: u64 },
+    OutOfMemory,
+}
+
+impl From<AllocError> for Uneven {
+    ghost use Rattle.std.specs.Prelude.{◌≡◌};
+    ghost use Rattle.pc_accounts.specs.declared.error.Uneven.TheVariants.{OutOfMemory};
+
+    ghost from_gives = { λ _ e. e ≡ OutOfMemory };
+
+    fn from(_error: AllocError) -> Uneven {
+        Uneven::OutOfMemory
+    }
+}

@@ -1,0 +1,25 @@
+//! The rows that a book and its packages are made from. Accounts and items are numbered in card order from 0.
+
+use pc_days::Day;
+
+/// A cost account: the item that it stands on, and its budget.
+#[derive(Clone, Copy, Debug, PartialEq, Eq)]
+pub struct AcctRow {
+    pub item: u32,
+    pub budget: u64,
+}
+
+/// An amount of money of an account, with its date: a charge, or what was to go on that day.
+#[derive(Clone, Copy, Debug, PartialEq, Eq)]
+pub struct MoneyRow {
+    pub account: u32,
+    pub day: Day,
+    pub amount: u64,
+}
+
+/// An activity's cost at its normal duration, and the item that it belongs to.
+#[derive(Clone, Copy, Debug, PartialEq, Eq)]
+pub struct WorkRow {
+    pub item: u32,
+    pub cost: u64,
+}

@@ -1,0 +1,3 @@
+pub mod AuditLaws
+pub mod FinishLaws
+pub mod FeedLaws

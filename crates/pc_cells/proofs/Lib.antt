@@ -1,0 +1,3 @@
+pub mod LiveLaws
+mod RegionLaws
+mod SpanLaws

@@ -1,0 +1,141 @@
+//! A region and the spans that are live in it.
+ghost use Rattle.std.specs.Prelude.{◌≡◌, ◌<◌, ◌≤◌, ◌↔◌, ℕ, [], ◌∷◌, ◌++◌, IfOk, IfErr, OnOk, OnErr, IsOk, IsTrue, length, take, replicate, slice_index, slice_set, sum_by};
+ghost use Rattle.pc_cells.specs.Spans.{free_of, span_at, with_span, IsSpan, IsLive, IsMark};
+ghost use Rattle.pc_cells.specs.Layout.{IsRangeFilled};
+
+use crate::span::{Mark, RegionFull, Span};
+use std::alloc::{AllocError, Global};
+use std::marker::Model;
+
+/// A fixed number of cells with a `u64` each, and the spans of them that are live: the first begins at the first cell, and
+/// each later one where the one before ends.
+#[derive(Drop)]
+pub struct Region {
+    cells: Vec<u64>,
+    /// Where each live span begins and then where the next one will; what stands behind these `count + 1` means nothing.
+    starts: Vec<usize>,
+    count: usize,
+}
+
+impl Model for Region {
+    ghost use Rattle.pc_cells.specs.Spans.{Cells};
+
+    ghost Value = { Cells };
+
+    ghost use Rattle.pc_cells.specs.Layout.{cells_of, IsLaidOut};
+
+    ghost view = { cells_of };
+
+    ghost invariant = { IsLaidOut };
+}
+
+impl Region {
+    /// A region of `n` cells with no live span. It takes all memory that its spans will need, also that for their places.
+    pub fn with_cells(alloc: Global, n: usize) -> Result<Region, AllocError>
+        ensures { IfOk result (λ region. region ≡ record { capacity = n; spans = [] }) }
+    {
+        let cells = vec![in alloc; 0u64; n]?;
+        let starts = vec![in alloc; 0usize; cells.len() + 1]?;
+        Ok(Region {
+            cells,
+            starts,
+            count: 0,
+        })
+    }
+
+    /// How many cells are in no live span.
+    pub fn free(&self) -> usize
+        ensures { result ≡ free_of self.now }
+    {
+        self.cells.len() - self.used()
+    }
+
+    // How many cells are in live spans.
+    fn used(&self) -> usize
+        ensures used { result ≡ sum_by length self.now.spans }
+        ensures within { result ≤ self.now.capacity }
+    {
+        self.starts[self.count]
+    }
+
+    /// A new live span of `len` cells with 0 in each, behind those that are live already.
+    pub fn take(&mut self, len: usize) -> Result<Span, RegionFull>
+        requires { 0 < len }
+        ensures there_is_room { IsOk result ↔ (len ≤ free_of self.old) }
+        ensures span { IfOk result (IsSpan self.new.spans (length self.old.spans)) }
+        ensures taken { OnOk result (self.new ≡ record self.old { spans = self.old.spans ++ replicate len 0 ∷ [] }) }
+        ensures full { IfErr result (λ full. full ≡ record { need = len; free = free_of self.old }) }
+        ensures unchanged { OnErr result (self.new ≡ self.old) }
+    {
+        let place = self.starts[self.count];
+        let free = self.cells.len() - place;
+        if free < len {
+            return Err(RegionFull { need: len, free });
+        }
+        fill_range(&mut self.cells, place, place + len, 0);
+        self.count += 1;
+        self.starts[self.count] = place + len;
+        Ok(Span { place, len })
+    }
+
+    /// What stands in the span's cell `i`.
+    pub fn get(&self, s: Span, i: usize) -> u64
+        requires live { IsLive self.now.spans s }
+        requires within { i < s.len }
+        ensures { (k : ℕ) → IsSpan self.now.spans k s → result ≡ slice_index (span_at self.now.spans k) i }
+    {
+        self.cells[s.place + i]
+    }
+
+    /// Puts `v` into the span's cell `i`, and changes nothing else.
+    pub fn set(&mut self, s: Span, i: usize, v: u64)
+        requires live { IsLive self.old.spans s }
+        requires within { i < s.len }
+        ensures { (k : ℕ) → IsSpan self.old.spans k s → self.new ≡ with_span self.old k (slice_set (span_at self.old.spans k) i v) }
+    {
+        self.cells[s.place + i] = v;
+    }
+
+    /// Puts `v` into each cell of the span, and changes nothing else.
+    pub fn fill(&mut self, s: Span, v: u64)
+        requires { IsLive self.old.spans s }
+        ensures { (k : ℕ) → IsSpan self.old.spans k s → self.new ≡ with_span self.old k (replicate s.len v) }
+    {
+        fill_range(&mut self.cells, s.place, s.place + s.len, v);
+    }
+
+    /// The spans that are live now, to be gone back to.
+    pub fn mark(&self) -> Mark
+        ensures mark { IsMark self.now.spans result }
+        ensures of_all { result.spans ≡ length self.now.spans }
+    {
+        Mark {
+            spans: self.count,
+            cells: self.used(),
+        }
+    }
+
+    /// Whether the mark's numbers of spans and of cells are those of the first live spans, up to some of them.
+    pub fn is_mark(&self, m: Mark) -> bool
+        ensures { IsTrue result ↔ IsMark self.now.spans m }
+    {
+        m.spans <= self.count && self.starts[m.spans] == m.cells
+    }
+
+    /// Ends the spans that were taken after the mark, and changes nothing else.
+    pub fn release_to(&mut self, m: Mark)
+        requires { IsMark self.old.spans m }
+        ensures { self.new ≡ record self.old { spans = take m.spans self.old.spans } }
+    {
+        self.count = m.spans;
+    }
+}
+
+// Puts `v` into each cell from place `from` up to `to`.
+fn fill_range(cells: &mut [u64], from: usize, to: usize, v: u64)
+    requires ordered { from ≤ to }
+    requires within { to ≤ length cells.old }
+    ensures { IsRangeFilled cells.old cells.new from to v }
+{
+    cells[from..to].fill(v);
+}

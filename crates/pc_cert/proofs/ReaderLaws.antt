@@ -1,0 +1,150 @@
+-- What a reader stands for after a piece.
+use Rattle.std.proofs.Common.{◌≡◌, ℕ, ◌+◌, ◌-◌, ◌<◌, ◌≤◌, zero, suc, List, [], ◌∷◌, ◌++◌, length, take, drop, inl, inr, Option, Some, None, refl, sym, ap, subst, ◌∙◌, append_assoc, append-nil, arith, add-one, length-append}
+use Rattle.std.proofs.lemmas.Bool.Decides.{eqb_tells}
+use Rattle.std.proofs.lemmas.List.{take-append-drop, length-take, take_all}
+use Rattle.pc_lines.specs.declared.line.CertLine.{CertLine}
+use Rattle.pc_lines.specs.declared.place.Place.{Place}
+use Rattle.pc_lines.specs.Fields.{◌>>=◌, run_len}
+use Rattle.pc_lines.specs.Lines.{Lacks, spelling, Fits}
+use Rattle.pc_lines.specs.Reading.{line_of}
+use Rattle.pc_lines.specs.Grammar.{next}
+use Rattle.pc_lines.specs.Text.{text_of}
+use Rattle.pc_lines.proofs.FieldLemmas.{bind_some}
+use Rattle.pc_lines.proofs.LineLaws.{line_takes, line_again}
+use Rattle.pc_lines.proofs.TextLaws.{text_of-append, LeadTo-more}
+use Rattle.pc_cert.specs.Reader.{arrived, IsGoing, IsNotAllowed, IsStopped, Stands}
+use Rattle.pc_cert.specs.declared.reader.Malformed.{Malformed}
+
+-- ---- a piece and the first end of a line in it
+
+-- what stands before the first `stop` lacks it
+Lacks-run : (stop k : ℕ) (bytes : List ℕ) → k ≤ run_len stop bytes → Lacks stop (take k bytes)
+Lacks-run stop zero bytes h = tt
+Lacks-run stop (suc k) [] h = tt
+Lacks-run stop (suc k) (b ∷ bs) h = elim (eqb_tells b stop) [
+  | inl is ↦ absurd (omega (arith, rw (is.0) at h))
+  | inr other ↦ (other.1, Lacks-run stop k bs (omega (arith, rw (other.0) at h)))
+]
+
+-- the bytes up to the first `stop`, that, and the bytes behind it
+run_parts : (stop : ℕ) (bytes : List ℕ) → run_len stop bytes < length bytes → take (run_len stop bytes) bytes ++ stop ∷ drop (suc (run_len stop bytes)) bytes ≡ bytes
+run_parts stop [] h = absurd (omega arith)
+run_parts stop (b ∷ bs) h = elim (eqb_tells b stop) [
+  | inl is ↦ rw (is.0, is.1) refl
+  | inr other ↦ rw (other.0) (ap (λ rest. b ∷ rest) (run_parts stop bs (omega (arith, rw (other.0) at h))))
+]
+
+run_taken : (stop : ℕ) (bytes : List ℕ) → run_len stop bytes < length bytes → take (suc (run_len stop bytes)) bytes ≡ take (run_len stop bytes) bytes ++ stop ∷ []
+run_taken stop [] h = absurd (omega arith)
+run_taken stop (b ∷ bs) h = elim (eqb_tells b stop) [
+  | inl is ↦ rw (is.0, is.1) refl
+  | inr other ↦ rw (other.0) (ap (λ rest. b ∷ rest) (run_taken stop bs (omega (arith, rw (other.0) at h))))
+]
+
+Lacks-append : (byte : ℕ) (xs ys : List ℕ) → Lacks byte xs → Lacks byte ys → Lacks byte (xs ++ ys)
+Lacks-append byte [] ys p q = q
+Lacks-append byte (x ∷ xs) ys p q = (p.0, Lacks-append byte xs ys (p.1) q)
+
+-- ---- the four ways of a piece
+
+-- a reader without a malformed line goes on
+pub going : {malformed : Option Malformed} {place : Place} {number : ℕ} {held : List ℕ} {lines : List CertLine} {text : List ℕ} → malformed ≡ None → Stands malformed place number held lines text → IsGoing place number held lines text
+going {malformed} {place} {number} {held} {lines} {text} none h = subst (λ m. Stands m place number held lines text) none h
+
+behind : (text : List ℕ) (lines : List CertLine) (held piece : List ℕ) → text ≡ text_of lines ++ held → text ++ piece ≡ text_of lines ++ (held ++ piece)
+behind text lines held piece whole = ap (λ t. t ++ piece) whole ∙ append_assoc (text_of lines) held piece
+
+-- no line ends in the piece
+pub holds : {place : Place} {number : ℕ} {held : List ℕ} {lines : List CertLine} {text : List ℕ} (piece : List ℕ) (end : ℕ) → IsGoing place number held lines text → end ≡ run_len 10 piece → end ≡ length piece → IsGoing place number (held ++ piece) lines (text ++ take end piece)
+holds {held = held} {lines = lines} {text = text} piece end h ends whole = record {
+  led = h.led;
+  count = h.count;
+  whole = ap (λ t. text ++ t) (take_all end piece (omega arith)) ∙ behind text lines held piece h.whole;
+  no_end = Lacks-append 10 held piece h.no_end (subst (λ t. Lacks 10 t) (take_all (length piece) piece (omega arith)) (Lacks-run 10 (length piece) piece (omega arith)));
+}
+
+-- too many bytes come before a line ends
+pub too_long : {place : Place} {number : ℕ} {held : List ℕ} {lines : List CertLine} {text : List ℕ} (malformed : Malformed) (piece : List ℕ) (end : ℕ) → IsGoing place number held lines text → length held < 192 → end ≡ run_len 10 piece → 192 - length held ≤ end → end ≤ length piece → malformed.line ≡ number + 1 → IsStopped malformed lines (text ++ piece)
+too_long {place} {number} {held} {lines} {text} malformed piece end h few ends far within line = record {
+  place = place;
+  led = h.led;
+  number = omega (arith, line, h.count);
+  bad = held ++ take (192 - length held) piece;
+  more = drop (192 - length held) piece;
+  whole =
+      behind text lines held piece h.whole
+      ∙ ap (λ t. text_of lines ++ t) (ap (λ t. held ++ t) (sym (take-append-drop (192 - length held) piece)) ∙ sym (append_assoc held (take (192 - length held) piece) (drop (192 - length held) piece)));
+  why = inr (
+    omega (arith, length-append held (take (192 - length held) piece), length-take (192 - length held) piece),
+    Lacks-append 10 held (take (192 - length held) piece) h.no_end (Lacks-run 10 (192 - length held) piece (omega arith)),
+  );
+}
+
+different : (x : CertLine × Place) → None ≡ Some x → ⊥
+different x e = absurd cc
+
+not_allowed : (place : Place) (bytes : List ℕ) → arrived place bytes ≡ None → IsNotAllowed place bytes
+not_allowed place bytes none line behind fits is goes =
+    let read : line_of bytes ≡ Some line = ap line_of is ∙ line_again line fits in
+    let found : arrived place bytes ≡ Some (line, behind) = ap (λ found. found >>= (λ l. next place l >>= (λ b. Some (l, b)))) read ∙ ap (λ found. found >>= (λ b. Some (line, b))) goes in
+    different (line, behind) (sym none ∙ found)
+
+-- the line that ends in the piece may not stand where it does
+refused : {place : Place} {number : ℕ} {held : List ℕ} {lines : List CertLine} {text : List ℕ} (malformed : Malformed) (piece : List ℕ) → IsGoing place number held lines text → run_len 10 piece < length piece → arrived place (held ++ take (run_len 10 piece) piece) ≡ None → malformed.line ≡ number + 1 → IsStopped malformed lines (text ++ piece)
+refused {place} {number} {held} {lines} {text} malformed piece h ends none line =
+    let front = take (run_len 10 piece) piece in
+    let rest = drop (suc (run_len 10 piece)) piece in
+    record {
+      place = place;
+      led = h.led;
+      number = omega (arith, line, h.count);
+      bad = (held ++ front) ++ 10 ∷ [];
+      more = rest;
+      whole =
+          behind text lines held piece h.whole
+          ∙ ap (λ t. text_of lines ++ t) (
+          ap (λ t. held ++ t) (sym (run_parts 10 piece ends))
+          ∙ sym (append_assoc held front (10 ∷ rest))
+          ∙ sym (append_assoc (held ++ front) (10 ∷ []) rest));
+      why = inl (held ++ front, Lacks-append 10 held front h.no_end (Lacks-run 10 (run_len 10 piece) piece (omega arith)), refl, not_allowed place (held ++ front) none);
+    }
+
+-- the line that ends in the piece may stand where it does
+accepted : {place : Place} {number : ℕ} {held : List ℕ} {lines : List CertLine} {text : List ℕ} (piece : List ℕ) (line : CertLine) (after : Place) → IsGoing place number held lines text → run_len 10 piece < length piece → arrived place (held ++ take (run_len 10 piece) piece) ≡ Some (line, after) → IsGoing after (number + 1) [] (lines ++ line ∷ []) (text ++ take (run_len 10 piece + 1) piece)
+accepted {place} {number} {held} {lines} {text} piece line after h ends found =
+    let front = take (run_len 10 piece) piece in
+    let read = bind_some (line_of (held ++ front)) (λ l. next place l >>= (λ b. Some (l, b))) (line, after) found in
+    let goes = bind_some (next place (read.0)) (λ b. Some (read.0, b)) (line, after) (read.2) in
+    let same : (read.0, goes.0) ≡ (line, after) = cc in
+    let line_is : read.0 ≡ line = ap (λ (p : CertLine × Place). p.0) same in
+    let after_is : goes.0 ≡ after = ap (λ (p : CertLine × Place). p.1) same in
+    let spelled = line_takes (held ++ front) (read.0) (read.1) in
+    let fits : Fits line = subst (λ l. Fits l) line_is (spelled.1) in
+    let is : held ++ front ≡ spelling line = spelled.0 ∙ ap spelling line_is in
+    let steps : next place line ≡ Some after = ap (λ l. next place l) (sym line_is) ∙ goes.1 ∙ ap Some after_is in
+    record {
+      led = LeadTo-more line h.led fits steps;
+      count = omega (arith, h.count, length-append lines (line ∷ []));
+      whole =
+          ap (λ n. text ++ take n piece) (add-one (run_len 10 piece))
+          ∙ ap (λ t. text ++ t) (run_taken 10 piece ends)
+          ∙ behind text lines held (front ++ 10 ∷ []) h.whole
+          ∙ ap (λ t. text_of lines ++ t) (sym (append_assoc held front (10 ∷ [])) ∙ ap (λ t. t ++ 10 ∷ []) is)
+          ∙ sym (text_of-append lines (line ∷ []))
+          ∙ sym (append-nil (text_of (lines ++ line ∷ [])));
+      no_end = tt;
+    }
+
+-- the same, of the number that a search for the first end of a line gave
+pub refused_at : {place : Place} {number : ℕ} {held : List ℕ} {lines : List CertLine} {text : List ℕ} (malformed : Malformed) (piece : List ℕ) (end : ℕ) → IsGoing place number held lines text → end ≡ run_len 10 piece → end < length piece → arrived place (held ++ take end piece) ≡ None → malformed.line ≡ number + 1 → IsStopped malformed lines (text ++ piece)
+refused_at {place} {number} {held} malformed piece end h is within none line =
+    refused malformed piece h (omega arith) (subst (λ n. arrived place (held ++ take n piece) ≡ None) is none) line
+
+pub accepted_at : {place : Place} {number : ℕ} {held : List ℕ} {lines : List CertLine} {text : List ℕ} (piece : List ℕ) (line : CertLine) (after : Place) (end : ℕ) → IsGoing place number held lines text → end ≡ run_len 10 piece → end < length piece → arrived place (held ++ take end piece) ≡ Some (line, after) → IsGoing after (number + 1) [] (lines ++ line ∷ []) (text ++ take (end + 1) piece)
+accepted_at {place} {number} {held} {lines} {text} piece line after end h is within found =
+    subst (λ n. IsGoing after (number + 1) [] (lines ++ line ∷ []) (text ++ take (n + 1) piece)) (sym is) (accepted piece line after h (omega arith) (subst (λ n. arrived place (held ++ take n piece) ≡ Some (line, after)) is found))
+
+-- what is not some is none
+pub none_from : (malformed : Option Malformed) → ((m : Malformed) → malformed ≡ Some m → ⊥) → malformed ≡ None
+none_from None h = refl
+none_from (Some m) h = absurd (h m refl)

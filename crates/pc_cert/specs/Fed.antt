@@ -1,0 +1,19 @@
+-- What a call of a reader gave and used.
+use Rattle.std.specs.Prelude.{ℕ, List, [], ◌∷◌, take, Option, Some, None, Result, Ok, Err}
+use Rattle.pc_lines.specs.declared.line.CertLine.{CertLine}
+use Rattle.pc_cert.specs.declared.reader.Malformed.{Malformed}
+use Rattle.pc_cert.specs.declared.reader.Fed.{Fed}
+
+abbrev pub line_list : Option CertLine → List CertLine
+line_list None = []
+line_list (Some line) = line ∷ []
+
+-- the line that was given, if one was
+abbrev pub given : Result Fed Malformed → List CertLine
+given (Ok fed) = line_list fed.line
+given (Err malformed) = []
+
+-- the bytes of a piece that were used: all of it, where a line is malformed
+abbrev pub used : Result Fed Malformed → List ℕ → List ℕ
+used (Ok fed) piece = take fed.used piece
+used (Err malformed) piece = piece

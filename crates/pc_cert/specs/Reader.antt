@@ -1,0 +1,80 @@
+-- What a reader of a certificate stands for.
+use Rattle.std.specs.Prelude.{◌≡◌, ◌≢◌, ℕ, ◌+◌, List, [], ◌∷◌, ◌++◌, length, Option, Some, None, Result, Ok, Err, ◌⊎◌}
+use Rattle.pc_lines.specs.declared.line.CertLine.{CertLine}
+use Rattle.pc_lines.specs.declared.line.TheConstants.{MAX_LINE}
+use Rattle.pc_lines.specs.declared.place.Place.{Place}
+use Rattle.pc_lines.specs.declared.place.Place.TheVariants.{Ended}
+use Rattle.pc_lines.specs.Fields.{◌>>=◌}
+use Rattle.pc_lines.specs.Lines.{Lacks, spelling, Fits}
+use Rattle.pc_lines.specs.Reading.{line_of}
+use Rattle.pc_lines.specs.Grammar.{next}
+use Rattle.pc_lines.specs.Text.{text_of, LeadTo}
+use Rattle.pc_cert.specs.declared.reader.Malformed.{Malformed}
+
+-- what a reader keeps: its place in the order of lines, how many whole lines there were, the bytes of the line that has
+-- not ended, and the first line that is malformed
+pub record Reading : Type 0 where
+  pub place : Place
+  pub lines : ℕ
+  pub held : List ℕ
+  pub malformed : Option Malformed
+
+-- the line that bytes spell, where it may stand in this place, and the place behind it
+abbrev pub arrived : Place → List ℕ → Option (CertLine × Place)
+arrived place bytes = line_of bytes >>= (λ line. next place line >>= (λ behind. Some (line, behind)))
+
+-- the text is these lines, which may come in this order, and then the beginning of a line
+pub record IsGoing (place : Place) (number : ℕ) (held : List ℕ) (lines : List CertLine) (text : List ℕ) : Type 0 where
+  pub led : LeadTo place lines
+  pub count : number ≡ length lines
+  pub whole : text ≡ text_of lines ++ held
+  pub no_end : Lacks 10 held
+
+-- no line that may stand in this place is spelled so
+abbrev pub IsNotAllowed : Place → List ℕ → Type 0
+IsNotAllowed place bytes = (line : CertLine) (behind : Place) → Fits line → bytes ≡ spelling line → next place line ≡ Some behind → ⊥
+
+-- a whole line that is not allowed in this place
+abbrev pub IsBadLine : Place → List ℕ → Type 0
+IsBadLine place bad = (line : List ℕ) × Lacks 10 line × (bad ≡ line ++ 10 ∷ []) × IsNotAllowed place line
+
+-- so many bytes of a line without its end
+abbrev pub IsTooLong : List ℕ → Type 0
+IsTooLong bad = (length bad ≡ MAX_LINE) × Lacks 10 bad
+
+-- the text is these lines, which may come in this order, then a line that is not allowed there or too long, and then
+-- anything
+pub record IsStopped (malformed : Malformed) (lines : List CertLine) (text : List ℕ) : Type 0 where
+  pub place : Place
+  pub led : LeadTo place lines
+  pub number : malformed.line ≡ length lines + 1
+  pub bad : List ℕ
+  pub more : List ℕ
+  pub whole : text ≡ text_of lines ++ (bad ++ more)
+  pub why : IsBadLine place bad ⊎ IsTooLong bad
+
+abbrev pub Stands : Option Malformed → Place → ℕ → List ℕ → List CertLine → List ℕ → Type 0
+Stands None place count held lines text = IsGoing place count held lines text
+Stands (Some malformed) place count held lines text = IsStopped malformed lines text
+
+-- the reader stands for a text with these whole lines: for one that goes on, or for every one with its first malformed line
+abbrev pub StandsFor : Reading → List CertLine → List ℕ → Type 0
+StandsFor reading lines text = Stands reading.malformed reading.place reading.lines reading.held lines text
+
+-- the text is these lines, which are those of a whole certificate
+pub record IsWhole (lines : List CertLine) (text : List ℕ) : Type 0 where
+  pub led : LeadTo Ended lines
+  pub whole : text ≡ text_of lines
+
+-- the text ends behind these lines with a line missing: the last one is not the last of a certificate, or bytes follow it
+pub record IsMissing (malformed : Malformed) (lines : List CertLine) (text : List ℕ) : Type 0 where
+  pub place : Place
+  pub held : List ℕ
+  pub going : IsGoing place (length lines) held lines text
+  pub number : malformed.line ≡ length lines + 1
+  pub why : (place ≢ Ended) ⊎ (held ≢ [])
+
+-- how a text ends: whole, or with a line that is malformed or missing
+abbrev pub EndsAs : {A : Type 0} → Result A Malformed → List CertLine → List ℕ → Type 0
+EndsAs (Ok done) lines text = IsWhole lines text
+EndsAs (Err malformed) lines text = IsStopped malformed lines text ⊎ IsMissing malformed lines text

@@ -1,0 +1,186 @@
+//! The reader of a certificate, which takes its lines off bytes that come in pieces, however they are cut.
+ghost use Rattle.std.specs.Prelude.{◌≡◌, ℕ, ◌+◌, ◌^◌, ◌<◌, ◌≤◌, List, [], ◌++◌, length, take, drop, Some, None, Ok, Err, IfOk, IfNone, IsNone, IsSome, MatchResult};
+ghost use Rattle.pc_lines.specs.Lines.{Lacks};
+ghost use Rattle.pc_lines.specs.declared.line.CertLine.{CertLine};
+ghost use Rattle.pc_lines.specs.declared.place.Place.TheVariants.{Start};
+ghost use Rattle.pc_cert.specs.Reader.{arrived, StandsFor, Reading, EndsAs};
+ghost use Rattle.pc_cert.specs.Fed.{given, used};
+ghost use Rattle.pc_cert.specs.declared.reader.Malformed.{Malformed};
+
+use pc_lines::{CertLine, MAX_LINE, Place, run_len};
+use std::marker::Model;
+
+/// A line that may not stand where it does, or that is missing. Lines are counted from 1.
+#[derive(Clone, Copy, Debug, PartialEq, Eq)]
+pub struct Malformed {
+    pub line: u64,
+}
+
+/// How many bytes of a piece were used, and the line that ended in them, if one did.
+#[derive(Clone, Copy, Debug)]
+pub struct Fed {
+    pub used: usize,
+    pub line: Option<CertLine>,
+}
+
+/// A reader of a certificate. It keeps its place in the order of lines, how many whole lines there were, the bytes of the
+/// line that has not ended, and the first line that is malformed.
+#[derive(Drop)]
+pub struct CertReader {
+    place: Place,
+    lines: u64,
+    cells: [u8; MAX_LINE],
+    held: usize,
+    malformed: Option<Malformed>,
+}
+
+impl Model for CertReader {
+    ghost use Rattle.std.specs.Prelude.{◌≡◌, ◌<◌, length, take};
+    ghost use Rattle.pc_cert.specs.Reader.{Reading};
+
+    ghost Value = { Reading };
+
+    ghost view = { λ s. record { place = s.place; lines = s.lines; held = take s.held s.cells; malformed = s.malformed } };
+
+    ghost invariant = { λ s. (s.held < 192) × (length s.cells ≡ 192) };
+}
+
+impl CertReader {
+    /// A reader of a text of which nothing has come.
+    pub fn begin() -> CertReader
+        ensures stands { StandsFor result [] [] }
+        ensures nothing { (result.held ≡ []) × (result.malformed ≡ None) }
+    {
+        CertReader {
+            place: Place::Start,
+            lines: 0,
+            cells: [0; MAX_LINE],
+            held: 0,
+            malformed: None,
+        }
+    }
+
+    /// Uses bytes of the piece up to the end of one line, and gives the line; or uses the whole piece, in which no line ends.
+    ///
+    /// A line that may not stand in its place is malformed, and so is one of which 192 bytes came without its end. From then
+    /// on every call answers so. A line that lies whole in the piece is not copied.
+    pub fn feed(&mut self, piece: &[u8]) -> Result<Fed, Malformed>
+        requires { IfNone self.old.malformed (self.old.lines < 2 ^ 63) }
+        // a reader that stood for these lines of this text stands for them with what was given and used
+        ensures stands { (lines : List CertLine) (text : List ℕ) → StandsFor self.old lines text
+            → StandsFor self.new (lines ++ given result) (text ++ used result piece.now) }
+        ensures within { IfOk result (λ fed. fed.used ≤ length piece.now) }
+        ensures no_line { IfOk result (λ fed. IsNone fed.line → fed.used ≡ length piece.now) }
+        ensures held { IfOk result (λ fed. IsNone fed.line → self.new.held ≡ self.old.held ++ piece.now) }
+        ensures one_line { IfOk result (λ fed. IsSome fed.line → (0 < fed.used) × (self.new.held ≡ [])) }
+
+        // a line that is malformed is kept, and answered again
+        ensures kept { MatchResult result (λ _. self.new.malformed ≡ None) (λ malformed. self.new.malformed ≡ Some malformed) }
+        ensures again { (malformed : Malformed) → self.old.malformed ≡ Some malformed
+            → (result ≡ Err malformed) × (self.new ≡ self.old) }
+        ensures short { length self.new.held < MAX_LINE }
+    {
+        if let Some(malformed) = self.malformed {
+            return Err(malformed);
+        }
+        let end = run_len(piece, b'\n');
+        if MAX_LINE - self.held <= end {
+            return Err(self.stop());
+        }
+        if end == piece.len() {
+            self.hold(piece);
+            return Ok(Fed {
+                used: end,
+                line: None,
+            });
+        }
+        match self.whole_line(&piece[..end]) {
+            None => Err(self.stop()),
+            Some((line, place)) => {
+                self.go_on(place);
+                Ok(Fed {
+                    used: end + 1,
+                    line: Some(line),
+                })
+            }
+        }
+    }
+
+    /// Whether the text that was fed is a whole one: its last line was the last of a certificate, and no byte followed.
+    ///
+    /// Otherwise the line behind the whole ones is missing, or an earlier one was malformed.
+    pub fn finish(&self) -> Result<(), Malformed>
+        requires { IfNone self.now.malformed (self.now.lines < 2 ^ 63) }
+        ensures { (lines : List CertLine) (text : List ℕ) → StandsFor self.now lines text → EndsAs result lines text }
+    {
+        if let Some(malformed) = self.malformed {
+            return Err(malformed);
+        }
+        if matches!(self.place, Place::Ended) && self.held == 0 {
+            return Ok(());
+        }
+        Err(Malformed {
+            line: self.lines + 1,
+        })
+    }
+
+    /// Keeps that the line behind the whole ones is malformed.
+    fn stop(&mut self) -> Malformed
+        requires { self.old.lines < 2 ^ 63 }
+        ensures line { result.line ≡ self.old.lines + 1 }
+        ensures kept { self.new ≡ record self.old { malformed = Some result } }
+    {
+        let malformed = Malformed {
+            line: self.lines + 1,
+        };
+        self.malformed = Some(malformed);
+        malformed
+    }
+
+    /// Keeps the bytes of a line that has not ended.
+    fn hold(&mut self, piece: &[u8])
+        requires { length self.old.held + length piece.now < MAX_LINE }
+        ensures { self.new ≡ record self.old { held = self.old.held ++ piece.now } }
+    {
+        let end = self.held + piece.len();
+        self.cells[self.held..end].copy_from_slice(piece);
+        self.held = end;
+    }
+
+    /// The line that ends with the piece, where it may stand in its place, and the place behind it.
+    fn whole_line(&mut self, piece: &[u8]) -> Option<(CertLine, Place)>
+        requires { length self.old.held + length piece.now < MAX_LINE }
+        ensures line { result ≡ arrived self.old.place (self.old.held ++ piece.now) }
+        ensures rest { self.new ≡ record self.old { held = self.new.held } }
+        ensures short { length self.new.held < MAX_LINE }
+    {
+        if self.held == 0 {
+            return arrived(self.place, piece);
+        }
+        self.hold(piece);
+        arrived(self.place, &self.cells[..self.held])
+    }
+
+    /// Goes on behind a whole line.
+    fn go_on(&mut self, place: Place)
+        requires { self.old.lines < 2 ^ 63 }
+        ensures { self.new ≡ record self.old { place = place; lines = self.old.lines + 1; held = [] } }
+    {
+        self.place = place;
+        self.lines += 1;
+        self.held = 0;
+    }
+}
+
+/// The line that the bytes spell, where it may stand in this place, and the place behind it.
+fn arrived(place: Place, bytes: &[u8]) -> Option<(CertLine, Place)>
+    ensures { result ≡ arrived place bytes.now }
+{
+    match CertLine::read(bytes) {
+        None => None,
+        Some(line) => match place.next(&line) {
+            None => None,
+            Some(behind) => Some((line, behind)),
+        },
+    }
+}

@@ -1,0 +1,16 @@
+-- What a yes proves.
+use Rattle.std.proofs.Common.{◌≡◌, List, length, Some, None, ap, ◌∙◌}
+use Rattle.std.specs.Prelude.{IfNone}
+use Rattle.pc_model.specs.Cost.{IsPriced}
+use Rattle.pc_lines.specs.declared.line.CertLine.{CertLine}
+use Rattle.pc_lines.specs.declared.place.Place.TheVariants.{Ended}
+use Rattle.pc_crash.specs.Priced.{knees_in}
+use Rattle.pc_check.specs.Certified.{AreCurve, segments_of}
+use Rattle.pc_check.specs.Checking.{Checking, StandsFor}
+use Rattle.pc_check.proofs.TakeLaws.{is_going, when_none}
+use Rattle.pc_check.proofs.GoodLines.{curve_of}
+
+pub curve_at_yes : (s : Checking) (lines : List CertLine) → s.fail ≡ None → IfNone s.fail (s.kept.place ≡ Ended) → IsPriced s.net.network s.net.terms (knees_in s.net) → length s.net.activities ≡ length s.net.network.arcs → StandsFor s lines → AreCurve s.net (segments_of s.net lines)
+curve_at_yes s lines none ended priced named h =
+    let going = is_going s.net s.kept s.fail lines none h in
+    curve_of s.net lines priced named (record { whole = going.order ∙ ap Some (when_none s.fail none ended); none = going.none })

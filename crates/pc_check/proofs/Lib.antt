@@ -1,0 +1,14 @@
+pub mod BelowLaws
+pub mod NamedLaws
+pub mod KneeLaws
+pub mod ReasonLaws
+pub mod CutLaws
+pub mod BoundLaws
+pub mod FailureLaws
+pub mod SaidLaws
+pub mod TakeLaws
+pub mod WalkLaws
+pub mod GoodRows
+pub mod GoodSegments
+pub mod GoodLines
+pub mod FinishLaws

@@ -1,0 +1,14 @@
+use Rattle.std.proofs.Common.{◌≡◌, length, sym, ap, subst, ◌∙◌}
+use Rattle.pc_model.specs.Cost.{IsPriced}
+use Rattle.pc_crash.specs.Priced.{knees_in}
+use Rattle.pc_check.proofs.FinishLaws.{curve_at_yes}
+use Rattle.pc_check.proofs.checker.Checker.finish.Goals as goal
+
+pub returns-clause-curve : goal.returns-clause-curve
+returns-clause-curve c = λ lines h.
+    curve_at_yes c.args.self lines
+    (ap (λ s. s.fail) (sym c.self.view_is) ∙ c.in-None.is)
+    c.requires
+    (subst (λ s. IsPriced s.net.network s.net.terms (knees_in s.net)) c.self.view_is c.net-priced.ensures.priced)
+    (subst (λ s. length s.net.activities ≡ length s.net.network.arcs) c.self.view_is c.net-priced.ensures.activity_names.one_each)
+    h

@@ -1,0 +1,17 @@
+pub mod Draft
+pub mod Known
+pub mod Walks
+pub mod KneeTests
+pub mod Conditions
+pub mod Segments
+pub mod Said
+pub mod Failures
+pub mod Kept
+pub mod Crossings
+pub mod Safe
+pub mod Bounds
+pub mod Advances
+pub mod Additions
+pub mod Checking
+pub mod Checkers
+pub mod Certified

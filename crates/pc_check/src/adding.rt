@@ -1,0 +1,142 @@
+//! Adding a line to what is kept of a segment.
+ghost use Rattle.std.specs.Prelude.{◌≡◌, ℕ, ◌+◌, ◌^◌, ◌<◌, ◌≤◌, ◌++◌, ◌∷◌, [], length, slice_index, vec_len, if◌then◌else◌};
+ghost use Rattle.pc_curve_laws.specs.Segment.{is_forward, is_backward, rises_above, span};
+ghost use Rattle.pc_crash.specs.Priced.{knees_in};
+ghost use Rattle.pc_check.specs.Kept.{stretch_of};
+ghost use Rattle.pc_check.specs.KneeTests.{rises_over};
+ghost use Rattle.pc_check.specs.Crossings.{IsCrossing};
+ghost use Rattle.pc_check.specs.Safe.{IsSafe, IsBegun, IsRaised, AddsAct};
+ghost use Rattle.pc_check.specs.Segments.{stops_in};
+
+use crate::acts::{flow_sum, rises_over, stops};
+use crate::gaps::{Crossing, Gap, crossing_of};
+use crate::kept::Tally;
+use pc_crash::CrashNet;
+use pc_model::Knee;
+
+/// Begins a segment.
+pub(crate) fn begin_segment(
+    net: &CrashNet<'_>,
+    tally: &mut Tally,
+    upper: u64,
+    lower: u64,
+    cost: u64,
+    slope: u64,
+)
+    requires { IsSafe net.now.network.events (length net.now.network.arcs) tally.old }
+    ensures begun { IsBegun upper lower cost slope tally.new }
+    ensures safe { IsSafe net.now.network.events (length net.now.network.arcs) tally.new }
+{
+    let _events = net.net().events();
+    tally.upper = upper;
+    tally.lower = lower;
+    tally.cost = cost;
+    tally.slope = slope;
+    tally.times.clear();
+    tally.moves.clear();
+    tally.acts = 0;
+    clear(&mut tally.inflow);
+    clear(&mut tally.outflow);
+    tally.spent = 0;
+    tally.forward = 0;
+    tally.backward = 0;
+    tally.stops = false;
+}
+
+/// Makes all sums 0.
+fn clear(sums: &mut [u128])
+    ensures zero { (e : ℕ) → slice_index sums.new e ≡ 0 }
+    ensures same_length { length sums.new ≡ length sums.old }
+{
+    for sum in sums.iter_mut() {
+        *sum = 0;
+    }
+}
+
+/// Adds an event, with its time and whether it moves.
+pub(crate) fn add_event(net: &CrashNet<'_>, tally: &mut Tally, time: u64, moves: bool)
+    requires safe { IsSafe net.now.network.events (length net.now.network.arcs) tally.old }
+    requires times { vec_len tally.old.times < net.now.network.events }
+    requires moves { vec_len tally.old.moves < net.now.network.events }
+    ensures times { tally.new.times.items ≡ tally.old.times.items ++ time ∷ [] }
+    ensures moves { tally.new.moves.items ≡ tally.old.moves.items ++ moves ∷ [] }
+    ensures rest { tally.new ≡ record tally.old { times = tally.new.times; moves = tally.new.moves } }
+    ensures safe { IsSafe net.now.network.events (length net.now.network.arcs) tally.new }
+{
+    tally.times.push(time).unwrap();
+    tally.moves.push(moves).unwrap();
+}
+
+/// Adds an activity, with its duration and its flows.
+pub(crate) fn add_act(net: &CrashNet<'_>, tally: &mut Tally, duration: u64, flows: &[u64])
+    requires safe { IsSafe net.now.network.events (length net.now.network.arcs) tally.old }
+    requires known { tally.old.acts < length net.now.network.arcs }
+    requires few { length flows.now ≤ 6 }
+    ensures added { AddsAct net.now tally.old duration flows.now tally.new }
+    ensures safe { IsSafe net.now.network.events (length net.now.network.arcs) tally.new }
+{
+    let a = tally.acts;
+    let crossing = crossing_of(net, tally, a);
+    let cut = cut_of(net, tally, a, &crossing);
+    let cost = net.activity_cost(a, duration);
+    let flow = flow_sum(flows);
+    let to = net.net().to(a);
+    let from = net.net().from(a);
+    let _few = net.net().activities();
+    raise(&mut tally.inflow, to, flow);
+    raise(&mut tally.outflow, from, flow);
+    tally.spent += cost;
+    tally.forward += cut.forward;
+    tally.backward += cut.backward;
+    tally.stops = tally.stops || cut.stops;
+    tally.acts += 1;
+}
+
+/// What an activity adds to the cut.
+#[derive(Clone, Copy, Debug)]
+struct Cut {
+    forward: u128,
+    backward: u128,
+    stops: bool,
+}
+
+/// What an activity adds to the cut: the rises of its knees above its gap, at the lower end where it is forward and at the
+/// upper end where it is backward, and whether it stops at the lower end.
+fn cut_of(net: &CrashNet<'_>, tally: &Tally, a: u32, crossing: &Crossing) -> Cut
+    requires known { a < length net.now.network.arcs }
+    requires crossing { IsCrossing net.now.network.arcs (stretch_of tally.now) a crossing.now }
+    ensures forward { result.forward ≡ (if is_forward net.now.network.arcs (stretch_of tally.now).moves a
+        then rises_above net.now.network (knees_in net.now) (stretch_of tally.now) (span (stretch_of tally.now)) a else 0) }
+    ensures backward { result.backward ≡ (if is_backward net.now.network.arcs (stretch_of tally.now).moves a
+        then rises_above net.now.network (knees_in net.now) (stretch_of tally.now) 0 a else 0) }
+    ensures stops { result.stops ≡ stops_in net.now (stretch_of tally.now) a }
+    ensures small_forward { result.forward < 2 ^ 67 }
+    ensures small_backward { result.backward < 2 ^ 67 }
+{
+    let list = net.knees(a);
+    let knees = list.as_slice();
+    Cut {
+        forward: rises_if(crossing.forward, crossing.lower, knees),
+        backward: rises_if(crossing.backward, crossing.upper, knees),
+        stops: stops(crossing, net.term(a).crash, knees),
+    }
+}
+
+/// The rises of the knees above the gap, where they count.
+fn rises_if(counts: bool, gap: Gap, knees: &[Knee]) -> u128
+    requires few { length knees.now ≤ 5 }
+    requires small { gap.tail < 2 ^ 65 }
+    ensures sum { result ≡ (if counts then rises_over gap.head gap.tail knees.now else 0) }
+    ensures small { result < 2 ^ 67 }
+{
+    if counts { rises_over(gap, knees) } else { 0 }
+}
+
+/// Adds to the sum of an event.
+fn raise(sums: &mut Vec<u128>, event: u32, by: u128)
+    requires known { event < vec_len sums.old }
+    requires small { slice_index sums.old.items event + by < 2 ^ 128 }
+    ensures { IsRaised sums.old.items sums.new.items event by }
+{
+    sums[event as usize] += by;
+}

@@ -1,0 +1,93 @@
+//! Going on by one line.
+ghost use Rattle.std.specs.Prelude.{◌≡◌, ◌^◌, ◌<◌, length, IsSome, IfNone, OnSome};
+ghost use Rattle.pc_lines.specs.Grammar.{next};
+ghost use Rattle.pc_lines.specs.declared.line.CertLine.TheVariants.{Step};
+ghost use Rattle.pc_check.specs.Advances.{Adds, AddsStep, Advances};
+ghost use Rattle.pc_check.specs.Bounds.{IsBounded, lines_left};
+ghost use Rattle.pc_check.specs.Conditions.{conditions};
+ghost use Rattle.pc_check.specs.Failures.{first_failing};
+ghost use Rattle.pc_check.specs.Kept.{known_by};
+ghost use Rattle.pc_check.specs.Additions.{MayBeAdded};
+ghost use Rattle.pc_check.specs.Safe.{IsSafe};
+
+use crate::adding::{add_act, add_event, begin_segment};
+use crate::kept::Kept;
+use crate::reasons::reason;
+use crate::walk::stepped;
+use pc_crash::CrashNet;
+use pc_lines::CertLine;
+use pc_text::Code;
+
+/// Takes a line that may come: adds it to what is kept, or answers the first condition that is reported there and does
+/// not hold.
+pub(crate) fn advance(net: &CrashNet<'_>, kept: &mut Kept, line: &CertLine) -> Option<u8>
+    requires safe { IsSafe net.now.network.events (length net.now.network.arcs) kept.old.tally }
+    requires bounded { IsBounded net.now kept.old }
+    requires allowed { IsSome (next kept.old.place line.now) }
+    ensures reason { result ≡ first_failing (conditions net.now (known_by kept.old) line.now) }
+    ensures advances { IfNone result (Advances net.now line.now kept.old kept.new) }
+    ensures same { OnSome result (kept.new ≡ kept.old) }
+    ensures bounded { IsBounded net.now kept.new }
+    ensures few { kept.new.lines < 2 ^ 63 }
+    ensures safe { IsSafe net.now.network.events (length net.now.network.arcs) kept.new.tally }
+    ensures left { IfNone result (lines_left net.now kept.new < lines_left net.now kept.old) }
+{
+    let _events = net.net().events();
+    let _activities = net.net().activities();
+    let place = match kept.place.next(line) {
+        Some(place) => place,
+        None => unreachable!(),
+    };
+    match reason(net, kept, line) {
+        Some(reason) => Some(reason),
+        None => {
+            add(net, kept, line);
+            kept.place = place;
+            kept.lines += 1;
+            None
+        }
+    }
+}
+
+/// Adds a line to what is kept.
+pub(crate) fn add(net: &CrashNet<'_>, kept: &mut Kept, line: &CertLine)
+    requires safe { IsSafe net.now.network.events (length net.now.network.arcs) kept.old.tally }
+    requires fits { MayBeAdded net.now line.now kept.old }
+    ensures added { Adds net.now line.now kept.old kept.new }
+    ensures safe { IsSafe net.now.network.events (length net.now.network.arcs) kept.new.tally }
+{
+    match line {
+        CertLine::Step(code) => add_step(net, kept, code),
+        CertLine::Crash => kept.has_normal = true,
+        CertLine::Segment {
+            upper,
+            lower,
+            cost,
+            slope,
+        } => begin_segment(net, &mut kept.tally, *upper, *lower, *cost, *slope),
+        CertLine::Event {
+            code: _,
+            time,
+            moves,
+        } => add_event(net, &mut kept.tally, *time, *moves),
+        CertLine::Act {
+            code: _,
+            duration,
+            flows,
+        } => add_act(net, &mut kept.tally, *duration, flows.as_slice()),
+        CertLine::Close => kept.parts += 1,
+        _ => {}
+    }
+}
+
+/// Adds a step to the walk that has begun.
+fn add_step(net: &CrashNet<'_>, kept: &mut Kept, code: &Code)
+    requires { MayBeAdded net.now (Step code.now) kept.old }
+    ensures { AddsStep net.now code.now kept.old kept.new }
+{
+    if kept.has_normal {
+        kept.crash = stepped(net, kept.crash, code, true);
+    } else {
+        kept.normal = stepped(net, kept.normal, code, false);
+    }
+}

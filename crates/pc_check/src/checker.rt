@@ -1,0 +1,100 @@
+//! The checker of a certificate.
+ghost use Rattle.std.specs.Prelude.{◌≡◌, ◌^◌, ◌<◌, ◌∷◌, ◌++◌, [], List, IsSome, IfNone, IfOk, None, Some};
+ghost use Rattle.pc_lines.specs.Grammar.{next};
+ghost use Rattle.pc_lines.specs.declared.line.CertLine.{CertLine};
+ghost use Rattle.pc_lines.specs.declared.place.Place.TheVariants.{Ended};
+ghost use Rattle.pc_check.specs.Bounds.{lines_left};
+ghost use Rattle.pc_check.specs.Certified.{AreCurve, Finds, OnYes, segments_of};
+ghost use Rattle.pc_check.specs.Checking.{StandsFor};
+ghost use Rattle.pc_check.specs.declared.fail.Fail.{Fail};
+
+use crate::advancing::advance;
+use crate::fail::{Fail, Verdict};
+use crate::kept::{Kept, kept_of};
+use pc_crash::CrashNet;
+use pc_lines::CertLine;
+use std::alloc::{AllocError, Global};
+use std::marker::Model;
+
+/// A checker of the certificate of a network, which takes its lines one by one.
+#[derive(Drop)]
+pub struct Checker<'n> {
+    net: &'n CrashNet<'n>,
+    kept: Kept,
+    fail: Option<Fail>,
+}
+
+impl<'n> Model for Checker<'n> {
+    ghost use Rattle.pc_check.specs.Checking.{Checking};
+
+    ghost Value = { Checking };
+
+    ghost use Rattle.pc_check.specs.Checkers.{checking, IsSound};
+
+    ghost view = { checking };
+
+    ghost invariant = { IsSound };
+}
+
+impl<'n> Checker<'n> {
+    /// A checker to which no line has come. It takes all its memory here: room for each event's time and flows.
+    pub fn begin(alloc: Global, net: &'n CrashNet<'n>) -> Result<Checker<'n>, AllocError>
+        ensures stands { IfOk result (λ checker. StandsFor checker []) }
+        ensures net { IfOk result (λ checker. checker.net ≡ net.now) }
+        ensures no_fail { IfOk result (λ checker. checker.fail ≡ None) }
+        ensures few { IfOk result (λ checker. checker.kept.lines < 2 ^ 63) }
+    {
+        Ok(Checker {
+            net,
+            kept: kept_of(alloc, net)?,
+            fail: None,
+        })
+    }
+
+    /// Takes one more line, and answers the first condition that fails at a line up to this one. From then on nothing
+    /// changes.
+    pub fn take(&mut self, line: CertLine) -> Option<Fail>
+        requires { IfNone self.old.fail (IsSome (next self.old.kept.place line)) }
+        ensures stands { (lines : List CertLine) → StandsFor self.old lines → StandsFor self.new (lines ++ line ∷ []) }
+        ensures fail { result ≡ self.new.fail }
+        ensures again { (fail : Fail) → self.old.fail ≡ Some fail → self.new ≡ self.old }
+        ensures net { self.new.net ≡ self.old.net }
+        ensures few { IfNone result (self.new.kept.lines < 2 ^ 63) }
+        ensures left { IfNone result (lines_left self.new.net self.new.kept < lines_left self.old.net self.old.kept) }
+    {
+        if let Some(fail) = self.fail {
+            return Some(fail);
+        }
+        match advance(self.net, &mut self.kept, &line) {
+            None => None,
+            Some(reason) => {
+                let fail = Fail {
+                    line: self.kept.lines + 1,
+                    reason,
+                };
+                self.fail = Some(fail);
+                Some(fail)
+            }
+        }
+    }
+
+    /// What was found: that the lines are certified, with how many segments they have; or the first condition that fails.
+    ///
+    /// Certified lines prove the whole time-cost curve of the network, whoever made them.
+    pub fn finish(self) -> Verdict
+        requires { IfNone self.fail (self.kept.place ≡ Ended) }
+        ensures finds { (lines : List CertLine) → StandsFor self.entry lines → Finds self.entry.net lines result }
+        ensures curve { (lines : List CertLine) → StandsFor self.entry lines → OnYes result (AreCurve self.entry.net (segments_of self.entry.net lines)) }
+    {
+        let _priced = self.net.net();
+        match self.fail {
+            Some(fail) => Verdict::No {
+                line: fail.line,
+                reason: fail.reason,
+            },
+            None => Verdict::Yes {
+                segments: self.kept.parts,
+            },
+        }
+    }
+}

@@ -1,0 +1,83 @@
+//! What is asked of a segment at its end.
+ghost use Rattle.std.specs.Prelude.{◌≡◌, ◌<◌, ◌||◌, ◌==◌, length};
+ghost use Rattle.pc_lines.specs.declared.line.CertLine.TheVariants.{Close};
+ghost use Rattle.pc_check.specs.Conditions.{conditions, is_conserved, has_cut_gain, has_stop};
+ghost use Rattle.pc_check.specs.Failures.{first_failing};
+ghost use Rattle.pc_check.specs.Kept.{known_by};
+ghost use Rattle.pc_check.specs.Safe.{IsSafe};
+
+use crate::kept::Kept;
+use pc_crash::CrashNet;
+
+/// The first condition that is reported at the end of a segment and does not hold.
+pub(crate) fn reason_at_close(net: &CrashNet<'_>, kept: &Kept) -> Option<u8>
+    requires { IsSafe net.now.network.events (length net.now.network.arcs) kept.now.tally }
+    ensures { result ≡ first_failing (conditions net.now (known_by kept.now) Close) }
+{
+    if !is_conserved(net, kept) {
+        return Some(9);
+    }
+    if !leaves_start(net, kept) {
+        return Some(10);
+    }
+    if kept.tally.spent != kept.tally.cost {
+        return Some(12);
+    }
+    if !has_cut_gain(net, kept) {
+        return Some(13);
+    }
+    if !has_stop(kept) {
+        return Some(14);
+    }
+    None
+}
+
+/// Whether the slope leaves the start.
+fn leaves_start(net: &CrashNet<'_>, kept: &Kept) -> bool
+    requires { IsSafe net.now.network.events (length net.now.network.arcs) kept.now.tally }
+    ensures { result ≡ ((known_by kept.now).outflow net.now.network.start == (known_by kept.now).slope) }
+{
+    kept.tally.outflow[net.net().start() as usize] == u128::from(kept.tally.slope)
+}
+
+/// Whether the cut gain is the slope, unless the segment has one length.
+fn has_cut_gain(net: &CrashNet<'_>, kept: &Kept) -> bool
+    requires { IsSafe net.now.network.events (length net.now.network.arcs) kept.now.tally }
+    ensures { result ≡ has_cut_gain (known_by kept.now) }
+{
+    let _few = net.net().activities();
+    let tally = &kept.tally;
+    tally.upper == tally.lower || tally.forward == tally.backward + u128::from(tally.slope)
+}
+
+/// Whether some activity stops at the lower end, unless the segment has one length.
+fn has_stop(kept: &Kept) -> bool
+    ensures { result ≡ has_stop (known_by kept.now) }
+{
+    kept.tally.upper == kept.tally.lower || kept.tally.stops
+}
+
+/// Whether what enters each event but the start and the end leaves it.
+fn is_conserved(net: &CrashNet<'_>, kept: &Kept) -> bool
+    requires { IsSafe net.now.network.events (length net.now.network.arcs) kept.now.tally }
+    ensures { result ≡ is_conserved net.now.network (known_by kept.now) }
+{
+    for e in 0..net.net().events() {
+        if !is_conserved_at(net, kept, e) {
+            return false;
+        }
+    }
+    true
+}
+
+/// Whether an event is the start or the end, or what enters it leaves it.
+fn is_conserved_at(net: &CrashNet<'_>, kept: &Kept, e: u32) -> bool
+    requires safe { IsSafe net.now.network.events (length net.now.network.arcs) kept.now.tally }
+    requires known { e < net.now.network.events }
+    ensures { result ≡ (e == net.now.network.start || (e == net.now.network.end || (known_by kept.now).inflow e == (known_by kept.now).outflow e)) }
+{
+    let tally = &kept.tally;
+    e == net.net().start()
+        || e == net.net().end()
+        || tally.inflow[e as usize] == tally.outflow[e as usize]
+}

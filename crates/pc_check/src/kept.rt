@@ -1,0 +1,114 @@
+//! What a checker keeps of the lines that have come.
+ghost use Rattle.std.specs.Prelude.{◌≡◌, length, slice_index, slice_index_or, false, IfOk};
+ghost use Rattle.pc_lines.specs.declared.place.Place.TheVariants.{Start};
+ghost use Rattle.pc_check.specs.Bounds.{IsBounded};
+ghost use Rattle.pc_check.specs.Checking.{IsKept};
+ghost use Rattle.pc_check.specs.Draft.{empty_draft};
+ghost use Rattle.pc_check.specs.Safe.{IsBegun, IsSafe};
+
+use crate::walk::Reached;
+use pc_crash::CrashNet;
+use pc_lines::Place;
+use std::alloc::{AllocError, Global};
+
+/// What is kept of the lines so far.
+#[derive(Drop)]
+pub struct Kept {
+    /// the place of the next line, and how many lines there were
+    pub(crate) place: Place,
+    pub(crate) lines: u64,
+    /// how far the two walks have come, where their steps are walks, and whether the crash walk has begun
+    pub(crate) normal: Option<Reached>,
+    pub(crate) crash: Option<Reached>,
+    pub(crate) has_normal: bool,
+    /// how many segments are whole
+    pub(crate) parts: u64,
+    pub(crate) tally: Tally,
+}
+
+/// What is kept of the last segment that has begun.
+#[derive(Drop)]
+pub struct Tally {
+    pub(crate) upper: u64,
+    pub(crate) lower: u64,
+    pub(crate) cost: u64,
+    pub(crate) slope: u64,
+    /// the times of the events that have come, and whether they move
+    pub(crate) times: Vec<u64>,
+    pub(crate) moves: Vec<bool>,
+    /// how many activities have come, and what flows into each event and out of it along them
+    pub(crate) acts: u32,
+    pub(crate) inflow: Vec<u128>,
+    pub(crate) outflow: Vec<u128>,
+    /// what they cost, and the sums and the stop of the cut
+    pub(crate) spent: u64,
+    pub(crate) forward: u128,
+    pub(crate) backward: u128,
+    pub(crate) stops: bool,
+}
+
+/// What is kept before the first line.
+pub(crate) fn kept_of(alloc: Global, net: &CrashNet<'_>) -> Result<Kept, AllocError>
+    ensures kept { IfOk result (λ kept. IsKept net.now empty_draft kept) }
+    ensures place { IfOk result (λ kept. kept.place ≡ Start) }
+    ensures lines { IfOk result (λ kept. kept.lines ≡ 0) }
+    ensures bounded { IfOk result (λ kept. IsBounded net.now kept) }
+    ensures safe { IfOk result (λ kept. IsSafe net.now.network.events (length net.now.network.arcs) kept.tally) }
+{
+    let begin = Reached {
+        event: net.net().start(),
+        sum: 0,
+    };
+    Ok(Kept {
+        place: Place::Start,
+        lines: 0,
+        normal: Some(begin),
+        crash: Some(begin),
+        has_normal: false,
+        parts: 0,
+        tally: tally_of(alloc, net)?,
+    })
+}
+
+/// What is kept before a segment has begun.
+fn tally_of(alloc: Global, net: &CrashNet<'_>) -> Result<Tally, AllocError>
+    ensures begun { IfOk result (λ tally. IsBegun 0 0 0 0 tally) }
+    ensures safe { IfOk result (λ tally. IsSafe net.now.network.events (length net.now.network.arcs) tally) }
+{
+    let events = net.net().events() as usize;
+    Ok(Tally {
+        upper: 0,
+        lower: 0,
+        cost: 0,
+        slope: 0,
+        times: Vec::with_capacity(alloc, events)?,
+        moves: Vec::with_capacity(alloc, events)?,
+        acts: 0,
+        inflow: vec![in alloc; 0u128; events]?,
+        outflow: vec![in alloc; 0u128; events]?,
+        spent: 0,
+        forward: 0,
+        backward: 0,
+        stops: false,
+    })
+}
+
+/// The number in a list at a place, and 0 past its end.
+pub(crate) fn number_at(numbers: &[u64], i: u32) -> u64
+    ensures { result ≡ slice_index numbers.now i }
+{
+    match numbers.get(i as usize) {
+        Some(number) => *number,
+        None => 0,
+    }
+}
+
+/// The bit in a list at a place, and false past its end.
+pub(crate) fn bit_at(bits: &[bool], i: u32) -> bool
+    ensures { result ≡ slice_index_or bits.now i false }
+{
+    match bits.get(i as usize) {
+        Some(bit) => *bit,
+        None => false,
+    }
+}

@@ -1,0 +1,229 @@
+//! The reason for which a line fails, if it does: the first condition that is reported there and does not hold.
+ghost use Rattle.std.specs.Prelude.{◌≡◌, ◌+◌, ◌^◌, ◌<◌, ◌&&◌, [], ◌∷◌, length};
+ghost use Rattle.pc_check.specs.Conditions.{condition, conditions, has_head, has_joined_ends, is_code_at, has_act_code, has_duration, has_room, keeps_rises, is_slack, is_slack_in};
+ghost use Rattle.pc_check.specs.Failures.{first_failing};
+ghost use Rattle.pc_curve_laws.specs.Segment.{span};
+ghost use Rattle.pc_crash.specs.Priced.{knees_in};
+ghost use Rattle.pc_check.specs.Crossings.{IsCrossing};
+ghost use Rattle.pc_check.specs.Kept.{known_by, stretch_of};
+ghost use Rattle.pc_check.specs.Safe.{IsSafe};
+ghost use Rattle.pc_lines.specs.declared.line.CertLine.TheVariants.{Head, Segment, Event, Act};
+
+use crate::acts::{is_slack, is_still, keeps_rises};
+use crate::closing::reason_at_close;
+use crate::gaps::{Crossing, Gap, crossing_of, has_room};
+use crate::kept::{Kept, Tally, number_at};
+use crate::walk::is_through;
+use pc_crash::CrashNet;
+use pc_lines::{CertLine, Flows};
+use pc_text::Code;
+
+/// The first condition that is reported at the line and does not hold.
+pub(crate) fn reason(net: &CrashNet<'_>, kept: &Kept, line: &CertLine) -> Option<u8>
+    requires { IsSafe net.now.network.events (length net.now.network.arcs) kept.now.tally }
+    ensures { result ≡ first_failing (conditions net.now (known_by kept.now) line.now) }
+{
+    match line {
+        CertLine::Head {
+            version,
+            project,
+            events,
+            activities,
+        } => reason_at_head(net, *version, project, *events, *activities),
+        CertLine::Segment {
+            upper,
+            lower,
+            cost: _,
+            slope,
+        } => reason_at_segment(net, kept, *upper, *lower, *slope),
+        CertLine::Event { code, time, moves } => reason_at_event(net, kept, code, *time, *moves),
+        CertLine::Act {
+            code,
+            duration,
+            flows,
+        } => reason_at_act(net, kept, code, *duration, flows),
+        CertLine::Close => reason_at_close(net, kept),
+        CertLine::End => {
+            if is_through(net, kept.tally.lower, kept.crash) {
+                None
+            } else {
+                Some(3)
+            }
+        }
+        _ => None,
+    }
+}
+
+fn reason_at_head(
+    net: &CrashNet<'_>,
+    version: u64,
+    project: &Code,
+    events: u64,
+    activities: u64,
+) -> Option<u8>
+    ensures { result ≡ first_failing (condition 1 (has_head net.now version project.now events activities) ∷ []) }
+{
+    let known_version = if net.has_pieces() { 2 } else { 1 };
+    let has_head = version == known_version
+        && *project == net.project()
+        && events == u64::from(net.net().events())
+        && activities == u64::from(net.net().activities());
+    if has_head { None } else { Some(1) }
+}
+
+fn reason_at_segment(
+    net: &CrashNet<'_>,
+    kept: &Kept,
+    upper: u64,
+    lower: u64,
+    slope: u64,
+) -> Option<u8>
+    ensures { result ≡ first_failing (conditions net.now (known_by kept.now) (Segment upper lower 0 slope)) }
+{
+    if kept.parts == 0 && !is_through(net, upper, kept.normal) {
+        return Some(2);
+    }
+    if !has_joined_ends(kept, upper, lower, slope) {
+        return Some(15);
+    }
+    None
+}
+
+/// Whether the ends of a segment are in order, and join those of the segment before.
+fn has_joined_ends(kept: &Kept, upper: u64, lower: u64, slope: u64) -> bool
+    ensures { result ≡ has_joined_ends (known_by kept.now) upper lower slope }
+{
+    let before = &kept.tally;
+    if kept.parts == 0 {
+        lower < upper || (lower == upper && slope == 0)
+    } else {
+        upper == before.lower && before.lower < before.upper && lower < upper
+    }
+}
+
+fn reason_at_event(
+    net: &CrashNet<'_>,
+    kept: &Kept,
+    code: &Code,
+    time: u64,
+    moves: bool,
+) -> Option<u8>
+    ensures { result ≡ first_failing (conditions net.now (known_by kept.now) (Event code.now time moves)) }
+{
+    let e = kept.tally.times.len();
+    if !has_event_code(net, e, code) {
+        return Some(4);
+    }
+    let is_one_length = kept.tally.upper == kept.tally.lower;
+    let starts = e != net.net().start() as usize || (time == 0 && !moves);
+    let ends = e != net.net().end() as usize
+        || (time == kept.tally.upper && (moves || is_one_length));
+    if !(starts && ends) {
+        return Some(5);
+    }
+    if is_one_length && moves {
+        return Some(15);
+    }
+    None
+}
+
+/// Whether the code is that of an event.
+fn has_event_code(net: &CrashNet<'_>, e: usize, code: &Code) -> bool
+    ensures { result ≡ is_code_at net.now.network.events net.now.events e code.now }
+{
+    e < net.net().events() as usize && *code == net.event_code(e as u32)
+}
+
+fn reason_at_act(
+    net: &CrashNet<'_>,
+    kept: &Kept,
+    code: &Code,
+    duration: u64,
+    flows: &Flows,
+) -> Option<u8>
+    ensures { result ≡ first_failing (conditions net.now (known_by kept.now) (Act code.now duration flows.now)) }
+{
+    let tally = &kept.tally;
+    let a = tally.acts;
+    if !has_act_code(net, a, code, flows) {
+        return Some(4);
+    }
+    let crossing = crossing_of(net, tally, a);
+    if !has_gaps(net, tally, a, &crossing) {
+        return Some(6);
+    }
+    if !has_duration(net, kept, a, duration) {
+        return Some(7);
+    }
+    if !has_small_flows(net, a, flows) {
+        return Some(8);
+    }
+    if !fits_gaps(net, tally, a, &crossing, flows) {
+        return Some(11);
+    }
+    if tally.upper == tally.lower && !is_still(flows.as_slice()) {
+        return Some(15);
+    }
+    None
+}
+
+/// Whether the gaps at the two ends are at least crash.
+fn has_gaps(net: &CrashNet<'_>, tally: &Tally, a: u32, crossing: &Crossing) -> bool
+    requires known { a < length net.now.network.arcs }
+    requires crossing { IsCrossing net.now.network.arcs (stretch_of tally.now) a crossing.now }
+    ensures { result ≡ (has_room net.now (stretch_of tally.now) 0 a && has_room net.now (stretch_of tally.now) (span (stretch_of tally.now)) a) }
+{
+    let crash = net.term(a).crash;
+    has_room(crossing.upper, crash) && has_room(crossing.lower, crash)
+}
+
+/// Whether no flow at a knee is above its rise.
+fn has_small_flows(net: &CrashNet<'_>, a: u32, flows: &Flows) -> bool
+    requires known { a < length net.now.network.arcs }
+    requires flows { length flows.now ≡ (knees_in net.now).count a + 1 }
+    ensures { result ≡ keeps_rises net.now a flows.now }
+{
+    let list = net.knees(a);
+    keeps_rises(list.as_slice(), flows.as_slice())
+}
+
+/// Whether the flows fit the gaps at the two ends.
+fn fits_gaps(net: &CrashNet<'_>, tally: &Tally, a: u32, crossing: &Crossing, flows: &Flows) -> bool
+    requires known { a < length net.now.network.arcs }
+    requires crossing { IsCrossing net.now.network.arcs (stretch_of tally.now) a crossing.now }
+    requires flows { length flows.now ≡ (knees_in net.now).count a + 1 }
+    ensures { result ≡ (is_slack net.now (stretch_of tally.now) 0 a flows.now && is_slack net.now (stretch_of tally.now) (span (stretch_of tally.now)) a flows.now) }
+{
+    fits_gap(net, a, crossing.upper, flows) && fits_gap(net, a, crossing.lower, flows)
+}
+
+/// Whether the flows fit a gap.
+fn fits_gap(net: &CrashNet<'_>, a: u32, gap: Gap, flows: &Flows) -> bool
+    requires known { a < length net.now.network.arcs }
+    requires flows { length flows.now ≡ (knees_in net.now).count a + 1 }
+    requires small { gap.tail < 2 ^ 65 }
+    ensures { result ≡ is_slack_in net.now gap.head gap.tail a flows.now }
+{
+    let list = net.knees(a);
+    is_slack(gap, net.term(a).crash, list.as_slice(), flows.as_slice())
+}
+
+/// Whether the code is that of an activity, and there is a flow for each of its knees and one beside them.
+fn has_act_code(net: &CrashNet<'_>, a: u32, code: &Code, flows: &Flows) -> bool
+    ensures { result ≡ has_act_code net.now a code.now flows.now }
+{
+    a < net.net().activities()
+        && *code == net.activity_code(a)
+        && flows.as_slice().len() == net.knees(a).as_slice().len() + 1
+}
+
+/// Whether the duration is the lesser of normal and the gap at the upper end, and in the first segment normal.
+fn has_duration(net: &CrashNet<'_>, kept: &Kept, a: u32, duration: u64) -> bool
+    requires { a < length net.now.network.arcs }
+    ensures { result ≡ has_duration net.now (known_by kept.now) a duration }
+{
+    let begins = number_at(&kept.tally.times, net.net().from(a));
+    let ends = number_at(&kept.tally.times, net.net().to(a));
+    let normal = net.term(a).normal;
+    duration == normal.min(ends.saturating_sub(begins)) && (kept.parts != 0 || duration == normal)
+}

@@ -1,0 +1,77 @@
+//! The two walks of a certificate, step by step.
+ghost use Rattle.std.specs.Prelude.{◌≡◌, ◌+◌, ◌^◌, ◌<◌, ◌≤◌, length, IfSome};
+ghost use Rattle.pc_model.specs.declared.limits.TheConstants.{MAX_DURATION};
+ghost use Rattle.pc_check.specs.Walks.{length_in, place_of, further, stepped, is_through, sum_of};
+
+use pc_crash::CrashNet;
+use pc_model::MAX_DURATION;
+use pc_text::Code;
+
+/// How far a walk has come: the event that it has reached, and the sum of the lengths of its activities, in units.
+#[derive(Clone, Copy, Debug)]
+pub struct Reached {
+    pub event: u32,
+    pub sum: u64,
+}
+
+/// One step further: along the activity with this code, where it begins at the event that the walk has reached. In the
+/// crash walk an activity counts with its crash duration, else with its normal one.
+pub(crate) fn stepped(
+    net: &CrashNet<'_>,
+    at: Option<Reached>,
+    code: &Code,
+    is_crash: bool,
+) -> Option<Reached>
+    requires { sum_of at + MAX_DURATION < 2 ^ 64 }
+    ensures step { result ≡ stepped net.now (length_in net.now is_crash) at code.now }
+    ensures short { sum_of result ≤ sum_of at + MAX_DURATION }
+{
+    let here = at?;
+    let a = named(net, code)?;
+    further(net, here, a, is_crash)
+}
+
+/// The activity with this code.
+fn named(net: &CrashNet<'_>, code: &Code) -> Option<u32>
+    ensures place { result ≡ place_of code.now 0 net.now.activities }
+    ensures known { IfSome result (λ a. a < length net.now.network.arcs) }
+{
+    let _sound = net.net();
+    net.activity_named(code)
+}
+
+fn further(net: &CrashNet<'_>, here: Reached, a: u32, is_crash: bool) -> Option<Reached>
+    requires known { a < length net.now.network.arcs }
+    requires short { here.sum + MAX_DURATION < 2 ^ 64 }
+    ensures step { result ≡ further net.now.network (length_in net.now is_crash) here a }
+    ensures short { sum_of result ≤ here.sum + MAX_DURATION }
+{
+    if net.net().from(a) != here.event {
+        return None;
+    }
+    Some(Reached {
+        event: net.net().to(a),
+        sum: here.sum + length_in(net, a, is_crash),
+    })
+}
+
+/// The length of an activity in one of the walks.
+fn length_in(net: &CrashNet<'_>, a: u32, is_crash: bool) -> u64
+    requires known { a < length net.now.network.arcs }
+    ensures length { result ≡ length_in net.now is_crash a }
+    ensures short { result ≤ MAX_DURATION }
+{
+    let _limits = net.net();
+    let term = net.term(a);
+    if is_crash { term.crash } else { term.normal }
+}
+
+/// Whether a walk has come to the end of the network with this sum.
+pub(crate) fn is_through(net: &CrashNet<'_>, sum: u64, at: Option<Reached>) -> bool
+    ensures { result ≡ is_through net.now.network sum at }
+{
+    match at {
+        None => false,
+        Some(here) => here.event == net.net().end() && here.sum == sum,
+    }
+}

@@ -1,0 +1,34 @@
+-- What the fields of a priced network say of one activity, and that they are made well.
+use Rattle.std.proofs.Common.{◌≡◌, ℕ, ◌<◌, ◌≤◌, List, length, map, take, get_or, sym, ◌∙◌, ap, subst, arith}
+use Rattle.std.proofs.lemmas.List.{get_or_read, length-map, take_all}
+use Rattle.pc_model.specs.declared.Arc.{Arc}
+use Rattle.pc_model.specs.declared.Knee.{Knee}
+use Rattle.pc_model.specs.declared.PieceRow.{PieceRow}
+use Rattle.pc_model.specs.declared.Term.{Term}
+use Rattle.pc_crash.specs.declared.crash_net.CrashNet.TheInside.{Inside}
+use Rattle.pc_crash.specs.declared.laying.Row.{Row}
+use Rattle.pc_crash.specs.CrashNets.{priced_network, IsWholeInside}
+use Rattle.pc_crash.specs.KneeLists.{AreKneesOf}
+use Rattle.pc_crash.specs.Laid.{AreLaid, IsRowOf, row_at, part_of}
+use Rattle.pc_crash.specs.Priced.{knees_in}
+use Rattle.pc_crash.proofs.KneeListLaws.{AreKneesOf-knee_list}
+
+-- a row stands for each activity
+pub rows-each : (s : Inside) → IsWholeInside s → length s.layout.rows.items ≡ length s.net.now.arcs
+rows-each s is = sym (length-map s.layout.rows.items (λ row. row.term)) ∙ is.whole.terms.one_each
+
+-- what is read of an activity's row
+pub row-read : (s : Inside) (a : ℕ) (row : Row) → IsWholeInside s → a < length s.net.now.arcs → row ≡ get_or s.layout.rows.items a row → IsRowOf s.net.now.arcs (priced_network s).terms s.pieces.items s.layout.knees.items a row
+row-read s a row is inside read =
+    let here : a < length s.layout.rows.items = omega (arith, rows-each s is) in
+    subst (IsRowOf s.net.now.arcs (priced_network s).terms s.pieces.items s.layout.knees.items a)
+    (sym (get_or_read s.layout.rows.items a row here read (record { arc = record { from = 0; to = 0 }; term = record { normal = 0; crash = 0; cost = 0; slope = 0 }; first = 0; count = 0 })))
+    (is.laid.each a here)
+
+-- the knees of a row are those of its activity
+pub knees-read : (s : Inside) (a : ℕ) (row : Row) → IsRowOf s.net.now.arcs (priced_network s).terms s.pieces.items s.layout.knees.items a row → AreKneesOf (knees_in (priced_network s)) a (part_of s.layout.knees.items row)
+knees-read s a row is = subst (AreKneesOf (knees_in (priced_network s)) a) (sym is.part) (AreKneesOf-knee_list (priced_network s).terms s.pieces.items a)
+
+-- the terms that are laid out are those given
+pub terms-laid : (arcs : List Arc) (terms : List Term) (pieces : List PieceRow) (rows : List Row) (knees : List Knee) → AreLaid arcs terms pieces (length terms) rows knees → map (λ row. row.term) rows ≡ terms
+terms-laid arcs terms pieces rows knees laid = laid.same_terms ∙ take_all (length terms) terms (omega arith)

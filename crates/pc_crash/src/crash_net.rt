@@ -1,0 +1,171 @@
+//! A network whose activities can be shortened at a price.
+ghost use Rattle.std.specs.Prelude.{◌≡◌, ◌≢◌, ℕ, ◌+◌, ◌<◌, length, slice_index, pos, ◌-ℤ◌, IsTrue, ◌↔◌, IfOk, IfSome, IfNone};
+ghost use Rattle.pc_model.specs.Cost.{IsPriced};
+ghost use Rattle.pc_model.specs.Pieces.{ArePieces};
+ghost use Rattle.pc_model.specs.Schedule.{AreTerms, term_at};
+ghost use Rattle.pc_crash.specs.KneeLists.{AreKneesOf};
+ghost use Rattle.pc_crash.specs.Looks.{IsLookAt};
+ghost use Rattle.pc_crash.specs.Priced.{knees_in, code_at, AreNames, ArePiecesWithinLimits};
+ghost use Rattle.pc_crash.specs.Terms.{AreWithinLimits};
+
+use crate::counting::Steps;
+use crate::knee_list::KneeList;
+use crate::laying::{Layout, laid_out};
+use crate::looking::Look;
+use crate::naming::names_of;
+use indexmap::IndexSet;
+use pc_model::{PieceRow, Term};
+use pc_net::Net;
+use pc_text::Code;
+use std::alloc::{AllocError, Global};
+use std::marker::Model;
+use std::sync::ledger::Ledger;
+
+/// A sound network with what its activities may last and cost, and what its events and activities are called.
+///
+/// Events and activities are numbered in card order from 0.
+#[derive(Drop)]
+pub struct CrashNet<'n> {
+    pub(crate) net: &'n Net,
+    pub(crate) layout: Layout,
+    pieces: Vec<PieceRow>,
+    project: Code,
+    events: Vec<Code>,
+    activities: IndexSet<Code>,
+}
+
+impl<'n> Model for CrashNet<'n> {
+    ghost use Rattle.pc_crash.specs.Priced.{PricedNetwork};
+
+    ghost Value = { PricedNetwork };
+
+    ghost use Rattle.pc_crash.specs.CrashNets.{priced_network, IsWholeInside};
+
+    ghost view = { priced_network };
+
+    ghost invariant = { IsWholeInside };
+}
+
+impl<'n> CrashNet<'n> {
+    /// The network with these terms, pieces and codes; the pieces of an activity follow one another in their order.
+    ///
+    /// Linear in events, activities and pieces. The codes of the activities are hashed once.
+    pub fn build(
+        alloc: Global,
+        net: &'n Net,
+        terms: &[Term],
+        pieces: &[PieceRow],
+        project: Code,
+        events: &[Code],
+        activities: &[Code],
+    ) -> Result<CrashNet<'n>, AllocError>
+        requires terms { AreTerms net.now terms.now }
+        requires limits { AreWithinLimits terms.now }
+        requires pieces { ArePieces terms.now pieces.now }
+        requires piece_limits { ArePiecesWithinLimits pieces.now }
+        requires events { AreNames net.now.events events.now }
+        requires activities { AreNames (length net.now.arcs) activities.now }
+        ensures network { IfOk result (λ priced. priced.network ≡ net.now) }
+        ensures terms { IfOk result (λ priced. priced.terms ≡ terms.now) }
+        ensures pieces { IfOk result (λ priced. priced.pieces ≡ pieces.now) }
+        ensures project { IfOk result (λ priced. priced.project ≡ project) }
+        ensures events { IfOk result (λ priced. priced.events ≡ events.now) }
+        ensures activities { IfOk result (λ priced. priced.activities ≡ activities.now) }
+    {
+        Ok(CrashNet {
+            net,
+            layout: laid_out(alloc, net, terms, pieces)?,
+            pieces: Vec::from_slice(alloc, pieces)?,
+            project,
+            events: Vec::from_slice(alloc, events)?,
+            activities: names_of(alloc, activities)?,
+        })
+    }
+
+    /// The network.
+    pub fn net(&self) -> &Net
+        ensures network { result.now ≡ self.now.network }
+        ensures priced { IsPriced self.now.network self.now.terms (knees_in self.now) }
+        ensures limits { AreWithinLimits self.now.terms }
+        ensures pieces { ArePieces self.now.terms self.now.pieces }
+        ensures piece_limits { ArePiecesWithinLimits self.now.pieces }
+        ensures event_names { AreNames self.now.network.events self.now.events }
+        ensures activity_names { AreNames (length self.now.network.arcs) self.now.activities }
+    {
+        self.net
+    }
+
+    /// What an activity may last, in units, and what it costs.
+    pub fn term(&self, a: u32) -> Term
+        requires { a < length self.now.network.arcs }
+        ensures { result ≡ term_at self.now.terms a }
+    {
+        self.layout.rows[a as usize].term
+    }
+
+    /// Whether the cost of an activity has further pieces.
+    pub fn has_pieces(&self) -> bool
+        ensures { IsTrue result ↔ (0 < length self.now.pieces) }
+    {
+        !self.pieces.is_empty()
+    }
+
+    /// The project's code.
+    pub fn project(&self) -> Code
+        ensures { result ≡ self.now.project }
+    {
+        self.project
+    }
+
+    /// The code of an event.
+    pub fn event_code(&self, e: u32) -> Code
+        requires { e < self.now.network.events }
+        ensures { result ≡ code_at self.now.events e }
+    {
+        self.events[e as usize]
+    }
+
+    /// The code of an activity.
+    pub fn activity_code(&self, a: u32) -> Code
+        requires { a < length self.now.network.arcs }
+        ensures { result ≡ code_at self.now.activities a }
+    {
+        self.activities.as_slice()[a as usize]
+    }
+
+    /// The activity with a code, if one has it. The code is hashed once.
+    pub fn activity_named(&self, code: &Code) -> Option<u32>
+        ensures known { IfSome result (λ a. a < length self.now.network.arcs) }
+        ensures named { IfSome result (λ a. code_at self.now.activities a ≡ code.now) }
+        ensures unknown { IfNone result ((a : ℕ) → a < length self.now.network.arcs → code_at self.now.activities a ≢ code.now) }
+    {
+        let a = self.activities.get_index_of(code)?;
+        Some(a as u32)
+    }
+
+    /// The knees of an activity's cost.
+    pub fn knees(&self, a: u32) -> KneeList<'_>
+        requires { a < length self.now.network.arcs }
+        ensures { AreKneesOf (knees_in self.now) a result }
+    {
+        self.layout.knees_of(a)
+    }
+
+    /// What a search along the network wants to know of an activity. It counts as one step.
+    pub fn look<L: Ledger>(&self, a: u32, steps: &mut Steps<L>) -> Look<'_>
+        requires { a < length self.now.network.arcs }
+        ensures counted { steps.new ≡ steps.old + 1 }
+        ensures look { IsLookAt self.now a result }
+    {
+        steps.tick();
+        let row = self.layout.rows[a as usize];
+        Look {
+            from: row.arc.from,
+            to: row.arc.to,
+            normal: row.term.normal,
+            crash: row.term.crash,
+            slope: row.term.slope,
+            knees: self.layout.knees_of(a),
+        }
+    }
+}

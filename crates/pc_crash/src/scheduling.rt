@@ -1,0 +1,51 @@
+//! What makes durations and times a schedule.
+ghost use Rattle.std.specs.Prelude.{◌≡◌, ℕ, ◌+◌, ◌^◌, ◌<◌, ◌≤◌, length, slice_index, pos, ◌-ℤ◌, IsTrue, ◌↔◌};
+ghost use Rattle.pc_model.specs.Schedule.{IsSchedule};
+ghost use Rattle.pc_model.specs.Walk.{from_of, to_of};
+ghost use Rattle.pc_crash.specs.Priced.{Fits};
+
+use crate::crash_net::CrashNet;
+
+impl<'n> CrashNet<'n> {
+    /// The time between the events of an activity. It is negative where its end comes before its beginning.
+    pub fn gap(&self, times: &[u64], a: u32) -> i64
+        requires activity { a < length self.now.network.arcs }
+        requires one_each { length times.now ≡ self.now.network.events }
+        requires small { (e : ℕ) → e < length times.now → slice_index times.now e < 10 ^ 18 }
+        ensures { result ≡ pos (slice_index times.now (to_of self.now.network.arcs a)) -ℤ pos (slice_index times.now (from_of self.now.network.arcs a)) }
+    {
+        let arc = self.layout.rows[a as usize].arc;
+        times[arc.to as usize] as i64 - times[arc.from as usize] as i64
+    }
+
+    /// Whether these are a schedule for a length: durations from crash to normal, each of which fits between the times of
+    /// its events, from the start at 0 to the end at the length or before it.
+    pub fn is_schedule(&self, durations: &[u64], times: &[u64], limit: u64) -> bool
+        requires durations { length durations.now ≡ length self.now.network.arcs }
+        requires times { length times.now ≡ self.now.network.events }
+        ensures { IsTrue result ↔ IsSchedule self.now.network self.now.terms limit (slice_index durations.now) (slice_index times.now) }
+    {
+        if times[self.net.start() as usize] != 0 || times[self.net.end() as usize] > limit {
+            return false;
+        }
+        for a in 0..self.net.activities() {
+            if !self.fits(a, durations[a as usize], times) {
+                return false;
+            }
+        }
+        true
+    }
+
+    /// Whether an activity may last so long and has that time between its events.
+    fn fits(&self, a: u32, duration: u64, times: &[u64]) -> bool
+        requires activity { a < length self.now.network.arcs }
+        requires times { length times.now ≡ self.now.network.events }
+        ensures { IsTrue result ↔ Fits self.now a duration (slice_index times.now) }
+    {
+        let row = self.layout.rows[a as usize];
+        let begins = times[row.arc.from as usize];
+        let ends = times[row.arc.to as usize];
+        let lasts = row.term.crash <= duration && duration <= row.term.normal;
+        lasts && begins <= ends && duration <= ends - begins
+    }
+}

@@ -1,0 +1,6 @@
+-- Laws of the state between two labellings: the first one, raisings, and falls.
+pub mod Opening
+pub mod WalkedBack
+pub mod Raising
+pub mod Falling
+pub mod FallExists

@@ -1,0 +1,3 @@
+-- Curves worked through by hand.
+pub mod Checks
+pub mod Decks

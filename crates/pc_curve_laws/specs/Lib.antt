@@ -1,0 +1,10 @@
+pub mod Flow
+pub mod Tight
+pub mod Segment
+pub mod Cover
+pub mod Curve
+pub mod State
+pub mod Stair
+pub mod Steps
+pub mod OneSlope
+pub mod Worked

@@ -1,0 +1,31 @@
+-- The calendar day by day, and the text of a day.
+use Rattle.std.specs.Prelude.{ℕ, zero, suc, ◌+◌, nat_lt, if◌then◌else◌, List, ℤ, pos, ◌+ℤ◌, unsigned_abs}
+use Rattle.jiff_core.specs.Calendar.{days_in_month}
+use Rattle.pc_days.specs.Dates.{date_text}
+
+-- a day of the calendar by its year, month and day of the month
+pub record CalendarDay : Type 0 where
+  pub year : ℕ
+  pub month : ℕ
+  pub day : ℕ
+
+-- 1 January 1900
+abbrev pub first_day : CalendarDay
+first_day = record { year = 1900; month = 1; day = 1 }
+
+-- the day after: the next of the month, or the first of the next month, or 1 January of the next year
+abbrev pub next_day : CalendarDay → CalendarDay
+next_day today =
+    if nat_lt today.day (days_in_month (pos today.year) today.month) then record { year = today.year; month = today.month; day = today.day + 1 }
+    else if nat_lt today.month 12 then record { year = today.year; month = today.month + 1; day = 1 }
+    else record { year = today.year + 1; month = 1; day = 1 }
+
+-- so many days after 1 January 1900
+unfoldable pub calendar_day : ℕ → CalendarDay
+calendar_day zero = first_day
+calendar_day (suc n) = next_day (calendar_day n)
+
+-- the date of a day, which is counted from 1970-01-01
+abbrev pub text_of_day : ℤ → List ℕ
+text_of_day number =
+    let today = calendar_day (unsigned_abs (number +ℤ pos 25_567)) in date_text today.year today.month today.day

@@ -1,0 +1,65 @@
+-- Which deck bytes are: at most one, and none where they are refused.
+use Rattle.std.proofs.Common.{◌≡◌, ℕ, Bool, true, List, [], ◌∷◌, Option, Some, None, Result, Ok, Err, refl, sym, ap, ◌∙◌}
+use Rattle.std.specs.Prelude.{IfOk}
+use Rattle.std.specs.Str.{is_utf8}
+use Rattle.pc_faults.specs.declared.fault.Fault.{Fault}
+use Rattle.pc_faults.specs.declared.fault.DeckError.{DeckError}
+use Rattle.pc_deck.specs.Cards.{Numbered}
+use Rattle.pc_deck.specs.Deck.{Deck}
+use Rattle.pc_deck.specs.Reading.{cards_of}
+use Rattle.pc_deck.specs.Read.{IsDeckOf}
+use Rattle.pc_deck.specs.Refusal.{IsCardRefusal}
+use Rattle.pc_deck.specs.Says.{as_list, Says}
+use Rattle.pc_deck.proofs.RefusalLemmas.{none_of-read}
+use Rattle.pc_deck.proofs.SaysLemmas.{says_of-read}
+
+-- the first of a list, or another
+abbrev first_or : {X : Type 0} → X → List X → X
+first_or other [] = other
+first_or other (x ∷ xs) = x
+
+-- the first of a list, where there is one
+abbrev first_of : {X : Type 0} → List X → Option X
+first_of [] = None
+first_of (x ∷ xs) = Some x
+
+first_of-as_list : {X : Type 0} (card : Option X) → first_of (as_list card) ≡ card
+first_of-as_list None = refl
+first_of-as_list (Some card) = refl
+
+one : {X : Type 0} (x y : X) → x ∷ [] ≡ y ∷ [] → x ≡ y
+one x y same = ap (first_or x) same
+
+one_or_none : {X : Type 0} (card other : Option X) → as_list card ≡ as_list other → card ≡ other
+one_or_none card other same = sym (first_of-as_list card) ∙ (ap first_of same ∙ first_of-as_list other)
+
+-- the cards of a deck say one thing alone
+pub said_once : (cards : List Numbered) (deck other : Deck) → Says cards deck → Says cards other → deck ≡ other
+said_once cards deck other says also = λ i. record {
+  project = one deck.project other.project (sym says.project ∙ also.project) i;
+  as_of = one_or_none deck.as_of other.as_of (sym says.as_of ∙ also.as_of) i;
+  terms = one_or_none deck.terms other.terms (sym says.terms ∙ also.terms) i;
+  items = (sym says.items ∙ also.items) i;
+  events = (sym says.events ∙ also.events) i;
+  acts = (sym says.acts ∙ also.acts) i;
+  pieces = (sym says.pieces ∙ also.pieces) i;
+  accounts = (sym says.accounts ∙ also.accounts) i;
+  charges = (sym says.charges ∙ also.charges) i;
+  togos = (sym says.togos ∙ also.togos) i;
+  statuses = (sym says.statuses ∙ also.statuses) i;
+  resources = (sym says.resources ∙ also.resources) i;
+  loads = (sym says.loads ∙ also.loads) i;
+}
+
+-- bytes are one deck at most
+pub one_deck : (bytes : List ℕ) (deck other : Deck) → IsDeckOf bytes deck → IsDeckOf bytes other → deck ≡ other
+one_deck bytes deck other is also = said_once _ deck other is.says also.says
+
+-- and none where they are refused
+pub not_both : (bytes : List ℕ) (deck : Deck) (fault : Fault) → IsDeckOf bytes deck → IsCardRefusal bytes fault → ⊥
+not_both bytes deck fault is refused = is.faultless fault refused.holds
+
+-- what is answered is the deck
+pub answer_is : (result : Result Deck DeckError) (bytes : List ℕ) → is_utf8 bytes ≡ true → IfOk result (λ deck. cards_of bytes ≡ Ok deck) → IfOk result (IsDeckOf bytes)
+answer_is (Ok deck) bytes utf8 h = record { says = says_of-read bytes deck h; faultless = none_of-read bytes deck utf8 h }
+answer_is (Err error) bytes utf8 h = tt

@@ -1,0 +1,25 @@
+-- ACCT,code,item,budget,title
+use Rattle.std.specs.Prelude.{ℕ, ◌≤◌, List, [], ◌∷◌}
+use Rattle.pc_records.specs.Deck.{field_at}
+use Rattle.pc_model.specs.declared.limits.TheConstants.{MAX_COST}
+use Rattle.pc_deck.specs.Forms.{Slot, money, number_in}
+use Rattle.pc_deck.specs.declared.form.Form.TheVariants as form
+use Rattle.pc_deck.specs.declared.kinds.acct.AcctCard.{AcctCard}
+
+-- the fields behind the kind
+abbrev pub account_slots : List Slot
+account_slots = (2, form.Code) ∷ (3, form.Code) ∷ (4, money) ∷ (5, form.Title) ∷ []
+
+-- the card that a record spells
+abbrev pub account_of : ℕ → List (List ℕ) → AcctCard
+account_of row fields = record {
+  row = row;
+  code = field_at fields 1;
+  item = field_at fields 2;
+  budget = number_in (field_at fields 3);
+  title = field_at fields 4;
+}
+
+-- the budget of an account is within the limit of money
+abbrev pub IsBudgetWithin : AcctCard → Type 0
+IsBudgetWithin account = account.budget ≤ MAX_COST

@@ -1,0 +1,42 @@
+-- ACT,code,from,to,item,opt,likely,pess,normal,crash,cost,slope,title
+use Rattle.std.specs.Prelude.{ℕ, ◌≤◌, List, [], ◌∷◌}
+use Rattle.pc_records.specs.Deck.{field_at}
+use Rattle.pc_model.specs.declared.limits.TheConstants.{MAX_COST, MAX_DURATION, MAX_SLOPE}
+use Rattle.pc_deck.specs.Forms.{Slot, duration, money, number_in}
+use Rattle.pc_deck.specs.declared.form.Form.TheVariants as form
+use Rattle.pc_deck.specs.declared.kinds.act.ActCard.{ActCard}
+
+-- the fields behind the kind
+abbrev pub act_slots : List Slot
+act_slots =
+    (2, form.Code) ∷ (3, form.Code) ∷ (4, form.Code) ∷ (5, form.Code)
+    ∷ (6, duration) ∷ (7, duration) ∷ (8, duration) ∷ (9, duration) ∷ (10, duration)
+    ∷ (11, money) ∷ (12, form.Number 0 MAX_SLOPE) ∷ (13, form.Title) ∷ []
+
+-- the card that a record spells
+abbrev pub act_of : ℕ → List (List ℕ) → ActCard
+act_of row fields = record {
+  row = row;
+  code = field_at fields 1;
+  from = field_at fields 2;
+  to = field_at fields 3;
+  item = field_at fields 4;
+  opt = number_in (field_at fields 5);
+  likely = number_in (field_at fields 6);
+  pess = number_in (field_at fields 7);
+  normal = number_in (field_at fields 8);
+  crash = number_in (field_at fields 9);
+  cost = number_in (field_at fields 10);
+  slope = number_in (field_at fields 11);
+  title = field_at fields 12;
+}
+
+-- the numbers of an activity are within their limits
+pub record IsActWithin (act : ActCard) : Type 0 where
+  pub opt : act.opt ≤ MAX_DURATION
+  pub likely : act.likely ≤ MAX_DURATION
+  pub pess : act.pess ≤ MAX_DURATION
+  pub normal : act.normal ≤ MAX_DURATION
+  pub crash : act.crash ≤ MAX_DURATION
+  pub cost : act.cost ≤ MAX_COST
+  pub slope : act.slope ≤ MAX_SLOPE

@@ -1,0 +1,14 @@
+-- ASOF,date
+use Rattle.std.specs.Prelude.{ℕ, List, [], ◌∷◌}
+use Rattle.pc_records.specs.Deck.{field_at}
+use Rattle.pc_deck.specs.Forms.{Slot, day_in}
+use Rattle.pc_deck.specs.declared.form.Form.TheVariants as form
+use Rattle.pc_deck.specs.declared.kinds.as_of.AsOfCard.{AsOfCard}
+
+-- the field behind the kind
+abbrev pub as_of_slots : List Slot
+as_of_slots = (2, form.Date) ∷ []
+
+-- the card that a record spells
+abbrev pub as_of_of : ℕ → List (List ℕ) → AsOfCard
+as_of_of row fields = record { row = row; day = day_in (field_at fields 1) }

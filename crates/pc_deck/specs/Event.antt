@@ -1,0 +1,14 @@
+-- EVENT,code,title
+use Rattle.std.specs.Prelude.{ℕ, List, [], ◌∷◌}
+use Rattle.pc_records.specs.Deck.{field_at}
+use Rattle.pc_deck.specs.Forms.{Slot}
+use Rattle.pc_deck.specs.declared.form.Form.TheVariants as form
+use Rattle.pc_deck.specs.declared.kinds.event.EventCard.{EventCard}
+
+-- the fields behind the kind
+abbrev pub event_slots : List Slot
+event_slots = (2, form.Code) ∷ (3, form.Title) ∷ []
+
+-- the card that a record spells
+abbrev pub event_of : ℕ → List (List ℕ) → EventCard
+event_of row fields = record { row = row; code = field_at fields 1; title = field_at fields 2 }

@@ -1,0 +1,19 @@
+-- LOAD,activity,resource,quantity
+use Rattle.std.specs.Prelude.{ℕ, ◌≤◌, List, [], ◌∷◌}
+use Rattle.pc_records.specs.Deck.{field_at}
+use Rattle.pc_model.specs.declared.limits.TheConstants.{MAX_COST}
+use Rattle.pc_deck.specs.Forms.{Slot, money, number_in}
+use Rattle.pc_deck.specs.declared.form.Form.TheVariants as form
+use Rattle.pc_deck.specs.declared.kinds.load.LoadCard.{LoadCard}
+
+-- the fields behind the kind
+abbrev pub load_slots : List Slot
+load_slots = (2, form.Code) ∷ (3, form.Code) ∷ (4, money) ∷ []
+
+-- the card that a record spells
+abbrev pub load_of : ℕ → List (List ℕ) → LoadCard
+load_of row fields = record { row = row; activity = field_at fields 1; resource = field_at fields 2; quantity = number_in (field_at fields 3) }
+
+-- the quantity of a load is within the limit of money
+abbrev pub IsLoadWithin : LoadCard → Type 0
+IsLoadWithin card = card.quantity ≤ MAX_COST

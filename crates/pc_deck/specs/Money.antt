@@ -1,0 +1,19 @@
+-- CHARGE,account,date,amount and TOGO,account,date,amount
+use Rattle.std.specs.Prelude.{ℕ, ◌≤◌, List, [], ◌∷◌}
+use Rattle.pc_records.specs.Deck.{field_at}
+use Rattle.pc_model.specs.declared.limits.TheConstants.{MAX_COST}
+use Rattle.pc_deck.specs.Forms.{Slot, money, number_in, day_in}
+use Rattle.pc_deck.specs.declared.form.Form.TheVariants as form
+use Rattle.pc_deck.specs.declared.kinds.money.MoneyCard.{MoneyCard}
+
+-- the fields behind the kind
+abbrev pub money_slots : List Slot
+money_slots = (2, form.Code) ∷ (3, form.Date) ∷ (4, money) ∷ []
+
+-- the card that a record spells
+abbrev pub money_of : ℕ → List (List ℕ) → MoneyCard
+money_of row fields = record { row = row; account = field_at fields 1; day = day_in (field_at fields 2); amount = number_in (field_at fields 3) }
+
+-- the amount of a CHARGE or TOGO card is within the limit of money
+abbrev pub IsAmountWithin : MoneyCard → Type 0
+IsAmountWithin card = card.amount ≤ MAX_COST

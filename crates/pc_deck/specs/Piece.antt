@@ -1,0 +1,21 @@
+-- PIECE,activity,units,slope
+use Rattle.std.specs.Prelude.{ℕ, ◌≤◌, List, [], ◌∷◌}
+use Rattle.pc_records.specs.Deck.{field_at}
+use Rattle.pc_model.specs.declared.limits.TheConstants.{MAX_DURATION, MAX_SLOPE}
+use Rattle.pc_deck.specs.Forms.{Slot, number_in}
+use Rattle.pc_deck.specs.declared.form.Form.TheVariants as form
+use Rattle.pc_deck.specs.declared.kinds.piece.PieceCard.{PieceCard}
+
+-- the fields behind the kind
+abbrev pub piece_slots : List Slot
+piece_slots = (2, form.Code) ∷ (3, form.Number 1 MAX_DURATION) ∷ (4, form.Number 0 MAX_SLOPE) ∷ []
+
+-- the card that a record spells
+abbrev pub piece_of : ℕ → List (List ℕ) → PieceCard
+piece_of row fields = record { row = row; activity = field_at fields 1; units = number_in (field_at fields 2); slope = number_in (field_at fields 3) }
+
+-- the numbers of a piece are within their limits
+pub record IsPieceWithin (piece : PieceCard) : Type 0 where
+  pub some_units : 1 ≤ piece.units
+  pub units : piece.units ≤ MAX_DURATION
+  pub slope : piece.slope ≤ MAX_SLOPE

@@ -1,0 +1,40 @@
+-- PROJECT,code,start,end,date,days of a unit,directed end,title,version
+use Rattle.std.specs.Prelude.{ℕ, ◌≤◌, List, [], ◌∷◌, unwrap_or}
+use Rattle.pc_records.specs.Deck.{field_at}
+use Rattle.std.specs.Option.{ForSome}
+use Rattle.pc_text.specs.Number.{number_of}
+use Rattle.pc_model.specs.declared.limits.TheConstants.{MAX_DIRECTED, MAX_UNIT_DAYS}
+use Rattle.pc_deck.specs.Forms.{Slot, number_in, day_in}
+use Rattle.pc_deck.specs.declared.form.Form.TheVariants as form
+use Rattle.pc_deck.specs.declared.kinds.project.ProjectCard.{ProjectCard}
+
+-- the fields behind the kind; the last one may be missing
+abbrev pub project_slots : List Slot
+project_slots =
+    (2, form.Code) ∷ (3, form.Code) ∷ (4, form.Code) ∷ (5, form.Date) ∷ (6, form.Number 1 MAX_UNIT_DAYS) ∷ (7, form.NumberOrNone 0 MAX_DIRECTED) ∷ (8, form.Title) ∷ (9, form.NumberOrNone 1 2) ∷ []
+
+-- the version that a field spells; where it is empty, 1
+abbrev pub version_in : List ℕ → ℕ
+version_in field = unwrap_or (number_of field) 1
+
+-- the card that a record spells
+abbrev pub project_of : ℕ → List (List ℕ) → ProjectCard
+project_of row fields = record {
+  row = row;
+  code = field_at fields 1;
+  start = field_at fields 2;
+  end = field_at fields 3;
+  start_day = day_in (field_at fields 4);
+  unit_days = number_in (field_at fields 5);
+  directed = number_of (field_at fields 6);
+  title = field_at fields 7;
+  version = version_in (field_at fields 8);
+}
+
+-- the numbers of the project are within their limits
+pub record IsProjectWithin (project : ProjectCard) : Type 0 where
+  pub unit_some : 1 ≤ project.unit_days
+  pub unit_within : project.unit_days ≤ MAX_UNIT_DAYS
+  pub directed_within : ForSome project.directed (λ days. days ≤ MAX_DIRECTED)
+  pub version_some : 1 ≤ project.version
+  pub version_within : project.version ≤ 2

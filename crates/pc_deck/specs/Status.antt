@@ -1,0 +1,14 @@
+-- STATUS,activity,S or F,date
+use Rattle.std.specs.Prelude.{ℕ, List, [], ◌∷◌}
+use Rattle.pc_records.specs.Deck.{field_at}
+use Rattle.pc_deck.specs.Forms.{Slot, day_in, is_finish}
+use Rattle.pc_deck.specs.declared.form.Form.TheVariants as form
+use Rattle.pc_deck.specs.declared.kinds.status.StatusCard.{StatusCard}
+
+-- the fields behind the kind
+abbrev pub status_slots : List Slot
+status_slots = (2, form.Code) ∷ (3, form.Letter) ∷ (4, form.Date) ∷ []
+
+-- the card that a record spells
+abbrev pub status_of : ℕ → List (List ℕ) → StatusCard
+status_of row fields = record { row = row; activity = field_at fields 1; finished = is_finish (field_at fields 2); day = day_in (field_at fields 3) }

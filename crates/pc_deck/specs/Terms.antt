@@ -1,0 +1,33 @@
+-- TERMS,overhead,target,bonus,penalty
+use Rattle.std.specs.Prelude.{ℕ, ◌≤◌, List, [], ◌∷◌}
+use Rattle.pc_records.specs.Deck.{field_at}
+use Rattle.pc_model.specs.declared.limits.TheConstants.{MAX_TERMS}
+use Rattle.pc_deck.specs.Forms.{Slot, number_in}
+use Rattle.pc_deck.specs.declared.form.Form.{Form}
+use Rattle.pc_deck.specs.declared.form.Form.TheVariants as form
+use Rattle.pc_deck.specs.declared.kinds.terms.TermsCard.{TermsCard}
+
+-- one of the four numbers
+abbrev pub term : Form
+term = form.Number 0 MAX_TERMS
+
+-- the fields behind the kind
+abbrev pub terms_slots : List Slot
+terms_slots = (2, term) ∷ (3, term) ∷ (4, term) ∷ (5, term) ∷ []
+
+-- the card that a record spells
+abbrev pub terms_of : ℕ → List (List ℕ) → TermsCard
+terms_of row fields = record {
+  row = row;
+  overhead = number_in (field_at fields 1);
+  target = number_in (field_at fields 2);
+  bonus = number_in (field_at fields 3);
+  penalty = number_in (field_at fields 4);
+}
+
+-- the terms are within their limits
+pub record AreTermsWithin (terms : TermsCard) : Type 0 where
+  pub overhead : terms.overhead ≤ MAX_TERMS
+  pub target : terms.target ≤ MAX_TERMS
+  pub bonus : terms.bonus ≤ MAX_TERMS
+  pub penalty : terms.penalty ≤ MAX_TERMS

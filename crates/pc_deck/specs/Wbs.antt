@@ -1,0 +1,15 @@
+-- WBS,code,parent,title; the top item has no parent
+use Rattle.std.specs.Prelude.{ℕ, List, [], ◌∷◌}
+use Rattle.pc_records.specs.Deck.{field_at}
+use Rattle.pc_text.specs.Code.{code_of}
+use Rattle.pc_deck.specs.Forms.{Slot}
+use Rattle.pc_deck.specs.declared.form.Form.TheVariants as form
+use Rattle.pc_deck.specs.declared.kinds.wbs.ItemCard.{ItemCard}
+
+-- the fields behind the kind
+abbrev pub item_slots : List Slot
+item_slots = (2, form.Code) ∷ (3, form.CodeOrNone) ∷ (4, form.Title) ∷ []
+
+-- the card that a record spells
+abbrev pub item_of : ℕ → List (List ℕ) → ItemCard
+item_of row fields = record { row = row; code = field_at fields 1; parent = code_of (field_at fields 2); title = field_at fields 3 }

@@ -1,0 +1,69 @@
+//! ACCT: a cost account.
+ghost use Rattle.std.specs.Prelude.{refl};
+ghost use Rattle.pc_deck.specs.Acct.{account_slots, account_of};
+
+use crate::card::{Card, Coded};
+use crate::field::{Flaw, read_amount, read_code, read_title};
+use crate::form::{Form, MONEY, Slot};
+use pc_model::MAX_COST;
+use pc_records::Row;
+use pc_text::{Code, Title};
+
+/// An ACCT card: a cost account of an item, with its budget.
+#[derive(Clone, Copy, Debug)]
+pub struct AcctCard {
+    pub row: u32,
+    pub code: Code,
+    pub item: Code,
+    pub budget: u64,
+    pub title: Title,
+}
+
+const SLOTS: [Slot; 4] = [
+    (2, Form::Code),
+    (3, Form::Code),
+    (4, MONEY),
+    (5, Form::Title),
+];
+
+impl Card for AcctCard {
+    ghost slots = { account_slots };
+
+    ghost least = { 5 };
+
+    ghost most = { 5 };
+
+    ghost spelled = { account_of };
+
+    fn slots() -> &'static [Slot] {
+        &SLOTS
+    }
+
+    fn least_width() -> usize {
+        5
+    }
+
+    fn width() -> usize {
+        5
+    }
+
+    fn read(row: u32, fields: &Row) -> Result<AcctCard, Flaw> {
+        Ok(AcctCard {
+            row,
+            code: read_code(fields.field(1))?,
+            item: read_code(fields.field(2))?,
+            budget: read_amount(fields.field(3), 0, MAX_COST)?,
+            title: read_title(fields.field(4))?,
+        })
+    }
+}
+
+impl Coded for AcctCard {
+    ghost own_code = { λ account. account.code };
+
+    fn code(&self) -> &Code {
+        &self.code
+    }
+
+    ghost second_field = { λ row fields. refl };
+}

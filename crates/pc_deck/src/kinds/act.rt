@@ -1,0 +1,98 @@
+//! ACT: an activity of the network.
+ghost use Rattle.std.specs.Prelude.{refl};
+ghost use Rattle.pc_deck.specs.Act.{act_slots, act_of};
+
+use crate::card::{Card, Coded};
+use crate::field::{Flaw, read_amount, read_code, read_title};
+use crate::form::{DURATION, Form, MONEY, Slot};
+use pc_model::{MAX_COST, MAX_DURATION, MAX_SLOPE};
+use pc_records::Row;
+use pc_text::{Code, Title};
+
+/// An ACT card: an activity, with its estimates and durations in units and its costs.
+#[derive(Clone, Copy, Debug)]
+pub struct ActCard {
+    pub row: u32,
+    pub code: Code,
+    pub from: Code,
+    pub to: Code,
+    pub item: Code,
+    pub opt: u64,
+    pub likely: u64,
+    pub pess: u64,
+    pub normal: u64,
+    pub crash: u64,
+    pub cost: u64,
+    pub slope: u64,
+    pub title: Title,
+}
+
+const SLOPE: Form = Form::Number {
+    least: 0,
+    most: MAX_SLOPE,
+};
+
+const SLOTS: [Slot; 12] = [
+    (2, Form::Code),
+    (3, Form::Code),
+    (4, Form::Code),
+    (5, Form::Code),
+    (6, DURATION),
+    (7, DURATION),
+    (8, DURATION),
+    (9, DURATION),
+    (10, DURATION),
+    (11, MONEY),
+    (12, SLOPE),
+    (13, Form::Title),
+];
+
+impl Card for ActCard {
+    ghost slots = { act_slots };
+
+    ghost least = { 13 };
+
+    ghost most = { 13 };
+
+    ghost spelled = { act_of };
+
+    fn slots() -> &'static [Slot] {
+        &SLOTS
+    }
+
+    fn least_width() -> usize {
+        13
+    }
+
+    fn width() -> usize {
+        13
+    }
+
+    fn read(row: u32, fields: &Row) -> Result<ActCard, Flaw> {
+        Ok(ActCard {
+            row,
+            code: read_code(fields.field(1))?,
+            from: read_code(fields.field(2))?,
+            to: read_code(fields.field(3))?,
+            item: read_code(fields.field(4))?,
+            opt: read_amount(fields.field(5), 0, MAX_DURATION)?,
+            likely: read_amount(fields.field(6), 0, MAX_DURATION)?,
+            pess: read_amount(fields.field(7), 0, MAX_DURATION)?,
+            normal: read_amount(fields.field(8), 0, MAX_DURATION)?,
+            crash: read_amount(fields.field(9), 0, MAX_DURATION)?,
+            cost: read_amount(fields.field(10), 0, MAX_COST)?,
+            slope: read_amount(fields.field(11), 0, MAX_SLOPE)?,
+            title: read_title(fields.field(12))?,
+        })
+    }
+}
+
+impl Coded for ActCard {
+    ghost own_code = { λ act. act.code };
+
+    fn code(&self) -> &Code {
+        &self.code
+    }
+
+    ghost second_field = { λ row fields. refl };
+}

@@ -1,0 +1,59 @@
+//! EVENT: an event of the network.
+ghost use Rattle.std.specs.Prelude.{refl};
+ghost use Rattle.pc_deck.specs.Event.{event_slots, event_of};
+
+use crate::card::{Card, Coded};
+use crate::field::{Flaw, read_code, read_title};
+use crate::form::{Form, Slot};
+use pc_records::Row;
+use pc_text::{Code, Title};
+
+/// An EVENT card.
+#[derive(Clone, Copy, Debug)]
+pub struct EventCard {
+    pub row: u32,
+    pub code: Code,
+    pub title: Title,
+}
+
+const SLOTS: [Slot; 2] = [(2, Form::Code), (3, Form::Title)];
+
+impl Card for EventCard {
+    ghost slots = { event_slots };
+
+    ghost least = { 3 };
+
+    ghost most = { 3 };
+
+    ghost spelled = { event_of };
+
+    fn slots() -> &'static [Slot] {
+        &SLOTS
+    }
+
+    fn least_width() -> usize {
+        3
+    }
+
+    fn width() -> usize {
+        3
+    }
+
+    fn read(row: u32, fields: &Row) -> Result<EventCard, Flaw> {
+        Ok(EventCard {
+            row,
+            code: read_code(fields.field(1))?,
+            title: read_title(fields.field(2))?,
+        })
+    }
+}
+
+impl Coded for EventCard {
+    ghost own_code = { λ event. event.code };
+
+    fn code(&self) -> &Code {
+        &self.code
+    }
+
+    ghost second_field = { λ row fields. refl };
+}

@@ -1,0 +1,51 @@
+//! LOAD: what an activity uses of a resource.
+ghost use Rattle.pc_deck.specs.Load.{load_slots, load_of};
+
+use crate::card::Card;
+use crate::field::{Flaw, read_amount, read_code};
+use crate::form::{Form, MONEY, Slot};
+use pc_model::MAX_COST;
+use pc_records::Row;
+use pc_text::Code;
+
+/// A LOAD card: how much of a resource an activity uses.
+#[derive(Clone, Copy, Debug)]
+pub struct LoadCard {
+    pub row: u32,
+    pub activity: Code,
+    pub resource: Code,
+    pub quantity: u64,
+}
+
+const SLOTS: [Slot; 3] = [(2, Form::Code), (3, Form::Code), (4, MONEY)];
+
+impl Card for LoadCard {
+    ghost slots = { load_slots };
+
+    ghost least = { 4 };
+
+    ghost most = { 4 };
+
+    ghost spelled = { load_of };
+
+    fn slots() -> &'static [Slot] {
+        &SLOTS
+    }
+
+    fn least_width() -> usize {
+        4
+    }
+
+    fn width() -> usize {
+        4
+    }
+
+    fn read(row: u32, fields: &Row) -> Result<LoadCard, Flaw> {
+        Ok(LoadCard {
+            row,
+            activity: read_code(fields.field(1))?,
+            resource: read_code(fields.field(2))?,
+            quantity: read_amount(fields.field(3), 0, MAX_COST)?,
+        })
+    }
+}

@@ -1,0 +1,52 @@
+//! CHARGE and TOGO: amounts of money, spent or still to be spent.
+ghost use Rattle.pc_deck.specs.Money.{money_slots, money_of};
+
+use crate::card::Card;
+use crate::field::{Flaw, read_amount, read_code, read_date};
+use crate::form::{Form, MONEY, Slot};
+use pc_days::Day;
+use pc_model::MAX_COST;
+use pc_records::Row;
+use pc_text::Code;
+
+/// A CHARGE or a TOGO card: an amount of money, spent or still to be spent.
+#[derive(Clone, Copy, Debug)]
+pub struct MoneyCard {
+    pub row: u32,
+    pub account: Code,
+    pub day: Day,
+    pub amount: u64,
+}
+
+const SLOTS: [Slot; 3] = [(2, Form::Code), (3, Form::Date), (4, MONEY)];
+
+impl Card for MoneyCard {
+    ghost slots = { money_slots };
+
+    ghost least = { 4 };
+
+    ghost most = { 4 };
+
+    ghost spelled = { money_of };
+
+    fn slots() -> &'static [Slot] {
+        &SLOTS
+    }
+
+    fn least_width() -> usize {
+        4
+    }
+
+    fn width() -> usize {
+        4
+    }
+
+    fn read(row: u32, fields: &Row) -> Result<MoneyCard, Flaw> {
+        Ok(MoneyCard {
+            row,
+            account: read_code(fields.field(1))?,
+            day: read_date(fields.field(2))?,
+            amount: read_amount(fields.field(3), 0, MAX_COST)?,
+        })
+    }
+}

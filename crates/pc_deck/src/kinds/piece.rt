@@ -1,0 +1,62 @@
+//! PIECE: a further piece of an activity's cost.
+ghost use Rattle.pc_deck.specs.Piece.{piece_slots, piece_of};
+
+use crate::card::Card;
+use crate::field::{Flaw, read_amount, read_code};
+use crate::form::{Form, Slot};
+use pc_model::{MAX_DURATION, MAX_SLOPE};
+use pc_records::Row;
+use pc_text::Code;
+
+/// A PIECE card: a further piece of an activity's cost. Behind the slope of the ACT card, so many units cost this much
+/// each to be taken off.
+#[derive(Clone, Copy, Debug)]
+pub struct PieceCard {
+    pub row: u32,
+    pub activity: Code,
+    pub units: u64,
+    pub slope: u64,
+}
+
+const UNITS: Form = Form::Number {
+    least: 1,
+    most: MAX_DURATION,
+};
+
+const SLOPE: Form = Form::Number {
+    least: 0,
+    most: MAX_SLOPE,
+};
+
+const SLOTS: [Slot; 3] = [(2, Form::Code), (3, UNITS), (4, SLOPE)];
+
+impl Card for PieceCard {
+    ghost slots = { piece_slots };
+
+    ghost least = { 4 };
+
+    ghost most = { 4 };
+
+    ghost spelled = { piece_of };
+
+    fn slots() -> &'static [Slot] {
+        &SLOTS
+    }
+
+    fn least_width() -> usize {
+        4
+    }
+
+    fn width() -> usize {
+        4
+    }
+
+    fn read(row: u32, fields: &Row) -> Result<PieceCard, Flaw> {
+        Ok(PieceCard {
+            row,
+            activity: read_code(fields.field(1))?,
+            units: read_amount(fields.field(2), 1, MAX_DURATION)?,
+            slope: read_amount(fields.field(3), 0, MAX_SLOPE)?,
+        })
+    }
+}

@@ -1,0 +1,93 @@
+//! PROJECT: what the project is called, where it starts and ends, and when.
+ghost use Rattle.pc_deck.specs.Project.{project_slots, project_of};
+
+use crate::card::Card;
+use crate::field::{Flaw, read_amount, read_amount_or_none, read_code, read_date, read_title};
+use crate::form::{Form, Slot};
+use pc_days::Day;
+use pc_model::{MAX_DIRECTED, MAX_UNIT_DAYS};
+use pc_records::Row;
+use pc_text::{Code, Title};
+
+/// The PROJECT card: what the project is called, where it starts and ends, and when.
+#[derive(Clone, Copy, Debug)]
+pub struct ProjectCard {
+    /// The record's number, from 1.
+    pub row: u32,
+    pub code: Code,
+    pub start: Code,
+    pub end: Code,
+    pub start_day: Day,
+    /// How many days a unit is, 1 to 7.
+    pub unit_days: u64,
+    /// The end to be met, in days from the start, where one is given.
+    pub directed: Option<u64>,
+    pub title: Title,
+    /// The version of decks that decides how many cards there may be, 1 or 2.
+    pub version: u64,
+}
+
+/// The greatest version of decks.
+const LAST_VERSION: u64 = 2;
+
+const UNIT_DAYS: Form = Form::Number {
+    least: 1,
+    most: MAX_UNIT_DAYS,
+};
+
+const DIRECTED: Form = Form::NumberOrNone {
+    least: 0,
+    most: MAX_DIRECTED,
+};
+
+const VERSION: Form = Form::NumberOrNone {
+    least: 1,
+    most: LAST_VERSION,
+};
+
+const SLOTS: [Slot; 8] = [
+    (2, Form::Code),
+    (3, Form::Code),
+    (4, Form::Code),
+    (5, Form::Date),
+    (6, UNIT_DAYS),
+    (7, DIRECTED),
+    (8, Form::Title),
+    (9, VERSION),
+];
+
+impl Card for ProjectCard {
+    ghost slots = { project_slots };
+
+    ghost least = { 8 };
+
+    ghost most = { 9 };
+
+    ghost spelled = { project_of };
+
+    fn slots() -> &'static [Slot] {
+        &SLOTS
+    }
+
+    fn least_width() -> usize {
+        8
+    }
+
+    fn width() -> usize {
+        9
+    }
+
+    fn read(row: u32, fields: &Row) -> Result<ProjectCard, Flaw> {
+        Ok(ProjectCard {
+            row,
+            code: read_code(fields.field(1))?,
+            start: read_code(fields.field(2))?,
+            end: read_code(fields.field(3))?,
+            start_day: read_date(fields.field(4))?,
+            unit_days: read_amount(fields.field(5), 1, MAX_UNIT_DAYS)?,
+            directed: read_amount_or_none(fields.field(6), 0, MAX_DIRECTED)?,
+            title: read_title(fields.field(7))?,
+            version: read_amount_or_none(fields.field(8), 1, LAST_VERSION)?.unwrap_or(1),
+        })
+    }
+}

@@ -1,0 +1,51 @@
+//! STATUS: when an activity was begun or ended.
+ghost use Rattle.pc_deck.specs.Status.{status_slots, status_of};
+
+use crate::card::Card;
+use crate::field::{Flaw, read_code, read_date, read_letter};
+use crate::form::{Form, Slot};
+use pc_days::Day;
+use pc_records::Row;
+use pc_text::Code;
+
+/// A STATUS card: when an activity was begun or, where `finished`, ended.
+#[derive(Clone, Copy, Debug)]
+pub struct StatusCard {
+    pub row: u32,
+    pub activity: Code,
+    pub finished: bool,
+    pub day: Day,
+}
+
+const SLOTS: [Slot; 3] = [(2, Form::Code), (3, Form::Letter), (4, Form::Date)];
+
+impl Card for StatusCard {
+    ghost slots = { status_slots };
+
+    ghost least = { 4 };
+
+    ghost most = { 4 };
+
+    ghost spelled = { status_of };
+
+    fn slots() -> &'static [Slot] {
+        &SLOTS
+    }
+
+    fn least_width() -> usize {
+        4
+    }
+
+    fn width() -> usize {
+        4
+    }
+
+    fn read(row: u32, fields: &Row) -> Result<StatusCard, Flaw> {
+        Ok(StatusCard {
+            row,
+            activity: read_code(fields.field(1))?,
+            finished: read_letter(fields.field(2))?,
+            day: read_date(fields.field(3))?,
+        })
+    }
+}

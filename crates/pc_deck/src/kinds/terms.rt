@@ -1,0 +1,63 @@
+//! TERMS: what time costs.
+ghost use Rattle.pc_deck.specs.Terms.{terms_slots, terms_of};
+
+use crate::card::Card;
+use crate::field::{Flaw, read_amount};
+use crate::form::{Form, Slot};
+use pc_model::MAX_TERMS;
+use pc_records::Row;
+
+/// The TERMS card: what a unit of time costs, and what is paid for an early end or for a late one, in amounts of money
+/// for each unit.
+#[derive(Clone, Copy, Debug)]
+pub struct TermsCard {
+    pub row: u32,
+    /// What each unit of the project's length costs.
+    pub overhead: u64,
+    /// The length, in units, from which on an end is late.
+    pub target: u64,
+    /// What is gained for each unit before the target.
+    pub bonus: u64,
+    /// What is lost for each unit behind the target.
+    pub penalty: u64,
+}
+
+/// One of the four numbers.
+const TERM: Form = Form::Number {
+    least: 0,
+    most: MAX_TERMS,
+};
+
+const SLOTS: [Slot; 4] = [(2, TERM), (3, TERM), (4, TERM), (5, TERM)];
+
+impl Card for TermsCard {
+    ghost slots = { terms_slots };
+
+    ghost least = { 5 };
+
+    ghost most = { 5 };
+
+    ghost spelled = { terms_of };
+
+    fn slots() -> &'static [Slot] {
+        &SLOTS
+    }
+
+    fn least_width() -> usize {
+        5
+    }
+
+    fn width() -> usize {
+        5
+    }
+
+    fn read(row: u32, fields: &Row) -> Result<TermsCard, Flaw> {
+        Ok(TermsCard {
+            row,
+            overhead: read_amount(fields.field(1), 0, MAX_TERMS)?,
+            target: read_amount(fields.field(2), 0, MAX_TERMS)?,
+            bonus: read_amount(fields.field(3), 0, MAX_TERMS)?,
+            penalty: read_amount(fields.field(4), 0, MAX_TERMS)?,
+        })
+    }
+}

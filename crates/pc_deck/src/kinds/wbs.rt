@@ -1,0 +1,61 @@
+//! WBS: an item of the work breakdown structure.
+ghost use Rattle.std.specs.Prelude.{refl};
+ghost use Rattle.pc_deck.specs.Wbs.{item_slots, item_of};
+
+use crate::card::{Card, Coded};
+use crate::field::{Flaw, read_code, read_code_or_none, read_title};
+use crate::form::{Form, Slot};
+use pc_records::Row;
+use pc_text::{Code, Title};
+
+/// A WBS card: an item of the work breakdown structure. The top item has no parent.
+#[derive(Clone, Copy, Debug)]
+pub struct ItemCard {
+    pub row: u32,
+    pub code: Code,
+    pub parent: Option<Code>,
+    pub title: Title,
+}
+
+const SLOTS: [Slot; 3] = [(2, Form::Code), (3, Form::CodeOrNone), (4, Form::Title)];
+
+impl Card for ItemCard {
+    ghost slots = { item_slots };
+
+    ghost least = { 4 };
+
+    ghost most = { 4 };
+
+    ghost spelled = { item_of };
+
+    fn slots() -> &'static [Slot] {
+        &SLOTS
+    }
+
+    fn least_width() -> usize {
+        4
+    }
+
+    fn width() -> usize {
+        4
+    }
+
+    fn read(row: u32, fields: &Row) -> Result<ItemCard, Flaw> {
+        Ok(ItemCard {
+            row,
+            code: read_code(fields.field(1))?,
+            parent: read_code_or_none(fields.field(2))?,
+            title: read_title(fields.field(3))?,
+        })
+    }
+}
+
+impl Coded for ItemCard {
+    ghost own_code = { λ item. item.code };
+
+    fn code(&self) -> &Code {
+        &self.code
+    }
+
+    ghost second_field = { λ row fields. refl };
+}

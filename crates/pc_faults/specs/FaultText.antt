@@ -1,0 +1,154 @@
+-- The line that tells a fault.
+use Rattle.std.specs.Prelude.{◌≡◌, ℕ, Bool, true, false, ◌==◌, List, [], ◌∷◌, ◌++◌, codes, decimal, if◌then◌else◌}
+use Rattle.std.specs.List.{list_any}
+use Rattle.pc_days.specs.Calendar.{text_of_day}
+use Rattle.pc_faults.specs.Kinds.{word_of}
+use Rattle.pc_faults.specs.declared.status.StatusFault.{StatusFault}
+use Rattle.pc_faults.specs.declared.status.StatusFault.TheVariants as reason
+use Rattle.pc_faults.specs.declared.fault.Detail.{Detail}
+use Rattle.pc_faults.specs.declared.fault.Detail.TheVariants.{Plain, Kind, Fields, Field, Name, TooMany, Names, Level, Side, Sums, Status, ToGo, Length, Periods}
+use Rattle.pc_faults.specs.declared.fault.Fault.{Fault}
+
+-- the numbers of the faults that name nothing
+abbrev pub plain_numbers : List ℕ
+plain_numbers = 1 ∷ 2 ∷ 3 ∷ 4 ∷ 11 ∷ 12 ∷ 18 ∷ 19 ∷ 20 ∷ 36 ∷ 37 ∷ 39 ∷ []
+
+-- the numbers of the faults that name a code alone
+abbrev pub name_numbers : List ℕ
+name_numbers = 9 ∷ 13 ∷ 14 ∷ 15 ∷ 16 ∷ 17 ∷ 21 ∷ 24 ∷ 25 ∷ 28 ∷ 33 ∷ 34 ∷ 35 ∷ 41 ∷ []
+
+-- the numbers of the faults that name several codes
+abbrev pub list_numbers : List ℕ
+list_numbers = 22 ∷ 27 ∷ 38 ∷ []
+
+-- the numbers of the faults that go with a detail
+abbrev pub numbers_of : Detail → List ℕ
+numbers_of Plain = plain_numbers
+numbers_of (Kind kind) = 5 ∷ []
+numbers_of (Fields kind have want) = 6 ∷ []
+numbers_of (Field field) = 7 ∷ 8 ∷ []
+numbers_of (Name code) = name_numbers
+numbers_of (TooMany kind limit) = 10 ∷ []
+numbers_of (Names names) = list_numbers
+numbers_of (Level name level) = 23 ∷ []
+numbers_of (Side name entered) = 26 ∷ []
+numbers_of (Sums name budgets costs) = 29 ∷ []
+numbers_of (Status reason) = 30 ∷ []
+numbers_of (ToGo account day) = 31 ∷ []
+numbers_of (Length asked crash normal) = 32 ∷ []
+numbers_of (Periods have) = 40 ∷ []
+
+-- the number is one of those
+abbrev pub IsNumber : List ℕ → ℕ → Type 0
+IsNumber numbers number = list_any (λ n. n == number) numbers ≡ true
+
+-- the number and the detail of the fault go together
+abbrev pub IsTold : Fault → Type 0
+IsTold fault = IsNumber (numbers_of fault.detail) fault.number
+
+-- what is wrong, where a fault names nothing
+abbrev pub plain_words : ℕ → List ℕ
+plain_words number =
+    if number == 1 then codes "more than 67108864 bytes"
+    else if number == 2 then codes "not UTF-8"
+    else if number == 3 then codes "first card is not PROJECT"
+    else if number == 4 then codes "unknown kind"
+    else if number == 11 then codes "card after END"
+    else if number == 12 then codes "no END"
+    else if number == 18 then codes "estimates out of order"
+    else if number == 19 then codes "crash above normal"
+    else if number == 20 then codes "no top item"
+    else if number == 36 then codes "bonus above penalty"
+    else if number == 37 then codes "top item has no child"
+    else if number == 39 then codes "no task"
+    else []
+
+-- what is wrong with a field
+abbrev pub field_words : ℕ → List ℕ
+field_words number =
+    if number == 7 then codes " has a wrong shape"
+    else if number == 8 then codes " is over its limit"
+    else []
+
+-- what stands before the code that a fault names
+abbrev pub words_before : ℕ → List ℕ
+words_before number =
+    if number == 9 then codes "code "
+    else if number == 13 then codes "unknown event "
+    else if number == 14 then codes "unknown item "
+    else if number == 15 then codes "unknown account "
+    else if number == 16 then codes "unknown activity "
+    else if number == 17 then codes "begins and ends at "
+    else if number == 21 then codes "second top item "
+    else if number == 24 then codes "activity "
+    else if number == 25 then codes "activity "
+    else if number == 28 then codes "item "
+    else if number == 33 then codes "more than 4 pieces of "
+    else if number == 34 then codes "slope of a piece of "
+    else if number == 35 then codes "pieces of "
+    else if number == 41 then codes "unknown resource "
+    else []
+
+-- what stands behind the code that a fault names, where anything does
+abbrev pub words_behind : ℕ → List ℕ
+words_behind number =
+    if number == 9 then codes " is repeated"
+    else if number == 24 then codes " enters the start"
+    else if number == 25 then codes " leaves the end"
+    else if number == 28 then codes " is not a leaf"
+    else if number == 34 then codes " does not rise"
+    else if number == 35 then codes " leave nothing to its first slope"
+    else []
+
+-- what stands before several codes
+abbrev pub listed_words : ℕ → List ℕ
+listed_words number =
+    if number == 22 then codes "items in a loop: "
+    else if number == 27 then codes "activities in a cycle: "
+    else if number == 38 then codes "tasks in a cycle: "
+    else []
+
+-- what stands before an event, by whether an activity enters it
+abbrev pub side_words : Bool → List ℕ
+side_words true = codes "no activity leaves "
+side_words false = codes "no activity enters "
+
+-- what is wrong with a STATUS or ASOF card
+abbrev pub status_words : StatusFault → List ℕ
+status_words reason.Second = codes "second status"
+status_words reason.Early = codes "date before the start"
+status_words reason.Late = codes "date after as-of"
+status_words reason.NoStart = codes "finish without start"
+status_words reason.FinishFirst = codes "finish before start"
+
+-- each code behind a space
+abbrev pub spaced : List (List ℕ) → List ℕ
+spaced [] = []
+spaced (code ∷ rest) = codes " " ++ code ++ spaced rest
+
+-- the codes, with a space between one and the next
+abbrev pub joined : List (List ℕ) → List ℕ
+joined [] = []
+joined (code ∷ rest) = code ++ spaced rest
+
+-- what is wrong
+abbrev pub words_of : ℕ → Detail → List ℕ
+words_of number Plain = plain_words number
+words_of number (Kind kind) = codes "second " ++ word_of kind
+words_of number (Fields kind have want) = decimal have ++ codes " fields, " ++ word_of kind ++ codes " has " ++ decimal want
+words_of number (Field field) = codes "field " ++ decimal field ++ field_words number
+words_of number (Name code) = words_before number ++ code ++ words_behind number
+words_of number (TooMany kind limit) = codes "more than " ++ decimal limit ++ codes " " ++ word_of kind ++ codes " cards"
+words_of number (Names names) = listed_words number ++ joined names
+words_of number (Level name level) = codes "item " ++ name ++ codes " at level " ++ decimal level
+words_of number (Side name entered) = side_words entered ++ name
+words_of number (Sums name budgets costs) = codes "item " ++ name ++ codes " has budgets " ++ decimal budgets ++ codes " and costs " ++ decimal costs
+words_of number (Status reason) = status_words reason
+words_of number (ToGo account day) = codes "second TOGO of " ++ account ++ codes " on " ++ text_of_day day
+words_of number (Length asked crash normal) = codes "length " ++ decimal asked ++ codes " is outside " ++ decimal crash ++ codes " to " ++ decimal normal
+words_of number (Periods have) = decimal have ++ codes " periods, more than 400"
+
+-- `F<number> record <row>: <words>`, and a line feed (10)
+abbrev pub fault_text : Fault → List ℕ
+fault_text fault =
+    codes "F" ++ decimal fault.number ++ codes " record " ++ decimal fault.row ++ codes ": " ++ words_of fault.number fault.detail ++ 10 ∷ []

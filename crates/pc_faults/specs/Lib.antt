@@ -1,0 +1,5 @@
+pub mod Kinds
+pub mod Faults
+pub mod First
+pub mod FaultText
+pub mod FaultRoom

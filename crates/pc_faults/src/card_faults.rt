@@ -1,0 +1,119 @@
+//! The faults of single cards (F3 to F12).
+ghost use Rattle.std.specs.Prelude.{◌≡◌};
+ghost use Rattle.pc_faults.specs.Faults.{first_not_project, unknown_kind, second_card, wrong_fields, misshapen, over_limit, repeated_code, too_many, behind_end, no_end};
+
+use crate::fault::{Detail, Fault};
+use crate::kind::Kind;
+use pc_text::Code;
+
+impl Fault {
+    /// F3: the first card is not PROJECT.
+    pub fn first_not_project(row: u32) -> Fault
+        ensures { result ≡ first_not_project row }
+    {
+        Fault {
+            row,
+            number: 3,
+            detail: Detail::Plain,
+        }
+    }
+
+    /// F4: the first field names no kind.
+    pub fn unknown_kind(row: u32) -> Fault
+        ensures { result ≡ unknown_kind row }
+    {
+        Fault {
+            row,
+            number: 4,
+            detail: Detail::Plain,
+        }
+    }
+
+    /// F5: a second card of a kind that stands once.
+    pub fn second_card(row: u32, kind: Kind) -> Fault
+        ensures { result ≡ second_card row kind }
+    {
+        Fault {
+            row,
+            number: 5,
+            detail: Detail::Kind(kind),
+        }
+    }
+
+    /// F6: too few fields, or a further one that is not empty.
+    pub fn wrong_fields(row: u32, kind: Kind, have: u64, want: u64) -> Fault
+        ensures { result ≡ wrong_fields row kind have want }
+    {
+        Fault {
+            row,
+            number: 6,
+            detail: Detail::Fields { kind, have, want },
+        }
+    }
+
+    /// F7: a field of a wrong shape.
+    pub fn misshapen(row: u32, field: u8) -> Fault
+        ensures { result ≡ misshapen row field }
+    {
+        Fault {
+            row,
+            number: 7,
+            detail: Detail::Field(field),
+        }
+    }
+
+    /// F8: a field over its limit.
+    pub fn over_limit(row: u32, field: u8) -> Fault
+        ensures { result ≡ over_limit row field }
+    {
+        Fault {
+            row,
+            number: 8,
+            detail: Detail::Field(field),
+        }
+    }
+
+    /// F9: a code that an earlier card of the kind has.
+    pub fn repeated_code(row: u32, code: Code) -> Fault
+        ensures { result ≡ repeated_code row code }
+    {
+        Fault {
+            row,
+            number: 9,
+            detail: Detail::Name(code),
+        }
+    }
+
+    /// F10: the first card past the limit of its kind.
+    pub fn too_many(row: u32, kind: Kind, limit: u64) -> Fault
+        ensures { result ≡ too_many row kind limit }
+    {
+        Fault {
+            row,
+            number: 10,
+            detail: Detail::TooMany { kind, limit },
+        }
+    }
+
+    /// F11: a card behind the END card.
+    pub fn behind_end(row: u32) -> Fault
+        ensures { result ≡ behind_end row }
+    {
+        Fault {
+            row,
+            number: 11,
+            detail: Detail::Plain,
+        }
+    }
+
+    /// F12: no END card; `row` is the number behind the last record.
+    pub fn no_end(row: u32) -> Fault
+        ensures { result ≡ no_end row }
+    {
+        Fault {
+            row,
+            number: 12,
+            detail: Detail::Plain,
+        }
+    }
+}

@@ -1,0 +1,47 @@
+//! The kinds of cards.
+ghost use Rattle.std.specs.Prelude.{◌≡◌, ◌≤◌, length};
+ghost use Rattle.pc_faults.specs.Kinds.{word_of};
+
+/// What a card is, as its first field says.
+#[derive(Clone, Copy, Debug, PartialEq, Eq)]
+pub enum Kind {
+    Project,
+    AsOf,
+    Terms,
+    Wbs,
+    Event,
+    Act,
+    Piece,
+    Acct,
+    Charge,
+    ToGo,
+    Status,
+    Res,
+    Load,
+    End,
+}
+
+impl Kind {
+    /// The word that names the kind.
+    pub fn word(self) -> &'static [u8]
+        ensures word { result.now ≡ word_of self }
+        ensures short { length result.now ≤ 7 }
+    {
+        match self {
+            Kind::Project => b"PROJECT",
+            Kind::AsOf => b"ASOF",
+            Kind::Terms => b"TERMS",
+            Kind::Wbs => b"WBS",
+            Kind::Event => b"EVENT",
+            Kind::Act => b"ACT",
+            Kind::Piece => b"PIECE",
+            Kind::Acct => b"ACCT",
+            Kind::Charge => b"CHARGE",
+            Kind::ToGo => b"TOGO",
+            Kind::Status => b"STATUS",
+            Kind::Res => b"RES",
+            Kind::Load => b"LOAD",
+            Kind::End => b"END",
+        }
+    }
+}

@@ -1,0 +1,23 @@
+//! The faults with which a deck is refused, and the line that tells each.
+//!
+//! A fault has a number, the record at which it comes, and what it names beside. [`Fault`] has a constructor for each
+//! number, and [`fault_line`] writes the line. Which fault a deck has is for the crates above to say.
+#![tactic(auto)]
+
+mod card_faults;
+mod fault;
+mod joined;
+mod kind;
+mod plan_faults;
+mod project_faults;
+mod status;
+mod tell;
+mod words;
+
+pub use crate::fault::{DeckError, Detail, Fault, NOT_UTF8, TOO_LONG};
+pub use crate::kind::Kind;
+pub use crate::status::StatusFault;
+pub use crate::tell::fault_line;
+
+#[cfg(test)]
+mod tests;

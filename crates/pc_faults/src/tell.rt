@@ -1,0 +1,176 @@
+//! The line that tells a fault.
+ghost use Rattle.std.specs.Prelude.{◌≡◌, ◌<◌, ◌≤◌, ◌+◌, ◌*◌, ◌^◌, ◌++◌, length, IfOk};
+ghost use Rattle.pc_faults.specs.FaultText.{IsNumber, IsTold, numbers_of, words_of, fault_text};
+ghost use Rattle.pc_faults.specs.FaultRoom.{listed_in, words_limit};
+ghost use Rattle.pc_faults.specs.declared.fault.Detail.TheVariants as detail;
+
+use crate::fault::{Detail, Fault};
+use crate::joined::tell_joined;
+use crate::kind::Kind;
+use crate::words::{
+    field_words, listed_words, plain_words, side_words, words_before, words_behind,
+};
+use pc_days::day_text;
+use pc_text::{Code, Line, digits};
+use std::alloc::{AllocError, Global};
+
+/// Room for the longest line of a fault that lists no codes.
+const ROOM: usize = 144;
+
+/// Room for a code and the space before it.
+const CODE_ROOM: usize = 17;
+
+/// The line that tells a fault, line feed included. Asks for a fault that a deck can be refused with.
+///
+/// Its room is taken once, for as many codes as the fault lists.
+pub fn fault_line(alloc: Global, fault: &Fault) -> Result<Line, AllocError>
+    requires { IsTold fault.now }
+    ensures { IfOk result (λ line. line.bytes ≡ fault_text fault.now) }
+{
+    let mut line = Line::with_room(alloc, ROOM + CODE_ROOM * listed_in(&fault.detail))?;
+    line.text(b"F");
+    line.text(digits(u64::from(fault.number)).bytes());
+    line.text(b" record ");
+    line.text(digits(u64::from(fault.row)).bytes());
+    line.text(b": ");
+    tell(&mut line, fault.number, &fault.detail);
+    line.text(b"\n");
+    Ok(line)
+}
+
+/// How many codes the fault lists.
+fn listed_in(detail: &Detail) -> usize
+    ensures count { result ≡ listed_in detail.now }
+    ensures few { 17 * result < 2 ^ 63 }
+{
+    match detail {
+        Detail::Names(names) => names.as_slice().len(),
+        Detail::Plain
+        | Detail::Kind(_)
+        | Detail::Fields { .. }
+        | Detail::Field(_)
+        | Detail::Name(_)
+        | Detail::TooMany { .. }
+        | Detail::Level { .. }
+        | Detail::Side { .. }
+        | Detail::Sums { .. }
+        | Detail::Status(_)
+        | Detail::ToGo { .. }
+        | Detail::Length { .. }
+        | Detail::Periods { .. } => 0,
+    }
+}
+
+/// Appends what is wrong.
+fn tell(line: &mut Line, number: u8, detail: &Detail)
+    requires told { IsNumber (numbers_of detail.now) number }
+    requires room { length line.old.bytes + words_limit detail.now ≤ line.old.room }
+    ensures bytes { line.new.bytes ≡ line.old.bytes ++ words_of number detail.now }
+    ensures room { line.new.room ≡ line.old.room }
+    ensures short { length line.new.bytes ≤ length line.old.bytes + words_limit detail.now }
+{
+    match detail {
+        Detail::Plain => line.text(plain_words(number)),
+        Detail::Kind(kind) => {
+            line.text(b"second ");
+            line.text(kind.word());
+        }
+        Detail::Fields { kind, have, want } => tell_fields(line, *kind, *have, *want),
+        Detail::Field(field) => {
+            line.text(b"field ");
+            line.text(digits(u64::from(*field)).bytes());
+            line.text(field_words(number));
+        }
+        Detail::Name(code) => {
+            line.text(words_before(number));
+            line.text(code.bytes());
+            line.text(words_behind(number));
+        }
+        Detail::TooMany { kind, limit } => {
+            line.text(b"more than ");
+            line.text(digits(*limit).bytes());
+            line.text(b" ");
+            line.text(kind.word());
+            line.text(b" cards");
+        }
+        Detail::Names(names) => {
+            line.text(listed_words(number));
+            tell_joined(line, names.as_slice());
+        }
+        Detail::Level { name, level } => {
+            line.text(b"item ");
+            line.text(name.bytes());
+            line.text(b" at level ");
+            line.text(digits(u64::from(*level)).bytes());
+        }
+        Detail::Side { name, entered } => {
+            line.text(side_words(*entered));
+            line.text(name.bytes());
+        }
+        Detail::Sums {
+            name,
+            budgets,
+            costs,
+        } => tell_sums(line, name, *budgets, *costs),
+        Detail::Status(reason) => line.text(reason.words()),
+        Detail::ToGo { account, day } => {
+            line.text(b"second TOGO of ");
+            line.text(account.bytes());
+            line.text(b" on ");
+            line.text(&day_text(*day));
+        }
+        Detail::Length {
+            asked,
+            crash,
+            normal,
+        } => tell_length(line, *asked, *crash, *normal),
+        Detail::Periods { have } => {
+            line.text(digits(*have).bytes());
+            line.text(b" periods, more than 400");
+        }
+    }
+}
+
+/// Appends how many fields a record has and should have.
+fn tell_fields(line: &mut Line, kind: Kind, have: u64, want: u64)
+    requires { length line.old.bytes + 90 ≤ line.old.room }
+    ensures bytes { line.new.bytes ≡ line.old.bytes ++ words_of 6 (detail.Fields kind have want) }
+    ensures room { line.new.room ≡ line.old.room }
+    ensures short { length line.new.bytes ≤ length line.old.bytes + 90 }
+{
+    line.text(digits(have).bytes());
+    line.text(b" fields, ");
+    line.text(kind.word());
+    line.text(b" has ");
+    line.text(digits(want).bytes());
+}
+
+/// Appends the two sums of an item that should be equal.
+fn tell_sums(line: &mut Line, name: &Code, budgets: u64, costs: u64)
+    requires { length line.old.bytes + 90 ≤ line.old.room }
+    ensures bytes { line.new.bytes ≡ line.old.bytes ++ words_of 29 (detail.Sums name.now budgets costs) }
+    ensures room { line.new.room ≡ line.old.room }
+    ensures short { length line.new.bytes ≤ length line.old.bytes + 90 }
+{
+    line.text(b"item ");
+    line.text(name.bytes());
+    line.text(b" has budgets ");
+    line.text(digits(budgets).bytes());
+    line.text(b" and costs ");
+    line.text(digits(costs).bytes());
+}
+
+/// Appends the length that was asked for, and the range in which it is not.
+fn tell_length(line: &mut Line, asked: u64, crash: u64, normal: u64)
+    requires { length line.old.bytes + 90 ≤ line.old.room }
+    ensures bytes { line.new.bytes ≡ line.old.bytes ++ words_of 32 (detail.Length asked crash normal) }
+    ensures room { line.new.room ≡ line.old.room }
+    ensures short { length line.new.bytes ≤ length line.old.bytes + 90 }
+{
+    line.text(b"length ");
+    line.text(digits(asked).bytes());
+    line.text(b" is outside ");
+    line.text(digits(crash).bytes());
+    line.text(b" to ");
+    line.text(digits(normal).bytes());
+}

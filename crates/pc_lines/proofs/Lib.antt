@@ -1,0 +1,6 @@
+pub mod NumberLemmas
+pub mod FieldLemmas
+pub mod FlowsLemmas
+pub mod LineLaws
+pub mod LineLengths
+pub mod TextLaws

@@ -1,0 +1,59 @@
+//! The flows of an activity.
+ghost use Rattle.std.specs.Prelude.{◌≡◌, ◌<◌, ◌≤◌, [], ◌∷◌, ◌++◌, length};
+
+use std::marker::Model;
+
+/// The most flows that an activity has: one for each of its knees, of which there are at most five, and one beside them.
+pub const MAX_FLOWS: usize = 6;
+
+/// The flows of an activity: one for each of its knees, from the first on, and then the one beside them. At most six.
+#[derive(Clone, Copy, Debug)]
+pub struct Flows {
+    cells: [u64; MAX_FLOWS],
+    len: usize,
+}
+
+impl Model for Flows {
+    ghost use Rattle.std.specs.Prelude.{◌≡◌, ℕ, List, length, take};
+    ghost use Rattle.std.proofs.Common.{sym};
+    ghost use Rattle.pc_text.specs.Words.{padded, IsPadded, length-IsPadded};
+
+    ghost Value = { List ℕ };
+
+    ghost view = { λ s. take s.len s.cells };
+
+    ghost invariant = { λ s. IsPadded 6 s.len s.cells };
+
+    ghost inverse = { λ flows. record { cells = padded 6 flows; len = length flows } };
+
+    ghost inverse_ok = { λ s h i. record { cells = sym h.zeros i; len = length-IsPadded h i } };
+}
+
+impl Flows {
+    /// No flows.
+    pub fn new() -> Flows
+        ensures { result ≡ [] }
+    {
+        Flows {
+            cells: [0; MAX_FLOWS],
+            len: 0,
+        }
+    }
+
+    /// The flows, in order.
+    pub fn as_slice(&self) -> &[u64]
+        ensures value { result.now ≡ self.now }
+        ensures few { length self.now ≤ MAX_FLOWS }
+    {
+        &self.cells[..self.len]
+    }
+
+    /// Adds a flow behind the others.
+    pub fn push(&mut self, flow: u64)
+        requires { length self.old < MAX_FLOWS }
+        ensures { self.new ≡ self.old ++ flow ∷ [] }
+    {
+        self.cells[self.len] = flow;
+        self.len += 1;
+    }
+}

@@ -1,0 +1,3 @@
+-- Laws of durations and schedules.
+pub mod Durations
+pub mod Shortest

@@ -1,0 +1,2 @@
+-- The small deck worked through by hand.
+pub mod SmallDeck

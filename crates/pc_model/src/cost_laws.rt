@@ -1,0 +1,75 @@
+//! What shortening an activity costs, and the least cost of a schedule for a length.
+//!
+//! Each function here does nothing: its contract is the law, proved once, and a caller that calls it has the law
+//! as a fact.
+
+ghost use Rattle.std.specs.Prelude.{◌≡◌, ◌≤◌, ◌<◌, ◌+◌, ◌-◌, ◌*◌, ℕ, List, [], length};
+ghost use Rattle.pc_model.specs.declared.Term.{Term};
+ghost use Rattle.pc_model.specs.declared.PieceRow.{PieceRow};
+ghost use Rattle.pc_model.specs.Sums.{sum_to};
+ghost use Rattle.pc_model.specs.Network.{Network, IsInRange, IsSound, IsEarly};
+ghost use Rattle.pc_model.specs.Schedule.{
+  term_at,
+  normal_of,
+  normals,
+  base_cost_of,
+  slope_of,
+  AreTerms,
+  IsAllNormalLength,
+};
+ghost use Rattle.pc_model.specs.Cost.{
+  Knees,
+  AreKnees,
+  one_knee,
+  activity_cost,
+  cost_of,
+  last_slope,
+  IsLeastCost,
+};
+ghost use Rattle.pc_model.specs.Pieces.{pieces_of, slope_in, knees_of, ArePieces};
+
+/// Pieces make knees that fit the terms, and so does the one knee of a cost with one slope; the last slope is that of
+/// the last piece.
+pub fn pieces_make_knees()
+    ensures fit { (net : Network) (terms : List Term) (pieces : List PieceRow) →
+        AreTerms net terms → ArePieces terms pieces → AreKnees net terms (knees_of terms pieces) }
+    ensures one { (net : Network) (terms : List Term) → AreTerms net terms → AreKnees net terms (one_knee terms) }
+    ensures last { (terms : List Term) (pieces : List PieceRow) (a : ℕ) → ArePieces terms pieces → a < length terms →
+        last_slope (knees_of terms pieces) a ≡ slope_in (term_at terms a) (pieces_of pieces a) (length (pieces_of pieces a)) }
+{}
+
+/// A unit by which a duration is shortened costs the slope of the piece in which it lies: piece `k` lies below knee `k`,
+/// down to the next knee or to crash. At their normal durations the activities cost what is said of them. Without
+/// pieces, or with one knee, each unit below normal costs the slope.
+pub fn a_unit_costs_its_slope()
+    ensures piece { (net : Network) (terms : List Term) (pieces : List PieceRow) (a d k : ℕ) → AreTerms net terms → ArePieces terms pieces →
+        a < length net.arcs → k ≤ length (pieces_of pieces a) → d < (knees_of terms pieces).knee a k →
+        (k < length (pieces_of pieces a) → (knees_of terms pieces).knee a (k + 1) ≤ d) →
+        activity_cost terms (knees_of terms pieces) a d
+        ≡ activity_cost terms (knees_of terms pieces) a (d + 1) + slope_in (term_at terms a) (pieces_of pieces a) k }
+    ensures normal { (net : Network) (terms : List Term) (knees : Knees) → AreTerms net terms → AreKnees net terms knees →
+        cost_of terms knees (normal_of terms) ≡ sum_to (length terms) (base_cost_of terms) }
+    ensures plain { (terms : List Term) (a d : ℕ) →
+        activity_cost terms (knees_of terms []) a d ≡ base_cost_of terms a + slope_of terms a * (normal_of terms a - d) }
+    ensures one { (terms : List Term) (a d : ℕ) →
+        activity_cost terms (one_knee terms) a d ≡ base_cost_of terms a + slope_of terms a * (normal_of terms a - d) }
+{}
+
+/// A length has one least cost, a longer one costs no more, and of three lengths in a row the middle one costs at most
+/// the mean of the outer ones.
+pub fn least_cost_is_convex()
+    ensures unique { (net : Network) (terms : List Term) (knees : Knees) (limit a b : ℕ) →
+        IsLeastCost net terms knees limit a → IsLeastCost net terms knees limit b → a ≡ b }
+    ensures falls { (net : Network) (terms : List Term) (knees : Knees) (short long a b : ℕ) → short ≤ long →
+        IsLeastCost net terms knees short a → IsLeastCost net terms knees long b → b ≤ a }
+    ensures convex { (net : Network) (terms : List Term) (knees : Knees) (limit a b c : ℕ) → AreTerms net terms → AreKnees net terms knees →
+        IsLeastCost net terms knees limit a → IsLeastCost net terms knees (limit + 1) b →
+        IsLeastCost net terms knees (limit + 2) c → 2 * b ≤ a + c }
+{}
+
+/// At the all-normal length no schedule costs less than the normal durations.
+pub fn normal_durations_are_cheapest()
+    ensures { (net : Network) (terms : List Term) (knees : Knees) (times : ℕ → ℕ) (limit : ℕ) →
+        IsInRange net → IsSound net → AreTerms net terms → ((e : ℕ) → e < net.events → IsEarly net (normals terms) e (times e)) →
+        IsAllNormalLength net terms limit → IsLeastCost net terms knees limit (cost_of terms knees (normal_of terms)) }
+{}

@@ -1,0 +1,18 @@
+-- What the cards of a deck name, by numbers, where no card has a fault.
+use Rattle.std.specs.Prelude.{◌≡◌, ◌≤◌, length, map}
+use Rattle.pc_model.specs.declared.limits.TheConstants.{MAX_ITEMS}
+use Rattle.pc_deck.specs.Deck.{Deck}
+use Rattle.pc_project.specs.declared.numbers.Numbers.{Numbers}
+use Rattle.pc_project.specs.Misfit.{HasNoMisfit}
+use Rattle.pc_project.specs.Project.{load_of, network_of, pieces_in, placement_of, rows_of}
+
+-- the numbers are those of the deck, of which no card has a fault
+pub record AreNumbersOf (deck : Deck) (numbers : Numbers) : Type 0 where
+  pub faultless : HasNoMisfit deck
+  pub start : numbers.ends.start ≡ (network_of deck).start
+  pub end : numbers.ends.end ≡ (network_of deck).end
+  pub rows : numbers.rows.items ≡ rows_of deck
+  pub few : length numbers.rows.items ≤ MAX_ITEMS
+  pub placements : numbers.placements.items ≡ map (placement_of deck) deck.acts
+  pub pieces : numbers.pieces.items ≡ pieces_in deck
+  pub loads : numbers.loads.items ≡ map (load_of deck) deck.loads

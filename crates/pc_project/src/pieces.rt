@@ -1,0 +1,93 @@
+//! The pieces of the activities' costs, or why they are none.
+ghost use Rattle.std.specs.Prelude.{◌≡◌, ◌+◌, ◌^◌, ◌<◌, OnOk, IfOk, IfErr, map};
+ghost use Rattle.pc_faults.specs.First.{Refuses, IsFirst};
+ghost use Rattle.pc_project.specs.First.{IsFirstIn};
+ghost use Rattle.pc_project.specs.Misfit.{HasNoMisfit};
+ghost use Rattle.pc_project.specs.Numbered.{AreNumbersOf};
+ghost use Rattle.pc_project.specs.PieceFaults.{HasFlaw, HasNoPieceFault, HasPieceFault};
+ghost use Rattle.pc_project.specs.Project.{pieces_in, term_of};
+
+use crate::first::earliest;
+use crate::numbers::Numbers;
+use pc_deck::{ActCard, Cards, PieceCard};
+use pc_faults::{DeckError, Fault};
+use pc_model::{MAX_PIECES_EACH, PieceRow};
+use std::alloc::{AllocError, Global};
+
+/// What the pieces of one activity come to, as far as they were read: how many there are, what the last of them costs
+/// for each unit, or else the activity itself, and how many units they have.
+#[derive(Clone, Copy, Debug)]
+pub(crate) struct Run {
+    pub count: usize,
+    pub slope: u64,
+    pub units: u64,
+}
+
+/// Answers the first fault of the pieces, if they have one (F33 to F35).
+pub(crate) fn check_pieces(alloc: Global, cards: &Cards, numbers: &Numbers) -> Result<(), DeckError>
+    requires { AreNumbersOf cards.now numbers.now }
+    ensures faultless { OnOk result (HasNoPieceFault cards.now) }
+    ensures first { IfErr result (Refuses (IsFirst (HasPieceFault cards.now))) }
+{
+    match first_piece_fault(alloc, cards, &numbers.pieces) {
+        Ok(None) => Ok(()),
+        Ok(Some(fault)) => Err(DeckError::Fault(fault)),
+        Err(_) => Err(DeckError::OutOfMemory),
+    }
+}
+
+/// The first fault of the pieces. One pass.
+fn first_piece_fault(
+    alloc: Global,
+    cards: &Cards,
+    pieces: &[PieceRow],
+) -> Result<Option<Fault>, AllocError>
+    requires numbers { pieces.now ≡ pieces_in cards.now }
+    requires faultless { HasNoMisfit cards.now }
+    ensures { IfOk result (IsFirstIn (HasPieceFault cards.now)) }
+{
+    let acts = cards.acts();
+    let mut runs = first_runs(alloc, acts)?;
+    let mut fault = None;
+    for (i, card) in cards.pieces().iter().enumerate() {
+        let piece = pieces[i];
+        let activity = piece.activity as usize;
+        let run = runs[activity];
+        fault = earliest(fault, flaw(&acts[activity], run, piece, card));
+        runs[activity] = Run {
+            count: run.count + 1,
+            slope: piece.slope,
+            units: run.units + piece.units,
+        };
+    }
+    Ok(fault)
+}
+
+/// What the activities come to before any piece.
+fn first_runs(alloc: Global, acts: &[ActCard]) -> Result<Vec<Run>, AllocError>
+    ensures { IfOk result (λ runs. runs.items ≡ map (λ act. record { count = 0; slope = act.slope; units = 0 }) acts.now) }
+{
+    acts.iter()
+        .map(|act| Run {
+            count: 0,
+            slope: act.slope,
+            units: 0,
+        })
+        .collect(alloc)
+}
+
+/// The first fault of a piece, which a card gives, behind those of its activity that were read.
+fn flaw(act: &ActCard, run: Run, piece: PieceRow, card: &PieceCard) -> Option<Fault>
+    requires { act.now.crash + (run.units + piece.units) < 2 ^ 64 }
+    ensures { IsFirstIn (HasFlaw (term_of act.now) run.count run.slope run.units piece card.now.row card.now.activity) result }
+{
+    if MAX_PIECES_EACH <= run.count {
+        Some(Fault::too_many_pieces(card.row, card.activity))
+    } else if piece.slope <= run.slope {
+        Some(Fault::slope_not_rising(card.row, card.activity))
+    } else if act.normal <= act.crash + (run.units + piece.units) {
+        Some(Fault::nothing_left(card.row, card.activity))
+    } else {
+        None
+    }
+}

@@ -1,0 +1,5 @@
+pub mod SumLaws
+mod RollLaws
+mod PlacedLaws
+mod LineLaws
+mod WholeLaws

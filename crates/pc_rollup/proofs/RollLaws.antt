@@ -1,0 +1,319 @@
+-- How totals are gathered from the end of the preorder on.
+use Rattle.std.proofs.Common.{◌≡◌, ◌≢◌, ℕ, zero, suc, ◌+◌, ◌-◌, ◌<◌, ◌≤◌, ◌⊎◌, inl, inr, ⊎_elim, List, length, get_or, set, take, reverse, Option, Some, None, refl, sym, ap, ◌∙◌, subst, get_or-set_same, get_or-set_other, length-set, ◌^◌, FitsSigned, to_z, of_z, w64, arith}
+use Rattle.std.specs.Prelude.{ℤ, pos, ◌+ℤ◌, unsigned_abs, slice_index, sum_by}
+use Rattle.std.proofs.lemmas.Bool.{cases_eq, cases_order}
+use Rattle.std.proofs.lemmas.Int.{to_z-of_z, fits_signed_from_abs}
+use Rattle.std.proofs.lemmas.List.{length-reverse, get_or-reverse, get_or_default}
+use Rattle.std.proofs.lemmas.List.Sums.{sum_by_more}
+use Rattle.std.proofs.Math.Seq.{take-length}
+use Rattle.pc_model.specs.Sums.{sum_to}
+use Rattle.pc_wbs.specs.declared.row.ItemRow.{ItemRow}
+use Rattle.pc_wbs.specs.Climb.{parent_of, AreInRange, IsBelow, IsLeaf, IsTree}
+use Rattle.pc_wbs.specs.Preorder.{IsPreorder}
+use Rattle.pc_wbs.specs.Precedes.{IsUnder}
+use Rattle.pc_wbs.proofs.ClimbLaws.{IsBelow-self, IsBelow-parent}
+use Rattle.pc_wbs.proofs.PrecedesLaws.{IsBelow-trans, IsUnder-from, IsUnder-self, cases_below, cases_above, siblings_apart}
+use Rattle.pc_wbs.proofs.OrderLaws.{parent-inside, HasNoLoop-tree, under_child}
+use Rattle.pc_rollup.specs.Sums.{IsSumOver}
+use Rattle.pc_rollup.specs.Totals.{amount_at, AreAtLeaves, AreRolledUp}
+use Rattle.pc_rollup.proofs.SumLaws.{IsSumOver-same, IsSumOver-both, IsSumOver-one, IsSumOver-part, IsSumOver-bound}
+
+-- c is one of the last j of the order
+abbrev pub IsPassed : List ℕ → ℕ → ℕ → Type 0
+IsPassed order j c = (k : ℕ) × ((length order ≤ k + j) × (k < length order) × (slice_index order k ≡ c))
+
+-- x is y, or below a child of y that passed its total on
+abbrev pub IsGathered : List ItemRow → List ℕ → ℕ → ℕ → ℕ → Type 0
+IsGathered rows order j y x =
+    (x ≡ y) ⊎ ((c : ℕ) × ((parent_of rows c ≡ Some y) × IsBelow rows x c × IsPassed order j c))
+
+-- the last j of the order passed their totals on
+pub record AreGathered (rows : List ItemRow) (order : List ℕ) (j : ℕ) (amounts totals : List ℤ) : Type 0 where
+  pub one_each : length totals ≡ length rows
+  pub each : (y : ℕ) → y < length rows → IsSumOver (IsGathered rows order j y) (length rows) (amount_at amounts) (amount_at totals y)
+
+-- an item stands at one place
+pub same_place : (rows : List ItemRow) (order : List ℕ) (i k : ℕ) → IsPreorder rows order → i < length order → k < length order → slice_index order i ≡ slice_index order k → i ≡ k
+same_place rows order i k preorder lt less same =
+    ⊎_elim (λ e. e)
+    (λ apart. ⊎_elim (λ before. absurd (preorder.once i k before less same)) (λ behind. absurd (preorder.once k i behind lt (sym same))) apart)
+    (cases_order i k)
+
+-- the item from the end that a reversed order has
+pub place_from_end : (order : List ℕ) (k e : ℕ) → k < length (reverse order) → e ≡ get_or (reverse order) k e → (i : ℕ) × (i < length order) × (i + k + 1 ≡ length order) × (slice_index order i ≡ e)
+place_from_end order k e in_list is =
+    let all : length (reverse order) ≡ length order = length-reverse order in
+    let at : e ≡ get_or order (length order - 1 - k) e = is ∙ get_or-reverse order k e (omega arith) in
+    (length order - 1 - k, omega arith, omega arith, sym (at ∙ get_or_default order (length order - 1 - k) e 0 (omega arith)))
+
+-- one item more
+passed_more : (order : List ℕ) (i j c : ℕ) → i + j + 1 ≡ length order → IsPassed order (j + 1) c → (slice_index order i ≡ c) ⊎ IsPassed order j c
+passed_more order i j c place (k, (le, lt, e)) =
+    ⊎_elim (λ same. inl (ap (slice_index order) (sym same) ∙ e)) (λ apart. inr (k, (omega arith, lt, e))) (cases_eq k i)
+
+passed_keep : (order : List ℕ) (j c : ℕ) → IsPassed order j c → IsPassed order (j + 1) c
+passed_keep order j c (k, (le, lt, e)) = (k, (omega arith, lt, e))
+
+-- nothing has been passed on
+pub gathered_none : (rows : List ItemRow) (order : List ℕ) (amounts : List ℤ) → length amounts ≡ length rows → AreGathered rows order 0 amounts amounts
+gathered_none rows order amounts one_each = record {
+  one_each = one_each;
+  each = λ y lt. IsSumOver-same (λ x. x ≡ y) (IsGathered rows order 0 y) (length rows) (amount_at amounts) (amount_at amounts y) (λ x h e. inl e) (λ x h g. itself y x g) (IsSumOver-one (length rows) (amount_at amounts) y lt);
+}
+  where
+    itself : (y x : ℕ) → IsGathered rows order 0 y x → x ≡ y
+    itself y x (inl e) = e
+    itself y x (inr (c, (p, b, (k, (le, lt, e))))) = absurd (omega arith)
+
+-- below y or y itself is what is below some child of y or y
+below_child : (rows : List ItemRow) (x y : ℕ) → IsBelow rows x y → (x ≡ y) ⊎ ((c : ℕ) × ((parent_of rows c ≡ Some y) × IsBelow rows x c))
+below_child rows x y below =
+    ⊎_elim (λ same. inl same) (λ (p, (e, (k, h))). inr (under_child rows x y p k e h)) (cases_below rows x y below)
+
+from_child : (rows : List ItemRow) (x y c : ℕ) → parent_of rows c ≡ Some y → IsBelow rows x c → IsBelow rows x y
+from_child rows x y c e below =
+    IsBelow-trans rows x c y below (IsBelow-parent rows c y y e (IsBelow-self rows y))
+
+gathered-below : (rows : List ItemRow) (order : List ℕ) (j y x : ℕ) → IsGathered rows order j y x → IsBelow rows x y
+gathered-below rows order j y x (inl e) = rw e (IsBelow-self rows y)
+gathered-below rows order j y x (inr (c, (p, b, s))) = from_child rows x y c p b
+
+-- an item whose turn it is has all that is below it
+whole : (rows : List ItemRow) (order : List ℕ) (i j x : ℕ) → IsPreorder rows order → i < length order → i + j + 1 ≡ length order → IsBelow rows x (slice_index order i) → IsGathered rows order j (slice_index order i) x
+whole rows order i j x preorder within place below = of_child (below_child rows x v below)
+  where
+    v : ℕ
+    v = slice_index order i
+
+    of_child : (x ≡ v) ⊎ ((c : ℕ) × ((parent_of rows c ≡ Some v) × IsBelow rows x c)) → IsGathered rows order j v x
+    of_child (inl same) = inl same
+    of_child (inr (c, (e, b))) =
+        let (k, (lt, at)) = preorder.every c (parent-inside rows c v e) in
+        let up : parent_of rows (slice_index order k) ≡ Some v = ap (parent_of rows) at ∙ e in
+        let (h, (less, is)) = preorder.before k v lt up in
+        let here : h ≡ i = same_place rows order h i preorder (omega arith) within is in
+        inr (c, (e, b, (k, (omega arith, lt, at))))
+
+whole_sum : (rows : List ItemRow) (order : List ℕ) (i j : ℕ) (amounts totals : List ℤ) → IsPreorder rows order → AreGathered rows order j amounts totals → i < length order → i + j + 1 ≡ length order → IsSumOver (λ x. IsBelow rows x (slice_index order i)) (length rows) (amount_at amounts) (amount_at totals (slice_index order i))
+whole_sum rows order i j amounts totals preorder so_far within place =
+    IsSumOver-same (IsGathered rows order j v) (λ x. IsBelow rows x v) (length rows) (amount_at amounts) (amount_at totals v)
+    (λ x h g. gathered-below rows order j v x g)
+    (λ x h b. whole rows order i j x preorder within place b)
+    (so_far.each v (preorder.range i within))
+  where
+    v : ℕ
+    v = slice_index order i
+
+-- what is below the item is not yet with its parent
+apart : (rows : List ItemRow) (order : List ℕ) (i j p x : ℕ) → IsTree rows → IsPreorder rows order → i < length order → i + j + 1 ≡ length order → parent_of rows (slice_index order i) ≡ Some p → IsGathered rows order j p x → IsBelow rows x (slice_index order i) → ⊥
+apart rows order i j p x tree preorder within place up (inl e) below =
+    let under : IsUnder rows (slice_index order i) p = (p, (up, IsBelow-self rows p)) in
+    let down : IsBelow rows p (slice_index order i) = rw (← e) below in
+    IsUnder-self rows p (HasNoLoop-tree rows tree) (IsUnder-from rows p (slice_index order i) p down under)
+apart rows order i j p x tree preorder within place up (inr (c, (e, b, (k, (le, lt, at))))) below =
+    ⊎_elim (λ cv. of_below cv) (λ vc. of_above vc) (cases_above rows x c v b below)
+  where
+    v : ℕ
+    v = slice_index order i
+
+    not_same : c ≡ v → ⊥
+    not_same same =
+        let here : k ≡ i = same_place rows order k i preorder lt within (at ∙ same) in
+        omega arith
+
+    of_below : IsBelow rows c v → ⊥
+    of_below cv =
+        ⊎_elim not_same (λ under. siblings_apart rows c v p (HasNoLoop-tree rows tree) e up under) (cases_below rows c v cv)
+
+    of_above : IsBelow rows v c → ⊥
+    of_above vc =
+        ⊎_elim (λ same. not_same (sym same)) (λ under. siblings_apart rows v c p (HasNoLoop-tree rows tree) up e under) (cases_below rows v c vc)
+
+-- the item's total goes to its parent
+parent_sum : (rows : List ItemRow) (order : List ℕ) (i j p : ℕ) (amounts totals : List ℤ) → AreInRange rows → IsTree rows → IsPreorder rows order → AreGathered rows order j amounts totals → i < length order → i + j + 1 ≡ length order → parent_of rows (slice_index order i) ≡ Some p → IsSumOver (IsGathered rows order (j + 1) p) (length rows) (amount_at amounts) (amount_at totals p +ℤ amount_at totals (slice_index order i))
+parent_sum rows order i j p amounts totals ranged tree preorder so_far within place up =
+    IsSumOver-same (λ x. IsGathered rows order j p x ⊎ IsBelow rows x v) (IsGathered rows order (j + 1) p) (length rows) (amount_at amounts) (amount_at totals p +ℤ amount_at totals v)
+    (λ x h either. to x either)
+    (λ x h g. from x g)
+    (IsSumOver-both (IsGathered rows order j p) (λ x. IsBelow rows x v) (length rows) (amount_at amounts) (amount_at totals p) (amount_at totals v)
+    (λ x h g b. apart rows order i j p x tree preorder within place up g b)
+    (so_far.each p (ranged v p (preorder.range i within) up))
+    (whole_sum rows order i j amounts totals preorder so_far within place))
+  where
+    v : ℕ
+    v = slice_index order i
+
+    to : (x : ℕ) → IsGathered rows order j p x ⊎ IsBelow rows x v → IsGathered rows order (j + 1) p x
+    to x (inl (inl e)) = inl e
+    to x (inl (inr (c, (e, b, s)))) = inr (c, (e, b, passed_keep order j c s))
+    to x (inr b) = inr (v, (up, b, (i, (omega arith, within, refl))))
+
+    from : (x : ℕ) → IsGathered rows order (j + 1) p x → IsGathered rows order j p x ⊎ IsBelow rows x v
+    from x (inl e) = inl (inl e)
+    from x (inr (c, (e, b, s))) =
+        ⊎_elim (λ same. inr (rw same b)) (λ passed. inl (inr (c, (e, b, passed)))) (passed_more order i j c place s)
+
+-- and nothing changes at the other items
+other_sum : (rows : List ItemRow) (order : List ℕ) (i j y : ℕ) (amounts totals : List ℤ) → AreGathered rows order j amounts totals → i + j + 1 ≡ length order → y < length rows → parent_of rows (slice_index order i) ≢ Some y → IsSumOver (IsGathered rows order (j + 1) y) (length rows) (amount_at amounts) (amount_at totals y)
+other_sum rows order i j y amounts totals so_far place lt not_parent =
+    IsSumOver-same (IsGathered rows order j y) (IsGathered rows order (j + 1) y) (length rows) (amount_at amounts) (amount_at totals y)
+    (λ x h g. to x g)
+    (λ x h g. from x g)
+    (so_far.each y lt)
+  where
+    to : (x : ℕ) → IsGathered rows order j y x → IsGathered rows order (j + 1) y x
+    to x (inl e) = inl e
+    to x (inr (c, (e, b, s))) = inr (c, (e, b, passed_keep order j c s))
+
+    from : (x : ℕ) → IsGathered rows order (j + 1) y x → IsGathered rows order j y x
+    from x (inl e) = inl e
+    from x (inr (c, (e, b, s))) =
+        ⊎_elim (λ same. absurd (not_parent (ap (parent_of rows) same ∙ e))) (λ passed. inr (c, (e, b, passed))) (passed_more order i j c place s)
+
+pub gathered_child : (rows : List ItemRow) (order : List ℕ) (i j p : ℕ) (amounts totals : List ℤ) → AreInRange rows → IsTree rows → IsPreorder rows order → AreGathered rows order j amounts totals → i < length order → i + j + 1 ≡ length order → parent_of rows (slice_index order i) ≡ Some p → AreGathered rows order (j + 1) amounts (set totals p (amount_at totals p +ℤ amount_at totals (slice_index order i)))
+gathered_child rows order i j p amounts totals ranged tree preorder so_far within place up = record {
+  one_each = length-set totals p sum ∙ so_far.one_each;
+  each = λ y lt. ⊎_elim (λ e. here y e) (λ ne. there y lt ne) (cases_eq p y);
+}
+  where
+    sum : ℤ
+    sum = amount_at totals p +ℤ amount_at totals (slice_index order i)
+
+    here : (y : ℕ) → p ≡ y → IsSumOver (IsGathered rows order (j + 1) y) (length rows) (amount_at amounts) (amount_at (set totals p sum) y)
+    here y e =
+        let known : p < length totals = let inside = ranged (slice_index order i) p (preorder.range i within) up in omega (arith, so_far.one_each) in
+        rw (← e, get_or-set_same totals p sum (pos 0) known) (parent_sum rows order i j p amounts totals ranged tree preorder so_far within place up)
+
+    there : (y : ℕ) → y < length rows → p ≢ y → IsSumOver (IsGathered rows order (j + 1) y) (length rows) (amount_at amounts) (amount_at (set totals p sum) y)
+    there y lt ne =
+        let other : y ≢ p = λ e. ne (sym e) in
+        rw (get_or-set_other totals p y sum (pos 0) other) (other_sum rows order i j y amounts totals so_far place lt (λ e. ne (let same : Some p ≡ Some y = sym up ∙ e in cc)))
+
+pub gathered_top : (rows : List ItemRow) (order : List ℕ) (i j : ℕ) (amounts totals : List ℤ) → AreGathered rows order j amounts totals → i + j + 1 ≡ length order → parent_of rows (slice_index order i) ≡ None → AreGathered rows order (j + 1) amounts totals
+gathered_top rows order i j amounts totals so_far place up = record {
+  one_each = so_far.one_each;
+  each = λ y lt. other_sum rows order i j y amounts totals so_far place lt (λ e. let clash : None ≡ Some y = sym up ∙ e in cc);
+}
+
+-- sums of magnitudes over a list and over its places
+sum_by-take : (f : ℤ → ℕ) (xs : List ℤ) (i : ℕ) → i ≤ length xs → sum_by f (take i xs) ≡ sum_to i (λ k. f (get_or xs k (pos 0)))
+sum_by-take f xs zero h = refl
+sum_by-take f xs (suc i) h =
+    let e : suc i ≡ i + 1 = omega arith in
+    let more = sum_by_more f xs i (pos 0) (omega arith) in
+    ap (λ (n : ℕ). sum_by f (take n xs)) e ∙ more ∙ ap (λ (n : ℕ). n + f (get_or xs i (pos 0))) (sum_by-take f xs i (omega arith))
+
+pub magnitude : (amounts : List ℤ) → sum_by unsigned_abs amounts ≡ sum_to (length amounts) (λ x. unsigned_abs (amount_at amounts x))
+magnitude amounts =
+    ap (sum_by unsigned_abs) (sym (take-length amounts)) ∙ sum_by-take unsigned_abs amounts (length amounts) (omega arith)
+
+-- the sum that goes to a parent is no greater than all amounts
+pub parent_fits : (rows : List ItemRow) (order : List ℕ) (i j p : ℕ) (amounts totals : List ℤ) → AreInRange rows → IsTree rows → IsPreorder rows order → length amounts ≡ length rows → AreGathered rows order j amounts totals → i < length order → i + j + 1 ≡ length order → parent_of rows (slice_index order i) ≡ Some p → unsigned_abs (amount_at totals p +ℤ amount_at totals (slice_index order i)) ≤ sum_by unsigned_abs amounts
+parent_fits rows order i j p amounts totals ranged tree preorder one_each so_far within place up =
+    let bound = IsSumOver-bound (IsGathered rows order (j + 1) p) (length rows) (amount_at amounts) (amount_at totals p +ℤ amount_at totals (slice_index order i)) (parent_sum rows order i j p amounts totals ranged tree preorder so_far within place up) in
+    omega (arith, bound, magnitude amounts, ap (λ (n : ℕ). sum_to n (λ x. unsigned_abs (amount_at amounts x))) one_each)
+
+-- numbers whose sum fits are added as numbers
+pub added : (a b : ℤ) → unsigned_abs a < 2 ^ 63 → unsigned_abs b < 2 ^ 63 → unsigned_abs (a +ℤ b) < 2 ^ 63 → to_z w64 (of_z w64 (to_z w64 (of_z w64 a) +ℤ to_z w64 (of_z w64 b))) ≡ a +ℤ b
+added a b small less sum =
+    let fits_a = fits_signed_from_abs w64 a small in
+    let fits_b = fits_signed_from_abs w64 b less in
+    let fits = fits_signed_from_abs w64 (a +ℤ b) sum in
+    ap (λ (z : ℤ). to_z w64 (of_z w64 (z +ℤ to_z w64 (of_z w64 b)))) (to_z-of_z w64 a fits_a) ∙ (ap (λ (z : ℤ). to_z w64 (of_z w64 (a +ℤ z))) (to_z-of_z w64 b fits_b) ∙ to_z-of_z w64 (a +ℤ b) fits)
+
+pub added_fits : (a b : ℤ) → unsigned_abs a < 2 ^ 63 → unsigned_abs b < 2 ^ 63 → unsigned_abs (a +ℤ b) < 2 ^ 63 → FitsSigned w64 (to_z w64 (of_z w64 a) +ℤ to_z w64 (of_z w64 b))
+added_fits a b small less sum =
+    let fits_a = fits_signed_from_abs w64 a small in
+    let fits_b = fits_signed_from_abs w64 b less in
+    rw (to_z-of_z w64 a fits_a, to_z-of_z w64 b fits_b) (fits_signed_from_abs w64 (a +ℤ b) sum)
+
+-- what an item has is no greater than all amounts
+total_fits : (rows : List ItemRow) (order : List ℕ) (j y : ℕ) (amounts totals : List ℤ) → length amounts ≡ length rows → AreGathered rows order j amounts totals → y < length rows → unsigned_abs (amount_at totals y) ≤ sum_by unsigned_abs amounts
+total_fits rows order j y amounts totals one_each so_far lt =
+    omega (arith, IsSumOver-bound (IsGathered rows order j y) (length rows) (amount_at amounts) (amount_at totals y) (so_far.each y lt), magnitude amounts, ap (λ (n : ℕ). sum_to n (λ x. unsigned_abs (amount_at amounts x))) one_each)
+
+-- what a turn needs: an item at place i, its parent, and the two totals as they are read
+pub record IsTurn (rows : List ItemRow) (order : List ℕ) (j p : ℕ) (amounts totals : List ℤ) (v : ℕ) (a b : ℤ) : Type 0 where
+  pub ranged : AreInRange rows
+  pub tree : IsTree rows
+  pub preorder : IsPreorder rows order
+  pub one_each : length amounts ≡ length rows
+  pub small : sum_by unsigned_abs amounts < 2 ^ 63
+  pub so_far : AreGathered rows order j amounts totals
+  pub place : (i : ℕ) × (i < length order) × (i + j + 1 ≡ length order) × (slice_index order i ≡ v)
+  pub up : parent_of rows v ≡ Some p
+  pub parent_read : a ≡ get_or totals p a
+  pub item_read : b ≡ get_or totals v b
+
+turn_sums : (rows : List ItemRow) (order : List ℕ) (j p : ℕ) (amounts totals : List ℤ) (v : ℕ) (a b : ℤ) → IsTurn rows order j p amounts totals v a b → (amount_at totals p ≡ a) × (amount_at totals v ≡ b) × (unsigned_abs a < 2 ^ 63) × (unsigned_abs b < 2 ^ 63) × (unsigned_abs (a +ℤ b) < 2 ^ 63)
+turn_sums rows order j p amounts totals v a b t =
+    let (i, lt, place, at) = t.place in
+    let in_v : v < length rows = parent-inside rows v p t.up in
+    let in_p : p < length rows = t.ranged v p in_v t.up in
+    let read_a : amount_at totals p ≡ a = get_or_default totals p (pos 0) a (omega (arith, t.so_far.one_each)) ∙ sym t.parent_read in
+    let read_b : amount_at totals v ≡ b = get_or_default totals v (pos 0) b (omega (arith, t.so_far.one_each)) ∙ sym t.item_read in
+    let up : parent_of rows (slice_index order i) ≡ Some p = ap (parent_of rows) at ∙ t.up in
+    let both = parent_fits rows order i j p amounts totals t.ranged t.tree t.preorder t.one_each t.so_far lt place up in
+    let sum : amount_at totals p +ℤ amount_at totals (slice_index order i) ≡ a +ℤ b = ap (λ (n : ℕ). amount_at totals p +ℤ amount_at totals n) at ∙ (ap (λ (z : ℤ). z +ℤ amount_at totals v) read_a ∙ ap (λ (z : ℤ). a +ℤ z) read_b) in (
+      read_a,
+      read_b,
+      omega (arith, t.small, ap unsigned_abs read_a, total_fits rows order j p amounts totals t.one_each t.so_far in_p),
+      omega (arith, t.small, ap unsigned_abs read_b, total_fits rows order j v amounts totals t.one_each t.so_far in_v),
+      omega (arith, t.small, ap unsigned_abs sum, both),
+    )
+
+pub turn_fits : (rows : List ItemRow) (order : List ℕ) (j p : ℕ) (amounts totals : List ℤ) (v : ℕ) (a b : ℤ) → IsTurn rows order j p amounts totals v a b → FitsSigned w64 (to_z w64 (of_z w64 a) +ℤ to_z w64 (of_z w64 b))
+turn_fits rows order j p amounts totals v a b t =
+    let (read_a, read_b, small, less, sum) = turn_sums rows order j p amounts totals v a b t in
+    added_fits a b small less sum
+
+pub turn_taken : (rows : List ItemRow) (order : List ℕ) (j p : ℕ) (amounts totals : List ℤ) (v : ℕ) (a b : ℤ) → IsTurn rows order j p amounts totals v a b → AreGathered rows order (j + 1) amounts (set totals p (to_z w64 (of_z w64 (to_z w64 (of_z w64 a) +ℤ to_z w64 (of_z w64 b)))))
+turn_taken rows order j p amounts totals v a b t =
+    let (i, lt, place, at) = t.place in
+    let (read_a, read_b, small, less, sum) = turn_sums rows order j p amounts totals v a b t in
+    let up : parent_of rows (slice_index order i) ≡ Some p = ap (parent_of rows) at ∙ t.up in
+    let value : amount_at totals p +ℤ amount_at totals (slice_index order i) ≡ to_z w64 (of_z w64 (to_z w64 (of_z w64 a) +ℤ to_z w64 (of_z w64 b))) =
+    ap (λ (n : ℕ). amount_at totals p +ℤ amount_at totals n) at ∙ (ap (λ (z : ℤ). z +ℤ amount_at totals v) read_a ∙ (ap (λ (z : ℤ). a +ℤ z) read_b ∙ sym (added a b small less sum))) in
+    subst (λ (z : ℤ). AreGathered rows order (j + 1) amounts (set totals p z)) value (gathered_child rows order i j p amounts totals t.ranged t.tree t.preorder t.so_far lt place up)
+
+pub top_taken : (rows : List ItemRow) (order : List ℕ) (j : ℕ) (amounts totals : List ℤ) (v : ℕ) → AreGathered rows order j amounts totals → (i : ℕ) × (i < length order) × (i + j + 1 ≡ length order) × (slice_index order i ≡ v) → parent_of rows v ≡ None → AreGathered rows order (j + 1) amounts totals
+top_taken rows order j amounts totals v so_far (i, lt, place, at) up =
+    gathered_top rows order i j amounts totals so_far place (ap (parent_of rows) at ∙ up)
+
+-- whether an item is a leaf
+child_below : (rows : List ItemRow) (x n : ℕ) → ((y : ℕ) × ((y < n) × (parent_of rows y ≡ Some x))) ⊎ ((y : ℕ) → y < n → parent_of rows y ≢ Some x)
+child_below rows x zero = inr (λ y lt e. absurd (omega arith))
+child_below rows x (suc n) = ⊎_elim (λ (y, (lt, e)). inl (y, (omega arith, e))) (λ none. of_parent none (parent_of rows n) refl) (child_below rows x n)
+  where
+    last : (n : ℕ) → ((y : ℕ) → y < n → parent_of rows y ≢ Some x) → parent_of rows n ≢ Some x → (y : ℕ) → y < suc n → parent_of rows y ≢ Some x
+    last n none not_here y lt =
+        ⊎_elim (λ e. rw e not_here) (λ ne. none y (omega arith)) (cases_eq y n)
+
+    of_parent : ((y : ℕ) → y < n → parent_of rows y ≢ Some x) → (o : Option ℕ) → parent_of rows n ≡ o → ((y : ℕ) × ((y < suc n) × (parent_of rows y ≡ Some x))) ⊎ ((y : ℕ) → y < suc n → parent_of rows y ≢ Some x)
+    of_parent none None e = inr (last n none (λ is. let clash : None ≡ Some x = sym e ∙ is in cc))
+    of_parent none (Some p) e =
+        ⊎_elim (λ same. inl (n, (omega arith, e ∙ ap Some same)))
+        (λ ne. inr (last n none (λ is. ne (let both : Some p ≡ Some x = sym e ∙ is in cc))))
+        (cases_eq p x)
+
+pub leaf_or_not : (rows : List ItemRow) (x : ℕ) → IsLeaf rows x ⊎ (IsLeaf rows x → ⊥)
+leaf_or_not rows x =
+    ⊎_elim (λ (y, (lt, e)). inr (λ leaf. leaf y lt e)) (λ none. inl none) (child_below rows x (length rows))
+
+-- all passed their totals on
+pub gathered_all : (rows : List ItemRow) (order : List ℕ) (j : ℕ) (amounts totals : List ℤ) → IsPreorder rows order → AreAtLeaves rows amounts → length order ≤ j → AreGathered rows order j amounts totals → AreRolledUp rows amounts totals
+gathered_all rows order j amounts totals preorder at_leaves all so_far = record {
+  one_each = so_far.one_each;
+  each = λ y lt. IsSumOver-part (λ x. IsBelow rows x y) (IsLeaf rows) (length rows) (amount_at amounts) (amount_at totals y)
+      (λ x h. ⊎_elim (λ leaf. inl leaf) (λ none. inr (none, at_leaves x h none)) (leaf_or_not rows x))
+      (IsSumOver-same (IsGathered rows order j y) (λ x. IsBelow rows x y) (length rows) (amount_at amounts) (amount_at totals y)
+      (λ x h g. gathered-below rows order j y x g)
+      (λ x h b. of_child y x (below_child rows x y b))
+      (so_far.each y lt));
+}
+  where
+    of_child : (y x : ℕ) → (x ≡ y) ⊎ ((c : ℕ) × ((parent_of rows c ≡ Some y) × IsBelow rows x c)) → IsGathered rows order j y x
+    of_child y x (inl same) = inl same
+    of_child y x (inr (c, (e, b))) =
+        let (k, (lt, at)) = preorder.every c (parent-inside rows c y e) in
+        inr (c, (e, b, (k, (omega arith, lt, at))))

@@ -1,0 +1,57 @@
+//! The sum over what lies below each item.
+ghost use Rattle.std.specs.Prelude.{◌≡◌, ℕ, ◌^◌, ◌<◌, length, sum_by, unsigned_abs, IfOk};
+ghost use Rattle.pc_rollup.specs.Totals.{AreAtLeaves, AreRolledUp, AreTotalsOf, AreAmountsOf, AreOnLeaves, place_of};
+
+use pc_wbs::Tree;
+use std::alloc::{AllocError, Global};
+
+/// For each item the sum over the leaves that are it or lie below it, from an amount for each item.
+///
+/// One pass over the preorder, from its end.
+pub fn rollup(alloc: Global, tree: &Tree, leaf_amounts: &[i64]) -> Result<Vec<i64>, AllocError>
+    requires one_each { length leaf_amounts.now ≡ length tree.now }
+    requires at_leaves { AreAtLeaves tree.now leaf_amounts.now }
+    requires small { sum_by unsigned_abs leaf_amounts.now < 2 ^ 63 }
+    ensures { IfOk result (λ totals. AreRolledUp tree.now leaf_amounts.now totals.items) }
+{
+    let mut totals = Vec::from_slice(alloc, leaf_amounts)?;
+    for &item in tree.preorder().iter().rev() {
+        if let Some(parent) = tree.parent(item) {
+            totals[parent as usize] += totals[item as usize];
+        }
+    }
+    Ok(totals)
+}
+
+/// An amount that stands on an item, as an account's budget does.
+#[derive(Clone, Copy, Debug, PartialEq, Eq)]
+pub struct Placed {
+    pub item: u32,
+    pub amount: i64,
+}
+
+/// For each item the sum of the amounts that stand on it or below it.
+///
+/// It takes time in proportion to amounts and items.
+pub fn totals_of(alloc: Global, tree: &Tree, placed: &[Placed]) -> Result<Vec<i64>, AllocError>
+    requires on_leaves { AreOnLeaves tree.now placed.now }
+    requires small { sum_by (λ p. unsigned_abs p.amount) placed.now < 2 ^ 63 }
+    ensures { IfOk result (λ totals. AreTotalsOf tree.now placed.now totals.items) }
+{
+    let amounts = amounts_by_item(alloc, tree.len(), placed)?;
+    rollup(alloc, tree, &amounts)
+}
+
+/// The sum of the amounts that stand on each of so many items.
+fn amounts_by_item(alloc: Global, items: u32, placed: &[Placed]) -> Result<Vec<i64>, AllocError>
+    requires known { (k : ℕ) → k < length placed.now → place_of placed.now k < items }
+    requires small { sum_by (λ p. unsigned_abs p.amount) placed.now < 2 ^ 63 }
+    ensures amounts { IfOk result (λ amounts. AreAmountsOf items placed.now (length placed.now) amounts.items) }
+    ensures small { IfOk result (λ amounts. sum_by unsigned_abs amounts.items < 2 ^ 63) }
+{
+    let mut amounts = vec![in alloc; 0; items as usize]?;
+    for p in placed {
+        amounts[p.item as usize] += p.amount;
+    }
+    Ok(amounts)
+}

@@ -1,0 +1,107 @@
+-- An activity that labels may cross: it waits for a fall, or its far event enters.
+use Rattle.std.proofs.Common.{◌≡◌, ◌≢◌, ℕ, ◌<◌, ◌≤◌, Some, true, false, length, sym, ◌∙◌, ap, subst, inl, inr, arith}
+use Rattle.std.proofs.lemmas.Bool.{cases_eq}
+use Rattle.pc_stair.specs.declared.stop.Stop.{Stop}
+use Rattle.pc_crash.specs.declared.looking.Look.{Look}
+use Rattle.pc_crash.specs.Priced.{PricedNetwork}
+use Rattle.pc_crash.specs.Looks.{IsLookAt}
+use Rattle.pc_board.specs.Sheets.{Sheet, kept_time, rank_of, slot_of}
+use Rattle.pc_board.specs.Moves.{WaitsOnce, EntersAt}
+use Rattle.pc_board.specs.Labelling.{HaveRoom}
+use Rattle.pc_board.proofs.AfterEntering.{IsNewStep, queue-room}
+use Rattle.pc_search.specs.declared.way.Way.{Way}
+use Rattle.pc_search.specs.declared.way.Way.TheVariants.{Along, Against}
+use Rattle.pc_search.specs.Searches.{gap_at, next_at, last_at, IsSearch, MayGoAlong, MayGoAgainst, IsWay, StopsAlong, StopsAgainst, StopsAfter, IsVisited}
+use Rattle.pc_search.proofs.VisitLaws.{visited-still, visited-waits}
+use Rattle.pc_search.proofs.EnterLaws.{visited-enters}
+
+module _ (net : PricedNetwork) (s : Sheet) (a : ℕ) (search : IsSearch net s) (known : a < length net.network.arcs) (room : HaveRoom s) where
+  activity : a < s.activities
+  activity = omega (arith, known, search.fits.activities)
+
+  -- where it stops only after a fall, labels may cross it only the one way
+  later : (way : Way) (stop : Stop) → IsWay net s a (Some way) → StopsAfter net s a way stop → 0 < stop.after
+      → (MayGoAlong net s a → next_at net s a < gap_at net s a) × (MayGoAgainst net s a → gap_at net s a < last_at net s a)
+  later Along stop may stops some = (
+    (λ along. omega (arith, stops.after, some)),
+    (λ against. absurd (omega (arith, may.to, against.to))),
+  )
+  later Against stop may stops some = (
+    (λ along. absurd (omega (arith, may.from, along.from))),
+    (λ against. omega (arith, stops.after, some)),
+  )
+
+  -- it waits, or did so before
+  pub crossed-waits : (t : Sheet) (way : Way) (stop : Stop) → IsWay net s a (Some way) → StopsAfter net s a way stop → 0 < stop.after
+      → (slot_of s a ≢ 0 → t ≡ s) → (slot_of s a ≡ 0 → WaitsOnce s t a) → IsVisited net s t a
+  crossed-waits t way stop may stops some stays waits =
+      elim (cases_eq (slot_of s a) 0) [
+        | inl none ↦ visited-waits net s t a search activity none (waits none) room (later way stop may stops some)
+        | inr had ↦
+            let slot : 0 < slot_of s a = omega (arith, had) in
+            subst (λ u. IsVisited net s u a) (sym (stays had)) (visited-still net s a search room (record {
+              along = λ along. (slot, (later way stop may stops some).0 along);
+              against = λ against. (slot, (later way stop may stops some).1 against);
+            }))
+      ]
+
+  module _ (look : Look) (looked : IsLookAt net a look) where
+    pub from-known : look.from < s.events
+    from-known = omega (arith, looked.from, search.in_range.from_in a known, search.fits.events)
+
+    pub to-known : look.to < s.events
+    to-known = omega (arith, looked.to, search.in_range.to_in a known, search.fits.events)
+
+    -- the event where it ends enters
+    module _ (stop : Stop) (may : MayGoAlong net s a) (stops : StopsAlong net s a stop) where
+      pub to-none : rank_of s look.to ≡ 0
+      to-none = ap (rank_of s) looked.to ∙ may.to
+
+      pub to-room : s.count < s.events
+      to-room = queue-room s look.to search.ranked to-known to-none
+
+      pub to-deep : s.fallen ≤ kept_time s look.to
+      to-deep = search.times.deep look.to to-known to-none
+
+      to-new : IsNewStep net.network s look.to a false look.from stop.room
+      to-new = record {
+        unlabelled = to-none;
+        known = to-known;
+        near_known = from-known;
+        near_labelled = omega (arith, ap (rank_of s) looked.from, may.from);
+        activity = activity;
+        some = stops.some;
+        along = λ is. (sym looked.from, sym looked.to, stops.small);
+        back = λ is. cc;
+      }
+
+      pub crossed-along : (t : Sheet) → stop.after ≡ 0 → EntersAt s t look.to a false look.from stop.room → IsVisited net s t a
+      crossed-along t now entered =
+          visited-enters net s t look.to a false look.from stop.room search known to-new entered (λ is. stops.room now) (λ is. cc) room
+
+    -- the event where it begins enters
+    module _ (stop : Stop) (may : MayGoAgainst net s a) (stops : StopsAgainst net s a stop) where
+      pub from-none : rank_of s look.from ≡ 0
+      from-none = ap (rank_of s) looked.from ∙ may.from
+
+      pub from-room : s.count < s.events
+      from-room = queue-room s look.from search.ranked from-known from-none
+
+      pub from-deep : s.fallen ≤ kept_time s look.from
+      from-deep = search.times.deep look.from from-known from-none
+
+      from-new : IsNewStep net.network s look.from a true look.to stop.room
+      from-new = record {
+        unlabelled = from-none;
+        known = from-known;
+        near_known = to-known;
+        near_labelled = omega (arith, ap (rank_of s) looked.to, may.to);
+        activity = activity;
+        some = stops.some;
+        along = λ is. cc;
+        back = λ is. (sym looked.from, sym looked.to, stops.within);
+      }
+
+      pub crossed-against : (t : Sheet) → stop.after ≡ 0 → EntersAt s t look.from a true look.to stop.room → IsVisited net s t a
+      crossed-against t now entered =
+          visited-enters net s t look.from a true look.to stop.room search known from-new entered (λ is. cc) (λ is. stops.room now) room

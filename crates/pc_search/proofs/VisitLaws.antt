@@ -1,0 +1,135 @@
+-- What a visit leaves: nothing changed, an activity more that waits, or an event more with a label.
+use Rattle.std.proofs.Common.{◌≡◌, ◌≢◌, ℕ, ◌+◌, ◌-◌, ◌<◌, refl, sym, ◌∙◌, ap, subst, inl, inr, arith}
+use Rattle.std.proofs.lemmas.Bool.{cases_eq, cases_lt}
+use Rattle.pc_crash.specs.Priced.{PricedNetwork}
+use Rattle.pc_board.specs.Sheets.{Sheet, waiting_of, slot_of}
+use Rattle.pc_board.specs.Moves.{WaitsOnce}
+use Rattle.pc_board.specs.Labelling.{HaveRoom}
+use Rattle.pc_board.proofs.RoomLaws.{room-left}
+use Rattle.pc_search.specs.Searches.{gap_at, next_at, last_at, IsWaiting, IsSearch, MayGoAlong, MayGoAgainst, IsQuiet, IsSettled, Grows, IsVisited}
+
+pub grows-none : (s : Sheet) → Grows s s
+grows-none s = record {
+  rest = refl;
+  labelled = λ e had. refl;
+  time = λ e known. refl;
+  waits = λ a had. refl;
+  queue = λ k below. refl;
+  waiting = λ k below. refl;
+  count = omega arith;
+  len = omega arith;
+}
+
+-- a quiet activity, or one that waits already
+pub visited-still : (net : PricedNetwork) (s : Sheet) (a : ℕ) → IsSearch net s → HaveRoom s → IsSettled net s a → IsVisited net s s a
+visited-still net s a search room settled = record { grows = grows-none s; search = search; room = room; settled = settled }
+
+pub settled-quiet : (net : PricedNetwork) (s : Sheet) (a : ℕ) → IsQuiet net s a → IsSettled net s a
+settled-quiet net s a quiet = record { along = λ may. absurd (quiet.along may); against = λ may. absurd (quiet.against may) }
+
+-- the list has room for an activity that does not wait
+pub waiting-room : (s : Sheet) (a : ℕ) → IsWaiting s → a < s.activities → slot_of s a ≡ 0 → s.len < s.activities
+waiting-room s a waiting known none =
+    room-left (waiting_of s) s.len s.activities a waiting.range once known
+    (λ k below same. omega (arith, waiting.placed k below, ap (slot_of s) same, none))
+  where
+    once : (j k : ℕ) → j < k → k < s.len → waiting_of s j ≢ waiting_of s k
+    once j k before below same = omega (arith, waiting.placed j (omega arith), waiting.placed k below, ap (slot_of s) same)
+
+-- one more waits
+module _ (net : PricedNetwork) (s t : Sheet) (a : ℕ) (search : IsSearch net s) (known : a < s.activities) (none : slot_of s a ≡ 0) (moved : WaitsOnce s t a) where
+  abbrev there : Sheet
+  there = record s { waiting = t.waiting; slot = t.slot; len = s.len + 1 }
+
+  other : (b : ℕ) → 0 < slot_of s b → b ≢ a
+  other b had same = omega (arith, had, ap (slot_of s) same, none)
+
+  waiting-more : IsWaiting there
+  waiting-more = record {
+    few = omega (arith, waiting-room s a search.waiting known none);
+    range = λ k below. elim (cases_lt k s.len) [
+      | inl early ↦ omega (arith, moved.waiting_off k (λ (at : k ≡ s.len). omega arith), search.waiting.range k early)
+      | inr last ↦ let at : k ≡ s.len = omega arith in omega (arith, ap (waiting_of t) at, moved.waiting_at, known)
+    ];
+    placed = λ k below. elim (cases_lt k s.len) [
+      | inl early ↦
+          ap (slot_of t) (moved.waiting_off k (λ (at : k ≡ s.len). omega arith))
+          ∙ moved.slot_off (waiting_of s k) (other (waiting_of s k) (omega (arith, search.waiting.placed k early)))
+          ∙ search.waiting.placed k early
+      | inr last ↦
+          let at : k ≡ s.len = omega arith in
+          ap (λ j. slot_of t (waiting_of t j)) at ∙ ap (slot_of t) moved.waiting_at ∙ moved.slot_at ∙ ap (λ j. j + 1) (sym at)
+    ];
+    within = λ b kb. elim (cases_eq b a) [
+      | inl same ↦ omega (arith, ap (slot_of t) same, moved.slot_at)
+      | inr apart ↦ omega (arith, moved.slot_off b apart, search.waiting.within b kb)
+    ];
+    listed = λ b kb had. elim (cases_eq b a) [
+      | inl same ↦
+          let place : slot_of t b - 1 ≡ s.len = omega (arith, ap (slot_of t) same, moved.slot_at) in
+          ap (waiting_of t) place ∙ moved.waiting_at ∙ sym same
+      | inr apart ↦
+          let was : slot_of t b ≡ slot_of s b = moved.slot_off b apart in
+          ap (λ n. waiting_of t (n - 1)) was
+          ∙ moved.waiting_off (slot_of s b - 1) (λ (at : slot_of s b - 1 ≡ s.len). omega (arith, at, search.waiting.within b kb, had, was))
+          ∙ search.waiting.listed b kb (omega (arith, had, was))
+    ];
+  }
+
+  search-there : IsSearch net there
+  search-there = record {
+    in_range = search.in_range;
+    few = search.few;
+    fits = record { events = search.fits.events; activities = search.fits.activities };
+    ranked = record {
+      some = search.ranked.some;
+      few = search.ranked.few;
+      scanned = search.ranked.scanned;
+      range = search.ranked.range;
+      placed = search.ranked.placed;
+      within = search.ranked.within;
+      queued = search.ranked.queued;
+    };
+    start = search.start;
+    back = record { known = search.back.known; labelled = search.back.labelled; before = search.back.before };
+    steps = record { known = search.steps.known; apart = search.steps.apart; along = search.steps.along; against = search.steps.against };
+    times = record { deep = search.times.deep; fits = search.times.fits };
+    joined = record {
+      along_from = search.joined.along_from;
+      along_to = search.joined.along_to;
+      against_from = search.joined.against_from;
+      against_to = search.joined.against_to;
+    };
+    waiting = waiting-more;
+    stairs = record {
+      falling = search.stairs.falling;
+      reach = search.stairs.reach;
+      ahead = search.stairs.ahead;
+      on = search.stairs.on;
+      small = search.stairs.small;
+    };
+    led = record { along = search.led.along; against = search.led.against };
+  }
+
+  abbrev may_t : Type 0
+  may_t = (MayGoAlong net s a → next_at net s a < gap_at net s a) × (MayGoAgainst net s a → gap_at net s a < last_at net s a)
+
+  pub visited-waits : HaveRoom s → may_t → IsVisited net s t a
+  visited-waits room later = subst (λ u. IsVisited net s u a) (sym moved.rest) (record {
+    grows = record {
+      rest = refl;
+      labelled = λ e had. refl;
+      time = λ e ke. refl;
+      waits = λ b had. moved.slot_off b (other b had);
+      queue = λ k below. refl;
+      waiting = λ k below. moved.waiting_off k (λ (at : k ≡ s.len). omega arith);
+      count = omega arith;
+      len = omega arith;
+    };
+    search = search-there;
+    room = record { some = room.some };
+    settled = record {
+      along = λ may. (omega (arith, moved.slot_at), later.0 (record { from = may.from; to = may.to }));
+      against = λ may. (omega (arith, moved.slot_at), later.1 (record { from = may.from; to = may.to; some = may.some }));
+    };
+  })

@@ -1,0 +1,13 @@
+//! The search for steps with room: from the events that have a label, others are labelled along activities where more can
+//! flow and against those where less can (Fulkerson 1961).
+#![tactic(auto)]
+
+mod again;
+mod choosing;
+mod growing;
+mod search;
+mod visiting;
+mod way;
+
+pub use search::Search;
+pub use way::Way;

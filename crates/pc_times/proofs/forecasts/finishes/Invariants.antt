@@ -1,0 +1,5 @@
+use Rattle.pc_times.specs.Forecast.{AreFinishes}
+use Rattle.pc_times.proofs.forecasts.finishes.Given as goal
+
+abbrev pub invariant-loop-a : goal.invariant-loop-a
+invariant-loop-a l = AreFinishes l.net l.lengths l.states l.as_of l.times l.a l.finishes.items

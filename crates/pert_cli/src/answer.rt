@@ -1,0 +1,45 @@
+//! How an answer is handed to an output.
+ghost use Rattle.std.specs.Prelude.{◌≡◌, ℕ, List, IfOk, OnErr};
+ghost use Rattle.std.specs.Result.{ForOk};
+ghost use Rattle.pc_edges.specs.Writes.{Writes};
+ghost use Rattle.pc_project.specs.Project.{Project as TheProject};
+ghost use Rattle.pert_cli.specs.Handing.{Answers};
+ghost use Rattle.pert_cli.specs.Sides.{side};
+
+use crate::status::Status;
+use pc_edges::{Failed, Sink};
+use pc_project::Project;
+use std::alloc::AllocError;
+
+/// An answer of the program that was put together with all the memory that it takes.
+pub(crate) trait Answer {
+    // Whether it was put together for the project.
+    ghost IsFor: { Self → TheProject → Type 0 };
+
+    // The text that it writes for the project.
+    ghost text: { Self → TheProject → List ℕ };
+
+    /// Writes the text and flushes the output, without memory.
+    fn write_to<O: Sink>(&mut self, project: &Project, out: &mut O) -> Result<(), Failed>
+        requires { IsFor self.old project.now }
+        ensures { Writes result (O.taken out.old) (O.taken out.new) (O.faults out.old) (O.faults out.new) (text self.old project.now) };
+}
+
+/// Writes the answer, unless there was no memory to put it together.
+pub(crate) fn deliver<A: Answer + Drop, O: Sink>(
+    built: Result<A, AllocError>,
+    project: &Project,
+    out: &mut O,
+) -> Status
+    requires { ForOk built (λ answer. A.IsFor answer project.now) }
+    ensures built { IfOk built (λ answer. Answers (λ text. text ≡ A.text answer project.now) (side O.taken O.faults out.old out.new) result) }
+    ensures none { OnErr built (Answers (λ text. ⊥) (side O.taken O.faults out.old out.new) result) }
+{
+    let Ok(mut answer) = built else {
+        return Status::OutOfMemory;
+    };
+    match answer.write_to(project, out) {
+        Ok(()) => Status::Done,
+        Err(Failed) => Status::WriteFault,
+    }
+}

@@ -1,0 +1,96 @@
+//! The table of the forms: what the words can ask for, and what answers it.
+//!
+//! A form has a variant of `Form`, a line in `usage` and in `of_one_word`, and a row in `answer`; the rest of it is in a file
+//! of its own.
+ghost use Rattle.std.specs.Prelude.{◌≡◌, ◌+◌, ◌≤◌, [], ◌∷◌, ◌++◌, length, IfNone, IfSome};
+ghost use Rattle.pert_cli.specs.Answer.{IsTextOf};
+ghost use Rattle.pert_cli.specs.Handing.{Answers};
+ghost use Rattle.pert_cli.specs.Sides.{side};
+ghost use Rattle.pert_cli.specs.declared.forms.Form.{Form as TheForm};
+ghost use Rattle.pert_cli.specs.Words.{AskFor, AskForNone, usage_text, words_of};
+
+use crate::answer::deliver;
+use crate::check::{self, CheckAnswer};
+use crate::normal::{self, NormalAnswer};
+use crate::status::Status;
+use crate::times;
+use arrayvec::ArrayVec;
+use pc_edges::Sink;
+use pc_project::Project;
+use pc_reports::TimesReport;
+use std::alloc::Global;
+
+/// The room of the usage line.
+const USAGE_ROOM: usize = 256;
+
+/// The line that names the forms of the command line. It takes no memory.
+pub(crate) fn usage() -> ArrayVec<u8, USAGE_ROOM>
+    ensures { result.items ≡ usage_text }
+{
+    let mut line = ArrayVec::new();
+    append(&mut line, b"usage: pert ", check::WORDS);
+    append(&mut line, b" | ", normal::WORDS);
+    append(&mut line, b" | ", times::WORDS);
+    append(&mut line, b"\n", b"");
+    line
+}
+
+/// Appends the two pieces to the usage line.
+fn append(line: &mut ArrayVec<u8, USAGE_ROOM>, before: &[u8], words: &[u8])
+    requires { length line.old.items + (length before.now + length words.now) ≤ USAGE_ROOM }
+    ensures { line.new.items ≡ line.old.items ++ (before.now ++ words.now) }
+{
+    line.try_extend_from_slice(before).unwrap();
+    line.try_extend_from_slice(words).unwrap();
+}
+
+/// What the words can ask for.
+#[derive(Clone, Copy, Debug, PartialEq, Eq)]
+pub(crate) enum Form {
+    /// Whether the deck is accepted, and how many cards of each kind it has.
+    Check,
+    /// The schedule at the all-normal length.
+    Normal,
+    /// The times of the events, and the critical path.
+    Times,
+}
+
+impl Form {
+    /// The form that the words ask for.
+    pub(crate) fn asked(words: &[String]) -> Option<Form>
+        ensures form { IfSome result (λ form. AskFor form words.now) }
+        ensures none { IfNone result (AskForNone words.now) }
+    {
+        match words {
+            [word] => Form::of_one_word(word.as_bytes()),
+            _ => None,
+        }
+    }
+
+    /// The form of this word alone.
+    fn of_one_word(word: &[u8]) -> Option<Form>
+        ensures form { IfSome result (λ form. word.now ∷ [] ≡ words_of form) }
+        ensures none { IfNone result ((form : Form) → word.now ∷ [] ≡ words_of form → ⊥) }
+    {
+        if word == check::WORDS {
+            Some(Form::Check)
+        } else if word == normal::WORDS {
+            Some(Form::Normal)
+        } else if word == times::WORDS {
+            Some(Form::Times)
+        } else {
+            None
+        }
+    }
+
+    /// Writes on `out` what the form asks for of a project. All memory is taken before the first byte is written.
+    pub(crate) fn answer<O: Sink>(self, alloc: Global, project: &Project, out: &mut O) -> Status
+        ensures { Answers (IsTextOf self project.now) (side O.taken O.faults out.old out.new) result }
+    {
+        match self {
+            Form::Check => deliver(CheckAnswer::build(alloc), project, out),
+            Form::Normal => deliver(NormalAnswer::build(alloc, project), project, out),
+            Form::Times => deliver(TimesReport::build(alloc, project), project, out),
+        }
+    }
+}

@@ -1,0 +1,53 @@
+//! From a source to the project of its deck, or to why there is none.
+ghost use Rattle.std.specs.Prelude.{◌≡◌, ◌≤◌, length, IfOk, IfErr};
+ghost use Rattle.pc_faults.specs.First.{Refuses};
+ghost use Rattle.pc_deck.specs.Limits.{longest_deck};
+ghost use Rattle.pert_cli.specs.Reading.{HasProject, HasNoProject};
+ghost use Rattle.pert_cli.specs.Sides.{side};
+ghost use Rattle.pert_cli.specs.Verdict.{IsFault, IsProjectOf};
+
+use pc_deck::{DECK_LIMIT, read_cards};
+use pc_edges::{LoadError, Source, load};
+use pc_faults::{DeckError, Fault, TOO_LONG};
+use pc_project::{Project, project_of};
+use std::alloc::Global;
+
+/// Why a source gave no project.
+#[derive(Debug, Drop)]
+pub(crate) enum NoProject {
+    /// The deck is refused.
+    Refused(Fault),
+    /// The source had a fault.
+    ReadFault,
+    OutOfMemory,
+}
+
+/// Reads a deck to its end, and gives its project.
+pub(crate) fn read_project<S: Source>(alloc: Global, source: &mut S) -> Result<Project, NoProject>
+    ensures project { IfOk result (HasProject (side S.left S.faults source.old source.new)) }
+    ensures none { IfErr result (HasNoProject (side S.left S.faults source.old source.new)) }
+{
+    let bytes = match load(alloc, source, DECK_LIMIT) {
+        Ok(bytes) => bytes,
+        Err(LoadError::ReadFault) => return Err(NoProject::ReadFault),
+        Err(LoadError::TooLong) => return Err(NoProject::Refused(TOO_LONG)),
+        Err(LoadError::OutOfMemory) => return Err(NoProject::OutOfMemory),
+    };
+    match project_in(alloc, &bytes) {
+        Ok(project) => Ok(project),
+        Err(DeckError::Fault(fault)) => Err(NoProject::Refused(fault)),
+        Err(DeckError::OutOfMemory) => Err(NoProject::OutOfMemory),
+    }
+}
+
+/// The project of a deck, or the fault with which the deck is refused.
+fn project_in(alloc: Global, bytes: &[u8]) -> Result<Project, DeckError>
+    requires { length bytes.now ≤ longest_deck }
+    ensures accepted { IfOk result (IsProjectOf bytes.now) }
+    ensures refused { IfErr result (Refuses (IsFault bytes.now)) }
+{
+    match read_cards(alloc, bytes) {
+        Ok(cards) => project_of(alloc, cards),
+        Err(e) => Err(e),
+    }
+}
