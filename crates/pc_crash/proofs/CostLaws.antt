@@ -108,23 +108,3 @@ pub costs-most : (net : PricedNetwork) → IsWhole net → (durations : ℕ → 
 costs-most net whole durations k within =
     sum_to-most k 11000000000000 (λ a. activity_cost net.terms (knees_in net) a (durations a))
     (λ a below. activity_cost-most net.network net.terms net.pieces whole.terms whole.limits whole.pieces whole.piece_limits a (omega arith) (durations a))
-
--- an activity at its normal duration costs its cost
-normal-cost : (terms : List Term) (a : ℕ) → activity_cost terms (one_knee terms) a (normal_of terms a) ≡ base_cost_of terms a
-normal-cost terms a =
-    let none : normal_of terms a - normal_of terms a ≡ 0 = omega arith in
-    omega (arith, ap (λ x. slope_of terms a * x) none)
-
--- one more activity at its normal duration
-pub normal_cost-more : (terms : List Term) (k : ℕ) → sum_to (k + 1) (λ a. activity_cost terms (one_knee terms) a (normal_of terms a)) ≡ sum_to k (λ a. activity_cost terms (one_knee terms) a (normal_of terms a)) + base_cost_of terms k
-normal_cost-more terms k = omega (arith, sum_to-more k (λ a. activity_cost terms (one_knee terms) a (normal_of terms a)), normal-cost terms k)
-
--- they have room for one more
-pub normal_cost-room : (terms : List Term) (k : ℕ) → AreWithinLimits terms → k < length terms → sum_to k (λ a. activity_cost terms (one_knee terms) a (normal_of terms a)) + base_cost_of terms k < 2 ^ 64
-normal_cost-room terms k limits inside =
-    omega (
-      arith,
-      limits.few,
-      limits.cheap k inside,
-      sum_to-most k 1000000000000 (λ a. activity_cost terms (one_knee terms) a (normal_of terms a)) (λ a below. omega (arith, normal-cost terms a, limits.cheap a (omega arith))),
-    )

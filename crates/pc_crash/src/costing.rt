@@ -1,14 +1,12 @@
 //! What durations cost.
 ghost use Rattle.std.specs.Prelude.{◌≡◌, ◌*◌, ◌-◌, ◌<◌, ◌≤◌, length, slice_index};
-ghost use Rattle.pc_model.specs.Cost.{activity_cost, cost_of, one_knee};
-ghost use Rattle.pc_model.specs.Schedule.{normal_of};
+ghost use Rattle.pc_model.specs.Cost.{activity_cost, cost_of};
 ghost use Rattle.pc_model.specs.Sums.{sum_to};
 ghost use Rattle.pc_crash.specs.KneeLists.{knee_at, AreSmallKnees};
 ghost use Rattle.pc_crash.specs.Priced.{knees_in, AreDurations};
-ghost use Rattle.pc_crash.specs.Terms.{AreWithinLimits};
 
 use crate::crash_net::CrashNet;
-use pc_model::{Knee, Term};
+use pc_model::Knee;
 
 /// The greatest cost of an activity, in units of money: its cost at its normal duration, and all of that at the greatest slope.
 pub const MAX_ACTIVITY_COST: u64 = 11_000_000_000_000;
@@ -39,18 +37,6 @@ impl<'n> CrashNet<'n> {
         let row = &self.layout.rows[a as usize];
         row.term.cost + price_of(self.layout.part(row), duration)
     }
-}
-
-/// What a project costs at its normal durations.
-pub fn normal_cost(terms: &[Term]) -> u64
-    requires { AreWithinLimits terms.now }
-    ensures { result ≡ cost_of terms.now (one_knee terms.now) (normal_of terms.now) }
-{
-    let mut cost = 0;
-    for term in terms {
-        cost += term.cost;
-    }
-    cost
 }
 
 /// What it costs to shorten an activity with these knees to a duration.

@@ -13,7 +13,7 @@ mod naming;
 mod scheduling;
 mod viewing;
 
-pub use costing::{MAX_ACTIVITY_COST, MAX_PROJECT_COST, normal_cost};
+pub use costing::{MAX_ACTIVITY_COST, MAX_PROJECT_COST};
 pub use counting::Steps;
 pub use crash_net::CrashNet;
 pub use knee_list::KneeList;
