@@ -5,6 +5,7 @@
 //! count of faults that never falls. `Failed` comes only where that count rose.
 #![tactic(auto)]
 
+mod file_source;
 mod loading;
 mod mem_sink;
 mod mem_source;
@@ -16,6 +17,7 @@ mod source;
 mod tests;
 mod write_sink;
 
+pub use file_source::FileSource;
 pub use loading::{LoadError, load};
 pub use mem_sink::MemSink;
 pub use mem_source::MemSource;
