@@ -218,7 +218,10 @@ fn sure_edges_never_fail(rt: HostRuntime) -> Result<(), Fail> {
     assert_eq!(rt; source.pull(&mut []), Ok(0));
     assert_eq!(rt; source.pull(&mut buffer), Ok(4));
     assert_eq!(rt; &buffer, b"brea");
-    assert_eq!(rt; load(rt.alloc(), &mut source, 6)?.as_slice(), b"dboard");
+    assert_eq!(rt;
+        load(rt.alloc(), &mut source, 6)?.as_slice(),
+        b"dboard".as_slice()
+    );
     assert_eq!(rt; source.pull(&mut buffer), Ok(0));
     let mut sink = SureSink::new();
     assert_eq!(rt; push_all(&mut sink, TEXT), Ok(()));
