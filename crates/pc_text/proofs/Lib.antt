@@ -1,2 +1,3 @@
+mod CodeLemmas
 pub mod NumberLemmas
 pub mod DigitsLemmas

@@ -1,5 +1,5 @@
 -- The numbers that fields spell, and their decimal forms.
-use Rattle.std.proofs.Common.{◌≡◌, ℕ, ◌+◌, ◌-◌, ◌*◌, ◌^◌, ◌<◌, ◌≤◌, true, List, length, drop, get_or, refl, sym, arith, rules, zero, suc, add-one, drop-cons}
+use Rattle.std.proofs.Common.{◌≡◌, ℕ, ◌+◌, ◌-◌, ◌*◌, ◌^◌, ◌<◌, ◌≤◌, Bool, true, false, List, length, drop, get_or, Some, None, IfSome, if◌then◌else◌, refl, sym, ap, arith, rules, zero, suc, add-one, drop-cons}
 use Rattle.std.proofs.Math.Nat.{pow-suc, pow-le-pow_right}
 use Rattle.std.proofs.lemmas.Bool.Decides.{nat_tests}
 use Rattle.std.proofs.lemmas.Str.Parse.{IsNumeralModel, numerals_by_fold, digits_value_short, digit_at}
@@ -8,7 +8,7 @@ use Rattle.std.specs.List.{list_all}
 use Rattle.std.specs.Char.{is_ascii_digit}
 use Rattle.std.specs.Fmt.{decimal}
 use Rattle.std.specs.Int.{IsInRange}
-use Rattle.pc_text.specs.Number.{is_number, value_after, IsDecimal}
+use Rattle.pc_text.specs.Number.{is_plain, is_number, value_of, value_after, IsDecimal}
 
 -- the tests and the value here are std's digits and their value
 pub own : IsNumeralModel (λ ds. list_all is_ascii_digit ds ≡ true) (value_after 0)
@@ -83,3 +83,31 @@ is_number-IsDecimal field n h = rw (h.1) (joined (decimal n) (decimal_parts n (h
 -- and it has the value that it spells
 pub value_after-IsDecimal : (field : List ℕ) (n : ℕ) → IsDecimal field n → value_after 0 field ≡ n
 value_after-IsDecimal field n h = rw (h.1) (digits_value-decimal own n (omega (arith, h.0)))
+
+-- a plain field of digits is a number
+number_from_digits : (field : List ℕ) → is_plain field ≡ true → list_all is_ascii_digit field ≡ true → is_number field ≡ true
+number_from_digits field plain digits = grind (arith, nat_tests)
+
+-- and no other field is
+plain_from_number : (field : List ℕ) → is_number field ≡ true → is_plain field ≡ true
+plain_from_number field h = grind (arith, nat_tests)
+
+digits_from_number : (field : List ℕ) → is_number field ≡ true → list_all is_ascii_digit field ≡ true
+digits_from_number field h = (parts field h).digits
+
+if_spelled : (all : Bool) (field : List ℕ) (n : ℕ) → (all ≡ true → IsDecimal field n) → IfSome (if all then Some n else None) (IsDecimal field)
+if_spelled true field n h = h refl
+if_spelled false field n h = tt
+
+-- what is read of a plain field is spelled so
+pub value_spelled : (field : List ℕ) → is_plain field ≡ true → IfSome (value_of field) (IsDecimal field)
+value_spelled field plain =
+    if_spelled (list_all is_ascii_digit field) field (value_after 0 field) (λ digits. spelled_by field (number_from_digits field plain digits))
+
+-- what is spelled so is read
+pub value_read : (field : List ℕ) (n : ℕ) → IsDecimal field n → value_of field ≡ Some n
+value_read field n h = rw (digits_from_number field (is_number-IsDecimal field n h)) (ap Some (value_after-IsDecimal field n h))
+
+-- and it is plain
+pub plain-IsDecimal : (field : List ℕ) (n : ℕ) → IsDecimal field n → is_plain field ≡ true
+plain-IsDecimal field n h = plain_from_number field (is_number-IsDecimal field n h)

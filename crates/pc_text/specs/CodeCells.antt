@@ -1,7 +1,12 @@
 -- How a code lies in its cells.
-use Rattle.std.specs.Prelude.{◌≡◌, ℕ, List, take, true}
-use Rattle.pc_text.specs.Words.{IsPadded}
-use Rattle.pc_text.specs.Code.{is_code}
+use Rattle.std.specs.Prelude.{◌≡◌, ℕ, List, take, true, Option, Some, None, if◌then◌else◌}
+use Rattle.std.specs.List.{list_all}
+use Rattle.pc_text.specs.Words.{IsPadded, padded}
+use Rattle.pc_text.specs.Code.{is_code, is_code_byte}
+
+-- the cells of a text of at most 16 bytes, where each may stand in a code
+abbrev pub cells_of : List ℕ → Option (List ℕ)
+cells_of field = if list_all is_code_byte field then Some (padded 16 field) else None
 
 -- the first `len` of 16 cells are a code, and zeros stand behind it
 pub record IsCodeCells (len : ℕ) (cells : List ℕ) : Type 0 where

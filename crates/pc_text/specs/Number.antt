@@ -4,6 +4,10 @@ use Rattle.std.specs.List.{list_all}
 use Rattle.std.specs.Char.{is_ascii_digit}
 use Rattle.std.specs.Fmt.{decimal}
 
+-- 1 to 13 bytes, and no zero in front of others
+abbrev pub is_plain : List ℕ → Bool
+is_plain field = nat_le 1 (length field) && (nat_le (length field) 13 && (not (slice_index field 0 == 48) || length field == 1))
+
 -- `0`, or digits without a leading zero, at most 13 digits
 abbrev pub is_number : List ℕ → Bool
 is_number field =
@@ -13,6 +17,10 @@ is_number field =
 abbrev pub value_after : ℕ → List ℕ → ℕ
 value_after n [] = n
 value_after n (digit ∷ rest) = value_after (n * 10 + (digit - 48)) rest
+
+-- the value of a field, where each byte is a digit
+abbrev pub value_of : List ℕ → Option ℕ
+value_of field = if list_all is_ascii_digit field then Some (value_after 0 field) else None
 
 -- the number that a field spells, where it is one
 abbrev pub number_of : List ℕ → Option ℕ

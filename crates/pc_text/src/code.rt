@@ -1,5 +1,5 @@
 //! Codes: the short names of projects, events, items, activities and accounts.
-ghost use Rattle.std.specs.Prelude.{◌≡◌, IsTrue, Some, refl, nat_eq};
+ghost use Rattle.std.specs.Prelude.{◌≡◌, ◌≤◌, IsTrue, Some, refl, nat_eq, length};
 ghost use Rattle.std.proofs.Common.{rules};
 ghost use Rattle.std.specs.Ordering.{nat_cmp};
 ghost use Rattle.std.specs.Hash as fed;
@@ -7,9 +7,9 @@ ghost use Rattle.std.specs.Cmp.{partial_equiv_from_equiv};
 ghost use Rattle.std.specs.Cmp.Lexicographic.{pointwise, slice_cmp, nat_list_eq_equiv, nat_list_cmp_total, texts_ties, texts_po};
 ghost use Rattle.std.specs.Cmp.Rules.{hashing};
 ghost use Rattle.std.specs.List.{list_all};
-ghost use Rattle.pc_text.specs.Code.{is_code_byte, is_code, code_of};
+ghost use Rattle.pc_text.specs.Code.{is_code_byte, has_code_length, is_code, code_of};
+ghost use Rattle.pc_text.specs.CodeCells.{cells_of};
 
-use crate::words::pad;
 use std::cmp::Ordering;
 use std::hash::{Hash, Hasher};
 use std::marker::Model;
@@ -48,11 +48,14 @@ impl Code {
     pub fn read(field: &[u8]) -> Option<Code>
         ensures { result ≡ code_of field.now }
     {
-        if !is_code(field) {
+        if !has_code_length(field) {
             return None;
         }
+        let Some(cells) = cells_of(field) else {
+            return None;
+        };
         Some(Code {
-            cells: pad(field),
+            cells,
             len: field.len() as u8,
         })
     }
@@ -77,7 +80,14 @@ fn is_code_byte(byte: u8) -> bool
 pub fn is_code(field: &[u8]) -> bool
     ensures { result ≡ is_code field.now }
 {
-    1 <= field.len() && field.len() <= LIMIT && has_code_bytes(field)
+    has_code_length(field) && has_code_bytes(field)
+}
+
+/// Whether the field has as many bytes as a code may have.
+fn has_code_length(field: &[u8]) -> bool
+    ensures { result ≡ has_code_length field.now }
+{
+    1 <= field.len() && field.len() <= LIMIT
 }
 
 /// Whether each byte may stand in a code.
@@ -85,6 +95,21 @@ fn has_code_bytes(field: &[u8]) -> bool
     ensures { result ≡ list_all is_code_byte field.now }
 {
     field.iter().all(|byte| is_code_byte(*byte))
+}
+
+/// The bytes with zeros behind them, where each may stand in a code. One pass tests and copies them.
+fn cells_of(field: &[u8]) -> Option<[u8; LIMIT]>
+    requires { length field.now ≤ 16 }
+    ensures { result ≡ cells_of field.now }
+{
+    let mut cells = [0; LIMIT];
+    for (i, byte) in field.iter().enumerate() {
+        if !is_code_byte(*byte) {
+            return None;
+        }
+        cells[i] = *byte;
+    }
+    Some(cells)
 }
 
 impl PartialEq for Code {

@@ -59,7 +59,12 @@ impl Title {
 pub fn is_title_shape(field: &[u8]) -> bool
     ensures { result ≡ is_title_shape field.now }
 {
-    field.iter().all(|byte| !byte.is_ascii_control())
+    let mut is_shape = true;
+    for byte in field {
+        // No early end: so a processor tests many bytes at once.
+        is_shape = is_shape & !byte.is_ascii_control();
+    }
+    is_shape
 }
 
 impl PartialEq for Title {
