@@ -87,6 +87,10 @@ module _ (net : PricedNetwork) (priced : IsPriced net.network net.terms (knees_i
   shorter : length_at net there + by ≡ length_at net s
   shorter = moved net.network.end end-known end-moves
 
+  -- the falls fit a number
+  pub fall-fits : s.fallen + by < 2 ^ 64
+  fall-fits = omega (arith, between.fits, shorter)
+
   lower : IsStairOptimal net.network net.terms (knees_in net) (length_at net s - by) (time_of there) (flow_of s) (slope_at net s)
   lower =
       times-alike net.network net.terms (knees_in net) (length_at net s - by) (λ e. time_of s e - fall_of (moving s) by e) (time_of there) (flow_of s)
