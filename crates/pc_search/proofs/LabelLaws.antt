@@ -217,7 +217,7 @@ labelled-ends net s t u rise least priced between rises under_way chosen = recor
 -- a raising more by at least one unit pays for its looks
 pub looks-more : (m x y : ℕ) → 0 < y → m * x + m ≤ m * (x + y)
 looks-more m x y some =
-    let one : 1 ≤ y = omega (arith, some) in omega (arith, mul-add m x y, mul-le-mul_left {1} {y} m one)
+    let one : 1 ≤ y = omega (arith, some) in omega (arith, mul-add m x y, mul-le-mul_left m one)
 
 -- and one unit more for those of the labelling
 pub looks-whole : (m x : ℕ) → m + m * x ≤ m * (1 + x)

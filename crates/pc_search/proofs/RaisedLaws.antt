@@ -1,6 +1,7 @@
 -- A search after a raising: its times and flows are a state again, and its labels stand but for their rooms.
 use Rattle.std.proofs.Common.{◌≡◌, ℕ, ◌+◌, ◌-◌, ◌^◌, ◌<◌, ◌≤◌, List, length, refl, sym, ◌∙◌, ap, subst, arith}
 use Rattle.pc_model.specs.Walk.{from_of, to_of}
+use Rattle.pc_model.specs.Network.{IsOrder}
 use Rattle.pc_curve_laws.specs.State.{IsPart}
 use Rattle.pc_curve_laws.specs.Stair.{IsOnStair}
 use Rattle.pc_curve_laws.specs.Steps.{IsStairOptimal}
@@ -26,7 +27,7 @@ use Rattle.pc_search.specs.Labelling.{length_at, slope_at, slopes_in, IsStateWit
 use Rattle.pc_search.proofs.StateLaws.{IsKnown, slopes-small, value-bounded, flow-bounded}
 use Rattle.pc_search.proofs.RaiseLaws.{on-raised, settled-raised}
 
-module _ (net : PricedNetwork) (order : List ℕ) (known : IsKnown net order) (s t : Sheet) (by k : ℕ) (between : IsBetween net s)
+module _ (net : PricedNetwork) (known : IsKnown net) (order : List ℕ) (ordered : IsOrder net.network order) (s t : Sheet) (by k : ℕ) (between : IsBetween net s)
     (above : IsAboveAllCrash net s) (raised : IsRaisedBy s t net.network.end by k) where
   abbrev search : IsSearch net s
   search = between.search
@@ -61,17 +62,17 @@ module _ (net : PricedNetwork) (order : List ℕ) (known : IsKnown net order) (s
       omega (
         arith,
         slope,
-        value-bounded net order known (length_at net s) above.0 (slope_at net s + by) (time_of s) (flow_of t) higher above.1 above.2,
+        value-bounded net known order ordered (length_at net s) above.0 (slope_at net s + by) (time_of s) (flow_of t) higher above.1 above.2,
       )
 
   small : (a : ℕ) → a < length net.network.arcs → flow_of t a + 1 < 2 ^ 64
   small a inside =
       omega (
         arith,
-        flow-bounded net order known (length_at net s) (slope_at net s + by) (time_of s) (flow_of t) higher a inside,
+        flow-bounded net known order ordered (length_at net s) (slope_at net s + by) (time_of s) (flow_of t) higher a inside,
         slope,
         bounded,
-        slopes-small net order known search.few,
+        slopes-small net known search.few,
       )
 
   gap : (a : ℕ) → gap_at net t a ≡ gap_at net s a

@@ -46,29 +46,30 @@ pub state-own : (net : PricedNetwork) (s : Sheet) (limit value : ℕ) → IsStat
 state-own net s limit value state =
     subst (λ n. IsStateWith net s n (slope_at net s)) (sym state.ends) (subst (λ n. IsStateWith net s limit n) (sym state.leaves) state)
 
--- what is known of a priced network with an order of its events
-pub record IsKnown (net : PricedNetwork) (order : List ℕ) : Type 0 where
+-- what is known of a priced network
+pub record IsKnown (net : PricedNetwork) : Type 0 where
   pub priced : IsPriced net.network net.terms (knees_in net)
   pub limits : AreWithinLimits net.terms
   pub pieces : ArePieces net.terms net.pieces
   pub piece_limits : ArePiecesWithinLimits net.pieces
-  pub ordered : IsOrder net.network order
 
-module _ (net : PricedNetwork) (order : List ℕ) (known : IsKnown net order) where
+module _ (net : PricedNetwork) (known : IsKnown net) where
+  -- the sum of the last slopes is small
   pub slopes-small : length net.network.arcs ≤ MAX_ACTIVITIES → slopes_in net < 10 ^ 13
   slopes-small few =
       last_slopes-small net.network net.terms net.pieces known.priced.terms_fit known.pieces known.limits.gentle known.piece_limits.gentle few
 
   -- a state above the all-crash length has a value that is at most the sum of the last slopes
-  pub value-bounded : (limit shortest value : ℕ) (time along : ℕ → ℕ) → IsStairOptimal net.network net.terms (knees_in net) limit time along value
+  pub value-bounded : (order : List ℕ) → IsOrder net.network order → (limit shortest value : ℕ) (time along : ℕ → ℕ) → IsStairOptimal net.network net.terms (knees_in net) limit time along value
       → IsAllCrashLength net.network net.terms shortest → shortest < limit → value ≤ slopes_in net
-  value-bounded limit shortest value time along state longest above =
-      stair-value_above_crash net.network net.terms (knees_in net) known.priced limit time along value state order shortest known.ordered longest above
+  value-bounded order ordered limit shortest value time along state longest above =
+      stair-value_above_crash net.network net.terms (knees_in net) known.priced limit time along value state order shortest ordered longest above
 
-  pub flow-bounded : (limit value : ℕ) (time along : ℕ → ℕ) → IsStairOptimal net.network net.terms (knees_in net) limit time along value
+  -- and no activity has more flow than the value
+  pub flow-bounded : (order : List ℕ) → IsOrder net.network order → (limit value : ℕ) (time along : ℕ → ℕ) → IsStairOptimal net.network net.terms (knees_in net) limit time along value
       → (a : ℕ) → a < length net.network.arcs → along a ≤ value
-  flow-bounded limit value time along state a inside =
-      stair-units_bounded net.network net.terms (knees_in net) known.priced limit time along value state order known.ordered a inside
+  flow-bounded order ordered limit value time along state a inside =
+      stair-units_bounded net.network net.terms (knees_in net) known.priced limit time along value state order ordered a inside
 
 -- an end with a label has it by a step
 pub end-stepped : (net : PricedNetwork) (s : Sheet) → IsSearch net s → 0 < rank_of s net.network.end → HasStep s net.network.end

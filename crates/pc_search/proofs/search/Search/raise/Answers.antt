@@ -18,12 +18,12 @@ returns-clause-raised c =
     let s = c.args.self.now.board in
     let order : List ℕ = c.order-order.result.now in
     let end : c.end-end.result ≡ net.network.end = c.end-end.ensures.end ∙ ap (λ (n : Network). n.end) c.net-net.ensures.network in
-    let known : IsKnown net order = record {
+    let known : IsKnown net = record {
       priced = c.net-net.ensures.priced;
       limits = c.net-net.ensures.limits;
       pieces = c.net-net.ensures.pieces;
       piece_limits = c.net-net.ensures.piece_limits;
-      ordered = subst (λ n. IsOrder n order) c.net-net.ensures.network c.order-order.ensures.order;
     } in
+    let ordered : IsOrder net.network order = subst (λ n. IsOrder n order) c.net-net.ensures.network c.order-order.ensures.order in
     let raised : IsRaised s c.raise.new.self net.network.end c.raise.result = subst (λ e. IsRaised s c.raise.new.self e c.raise.result) end c.raise.ensures in
-    has_raised net order known s c.raise.new.self c.raise.result raised.0 c.requires.between c.requires.above raised.1 c.requires.settled
+    has_raised net known order ordered s c.raise.new.self c.raise.result raised.0 c.requires.between c.requires.above raised.1 c.requires.settled
