@@ -1,31 +1,31 @@
 -- Writing a decimal form from its last digit on.
 use Rattle.std.proofs.Common.{◌≡◌, ℕ, ◌+◌, ◌-◌, ◌/◌, ◌%◌, ◌^◌, ◌<◌, ◌≤◌, ℤ, pos, negsuc, ◌≤ℤ◌, ◌<ℤ◌, List, [], ◌∷◌, ◌++◌, length, drop, set, refl, sym, ap, ◌∙◌, arith, length-append, length-drop, append-nil, append_assoc}
-use Rattle.std.proofs.lemmas.Fmt.{decimal_step, decimal_digit, decimal_nonempty, length-decimal-le}
+use Rattle.std.proofs.lemmas.Fmt.{decimal_step_wide, decimal_digit, decimal_is_IsNumeral_wide, length-decimal-le, length-decimal-le_wide}
 use Rattle.std.proofs.lemmas.List.{drop-set, drop_all}
 use Rattle.std.proofs.lemmas.Int.{ints}
 use Rattle.std.proofs.Math.ListN.{length-set}
 use Rattle.std.specs.Prelude.{unsigned_abs}
 use Rattle.std.specs.Fmt.{decimal, signed_decimal}
 
--- the cells from `start` on have the last digits of n, and `rest` is the number before them
-pub record IsWritten (n rest start : ℕ) (cells : List ℕ) : Type 0 where
-  pub within : start ≤ 20
-  pub full : length cells ≡ 20
+-- of so many cells those from `start` on have the last digits of n, and `rest` is the number before them
+pub record IsWritten (most n rest start : ℕ) (cells : List ℕ) : Type 0 where
+  pub within : start ≤ most
+  pub full : length cells ≡ most
   pub room : length (decimal rest) ≤ start
   pub whole : decimal n ≡ decimal rest ++ drop start cells
 
 -- nothing is written yet
-pub begun : (n : ℕ) (cells : List ℕ) → n < 2 ^ 64 → length cells ≡ 20 → IsWritten n n 20 cells
-begun n cells small full = record {
+pub begun : (most n : ℕ) (cells : List ℕ) → 0 < most → n < 10 ^ most → n < 10 ^ 64 → length cells ≡ most → IsWritten most n n most cells
+begun most n cells some fits small full = record {
   within = omega arith;
   full = full;
-  room = length-decimal-le 20 n (omega arith) (omega arith) small;
-  whole = rw (drop_all 20 cells (omega (arith, full))) (sym (append-nil (decimal n)));
+  room = length-decimal-le_wide most n some fits small;
+  whole = rw (drop_all most cells (omega (arith, full))) (sym (append-nil (decimal n)));
 }
 
 -- there is room for a digit
-pub room_left : {n rest start : ℕ} {cells : List ℕ} → IsWritten n rest start cells → rest < 2 ^ 64 → 1 ≤ start
-room_left {rest = rest} w small = omega (arith, w.room, decimal_nonempty rest small)
+pub room_left : {most n rest start : ℕ} {cells : List ℕ} → IsWritten most n rest start cells → rest < 10 ^ 64 → 1 ≤ start
+room_left {rest = rest} w small = omega (arith, w.room, (decimal_is_IsNumeral_wide rest small).0.0)
 
 -- a digit before the written ones
 written : (start digit : ℕ) (cells : List ℕ) → 1 ≤ start → start ≤ length cells → drop (start - 1) (set cells (start - 1) digit) ≡ digit ∷ drop start cells
@@ -35,9 +35,9 @@ written start digit cells some within =
     drop-set cells (start - 1) digit below ∙ ap (λ at. digit ∷ drop at cells) same
 
 -- the last digit of the rest goes before those that are written
-pub next : {n rest start : ℕ} {cells : List ℕ} → IsWritten n rest start cells → rest < 2 ^ 64 → 10 ≤ rest → IsWritten n (rest / 10) (start - 1) (set cells (start - 1) (48 + rest % 10))
-next {n} {rest} {start} {cells} w small more =
-    let step = decimal_step rest more small in
+pub next : {most n rest start : ℕ} {cells : List ℕ} → IsWritten most n rest start cells → rest < 10 ^ 64 → 10 ≤ rest → IsWritten most n (rest / 10) (start - 1) (set cells (start - 1) (48 + rest % 10))
+next {most} {n} {rest} {start} {cells} w small more =
+    let step = decimal_step_wide rest more small in
     let some = room_left w small in
     record {
       within = omega (arith, w.within);
@@ -51,8 +51,8 @@ next {n} {rest} {start} {cells} w small more =
     }
 
 -- a rest of one digit ends the work
-pub last : {n rest start : ℕ} {cells : List ℕ} → IsWritten n rest start cells → rest < 10 → drop (start - 1) (set cells (start - 1) (48 + rest)) ≡ decimal n
-last {n} {rest} {start} {cells} w few =
+pub last : {most n rest start : ℕ} {cells : List ℕ} → IsWritten most n rest start cells → rest < 10 → drop (start - 1) (set cells (start - 1) (48 + rest)) ≡ decimal n
+last {most} {n} {rest} {start} {cells} w few =
     let some = room_left w (omega arith) in
     written start (48 + rest) cells some (omega (arith, w.within, w.full))
     ∙ sym (w.whole ∙ ap (λ front. front ++ drop start cells) (decimal_digit rest few))

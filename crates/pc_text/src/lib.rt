@@ -7,14 +7,16 @@ mod decimal;
 mod line;
 mod number;
 mod title;
+mod wide_decimal;
 mod words;
 
 pub use code::{Code, is_code};
 pub use codes::Codes;
 pub use decimal::{Digits, Signed};
 pub use line::Line;
-pub use number::{digits, read_number, signed};
+pub use number::{digits, read_number, signed, wide};
 pub use title::{Title, is_title_shape};
+pub use wide_decimal::Wide;
 
 #[cfg(test)]
 mod tests;

@@ -4,6 +4,7 @@ ghost use Rattle.std.specs.Fmt.{signed_decimal};
 ghost use Rattle.pc_text.specs.Number.{is_plain, value_of, number_of, IsDecimal};
 
 use crate::decimal::{Digits, Signed};
+use crate::wide_decimal::Wide;
 
 /// The most digits that a number has.
 const LIMIT: usize = 13;
@@ -59,4 +60,12 @@ pub fn signed(n: i64) -> Signed
     ensures short { length result ≤ 20 }
 {
     Signed::of(n)
+}
+
+/// The decimal form of a number that may be too great for 64 bits.
+pub fn wide(n: u128) -> Wide
+    ensures value { result ≡ decimal n }
+    ensures short { length result ≤ 39 }
+{
+    Wide::of(n)
 }

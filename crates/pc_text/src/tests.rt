@@ -77,6 +77,20 @@ fn numbers(rt: HostRuntime) {
 }
 
 #[test]
+fn wide_numbers(rt: HostRuntime) -> Result<(), Fail> {
+    assert_eq!(rt; wide(0).bytes(), b"0".as_slice());
+    assert_eq!(rt;
+        wide(1_000_000_000_000_000_000_000).bytes(),
+        b"1000000000000000000000".as_slice()
+    );
+    assert_eq!(rt;
+        wide(u128::MAX).bytes(),
+        b"340282366920938463463374607431768211455".as_slice()
+    );
+    Ok(())
+}
+
+#[test]
 fn lines(rt: HostRuntime) -> Result<(), Fail> {
     let mut line = Line::with_room(rt.alloc(), 16)?;
     line.text(b"ACT ");

@@ -3,7 +3,7 @@ use Rattle.pc_text.proofs.DigitsLemmas.{begun, room_left, next, last}
 use Rattle.pc_text.proofs.decimal.Digits.of.Goals as goal
 
 pub loop-rest-init : goal.loop-rest-init
-loop-rest-init c = begun c.args.n _ c.ranges.n.fits refl
+loop-rest-init c = begun 20 c.args.n _ (omega arith) (omega (arith, c.ranges.n.fits)) (omega (arith, c.ranges.n.fits)) refl
 
 pub overflow_sub-start : goal.overflow_sub-start
 overflow_sub-start c = room_left c.loop-rest.invariant (omega arith)
