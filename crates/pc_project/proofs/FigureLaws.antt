@@ -58,6 +58,12 @@ module _ (deck : Deck) where
   pub status_there : (k : ℕ) → k < length deck.statuses → status_at (statuses_in deck) k ≡ status_of deck (get_or deck.statuses k no_status)
   status_there k inside = get_or-map (status_of deck) deck.statuses k no_status (record { activity = 0; finished = false; day = pos 0 }) inside
 
+-- the item of an activity's work is an item
+pub work_known : (deck : Deck) → HasNoMisfit deck → (a : ℕ) → a < length (work_in deck) → (work_at (work_in deck) a).item < length deck.items
+work_known deck none a below =
+    let inside : a < length deck.acts = omega (arith, below, length-map deck.acts (work_of deck)) in
+    omega (arith, ap (λ (r : WorkRow). r.item) (work_there deck a inside), place_of-within deck none a inside)
+
 -- they are within their limits
 module _ (deck : Deck) (limits : IsWithinLimits deck) (none : HasNoMisfit deck) where
   pub accounts_known : (a : ℕ) → a < length (accounts_in deck) → (account_at (accounts_in deck) a).item < length (rows_of deck)
@@ -92,9 +98,7 @@ module _ (deck : Deck) (limits : IsWithinLimits deck) (none : HasNoMisfit deck) 
 
   pub are_work : AreWork (length (rows_of deck)) (work_in deck)
   are_work = record {
-    known = λ a below.
-        let inside : a < length deck.acts = omega (arith, below, length-map deck.acts (work_of deck)) in
-        omega (arith, ap (λ (r : WorkRow). r.item) (work_there deck a inside), place_of-within deck none a inside, length-map deck.items (row_of deck));
+    known = λ a below. omega (arith, work_known deck none a below, length-map deck.items (row_of deck));
     small = λ a below.
         let inside : a < length deck.acts = omega (arith, below, length-map deck.acts (work_of deck)) in
         omega (arith, ap (λ (r : WorkRow). r.cost) (work_there deck a inside), (limits.acts_within a no_act inside).cost);
