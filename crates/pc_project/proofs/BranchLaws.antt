@@ -1,8 +1,7 @@
 -- Activities and accounts that stand on leaves, and those that do not.
-use Rattle.std.proofs.Common.{◌≡◌, ◌<◌, ℕ, List, [], length, map, get_or, Option, None, Some, refl, sym, ap, ◌∙◌, subst, inl, inr, ◌⊎◌, arith}
-use Rattle.std.specs.Prelude.{slice_index}
+use Rattle.std.proofs.Common.{◌≡◌, ◌<◌, ℕ, List, length, map, get_or, Option, refl, sym, ap, ◌∙◌, subst, inl, inr, ◌⊎◌}
 use Rattle.std.specs.List.{Any}
-use Rattle.std.proofs.lemmas.List.{get_or-map, get_or_read}
+use Rattle.std.proofs.lemmas.List.{get_or-map}
 use Rattle.pc_accounts.specs.Amounts.{account_at}
 use Rattle.pc_accounts.specs.declared.rows.AcctRow.{AcctRow}
 use Rattle.pc_accounts.specs.declared.rows.WorkRow.{WorkRow}

@@ -1,17 +1,17 @@
 -- The first status in disorder, and statuses in order.
-use Rattle.std.proofs.Common.{◌≡◌, ◌<◌, ◌≤◌, ℕ, List, length, Option, None, Some, refl, sym, ap, ◌∙◌, subst, inl, inr, ◌⊎◌, arith, ◌++◌, ◌∷◌, [], ◌+◌}
-use Rattle.std.specs.Prelude.{ℤ, ◌<ℤ◌, ◌≤ℤ◌, IfSome, IfNone, option_map, slice_index}
+use Rattle.std.proofs.Common.{◌≡◌, ◌<◌, ℕ, List, length, Option, None, Some, refl, sym, ap, ◌∙◌, subst, inl, inr, ◌⊎◌, arith}
+use Rattle.std.specs.Prelude.{ℤ, ◌<ℤ◌, ◌≤ℤ◌, IfSome, IfNone, option_map}
 use Rattle.std.proofs.lemmas.Int.{by_lt_z, ints}
 use Rattle.pc_deck.specs.Deck.{Deck}
 use Rattle.pc_deck.specs.declared.kinds.as_of.AsOfCard.{AsOfCard}
 use Rattle.pc_faults.specs.Faults.{disorder}
-use Rattle.pc_faults.specs.First.{IsFirst, IsNoLater}
+use Rattle.pc_faults.specs.First.{IsFirst}
 use Rattle.pc_faults.specs.declared.fault.Fault.{Fault}
 use Rattle.pc_faults.specs.declared.status.StatusFault.{StatusFault}
 use Rattle.pc_faults.specs.declared.status.StatusFault.TheVariants.{Second, Early, Late, NoStart, FinishFirst}
 use Rattle.pc_status.specs.Statuses.{AreInOrder, HasReason, IsInOrder, IsReason, place_of}
 use Rattle.pc_status.specs.declared.row.StatusRow.{StatusRow}
-use Rattle.pc_project.specs.DisorderFaults.{HasDisorder, HasNoDisorder, HasStatusDisorder, IsDisorderAt, IsEarlyAsOf, as_of_in, of_as_of, of_status}
+use Rattle.pc_project.specs.DisorderFaults.{HasDisorder, HasNoDisorder, HasStatusDisorder, IsEarlyAsOf, as_of_in, of_as_of, of_status}
 use Rattle.pc_project.specs.First.{IsFirstIn, earliest}
 use Rattle.pc_project.specs.Project.{as_of_day, statuses_in}
 use Rattle.pc_project.proofs.CardLaws.{no_later}

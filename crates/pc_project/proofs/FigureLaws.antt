@@ -1,6 +1,6 @@
 -- The accounts, amounts and statuses of a deck whose cards make a project, and its entries and states.
 use Rattle.std.proofs.Common.{◌≡◌, ◌<◌, ◌≤◌, ℕ, List, [], ◌∷◌, length, get_or, map, refl, sym, ap, subst, ◌∙◌, arith}
-use Rattle.std.specs.Prelude.{ℤ, pos, false, slice_index}
+use Rattle.std.specs.Prelude.{pos, false, slice_index}
 use Rattle.std.proofs.lemmas.List.{get_or-map, length-map}
 use Rattle.pc_accounts.specs.Amounts.{AreEntriesOf, AreMoney, account_at, money_at}
 use Rattle.pc_accounts.specs.Entries.{AreSmall}
@@ -20,13 +20,13 @@ use Rattle.pc_status.specs.Statuses.{AreKnown, status_at}
 use Rattle.pc_status.specs.declared.row.StatusRow.{StatusRow}
 use Rattle.pc_times.specs.declared.state.ActState.{ActState}
 use Rattle.pc_wbs.specs.Climb.{IsLeaf}
-use Rattle.pc_project.specs.DisorderFaults.{HasNoDisorder, as_of_in}
+use Rattle.pc_project.specs.DisorderFaults.{as_of_in}
 use Rattle.pc_project.specs.Figures.{AreAccounts, AreFigures, AreStatesOf, work_rows}
 use Rattle.pc_project.specs.Misfit.{HasNoMisfit}
 use Rattle.pc_project.specs.PackageFaults.{HasNoLeafFault}
 use Rattle.pc_project.specs.Planned.{HasFigures}
 use Rattle.pc_project.specs.Project.{account_of, accounts_in, arc_of, charges_in, money_of, network_of, place_of, project_in, row_of, rows_of, status_of, statuses_in, term_of, togos_in, work_in, work_of}
-use Rattle.pc_project.specs.Refusal.{HasNoSecondToGo, HasSoundFigures, IsEven}
+use Rattle.pc_project.specs.Refusal.{HasNoSecondToGo, HasSoundFigures}
 use Rattle.pc_project.proofs.BranchLaws.{account_on_leaf, act_on_leaf}
 use Rattle.pc_project.proofs.DisorderLaws.{all_in_order, as_of-late}
 use Rattle.pc_project.proofs.FitLaws.{account_item-within, charge_account-within, no_act, place_of-within, status_activity-within, togo_account-within}

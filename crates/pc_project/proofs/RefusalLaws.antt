@@ -1,6 +1,5 @@
 -- A deck is not both a project and refused, and each refusal can be told.
 use Rattle.std.proofs.Common.{◌≡◌, ◌≢◌, refl, sym, ◌∙◌, subst, ap}
-use Rattle.pc_model.specs.Network.{IsSound}
 use Rattle.pc_wbs.specs.declared.error.TreeError.{TreeError}
 use Rattle.pc_wbs.specs.declared.error.TreeError.TheVariants as tree
 use Rattle.pc_wbs.specs.Climb.{IsTree}

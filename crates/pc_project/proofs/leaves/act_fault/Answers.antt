@@ -1,4 +1,4 @@
-use Rattle.std.proofs.Common.{◌≡◌, ◌+◌, ◌<◌, ◌∙◌, length, get_or, sym, ap, arith}
+use Rattle.std.proofs.Common.{◌<◌, length, ap, arith}
 use Rattle.std.proofs.lemmas.List.{length-map}
 use Rattle.pc_deck.specs.declared.kinds.act.ActCard.{ActCard}
 use Rattle.pc_project.specs.PackageFaults.{StandsOnBranch}

@@ -3,7 +3,7 @@ use Rattle.pc_accounts.specs.Entries.{AreSmall}
 use Rattle.pc_project.specs.Planned.{IsPlanned}
 use Rattle.pc_project.proofs.FigureLaws.{project_in-figures}
 use Rattle.pc_project.proofs.FitLaws.{all_fit}
-use Rattle.pc_project.proofs.PlannedLaws.{IsProjectOfDeck-made, project_in-is, project_in-planned}
+use Rattle.pc_project.proofs.PlannedLaws.{project_in-is, project_in-planned}
 use Rattle.pc_project.proofs.phases.planned.Goals as goal
 
 pub lists_of-requires-clause-ordered : goal.lists_of-requires-clause-ordered
