@@ -12,3 +12,7 @@ mod CountLaws
 mod PieceLaws
 mod RunLaws
 mod PieceSteps
+mod BranchLaws
+mod DisorderLaws
+mod FigureLaws
+mod StateLaws
