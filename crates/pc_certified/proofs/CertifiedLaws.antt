@@ -1,5 +1,5 @@
 -- A certificate that is written of whole segments is certified, and says these segments.
-use Rattle.std.proofs.Common.{◌≡◌, ℕ, ◌<◌, zero, suc, List, [], ◌∷◌, ◌++◌, length, Some, None, refl, sym, ap, ◌∙◌, subst, arith, append_assoc}
+use Rattle.std.proofs.Common.{◌≡◌, ℕ, ◌<◌, zero, suc, List, [], ◌∷◌, ◌++◌, length, refl, sym, ap, ◌∙◌, subst, arith, append_assoc}
 use Rattle.std.proofs.lemmas.List.{length-map, append-nil}
 use Rattle.std.proofs.lemmas.List.Elements.{recursion_from_All}
 use Rattle.std.proofs.lemmas.Grind.{flat_map-append}
@@ -8,13 +8,12 @@ use Rattle.std.specs.Prelude.{map, All}
 use Rattle.pc_curve_laws.specs.Segment.{Segment}
 use Rattle.pc_curve_laws.specs.Cover.{Joins, segment_at}
 use Rattle.pc_lines.specs.Text.{text_of, AllFit}
-use Rattle.pc_lines.proofs.TextLaws.{text_of-append, AllFit-append, text_once}
-use Rattle.pc_lines.specs.declared.line.CertLine.{CertLine}
-use Rattle.pc_crash.specs.Priced.{PricedNetwork, AreNames, knees_in}
-use Rattle.pc_check.specs.Draft.{draft_of}
+use Rattle.pc_lines.proofs.TextLaws.{text_of-append, AllFit-append}
+use Rattle.pc_crash.specs.Priced.{PricedNetwork, AreNames}
 use Rattle.pc_check.specs.Said.{segment_in}
 use Rattle.pc_check.specs.Certified.{AreCertified, AreCurve, segments_of}
 use Rattle.pc_check.proofs.GoodLines.{curve_of}
+use Rattle.pc_audit.specs.Texts.{IsCertified}
 use Rattle.pc_cert_writer.specs.Document.{head_lines, segment_lines, end_lines, document_lines}
 use Rattle.pc_certified.specs.Complete.{IsComplete, begun_lines}
 use Rattle.pc_certified.specs.Rows.{part_of, SaySame, AllSaySame}
@@ -51,6 +50,15 @@ module _ (net : PricedNetwork) (sized : IsSized net) (names : AreNames (length n
 
   pub curve : AreCurve net (segments_of net (document_lines net normal crash segments))
   curve = curve_of net (document_lines net normal crash segments) sized.priced names.one_each certified
+
+  pub text_certified : AllFit (document_lines net normal crash segments) → IsCertified net (text_of (document_lines net normal crash segments)) (length segments)
+  text_certified fit = record {
+    lines = document_lines net normal crash segments;
+    whole = record { led = record { fit = fit; order = certified.whole }; whole = refl };
+    none = certified.none;
+    count = sym all_same.one_each;
+    curve = curve;
+  }
 
 -- ---- texts
 
