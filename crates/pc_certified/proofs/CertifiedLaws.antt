@@ -1,10 +1,12 @@
 -- A certificate that is written of whole segments is certified, and says these segments.
 use Rattle.std.proofs.Common.{◌≡◌, ℕ, ◌<◌, zero, suc, List, [], ◌∷◌, ◌++◌, length, refl, sym, ap, ◌∙◌, subst, arith, append_assoc}
 use Rattle.std.proofs.lemmas.List.{length-map, append-nil}
-use Rattle.std.proofs.lemmas.List.Elements.{recursion_from_All}
+use Rattle.std.proofs.lemmas.List.Elements.{recursion_from_All, All-from_recursion}
 use Rattle.std.proofs.lemmas.Grind.{flat_map-append}
 use Rattle.std.specs.List.{AllByRecursion as ByRecursion, flat_map}
 use Rattle.std.specs.Prelude.{map, All}
+use Rattle.pc_model.specs.declared.Arc.{Arc}
+use Rattle.pc_model.specs.Walk.{to_of, IsWalk}
 use Rattle.pc_curve_laws.specs.Segment.{Segment}
 use Rattle.pc_curve_laws.specs.Cover.{Joins, segment_at}
 use Rattle.pc_lines.specs.Text.{text_of, AllFit}
@@ -14,7 +16,7 @@ use Rattle.pc_check.specs.Said.{segment_in}
 use Rattle.pc_check.specs.Certified.{AreCertified, AreCurve, segments_of}
 use Rattle.pc_check.proofs.GoodLines.{curve_of}
 use Rattle.pc_audit.specs.Texts.{IsCertified}
-use Rattle.pc_cert_writer.specs.Document.{head_lines, segment_lines, end_lines, document_lines}
+use Rattle.pc_cert_writer.specs.Document.{head_lines, segment_lines, end_lines, document_lines, HasSmallNumbers}
 use Rattle.pc_certified.specs.Complete.{IsComplete, begun_lines}
 use Rattle.pc_certified.specs.Rows.{part_of, SaySame, AllSaySame}
 use Rattle.pc_certified.proofs.CloseLaws.{says_same}
@@ -89,3 +91,16 @@ pub document_fits : (net : PricedNetwork) (normal crash : List ℕ) (segments : 
 document_fits net normal crash segments head fit =
     AllFit-append (head_lines net normal crash) (flat_map (segment_lines net) segments ++ end_lines) head
     (fit_all net segments (recursion_from_All (λ seg. AllFit (segment_lines net seg)) segments fit))
+
+-- where each segment's lines can be spelled if its numbers are small, and they are
+pub fit_where_small : (net : PricedNetwork) (segments : List Segment) → All (λ seg. HasSmallNumbers net seg → AllFit (segment_lines net seg)) segments → All (HasSmallNumbers net) segments
+    → All (λ seg. AllFit (segment_lines net seg)) segments
+fit_where_small net segments fit small = λ k d lt. fit k d lt (small k d lt)
+
+walk_known_each : (arcs : List Arc) (e f : ℕ) (walk : List ℕ) → IsWalk arcs e walk f → ByRecursion (λ a. a < length arcs) walk
+walk_known_each arcs e f [] leads = tt
+walk_known_each arcs e f (a ∷ walk) leads = (leads.0, walk_known_each arcs (to_of arcs a) f walk (leads.2))
+
+-- the activities of a walk are activities of the network, as its writer asks
+pub walk_known : (arcs : List Arc) (e f : ℕ) (walk : List ℕ) → IsWalk arcs e walk f → All (λ a. a < length arcs) walk
+walk_known arcs e f walk leads = All-from_recursion (λ a. a < length arcs) walk (walk_known_each arcs e f walk leads)
