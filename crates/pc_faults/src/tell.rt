@@ -1,6 +1,6 @@
 //! The line that tells a fault.
-ghost use Rattle.std.specs.Prelude.{◌≡◌, ◌<◌, ◌≤◌, ◌+◌, ◌*◌, ◌^◌, ◌++◌, length, IfOk};
-ghost use Rattle.pc_faults.specs.FaultText.{IsNumber, IsTold, numbers_of, words_of, fault_text};
+ghost use Rattle.std.specs.Prelude.{◌≡◌, ◌<◌, ◌≤◌, ◌+◌, ◌*◌, ◌^◌, [], ◌∷◌, ◌++◌, length, IfOk};
+ghost use Rattle.pc_faults.specs.FaultText.{IsNumber, IsTold, list_numbers, name_numbers, numbers_of, words_of, fault_text};
 ghost use Rattle.pc_faults.specs.FaultRoom.{listed_in, words_limit};
 ghost use Rattle.pc_faults.specs.declared.fault.Detail.TheVariants as detail;
 
@@ -10,8 +10,8 @@ use crate::kind::Kind;
 use crate::words::{
     field_words, listed_words, plain_words, side_words, words_before, words_behind,
 };
-use pc_days::day_text;
-use pc_text::{Code, Line, digits};
+use pc_days::{Day, day_text};
+use pc_text::{Code, Codes, Line, digits};
 use std::alloc::{AllocError, Global};
 
 /// Room for the longest line of a fault that lists no codes.
@@ -71,64 +71,39 @@ fn tell(line: &mut Line, number: u8, detail: &Detail)
 {
     match detail {
         Detail::Plain => line.text(plain_words(number)),
-        Detail::Kind(kind) => {
-            line.text(b"second ");
-            line.text(kind.word());
-        }
+        Detail::Kind(kind) => tell_second(line, *kind),
         Detail::Fields { kind, have, want } => tell_fields(line, *kind, *have, *want),
-        Detail::Field(field) => {
-            line.text(b"field ");
-            line.text(digits(u64::from(*field)).bytes());
-            line.text(field_words(number));
-        }
-        Detail::Name(code) => {
-            line.text(words_before(number));
-            line.text(code.bytes());
-            line.text(words_behind(number));
-        }
-        Detail::TooMany { kind, limit } => {
-            line.text(b"more than ");
-            line.text(digits(*limit).bytes());
-            line.text(b" ");
-            line.text(kind.word());
-            line.text(b" cards");
-        }
-        Detail::Names(names) => {
-            line.text(listed_words(number));
-            tell_joined(line, names.as_slice());
-        }
-        Detail::Level { name, level } => {
-            line.text(b"item ");
-            line.text(name.bytes());
-            line.text(b" at level ");
-            line.text(digits(u64::from(*level)).bytes());
-        }
-        Detail::Side { name, entered } => {
-            line.text(side_words(*entered));
-            line.text(name.bytes());
-        }
+        Detail::Field(field) => tell_field(line, number, *field),
+        Detail::Name(code) => tell_name(line, number, code),
+        Detail::TooMany { kind, limit } => tell_too_many(line, *kind, *limit),
+        Detail::Names(names) => tell_names(line, number, names),
+        Detail::Level { name, level } => tell_level(line, name, *level),
+        Detail::Side { name, entered } => tell_side(line, name, *entered),
         Detail::Sums {
             name,
             budgets,
             costs,
         } => tell_sums(line, name, *budgets, *costs),
         Detail::Status(reason) => line.text(reason.words()),
-        Detail::ToGo { account, day } => {
-            line.text(b"second TOGO of ");
-            line.text(account.bytes());
-            line.text(b" on ");
-            line.text(&day_text(*day));
-        }
+        Detail::ToGo { account, day } => tell_togo(line, account, *day),
         Detail::Length {
             asked,
             crash,
             normal,
         } => tell_length(line, *asked, *crash, *normal),
-        Detail::Periods { have } => {
-            line.text(digits(*have).bytes());
-            line.text(b" periods, more than 400");
-        }
+        Detail::Periods { have } => tell_periods(line, *have),
     }
+}
+
+/// Appends of which kind there is a second card.
+fn tell_second(line: &mut Line, kind: Kind)
+    requires { length line.old.bytes + 90 ≤ line.old.room }
+    ensures bytes { line.new.bytes ≡ line.old.bytes ++ words_of 5 (detail.Kind kind) }
+    ensures room { line.new.room ≡ line.old.room }
+    ensures short { length line.new.bytes ≤ length line.old.bytes + 90 }
+{
+    line.text(b"second ");
+    line.text(kind.word());
 }
 
 /// Appends how many fields a record has and should have.
@@ -143,6 +118,82 @@ fn tell_fields(line: &mut Line, kind: Kind, have: u64, want: u64)
     line.text(kind.word());
     line.text(b" has ");
     line.text(digits(want).bytes());
+}
+
+/// Appends what is wrong with a field.
+fn tell_field(line: &mut Line, number: u8, field: u8)
+    requires told { IsNumber (7 ∷ 8 ∷ []) number }
+    requires room { length line.old.bytes + 90 ≤ line.old.room }
+    ensures bytes { line.new.bytes ≡ line.old.bytes ++ words_of number (detail.Field field) }
+    ensures room { line.new.room ≡ line.old.room }
+    ensures short { length line.new.bytes ≤ length line.old.bytes + 90 }
+{
+    line.text(b"field ");
+    line.text(digits(u64::from(field)).bytes());
+    line.text(field_words(number));
+}
+
+/// Appends what is wrong with a code.
+fn tell_name(line: &mut Line, number: u8, code: &Code)
+    requires told { IsNumber name_numbers number }
+    requires room { length line.old.bytes + 90 ≤ line.old.room }
+    ensures bytes { line.new.bytes ≡ line.old.bytes ++ words_of number (detail.Name code.now) }
+    ensures room { line.new.room ≡ line.old.room }
+    ensures short { length line.new.bytes ≤ length line.old.bytes + 90 }
+{
+    line.text(words_before(number));
+    line.text(code.bytes());
+    line.text(words_behind(number));
+}
+
+/// Appends of which kind there are too many cards.
+fn tell_too_many(line: &mut Line, kind: Kind, limit: u64)
+    requires { length line.old.bytes + 90 ≤ line.old.room }
+    ensures bytes { line.new.bytes ≡ line.old.bytes ++ words_of 10 (detail.TooMany kind limit) }
+    ensures room { line.new.room ≡ line.old.room }
+    ensures short { length line.new.bytes ≤ length line.old.bytes + 90 }
+{
+    line.text(b"more than ");
+    line.text(digits(limit).bytes());
+    line.text(b" ");
+    line.text(kind.word());
+    line.text(b" cards");
+}
+
+/// Appends what is wrong with several codes together.
+fn tell_names(line: &mut Line, number: u8, names: &Codes)
+    requires told { IsNumber list_numbers number }
+    requires room { length line.old.bytes + (90 + 17 * length names.now) ≤ line.old.room }
+    ensures bytes { line.new.bytes ≡ line.old.bytes ++ words_of number (detail.Names names.now) }
+    ensures room { line.new.room ≡ line.old.room }
+    ensures short { length line.new.bytes ≤ length line.old.bytes + (90 + 17 * length names.now) }
+{
+    line.text(listed_words(number));
+    tell_joined(line, names.as_slice());
+}
+
+/// Appends the level of an item.
+fn tell_level(line: &mut Line, name: &Code, level: u32)
+    requires { length line.old.bytes + 90 ≤ line.old.room }
+    ensures bytes { line.new.bytes ≡ line.old.bytes ++ words_of 23 (detail.Level name.now level) }
+    ensures room { line.new.room ≡ line.old.room }
+    ensures short { length line.new.bytes ≤ length line.old.bytes + 90 }
+{
+    line.text(b"item ");
+    line.text(name.bytes());
+    line.text(b" at level ");
+    line.text(digits(u64::from(level)).bytes());
+}
+
+/// Appends on which side an event stands loose.
+fn tell_side(line: &mut Line, name: &Code, entered: bool)
+    requires { length line.old.bytes + 90 ≤ line.old.room }
+    ensures bytes { line.new.bytes ≡ line.old.bytes ++ words_of 26 (detail.Side name.now entered) }
+    ensures room { line.new.room ≡ line.old.room }
+    ensures short { length line.new.bytes ≤ length line.old.bytes + 90 }
+{
+    line.text(side_words(entered));
+    line.text(name.bytes());
 }
 
 /// Appends the two sums of an item that should be equal.
@@ -160,6 +211,19 @@ fn tell_sums(line: &mut Line, name: &Code, budgets: u64, costs: u64)
     line.text(digits(costs).bytes());
 }
 
+/// Appends of which account and date there is a second TOGO card.
+fn tell_togo(line: &mut Line, account: &Code, day: Day)
+    requires { length line.old.bytes + 90 ≤ line.old.room }
+    ensures bytes { line.new.bytes ≡ line.old.bytes ++ words_of 31 (detail.ToGo account.now day) }
+    ensures room { line.new.room ≡ line.old.room }
+    ensures short { length line.new.bytes ≤ length line.old.bytes + 90 }
+{
+    line.text(b"second TOGO of ");
+    line.text(account.bytes());
+    line.text(b" on ");
+    line.text(&day_text(day));
+}
+
 /// Appends the length that was asked for, and the range in which it is not.
 fn tell_length(line: &mut Line, asked: u64, crash: u64, normal: u64)
     requires { length line.old.bytes + 90 ≤ line.old.room }
@@ -173,4 +237,15 @@ fn tell_length(line: &mut Line, asked: u64, crash: u64, normal: u64)
     line.text(digits(crash).bytes());
     line.text(b" to ");
     line.text(digits(normal).bytes());
+}
+
+/// Appends how many periods there would be.
+fn tell_periods(line: &mut Line, have: u64)
+    requires { length line.old.bytes + 90 ≤ line.old.room }
+    ensures bytes { line.new.bytes ≡ line.old.bytes ++ words_of 40 (detail.Periods have) }
+    ensures room { line.new.room ≡ line.old.room }
+    ensures short { length line.new.bytes ≤ length line.old.bytes + 90 }
+{
+    line.text(digits(have).bytes());
+    line.text(b" periods, more than 400");
 }
