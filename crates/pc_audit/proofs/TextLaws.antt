@@ -1,5 +1,5 @@
 -- No text is both certified and failing.
-use Rattle.std.proofs.Common.{◌≡◌, ℕ, ◌<◌, ◌⊎◌, inl, inr, List, [], ◌∷◌, ◌++◌, length, Option, Some, None, refl, sym, ap, subst, ◌∙◌, arith, append_assoc, append-nil, length-append}
+use Rattle.std.proofs.Common.{◌≡◌, ℕ, ◌+◌, ◌<◌, ◌≤◌, ◌⊎◌, inl, inr, List, [], ◌∷◌, ◌++◌, length, Option, Some, None, refl, sym, ap, subst, ◌∙◌, arith, append_assoc, append-nil, length-append}
 use Rattle.pc_lines.specs.declared.line.CertLine.{CertLine}
 use Rattle.pc_lines.specs.declared.place.Place.{Place}
 use Rattle.pc_lines.specs.declared.place.Place.TheVariants.{Start, Ended}
@@ -9,7 +9,7 @@ use Rattle.pc_lines.specs.Lines.{Lacks, spelling, Fits}
 use Rattle.pc_lines.specs.Text.{text_of, AllFit, ran, LeadTo}
 use Rattle.pc_lines.proofs.FieldLemmas.{bind_some}
 use Rattle.pc_lines.proofs.LineLengths.{spelling_lacks_end, length-spelling}
-use Rattle.pc_lines.proofs.TextLaws.{spelling_once, split_once, lacks_no_stop, nil_not_cons, ran-append, text_once}
+use Rattle.pc_lines.proofs.TextLaws.{spelling_once, split_once, lacks_no_stop, ran-append, text_once}
 use Rattle.pc_cert.specs.Reader.{IsStopped, IsMissing, IsWhole, IsBadLine, IsTooLong}
 use Rattle.pc_cert.specs.declared.reader.Malformed.{Malformed}
 use Rattle.pc_crash.specs.Priced.{PricedNetwork}
@@ -38,9 +38,12 @@ begin_with (x ∷ xs) (y ∷ ys) rest p q same =
     (same ∙ append_assoc (spelling y) (10 ∷ text_of ys) rest) in
     let line : x ≡ y = spelling_once x y (p.0) (q.0) (parts.0) in
     let on = begin_with xs ys rest (p.1) (q.1) (parts.1) in
-    record { more = on.more; lines_are = rw line (ap (λ ls. y ∷ ls) on.lines_are); rest_is = on.rest_is; fit = on.fit }
+    record { more = on.more; lines_are = ap (λ l. l ∷ xs) line ∙ ap (λ ls. y ∷ ls) on.lines_are; rest_is = on.rest_is; fit = on.fit }
 
 -- ---- a whole text has no line that is malformed or missing
+
+nil_not_cons : {x : ℕ} {xs : List ℕ} → x ∷ xs ≡ [] → ⊥
+nil_not_cons e = absurd cc
 
 contrary : (x : Fail) → None ≡ Some x → ⊥
 contrary x e = absurd cc
@@ -62,13 +65,13 @@ line_is_longer (x ∷ line) (b ∷ bad) more rest lacks same = let shorter = lin
 pub not_bad : (place after : Place) (line : CertLine) (bad more rest : List ℕ) → Fits line → next place line ≡ Some after → spelling line ++ 10 ∷ rest ≡ bad ++ more → IsBadLine place bad ⊎ IsTooLong bad → ⊥
 not_bad place after line bad more rest fits goes same (inl is) =
     let parts = split_once 10 (spelling line) (is.0) rest more (spelling_lacks_end line fits) (is.1)
-    (same ∙ ap (λ t. t ++ more) (is.2.0) ∙ append_assoc (is.0) (10 ∷ []) more) in
-    is.2.1 line after fits (sym (parts.0)) goes
+    (same ∙ ap (λ t. t ++ more) (is.2) ∙ append_assoc (is.0) (10 ∷ []) more) in
+    is.3 line after fits (sym (parts.0)) goes
 not_bad place after line bad more rest fits goes same (inr is) =
     omega (arith, line_is_longer (spelling line) bad more rest (is.1) same, is.0, length-spelling line fits)
 
 bad_is_some : (place : Place) (bad more : List ℕ) → IsBadLine place bad ⊎ IsTooLong bad → [] ≡ bad ++ more → ⊥
-bad_is_some place bad more (inl is) same = lacks_no_stop 10 (is.0) [] more tt (sym (append_assoc (is.0) (10 ∷ []) more) ∙ ap (λ t. t ++ more) (sym (is.2.0)) ∙ sym same)
+bad_is_some place bad more (inl is) same = lacks_no_stop 10 (is.0) [] more tt (sym (append_assoc (is.0) (10 ∷ []) more) ∙ ap (λ t. t ++ more) (sym (is.2)) ∙ sym same)
 bad_is_some place [] more (inr is) same = omega (arith, is.0)
 bad_is_some place (b ∷ bad) more (inr is) same = nil_not_cons (sym same)
 
@@ -89,15 +92,15 @@ no_line_lacks place front (line ∷ more) held led whole lacks same = absurd (la
 -- ---- a certified text does not fail
 
 pub not_both : (net : PricedNetwork) (text : List ℕ) (segments : ℕ) (fail : Fail) → IsCertified net text segments → IsFailing net text fail → ⊥
-not_both net text segments fail yes (fails place front rest led text_is failing) =
-    let on = begin_with yes.lines front rest yes.whole.led.fit led.fit (sym yes.whole.whole ∙ text_is) in
-    contrary fail (sym yes.none ∙ ap (failure_of net) on.lines_are ∙ failure_of-more net front on.more fail failing)
-not_both net text segments fail yes (malformed front none stop zero_reason) =
-    let on = begin_with yes.lines front (stop.bad ++ stop.more) yes.whole.led.fit stop.led.fit (sym yes.whole.whole ∙ stop.whole) in
-    no_bad_line stop.place front on.more stop.bad stop.more stop.led.order (ap (ran Start) (sym on.lines_are) ∙ yes.whole.led.order) on.fit on.rest_is stop.why
-not_both net text segments fail yes (missing front none lack zero_reason) =
-    let on = begin_with yes.lines front lack.held yes.whole.led.fit lack.going.led.fit (sym yes.whole.whole ∙ lack.going.whole) in
-    let ends = no_line_lacks lack.place front on.more lack.held lack.going.led.order (ap (ran Start) (sym on.lines_are) ∙ yes.whole.led.order) lack.going.no_end on.rest_is in
+not_both net text segments fail sure (fails place front rest led text_is failing) =
+    let on = begin_with sure.lines front rest sure.whole.led.fit led.fit (sym sure.whole.whole ∙ text_is) in
+    contrary fail (sym sure.none ∙ ap (failure_of net) on.lines_are ∙ failure_of-more net front on.more fail failing)
+not_both net text segments fail sure (malformed front none stop zero_reason) =
+    let on = begin_with sure.lines front (stop.bad ++ stop.more) sure.whole.led.fit stop.led.fit (sym sure.whole.whole ∙ stop.whole) in
+    no_bad_line stop.place front on.more stop.bad stop.more stop.led.order (ap (ran Start) (sym on.lines_are) ∙ sure.whole.led.order) on.fit on.rest_is stop.why
+not_both net text segments fail sure (missing front none lack zero_reason) =
+    let on = begin_with sure.lines front lack.held sure.whole.led.fit lack.going.led.fit (sym sure.whole.whole ∙ lack.going.whole) in
+    let ends = no_line_lacks lack.place front on.more lack.held lack.going.led.order (ap (ran Start) (sym on.lines_are) ∙ sure.whole.led.order) lack.going.no_end on.rest_is in
     elim lack.why [
       | inl other ↦ other (ends.0)
       | inr some ↦ some (ends.1)

@@ -42,22 +42,45 @@ proves words deck cert out segments is =
 
 -- the deck of a certified certificate is accepted
 accepted_by : (bytes text : List ℕ) → Certifies bytes text → AcceptedBy bytes
-accepted_by bytes text (segments, yes) = (yes.accepted.deck, yes.accepted.accepted)
+accepted_by bytes text right = (right.1.accepted.deck, right.1.accepted.accepted)
 
 module _ {D C O E : Type 0} (words : List (String Global)) (deck : Side D) (cert : Side C) (out : Side O) (err : Side E) (answer : ℕ) where
   -- an accepted deck is not refused
   refusal_denied : (bytes : List ℕ) (fault : Fault) → AcceptedBy bytes → IsFault bytes fault → ⊥
   refusal_denied bytes fault accepted is = not_both bytes accepted.0 fault accepted.1 is
 
+  -- a check that ended with 0 found a certificate certified
+  pub found_certified : (ending : Ending) → CheckOutcome words deck cert out err ending → answer ≡ ending_code ending → answer ≡ 0 → (segments : ℕ) × IsChecked words deck cert out (Yes segments)
+  found_certified _ (certified segments is read same) code at_0 = (segments, is)
+  found_certified _ (not_certified line reason is same) code at_0 = absurd (omega (arith, code, at_0))
+  found_certified _ (deck_refused is same also) code at_0 = absurd (omega (arith, code, at_0))
+  found_certified _ (check_usage no_word took same also unused) code at_0 = absurd (omega (arith, code, at_0))
+  found_certified _ (no_memory asked same also) code at_0 = absurd (omega (arith, code, at_0))
+  found_certified _ (deck_fault asked rose same also unused) code at_0 = absurd (omega (arith, code, at_0))
+  found_certified _ (cert_fault asked accepted rose same also) code at_0 = absurd (omega (arith, code, at_0))
+  found_certified _ (write_fault is) code at_0 = absurd (omega (arith, code, at_0))
+
+  -- a check that ended with 6 found its first failing point
+  pub found_failing : (ending : Ending) → CheckOutcome words deck cert out err ending → answer ≡ ending_code ending → answer ≡ 6 → (line reason : ℕ) × IsChecked words deck cert out (No line reason)
+  found_failing _ (certified segments is read same) code at_6 = absurd (omega (arith, code, at_6))
+  found_failing _ (not_certified line reason is same) code at_6 = (line, reason, is)
+  found_failing _ (deck_refused is same also) code at_6 = absurd (omega (arith, code, at_6))
+  found_failing _ (check_usage no_word took same also unused) code at_6 = absurd (omega (arith, code, at_6))
+  found_failing _ (no_memory asked same also) code at_6 = absurd (omega (arith, code, at_6))
+  found_failing _ (deck_fault asked rose same also unused) code at_6 = absurd (omega (arith, code, at_6))
+  found_failing _ (cert_fault asked accepted rose same also) code at_6 = absurd (omega (arith, code, at_6))
+  found_failing _ (write_fault is) code at_6 = absurd (omega (arith, code, at_6))
+
+  -- a check that ended with 0 found a certificate that proves the whole curve
   pub headline : (ending : Ending) → CheckOutcome words deck cert out err ending → answer ≡ ending_code ending → answer ≡ 0 → OfBoth deck cert ProvesCurve
-  headline _ (certified segments is read same) code zero = proves words deck cert out segments is
-  headline _ (not_certified line reason is same) code zero = absurd (omega (arith, code, zero))
-  headline _ (deck_refused is same also) code zero = absurd (omega (arith, code, zero))
-  headline _ (check_usage no_word took same also unused) code zero = absurd (omega (arith, code, zero))
-  headline _ (no_memory asked same also) code zero = absurd (omega (arith, code, zero))
-  headline _ (deck_fault asked rose same also unused) code zero = absurd (omega (arith, code, zero))
-  headline _ (cert_fault asked accepted rose same also) code zero = absurd (omega (arith, code, zero))
-  headline _ (write_fault is) code zero = absurd (omega (arith, code, zero))
+  headline _ (certified segments is read same) code at_0 = proves words deck cert out segments is
+  headline _ (not_certified line reason is same) code at_0 = absurd (omega (arith, code, at_0))
+  headline _ (deck_refused is same also) code at_0 = absurd (omega (arith, code, at_0))
+  headline _ (check_usage no_word took same also unused) code at_0 = absurd (omega (arith, code, at_0))
+  headline _ (no_memory asked same also) code at_0 = absurd (omega (arith, code, at_0))
+  headline _ (deck_fault asked rose same also unused) code at_0 = absurd (omega (arith, code, at_0))
+  headline _ (cert_fault asked accepted rose same also) code at_0 = absurd (omega (arith, code, at_0))
+  headline _ (write_fault is) code at_0 = absurd (omega (arith, code, at_0))
 
   -- a check that ended with 5 was cut
   pub check_cut : (ending : Ending) → CheckOutcome words deck cert out err ending → answer ≡ ending_code ending → answer ≡ 5 → IsCheckCut words deck cert out err
@@ -90,25 +113,25 @@ module _ {D C O E : Type 0} (words : List (String Global)) (deck : Side D) (cert
   -- a certified certificate is found to be one
   pub right_ends : IsOneWord words → (ending : Ending) → CheckOutcome words deck cert out err ending → answer ≡ ending_code ending
       → OfBoth deck cert (λ bytes text. Certifies bytes text → HadNoFault deck → HadNoFault cert → HadNoFault out → (answer ≡ 0) ⊎ (answer ≡ 3))
-  right_ends asked _ (certified segments is read same) code = of_any_two (deck.bytes deck.old) (cert.bytes cert.old) _ (λ bytes text yes reads also takes. inl code)
+  right_ends asked _ (certified segments is read same) code = of_any_two (deck.bytes deck.old) (cert.bytes cert.old) _ (λ bytes text sure reads also takes. inl code)
   right_ends asked _ (not_certified line reason is same) code =
-      of_two (deck.bytes deck.old) (cert.bytes cert.old) (λ bytes text. HasVerdict bytes text (No line reason)) _ (λ bytes text no yes reads also takes. absurd (one_verdict bytes text yes (line, reason, no))) is.has
+      of_two (deck.bytes deck.old) (cert.bytes cert.old) (λ bytes text. HasVerdict bytes text (No line reason)) _ (λ bytes text failing sure reads also takes. absurd (one_verdict bytes text sure (line, reason, failing))) is.has
   right_ends asked _ (deck_refused is same also) code =
-      of_first (deck.bytes deck.old) (cert.bytes cert.old) (λ bytes. IsFault bytes is.fault) _ (λ bytes text faulty yes reads all takes. absurd (refusal_denied bytes is.fault (accepted_by bytes text yes) faulty)) (refusal_is_fault deck is.fault is.refusal)
+      of_first (deck.bytes deck.old) (cert.bytes cert.old) (λ bytes. IsFault bytes is.fault) _ (λ bytes text faulty sure reads all takes. absurd (refusal_denied bytes is.fault (accepted_by bytes text sure) faulty)) (refusal_is_fault deck is.fault is.refusal)
   right_ends asked _ (check_usage no_word took same also unused) code = absurd (no_word asked)
-  right_ends asked _ (no_memory one same also) code = of_any_two (deck.bytes deck.old) (cert.bytes cert.old) _ (λ bytes text yes reads all takes. inr code)
-  right_ends asked _ (deck_fault one rose same also unused) code = of_any_two (deck.bytes deck.old) (cert.bytes cert.old) _ (λ bytes text yes reads all takes. absurd (reads rose))
-  right_ends asked _ (cert_fault one accepted rose same also) code = of_any_two (deck.bytes deck.old) (cert.bytes cert.old) _ (λ bytes text yes reads all takes. absurd (all rose))
-  right_ends asked _ (write_fault (in_verdict is same)) code = of_any_two (deck.bytes deck.old) (cert.bytes cert.old) _ (λ bytes text yes reads all takes. absurd (takes is.took.fault))
+  right_ends asked _ (no_memory one same also) code = of_any_two (deck.bytes deck.old) (cert.bytes cert.old) _ (λ bytes text sure reads all takes. inr code)
+  right_ends asked _ (deck_fault one rose same also unused) code = of_any_two (deck.bytes deck.old) (cert.bytes cert.old) _ (λ bytes text sure reads all takes. absurd (reads rose))
+  right_ends asked _ (cert_fault one accepted rose same also) code = of_any_two (deck.bytes deck.old) (cert.bytes cert.old) _ (λ bytes text sure reads all takes. absurd (all rose))
+  right_ends asked _ (write_fault (in_verdict is same)) code = of_any_two (deck.bytes deck.old) (cert.bytes cert.old) _ (λ bytes text sure reads all takes. absurd (takes is.took.fault))
   right_ends asked _ (write_fault (in_refusal is same also)) code =
-      of_first (deck.bytes deck.old) (cert.bytes cert.old) (λ bytes. IsFault bytes is.fault) _ (λ bytes text faulty yes reads all takes. absurd (refusal_denied bytes is.fault (accepted_by bytes text yes) faulty)) (refusal_is_fault deck is.fault is.refusal)
+      of_first (deck.bytes deck.old) (cert.bytes cert.old) (λ bytes. IsFault bytes is.fault) _ (λ bytes text faulty sure reads all takes. absurd (refusal_denied bytes is.fault (accepted_by bytes text sure) faulty)) (refusal_is_fault deck is.fault is.refusal)
   right_ends asked _ (write_fault (in_check_usage no_word took same also unused)) code = absurd (no_word asked)
 
   -- each other certificate of an accepted deck is found to fail
   pub wrong_ends : IsOneWord words → (ending : Ending) → CheckOutcome words deck cert out err ending → answer ≡ ending_code ending
       → OfBoth deck cert (λ bytes text. AcceptedBy bytes → (Certifies bytes text → ⊥) → HadNoFault deck → HadNoFault cert → HadNoFault out → (answer ≡ 6) ⊎ (answer ≡ 3))
   wrong_ends asked _ (certified segments is read same) code =
-      of_two (deck.bytes deck.old) (cert.bytes cert.old) (λ bytes text. HasVerdict bytes text (Yes segments)) _ (λ bytes text yes accepted wrong reads all takes. absurd (wrong (segments, yes))) is.has
+      of_two (deck.bytes deck.old) (cert.bytes cert.old) (λ bytes text. HasVerdict bytes text (Yes segments)) _ (λ bytes text sure accepted wrong reads all takes. absurd (wrong (segments, sure))) is.has
   wrong_ends asked _ (not_certified line reason is same) code = of_any_two (deck.bytes deck.old) (cert.bytes cert.old) _ (λ bytes text accepted wrong reads all takes. inl code)
   wrong_ends asked _ (deck_refused is same also) code =
       of_first (deck.bytes deck.old) (cert.bytes cert.old) (λ bytes. IsFault bytes is.fault) _ (λ bytes text faulty accepted wrong reads all takes. absurd (refusal_denied bytes is.fault accepted faulty)) (refusal_is_fault deck is.fault is.refusal)

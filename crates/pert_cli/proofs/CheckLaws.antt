@@ -1,5 +1,5 @@
 -- How the parts of a check make its outcome, and what its outcome says.
-use Rattle.std.proofs.Common.{◌≡◌, ℕ, ◌≤◌, List, length, Option, Some, None, ◌⊎◌, inl, inr, refl, sym, ap, subst, ◌∙◌, arith}
+use Rattle.std.proofs.Common.{◌≡◌, ℕ, ◌+◌, ◌≤◌, List, length, Option, Some, None, ◌⊎◌, inl, inr, refl, sym, ap, subst, ◌∙◌, arith}
 use Rattle.std.specs.Prelude.{IfSome, String}
 use Rattle.std.specs.declared.alloc.Global.{Global}
 use Rattle.pc_model.specs.Network.{Network}
@@ -10,6 +10,7 @@ use Rattle.pc_deck.proofs.DeckLaws.{one_deck}
 use Rattle.pc_faults.specs.declared.fault.Fault.{Fault}
 use Rattle.pc_crash.specs.Priced.{PricedNetwork}
 use Rattle.pc_check.specs.Certified.{OnYes}
+use Rattle.pc_check.specs.declared.fail.Fail.{Fail}
 use Rattle.pc_check.specs.declared.fail.Verdict.{Verdict}
 use Rattle.pc_check.specs.declared.fail.Verdict.TheVariants.{Yes, No}
 use Rattle.pc_audit.specs.Texts.{IsFailing, Finds}
@@ -27,8 +28,10 @@ use Rattle.pert_cli.specs.Verdict.{IsProjectOf, AcceptedBy}
 
 -- ---- the network of a project
 
-same_fields : {a b : Network} {c d : List Term} {e f : List PieceRow} {g h : List ℕ} {i j : List (List ℕ)} {k l : List (List ℕ)} → a ≡ b → c ≡ d → e ≡ f → g ≡ h → i ≡ j → k ≡ l
-    → record {T = PricedNetwork} { network = a; terms = c; pieces = e; project = g; events = i; activities = k } ≡ record {T = PricedNetwork} { network = b; terms = d; pieces = f; project = h; events = j; activities = l }
+abbrev of_fields : Network → List Term → List PieceRow → List ℕ → List (List ℕ) → List (List ℕ) → PricedNetwork
+of_fields a b c d e f = record { network = a; terms = b; pieces = c; project = d; events = e; activities = f }
+
+same_fields : {a b : Network} {c d : List Term} {e f : List PieceRow} {g h : List ℕ} {i j k l : List (List ℕ)} → a ≡ b → c ≡ d → e ≡ f → g ≡ h → i ≡ j → k ≡ l → of_fields a c e g i k ≡ of_fields b d f h j l
 same_fields p q r s t u = rw (p, q, r, s, t, u) refl
 
 -- a priced network with all that a project says is that of the project
@@ -43,10 +46,13 @@ one_project bytes p q a b = a.is ∙ ap project_in (one_deck bytes a.deck b.deck
 
 -- no certificate is both certified and failing
 pub one_verdict : (bytes text : List ℕ) → Certifies bytes text → FailsAsCertificate bytes text → ⊥
-one_verdict bytes text (segments, yes) (line, reason, no) =
-    let same = one_project bytes no.project yes.project no.accepted yes.accepted in
-    one_text_verdict (priced_in yes.project) text segments (record { line = line; reason = reason }) yes.finds
-    (subst (λ p. IsFailing (priced_in p) text (record { line = line; reason = reason })) same no.finds)
+one_verdict bytes text right wrong =
+    let sure = right.1 in
+    let failing = wrong.2 in
+    let point : Fail = record { line = wrong.0; reason = wrong.1 } in
+    let same = one_project bytes failing.project sure.project failing.accepted sure.accepted in
+    one_text_verdict (priced_in sure.project) text right.0 point sure.finds
+    (subst (λ p. IsFailing (priced_in p) text point) same failing.finds)
 
 -- a certified certificate proves the whole curve
 pub curve_of : (bytes text : List ℕ) (segments : ℕ) → HasVerdict bytes text (Yes segments) → ProvesCurve bytes text

@@ -1,4 +1,4 @@
-use Rattle.std.proofs.Common.{◌≡◌, ◌<◌, length, take, arith, length-take-le}
+use Rattle.std.proofs.Common.{◌≡◌, length, take, arith, length-take-le}
 use Rattle.pc_audit.proofs.SourceLaws.{none_pulled, piece_pulled, found_at_end, fails_in_piece}
 use Rattle.pc_audit.proofs.source.audit_by.Goals as goal
 
