@@ -1,3 +1,4 @@
 pub mod Searches
 pub mod Growing
 pub mod Choosing
+pub mod Labelling

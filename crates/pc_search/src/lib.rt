@@ -4,10 +4,14 @@
 
 mod again;
 mod choosing;
+mod falling;
 mod growing;
+mod labelling;
+mod raising;
 mod search;
 mod visiting;
 mod way;
 
+pub use labelling::Labelling;
 pub use search::Search;
 pub use way::Way;
