@@ -1,7 +1,7 @@
 -- How the greatest sum at one event comes from those at the events before it, and the pass over all events.
 use Rattle.std.proofs.Common.{◌≡◌, ◌≢◌, ℕ, ◌+◌, ◌*◌, ◌<◌, ◌≤◌, List, [], ◌∷◌, ◌++◌, length, slice_index, refl, sym, ap, subst, ◌⊎◌, inl, inr, max, below_more, arith}
 use Rattle.std.specs.Ordering.{nat_cmp, ord_max}
-use Rattle.std.proofs.Math.Nat.{mul-le-mul_right, mul-le-mul}
+use Rattle.std.proofs.Math.Nat.{mul-le-mul_right}
 use Rattle.std.proofs.lemmas.Bool.{cases_eq, cases_lt}
 use Rattle.std.proofs.lemmas.Bool.Decides.{nat_tests}
 use Rattle.pc_model.specs.declared.Term.{Term}
@@ -9,13 +9,18 @@ use Rattle.pc_model.specs.declared.limits.TheConstants.{MAX_EVENTS, MAX_DURATION
 use Rattle.pc_model.specs.Greatest.{IsListed}
 use Rattle.pc_model.specs.Walk.{from_of, to_of, IsWalk, walk_sum, IsSumOfWalk}
 use Rattle.pc_model.specs.Network.{Network, IsInRange, IsSound, IsOrder, IsEntered, IsEarly}
+use Rattle.pc_model.specs.Schedule.{AreTerms}
+use Rattle.pc_model.proofs.Schedules.Durations.{normals-at, crashes-at, crash-normal}
 use Rattle.pc_model.proofs.Walks.WalkLaws.{IsWalk-push, walk_sum-push, last_of_walk, walk_sum-bound}
 use Rattle.pc_model.proofs.Walks.OrderLaws.{walk_is_short, stands_in_order}
 use Rattle.pc_board.specs.Sheets.{Sheet, kept_time}
 use Rattle.pc_board.specs.Labelling.{IsFor}
 use Rattle.pc_board.specs.Moves.{SetsTime}
 use Rattle.pc_flow.specs.declared.early.TheConstants.{MAX_LENGTH}
-use Rattle.pc_flow.specs.Paces.{HasSmallTimes, AreEarlyBefore}
+use Rattle.pc_crash.specs.Terms.{AreWithinLimits}
+use Rattle.pc_flow.specs.declared.pace.Pace.{Pace}
+use Rattle.pc_flow.specs.declared.pace.Pace.TheVariants.{Crash, Normal}
+use Rattle.pc_flow.specs.Paces.{durations_at, HasSmallTimes, AreEarlyBefore}
 
 -- `max` of numbers
 pub ord_max-nat : (a b : ℕ) → ord_max nat_cmp a b ≡ max a b
@@ -60,11 +65,11 @@ module _ (net : Network) (lengths : List ℕ) (times : ℕ → ℕ) where
     bound m (walk, walked, sums) =
         elim (last_of_walk net.arcs net.start e walk walked) [
           | inl empty ↦ omega (arith, ap (walk_sum lengths) empty.0, sums)
-          | inr last ↦ by_last last.0 last.1 last.2
+          | inr last ↦ by_last last.0 last.1 last.2 last.3 last.4 last.5
         ]
       where
-        by_last : (front : List ℕ) (a : ℕ) → (walk ≡ front ++ a ∷ []) × (a < length net.arcs) × IsWalk net.arcs net.start front (from_of net.arcs a) × (to_of net.arcs a ≡ e) → m ≤ n
-        by_last front a (is, known, front_walked, ends) =
+        by_last : (front : List ℕ) (a : ℕ) → walk ≡ front ++ a ∷ [] → a < length net.arcs → IsWalk net.arcs net.start front (from_of net.arcs a) → to_of net.arcs a ≡ e → m ≤ n
+        by_last front a is known front_walked ends =
             omega (
               arith,
               sums,
@@ -88,7 +93,7 @@ module _ (net : Network) (lengths : List ℕ) (times : ℕ → ℕ) where
         let (walk, walked) = sound.reached e before.known in
         elim (last_of_walk net.arcs net.start e walk walked) [
           | inl empty ↦ ([], empty.1, sym none)
-          | inr last ↦ absurd (not_entered (last.1, last.2.1, last.2.3))
+          | inr last ↦ absurd (not_entered (last.1, last.3, last.5))
         ]
 
     pub early-from_arrival : IsEarly net lengths e n
@@ -108,12 +113,13 @@ pub small_times : (net : Network) (order lengths : List ℕ) → IsInRange net �
 small_times net order lengths range sound ordered few short = record {
   range = range;
   sound = sound;
+  short = short;
   fits = λ e n known early. let (walk, walked, sums) = early.attained in
       omega (
         arith,
         sums,
         walk_sum-bound net.arcs lengths MAX_DURATION short net.start e walk walked,
-        mul-le-mul {m₂ = 100000} {n₂ = 10000} (let fewer : length walk ≤ 10000 = omega (arith, walk_is_short net order ordered net.start e walk walked known) in fewer) (let most : MAX_DURATION ≤ 100000 = omega arith in most),
+        mul-le-mul_right MAX_DURATION (let fewer : length walk ≤ MAX_EVENTS = omega (arith, walk_is_short net order ordered net.start e walk walked known) in fewer),
       );
 }
 
@@ -145,3 +151,16 @@ module _ (net : Network) (lengths order : List ℕ) (ordered : IsOrder net order
   pub early-all : (k : ℕ) → AreEarlyTo net lengths order s t k → length order ≤ k → (e : ℕ) → e < net.events → IsEarly net lengths e (kept_time t e)
   early-all k so_far all e known = let (j, inside, at) = stands_in_order net order ordered e known in
       subst (λ (x : ℕ). IsEarly net lengths x (kept_time t x)) at (so_far.each j (omega arith))
+
+-- the durations of activities within the limits
+pub durations-short : (net : Network) (terms : List Term) (pace : Pace) → AreTerms net terms → AreWithinLimits terms
+    → (a : ℕ) → a < length net.arcs → slice_index (durations_at terms pace) a ≤ MAX_DURATION
+durations-short net terms Crash fit limits a known =
+    omega (
+      arith,
+      crashes-at terms a (omega (arith, fit.one_each)),
+      crash-normal net terms fit a known,
+      limits.short a (omega (arith, fit.one_each)),
+    )
+durations-short net terms Normal fit limits a known =
+    omega (arith, normals-at terms a (omega (arith, fit.one_each)), limits.short a (omega (arith, fit.one_each)))

@@ -1,1 +1,4 @@
 pub mod Paces
+pub mod Courses
+pub mod Solvers
+pub mod Descents

@@ -19,7 +19,10 @@ pub(crate) fn keep_early_times(board: &mut Board, net: &CrashNet<'_>, pace: Pace
     ensures times { (e : ℕ) → e < net.now.network.events → IsEarly net.now.network (durations_at net.now.terms pace) e (kept_time board.new e) }
     ensures limit { (e : ℕ) → e < net.now.network.events → kept_time board.new e ≤ MAX_LENGTH }
 {
-    for &e in net.net().order() {
+    let shape = net.net();
+    // No more events than a project may have, so that no time is above the greatest length.
+    let _events = shape.events();
+    for &e in shape.order() {
         let time = latest_arrival(board, net, pace, e);
         board.set_time(e, time);
     }

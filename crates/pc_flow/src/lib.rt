@@ -3,6 +3,13 @@
 #![tactic(auto)]
 
 mod early;
+mod middle;
 mod pace;
+mod solver;
+mod stepping;
+mod viewing;
 
+pub use early::MAX_LENGTH;
 pub use pc_crash::{CrashNet, SegmentView, Steps};
+pub use solver::{Solver, cells_needed};
+

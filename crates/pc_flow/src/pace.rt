@@ -1,6 +1,5 @@
 //! Which of their durations the activities have.
-ghost use Rattle.std.specs.Prelude.{◌≡◌, ◌<◌, ◌≤◌, length, slice_index};
-ghost use Rattle.pc_model.specs.declared.limits.TheConstants.{MAX_DURATION};
+ghost use Rattle.std.specs.Prelude.{◌≡◌, ◌<◌, length, slice_index};
 ghost use Rattle.pc_flow.specs.Paces.{durations_at};
 
 use pc_crash::CrashNet;
@@ -16,8 +15,7 @@ impl Pace {
     /// The duration of an activity, in units.
     pub(crate) fn duration(self, net: &CrashNet<'_>, a: u32) -> u64
         requires { a < length net.now.network.arcs }
-        ensures duration { result ≡ slice_index (durations_at net.now.terms self) a }
-        ensures limit { result ≤ MAX_DURATION }
+        ensures { result ≡ slice_index (durations_at net.now.terms self) a }
     {
         let term = net.term(a);
         match self {
