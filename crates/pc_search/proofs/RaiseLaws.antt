@@ -11,6 +11,7 @@ use Rattle.pc_board.specs.Raising.{IsRaisedBy}
 use Rattle.pc_board.proofs.AfterRaising.{IsChangedBy, raised-flow}
 use Rattle.pc_search.specs.Searches.{stair_at, gap_at, next_at, last_at, IsSearch}
 use Rattle.pc_search.specs.Growing.{IsScanned, IsMet, AreSettled}
+use Rattle.pc_search.proofs.StepLaws.{step-from_labelled, step-to_labelled}
 
 module _ (net : PricedNetwork) (s t : Sheet) (end by k : ℕ) (search : IsSearch net s) (raised : IsRaisedBy s t end by k) where
   rest : t ≡ record s { room = t.room; flow = t.flow }
@@ -25,21 +26,6 @@ module _ (net : PricedNetwork) (s t : Sheet) (end by k : ℕ) (search : IsSearch
   gap-same : (a : ℕ) → gap_at net t a ≡ gap_at net s a
   gap-same a = ap (λ (v : Sheet). gap_at net v a) rest
 
-  -- both ends of the activity of a step have labels
-  from-labelled : (f : ℕ) → f < s.events → HasStep s f → 0 < rank_of s (from_of net.network.arcs (step_of s f))
-  from-labelled f known has =
-      elim (cases_lt 0 (against_of s f)) [
-        | inl some ↦ omega (arith, ap (rank_of s) (search.joined.against_from f known has some), has)
-        | inr none ↦ omega (arith, ap (rank_of s) (search.joined.along_from f known has (omega arith)), search.back.labelled f known has)
-      ]
-
-  to-labelled : (f : ℕ) → f < s.events → HasStep s f → 0 < rank_of s (to_of net.network.arcs (step_of s f))
-  to-labelled f known has =
-      elim (cases_lt 0 (against_of s f)) [
-        | inl some ↦ omega (arith, ap (rank_of s) (search.joined.against_to f known has some), search.back.labelled f known has)
-        | inr none ↦ omega (arith, ap (rank_of s) (search.joined.along_to f known has (omega arith)), has)
-      ]
-
   -- where an end has no label, the flow is as it was
   flow-kept : (a : ℕ) → (rank_of s (from_of net.network.arcs a) ≡ 0) ⊎ (rank_of s (to_of net.network.arcs a) ≡ 0) → flow_of t a ≡ flow_of s a
   flow-kept a open_ =
@@ -50,14 +36,14 @@ module _ (net : PricedNetwork) (s t : Sheet) (end by k : ℕ) (search : IsSearch
               absurd (omega (
                 arith,
                 none,
-                from-labelled changed.0 changed.1.known changed.1.has,
+                step-from_labelled net s search changed.0 changed.1.known changed.1.has,
                 ap (λ b. rank_of s (from_of net.network.arcs b)) changed.1.step,
               ))
           | inr none ↦
               absurd (omega (
                 arith,
                 none,
-                to-labelled changed.0 changed.1.known changed.1.has,
+                step-to_labelled net s search changed.0 changed.1.known changed.1.has,
                 ap (λ b. rank_of s (to_of net.network.arcs b)) changed.1.step,
               ))
         ]

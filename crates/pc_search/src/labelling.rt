@@ -26,6 +26,8 @@ impl<'n> Search<'n> {
         ensures counted { steps.new ≤ steps.old + 4 * length self.old.net.now.network.arcs * (1 + result.rise) }
         ensures labelled { HasLabelled self.old.net.now self.old.board self.new.board result.rise result.fall }
     {
+        // The network is priced, so that some activity stops before the length is 0.
+        let _net = self.net.net();
         self.settle(steps);
         self.grow(steps);
         let rise = self.raise_all(steps);
