@@ -3,7 +3,6 @@
 #![tactic(auto)]
 
 mod early;
-mod middle;
 mod pace;
 mod solver;
 mod stepping;

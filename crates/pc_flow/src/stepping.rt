@@ -8,8 +8,8 @@ ghost use Rattle.pc_flow.specs.Descents.{HasDescended, HasSearched};
 
 use crate::solver::Solver;
 use pc_crash::{SegmentView, Steps};
-use crate::middle::{Labelling, fall as fall_by, label};
-use pc_search::Search;
+
+use pc_search::{Labelling, Search};
 use std::sync::ledger::Ledger;
 
 impl<'n> Solver<'n> {
@@ -44,7 +44,7 @@ fn descend(search: &mut Search<'_>, fall: u64)
     ensures descended { HasDescended search.old.net.now search.old.board search.new.board fall }
 {
     if fall > 0 {
-        fall_by(search, fall);
+        search.fall(fall);
     }
 }
 
@@ -59,7 +59,7 @@ fn search_on<L: Ledger>(search: &mut Search<'_>, shortest: u64, steps: &mut Step
 {
     let end = search.net.net().end();
     if search.board.time(end) > shortest {
-        label(search, steps)
+        search.label(steps)
     } else {
         Labelling { rise: 0, fall: 0 }
     }
