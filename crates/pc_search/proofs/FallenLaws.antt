@@ -1,7 +1,6 @@
 -- A search after a fall: the events without a label are earlier, and what held before holds again.
 use Rattle.std.proofs.Common.{◌≡◌, ℕ, ◌+◌, ◌-◌, ◌^◌, ◌<◌, ◌≤◌, Bool, true, false, not, ◌&&◌, if◌then◌else◌, length, refl, sym, ◌∙◌, ap, subst, inl, inr, arith}
-use Rattle.std.specs.Prelude.{◌==◌}
-use Rattle.std.proofs.lemmas.Bool.{cases_lt, cases_eq, eq-eqb, ne_eqb, eqb-true, cond-true, cond-false}
+use Rattle.std.proofs.lemmas.Bool.{cases_lt, eq-eqb, ne_eqb, eqb-true, cond-true, cond-false}
 use Rattle.pc_model.specs.Walk.{from_of, to_of}
 use Rattle.pc_model.specs.Cost.{IsPriced}
 use Rattle.pc_curve_laws.specs.Segment.{fall_of, is_forward}
@@ -10,10 +9,10 @@ use Rattle.pc_curve_laws.specs.Steps.{IsStairOptimal}
 use Rattle.pc_curve_laws.proofs.Segments.Falls.{falls_along}
 use Rattle.pc_curve_laws.proofs.Stairs.StairStates.{stair-fallen, stair-times_within}
 use Rattle.pc_crash.specs.Priced.{PricedNetwork, knees_in}
-use Rattle.pc_board.specs.Sheets.{Sheet, kept_time, time_of, rank_of, step_of, against_of, room_of, flow_of}
+use Rattle.pc_board.specs.Sheets.{Sheet, kept_time, time_of, rank_of, step_of, room_of, flow_of}
 use Rattle.pc_board.specs.Labelling.{HasStep, AreTimes}
 use Rattle.pc_board.proofs.AfterPruning.{time-labelled, time-unlabelled}
-use Rattle.pc_search.specs.Searches.{stair_at, gap_at, IsSearch, IsOnStairs, AreLed, MayGoAlong, MayGoAgainst}
+use Rattle.pc_search.specs.Searches.{stair_at, gap_at, IsSearch, IsOnStairs, AreLed}
 use Rattle.pc_search.specs.Growing.{IsMet, AreListed}
 use Rattle.pc_search.specs.Choosing.{moving}
 use Rattle.pc_search.specs.Labelling.{length_at, slope_at, IsStateWith, IsBetween, MayFall, HasFallen}

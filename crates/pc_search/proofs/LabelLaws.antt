@@ -1,15 +1,13 @@
 -- A labelling: what each of its parts changes, and that they make a whole one.
-use Rattle.std.proofs.Common.{◌≡◌, ℕ, ◌+◌, ◌-◌, ◌*◌, ◌^◌, ◌<◌, ◌≤◌, ◌⊎◌, length, refl, sym, ◌∙◌, ap, subst, arith}
+use Rattle.std.proofs.Common.{◌≡◌, ℕ, ◌+◌, ◌-◌, ◌*◌, ◌^◌, ◌<◌, ◌≤◌, refl, sym, ◌∙◌, ap, subst, arith}
 use Rattle.std.proofs.Math.Nat.{mul-add, mul-le-mul_left}
 use Rattle.pc_model.specs.Cost.{IsPriced}
-use Rattle.pc_model.specs.Schedule.{IsAllCrashLength}
 use Rattle.pc_curve_laws.specs.Steps.{IsStairOptimal}
 use Rattle.pc_curve_laws.proofs.Stairs.StairStates.{stair-chosen}
 use Rattle.pc_crash.specs.Priced.{PricedNetwork, knees_in}
-use Rattle.pc_board.specs.Sheets.{Sheet, time_of, rank_of, flow_of}
-use Rattle.pc_board.specs.Labelling.{HaveRoom}
-use Rattle.pc_search.specs.Searches.{IsSearch, Grows}
-use Rattle.pc_search.specs.Growing.{AreSettled, HasSettled, HasGrown, HasLookedAgain}
+use Rattle.pc_board.specs.Sheets.{Sheet, time_of, flow_of}
+use Rattle.pc_search.specs.Searches.{IsSearch}
+use Rattle.pc_search.specs.Growing.{HasSettled, HasGrown, HasLookedAgain}
 use Rattle.pc_search.specs.Choosing.{moving, HasChosen}
 use Rattle.pc_search.specs.Labelling.{length_at, slope_at, IsStateWith, IsAboveAllCrash, IsBetween, HasRaised, Rises, IsUnderWay, HasLabelled}
 use Rattle.pc_search.proofs.StateLaws.{times-alike, state-own}

@@ -5,8 +5,7 @@ use Rattle.pc_model.specs.Walk.{from_of, to_of}
 use Rattle.pc_curve_laws.specs.Stair.{unit_length, IsOnStair}
 use Rattle.pc_curve_laws.proofs.Stairs.OnStair.{stair-between}
 use Rattle.pc_crash.specs.Priced.{PricedNetwork}
-use Rattle.pc_board.specs.Sheets.{Sheet, rank_of, step_of, against_of, room_of, flow_of, slot_of}
-use Rattle.pc_board.specs.Labelling.{HasStep}
+use Rattle.pc_board.specs.Sheets.{Sheet, rank_of, against_of, room_of, flow_of, slot_of}
 use Rattle.pc_board.specs.Raising.{IsRaisedBy}
 use Rattle.pc_board.proofs.AfterRaising.{IsChangedBy, raised-flow}
 use Rattle.pc_search.specs.Searches.{stair_at, gap_at, next_at, last_at, IsSearch}

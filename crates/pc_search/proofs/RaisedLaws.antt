@@ -156,6 +156,7 @@ module _ (net : PricedNetwork) (known : IsKnown net) (order : List ℕ) (ordered
 
   pub has_raised : AreSettled net s → HasRaised net s t by
   has_raised settled = record {
+    raised = (k, raised);
     rest = rest;
     some = raised.some;
     search = search-raised;

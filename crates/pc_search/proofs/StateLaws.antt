@@ -1,6 +1,6 @@
 -- States of a board: they depend on its times and flows alone, and while they are above the all-crash length their flows
 -- are small.
-use Rattle.std.proofs.Common.{◌≡◌, ℕ, ◌+◌, ◌-◌, ◌^◌, ◌<◌, ◌≤◌, List, length, sym, ◌∙◌, ap, subst, inl, inr, arith}
+use Rattle.std.proofs.Common.{◌≡◌, ℕ, ◌-◌, ◌^◌, ◌<◌, ◌≤◌, List, length, sym, ◌∙◌, ap, subst, inl, inr, arith}
 use Rattle.std.proofs.lemmas.Bool.{cases_lt}
 use Rattle.pc_model.specs.declared.Term.{Term}
 use Rattle.pc_model.specs.declared.limits.TheConstants.{MAX_ACTIVITIES}
@@ -15,7 +15,7 @@ use Rattle.pc_curve_laws.proofs.Flows.Bounds.{last_slopes-small}
 use Rattle.pc_curve_laws.proofs.Stairs.StairStates.{stair-value_above_crash, stair-units_bounded}
 use Rattle.pc_crash.specs.Priced.{PricedNetwork, knees_in, ArePiecesWithinLimits}
 use Rattle.pc_crash.specs.Terms.{AreWithinLimits}
-use Rattle.pc_board.specs.Sheets.{Sheet, time_of, rank_of, queue_of, flow_of}
+use Rattle.pc_board.specs.Sheets.{Sheet, rank_of, queue_of}
 use Rattle.pc_board.specs.Labelling.{HasStep}
 use Rattle.pc_search.specs.Searches.{IsSearch}
 use Rattle.pc_search.specs.Labelling.{length_at, slope_at, slopes_in, IsStateWith}

@@ -1,5 +1,5 @@
 -- The steps of a search: both ends of their activities have labels.
-use Rattle.std.proofs.Common.{◌≡◌, ℕ, ◌<◌, length, inl, inr, ap, arith}
+use Rattle.std.proofs.Common.{ℕ, ◌<◌, length, inl, inr, ap, arith}
 use Rattle.std.proofs.lemmas.Bool.{cases_lt}
 use Rattle.pc_model.specs.Walk.{from_of, to_of}
 use Rattle.pc_crash.specs.Priced.{PricedNetwork}

@@ -1,4 +1,4 @@
--- What holds of a search between two labellings of the events, and the three ways on from there.
+-- What holds of a search between two labellings of the events: a raising, a fall, and a whole labelling keep it.
 use Rattle.std.specs.Prelude.{◌≡◌, ℕ, ◌+◌, ◌^◌, ◌<◌, ◌≤◌, ◌⊎◌, length}
 use Rattle.pc_model.specs.Sums.{sum_to}
 use Rattle.pc_model.specs.Schedule.{IsAllCrashLength}
@@ -8,6 +8,7 @@ use Rattle.pc_curve_laws.specs.Steps.{IsStairOptimal, IsStairFall}
 use Rattle.pc_crash.specs.Priced.{PricedNetwork, knees_in}
 use Rattle.pc_board.specs.Sheets.{Sheet, time_of, rank_of, flow_of}
 use Rattle.pc_board.specs.Labelling.{HaveRoom}
+use Rattle.pc_board.specs.Raising.{IsRaised}
 use Rattle.pc_search.specs.Searches.{IsSearch}
 use Rattle.pc_search.specs.Growing.{AreListed, AreSettled}
 use Rattle.pc_search.specs.Choosing.{moving}
@@ -24,7 +25,7 @@ slope_at net s = outflow net.network (flow_of s) net.network.start
 abbrev pub IsStateWith : PricedNetwork → Sheet → ℕ → ℕ → Type 0
 IsStateWith net s limit value = IsStairOptimal net.network net.terms (knees_in net) limit (time_of s) (flow_of s) value
 
--- the value is at most the sum of the last slopes
+-- the sum of the activities' last slopes, which no value of a flow passes above the all-crash length
 abbrev pub slopes_in : PricedNetwork → ℕ
 slopes_in net = sum_to (length net.network.arcs) (last_slope (knees_in net))
 
@@ -40,12 +41,13 @@ pub record IsBetween (net : PricedNetwork) (s : Sheet) : Type 0 where
   pub state : IsStateWith net s (length_at net s) (slope_at net s)
   pub fits : length_at net s + s.fallen < 2 ^ 63
 
--- the events without a label fall by so much, and there some activity stops
+-- the labels have come to a stand, and the events without one may fall by so much: then the first activity stops
 abbrev pub MayFall : PricedNetwork → Sheet → ℕ → Type 0
 MayFall net s by = IsStairFall net.network net.terms (knees_in net) (time_of s) (flow_of s) (moving s) by
 
 -- the flow was raised by so much along the steps that led to the end, as far as they had room
 pub record HasRaised (net : PricedNetwork) (s t : Sheet) (by : ℕ) : Type 0 where
+  pub raised : IsRaised s t net.network.end by
   pub rest : t ≡ record s { room = t.room; flow = t.flow }
   pub some : 0 < by
   pub search : IsSearch net t
@@ -84,7 +86,8 @@ pub record Rises (net : PricedNetwork) (s t : Sheet) (rise : ℕ) : Type 0 where
   pub time : (e : ℕ) → e < s.events → time_of t e ≡ time_of s e
   pub slope : slope_at net t ≡ slope_at net s + rise
 
--- events are labelled, and the flow can be raised where the end has a label
+-- a labelling is under way above the all-crash length: the activities at scanned events are settled, and the end has a
+-- label or all events with one were scanned
 pub record IsUnderWay (net : PricedNetwork) (s : Sheet) : Type 0 where
   pub between : IsBetween net s
   pub above : IsAboveAllCrash net s

@@ -17,7 +17,7 @@ impl<'n> Search<'n> {
         ensures raised { HasRaised self.old.net.now self.old.board self.new.board result }
     {
         let net = self.net.net();
-        // The order of the events says that no activity has more flow than its value.
+        // With an order of the events, no activity has more flow than the value.
         let _order = net.order();
         let end = net.end();
         self.board.raise(end)

@@ -1,4 +1,3 @@
-use Rattle.std.proofs.Common.{◌≡◌}
 use Rattle.pc_search.proofs.FallenLaws.{fall-fits, has_fallen}
 use Rattle.pc_search.proofs.search.Search.fall.Goals as goal
 

@@ -1,6 +1,6 @@
 use Rattle.std.proofs.Common.{◌≡◌, ◌≤◌, ◌+◌, ◌*◌, ◌∙◌, length, sym, subst, arith}
 use Rattle.pc_crash.specs.Priced.{PricedNetwork}
-use Rattle.pc_search.specs.Growing.{AreSettled, HasSettled, HasGrown}
+use Rattle.pc_search.specs.Growing.{AreSettled, HasGrown}
 use Rattle.pc_search.specs.Choosing.{HasChosen}
 use Rattle.pc_search.specs.Labelling.{IsUnderWay, Rises}
 use Rattle.pc_search.proofs.LabelLaws.{under_way-begins, rises-joins, labelled-ends, looks-whole}

@@ -1,4 +1,4 @@
-use Rattle.std.proofs.Common.{◌≡◌, ◌<◌, ◌≤◌, ◌+◌, ◌*◌, ◌^◌, ◌∙◌, length, ap, subst, arith}
+use Rattle.std.proofs.Common.{◌<◌, ◌≤◌, ◌*◌, ◌^◌, ◌∙◌, length, ap, subst, arith}
 use Rattle.pc_crash.specs.Priced.{PricedNetwork}
 use Rattle.pc_search.specs.Labelling.{IsUnderWay, Rises, slope_at, slopes_in}
 use Rattle.pc_search.proofs.StateLaws.{slopes-small}

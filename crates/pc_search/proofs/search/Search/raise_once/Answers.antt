@@ -1,4 +1,4 @@
-use Rattle.std.proofs.Common.{◌≡◌, ◌∙◌, sym, subst, arith}
+use Rattle.std.proofs.Common.{◌∙◌, sym, subst, arith}
 use Rattle.pc_search.specs.Growing.{AreSettled, HasLookedAgain, HasGrown}
 use Rattle.pc_search.proofs.LabelLaws.{rises-once, slope-once, under_way-once}
 use Rattle.pc_search.proofs.search.Search.raise_once.Goals as goal
