@@ -1,1 +1,5 @@
+mod CostLimits
+mod CourseLaws
 mod EarlyTimes
+mod FlowLaws
+mod NextLaws
