@@ -12,7 +12,7 @@ use Rattle.pc_crash.specs.Priced.{PricedNetwork, knees_in, ArePiecesWithinLimits
 use Rattle.pc_crash.specs.Terms.{AreWithinLimits}
 
 -- a sum of so many terms, none above a bound
-sum_to-most : (n most : ℕ) (f : ℕ → ℕ) → ((k : ℕ) → k < n → f k ≤ most) → sum_to n f ≤ n * most
+pub sum_to-most : (n most : ℕ) (f : ℕ → ℕ) → ((k : ℕ) → k < n → f k ≤ most) → sum_to n f ≤ n * most
 sum_to-most zero most f below = omega arith
 sum_to-most (suc n) most f below = omega (arith, sum_to-most n most f (λ k inside. below k (omega arith)), below n (omega arith))
 

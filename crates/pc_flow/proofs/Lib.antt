@@ -3,3 +3,4 @@ mod CourseLaws
 mod EarlyTimes
 mod FlowLaws
 mod NextLaws
+mod OpeningLaws

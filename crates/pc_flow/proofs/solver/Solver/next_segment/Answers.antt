@@ -84,3 +84,6 @@ returns-clause-counted g c =
     let counted = rw c.descend.ensures.net at c.search_on-labelling.ensures.counted in
     rw (← c.self.view_is, c.search_on-labelling.ensures.net, c.descend.ensures.net)
     (counted-after course on c.descend.new.search.board c.descend.ensures.descended t _ _ searched going _ _ counted)
+
+pub returns-then-has_ended-clause-ended : goal.returns-then-has_ended-clause-ended
+returns-then-has_ended-clause-ended g c = ((λ is. c.has_ended.ensures.0 c.if-has_ended.true), (λ ended. refl))
