@@ -1,11 +1,11 @@
 //! A solver, and what it gives away of itself.
-ghost use Rattle.std.specs.Prelude.{◌≡◌, ◌+◌, ◌*◌, ◌<◌, ◌≤◌, true, false, length, IsTrue};
+ghost use Rattle.std.specs.Prelude.{◌≡◌, ◌+◌, ◌*◌, ◌≤◌, true, false, length};
 ghost use Rattle.pc_model.specs.declared.limits.TheConstants.{MAX_EVENTS, MAX_ACTIVITIES, MAX_PIECES};
 ghost use Rattle.pc_model.specs.Sums.{sum_to};
 ghost use Rattle.pc_model.specs.Schedule.{base_cost_of, IsAllNormalLength, IsAllCrashLength};
 ghost use Rattle.pc_flow.specs.declared.early.TheConstants.{MAX_LENGTH};
 ghost use Rattle.pc_cells.specs.Spans.{free_of};
-ghost use Rattle.pc_flow.specs.Courses.{Course, IsLevel, IsOnCurve, lower_of};
+ghost use Rattle.pc_flow.specs.Courses.{IsLevel, IsOnCurve, lower_of};
 
 use crate::early::MAX_LENGTH;
 use crate::opening::open_board;

@@ -1,9 +1,9 @@
 //! One segment after another.
-ghost use Rattle.std.specs.Prelude.{◌≡◌, ◌+◌, ◌*◌, ◌<◌, ◌≤◌, ◌↔◌, true, false, length, IsTrue, IsFalse};
+ghost use Rattle.std.specs.Prelude.{◌≡◌, ◌+◌, ◌*◌, ◌<◌, ◌↔◌, ◌≤◌, length, IsTrue, IsFalse};
 ghost use Rattle.pc_model.specs.Schedule.{IsAllCrashLength};
 ghost use Rattle.pc_search.specs.Growing.{AreListed};
-ghost use Rattle.pc_search.specs.Labelling.{IsBetween, MayFall, length_at};
-ghost use Rattle.pc_flow.specs.Courses.{Course, IsSameCurve, IsNext, HasEnded, most_looks};
+ghost use Rattle.pc_search.specs.Labelling.{IsBetween, MayFall};
+ghost use Rattle.pc_flow.specs.Courses.{IsSameCurve, IsNext, HasEnded, most_looks};
 ghost use Rattle.pc_flow.specs.Descents.{HasDescended, HasSearched};
 
 use crate::solver::Solver;
