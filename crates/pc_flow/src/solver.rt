@@ -1,0 +1,130 @@
+//! A solver, and what it gives away of itself.
+ghost use Rattle.std.specs.Prelude.{◌≡◌, ◌+◌, ◌*◌, ◌≤◌, true, false, length};
+ghost use Rattle.pc_model.specs.declared.limits.TheConstants.{MAX_EVENTS, MAX_ACTIVITIES, MAX_PIECES};
+ghost use Rattle.pc_model.specs.Sums.{sum_to};
+ghost use Rattle.pc_model.specs.Schedule.{base_cost_of, IsAllNormalLength, IsAllCrashLength};
+ghost use Rattle.pc_flow.specs.declared.early.TheConstants.{MAX_LENGTH};
+ghost use Rattle.pc_cells.specs.Spans.{free_of};
+ghost use Rattle.pc_flow.specs.Courses.{IsLevel, IsOnCurve, lower_of};
+
+use crate::early::MAX_LENGTH;
+use crate::opening::open_board;
+use pc_cells::Region;
+use pc_crash::CrashNet;
+use pc_search::Search;
+use std::marker::Model;
+
+/// The segments of the time-cost curve of a network, one after another, from the all-normal length down to the all-crash
+/// length.
+///
+/// It keeps a time for each event and a flow along each activity, which show that the durations that these times allow are
+/// a cheapest schedule for the present length. Each segment comes from the one before: the labels that a search gave last
+/// still stand after the fall.
+#[derive(Drop)]
+pub struct Solver<'n> {
+    pub(crate) search: Search<'n>,
+    pub(crate) longest: u64,
+    pub(crate) shortest: u64,
+    pub(crate) cost: u64,
+    pub(crate) slope: u64,
+    pub(crate) fall: u64,
+    pub(crate) given: bool,
+}
+
+impl<'n> Model for Solver<'n> {
+    ghost use Rattle.pc_flow.specs.Courses.{Course};
+
+    ghost Value = { Course };
+
+    ghost use Rattle.pc_flow.specs.Solvers.{course_of, IsOnCourseInside};
+
+    ghost view = { course_of };
+
+    ghost invariant = { IsOnCourseInside };
+}
+
+/// How many cells a solver needs for so many events, activities and pieces of their costs.
+pub fn cells_needed(events: usize, activities: usize, pieces: usize) -> usize
+    requires events { events ≤ MAX_EVENTS }
+    requires activities { activities ≤ MAX_ACTIVITIES }
+    requires pieces { pieces ≤ MAX_PIECES }
+    ensures { result ≡ 8 * events + 6 * activities + 2 * pieces + 16 }
+{
+    8 * events + 6 * activities + 2 * pieces + 16
+}
+
+impl<'n> Solver<'n> {
+    /// A solver before its first segment, in the free cells of a region. It takes no memory. Linear in events and
+    /// activities.
+    pub fn begin(region: Region, net: &'n CrashNet<'n>) -> Solver<'n>
+        requires { 8 * net.now.network.events + 6 * length net.now.network.arcs + 2 * length net.now.pieces + 16 ≤ free_of region }
+        ensures net { result.net ≡ net.now }
+        ensures home { result.board.home ≡ region }
+        ensures given { result.given ≡ false }
+        ensures level { IsLevel result }
+        ensures longest { IsAllNormalLength net.now.network net.now.terms result.longest }
+        ensures shortest { IsAllCrashLength net.now.network net.now.terms result.shortest }
+    {
+        // The order of the events says that no activity has more flow than its value.
+        let _order = net.net().order();
+        let opening = open_board(region, net);
+        Solver {
+            search: Search {
+                net,
+                board: opening.board,
+            },
+            longest: opening.longest,
+            shortest: opening.shortest,
+            cost: normal_cost(net),
+            slope: 0,
+            fall: 0,
+            given: false,
+        }
+    }
+
+    /// The all-normal length: how long the project takes where each activity has its normal duration, in units.
+    pub fn longest(&self) -> u64
+        ensures longest { result ≡ self.now.longest }
+        ensures all_normal { IsAllNormalLength self.now.net.network self.now.net.terms result }
+        ensures limit { result ≤ MAX_LENGTH }
+    {
+        self.longest
+    }
+
+    /// The all-crash length: how long it takes where each activity has its crash duration, in units.
+    pub fn shortest(&self) -> u64
+        ensures shortest { result ≡ self.now.shortest }
+        ensures all_crash { IsAllCrashLength self.now.net.network self.now.net.terms result }
+        ensures range { result ≤ self.now.longest }
+    {
+        self.shortest
+    }
+
+    /// Whether a segment was given.
+    pub fn given(&self) -> bool
+        ensures given { result ≡ self.now.given }
+        ensures level { result ≡ false → IsLevel self.now }
+        ensures whole { result ≡ true → IsOnCurve self.now }
+        ensures range { self.now.shortest ≤ lower_of self.now }
+    {
+        self.given
+    }
+
+    /// The region as it was before.
+    pub fn close(self) -> Region
+        ensures { result ≡ self.entry.board.home }
+    {
+        self.search.board.close()
+    }
+}
+
+// What the activities cost at their normal durations.
+fn normal_cost(net: &CrashNet<'_>) -> u64
+    ensures { result ≡ sum_to (length net.now.terms) (base_cost_of net.now.terms) }
+{
+    let mut cost = 0;
+    for a in 0..net.net().activities() {
+        cost += net.term(a).cost;
+    }
+    cost
+}

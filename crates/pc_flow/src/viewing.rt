@@ -1,0 +1,56 @@
+//! The present segment of a solver.
+ghost use Rattle.std.specs.Prelude.{◌≡◌, true};
+ghost use Rattle.pc_flow.specs.Courses.{present};
+
+use crate::solver::Solver;
+use pc_crash::SegmentView;
+use pc_stair::{beside, flow_at};
+
+impl<'n> SegmentView for Solver<'n> {
+    ghost IsPresent = { λ solver. solver.given ≡ true };
+
+    ghost net = { λ solver. solver.net };
+
+    ghost segment = { present };
+
+    fn upper(&self) -> u64 {
+        self.search.board.time(self.search.net.net().end())
+    }
+
+    fn lower(&self) -> u64 {
+        self.upper() - self.fall
+    }
+
+    fn cost(&self) -> u64 {
+        self.cost
+    }
+
+    fn slope(&self) -> u64 {
+        self.slope
+    }
+
+    fn time(&self, e: u32) -> u64 {
+        self.search.board.time(e)
+    }
+
+    fn moves(&self, e: u32) -> bool {
+        self.fall > 0 && self.search.board.rank(e) == 0
+    }
+
+    fn duration(&self, a: u32) -> u64 {
+        let net = self.search.net;
+        let begins = self.time(net.net().from(a));
+        let ends = self.time(net.net().to(a));
+        net.term(a).normal.min(ends - begins)
+    }
+
+    fn flow(&self, a: u32, k: u32) -> u64 {
+        let knees = self.search.net.knees(a);
+        let flow = self.search.board.flow(a);
+        if k < knees.len() {
+            flow_at(knees.as_slice(), flow, k as usize)
+        } else {
+            beside(knees.as_slice(), flow)
+        }
+    }
+}
