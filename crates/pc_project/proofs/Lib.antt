@@ -16,3 +16,4 @@ mod BranchLaws
 mod DisorderLaws
 mod FigureLaws
 mod StateLaws
+mod OwnPieceLaws

@@ -4,6 +4,7 @@
 #![tactic(auto)]
 
 mod activity;
+mod costing;
 mod figures;
 mod first;
 mod heading;
