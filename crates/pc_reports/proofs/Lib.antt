@@ -1,3 +1,5 @@
 mod DateLaws
+mod PushLaws
+mod SumLaws
 mod PathLaws
 mod WorkedRows

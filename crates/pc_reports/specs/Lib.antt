@@ -5,3 +5,10 @@ pub mod Check
 pub mod Times
 pub mod TimesText
 pub mod TimesInside
+pub mod Outline
+pub mod Columns
+pub mod ColumnParts
+pub mod Figures
+pub mod Summary
+pub mod Packages
+pub mod Worth
