@@ -1,6 +1,11 @@
 pub mod Project
+pub mod Records
+pub mod Figures
 pub mod Misfit
 pub mod First
+pub mod PackageFaults
+pub mod DisorderFaults
+pub mod ToGoFaults
 pub mod PieceFaults
 pub mod TermsFaults
 pub mod Refusal

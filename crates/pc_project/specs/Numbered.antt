@@ -4,7 +4,15 @@ use Rattle.pc_model.specs.declared.limits.TheConstants.{MAX_ITEMS}
 use Rattle.pc_deck.specs.Deck.{Deck}
 use Rattle.pc_project.specs.declared.numbers.Numbers.{Numbers}
 use Rattle.pc_project.specs.Misfit.{HasNoMisfit}
-use Rattle.pc_project.specs.Project.{load_of, network_of, pieces_in, placement_of, rows_of}
+use Rattle.pc_project.specs.Project.{accounts_in, charges_in, load_of, network_of, pieces_in, placement_of, rows_of, statuses_in, togos_in}
+use Rattle.pc_project.specs.declared.figures.Figures.{Figures}
+
+-- the accounts, charges, amounts to go and statuses are those of the deck
+pub record AreFiguresOf (deck : Deck) (figures : Figures) : Type 0 where
+  pub accounts : figures.accounts.items ≡ accounts_in deck
+  pub charges : figures.charges.items ≡ charges_in deck
+  pub togos : figures.togos.items ≡ togos_in deck
+  pub statuses : figures.statuses.items ≡ statuses_in deck
 
 -- the numbers are those of the deck, of which no card has a fault
 pub record AreNumbersOf (deck : Deck) (numbers : Numbers) : Type 0 where
@@ -16,3 +24,4 @@ pub record AreNumbersOf (deck : Deck) (numbers : Numbers) : Type 0 where
   pub placements : numbers.placements.items ≡ map (placement_of deck) deck.acts
   pub pieces : numbers.pieces.items ≡ pieces_in deck
   pub loads : numbers.loads.items ≡ map (load_of deck) deck.loads
+  pub figures : AreFiguresOf deck numbers.figures

@@ -19,6 +19,12 @@ project_from a = record {
   pieces = a.pieces.items;
   resources = a.resources.items;
   loads = a.loads.items;
+  accounts = a.accounts.items;
+  charges = a.charges.items;
+  togos = a.togos.items;
+  entries = a.book;
+  statuses = a.statuses.items;
+  states = a.states.items;
   time_terms = a.time_terms;
   counts = a.counts;
 }

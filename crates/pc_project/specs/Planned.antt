@@ -1,14 +1,20 @@
 -- What holds of every project.
-use Rattle.std.specs.Prelude.{◌≡◌, ℕ, ◌<◌, ◌≤◌, All, length, slice_index}
+use Rattle.std.specs.Prelude.{◌≡◌, ℕ, ◌<◌, ◌≤◌, ◌≤ℤ◌, All, length, slice_index}
 use Rattle.std.specs.Option.{ForSome}
 use Rattle.pc_model.specs.Network.{IsInRange, IsSound}
 use Rattle.pc_model.specs.Schedule.{AreTerms}
 use Rattle.pc_model.specs.Pieces.{ArePieces}
 use Rattle.pc_crash.specs.Priced.{ArePiecesWithinLimits, IsNamedOnce}
 use Rattle.pc_crash.specs.Terms.{AreWithinLimits}
-use Rattle.pc_wbs.specs.Climb.{IsTree}
+use Rattle.pc_wbs.specs.Climb.{IsLeaf, IsTree}
+use Rattle.pc_accounts.specs.Amounts.{AreEntriesOf}
+use Rattle.pc_accounts.specs.Entries.{AreSmall}
+use Rattle.pc_accounts.specs.Packages.{IsUneven}
+use Rattle.pc_status.specs.Statuses.{AreInOrder, AreKnown}
+use Rattle.pc_times.specs.Forecast.{AreStates}
 use Rattle.pc_times.specs.Times.{AreLengths}
-use Rattle.pc_model.specs.declared.limits.TheConstants.{MAX_COST, MAX_DIRECTED, MAX_EVENTS, MAX_ITEMS, MAX_LOADS, MAX_RESOURCES, MAX_TERMS, MAX_UNIT_DAYS, MAX_VARIANCE}
+use Rattle.pc_model.specs.declared.limits.TheConstants.{MAX_COST, MAX_DIRECTED, MAX_EVENTS, MAX_ITEMS, MAX_LOADS, MAX_RESOURCES, MAX_STATUSES, MAX_TERMS, MAX_UNIT_DAYS, MAX_VARIANCE}
+use Rattle.pc_project.specs.Figures.{AreAccounts, AreFigures, AreStatesOf, work_rows}
 use Rattle.pc_project.specs.Project.{Project}
 use Rattle.pc_project.specs.declared.heading.TimeTerms.{TimeTerms}
 use Rattle.pc_project.specs.declared.load.LoadItem.{LoadItem}
@@ -26,9 +32,26 @@ pub record AreTimeTerms (terms : TimeTerms) : Type 0 where
   pub bonus : terms.bonus ≤ terms.penalty
   pub penalty : terms.penalty ≤ MAX_TERMS
 
+-- activities and accounts stand on leaves, and where an item has activities, the budgets of its accounts add up to what
+-- these cost; the entries are what charges and amounts to go make of the accounts; the statuses are in order, and the
+-- states are what they say
+pub record HasFigures (project : Project) : Type 0 where
+  pub on_leaves : (a : ℕ) → a < length project.network.arcs → IsLeaf project.tree (slice_index project.places a)
+  pub accounts : AreAccounts project.tree project.accounts
+  pub even : (item : ℕ) → IsUneven project.accounts (work_rows project.places project.terms) item → ⊥
+  pub figures : AreFigures (length project.accounts) project.charges project.togos
+  pub entries : AreEntriesOf project.accounts project.charges project.togos project.heading.as_of project.entries
+  pub small_entries : AreSmall project.entries
+  pub as_of : project.heading.start_day ≤ℤ project.heading.as_of
+  pub few_statuses : length project.statuses ≤ MAX_STATUSES
+  pub statuses_known : AreKnown (length project.network.arcs) project.statuses
+  pub in_order : AreInOrder project.heading.start_day project.heading.as_of project.statuses
+  pub states : AreStatesOf project.heading.start_day project.statuses (length project.network.arcs) project.states
+  pub small_states : AreStates project.network project.states
+
 -- the network is sound and the items are a tree; each activity has its term and the pieces of its cost within the limits,
 -- its expected time, its variance and its item; each event, activity and item has its code, no event and no activity that
--- of another; and loads and terms of time are within their limits
+-- of another; loads and terms of time are within their limits; and it has its figures
 pub record IsPlanned (project : Project) : Type 0 where
   pub in_range : IsInRange project.network
   pub sound : IsSound project.network
@@ -56,3 +79,4 @@ pub record IsPlanned (project : Project) : Type 0 where
   pub few_loads : length project.loads ≤ MAX_LOADS
   pub loads : All (IsLoad project) project.loads
   pub time_terms : AreTimeTerms project.time_terms
+  pub figures : HasFigures project

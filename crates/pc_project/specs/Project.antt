@@ -1,17 +1,26 @@
 -- The project of a deck: its lists in card order, with numbers for codes.
-use Rattle.std.specs.Prelude.{ℕ, ℤ, List, [], length, map, Option, Some, None, unwrap_or, slice_index, slice_index_or, option_and_then}
+use Rattle.std.specs.Prelude.{◌≡◌, ℕ, ◌<◌, ℤ, List, [], ◌∷◌, length, map, Option, Some, None, unwrap_or, slice_index, slice_index_or, option_and_then}
+use Rattle.pc_accounts.specs.declared.entry.Entry.{Entry}
+use Rattle.pc_accounts.specs.declared.rows.AcctRow.{AcctRow}
+use Rattle.pc_accounts.specs.declared.rows.MoneyRow.{MoneyRow}
+use Rattle.pc_accounts.specs.declared.rows.WorkRow.{WorkRow}
 use Rattle.pc_model.specs.declared.Arc.{Arc}
 use Rattle.pc_model.specs.declared.PieceRow.{PieceRow}
 use Rattle.pc_model.specs.declared.Term.{Term}
 use Rattle.pc_model.specs.Network.{Network}
 use Rattle.pc_model.specs.Schedule.{term_at}
 use Rattle.pc_model.specs.Walk.{from_of, to_of}
+use Rattle.pc_status.specs.declared.row.StatusRow.{StatusRow}
 use Rattle.pc_times.specs.Estimates.{expected_time, variance_of}
+use Rattle.pc_times.specs.declared.state.ActState.{ActState}
 use Rattle.pc_wbs.specs.declared.row.ItemRow.{ItemRow}
+use Rattle.pc_deck.specs.declared.kinds.acct.AcctCard.{AcctCard}
 use Rattle.pc_deck.specs.declared.kinds.act.ActCard.{ActCard}
 use Rattle.pc_deck.specs.declared.kinds.as_of.AsOfCard.{AsOfCard}
 use Rattle.pc_deck.specs.declared.kinds.load.LoadCard.{LoadCard}
+use Rattle.pc_deck.specs.declared.kinds.money.MoneyCard.{MoneyCard}
 use Rattle.pc_deck.specs.declared.kinds.piece.PieceCard.{PieceCard}
+use Rattle.pc_deck.specs.declared.kinds.status.StatusCard.{StatusCard}
 use Rattle.pc_deck.specs.declared.kinds.terms.TermsCard.{TermsCard}
 use Rattle.pc_deck.specs.declared.kinds.wbs.ItemCard.{ItemCard}
 use Rattle.pc_deck.specs.Deck.{Deck, act_codes, event_codes, item_codes, event_named, item_named, account_named, act_named, resource_named, resource_codes}
@@ -25,7 +34,8 @@ use Rattle.pc_project.specs.declared.placed.Placement.{Placement}
 -- what a project is: what it is called and when, the network of its activities, the tree of its items, and the lists
 -- of its events (codes), its activities (codes, items, what each may last and cost, expected times in sixths of a day
 -- and their variances in thirty-sixths of a square day), the further pieces of their costs, its items (codes, titles),
--- its resources (codes) and the loads on them, all in card order; and what time costs
+-- its resources (codes) and the loads on them, its accounts, the charges and the amounts to go of these and what each
+-- account has come to, and the statuses of its activities and how far each is, all in card order; and what time costs
 pub record Project : Type 0 where
   pub heading : Heading
   pub network : Network
@@ -41,6 +51,12 @@ pub record Project : Type 0 where
   pub pieces : List PieceRow
   pub resources : List (List ℕ)
   pub loads : List LoadItem
+  pub accounts : List AcctRow
+  pub charges : List MoneyRow
+  pub togos : List MoneyRow
+  pub entries : List Entry
+  pub statuses : List StatusRow
+  pub states : List ActState
   pub time_terms : TimeTerms
   pub counts : Counts
 
@@ -103,6 +119,41 @@ piece_codes deck = map (λ piece. piece.activity) deck.pieces
 abbrev pub load_of : Deck → LoadCard → LoadItem
 load_of deck load = record { activity = act_number deck load.activity; resource = resource_number deck load.resource; quantity = load.quantity }
 
+-- the account of a card: the item that it stands on, and its budget
+abbrev pub account_of : Deck → AcctCard → AcctRow
+account_of deck card = record { item = item_number deck card.item; budget = card.budget }
+
+-- the accounts
+abbrev pub accounts_in : Deck → List AcctRow
+accounts_in deck = map (account_of deck) deck.accounts
+
+-- the amount of a CHARGE or a TOGO card
+abbrev pub money_of : Deck → MoneyCard → MoneyRow
+money_of deck card = record { account = account_number deck card.account; day = card.day; amount = card.amount }
+
+-- the charges, and the amounts to go
+abbrev pub charges_in : Deck → List MoneyRow
+charges_in deck = map (money_of deck) deck.charges
+
+abbrev pub togos_in : Deck → List MoneyRow
+togos_in deck = map (money_of deck) deck.togos
+
+-- what the activity of a card costs at its normal duration, and at which item
+abbrev pub work_of : Deck → ActCard → WorkRow
+work_of deck act = record { item = place_of deck act; cost = act.cost }
+
+-- the same of all activities
+abbrev pub work_in : Deck → List WorkRow
+work_in deck = map (work_of deck) deck.acts
+
+-- what a STATUS card says
+abbrev pub status_of : Deck → StatusCard → StatusRow
+status_of deck card = record { activity = act_number deck card.activity; finished = card.finished; day = card.day }
+
+-- the statuses
+abbrev pub statuses_in : Deck → List StatusRow
+statuses_in deck = map (status_of deck) deck.statuses
+
 -- what time costs, by the TERMS card; nothing without one
 abbrev pub time_terms_of : Option TermsCard → TimeTerms
 time_terms_of None = record { overhead = 0; target = 0; bonus = 0; penalty = 0 }
@@ -160,9 +211,9 @@ counts_of deck = record {
   statuses = length deck.statuses;
 }
 
--- the project of a deck
-abbrev pub project_in : Deck → Project
-project_in deck = record {
+-- the project of a deck whose accounts have come to these entries and whose activities are that far
+abbrev pub project_in : Deck → List Entry → List ActState → Project
+project_in deck entries states = record {
   heading = heading_of deck;
   network = network_of deck;
   tree = rows_of deck;
@@ -177,6 +228,12 @@ project_in deck = record {
   pieces = pieces_in deck;
   resources = resource_codes deck;
   loads = map (load_of deck) deck.loads;
+  accounts = accounts_in deck;
+  charges = charges_in deck;
+  togos = togos_in deck;
+  entries = entries;
+  statuses = statuses_in deck;
+  states = states;
   time_terms = time_terms_of deck.terms;
   counts = counts_of deck;
 }

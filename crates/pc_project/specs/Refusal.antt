@@ -1,8 +1,11 @@
 -- Why a deck whose cards were read is refused: the first fault, phase by phase. A phase counts only where none before
 -- it has a fault: first the cards one by one (F13 to F19, F41), then the tree of the items (F20 to F23, tried in that
--- order), then the network of the activities (F24 to F27, tried in that order), then the pieces of the activities' costs
--- (F33 to F35), and last the terms of time (F36).
-use Rattle.std.specs.Prelude.{◌≡◌, ℕ, List, [], map, slice_index, slice_index_or}
+-- order), then the network of the activities (F24 to F27, tried in that order), then the items that activities and
+-- accounts stand on (F28), then the budgets of packages (F29), then statuses and as-of (F30), then second amounts to go
+-- (F31), then the pieces of the activities' costs (F33 to F35), and last the terms of time (F36).
+use Rattle.std.specs.Prelude.{◌≡◌, ℕ, slice_index}
+use Rattle.pc_accounts.specs.Packages.{IsUneven}
+use Rattle.pc_accounts.specs.Second.{IsRepeated}
 use Rattle.pc_model.specs.Network.{IsSound}
 use Rattle.pc_wbs.specs.Climb.{IsTree}
 use Rattle.pc_wbs.specs.Refusal.{IsRefusal as IsTreeRefusal}
@@ -17,28 +20,14 @@ use Rattle.pc_faults.specs.Faults.{no_top, second_top, item_loop, too_deep, ente
 use Rattle.pc_faults.specs.declared.fault.Fault.{Fault as ADeckFault}
 use Rattle.pc_faults.specs.declared.fault.DeckError.{DeckError}
 use Rattle.pc_faults.specs.declared.fault.DeckError.TheVariants.{Fault, OutOfMemory}
+use Rattle.pc_project.specs.DisorderFaults.{HasDisorder, HasNoDisorder}
+use Rattle.pc_project.specs.PackageFaults.{HasLeafFault, HasNoLeafFault, IsFirstUnevenFault}
 use Rattle.pc_project.specs.PieceFaults.{HasPieceFault, HasNoPieceFault}
-use Rattle.pc_project.specs.Project.{network_of, rows_of}
+use Rattle.pc_project.specs.Project.{accounts_in, network_of, rows_of, togos_in, work_in}
+use Rattle.pc_project.specs.Records.{act_records, code_at, codes_at, event_records, item_records}
 use Rattle.pc_project.specs.TermsFaults.{HasTermsFault, HasNoTermsFault}
+use Rattle.pc_project.specs.ToGoFaults.{IsFirstSecondToGo}
 use Rattle.pc_project.specs.Misfit.{HasMisfit, HasNoMisfit}
-
--- the code with a number among those; none past their end
-abbrev pub code_at : List (List ℕ) → ℕ → List ℕ
-code_at codes i = slice_index_or codes i []
-
--- the codes with these numbers
-abbrev pub codes_at : List (List ℕ) → List ℕ → List (List ℕ)
-codes_at codes numbers = map (code_at codes) numbers
-
--- the records of the items, the events and the activities, in card order
-abbrev pub item_records : Deck → List ℕ
-item_records deck = map (λ item. item.row) deck.items
-
-abbrev pub event_records : Deck → List ℕ
-event_records deck = map (λ event. event.row) deck.events
-
-abbrev pub act_records : Deck → List ℕ
-act_records deck = map (λ act. act.row) deck.acts
 
 -- the fault by which a refusal of the tree is told; it comes at the card of the item that is named first
 abbrev pub tree_fault : Deck → TreeError → DeckError
@@ -62,19 +51,50 @@ pub record HasSoundPlan (deck : Deck) : Type 0 where
   pub tree : IsTree (rows_of deck)
   pub sound : IsSound (network_of deck)
 
--- the cards make a project: no card has a fault, the items are a tree, the network is sound, the pieces of each activity
--- rise and leave units to its first slope, and the bonus is not above the penalty
+-- where an item has activities, the budgets of its accounts add up to what these cost
+abbrev pub IsEven : Deck → Type 0
+IsEven deck = (item : ℕ) → IsUneven (accounts_in deck) (work_in deck) item → ⊥
+
+-- no account has two amounts to go of one day
+abbrev pub HasNoSecondToGo : Deck → Type 0
+HasNoSecondToGo deck = (k : ℕ) → IsRepeated (togos_in deck) k → ⊥
+
+-- beside a sound plan, activities and accounts stand on leaves, packages are even, statuses and as-of are in order, and
+-- no amount to go is a second one
+pub record HasSoundFigures (deck : Deck) : Type 0 where
+  pub leaves : HasNoLeafFault deck
+  pub even : IsEven deck
+  pub ordered : HasNoDisorder deck
+  pub once : HasNoSecondToGo deck
+
+-- the cards make a project: no card has a fault, the items are a tree, the network is sound, activities and accounts stand
+-- on leaves, packages are even, statuses and as-of are in order, no amount to go is a second one, the pieces of each
+-- activity rise and leave units to its first slope, and the bonus is not above the penalty
 pub record MakesProject (deck : Deck) : Type 0 where
   pub cards : HasNoMisfit deck
   pub tree : IsTree (rows_of deck)
   pub sound : IsSound (network_of deck)
+  pub figures : HasSoundFigures deck
   pub pieces : HasNoPieceFault deck
   pub terms : HasNoTermsFault deck
 
 -- the fault with which a deck is refused whose cards make no project; a phase counts only where none before it has a fault
 pub data IsRefusedWith (deck : Deck) (fault : ADeckFault) : Type 0 where
+  -- F13 to F19, F41: a card names what is not there, or its numbers are out of order
   of_cards : IsFirst (HasMisfit deck) fault → IsRefusedWith deck fault
+  -- F20 to F23: the items are no tree
   of_tree : HasNoMisfit deck → (e : TreeError) → IsTreeRefusal (rows_of deck) e → tree_fault deck e ≡ Fault fault → IsRefusedWith deck fault
+  -- F24 to F27: the network is not sound
   of_network : HasNoMisfit deck → IsTree (rows_of deck) → (e : NetError) → IsNetRefusal (network_of deck) e → net_fault deck e ≡ Fault fault → IsRefusedWith deck fault
-  of_pieces : HasSoundPlan deck → IsFirst (HasPieceFault deck) fault → IsRefusedWith deck fault
-  of_terms : HasSoundPlan deck → HasNoPieceFault deck → IsFirst (HasTermsFault deck) fault → IsRefusedWith deck fault
+  -- F28: an activity or an account stands on an item that has items below it
+  of_leaves : HasSoundPlan deck → IsFirst (HasLeafFault deck) fault → IsRefusedWith deck fault
+  -- F29: a package has budgets that are not the costs of its activities
+  of_packages : HasSoundPlan deck → HasNoLeafFault deck → IsFirstUnevenFault deck fault → IsRefusedWith deck fault
+  -- F30: a STATUS card or the ASOF card is in disorder
+  of_statuses : HasSoundPlan deck → HasNoLeafFault deck → IsEven deck → IsFirst (HasDisorder deck) fault → IsRefusedWith deck fault
+  -- F31: a TOGO card has the account and the day of an earlier one
+  of_togos : HasSoundPlan deck → HasNoLeafFault deck → IsEven deck → HasNoDisorder deck → IsFirstSecondToGo deck fault → IsRefusedWith deck fault
+  -- F33 to F35: a piece is one too many, does not rise, or leaves nothing to the first slope
+  of_pieces : HasSoundPlan deck → HasSoundFigures deck → IsFirst (HasPieceFault deck) fault → IsRefusedWith deck fault
+  -- F36: the bonus is above the penalty
+  of_terms : HasSoundPlan deck → HasSoundFigures deck → HasNoPieceFault deck → IsFirst (HasTermsFault deck) fault → IsRefusedWith deck fault

@@ -4,20 +4,26 @@
 #![tactic(auto)]
 
 mod activity;
+mod figures;
 mod first;
 mod heading;
+mod leaves;
 mod lists;
 mod load;
 mod named;
 mod network;
 mod numbers;
+mod packages;
 mod phases;
 mod pieces;
 mod placed;
 mod pricing;
+mod progress;
 mod project;
 mod refers;
+mod statuses;
 mod terms;
+mod togos;
 mod tree;
 
 pub use crate::activity::Activity;

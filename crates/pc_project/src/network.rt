@@ -9,7 +9,8 @@ ghost use Rattle.pc_faults.specs.First.{Refuses};
 ghost use Rattle.pc_project.specs.Misfit.{HasNoMisfit};
 ghost use Rattle.pc_project.specs.Numbered.{AreNumbersOf};
 ghost use Rattle.pc_project.specs.Project.{arc_of, network_of, rows_of};
-ghost use Rattle.pc_project.specs.Refusal.{IsRefusedWith, codes_at, net_fault};
+ghost use Rattle.pc_project.specs.Records.{codes_at};
+ghost use Rattle.pc_project.specs.Refusal.{IsRefusedWith, net_fault};
 
 use crate::lists::{arcs, codes_of_acts};
 use crate::named::{act_card, codes_at, event_card};

@@ -1,14 +1,15 @@
 //! The numbers of all that the cards name, or the first fault of any card.
 ghost use Rattle.std.specs.Prelude.{◌≡◌, Some, IfOk, IfErr};
 ghost use Rattle.pc_faults.specs.First.{IsFirst, Refuses};
-ghost use Rattle.pc_project.specs.First.{IsFirstIn, earliest};
-ghost use Rattle.pc_project.specs.Misfit.{HasFigureFault, HasMisfit};
+ghost use Rattle.pc_project.specs.First.{earliest};
+ghost use Rattle.pc_project.specs.Misfit.{HasMisfit};
 ghost use Rattle.pc_project.specs.Numbered.{AreNumbersOf};
 
+use crate::figures::{Figures, figures_of};
 use crate::first::earliest;
 use crate::load::LoadItem;
 use crate::placed::{Ends, Placement, ends_of};
-use crate::refers::{first_fault, look_up_all};
+use crate::refers::look_up_all;
 use pc_deck::Cards;
 use pc_faults::{DeckError, Fault};
 use pc_model::PieceRow;
@@ -27,6 +28,7 @@ pub(crate) struct Numbers {
     pub pieces: Vec<PieceRow>,
     /// One for each LOAD card, in card order.
     pub loads: Vec<LoadItem>,
+    pub figures: Figures,
 }
 
 /// Looks up once what each card names, or answers the first fault of any card (F13 to F19, F41).
@@ -38,9 +40,10 @@ pub(crate) fn numbers_of(alloc: Global, cards: &Cards) -> Result<Numbers, DeckEr
     let acts = look_up_all(alloc, cards, cards.acts())?;
     let pieces = look_up_all(alloc, cards, cards.pieces())?;
     let loads = look_up_all(alloc, cards, cards.loads())?;
+    let figures = figures_of(alloc, cards)?;
     let of_acts = earliest(rows.fault, acts.fault);
     let of_parts = earliest(pieces.fault, loads.fault);
-    let fault = earliest(earliest(of_acts, of_parts), first_figure_fault(cards));
+    let fault = earliest(earliest(of_acts, of_parts), figures.fault);
     match (ends_of(cards), fault) {
         (Ok(ends), None) => Ok(Numbers {
             ends,
@@ -48,6 +51,7 @@ pub(crate) fn numbers_of(alloc: Global, cards: &Cards) -> Result<Numbers, DeckEr
             placements: acts.numbers,
             pieces: pieces.numbers,
             loads: loads.numbers,
+            figures: figures.figures,
         }),
         (Ok(_), Some(fault)) => Err(DeckError::Fault(fault)),
         (Err(first), fault) => Err(DeckError::Fault(earlier_of(first, fault))),
@@ -62,15 +66,4 @@ fn earlier_of(fault: Fault, other: Option<Fault>) -> Fault
         Some(first) => first,
         None => unreachable!(),
     }
-}
-
-/// The first fault of the cards that give figures.
-fn first_figure_fault(cards: &Cards) -> Option<Fault>
-    ensures { IsFirstIn (HasFigureFault cards.now) result }
-{
-    let accounts = first_fault(cards, cards.accounts());
-    let charges = first_fault(cards, cards.charges());
-    let togos = first_fault(cards, cards.togos());
-    let statuses = first_fault(cards, cards.statuses());
-    earliest(earliest(accounts, charges), earliest(togos, statuses))
 }

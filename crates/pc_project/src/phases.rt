@@ -1,16 +1,23 @@
 //! From the cards of a deck to its project, phase by phase.
-ghost use Rattle.std.specs.Prelude.{◌≡◌, IfOk, IfErr};
+ghost use Rattle.std.specs.Prelude.{◌≡◌, length, IfOk, IfErr, OnOk};
+ghost use Rattle.pc_accounts.specs.Amounts.{AreEntriesOf};
 ghost use Rattle.pc_faults.specs.First.{Refuses};
+ghost use Rattle.pc_project.specs.DisorderFaults.{as_of_in};
+ghost use Rattle.pc_project.specs.Figures.{AreStatesOf, IsProjectOfDeck};
 ghost use Rattle.pc_project.specs.Numbered.{AreNumbersOf};
-ghost use Rattle.pc_project.specs.Project.{counts_of, heading_of, network_of, project_in, rows_of, time_terms_of};
-ghost use Rattle.pc_project.specs.Refusal.{IsRefusedWith, MakesProject};
+ghost use Rattle.pc_project.specs.PieceFaults.{HasNoPieceFault};
+ghost use Rattle.pc_project.specs.Project.{accounts_in, charges_in, counts_of, heading_of, network_of, rows_of, statuses_in, time_terms_of, togos_in};
+ghost use Rattle.pc_project.specs.Refusal.{HasSoundFigures, HasSoundPlan, IsRefusedWith, MakesProject};
+ghost use Rattle.pc_project.specs.TermsFaults.{HasNoTermsFault};
 
 use crate::heading::{Counts, Heading, TimeTerms};
 use crate::lists::lists_of;
 use crate::network::net_of;
 use crate::numbers::{Numbers, numbers_of};
 use crate::pieces::check_pieces;
+use crate::progress::{Progress, progress_of};
 use crate::project::Project;
+use crate::statuses::as_of;
 use crate::terms::terms_fault;
 use crate::tree::tree_of;
 use pc_deck::Cards;
@@ -20,12 +27,13 @@ use pc_wbs::Tree;
 use std::alloc::{AllocError, Global};
 
 /// The project of the cards, or the first fault that keeps them from making one: of the cards one by one, or else of
-/// the tree of their items, or else of the network of their activities, or else of the pieces of the activities' costs,
-/// or else of the terms of time.
+/// the tree of their items, or else of the network of their activities, or else of the items that activities and accounts
+/// stand on, or else of the budgets of packages, or else of statuses and as-of, or else of second amounts to go, or else of
+/// the pieces of the activities' costs, or else of the terms of time.
 ///
 /// It takes time in proportion to the cards.
 pub fn project_of(alloc: Global, cards: Cards) -> Result<Project, DeckError>
-    ensures project { IfOk result (λ project. project ≡ project_in cards) }
+    ensures project { IfOk result (IsProjectOfDeck cards) }
     ensures makes { IfOk result (λ _. MakesProject cards) }
     ensures refused { IfErr result (Refuses (IsRefusedWith cards)) }
 {
@@ -35,7 +43,7 @@ pub fn project_of(alloc: Global, cards: Cards) -> Result<Project, DeckError>
 /// What `project_of` answers, while the cards are kept: one phase after another, each of which may take it that those
 /// before it found no fault, and answers its own first one.
 fn judged(alloc: Global, cards: &Cards) -> Result<Project, DeckError>
-    ensures project { IfOk result (λ project. project ≡ project_in cards.now) }
+    ensures project { IfOk result (IsProjectOfDeck cards.now) }
     ensures makes { IfOk result (λ _. MakesProject cards.now) }
     ensures refused { IfErr result (Refuses (IsRefusedWith cards.now)) }
 {
@@ -51,15 +59,34 @@ fn judged(alloc: Global, cards: &Cards) -> Result<Project, DeckError>
         Ok(net) => net,
         Err(error) => return Err(error),
     };
-    if let Err(error) = check_pieces(alloc, cards, &numbers) {
+    let progress = match progress_of(alloc, cards, &numbers, &tree) {
+        Ok(progress) => progress,
+        Err(error) => return Err(error),
+    };
+    if let Err(error) = check_costs(alloc, cards, &numbers) {
         return Err(error);
     }
-    if let Some(fault) = terms_fault(cards) {
-        return Err(DeckError::Fault(fault));
-    }
-    match planned(alloc, cards, numbers, tree, net) {
+    match planned(alloc, cards, numbers, tree, net, progress) {
         Ok(project) => Ok(project),
         Err(_) => Err(DeckError::OutOfMemory),
+    }
+}
+
+/// Answers the first fault of the pieces, or else of the terms of time, of a project with sound figures (F33 to F36).
+fn check_costs(alloc: Global, cards: &Cards, numbers: &Numbers) -> Result<(), DeckError>
+    requires plan { HasSoundPlan cards.now }
+    requires figures { HasSoundFigures cards.now }
+    requires numbers { AreNumbersOf cards.now numbers.now }
+    ensures pieces { OnOk result (HasNoPieceFault cards.now) }
+    ensures terms { OnOk result (HasNoTermsFault cards.now) }
+    ensures refused { IfErr result (Refuses (IsRefusedWith cards.now)) }
+{
+    if let Err(error) = check_pieces(alloc, cards, numbers) {
+        return Err(error);
+    }
+    match terms_fault(cards) {
+        Some(fault) => Err(DeckError::Fault(fault)),
+        None => Ok(()),
     }
 }
 
@@ -68,14 +95,10 @@ fn heading(cards: &Cards) -> Heading
     ensures { result ≡ heading_of cards.now }
 {
     let card = cards.project();
-    let as_of = match cards.as_of() {
-        Some(card) => card.day,
-        None => card.start_day,
-    };
     Heading {
         code: card.code,
         start_day: card.start_day,
-        as_of,
+        as_of: as_of(cards),
         unit_days: card.unit_days,
         directed: card.directed,
     }
@@ -96,19 +119,22 @@ fn counts(cards: &Cards) -> Counts
     }
 }
 
-/// The project of cards that make one, around its tree and its network.
+/// The project of cards that make one, around its tree, its network and its progress.
 fn planned(
     alloc: Global,
     cards: &Cards,
     numbers: Numbers,
     tree: Tree,
     net: Net,
+    progress: Progress,
 ) -> Result<Project, AllocError>
     requires makes { MakesProject cards.now }
     requires numbers { AreNumbersOf cards.now numbers }
     requires tree { tree ≡ rows_of cards.now }
     requires network { net ≡ network_of cards.now }
-    ensures { IfOk result (λ project. project ≡ project_in cards.now) }
+    requires entries { AreEntriesOf (accounts_in cards.now) (charges_in cards.now) (togos_in cards.now) (as_of_in cards.now) progress.book }
+    requires states { AreStatesOf cards.now.project.start_day (statuses_in cards.now) (length cards.now.acts) progress.states.items }
+    ensures { IfOk result (IsProjectOfDeck cards.now) }
 {
     let lists = lists_of(alloc, cards, &numbers.placements)?;
     Ok(Project {
@@ -126,6 +152,12 @@ fn planned(
         pieces: numbers.pieces,
         resources: lists.resources,
         loads: numbers.loads,
+        accounts: numbers.figures.accounts,
+        charges: numbers.figures.charges,
+        togos: numbers.figures.togos,
+        book: progress.book,
+        statuses: numbers.figures.statuses,
+        states: progress.states,
         time_terms: time_terms(cards),
         counts: counts(cards),
     })

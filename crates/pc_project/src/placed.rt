@@ -7,9 +7,11 @@ ghost use Rattle.pc_project.specs.Misfit.{HasProjectFault, IsInOrder};
 
 use crate::load::LoadItem;
 use crate::refers::Refers;
+use pc_accounts::{AcctRow, MoneyRow};
 use pc_deck::{AcctCard, ActCard, Cards, ItemCard, LoadCard, MoneyCard, PieceCard, StatusCard};
 use pc_faults::Fault;
 use pc_model::{Arc, PieceRow};
+use pc_status::StatusRow;
 use pc_wbs::ItemRow;
 
 /// Where an activity stands: between which events, and at which item.
@@ -113,54 +115,65 @@ impl Refers for ActCard {
 }
 
 impl Refers for AcctCard {
-    ghost use Rattle.pc_project.specs.Project.{item_number};
+    ghost use Rattle.pc_project.specs.Project.{account_of};
     ghost use Rattle.pc_project.specs.Misfit.{HasAccountFault};
 
-    type Found = u32;
+    type Found = AcctRow;
 
-    ghost found_in = { λ deck card. item_number deck card.item };
+    ghost found_in = { account_of };
 
     ghost HasFault = { HasAccountFault };
 
-    fn look_up(&self, cards: &Cards) -> Result<u32, Fault> {
+    fn look_up(&self, cards: &Cards) -> Result<AcctRow, Fault> {
         match cards.item_named(&self.item) {
-            Some(item) => Ok(item),
+            Some(item) => Ok(AcctRow {
+                item,
+                budget: self.budget,
+            }),
             None => Err(Fault::unknown_item(self.row, self.item)),
         }
     }
 }
 
 impl Refers for MoneyCard {
-    ghost use Rattle.pc_project.specs.Project.{account_number};
+    ghost use Rattle.pc_project.specs.Project.{money_of};
     ghost use Rattle.pc_project.specs.Misfit.{HasMoneyFault};
 
-    type Found = u32;
+    type Found = MoneyRow;
 
-    ghost found_in = { λ deck card. account_number deck card.account };
+    ghost found_in = { money_of };
 
     ghost HasFault = { HasMoneyFault };
 
-    fn look_up(&self, cards: &Cards) -> Result<u32, Fault> {
+    fn look_up(&self, cards: &Cards) -> Result<MoneyRow, Fault> {
         match cards.account_named(&self.account) {
-            Some(account) => Ok(account),
+            Some(account) => Ok(MoneyRow {
+                account,
+                day: self.day,
+                amount: self.amount,
+            }),
             None => Err(Fault::unknown_account(self.row, self.account)),
         }
     }
 }
 
 impl Refers for StatusCard {
-    ghost use Rattle.pc_project.specs.Project.{act_number};
+    ghost use Rattle.pc_project.specs.Project.{status_of};
     ghost use Rattle.pc_project.specs.Misfit.{HasStatusFault};
 
-    type Found = u32;
+    type Found = StatusRow;
 
-    ghost found_in = { λ deck card. act_number deck card.activity };
+    ghost found_in = { status_of };
 
     ghost HasFault = { HasStatusFault };
 
-    fn look_up(&self, cards: &Cards) -> Result<u32, Fault> {
+    fn look_up(&self, cards: &Cards) -> Result<StatusRow, Fault> {
         match cards.act_named(&self.activity) {
-            Some(activity) => Ok(activity),
+            Some(activity) => Ok(StatusRow {
+                activity,
+                finished: self.finished,
+                day: self.day,
+            }),
             None => Err(Fault::unknown_activity(self.row, self.activity)),
         }
     }

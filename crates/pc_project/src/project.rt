@@ -1,16 +1,21 @@
 //! The project as one value.
-ghost use Rattle.std.specs.Prelude.{◌≡◌, ◌<◌, ◌≤◌, length, slice_index_or, []};
+ghost use Rattle.std.specs.Prelude.{◌≡◌, ◌^◌, ◌<◌, ◌≤◌, length, slice_index_or, []};
 ghost use Rattle.pc_model.specs.declared.limits.TheConstants.{MAX_UNIT_DAYS};
+ghost use Rattle.pc_status.specs.Statuses.{IsSixths};
+ghost use Rattle.pc_times.specs.Forecast.{state_at};
 ghost use Rattle.pc_project.specs.Planned.{IsPlanned};
 ghost use Rattle.pc_project.specs.Project.{activity_at};
 
 use crate::activity::Activity;
 use crate::heading::{Counts, Heading, TimeTerms};
 use crate::load::LoadItem;
-use pc_days::Day;
+use pc_accounts::{AcctRow, Book, MoneyRow};
+use pc_days::{Day, days_between};
 use pc_model::{PieceRow, Term};
 use pc_net::Net;
+use pc_status::StatusRow;
 use pc_text::{Code, Title};
+use pc_times::ActState;
 use pc_wbs::Tree;
 use std::marker::Model;
 
@@ -31,6 +36,12 @@ pub struct Project {
     pub(crate) pieces: Vec<PieceRow>,
     pub(crate) resources: Vec<Code>,
     pub(crate) loads: Vec<LoadItem>,
+    pub(crate) accounts: Vec<AcctRow>,
+    pub(crate) charges: Vec<MoneyRow>,
+    pub(crate) togos: Vec<MoneyRow>,
+    pub(crate) book: Book,
+    pub(crate) statuses: Vec<StatusRow>,
+    pub(crate) states: Vec<ActState>,
     pub(crate) time_terms: TimeTerms,
     pub(crate) counts: Counts,
 }
@@ -237,5 +248,69 @@ impl Project {
         ensures planned { IsPlanned self.now }
     {
         &self.loads
+    }
+
+    /// The cost accounts, each on its leaf of the tree.
+    pub fn accounts(&self) -> &[AcctRow]
+        ensures accounts { result.now ≡ self.now.accounts }
+        ensures planned { IsPlanned self.now }
+    {
+        &self.accounts
+    }
+
+    /// What the accounts were charged, whenever.
+    pub fn charges(&self) -> &[MoneyRow]
+        ensures charges { result.now ≡ self.now.charges }
+        ensures planned { IsPlanned self.now }
+    {
+        &self.charges
+    }
+
+    /// What was to go of the accounts, on each day of which a card says it.
+    pub fn togos(&self) -> &[MoneyRow]
+        ensures togos { result.now ≡ self.now.togos }
+        ensures planned { IsPlanned self.now }
+    {
+        &self.togos
+    }
+
+    /// What each account has spent up to as-of, and what is to go.
+    pub fn book(&self) -> &Book
+        ensures entries { result.now ≡ self.now.entries }
+        ensures planned { IsPlanned self.now }
+    {
+        &self.book
+    }
+
+    /// When activities were begun and ended, as the cards say it.
+    pub fn statuses(&self) -> &[StatusRow]
+        ensures statuses { result.now ≡ self.now.statuses }
+        ensures planned { IsPlanned self.now }
+    {
+        &self.statuses
+    }
+
+    /// How far each activity is, in sixths of a day from the start.
+    pub fn states(&self) -> &[ActState]
+        ensures states { result.now ≡ self.now.states }
+        ensures planned { IsPlanned self.now }
+    {
+        &self.states
+    }
+
+    /// How far an activity is, in sixths of a day from the start.
+    pub fn state(&self, a: u32) -> ActState
+        requires { a < length self.now.network.arcs }
+        ensures { result ≡ state_at self.now.states a }
+    {
+        self.states[a as usize]
+    }
+
+    /// The day that the figures are of, in sixths of a day from the start.
+    pub fn as_of_time(&self) -> u64
+        ensures time { IsSixths self.now.heading.start_day self.now.heading.as_of result }
+        ensures small { result < 2 ^ 40 }
+    {
+        6 * days_between(self.heading.start_day, self.heading.as_of) as u64
     }
 }

@@ -53,16 +53,3 @@ pub(crate) fn look_up_all<C: Refers>(
     }
     Ok(LookedUp { numbers, fault })
 }
-
-/// The first fault of the cards, where what they name has no number to be kept.
-pub(crate) fn first_fault<C: Refers>(cards: &Cards, list: &[C]) -> Option<Fault>
-    ensures { IsFirstIn (λ fault. Any (λ card. C.HasFault cards.now card fault) list.now) result }
-{
-    let mut fault = None;
-    for card in list {
-        if let Err(found) = card.look_up(cards) {
-            fault = earliest(fault, Some(found));
-        }
-    }
-    fault
-}

@@ -8,7 +8,8 @@ ghost use Rattle.pc_faults.specs.First.{Refuses};
 ghost use Rattle.pc_project.specs.Misfit.{HasNoMisfit};
 ghost use Rattle.pc_project.specs.Numbered.{AreNumbersOf};
 ghost use Rattle.pc_project.specs.Project.{rows_of};
-ghost use Rattle.pc_project.specs.Refusal.{IsRefusedWith, codes_at, tree_fault};
+ghost use Rattle.pc_project.specs.Records.{codes_at};
+ghost use Rattle.pc_project.specs.Refusal.{IsRefusedWith, tree_fault};
 
 use crate::lists::codes_of_items;
 use crate::named::{codes_at, item_card};

@@ -6,7 +6,8 @@ use Rattle.pc_deck.specs.Deck.{Deck}
 use Rattle.pc_deck.specs.Read.{IsDeckOf}
 use Rattle.pc_deck.specs.Refusal.{IsCardRefusal}
 use Rattle.pc_faults.specs.Faults.{too_long as fault_too_long}
-use Rattle.pc_project.specs.Project.{Project, project_in}
+use Rattle.pc_project.specs.Figures.{IsProjectOfDeck}
+use Rattle.pc_project.specs.Project.{Project}
 use Rattle.pc_project.specs.Refusal.{MakesProject, IsRefusedWith}
 
 -- the bytes are the deck of these cards: each kind has what its cards spell, and they have no fault; and they make a project
@@ -16,7 +17,7 @@ pub record IsAccepted (bytes : List ℕ) (deck : Deck) : Type 0 where
   pub makes : MakesProject deck
 
 -- the fault with which a deck is refused: it is too long (F1), its cards are refused (F2 to F12), or they were read and
--- make no project (F13 to F27)
+-- make no project (F13 to F31, F33 to F36, F41)
 pub data IsFault (bytes : List ℕ) (fault : Fault) : Type 0 where
   too_long : longest_deck < length bytes → fault ≡ fault_too_long → IsFault bytes fault
   card_refusal : length bytes ≤ longest_deck → IsCardRefusal bytes fault → IsFault bytes fault
@@ -26,7 +27,7 @@ pub data IsFault (bytes : List ℕ) (fault : Fault) : Type 0 where
 pub record IsProjectOf (bytes : List ℕ) (project : Project) : Type 0 where
   pub deck : Deck
   pub accepted : IsAccepted bytes deck
-  pub is : project ≡ project_in deck
+  pub is : IsProjectOfDeck deck project
 
 -- the deck is accepted
 abbrev pub AcceptedBy : List ℕ → Type 0

@@ -1,5 +1,5 @@
 use Rattle.std.proofs.Common.{◌≡◌, take}
-use Rattle.pc_project.specs.Refusal.{codes_at}
+use Rattle.pc_project.specs.Records.{codes_at}
 use Rattle.pc_project.proofs.named.codes_at.Given as goal
 
 abbrev pub invariant-loop-number : goal.invariant-loop-number

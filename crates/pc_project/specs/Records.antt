@@ -1,0 +1,31 @@
+-- The records and the codes of cards, by their numbers in card order.
+use Rattle.std.specs.Prelude.{ℕ, List, [], map, slice_index, slice_index_or}
+use Rattle.pc_deck.specs.Deck.{Deck}
+
+-- the code with a number among those; none past their end
+abbrev pub code_at : List (List ℕ) → ℕ → List ℕ
+code_at codes i = slice_index_or codes i []
+
+-- the codes with these numbers
+abbrev pub codes_at : List (List ℕ) → List ℕ → List (List ℕ)
+codes_at codes numbers = map (code_at codes) numbers
+
+-- the records of the items, the events and the activities, in card order
+abbrev pub item_records : Deck → List ℕ
+item_records deck = map (λ item. item.row) deck.items
+
+abbrev pub event_records : Deck → List ℕ
+event_records deck = map (λ event. event.row) deck.events
+
+abbrev pub act_records : Deck → List ℕ
+act_records deck = map (λ act. act.row) deck.acts
+
+-- the records of the amounts to go and of the statuses, and the codes of the accounts that the amounts to go name
+abbrev pub togo_records : Deck → List ℕ
+togo_records deck = map (λ togo. togo.row) deck.togos
+
+abbrev pub togo_codes : Deck → List (List ℕ)
+togo_codes deck = map (λ togo. togo.account) deck.togos
+
+abbrev pub status_records : Deck → List ℕ
+status_records deck = map (λ status. status.row) deck.statuses

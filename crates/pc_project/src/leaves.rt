@@ -1,0 +1,71 @@
+//! Whether activities and accounts stand on leaves of the tree.
+ghost use Rattle.std.specs.Prelude.{◌≡◌, ◌<◌, length, map};
+ghost use Rattle.std.specs.List.{Any};
+ghost use Rattle.pc_wbs.specs.Climb.{IsLeaf};
+ghost use Rattle.pc_faults.specs.Faults.{not_a_leaf};
+ghost use Rattle.pc_project.specs.First.{IsFirstIn};
+ghost use Rattle.pc_project.specs.Misfit.{HasNoMisfit};
+ghost use Rattle.pc_project.specs.Numbered.{AreNumbersOf};
+ghost use Rattle.pc_project.specs.PackageFaults.{HasLeafFault, StandsOnBranch};
+ghost use Rattle.pc_project.specs.Project.{accounts_in, placement_of, rows_of};
+
+use crate::first::earliest;
+use crate::numbers::Numbers;
+use crate::placed::Placement;
+use pc_accounts::AcctRow;
+use pc_deck::Cards;
+use pc_faults::Fault;
+use pc_text::Code;
+use pc_wbs::Tree;
+
+/// The first fault of activities and accounts on items that have items below them, if there is one (F28). One pass over
+/// activities and accounts.
+pub(crate) fn leaf_fault(cards: &Cards, numbers: &Numbers, tree: &Tree) -> Option<Fault>
+    requires numbers { AreNumbersOf cards.now numbers.now }
+    requires tree { tree.now ≡ rows_of cards.now }
+    ensures { IsFirstIn (HasLeafFault cards.now) result }
+{
+    let of_acts = act_fault(cards, &numbers.placements, tree);
+    let of_accounts = account_fault(cards, &numbers.figures.accounts, tree);
+    earliest(of_acts, of_accounts)
+}
+
+/// The first such fault of the activities.
+fn act_fault(cards: &Cards, placements: &[Placement], tree: &Tree) -> Option<Fault>
+    requires faultless { HasNoMisfit cards.now }
+    requires placements { placements.now ≡ map (placement_of cards.now) cards.now.acts }
+    requires tree { tree.now ≡ rows_of cards.now }
+    ensures { IsFirstIn (λ fault. Any (λ act. StandsOnBranch cards.now act.row act.item fault) cards.now.acts) result }
+{
+    let mut fault = None;
+    for (a, card) in cards.acts().iter().enumerate() {
+        fault = earliest(fault, branch_fault(tree, placements[a].item, card.row, card.item));
+    }
+    fault
+}
+
+/// The first such fault of the accounts.
+fn account_fault(cards: &Cards, accounts: &[AcctRow], tree: &Tree) -> Option<Fault>
+    requires faultless { HasNoMisfit cards.now }
+    requires accounts { accounts.now ≡ accounts_in cards.now }
+    requires tree { tree.now ≡ rows_of cards.now }
+    ensures { IsFirstIn (λ fault. Any (λ account. StandsOnBranch cards.now account.row account.item fault) cards.now.accounts) result }
+{
+    let mut fault = None;
+    for (a, card) in cards.accounts().iter().enumerate() {
+        fault = earliest(fault, branch_fault(tree, accounts[a].item, card.row, card.item));
+    }
+    fault
+}
+
+/// The fault of a card that stands on an item, if the item has items below it.
+fn branch_fault(tree: &Tree, item: u32, row: u32, code: Code) -> Option<Fault>
+    requires { item < length tree.now }
+    ensures { IsFirstIn (λ fault. (IsLeaf tree.now item → ⊥) × (fault ≡ not_a_leaf row code)) result }
+{
+    if tree.is_leaf(item) {
+        None
+    } else {
+        Some(Fault::not_a_leaf(row, code))
+    }
+}

@@ -1,0 +1,77 @@
+//! Whether the budgets of each package are the costs of its activities.
+ghost use Rattle.std.specs.Prelude.{◌≡◌, ◌<◌, length, map, IfOk, IfErr, OnOk};
+ghost use Rattle.pc_wbs.specs.Climb.{IsTree};
+ghost use Rattle.pc_accounts.specs.Packages.{IsFirstUneven, IsUneven};
+ghost use Rattle.pc_faults.specs.First.{Refuses};
+ghost use Rattle.pc_project.specs.Misfit.{HasNoMisfit};
+ghost use Rattle.pc_project.specs.Numbered.{AreNumbersOf};
+ghost use Rattle.pc_project.specs.PackageFaults.{IsFirstUnevenFault};
+ghost use Rattle.pc_project.specs.Project.{accounts_in, placement_of, rows_of, work_in};
+ghost use Rattle.pc_project.specs.Refusal.{IsEven};
+
+use crate::named::item_card;
+use crate::numbers::Numbers;
+use crate::placed::Placement;
+use pc_accounts::{Uneven, WorkRow, reconcile};
+use pc_deck::{ActCard, Cards};
+use pc_faults::{DeckError, Fault};
+use pc_wbs::Tree;
+use std::alloc::{AllocError, Global};
+
+/// Answers the fault of the first uneven package, if there is one (F29).
+pub(crate) fn check_packages(
+    alloc: Global,
+    cards: &Cards,
+    numbers: &Numbers,
+    tree: &Tree,
+) -> Result<(), DeckError>
+    requires numbers { AreNumbersOf cards.now numbers.now }
+    requires tree { tree.now ≡ rows_of cards.now }
+    ensures even { OnOk result (IsEven cards.now) }
+    ensures first { IfErr result (Refuses (IsFirstUnevenFault cards.now)) }
+{
+    let work = work_rows(alloc, cards, &numbers.placements)?;
+    match reconcile(alloc, tree, &numbers.figures.accounts, &work) {
+        Ok(()) => Ok(()),
+        Err(uneven) => Err(fault_of(cards, uneven)),
+    }
+}
+
+/// The fault by which an uneven package is told.
+fn fault_of(cards: &Cards, uneven: Uneven) -> DeckError
+    requires faultless { HasNoMisfit cards.now }
+    requires first { IsFirstUneven (accounts_in cards.now) (work_in cards.now) uneven }
+    ensures { Refuses (IsFirstUnevenFault cards.now) result }
+{
+    match uneven {
+        Uneven::Item {
+            item,
+            budgets,
+            costs,
+        } => {
+            let card = item_card(cards, item);
+            DeckError::Fault(Fault::uneven(card.row, card.code, budgets, costs))
+        }
+        Uneven::OutOfMemory => DeckError::OutOfMemory,
+    }
+}
+
+/// The activities' items and costs.
+fn work_rows(
+    alloc: Global,
+    cards: &Cards,
+    placements: &[Placement],
+) -> Result<Vec<WorkRow>, AllocError>
+    requires { placements.now ≡ map (placement_of cards.now) cards.now.acts }
+    ensures { IfOk result (λ work. work.items ≡ work_in cards.now) }
+{
+    let acts = cards.acts();
+    let mut work = Vec::with_capacity(alloc, acts.len())?;
+    for (a, act) in acts.iter().enumerate() {
+        work.push(WorkRow {
+            item: placements[a].item,
+            cost: act.cost,
+        })?;
+    }
+    Ok(work)
+}

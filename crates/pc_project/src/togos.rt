@@ -1,0 +1,47 @@
+//! The book of the accounts, or which amount to go is a second one.
+ghost use Rattle.std.specs.Prelude.{◌≡◌, IfOk, IfErr, OnOk};
+ghost use Rattle.pc_accounts.specs.Amounts.{AreEntriesOf};
+ghost use Rattle.pc_accounts.specs.Second.{IsRefusal};
+ghost use Rattle.pc_faults.specs.First.{Refuses};
+ghost use Rattle.pc_project.specs.DisorderFaults.{as_of_in};
+ghost use Rattle.pc_project.specs.Misfit.{HasNoMisfit};
+ghost use Rattle.pc_project.specs.Numbered.{AreNumbersOf};
+ghost use Rattle.pc_project.specs.Project.{accounts_in, charges_in, togos_in};
+ghost use Rattle.pc_project.specs.Refusal.{HasNoSecondToGo};
+ghost use Rattle.pc_project.specs.ToGoFaults.{IsFirstSecondToGo};
+
+use crate::numbers::Numbers;
+use crate::statuses::as_of;
+use pc_accounts::{Book, BookError};
+use pc_deck::Cards;
+use pc_faults::{DeckError, Fault};
+use std::alloc::Global;
+
+/// What each account has come to, or the fault of the first second amount to go of an account and a day (F31).
+pub(crate) fn book_of(alloc: Global, cards: &Cards, numbers: &Numbers) -> Result<Book, DeckError>
+    requires { AreNumbersOf cards.now numbers.now }
+    ensures entries { IfOk result (λ book. AreEntriesOf (accounts_in cards.now) (charges_in cards.now) (togos_in cards.now) (as_of_in cards.now) book) }
+    ensures once { OnOk result (HasNoSecondToGo cards.now) }
+    ensures first { IfErr result (Refuses (IsFirstSecondToGo cards.now)) }
+{
+    let figures = &numbers.figures;
+    let as_of = as_of(cards);
+    match Book::build(alloc, &figures.accounts, &figures.charges, &figures.togos, as_of) {
+        Ok(book) => Ok(book),
+        Err(error) => Err(fault_of(cards, error)),
+    }
+}
+
+/// The fault by which a second amount to go is told.
+fn fault_of(cards: &Cards, error: BookError) -> DeckError
+    requires { IsRefusal (togos_in cards.now) error }
+    ensures { Refuses (IsFirstSecondToGo cards.now) result }
+{
+    match error {
+        BookError::SecondToGo { second, .. } => {
+            let card = cards.togos()[second as usize];
+            DeckError::Fault(Fault::second_to_go(card.row, card.account, card.day))
+        }
+        BookError::OutOfMemory => DeckError::OutOfMemory,
+    }
+}
