@@ -1,5 +1,4 @@
 mod DateLaws
-mod PushLaws
-mod SumLaws
+mod ForecastLaws
 mod PathLaws
 mod WorkedRows

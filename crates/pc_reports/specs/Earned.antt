@@ -1,18 +1,15 @@
 -- What the report of the value of work tells.
-use Rattle.std.specs.Prelude.{◌≡◌, ℕ, ◌<◌, ℤ, pos, ◌-ℤ◌, ◌*ℤ◌, List, length, slice_index, slice_index_or, Option}
-use Rattle.pc_wbs.specs.declared.row.ItemRow.{ItemRow}
-use Rattle.pc_wbs.specs.Climb.{IsBelow}
-use Rattle.pc_model.specs.Network.{Network}
-use Rattle.pc_model.specs.Walk.{to_of}
+use Rattle.std.specs.Prelude.{◌≡◌, ℕ, ◌<◌, ℤ, pos, ◌-ℤ◌, List, length, slice_index, slice_index_or, Option}
+use Rattle.pc_status.specs.Statuses.{IsSixths}
 use Rattle.pc_times.specs.Forecast.{Expected, IsForecast}
 use Rattle.pc_times.specs.Late.{AreLate}
 use Rattle.pc_times.specs.Times.{AreEarly}
-use Rattle.pc_rollup.specs.Least.{IsLeastOver, least_at}
 use Rattle.pc_project.specs.Project.{Project}
-use Rattle.pc_reports.specs.declared.outline.OutlineRow.{OutlineRow}
-use Rattle.pc_reports.specs.Outline.{IsOutline}
+use Rattle.pc_figures.specs.declared.outline.OutlineRow.{OutlineRow}
+use Rattle.pc_figures.specs.Outline.{IsOutline}
+use Rattle.pc_figures.specs.Slacks.{AreLeastSlacks, slack_at}
 use Rattle.pc_reports.specs.Times.{AreDates, end_to_meet}
-use Rattle.pc_reports.specs.Worth.{Worth, IsWorthOf}
+use Rattle.pc_figures.specs.Worth.{Worth, IsWorthOf}
 
 -- for each event when it is expected and when it must be at the latest, in sixths of a day from the start, and the date of
 -- when it is expected; and for each item the least forecast slack of the activities that stand on it or below it
@@ -22,31 +19,16 @@ pub record Forecasts : Type 0 where
   pub dates : List (List ℕ)
   pub slacks : List (Option ℤ)
 
--- as-of, in sixths of a day from the start
-abbrev pub IsAsOf : Project → ℕ → Type 0
-IsAsOf project sixths =
-    pos sixths ≡ pos 6 *ℤ (project.heading.as_of -ℤ project.heading.start_day)
-
 -- the latest times, by which the end can be met
 abbrev pub AreLateFor : Project → List ℤ → Type 0
 AreLateFor project late =
     (early : List ℕ) × (AreEarly project.network project.expected early
     × AreLate project.network project.expected (end_to_meet project.heading.directed (slice_index early project.network.end)) late)
 
--- the forecast slack of activity a: the latest time of the event where it ends, less when it is expected to be finished
-abbrev pub slack_at : Network → List ℤ → List ℕ → ℕ → ℤ
-slack_at net late finishes a =
-    slice_index_or late (to_of net.arcs a) (pos 0) -ℤ pos (slice_index finishes a)
-
--- one for each item: the least forecast slack of the activities that stand on it or below it, if there are any
-pub record AreLeastSlacks (tree : List ItemRow) (places : List ℕ) (slack : ℕ → ℤ) (slacks : List (Option ℤ)) : Type 0 where
-  pub one_each : length slacks ≡ length tree
-  pub each : (y : ℕ) → y < length tree → IsLeastOver (λ a. IsBelow tree (slice_index places a) y) (length places) slack (least_at slacks y)
-
 -- the forecasts are those of the project: they solve the equations of a forecast, which have one solution
 pub record AreForecasts (project : Project) (forecasts : Forecasts) : Type 0 where
   pub as_of : ℕ
-  pub as_of_is : IsAsOf project as_of
+  pub as_of_is : IsSixths project.heading.start_day project.heading.as_of as_of
   pub expected : Expected
   pub forecast : IsForecast project.network project.expected project.states as_of expected
   pub times : forecasts.times ≡ expected.times

@@ -5,10 +5,7 @@ pub mod Check
 pub mod Times
 pub mod TimesText
 pub mod TimesInside
-pub mod Outline
-pub mod Columns
-pub mod ColumnParts
-pub mod Figures
-pub mod Summary
-pub mod Packages
-pub mod Worth
+pub mod SummaryText
+pub mod Earned
+pub mod EarnedInside
+pub mod ValueText

@@ -4,11 +4,11 @@ use Rattle.std.specs.Fmt.{signed_decimal}
 use Rattle.pc_edges.specs.Texts.{texts_to}
 use Rattle.pc_page.specs.Cells.{left, right}
 use Rattle.pc_project.specs.Project.{Project}
-use Rattle.pc_reports.specs.declared.summary.Amounts.{Amounts}
+use Rattle.pc_figures.specs.declared.summary.SummaryAmounts.{SummaryAmounts}
 use Rattle.pc_reports.specs.Cells.{row}
 use Rattle.pc_reports.specs.Lines.{dated_line}
-use Rattle.pc_reports.specs.Outline.{row_at}
-use Rattle.pc_reports.specs.Summary.{Summary, IsSummaryOf, item_amounts, level_amounts}
+use Rattle.pc_figures.specs.Outline.{row_at}
+use Rattle.pc_figures.specs.Summary.{Summary, IsSummaryOf, item_amounts, level_amounts}
 
 -- the words above the items
 abbrev pub summary_head : List ℕ
@@ -17,13 +17,13 @@ summary_head =
     ∷ right 14 (codes "LATEST") ∷ right 14 (codes "OVERRUN") ∷ codes "TITLE" ∷ [])
 
 -- the row of an item: its code, its level, its amounts, and its title
-abbrev pub item_cells : List ℕ → ℕ → Amounts → List ℕ → List ℕ
+abbrev pub item_cells : List ℕ → ℕ → SummaryAmounts → List ℕ → List ℕ
 item_cells code level amounts title =
     row (left 16 code ∷ right 2 (decimal level) ∷ right 14 (signed_decimal amounts.budget) ∷ right 14 (signed_decimal amounts.actual)
     ∷ right 14 (signed_decimal amounts.to_go) ∷ right 14 (signed_decimal amounts.latest) ∷ right 14 (signed_decimal amounts.overrun) ∷ title ∷ [])
 
 -- the row of a level: its number and its amounts
-abbrev pub level_cells : ℕ → Amounts → List ℕ
+abbrev pub level_cells : ℕ → SummaryAmounts → List ℕ
 level_cells level amounts =
     row (left 16 (codes "LEVEL") ∷ right 2 (decimal level) ∷ right 14 (signed_decimal amounts.budget) ∷ right 14 (signed_decimal amounts.actual)
     ∷ right 14 (signed_decimal amounts.to_go) ∷ right 14 (signed_decimal amounts.latest) ∷ right 14 (signed_decimal amounts.overrun) ∷ [])

@@ -5,12 +5,12 @@ use Rattle.pc_edges.specs.Texts.{texts_to}
 use Rattle.pc_page.specs.Cells.{left, right}
 use Rattle.pc_project.specs.Project.{Project}
 use Rattle.pc_rollup.specs.Least.{least_at}
-use Rattle.pc_reports.specs.declared.worth.Amounts.{Amounts}
+use Rattle.pc_figures.specs.declared.worth.WorthAmounts.{WorthAmounts}
 use Rattle.pc_reports.specs.Cells.{row}
 use Rattle.pc_reports.specs.Earned.{Earned, Forecasts, IsEarned}
 use Rattle.pc_reports.specs.Lines.{dated_line}
-use Rattle.pc_reports.specs.Outline.{row_at}
-use Rattle.pc_reports.specs.Worth.{worth_amounts}
+use Rattle.pc_figures.specs.Outline.{row_at}
+use Rattle.pc_figures.specs.Worth.{worth_amounts}
 
 -- the words above the events
 abbrev pub forecast_head : List ℕ
@@ -38,7 +38,7 @@ slack_text (Some slack) = signed_decimal slack
 slack_text None = codes "-"
 
 -- the row of an item: its code, its level, its amounts, its least slack, and its title
-abbrev pub worth_cells : List ℕ → ℕ → Amounts → Option ℤ → List ℕ → List ℕ
+abbrev pub worth_cells : List ℕ → ℕ → WorthAmounts → Option ℤ → List ℕ → List ℕ
 worth_cells code level amounts slack title =
     row (left 16 code ∷ right 2 (decimal level) ∷ right 14 (signed_decimal amounts.budget) ∷ right 14 (signed_decimal amounts.actual)
     ∷ right 14 (signed_decimal amounts.value) ∷ right 14 (signed_decimal amounts.overrun) ∷ right 12 (slack_text slack) ∷ title ∷ [])

@@ -1,11 +1,10 @@
 //! What the report of the value of work tells.
 ghost use Rattle.std.specs.Prelude.{◌≡◌, ◌<◌, length, IfOk};
 ghost use Rattle.pc_reports.specs.Earned.{IsEarned};
-ghost use Rattle.pc_reports.specs.Outline.{row_at};
+ghost use Rattle.pc_figures.specs.Outline.{row_at};
 
 use crate::forecasts::Forecasts;
-use crate::outline::{OutlineRow, outline_of};
-use crate::worth::Worth;
+use pc_figures::{OutlineRow, Worth, outline_of};
 use pc_project::Project;
 use std::alloc::{AllocError, Global};
 use std::marker::Model;

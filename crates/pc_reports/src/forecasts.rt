@@ -1,18 +1,17 @@
 //! When the events are expected, and how long the work of each item can wait.
-ghost use Rattle.std.specs.Prelude.{◌≡◌, ◌<◌, ◌≤◌, ◌^◌, pos, unsigned_abs, length, slice_index, slice_index_or, IfOk, []};
+ghost use Rattle.std.specs.Prelude.{◌≡◌, ℕ, ◌<◌, ◌≤◌, ◌^◌, pos, unsigned_abs, List, length, slice_index, slice_index_or, IfOk, OnOk, []};
 ghost use Rattle.std.specs.List.{All};
+ghost use Rattle.pc_model.specs.Network.{IsOrder};
 ghost use Rattle.pc_times.specs.declared.TheConstants.{MAX_TIME};
-ghost use Rattle.pc_times.specs.Forecast.{IsForecast};
 ghost use Rattle.pc_rollup.specs.Least.{least_at};
-ghost use Rattle.pc_reports.specs.Earned.{AreForecasts, AreLateFor, IsAsOf};
-ghost use Rattle.pc_reports.specs.ForecastParts.{ArePlacedSlacks};
+ghost use Rattle.pc_reports.specs.Earned.{AreForecasts, AreLateFor};
 
 use crate::dates::{DATE_LENGTH, dates_of};
 use crate::times::end_to_meet;
-use pc_days::days_between;
+use pc_figures::least_slacks;
+use pc_net::Net;
 use pc_project::Project;
-use pc_rollup::{Placed, least_of};
-use pc_times::{Forecast, early, forecast, late, slack};
+use pc_times::{Forecast, early, forecast, late};
 use std::alloc::{AllocError, Global};
 use std::marker::Model;
 
@@ -45,18 +44,18 @@ impl Forecasts {
     pub(crate) fn of(alloc: Global, project: &Project) -> Result<Forecasts, AllocError>
         ensures { IfOk result (AreForecasts project.now) }
     {
-        let as_of = as_of_sixths(project);
+        let as_of = project.as_of_time();
         let (net, expected) = (project.net(), project.expected());
         let expected = forecast(alloc, net, expected, project.states(), as_of)?;
         let late = late_times(alloc, project)?;
-        let times = event_times(alloc, &expected, net.events())?;
+        let times = event_times(alloc, net, &expected)?;
         let dates = dates_of(alloc, project.start_day(), &times)?;
-        let placed = activity_slacks(alloc, project, &expected, &late)?;
+        let (tree, places) = (project.tree(), project.places());
         Ok(Forecasts {
+            slacks: least_slacks(alloc, tree, places, net, &late, &expected)?,
             times,
             late,
             dates,
-            slacks: least_of(alloc, project.tree(), &placed)?,
         })
     }
 
@@ -95,14 +94,6 @@ impl Forecasts {
     }
 }
 
-/// As-of, in sixths of a day from the start.
-fn as_of_sixths(project: &Project) -> u64
-    ensures as_of { IsAsOf project.now result }
-    ensures limit { result < 2 ^ 40 }
-{
-    6 * days_between(project.start_day(), project.as_of()) as u64
-}
-
 /// When each event must be reached at the latest, so that the end can be met.
 fn late_times(alloc: Global, project: &Project) -> Result<Vec<i64>, AllocError>
     ensures late { IfOk result (λ late. AreLateFor project.now late.items) }
@@ -114,36 +105,15 @@ fn late_times(alloc: Global, project: &Project) -> Result<Vec<i64>, AllocError>
     late(alloc, net, expected, by)
 }
 
-/// When each of so many events is expected.
-fn event_times(alloc: Global, expected: &Forecast, events: u32) -> Result<Vec<u64>, AllocError>
-    requires { length expected.now.times ≡ events }
+/// When each event is expected, in card order.
+fn event_times(alloc: Global, net: &Net, expected: &Forecast) -> Result<Vec<u64>, AllocError>
+    requires { length expected.now.times ≡ net.now.events }
     ensures times { IfOk result (λ times. times.items ≡ expected.now.times) }
+    ensures ordered { OnOk result ((order : List ℕ) × IsOrder net.now order) }
 {
-    let mut times = Vec::with_capacity(alloc, events as usize)?;
-    for e in 0..events {
+    let mut times = Vec::with_capacity(alloc, net.order().len())?;
+    for e in 0..net.events() {
         times.push(expected.time(e))?;
     }
     Ok(times)
-}
-
-/// The forecast slack of each activity, on the activity's item.
-fn activity_slacks(
-    alloc: Global,
-    project: &Project,
-    expected: &Forecast,
-    late: &[i64],
-) -> Result<Vec<Placed>, AllocError>
-    requires finishes { length expected.now.finishes ≡ length project.now.network.arcs }
-    requires late { length late.now ≡ project.now.network.events }
-    requires limit { All (λ time. unsigned_abs time ≤ MAX_TIME) late.now }
-    ensures { IfOk result (λ placed. ArePlacedSlacks project.now late.now expected.now.finishes (length project.now.network.arcs) placed.items) }
-{
-    let net = project.net();
-    let mut placed = Vec::with_capacity(alloc, net.activities() as usize)?;
-    for a in 0..net.activities() {
-        let item = project.activity(a).item;
-        let amount = slack(late[net.to(a) as usize], expected.finish(a));
-        placed.push(Placed { item, amount })?;
-    }
-    Ok(placed)
 }

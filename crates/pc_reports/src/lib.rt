@@ -2,21 +2,23 @@
 #![tactic(auto)]
 
 mod check;
-mod column;
 mod dates;
-mod figures;
+mod earned;
+mod forecasts;
 mod lines;
-mod outline;
-mod packages;
 mod schedule;
-mod summary;
+mod summary_report;
+mod summary_rows;
 #[cfg(test)]
 mod tests;
 mod times;
 mod times_report;
 mod times_rows;
-mod worth;
+mod value_report;
+mod value_rows;
 
 pub use check::write_check;
 pub use schedule::{Schedule, put_schedule, write_schedule};
+pub use summary_report::SummaryReport;
 pub use times_report::TimesReport;
+pub use value_report::ValueReport;

@@ -2,13 +2,13 @@
 ghost use Rattle.std.specs.Prelude.{◌≡◌, IfOk};
 ghost use Rattle.pc_edges.specs.Writes.{Writes};
 ghost use Rattle.pc_page.specs.Puts.{Puts};
-ghost use Rattle.pc_reports.specs.Summary.{CountsOnce};
+ghost use Rattle.pc_figures.specs.Summary.{CountsOnce};
 ghost use Rattle.pc_reports.specs.SummaryText.{IsSummary, summary_text};
 
 use crate::lines::put_dated;
-use crate::summary::Summary;
 use crate::summary_rows::{ItemRows, LevelRows};
 use pc_edges::{Failed, Sink};
+use pc_figures::Summary;
 use pc_page::{PAGE_ROOM, Page, put_rows};
 use pc_project::Project;
 use std::alloc::{AllocError, Global};
@@ -29,7 +29,7 @@ pub struct SummaryReport {
 impl Model for SummaryReport {
     ghost use Rattle.std.specs.Prelude.{◌≡◌};
     ghost use Rattle.pc_page.specs.Page.{fresh};
-    ghost use Rattle.pc_reports.specs.Summary.{Summary};
+    ghost use Rattle.pc_figures.specs.Summary.{Summary};
 
     ghost Value = { Summary };
 

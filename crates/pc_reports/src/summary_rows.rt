@@ -3,8 +3,8 @@ ghost use Rattle.std.specs.Prelude.{◌≡◌, length};
 ghost use Rattle.pc_page.specs.Puts.{Puts};
 ghost use Rattle.pc_reports.specs.SummaryText.{IsSummary, item_cells, item_row, level_cells, level_row};
 
-use crate::summary::{Amounts, Summary};
 use pc_edges::Sink;
+use pc_figures::{Summary, SummaryAmounts};
 use pc_page::{Page, Rows};
 use pc_project::Project;
 use pc_text::{Code, Title};
@@ -65,7 +65,7 @@ fn put_item<O: Sink>(
     sink: &mut O,
     code: &Code,
     level: u32,
-    amounts: &Amounts,
+    amounts: &SummaryAmounts,
     title: &Title,
 )
     ensures { Puts O.taken O.faults page.old sink.old page.new sink.new (item_cells code.now level amounts.now title.now) }
@@ -89,7 +89,7 @@ fn put_item<O: Sink>(
 }
 
 /// Puts the row of a level.
-fn put_level<O: Sink>(page: &mut Page, sink: &mut O, level: u64, amounts: &Amounts)
+fn put_level<O: Sink>(page: &mut Page, sink: &mut O, level: u64, amounts: &SummaryAmounts)
     ensures { Puts O.taken O.faults page.old sink.old page.new sink.new (level_cells level amounts.now) }
 {
     page.put(sink, b"LEVEL            ");

@@ -8,8 +8,8 @@ ghost use Rattle.pc_reports.specs.ValueText.{forecast_cells, forecast_row, slack
 
 use crate::earned::Earned;
 use crate::forecasts::Forecasts;
-use crate::worth::Amounts;
 use pc_edges::Sink;
+use pc_figures::WorthAmounts;
 use pc_page::{Page, Rows};
 use pc_project::Project;
 use pc_text::{Code, Title};
@@ -98,7 +98,7 @@ fn put_worth<O: Sink>(
     sink: &mut O,
     code: &Code,
     level: u32,
-    amounts: &Amounts,
+    amounts: &WorthAmounts,
     slack: Option<i64>,
     title: &Title,
 )
