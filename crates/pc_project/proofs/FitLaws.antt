@@ -8,17 +8,20 @@ use Rattle.pc_model.specs.declared.Arc.{Arc}
 use Rattle.pc_model.specs.Walk.{from_of, to_of}
 use Rattle.pc_model.specs.Network.{Network, IsInRange}
 use Rattle.pc_wbs.specs.Climb.{AreInRange}
+use Rattle.pc_deck.specs.declared.kinds.acct.AcctCard.{AcctCard}
 use Rattle.pc_deck.specs.declared.kinds.act.ActCard.{ActCard}
+use Rattle.pc_deck.specs.declared.kinds.money.MoneyCard.{MoneyCard}
+use Rattle.pc_deck.specs.declared.kinds.status.StatusCard.{StatusCard}
 use Rattle.pc_deck.specs.declared.kinds.wbs.ItemCard.{ItemCard}
 use Rattle.pc_faults.specs.Faults as told
 use Rattle.pc_faults.specs.declared.fault.Fault.{Fault}
 use Rattle.pc_deck.specs.declared.kinds.load.LoadCard.{LoadCard}
 use Rattle.pc_deck.specs.declared.kinds.piece.PieceCard.{PieceCard}
-use Rattle.pc_deck.specs.Deck.{Deck, act_named, event_named, item_named, resource_named}
-use Rattle.pc_project.specs.Project.{act_number, arc_of, event_number, item_number, network_of, place_of, resource_number, row_of, rows_of}
-use Rattle.pc_project.specs.Misfit.{HasActFault, HasItemFault, HasLoadFault, HasPieceCardFault, HasNoMisfit, IsEvent, IsInOrder, act, item, project}
+use Rattle.pc_deck.specs.Deck.{Deck, account_named, act_named, event_named, item_named, resource_named}
+use Rattle.pc_project.specs.Project.{account_number, act_number, arc_of, event_number, item_number, network_of, place_of, resource_number, row_of, rows_of}
+use Rattle.pc_project.specs.Misfit.{HasAccountFault, HasActFault, HasItemFault, HasLoadFault, HasMoneyFault, HasPieceCardFault, HasStatusFault, HasNoMisfit, IsEvent, IsInOrder, account, act, charge, figure, item, project, status, togo}
 use Rattle.pc_project.specs.Misfit as has
-use Rattle.pc_project.proofs.NumberLaws.{act_number-within, event_number-within, event_number-apart, item_number-within, resource_number-within}
+use Rattle.pc_project.proofs.NumberLaws.{account_number-within, act_number-within, event_number-within, event_number-apart, item_number-within, resource_number-within}
 
 -- what is not missing is there
 known_unless : (o : Option ℕ) → (o ≡ None → ⊥) → IsSome o
@@ -26,7 +29,7 @@ known_unless None never = absurd (never refl)
 known_unless (Some i) never = refl
 
 -- an element of a list is one of them
-Any-at : {X : Type 0} (P : X → Type 0) (xs : List X) (i : ℕ) (d : X) → i < length xs → P (get_or xs i d) → Any P xs
+pub Any-at : {X : Type 0} (P : X → Type 0) (xs : List X) (i : ℕ) (d : X) → i < length xs → P (get_or xs i d) → Any P xs
 Any-at P xs i d within holds = (i, get_or xs i d, within, get_or_default xs i (get_or xs i d) d within, holds)
 
 -- the start and the end are two events
@@ -131,6 +134,41 @@ rows_of-in_range deck none x p within is =
 pub place_of-within : (deck : Deck) → HasNoMisfit deck → (a : ℕ) → a < length deck.acts → place_of deck (get_or deck.acts a no_act) < length deck.items
 place_of-within deck none a within =
     item_number-within deck (get_or deck.acts a no_act).item (all_fit deck none a no_act within).placed
+
+-- the item of an account is an item
+pub account_item-within : (deck : Deck) → HasNoMisfit deck → (a : ℕ) (d : AcctCard) → a < length deck.accounts → item_number deck (get_or deck.accounts a d).item < length deck.items
+account_item-within deck none a d within =
+    let card = get_or deck.accounts a d in
+    let fault : Fault = told.unknown_item card.row card.item in
+    item_number-within deck card.item
+    (known_unless (item_named deck card.item)
+    (λ n. none fault (figure (account (Any-at (λ c. HasAccountFault deck c fault) deck.accounts a d within (has.HasAccountFault.unknown_item n refl))))))
+
+-- the account of a charge, and that of an amount to go, is an account
+pub charge_account-within : (deck : Deck) → HasNoMisfit deck → (k : ℕ) (d : MoneyCard) → k < length deck.charges → account_number deck (get_or deck.charges k d).account < length deck.accounts
+charge_account-within deck none k d within =
+    let card = get_or deck.charges k d in
+    let fault : Fault = told.unknown_account card.row card.account in
+    account_number-within deck card.account
+    (known_unless (account_named deck card.account)
+    (λ n. none fault (figure (charge (Any-at (λ c. HasMoneyFault deck c fault) deck.charges k d within (has.HasMoneyFault.unknown_account n refl))))))
+
+pub togo_account-within : (deck : Deck) → HasNoMisfit deck → (k : ℕ) (d : MoneyCard) → k < length deck.togos → account_number deck (get_or deck.togos k d).account < length deck.accounts
+togo_account-within deck none k d within =
+    let card = get_or deck.togos k d in
+    let fault : Fault = told.unknown_account card.row card.account in
+    account_number-within deck card.account
+    (known_unless (account_named deck card.account)
+    (λ n. none fault (figure (togo (Any-at (λ c. HasMoneyFault deck c fault) deck.togos k d within (has.HasMoneyFault.unknown_account n refl))))))
+
+-- the activity of a status is an activity
+pub status_activity-within : (deck : Deck) → HasNoMisfit deck → (k : ℕ) (d : StatusCard) → k < length deck.statuses → act_number deck (get_or deck.statuses k d).activity < length deck.acts
+status_activity-within deck none k d within =
+    let card = get_or deck.statuses k d in
+    let fault : Fault = told.unknown_activity card.row card.activity in
+    act_number-within deck card.activity
+    (known_unless (act_named deck card.activity)
+    (λ n. none fault (figure (status (Any-at (λ c. HasStatusFault deck c fault) deck.statuses k d within (has.HasStatusFault.unknown_activity n refl))))))
 
 -- the network of a deck, from its parts
 pub network_of-is : (deck : Deck) (events start end : ℕ) (arcs : List Arc) → events ≡ length deck.events → start ≡ (network_of deck).start → end ≡ (network_of deck).end → arcs ≡ (network_of deck).arcs → let net : Network = record { events = events; start = start; end = end; arcs = arcs } in net ≡ network_of deck

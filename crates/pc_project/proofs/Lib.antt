@@ -12,3 +12,6 @@ mod CountLaws
 mod PieceLaws
 mod RunLaws
 mod PieceSteps
+mod BranchLaws
+mod DisorderLaws
+mod FigureLaws

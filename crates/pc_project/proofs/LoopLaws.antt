@@ -17,14 +17,18 @@ module _ {C : Type 0} (Has : C → Fault → Type 0) (cards : List C) where
   first_of_none = λ fault h. Any-none (λ card. Has card fault) h
 
   module _ (i : ℕ) (card : C) (found : Option Fault) (within : i < length cards) (is : card ≡ get_or cards i card) (h : IsFirstBefore i found) where
-    -- a card with a fault
-    pub first_with : (fault : Fault) → IsFirst (Has card) fault → IsFirstBefore (i + 1) (earliest found (Some fault))
-    first_with fault first =
+    -- a card with a first fault or with none
+    pub first_step : (here : Option Fault) → IsFirstIn (Has card) here → IsFirstBefore (i + 1) (earliest found here)
+    first_step here first =
         earliest-first (λ f. Any (λ c. Has c f) (take i cards)) (Has card) (λ f. Any (λ c. Has c f) (take (i + 1) cards))
         (λ f k. Any-kept (λ c. Has c f) cards i card within is k)
         (λ f k. Any-here (λ c. Has c f) cards i card within is k)
         (λ f k. Any-before (λ c. Has c f) cards i card within is k)
-        found (Some fault) h first
+        found here h first
+
+    -- a card with a fault
+    pub first_with : (fault : Fault) → IsFirst (Has card) fault → IsFirstBefore (i + 1) (earliest found (Some fault))
+    first_with fault first = first_step (Some fault) first
 
     -- a card without
     pub first_without : ((fault : Fault) → Has card fault → ⊥) → IsFirstBefore (i + 1) found

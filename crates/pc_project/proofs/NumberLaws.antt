@@ -5,8 +5,8 @@ use Rattle.std.specs.Cmp.Lexicographic.{pointwise, bytes_decides}
 use Rattle.std.proofs.lemmas.Bool.{false≢true}
 use Rattle.std.proofs.lemmas.List.{length-map}
 use Rattle.std.proofs.lemmas.List.Quantifiers.{position-Some}
-use Rattle.pc_deck.specs.Deck.{Deck, act_codes, act_named, event_codes, item_codes, item_named, resource_codes, resource_named}
-use Rattle.pc_project.specs.Project.{act_number, event_number, item_number, resource_number}
+use Rattle.pc_deck.specs.Deck.{Deck, account_codes, account_named, act_codes, act_named, event_codes, item_codes, item_named, resource_codes, resource_named}
+use Rattle.pc_project.specs.Project.{account_number, act_number, event_number, item_number, resource_number}
 use Rattle.pc_project.specs.Misfit.{IsEvent}
 
 -- the place of a code among those, or a number past them
@@ -53,6 +53,11 @@ item_number-within deck code known =
 pub act_number-within : (deck : Deck) (code : List ℕ) → IsSome (act_named deck code) → act_number deck code < length deck.acts
 act_number-within deck code known =
     omega (arith, (has_place (act_codes deck) code (length deck.acts) known).within, length-map deck.acts (λ act. act.code))
+
+-- that of an account that is there is below their count
+pub account_number-within : (deck : Deck) (code : List ℕ) → IsSome (account_named deck code) → account_number deck code < length deck.accounts
+account_number-within deck code known =
+    omega (arith, (has_place (account_codes deck) code (length deck.accounts) known).within, length-map deck.accounts (λ account. account.code))
 
 -- and so is that of a resource
 pub resource_number-within : (deck : Deck) (code : List ℕ) → IsSome (resource_named deck code) → resource_number deck code < length deck.resources

@@ -1,5 +1,5 @@
 -- The project of a deck whose cards make one is planned.
-use Rattle.std.proofs.Common.{◌≡◌, ◌<◌, ◌≤◌, ◌+◌, ◌-◌, ◌*◌, ◌^◌, ℕ, [], Option, Some, None, length, get_or, map, refl, sym, ap, ◌∙◌, inl, inr, arith}
+use Rattle.std.proofs.Common.{◌≡◌, ◌<◌, ◌≤◌, ◌+◌, ◌-◌, ◌*◌, ◌^◌, ℕ, List, [], Option, Some, None, length, get_or, map, refl, sym, ap, ◌∙◌, inl, inr, arith}
 use Rattle.std.specs.Prelude.{All, slice_index}
 use Rattle.std.specs.Option.{ForSome}
 use Rattle.std.proofs.Math.Nat.{mul-le-mul, pow-le-pow_left}
@@ -12,7 +12,9 @@ use Rattle.pc_model.specs.Pieces.{ArePieces, slope_in, units_of}
 use Rattle.pc_model.specs.Schedule.{AreTerms, term_at}
 use Rattle.pc_crash.specs.Priced.{ArePiecesWithinLimits, piece_at}
 use Rattle.pc_crash.specs.Terms.{AreWithinLimits}
+use Rattle.pc_accounts.specs.declared.entry.Entry.{Entry}
 use Rattle.pc_times.specs.Times.{AreLengths}
+use Rattle.pc_times.specs.declared.state.ActState.{ActState}
 use Rattle.pc_deck.specs.declared.kinds.act.ActCard.{ActCard}
 use Rattle.pc_deck.specs.declared.kinds.load.LoadCard.{LoadCard}
 use Rattle.pc_deck.specs.declared.kinds.piece.PieceCard.{PieceCard}
@@ -20,13 +22,13 @@ use Rattle.pc_deck.specs.declared.kinds.terms.TermsCard.{TermsCard}
 use Rattle.pc_deck.specs.Deck.{Deck, act_codes, event_codes, item_codes, resource_codes}
 use Rattle.pc_deck.specs.Terms.{AreTermsWithin}
 use Rattle.pc_deck.specs.Within.{IsWithinLimits}
-use Rattle.pc_project.specs.Project.{Project, arc_of, counts_of, expected_of, heading_of, load_of, network_of, piece_of, pieces_in, place_of, project_in, row_of, rows_of, term_of, terms_in, time_terms_of, variance_in}
+use Rattle.pc_project.specs.Project.{Project, accounts_in, arc_of, charges_in, counts_of, expected_of, heading_of, load_of, network_of, piece_of, pieces_in, place_of, project_in, row_of, rows_of, statuses_in, term_of, terms_in, time_terms_of, togos_in, variance_in}
 use Rattle.pc_project.specs.Misfit.{HasNoMisfit}
 use Rattle.pc_project.specs.declared.load.LoadItem.{LoadItem}
 use Rattle.pc_project.specs.PieceFaults.{HasNoPieceFault, pieces_before, one_too_many, not_rising, none_left}
 use Rattle.pc_project.specs.TermsFaults.{HasNoTermsFault, bonus_above}
 use Rattle.pc_project.specs.Refusal.{MakesProject}
-use Rattle.pc_project.specs.Planned.{AreTimeTerms, IsLoad, IsPlanned}
+use Rattle.pc_project.specs.Planned.{AreTimeTerms, HasFigures, IsLoad, IsPlanned}
 use Rattle.pc_project.proofs.FitLaws.{all_fit, load_known, network_of-in_range, no_act, piece_activity-within, place_of-within}
 use Rattle.pc_project.proofs.PieceLaws.{ArePieces-flawless}
 
@@ -137,9 +139,9 @@ within_pieces deck limits = record {
 }
 
 -- the loads of a deck without faults
-loads_of_deck : (deck : Deck) → HasNoMisfit deck → IsWithinLimits deck → All (IsLoad (project_in deck)) (map (load_of deck) deck.loads)
-loads_of_deck deck cards limits =
-    All-from_get_or (IsLoad (project_in deck)) (map (load_of deck) deck.loads) (record { activity = 0; resource = 0; quantity = 0 }) (λ i within.
+loads_of_deck : (deck : Deck) (entries : List Entry) (states : List ActState) → HasNoMisfit deck → IsWithinLimits deck → All (IsLoad (project_in deck entries states)) (map (load_of deck) deck.loads)
+loads_of_deck deck entries states cards limits =
+    All-from_get_or (IsLoad (project_in deck entries states)) (map (load_of deck) deck.loads) (record { activity = 0; resource = 0; quantity = 0 }) (λ i within.
     let inside : i < length deck.loads = omega (arith, within, length-map deck.loads (load_of deck)) in
     let load = get_or-map (load_of deck) deck.loads i no_load (record { activity = 0; resource = 0; quantity = 0 }) inside in
     let known = load_known deck cards i no_load inside in
@@ -161,8 +163,8 @@ time_terms_of_deck deck (Some card) none within is =
     }
 
 -- the project of cards that make one
-pub project_in-planned : (deck : Deck) → MakesProject deck → IsWithinLimits deck → IsPlanned (project_in deck)
-project_in-planned deck makes limits = record {
+pub project_in-planned : (deck : Deck) (entries : List Entry) (states : List ActState) → MakesProject deck → IsWithinLimits deck → HasFigures (project_in deck entries states) → IsPlanned (project_in deck entries states)
+project_in-planned deck entries states makes limits figures = record {
   in_range = network_of-in_range deck makes.cards;
   sound = makes.sound;
   tree = makes.tree;
@@ -187,13 +189,14 @@ project_in-planned deck makes limits = record {
   piece_limits = within_pieces deck limits;
   few_resources = omega (arith, length-map deck.resources (λ resource. resource.code), limits.few_resources);
   few_loads = omega (arith, length-map deck.loads (load_of deck), limits.few_loads);
-  loads = loads_of_deck deck makes.cards limits;
+  loads = loads_of_deck deck entries states makes.cards limits;
   time_terms = time_terms_of_deck deck deck.terms makes.terms limits.terms_within refl;
+  figures = figures;
 }
 
 -- the project of a deck, from its parts
-pub project_in-is : (deck : Deck) (project : Project) → project.heading ≡ heading_of deck → project.network ≡ network_of deck → project.tree ≡ rows_of deck → project.events ≡ event_codes deck → project.activities ≡ act_codes deck → project.places ≡ map (place_of deck) deck.acts → project.terms ≡ map term_of deck.acts → project.expected ≡ map (expected_of deck) deck.acts → project.variances ≡ map (variance_in deck) deck.acts → project.items ≡ item_codes deck → project.titles ≡ map (λ item. item.title) deck.items → project.pieces ≡ pieces_in deck → project.resources ≡ resource_codes deck → project.loads ≡ map (load_of deck) deck.loads → project.time_terms ≡ time_terms_of deck.terms → project.counts ≡ counts_of deck → project ≡ project_in deck
-project_in-is deck project heading network tree events activities places terms expected variances items titles pieces resources loads time_terms counts =
+pub project_in-is : (deck : Deck) (project : Project) → project.heading ≡ heading_of deck → project.network ≡ network_of deck → project.tree ≡ rows_of deck → project.events ≡ event_codes deck → project.activities ≡ act_codes deck → project.places ≡ map (place_of deck) deck.acts → project.terms ≡ map term_of deck.acts → project.expected ≡ map (expected_of deck) deck.acts → project.variances ≡ map (variance_in deck) deck.acts → project.items ≡ item_codes deck → project.titles ≡ map (λ item. item.title) deck.items → project.pieces ≡ pieces_in deck → project.resources ≡ resource_codes deck → project.loads ≡ map (load_of deck) deck.loads → project.accounts ≡ accounts_in deck → project.charges ≡ charges_in deck → project.togos ≡ togos_in deck → project.statuses ≡ statuses_in deck → project.time_terms ≡ time_terms_of deck.terms → project.counts ≡ counts_of deck → project ≡ project_in deck project.entries project.states
+project_in-is deck project heading network tree events activities places terms expected variances items titles pieces resources loads accounts charges togos statuses time_terms counts =
     λ i. record {
       heading = heading i;
       network = network i;
@@ -209,6 +212,12 @@ project_in-is deck project heading network tree events activities places terms e
       pieces = pieces i;
       resources = resources i;
       loads = loads i;
+      accounts = accounts i;
+      charges = charges i;
+      togos = togos i;
+      entries = project.entries;
+      statuses = statuses i;
+      states = project.states;
       time_terms = time_terms i;
       counts = counts i;
     }

@@ -27,10 +27,13 @@ use Rattle.pc_faults.specs.declared.fault.DeckError.TheVariants.{Fault, OutOfMem
 use Rattle.pc_project.specs.Project.{network_of, rows_of}
 use Rattle.pc_project.specs.Misfit.{HasProjectFault, HasItemFault, HasActFault, HasAccountFault, HasMoneyFault, HasStatusFault, HasPieceCardFault, HasLoadFault, HasFigureFault, HasMisfit, HasNoMisfit}
 use Rattle.pc_project.specs.Misfit as has
+use Rattle.pc_project.specs.DisorderFaults.{HasDisorder, HasNoDisorder, of_as_of, of_status}
+use Rattle.pc_project.specs.PackageFaults.{HasLeafFault, HasNoLeafFault, IsFirstUnevenFault, of_account, of_act}
+use Rattle.pc_project.specs.ToGoFaults.{IsFirstSecondToGo}
 use Rattle.pc_project.specs.PieceFaults as piece
 use Rattle.pc_project.specs.PieceFaults.{HasPieceFault}
 use Rattle.pc_project.specs.TermsFaults.{HasTermsFault, bonus_above}
-use Rattle.pc_project.specs.Refusal.{tree_fault, net_fault, MakesProject, IsRefusedWith, of_cards, of_tree, of_network, of_pieces, of_terms}
+use Rattle.pc_project.specs.Refusal.{tree_fault, net_fault, HasSoundFigures, HasSoundPlan, IsEven, MakesProject, IsRefusedWith, of_cards, of_tree, of_network, of_leaves, of_packages, of_statuses, of_togos, of_pieces, of_terms}
 
 -- want of memory is no fault
 no_fault : (fault : ADeckFault) → OutOfMemory ≡ Fault fault → ⊥
@@ -49,8 +52,12 @@ makes_not_refused deck fault makes (of_tree cards e refused is) =
     tree_has_fault deck e fault is (IsTree-not_refused (rows_of deck) e makes.tree refused)
 makes_not_refused deck fault makes (of_network cards items e refused is) =
     refused_is_not_sound (network_of deck) e refused (net_has_fault deck e fault is) makes.sound
-makes_not_refused deck fault makes (of_pieces plan first) = makes.pieces fault first.holds
-makes_not_refused deck fault makes (of_terms plan pieces first) = makes.terms fault first.holds
+makes_not_refused deck fault makes (of_leaves plan first) = makes.figures.leaves fault first.holds
+makes_not_refused deck fault makes (of_packages plan leaves (item, first, is)) = makes.figures.even item first.holds
+makes_not_refused deck fault makes (of_statuses plan leaves even first) = makes.figures.ordered fault first.holds
+makes_not_refused deck fault makes (of_togos plan leaves even ordered (k, first, is)) = makes.figures.once k first.holds
+makes_not_refused deck fault makes (of_pieces plan figures first) = makes.pieces fault first.holds
+makes_not_refused deck fault makes (of_terms plan figures pieces first) = makes.terms fault first.holds
 
 -- a fault that is this one can be told where this one can
 told : (fault known : ADeckFault) → fault ≡ known → IsTold known → IsTold fault
@@ -102,6 +109,20 @@ told_of-misfit deck fault (has.piece (k, card, within, at, here)) = told_of-piec
 told_of-misfit deck fault (has.load (k, card, within, at, here)) = told_of-load deck card fault here
 told_of-misfit deck fault (has.figure here) = told_of-figure deck fault here
 
+told_of-leaf : (deck : Deck) (fault : ADeckFault) → HasLeafFault deck fault → IsTold fault
+told_of-leaf deck fault (of_act (k, card, within, at, branch, is)) = told fault _ is refl
+told_of-leaf deck fault (of_account (k, card, within, at, branch, is)) = told fault _ is refl
+
+told_of-uneven : (deck : Deck) (fault : ADeckFault) → IsFirstUnevenFault deck fault → IsTold fault
+told_of-uneven deck fault (item, first, is) = told fault _ is refl
+
+told_of-disorder : (deck : Deck) (fault : ADeckFault) → HasDisorder deck fault → IsTold fault
+told_of-disorder deck fault (of_as_of (card, there, early, is)) = told fault _ is refl
+told_of-disorder deck fault (of_status (k, within, reason, first, is)) = told fault _ is refl
+
+told_of-togo : (deck : Deck) (fault : ADeckFault) → IsFirstSecondToGo deck fault → IsTold fault
+told_of-togo deck fault (k, first, is) = told fault _ is refl
+
 told_of-piece : (deck : Deck) (fault : ADeckFault) → HasPieceFault deck fault → IsTold fault
 told_of-piece deck fault (i, within, piece.one_too_many many is) = told fault _ is refl
 told_of-piece deck fault (i, within, piece.not_rising low is) = told fault _ is refl
@@ -133,8 +154,12 @@ pub told_of-refused : (deck : Deck) (fault : ADeckFault) → IsRefusedWith deck 
 told_of-refused deck fault (of_cards first) = told_of-misfit deck fault first.holds
 told_of-refused deck fault (of_tree cards e refused is) = told_of-tree deck e fault is
 told_of-refused deck fault (of_network cards items e refused is) = told_of-net deck e fault is
-told_of-refused deck fault (of_pieces plan first) = told_of-piece deck fault first.holds
-told_of-refused deck fault (of_terms plan pieces first) = told_of-terms deck fault first.holds
+told_of-refused deck fault (of_leaves plan first) = told_of-leaf deck fault first.holds
+told_of-refused deck fault (of_packages plan leaves uneven) = told_of-uneven deck fault uneven
+told_of-refused deck fault (of_statuses plan leaves even first) = told_of-disorder deck fault first.holds
+told_of-refused deck fault (of_togos plan leaves even ordered second) = told_of-togo deck fault second
+told_of-refused deck fault (of_pieces plan figures first) = told_of-piece deck fault first.holds
+told_of-refused deck fault (of_terms plan figures pieces first) = told_of-terms deck fault first.holds
 
 -- what a refusal that is told as one of the tree, or of the network, says
 pub refused_by_tree : (deck : Deck) (e : TreeError) (result : DeckError) → HasNoMisfit deck → IsTreeRefusal (rows_of deck) e → Refuses (λ fault. tree_fault deck e ≡ Fault fault) result → Refuses (IsRefusedWith deck) result
@@ -145,7 +170,19 @@ pub refused_by_net : (deck : Deck) (e : NetError) (result : DeckError) → HasNo
 refused_by_net deck e (Fault fault) cards items refused is = of_network cards items e refused is
 refused_by_net deck e OutOfMemory cards items refused is = tt
 
--- what a fault of the pieces, or of the terms of time, says
-pub refused_by_pieces : (deck : Deck) (result : DeckError) → HasNoMisfit deck → IsTree (rows_of deck) → IsSound (network_of deck) → Refuses (IsFirst (HasPieceFault deck)) result → Refuses (IsRefusedWith deck) result
-refused_by_pieces deck (Fault fault) cards items sound first = of_pieces (record { cards = cards; tree = items; sound = sound }) first
-refused_by_pieces deck OutOfMemory cards items sound first = tt
+-- what a fault of packages, of statuses and as-of, of amounts to go or of pieces says
+pub refused_by_packages : (deck : Deck) (result : DeckError) → HasSoundPlan deck → HasNoLeafFault deck → Refuses (IsFirstUnevenFault deck) result → Refuses (IsRefusedWith deck) result
+refused_by_packages deck (Fault fault) plan leaves first = of_packages plan leaves first
+refused_by_packages deck OutOfMemory plan leaves first = tt
+
+pub refused_by_statuses : (deck : Deck) (result : DeckError) → HasSoundPlan deck → HasNoLeafFault deck → IsEven deck → Refuses (IsFirst (HasDisorder deck)) result → Refuses (IsRefusedWith deck) result
+refused_by_statuses deck (Fault fault) plan leaves even first = of_statuses plan leaves even first
+refused_by_statuses deck OutOfMemory plan leaves even first = tt
+
+pub refused_by_togos : (deck : Deck) (result : DeckError) → HasSoundPlan deck → HasNoLeafFault deck → IsEven deck → HasNoDisorder deck → Refuses (IsFirstSecondToGo deck) result → Refuses (IsRefusedWith deck) result
+refused_by_togos deck (Fault fault) plan leaves even ordered first = of_togos plan leaves even ordered first
+refused_by_togos deck OutOfMemory plan leaves even ordered first = tt
+
+pub refused_by_pieces : (deck : Deck) (result : DeckError) → HasSoundPlan deck → HasSoundFigures deck → Refuses (IsFirst (HasPieceFault deck)) result → Refuses (IsRefusedWith deck) result
+refused_by_pieces deck (Fault fault) plan figures first = of_pieces plan figures first
+refused_by_pieces deck OutOfMemory plan figures first = tt

@@ -1,0 +1,55 @@
+-- Activities and accounts that stand on leaves, and those that do not.
+use Rattle.std.proofs.Common.{◌≡◌, ◌<◌, ℕ, List, [], length, get_or, Option, None, Some, refl, sym, ap, ◌∙◌, subst, inl, inr, ◌⊎◌, arith}
+use Rattle.std.specs.Prelude.{slice_index}
+use Rattle.std.specs.List.{Any}
+use Rattle.std.proofs.lemmas.List.{get_or-map, get_or_read}
+use Rattle.pc_accounts.specs.Amounts.{account_at}
+use Rattle.pc_accounts.specs.declared.rows.AcctRow.{AcctRow}
+use Rattle.pc_deck.specs.Deck.{Deck}
+use Rattle.pc_deck.specs.declared.kinds.acct.AcctCard.{AcctCard}
+use Rattle.pc_deck.specs.declared.kinds.act.ActCard.{ActCard}
+use Rattle.pc_faults.specs.Faults.{not_a_leaf}
+use Rattle.pc_faults.specs.declared.fault.Fault.{Fault}
+use Rattle.pc_wbs.specs.Climb.{IsLeaf}
+use Rattle.pc_wbs.specs.declared.row.ItemRow.{ItemRow}
+use Rattle.pc_project.specs.First.{IsFirstIn, earliest}
+use Rattle.pc_project.specs.PackageFaults.{HasLeafFault, HasNoLeafFault, StandsOnBranch, of_act, of_account}
+use Rattle.pc_project.specs.Project.{item_number, rows_of}
+use Rattle.pc_project.proofs.FirstLaws.{earliest-first}
+use Rattle.pc_project.proofs.FitLaws.{Any-at}
+
+-- an item that is not said to be no leaf is one
+leaf_unless : (rows : List ItemRow) (x : ℕ) → ((IsLeaf rows x → ⊥) → ⊥) → IsLeaf rows x
+leaf_unless rows x never y within is = never (λ leaf. leaf y within is)
+
+-- without such a fault, each activity and each account stands on a leaf
+pub act_on_leaf : (deck : Deck) → HasNoLeafFault deck → (a : ℕ) (d : ActCard) → a < length deck.acts → IsLeaf (rows_of deck) (item_number deck (get_or deck.acts a d).item)
+act_on_leaf deck none a d within =
+    let card = get_or deck.acts a d in
+    let fault : Fault = not_a_leaf card.row card.item in
+    leaf_unless (rows_of deck) (item_number deck card.item)
+    (λ branch. none fault (of_act (Any-at (λ (act : ActCard). StandsOnBranch deck act.row act.item fault) deck.acts a d within (branch, refl))))
+
+pub account_on_leaf : (deck : Deck) → HasNoLeafFault deck → (a : ℕ) (d : AcctCard) → a < length deck.accounts → IsLeaf (rows_of deck) (item_number deck (get_or deck.accounts a d).item)
+account_on_leaf deck none a d within =
+    let card = get_or deck.accounts a d in
+    let fault : Fault = not_a_leaf card.row card.item in
+    leaf_unless (rows_of deck) (item_number deck card.item)
+    (λ branch. none fault (of_account (Any-at (λ (account : AcctCard). StandsOnBranch deck account.row account.item fault) deck.accounts a d within (branch, refl))))
+
+-- the fault of a card by the number of its item is that by the item's code
+pub branch-is : (deck : Deck) (rows : List ItemRow) (item row : ℕ) (code : List ℕ) (found : Option Fault) → rows ≡ rows_of deck → item ≡ item_number deck code → IsFirstIn (λ fault. (IsLeaf rows item → ⊥) × (fault ≡ not_a_leaf row code)) found → IsFirstIn (StandsOnBranch deck row code) found
+branch-is deck rows item row code found same_rows same_item first =
+    subst (λ rs. IsFirstIn (λ fault. (IsLeaf rs (item_number deck code) → ⊥) × (fault ≡ not_a_leaf row code)) found) same_rows
+    (subst (λ x. IsFirstIn (λ fault. (IsLeaf rows x → ⊥) × (fault ≡ not_a_leaf row code)) found) same_item first)
+
+module _ (deck : Deck) where
+  into : (fault : Fault) → HasLeafFault deck fault → Any (λ (act : ActCard). StandsOnBranch deck act.row act.item fault) deck.acts ⊎ Any (λ (account : AcctCard). StandsOnBranch deck account.row account.item fault) deck.accounts
+  into fault (of_act h) = inl h
+  into fault (of_account h) = inr h
+
+  -- the first of these faults of activities and accounts
+  pub first_of_leaves : (acts accounts : Option Fault) → IsFirstIn (λ fault. Any (λ (act : ActCard). StandsOnBranch deck act.row act.item fault) deck.acts) acts → IsFirstIn (λ fault. Any (λ (account : AcctCard). StandsOnBranch deck account.row account.item fault) deck.accounts) accounts → IsFirstIn (HasLeafFault deck) (earliest acts accounts)
+  first_of_leaves acts accounts a b =
+      earliest-first (λ fault. Any (λ (act : ActCard). StandsOnBranch deck act.row act.item fault) deck.acts) (λ fault. Any (λ (account : AcctCard). StandsOnBranch deck account.row account.item fault) deck.accounts) (HasLeafFault deck)
+      (λ f h. of_act h) (λ f h. of_account h) into acts accounts a b
