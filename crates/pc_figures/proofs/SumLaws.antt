@@ -1,5 +1,5 @@
 -- Amounts of accounts as they are summed.
-use Rattle.std.proofs.Common.{◌≡◌, ℕ, zero, suc, ◌+◌, ◌<◌, ◌≤◌, ◌*◌, ◌^◌, inl, inr, List, [], ◌∷◌, ◌++◌, length, take, sym, ap, ◌∙◌, subst, arith}
+use Rattle.std.proofs.Common.{Result, Ok, Err, IfOk, ◌≡◌, ℕ, zero, suc, ◌+◌, ◌<◌, ◌≤◌, ◌*◌, ◌^◌, inl, inr, List, [], ◌∷◌, ◌++◌, length, take, sym, ap, ◌∙◌, subst, arith}
 use Rattle.std.specs.Prelude.{ℤ, pos, ◌+ℤ◌, unsigned_abs, sum_by}
 use Rattle.std.proofs.lemmas.List.{length_push}
 use Rattle.std.proofs.lemmas.List.Sums.{sum_by_push, sum_by_more, fold_more}
@@ -14,9 +14,14 @@ use Rattle.pc_rollup.specs.Lines.{line_at, sum_of}
 use Rattle.pc_rollup.specs.Sums.{IsSumOver}
 use Rattle.pc_rollup.specs.Totals.{amount_at, placed_at, place_of, amount_of, AreTotalsOf}
 use Rattle.pc_rollup.proofs.SumLaws.{IsSumOver-same}
-use Rattle.pc_figures.specs.Columns.{AreOnTree, AreItemSums, IsLevelSum, IsTotal}
+use Rattle.pc_figures.specs.Columns.{AreOnTree, AreItemSums, Column, IsColumn, IsLevelSum, IsTotal, IsWhole}
 use Rattle.pc_figures.proofs.PushLaws.{each_more}
 use Rattle.pc_figures.specs.ColumnParts.{ArePlaced, HaveOneSum}
+
+-- what follows from an answer follows where there is one
+pub if_answered : {T E : Type 0} (r : Result T E) (P Q : T → Type 0) → ((v : T) → P v → Q v) → IfOk r P → IfOk r Q
+if_answered (Ok v) P Q follows is = follows v is
+if_answered (Err e) P Q follows is = is
 
 -- sums of functions that agree
 pub IsSumOver-alike : (P : ℕ → Type 0) (n : ℕ) (f g : ℕ → ℤ) (t : ℤ) → ((x : ℕ) → x < n → f x ≡ g x) → IsSumOver P n f t → IsSumOver P n g t
@@ -65,16 +70,16 @@ levels_are_whole tree accounts amount totals levels ranged sound on_tree sums on
 
 -- the amounts of the first n accounts on their items
 pub record ArePlacedTo (accounts : List AcctRow) (amounts : List ℤ) (n : ℕ) (placed : List Placed) : Type 0 where
-  pub placed : ArePlaced accounts amounts n placed
+  pub are : ArePlaced accounts amounts n placed
   pub same : sum_by (λ (p : Placed). unsigned_abs p.amount) placed ≡ sum_by unsigned_abs (take n amounts)
 
 -- one amount more
 pub placed_more : (accounts : List AcctRow) (amounts : List ℤ) (n : ℕ) (placed more : List Placed) (next : Placed) → ArePlacedTo accounts amounts n placed → n < length amounts → more ≡ placed ++ next ∷ [] → next ≡ record { item = item_of accounts n; amount = amount_at amounts n } → ArePlacedTo accounts amounts (n + 1) more
 placed_more accounts amounts n placed more next so_far within pushed is =
     subst (ArePlacedTo accounts amounts (n + 1)) (sym pushed) (record {
-      placed = record {
-        one_each = omega (arith, length_push placed next, so_far.placed.one_each);
-        each = each_more (λ a p. p ≡ record { item = item_of accounts a; amount = amount_at amounts a }) placed next (record { item = 0; amount = pos 0 }) n so_far.placed.one_each so_far.placed.each is;
+      are = record {
+        one_each = omega (arith, length_push placed next, so_far.are.one_each);
+        each = each_more (λ a p. p ≡ record { item = item_of accounts a; amount = amount_at amounts a }) placed next (record { item = 0; amount = pos 0 }) n so_far.are.one_each so_far.are.each is;
       };
       same = omega (arith, so_far.same, sum_by_push (λ (p : Placed). unsigned_abs p.amount) placed next, ap (λ (p : Placed). unsigned_abs p.amount) is, sum_by_more unsigned_abs amounts n (pos 0) within);
     })
@@ -97,3 +102,13 @@ sums_more tree totals n sums more next so_far pushed is whole =
 -- the sum of the lines so far and the next one
 pub sum_of-more : (lines : List LevelLine) (i : ℕ) → i < length lines → sum_of (take (i + 1) lines) ≡ sum_of (take i lines) +ℤ (line_at lines i).amount
 sum_of-more lines i lt = fold_more (λ (sum : ℤ) (line : LevelLine). sum +ℤ line.amount) (pos 0) lines i (record { item = 0; amount = pos 0 }) lt
+
+-- a column of amounts is one of other amounts of the same value
+pub column_alike : (tree : List ItemRow) (accounts : List AcctRow) (f g : ℕ → ℤ) (column : Column) → ((a : ℕ) → a < length accounts → f a ≡ g a) → IsColumn tree accounts f column → IsColumn tree accounts g column
+column_alike tree accounts f g column same is =
+    record { items = item_sums_alike tree accounts f g column.items same is.items; levels = is.levels }
+
+-- and so is what its levels have
+pub whole_alike : (accounts : List AcctRow) (f g : ℕ → ℤ) (column : Column) → ((a : ℕ) → a < length accounts → f a ≡ g a) → IsWhole accounts f column → IsWhole accounts g column
+whole_alike accounts f g column same is =
+    λ k lt. IsSumOver-alike (λ a. a < length accounts) (length accounts) f g (amount_at column.levels k) same (is k lt)

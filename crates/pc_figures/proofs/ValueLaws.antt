@@ -60,10 +60,10 @@ progress_more items places states n x progress o done so_far place known read te
 -- what is known of all activities tells whether the package is finished
 finished_is : (places : List ℕ) (states : List ActState) (x : ℕ) (o : Option Bool) → IsProgress places states (length places) x o → (IsTrue (unwrap_or o false) → IsFinishedPackage places states x) × (IsTrue (unwrap_or o false) ⊎ (IsFinishedPackage places states x → ⊥))
 finished_is places states x None none =
-    (λ is. absurd is, inr (λ package. let (a, (lt, on)) = package.some in none a lt on))
+    (λ is. absurd is, inr (λ finished. let (a, (lt, on)) = finished.some in none a lt on))
 finished_is places states x (Some true) (some, all) = (λ is. record { some = some; all = all }, inl tt)
 finished_is places states x (Some false) (a, (lt, on, not)) =
-    (λ is. absurd is, inr (λ package. not (package.all a lt on)))
+    (λ is. absurd is, inr (λ finished. not (finished.all a lt on)))
 
 -- the value of an account, where that is known of its item
 pub value_is : (places : List ℕ) (states : List ActState) (accounts : List AcctRow) (entries : List Entry) (a x : ℕ) (o : Option Bool) (v : ℕ) → x ≡ item_of accounts a → IsProgress places states (length places) x o → v ≡ value_of (unwrap_or o false) (entry_at entries a) → IsValueOf places states accounts entries a (pos v)
@@ -75,7 +75,7 @@ value_is places states accounts entries a x o v place is worth =
         inl (subst (IsFinishedPackage places states) place (yes_it (subst IsTrue (sym same) tt)), ap pos (worth ∙ ap (λ (b : Bool). value_of b (entry_at entries a)) same))
     by_test false same (yes_it, inl is_true) = absurd (subst IsTrue same is_true)
     by_test false same (yes_it, inr no_it) =
-        inr (λ package. no_it (subst (IsFinishedPackage places states) (sym place) package), ap pos (worth ∙ ap (λ (b : Bool). value_of b (entry_at entries a)) same))
+        inr (λ finished. no_it (subst (IsFinishedPackage places states) (sym place) finished), ap pos (worth ∙ ap (λ (b : Bool). value_of b (entry_at entries a)) same))
 
 -- the values of the first n accounts
 pub record AreValuesTo (places : List ℕ) (states : List ActState) (accounts : List AcctRow) (entries : List Entry) (n : ℕ) (values : List ℤ) : Type 0 where

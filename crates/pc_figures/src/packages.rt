@@ -1,7 +1,7 @@
 //! Which packages are finished, and what the work of each account is worth.
-ghost use Rattle.std.specs.Prelude.{◌≡◌, ◌↔◌, ℕ, ◌<◌, ◌≤◌, ◌^◌, length, slice_index, sum_by, unsigned_abs, IfOk, IsTrue};
+ghost use Rattle.std.specs.Prelude.{◌≡◌, ◌↔◌, ℕ, ◌<◌, ◌≤◌, ◌^◌, pos, ◌-ℤ◌, length, slice_index, sum_by, unsigned_abs, IfOk, IsTrue};
 ghost use Rattle.pc_accounts.specs.Amounts.{item_of};
-ghost use Rattle.pc_accounts.specs.Entries.{AreSmall};
+ghost use Rattle.pc_accounts.specs.Entries.{AreSmall, IsSmall, value_of};
 ghost use Rattle.pc_model.specs.declared.limits.TheConstants.{MAX_COST};
 ghost use Rattle.pc_rollup.specs.Totals.{amount_at};
 ghost use Rattle.pc_figures.specs.Figures.{AreAmounts};
@@ -60,9 +60,18 @@ pub(crate) fn values(
     let mut values = Vec::with_capacity(alloc, accounts.len())?;
     for a in 0..accounts.len() {
         let finished = progress[accounts[a].item as usize].unwrap_or(false);
-        values.push(entries[a].value(finished) as i64)?;
+        values.push(value(&entries[a], finished))?;
     }
     Ok(values)
+}
+
+/// What the work of an account is worth, where `finished` says whether its package is finished.
+fn value(entry: &Entry, finished: bool) -> i64
+    requires { IsSmall entry.now }
+    ensures value { result ≡ pos (value_of finished entry.now) }
+    ensures small { unsigned_abs result ≤ MAX_COST }
+{
+    entry.value(finished) as i64
 }
 
 /// By how much what was spent on each account is more than its work is worth.
@@ -79,7 +88,16 @@ pub(crate) fn overruns(
 {
     let mut overruns = Vec::with_capacity(alloc, entries.len())?;
     for a in 0..entries.len() {
-        overruns.push(entries[a].actual as i64 - values[a])?;
+        overruns.push(overrun(&entries[a], values[a]))?;
     }
     Ok(overruns)
+}
+
+/// By how much what was spent on an account is more than its work is worth.
+fn overrun(entry: &Entry, value: i64) -> i64
+    requires entry { IsSmall entry.now }
+    requires value { unsigned_abs value ≤ MAX_COST }
+    ensures { result ≡ pos entry.now.actual -ℤ value }
+{
+    entry.actual as i64 - value
 }

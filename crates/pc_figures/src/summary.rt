@@ -12,6 +12,7 @@ use crate::column::Column;
 use crate::figures::{Figure, figures};
 use crate::outline::{OutlineRow, outline_of};
 use pc_accounts::{AcctRow, Entry};
+use pc_rollup::each_leaf_has_one_line;
 use pc_wbs::Tree;
 use std::alloc::{AllocError, Global};
 use std::marker::Model;
@@ -61,6 +62,7 @@ impl Summary {
         ensures summary { IfOk result (IsSummaryOf tree.now accounts.now entries.now) }
         ensures once { IfOk result (CountsOnce tree.now accounts.now entries.now) }
     {
+        each_leaf_has_one_line();
         Ok(Summary {
             outline: outline_of(alloc, tree)?,
             budget: column_of(alloc, tree, accounts, entries, Figure::Budget)?,

@@ -12,7 +12,9 @@ ghost use Rattle.pert_cli.specs.Words.{AskFor, AskForNone, usage_text};
 use crate::check;
 use crate::normal;
 use crate::status::Status;
+use crate::summary;
 use crate::times;
+use crate::value;
 use arrayvec::ArrayVec;
 use pc_edges::Sink;
 use pc_project::Project;
@@ -29,6 +31,8 @@ pub(crate) fn usage() -> ArrayVec<u8, USAGE_ROOM>
     append(&mut line, b"usage: pert ", check::WORDS);
     append(&mut line, b" | ", normal::WORDS);
     append(&mut line, b" | ", times::WORDS);
+    append(&mut line, b" | ", summary::WORDS);
+    append(&mut line, b" | ", value::WORDS);
     append(&mut line, b"\n", b"");
     line
 }
@@ -51,6 +55,10 @@ pub(crate) enum Form {
     Normal,
     /// The times of the events, and the critical path.
     Times,
+    /// What the accounts add up to, by item and by level.
+    Summary,
+    /// The forecast, and what the work is worth.
+    Value,
 }
 
 impl Form {
@@ -76,6 +84,10 @@ impl Form {
             Some(Form::Normal)
         } else if word == times::WORDS {
             Some(Form::Times)
+        } else if word == summary::WORDS {
+            Some(Form::Summary)
+        } else if word == value::WORDS {
+            Some(Form::Value)
         } else {
             None
         }
@@ -97,6 +109,8 @@ impl Form {
             Form::Check => check::answer(alloc, project, out),
             Form::Normal => normal::answer(alloc, project, out),
             Form::Times => times::answer(alloc, project, out),
+            Form::Summary => summary::answer(alloc, project, out),
+            Form::Value => value::answer(alloc, project, out),
         }
     }
 }

@@ -10,8 +10,10 @@ mod refusing;
 mod schedule;
 mod sending;
 mod status;
+mod summary;
 mod times;
 mod top;
+mod value;
 
 pub use crate::top::run;
 
