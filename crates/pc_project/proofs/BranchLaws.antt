@@ -1,10 +1,10 @@
 -- Activities and accounts that stand on leaves, and those that do not.
-use Rattle.std.proofs.Common.{◌≡◌, ◌<◌, ℕ, List, [], length, get_or, Option, None, Some, refl, sym, ap, ◌∙◌, subst, inl, inr, ◌⊎◌, arith}
-use Rattle.std.specs.Prelude.{slice_index}
+use Rattle.std.proofs.Common.{◌≡◌, ◌<◌, ℕ, List, length, map, get_or, Option, refl, sym, ap, ◌∙◌, subst, inl, inr, ◌⊎◌}
 use Rattle.std.specs.List.{Any}
-use Rattle.std.proofs.lemmas.List.{get_or-map, get_or_read}
+use Rattle.std.proofs.lemmas.List.{get_or-map}
 use Rattle.pc_accounts.specs.Amounts.{account_at}
 use Rattle.pc_accounts.specs.declared.rows.AcctRow.{AcctRow}
+use Rattle.pc_accounts.specs.declared.rows.WorkRow.{WorkRow}
 use Rattle.pc_deck.specs.Deck.{Deck}
 use Rattle.pc_deck.specs.declared.kinds.acct.AcctCard.{AcctCard}
 use Rattle.pc_deck.specs.declared.kinds.act.ActCard.{ActCard}
@@ -14,7 +14,8 @@ use Rattle.pc_wbs.specs.Climb.{IsLeaf}
 use Rattle.pc_wbs.specs.declared.row.ItemRow.{ItemRow}
 use Rattle.pc_project.specs.First.{IsFirstIn, earliest}
 use Rattle.pc_project.specs.PackageFaults.{HasLeafFault, HasNoLeafFault, StandsOnBranch, of_act, of_account}
-use Rattle.pc_project.specs.Project.{item_number, rows_of}
+use Rattle.pc_project.specs.Project.{account_of, accounts_in, item_number, placement_of, rows_of, work_of}
+use Rattle.pc_project.specs.declared.placed.Placement.{Placement}
 use Rattle.pc_project.proofs.FirstLaws.{earliest-first}
 use Rattle.pc_project.proofs.FitLaws.{Any-at}
 
@@ -53,3 +54,22 @@ module _ (deck : Deck) where
   first_of_leaves acts accounts a b =
       earliest-first (λ fault. Any (λ (act : ActCard). StandsOnBranch deck act.row act.item fault) deck.acts) (λ fault. Any (λ (account : AcctCard). StandsOnBranch deck account.row account.item fault) deck.accounts) (HasLeafFault deck)
       (λ f h. of_act h) (λ f h. of_account h) into acts accounts a b
+
+-- the item of an activity, and that of an account, by the number that was looked up
+pub act_item : (deck : Deck) (placements : List Placement) (a : ℕ) (card : ActCard) → placements ≡ map (placement_of deck) deck.acts → a < length deck.acts → card ≡ get_or deck.acts a card → (get_or placements a (record { arc = record { from = 0; to = 0 }; item = 0 })).item ≡ item_number deck card.item
+act_item deck placements a card same inside read =
+    ap (λ (ps : List Placement). (get_or ps a (record { arc = record { from = 0; to = 0 }; item = 0 })).item) same
+    ∙ ap (λ (p : Placement). p.item) (get_or-map (placement_of deck) deck.acts a card (record { arc = record { from = 0; to = 0 }; item = 0 }) inside)
+    ∙ ap (λ (c : ActCard). item_number deck c.item) (sym read)
+
+-- the item and the cost of an activity
+pub act_work : (deck : Deck) (placements : List Placement) (a : ℕ) (card : ActCard) → placements ≡ map (placement_of deck) deck.acts → a < length deck.acts → card ≡ get_or deck.acts a card →
+    let row : WorkRow = record { item = (get_or placements a (record { arc = record { from = 0; to = 0 }; item = 0 })).item; cost = card.cost } in row ≡ work_of deck card
+act_work deck placements a card same inside read =
+    λ i. record { item = act_item deck placements a card same inside read i; cost = card.cost }
+
+pub account_item : (deck : Deck) (accounts : List AcctRow) (a : ℕ) (card : AcctCard) → accounts ≡ accounts_in deck → a < length deck.accounts → card ≡ get_or deck.accounts a card → (account_at accounts a).item ≡ item_number deck card.item
+account_item deck accounts a card same inside read =
+    ap (λ (rows : List AcctRow). (account_at rows a).item) same
+    ∙ ap (λ (r : AcctRow). r.item) (get_or-map (account_of deck) deck.accounts a card (record { item = 0; budget = 0 }) inside)
+    ∙ ap (λ (c : AcctCard). item_number deck c.item) (sym read)

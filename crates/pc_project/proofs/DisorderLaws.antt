@@ -1,17 +1,17 @@
 -- The first status in disorder, and statuses in order.
-use Rattle.std.proofs.Common.{◌≡◌, ◌<◌, ◌≤◌, ℕ, List, length, Option, None, Some, refl, sym, ap, ◌∙◌, subst, inl, inr, ◌⊎◌, arith, ◌++◌, ◌∷◌, [], ◌+◌}
-use Rattle.std.specs.Prelude.{ℤ, ◌<ℤ◌, ◌≤ℤ◌, IfSome, IfNone, option_map, slice_index}
-use Rattle.std.proofs.lemmas.Int.{by_lt_z}
+use Rattle.std.proofs.Common.{◌≡◌, ◌<◌, ℕ, List, length, Option, None, Some, refl, sym, ap, ◌∙◌, subst, inl, inr, ◌⊎◌, arith}
+use Rattle.std.specs.Prelude.{ℤ, ◌<ℤ◌, ◌≤ℤ◌, IfSome, IfNone, option_map}
+use Rattle.std.proofs.lemmas.Int.{by_lt_z, ints}
 use Rattle.pc_deck.specs.Deck.{Deck}
 use Rattle.pc_deck.specs.declared.kinds.as_of.AsOfCard.{AsOfCard}
 use Rattle.pc_faults.specs.Faults.{disorder}
-use Rattle.pc_faults.specs.First.{IsFirst, IsNoLater}
+use Rattle.pc_faults.specs.First.{IsFirst}
 use Rattle.pc_faults.specs.declared.fault.Fault.{Fault}
 use Rattle.pc_faults.specs.declared.status.StatusFault.{StatusFault}
 use Rattle.pc_faults.specs.declared.status.StatusFault.TheVariants.{Second, Early, Late, NoStart, FinishFirst}
 use Rattle.pc_status.specs.Statuses.{AreInOrder, HasReason, IsInOrder, IsReason, place_of}
 use Rattle.pc_status.specs.declared.row.StatusRow.{StatusRow}
-use Rattle.pc_project.specs.DisorderFaults.{HasDisorder, HasNoDisorder, HasStatusDisorder, IsDisorderAt, IsEarlyAsOf, as_of_in, of_as_of, of_status}
+use Rattle.pc_project.specs.DisorderFaults.{HasDisorder, HasNoDisorder, HasStatusDisorder, IsEarlyAsOf, as_of_in, of_as_of, of_status}
 use Rattle.pc_project.specs.First.{IsFirstIn, earliest}
 use Rattle.pc_project.specs.Project.{as_of_day, statuses_in}
 use Rattle.pc_project.proofs.CardLaws.{no_later}
@@ -73,7 +73,7 @@ module _ (start as_of : ℤ) (statuses : List StatusRow) (k : ℕ) (none : (reas
 pub all_in_order : (deck : Deck) → HasNoDisorder deck → (count : length (statuses_in deck) ≡ length deck.statuses) → AreInOrder deck.project.start_day (as_of_in deck) (statuses_in deck)
 all_in_order deck none count k within =
     in_order_unless deck.project.start_day (as_of_in deck) (statuses_in deck) k
-    (λ reason is. none _ (of_status (k, omega (arith, within, count), reason, is, refl)))
+    (λ reason is. none _ (of_status (k, omega (arith, within, count), (reason, (is, refl)))))
 
 -- and as-of is not before the start
 pub as_of-late : (deck : Deck) → HasNoDisorder deck → deck.project.start_day ≤ℤ as_of_in deck
@@ -82,7 +82,7 @@ as_of-late deck none = by deck.as_of refl
     by : (card : Option AsOfCard) → deck.as_of ≡ card → deck.project.start_day ≤ℤ as_of_day deck.project.start_day card
     by None is = omega (arith, ints)
     by (Some card) is =
-        by_lt_z card.day deck.project.start_day (λ early. absurd (none _ (of_as_of (card, is, early, refl)))) (λ late. late)
+        by_lt_z card.day deck.project.start_day (λ early. absurd (none _ (of_as_of (card, (is, early, refl))))) (λ late. late)
 
 -- the fault of a status by what is told of it
 pub disorder-first : (deck : Deck) (k row : ℕ) (statuses : List StatusRow) (reason : Option StatusFault) → statuses ≡ statuses_in deck →
@@ -90,7 +90,7 @@ pub disorder-first : (deck : Deck) (k row : ℕ) (statuses : List StatusRow) (re
     IsFirstIn (λ fault. (r : StatusFault) × (IsReason deck.project.start_day (as_of_in deck) (statuses_in deck) k r × (fault ≡ disorder row r))) (option_map (disorder row) reason)
 disorder-first deck k row statuses None same told none = λ fault h. subst (λ ss. IsInOrder deck.project.start_day (as_of_in deck) ss k) same none h.0 h.1.0.holds
 disorder-first deck k row statuses (Some reason) same told none = record {
-  holds = (reason, subst (λ ss. IsReason deck.project.start_day (as_of_in deck) ss k reason) same told, refl);
+  holds = (reason, (subst (λ ss. IsReason deck.project.start_day (as_of_in deck) ss k reason) same told, refl));
   least = λ other h. no_later (disorder row reason) other (disorder row h.0) h.1.1 refl (omega arith);
 }
 
@@ -106,7 +106,7 @@ first_of_disorder deck as_of statuses a s =
 -- an ASOF card before the start is the first fault of as-of
 pub first_early : (deck : Deck) (card : AsOfCard) (fault : Fault) → deck.as_of ≡ Some card → card.day <ℤ deck.project.start_day → fault ≡ disorder card.row Early → IsFirst (IsEarlyAsOf deck) fault
 first_early deck card fault there early is = record {
-  holds = (card, there, early, is);
+  holds = (card, (there, early, is));
   least = λ other h.
       let same : h.0 ≡ card = let both : Some h.0 ≡ Some card = sym h.1.0 ∙ there in cc in
       no_later fault other (disorder h.0.row Early) h.1.2 (ap (λ (f : Fault). f.row) is ∙ sym (ap (λ (c : AsOfCard). c.row) same)) (omega (arith, ap (λ (f : Fault). f.number) is));

@@ -1,6 +1,6 @@
 -- The accounts, amounts and statuses of a deck whose cards make a project, and its entries and states.
 use Rattle.std.proofs.Common.{◌≡◌, ◌<◌, ◌≤◌, ℕ, List, [], ◌∷◌, length, get_or, map, refl, sym, ap, subst, ◌∙◌, arith}
-use Rattle.std.specs.Prelude.{ℤ, pos, false, slice_index}
+use Rattle.std.specs.Prelude.{pos, false, slice_index}
 use Rattle.std.proofs.lemmas.List.{get_or-map, length-map}
 use Rattle.pc_accounts.specs.Amounts.{AreEntriesOf, AreMoney, account_at, money_at}
 use Rattle.pc_accounts.specs.Entries.{AreSmall}
@@ -20,13 +20,13 @@ use Rattle.pc_status.specs.Statuses.{AreKnown, status_at}
 use Rattle.pc_status.specs.declared.row.StatusRow.{StatusRow}
 use Rattle.pc_times.specs.declared.state.ActState.{ActState}
 use Rattle.pc_wbs.specs.Climb.{IsLeaf}
-use Rattle.pc_project.specs.DisorderFaults.{HasNoDisorder, as_of_in}
+use Rattle.pc_project.specs.DisorderFaults.{as_of_in}
 use Rattle.pc_project.specs.Figures.{AreAccounts, AreFigures, AreStatesOf, work_rows}
 use Rattle.pc_project.specs.Misfit.{HasNoMisfit}
 use Rattle.pc_project.specs.PackageFaults.{HasNoLeafFault}
 use Rattle.pc_project.specs.Planned.{HasFigures}
 use Rattle.pc_project.specs.Project.{account_of, accounts_in, arc_of, charges_in, money_of, network_of, place_of, project_in, row_of, rows_of, status_of, statuses_in, term_of, togos_in, work_in, work_of}
-use Rattle.pc_project.specs.Refusal.{HasNoSecondToGo, HasSoundFigures, IsEven}
+use Rattle.pc_project.specs.Refusal.{HasNoSecondToGo, HasSoundFigures}
 use Rattle.pc_project.proofs.BranchLaws.{account_on_leaf, act_on_leaf}
 use Rattle.pc_project.proofs.DisorderLaws.{all_in_order, as_of-late}
 use Rattle.pc_project.proofs.FitLaws.{account_item-within, charge_account-within, no_act, place_of-within, status_activity-within, togo_account-within}
@@ -57,6 +57,12 @@ module _ (deck : Deck) where
 
   pub status_there : (k : ℕ) → k < length deck.statuses → status_at (statuses_in deck) k ≡ status_of deck (get_or deck.statuses k no_status)
   status_there k inside = get_or-map (status_of deck) deck.statuses k no_status (record { activity = 0; finished = false; day = pos 0 }) inside
+
+-- the item of an activity's work is an item
+pub work_known : (deck : Deck) → HasNoMisfit deck → (a : ℕ) → a < length (work_in deck) → (work_at (work_in deck) a).item < length deck.items
+work_known deck none a below =
+    let inside : a < length deck.acts = omega (arith, below, length-map deck.acts (work_of deck)) in
+    omega (arith, ap (λ (r : WorkRow). r.item) (work_there deck a inside), place_of-within deck none a inside)
 
 -- they are within their limits
 module _ (deck : Deck) (limits : IsWithinLimits deck) (none : HasNoMisfit deck) where
@@ -92,9 +98,7 @@ module _ (deck : Deck) (limits : IsWithinLimits deck) (none : HasNoMisfit deck) 
 
   pub are_work : AreWork (length (rows_of deck)) (work_in deck)
   are_work = record {
-    known = λ a below.
-        let inside : a < length deck.acts = omega (arith, below, length-map deck.acts (work_of deck)) in
-        omega (arith, ap (λ (r : WorkRow). r.item) (work_there deck a inside), place_of-within deck none a inside, length-map deck.items (row_of deck));
+    known = λ a below. omega (arith, work_known deck none a below, length-map deck.items (row_of deck));
     small = λ a below.
         let inside : a < length deck.acts = omega (arith, below, length-map deck.acts (work_of deck)) in
         omega (arith, ap (λ (r : WorkRow). r.cost) (work_there deck a inside), (limits.acts_within a no_act inside).cost);

@@ -1,5 +1,5 @@
 -- Cards without faults fit together: the network and the items are within their ranges.
-use Rattle.std.proofs.Common.{◌≡◌, ◌≢◌, ◌<◌, ◌≤◌, ℕ, List, [], length, get_or, sym, ap, ◌∙◌, refl, inl, inr, arith, Option, Some, None}
+use Rattle.std.proofs.Common.{◌≡◌, ◌≢◌, ◌<◌, ◌≤◌, ℕ, List, [], length, get_or, sym, ap, subst, ◌∙◌, refl, inl, inr, arith, Option, Some, None}
 use Rattle.std.specs.Prelude.{All, IsSome, option_and_then}
 use Rattle.std.specs.List.{Any}
 use Rattle.std.proofs.lemmas.Bool.{cases_lt}
@@ -143,6 +143,15 @@ account_item-within deck none a d within =
     item_number-within deck card.item
     (known_unless (item_named deck card.item)
     (λ n. none fault (figure (account (Any-at (λ c. HasAccountFault deck c fault) deck.accounts a d within (has.HasAccountFault.unknown_item n refl))))))
+
+-- the same of a card that was read
+pub act_item-within : (deck : Deck) → HasNoMisfit deck → (a : ℕ) (card : ActCard) → a < length deck.acts → card ≡ get_or deck.acts a card → item_number deck card.item < length deck.items
+act_item-within deck none a card within read =
+    subst (λ (c : ActCard). item_number deck c.item < length deck.items) (sym read) (item_number-within deck (get_or deck.acts a card).item (all_fit deck none a card within).placed)
+
+pub account_item-read : (deck : Deck) → HasNoMisfit deck → (a : ℕ) (card : AcctCard) → a < length deck.accounts → card ≡ get_or deck.accounts a card → item_number deck card.item < length deck.items
+account_item-read deck none a card within read =
+    subst (λ (c : AcctCard). item_number deck c.item < length deck.items) (sym read) (account_item-within deck none a card within)
 
 -- the account of a charge, and that of an amount to go, is an account
 pub charge_account-within : (deck : Deck) → HasNoMisfit deck → (k : ℕ) (d : MoneyCard) → k < length deck.charges → account_number deck (get_or deck.charges k d).account < length deck.accounts

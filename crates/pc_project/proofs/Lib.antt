@@ -15,3 +15,4 @@ mod PieceSteps
 mod BranchLaws
 mod DisorderLaws
 mod FigureLaws
+mod StateLaws

@@ -1,11 +1,11 @@
 -- One piece of a deck: what it names and how large it is, and its faults by the run of its activity.
-use Rattle.std.proofs.Common.{◌≡◌, ℕ, ◌+◌, ◌*◌, ◌<◌, ◌≤◌, List, [], Option, length, take, get_or, map, sym, ◌∙◌, ap, subst, ◌==◌, arith}
+use Rattle.std.proofs.Common.{◌≡◌, ℕ, ◌*◌, ◌<◌, ◌≤◌, List, [], Option, length, take, get_or, sym, ◌∙◌, ap, subst, ◌==◌, arith}
 use Rattle.std.specs.Prelude.{slice_index, slice_index_or}
 use Rattle.std.proofs.lemmas.List.{get_or-map, get_or_read, length-map, length-take-le}
 use Rattle.std.proofs.lemmas.List.Sums.{count_by-le-length, length-filter}
 use Rattle.pc_model.specs.declared.PieceRow.{PieceRow}
-use Rattle.pc_model.specs.declared.limits.TheConstants.{MAX_DURATION, MAX_PIECES}
-use Rattle.pc_model.specs.Pieces.{pieces_of, slope_in, units_of}
+use Rattle.pc_model.specs.declared.limits.TheConstants.{MAX_DURATION}
+use Rattle.pc_model.specs.Pieces.{slope_in, units_of}
 use Rattle.pc_model.specs.Schedule.{term_at}
 use Rattle.pc_crash.specs.Priced.{piece_at}
 use Rattle.pc_deck.specs.Deck.{Deck}

@@ -1,5 +1,5 @@
 -- The project of a deck whose cards make one is planned.
-use Rattle.std.proofs.Common.{◌≡◌, ◌<◌, ◌≤◌, ◌+◌, ◌-◌, ◌*◌, ◌^◌, ℕ, List, [], Option, Some, None, length, get_or, map, refl, sym, ap, ◌∙◌, inl, inr, arith}
+use Rattle.std.proofs.Common.{◌≡◌, ◌<◌, ◌≤◌, ◌+◌, ◌-◌, ◌*◌, ◌^◌, ℕ, List, [], Option, Some, None, length, get_or, map, refl, sym, ap, subst, ◌∙◌, inl, inr, arith}
 use Rattle.std.specs.Prelude.{All, slice_index}
 use Rattle.std.specs.Option.{ForSome}
 use Rattle.std.proofs.Math.Nat.{mul-le-mul, pow-le-pow_left}
@@ -12,6 +12,7 @@ use Rattle.pc_model.specs.Pieces.{ArePieces, slope_in, units_of}
 use Rattle.pc_model.specs.Schedule.{AreTerms, term_at}
 use Rattle.pc_crash.specs.Priced.{ArePiecesWithinLimits, piece_at}
 use Rattle.pc_crash.specs.Terms.{AreWithinLimits}
+use Rattle.pc_accounts.specs.Amounts.{AreEntriesOf}
 use Rattle.pc_accounts.specs.declared.entry.Entry.{Entry}
 use Rattle.pc_times.specs.Times.{AreLengths}
 use Rattle.pc_times.specs.declared.state.ActState.{ActState}
@@ -23,6 +24,8 @@ use Rattle.pc_deck.specs.Deck.{Deck, act_codes, event_codes, item_codes, resourc
 use Rattle.pc_deck.specs.Terms.{AreTermsWithin}
 use Rattle.pc_deck.specs.Within.{IsWithinLimits}
 use Rattle.pc_project.specs.Project.{Project, accounts_in, arc_of, charges_in, counts_of, expected_of, heading_of, load_of, network_of, piece_of, pieces_in, place_of, project_in, row_of, rows_of, statuses_in, term_of, terms_in, time_terms_of, togos_in, variance_in}
+use Rattle.pc_project.specs.DisorderFaults.{as_of_in}
+use Rattle.pc_project.specs.Figures.{AreStatesOf, IsProjectOfDeck}
 use Rattle.pc_project.specs.Misfit.{HasNoMisfit}
 use Rattle.pc_project.specs.declared.load.LoadItem.{LoadItem}
 use Rattle.pc_project.specs.PieceFaults.{HasNoPieceFault, pieces_before, one_too_many, not_rising, none_left}
@@ -221,3 +224,15 @@ project_in-is deck project heading network tree events activities places terms e
       time_terms = time_terms i;
       counts = counts i;
     }
+
+-- a project is that of the deck whose lists it has, with entries and states that the deck's cards make
+pub IsProjectOfDeck-made : (deck : Deck) (project : Project) → project ≡ project_in deck project.entries project.states →
+    AreEntriesOf (accounts_in deck) (charges_in deck) (togos_in deck) (as_of_in deck) project.entries →
+    AreStatesOf deck.project.start_day (statuses_in deck) (length deck.acts) project.states →
+    IsProjectOfDeck deck project
+IsProjectOfDeck-made deck project is made far = record {
+  lists = is;
+  entries = subst (λ (p : Project). AreEntriesOf p.accounts p.charges p.togos p.heading.as_of project.entries) (sym is) made;
+  states = subst (λ (p : Project). AreStatesOf p.heading.start_day p.statuses (length p.network.arcs) project.states) (sym is)
+      (subst (λ n. AreStatesOf deck.project.start_day (statuses_in deck) n project.states) (sym (length-map deck.acts (arc_of deck))) far);
+}

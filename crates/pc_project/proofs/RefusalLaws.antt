@@ -1,6 +1,5 @@
 -- A deck is not both a project and refused, and each refusal can be told.
 use Rattle.std.proofs.Common.{◌≡◌, ◌≢◌, refl, sym, ◌∙◌, subst, ap}
-use Rattle.pc_model.specs.Network.{IsSound}
 use Rattle.pc_wbs.specs.declared.error.TreeError.{TreeError}
 use Rattle.pc_wbs.specs.declared.error.TreeError.TheVariants as tree
 use Rattle.pc_wbs.specs.Climb.{IsTree}
@@ -53,9 +52,9 @@ makes_not_refused deck fault makes (of_tree cards e refused is) =
 makes_not_refused deck fault makes (of_network cards items e refused is) =
     refused_is_not_sound (network_of deck) e refused (net_has_fault deck e fault is) makes.sound
 makes_not_refused deck fault makes (of_leaves plan first) = makes.figures.leaves fault first.holds
-makes_not_refused deck fault makes (of_packages plan leaves (item, first, is)) = makes.figures.even item first.holds
+makes_not_refused deck fault makes (of_packages plan leaves (item, (first, is))) = makes.figures.even item first.holds
 makes_not_refused deck fault makes (of_statuses plan leaves even first) = makes.figures.ordered fault first.holds
-makes_not_refused deck fault makes (of_togos plan leaves even ordered (k, first, is)) = makes.figures.once k first.holds
+makes_not_refused deck fault makes (of_togos plan leaves even ordered (k, (first, is))) = makes.figures.once k first.holds
 makes_not_refused deck fault makes (of_pieces plan figures first) = makes.pieces fault first.holds
 makes_not_refused deck fault makes (of_terms plan figures pieces first) = makes.terms fault first.holds
 
@@ -110,18 +109,18 @@ told_of-misfit deck fault (has.load (k, card, within, at, here)) = told_of-load 
 told_of-misfit deck fault (has.figure here) = told_of-figure deck fault here
 
 told_of-leaf : (deck : Deck) (fault : ADeckFault) → HasLeafFault deck fault → IsTold fault
-told_of-leaf deck fault (of_act (k, card, within, at, branch, is)) = told fault _ is refl
-told_of-leaf deck fault (of_account (k, card, within, at, branch, is)) = told fault _ is refl
+told_of-leaf deck fault (of_act (k, card, within, at, (branch, is))) = told fault _ is refl
+told_of-leaf deck fault (of_account (k, card, within, at, (branch, is))) = told fault _ is refl
 
 told_of-uneven : (deck : Deck) (fault : ADeckFault) → IsFirstUnevenFault deck fault → IsTold fault
-told_of-uneven deck fault (item, first, is) = told fault _ is refl
+told_of-uneven deck fault (item, (first, is)) = told fault _ is refl
 
 told_of-disorder : (deck : Deck) (fault : ADeckFault) → HasDisorder deck fault → IsTold fault
-told_of-disorder deck fault (of_as_of (card, there, early, is)) = told fault _ is refl
-told_of-disorder deck fault (of_status (k, within, reason, first, is)) = told fault _ is refl
+told_of-disorder deck fault (of_as_of (card, (there, early, is))) = told fault _ is refl
+told_of-disorder deck fault (of_status (k, within, (reason, (first, is)))) = told fault _ is refl
 
 told_of-togo : (deck : Deck) (fault : ADeckFault) → IsFirstSecondToGo deck fault → IsTold fault
-told_of-togo deck fault (k, first, is) = told fault _ is refl
+told_of-togo deck fault (k, (first, is)) = told fault _ is refl
 
 told_of-piece : (deck : Deck) (fault : ADeckFault) → HasPieceFault deck fault → IsTold fault
 told_of-piece deck fault (i, within, piece.one_too_many many is) = told fault _ is refl

@@ -2,6 +2,7 @@
 use Rattle.std.specs.Prelude.{◌≡◌, ◌≤◌, length, map}
 use Rattle.pc_model.specs.declared.limits.TheConstants.{MAX_ITEMS}
 use Rattle.pc_deck.specs.Deck.{Deck}
+use Rattle.pc_deck.specs.Within.{IsWithinLimits}
 use Rattle.pc_project.specs.declared.numbers.Numbers.{Numbers}
 use Rattle.pc_project.specs.Misfit.{HasNoMisfit}
 use Rattle.pc_project.specs.Project.{accounts_in, charges_in, load_of, network_of, pieces_in, placement_of, rows_of, statuses_in, togos_in}
@@ -16,6 +17,7 @@ pub record AreFiguresOf (deck : Deck) (figures : Figures) : Type 0 where
 
 -- the numbers are those of the deck, of which no card has a fault
 pub record AreNumbersOf (deck : Deck) (numbers : Numbers) : Type 0 where
+  pub within : IsWithinLimits deck
   pub faultless : HasNoMisfit deck
   pub start : numbers.ends.start ≡ (network_of deck).start
   pub end : numbers.ends.end ≡ (network_of deck).end

@@ -1,5 +1,5 @@
 -- The project of a deck: its lists in card order, with numbers for codes.
-use Rattle.std.specs.Prelude.{◌≡◌, ℕ, ◌<◌, ℤ, List, [], ◌∷◌, length, map, Option, Some, None, unwrap_or, slice_index, slice_index_or, option_and_then}
+use Rattle.std.specs.Prelude.{ℕ, ℤ, List, [], length, map, Option, Some, None, unwrap_or, slice_index, slice_index_or, option_and_then}
 use Rattle.pc_accounts.specs.declared.entry.Entry.{Entry}
 use Rattle.pc_accounts.specs.declared.rows.AcctRow.{AcctRow}
 use Rattle.pc_accounts.specs.declared.rows.MoneyRow.{MoneyRow}

@@ -1,5 +1,5 @@
 -- The records and the codes of cards, by their numbers in card order.
-use Rattle.std.specs.Prelude.{ℕ, List, [], map, slice_index, slice_index_or}
+use Rattle.std.specs.Prelude.{ℕ, List, [], map, slice_index_or}
 use Rattle.pc_deck.specs.Deck.{Deck}
 
 -- the code with a number among those; none past their end

@@ -39,7 +39,10 @@ fn act_fault(cards: &Cards, placements: &[Placement], tree: &Tree) -> Option<Fau
 {
     let mut fault = None;
     for (a, card) in cards.acts().iter().enumerate() {
-        fault = earliest(fault, branch_fault(tree, placements[a].item, card.row, card.item));
+        fault = earliest(
+            fault,
+            branch_fault(tree, placements[a].item, card.row, card.item),
+        );
     }
     fault
 }
@@ -53,7 +56,10 @@ fn account_fault(cards: &Cards, accounts: &[AcctRow], tree: &Tree) -> Option<Fau
 {
     let mut fault = None;
     for (a, card) in cards.accounts().iter().enumerate() {
-        fault = earliest(fault, branch_fault(tree, accounts[a].item, card.row, card.item));
+        fault = earliest(
+            fault,
+            branch_fault(tree, accounts[a].item, card.row, card.item),
+        );
     }
     fault
 }

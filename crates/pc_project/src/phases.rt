@@ -20,9 +20,11 @@ use crate::project::Project;
 use crate::statuses::as_of;
 use crate::terms::terms_fault;
 use crate::tree::tree_of;
+use pc_accounts::Book;
 use pc_deck::Cards;
 use pc_faults::DeckError;
 use pc_net::Net;
+use pc_times::ActState;
 use pc_wbs::Tree;
 use std::alloc::{AllocError, Global};
 
@@ -66,7 +68,8 @@ fn judged(alloc: Global, cards: &Cards) -> Result<Project, DeckError>
     if let Err(error) = check_costs(alloc, cards, &numbers) {
         return Err(error);
     }
-    match planned(alloc, cards, numbers, tree, net, progress) {
+    let Progress { book, states } = progress;
+    match planned(alloc, cards, numbers, tree, net, book, states) {
         Ok(project) => Ok(project),
         Err(_) => Err(DeckError::OutOfMemory),
     }
@@ -119,21 +122,22 @@ fn counts(cards: &Cards) -> Counts
     }
 }
 
-/// The project of cards that make one, around its tree, its network and its progress.
+/// The project of cards that make one, around its tree, its network, its book and its states.
 fn planned(
     alloc: Global,
     cards: &Cards,
     numbers: Numbers,
     tree: Tree,
     net: Net,
-    progress: Progress,
+    book: Book,
+    states: Vec<ActState>,
 ) -> Result<Project, AllocError>
     requires makes { MakesProject cards.now }
     requires numbers { AreNumbersOf cards.now numbers }
     requires tree { tree ≡ rows_of cards.now }
     requires network { net ≡ network_of cards.now }
-    requires entries { AreEntriesOf (accounts_in cards.now) (charges_in cards.now) (togos_in cards.now) (as_of_in cards.now) progress.book }
-    requires states { AreStatesOf cards.now.project.start_day (statuses_in cards.now) (length cards.now.acts) progress.states.items }
+    requires entries { AreEntriesOf (accounts_in cards.now) (charges_in cards.now) (togos_in cards.now) (as_of_in cards.now) book }
+    requires states { AreStatesOf cards.now.project.start_day (statuses_in cards.now) (length cards.now.acts) states.items }
     ensures { IfOk result (IsProjectOfDeck cards.now) }
 {
     let lists = lists_of(alloc, cards, &numbers.placements)?;
@@ -155,9 +159,9 @@ fn planned(
         accounts: numbers.figures.accounts,
         charges: numbers.figures.charges,
         togos: numbers.figures.togos,
-        book: progress.book,
+        book,
         statuses: numbers.figures.statuses,
-        states: progress.states,
+        states,
         time_terms: time_terms(cards),
         counts: counts(cards),
     })

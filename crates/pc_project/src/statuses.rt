@@ -65,12 +65,9 @@ fn states_in(alloc: Global, cards: &Cards, log: &Log) -> Result<Vec<ActState>, D
     ensures ordered { OnOk result (HasNoDisorder cards.now) }
     ensures first { IfErr result (Refuses (IsFirst (HasDisorder cards.now))) }
 {
-    if let Some(fault) = earliest(as_of_fault(cards), status_fault(cards, log)) {
-        return Err(DeckError::Fault(fault));
-    }
-    match states(alloc, cards, log) {
-        Ok(states) => Ok(states),
-        Err(_) => Err(DeckError::OutOfMemory),
+    match earliest(as_of_fault(cards), status_fault(cards, log)) {
+        Some(fault) => Err(DeckError::Fault(fault)),
+        None => Ok(states(alloc, cards, log)?),
     }
 }
 

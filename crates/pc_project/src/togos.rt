@@ -26,7 +26,13 @@ pub(crate) fn book_of(alloc: Global, cards: &Cards, numbers: &Numbers) -> Result
 {
     let figures = &numbers.figures;
     let as_of = as_of(cards);
-    match Book::build(alloc, &figures.accounts, &figures.charges, &figures.togos, as_of) {
+    match Book::build(
+        alloc,
+        &figures.accounts,
+        &figures.charges,
+        &figures.togos,
+        as_of,
+    ) {
         Ok(book) => Ok(book),
         Err(error) => Err(fault_of(cards, error)),
     }

@@ -1,4 +1,4 @@
-use Rattle.std.proofs.Common.{◌≡◌, ◌≤◌, List, Option, Some, None, length, map, sym, ◌∙◌, ap, subst, arith}
+use Rattle.std.proofs.Common.{◌≡◌, List, Option, Some, None, length, map, sym, ◌∙◌, ap, subst, arith}
 use Rattle.std.specs.List.{Any}
 use Rattle.std.proofs.lemmas.List.{length-map}
 use Rattle.pc_deck.specs.Deck.{Deck}
@@ -38,17 +38,18 @@ returns-in-Ok-None-clause-numbers c =
     let deck = c.args.cards.now in
     let found = listed deck c.items.result.now c.acts.result.now c.pieces.result.now c.loads.result.now
     c.in_ok-rows.rows.fault c.in_ok-acts.acts.fault c.in_ok-pieces.pieces.fault c.in_ok-loads.loads.fault
-    c.earliest-of_acts.result c.earliest-of_parts.result c.earliest.result c.first_figure_fault.result c.earliest-fault.result
+    c.earliest-of_acts.result c.earliest-of_parts.result c.earliest.result c.in_ok-figures.figures.fault c.earliest-fault.result
     c.items.ensures.cards c.acts.ensures.cards c.pieces.ensures.cards c.loads.ensures.cards
     c.in_ok-rows.ensures.first c.in_ok-acts.ensures.first c.in_ok-pieces.ensures.first c.in_ok-loads.ensures.first
-    c.first_figure_fault.ensures c.earliest-of_acts.ensures c.earliest-of_parts.ensures c.earliest.ensures c.earliest-fault.ensures in
-    let both = earliest-none c.earliest.result c.first_figure_fault.result (sym c.earliest-fault.ensures ∙ c.in-Ok-None.is-1) in
+    c.in_ok-figures.ensures.first c.earliest-of_acts.ensures c.earliest-of_parts.ensures c.earliest.ensures c.earliest-fault.ensures in
+    let both = earliest-none c.earliest.result c.in_ok-figures.figures.fault (sym c.earliest-fault.ensures ∙ c.in-Ok-None.is-1) in
     let parts = earliest-none c.earliest-of_acts.result c.earliest-of_parts.result (sym c.earliest.ensures ∙ both.0) in
     let of_acts = earliest-none c.in_ok-rows.rows.fault c.in_ok-acts.acts.fault (sym c.earliest-of_acts.ensures ∙ parts.0) in
     let of_parts = earliest-none c.in_ok-pieces.pieces.fault c.in_ok-loads.loads.fault (sym c.earliest-of_parts.ensures ∙ parts.1) in
     let rows = c.in_ok-rows.ensures.numbers of_acts.0 ∙ ap (map (row_of deck)) c.items.ensures.cards in
     record {
       faultless = subst (IsFirstIn (HasMisfit deck)) c.in-Ok-None.is-1 (first_of_cards deck None c.earliest-fault.result c.in-Ok-None.ensures.faultless found);
+      within = c.items.ensures.within;
       start = c.in-Ok-None.ensures.start;
       end = c.in-Ok-None.ensures.end;
       rows = rows;
@@ -56,6 +57,7 @@ returns-in-Ok-None-clause-numbers c =
       placements = c.in_ok-acts.ensures.numbers of_acts.1 ∙ ap (map (placement_of deck)) c.acts.ensures.cards;
       pieces = c.in_ok-pieces.ensures.numbers of_parts.0 ∙ ap (map (piece_of deck)) c.pieces.ensures.cards;
       loads = c.in_ok-loads.ensures.numbers of_parts.1 ∙ ap (map (load_of deck)) c.loads.ensures.cards;
+      figures = c.in_ok-figures.ensures.figures both.1;
     }
 
 pub returns-in-Ok-Some-clause-first : goal.returns-in-Ok-Some-clause-first
@@ -63,10 +65,10 @@ returns-in-Ok-Some-clause-first c =
     let deck = c.args.cards.now in
     let found = listed deck c.items.result.now c.acts.result.now c.pieces.result.now c.loads.result.now
     c.in_ok-rows.rows.fault c.in_ok-acts.acts.fault c.in_ok-pieces.pieces.fault c.in_ok-loads.loads.fault
-    c.earliest-of_acts.result c.earliest-of_parts.result c.earliest.result c.first_figure_fault.result c.earliest-fault.result
+    c.earliest-of_acts.result c.earliest-of_parts.result c.earliest.result c.in_ok-figures.figures.fault c.earliest-fault.result
     c.items.ensures.cards c.acts.ensures.cards c.pieces.ensures.cards c.loads.ensures.cards
     c.in_ok-rows.ensures.first c.in_ok-acts.ensures.first c.in_ok-pieces.ensures.first c.in_ok-loads.ensures.first
-    c.first_figure_fault.ensures c.earliest-of_acts.ensures c.earliest-of_parts.ensures c.earliest.ensures c.earliest-fault.ensures in
+    c.in_ok-figures.ensures.first c.earliest-of_acts.ensures c.earliest-of_parts.ensures c.earliest.ensures c.earliest-fault.ensures in
     subst (IsFirstIn (HasMisfit deck)) c.in-Ok-Some.is-1 (first_of_cards deck None c.earliest-fault.result c.in-Ok-Some.ensures.faultless found)
 
 pub returns-in-Err-default-clause-first : goal.returns-in-Err-default-clause-first
@@ -74,8 +76,8 @@ returns-in-Err-default-clause-first c =
     let deck = c.args.cards.now in
     let found = listed deck c.items.result.now c.acts.result.now c.pieces.result.now c.loads.result.now
     c.in_ok-rows.rows.fault c.in_ok-acts.acts.fault c.in_ok-pieces.pieces.fault c.in_ok-loads.loads.fault
-    c.earliest-of_acts.result c.earliest-of_parts.result c.earliest.result c.first_figure_fault.result c.earliest-fault.result
+    c.earliest-of_acts.result c.earliest-of_parts.result c.earliest.result c.in_ok-figures.figures.fault c.earliest-fault.result
     c.items.ensures.cards c.acts.ensures.cards c.pieces.ensures.cards c.loads.ensures.cards
     c.in_ok-rows.ensures.first c.in_ok-acts.ensures.first c.in_ok-pieces.ensures.first c.in_ok-loads.ensures.first
-    c.first_figure_fault.ensures c.earliest-of_acts.ensures c.earliest-of_parts.ensures c.earliest.ensures c.earliest-fault.ensures in
+    c.in_ok-figures.ensures.first c.earliest-of_acts.ensures c.earliest-of_parts.ensures c.earliest.ensures c.earliest-fault.ensures in
     subst (IsFirstIn (HasMisfit deck)) (sym c.earlier_of.ensures) (first_of_cards deck (Some c.in-Err-default.first) c.earliest-fault.result c.in-Err-default.ensures.first found)

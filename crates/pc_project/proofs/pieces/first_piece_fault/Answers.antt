@@ -1,10 +1,9 @@
-use Rattle.std.proofs.Common.{◌≡◌, ◌<◌, ◌≤◌, length, map, refl, sym, ◌∙◌, ap, subst, arith}
+use Rattle.std.proofs.Common.{◌<◌, length, map, refl, ◌∙◌, ap, arith}
 use Rattle.std.proofs.lemmas.List.{get_or_read, length-map}
 use Rattle.pc_crash.specs.Priced.{piece_at}
 use Rattle.pc_deck.specs.declared.kinds.act.ActCard.{ActCard}
-use Rattle.pc_project.specs.PieceFaults.{HasFlaw, HasPieceFaultAt}
+use Rattle.pc_project.specs.PieceFaults.{HasPieceFaultAt}
 use Rattle.pc_project.specs.Project.{piece_of, pieces_in, term_of, terms_in}
-use Rattle.pc_project.specs.First.{IsFirstIn}
 use Rattle.pc_project.proofs.CountLaws.{first_of_none, first_of_all, first_with}
 use Rattle.pc_project.proofs.FitLaws.{no_act}
 use Rattle.pc_project.proofs.PieceSteps.{piece-known, piece-short, run-read, units-small, count-small, flaw-is}

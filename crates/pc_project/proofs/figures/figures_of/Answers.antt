@@ -1,0 +1,34 @@
+use Rattle.std.proofs.Common.{◌∙◌, ap, map, sym, subst}
+use Rattle.std.specs.List.{Any}
+use Rattle.pc_project.specs.First.{IsFirstIn, earliest}
+use Rattle.pc_project.specs.Misfit.{HasAccountFault, HasMoneyFault, HasStatusFault, HasFigureFault}
+use Rattle.pc_project.specs.Project.{account_of, money_of, status_of}
+use Rattle.pc_project.proofs.FirstLaws.{earliest-none}
+use Rattle.pc_project.proofs.MisfitLaws.{first_of_figures}
+use Rattle.pc_project.proofs.figures.figures_of.Goals as goal
+
+pub returns-clause-first : goal.returns-clause-first
+returns-clause-first c =
+    let deck = c.args.cards.now in
+    let accounts = subst (λ cards. IsFirstIn (λ fault. Any (λ card. HasAccountFault deck card fault) cards) c.in_ok-accounts.accounts.fault) c.accounts.ensures.cards c.in_ok-accounts.ensures.first in
+    let charges = subst (λ cards. IsFirstIn (λ fault. Any (λ card. HasMoneyFault deck card fault) cards) c.in_ok-charges.charges.fault) c.charges.ensures.cards c.in_ok-charges.ensures.first in
+    let togos = subst (λ cards. IsFirstIn (λ fault. Any (λ card. HasMoneyFault deck card fault) cards) c.in_ok-togos.togos.fault) c.togos.ensures.cards c.in_ok-togos.ensures.first in
+    let statuses = subst (λ cards. IsFirstIn (λ fault. Any (λ card. HasStatusFault deck card fault) cards) c.in_ok-statuses.statuses.fault) c.statuses.ensures.cards c.in_ok-statuses.ensures.first in
+    let found = c.earliest-fault.ensures
+    ∙ (ap (λ one. earliest one c.earliest-of_rest.result) c.earliest-of_spent.ensures
+    ∙ ap (earliest (earliest c.in_ok-accounts.accounts.fault c.in_ok-charges.charges.fault)) c.earliest-of_rest.ensures) in
+    subst (IsFirstIn (HasFigureFault deck)) (sym found)
+    (first_of_figures deck c.in_ok-accounts.accounts.fault c.in_ok-charges.charges.fault c.in_ok-togos.togos.fault c.in_ok-statuses.statuses.fault accounts charges togos statuses)
+
+pub returns-clause-figures : goal.returns-clause-figures
+returns-clause-figures c = λ none.
+    let deck = c.args.cards.now in
+    let both = earliest-none c.earliest-of_spent.result c.earliest-of_rest.result (sym c.earliest-fault.ensures ∙ none) in
+    let spent = earliest-none c.in_ok-accounts.accounts.fault c.in_ok-charges.charges.fault (sym c.earliest-of_spent.ensures ∙ both.0) in
+    let rest = earliest-none c.in_ok-togos.togos.fault c.in_ok-statuses.statuses.fault (sym c.earliest-of_rest.ensures ∙ both.1) in
+    record {
+      accounts = c.in_ok-accounts.ensures.numbers spent.0 ∙ ap (map (account_of deck)) c.accounts.ensures.cards;
+      charges = c.in_ok-charges.ensures.numbers spent.1 ∙ ap (map (money_of deck)) c.charges.ensures.cards;
+      togos = c.in_ok-togos.ensures.numbers rest.0 ∙ ap (map (money_of deck)) c.togos.ensures.cards;
+      statuses = c.in_ok-statuses.ensures.numbers rest.1 ∙ ap (map (status_of deck)) c.statuses.ensures.cards;
+    }

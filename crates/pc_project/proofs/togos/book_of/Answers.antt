@@ -1,0 +1,40 @@
+use Rattle.std.proofs.Common.{◌∙◌, length, sym, ap, subst, arith}
+use Rattle.std.proofs.lemmas.List.{length-map}
+use Rattle.pc_accounts.specs.Amounts.{AreBudgets, AreMoney}
+use Rattle.pc_accounts.specs.Second.{IsRepeated}
+use Rattle.pc_project.specs.Project.{account_of, accounts_in, money_of}
+use Rattle.pc_project.proofs.FigureLaws.{accounts_cheap, are_charges, are_togos}
+use Rattle.pc_project.proofs.togos.book_of.Goals as goal
+
+pub build-requires-clause-few_accounts : goal.build-requires-clause-few_accounts
+build-requires-clause-few_accounts c =
+    let deck = c.args.cards.now in
+    omega (arith, ap length (c.deref.ensures.value ∙ c.requires.figures.accounts), length-map deck.accounts (account_of deck), c.requires.within.few_accounts)
+
+pub build-requires-clause-few_charges : goal.build-requires-clause-few_charges
+build-requires-clause-few_charges c =
+    let deck = c.args.cards.now in
+    omega (arith, ap length (c.deref-2.ensures.value ∙ c.requires.figures.charges), length-map deck.charges (money_of deck), c.requires.within.few_charges)
+
+pub build-requires-clause-few_togos : goal.build-requires-clause-few_togos
+build-requires-clause-few_togos c =
+    let deck = c.args.cards.now in
+    omega (arith, ap length (c.deref-3.ensures.value ∙ c.requires.figures.togos), length-map deck.togos (money_of deck), c.requires.within.few_togos)
+
+pub build-requires-clause-budgets : goal.build-requires-clause-budgets
+build-requires-clause-budgets c =
+    subst AreBudgets (sym (c.deref.ensures.value ∙ c.requires.figures.accounts)) (accounts_cheap c.args.cards.now c.requires.within c.requires.faultless)
+
+pub build-requires-clause-charges : goal.build-requires-clause-charges
+build-requires-clause-charges c =
+    subst (λ n. AreMoney n c.deref-2.result.now) (sym (ap length (c.deref.ensures.value ∙ c.requires.figures.accounts)))
+    (subst (AreMoney (length (accounts_in c.args.cards.now))) (sym (c.deref-2.ensures.value ∙ c.requires.figures.charges)) (are_charges c.args.cards.now c.requires.within c.requires.faultless))
+
+pub build-requires-clause-togos : goal.build-requires-clause-togos
+build-requires-clause-togos c =
+    subst (λ n. AreMoney n c.deref-3.result.now) (sym (ap length (c.deref.ensures.value ∙ c.requires.figures.accounts)))
+    (subst (AreMoney (length (accounts_in c.args.cards.now))) (sym (c.deref-3.ensures.value ∙ c.requires.figures.togos)) (are_togos c.args.cards.now c.requires.within c.requires.faultless))
+
+pub returns-in-Ok-clause-once : goal.returns-in-Ok-clause-once
+returns-in-Ok-clause-once c = λ k repeated.
+    c.in-Ok.ensures.once k (subst (λ togos. IsRepeated togos k) (sym (c.deref-3.ensures.value ∙ c.requires.figures.togos)) repeated)
