@@ -1,5 +1,5 @@
 //! An amount of each account, summed by item and by level.
-ghost use Rattle.std.specs.Prelude.{◌≡◌, ◌<◌, ◌≤◌, ◌^◌, length, sum_by, unsigned_abs, FitsSigned, IfOk};
+ghost use Rattle.std.specs.Prelude.{◌≡◌, ◌+◌, ◌<◌, ◌≤◌, ◌^◌, length, sum_by, unsigned_abs, FitsSigned, IfOk};
 ghost use Rattle.std.specs.Int.{w64};
 ghost use Rattle.pc_wbs.specs.Climb.{AreInRange, IsTree};
 ghost use Rattle.pc_rollup.specs.Lines.{sum_of};
@@ -60,7 +60,8 @@ impl Column {
     /// The amount of level `k + 1`.
     pub(crate) fn level(&self, k: usize) -> i64
         requires { k < length self.now.levels }
-        ensures { result ≡ amount_at self.now.levels k }
+        ensures amount { result ≡ amount_at self.now.levels k }
+        ensures counted { k + 1 < 2 ^ 64 }
     {
         self.levels[k]
     }

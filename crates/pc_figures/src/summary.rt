@@ -1,5 +1,5 @@
 //! What the management summary tells.
-ghost use Rattle.std.specs.Prelude.{◌≡◌, ◌<◌, length, IfOk};
+ghost use Rattle.std.specs.Prelude.{◌≡◌, ◌+◌, ◌<◌, ◌^◌, length, IfOk};
 ghost use Rattle.pc_wbs.specs.Climb.{AreInRange, IsTree};
 ghost use Rattle.pc_accounts.specs.Entries.{AreSmall};
 ghost use Rattle.pc_rollup.specs.Totals.{amount_at};
@@ -120,7 +120,8 @@ impl Summary {
         requires to_go { k < length self.now.to_go.levels }
         requires latest { k < length self.now.latest.levels }
         requires overrun { k < length self.now.overrun.levels }
-        ensures { result ≡ level_amounts self.now k }
+        ensures amounts { result ≡ level_amounts self.now k }
+        ensures counted { k + 1 < 2 ^ 64 }
     {
         SummaryAmounts {
             budget: self.budget.level(k),

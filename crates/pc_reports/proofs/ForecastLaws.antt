@@ -1,12 +1,16 @@
 -- No event is forecast later than as-of and the greatest time of a network.
 use Rattle.std.proofs.Common.{◌≡◌, ◌≢◌, ℕ, zero, suc, ◌+◌, ◌*◌, ◌<◌, ◌≤◌, ◌^◌, ◌==◌, Bool, true, false, cond, max, List, length, slice_index, ap, subst, sym, ◌∙◌, ⊎_elim, below_more, arith}
 use Rattle.std.specs.Prelude.{ℤ, pos, ◌-ℤ◌, ◌*ℤ◌, ◌<ℤ◌, ◌≤ℤ◌}
+use Rattle.std.specs.List.{All}
 use Rattle.std.proofs.lemmas.Bool.{cases_eq}
+use Rattle.std.proofs.lemmas.List.{get_or_default}
 use Rattle.std.proofs.lemmas.Int.{ints}
 use Rattle.pc_model.specs.declared.limits.TheConstants.{MAX_EVENTS}
 use Rattle.pc_model.specs.Network.{Network, IsOrder}
 use Rattle.pc_model.specs.Walk.{from_of, to_of}
 use Rattle.pc_model.proofs.Walks.OrderLaws.{stands_in_order}
+use Rattle.pc_project.specs.Planned.{IsPlanned}
+use Rattle.pc_project.specs.Project.{Project}
 use Rattle.pc_status.specs.declared.row.StatusRow.{StatusRow}
 use Rattle.pc_status.specs.Statuses.{status_at, AreInOrder, IsFirstOf, IsSixths, IsStateOf}
 use Rattle.pc_faults.specs.declared.status.StatusFault.TheVariants.{Late}
@@ -84,3 +88,11 @@ module _ (net : Network) (lengths : List ℕ) (states : List ActState) (as_of : 
       let (k, (in_order, at)) = stands_in_order net order ordered e below in
       let here : slice_index expected.times (slice_index order k) ≤ as_of + k * MAX_LENGTH = soon_to (length order) (omega arith) k in_order in
       omega (arith, here, ap (slice_index expected.times) at, ordered.whole)
+
+-- the times of a project's forecast are soon enough to be dated
+pub all_soon : (project : Project) (as_of : ℕ) (expected : Expected) (times : List ℕ) → IsPlanned project → as_of < 2 ^ 25 → IsSixths project.heading.start_day project.heading.as_of as_of → (order : List ℕ) × IsOrder project.network order → IsForecast project.network project.expected project.states as_of expected → times ≡ expected.times → All (λ time. time < 2 ^ 40) times
+all_soon project as_of expected times planned early last (order, ordered) forecast same = λ k d within.
+    let below : k < project.network.events = omega (arith, within, ap (λ (l : List ℕ). length l) same, forecast.one_each) in
+    let known : (a : ℕ) → a < length project.network.arcs → IsStateUpTo as_of (state_at project.states a) = λ a in_arcs. state_up_to project.heading.start_day project.heading.as_of project.statuses a as_of (state_at project.states a) planned.figures.in_order last (planned.figures.states.each a in_arcs) in
+    let bound = soon project.network project.expected project.states as_of order expected ordered planned.lengths known forecast planned.few_events k below in
+    omega (arith, early, bound, ap (λ (l : List ℕ). slice_index l k) same, get_or_default times k d 0 within)
