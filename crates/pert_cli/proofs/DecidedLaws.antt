@@ -1,5 +1,5 @@
 -- Where no fault came, the words and the deck decide how a run ends, but for want of memory.
-use Rattle.std.proofs.Common.{◌≡◌, ℕ, List, Option, Some, None, ◌⊎◌, inl, inr, arith, subst}
+use Rattle.std.proofs.Common.{◌≡◌, ◌≢◌, ℕ, List, Option, Some, None, ◌⊎◌, inl, inr, arith, subst}
 use Rattle.std.specs.Prelude.{IfSome, String}
 use Rattle.std.specs.declared.alloc.Global.{Global}
 use Rattle.pc_faults.specs.declared.fault.Fault.{Fault}
@@ -86,3 +86,12 @@ five_is_cut words source out err answer _ (usage no_form took same also) is_code
 five_is_cut words source out err answer _ (no_memory form same also) is_code five = absurd (omega (arith, is_code, five))
 five_is_cut words source out err answer _ (read_fault form rose same also) is_code five = absurd (omega (arith, is_code, five))
 five_is_cut words source out err answer _ (write_fault cut) is_code five = cut
+
+-- a run that ended with another number than 2 and 5 was asked for a form
+pub ended_asked : {S O E : Type 0} (words : List (String Global)) (source : Side S) (out : Side O) (err : Side E) (answer : ℕ) (status : Status) → Outcome words source out err status → answer ≡ code_of status → answer ≢ 2 → answer ≢ 5 → AskForOne words
+ended_asked words source out err answer _ (done is same) is_code no_usage no_cut = (is.form, is.asked)
+ended_asked words source out err answer _ (refused is same) is_code no_usage no_cut = (is.form, is.asked)
+ended_asked words source out err answer _ (usage no_form took same also) is_code no_usage no_cut = absurd (no_usage is_code)
+ended_asked words source out err answer _ (no_memory form same also) is_code no_usage no_cut = form
+ended_asked words source out err answer _ (read_fault form rose same also) is_code no_usage no_cut = form
+ended_asked words source out err answer _ (write_fault cut) is_code no_usage no_cut = absurd (no_cut is_code)

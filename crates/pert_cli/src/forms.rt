@@ -9,12 +9,8 @@ ghost use Rattle.pert_cli.specs.Sides.{side};
 ghost use Rattle.pert_cli.specs.declared.forms.Form.{Form as TheForm};
 ghost use Rattle.pert_cli.specs.Words.{AskFor, AskForNone, usage_text};
 
-use crate::check;
-use crate::normal;
 use crate::status::Status;
-use crate::summary;
-use crate::times;
-use crate::value;
+use crate::{check, normal, summary, times, value};
 use arrayvec::ArrayVec;
 use pc_edges::Sink;
 use pc_project::Project;
