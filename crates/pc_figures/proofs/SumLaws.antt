@@ -1,7 +1,8 @@
 -- Amounts of accounts as they are summed.
-use Rattle.std.proofs.Common.{Result, Ok, Err, IfOk, ◌≡◌, ℕ, zero, suc, ◌+◌, ◌<◌, ◌≤◌, ◌*◌, ◌^◌, inl, inr, List, [], ◌∷◌, ◌++◌, length, take, sym, ap, ◌∙◌, subst, arith}
+use Rattle.std.proofs.Common.{◌≡◌, ℕ, zero, suc, ◌+◌, ◌<◌, ◌≤◌, ◌*◌, ◌^◌, inl, inr, List, [], ◌∷◌, ◌++◌, length, take, sym, ap, ◌∙◌, subst, arith}
 use Rattle.std.specs.Prelude.{ℤ, pos, ◌+ℤ◌, unsigned_abs, sum_by}
 use Rattle.std.proofs.lemmas.List.{length_push}
+use Rattle.std.proofs.Math.Seq.{take-length}
 use Rattle.std.proofs.lemmas.List.Sums.{sum_by_push, sum_by_more, fold_more}
 use Rattle.pc_wbs.specs.declared.row.ItemRow.{ItemRow}
 use Rattle.pc_wbs.specs.Climb.{AreInRange, IsBelow, IsOnlyTop, IsTop, IsTree}
@@ -13,15 +14,10 @@ use Rattle.pc_rollup.specs.declared.levels.LevelLine.{LevelLine}
 use Rattle.pc_rollup.specs.Lines.{line_at, sum_of}
 use Rattle.pc_rollup.specs.Sums.{IsSumOver}
 use Rattle.pc_rollup.specs.Totals.{amount_at, placed_at, place_of, amount_of, AreTotalsOf}
-use Rattle.pc_rollup.proofs.SumLaws.{IsSumOver-same}
+use Rattle.pc_rollup.proofs.SumLaws.{IsSumOver-same, unsigned_abs-add}
 use Rattle.pc_figures.specs.Columns.{AreOnTree, AreItemSums, Column, IsColumn, IsLevelSum, IsTotal, IsWhole}
 use Rattle.pc_figures.proofs.PushLaws.{each_more}
 use Rattle.pc_figures.specs.ColumnParts.{ArePlaced, HaveOneSum}
-
--- what follows from an answer follows where there is one
-pub if_answered : {T E : Type 0} (r : Result T E) (P Q : T → Type 0) → ((v : T) → P v → Q v) → IfOk r P → IfOk r Q
-if_answered (Ok v) P Q follows is = follows v is
-if_answered (Err e) P Q follows is = is
 
 -- sums of functions that agree
 pub IsSumOver-alike : (P : ℕ → Type 0) (n : ℕ) (f g : ℕ → ℤ) (t : ℤ) → ((x : ℕ) → x < n → f x ≡ g x) → IsSumOver P n f t → IsSumOver P n g t
@@ -53,6 +49,22 @@ item_sums_alike tree accounts f g totals same sums = record {
   one_each = sums.one_each;
   each = λ y lt. IsSumOver-alike (λ a. IsBelow tree (item_of accounts a) y) (length accounts) f g (amount_at totals y) same (sums.each y lt);
 }
+
+-- a sum over a list is no greater than the sum of the list's magnitudes
+sum_bound : (P : ℕ → Type 0) (amounts : List ℤ) (n : ℕ) (t : ℤ) → n ≤ length amounts → IsSumOver P n (amount_at amounts) t → unsigned_abs t ≤ sum_by unsigned_abs (take n amounts)
+sum_bound P amounts zero t le is = omega (arith, ap unsigned_abs is)
+sum_bound P amounts (suc n) t le (inl (p, (r, (over, e)))) =
+    let next : suc n ≡ n + 1 = omega arith in
+    omega (arith, sum_bound P amounts n r (omega arith) over, ap unsigned_abs e, unsigned_abs-add r (amount_at amounts n), sum_by_more unsigned_abs amounts n (pos 0) (omega arith), ap (λ (k : ℕ). sum_by unsigned_abs (take k amounts)) next)
+sum_bound P amounts (suc n) t le (inr (none, over)) =
+    let next : suc n ≡ n + 1 = omega arith in
+    omega (arith, sum_bound P amounts n t (omega arith) over, sum_by_more unsigned_abs amounts n (pos 0) (omega arith), ap (λ (k : ℕ). sum_by unsigned_abs (take k amounts)) next)
+
+-- nor is what an item has
+pub item_sum_bound : (tree : List ItemRow) (accounts : List AcctRow) (amounts totals : List ℤ) (y : ℕ) → length amounts ≡ length accounts → AreItemSums tree accounts (amount_at amounts) totals → y < length tree → unsigned_abs (amount_at totals y) ≤ sum_by unsigned_abs amounts
+item_sum_bound tree accounts amounts totals y one_each sums lt =
+    let whole : take (length accounts) amounts ≡ amounts = ap (λ (k : ℕ). take k amounts) (sym one_each) ∙ take-length amounts in
+    omega (arith, sum_bound (λ a. IsBelow tree (item_of accounts a) y) amounts (length accounts) (amount_at totals y) (omega arith) (sums.each y lt), ap (sum_by unsigned_abs) whole)
 
 -- every account stands below the top, so that the top has the sum of all
 pub top_is_total : (tree : List ItemRow) (accounts : List AcctRow) (amount : ℕ → ℤ) (totals : List ℤ) (top : ℕ) → AreInRange tree → IsTree tree → IsOnlyTop tree top → AreOnTree tree accounts → AreItemSums tree accounts amount totals → IsTotal accounts amount (amount_at totals top)

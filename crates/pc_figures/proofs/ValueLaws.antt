@@ -15,6 +15,10 @@ use Rattle.pc_times.specs.Forecast.{state_at}
 use Rattle.pc_figures.specs.Packages.{IsFinished, IsFinishedPackage, IsValueOf, AreValues, IsProgress, progress_at, AreProgress}
 use Rattle.pc_figures.proofs.PushLaws.{each_more}
 
+-- a test that failed did not pass
+never : IsTrue false → ⊥
+never is = cc
+
 -- nothing is known of the first none
 pub progress_none : (items : ℕ) (places : List ℕ) (states : List ActState) (progress : List (Option Bool)) → length progress ≡ items → ((x : ℕ) → x < items → progress_at progress x ≡ None) → AreProgress items places states 0 progress
 progress_none items places states progress count none = record {
@@ -25,12 +29,12 @@ progress_none items places states progress count none = record {
 -- one activity more on the item
 progress_here : (places : List ℕ) (states : List ActState) (n x : ℕ) (o : Option Bool) (done : Bool) → (IsTrue done ↔ IsFinished (state_at states n)) → slice_index places n ≡ x → IsProgress places states n x o → IsProgress places states (n + 1) x (Some (unwrap_or o true && done))
 progress_here places states n x None true tells here none =
-    ((n, (omega arith, here)), λ a lt on. ⊎_elim (λ e. subst (λ (k : ℕ). IsFinished (state_at states k)) (sym e) (tells.0 tt)) (λ ne. absurd (none a (omega arith) on)) (cases_eq a n))
+    ((n, (omega arith, here)), λ a lt on. ⊎_elim (λ e. subst (λ (k : ℕ). IsFinished (state_at states k)) (sym e) (tells.0 refl)) (λ ne. absurd (none a (omega arith) on)) (cases_eq a n))
 progress_here places states n x (Some true) true tells here (some, all) =
-    ((n, (omega arith, here)), λ a lt on. ⊎_elim (λ e. subst (λ (k : ℕ). IsFinished (state_at states k)) (sym e) (tells.0 tt)) (λ ne. all a (omega arith) on) (cases_eq a n))
+    ((n, (omega arith, here)), λ a lt on. ⊎_elim (λ e. subst (λ (k : ℕ). IsFinished (state_at states k)) (sym e) (tells.0 refl)) (λ ne. all a (omega arith) on) (cases_eq a n))
 progress_here places states n x (Some false) true tells here (a, (lt, on, not)) = (a, (omega arith, on, not))
-progress_here places states n x None false tells here none = (n, (omega arith, here, λ is. tells.1 is))
-progress_here places states n x (Some true) false tells here both = (n, (omega arith, here, λ is. tells.1 is))
+progress_here places states n x None false tells here none = (n, (omega arith, here, λ is. never (tells.1 is)))
+progress_here places states n x (Some true) false tells here both = (n, (omega arith, here, λ is. never (tells.1 is)))
 progress_here places states n x (Some false) false tells here (a, (lt, on, not)) = (a, (omega arith, on, not))
 
 -- one activity more on another item
@@ -60,10 +64,10 @@ progress_more items places states n x progress o done so_far place known read te
 -- what is known of all activities tells whether the package is finished
 finished_is : (places : List ℕ) (states : List ActState) (x : ℕ) (o : Option Bool) → IsProgress places states (length places) x o → (IsTrue (unwrap_or o false) → IsFinishedPackage places states x) × (IsTrue (unwrap_or o false) ⊎ (IsFinishedPackage places states x → ⊥))
 finished_is places states x None none =
-    (λ is. absurd is, inr (λ finished. let (a, (lt, on)) = finished.some in none a lt on))
-finished_is places states x (Some true) (some, all) = (λ is. record { some = some; all = all }, inl tt)
+    (λ is. absurd (never is), inr (λ finished. let (a, (lt, on)) = finished.some in none a lt on))
+finished_is places states x (Some true) (some, all) = (λ is. record { some = some; all = all }, inl refl)
 finished_is places states x (Some false) (a, (lt, on, not)) =
-    (λ is. absurd is, inr (λ finished. not (finished.all a lt on)))
+    (λ is. absurd (never is), inr (λ finished. not (finished.all a lt on)))
 
 -- the value of an account, where that is known of its item
 pub value_is : (places : List ℕ) (states : List ActState) (accounts : List AcctRow) (entries : List Entry) (a x : ℕ) (o : Option Bool) (v : ℕ) → x ≡ item_of accounts a → IsProgress places states (length places) x o → v ≡ value_of (unwrap_or o false) (entry_at entries a) → IsValueOf places states accounts entries a (pos v)
@@ -72,8 +76,8 @@ value_is places states accounts entries a x o v place is worth =
   where
     by_test : (b : Bool) → unwrap_or o false ≡ b → (IsTrue (unwrap_or o false) → IsFinishedPackage places states x) × (IsTrue (unwrap_or o false) ⊎ (IsFinishedPackage places states x → ⊥)) → IsValueOf places states accounts entries a (pos v)
     by_test true same (yes_it, either) =
-        inl (subst (IsFinishedPackage places states) place (yes_it (subst IsTrue (sym same) tt)), ap pos (worth ∙ ap (λ (b : Bool). value_of b (entry_at entries a)) same))
-    by_test false same (yes_it, inl is_true) = absurd (subst IsTrue same is_true)
+        inl (subst (IsFinishedPackage places states) place (yes_it (subst IsTrue (sym same) refl)), ap pos (worth ∙ ap (λ (b : Bool). value_of b (entry_at entries a)) same))
+    by_test false same (yes_it, inl is_true) = absurd (never (subst IsTrue same is_true))
     by_test false same (yes_it, inr no_it) =
         inr (λ finished. no_it (subst (IsFinishedPackage places states) (sym place) finished), ap pos (worth ∙ ap (λ (b : Bool). value_of b (entry_at entries a)) same))
 

@@ -1,5 +1,5 @@
 //! An amount of each account, summed by item and by level.
-ghost use Rattle.std.specs.Prelude.{◌≡◌, ◌+◌, ◌<◌, ◌≤◌, ◌^◌, length, sum_by, unsigned_abs, FitsSigned, IfOk};
+ghost use Rattle.std.specs.Prelude.{◌≡◌, ℕ, ◌+◌, ◌<◌, ◌≤◌, ◌^◌, length, sum_by, unsigned_abs, FitsSigned, IfOk};
 ghost use Rattle.std.specs.Int.{w64};
 ghost use Rattle.pc_wbs.specs.Climb.{AreInRange, IsTree};
 ghost use Rattle.pc_rollup.specs.Lines.{sum_of};
@@ -109,12 +109,14 @@ fn placed(alloc: Global, accounts: &[AcctRow], amounts: &[i64]) -> Result<Vec<Pl
 fn level_sums(alloc: Global, tree: &Tree, totals: &[i64]) -> Result<Vec<i64>, AllocError>
     requires sound { IsTree tree.now }
     requires one_each { length totals.now ≡ length tree.now }
+    requires fits { (y : ℕ) → y < length tree.now → FitsSigned w64 (amount_at totals.now y) }
     requires rolled { IsRolledUp tree.now totals.now }
     ensures sums { IfOk result (λ sums. AreLevelSums tree.now totals.now sums.items) }
     ensures whole { IfOk result (λ sums. HaveOneSum tree.now totals.now sums.items) }
 {
-    let mut sums = Vec::with_capacity(alloc, tree.depth() as usize)?;
-    for k in 0..tree.depth() {
+    let depth = tree.depth();
+    let mut sums = Vec::with_capacity(alloc, depth as usize)?;
+    for k in 0..depth {
         let lines = level_lines(alloc, tree, k + 1, totals)?;
         sums.push(sum_of(&lines))?;
     }

@@ -1,5 +1,5 @@
 //! Which packages are finished, and what the work of each account is worth.
-ghost use Rattle.std.specs.Prelude.{◌≡◌, ◌↔◌, ℕ, ◌<◌, ◌≤◌, ◌^◌, pos, ◌-ℤ◌, length, slice_index, sum_by, unsigned_abs, IfOk, IsTrue};
+ghost use Rattle.std.specs.Prelude.{◌≡◌, ◌↔◌, ◌&&◌, true, unwrap_or, ℕ, ◌<◌, ◌≤◌, ◌^◌, pos, ◌-ℤ◌, length, slice_index, sum_by, unsigned_abs, IfOk, IsTrue};
 ghost use Rattle.pc_accounts.specs.Amounts.{item_of};
 ghost use Rattle.pc_accounts.specs.Entries.{AreSmall, IsSmall, value_of};
 ghost use Rattle.pc_model.specs.declared.limits.TheConstants.{MAX_COST};
@@ -25,10 +25,17 @@ fn progress_of(
     let mut progress = vec![in alloc; None; items as usize]?;
     for a in 0..places.len() {
         let item = places[a] as usize;
-        let so_far = progress[item].unwrap_or(true);
-        progress[item] = Some(so_far && is_finished(states[a]));
+        let finished = is_finished(states[a]);
+        progress[item] = Some(all_finished(progress[item], finished));
     }
     Ok(progress)
+}
+
+/// Whether all activities of an item are finished, from whether those before are, if there are any, and the next one is.
+fn all_finished(so_far: Option<bool>, finished: bool) -> bool
+    ensures { result ≡ (unwrap_or so_far true && finished) }
+{
+    so_far.unwrap_or(true) && finished
 }
 
 /// Whether an activity is finished.

@@ -1,4 +1,5 @@
-use Rattle.pc_figures.proofs.SumLaws.{if_answered, item_sums_are}
+use Rattle.pc_figures.proofs.PushLaws.{if_answered}
+use Rattle.pc_figures.proofs.SumLaws.{item_sums_are}
 use Rattle.pc_figures.proofs.column.item_sums.Goals as goal
 
 pub returns-clause-sums : goal.returns-clause-sums

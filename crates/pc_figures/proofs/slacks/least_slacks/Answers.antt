@@ -1,5 +1,5 @@
 use Rattle.pc_figures.specs.Slacks.{slack_at}
-use Rattle.pc_figures.proofs.SumLaws.{if_answered}
+use Rattle.pc_figures.proofs.PushLaws.{if_answered}
 use Rattle.pc_figures.proofs.SlackLaws.{least_slacks_are}
 use Rattle.pc_figures.proofs.slacks.least_slacks.Goals as goal
 

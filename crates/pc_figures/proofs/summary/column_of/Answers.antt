@@ -1,7 +1,8 @@
 use Rattle.std.proofs.Common.{◌≡◌, ℕ, ◌<◌, length, arith}
 use Rattle.pc_rollup.specs.Totals.{amount_at}
 use Rattle.pc_figures.specs.Figures.{figure_at}
-use Rattle.pc_figures.proofs.SumLaws.{if_answered, column_alike, whole_alike}
+use Rattle.pc_figures.proofs.PushLaws.{if_answered}
+use Rattle.pc_figures.proofs.SumLaws.{column_alike, whole_alike}
 use Rattle.pc_figures.proofs.summary.column_of.Goals as goal
 
 pub returns-clause-column : goal.returns-clause-column

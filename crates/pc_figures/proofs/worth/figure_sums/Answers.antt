@@ -1,7 +1,8 @@
 use Rattle.std.proofs.Common.{◌≡◌, ℕ, ◌<◌, length, arith}
 use Rattle.pc_rollup.specs.Totals.{amount_at}
 use Rattle.pc_figures.specs.Figures.{figure_at}
-use Rattle.pc_figures.proofs.SumLaws.{if_answered, item_sums_alike}
+use Rattle.pc_figures.proofs.PushLaws.{if_answered}
+use Rattle.pc_figures.proofs.SumLaws.{item_sums_alike}
 use Rattle.pc_figures.proofs.worth.figure_sums.Goals as goal
 
 pub returns : goal.returns
