@@ -205,6 +205,15 @@ impl Project {
     {
         &self.variances
     }
+
+    /// The item on which each activity stands.
+    pub fn places(&self) -> &[u32]
+        ensures places { result.now ≡ self.now.places }
+        ensures planned { IsPlanned self.now }
+    {
+        &self.places
+    }
+
     /// The further pieces of the activities' costs.
     pub fn pieces(&self) -> &[PieceRow]
         ensures pieces { result.now ≡ self.now.pieces }
@@ -309,7 +318,7 @@ impl Project {
     /// The day that the figures are of, in sixths of a day from the start.
     pub fn as_of_time(&self) -> u64
         ensures time { IsSixths self.now.heading.start_day self.now.heading.as_of result }
-        ensures small { result < 2 ^ 40 }
+        ensures small { result < 2 ^ 25 }
     {
         6 * days_between(self.heading.start_day, self.heading.as_of) as u64
     }

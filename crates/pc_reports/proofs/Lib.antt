@@ -1,3 +1,4 @@
 mod DateLaws
+mod ForecastLaws
 mod PathLaws
 mod WorkedRows

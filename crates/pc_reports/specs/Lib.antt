@@ -5,3 +5,7 @@ pub mod Check
 pub mod Times
 pub mod TimesText
 pub mod TimesInside
+pub mod SummaryText
+pub mod Earned
+pub mod EarnedInside
+pub mod ValueText

@@ -1,5 +1,6 @@
 -- Lines of reports.
-use Rattle.std.specs.Prelude.{ℕ, List, [], ◌∷◌, ◌++◌, decimal, slice_index, slice_index_or}
+use Rattle.std.specs.Prelude.{ℕ, ℤ, List, [], ◌∷◌, ◌++◌, decimal, slice_index, slice_index_or}
+use Rattle.pc_days.specs.Calendar.{text_of_day}
 
 -- the word, the code, and the end of the line
 abbrev pub code_line : List ℕ → List ℕ → List ℕ
@@ -16,3 +17,7 @@ named_line word code n = word ++ (code ++ (32 ∷ (decimal n ++ 10 ∷ [])))
 -- the line of the i-th code and the i-th number
 abbrev pub line_at : List ℕ → List (List ℕ) → List ℕ → ℕ → List ℕ
 line_at word names numbers i = named_line word (slice_index_or names i []) (slice_index numbers i)
+
+-- the word, the code, a space, the date of the day, and the end of the line
+abbrev pub dated_line : List ℕ → List ℕ → ℤ → List ℕ
+dated_line word code day = word ++ (code ++ (32 ∷ (text_of_day day ++ 10 ∷ [])))

@@ -2,14 +2,23 @@
 #![tactic(auto)]
 
 mod check;
+mod dates;
+mod earned;
+mod forecasts;
 mod lines;
 mod schedule;
+mod summary_report;
+mod summary_rows;
 #[cfg(test)]
 mod tests;
 mod times;
 mod times_report;
 mod times_rows;
+mod value_report;
+mod value_rows;
 
 pub use check::write_check;
 pub use schedule::{Schedule, put_schedule, write_schedule};
+pub use summary_report::SummaryReport;
 pub use times_report::TimesReport;
+pub use value_report::ValueReport;

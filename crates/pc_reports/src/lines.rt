@@ -1,7 +1,8 @@
 //! Short lines of reports.
 ghost use Rattle.pc_page.specs.Puts.{Puts};
-ghost use Rattle.pc_reports.specs.Lines.{code_line, number_line, named_line};
+ghost use Rattle.pc_reports.specs.Lines.{code_line, dated_line, number_line, named_line};
 
+use pc_days::{Day, day_text};
 use pc_edges::Sink;
 use pc_page::Page;
 use pc_text::Code;
@@ -38,5 +39,22 @@ pub(crate) fn put_named<O: Sink>(
     page.put(sink, name.bytes());
     page.put(sink, b" ");
     page.put_number(sink, number);
+    page.put(sink, b"\n");
+}
+
+/// Puts the word, the code, a space, the date of the day, and the end of the line.
+pub(crate) fn put_dated<O: Sink>(
+    page: &mut Page,
+    sink: &mut O,
+    word: &[u8],
+    code: &Code,
+    day: Day,
+)
+    ensures { Puts O.taken O.faults page.old sink.old page.new sink.new (dated_line word.now code.now day) }
+{
+    page.put(sink, word);
+    page.put(sink, code.bytes());
+    page.put(sink, b" ");
+    page.put(sink, &day_text(day));
     page.put(sink, b"\n");
 }

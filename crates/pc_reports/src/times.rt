@@ -6,14 +6,11 @@ ghost use Rattle.pc_model.specs.declared.limits.TheConstants.{MAX_DIRECTED, MAX_
 ghost use Rattle.pc_times.specs.declared.TheConstants.{MAX_TIME};
 ghost use Rattle.pc_reports.specs.Times.{IsTimes, IsDate, AreDates, end_to_meet};
 
-use pc_days::{Day, date_of_sixths, day_text};
+use crate::dates::{DATE_LENGTH, dates_of};
 use pc_project::Project;
 use pc_times::{Longest, late, longest};
 use std::alloc::{AllocError, Global};
 use std::marker::Model;
-
-/// The bytes of a date.
-const DATE_LENGTH: usize = 10;
 
 /// For each event its earliest and its latest time and the date of the earliest, and the activities of the critical
 /// path.
@@ -90,7 +87,7 @@ impl Times {
 }
 
 /// When the end is to be met: the directed number of days, or else when it is reached.
-fn end_to_meet(directed: Option<u64>, reached: u64) -> i64
+pub(crate) fn end_to_meet(directed: Option<u64>, reached: u64) -> i64
     requires directed { ForSome directed (λ days. days ≤ MAX_DIRECTED) }
     requires reached { reached ≤ MAX_TIME }
     ensures end { result ≡ end_to_meet directed reached }
@@ -99,28 +96,5 @@ fn end_to_meet(directed: Option<u64>, reached: u64) -> i64
     match directed {
         Some(days) => 6 * days as i64,
         None => reached as i64,
-    }
-}
-
-/// The date of each of the times.
-fn dates_of(alloc: Global, start: Day, times: &[u64]) -> Result<Vec<[u8; DATE_LENGTH]>, AllocError>
-    requires { All (λ time. time ≤ MAX_TIME) times.now }
-    ensures { IfOk result (λ dates. AreDates start times.now dates.items) }
-{
-    let mut dates = Vec::with_capacity(alloc, times.len())?;
-    for &time in times {
-        dates.push(date_text(start, time))?;
-    }
-    Ok(dates)
-}
-
-/// The date of the day that is the start and so many sixths of a day, or ten hyphens.
-fn date_text(start: Day, sixths: u64) -> [u8; DATE_LENGTH]
-    requires { sixths ≤ MAX_TIME }
-    ensures { IsDate start sixths result }
-{
-    match date_of_sixths(start, sixths as i64) {
-        Some(day) => day_text(day),
-        None => *b"----------",
     }
 }

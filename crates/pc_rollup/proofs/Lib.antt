@@ -1,5 +1,6 @@
 pub mod SumLaws
 mod RollLaws
+mod LeastLaws
 mod PlacedLaws
 mod LineLaws
 mod WholeLaws

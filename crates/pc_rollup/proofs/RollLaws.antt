@@ -51,7 +51,7 @@ passed_more : (order : List ℕ) (i j c : ℕ) → i + j + 1 ≡ length order �
 passed_more order i j c place (k, (le, lt, e)) =
     ⊎_elim (λ same. inl (ap (slice_index order) (sym same) ∙ e)) (λ apart. inr (k, (omega arith, lt, e))) (cases_eq k i)
 
-passed_keep : (order : List ℕ) (j c : ℕ) → IsPassed order j c → IsPassed order (j + 1) c
+pub passed_keep : (order : List ℕ) (j c : ℕ) → IsPassed order j c → IsPassed order (j + 1) c
 passed_keep order j c (k, (le, lt, e)) = (k, (omega arith, lt, e))
 
 -- nothing has been passed on
@@ -66,7 +66,7 @@ gathered_none rows order amounts one_each = record {
     itself y x (inr (c, (p, b, (k, (le, lt, e))))) = absurd (omega arith)
 
 -- below y or y itself is what is below some child of y or y
-below_child : (rows : List ItemRow) (x y : ℕ) → IsBelow rows x y → (x ≡ y) ⊎ ((c : ℕ) × ((parent_of rows c ≡ Some y) × IsBelow rows x c))
+pub below_child : (rows : List ItemRow) (x y : ℕ) → IsBelow rows x y → (x ≡ y) ⊎ ((c : ℕ) × ((parent_of rows c ≡ Some y) × IsBelow rows x c))
 below_child rows x y below =
     ⊎_elim (λ same. inl same) (λ (p, (e, (k, h))). inr (under_child rows x y p k e h)) (cases_below rows x y below)
 
@@ -74,12 +74,12 @@ from_child : (rows : List ItemRow) (x y c : ℕ) → parent_of rows c ≡ Some y
 from_child rows x y c e below =
     IsBelow-trans rows x c y below (IsBelow-parent rows c y y e (IsBelow-self rows y))
 
-gathered-below : (rows : List ItemRow) (order : List ℕ) (j y x : ℕ) → IsGathered rows order j y x → IsBelow rows x y
+pub gathered-below : (rows : List ItemRow) (order : List ℕ) (j y x : ℕ) → IsGathered rows order j y x → IsBelow rows x y
 gathered-below rows order j y x (inl e) = rw e (IsBelow-self rows y)
 gathered-below rows order j y x (inr (c, (p, b, s))) = from_child rows x y c p b
 
 -- an item whose turn it is has all that is below it
-whole : (rows : List ItemRow) (order : List ℕ) (i j x : ℕ) → IsPreorder rows order → i < length order → i + j + 1 ≡ length order → IsBelow rows x (slice_index order i) → IsGathered rows order j (slice_index order i) x
+pub whole : (rows : List ItemRow) (order : List ℕ) (i j x : ℕ) → IsPreorder rows order → i < length order → i + j + 1 ≡ length order → IsBelow rows x (slice_index order i) → IsGathered rows order j (slice_index order i) x
 whole rows order i j x preorder within place below = of_child (below_child rows x v below)
   where
     v : ℕ
@@ -129,12 +129,25 @@ apart rows order i j p x tree preorder within place up (inr (c, (e, b, (k, (le, 
     of_above vc =
         ⊎_elim (λ same. not_same (sym same)) (λ under. siblings_apart rows v c p (HasNoLoop-tree rows tree) up e under) (cases_below rows v c vc)
 
+-- with its parent's are then all that were, and all below the item
+pub gathered_to-parent : (rows : List ItemRow) (order : List ℕ) (i j p x : ℕ) → i < length order → i + j + 1 ≡ length order → parent_of rows (slice_index order i) ≡ Some p → IsGathered rows order j p x ⊎ IsBelow rows x (slice_index order i) → IsGathered rows order (j + 1) p x
+gathered_to-parent rows order i j p x within place up (inl (inl e)) = inl e
+gathered_to-parent rows order i j p x within place up (inl (inr (c, (e, b, s)))) =
+    inr (c, (e, b, passed_keep order j c s))
+gathered_to-parent rows order i j p x within place up (inr b) =
+    inr (slice_index order i, (up, b, (i, (omega arith, within, refl))))
+
+pub gathered_from-parent : (rows : List ItemRow) (order : List ℕ) (i j p x : ℕ) → i + j + 1 ≡ length order → IsGathered rows order (j + 1) p x → IsGathered rows order j p x ⊎ IsBelow rows x (slice_index order i)
+gathered_from-parent rows order i j p x place (inl e) = inl (inl e)
+gathered_from-parent rows order i j p x place (inr (c, (e, b, s))) =
+    ⊎_elim (λ same. inr (rw same b)) (λ passed. inl (inr (c, (e, b, passed)))) (passed_more order i j c place s)
+
 -- the item's total goes to its parent
 parent_sum : (rows : List ItemRow) (order : List ℕ) (i j p : ℕ) (amounts totals : List ℤ) → AreInRange rows → IsTree rows → IsPreorder rows order → AreGathered rows order j amounts totals → i < length order → i + j + 1 ≡ length order → parent_of rows (slice_index order i) ≡ Some p → IsSumOver (IsGathered rows order (j + 1) p) (length rows) (amount_at amounts) (amount_at totals p +ℤ amount_at totals (slice_index order i))
 parent_sum rows order i j p amounts totals ranged tree preorder so_far within place up =
     IsSumOver-same (λ x. IsGathered rows order j p x ⊎ IsBelow rows x v) (IsGathered rows order (j + 1) p) (length rows) (amount_at amounts) (amount_at totals p +ℤ amount_at totals v)
-    (λ x h either. to x either)
-    (λ x h g. from x g)
+    (λ x h either. gathered_to-parent rows order i j p x within place up either)
+    (λ x h g. gathered_from-parent rows order i j p x place g)
     (IsSumOver-both (IsGathered rows order j p) (λ x. IsBelow rows x v) (length rows) (amount_at amounts) (amount_at totals p) (amount_at totals v)
     (λ x h g b. apart rows order i j p x tree preorder within place up g b)
     (so_far.each p (ranged v p (preorder.range i within) up))
@@ -143,32 +156,22 @@ parent_sum rows order i j p amounts totals ranged tree preorder so_far within pl
     v : ℕ
     v = slice_index order i
 
-    to : (x : ℕ) → IsGathered rows order j p x ⊎ IsBelow rows x v → IsGathered rows order (j + 1) p x
-    to x (inl (inl e)) = inl e
-    to x (inl (inr (c, (e, b, s)))) = inr (c, (e, b, passed_keep order j c s))
-    to x (inr b) = inr (v, (up, b, (i, (omega arith, within, refl))))
-
-    from : (x : ℕ) → IsGathered rows order (j + 1) p x → IsGathered rows order j p x ⊎ IsBelow rows x v
-    from x (inl e) = inl (inl e)
-    from x (inr (c, (e, b, s))) =
-        ⊎_elim (λ same. inr (rw same b)) (λ passed. inl (inr (c, (e, b, passed)))) (passed_more order i j c place s)
-
 -- and nothing changes at the other items
+pub gathered_to-other : (rows : List ItemRow) (order : List ℕ) (j y x : ℕ) → IsGathered rows order j y x → IsGathered rows order (j + 1) y x
+gathered_to-other rows order j y x (inl e) = inl e
+gathered_to-other rows order j y x (inr (c, (e, b, s))) = inr (c, (e, b, passed_keep order j c s))
+
+pub gathered_from-other : (rows : List ItemRow) (order : List ℕ) (i j y x : ℕ) → i + j + 1 ≡ length order → parent_of rows (slice_index order i) ≢ Some y → IsGathered rows order (j + 1) y x → IsGathered rows order j y x
+gathered_from-other rows order i j y x place not_parent (inl e) = inl e
+gathered_from-other rows order i j y x place not_parent (inr (c, (e, b, s))) =
+    ⊎_elim (λ same. absurd (not_parent (ap (parent_of rows) same ∙ e))) (λ passed. inr (c, (e, b, passed))) (passed_more order i j c place s)
+
 other_sum : (rows : List ItemRow) (order : List ℕ) (i j y : ℕ) (amounts totals : List ℤ) → AreGathered rows order j amounts totals → i + j + 1 ≡ length order → y < length rows → parent_of rows (slice_index order i) ≢ Some y → IsSumOver (IsGathered rows order (j + 1) y) (length rows) (amount_at amounts) (amount_at totals y)
 other_sum rows order i j y amounts totals so_far place lt not_parent =
     IsSumOver-same (IsGathered rows order j y) (IsGathered rows order (j + 1) y) (length rows) (amount_at amounts) (amount_at totals y)
-    (λ x h g. to x g)
-    (λ x h g. from x g)
+    (λ x h g. gathered_to-other rows order j y x g)
+    (λ x h g. gathered_from-other rows order i j y x place not_parent g)
     (so_far.each y lt)
-  where
-    to : (x : ℕ) → IsGathered rows order j y x → IsGathered rows order (j + 1) y x
-    to x (inl e) = inl e
-    to x (inr (c, (e, b, s))) = inr (c, (e, b, passed_keep order j c s))
-
-    from : (x : ℕ) → IsGathered rows order (j + 1) y x → IsGathered rows order j y x
-    from x (inl e) = inl e
-    from x (inr (c, (e, b, s))) =
-        ⊎_elim (λ same. absurd (not_parent (ap (parent_of rows) same ∙ e))) (λ passed. inr (c, (e, b, passed))) (passed_more order i j c place s)
 
 pub gathered_child : (rows : List ItemRow) (order : List ℕ) (i j p : ℕ) (amounts totals : List ℤ) → AreInRange rows → IsTree rows → IsPreorder rows order → AreGathered rows order j amounts totals → i < length order → i + j + 1 ≡ length order → parent_of rows (slice_index order i) ≡ Some p → AreGathered rows order (j + 1) amounts (set totals p (amount_at totals p +ℤ amount_at totals (slice_index order i)))
 gathered_child rows order i j p amounts totals ranged tree preorder so_far within place up = record {
@@ -300,6 +303,16 @@ pub leaf_or_not : (rows : List ItemRow) (x : ℕ) → IsLeaf rows x ⊎ (IsLeaf 
 leaf_or_not rows x =
     ⊎_elim (λ (y, (lt, e)). inr (λ leaf. leaf y lt e)) (λ none. inl none) (child_below rows x (length rows))
 
+-- what is below an item is all gathered once all passed their totals on
+pub all_gathered : (rows : List ItemRow) (order : List ℕ) (j y x : ℕ) → IsPreorder rows order → length order ≤ j → IsBelow rows x y → IsGathered rows order j y x
+all_gathered rows order j y x preorder all below = of_child (below_child rows x y below)
+  where
+    of_child : (x ≡ y) ⊎ ((c : ℕ) × ((parent_of rows c ≡ Some y) × IsBelow rows x c)) → IsGathered rows order j y x
+    of_child (inl same) = inl same
+    of_child (inr (c, (e, b))) =
+        let (k, (lt, at)) = preorder.every c (parent-inside rows c y e) in
+        inr (c, (e, b, (k, (omega arith, lt, at))))
+
 -- all passed their totals on
 pub gathered_all : (rows : List ItemRow) (order : List ℕ) (j : ℕ) (amounts totals : List ℤ) → IsPreorder rows order → AreAtLeaves rows amounts → length order ≤ j → AreGathered rows order j amounts totals → AreRolledUp rows amounts totals
 gathered_all rows order j amounts totals preorder at_leaves all so_far = record {
@@ -308,12 +321,6 @@ gathered_all rows order j amounts totals preorder at_leaves all so_far = record 
       (λ x h. ⊎_elim (λ leaf. inl leaf) (λ none. inr (none, at_leaves x h none)) (leaf_or_not rows x))
       (IsSumOver-same (IsGathered rows order j y) (λ x. IsBelow rows x y) (length rows) (amount_at amounts) (amount_at totals y)
       (λ x h g. gathered-below rows order j y x g)
-      (λ x h b. of_child y x (below_child rows x y b))
+      (λ x h b. all_gathered rows order j y x preorder all b)
       (so_far.each y lt));
 }
-  where
-    of_child : (y x : ℕ) → (x ≡ y) ⊎ ((c : ℕ) × ((parent_of rows c ≡ Some y) × IsBelow rows x c)) → IsGathered rows order j y x
-    of_child y x (inl same) = inl same
-    of_child y x (inr (c, (e, b))) =
-        let (k, (lt, at)) = preorder.every c (parent-inside rows c y e) in
-        inr (c, (e, b, (k, (omega arith, lt, at))))

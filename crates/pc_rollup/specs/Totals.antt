@@ -18,6 +18,10 @@ pub record AreRolledUp (rows : List ItemRow) (amounts totals : List ℤ) : Type 
   pub one_each : length totals ≡ length rows
   pub each : (y : ℕ) → y < length rows → IsSumOver (λ x. IsLeaf rows x × IsBelow rows x y) (length rows) (amount_at amounts) (amount_at totals y)
 
+-- the totals are rolled up from some amounts of the leaves
+abbrev pub IsRolledUp : List ItemRow → List ℤ → Type 0
+IsRolledUp rows totals = (amounts : List ℤ) × AreRolledUp rows amounts totals
+
 -- the k-th amount and the item that it is placed on; past the end of the list none on item 0
 abbrev pub placed_at : List Placed → ℕ → Placed
 placed_at placed k = slice_index_or placed k (record { item = 0; amount = pos 0 })

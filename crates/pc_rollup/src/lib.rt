@@ -1,9 +1,11 @@
 //! Sums by item: what the items of a work breakdown structure add up to, and the lines of a level.
 #![tactic(auto)]
 
+mod least;
 mod levels;
 mod totals;
 
+pub use least::least_of;
 pub use levels::{LevelLine, each_leaf_has_one_line, level_lines};
 pub use totals::{Placed, rollup, totals_of};
 

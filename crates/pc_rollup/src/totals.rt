@@ -1,6 +1,6 @@
 //! The sum over what lies below each item.
 ghost use Rattle.std.specs.Prelude.{◌≡◌, ℕ, ◌^◌, ◌<◌, length, sum_by, unsigned_abs, IfOk};
-ghost use Rattle.pc_rollup.specs.Totals.{AreAtLeaves, AreRolledUp, AreTotalsOf, AreAmountsOf, AreOnLeaves, place_of};
+ghost use Rattle.pc_rollup.specs.Totals.{AreAtLeaves, AreRolledUp, IsRolledUp, AreTotalsOf, AreAmountsOf, AreOnLeaves, place_of};
 
 use pc_wbs::Tree;
 use std::alloc::{AllocError, Global};
@@ -36,7 +36,8 @@ pub struct Placed {
 pub fn totals_of(alloc: Global, tree: &Tree, placed: &[Placed]) -> Result<Vec<i64>, AllocError>
     requires on_leaves { AreOnLeaves tree.now placed.now }
     requires small { sum_by (λ p. unsigned_abs p.amount) placed.now < 2 ^ 63 }
-    ensures { IfOk result (λ totals. AreTotalsOf tree.now placed.now totals.items) }
+    ensures totals { IfOk result (λ totals. AreTotalsOf tree.now placed.now totals.items) }
+    ensures rolled { IfOk result (λ totals. IsRolledUp tree.now totals.items) }
 {
     let amounts = amounts_by_item(alloc, tree.len(), placed)?;
     rollup(alloc, tree, &amounts)

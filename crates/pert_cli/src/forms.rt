@@ -10,7 +10,7 @@ ghost use Rattle.pert_cli.specs.declared.forms.Form.{Form as TheForm};
 ghost use Rattle.pert_cli.specs.Words.{AskFor, AskForNone, usage_text};
 
 use crate::status::Status;
-use crate::{check, normal, times};
+use crate::{check, normal, summary, times, value};
 use arrayvec::ArrayVec;
 use pc_edges::Sink;
 use pc_project::Project;
@@ -27,6 +27,8 @@ pub(crate) fn usage() -> ArrayVec<u8, USAGE_ROOM>
     append(&mut line, b"usage: pert ", check::WORDS);
     append(&mut line, b" | ", normal::WORDS);
     append(&mut line, b" | ", times::WORDS);
+    append(&mut line, b" | ", summary::WORDS);
+    append(&mut line, b" | ", value::WORDS);
     append(&mut line, b"\n", b"");
     line
 }
@@ -49,6 +51,10 @@ pub(crate) enum Form {
     Normal,
     /// The times of the events, and the critical path.
     Times,
+    /// What the accounts add up to, by item and by level.
+    Summary,
+    /// The forecast, and what the work is worth.
+    Value,
 }
 
 impl Form {
@@ -74,6 +80,10 @@ impl Form {
             Some(Form::Normal)
         } else if word == times::WORDS {
             Some(Form::Times)
+        } else if word == summary::WORDS {
+            Some(Form::Summary)
+        } else if word == value::WORDS {
+            Some(Form::Value)
         } else {
             None
         }
@@ -95,6 +105,8 @@ impl Form {
             Form::Check => check::answer(alloc, project, out),
             Form::Normal => normal::answer(alloc, project, out),
             Form::Times => times::answer(alloc, project, out),
+            Form::Summary => summary::answer(alloc, project, out),
+            Form::Value => value::answer(alloc, project, out),
         }
     }
 }

@@ -12,9 +12,11 @@ mod refusing;
 mod schedule;
 mod sending;
 mod status;
+mod summary;
 mod telling;
 mod times;
 mod top;
+mod value;
 
 pub use crate::certificate::check_run;
 pub use crate::top::run;

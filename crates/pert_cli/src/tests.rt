@@ -60,7 +60,43 @@ CRITICAL A\n\
 CRITICAL B\n\
 VARIANCE 68\n";
 
-const USAGE: &[u8] = b"usage: pert check | normal | times\n";
+// The whole deck in the middle of its work.
+const AT_WORK: &[u8] = b"PROJECT,E1,S,T,2024-01-01,1,,Example one\n\
+WBS,1,,Whole\n\
+WBS,1.1,1,\"Frame, north\"\n\
+WBS,1.2,1,Roof\n\
+EVENT,S,Start\n\
+EVENT,M,Middle\n\
+EVENT,T,End\n\
+ACT,A,S,M,1.1,3,4,5,4,2,10,3,Dig\n\
+ACT,B,M,T,1.2,4,5,12,5,3,20,5,Cover\n\
+ACT,C,S,T,1.1,7,7,7,7,5,15,2,Frame\n\
+ACCT,X1,1.1,25,Frame account\n\
+ACCT,X2,1.2,20,Roof account\n\
+ASOF,2024-01-08\n\
+CHARGE,X1,2024-01-03,10\n\
+TOGO,X1,2024-01-08,30\n\
+END\n";
+
+const SUMMARY: &[u8] = b"SUMMARY E1 2024-01-08\n\
+ITEM             LV         BUDGET         ACTUAL          TO-GO         LATEST        OVERRUN TITLE\n\
+1                 1             45             10             50             60             15 Whole\n\
+1.1               2             25             10             30             40             15 Frame, north\n\
+1.2               2             20              0             20             20              0 Roof\n\
+LEVEL             1             45             10             50             60             15\n\
+LEVEL             2             45             10             50             60             15\n";
+
+const VALUE: &[u8] = b"VALUE E1 2024-01-08\n\
+EVENT                FORECAST       FSLACK DATE\n\
+S                           0            0 2024-01-01\n\
+M                          66          -42 2024-01-12\n\
+T                         102          -42 2024-01-18\n\
+ITEM             LV         BUDGET         ACTUAL          VALUE        OVERRUN       FSLACK TITLE\n\
+1                 1             45             10              6              4          -42 Whole\n\
+1.1               2             25             10              6              4          -42 Frame, north\n\
+1.2               2             20              0              0              0          -42 Roof\n";
+
+const USAGE: &[u8] = b"usage: pert check | normal | times | summary | value\n";
 
 const NO_PROJECT: &[u8] = b"F3 record 1: first card is not PROJECT\n";
 
@@ -109,10 +145,12 @@ fn left_by(alloc: Global, words: &[&str], deck: &[u8], edges: Edges) -> Result<L
 }
 
 // A form and a deck, with the status, the output and the error output that they give.
-const RUNS: [(&str, &[u8], u8, &[u8], &[u8]); 6] = [
+const RUNS: [(&str, &[u8], u8, &[u8], &[u8]); 8] = [
     ("check", WHOLE, 0, COUNTS, b""),
     ("normal", WHOLE, 0, SCHEDULE, b""),
     ("times", WHOLE, 0, TIMES, b""),
+    ("summary", AT_WORK, 0, SUMMARY, b""),
+    ("value", AT_WORK, 0, VALUE, b""),
     ("check", b"END\n", 1, b"", NO_PROJECT),
     (
         "check",
@@ -226,13 +264,19 @@ fn a_failing_push_of_a_refusal_leaves_a_front(rt: HostRuntime) -> Result<(), Fai
     Ok(())
 }
 
-// Each form and its text.
-const FORMS: [(&str, &[u8]); 3] = [("check", COUNTS), ("normal", SCHEDULE), ("times", TIMES)];
+// Each form, a deck, and the form's text.
+const FORMS: [(&str, &[u8], &[u8]); 5] = [
+    ("check", WHOLE, COUNTS),
+    ("normal", WHOLE, SCHEDULE),
+    ("times", WHOLE, TIMES),
+    ("summary", AT_WORK, SUMMARY),
+    ("value", AT_WORK, VALUE),
+];
 
 #[test]
 fn an_output_fails_in_each_form(rt: HostRuntime) -> Result<(), Fail> {
-    for (word, text) in FORMS {
-        let small = left_by(rt.alloc(), &[word], WHOLE, Edges { room: 5, ..SOUND })?;
+    for (word, deck, text) in FORMS {
+        let small = left_by(rt.alloc(), &[word], deck, Edges { room: 5, ..SOUND })?;
         assert_eq!(rt; small.status, 5, "{word}");
         assert_eq!(rt; small.out.as_slice(), &text[..5], "{word}");
         assert!(rt; small.err.is_empty());
@@ -243,13 +287,13 @@ fn an_output_fails_in_each_form(rt: HostRuntime) -> Result<(), Fail> {
 // One push of the whole text, and then the flush. No clause asks for a flush: what is seen of one is that it fails.
 #[test]
 fn each_form_is_flushed(rt: HostRuntime) -> Result<(), Fail> {
-    for (word, text) in FORMS {
+    for (word, deck, text) in FORMS {
         for (failing_push, status, taken) in [(1, 5, 0), (2, 5, text.len()), (3, 0, text.len())] {
             let edges = Edges {
                 failing_push,
                 ..SOUND
             };
-            let left = left_by(rt.alloc(), &[word], WHOLE, edges)?;
+            let left = left_by(rt.alloc(), &[word], deck, edges)?;
             assert_eq!(rt; left.status, status, "{word} {failing_push}");
             assert_eq!(rt;
                 left.out.as_slice(),

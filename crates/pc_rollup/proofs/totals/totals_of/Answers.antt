@@ -17,7 +17,11 @@ if_answered : {T E : Type 0} (r : Result T E) (P Q : T → Type 0) → ((v : T) 
 if_answered (Ok v) P Q follows is = follows v is
 if_answered (Err e) P Q follows is = is
 
-pub returns : goal.returns
-returns c =
+pub returns-clause-totals : goal.returns-clause-totals
+returns-clause-totals c =
     let sums = lent c.len.result (length c.args.tree.now) c.in_ok-amounts.amounts.items c.deref.result.now (λ n xs. AreAmountsOf n c.args.placed.now (length c.args.placed.now) xs) c.len.ensures.len c.deref.ensures.value c.in_ok-amounts.ensures.amounts in
     if_answered c.rollup.result _ _ (λ totals rolled. totals_are c.args.tree.now c.args.placed.now c.deref.result.now totals.items c.requires.on_leaves sums rolled) c.rollup.ensures
+
+pub returns-clause-rolled : goal.returns-clause-rolled
+returns-clause-rolled c =
+    if_answered c.rollup.result _ _ (λ totals rolled. (c.deref.result.now, rolled)) c.rollup.ensures

@@ -1,0 +1,16 @@
+//! The figures of the reports by item and by level: what the accounts add up to, what the work is worth, and how long it can
+//! wait.
+#![tactic(auto)]
+
+mod column;
+mod figures;
+mod outline;
+mod packages;
+mod slacks;
+mod summary;
+mod worth;
+
+pub use outline::{OutlineRow, outline_of};
+pub use slacks::least_slacks;
+pub use summary::{Summary, SummaryAmounts};
+pub use worth::{Worth, WorthAmounts};

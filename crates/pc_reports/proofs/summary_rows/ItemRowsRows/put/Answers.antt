@@ -1,0 +1,34 @@
+use Rattle.std.proofs.Common.{refl, arith}
+use Rattle.pc_page.proofs.PageLaws.{Adds-as}
+use Rattle.pc_figures.specs.Summary.{IsSummaryOf}
+use Rattle.pc_figures.proofs.OutlineLaws.{row_known}
+use Rattle.pc_reports.proofs.summary_rows.ItemRowsRows.put.Goals as goal
+
+pub item_code-code-requires : goal.item_code-code-requires
+item_code-code-requires g c =
+    let t = c.args.self.now in
+    let is : IsSummaryOf t.project.now.tree t.project.now.accounts t.project.now.entries t.summary.now = c.requires.ready in
+    rw c.row-row.ensures (row_known t.project.now.tree t.summary.now.outline c.args.i is.outline c.requires.known)
+
+pub item_title-title-requires : goal.item_title-title-requires
+item_title-title-requires g c =
+    let t = c.args.self.now in
+    let is : IsSummaryOf t.project.now.tree t.project.now.accounts t.project.now.entries t.summary.now = c.requires.ready in
+    rw c.row-row.ensures (row_known t.project.now.tree t.summary.now.outline c.args.i is.outline c.requires.known)
+
+pub of_item-amounts-requires : goal.of_item-amounts-requires
+of_item-amounts-requires g c =
+    let t = c.args.self.now in
+    let is : IsSummaryOf t.project.now.tree t.project.now.accounts t.project.now.entries t.summary.now = c.requires.ready in
+    let known = row_known t.project.now.tree t.summary.now.outline c.args.i is.outline c.requires.known in
+    rw c.row-row.ensures (record {
+      budget = omega (arith, known, is.budget.items.one_each);
+      actual = omega (arith, known, is.actual.items.one_each);
+      to_go = omega (arith, known, is.to_go.items.one_each);
+      latest = omega (arith, known, is.latest.items.one_each);
+      overrun = omega (arith, known, is.overrun.items.one_each);
+    })
+
+pub returns : goal.returns
+returns g c =
+    Adds-as _ (rw (c.item_code-code.ensures, c.of_item-amounts.ensures, c.item_title-title.ensures, c.row-row.ensures) refl) c.put_item.ensures

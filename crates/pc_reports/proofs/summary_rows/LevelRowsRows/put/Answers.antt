@@ -1,0 +1,20 @@
+use Rattle.std.proofs.Common.{refl, arith}
+use Rattle.pc_page.proofs.PageLaws.{Adds-as}
+use Rattle.pc_figures.specs.Summary.{IsSummaryOf}
+use Rattle.pc_figures.proofs.DepthLaws.{levels_same}
+use Rattle.pc_reports.proofs.summary_rows.LevelRowsRows.put.Goals as goal
+
+pub of_level-requires : goal.of_level-requires
+of_level-requires g c =
+    let t = c.args.self.now in
+    let is : IsSummaryOf t.project.now.tree t.project.now.accounts t.project.now.entries t.summary.now = c.requires.ready in
+    record {
+      budget = c.requires.known;
+      actual = omega (arith, c.requires.known, levels_same _ _ _ _ _ _ is.budget is.actual);
+      to_go = omega (arith, c.requires.known, levels_same _ _ _ _ _ _ is.budget is.to_go);
+      latest = omega (arith, c.requires.known, levels_same _ _ _ _ _ _ is.budget is.latest);
+      overrun = omega (arith, c.requires.known, levels_same _ _ _ _ _ _ is.budget is.overrun);
+    }
+
+pub returns : goal.returns
+returns g c = Adds-as _ (rw c.of_level.ensures.amounts refl) c.put_level.ensures

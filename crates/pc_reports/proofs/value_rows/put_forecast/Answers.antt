@@ -1,0 +1,12 @@
+use Rattle.std.proofs.Common.{ap, pos, ◌-ℤ◌, rules}
+use Rattle.std.specs.Fmt.{signed_decimal}
+use Rattle.pc_page.specs.Cells.{left, right}
+use Rattle.pc_page.proofs.PageLaws.{◌▸◌, Adds-as}
+use Rattle.pc_reports.proofs.value_rows.put_forecast.Goals as goal
+
+pub returns : goal.returns
+returns g c =
+    Adds-as _ (ap (left 16) c.bytes.ensures.value) c.put_left.ensures ▸ c.put.ensures
+    ▸ c.put_number_right.ensures ▸ c.put-2.ensures
+    ▸ Adds-as (right 12 (signed_decimal (c.args.late -ℤ pos c.args.time))) (search rules) c.put_signed_right.ensures ▸ c.put-3.ensures
+    ▸ c.put-4.ensures ▸ c.put-5.ensures

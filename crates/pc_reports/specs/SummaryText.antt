@@ -1,0 +1,57 @@
+-- The text of the management summary.
+use Rattle.std.specs.Prelude.{◌≡◌, ℕ, ◌+◌, ℤ, List, [], ◌∷◌, ◌++◌, length, slice_index_or, codes, decimal}
+use Rattle.std.specs.Fmt.{signed_decimal}
+use Rattle.pc_edges.specs.Texts.{texts_to}
+use Rattle.pc_page.specs.Cells.{left, right}
+use Rattle.pc_project.specs.Project.{Project}
+use Rattle.pc_figures.specs.declared.summary.SummaryAmounts.{SummaryAmounts}
+use Rattle.pc_reports.specs.Cells.{row}
+use Rattle.pc_reports.specs.Lines.{dated_line}
+use Rattle.pc_figures.specs.Outline.{row_at}
+use Rattle.pc_figures.specs.Summary.{Summary, IsSummaryOf, item_amounts, level_amounts}
+
+-- the words above the items
+abbrev pub summary_head : List ℕ
+summary_head =
+    row (left 16 (codes "ITEM") ∷ right 2 (codes "LV") ∷ right 14 (codes "BUDGET") ∷ right 14 (codes "ACTUAL") ∷ right 14 (codes "TO-GO")
+    ∷ right 14 (codes "LATEST") ∷ right 14 (codes "OVERRUN") ∷ codes "TITLE" ∷ [])
+
+-- the row of an item: its code, its level, its amounts, and its title
+abbrev pub item_cells : List ℕ → ℕ → SummaryAmounts → List ℕ → List ℕ
+item_cells code level amounts title =
+    row (left 16 code ∷ right 2 (decimal level) ∷ right 14 (signed_decimal amounts.budget) ∷ right 14 (signed_decimal amounts.actual)
+    ∷ right 14 (signed_decimal amounts.to_go) ∷ right 14 (signed_decimal amounts.latest) ∷ right 14 (signed_decimal amounts.overrun) ∷ title ∷ [])
+
+-- the row of a level: its number and its amounts
+abbrev pub level_cells : ℕ → SummaryAmounts → List ℕ
+level_cells level amounts =
+    row (left 16 (codes "LEVEL") ∷ right 2 (decimal level) ∷ right 14 (signed_decimal amounts.budget) ∷ right 14 (signed_decimal amounts.actual)
+    ∷ right 14 (signed_decimal amounts.to_go) ∷ right 14 (signed_decimal amounts.latest) ∷ right 14 (signed_decimal amounts.overrun) ∷ [])
+
+-- the row of the k-th item of the outline
+abbrev pub item_row : Project → Summary → ℕ → List ℕ
+item_row project summary k =
+    let line = row_at summary.outline k in
+    item_cells (slice_index_or project.items line.item []) line.level (item_amounts summary line.item) (slice_index_or project.titles line.item [])
+
+-- the row of level k + 1
+abbrev pub level_row : Summary → ℕ → List ℕ
+level_row summary k = level_cells (k + 1) (level_amounts summary k)
+
+-- the project's code and the day of its figures, a row for each item in preorder, and a row for each level
+unfoldable pub summary_text : Project → Summary → List ℕ
+summary_text project summary =
+    dated_line (codes "SUMMARY ") project.heading.code project.heading.as_of
+    ++ summary_head
+    ++ texts_to (length summary.outline) (item_row project summary)
+    ++ texts_to (length summary.budget.levels) (level_row summary)
+
+-- the summary is the project's
+abbrev pub IsSummary : Project → Summary → Type 0
+IsSummary project summary = IsSummaryOf project.tree project.accounts project.entries summary
+
+-- the text is the project's management summary
+pub record IsSummaryText (project : Project) (text : List ℕ) : Type 0 where
+  pub summary : Summary
+  pub are : IsSummary project summary
+  pub told : text ≡ summary_text project summary

@@ -1,0 +1,71 @@
+-- The text of the report of the value of work.
+use Rattle.std.specs.Prelude.{◌≡◌, ℕ, ℤ, pos, ◌-ℤ◌, List, [], ◌∷◌, ◌++◌, length, slice_index, slice_index_or, codes, decimal, Option, Some, None}
+use Rattle.std.specs.Fmt.{signed_decimal}
+use Rattle.pc_edges.specs.Texts.{texts_to}
+use Rattle.pc_page.specs.Cells.{left, right}
+use Rattle.pc_project.specs.Project.{Project}
+use Rattle.pc_rollup.specs.Least.{least_at}
+use Rattle.pc_figures.specs.declared.worth.WorthAmounts.{WorthAmounts}
+use Rattle.pc_reports.specs.Cells.{row}
+use Rattle.pc_reports.specs.Earned.{Earned, Forecasts, IsEarned}
+use Rattle.pc_reports.specs.Lines.{dated_line}
+use Rattle.pc_figures.specs.Outline.{row_at}
+use Rattle.pc_figures.specs.Worth.{worth_amounts}
+
+-- the words above the events
+abbrev pub forecast_head : List ℕ
+forecast_head = row (left 16 (codes "EVENT") ∷ right 12 (codes "FORECAST") ∷ right 12 (codes "FSLACK") ∷ codes "DATE" ∷ [])
+
+-- the row of an event: its code, when it is expected, the time from then to its latest time, and the date
+abbrev pub forecast_cells : List ℕ → ℕ → ℤ → List ℕ → List ℕ
+forecast_cells code time late date =
+    row (left 16 code ∷ right 12 (decimal time) ∷ right 12 (signed_decimal (late -ℤ pos time)) ∷ date ∷ [])
+
+-- the row of event e
+abbrev pub forecast_row : Project → Forecasts → ℕ → List ℕ
+forecast_row project forecasts e =
+    forecast_cells (slice_index_or project.events e []) (slice_index forecasts.times e) (slice_index_or forecasts.late e (pos 0)) (slice_index_or forecasts.dates e [])
+
+-- the words above the items
+abbrev pub worth_head : List ℕ
+worth_head =
+    row (left 16 (codes "ITEM") ∷ right 2 (codes "LV") ∷ right 14 (codes "BUDGET") ∷ right 14 (codes "ACTUAL") ∷ right 14 (codes "VALUE")
+    ∷ right 14 (codes "OVERRUN") ∷ right 12 (codes "FSLACK") ∷ codes "TITLE" ∷ [])
+
+-- the least slack of an item, or a hyphen where there is none
+abbrev pub slack_text : Option ℤ → List ℕ
+slack_text (Some slack) = signed_decimal slack
+slack_text None = codes "-"
+
+-- the row of an item: its code, its level, its amounts, its least slack, and its title
+abbrev pub worth_cells : List ℕ → ℕ → WorthAmounts → Option ℤ → List ℕ → List ℕ
+worth_cells code level amounts slack title =
+    row (left 16 code ∷ right 2 (decimal level) ∷ right 14 (signed_decimal amounts.budget) ∷ right 14 (signed_decimal amounts.actual)
+    ∷ right 14 (signed_decimal amounts.value) ∷ right 14 (signed_decimal amounts.overrun) ∷ right 12 (slack_text slack) ∷ title ∷ [])
+
+-- the row of the k-th item of the outline
+abbrev pub worth_row : Project → Earned → ℕ → List ℕ
+worth_row project earned k =
+    let line = row_at earned.outline k in
+    worth_cells (slice_index_or project.items line.item []) line.level (worth_amounts earned.worth line.item) (least_at earned.forecasts.slacks line.item) (slice_index_or project.titles line.item [])
+
+-- a row for each event, in card order
+abbrev pub forecast_table : Project → Forecasts → List ℕ
+forecast_table project forecasts = forecast_head ++ texts_to (length project.events) (forecast_row project forecasts)
+
+-- a row for each item, in preorder
+abbrev pub worth_table : Project → Earned → List ℕ
+worth_table project earned = worth_head ++ texts_to (length earned.outline) (worth_row project earned)
+
+-- the project's code and the day of its figures, the events, and the items
+unfoldable pub value_text : Project → Earned → List ℕ
+value_text project earned =
+    dated_line (codes "VALUE ") project.heading.code project.heading.as_of
+    ++ forecast_table project earned.forecasts
+    ++ worth_table project earned
+
+-- the text is the project's report of the value of work
+pub record IsValueText (project : Project) (text : List ℕ) : Type 0 where
+  pub earned : Earned
+  pub are : IsEarned project earned
+  pub told : text ≡ value_text project earned

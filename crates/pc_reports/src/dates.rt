@@ -1,0 +1,37 @@
+//! The dates of times.
+ghost use Rattle.std.specs.Prelude.{◌≡◌, ◌<◌, ◌^◌, IfOk};
+ghost use Rattle.std.specs.List.{All};
+ghost use Rattle.pc_reports.specs.Times.{IsDate, AreDates};
+
+use pc_days::{Day, date_of_sixths, day_text};
+use std::alloc::{AllocError, Global};
+
+/// The bytes of a date.
+pub(crate) const DATE_LENGTH: usize = 10;
+
+/// The date of each of the times.
+pub(crate) fn dates_of(
+    alloc: Global,
+    start: Day,
+    times: &[u64],
+) -> Result<Vec<[u8; DATE_LENGTH]>, AllocError>
+    requires { All (λ time. time < 2 ^ 40) times.now }
+    ensures { IfOk result (λ dates. AreDates start times.now dates.items) }
+{
+    let mut dates = Vec::with_capacity(alloc, times.len())?;
+    for &time in times {
+        dates.push(date_text(start, time))?;
+    }
+    Ok(dates)
+}
+
+/// The date of the day that is the start and so many sixths of a day, or ten hyphens.
+fn date_text(start: Day, sixths: u64) -> [u8; DATE_LENGTH]
+    requires { sixths < 2 ^ 40 }
+    ensures { IsDate start sixths result }
+{
+    match date_of_sixths(start, sixths as i64) {
+        Some(day) => day_text(day),
+        None => *b"----------",
+    }
+}

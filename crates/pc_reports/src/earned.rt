@@ -1,0 +1,70 @@
+//! What the report of the value of work tells.
+ghost use Rattle.std.specs.Prelude.{◌≡◌, ◌<◌, length, IfOk};
+ghost use Rattle.pc_reports.specs.Earned.{IsEarned};
+ghost use Rattle.pc_figures.specs.Outline.{row_at};
+
+use crate::forecasts::Forecasts;
+use pc_figures::{OutlineRow, Worth, outline_of};
+use pc_project::Project;
+use std::alloc::{AllocError, Global};
+use std::marker::Model;
+
+/// When the events are expected, and for each item what its work is worth and how long it can wait.
+#[derive(Drop)]
+pub(crate) struct Earned {
+    forecasts: Forecasts,
+    outline: Vec<OutlineRow>,
+    worth: Worth,
+}
+
+impl Model for Earned {
+    ghost use Rattle.pc_reports.specs.Earned.{Earned};
+
+    ghost Value = { Earned };
+
+    ghost view = { λ e. record { forecasts = e.forecasts; outline = e.outline.items; worth = e.worth } };
+}
+
+impl Earned {
+    /// What there is to tell of the project. Linear in events, activities, accounts and items.
+    pub(crate) fn of(alloc: Global, project: &Project) -> Result<Earned, AllocError>
+        ensures { IfOk result (IsEarned project.now) }
+    {
+        let entries = project.book().entries();
+        let (tree, places, states) = (project.tree(), project.places(), project.states());
+        Ok(Earned {
+            forecasts: Forecasts::of(alloc, project)?,
+            outline: outline_of(alloc, tree)?,
+            worth: Worth::of(alloc, tree, places, states, project.accounts(), entries)?,
+        })
+    }
+
+    /// The forecasts.
+    pub(crate) fn forecasts(&self) -> &Forecasts
+        ensures { result.now ≡ self.now.forecasts }
+    {
+        &self.forecasts
+    }
+
+    /// What the work of each item is worth.
+    pub(crate) fn worth(&self) -> &Worth
+        ensures { result.now ≡ self.now.worth }
+    {
+        &self.worth
+    }
+
+    /// How many items there are.
+    pub(crate) fn items(&self) -> usize
+        ensures { result ≡ length self.now.outline }
+    {
+        self.outline.len()
+    }
+
+    /// The `k`-th item, with its level.
+    pub(crate) fn row(&self, k: usize) -> OutlineRow
+        requires { k < length self.now.outline }
+        ensures { result ≡ row_at self.now.outline k }
+    {
+        self.outline[k]
+    }
+}

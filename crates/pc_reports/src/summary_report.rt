@@ -1,0 +1,75 @@
+//! The management summary.
+ghost use Rattle.std.specs.Prelude.{◌≡◌, IfOk};
+ghost use Rattle.pc_edges.specs.Writes.{Writes};
+ghost use Rattle.pc_page.specs.Puts.{Puts};
+ghost use Rattle.pc_figures.specs.Summary.{CountsOnce};
+ghost use Rattle.pc_reports.specs.SummaryText.{IsSummary, summary_text};
+
+use crate::lines::put_dated;
+use crate::summary_rows::{ItemRows, LevelRows};
+use pc_edges::{Failed, Sink};
+use pc_figures::Summary;
+use pc_page::{PAGE_ROOM, Page, put_rows};
+use pc_project::Project;
+use std::alloc::{AllocError, Global};
+use std::marker::Model;
+
+/// The words above the items.
+const HEAD: &[u8] = b"ITEM             LV         BUDGET         ACTUAL          TO-GO         LATEST        OVERRUN TITLE\n";
+
+/// The management summary of a project: it takes all its memory when it is built, and is written without.
+///
+/// In contracts it is the summary that it tells.
+#[derive(Drop)]
+pub struct SummaryReport {
+    page: Page,
+    summary: Summary,
+}
+
+impl Model for SummaryReport {
+    ghost use Rattle.std.specs.Prelude.{◌≡◌};
+    ghost use Rattle.pc_page.specs.Page.{fresh};
+    ghost use Rattle.pc_figures.specs.Summary.{Summary};
+
+    ghost Value = { Summary };
+
+    ghost view = { λ report. report.summary };
+
+    ghost invariant = { λ report. report.page ≡ fresh };
+}
+
+impl SummaryReport {
+    /// The summary of the project. It takes time in proportion to its accounts, and to its items at each level.
+    pub fn build(alloc: Global, project: &Project) -> Result<SummaryReport, AllocError>
+        ensures summary { IfOk result (IsSummary project.now) }
+        ensures once { IfOk result (CountsOnce project.now.tree project.now.accounts project.now.entries) }
+    {
+        let entries = project.book().entries();
+        Ok(SummaryReport {
+            page: Page::with_room(alloc, PAGE_ROOM)?,
+            summary: Summary::of(alloc, project.tree(), project.accounts(), entries)?,
+        })
+    }
+
+    /// Writes the summary, a row for each item in preorder and for each level, and flushes the sink.
+    pub fn write<O: Sink>(&mut self, project: &Project, sink: &mut O) -> Result<(), Failed>
+        requires { IsSummary project.now self.old }
+        ensures text { Writes result (O.taken sink.old) (O.taken sink.new) (O.faults sink.old) (O.faults sink.new)
+            (summary_text project.now self.old) }
+        ensures same { self.new ≡ self.old }
+    {
+        put_summary(&mut self.page, sink, project, &self.summary);
+        self.page.finish(sink)
+    }
+}
+
+/// Puts the summary on a page.
+fn put_summary<O: Sink>(page: &mut Page, sink: &mut O, project: &Project, summary: &Summary)
+    requires { IsSummary project.now summary.now }
+    ensures { Puts O.taken O.faults page.old sink.old page.new sink.new (summary_text project.now summary.now) }
+{
+    put_dated(page, sink, b"SUMMARY ", &project.code(), project.as_of());
+    page.put(sink, HEAD);
+    put_rows(page, sink, &ItemRows { project, summary });
+    put_rows(page, sink, &LevelRows { project, summary });
+}

@@ -1,0 +1,108 @@
+//! The rows of the management summary.
+ghost use Rattle.std.specs.Prelude.{◌≡◌, length};
+ghost use Rattle.pc_page.specs.Puts.{Puts};
+ghost use Rattle.pc_reports.specs.SummaryText.{IsSummary, item_cells, item_row, level_cells, level_row};
+
+use pc_edges::Sink;
+use pc_figures::{Summary, SummaryAmounts};
+use pc_page::{Page, Rows};
+use pc_project::Project;
+use pc_text::{Code, Title};
+
+/// A row for each item, in preorder.
+#[derive(Clone, Copy)]
+pub(crate) struct ItemRows<'a> {
+    pub(crate) project: &'a Project,
+    pub(crate) summary: &'a Summary,
+}
+
+impl<'a> Rows for ItemRows<'a> {
+    ghost row_count = { λ t. length t.summary.now.outline };
+
+    ghost row_text = { λ t. item_row t.project.now t.summary.now };
+
+    ghost IsReady = { λ t. IsSummary t.project.now t.summary.now };
+
+    fn count(&self) -> usize {
+        self.summary.items()
+    }
+
+    fn put<O: Sink>(&self, i: usize, page: &mut Page, sink: &mut O) {
+        let row = self.summary.row(i);
+        let code = self.project.item_code(row.item);
+        let amounts = self.summary.of_item(row.item);
+        let title = self.project.item_title(row.item);
+        put_item(page, sink, &code, row.level, &amounts, title);
+    }
+}
+
+/// A row for each level, from the first on.
+#[derive(Clone, Copy)]
+pub(crate) struct LevelRows<'a> {
+    pub(crate) project: &'a Project,
+    pub(crate) summary: &'a Summary,
+}
+
+impl<'a> Rows for LevelRows<'a> {
+    ghost row_count = { λ t. length t.summary.now.budget.levels };
+
+    ghost row_text = { λ t. level_row t.summary.now };
+
+    ghost IsReady = { λ t. IsSummary t.project.now t.summary.now };
+
+    fn count(&self) -> usize {
+        self.summary.depth()
+    }
+
+    fn put<O: Sink>(&self, i: usize, page: &mut Page, sink: &mut O) {
+        put_level(page, sink, i as u64 + 1, &self.summary.of_level(i));
+    }
+}
+
+/// Puts the row of an item.
+fn put_item<O: Sink>(
+    page: &mut Page,
+    sink: &mut O,
+    code: &Code,
+    level: u32,
+    amounts: &SummaryAmounts,
+    title: &Title,
+)
+    ensures { Puts O.taken O.faults page.old sink.old page.new sink.new (item_cells code.now level amounts.now title.now) }
+{
+    page.put_left(sink, 16, code.bytes());
+    page.put(sink, b" ");
+    page.put_number_right(sink, 2, u64::from(level));
+    page.put(sink, b" ");
+    page.put_signed_right(sink, 14, amounts.budget);
+    page.put(sink, b" ");
+    page.put_signed_right(sink, 14, amounts.actual);
+    page.put(sink, b" ");
+    page.put_signed_right(sink, 14, amounts.to_go);
+    page.put(sink, b" ");
+    page.put_signed_right(sink, 14, amounts.latest);
+    page.put(sink, b" ");
+    page.put_signed_right(sink, 14, amounts.overrun);
+    page.put(sink, b" ");
+    page.put(sink, title.bytes());
+    page.put(sink, b"\n");
+}
+
+/// Puts the row of a level.
+fn put_level<O: Sink>(page: &mut Page, sink: &mut O, level: u64, amounts: &SummaryAmounts)
+    ensures { Puts O.taken O.faults page.old sink.old page.new sink.new (level_cells level amounts.now) }
+{
+    page.put(sink, b"LEVEL            ");
+    page.put_number_right(sink, 2, level);
+    page.put(sink, b" ");
+    page.put_signed_right(sink, 14, amounts.budget);
+    page.put(sink, b" ");
+    page.put_signed_right(sink, 14, amounts.actual);
+    page.put(sink, b" ");
+    page.put_signed_right(sink, 14, amounts.to_go);
+    page.put(sink, b" ");
+    page.put_signed_right(sink, 14, amounts.latest);
+    page.put(sink, b" ");
+    page.put_signed_right(sink, 14, amounts.overrun);
+    page.put(sink, b"\n");
+}

@@ -1,0 +1,5 @@
+use Rattle.pc_rollup.specs.Least.{AreLeastOn}
+use Rattle.pc_rollup.proofs.least.least_by_item.Given as goal
+
+abbrev pub invariant-loop-p : goal.invariant-loop-p
+invariant-loop-p l = AreLeastOn l.fn.items l.placed l.p-index l.least.items

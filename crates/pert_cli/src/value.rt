@@ -1,0 +1,33 @@
+//! `value`: the forecast, and what the work is worth.
+ghost use Rattle.pc_reports.specs.Earned.{IsEarned};
+ghost use Rattle.pc_reports.specs.ValueText.{value_text};
+ghost use Rattle.pert_cli.specs.Handing.{Answers, IsReply};
+ghost use Rattle.pert_cli.specs.Sides.{side};
+ghost use Rattle.pert_cli.specs.declared.forms.Form.TheVariants.{Value};
+
+use crate::answer::{Answer, deliver};
+use crate::status::Status;
+use pc_edges::{Failed, Sink};
+use pc_project::Project;
+use pc_reports::ValueReport;
+use std::alloc::Global;
+
+/// The words of the form.
+pub(crate) const WORDS: &[u8] = b"value";
+
+/// Answers the form.
+pub(crate) fn answer<O: Sink>(alloc: Global, project: &Project, out: &mut O) -> Status
+    ensures { Answers (IsReply Value project.now) (side O.taken O.faults out.old out.new) result }
+{
+    deliver(ValueReport::build(alloc, project), project, out)
+}
+
+impl Answer for ValueReport {
+    ghost IsFor = { λ report project. IsEarned project report };
+
+    ghost text = { λ report project. value_text project report };
+
+    fn write_to<O: Sink>(&mut self, project: &Project, out: &mut O) -> Result<(), Failed> {
+        self.write(project, out)
+    }
+}
