@@ -13,6 +13,8 @@ mod pushing;
 mod read_source;
 mod sink;
 mod source;
+mod sure_sink;
+mod sure_source;
 #[cfg(test)]
 mod tests;
 mod write_sink;
@@ -25,4 +27,6 @@ pub use pushing::push_all;
 pub use read_source::ReadSource;
 pub use sink::Sink;
 pub use source::{Failed, Source};
+pub use sure_sink::SureSink;
+pub use sure_source::SureSource;
 pub use write_sink::WriteSink;

@@ -209,3 +209,23 @@ fn file_source_reads(rt: HostRuntime) -> Result<(), Fail> {
     assert_eq!(rt; missing.pull(&mut buffer), Err(Failed));
     Ok(())
 }
+
+/// Pulls fill their buffers, and pushes take their pieces whole.
+#[test]
+fn sure_edges_never_fail(rt: HostRuntime) -> Result<(), Fail> {
+    let mut source = SureSource::new(TEXT);
+    let mut buffer = [0u8; 4];
+    assert_eq!(rt; source.pull(&mut []), Ok(0));
+    assert_eq!(rt; source.pull(&mut buffer), Ok(4));
+    assert_eq!(rt; &buffer, b"brea");
+    assert_eq!(rt;
+        load(rt.alloc(), &mut source, 6)?.as_slice(),
+        b"dboard".as_slice()
+    );
+    assert_eq!(rt; source.pull(&mut buffer), Ok(0));
+    let mut sink = SureSink::new();
+    assert_eq!(rt; push_all(&mut sink, TEXT), Ok(()));
+    assert_eq!(rt; sink.flush(), Ok(()));
+    assert_eq!(rt; sink.count(), 10);
+    Ok(())
+}

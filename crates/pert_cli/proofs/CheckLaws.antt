@@ -6,7 +6,6 @@ use Rattle.pc_model.specs.Network.{Network}
 use Rattle.pc_model.specs.declared.PieceRow.{PieceRow}
 use Rattle.pc_model.specs.declared.Term.{Term}
 use Rattle.pc_edges.specs.Pulls.{TakesPulls}
-use Rattle.pc_deck.proofs.DeckLaws.{one_deck}
 use Rattle.pc_faults.specs.declared.fault.Fault.{Fault}
 use Rattle.pc_crash.specs.Priced.{PricedNetwork}
 use Rattle.pc_check.specs.Certified.{OnYes}
@@ -17,7 +16,7 @@ use Rattle.pc_audit.specs.Texts.{IsFailing, Finds}
 use Rattle.pc_audit.specs.Auditing.{most_bytes}
 use Rattle.pc_audit.proofs.TextLaws.{not_both as one_text_verdict}
 use Rattle.pc_audit.proofs.SourceLaws.{TakesPulls-none}
-use Rattle.pc_project.specs.Project.{Project, project_in}
+use Rattle.pc_project.specs.Project.{Project}
 use Rattle.pert_cli.specs.declared.ending.Ending.{Ending}
 use Rattle.pert_cli.specs.declared.ending.Ending.TheVariants.{Certified, Refused, Usage, OutOfMemory, ReadFault, WriteFault, NotCertified}
 use Rattle.pert_cli.specs.Certificate.{IsOneWord, verdict_text, priced_in, HasVerdict, Certifies, FailsAsCertificate, ProvesCurve, IsFound, ending_for, Told, told, cut, Answered, found, unread, no_room, FaultTold, fault_told, fault_cut, fault_untold}
@@ -25,6 +24,7 @@ use Rattle.pert_cli.specs.CheckOutcome.{IsChecked, IsVerdictCut, CheckOutcome, c
 use Rattle.pert_cli.specs.Reading.{HasProject, HasRefusal}
 use Rattle.pert_cli.specs.Sides.{Side, IsReadToEnd, IsUntouched, OfDeck, Took, TookFront}
 use Rattle.pert_cli.specs.Verdict.{IsProjectOf, AcceptedBy}
+use Rattle.pert_cli.proofs.VerdictLaws.{one_project}
 
 -- ---- the network of a project
 
@@ -37,10 +37,6 @@ same_fields p q r s t u = rw (p, q, r, s, t, u) refl
 -- a priced network with all that a project says is that of the project
 pub priced_is : (net : PricedNetwork) (project : Project) → net.network ≡ project.network → net.terms ≡ project.terms → net.pieces ≡ project.pieces → net.project ≡ project.heading.code → net.events ≡ project.events → net.activities ≡ project.activities → net ≡ priced_in project
 priced_is net project p q r s t u = same_fields p q r s t u
-
--- a deck has one project
-pub one_project : (bytes : List ℕ) (p q : Project) → IsProjectOf bytes p → IsProjectOf bytes q → p ≡ q
-one_project bytes p q a b = a.is ∙ ap project_in (one_deck bytes a.deck b.deck a.accepted.cards b.accepted.cards) ∙ sym b.is
 
 -- ---- verdicts
 
