@@ -100,8 +100,11 @@ contrary x e = absurd cc
 same_some : (x y : Fail) → Some x ≡ Some y → x ≡ y
 same_some x y e = cc
 
+abbrev point : ℕ → ℕ → Fail
+point line reason = record { line = line; reason = reason }
+
 same_point : (x y : Fail) → x.line ≡ y.line → x.reason ≡ y.reason → x ≡ y
-same_point x y e f = cc
+same_point x y e f = ap (λ line. point line x.reason) e ∙ ap (point y.line) f
 
 module _ (net : PricedNetwork) (text : List ℕ) where
   same_lines : (f g : Fail) (a : IsBroken net text f) (b : IsBroken net text g) (more : List CertLine) → a.lines ≡ b.lines ++ more → b.rest ≡ text_of more ++ a.rest → AllFit more → f ≡ g
