@@ -1,0 +1,3 @@
+pub mod ListedLaws
+pub mod WordLaws
+pub mod FitLaws

@@ -1,0 +1,7 @@
+-- Lists of what the numbers below a count give.
+use Rattle.std.specs.Prelude.{ℕ, zero, suc, List, [], ◌∷◌, ◌++◌}
+
+-- what the numbers below n give, from the least up
+abbrev pub listed : {A : Type 0} → ℕ → (ℕ → A) → List A
+listed zero each = []
+listed (suc n) each = listed n each ++ each n ∷ []

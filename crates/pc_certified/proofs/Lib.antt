@@ -1,0 +1,11 @@
+pub mod PassLaws
+pub mod StepLaws
+pub mod HoldLaws
+pub mod SameLaws
+pub mod RowLaws
+pub mod CloseLaws
+pub mod SegmentPass
+pub mod DocumentPass
+pub mod OrderLaws
+pub mod SmallLaws
+pub mod CertifiedLaws

