@@ -1,1 +1,6 @@
+mod CostLimits
+mod CourseLaws
 mod EarlyTimes
+mod FlowLaws
+mod NextLaws
+mod OpeningLaws

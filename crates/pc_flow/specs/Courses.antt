@@ -1,11 +1,14 @@
 -- A solver on its way down the curve.
-use Rattle.std.specs.Prelude.{◌≡◌, ℕ, ◌+◌, ◌-◌, ◌*◌, ◌^◌, ◌<◌, ◌≤◌, ◌==◌, ◌&&◌, Bool, true, false, nat_lt, length}
+use Rattle.std.specs.Prelude.{◌≡◌, ℕ, ◌+◌, ◌-◌, ◌*◌, ◌^◌, ◌<◌, ◌≤◌, ◌==◌, ◌&&◌, Bool, true, false, nat_lt, List, length}
 use Rattle.pc_model.specs.Schedule.{normal_of, lesser_of, IsAllNormalLength, IsAllCrashLength}
-use Rattle.pc_model.specs.Cost.{Knees, cost_of}
+use Rattle.pc_model.specs.Network.{IsOrder}
+use Rattle.pc_model.specs.Cost.{IsPriced, cost_of}
+use Rattle.pc_model.specs.Pieces.{ArePieces}
 use Rattle.pc_curve_laws.specs.Segment.{Segment, IsSegment}
 use Rattle.pc_curve_laws.specs.State.{segment_of}
 use Rattle.pc_curve_laws.specs.Steps.{filled_state}
-use Rattle.pc_crash.specs.Priced.{PricedNetwork, knees_in}
+use Rattle.pc_crash.specs.Priced.{PricedNetwork, knees_in, ArePiecesWithinLimits}
+use Rattle.pc_crash.specs.Terms.{AreWithinLimits}
 use Rattle.pc_board.specs.Sheets.{Sheet, time_of, rank_of, flow_of}
 use Rattle.pc_search.specs.Growing.{AreListed}
 use Rattle.pc_search.specs.Labelling.{length_at, slope_at, IsBetween, MayFall}
@@ -59,10 +62,15 @@ AreAllNormal c = (a : ℕ) → a < length c.net.network.arcs → lesser_of c.net
 
 -- What holds of every solver
 
--- between two labellings, with the two lengths, the cost and the slope as they are said; before the first segment nothing
+-- its network is priced within the limits, and its events have an order; it is between two labellings, with the two lengths, the cost and the slope as they are said; before the first segment nothing
 -- flows; with a segment, either the length is above the all-crash length, and some activity stops at the lower end, or
 -- the curve has one length alone
 pub record IsOnCourse (c : Course) : Type 0 where
+  pub priced : IsPriced c.net.network c.net.terms (knees_in c.net)
+  pub limits : AreWithinLimits c.net.terms
+  pub pieces : ArePieces c.net.terms c.net.pieces
+  pub piece_limits : ArePiecesWithinLimits c.net.pieces
+  pub ordered : (order : List ℕ) × IsOrder c.net.network order
   pub between : IsBetween c.net c.board
   pub listed : AreListed c.net c.board
   pub longest : IsAllNormalLength c.net.network c.net.terms c.longest

@@ -12,6 +12,6 @@ pub record HasDescended (net : PricedNetwork) (s t : Sheet) (fall : ℕ) : Type 
 -- above the all-crash length the flow was raised and the next fall found; at it nothing is left to do
 pub record HasSearched (net : PricedNetwork) (s t : Sheet) (shortest rise fall : ℕ) : Type 0 where
   pub above : shortest < length_at net s → HasLabelled net s t rise fall
-  pub below : length_at net s ≤ shortest → t ≡ s
-  pub none : length_at net s ≤ shortest → rise ≡ 0
-  pub flat : length_at net s ≤ shortest → fall ≡ 0
+  pub still : length_at net s ≤ shortest → t ≡ s
+  pub flat : length_at net s ≤ shortest → rise ≡ 0
+  pub none : length_at net s ≤ shortest → fall ≡ 0

@@ -1,4 +1,5 @@
 pub mod Paces
 pub mod Courses
 pub mod Solvers
+pub mod Openings
 pub mod Descents

@@ -12,3 +12,4 @@ pub use early::MAX_LENGTH;
 pub use pc_crash::{CrashNet, SegmentView, Steps};
 pub use solver::{Solver, cells_needed};
 
+

@@ -67,6 +67,8 @@ impl<'n> Solver<'n> {
         ensures shortest { IsAllCrashLength net.now.network net.now.terms result.shortest }
     {
         let shape = net.net();
+        // The order of the events says that no activity has more flow than its value.
+        let _order = shape.order();
         let mut board = Board::new(region, shape.events(), shape.activities());
         keep_early_times(&mut board, net, Pace::Crash);
         let shortest = board.kept_time(shape.end());

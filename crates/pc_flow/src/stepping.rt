@@ -8,7 +8,6 @@ ghost use Rattle.pc_flow.specs.Descents.{HasDescended, HasSearched};
 
 use crate::solver::Solver;
 use pc_crash::{SegmentView, Steps};
-
 use pc_search::{Labelling, Search};
 use std::sync::ledger::Ledger;
 
@@ -22,7 +21,7 @@ impl<'n> Solver<'n> {
         ensures next { IsTrue result → IsNext self.old self.new }
         ensures counted { steps.new ≤ steps.old + most_looks self.old self.new }
     {
-        if self.given && self.lower() == self.shortest {
+        if self.has_ended() {
             return false;
         }
         descend(&mut self.search, self.fall);
@@ -32,6 +31,13 @@ impl<'n> Solver<'n> {
         self.fall = labelling.fall;
         self.given = true;
         true
+    }
+
+    // Whether a segment was given that comes down to the all-crash length.
+    fn has_ended(&self) -> bool
+        ensures { IsTrue result ↔ HasEnded self.now }
+    {
+        self.given && self.lower() == self.shortest
     }
 }
 

@@ -1,0 +1,8 @@
+use Rattle.pc_flow.proofs.CourseLaws.{whole, lower-above}
+use Rattle.pc_flow.proofs.solver.Solver.given.Goals as goal
+
+pub returns-clause-whole : goal.returns-clause-whole
+returns-clause-whole c = rw (← c.self.view_is) (whole _ c.self.invariant.on_course)
+
+pub returns-clause-range : goal.returns-clause-range
+returns-clause-range c = rw (← c.self.view_is) (lower-above _ c.self.invariant.on_course)
