@@ -1,12 +1,12 @@
 -- A solver on its way down the curve, and the segments that it gave so far.
-use Rattle.std.specs.Prelude.{◌≡◌, ℕ, ◌+◌, ◌-◌, ◌<◌, ◌≤◌, Bool, true, false, List, [], All, if◌then◌else◌}
+use Rattle.std.specs.Prelude.{◌≡◌, ℕ, ◌+◌, ◌-◌, ◌<◌, ◌≤◌, true, false, List, [], All, if◌then◌else◌}
 use Rattle.pc_model.specs.Schedule.{IsAllNormalLength, IsAllCrashLength}
 use Rattle.pc_curve_laws.specs.Segment.{Segment}
 use Rattle.pc_curve_laws.specs.Cover.{IsFront}
 use Rattle.pc_lines.specs.Text.{text_of, AllFit}
 use Rattle.pc_crash.specs.Priced.{PricedNetwork, knees_in}
 use Rattle.pc_page.specs.Puts.{Desk, Adds}
-use Rattle.pc_cert_writer.specs.Document.{head_lines, segment_lines, HasSmallNumbers}
+use Rattle.pc_cert_writer.specs.Document.{head_lines, segment_lines}
 use Rattle.pc_certified.specs.Complete.{begun_lines}
 use Rattle.pc_flow.specs.Courses.{Course, lower_of}
 
@@ -40,16 +40,16 @@ pub record HasGiven (net : PricedNetwork) (course : Course) (segments : List Seg
 abbrev pub still_to_come : Course → ℕ
 still_to_come course = (if course.given then 0 else 1) + (lower_of course - course.shortest)
 
--- each segment's lines can be spelled, where its numbers are small
-abbrev pub FitWhereSmall : PricedNetwork → List Segment → Type 0
-FitWhereSmall net segments = All (λ seg. HasSmallNumbers net seg → AllFit (segment_lines net seg)) segments
+-- each segment's lines can be spelled
+abbrev pub CanBeSpelled : PricedNetwork → List Segment → Type 0
+CanBeSpelled net segments = All (λ seg. AllFit (segment_lines net seg)) segments
 
 -- a certificate's head and the segments that the course gave so far were put on a page
 pub record IsPut (net : PricedNetwork) (normal crash : List ℕ) (course : Course) (old new : Desk) : Type 0 where
   pub segments : List Segment
   pub given : HasGiven net course segments
   pub text : Adds old new (text_of (begun_lines net normal crash segments))
-  pub fit : FitWhereSmall net segments
+  pub fit : CanBeSpelled net segments
 
 -- a certificate's head was put on a page, and segments from the all-normal length down to the all-crash length
 pub record IsPutDown (net : PricedNetwork) (normal crash : List ℕ) (old new : Desk) : Type 0 where
@@ -61,4 +61,4 @@ pub record IsPutDown (net : PricedNetwork) (normal crash : List ℕ) (old new : 
   pub front : IsFront net.network net.terms (knees_in net) segments high low
   pub text : Adds old new (text_of (begun_lines net normal crash segments))
   pub head_fits : AllFit (head_lines net normal crash)
-  pub fit : FitWhereSmall net segments
+  pub fit : CanBeSpelled net segments

@@ -1,6 +1,5 @@
 -- The two walks of a certificate.
-use Rattle.std.specs.Prelude.{◌≡◌, ◌<◌, List, ℕ, All, length, map}
-use Rattle.pc_model.specs.declared.Term.{Term}
+use Rattle.std.specs.Prelude.{List, ℕ}
 use Rattle.pc_model.specs.Network.{Network, IsLongest}
 use Rattle.pc_model.specs.Schedule.{normals, crashes}
 use Rattle.pc_crash.specs.Priced.{PricedNetwork}

@@ -2,11 +2,10 @@
 //! memory that it takes does not depend on how many there are.
 #![tactic(auto)]
 
-mod certify;
+mod certifying;
 mod laws;
 mod walks;
 mod writing;
 
-pub use certify::{CertifyError, certify};
+pub use certifying::{CertifyError, certify};
 pub use laws::certificates_print_the_curve;
-

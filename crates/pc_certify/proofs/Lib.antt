@@ -1,0 +1,4 @@
+mod DescentLaws
+mod CertificateLaws
+mod WalkLaws
+mod HeadlineLaws
