@@ -1,6 +1,5 @@
 //! The lines of a segment.
-ghost use Rattle.std.specs.Prelude.{◌≡◌, ℕ, ◌<◌, [], ◌∷◌, true, length};
-ghost use Rattle.pc_text.specs.Code.{is_code};
+ghost use Rattle.std.specs.Prelude.{◌≡◌, ℕ, ◌<◌, [], ◌∷◌, length};
 ghost use Rattle.pc_page.specs.Puts.{Puts};
 ghost use Rattle.pc_lines.specs.Lines.{numbers, IsCode};
 ghost use Rattle.pc_lines.specs.Text.{text_of, AllFit};

@@ -1,21 +1,22 @@
 -- A certificate that is written of whole segments is certified, and says these segments.
-use Rattle.std.proofs.Common.{◌≡◌, ℕ, ◌<◌, zero, suc, List, [], ◌∷◌, ◌++◌, length, Some, None, refl, sym, ap, ◌∙◌, subst, arith, append_assoc}
+use Rattle.std.proofs.Common.{◌≡◌, ℕ, ◌<◌, zero, suc, List, [], ◌∷◌, ◌++◌, length, refl, sym, ap, ◌∙◌, subst, arith, append_assoc}
 use Rattle.std.proofs.lemmas.List.{length-map, append-nil}
-use Rattle.std.proofs.lemmas.List.Elements.{recursion_from_All}
+use Rattle.std.proofs.lemmas.List.Elements.{recursion_from_All, All-from_recursion}
 use Rattle.std.proofs.lemmas.Grind.{flat_map-append}
 use Rattle.std.specs.List.{AllByRecursion as ByRecursion, flat_map}
 use Rattle.std.specs.Prelude.{map, All}
+use Rattle.pc_model.specs.declared.Arc.{Arc}
+use Rattle.pc_model.specs.Walk.{to_of, IsWalk}
 use Rattle.pc_curve_laws.specs.Segment.{Segment}
 use Rattle.pc_curve_laws.specs.Cover.{Joins, segment_at}
 use Rattle.pc_lines.specs.Text.{text_of, AllFit}
-use Rattle.pc_lines.proofs.TextLaws.{text_of-append, AllFit-append, text_once}
-use Rattle.pc_lines.specs.declared.line.CertLine.{CertLine}
-use Rattle.pc_crash.specs.Priced.{PricedNetwork, AreNames, knees_in}
-use Rattle.pc_check.specs.Draft.{draft_of}
+use Rattle.pc_lines.proofs.TextLaws.{text_of-append, AllFit-append}
+use Rattle.pc_crash.specs.Priced.{PricedNetwork, AreNames}
 use Rattle.pc_check.specs.Said.{segment_in}
 use Rattle.pc_check.specs.Certified.{AreCertified, AreCurve, segments_of}
 use Rattle.pc_check.proofs.GoodLines.{curve_of}
-use Rattle.pc_cert_writer.specs.Document.{head_lines, segment_lines, end_lines, document_lines}
+use Rattle.pc_audit.specs.Texts.{IsCertified}
+use Rattle.pc_cert_writer.specs.Document.{head_lines, segment_lines, end_lines, document_lines, HasSmallNumbers}
 use Rattle.pc_certified.specs.Complete.{IsComplete, begun_lines}
 use Rattle.pc_certified.specs.Rows.{part_of, SaySame, AllSaySame}
 use Rattle.pc_certified.proofs.CloseLaws.{says_same}
@@ -52,6 +53,15 @@ module _ (net : PricedNetwork) (sized : IsSized net) (names : AreNames (length n
   pub curve : AreCurve net (segments_of net (document_lines net normal crash segments))
   curve = curve_of net (document_lines net normal crash segments) sized.priced names.one_each certified
 
+  pub text_certified : AllFit (document_lines net normal crash segments) → IsCertified net (text_of (document_lines net normal crash segments)) (length segments)
+  text_certified fit = record {
+    lines = document_lines net normal crash segments;
+    whole = record { led = record { fit = fit; order = certified.whole }; whole = refl };
+    none = certified.none;
+    count = sym all_same.one_each;
+    curve = curve;
+  }
+
 -- ---- texts
 
 pub text_begins : (net : PricedNetwork) (normal crash : List ℕ) → text_of (begun_lines net normal crash []) ≡ text_of (head_lines net normal crash)
@@ -81,3 +91,16 @@ pub document_fits : (net : PricedNetwork) (normal crash : List ℕ) (segments : 
 document_fits net normal crash segments head fit =
     AllFit-append (head_lines net normal crash) (flat_map (segment_lines net) segments ++ end_lines) head
     (fit_all net segments (recursion_from_All (λ seg. AllFit (segment_lines net seg)) segments fit))
+
+-- where each segment's lines can be spelled if its numbers are small, and they are
+pub fit_where_small : (net : PricedNetwork) (segments : List Segment) → All (λ seg. HasSmallNumbers net seg → AllFit (segment_lines net seg)) segments → All (HasSmallNumbers net) segments
+    → All (λ seg. AllFit (segment_lines net seg)) segments
+fit_where_small net segments fit small = λ k d lt. fit k d lt (small k d lt)
+
+walk_known_each : (arcs : List Arc) (e f : ℕ) (walk : List ℕ) → IsWalk arcs e walk f → ByRecursion (λ a. a < length arcs) walk
+walk_known_each arcs e f [] leads = tt
+walk_known_each arcs e f (a ∷ walk) leads = (leads.0, walk_known_each arcs (to_of arcs a) f walk (leads.2))
+
+-- the activities of a walk are activities of the network, as its writer asks
+pub walk_known : (arcs : List Arc) (e f : ℕ) (walk : List ℕ) → IsWalk arcs e walk f → All (λ a. a < length arcs) walk
+walk_known arcs e f walk leads = All-from_recursion (λ a. a < length arcs) walk (walk_known_each arcs e f walk leads)

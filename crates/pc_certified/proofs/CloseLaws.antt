@@ -1,5 +1,5 @@
 -- At the end of a whole segment the conditions hold: what was written of it adds up to what it says.
-use Rattle.std.proofs.Common.{◌≡◌, ℕ, ◌+◌, ◌<◌, Bool, true, ◌&&◌, ◌||◌, cond, length, ◌⊎◌, inl, inr, refl, sym, ap, ◌∙◌, subst, arith, pos}
+use Rattle.std.proofs.Common.{◌≡◌, ℕ, ◌+◌, ◌<◌, true, cond, length, inl, inr, refl, sym, ap, ◌∙◌, subst, arith, pos}
 use Rattle.std.proofs.lemmas.Bool.{eq-eqb, lt-ltb}
 use Rattle.std.proofs.lemmas.Int.{ints}
 use Rattle.std.specs.Prelude.{◌==◌, ◌-ℤ◌, slice_index, if◌then◌else◌}
@@ -15,10 +15,9 @@ use Rattle.pc_check.specs.Known.{some_below}
 use Rattle.pc_check.specs.Segments.{stops_at_knee_in, stops_in}
 use Rattle.pc_check.specs.Said.{segment_in, flow_along, flow_at, spent_in, forward_by, backward_by, said}
 use Rattle.pc_check.proofs.BelowLaws.{some_below-finds}
-use Rattle.pc_cert_writer.specs.Listed.{listed}
 use Rattle.pc_cert_writer.specs.Document.{flows_along}
 use Rattle.pc_cert_writer.proofs.ListedLaws.{length-listed}
-use Rattle.pc_certified.specs.Rows.{event_row, act_row, part_of, SaySame}
+use Rattle.pc_certified.specs.Rows.{act_row, part_of, SaySame}
 use Rattle.pc_certified.proofs.HoldLaws.{both, left, right, Ends}
 use Rattle.pc_certified.proofs.RowLaws.{event_is, act_is, flow_is, beside_is}
 use Rattle.pc_certified.proofs.SameLaws.{MoveSame, forward_by-same, backward_by-same, stops_in-same}

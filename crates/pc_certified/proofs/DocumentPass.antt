@@ -1,31 +1,30 @@
 -- None of the lines of a certificate fails that is written of whole segments which join.
-use Rattle.std.proofs.Common.{◌≡◌, ℕ, ◌+◌, ◌<◌, ◌≤◌, Bool, true, false, not, ◌&&◌, ◌||◌, cond, List, [], ◌∷◌, ◌++◌, length, Option, Some, None, refl, sym, ap, ◌∙◌, subst, arith, ◌⊎◌, inl, inr, append_assoc, append-nil, length-append}
+use Rattle.std.proofs.Common.{◌≡◌, ℕ, ◌<◌, ◌≤◌, true, false, not, ◌&&◌, ◌||◌, List, [], ◌∷◌, ◌++◌, length, None, refl, sym, ap, ◌∙◌, subst, arith, inl, inr, append_assoc, append-nil, length-append}
 use Rattle.std.proofs.lemmas.Bool.{eq-eqb, eqb-true, lt-ltb, ne_eqb, cond-true, cond-false, cases_eq}
 use Rattle.std.proofs.lemmas.List.Elements.{recursion_from_All}
 use Rattle.std.proofs.Math.ListN.{get_or-map}
 use Rattle.std.specs.List.{AllByRecursion as ByRecursion, flat_map}
-use Rattle.std.specs.Prelude.{map, nat_lt, ◌==◌, All}
+use Rattle.std.specs.Prelude.{map, nat_lt, ◌==◌}
 use Rattle.pc_model.specs.declared.Term.{Term}
 use Rattle.pc_model.specs.Cost.{IsPriced}
-use Rattle.pc_model.specs.Schedule.{normal_of, normals, crashes}
+use Rattle.pc_model.specs.Schedule.{normals, crashes}
 use Rattle.pc_curve_laws.specs.Segment.{Segment, IsSegment}
-use Rattle.pc_curve_laws.specs.Cover.{Joins, IsLong, IsLongUnlessAlone, BeginsNormal, IsFront}
+use Rattle.pc_curve_laws.specs.Cover.{Joins, IsLong, IsFront}
 use Rattle.pc_curve_laws.proofs.Segments.Covering.{joins-first}
-use Rattle.pc_lines.specs.declared.line.CertLine.{CertLine}
 use Rattle.pc_lines.specs.declared.line.CertLine.TheVariants.{Segment as SegmentLine, Normal, Crash, End}
 use Rattle.pc_crash.specs.Priced.{PricedNetwork, AreNames, knees_in}
-use Rattle.pc_check.specs.Draft.{Part, Draft, begun_part, empty_draft, draft_of}
+use Rattle.pc_check.specs.Draft.{Part, begun_part, empty_draft, draft_of}
 use Rattle.pc_check.specs.Conditions.{conditions, is_first, has_head, has_joined_ends}
 use Rattle.pc_check.specs.Failures.{first_failing, reason_at, failure_of}
 use Rattle.pc_check.specs.Known.{Known}
 use Rattle.pc_check.specs.Said.{said}
 use Rattle.pc_check.specs.Walks.{length_in, walked, at_start, is_through}
-use Rattle.pc_cert_writer.specs.Document.{first_line, steps, head_lines, ends_line, segment_lines, end_lines, document_lines, version_of}
+use Rattle.pc_cert_writer.specs.Document.{first_line, steps, head_lines, segment_lines, end_lines, document_lines, version_of}
 use Rattle.pc_certified.specs.Complete.{IsThrough, IsComplete}
 use Rattle.pc_certified.specs.Rows.{part_of}
 use Rattle.pc_certified.proofs.PassLaws.{Pass, Pass-nil, Pass-cons, Pass-then, PassTo, PassTo-then, holds_on}
 use Rattle.pc_certified.proofs.HoldLaws.{both, left, right, same_code}
-use Rattle.pc_certified.proofs.StepLaws.{codes_of, comes_through, in_normal, in_crash, normal_steps, crash_steps}
+use Rattle.pc_certified.proofs.StepLaws.{codes_of, comes_through, in_crash, normal_steps, crash_steps}
 use Rattle.pc_certified.proofs.SegmentPass.{in_body, segment_passes}
 
 -- ---- the head

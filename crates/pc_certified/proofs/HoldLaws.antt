@@ -1,16 +1,15 @@
 -- The conditions at a line hold where its row is right.
-use Rattle.std.proofs.Common.{◌≡◌, ◌≢◌, ℕ, ◌+◌, ◌<◌, ◌≤◌, zero, suc, Bool, true, false, not, ◌&&◌, ◌||◌, cond, List, length, None, refl, ap, sym, arith, ◌⊎◌, inl, inr}
-use Rattle.std.proofs.lemmas.Bool.{eqb-true, eq-eqb, lt-ltb, ltb-true, ne_eqb, le-leb, cases_eq}
+use Rattle.std.proofs.Common.{◌≡◌, ◌≢◌, ℕ, ◌+◌, ◌<◌, ◌≤◌, zero, suc, Bool, true, false, not, ◌&&◌, ◌||◌, List, length, None, refl, arith, inl, inr}
+use Rattle.std.proofs.lemmas.Bool.{eqb-true, eq-eqb, lt-ltb, ltb-true, le-leb, cases_eq}
 use Rattle.std.proofs.lemmas.Slice.Eq.{bytes_eq-Decides}
 use Rattle.std.specs.Prelude.{◌==◌, nat_lt, nat_le, bytes_eq, slice_index}
 use Rattle.pc_model.specs.Network.{Network}
 use Rattle.pc_model.specs.Schedule.{normal_of, crash_of, lesser_of}
 use Rattle.pc_curve_laws.specs.Tight.{IsSlackAtKnee, IsSlack}
-use Rattle.pc_curve_laws.specs.Segment.{Segment, span, head_at, tail_at}
+use Rattle.pc_curve_laws.specs.Segment.{span, head_at, tail_at}
 use Rattle.pc_crash.specs.Priced.{PricedNetwork, knees_in, code_at}
 use Rattle.pc_lines.specs.declared.line.CertLine.TheVariants.{Event, Act, Close}
-use Rattle.pc_check.specs.Draft.{EventRow, ActRow}
-use Rattle.pc_check.specs.Known.{Known, each_below, some_below, frame}
+use Rattle.pc_check.specs.Known.{Known, each_below, frame}
 use Rattle.pc_check.specs.KneeTests.{is_slack_at_knee}
 use Rattle.pc_check.specs.Conditions.{conditions, is_one_length, is_slack_in, is_code_at, is_right_start, is_right_end, rests_in_one_length, has_act_code, has_room, has_duration, keeps_rises, is_slack, is_still_in_one_length, is_conserved, has_cut_gain, has_stop}
 use Rattle.pc_check.specs.Failures.{first_failing}
@@ -61,12 +60,12 @@ pub event_holds : (net : PricedNetwork) (known : Known) (time : ℕ) (moves : Bo
 event_holds net known time moves lt ordered h =
     let code = code_at net.events known.events in
     let start : is_right_start net.network known.events time moves ≡ true = when (known.events == net.network.start) (time == 0 && not moves) (λ is.
-        let at = eqb-true known.events net.network.start is in both (eq-eqb time 0 (h.start_time at)) (not_false moves (h.start_rests at))) in
+    let at = eqb-true known.events net.network.start is in both (eq-eqb time 0 (h.start_time at)) (not_false moves (h.start_rests at))) in
     let end : is_right_end net.network known time moves ≡ true = when (known.events == net.network.end) (time == known.upper && (moves || is_one_length known)) (λ is.
-        let at = eqb-true known.events net.network.end is in both (eq-eqb time known.upper (h.end_time at)) (elim (cases_eq known.upper known.lower) [
-          | inl same ↦ right moves (is_one_length known) (eq-eqb known.upper known.lower same)
-          | inr other ↦ left moves (is_one_length known) (h.end_moves at (omega arith))
-        ])) in
+    let at = eqb-true known.events net.network.end is in both (eq-eqb time known.upper (h.end_time at)) (elim (cases_eq known.upper known.lower) [
+      | inl same ↦ right moves (is_one_length known) (eq-eqb known.upper known.lower same)
+      | inr other ↦ left moves (is_one_length known) (h.end_moves at (omega arith))
+    ])) in
     holds_on (is_code_at net.network.events net.events known.events code) _ 4 (code_is net.network.events known.events net.events lt)
     (holds_on (is_right_start net.network known.events time moves && is_right_end net.network known time moves) _ 5 (both start end)
     (holds_on (rests_in_one_length known moves) None 15 (never_both (is_one_length known) moves (λ is. h.rests (eqb-true known.upper known.lower is))) refl))
@@ -93,18 +92,18 @@ act_holds net known duration flows lt long h =
     let code = code_at net.activities a in
     holds_on (has_act_code net a code flows) _ 4 (both (code_is (length arcs) a net.activities lt) (eq-eqb (length flows) ((knees_in net).count a + 1) long))
     (holds_on (has_room net seg 0 a && has_room net seg (span seg) a) _ 6 (both
-        (le-leb (tail_at arcs seg 0 a + crash_of net.terms a) (head_at arcs seg 0 a) h.room_upper)
-        (le-leb (tail_at arcs seg (span seg) a + crash_of net.terms a) (head_at arcs seg (span seg) a) h.room_lower))
+    (le-leb (tail_at arcs seg 0 a + crash_of net.terms a) (head_at arcs seg 0 a) h.room_upper)
+    (le-leb (tail_at arcs seg (span seg) a + crash_of net.terms a) (head_at arcs seg (span seg) a) h.room_lower))
     (holds_on (has_duration net known a duration) _ 7 (both
-        (eq-eqb duration (lesser_of net.network net.terms known.time a) h.duration)
-        (when (known.parts == 0) (duration == normal_of net.terms a) (λ first. eq-eqb duration (normal_of net.terms a) (h.normal first))))
+    (eq-eqb duration (lesser_of net.network net.terms known.time a) h.duration)
+    (when (known.parts == 0) (duration == normal_of net.terms a) (λ first. eq-eqb duration (normal_of net.terms a) (h.normal first))))
     (holds_on (keeps_rises net a flows) _ 8 (each_below-all ((knees_in net).count a) (λ k. nat_le (slice_index flows k) ((knees_in net).rise a k)) (λ k within. le-leb (slice_index flows k) ((knees_in net).rise a k) (h.capacity k within)))
     (holds_on (is_slack net seg 0 a flows && is_slack net seg (span seg) a flows) _ 11 (both
-        (slack_holds net (head_at arcs seg 0 a) (tail_at arcs seg 0 a) a flows h.slack_upper)
-        (slack_holds net (head_at arcs seg (span seg) a) (tail_at arcs seg (span seg) a) a flows h.slack_lower))
+    (slack_holds net (head_at arcs seg 0 a) (tail_at arcs seg 0 a) a flows h.slack_upper)
+    (slack_holds net (head_at arcs seg (span seg) a) (tail_at arcs seg (span seg) a) a flows h.slack_lower))
     (holds_on (is_still_in_one_length net known a flows) None 15
-        (when (is_one_length known) (each_below ((knees_in net).count a + 1) (λ k. slice_index flows k == 0)) (λ is.
-        each_below-all ((knees_in net).count a + 1) (λ k. slice_index flows k == 0) (λ k within. eq-eqb (slice_index flows k) 0 (h.still (eqb-true known.upper known.lower is) k within))))
+    (when (is_one_length known) (each_below ((knees_in net).count a + 1) (λ k. slice_index flows k == 0)) (λ is.
+    each_below-all ((knees_in net).count a + 1) (λ k. slice_index flows k == 0) (λ k within. eq-eqb (slice_index flows k) 0 (h.still (eqb-true known.upper known.lower is) k within))))
     refl)))))
 
 -- what has to be known of a segment that ends

@@ -9,3 +9,4 @@ pub mod DocumentPass
 pub mod OrderLaws
 pub mod SmallLaws
 pub mod CertifiedLaws
+pub mod ExactLaws

@@ -1,5 +1,5 @@
 -- The lines of a certificate that is written come in the order in which they may.
-use Rattle.std.proofs.Common.{◌≡◌, ℕ, ◌+◌, ◌-◌, ◌<◌, ◌≤◌, zero, suc, Bool, true, false, ◌&&◌, ◌||◌, cond, List, [], ◌∷◌, ◌++◌, length, Option, Some, None, refl, sym, ap, ◌∙◌, subst, arith, append_assoc}
+use Rattle.std.proofs.Common.{◌≡◌, ℕ, ◌+◌, ◌-◌, ◌<◌, ◌≤◌, zero, suc, Bool, true, false, ◌&&◌, ◌||◌, List, [], ◌∷◌, ◌++◌, length, Some, None, refl, sym, ap, ◌∙◌, subst, arith, append_assoc}
 use Rattle.std.proofs.lemmas.Bool.{eq-eqb, eqb-true, lt-ltb, cond-true}
 use Rattle.std.proofs.lemmas.List.{nil_from_length}
 use Rattle.std.specs.List.{flat_map}
@@ -15,7 +15,7 @@ use Rattle.pc_lines.specs.Fields.{◌>>=◌}
 use Rattle.pc_lines.specs.Grammar.{next, opened, takes_flows}
 use Rattle.pc_lines.specs.Text.{ran}
 use Rattle.pc_lines.proofs.TextLaws.{ran-append}
-use Rattle.pc_crash.specs.Priced.{PricedNetwork, knees_in, code_at}
+use Rattle.pc_crash.specs.Priced.{PricedNetwork, code_at}
 use Rattle.pc_cert_writer.specs.Listed.{listed}
 use Rattle.pc_cert_writer.specs.Document.{version_of, first_line, steps, head_lines, ends_line, event_line, act_line, flows_along, segment_lines, end_lines, document_lines}
 use Rattle.pc_certified.proofs.HoldLaws.{both, left, right}

@@ -1,18 +1,18 @@
 -- The rows that are written of a whole segment are right.
-use Rattle.std.proofs.Common.{◌≡◌, ℕ, ◌+◌, ◌<◌, ◌≤◌, Bool, true, false, List, [], ◌∷◌, ◌++◌, length, refl, sym, ap, ◌∙◌, subst, arith, ◌⊎◌, inl, inr, length-append}
+use Rattle.std.proofs.Common.{◌≡◌, ℕ, ◌+◌, ◌<◌, ◌≤◌, Bool, true, false, [], ◌∷◌, length, sym, ap, ◌∙◌, subst, arith, inl, inr, length-append}
 use Rattle.std.proofs.lemmas.Bool.{cases_eq}
 use Rattle.std.specs.Prelude.{slice_index}
 use Rattle.pc_model.specs.Network.{IsInRange}
 use Rattle.pc_model.specs.Schedule.{normal_of, crash_of}
-use Rattle.pc_curve_laws.specs.Tight.{IsSlackAtKnee, IsSlack}
+use Rattle.pc_curve_laws.specs.Tight.{IsSlack}
 use Rattle.pc_curve_laws.specs.Segment.{Segment, span, head_at, tail_at, IsRightSegment}
-use Rattle.pc_crash.specs.Priced.{PricedNetwork, knees_in, code_at}
-use Rattle.pc_check.specs.Draft.{EventRow, ActRow, Part, event_at, act_at}
+use Rattle.pc_crash.specs.Priced.{PricedNetwork, knees_in}
+use Rattle.pc_check.specs.Draft.{event_at, act_at}
 use Rattle.pc_check.proofs.GoodRows.{IsRightEvent, IsRightAct}
 use Rattle.pc_cert_writer.specs.Listed.{listed}
 use Rattle.pc_cert_writer.specs.Document.{flows_along}
 use Rattle.pc_cert_writer.proofs.ListedLaws.{length-listed, listed-at, listed-last, listed-before}
-use Rattle.pc_certified.specs.Rows.{event_row, act_row, part_of}
+use Rattle.pc_certified.specs.Rows.{event_row, act_row}
 use Rattle.pc_certified.proofs.SameLaws.{MoveSame, head_same, tail_same, low_head_same, low_tail_same, lesser_same}
 
 -- ---- what is read back of the rows

@@ -1,11 +1,11 @@
 -- Segments of which each event has the same time and moves alike have the same gaps.
-use Rattle.std.proofs.Common.{◌≡◌, ℕ, ◌+◌, ◌-◌, ◌<◌, Bool, not, ◌&&◌, ◌||◌, length, refl, sym, ap, ◌∙◌}
+use Rattle.std.proofs.Common.{◌≡◌, ℕ, ◌+◌, ◌-◌, ◌<◌, Bool, not, ◌&&◌, ◌||◌, length, ap, ◌∙◌}
 use Rattle.std.specs.Prelude.{◌==◌, nat_lt, min, if◌then◌else◌}
 use Rattle.pc_model.specs.Sums.{sum_to}
 use Rattle.pc_model.specs.Walk.{from_of, to_of}
 use Rattle.pc_model.specs.Network.{IsInRange}
 use Rattle.pc_model.specs.Schedule.{normal_of, crash_of, lesser_of}
-use Rattle.pc_curve_laws.specs.Segment.{Segment, span, head_at, tail_at, is_forward, is_backward, rises_above}
+use Rattle.pc_curve_laws.specs.Segment.{Segment, span, head_at, tail_at, is_forward, is_backward}
 use Rattle.pc_crash.specs.Priced.{PricedNetwork, knees_in}
 use Rattle.pc_check.specs.Known.{some_below}
 use Rattle.pc_check.specs.Segments.{stops_in}
@@ -23,8 +23,8 @@ stops_by : PricedNetwork → ℕ → ℕ → ℕ → ℕ → ℕ → Bool → Bo
 stops_by net a low_head low_tail high_head high_tail forward backward =
     (forward && low_head == low_tail + crash_of net.terms a)
     || some_below ((knees_in net).count a) (λ k.
-        low_head == low_tail + (knees_in net).knee a k
-        && ((forward && nat_lt (high_tail + (knees_in net).knee a k) high_head) || (backward && nat_lt high_head (high_tail + (knees_in net).knee a k))))
+    low_head == low_tail + (knees_in net).knee a k
+    && ((forward && nat_lt (high_tail + (knees_in net).knee a k) high_head) || (backward && nat_lt high_head (high_tail + (knees_in net).knee a k))))
 
 module _ (net : PricedNetwork) (range : IsInRange net.network) (seg other : Segment) (same : MoveSame net seg other) (a : ℕ) (lt : a < length net.network.arcs) where
   time_from : other.time (from_of net.network.arcs a) ≡ seg.time (from_of net.network.arcs a)

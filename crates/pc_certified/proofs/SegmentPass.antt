@@ -1,18 +1,16 @@
 -- None of the lines that are written of a whole segment fails.
-use Rattle.std.proofs.Common.{◌≡◌, ℕ, ◌+◌, ◌<◌, ◌≤◌, zero, suc, Bool, true, List, [], ◌∷◌, ◌++◌, length, Option, None, refl, sym, ap, ◌∙◌, subst, arith}
+use Rattle.std.proofs.Common.{◌≡◌, ℕ, ◌<◌, ◌≤◌, zero, suc, true, List, [], ◌∷◌, ◌++◌, length, None, refl, sym, ap, subst, arith}
 use Rattle.std.specs.Prelude.{◌==◌}
 use Rattle.pc_model.specs.Cost.{IsPriced}
 use Rattle.pc_model.specs.Schedule.{normal_of}
 use Rattle.pc_curve_laws.specs.Segment.{Segment, IsSegment}
-use Rattle.pc_lines.specs.declared.line.CertLine.{CertLine}
 use Rattle.pc_lines.specs.declared.line.CertLine.TheVariants.{Event, Act, Close}
 use Rattle.pc_crash.specs.Priced.{PricedNetwork, knees_in, code_at}
 use Rattle.pc_check.specs.Draft.{Part, Draft, begun_part}
 use Rattle.pc_check.specs.Conditions.{conditions}
 use Rattle.pc_check.specs.Failures.{reason_at, first_failing}
-use Rattle.pc_check.specs.Known.{Known, frame}
+use Rattle.pc_check.specs.Known.{frame}
 use Rattle.pc_check.specs.Said.{said}
-use Rattle.pc_check.proofs.GoodRows.{IsRightEvent, IsRightAct}
 use Rattle.pc_cert_writer.specs.Listed.{listed}
 use Rattle.pc_cert_writer.specs.Document.{ends_line, event_line, act_line, flows_along, segment_lines}
 use Rattle.pc_cert_writer.proofs.ListedLaws.{length-listed}

@@ -1,15 +1,14 @@
 -- The numbers of the whole segments of a project have at most 18 digits.
-use Rattle.std.proofs.Common.{◌≡◌, ℕ, ◌+◌, ◌-◌, ◌*◌, ◌^◌, ◌<◌, ◌≤◌, Bool, true, false, zero, suc, List, [], ◌∷◌, length, refl, sym, ap, ◌∙◌, subst, arith, ◌⊎◌, inl, inr, mul_comm}
+use Rattle.std.proofs.Common.{◌≡◌, ℕ, ◌+◌, ◌-◌, ◌*◌, ◌^◌, ◌<◌, ◌≤◌, Bool, true, false, zero, suc, List, [], ◌∷◌, length, arith, mul_comm}
 use Rattle.std.proofs.Math.Nat.{mul-le-mul_left, mul-le-mul_right}
 use Rattle.std.proofs.lemmas.List.Elements.{recursion_from_All, All-from_recursion}
 use Rattle.std.specs.List.{AllByRecursion as ByRecursion}
-use Rattle.std.specs.Prelude.{slice_index, nat_lt, if◌then◌else◌, All}
-use Rattle.pc_model.specs.declared.limits.TheConstants.{MAX_EVENTS, MAX_ACTIVITIES, MAX_DURATION, MAX_COST, MAX_SLOPE}
+use Rattle.std.specs.Prelude.{nat_lt, if◌then◌else◌, All}
+use Rattle.pc_model.specs.declared.limits.TheConstants.{MAX_EVENTS, MAX_DURATION, MAX_SLOPE}
 use Rattle.pc_model.specs.Sums.{sum_to}
 use Rattle.pc_model.specs.Network.{IsOrder}
 use Rattle.pc_model.specs.Pieces.{ArePieces}
-use Rattle.pc_model.specs.Schedule.{normal_of, crash_of, normals, crashes}
-use Rattle.pc_model.specs.Walk.{from_of, to_of}
+use Rattle.pc_model.specs.Schedule.{normal_of, normals, crashes}
 use Rattle.pc_model.specs.Cost.{IsPriced, activity_cost, last_slope}
 use Rattle.pc_model.proofs.Sums.{sum_to-le, sum_to-times, sum_to-bound}
 use Rattle.pc_model.proofs.Schedules.Durations.{normals-at, crashes-at}

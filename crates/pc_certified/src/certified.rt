@@ -1,7 +1,12 @@
 //! What is written is certified.
-ghost use Rattle.std.specs.Prelude.{ℕ, List, All};
+ghost use Rattle.std.specs.Prelude.{◌≡◌, ℕ, List, length, All};
 ghost use Rattle.pc_curve_laws.specs.Segment.{Segment};
+ghost use Rattle.pc_lines.specs.Text.{text_of, AllFit};
+ghost use Rattle.pc_crash.specs.Priced.{PricedNetwork};
 ghost use Rattle.pc_check.specs.Certified.{AreCertified, AreCurve, segments_of};
+ghost use Rattle.pc_check.specs.declared.fail.Verdict.{Verdict};
+ghost use Rattle.pc_check.specs.declared.fail.Verdict.TheVariants.{Yes};
+ghost use Rattle.pc_audit.specs.Texts.{IsCertified, Finds};
 ghost use Rattle.pc_cert_writer.specs.Document.{document_lines, HasSmallNumbers};
 ghost use Rattle.pc_certified.specs.Complete.{IsComplete};
 ghost use Rattle.pc_certified.specs.Rows.{AllSaySame};
@@ -17,6 +22,9 @@ use pc_crash::CrashNet;
 pub fn written_is_certified(net: &CrashNet<'_>)
     ensures certified { (normal crash : List ℕ) (segments : List Segment) → IsComplete net.now normal crash segments →
         AreCertified net.now (document_lines net.now normal crash segments) }
+    ensures text { (normal crash : List ℕ) (segments : List Segment) → IsComplete net.now normal crash segments →
+        AllFit (document_lines net.now normal crash segments) →
+        IsCertified net.now (text_of (document_lines net.now normal crash segments)) (length segments) }
     ensures same { (normal crash : List ℕ) (segments : List Segment) → IsComplete net.now normal crash segments →
         AllSaySame net.now segments (segments_of net.now (document_lines net.now normal crash segments)) }
     ensures curve { (normal crash : List ℕ) (segments : List Segment) → IsComplete net.now normal crash segments →
@@ -28,3 +36,9 @@ pub fn written_is_certified(net: &CrashNet<'_>)
     let _few = network.events();
     let _order = network.order();
 }
+
+/// Whoever audits a certified text to its end finds that it is certified, with as many segments.
+pub fn certified_is_found()
+    ensures { (net : PricedNetwork) (text : List ℕ) (segments : ℕ) (verdict : Verdict) → IsCertified net text segments →
+        Finds net text verdict → verdict ≡ Yes segments }
+{}

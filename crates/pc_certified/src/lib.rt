@@ -6,6 +6,8 @@
 
 mod certified;
 mod texts;
+mod worked;
 
-pub use certified::written_is_certified;
+pub use certified::{certified_is_found, written_is_certified};
 pub use texts::{written_fits, written_is_one_text};
+pub use worked::small_decks_are_written;

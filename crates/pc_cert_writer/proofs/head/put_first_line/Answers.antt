@@ -12,8 +12,8 @@ returns g c =
     let net = c.args.net.now in
     let events : c.from.result ≡ net.network.events = cc in
     let activities : c.from-2.result ≡ length net.network.arcs = cc in
-    let text = c.put.ensures ⨾ c.put_number.ensures ⨾ c.put_code.ensures.text ⨾ c.put_number-2.ensures ⨾ c.put_number-3.ensures ⨾ c.put-2.ensures in
     record {
-      text = Adds-as _ (head_words c.version.result c.project.result c.from.result c.from-2.result ∙ (λ i. text_of (Head (c.version.ensures i) (c.project.ensures i) (events i) (activities i) ∷ []))) text;
+      text = Adds-as _ (head_words c.version.result c.project.result c.from.result c.from-2.result ∙ (λ i. text_of (Head (c.version.ensures i) (c.project.ensures i) (events i) (activities i) ∷ [])))
+          (c.put.ensures ⨾ c.put_number.ensures ⨾ c.put_code.ensures.text ⨾ c.put_number-2.ensures ⨾ c.put_number-3.ensures ⨾ c.put-2.ensures);
       fit = ((is_version (length net.pieces), subst (λ code. is_code code ≡ true) c.project.ensures c.put_code.ensures.code, omega arith, omega arith), tt);
     }

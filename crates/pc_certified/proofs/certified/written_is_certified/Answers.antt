@@ -1,6 +1,6 @@
 use Rattle.std.proofs.Common.{ap, subst, arith}
 use Rattle.pc_model.specs.Network.{Network, IsOrder}
-use Rattle.pc_certified.proofs.CertifiedLaws.{certified, all_same, curve}
+use Rattle.pc_certified.proofs.CertifiedLaws.{certified, text_certified, all_same, curve}
 use Rattle.pc_certified.proofs.SmallLaws.{IsSized, small_segments}
 use Rattle.pc_certified.proofs.certified.written_is_certified.Goals as goal
 
@@ -19,6 +19,7 @@ returns c =
     } in
     record {
       certified = certified net sized known.activity_names;
+      text = text_certified net sized known.activity_names;
       same = all_same net sized known.activity_names;
       curve = curve net sized known.activity_names;
       small = small_segments net sized;
