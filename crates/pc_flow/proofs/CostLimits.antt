@@ -1,9 +1,9 @@
 -- The cost of any durations is within its limit.
-use Rattle.std.proofs.Common.{◌≡◌, ℕ, zero, suc, ◌+◌, ◌-◌, ◌*◌, ◌<◌, ◌≤◌, List, length, arith}
-use Rattle.std.proofs.Math.Nat.{mul-le-mul_left, mul-le-mul_right, mul_comm}
-use Rattle.pc_model.specs.declared.limits.TheConstants.{MAX_ACTIVITIES, MAX_DURATION, MAX_SLOPE}
+use Rattle.std.proofs.Common.{ℕ, zero, suc, ◌-◌, ◌*◌, ◌<◌, ◌≤◌, length, arith}
+use Rattle.std.proofs.Math.Nat.{mul-le-mul_left, mul_comm}
+use Rattle.pc_model.specs.declared.limits.TheConstants.{MAX_DURATION}
 use Rattle.pc_model.specs.Sums.{sum_to}
-use Rattle.pc_model.specs.Cost.{IsPriced, activity_cost, cost_of, last_slope}
+use Rattle.pc_model.specs.Cost.{IsPriced, activity_cost, cost_of}
 use Rattle.pc_model.specs.Pieces.{ArePieces}
 use Rattle.pc_model.proofs.Sums.{sum_to-le, sum_to-times}
 use Rattle.pc_model.proofs.Costs.PieceLaws.{knee-normal}

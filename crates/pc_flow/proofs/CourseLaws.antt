@@ -1,17 +1,16 @@
 -- What holds of every solver: its lengths are in order, its segment is whole, and its numbers are small.
-use Rattle.std.proofs.Common.{◌≡◌, ℕ, ◌+◌, ◌-◌, ◌*◌, ◌^◌, ◌<◌, ◌≤◌, ◌==◌, Bool, true, false, List, length, refl, sym, ◌∙◌, ap, subst, inl, inr, arith}
-use Rattle.std.specs.Prelude.{◌&&◌, nat_lt, min}
+use Rattle.std.proofs.Common.{◌≡◌, ℕ, ◌+◌, ◌-◌, ◌*◌, ◌^◌, ◌<◌, ◌≤◌, ◌==◌, Bool, true, length, refl, sym, ◌∙◌, ap, subst, inl, inr, arith}
+use Rattle.std.specs.Prelude.{◌&&◌}
 use Rattle.std.proofs.lemmas.Bool.{cases_Bool, cases_lt, lt-ltb}
 use Rattle.pc_model.specs.Schedule.{lesser_of}
-use Rattle.pc_model.specs.Cost.{cost_of}
 use Rattle.pc_curve_laws.specs.Segment.{fall_of, IsSegment}
 use Rattle.pc_curve_laws.specs.State.{segment_of}
 use Rattle.pc_curve_laws.specs.Steps.{filled_state}
 use Rattle.pc_curve_laws.proofs.Stairs.StairStates.{stair-within_range, stair-fall_in_range, stair-fall_positive, stair-segment, stair-level_segment, stair-times_within, stair-cost}
-use Rattle.pc_crash.specs.Priced.{PricedNetwork, knees_in}
+use Rattle.pc_crash.specs.Priced.{knees_in}
 use Rattle.pc_board.specs.Sheets.{Sheet, time_of, rank_of, flow_of}
 use Rattle.pc_search.specs.Choosing.{moving}
-use Rattle.pc_search.specs.Labelling.{slope_at, slopes_in, IsStateWith, MayFall}
+use Rattle.pc_search.specs.Labelling.{slope_at, IsStateWith, MayFall}
 use Rattle.pc_search.proofs.StateLaws.{IsKnown, slopes-small, value-bounded, flow-bounded}
 use Rattle.pc_flow.specs.Courses.{Course, upper_of, lower_of, moves_at, present, IsOnCurve, IsOnCourse, HasSmallNumbers}
 use Rattle.pc_flow.proofs.CostLimits.{cost_of-most}

@@ -1,8 +1,8 @@
 -- How the greatest sum at one event comes from those at the events before it, and the pass over all events.
-use Rattle.std.proofs.Common.{◌≡◌, ◌≢◌, ℕ, ◌+◌, ◌*◌, ◌<◌, ◌≤◌, List, [], ◌∷◌, ◌++◌, length, slice_index, refl, sym, ap, subst, ◌⊎◌, inl, inr, max, below_more, arith}
+use Rattle.std.proofs.Common.{◌≡◌, ℕ, ◌+◌, ◌<◌, ◌≤◌, List, [], ◌∷◌, ◌++◌, length, slice_index, refl, sym, ap, subst, ◌⊎◌, inl, inr, max, below_more, arith}
 use Rattle.std.specs.Ordering.{nat_cmp, ord_max}
 use Rattle.std.proofs.Math.Nat.{mul-le-mul_right}
-use Rattle.std.proofs.lemmas.Bool.{cases_eq, cases_lt}
+use Rattle.std.proofs.lemmas.Bool.{cases_lt}
 use Rattle.std.proofs.lemmas.Bool.Decides.{nat_tests}
 use Rattle.pc_model.specs.declared.Term.{Term}
 use Rattle.pc_model.specs.declared.limits.TheConstants.{MAX_EVENTS, MAX_DURATION}
@@ -14,9 +14,7 @@ use Rattle.pc_model.proofs.Schedules.Durations.{normals-at, crashes-at, crash-no
 use Rattle.pc_model.proofs.Walks.WalkLaws.{IsWalk-push, walk_sum-push, last_of_walk, walk_sum-bound}
 use Rattle.pc_model.proofs.Walks.OrderLaws.{walk_is_short, stands_in_order}
 use Rattle.pc_board.specs.Sheets.{Sheet, kept_time}
-use Rattle.pc_board.specs.Labelling.{IsFor}
 use Rattle.pc_board.specs.Moves.{SetsTime}
-use Rattle.pc_flow.specs.declared.early.TheConstants.{MAX_LENGTH}
 use Rattle.pc_crash.specs.Terms.{AreWithinLimits}
 use Rattle.pc_flow.specs.declared.pace.Pace.{Pace}
 use Rattle.pc_flow.specs.declared.pace.Pace.TheVariants.{Crash, Normal}
@@ -81,8 +79,7 @@ module _ (net : Network) (lengths : List ℕ) (times : ℕ → ℕ) where
 
     by_activity : (a : ℕ) → a < length net.arcs → to_of net.arcs a ≡ e → brought a ≡ n → IsSumOfWalk net.arcs lengths net.start e n
     by_activity a known ends is =
-        let (walk, walked, sums) = (before.each a known ends).attained in
-        (
+        let (walk, walked, sums) = (before.each a known ends).attained in (
           walk ++ a ∷ [],
           subst (λ (x : ℕ). IsWalk net.arcs net.start (walk ++ a ∷ []) x) ends (IsWalk-push net.arcs net.start _ walk a walked known refl),
           omega (arith, walk_sum-push lengths walk a),

@@ -1,10 +1,10 @@
 -- The way from one segment to the next: the events without a label fall to its lower end, and from there, above the
 -- all-crash length, the flow is raised and the next fall found.
-use Rattle.std.proofs.Common.{◌≡◌, ℕ, ◌+◌, ◌-◌, ◌*◌, ◌^◌, ◌<◌, ◌≤◌, ◌==◌, Bool, true, false, List, length, refl, sym, ◌∙◌, ap, subst, inl, inr, arith}
-use Rattle.std.specs.Prelude.{◌&&◌, ◌↔◌, IsTrue, nat_lt, min, if◌then◌else◌}
+use Rattle.std.proofs.Common.{◌≡◌, ℕ, ◌+◌, ◌-◌, ◌*◌, ◌^◌, ◌<◌, ◌≤◌, Bool, true, false, length, refl, sym, ◌∙◌, ap, subst, inl, inr, arith}
+use Rattle.std.specs.Prelude.{◌↔◌, IsTrue, min}
 use Rattle.std.proofs.lemmas.Bool.{cases_Bool, cases_lt, eq-eqb, ne_eqb, cond-true, cond-false}
 use Rattle.pc_model.specs.Walk.{from_of, to_of}
-use Rattle.pc_model.specs.Schedule.{normal_of, gap_of, lesser_of}
+use Rattle.pc_model.specs.Schedule.{normal_of, lesser_of}
 use Rattle.pc_model.specs.Cost.{cost_of}
 use Rattle.pc_model.proofs.Costs.NormalCost.{cost_of-same}
 use Rattle.pc_curve_laws.specs.Segment.{fall_of}
@@ -13,10 +13,10 @@ use Rattle.pc_crash.specs.Priced.{PricedNetwork, knees_in}
 use Rattle.pc_board.specs.Sheets.{Sheet, time_of, rank_of, flow_of}
 use Rattle.pc_search.specs.Growing.{AreListed}
 use Rattle.pc_search.specs.Choosing.{moving}
-use Rattle.pc_search.specs.Labelling.{length_at, slope_at, IsBetween, HasFallen, HasLabelled}
-use Rattle.pc_flow.specs.Courses.{Course, upper_of, lower_of, present, IsLevel, IsOnCurve, IsOnCourse, HasEnded, HasSmallNumbers, IsSameCurve, IsNext, most_looks}
+use Rattle.pc_search.specs.Labelling.{length_at, slope_at, IsBetween, HasFallen}
+use Rattle.pc_flow.specs.Courses.{Course, upper_of, lower_of, IsLevel, IsOnCourse, HasEnded, IsSameCurve, IsNext, most_looks}
 use Rattle.pc_flow.specs.Descents.{HasDescended, HasSearched}
-use Rattle.pc_flow.proofs.CourseLaws.{state, upper-above, falls, fall-within, lower-above, fall-some, whole, small}
+use Rattle.pc_flow.proofs.CourseLaws.{state, falls, fall-within, lower-above, fall-some, whole, slope-small, small}
 
 -- where the test for the end says no, it is not there
 pub not_ended : (r : Bool) (c : Course) → IsTrue r ↔ HasEnded c → r ≡ false → HasEnded c → ⊥
@@ -98,9 +98,9 @@ module _ (c : Course) (on : IsOnCourse c) (s : Sheet) (descended : HasDescended 
               cost_of-same c.net.terms (knees_in c.net) (lesser_of c.net.network c.net.terms (time_of s))
                   (lesser_of c.net.network c.net.terms (λ e. time_of c.board e - fall_of (moving c.board) c.fall e))
                   (λ a inside. let known : a < length c.net.network.arcs = omega (arith, inside, on.priced.terms_fit.one_each) in
-                    lesser-alike c.net (time_of s) (λ e. time_of c.board e - fall_of (moving c.board) c.fall e) a
-                    (time-mid fallen (from_of c.net.network.arcs a) (on.priced.range.from_in a known))
-                    (time-mid fallen (to_of c.net.network.arcs a) (on.priced.range.to_in a known))),
+                  lesser-alike c.net (time_of s) (λ e. time_of c.board e - fall_of (moving c.board) c.fall e) a
+                  (time-mid fallen (from_of c.net.network.arcs a) (on.priced.range.from_in a known))
+                  (time-mid fallen (to_of c.net.network.arcs a) (on.priced.range.to_in a known))),
             )
         | inr none ↦
             let zero_is : c.fall ≡ 0 = omega arith in
@@ -247,6 +247,10 @@ module _ (c : Course) (on : IsOnCourse c) (s : Sheet) (descended : HasDescended 
       looks-after =
           let steeper : (c.slope + rise) - c.slope ≡ rise = omega arith in
           omega (arith, steeper, upper-after, fall-within after on_course-after)
+
+      -- the slope fits
+      pub slope-fits : c.slope + rise < 2 ^ 64
+      slope-fits = let slope : c.slope + rise < 10 ^ 13 = slope-small after on_course-after refl in omega (arith, slope)
 
       pub counted-after : (before used : ℕ) → used ≤ before + 4 * length c.net.network.arcs * (rise + fall) → used ≤ before + most_looks c after
       counted-after before used counted = omega (arith, counted, ap (λ n. 4 * length c.net.network.arcs * n) looks-after)

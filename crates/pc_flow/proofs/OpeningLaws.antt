@@ -1,12 +1,12 @@
 -- A solver before its first segment: all durations are normal, and nothing flows.
-use Rattle.std.proofs.Common.{◌≡◌, ◌≢◌, ℕ, zero, suc, ◌+◌, ◌-◌, ◌*◌, ◌^◌, ◌<◌, ◌≤◌, ◌==◌, Bool, true, false, List, [], ◌∷◌, length, slice_index, replicate, refl, sym, ◌∙◌, ap, subst, inl, inr, arith}
+use Rattle.std.proofs.Common.{◌≡◌, ℕ, zero, suc, ◌-◌, ◌<◌, ◌≤◌, true, false, List, [], ◌∷◌, length, slice_index, replicate, refl, sym, ◌∙◌, ap, subst, inl, inr, arith}
 use Rattle.std.proofs.Math.Path.{fun_ext}
 use Rattle.std.proofs.lemmas.Bool.{cases_eq, cases_lt}
 use Rattle.pc_cells.specs.Spans.{Cells}
 use Rattle.pc_model.specs.Sums.{sum_to}
 use Rattle.pc_model.specs.Walk.{from_of, to_of, IsWalk}
 use Rattle.pc_model.specs.Network.{Network, IsSound, IsInRange, IsOrder, IsEarly}
-use Rattle.pc_model.specs.Schedule.{normal_of, crash_of, base_cost_of, normals, lesser_of, IsSchedule, IsAllNormalLength, IsAllCrashLength}
+use Rattle.pc_model.specs.Schedule.{normal_of, base_cost_of, normals, lesser_of, IsSchedule, IsAllNormalLength, IsAllCrashLength}
 use Rattle.pc_model.specs.Cost.{IsPriced, cost_of}
 use Rattle.pc_model.specs.Pieces.{ArePieces}
 use Rattle.pc_model.proofs.Walks.EarlyLaws.{early_at_start, early_fits}
@@ -49,6 +49,10 @@ some-activities net range sound = let (walk, walked) = sound.reached net.end ran
     some [] walked = absurd (range.apart walked)
     some (a ∷ walk) walked = omega (arith, walked.0)
 
+-- what is kept of a time stays when the start gets its label
+pub kept-before : (t u : Sheet) (start e : ℕ) {end : ℕ} → StartsAt t u start → end ≡ e → kept_time t end ≡ kept_time u e
+kept-before t u start e starts same = ap (kept_time t) same ∙ sym (ap (λ (v : Sheet). kept_time v e) starts.rest)
+
 -- the board after both passes over the events, with the start's label
 module _ (net : PricedNetwork) (home : Cells) (b s t u : Sheet) (events activities start : ℕ)
     (are_events : events ≡ net.network.events) (are_activities : activities ≡ length net.network.arcs) (is_start : start ≡ net.network.start)
@@ -89,10 +93,6 @@ module _ (net : PricedNetwork) (home : Cells) (b s t u : Sheet) (events activiti
     early = λ e inside. subst (λ n. IsEarly net.network (normals net.terms) e n) (sym (kept e)) (early e inside);
     small = λ e inside. omega (arith, kept e, small e inside);
   }
-
-  -- the time that is kept of an event before the start has its label
-  pub kept-before : (e end : ℕ) → end ≡ e → kept_time t end ≡ kept_time u e
-  kept-before e end same = ap (kept_time t) same ∙ sym (kept e)
 
 module _ (net : PricedNetwork) (home : Cells) (s : Sheet) (is : IsOpened net home s) (priced : IsPriced net.network net.terms (knees_in net))
     (limits : AreWithinLimits net.terms) (pieces : ArePieces net.terms net.pieces) (piece_limits : ArePiecesWithinLimits net.pieces) where
@@ -255,15 +255,12 @@ module _ (net : PricedNetwork) (home : Cells) (s : Sheet) (is : IsOpened net hom
   room : HaveRoom s
   room = record { some = λ e inside has. absurd (no-step e has) }
 
-  longest-is : length_at net s ≡ kept_time s net.network.end
-  longest-is = time-is net.network.end
-
   between : IsBetween net s
   between = record {
     search = search;
     room = room;
     state = state;
-    fits = omega (arith, fallen-is, longest-is, is.small net.network.end priced.range.end_in);
+    fits = omega (arith, fallen-is, time-is net.network.end, is.small net.network.end priced.range.end_in);
   }
 
   -- none was scanned
@@ -286,28 +283,31 @@ module _ (net : PricedNetwork) (home : Cells) (s : Sheet) (is : IsOpened net hom
       ∙ cost_of-same net.terms (knees_in net) (normal_of net.terms) (lesser_of net.network net.terms (time_of s))
       (λ a inside. sym (normal-is a (omega (arith, inside, priced.terms_fit.one_each))))
 
-  module _ (order : List ℕ) (ordered : IsOrder net.network order) (shortest : ℕ) (all_crash : IsAllCrashLength net.network net.terms shortest) where
+  module _ (longest shortest cost : ℕ) (is_longest : longest ≡ kept_time s net.network.end) (is_cost : cost ≡ sum_to (length net.terms) (base_cost_of net.terms)) where
     -- the solver
     abbrev pub opening : Course
     opening = record {
       net = net;
       board = s;
-      longest = kept_time s net.network.end;
+      longest = longest;
       shortest = shortest;
-      cost = sum_to (length net.terms) (base_cost_of net.terms);
+      cost = cost;
       slope = 0;
       fall = 0;
       given = false;
     }
 
+    upper-is : length_at net s ≡ longest
+    upper-is = time-is net.network.end ∙ sym is_longest
+
     pub opening-level : IsLevel opening
-    opening-level = record { upper = longest-is; slope = refl; fall = refl; empty = flow-is }
+    opening-level = record { upper = upper-is; slope = refl; fall = refl; empty = flow-is }
 
-    pub opening-home : s.home ≡ home
-    opening-home = ap (λ (v : Sheet). v.home) is.rest
+    pub opening-longest : IsAllNormalLength net.network net.terms longest
+    opening-longest = subst (λ n. IsAllNormalLength net.network net.terms n) (sym is_longest) (is.early net.network.end priced.range.end_in)
 
-    pub opening-on_course : IsOnCourse opening
-    opening-on_course = record {
+    pub opening-on_course : (order : List ℕ) → IsOrder net.network order → IsAllCrashLength net.network net.terms shortest → IsOnCourse opening
+    opening-on_course order ordered all_crash = record {
       priced = priced;
       limits = limits;
       pieces = pieces;
@@ -315,11 +315,11 @@ module _ (net : PricedNetwork) (home : Cells) (s : Sheet) (is : IsOpened net hom
       ordered = (order, ordered);
       between = between;
       listed = listed;
-      longest = is.early net.network.end priced.range.end_in;
+      longest = opening-longest;
       shortest = all_crash;
-      small = is.small net.network.end priced.range.end_in;
-      within = omega (arith, longest-is);
-      cost = cost-is;
+      small = omega (arith, is_longest, is.small net.network.end priced.range.end_in);
+      within = omega (arith, upper-is);
+      cost = is_cost ∙ cost-is;
       slope = sym slope-is;
       untouched = λ none. opening-level;
       normal = λ none. normal-is;

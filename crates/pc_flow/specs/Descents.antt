@@ -1,5 +1,5 @@
 -- The two parts of the way from one segment to the next.
-use Rattle.std.specs.Prelude.{◌≡◌, ℕ, ◌<◌, ◌≤◌, ◌⊎◌}
+use Rattle.std.specs.Prelude.{◌≡◌, ℕ, ◌<◌, ◌≤◌}
 use Rattle.pc_crash.specs.Priced.{PricedNetwork}
 use Rattle.pc_board.specs.Sheets.{Sheet}
 use Rattle.pc_search.specs.Labelling.{length_at, HasFallen, HasLabelled}

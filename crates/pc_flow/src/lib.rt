@@ -3,6 +3,7 @@
 #![tactic(auto)]
 
 mod early;
+mod opening;
 mod pace;
 mod solver;
 mod stepping;
@@ -11,5 +12,3 @@ mod viewing;
 pub use early::MAX_LENGTH;
 pub use pc_crash::{CrashNet, SegmentView, Steps};
 pub use solver::{Solver, cells_needed};
-
-

@@ -7,9 +7,8 @@ ghost use Rattle.pc_flow.specs.declared.early.TheConstants.{MAX_LENGTH};
 ghost use Rattle.pc_cells.specs.Spans.{free_of};
 ghost use Rattle.pc_flow.specs.Courses.{Course, IsLevel, IsOnCurve, lower_of};
 
-use crate::early::{MAX_LENGTH, keep_early_times};
-use crate::pace::Pace;
-use pc_board::Board;
+use crate::early::MAX_LENGTH;
+use crate::opening::open_board;
 use pc_cells::Region;
 use pc_crash::CrashNet;
 use pc_search::Search;
@@ -66,19 +65,16 @@ impl<'n> Solver<'n> {
         ensures longest { IsAllNormalLength net.now.network net.now.terms result.longest }
         ensures shortest { IsAllCrashLength net.now.network net.now.terms result.shortest }
     {
-        let shape = net.net();
         // The order of the events says that no activity has more flow than its value.
-        let _order = shape.order();
-        let mut board = Board::new(region, shape.events(), shape.activities());
-        keep_early_times(&mut board, net, Pace::Crash);
-        let shortest = board.kept_time(shape.end());
-        keep_early_times(&mut board, net, Pace::Normal);
-        let longest = board.kept_time(shape.end());
-        board.start_at(shape.start());
+        let _order = net.net().order();
+        let opening = open_board(region, net);
         Solver {
-            search: Search { net, board },
-            longest,
-            shortest,
+            search: Search {
+                net,
+                board: opening.board,
+            },
+            longest: opening.longest,
+            shortest: opening.shortest,
             cost: normal_cost(net),
             slope: 0,
             fall: 0,

@@ -1,4 +1,4 @@
-use Rattle.std.proofs.Common.{◌≤◌, slice_index, arith}
+use Rattle.std.proofs.Common.{◌≤◌, arith}
 use Rattle.pc_model.specs.declared.limits.TheConstants.{MAX_EVENTS}
 use Rattle.pc_flow.specs.Paces.{durations_at}
 use Rattle.pc_flow.proofs.EarlyTimes.{early-before, early-more, early-all, small_times, durations-short}
@@ -37,4 +37,4 @@ returns-clause-limit c =
     let small = small_times c.args.net.now.network c.order-e-items.result.now (durations_at c.args.net.now.terms c.args.pace) order.in_range order.sound order.order
     few (durations-short c.args.net.now.network c.args.net.now.terms c.args.pace priced.terms_fit c.net-shape.ensures.limits) in
     λ e known.
-        small.fits e _ known (early-all c.args.net.now.network (durations_at c.args.net.now.terms c.args.pace) c.order-e-items.result.now order.order c.args.board.now c.loop-e.board c.loop-e.e-index c.loop-e.invariant (omega arith) e known)
+    small.fits e _ known (early-all c.args.net.now.network (durations_at c.args.net.now.terms c.args.pace) c.order-e-items.result.now order.order c.args.board.now c.loop-e.board c.loop-e.e-index c.loop-e.invariant (omega arith) e known)

@@ -1,5 +1,4 @@
-use Rattle.std.proofs.Common.{◌≡◌, ℕ, ◌+◌, slice_index, length, ap, subst, arith}
-use Rattle.pc_model.specs.Walk.{from_of}
+use Rattle.std.proofs.Common.{◌≡◌, length, ap, subst, arith}
 use Rattle.pc_board.specs.Sheets.{kept_time}
 use Rattle.pc_flow.specs.Paces.{durations_at}
 use Rattle.pc_flow.proofs.EarlyTimes.{IsArrivalOf, ord_max-nat, arrival-more, early-from_arrival}

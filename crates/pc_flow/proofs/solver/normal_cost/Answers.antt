@@ -1,4 +1,4 @@
-use Rattle.std.proofs.Common.{◌≡◌, ◌<◌, length, ap, arith}
+use Rattle.std.proofs.Common.{◌<◌, length, ap, arith}
 use Rattle.pc_model.specs.declared.Term.{Term}
 use Rattle.pc_model.specs.Schedule.{base_cost_of}
 use Rattle.pc_flow.proofs.CostLimits.{sum_to-most}

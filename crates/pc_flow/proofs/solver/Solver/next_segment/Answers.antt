@@ -1,8 +1,11 @@
 use Rattle.std.proofs.Common.{◌≡◌, true, false, refl, arith}
 use Rattle.pc_flow.specs.Solvers.{course_of}
-use Rattle.pc_flow.proofs.CourseLaws.{falls, cost-lower, slope-small}
-use Rattle.pc_flow.proofs.NextLaws.{not_ended, between-mid, listed-mid, after, on_course-after, next-after, same-after, counted-after}
+use Rattle.pc_flow.proofs.CourseLaws.{falls, cost-lower}
+use Rattle.pc_flow.proofs.NextLaws.{not_ended, between-mid, listed-mid, on_course-after, next-after, same-after, slope-fits, counted-after}
 use Rattle.pc_flow.proofs.solver.Solver.next_segment.Goals as goal
+
+pub returns-then-has_ended-clause-ended : goal.returns-then-has_ended-clause-ended
+returns-then-has_ended-clause-ended g c = ((λ is. c.has_ended.ensures.0 c.if-has_ended.true), (λ ended. refl))
 
 pub descend-requires-clause-falls : goal.descend-requires-clause-falls
 descend-requires-clause-falls g c = falls (course_of c.self.inside) c.self.invariant.on_course
@@ -23,67 +26,47 @@ overflow_add-self g c = omega (arith, cost-lower (course_of c.self.inside) c.sel
 
 pub overflow_add-self-2 : goal.overflow_add-self-2
 overflow_add-self-2 g c =
-    let course = course_of c.self.inside in
-    let on = c.self.invariant.on_course in
     let searched = rw c.descend.ensures.net at c.search_on-labelling.ensures.searched in
     let decides = rw (← c.self.view_is) at c.has_ended.ensures in
-    let going = not_ended _ course decides c.if-has_ended.false in
-    let t = c.search_on-labelling.new.search.board in
-    let slope = slope-small (after course on c.descend.new.search.board c.descend.ensures.descended t _ _ searched)
-    (on_course-after course on c.descend.new.search.board c.descend.ensures.descended t _ _ searched going) refl in
-    omega (arith, slope)
+    let going = not_ended _ (course_of c.self.inside) decides c.if-has_ended.false in
+    omega (arith, slope-fits (course_of c.self.inside) c.self.invariant.on_course c.descend.new.search.board c.descend.ensures.descended c.search_on-labelling.new.search.board _ _ searched going)
 
 pub invariant_of-self : goal.invariant_of-self
 invariant_of-self g c =
-    let course = course_of c.self.inside in
-    let on = c.self.invariant.on_course in
     let searched = rw c.descend.ensures.net at c.search_on-labelling.ensures.searched in
     let decides = rw (← c.self.view_is) at c.has_ended.ensures in
-    let going = not_ended _ course decides c.if-has_ended.false in
-    let t = c.search_on-labelling.new.search.board in
+    let going = not_ended _ (course_of c.self.inside) decides c.if-has_ended.false in
     record {
       on_course = rw (c.search_on-labelling.ensures.net, c.descend.ensures.net)
-          (on_course-after course on c.descend.new.search.board c.descend.ensures.descended t _ _ searched going);
+          (on_course-after (course_of c.self.inside) c.self.invariant.on_course c.descend.new.search.board c.descend.ensures.descended c.search_on-labelling.new.search.board _ _ searched going);
     }
+
+pub returns-clause-same : goal.returns-clause-same
+returns-clause-same g c =
+    let searched = rw c.descend.ensures.net at c.search_on-labelling.ensures.searched in
+    let decides = rw (← c.self.view_is) at c.has_ended.ensures in
+    let going = not_ended _ (course_of c.self.inside) decides c.if-has_ended.false in
+    rw (← c.self.view_is, c.search_on-labelling.ensures.net, c.descend.ensures.net)
+    (same-after (course_of c.self.inside) c.self.invariant.on_course c.descend.new.search.board c.descend.ensures.descended c.search_on-labelling.new.search.board _ _ searched going)
+
+pub returns-clause-next : goal.returns-clause-next
+returns-clause-next g c =
+    let searched = rw c.descend.ensures.net at c.search_on-labelling.ensures.searched in
+    let decides = rw (← c.self.view_is) at c.has_ended.ensures in
+    let going = not_ended _ (course_of c.self.inside) decides c.if-has_ended.false in
+    λ is. rw (← c.self.view_is, c.search_on-labelling.ensures.net, c.descend.ensures.net)
+    (next-after (course_of c.self.inside) c.self.invariant.on_course c.descend.new.search.board c.descend.ensures.descended c.search_on-labelling.new.search.board _ _ searched going)
 
 pub returns-clause-ended : goal.returns-clause-ended
 returns-clause-ended g c =
     let going = not_ended _ c.args.self.now c.has_ended.ensures c.if-has_ended.false in
     ((λ (is : true ≡ false). cc), (λ ended. absurd (going ended)))
 
-pub returns-clause-same : goal.returns-clause-same
-returns-clause-same g c =
-    let course = course_of c.self.inside in
-    let on = c.self.invariant.on_course in
-    let searched = rw c.descend.ensures.net at c.search_on-labelling.ensures.searched in
-    let decides = rw (← c.self.view_is) at c.has_ended.ensures in
-    let going = not_ended _ course decides c.if-has_ended.false in
-    let t = c.search_on-labelling.new.search.board in
-    rw (← c.self.view_is, c.search_on-labelling.ensures.net, c.descend.ensures.net)
-    (same-after course on c.descend.new.search.board c.descend.ensures.descended t _ _ searched going)
-
-pub returns-clause-next : goal.returns-clause-next
-returns-clause-next g c =
-    let course = course_of c.self.inside in
-    let on = c.self.invariant.on_course in
-    let searched = rw c.descend.ensures.net at c.search_on-labelling.ensures.searched in
-    let decides = rw (← c.self.view_is) at c.has_ended.ensures in
-    let going = not_ended _ course decides c.if-has_ended.false in
-    let t = c.search_on-labelling.new.search.board in
-    λ is. rw (← c.self.view_is, c.search_on-labelling.ensures.net, c.descend.ensures.net)
-    (next-after course on c.descend.new.search.board c.descend.ensures.descended t _ _ searched going)
-
 pub returns-clause-counted : goal.returns-clause-counted
 returns-clause-counted g c =
-    let course = course_of c.self.inside in
-    let on = c.self.invariant.on_course in
     let searched = rw c.descend.ensures.net at c.search_on-labelling.ensures.searched in
     let decides = rw (← c.self.view_is) at c.has_ended.ensures in
-    let going = not_ended _ course decides c.if-has_ended.false in
-    let t = c.search_on-labelling.new.search.board in
+    let going = not_ended _ (course_of c.self.inside) decides c.if-has_ended.false in
     let counted = rw c.descend.ensures.net at c.search_on-labelling.ensures.counted in
     rw (← c.self.view_is, c.search_on-labelling.ensures.net, c.descend.ensures.net)
-    (counted-after course on c.descend.new.search.board c.descend.ensures.descended t _ _ searched going _ _ counted)
-
-pub returns-then-has_ended-clause-ended : goal.returns-then-has_ended-clause-ended
-returns-then-has_ended-clause-ended g c = ((λ is. c.has_ended.ensures.0 c.if-has_ended.true), (λ ended. refl))
+    (counted-after (course_of c.self.inside) c.self.invariant.on_course c.descend.new.search.board c.descend.ensures.descended c.search_on-labelling.new.search.board _ _ searched going _ _ counted)

@@ -1,9 +1,6 @@
-use Rattle.std.proofs.Common.{◌≡◌, ◌<◌, ℕ, length, sym, ◌∙◌, ap, arith, refl}
-use Rattle.pc_curve_laws.specs.Stair.{knee_flow, crash_flow, stair_of}
+use Rattle.std.proofs.Common.{◌∙◌, arith}
 use Rattle.pc_model.specs.Schedule.{crash_of}
-use Rattle.pc_crash.specs.Priced.{knees_in}
 use Rattle.pc_board.specs.Sheets.{flow_of}
-use Rattle.pc_flow.specs.Solvers.{course_of}
 use Rattle.pc_flow.proofs.FlowLaws.{knee-flow, beside-flow}
 use Rattle.pc_flow.proofs.viewing.SolverSegmentView.flow.Goals as goal
 
