@@ -33,15 +33,16 @@ check:
 	.ci/run
 
 install: all
-	install -d "$(ROOT)/bin" "$(ROOT)/share/man/man1" "$(DOC)/examples" "$(COMPLETIONS)"
+	install -d "$(ROOT)/bin" "$(ROOT)/share/man/man1" "$(ROOT)/share/man/man5" "$(DOC)/examples" "$(COMPLETIONS)"
 	install -m 755 $(PROGRAMS:%=bin/%) "$(ROOT)/bin"
 	for page in $(SECTION1); do sed 's/@VERSION@/$(VERSION)/' "docs/man/$$page" >"$(ROOT)/share/man/man1/$$page" || exit 1; done
+	tools/deck-page docs/deck.md | sed 's/@VERSION@/$(VERSION)/' >"$(ROOT)/share/man/man5/pert-deck.5"
 	install -m 644 $(DOCS) "$(DOC)"
 	install -m 644 $(EXAMPLES) "$(DOC)/examples"
 	install -m 644 tools/completion.bash "$(COMPLETIONS)/pert"
 
 uninstall:
-	rm -f $(PROGRAMS:%="$(ROOT)/bin/%") $(SECTION1:%="$(ROOT)/share/man/man1/%") "$(COMPLETIONS)/pert"
+	rm -f $(PROGRAMS:%="$(ROOT)/bin/%") $(SECTION1:%="$(ROOT)/share/man/man1/%") "$(ROOT)/share/man/man5/pert-deck.5" "$(COMPLETIONS)/pert"
 	rm -rf "$(DOC)"
 
 clean:

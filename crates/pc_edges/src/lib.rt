@@ -5,6 +5,7 @@
 //! count of faults that never falls. `Failed` comes only where that count rose.
 #![tactic(auto)]
 
+mod file_source;
 mod loading;
 mod mem_sink;
 mod mem_source;
@@ -12,10 +13,13 @@ mod pushing;
 mod read_source;
 mod sink;
 mod source;
+mod sure_sink;
+mod sure_source;
 #[cfg(test)]
 mod tests;
 mod write_sink;
 
+pub use file_source::FileSource;
 pub use loading::{LoadError, load};
 pub use mem_sink::MemSink;
 pub use mem_source::MemSource;
@@ -23,4 +27,6 @@ pub use pushing::push_all;
 pub use read_source::ReadSource;
 pub use sink::Sink;
 pub use source::{Failed, Source};
+pub use sure_sink::SureSink;
+pub use sure_source::SureSource;
 pub use write_sink::WriteSink;

@@ -2,9 +2,9 @@
 ghost use Rattle.std.specs.Prelude.{◌≤◌, IfOk};
 
 use super::*;
-use std::io;
 use std::io::{ErrorKind, Read, Write};
 use std::test::Fail;
+use std::{env, fs, io};
 
 const TEXT: &[u8] = b"breadboard";
 
@@ -189,5 +189,43 @@ fn write_sink_writes(rt: HostRuntime) -> Result<(), Fail> {
     assert_eq!(rt; faulty.push(TEXT), Ok(1));
     assert_eq!(rt; faulty.flush(), Err(Failed));
     assert_eq!(rt; faulty.push(TEXT), Err(Failed));
+    Ok(())
+}
+
+/// A file in the folder for temporary files, and one that is not there: each pull from it fails.
+#[test]
+fn file_source_reads(rt: HostRuntime) -> Result<(), Fail> {
+    let mut path = env::temp_dir(&rt)?;
+    path.push("pc_edges_file_source")?;
+    let path = path.into_string();
+    fs::write(&rt, path.as_str(), TEXT)?;
+    let mut source = FileSource::at(&rt, path.as_str());
+    assert_eq!(rt; load(rt.alloc(), &mut source, 10)?.as_slice(), TEXT);
+    fs::remove_file(&rt, path.as_str())?;
+    let mut missing = FileSource::at(&rt, "");
+    let mut buffer = [0u8; 4];
+    assert_eq!(rt; missing.pull(&mut []), Ok(0));
+    assert_eq!(rt; missing.pull(&mut buffer), Err(Failed));
+    assert_eq!(rt; missing.pull(&mut buffer), Err(Failed));
+    Ok(())
+}
+
+/// Pulls fill their buffers, and pushes take their pieces whole.
+#[test]
+fn sure_edges_never_fail(rt: HostRuntime) -> Result<(), Fail> {
+    let mut source = SureSource::new(TEXT);
+    let mut buffer = [0u8; 4];
+    assert_eq!(rt; source.pull(&mut []), Ok(0));
+    assert_eq!(rt; source.pull(&mut buffer), Ok(4));
+    assert_eq!(rt; &buffer, b"brea");
+    assert_eq!(rt;
+        load(rt.alloc(), &mut source, 6)?.as_slice(),
+        b"dboard".as_slice()
+    );
+    assert_eq!(rt; source.pull(&mut buffer), Ok(0));
+    let mut sink = SureSink::new();
+    assert_eq!(rt; push_all(&mut sink, TEXT), Ok(()));
+    assert_eq!(rt; sink.flush(), Ok(()));
+    assert_eq!(rt; sink.count(), 10);
     Ok(())
 }

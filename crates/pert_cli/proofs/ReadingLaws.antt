@@ -7,6 +7,8 @@ use Rattle.pc_faults.specs.declared.fault.Fault.{Fault}
 use Rattle.pert_cli.specs.Sides.{Side, IsReadToEnd, OfDeck}
 use Rattle.pert_cli.specs.Reading.{HasRefusal, too_long as took_too_much, faulty}
 use Rattle.pert_cli.specs.Verdict.{IsFault, too_long}
+use Rattle.pert_cli.specs.declared.forms.Form.{Form}
+use Rattle.pert_cli.specs.Outcome.{IsTurnedDown, by_deck, by_form}
 
 -- what holds of the bytes that were read to the end holds of the deck
 pub of_the_deck : (P : List ℕ → Type 0) (left left_after : Option (List ℕ)) (bytes : List ℕ) → Consumes left left_after bytes → IsAtEnd left_after → P bytes → IfSome left P
@@ -33,7 +35,12 @@ refusal_is_fault source fault (took_too_much is took) =
 refusal_is_fault source fault (faulty read has) = weaker (source.bytes source.old) _ _ (λ bytes both. both.1) has
 
 -- a deck that is refused and not too long was read to its end
-pub refusal_is_read : {S : Type 0} (source : Side S) (fault : Fault) → HasRefusal source fault → OfDeck source (λ bytes. length bytes ≤ longest_deck → IsReadToEnd source)
+refusal_is_read : {S : Type 0} (source : Side S) (fault : Fault) → HasRefusal source fault → OfDeck source (λ bytes. length bytes ≤ longest_deck → IsReadToEnd source)
 refusal_is_read source fault (took_too_much is took) =
     weaker (source.bytes source.old) _ _ (λ bytes long short. absurd (omega (arith, long, short))) (of_a_long_deck _ _ took.0 took.1 took.2)
 refusal_is_read source fault (faulty read has) = weaker (source.bytes source.old) _ _ (λ bytes both short. read) has
+
+-- a deck that is not too long was read to its end, where it or the form refuses with a fault
+pub turned_down_is_read : {S : Type 0} (form : Form) (source : Side S) (fault : Fault) → IsTurnedDown form source fault → OfDeck source (λ bytes. length bytes ≤ longest_deck → IsReadToEnd source)
+turned_down_is_read form source fault (by_deck refusal) = refusal_is_read source fault refusal
+turned_down_is_read form source fault (by_form project has denial) = weaker (source.bytes source.old) _ _ (λ bytes is short. has.read) has.is

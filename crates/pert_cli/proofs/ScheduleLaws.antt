@@ -13,7 +13,7 @@ use Rattle.pc_reports.specs.Schedule.{schedule_text}
 use Rattle.pc_times.specs.Times.{AreEarly, AreLengths}
 use Rattle.pc_project.specs.Project.{Project}
 use Rattle.pc_project.specs.Planned.{IsPlanned}
-use Rattle.pert_cli.specs.Answer.{IsNormalSchedule, Printed, printed_text}
+use Rattle.pert_cli.specs.Normal.{IsNormalSchedule, Printed, printed_text}
 
 -- the normal durations are lengths of the activities
 pub normals-lengths : (project : Project) → IsPlanned project → AreLengths project.network (normals project.terms)

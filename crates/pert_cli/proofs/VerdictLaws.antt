@@ -13,7 +13,8 @@ use Rattle.pc_deck.proofs.ToldLemmas.{told_of-refusal}
 use Rattle.pc_deck.proofs.DeckLaws.{one_deck, not_both as cards_not_refused}
 use Rattle.pc_project.specs.Refusal.{IsRefusedWith}
 use Rattle.pc_project.proofs.RefusalLaws.{makes_not_refused, told_of-refused}
-use Rattle.pert_cli.specs.Verdict.{IsAccepted, IsFault, too_long, card_refusal, project_refusal}
+use Rattle.pc_project.specs.Project.{Project, project_in}
+use Rattle.pert_cli.specs.Verdict.{IsAccepted, IsFault, IsProjectOf, too_long, card_refusal, project_refusal}
 
 -- the refusal of a project is the fault of its deck
 pub refused_project : {A : Type 0} (result : Result A DeckError) (bytes : List ℕ) (deck : Deck) → length bytes ≤ longest_deck → IsDeckOf bytes deck → IfErr result (Refuses (IsRefusedWith deck)) → IfErr result (Refuses (IsFault bytes))
@@ -33,3 +34,8 @@ not_both bytes deck fault accepted (too_long long is) = omega (arith, accepted.s
 not_both bytes deck fault accepted (card_refusal short refusal) = cards_not_refused bytes deck fault accepted.cards refusal
 not_both bytes deck fault accepted (project_refusal other short cards refused) =
     makes_not_refused deck fault accepted.makes (subst (λ d. IsRefusedWith d fault) (one_deck bytes other deck cards accepted.cards) refused)
+
+-- an accepted deck has one project
+pub one_project : (bytes : List ℕ) (project other : Project) → IsProjectOf bytes project → IsProjectOf bytes other → project ≡ other
+one_project bytes project other is also =
+    is.is ∙ ap project_in (one_deck bytes is.deck also.deck is.accepted.cards also.accepted.cards) ∙ sym also.is

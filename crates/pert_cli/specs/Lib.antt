@@ -1,6 +1,7 @@
+pub mod Normal
+pub mod Forms
 pub mod Words
 pub mod Verdict
-pub mod Answer
 pub mod Sides
 pub mod Handing
 pub mod Reading

@@ -8,48 +8,54 @@ use Rattle.pert_cli.specs.declared.status.Status.{Status}
 use Rattle.pert_cli.specs.declared.status.Status.TheVariants.{Done, Refused, Usage, OutOfMemory, ReadFault, WriteFault}
 use Rattle.pert_cli.specs.declared.forms.Form.{Form}
 use Rattle.pert_cli.specs.Words.{AskFor, AskForOne, AskForNone, usage_text}
-use Rattle.pert_cli.specs.Sides.{Side, HadFault, IsReadToEnd, IsUntouched, OfDeck, Took, TookFront}
-use Rattle.pert_cli.specs.Verdict.{IsProjectOf}
-use Rattle.pert_cli.specs.Reading.{HasRefusal}
-use Rattle.pert_cli.specs.Answer.{IsTextOf}
+use Rattle.pert_cli.specs.Sides.{Side, HadFault, IsUntouched, Took, TookFront}
+use Rattle.pert_cli.specs.Verdict.{IsProjectOf, RefusedBy}
+use Rattle.pert_cli.specs.Reading.{HasProject, HasRefusal}
+use Rattle.pert_cli.specs.Forms.{IsDenial}
+use Rattle.pert_cli.specs.Handing.{IsReply}
 
--- the deck is accepted, and the text answers the form for its project
-pub record IsAnswer (form : Form) (bytes text : List ℕ) : Type 0 where
+-- the deck was read to its end and is accepted, the form does not refuse its project, and the text answers the form for it
+pub record IsAnswer {S : Type 0} (form : Form) (source : Side S) (text : List ℕ) : Type 0 where
   pub project : Project
-  pub accepted : IsProjectOf bytes project
-  pub right : IsTextOf form project text
+  pub deck : HasProject source project
+  pub reply : IsReply form project text
 
--- the words ask for a form, the deck was read to its end and is accepted, and the output took its answer
+-- the deck is refused with the fault; or it was read to its end and is accepted, and the form refuses its project with the fault
+pub data IsTurnedDown {S : Type 0} (form : Form) (source : Side S) (fault : Fault) : Type 0 where
+  by_deck : HasRefusal source fault → IsTurnedDown form source fault
+  by_form : (project : Project) → HasProject source project → IsDenial form project fault → IsTurnedDown form source fault
+
+-- the words ask for a form, and the output took its answer
 pub record IsDone {S O : Type 0} (words : List (String Global)) (source : Side S) (out : Side O) : Type 0 where
   pub form : Form
   pub asked : AskFor form words
-  pub read : IsReadToEnd source
   pub text : List ℕ
-  pub answer : OfDeck source (λ bytes. IsAnswer form bytes text)
+  pub answer : IsAnswer form source text
   pub took : Took out text
 
--- the words ask for a form, the deck is refused, and the error output took the line of its fault
+-- the words ask for a form, the deck or the form refuses with a fault, and the error output took the line of the fault
 pub record IsRefused {S E : Type 0} (words : List (String Global)) (source : Side S) (err : Side E) : Type 0 where
-  pub asked : AskForOne words
+  pub form : Form
+  pub asked : AskFor form words
   pub fault : Fault
-  pub refusal : HasRefusal source fault
+  pub refusal : IsTurnedDown form source fault
   pub took : Took err (fault_text fault)
 
--- the words ask for a form, the deck was read to its end and is accepted, and a fault of the output came when it had taken a
--- front of the answer
+-- the words ask for a form, and a fault of the output came when it had taken a front of the answer
 pub record IsAnswerCut {S O : Type 0} (words : List (String Global)) (source : Side S) (out : Side O) : Type 0 where
   pub form : Form
   pub asked : AskFor form words
-  pub read : IsReadToEnd source
   pub text : List ℕ
-  pub answer : OfDeck source (λ bytes. IsAnswer form bytes text)
+  pub answer : IsAnswer form source text
   pub took : TookFront out text
 
--- the words ask for a form, the deck is refused, and a fault of the error output came when it had taken a front of the line
+-- the words ask for a form, the deck or the form refuses with a fault, and a fault of the error output came when it had
+-- taken a front of the line
 pub record IsFaultCut {S E : Type 0} (words : List (String Global)) (source : Side S) (err : Side E) : Type 0 where
-  pub asked : AskForOne words
+  pub form : Form
+  pub asked : AskFor form words
   pub fault : Fault
-  pub refusal : HasRefusal source fault
+  pub refusal : IsTurnedDown form source fault
   pub took : TookFront err (fault_text fault)
 
 -- where a write fault came: in the answer, in the line of a fault, or in the usage line. The other output is as it was
@@ -66,3 +72,14 @@ pub data Outcome {S O E : Type 0} (words : List (String Global)) (source : Side 
   no_memory : AskForOne words → IsUntouched out → IsUntouched err → Outcome words source out err OutOfMemory
   read_fault : AskForOne words → HadFault source → IsUntouched out → IsUntouched err → Outcome words source out err ReadFault
   write_fault : IsCut words source out err → Outcome words source out err WriteFault
+
+-- the deck is accepted, and the form that the words ask for does not refuse its project
+pub record IsAcceptedFor (words : List (String Global)) (bytes : List ℕ) : Type 0 where
+  pub project : Project
+  pub accepted : IsProjectOf bytes project
+  pub fits : (form : Form) (fault : Fault) → AskFor form words → IsDenial form project fault → ⊥
+
+-- the deck has a fault; or it is accepted, and the form that the words ask for refuses its project
+pub data IsRefusedFor (words : List (String Global)) (bytes : List ℕ) : Type 0 where
+  deck_refused : RefusedBy bytes → IsRefusedFor words bytes
+  form_refuses : (project : Project) → IsProjectOf bytes project → ((form : Form) → AskFor form words → (fault : Fault) × IsDenial form project fault) → IsRefusedFor words bytes

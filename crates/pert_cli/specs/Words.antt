@@ -3,13 +3,7 @@ use Rattle.std.specs.Prelude.{◌≡◌, ℕ, List, [], ◌∷◌, ◌++◌, map
 use Rattle.std.specs.String.{string_bytes}
 use Rattle.std.specs.declared.alloc.Global.{Global}
 use Rattle.pert_cli.specs.declared.forms.Form.{Form}
-use Rattle.pert_cli.specs.declared.forms.Form.TheVariants.{Check, Normal, Times}
-
--- the words of a form
-abbrev pub words_of : Form → List (List ℕ)
-words_of Check = codes "check" ∷ []
-words_of Normal = codes "normal" ∷ []
-words_of Times = codes "times" ∷ []
+use Rattle.pert_cli.specs.Forms.{form_names, words_of}
 
 -- the words ask for the form: they are the form's words
 abbrev pub AskFor : Form → List (String Global) → Type 0
@@ -23,6 +17,12 @@ AskForOne words = (form : Form) × AskFor form words
 abbrev pub AskForNone : List (String Global) → Type 0
 AskForNone words = (form : Form) → AskFor form words → ⊥
 
+-- names with a bar between one and the next
+abbrev pub barred : List (List ℕ) → List ℕ
+barred [] = []
+barred (name ∷ []) = name
+barred (name ∷ other ∷ names) = name ++ (codes " | " ++ barred (other ∷ names))
+
 -- the line that names the forms of the command line
 abbrev pub usage_text : List ℕ
-usage_text = codes "usage: pert check | normal | times" ++ 10 ∷ []
+usage_text = codes "usage: pert " ++ (barred form_names ++ 10 ∷ [])

@@ -2,8 +2,12 @@
 ghost use Rattle.std.specs.Prelude.{◌≡◌, IfOk};
 ghost use Rattle.pc_page.specs.Page.{fresh};
 ghost use Rattle.pc_reports.specs.Check.{check_text};
+ghost use Rattle.pert_cli.specs.Handing.{Answers, IsReply};
+ghost use Rattle.pert_cli.specs.Sides.{side};
+ghost use Rattle.pert_cli.specs.declared.forms.Form.TheVariants.{Check};
 
-use crate::answer::Answer;
+use crate::answer::{Answer, deliver};
+use crate::status::Status;
 use pc_edges::{Failed, Sink};
 use pc_page::{PAGE_ROOM, Page};
 use pc_project::Project;
@@ -13,14 +17,21 @@ use std::alloc::{AllocError, Global};
 /// The words of the form.
 pub(crate) const WORDS: &[u8] = b"check";
 
+/// Answers the form.
+pub(crate) fn answer<O: Sink>(alloc: Global, project: &Project, out: &mut O) -> Status
+    ensures { Answers (IsReply Check project.now) (side O.taken O.faults out.old out.new) result }
+{
+    deliver(CheckAnswer::build(alloc), project, out)
+}
+
 /// The counts of a project's cards, and the page that they are written on.
 #[derive(Drop)]
-pub(crate) struct CheckAnswer {
+struct CheckAnswer {
     page: Page,
 }
 
 impl CheckAnswer {
-    pub(crate) fn build(alloc: Global) -> Result<CheckAnswer, AllocError>
+    fn build(alloc: Global) -> Result<CheckAnswer, AllocError>
         ensures { IfOk result (λ answer. answer.page ≡ fresh) }
     {
         Ok(CheckAnswer {

@@ -1,23 +1,19 @@
 //! The table of the forms: what the words can ask for, and what answers it.
 //!
-//! A form has a variant of `Form`, a line in `usage` and in `of_one_word`, and a row in `answer`; the rest of it is in a file
-//! of its own.
+//! A form has a variant of `Form`, and a line in `usage`, in `of_one_word` and in `answer`; the rest of it is in a file of its
+//! own.
 ghost use Rattle.std.specs.Prelude.{◌≡◌, ◌+◌, ◌≤◌, [], ◌∷◌, ◌++◌, length, IfNone, IfSome};
-ghost use Rattle.pert_cli.specs.Answer.{IsTextOf};
-ghost use Rattle.pert_cli.specs.Handing.{Answers};
+ghost use Rattle.pert_cli.specs.Forms.{words_of};
+ghost use Rattle.pert_cli.specs.Handing.{Replies};
 ghost use Rattle.pert_cli.specs.Sides.{side};
 ghost use Rattle.pert_cli.specs.declared.forms.Form.{Form as TheForm};
-ghost use Rattle.pert_cli.specs.Words.{AskFor, AskForNone, usage_text, words_of};
+ghost use Rattle.pert_cli.specs.Words.{AskFor, AskForNone, usage_text};
 
-use crate::answer::deliver;
-use crate::check::{self, CheckAnswer};
-use crate::normal::{self, NormalAnswer};
 use crate::status::Status;
-use crate::times;
+use crate::{check, normal, times};
 use arrayvec::ArrayVec;
 use pc_edges::Sink;
 use pc_project::Project;
-use pc_reports::TimesReport;
 use std::alloc::Global;
 
 /// The room of the usage line.
@@ -84,13 +80,21 @@ impl Form {
     }
 
     /// Writes on `out` what the form asks for of a project. All memory is taken before the first byte is written.
-    pub(crate) fn answer<O: Sink>(self, alloc: Global, project: &Project, out: &mut O) -> Status
-        ensures { Answers (IsTextOf self project.now) (side O.taken O.faults out.old out.new) result }
+    ///
+    /// `err` is for the fault with which a form refuses a project; none of these forms refuses one.
+    pub(crate) fn answer<O: Sink, E: Sink>(
+        self,
+        alloc: Global,
+        project: &Project,
+        out: &mut O,
+        err: &mut E,
+    ) -> Status
+        ensures { Replies self project.now (side O.taken O.faults out.old out.new) (side E.taken E.faults err.old err.new) result }
     {
         match self {
-            Form::Check => deliver(CheckAnswer::build(alloc), project, out),
-            Form::Normal => deliver(NormalAnswer::build(alloc, project), project, out),
-            Form::Times => deliver(TimesReport::build(alloc, project), project, out),
+            Form::Check => check::answer(alloc, project, out),
+            Form::Normal => normal::answer(alloc, project, out),
+            Form::Times => times::answer(alloc, project, out),
         }
     }
 }

@@ -1,10 +1,14 @@
 //! `normal`: the schedule at the all-normal length.
 ghost use Rattle.std.specs.Prelude.{◌≡◌, IfOk};
 ghost use Rattle.pc_page.specs.Page.{fresh};
-ghost use Rattle.pert_cli.specs.Answer.{IsNormalSchedule, printed_text};
+ghost use Rattle.pert_cli.specs.Handing.{Answers, IsReply};
+ghost use Rattle.pert_cli.specs.Normal.{IsNormalSchedule, printed_text};
+ghost use Rattle.pert_cli.specs.Sides.{side};
+ghost use Rattle.pert_cli.specs.declared.forms.Form.TheVariants.{Normal};
 
-use crate::answer::Answer;
+use crate::answer::{Answer, deliver};
 use crate::schedule::NormalSchedule;
+use crate::status::Status;
 use pc_edges::{Failed, Sink};
 use pc_page::{PAGE_ROOM, Page};
 use pc_project::Project;
@@ -14,15 +18,22 @@ use std::alloc::{AllocError, Global};
 /// The words of the form.
 pub(crate) const WORDS: &[u8] = b"normal";
 
+/// Answers the form.
+pub(crate) fn answer<O: Sink>(alloc: Global, project: &Project, out: &mut O) -> Status
+    ensures { Answers (IsReply Normal project.now) (side O.taken O.faults out.old out.new) result }
+{
+    deliver(NormalAnswer::build(alloc, project), project, out)
+}
+
 /// The schedule at a project's all-normal length, and the page that it is written on.
 #[derive(Drop)]
-pub(crate) struct NormalAnswer {
+struct NormalAnswer {
     page: Page,
     schedule: NormalSchedule,
 }
 
 impl NormalAnswer {
-    pub(crate) fn build(alloc: Global, project: &Project) -> Result<NormalAnswer, AllocError>
+    fn build(alloc: Global, project: &Project) -> Result<NormalAnswer, AllocError>
         ensures { IfOk result (λ answer. (answer.page ≡ fresh) × IsNormalSchedule project.now answer.schedule) }
     {
         Ok(NormalAnswer {

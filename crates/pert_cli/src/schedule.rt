@@ -1,7 +1,7 @@
 //! The schedule at the all-normal length.
 ghost use Rattle.std.specs.Prelude.{◌≡◌, IfOk, ℕ, List, map, slice_index};
 ghost use Rattle.pc_model.specs.Schedule.{normals};
-ghost use Rattle.pert_cli.specs.Answer.{IsNormalSchedule};
+ghost use Rattle.pert_cli.specs.Normal.{IsNormalSchedule};
 
 use pc_model::Term;
 use pc_project::Project;
@@ -18,7 +18,7 @@ pub(crate) struct NormalSchedule {
 }
 
 impl Model for NormalSchedule {
-    ghost use Rattle.pert_cli.specs.Answer.{Printed};
+    ghost use Rattle.pert_cli.specs.Normal.{Printed};
 
     ghost Value = { Printed };
 

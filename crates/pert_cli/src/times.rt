@@ -1,14 +1,26 @@
 //! `times`: the times of the events, and the critical path.
 ghost use Rattle.pc_reports.specs.Times.{IsTimes};
 ghost use Rattle.pc_reports.specs.TimesText.{times_text};
+ghost use Rattle.pert_cli.specs.Handing.{Answers, IsReply};
+ghost use Rattle.pert_cli.specs.Sides.{side};
+ghost use Rattle.pert_cli.specs.declared.forms.Form.TheVariants.{Times};
 
-use crate::answer::Answer;
+use crate::answer::{Answer, deliver};
+use crate::status::Status;
 use pc_edges::{Failed, Sink};
 use pc_project::Project;
 use pc_reports::TimesReport;
+use std::alloc::Global;
 
 /// The words of the form.
 pub(crate) const WORDS: &[u8] = b"times";
+
+/// Answers the form.
+pub(crate) fn answer<O: Sink>(alloc: Global, project: &Project, out: &mut O) -> Status
+    ensures { Answers (IsReply Times project.now) (side O.taken O.faults out.old out.new) result }
+{
+    deliver(TimesReport::build(alloc, project), project, out)
+}
 
 impl Answer for TimesReport {
     ghost IsFor = { λ report project. IsTimes project report };

@@ -4,7 +4,7 @@ ghost use Rattle.pc_deck.specs.Limits.{longest_deck};
 ghost use Rattle.pert_cli.specs.Words.{AskForOne, AskForNone, usage_text};
 ghost use Rattle.pert_cli.specs.Sides.{side, HadFault, HadNoFault, IsReadToEnd, OfDeck, Took};
 ghost use Rattle.pert_cli.specs.Verdict.{AcceptedBy, RefusedBy};
-ghost use Rattle.pert_cli.specs.Outcome.{Outcome, IsDone, IsRefused, IsCut};
+ghost use Rattle.pert_cli.specs.Outcome.{Outcome, IsAcceptedFor, IsCut, IsDone, IsRefused, IsRefusedFor};
 
 use crate::forms::{Form, usage};
 use crate::reading::{NoProject, read_project};
@@ -29,11 +29,11 @@ pub fn run<S: Source, O: Sink, E: Sink>(
 ) -> u8
     ensures statuses { result ≤ 5 }
 
-    // 0: the words ask for a form, the deck was read to its end and is accepted, and `out` took the form's answer.
+    // 0: the words ask for a form, the deck was read to its end, deck and form accept it, and `out` took the form's answer.
     ensures done { result ≡ 0 → IsDone words.now (side S.left S.faults source.old source.new) (side O.taken O.faults out.old out.new) }
     ensures done_only { result ≡ 0 → err.new ≡ err.old }
 
-    // 1: the words ask for a form, the deck is refused, and `err` took the line of its fault.
+    // 1: the words ask for a form, the deck or the form refuses with a fault, and `err` took the line of the fault.
     ensures refused { result ≡ 1 → IsRefused words.now (side S.left S.faults source.old source.new) (side E.taken E.faults err.old err.new) }
     ensures refused_read { result ≡ 1 → OfDeck (side S.left S.faults source.old source.new)
         (λ bytes. length bytes ≤ longest_deck → IsReadToEnd (side S.left S.faults source.old source.new)) }
@@ -64,10 +64,10 @@ pub fn run<S: Source, O: Sink, E: Sink>(
 
     // Where no fault came, the words and the deck decide, but for want of memory.
     ensures words_refused { AskForNone words.now → HadNoFault (side E.taken E.faults err.old err.new) → result ≡ 2 }
-    ensures deck_accepted { AskForOne words.now → OfDeck (side S.left S.faults source.old source.new) (λ bytes. AcceptedBy bytes
+    ensures deck_accepted { AskForOne words.now → OfDeck (side S.left S.faults source.old source.new) (λ bytes. IsAcceptedFor words.now bytes
         → HadNoFault (side S.left S.faults source.old source.new)
         → HadNoFault (side O.taken O.faults out.old out.new) → (result ≡ 0) ⊎ (result ≡ 3)) }
-    ensures deck_refused { AskForOne words.now → OfDeck (side S.left S.faults source.old source.new) (λ bytes. RefusedBy bytes
+    ensures deck_refused { AskForOne words.now → OfDeck (side S.left S.faults source.old source.new) (λ bytes. IsRefusedFor words.now bytes
         → HadNoFault (side S.left S.faults source.old source.new)
         → HadNoFault (side E.taken E.faults err.old err.new) → (result ≡ 1) ⊎ (result ≡ 3)) }
 {
@@ -92,7 +92,7 @@ fn outcome<S: Source, O: Sink, E: Sink>(
         };
     };
     match read_project(alloc, source) {
-        Ok(project) => form.answer(alloc, &project, out),
+        Ok(project) => form.answer(alloc, &project, out, err),
         Err(NoProject::Refused(fault)) => refuse(alloc, &fault, err),
         Err(NoProject::ReadFault) => Status::ReadFault,
         Err(NoProject::OutOfMemory) => Status::OutOfMemory,

@@ -4,7 +4,7 @@ use Rattle.pc_faults.specs.FaultText.{IsTold}
 use Rattle.pert_cli.specs.Handing.{Refusal}
 use Rattle.pert_cli.specs.Sides.{side, Took, TookFront}
 use Rattle.pert_cli.specs.Outcome.{usage, no_memory, read_fault, write_fault, in_usage}
-use Rattle.pert_cli.proofs.OutcomeLaws.{after_answer, after_refusal}
+use Rattle.pert_cli.proofs.OutcomeLaws.{after_refusal, after_reply}
 use Rattle.pert_cli.proofs.top.outcome.Goals as goal
 
 pub refuse-requires : goal.refuse-requires
@@ -22,12 +22,12 @@ returns-in-Err g c =
 
 pub returns-in-Ok-read_project : goal.returns-in-Ok-read_project
 returns-in-Ok-read_project g c =
-    after_answer c.args.words.now _ _ _ c.in-Some.form c.in-Ok-read_project.project c.answer.result c.in-Some.ensures.form c.in-Ok-read_project.ensures.project refl c.answer.ensures
+    after_reply c.args.words.now _ _ _ c.in-Some.form c.in-Some.ensures.form c.in-Ok-read_project.project c.answer.result c.in-Ok-read_project.ensures.project c.answer.ensures
 
 pub returns-in-Err-Refused : goal.returns-in-Err-Refused
 returns-in-Err-Refused g c =
     let why = rw c.in-Err-Refused.field-0-is at c.in-Err-Refused.ensures.none in
-    after_refusal c.args.words.now _ _ _ c.in-Err-Refused.fault c.refuse.result (c.in-Some.form, c.in-Some.ensures.form) why.1 refl
+    after_refusal c.args.words.now _ _ _ c.in-Some.form c.in-Some.ensures.form c.in-Err-Refused.fault c.refuse.result why.1 refl
     (subst (λ (fault : Fault). Refusal fault (side g.E.Sink.taken g.E.Sink.faults c.args.err.now c.refuse.new.err) c.refuse.result) c.in-Err-Refused.fault-is c.refuse.ensures)
 
 pub returns-in-Err-ReadFault : goal.returns-in-Err-ReadFault

@@ -1,4 +1,4 @@
-use Rattle.pert_cli.proofs.DecidedLaws.{accepted_ends, five_is_cut, refused_ends}
+use Rattle.pert_cli.proofs.DecidedLaws.{accepted_ends, ended_asked, five_is_cut, refused_ends}
 use Rattle.pert_cli.proofs.VerdictLaws.{not_both}
 use Rattle.pert_cli.proofs.top.run.Goals as goal
 
@@ -13,3 +13,6 @@ returns-clause-write_fault g c = λ five. five_is_cut c.args.words.now _ _ _ c.c
 
 pub returns-clause-one_verdict : goal.returns-clause-one_verdict
 returns-clause-one_verdict g c = λ bytes accepted refused. not_both bytes accepted.0 refused.0 accepted.1 refused.1
+
+pub returns-clause-form : goal.returns-clause-form
+returns-clause-form g c = ended_asked c.args.words.now _ _ _ c.code.result c.outcome.result c.outcome.ensures c.code.ensures

@@ -1,15 +1,11 @@
--- What each form of the words is answered with.
+-- The answer to `normal`: the schedule at the all-normal length.
 use Rattle.std.specs.Prelude.{◌≡◌, ℕ, ◌<◌, ◌≤◌, List, length, slice_index}
 use Rattle.pc_model.specs.Network.{IsEarly}
 use Rattle.pc_model.specs.Schedule.{IsAllNormalLength, IsSchedule, normals}
 use Rattle.pc_model.specs.Cost.{cost_of}
 use Rattle.pc_model.specs.Pieces.{knees_of}
-use Rattle.pc_reports.specs.Check.{check_text}
 use Rattle.pc_reports.specs.Schedule.{schedule_text}
-use Rattle.pc_reports.specs.TimesText.{IsTimesText}
 use Rattle.pc_project.specs.Project.{Project}
-use Rattle.pert_cli.specs.declared.forms.Form.{Form}
-use Rattle.pert_cli.specs.declared.forms.Form.TheVariants.{Check, Normal, Times}
 
 -- a schedule of a project, with its length and its cost, as it is printed
 pub record Printed : Type 0 where
@@ -40,10 +36,3 @@ pub record IsNormalText (project : Project) (text : List ℕ) : Type 0 where
   pub printed : Printed
   pub right : IsNormalSchedule project printed
   pub is : text ≡ printed_text project printed
-
--- the text answers the form: `check` with the project's code and the counts of its cards, `normal` with the schedule at
--- the all-normal length, `times` with the times of the events and the critical path
-abbrev pub IsTextOf : Form → Project → List ℕ → Type 0
-IsTextOf Check project text = text ≡ check_text project
-IsTextOf Normal project text = IsNormalText project text
-IsTextOf Times project text = IsTimesText project text
