@@ -5,9 +5,9 @@
 # make clean        removes all that was built
 
 PREFIX ?= /usr/local
-PROGRAMS := pert
-SECTION1 := pert.1
-DOCS := README.md docs/deck.md docs/reports.md docs/curve.md
+PROGRAMS := pert pert_check
+SECTION1 := pert.1 pert_check.1
+DOCS := README.md docs/deck.md docs/reports.md docs/curve.md docs/certificate.md
 EXAMPLES := examples/shed.csv examples/house.csv
 
 VERSION := $(shell cat VERSION)
@@ -39,10 +39,10 @@ install: all
 	tools/deck-page docs/deck.md | sed 's/@VERSION@/$(VERSION)/' >"$(ROOT)/share/man/man5/pert-deck.5"
 	install -m 644 $(DOCS) "$(DOC)"
 	install -m 644 $(EXAMPLES) "$(DOC)/examples"
-	install -m 644 tools/completion.bash "$(COMPLETIONS)/pert"
+	for program in $(PROGRAMS); do install -m 644 tools/completion.bash "$(COMPLETIONS)/$$program" || exit 1; done
 
 uninstall:
-	rm -f $(PROGRAMS:%="$(ROOT)/bin/%") $(SECTION1:%="$(ROOT)/share/man/man1/%") "$(ROOT)/share/man/man5/pert-deck.5" "$(COMPLETIONS)/pert"
+	rm -f $(PROGRAMS:%="$(ROOT)/bin/%") $(SECTION1:%="$(ROOT)/share/man/man1/%") "$(ROOT)/share/man/man5/pert-deck.5" $(PROGRAMS:%="$(COMPLETIONS)/%")
 	rm -rf "$(DOC)"
 
 clean:

@@ -1,2 +1,3 @@
-# Completion of pert's forms for bash. The deck comes on standard input, so files are completed behind `<`.
+# Completion for bash of pert's forms and of pert_check's deck. What comes on standard input is completed behind `<`.
 complete -W 'check normal times' pert
+complete -f pert_check

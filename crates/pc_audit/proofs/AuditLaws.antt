@@ -20,7 +20,7 @@ use Rattle.pc_audit.specs.Texts.{IsFailing, fails, malformed}
 use Rattle.pc_audit.specs.Auditing.{Auditing, HasRead, IsGoing, bytes_left}
 
 -- a reader that goes on, and a checker
-reading : (reader : Reading) (lines : List CertLine) (text : List ℕ) → reader.malformed ≡ None → ReadsAs reader lines text → IsReading reader.place reader.lines reader.held lines text
+pub reading : (reader : Reading) (lines : List CertLine) (text : List ℕ) → reader.malformed ≡ None → ReadsAs reader lines text → IsReading reader.place reader.lines reader.held lines text
 reading reader lines text none h = subst (λ m. ReadStands m reader.place reader.lines reader.held lines text) none h
 
 pub checking : (checker : Checking) (lines : List CertLine) → checker.fail ≡ None → ChecksAs checker lines → IsChecking checker.net checker.kept lines

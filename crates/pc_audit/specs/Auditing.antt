@@ -3,7 +3,8 @@ use Rattle.std.specs.Prelude.{◌≡◌, ℕ, ◌+◌, ◌-◌, ◌*◌, ◌^◌
 use Rattle.pc_lines.specs.declared.line.CertLine.{CertLine}
 use Rattle.pc_lines.specs.declared.line.TheConstants.{MAX_LINE}
 use Rattle.pc_cert.specs.Reader.{Reading, StandsFor as ReadsAs}
-use Rattle.pc_check.specs.Bounds.{lines_left}
+use Rattle.pc_check.specs.Bounds.{lines_left, lines_of_all}
+use Rattle.pc_crash.specs.Priced.{PricedNetwork}
 use Rattle.pc_check.specs.Checking.{Checking, StandsFor as ChecksAs}
 
 -- a reader and a checker
@@ -27,3 +28,8 @@ pub record IsGoing (audit : Auditing) : Type 0 where
 -- the most bytes that may still come before something is malformed or fails
 abbrev pub bytes_left : Auditing → ℕ
 bytes_left audit = lines_left audit.checker.net audit.checker.kept * MAX_LINE + (MAX_LINE - length audit.reader.held)
+
+-- the most bytes that may come of a text before something is malformed or fails: those of the most lines that a certificate of
+-- the network may have, and of one line more
+abbrev pub most_bytes : PricedNetwork → ℕ
+most_bytes net = lines_of_all net.network.events (length net.network.arcs) * MAX_LINE + MAX_LINE

@@ -1,7 +1,7 @@
 //! Reading and checking the text of a certificate.
 ghost use Rattle.std.specs.Prelude.{◌≡◌, ℕ, ◌<◌, ◌≤◌, List, [], ◌++◌, length, take, IfOk, IfErr, IfSome, OnOk, IfNone};
 ghost use Rattle.pc_audit.specs.Texts.{IsFailing, Finds};
-ghost use Rattle.pc_audit.specs.Auditing.{HasRead, IsGoing, bytes_left};
+ghost use Rattle.pc_audit.specs.Auditing.{HasRead, IsGoing, bytes_left, most_bytes};
 ghost use Rattle.pc_check.specs.declared.fail.Fail.{Fail};
 
 use pc_cert::{CertReader, Fed};
@@ -31,6 +31,7 @@ impl<'n> Audit<'n> {
         ensures read { IfOk result (HasRead []) }
         ensures going { IfOk result IsGoing }
         ensures net { IfOk result (λ audit. audit.checker.net ≡ net.now) }
+        ensures left { IfOk result (λ audit. bytes_left audit ≤ most_bytes net.now) }
     {
         Ok(Audit {
             reader: CertReader::begin(),

@@ -4,3 +4,5 @@ mod HandingLaws
 mod OutcomeLaws
 mod ScheduleLaws
 mod VerdictLaws
+mod CheckLaws
+mod CheckDecided

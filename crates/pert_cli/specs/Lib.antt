@@ -7,6 +7,9 @@ pub mod Handing
 pub mod Reading
 pub mod Outcome
 pub mod Status
+pub mod Ending
+pub mod Certificate
+pub mod CheckOutcome
 pub use Rattle.pc_edges.specs.Faults
 pub use Rattle.pc_edges.specs.Writes
 pub use Rattle.pc_deck.specs.Deck

@@ -1,8 +1,10 @@
-//! The top call of the program: words and bytes in, bytes and a status out.
+//! The top calls of the programs: words and bytes in, bytes and a status out.
 #![tactic(auto)]
 
 mod answer;
+mod certificate;
 mod check;
+mod ending;
 mod forms;
 mod normal;
 mod reading;
@@ -10,10 +12,14 @@ mod refusing;
 mod schedule;
 mod sending;
 mod status;
+mod telling;
 mod times;
 mod top;
 
+pub use crate::certificate::check_run;
 pub use crate::top::run;
 
+#[cfg(test)]
+mod check_tests;
 #[cfg(test)]
 mod tests;

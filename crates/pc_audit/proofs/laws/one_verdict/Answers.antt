@@ -1,0 +1,8 @@
+use Rattle.pc_audit.proofs.TextLaws.{not_both, one_number}
+use Rattle.pc_audit.proofs.laws.one_verdict.Goals as goal
+
+pub returns-clause-not_both : goal.returns-clause-not_both
+returns-clause-not_both c = not_both
+
+pub returns-clause-one_number : goal.returns-clause-one_number
+returns-clause-one_number c = one_number

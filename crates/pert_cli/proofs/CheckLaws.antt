@@ -1,0 +1,130 @@
+-- How the parts of a check make its outcome, and what its outcome says.
+use Rattle.std.proofs.Common.{◌≡◌, ℕ, ◌+◌, ◌≤◌, List, length, Option, Some, None, ◌⊎◌, inl, inr, refl, sym, ap, subst, ◌∙◌, arith}
+use Rattle.std.specs.Prelude.{IfSome, String}
+use Rattle.std.specs.declared.alloc.Global.{Global}
+use Rattle.pc_model.specs.Network.{Network}
+use Rattle.pc_model.specs.declared.PieceRow.{PieceRow}
+use Rattle.pc_model.specs.declared.Term.{Term}
+use Rattle.pc_edges.specs.Pulls.{TakesPulls}
+use Rattle.pc_deck.proofs.DeckLaws.{one_deck}
+use Rattle.pc_faults.specs.declared.fault.Fault.{Fault}
+use Rattle.pc_crash.specs.Priced.{PricedNetwork}
+use Rattle.pc_check.specs.Certified.{OnYes}
+use Rattle.pc_check.specs.declared.fail.Fail.{Fail}
+use Rattle.pc_check.specs.declared.fail.Verdict.{Verdict}
+use Rattle.pc_check.specs.declared.fail.Verdict.TheVariants.{Yes, No}
+use Rattle.pc_audit.specs.Texts.{IsFailing, Finds}
+use Rattle.pc_audit.specs.Auditing.{most_bytes}
+use Rattle.pc_audit.proofs.TextLaws.{not_both as one_text_verdict}
+use Rattle.pc_audit.proofs.SourceLaws.{TakesPulls-none}
+use Rattle.pc_project.specs.Project.{Project, project_in}
+use Rattle.pert_cli.specs.declared.ending.Ending.{Ending}
+use Rattle.pert_cli.specs.declared.ending.Ending.TheVariants.{Certified, Refused, Usage, OutOfMemory, ReadFault, WriteFault, NotCertified}
+use Rattle.pert_cli.specs.Certificate.{IsOneWord, verdict_text, priced_in, HasVerdict, Certifies, FailsAsCertificate, ProvesCurve, IsFound, ending_for, Told, told, cut, Answered, found, unread, no_room, FaultTold, fault_told, fault_cut, fault_untold}
+use Rattle.pert_cli.specs.CheckOutcome.{IsChecked, IsVerdictCut, CheckOutcome, certified, not_certified, deck_refused, no_memory, cert_fault, write_fault, in_verdict, in_refusal}
+use Rattle.pert_cli.specs.Reading.{HasProject, HasRefusal}
+use Rattle.pert_cli.specs.Sides.{Side, IsReadToEnd, IsUntouched, OfDeck, Took, TookFront}
+use Rattle.pert_cli.specs.Verdict.{IsProjectOf, AcceptedBy}
+
+-- ---- the network of a project
+
+abbrev of_fields : Network → List Term → List PieceRow → List ℕ → List (List ℕ) → List (List ℕ) → PricedNetwork
+of_fields a b c d e f = record { network = a; terms = b; pieces = c; project = d; events = e; activities = f }
+
+same_fields : {a b : Network} {c d : List Term} {e f : List PieceRow} {g h : List ℕ} {i j k l : List (List ℕ)} → a ≡ b → c ≡ d → e ≡ f → g ≡ h → i ≡ j → k ≡ l → of_fields a c e g i k ≡ of_fields b d f h j l
+same_fields p q r s t u = rw (p, q, r, s, t, u) refl
+
+-- a priced network with all that a project says is that of the project
+pub priced_is : (net : PricedNetwork) (project : Project) → net.network ≡ project.network → net.terms ≡ project.terms → net.pieces ≡ project.pieces → net.project ≡ project.heading.code → net.events ≡ project.events → net.activities ≡ project.activities → net ≡ priced_in project
+priced_is net project p q r s t u = same_fields p q r s t u
+
+-- a deck has one project
+pub one_project : (bytes : List ℕ) (p q : Project) → IsProjectOf bytes p → IsProjectOf bytes q → p ≡ q
+one_project bytes p q a b = a.is ∙ ap project_in (one_deck bytes a.deck b.deck a.accepted.cards b.accepted.cards) ∙ sym b.is
+
+-- ---- verdicts
+
+-- no certificate is both certified and failing
+pub one_verdict : (bytes text : List ℕ) → Certifies bytes text → FailsAsCertificate bytes text → ⊥
+one_verdict bytes text right wrong =
+    let sure = right.1 in
+    let failing = wrong.2 in
+    let point : Fail = record { line = wrong.0; reason = wrong.1 } in
+    let same = one_project bytes failing.project sure.project failing.accepted sure.accepted in
+    one_text_verdict (priced_in sure.project) text right.0 point sure.finds
+    (subst (λ p. IsFailing (priced_in p) text point) same failing.finds)
+
+-- a certified certificate proves the whole curve
+pub curve_of : (bytes text : List ℕ) (segments : ℕ) → HasVerdict bytes text (Yes segments) → ProvesCurve bytes text
+curve_of bytes text segments h = record {
+  project = h.project;
+  accepted = h.accepted;
+  lines = h.finds.lines;
+  whole = h.finds.whole;
+  high = h.finds.curve.high;
+  low = h.finds.curve.low;
+  longest = h.finds.curve.longest;
+  shortest = h.finds.curve.shortest;
+  joined = h.finds.curve.covering.front.joined;
+  read = h.finds.curve.read;
+}
+
+-- ---- bytes of two sources
+
+both_have : (left right : Option (List ℕ)) (project : Project) (verdict : Verdict) → IfSome left (λ bytes. IsProjectOf bytes project) → IfSome right (λ text. Finds (priced_in project) text verdict) → IfSome left (λ bytes. IfSome right (λ text. HasVerdict bytes text verdict))
+both_have None right project verdict p q = tt
+both_have (Some bytes) None project verdict p q = tt
+both_have (Some bytes) (Some text) project verdict p q = record { project = project; accepted = p; finds = q }
+
+accepted_of : (left : Option (List ℕ)) (project : Project) → IfSome left (λ bytes. IsProjectOf bytes project) → IfSome left AcceptedBy
+accepted_of None project p = tt
+accepted_of (Some bytes) project p = (p.deck, p.accepted)
+
+-- what holds of the project of a deck holds of each project of it
+pub of_each_project : (left : Option (List ℕ)) (project : Project) (P : Project → Type 0) → IfSome left (λ bytes. IsProjectOf bytes project) → P project → IfSome left (λ bytes. (other : Project) → IsProjectOf bytes other → P other)
+of_each_project None project P is holds = tt
+of_each_project (Some bytes) project P is holds = λ other also. subst P (one_project bytes project other is also) holds
+
+-- a source from which nothing was pulled
+pub unpulled : (left : Option (List ℕ)) (pulls : Option ℕ) → IfSome left (λ bytes. (project : Project) → IsProjectOf bytes project → TakesPulls (most_bytes (priced_in project) + 1) pulls pulls)
+unpulled None pulls = tt
+unpulled (Some bytes) pulls = λ project is. TakesPulls-none (most_bytes (priced_in project) + 1) pulls
+
+-- ---- outcomes
+
+module _ {D C O E : Type 0} (words : List (String Global)) (deck : Side D) (cert : Side C) (out : Side O) (err : Side E) where
+  checked : (project : Project) (verdict : Verdict) → IsOneWord words → HasProject deck project → IsFound (priced_in project) cert verdict → Took out (verdict_text verdict) → IsChecked words deck cert out verdict
+  checked project verdict asked has finds took = record {
+    asked = asked;
+    read = has.read;
+    accepted = accepted_of (deck.bytes deck.old) project has.is;
+    has = both_have (deck.bytes deck.old) (cert.bytes cert.old) project verdict has.is finds.finds;
+    took = took;
+  }
+
+  after_verdict : (project : Project) (verdict : Verdict) → IsOneWord words → HasProject deck project → IsFound (priced_in project) cert verdict → Took out (verdict_text verdict) → IsUntouched err → CheckOutcome words deck cert out err (ending_for verdict)
+  after_verdict project (Yes segments) asked has finds took same = certified segments (checked project (Yes segments) asked has finds took) finds.end same
+  after_verdict project (No line reason) asked has finds took same = not_certified line reason (checked project (No line reason) asked has finds took) same
+
+  after_told : (project : Project) (verdict : Verdict) (ending : Ending) → IsOneWord words → HasProject deck project → IsFound (priced_in project) cert verdict → IsUntouched err → Told verdict out ending → CheckOutcome words deck cert out err ending
+  after_told project verdict _ asked has finds same (told ending is took) = subst (CheckOutcome words deck cert out err) (sym is) (after_verdict project verdict asked has finds took same)
+  after_told project verdict _ asked has finds same (cut took) = write_fault (in_verdict (record {
+    asked = asked;
+    read = has.read;
+    accepted = accepted_of (deck.bytes deck.old) project has.is;
+    verdict = verdict;
+    has = both_have (deck.bytes deck.old) (cert.bytes cert.old) project verdict has.is finds.finds;
+    took = took;
+  }) same)
+
+  -- the deck is accepted, and a certificate of its project was checked
+  pub after_check : (project : Project) (ending : Ending) → IsOneWord words → HasProject deck project → IsUntouched err → Answered project cert out ending → CheckOutcome words deck cert out err ending
+  after_check project _ asked has same (found verdict ending finds tells) = after_told project verdict ending asked has finds same tells
+  after_check project _ asked has same (unread rose unused) = cert_fault asked (accepted_of (deck.bytes deck.old) project has.is) rose unused same
+  after_check project _ asked has same (no_room unused) = no_memory asked unused same
+
+  -- the deck is refused, and its fault was told
+  pub after_deck : (fault : Fault) (ending : Ending) → IsOneWord words → HasRefusal deck fault → IsUntouched cert → IsUntouched out → FaultTold fault err ending → CheckOutcome words deck cert out err ending
+  after_deck fault _ asked refusal unread_cert unused (fault_told took) = deck_refused (record { asked = asked; fault = fault; refusal = refusal; took = took }) unread_cert unused
+  after_deck fault _ asked refusal unread_cert unused (fault_cut took) = write_fault (in_refusal (record { asked = asked; fault = fault; refusal = refusal; took = took }) unread_cert unused)
+  after_deck fault _ asked refusal unread_cert unused (fault_untold same) = no_memory asked unused same

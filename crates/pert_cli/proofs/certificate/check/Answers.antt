@@ -1,0 +1,26 @@
+use Rattle.std.proofs.Common.{Err, refl, ap, subst}
+use Rattle.std.specs.Prelude.{IfSome}
+use Rattle.pc_audit.specs.Texts.{Finds}
+use Rattle.pert_cli.specs.Certificate.{found, unread, no_room}
+use Rattle.pert_cli.proofs.CheckLaws.{priced_is}
+use Rattle.pert_cli.proofs.certificate.check.Goals as goal
+
+pub returns-in_default-clause-answered : goal.returns-in_default-clause-answered
+returns-in_default-clause-answered g c = no_room refl
+
+pub returns-in-Ok-audit_source-clause-answered : goal.returns-in-Ok-audit_source-clause-answered
+returns-in-Ok-audit_source-clause-answered g c =
+    let has = c.in-Ok.ensures in
+    let same = priced_is c.in-Ok.net c.args.project.now has.network has.terms has.pieces has.project has.events has.activities in
+    found c.in-Ok-audit_source.verdict c.tell.result
+    (record {
+      finds = subst (λ n. IfSome (g.C.Source.left c.args.cert.now) (λ text. Finds n text c.in-Ok-audit_source.verdict)) same c.in-Ok-audit_source.ensures.finds;
+      end = c.in-Ok-audit_source.ensures.end;
+    })
+    c.tell.ensures
+
+pub returns-in-Err-ReadFault-clause-answered : goal.returns-in-Err-ReadFault-clause-answered
+returns-in-Err-ReadFault-clause-answered g c = unread (c.in-Err-ReadFault.ensures.fault (ap (λ e. Err e) c.in-Err-ReadFault.field-0-is)) refl
+
+pub returns-clause-answered : goal.returns-clause-answered
+returns-clause-answered g c = no_room refl

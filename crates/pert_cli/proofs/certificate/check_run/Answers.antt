@@ -1,0 +1,31 @@
+use Rattle.pert_cli.proofs.CheckLaws.{one_verdict}
+use Rattle.pert_cli.proofs.CheckDecided.{found_certified, found_failing, headline, check_cut, refused_deck_ends, right_ends, wrong_ends}
+use Rattle.pert_cli.proofs.VerdictLaws.{not_both}
+use Rattle.pert_cli.proofs.certificate.check_run.Goals as goal
+
+pub returns-clause-certified : goal.returns-clause-certified
+returns-clause-certified g c = found_certified c.args.words.now _ _ _ _ c.code.result c.check_outcome.result c.check_outcome.ensures.outcome c.code.ensures
+
+pub returns-clause-not_certified : goal.returns-clause-not_certified
+returns-clause-not_certified g c = found_failing c.args.words.now _ _ _ _ c.code.result c.check_outcome.result c.check_outcome.ensures.outcome c.code.ensures
+
+pub returns-clause-headline : goal.returns-clause-headline
+returns-clause-headline g c = headline c.args.words.now _ _ _ _ c.code.result c.check_outcome.result c.check_outcome.ensures.outcome c.code.ensures
+
+pub returns-clause-write_fault : goal.returns-clause-write_fault
+returns-clause-write_fault g c = check_cut c.args.words.now _ _ _ _ c.code.result c.check_outcome.result c.check_outcome.ensures.outcome c.code.ensures
+
+pub returns-clause-one_verdict : goal.returns-clause-one_verdict
+returns-clause-one_verdict g c = one_verdict
+
+pub returns-clause-one_deck_verdict : goal.returns-clause-one_deck_verdict
+returns-clause-one_deck_verdict g c = λ bytes accepted refused. not_both bytes accepted.0 refused.0 accepted.1 refused.1
+
+pub returns-clause-deck_refused : goal.returns-clause-deck_refused
+returns-clause-deck_refused g c = λ asked. refused_deck_ends c.args.words.now _ _ _ _ c.code.result asked c.check_outcome.result c.check_outcome.ensures.outcome c.code.ensures
+
+pub returns-clause-certificate_right : goal.returns-clause-certificate_right
+returns-clause-certificate_right g c = λ asked. right_ends c.args.words.now _ _ _ _ c.code.result asked c.check_outcome.result c.check_outcome.ensures.outcome c.code.ensures
+
+pub returns-clause-certificate_wrong : goal.returns-clause-certificate_wrong
+returns-clause-certificate_wrong g c = λ asked. wrong_ends c.args.words.now _ _ _ _ c.code.result asked c.check_outcome.result c.check_outcome.ensures.outcome c.code.ensures
