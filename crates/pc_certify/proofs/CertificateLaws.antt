@@ -1,5 +1,5 @@
 -- What was put down to the all-crash length is a certificate.
-use Rattle.std.proofs.Common.{ℕ, List, refl, sym, ◌∙◌}
+use Rattle.std.proofs.Common.{ℕ, List, length, refl, ◌∙◌}
 use Rattle.pc_model.specs.Network.{Network, IsLongest}
 use Rattle.pc_model.proofs.Walks.WalkLaws.{greatest_unique}
 use Rattle.pc_lines.specs.Text.{text_of}
@@ -8,9 +8,7 @@ use Rattle.pc_page.specs.Puts.{Desk}
 use Rattle.pc_times.specs.Picked.{LongestWalk}
 use Rattle.pc_cert_writer.specs.Document.{document_lines}
 use Rattle.pc_certified.specs.Complete.{IsComplete, IsThrough}
-use Rattle.pc_certified.specs.Rows.{AllSaySame}
-use Rattle.pc_check.specs.Certified.{AreCertified, AreCurve, segments_of}
-use Rattle.pc_certified.proofs.CertifiedLaws.{document_fits}
+use Rattle.pc_audit.specs.Texts.{IsCertified}
 use Rattle.pc_certify.specs.Walks.{IsPicked, ArePicked}
 use Rattle.pc_certify.specs.Descent.{IsPutDown}
 use Rattle.pc_certify.specs.Certificate.{IsCertificate}
@@ -32,25 +30,14 @@ module _ (net : PricedNetwork) (normal crash : LongestWalk) (picked : ArePicked 
     crash_walk = through-longest net.network _ crash down.low picked.at_crash down.shortest;
   }
 
-  pub certificate : AreCertified net (document_lines net normal.path crash.path down.segments)
-      → AllSaySame net down.segments (segments_of net (document_lines net normal.path crash.path down.segments))
-      → AreCurve net (segments_of net (document_lines net normal.path crash.path down.segments))
+  pub certificate : IsCertified net (text_of (document_lines net normal.path crash.path down.segments)) (length down.segments)
       → IsCertificate net (text_of (document_lines net normal.path crash.path down.segments))
-  certificate certified same curve = record {
+  certificate certified = record {
     normal = normal.path;
     crash = crash.path;
     segments = down.segments;
     picked_normal = picked.at_normal.picked;
     picked_crash = picked.at_crash.picked;
     spelled = refl;
-    certified = record {
-      lines = document_lines net normal.path crash.path down.segments;
-      whole = record {
-        led = record { fit = document_fits net normal.path crash.path down.segments down.head_fits down.fit; order = certified.whole };
-        whole = refl;
-      };
-      none = certified.none;
-      count = sym same.one_each;
-      curve = curve;
-    };
+    certified = certified;
   }

@@ -1,7 +1,6 @@
 -- A certified text prints a cheapest schedule for every length of the range.
 use Rattle.std.proofs.Common.{◌≡◌, ℕ, List, Some, None, refl, arith}
 use Rattle.std.specs.Prelude.{Option, IsSomeAnd}
-use Rattle.pc_model.proofs.Walks.WalkLaws.{greatest_unique}
 use Rattle.pc_curve_laws.specs.Segment.{Segment, Holds, IsRight}
 use Rattle.pc_curve_laws.specs.Cover.{segment_for}
 use Rattle.pc_lines.specs.declared.line.CertLine.{CertLine}
@@ -28,8 +27,10 @@ of_read net text limit lines whole (Some seg) is (holds, right) = record {
 }
 
 pub prints_whole_curve : (net : PricedNetwork) (text : List ℕ) (segments : ℕ) → IsCertified net text segments → PrintsWholeCurve net text
-prints_whole_curve net text segments certified longest shortest limit is_longest is_shortest above below =
-    let high = greatest_unique _ _ _ certified.curve.longest is_longest in
-    let low = greatest_unique _ _ _ certified.curve.shortest is_shortest in
-    of_read net text limit certified.lines certified.whole (segment_for (segments_of net certified.lines) limit) refl
-    (certified.curve.read limit (omega (arith, low, above)) (omega (arith, high, below)))
+prints_whole_curve net text segments certified = record {
+  longest = certified.curve.high;
+  shortest = certified.curve.low;
+  all_normal = certified.curve.longest;
+  all_crash = certified.curve.shortest;
+  each = λ limit above below. of_read net text limit certified.lines certified.whole (segment_for (segments_of net certified.lines) limit) refl (certified.curve.read limit above below);
+}

@@ -1,4 +1,4 @@
 mod DescentLaws
 mod CertificateLaws
 mod WalkLaws
-mod HeadlineLaws
+pub mod HeadlineLaws

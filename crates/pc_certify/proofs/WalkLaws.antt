@@ -1,4 +1,4 @@
--- The walks of a certificate, and the durations along them.
+-- The durations along which the walks of a certificate are longest.
 use Rattle.std.proofs.Common.{◌≡◌, ℕ, suc, ◌+◌, ◌<◌, ◌≤◌, List, [], ◌∷◌, ◌++◌, length, take, slice_index, sym, ap, ◌∙◌, arith}
 use Rattle.std.proofs.Math.Seq.{take-suc}
 use Rattle.std.proofs.lemmas.List.{length-map, take_all}
@@ -13,16 +13,6 @@ use Rattle.pc_model.specs.Schedule.{normals, crashes, AreTerms}
 use Rattle.pc_model.proofs.Schedules.Durations.{normals-at, crashes-at}
 use Rattle.pc_times.specs.Times.{AreLengths}
 use Rattle.pc_crash.specs.Terms.{AreWithinLimits}
-
-by_recursion : (arcs : List Arc) (e f : ℕ) (walk : List ℕ) → IsWalk arcs e walk f → ByRecursion (λ (a : ℕ). a < length arcs) walk
-by_recursion arcs e f [] leads = tt
-by_recursion arcs e f (a ∷ walk) (known, at, leads) = (known, by_recursion arcs (to_of arcs a) f walk leads)
-
--- a walk has activities of the network alone
-pub walk-known : (arcs : List Arc) (e f : ℕ) (walk : List ℕ) → IsWalk arcs e walk f → All (λ (a : ℕ). a < length arcs) walk
-walk-known arcs e f walk leads = All-from_recursion (λ (a : ℕ). a < length arcs) walk (by_recursion arcs e f walk leads)
-
--- ---- durations
 
 -- one more of the numbers of a list
 pub take-more : (xs : List ℕ) (a x : ℕ) (items later : List ℕ) → items ≡ take a xs → later ≡ items ++ x ∷ [] → a < length xs → slice_index xs a ≡ x → later ≡ take (a + 1) xs

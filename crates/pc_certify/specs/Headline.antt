@@ -31,8 +31,10 @@ pub record PrintsCheapest (net : PricedNetwork) (text : List ℕ) (limit : ℕ) 
   pub bound : bound_of net.terms (knees_in net) seg.flow seg.beside seg.slope limit ≡ pos (cost_for seg limit)
   pub cut : cut_gain net.network (knees_in net) seg ≡ pos seg.slope
 
--- so it is for every length from the all-crash to the all-normal length
-abbrev pub PrintsWholeCurve : PricedNetwork → List ℕ → Type 0
-PrintsWholeCurve net text =
-    (longest shortest limit : ℕ) → IsAllNormalLength net.network net.terms longest → IsAllCrashLength net.network net.terms shortest
-    → shortest ≤ limit → limit ≤ longest → PrintsCheapest net text limit
+-- the text does so for every length from the all-crash to the all-normal length
+pub record PrintsWholeCurve (net : PricedNetwork) (text : List ℕ) : Type 0 where
+  pub longest : ℕ
+  pub shortest : ℕ
+  pub all_normal : IsAllNormalLength net.network net.terms longest
+  pub all_crash : IsAllCrashLength net.network net.terms shortest
+  pub each : (limit : ℕ) → shortest ≤ limit → limit ≤ longest → PrintsCheapest net text limit

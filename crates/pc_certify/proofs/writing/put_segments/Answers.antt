@@ -3,17 +3,16 @@ use Rattle.std.proofs.lemmas.List.Elements.{All-nil, All-push}
 use Rattle.pc_lines.specs.Text.{AllFit}
 use Rattle.pc_page.proofs.PageLaws.{Adds-as, ◌⨾◌}
 use Rattle.pc_cert_writer.specs.Document.{segment_lines}
-use Rattle.pc_certified.proofs.CertifiedLaws.{text_begins, text_goes_on}
+use Rattle.pc_certified.proofs.CertifiedLaws.{text_begins, text_goes_on, walk_known}
 use Rattle.pc_flow.specs.Courses.{present, HasEnded}
 use Rattle.pc_certify.proofs.DescentLaws.{given-none, given-more, given-all, come-less, small-next}
-use Rattle.pc_certify.proofs.WalkLaws.{walk-known}
 use Rattle.pc_certify.proofs.writing.put_segments.Goals as goal
 
 pub put_head-requires-clause-normal : goal.put_head-requires-clause-normal
-put_head-requires-clause-normal g c = rw c.path.ensures (walk-known _ _ _ _ c.requires.walks.at_normal.through.leads)
+put_head-requires-clause-normal g c = rw c.path.ensures (walk_known _ _ _ _ c.requires.walks.at_normal.through.leads)
 
 pub put_head-requires-clause-crash : goal.put_head-requires-clause-crash
-put_head-requires-clause-crash g c = rw c.path-2.ensures (walk-known _ _ _ _ c.requires.walks.at_crash.through.leads)
+put_head-requires-clause-crash g c = rw c.path-2.ensures (walk_known _ _ _ _ c.requires.walks.at_crash.through.leads)
 
 pub loop-page-init : goal.loop-page-init
 loop-page-init g c = record {
