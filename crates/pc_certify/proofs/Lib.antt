@@ -1,0 +1,4 @@
+mod DescentLaws
+mod CertificateLaws
+mod WalkLaws
+pub mod HeadlineLaws

@@ -1,0 +1,4 @@
+pub mod Certificate
+pub mod Walks
+pub mod Descent
+pub mod Headline

@@ -1,0 +1,56 @@
+//! The call that writes a certificate.
+ghost use Rattle.std.specs.Prelude.{◌≡◌, ◌+◌, ◌*◌, ◌≤◌, length, OnOk, IsErrOf};
+ghost use Rattle.pc_cells.specs.Spans.{free_of};
+ghost use Rattle.pc_certify.specs.Certificate.{TookCertificate, TookFrontOfOne};
+
+use crate::walks::Walks;
+use crate::writing::write;
+use pc_cells::Region;
+use pc_crash::CrashNet;
+use pc_edges::{Failed, Sink};
+use pc_flow::Solver;
+use pc_page::{PAGE_ROOM, Page};
+use std::alloc::Global;
+use std::marker::Brand;
+use std::sync::ledger::Blank;
+use thiserror::Error;
+
+/// Why a certificate was not written, or not whole.
+#[derive(Clone, Copy, Debug, PartialEq, Eq, Hash, Error)]
+pub enum CertifyError {
+    #[error("the certificate could not be written")]
+    WriteFault,
+    #[error("out of memory")]
+    OutOfMemory,
+}
+
+/// Writes the certificate of a network: the whole time-cost curve from its all-normal length down to its all-crash length,
+/// with what proves it.
+///
+/// All memory is taken before the first byte is written, and how much does not depend on the number of segments. The solver
+/// works in the free cells of `region`, of which `pc_flow::cells_needed` says how many it needs. Each segment is written as
+/// soon as it stands, and the sink is flushed at the end.
+pub fn certify<O: Sink>(
+    alloc: Global,
+    net: &CrashNet<'_>,
+    region: Region,
+    sink: &mut O,
+) -> Result<(), CertifyError>
+    requires { 8 * net.now.network.events + 6 * length net.now.network.arcs + 2 * length net.now.pieces + 16 ≤ free_of region }
+    ensures done { OnOk result (TookCertificate net.now (O.taken sink.old) (O.taken sink.new) (O.faults sink.old) (O.faults sink.new)) }
+    ensures fault { IsErrOf result CertifyError.WriteFault
+        → TookFrontOfOne net.now (O.taken sink.old) (O.taken sink.new) (O.faults sink.old) (O.faults sink.new) }
+    ensures no_memory { IsErrOf result CertifyError.OutOfMemory → sink.new ≡ sink.old }
+{
+    let Ok(walks) = Walks::of(alloc, net) else {
+        return Err(CertifyError::OutOfMemory);
+    };
+    let Ok(mut page) = Page::with_room(alloc, PAGE_ROOM) else {
+        return Err(CertifyError::OutOfMemory);
+    };
+    let mut solver = Solver::begin(region, net);
+    match write::<O, Brand>(&mut page, sink, net, &walks, &mut solver, Blank::new(1)) {
+        Ok(()) => Ok(()),
+        Err(Failed) => Err(CertifyError::WriteFault),
+    }
+}
