@@ -1,14 +1,13 @@
 -- A text has one first failing point.
-use Rattle.std.proofs.Common.{◌≡◌, ℕ, ◌+◌, ◌⊎◌, inl, inr, List, [], ◌∷◌, ◌++◌, length, Option, Some, None, refl, sym, ap, subst, ◌∙◌, arith, append_assoc, append-nil}
+use Rattle.std.proofs.Common.{◌≡◌, ℕ, ◌+◌, ◌⊎◌, inl, inr, List, [], ◌∷◌, ◌++◌, length, Some, None, refl, sym, ap, ◌∙◌, append_assoc, append-nil}
 use Rattle.pc_lines.specs.declared.line.CertLine.{CertLine}
 use Rattle.pc_lines.specs.declared.place.Place.{Place}
 use Rattle.pc_lines.specs.declared.place.Place.TheVariants.{Start}
-use Rattle.pc_lines.specs.Lines.{Lacks, spelling}
+use Rattle.pc_lines.specs.Lines.{spelling}
 use Rattle.pc_lines.specs.Text.{text_of, AllFit, ran, LeadTo}
 use Rattle.pc_lines.proofs.LineLengths.{spelling_lacks_end}
 use Rattle.pc_lines.proofs.TextLaws.{spelling_once, split_once, lacks_no_stop}
-use Rattle.pc_cert.specs.Reader.{IsStopped, IsMissing, IsBadLine, IsTooLong}
-use Rattle.pc_cert.specs.declared.reader.Malformed.{Malformed}
+use Rattle.pc_cert.specs.Reader.{IsStopped, IsMissing}
 use Rattle.pc_crash.specs.Priced.{PricedNetwork}
 use Rattle.pc_check.specs.declared.fail.Fail.{Fail}
 use Rattle.pc_check.specs.Failures.{failure_of}
@@ -74,9 +73,9 @@ broken_malformed net text fail lines none stop zero_reason = record {
   line = stop.number;
   zero_reason = zero_reason;
   stops = λ others line more behind place others_are ends fit same.
-    let step = next_line stop.place place lines more line stop.led.order (ap (ran Start) (sym others_are) ∙ ends) in
-    not_bad stop.place (step.0) line stop.bad stop.more (text_of more ++ behind) (fit.0) (step.1)
-    (sym (append_assoc (spelling line) (10 ∷ text_of more) behind) ∙ sym same) stop.why;
+      let step = next_line stop.place place lines more line stop.led.order (ap (ran Start) (sym others_are) ∙ ends) in
+      not_bad stop.place (step.0) line stop.bad stop.more (text_of more ++ behind) (fit.0) (step.1)
+      (sym (append_assoc (spelling line) (10 ∷ text_of more) behind) ∙ sym same) stop.why;
 }
 
 broken_missing : (net : PricedNetwork) (text : List ℕ) (fail : Fail) (lines : List CertLine) → failure_of net lines ≡ None → IsMissing (record { line = fail.line }) lines text → fail.reason ≡ 0 → IsBroken net text fail
@@ -91,7 +90,7 @@ broken_missing net text fail lines none lack zero_reason = record {
   line = lack.number;
   zero_reason = zero_reason;
   stops = λ others line more behind place others_are ends fit same.
-    lacks_no_stop 10 (spelling line) lack.held (text_of more ++ behind) lack.going.no_end (sym (append_assoc (spelling line) (10 ∷ text_of more) behind) ∙ sym same);
+      lacks_no_stop 10 (spelling line) lack.held (text_of more ++ behind) lack.going.no_end (sym (append_assoc (spelling line) (10 ∷ text_of more) behind) ∙ sym same);
 }
 
 contrary : (x : Fail) → None ≡ Some x → ⊥

@@ -1,5 +1,5 @@
 -- How the parts of a check make its outcome, and what its outcome says.
-use Rattle.std.proofs.Common.{◌≡◌, ℕ, ◌+◌, ◌≤◌, List, length, Option, Some, None, ◌⊎◌, inl, inr, refl, sym, ap, subst, ◌∙◌, arith}
+use Rattle.std.proofs.Common.{◌≡◌, ℕ, ◌+◌, List, Option, Some, None, refl, sym, ap, subst}
 use Rattle.std.specs.Prelude.{IfSome, String}
 use Rattle.std.specs.declared.alloc.Global.{Global}
 use Rattle.pc_model.specs.Network.{Network}
@@ -8,7 +8,6 @@ use Rattle.pc_model.specs.declared.Term.{Term}
 use Rattle.pc_edges.specs.Pulls.{TakesPulls}
 use Rattle.pc_faults.specs.declared.fault.Fault.{Fault}
 use Rattle.pc_crash.specs.Priced.{PricedNetwork}
-use Rattle.pc_check.specs.Certified.{OnYes}
 use Rattle.pc_check.specs.declared.fail.Fail.{Fail}
 use Rattle.pc_check.specs.declared.fail.Verdict.{Verdict}
 use Rattle.pc_check.specs.declared.fail.Verdict.TheVariants.{Yes, No}
@@ -19,11 +18,10 @@ use Rattle.pc_audit.proofs.OnceLaws.{one_failure}
 use Rattle.pc_audit.proofs.SourceLaws.{TakesPulls-none}
 use Rattle.pc_project.specs.Project.{Project}
 use Rattle.pert_cli.specs.declared.ending.Ending.{Ending}
-use Rattle.pert_cli.specs.declared.ending.Ending.TheVariants.{Certified, Refused, Usage, OutOfMemory, ReadFault, WriteFault, NotCertified}
 use Rattle.pert_cli.specs.Certificate.{IsOneWord, verdict_text, priced_in, HasVerdict, Certifies, FailsAsCertificate, ProvesCurve, IsFound, ending_for, Told, told, cut, Answered, found, unread, no_room, FaultTold, fault_told, fault_cut, fault_untold}
-use Rattle.pert_cli.specs.CheckOutcome.{IsChecked, IsVerdictCut, CheckOutcome, certified, not_certified, deck_refused, no_memory, cert_fault, write_fault, in_verdict, in_refusal}
+use Rattle.pert_cli.specs.CheckOutcome.{IsChecked, CheckOutcome, certified, not_certified, deck_refused, no_memory, cert_fault, write_fault, in_verdict, in_refusal}
 use Rattle.pert_cli.specs.Reading.{HasProject, HasRefusal}
-use Rattle.pert_cli.specs.Sides.{Side, IsReadToEnd, IsUntouched, OfDeck, Took, TookFront}
+use Rattle.pert_cli.specs.Sides.{Side, IsUntouched, Took}
 use Rattle.pert_cli.specs.Verdict.{IsProjectOf, AcceptedBy}
 use Rattle.pert_cli.proofs.VerdictLaws.{one_project}
 
