@@ -137,12 +137,7 @@ fn check_outcome<D: Source, C: Source, O: Sink, E: Sink>(
 }
 
 /// Checks a certificate of the project, and says on `out` what it is found to be.
-fn check<C: Source, O: Sink>(
-    alloc: Global,
-    project: &Project,
-    cert: &mut C,
-    out: &mut O,
-) -> Ending
+fn check<C: Source, O: Sink>(alloc: Global, project: &Project, cert: &mut C, out: &mut O) -> Ending
     ensures answered { Answered project.now (side C.left C.faults cert.old cert.new) (side O.taken O.faults out.old out.new) result }
     ensures turns { TakesPulls (most_bytes (priced_in project.now) + 1) (C.pulls cert.old) (C.pulls cert.new) }
 {

@@ -82,10 +82,26 @@ fn left_by(
 // The parts of a certificate, with the status and the line that they give.
 const CHECKS: [(&[&[u8]], u8, &[u8]); 5] = [
     (&[HEAD, FIRST, SECOND, b"END\n"], 0, b"certified 2\n"),
-    (&[HEAD, TOO_FAR, SECOND, b"END\n"], 6, b"not certified line 12 reason 6\n"),
-    (&[HEAD, FIRST, b"END\n"], 6, b"not certified line 16 reason 3\n"),
-    (&[HEAD, FIRST, SECOND, b"EN"], 6, b"not certified line 24 reason 0\n"),
-    (&[HEAD, FIRST, SECOND, b"END\nx"], 6, b"not certified line 25 reason 0\n"),
+    (
+        &[HEAD, TOO_FAR, SECOND, b"END\n"],
+        6,
+        b"not certified line 12 reason 6\n",
+    ),
+    (
+        &[HEAD, FIRST, b"END\n"],
+        6,
+        b"not certified line 16 reason 3\n",
+    ),
+    (
+        &[HEAD, FIRST, SECOND, b"EN"],
+        6,
+        b"not certified line 24 reason 0\n",
+    ),
+    (
+        &[HEAD, FIRST, SECOND, b"END\nx"],
+        6,
+        b"not certified line 25 reason 0\n",
+    ),
 ];
 
 #[test]
@@ -103,11 +119,46 @@ fn certificates_come_in_pieces(rt: HostRuntime) -> Result<(), Fail> {
 
 // The failing edges, with the status that they give, and how much of the verdict is taken.
 const FAULTS: [(Edges, u8, usize); 5] = [
-    (Edges { failing_deck: 1, ..SOUND }, 4, 0),
-    (Edges { failing_cert: 1, ..SOUND }, 4, 0),
-    (Edges { failing_cert: 2, ..SOUND }, 4, 0),
-    (Edges { failing_push: 1, ..SOUND }, 5, 0),
-    (Edges { failing_push: 2, ..SOUND }, 5, 12),
+    (
+        Edges {
+            failing_deck: 1,
+            ..SOUND
+        },
+        4,
+        0,
+    ),
+    (
+        Edges {
+            failing_cert: 1,
+            ..SOUND
+        },
+        4,
+        0,
+    ),
+    (
+        Edges {
+            failing_cert: 2,
+            ..SOUND
+        },
+        4,
+        0,
+    ),
+    (
+        Edges {
+            failing_push: 1,
+            ..SOUND
+        },
+        5,
+        0,
+    ),
+    (
+        Edges {
+            failing_push: 2,
+            ..SOUND
+        },
+        5,
+        12,
+    ),
 ];
 
 #[test]

@@ -10,7 +10,7 @@ ghost use Rattle.pert_cli.specs.declared.forms.Form.{Form as TheForm};
 ghost use Rattle.pert_cli.specs.Words.{AskFor, AskForNone, usage_text};
 
 use crate::status::Status;
-use crate::{check, normal, times};
+use crate::{certify, check, normal, times};
 use arrayvec::ArrayVec;
 use pc_edges::Sink;
 use pc_project::Project;
@@ -27,6 +27,7 @@ pub(crate) fn usage() -> ArrayVec<u8, USAGE_ROOM>
     append(&mut line, b"usage: pert ", check::WORDS);
     append(&mut line, b" | ", normal::WORDS);
     append(&mut line, b" | ", times::WORDS);
+    append(&mut line, b" | ", certify::WORDS);
     append(&mut line, b"\n", b"");
     line
 }
@@ -49,6 +50,8 @@ pub(crate) enum Form {
     Normal,
     /// The times of the events, and the critical path.
     Times,
+    /// The certificate of the time-cost curve.
+    Certify,
 }
 
 impl Form {
@@ -74,6 +77,8 @@ impl Form {
             Some(Form::Normal)
         } else if word == times::WORDS {
             Some(Form::Times)
+        } else if word == certify::WORDS {
+            Some(Form::Certify)
         } else {
             None
         }
@@ -95,6 +100,7 @@ impl Form {
             Form::Check => check::answer(alloc, project, out),
             Form::Normal => normal::answer(alloc, project, out),
             Form::Times => times::answer(alloc, project, out),
+            Form::Certify => certify::answer(alloc, project, out),
         }
     }
 }
