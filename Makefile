@@ -8,7 +8,7 @@ PREFIX ?= /usr/local
 PROGRAMS := pert pert_check
 SECTION1 := pert.1 pert_check.1
 DOCS := README.md docs/deck.md docs/reports.md docs/curve.md docs/certificate.md
-EXAMPLES := examples/shed.csv examples/house.csv
+EXAMPLES := examples/shed.csv examples/house.csv examples/shed.certificate
 
 VERSION := $(shell cat VERSION)
 SOURCES := crates.txt VERSION Makefile tools/prove \

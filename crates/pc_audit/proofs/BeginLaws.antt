@@ -1,5 +1,5 @@
 -- How many bytes may come of a text of which nothing has come.
-use Rattle.std.proofs.Common.{◌≡◌, ℕ, ◌*◌, ◌≤◌, List, [], ◌∷◌, ◌++◌, length, Option, Some, refl, sym, ap, subst, ◌∙◌, arith, append_assoc}
+use Rattle.std.proofs.Common.{◌≡◌, ℕ, ◌*◌, ◌≤◌, List, [], ◌∷◌, ◌++◌, length, Some, refl, sym, ap, ◌∙◌, arith, append_assoc}
 use Rattle.pc_lines.specs.declared.line.CertLine.{CertLine}
 use Rattle.pc_lines.specs.declared.place.Place.{Place}
 use Rattle.pc_lines.specs.declared.place.Place.TheVariants.{Start}

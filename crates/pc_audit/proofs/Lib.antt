@@ -4,3 +4,4 @@ pub mod FeedLaws
 pub mod TextLaws
 pub mod BeginLaws
 pub mod SourceLaws
+pub mod OnceLaws

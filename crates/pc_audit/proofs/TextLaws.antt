@@ -1,17 +1,16 @@
 -- No text is both certified and failing.
-use Rattle.std.proofs.Common.{◌≡◌, ℕ, ◌+◌, ◌<◌, ◌≤◌, ◌⊎◌, inl, inr, List, [], ◌∷◌, ◌++◌, length, Option, Some, None, refl, sym, ap, subst, ◌∙◌, arith, append_assoc, append-nil, length-append}
+use Rattle.std.proofs.Common.{◌≡◌, ℕ, ◌≤◌, ◌⊎◌, inl, inr, List, [], ◌∷◌, ◌++◌, length, Some, None, refl, sym, ap, ◌∙◌, arith, append_assoc, append-nil}
 use Rattle.pc_lines.specs.declared.line.CertLine.{CertLine}
 use Rattle.pc_lines.specs.declared.place.Place.{Place}
 use Rattle.pc_lines.specs.declared.place.Place.TheVariants.{Start, Ended}
 use Rattle.pc_lines.specs.Fields.{◌>>=◌}
 use Rattle.pc_lines.specs.Grammar.{next}
 use Rattle.pc_lines.specs.Lines.{Lacks, spelling, Fits}
-use Rattle.pc_lines.specs.Text.{text_of, AllFit, ran, LeadTo}
+use Rattle.pc_lines.specs.Text.{text_of, AllFit, ran}
 use Rattle.pc_lines.proofs.FieldLemmas.{bind_some}
 use Rattle.pc_lines.proofs.LineLengths.{spelling_lacks_end, length-spelling}
 use Rattle.pc_lines.proofs.TextLaws.{spelling_once, split_once, lacks_no_stop, ran-append, text_once}
-use Rattle.pc_cert.specs.Reader.{IsStopped, IsMissing, IsWhole, IsBadLine, IsTooLong}
-use Rattle.pc_cert.specs.declared.reader.Malformed.{Malformed}
+use Rattle.pc_cert.specs.Reader.{IsBadLine, IsTooLong}
 use Rattle.pc_crash.specs.Priced.{PricedNetwork}
 use Rattle.pc_check.specs.declared.fail.Fail.{Fail}
 use Rattle.pc_check.specs.Failures.{failure_of}

@@ -4,8 +4,10 @@ ghost use Rattle.pc_audit.specs.Texts.{IsCertified, IsFailing};
 ghost use Rattle.pc_check.specs.declared.fail.Fail.{Fail};
 ghost use Rattle.pc_crash.specs.Priced.{PricedNetwork};
 
-/// No text is both certified and failing, and a certified one has one number of segments.
+/// A text is found to be one thing: it is not both certified and failing, has one number of segments where it is certified, and
+/// one first failing point where it fails.
 pub fn one_verdict()
     ensures not_both { (net : PricedNetwork) (text : List ℕ) (segments : ℕ) (fail : Fail) → IsCertified net text segments → IsFailing net text fail → ⊥ }
     ensures one_number { (net : PricedNetwork) (text : List ℕ) (segments others : ℕ) → IsCertified net text segments → IsCertified net text others → segments ≡ others }
+    ensures one_failure { (net : PricedNetwork) (text : List ℕ) (fail other : Fail) → IsFailing net text fail → IsFailing net text other → fail ≡ other }
 {}

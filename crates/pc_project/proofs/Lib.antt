@@ -12,3 +12,4 @@ mod CountLaws
 mod PieceLaws
 mod RunLaws
 mod PieceSteps
+mod OwnPieceLaws

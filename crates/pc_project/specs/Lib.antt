@@ -7,6 +7,7 @@ pub mod Refusal
 pub mod Numbered
 pub mod Runs
 pub mod Planned
+pub mod OwnPieces
 pub mod Parts
 pub use Rattle.pc_model.specs.Network
 pub use Rattle.pc_model.specs.Schedule

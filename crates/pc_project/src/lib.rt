@@ -4,6 +4,7 @@
 #![tactic(auto)]
 
 mod activity;
+mod costing;
 mod first;
 mod heading;
 mod lists;

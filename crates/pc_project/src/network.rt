@@ -4,12 +4,11 @@ ghost use Rattle.pc_model.specs.Network.{IsSound};
 ghost use Rattle.pc_wbs.specs.Climb.{IsTree};
 ghost use Rattle.pc_net.specs.Refusals.{IsRefusal};
 ghost use Rattle.pc_net.specs.declared.refusal.NetError.TheVariants as net;
-ghost use Rattle.pc_deck.specs.Deck.{act_codes};
 ghost use Rattle.pc_faults.specs.First.{Refuses};
 ghost use Rattle.pc_project.specs.Misfit.{HasNoMisfit};
 ghost use Rattle.pc_project.specs.Numbered.{AreNumbersOf};
 ghost use Rattle.pc_project.specs.Project.{arc_of, network_of, rows_of};
-ghost use Rattle.pc_project.specs.Refusal.{IsRefusedWith, codes_at, net_fault};
+ghost use Rattle.pc_project.specs.Refusal.{IsRefusedWith, net_fault};
 
 use crate::lists::{arcs, codes_of_acts};
 use crate::named::{act_card, codes_at, event_card};
@@ -19,7 +18,6 @@ use pc_deck::Cards;
 use pc_faults::{DeckError, Fault};
 use pc_model::Arc;
 use pc_net::{Net, NetError};
-use pc_text::Codes;
 use std::alloc::{AllocError, Global};
 
 /// The network of the activities, or the fault that keeps it from being sound (F24 to F27).
@@ -72,29 +70,21 @@ fn fault_of(alloc: Global, cards: &Cards, error: NetError) -> DeckError
             let card = event_card(cards, event);
             DeckError::Fault(Fault::dangling(card.row, card.code, entered))
         }
-        NetError::Cycle(acts) => fault_of_cycle(alloc, cards, acts.as_slice()),
+        NetError::Cycle(acts) => match fault_of_cycle(alloc, cards, acts.as_slice()) {
+            Ok(fault) => DeckError::Fault(fault),
+            Err(_) => DeckError::OutOfMemory,
+        },
         NetError::OutOfMemory => DeckError::OutOfMemory,
     }
 }
 
 /// The fault by which a cycle of activities is told.
-fn fault_of_cycle(alloc: Global, cards: &Cards, acts: &[u32]) -> DeckError
+fn fault_of_cycle(alloc: Global, cards: &Cards, acts: &[u32]) -> Result<Fault, AllocError>
     requires some { 0 < length acts.now }
     requires known { All (λ act. act < length cards.now.acts) acts.now }
-    ensures { Refuses (λ fault. net_fault cards.now (net.Cycle acts.now) ≡ DeckError.Fault fault) result }
-{
-    let row = act_card(cards, acts[0]).row;
-    match names_of(alloc, cards, acts) {
-        Ok(names) => DeckError::Fault(Fault::cycle(row, names)),
-        Err(_) => DeckError::OutOfMemory,
-    }
-}
-
-/// The codes of these activities.
-fn names_of(alloc: Global, cards: &Cards, acts: &[u32]) -> Result<Codes, AllocError>
-    requires { All (λ act. act < length cards.now.acts) acts.now }
-    ensures { IfOk result (λ names. names ≡ codes_at (act_codes cards.now) acts.now) }
+    ensures { IfOk result (λ fault. net_fault cards.now (net.Cycle acts.now) ≡ DeckError.Fault fault) }
 {
     let codes = codes_of_acts(alloc, cards)?;
-    codes_at(alloc, &codes, acts)
+    let names = codes_at(alloc, &codes, acts)?;
+    Ok(Fault::cycle(act_card(cards, acts[0]).row, names))
 }

@@ -3,19 +3,17 @@ ghost use Rattle.std.specs.Prelude.{◌≡◌, ◌<◌, All, length, slice_index
 ghost use Rattle.pc_wbs.specs.Climb.{IsTree};
 ghost use Rattle.pc_wbs.specs.Refusal.{IsRefusal};
 ghost use Rattle.pc_wbs.specs.declared.error.TreeError.TheVariants as tree;
-ghost use Rattle.pc_deck.specs.Deck.{item_codes};
 ghost use Rattle.pc_faults.specs.First.{Refuses};
 ghost use Rattle.pc_project.specs.Misfit.{HasNoMisfit};
 ghost use Rattle.pc_project.specs.Numbered.{AreNumbersOf};
 ghost use Rattle.pc_project.specs.Project.{rows_of};
-ghost use Rattle.pc_project.specs.Refusal.{IsRefusedWith, codes_at, tree_fault};
+ghost use Rattle.pc_project.specs.Refusal.{IsRefusedWith, tree_fault};
 
 use crate::lists::codes_of_items;
 use crate::named::{codes_at, item_card};
 use crate::numbers::Numbers;
 use pc_deck::Cards;
 use pc_faults::{DeckError, Fault};
-use pc_text::Codes;
 use pc_wbs::{Tree, TreeError};
 use std::alloc::{AllocError, Global};
 
@@ -44,7 +42,10 @@ fn fault_of(alloc: Global, cards: &Cards, error: TreeError) -> DeckError
             let card = item_card(cards, item);
             DeckError::Fault(Fault::second_top(card.row, card.code))
         }
-        TreeError::Loop(items) => fault_of_loop(alloc, cards, items.as_slice()),
+        TreeError::Loop(items) => match fault_of_loop(alloc, cards, items.as_slice()) {
+            Ok(fault) => DeckError::Fault(fault),
+            Err(_) => DeckError::OutOfMemory,
+        },
         TreeError::TooDeep { item, level } => {
             let card = item_card(cards, item);
             DeckError::Fault(Fault::too_deep(card.row, card.code, level))
@@ -54,23 +55,12 @@ fn fault_of(alloc: Global, cards: &Cards, error: TreeError) -> DeckError
 }
 
 /// The fault by which a loop of items is told.
-fn fault_of_loop(alloc: Global, cards: &Cards, items: &[u32]) -> DeckError
+fn fault_of_loop(alloc: Global, cards: &Cards, items: &[u32]) -> Result<Fault, AllocError>
     requires some { 0 < length items.now }
     requires known { All (λ item. item < length cards.now.items) items.now }
-    ensures { Refuses (λ fault. tree_fault cards.now (tree.Loop items.now) ≡ DeckError.Fault fault) result }
-{
-    let row = item_card(cards, items[0]).row;
-    match names_of(alloc, cards, items) {
-        Ok(names) => DeckError::Fault(Fault::item_loop(row, names)),
-        Err(_) => DeckError::OutOfMemory,
-    }
-}
-
-/// The codes of these items.
-fn names_of(alloc: Global, cards: &Cards, items: &[u32]) -> Result<Codes, AllocError>
-    requires { All (λ item. item < length cards.now.items) items.now }
-    ensures { IfOk result (λ names. names ≡ codes_at (item_codes cards.now) items.now) }
+    ensures { IfOk result (λ fault. tree_fault cards.now (tree.Loop items.now) ≡ DeckError.Fault fault) }
 {
     let codes = codes_of_items(alloc, cards)?;
-    codes_at(alloc, &codes, items)
+    let names = codes_at(alloc, &codes, items)?;
+    Ok(Fault::item_loop(item_card(cards, items[0]).row, names))
 }

@@ -1,30 +1,29 @@
 -- How the parts of a check make its outcome, and what its outcome says.
-use Rattle.std.proofs.Common.{◌≡◌, ℕ, ◌+◌, ◌≤◌, List, length, Option, Some, None, ◌⊎◌, inl, inr, refl, sym, ap, subst, ◌∙◌, arith}
+use Rattle.std.proofs.Common.{◌≡◌, ℕ, ◌+◌, List, Option, Some, None, refl, sym, ap, subst}
 use Rattle.std.specs.Prelude.{IfSome, String}
 use Rattle.std.specs.declared.alloc.Global.{Global}
 use Rattle.pc_model.specs.Network.{Network}
 use Rattle.pc_model.specs.declared.PieceRow.{PieceRow}
 use Rattle.pc_model.specs.declared.Term.{Term}
 use Rattle.pc_edges.specs.Pulls.{TakesPulls}
-use Rattle.pc_deck.proofs.DeckLaws.{one_deck}
 use Rattle.pc_faults.specs.declared.fault.Fault.{Fault}
 use Rattle.pc_crash.specs.Priced.{PricedNetwork}
-use Rattle.pc_check.specs.Certified.{OnYes}
 use Rattle.pc_check.specs.declared.fail.Fail.{Fail}
 use Rattle.pc_check.specs.declared.fail.Verdict.{Verdict}
 use Rattle.pc_check.specs.declared.fail.Verdict.TheVariants.{Yes, No}
-use Rattle.pc_audit.specs.Texts.{IsFailing, Finds}
+use Rattle.pc_audit.specs.Texts.{IsCertified, IsFailing, Finds}
 use Rattle.pc_audit.specs.Auditing.{most_bytes}
-use Rattle.pc_audit.proofs.TextLaws.{not_both as one_text_verdict}
+use Rattle.pc_audit.proofs.TextLaws.{not_both as one_text_verdict, one_number}
+use Rattle.pc_audit.proofs.OnceLaws.{one_failure}
 use Rattle.pc_audit.proofs.SourceLaws.{TakesPulls-none}
-use Rattle.pc_project.specs.Project.{Project, project_in}
+use Rattle.pc_project.specs.Project.{Project}
 use Rattle.pert_cli.specs.declared.ending.Ending.{Ending}
-use Rattle.pert_cli.specs.declared.ending.Ending.TheVariants.{Certified, Refused, Usage, OutOfMemory, ReadFault, WriteFault, NotCertified}
 use Rattle.pert_cli.specs.Certificate.{IsOneWord, verdict_text, priced_in, HasVerdict, Certifies, FailsAsCertificate, ProvesCurve, IsFound, ending_for, Told, told, cut, Answered, found, unread, no_room, FaultTold, fault_told, fault_cut, fault_untold}
-use Rattle.pert_cli.specs.CheckOutcome.{IsChecked, IsVerdictCut, CheckOutcome, certified, not_certified, deck_refused, no_memory, cert_fault, write_fault, in_verdict, in_refusal}
+use Rattle.pert_cli.specs.CheckOutcome.{IsChecked, CheckOutcome, certified, not_certified, deck_refused, no_memory, cert_fault, write_fault, in_verdict, in_refusal}
 use Rattle.pert_cli.specs.Reading.{HasProject, HasRefusal}
-use Rattle.pert_cli.specs.Sides.{Side, IsReadToEnd, IsUntouched, OfDeck, Took, TookFront}
+use Rattle.pert_cli.specs.Sides.{Side, IsUntouched, Took}
 use Rattle.pert_cli.specs.Verdict.{IsProjectOf, AcceptedBy}
+use Rattle.pert_cli.proofs.VerdictLaws.{one_project}
 
 -- ---- the network of a project
 
@@ -38,10 +37,6 @@ same_fields p q r s t u = rw (p, q, r, s, t, u) refl
 pub priced_is : (net : PricedNetwork) (project : Project) → net.network ≡ project.network → net.terms ≡ project.terms → net.pieces ≡ project.pieces → net.project ≡ project.heading.code → net.events ≡ project.events → net.activities ≡ project.activities → net ≡ priced_in project
 priced_is net project p q r s t u = same_fields p q r s t u
 
--- a deck has one project
-pub one_project : (bytes : List ℕ) (p q : Project) → IsProjectOf bytes p → IsProjectOf bytes q → p ≡ q
-one_project bytes p q a b = a.is ∙ ap project_in (one_deck bytes a.deck b.deck a.accepted.cards b.accepted.cards) ∙ sym b.is
-
 -- ---- verdicts
 
 -- no certificate is both certified and failing
@@ -53,6 +48,19 @@ one_verdict bytes text right wrong =
     let same = one_project bytes failing.project sure.project failing.accepted sure.accepted in
     one_text_verdict (priced_in sure.project) text right.0 point sure.finds
     (subst (λ p. IsFailing (priced_in p) text point) same failing.finds)
+
+-- a certificate is found to be one thing
+pub one_finding : (bytes text : List ℕ) (verdict other : Verdict) → HasVerdict bytes text verdict → HasVerdict bytes text other → verdict ≡ other
+one_finding bytes text (Yes segments) (Yes others) a b =
+    let same = one_project bytes b.project a.project b.accepted a.accepted in
+    ap Yes (one_number (priced_in a.project) text segments others a.finds (subst (λ p. IsCertified (priced_in p) text others) same b.finds))
+one_finding bytes text (Yes segments) (No line reason) a b = absurd (one_verdict bytes text (segments, a) (line, reason, b))
+one_finding bytes text (No line reason) (Yes segments) a b = absurd (one_verdict bytes text (segments, b) (line, reason, a))
+one_finding bytes text (No line reason) (No number cause) a b =
+    let f : Fail = record { line = line; reason = reason } in
+    let g : Fail = record { line = number; reason = cause } in
+    let same = one_project bytes b.project a.project b.accepted a.accepted in
+    ap (λ (fail : Fail). No fail.line fail.reason) (one_failure (priced_in a.project) text f g a.finds (subst (λ p. IsFailing (priced_in p) text g) same b.finds))
 
 -- a certified certificate proves the whole curve
 pub curve_of : (bytes text : List ℕ) (segments : ℕ) → HasVerdict bytes text (Yes segments) → ProvesCurve bytes text

@@ -1,5 +1,5 @@
 -- How the parts of a run make its outcome.
-use Rattle.std.proofs.Common.{ℕ, List}
+use Rattle.std.proofs.Common.{List}
 use Rattle.std.specs.Prelude.{String}
 use Rattle.std.specs.declared.alloc.Global.{Global}
 use Rattle.pc_faults.specs.declared.fault.Fault.{Fault}
@@ -7,7 +7,7 @@ use Rattle.pc_project.specs.Project.{Project}
 use Rattle.pert_cli.specs.declared.status.Status.{Status}
 use Rattle.pert_cli.specs.declared.status.Status.TheVariants.{Done, Refused, Usage, OutOfMemory, ReadFault, WriteFault}
 use Rattle.pert_cli.specs.declared.forms.Form.{Form}
-use Rattle.pert_cli.specs.Words.{AskFor, AskForOne}
+use Rattle.pert_cli.specs.Words.{AskFor}
 use Rattle.pert_cli.specs.Sides.{Side, IsUntouched}
 use Rattle.pert_cli.specs.Handing.{Answers, IsReply, Refusal, Replies, answers, denies}
 use Rattle.pert_cli.specs.Reading.{HasProject, HasRefusal}

@@ -35,7 +35,7 @@ refusal_is_fault source fault (took_too_much is took) =
 refusal_is_fault source fault (faulty read has) = weaker (source.bytes source.old) _ _ (λ bytes both. both.1) has
 
 -- a deck that is refused and not too long was read to its end
-refusal_is_read : {S : Type 0} (source : Side S) (fault : Fault) → HasRefusal source fault → OfDeck source (λ bytes. length bytes ≤ longest_deck → IsReadToEnd source)
+pub refusal_is_read : {S : Type 0} (source : Side S) (fault : Fault) → HasRefusal source fault → OfDeck source (λ bytes. length bytes ≤ longest_deck → IsReadToEnd source)
 refusal_is_read source fault (took_too_much is took) =
     weaker (source.bytes source.old) _ _ (λ bytes long short. absurd (omega (arith, long, short))) (of_a_long_deck _ _ took.0 took.1 took.2)
 refusal_is_read source fault (faulty read has) = weaker (source.bytes source.old) _ _ (λ bytes both short. read) has

@@ -3,7 +3,7 @@ use Rattle.std.proofs.Common.{◌≡◌, ℕ, List, length, slice_index, sym, �
 use Rattle.std.proofs.lemmas.List.{length-map}
 use Rattle.pc_model.specs.declared.Term.{Term}
 use Rattle.pc_model.specs.Network.{Network, IsLongest}
-use Rattle.pc_model.specs.Schedule.{AreTerms, IsSchedule, normal_of, normals}
+use Rattle.pc_model.specs.Schedule.{AreTerms, IsSchedule, normals}
 use Rattle.pc_model.specs.Cost.{cost_of}
 use Rattle.pc_model.specs.Pieces.{knees_of}
 use Rattle.pc_model.proofs.Schedules.Durations.{normals-at}

@@ -1,5 +1,5 @@
 -- Certificates of a deck's project, and what is said of them.
-use Rattle.std.specs.Prelude.{◌≡◌, ℕ, ◌≤◌, List, [], ◌∷◌, ◌++◌, length, codes, decimal, String, ◌⊎◌}
+use Rattle.std.specs.Prelude.{◌≡◌, ℕ, ◌≤◌, List, [], ◌∷◌, ◌++◌, length, codes, decimal, String}
 use Rattle.std.specs.declared.alloc.Global.{Global}
 use Rattle.pc_model.specs.Schedule.{IsAllNormalLength, IsAllCrashLength}
 use Rattle.pc_curve_laws.specs.Cover.{Joins, IsReadRight}

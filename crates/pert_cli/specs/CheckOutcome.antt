@@ -1,5 +1,5 @@
 -- What a check of a certificate means and leaves behind, by its status.
-use Rattle.std.specs.Prelude.{◌≡◌, ℕ, List, String}
+use Rattle.std.specs.Prelude.{ℕ, List, String}
 use Rattle.std.specs.declared.alloc.Global.{Global}
 use Rattle.pc_check.specs.declared.fail.Verdict.{Verdict}
 use Rattle.pc_check.specs.declared.fail.Verdict.TheVariants.{Yes, No}

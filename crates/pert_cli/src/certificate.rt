@@ -1,12 +1,13 @@
 //! The top call of the program that checks a certificate.
 ghost use Rattle.std.specs.Prelude.{◌≡◌, ◌≢◌, ℕ, List, ◌+◌, ◌≤◌, ◌⊎◌, length};
+ghost use Rattle.pc_check.specs.declared.fail.Verdict.{Verdict as TheVerdict};
 ghost use Rattle.pc_check.specs.declared.fail.Verdict.TheVariants.{Yes, No};
 ghost use Rattle.pc_deck.specs.Limits.{longest_deck};
 ghost use Rattle.pc_edges.specs.Pulls.{TakesPulls};
 ghost use Rattle.pc_faults.specs.FaultText.{IsTold};
 ghost use Rattle.pc_audit.specs.Auditing.{most_bytes};
 ghost use Rattle.pc_project.specs.Project.{Project as TheProject};
-ghost use Rattle.pert_cli.specs.Certificate.{Answered, FaultTold, IsOneWord, check_usage_text, priced_in, Certifies, FailsAsCertificate, ProvesCurve};
+ghost use Rattle.pert_cli.specs.Certificate.{Answered, FaultTold, IsOneWord, check_usage_text, priced_in, Certifies, FailsAsCertificate, HasVerdict, ProvesCurve};
 ghost use Rattle.pert_cli.specs.CheckOutcome.{CheckOutcome, IsChecked, IsDeckRefused, IsCheckCut, OfBoth};
 ghost use Rattle.pert_cli.specs.Sides.{side, HadFault, HadNoFault, IsReadToEnd, OfDeck, Took};
 ghost use Rattle.pert_cli.specs.Verdict.{AcceptedBy, IsProjectOf, RefusedBy};
@@ -83,8 +84,10 @@ pub fn check_run<D: Source, C: Source, O: Sink, E: Sink>(
     // Each status but 2 and 5 comes only where there is one word.
     ensures one_word { result ≢ 2 → result ≢ 5 → IsOneWord words.now }
 
-    // No certificate is both certified and failing for one deck, and no deck is both accepted and refused.
+    // No certificate is both certified and failing for one deck, each has one first failing point, and no deck is both
+    // accepted and refused.
     ensures one_verdict { (bytes text : List ℕ) → Certifies bytes text → FailsAsCertificate bytes text → ⊥ }
+    ensures one_finding { (bytes text : List ℕ) (verdict other : TheVerdict) → HasVerdict bytes text verdict → HasVerdict bytes text other → verdict ≡ other }
     ensures one_deck_verdict { (bytes : List ℕ) → AcceptedBy bytes → RefusedBy bytes → ⊥ }
 
     // Where no fault came, the words, the deck and the certificate decide, but for want of memory.

@@ -1,4 +1,4 @@
-use Rattle.std.proofs.Common.{◌+◌, refl, sym, subst, arith}
+use Rattle.std.proofs.Common.{◌+◌, refl, subst, arith}
 use Rattle.pc_edges.specs.Pulls.{TakesPulls}
 use Rattle.pc_faults.specs.declared.fault.Fault.{Fault}
 use Rattle.pc_audit.specs.Auditing.{most_bytes}

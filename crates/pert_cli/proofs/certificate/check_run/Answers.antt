@@ -1,4 +1,4 @@
-use Rattle.pert_cli.proofs.CheckLaws.{one_verdict}
+use Rattle.pert_cli.proofs.CheckLaws.{one_finding, one_verdict}
 use Rattle.pert_cli.proofs.CheckDecided.{found_certified, found_failing, headline, check_cut, refused_deck_ends, right_ends, wrong_ends}
 use Rattle.pert_cli.proofs.VerdictLaws.{not_both}
 use Rattle.pert_cli.proofs.certificate.check_run.Goals as goal
@@ -17,6 +17,9 @@ returns-clause-write_fault g c = check_cut c.args.words.now _ _ _ _ c.code.resul
 
 pub returns-clause-one_verdict : goal.returns-clause-one_verdict
 returns-clause-one_verdict g c = one_verdict
+
+pub returns-clause-one_finding : goal.returns-clause-one_finding
+returns-clause-one_finding g c = one_finding
 
 pub returns-clause-one_deck_verdict : goal.returns-clause-one_deck_verdict
 returns-clause-one_deck_verdict g c = λ bytes accepted refused. not_both bytes accepted.0 refused.0 accepted.1 refused.1
