@@ -6,3 +6,4 @@ mod ScheduleLaws
 mod VerdictLaws
 mod CheckLaws
 mod CheckDecided
+mod CertifyLaws

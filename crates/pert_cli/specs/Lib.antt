@@ -10,6 +10,7 @@ pub mod Status
 pub mod Ending
 pub mod Certificate
 pub mod CheckOutcome
+pub mod Headline
 pub use Rattle.pc_edges.specs.Faults
 pub use Rattle.pc_edges.specs.Writes
 pub use Rattle.pc_deck.specs.Deck

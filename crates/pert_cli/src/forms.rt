@@ -10,7 +10,7 @@ ghost use Rattle.pert_cli.specs.declared.forms.Form.{Form as TheForm};
 ghost use Rattle.pert_cli.specs.Words.{AskFor, AskForNone, usage_text};
 
 use crate::status::Status;
-use crate::{check, normal, summary, times, value};
+use crate::{certify, check, normal, summary, times, value};
 use arrayvec::ArrayVec;
 use pc_edges::Sink;
 use pc_project::Project;
@@ -29,6 +29,7 @@ pub(crate) fn usage() -> ArrayVec<u8, USAGE_ROOM>
     append(&mut line, b" | ", times::WORDS);
     append(&mut line, b" | ", summary::WORDS);
     append(&mut line, b" | ", value::WORDS);
+    append(&mut line, b" | ", certify::WORDS);
     append(&mut line, b"\n", b"");
     line
 }
@@ -55,6 +56,8 @@ pub(crate) enum Form {
     Summary,
     /// The forecast, and what the work is worth.
     Value,
+    /// The certificate of the time-cost curve.
+    Certify,
 }
 
 impl Form {
@@ -84,6 +87,8 @@ impl Form {
             Some(Form::Summary)
         } else if word == value::WORDS {
             Some(Form::Value)
+        } else if word == certify::WORDS {
+            Some(Form::Certify)
         } else {
             None
         }
@@ -107,6 +112,7 @@ impl Form {
             Form::Times => times::answer(alloc, project, out),
             Form::Summary => summary::answer(alloc, project, out),
             Form::Value => value::answer(alloc, project, out),
+            Form::Certify => certify::answer(alloc, project, out),
         }
     }
 }

@@ -3,6 +3,7 @@
 
 mod answer;
 mod certificate;
+mod certify;
 mod check;
 mod ending;
 mod forms;

@@ -96,7 +96,7 @@ ITEM             LV         BUDGET         ACTUAL          VALUE        OVERRUN 
 1.1               2             25             10              6              4          -42 Frame, north\n\
 1.2               2             20              0              0              0          -42 Roof\n";
 
-const USAGE: &[u8] = b"usage: pert check | normal | times | summary | value\n";
+const USAGE: &[u8] = b"usage: pert check | normal | times | summary | value | certify\n";
 
 const NO_PROJECT: &[u8] = b"F3 record 1: first card is not PROJECT\n";
 

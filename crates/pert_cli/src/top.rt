@@ -1,7 +1,9 @@
 //! The top call.
 ghost use Rattle.std.specs.Prelude.{◌≡◌, ◌≢◌, ℕ, List, ◌≤◌, ◌⊎◌, length};
 ghost use Rattle.pc_deck.specs.Limits.{longest_deck};
-ghost use Rattle.pert_cli.specs.Words.{AskForOne, AskForNone, usage_text};
+ghost use Rattle.pert_cli.specs.declared.forms.Form.TheVariants.{Certify};
+ghost use Rattle.pert_cli.specs.Headline.{TookWholeCurve};
+ghost use Rattle.pert_cli.specs.Words.{AskFor, AskForOne, AskForNone, usage_text};
 ghost use Rattle.pert_cli.specs.Sides.{side, HadFault, HadNoFault, IsReadToEnd, OfDeck, Took};
 ghost use Rattle.pert_cli.specs.Verdict.{AcceptedBy, RefusedBy};
 ghost use Rattle.pert_cli.specs.Outcome.{Outcome, IsAcceptedFor, IsCut, IsDone, IsRefused, IsRefusedFor};
@@ -17,7 +19,8 @@ use std::alloc::Global;
 /// Does what the words ask for: reads a deck from `source`, writes its answer on `out`, or on `err` why there is none.
 ///
 /// The words are one of the forms: `check` asks how many cards of each kind an accepted deck has, `normal` for the
-/// schedule at the all-normal length, and `times` for the times of the events and the critical path. The words come
+/// schedule at the all-normal length, `times` for the times of the events and the critical path, and `certify` for the
+/// certificate of the time-cost curve. The words come
 /// first, then the whole deck, then its faults, then all memory that the answer needs, then the answer and a flush. The
 /// answer of the call is the status with which the program ends.
 pub fn run<S: Source, O: Sink, E: Sink>(
@@ -32,6 +35,13 @@ pub fn run<S: Source, O: Sink, E: Sink>(
     // 0: the words ask for a form, the deck was read to its end, deck and form accept it, and `out` took the form's answer.
     ensures done { result ≡ 0 → IsDone words.now (side S.left S.faults source.old source.new) (side O.taken O.faults out.old out.new) }
     ensures done_only { result ≡ 0 → err.new ≡ err.old }
+
+    // The headline: at 0 for `certify`, `out` took the whole time-cost curve of the accepted deck's project. For every length
+    // from the all-crash to the all-normal length the durations and event times printed for it are a schedule of that length,
+    // cost what is printed, and no schedule of that length costs less; the printed flow proves this, and the printed cut gives
+    // the slope.
+    ensures headline { result ≡ 0 → AskFor Certify words.now → OfDeck (side S.left S.faults source.old source.new)
+        (TookWholeCurve (side O.taken O.faults out.old out.new)) }
 
     // 1: the words ask for a form, the deck or the form refuses with a fault, and `err` took the line of the fault.
     ensures refused { result ≡ 1 → IsRefused words.now (side S.left S.faults source.old source.new) (side E.taken E.faults err.old err.new) }

@@ -1,3 +1,4 @@
+use Rattle.pert_cli.proofs.CertifyLaws.{takes_whole_curve}
 use Rattle.pert_cli.proofs.DecidedLaws.{accepted_ends, ended_asked, five_is_cut, refused_ends}
 use Rattle.pert_cli.proofs.VerdictLaws.{not_both}
 use Rattle.pert_cli.proofs.top.run.Goals as goal
@@ -16,3 +17,6 @@ returns-clause-one_verdict g c = λ bytes accepted refused. not_both bytes accep
 
 pub returns-clause-form : goal.returns-clause-form
 returns-clause-form g c = ended_asked c.args.words.now _ _ _ c.code.result c.outcome.result c.outcome.ensures c.code.ensures
+
+pub returns-clause-headline : goal.returns-clause-headline
+returns-clause-headline g c = takes_whole_curve c.args.words.now _ _ _ c.code.result c.outcome.result c.outcome.ensures c.code.ensures
