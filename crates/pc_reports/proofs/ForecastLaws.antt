@@ -70,7 +70,7 @@ module _ (net : Network) (lengths : List ℕ) (states : List ActState) (as_of : 
     where
       of_last : (a : ℕ) → a < length net.arcs → to_of net.arcs a ≡ slice_index order k → slice_index expected.finishes a ≡ slice_index expected.times (slice_index order k) → slice_index expected.times (slice_index order k) ≤ as_of + k * MAX_LENGTH
       of_last a in_arcs ends is =
-          let (i, (lower, at)) = ordered.part.before k a in_order in_arcs ends in
+          let (i, lower, at) = ordered.part.before k a in_order in_arcs ends in
           let begins : slice_index expected.times (from_of net.arcs a) ≤ as_of + i * MAX_LENGTH = subst (λ (e : ℕ). slice_index expected.times e ≤ as_of + i * MAX_LENGTH) at (so_far i lower) in
           let later : as_of ≤ as_of + i * MAX_LENGTH = omega arith in
           let bound = finish_bound (state_at states a) (slice_index lengths a) as_of (slice_index expected.times (from_of net.arcs a)) (as_of + i * MAX_LENGTH) (state_more (state_at states a) as_of (as_of + i * MAX_LENGTH) later (known a in_arcs)) (fit.small a in_arcs) later begins in
@@ -85,7 +85,7 @@ module _ (net : Network) (lengths : List ℕ) (states : List ActState) (as_of : 
   pub soon : net.events ≤ MAX_EVENTS → (e : ℕ) → e < net.events → slice_index expected.times e ≤ as_of + MAX_TIME
   unfolding IsSoon
   soon few e below =
-      let (k, (in_order, at)) = stands_in_order net order ordered e below in
+      let (k, in_order, at) = stands_in_order net order ordered e below in
       let here : slice_index expected.times (slice_index order k) ≤ as_of + k * MAX_LENGTH = soon_to (length order) (omega arith) k in_order in
       omega (arith, here, ap (slice_index expected.times) at, ordered.whole)
 

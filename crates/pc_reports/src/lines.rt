@@ -47,13 +47,13 @@ pub(crate) fn put_dated<O: Sink>(
     page: &mut Page,
     sink: &mut O,
     word: &[u8],
-    code: &Code,
+    name: &Code,
     day: Day,
 )
-    ensures { Puts O.taken O.faults page.old sink.old page.new sink.new (dated_line word.now code.now day) }
+    ensures { Puts O.taken O.faults page.old sink.old page.new sink.new (dated_line word.now name.now day) }
 {
     page.put(sink, word);
-    page.put(sink, code.bytes());
+    page.put(sink, name.bytes());
     page.put(sink, b" ");
     page.put(sink, &day_text(day));
     page.put(sink, b"\n");

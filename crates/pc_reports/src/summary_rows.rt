@@ -55,7 +55,8 @@ impl<'a> Rows for LevelRows<'a> {
     }
 
     fn put<O: Sink>(&self, i: usize, page: &mut Page, sink: &mut O) {
-        put_level(page, sink, i as u64 + 1, &self.summary.of_level(i));
+        let amounts = self.summary.of_level(i);
+        put_level(page, sink, i as u64 + 1, &amounts);
     }
 }
 
@@ -72,7 +73,7 @@ fn put_item<O: Sink>(
 {
     page.put_left(sink, 16, code.bytes());
     page.put(sink, b" ");
-    page.put_number_right(sink, 2, u64::from(level));
+    page.put_number_right(sink, 2, level as u64);
     page.put(sink, b" ");
     page.put_signed_right(sink, 14, amounts.budget);
     page.put(sink, b" ");

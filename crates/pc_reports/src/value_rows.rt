@@ -107,7 +107,7 @@ fn put_worth<O: Sink>(
 {
     page.put_left(sink, 16, code.bytes());
     page.put(sink, b" ");
-    page.put_number_right(sink, 2, u64::from(level));
+    page.put_number_right(sink, 2, level as u64);
     page.put(sink, b" ");
     page.put_signed_right(sink, 14, amounts.budget);
     page.put(sink, b" ");

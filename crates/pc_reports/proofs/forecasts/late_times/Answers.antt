@@ -13,8 +13,14 @@ returns-clause-late c =
     let project = c.args.project.now in
     let reached = c.in_ok-reached.reached.items in
     let meet = end_to_meet project.heading.directed (slice_index reached project.network.end) in
-    let by : c.end_to_meet-by.result ≡ meet = c.end_to_meet-by.ensures.end ∙ rw (c.directed.ensures.directed, c.end.ensures.end, c.net.ensures.network) refl in
-    let early : AreEarly project.network project.expected reached = subst (λ (n : Network). AreEarly n project.expected reached) c.net.ensures.network (subst (λ (l : List ℕ). AreEarly c.net.result.now l reached) c.expected.ensures.expected c.in_ok-reached.ensures.times) in
+    let by : c.end_to_meet-by.result ≡ meet = c.end_to_meet-by.ensures.end ∙ rw (c.directed.ensures.directed, c.end.ensures.end, c.net-net.ensures.network) refl in
+    let early : AreEarly project.network project.expected reached = subst (λ (n : Network). AreEarly n project.expected reached) c.net-net.ensures.network (subst (λ (l : List ℕ). AreEarly c.net-net.result.now l reached) c.expected-expected.ensures.expected c.in_ok-reached.ensures.times) in
     if_answered c.late.result _ _
-    (λ late is. (reached, (early, subst (λ (n : Network). AreLate n project.expected meet late.items) c.net.ensures.network (subst (λ (l : List ℕ). AreLate c.net.result.now l meet late.items) c.expected.ensures.expected (subst (λ (z : ℤ). AreLate c.net.result.now c.expected.result.now z late.items) by is)))))
+    (λ late is. (reached, (early, subst (λ (n : Network). AreLate n project.expected meet late.items) c.net-net.ensures.network (subst (λ (l : List ℕ). AreLate c.net-net.result.now l meet late.items) c.expected-expected.ensures.expected (subst (λ (z : ℤ). AreLate c.net-net.result.now c.expected-expected.result.now z late.items) by is)))))
     c.late.ensures.times
+
+pub returns-clause-limit : goal.returns-clause-limit
+returns-clause-limit c =
+    if_answered c.late.result _ _
+    (λ late limit. λ k d within. let up = limit k d within in grind (arith, ints, up.0, up.1, c.end_to_meet-by.ensures.limit))
+    c.late.ensures.limit

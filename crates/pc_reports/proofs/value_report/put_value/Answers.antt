@@ -1,11 +1,17 @@
-use Rattle.std.proofs.Common.{refl}
+use Rattle.std.proofs.Common.{ℕ, List, length, codes, ap, ◌∙◌}
+use Rattle.std.specs.Prelude.{ℤ}
+use Rattle.pc_edges.specs.Texts.{texts_to}
 use Rattle.pc_page.proofs.PageLaws.{◌⨾◌, Adds-as}
-use Rattle.pc_reports.specs.ValueText.{value_text}
+use Rattle.pc_reports.specs.Earned.{Forecasts}
+use Rattle.pc_reports.specs.Lines.{dated_line}
+use Rattle.pc_reports.specs.ValueText.{forecast_row, value_text}
 use Rattle.pc_reports.proofs.value_report.put_value.Goals as goal
 
 pub returns : goal.returns
 unfolding value_text
 returns g c =
-    Adds-as _ (rw (c.code.ensures, c.as_of.ensures) refl) c.put_dated.ensures
-    ⨾ (c.put.ensures ⨾ Adds-as _ (rw c.forecasts.ensures refl) c.put_rows.ensures)
+    let project = c.args.project.now in
+    let heading = project.heading in
+    Adds-as (dated_line (codes "VALUE ") heading.code heading.as_of) (ap (λ (k : List ℕ). dated_line (codes "VALUE ") k c.as_of.result) c.code.ensures ∙ ap (λ (d : ℤ). dated_line (codes "VALUE ") heading.code d) c.as_of.ensures) c.put_dated.ensures
+    ⨾ (c.put.ensures ⨾ Adds-as (texts_to (length project.events) (forecast_row project c.args.earned.now.forecasts)) (ap (λ (f : Forecasts). texts_to (length project.events) (forecast_row project f)) c.forecasts-forecasts.ensures) c.put_rows.ensures)
     ⨾ (c.put-2.ensures ⨾ c.put_rows-2.ensures)

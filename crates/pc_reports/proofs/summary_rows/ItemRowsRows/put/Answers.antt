@@ -2,6 +2,7 @@ use Rattle.std.proofs.Common.{refl, arith}
 use Rattle.pc_page.proofs.PageLaws.{Adds-as}
 use Rattle.pc_figures.specs.Summary.{IsSummaryOf}
 use Rattle.pc_figures.proofs.OutlineLaws.{row_known}
+use Rattle.pc_reports.specs.SummaryText.{item_row}
 use Rattle.pc_reports.proofs.summary_rows.ItemRowsRows.put.Goals as goal
 
 pub item_code-code-requires : goal.item_code-code-requires
@@ -31,4 +32,5 @@ of_item-amounts-requires g c =
 
 pub returns : goal.returns
 returns g c =
-    Adds-as _ (rw (c.item_code-code.ensures, c.of_item-amounts.ensures, c.item_title-title.ensures, c.row-row.ensures) refl) c.put_item.ensures
+    let t = c.args.self.now in
+    Adds-as (item_row t.project.now t.summary.now c.args.i) (rw (c.item_code-code.ensures, c.of_item-amounts.ensures, c.item_title-title.ensures, c.row-row.ensures) refl) c.put_item.ensures

@@ -2,10 +2,11 @@ use Rattle.std.proofs.Common.{refl, arith}
 use Rattle.pc_page.proofs.PageLaws.{Adds-as}
 use Rattle.pc_figures.specs.Summary.{IsSummaryOf}
 use Rattle.pc_figures.proofs.DepthLaws.{levels_same}
+use Rattle.pc_reports.specs.SummaryText.{level_row}
 use Rattle.pc_reports.proofs.summary_rows.LevelRowsRows.put.Goals as goal
 
-pub of_level-requires : goal.of_level-requires
-of_level-requires g c =
+pub of_level-amounts-requires : goal.of_level-amounts-requires
+of_level-amounts-requires g c =
     let t = c.args.self.now in
     let is : IsSummaryOf t.project.now.tree t.project.now.accounts t.project.now.entries t.summary.now = c.requires.ready in
     record {
@@ -17,4 +18,4 @@ of_level-requires g c =
     }
 
 pub returns : goal.returns
-returns g c = Adds-as _ (rw c.of_level.ensures.amounts refl) c.put_level.ensures
+returns g c = Adds-as (level_row c.args.self.now.summary.now c.args.i) (rw c.of_level-amounts.ensures.amounts refl) c.put_level.ensures

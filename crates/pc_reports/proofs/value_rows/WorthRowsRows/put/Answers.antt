@@ -1,6 +1,7 @@
 use Rattle.std.proofs.Common.{refl, arith}
 use Rattle.pc_page.proofs.PageLaws.{Adds-as}
 use Rattle.pc_figures.proofs.OutlineLaws.{row_known}
+use Rattle.pc_reports.specs.ValueText.{worth_row}
 use Rattle.pc_reports.proofs.value_rows.WorthRowsRows.put.Goals as goal
 
 pub item_code-code-requires : goal.item_code-code-requires
@@ -33,4 +34,5 @@ slack-slack-requires g c =
 
 pub returns : goal.returns
 returns g c =
-    Adds-as _ (rw (c.item_code-code.ensures, c.of_item-amounts.ensures, c.slack-slack.ensures, c.item_title-title.ensures, c.worth.ensures, c.forecasts.ensures, c.row-row.ensures) refl) c.put_worth.ensures
+    let t = c.args.self.now in
+    Adds-as (worth_row t.project.now t.earned.now c.args.i) (rw (c.item_code-code.ensures, c.of_item-amounts.ensures, c.slack-slack.ensures, c.item_title-title.ensures, c.worth.ensures, c.forecasts.ensures, c.row-row.ensures) refl) c.put_worth.ensures
