@@ -60,7 +60,32 @@ CRITICAL A\n\
 CRITICAL B\n\
 VARIANCE 68\n";
 
-const USAGE: &[u8] = b"usage: pert check | normal | times\n";
+const CERTIFICATE: &[u8] = b"CERT 1 E1 3 3\n\
+NORMAL\n\
+STEP A\n\
+STEP B\n\
+CRASH\n\
+STEP A\n\
+STEP B\n\
+SEGMENT 9 7 45 3\n\
+EVENT S 0 0\n\
+EVENT M 4 1\n\
+EVENT T 9 1\n\
+ACT A 4 3 0\n\
+ACT B 5 3 0\n\
+ACT C 7 0 0\n\
+CLOSE\n\
+SEGMENT 7 5 51 7\n\
+EVENT S 0 0\n\
+EVENT M 2 0\n\
+EVENT T 7 1\n\
+ACT A 2 3 2\n\
+ACT B 5 5 0\n\
+ACT C 7 2 0\n\
+CLOSE\n\
+END\n";
+
+const USAGE: &[u8] = b"usage: pert check | normal | times | certify\n";
 
 const NO_PROJECT: &[u8] = b"F3 record 1: first card is not PROJECT\n";
 
@@ -109,10 +134,11 @@ fn left_by(alloc: Global, words: &[&str], deck: &[u8], edges: Edges) -> Result<L
 }
 
 // A form and a deck, with the status, the output and the error output that they give.
-const RUNS: [(&str, &[u8], u8, &[u8], &[u8]); 6] = [
+const RUNS: [(&str, &[u8], u8, &[u8], &[u8]); 7] = [
     ("check", WHOLE, 0, COUNTS, b""),
     ("normal", WHOLE, 0, SCHEDULE, b""),
     ("times", WHOLE, 0, TIMES, b""),
+    ("certify", WHOLE, 0, CERTIFICATE, b""),
     ("check", b"END\n", 1, b"", NO_PROJECT),
     (
         "check",
@@ -227,7 +253,12 @@ fn a_failing_push_of_a_refusal_leaves_a_front(rt: HostRuntime) -> Result<(), Fai
 }
 
 // Each form and its text.
-const FORMS: [(&str, &[u8]); 3] = [("check", COUNTS), ("normal", SCHEDULE), ("times", TIMES)];
+const FORMS: [(&str, &[u8]); 4] = [
+    ("check", COUNTS),
+    ("normal", SCHEDULE),
+    ("times", TIMES),
+    ("certify", CERTIFICATE),
+];
 
 #[test]
 fn an_output_fails_in_each_form(rt: HostRuntime) -> Result<(), Fail> {
