@@ -96,6 +96,31 @@ ITEM             LV         BUDGET         ACTUAL          VALUE        OVERRUN 
 1.1               2             25             10              6              4          -42 Frame, north\n\
 1.2               2             20              0              0              0          -42 Roof\n";
 
+const CERTIFICATE: &[u8] = b"CERT 1 E1 3 3\n\
+NORMAL\n\
+STEP A\n\
+STEP B\n\
+CRASH\n\
+STEP A\n\
+STEP B\n\
+SEGMENT 9 7 45 3\n\
+EVENT S 0 0\n\
+EVENT M 4 1\n\
+EVENT T 9 1\n\
+ACT A 4 3 0\n\
+ACT B 5 3 0\n\
+ACT C 7 0 0\n\
+CLOSE\n\
+SEGMENT 7 5 51 7\n\
+EVENT S 0 0\n\
+EVENT M 2 0\n\
+EVENT T 7 1\n\
+ACT A 2 3 2\n\
+ACT B 5 5 0\n\
+ACT C 7 2 0\n\
+CLOSE\n\
+END\n";
+
 const USAGE: &[u8] = b"usage: pert check | normal | times | summary | value | certify\n";
 
 const NO_PROJECT: &[u8] = b"F3 record 1: first card is not PROJECT\n";
@@ -145,12 +170,13 @@ fn left_by(alloc: Global, words: &[&str], deck: &[u8], edges: Edges) -> Result<L
 }
 
 // A form and a deck, with the status, the output and the error output that they give.
-const RUNS: [(&str, &[u8], u8, &[u8], &[u8]); 8] = [
+const RUNS: [(&str, &[u8], u8, &[u8], &[u8]); 9] = [
     ("check", WHOLE, 0, COUNTS, b""),
     ("normal", WHOLE, 0, SCHEDULE, b""),
     ("times", WHOLE, 0, TIMES, b""),
     ("summary", AT_WORK, 0, SUMMARY, b""),
     ("value", AT_WORK, 0, VALUE, b""),
+    ("certify", WHOLE, 0, CERTIFICATE, b""),
     ("check", b"END\n", 1, b"", NO_PROJECT),
     (
         "check",
@@ -265,12 +291,13 @@ fn a_failing_push_of_a_refusal_leaves_a_front(rt: HostRuntime) -> Result<(), Fai
 }
 
 // Each form, a deck, and the form's text.
-const FORMS: [(&str, &[u8], &[u8]); 5] = [
+const FORMS: [(&str, &[u8], &[u8]); 6] = [
     ("check", WHOLE, COUNTS),
     ("normal", WHOLE, SCHEDULE),
     ("times", WHOLE, TIMES),
     ("summary", AT_WORK, SUMMARY),
     ("value", AT_WORK, VALUE),
+    ("certify", WHOLE, CERTIFICATE),
 ];
 
 #[test]
