@@ -102,7 +102,8 @@ fn late_times(alloc: Global, project: &Project) -> Result<Vec<i64>, AllocError>
     let (net, expected) = (project.net(), project.expected());
     let reached = early(alloc, net, expected)?;
     let by = end_to_meet(project.directed(), reached[net.end() as usize]);
-    late(alloc, net, expected, by)
+    let latest = late(alloc, net, expected, by)?;
+    Ok(latest)
 }
 
 /// When each event is expected, in card order.
