@@ -35,8 +35,7 @@ least_slacks_are tree places slack placed slacks are least = record {
     of_least : (y : ℕ) (o : Option ℤ) → IsLeastOver (λ k. IsBelow tree (place_of placed k) y) (length placed) (amount_of placed) o → IsLeastOver (λ a. IsBelow tree (slice_index places a) y) (length places) slack o
     of_least y None none = λ a h below. none a (omega (arith, are.one_each)) (subst (λ (x : ℕ). IsBelow tree x y) (sym (place a h)) below)
     of_least y (Some m) ((x, (lt, below, at)), bound) =
-        let h : x < length places = omega (arith, are.one_each) in
-        (
+        let h : x < length places = omega (arith, are.one_each) in (
           (x, (h, subst (λ (z : ℕ). IsBelow tree z y) (place x h) below, sym (amount x h) ∙ at)),
           λ a h under. let le = bound a (omega (arith, are.one_each)) (subst (λ (z : ℕ). IsBelow tree z y) (sym (place a h)) under) in let same = amount a h in omega (arith, ints),
         )

@@ -45,7 +45,13 @@ impl Model for Summary {
     ghost Value = { Summary };
 
     ghost view = { λ s. record {
-        outline = s.outline.items; budget = s.budget; actual = s.actual; to_go = s.to_go; latest = s.latest; overrun = s.overrun } };
+      outline = s.outline.items;
+      budget = s.budget;
+      actual = s.actual;
+      to_go = s.to_go;
+      latest = s.latest;
+      overrun = s.overrun;
+    } };
 }
 
 impl Summary {

@@ -38,7 +38,11 @@ impl Model for Worth {
     ghost Value = { Worth };
 
     ghost view = { λ worth. record {
-        budget = worth.budget.items; actual = worth.actual.items; value = worth.value.items; overrun = worth.overrun.items } };
+      budget = worth.budget.items;
+      actual = worth.actual.items;
+      value = worth.value.items;
+      overrun = worth.overrun.items;
+    } };
 }
 
 impl Worth {

@@ -43,13 +43,7 @@ pub(crate) fn put_named<O: Sink>(
 }
 
 /// Puts the word, the code, a space, the date of the day, and the end of the line.
-pub(crate) fn put_dated<O: Sink>(
-    page: &mut Page,
-    sink: &mut O,
-    word: &[u8],
-    name: &Code,
-    day: Day,
-)
+pub(crate) fn put_dated<O: Sink>(page: &mut Page, sink: &mut O, word: &[u8], name: &Code, day: Day)
     ensures { Puts O.taken O.faults page.old sink.old page.new sink.new (dated_line word.now name.now day) }
 {
     page.put(sink, word);

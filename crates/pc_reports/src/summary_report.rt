@@ -15,7 +15,8 @@ use std::alloc::{AllocError, Global};
 use std::marker::Model;
 
 /// The words above the items.
-const HEAD: &[u8] = b"ITEM             LV         BUDGET         ACTUAL          TO-GO         LATEST        OVERRUN TITLE\n";
+const HEAD: &[u8] =
+    b"ITEM             LV         BUDGET         ACTUAL          TO-GO         LATEST        OVERRUN TITLE\n";
 
 /// The management summary of a project: it takes all its memory when it is built, and is written without.
 ///

@@ -18,7 +18,8 @@ use std::marker::Model;
 const EVENT_HEAD: &[u8] = b"EVENT                FORECAST       FSLACK DATE\n";
 
 /// The words above the items.
-const ITEM_HEAD: &[u8] = b"ITEM             LV         BUDGET         ACTUAL          VALUE        OVERRUN       FSLACK TITLE\n";
+const ITEM_HEAD: &[u8] =
+    b"ITEM             LV         BUDGET         ACTUAL          VALUE        OVERRUN       FSLACK TITLE\n";
 
 /// The report of a project's forecast and of the value of its work: it takes all its memory when it is built, and is
 /// written without.

@@ -31,13 +31,13 @@ IsLeastOver-both P Q n f (Some a) (Some b) ((x, (lt, p, e)), bound) ((z, (below,
   where
     by_test : (t : Bool) → int_lt b a ≡ t → IsLeastOver (λ x. P x ⊎ Q x) n f (cond t (Some b) (Some a))
     by_test true is = (
-        (z, (below, inr q, g)),
-        λ y less either. ⊎_elim (λ r. let le = bound y less r in grind (arith, ints)) (limit y less) either,
-      )
+      (z, (below, inr q, g)),
+      λ y less either. ⊎_elim (λ r. let le = bound y less r in grind (arith, ints)) (limit y less) either,
+    )
     by_test false is = (
-        (x, (lt, inl p, e)),
-        λ y less either. ⊎_elim (bound y less) (λ r. let le = limit y less r in grind (arith, ints)) either,
-      )
+      (x, (lt, inl p, e)),
+      λ y less either. ⊎_elim (bound y less) (λ r. let le = limit y less r in grind (arith, ints)) either,
+    )
 
 -- one number more
 IsLeastOver-has : (P : ℕ → Type 0) (n : ℕ) (f : ℕ → ℤ) (o : Option ℤ) → P n → IsLeastOver P n f o → IsLeastOver P (n + 1) f (lesser o (Some (f n)))

@@ -48,13 +48,7 @@ fn lesser(a: Option<i64>, b: Option<i64>) -> Option<i64>
     ensures { result ≡ lesser a b }
 {
     match (a, b) {
-        (Some(a), Some(b)) => {
-            if b < a {
-                Some(b)
-            } else {
-                Some(a)
-            }
-        }
+        (Some(a), Some(b)) => { if b < a { Some(b) } else { Some(a) } }
         (None, b) => b,
         (a, None) => a,
     }
