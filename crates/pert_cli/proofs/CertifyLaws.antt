@@ -6,7 +6,7 @@ use Rattle.pc_project.specs.Project.{Project}
 use Rattle.pc_certify.specs.Certificate.{IsCertificate}
 use Rattle.pc_certify.proofs.HeadlineLaws.{prints_whole_curve}
 use Rattle.pert_cli.specs.declared.forms.Form.{Form}
-use Rattle.pert_cli.specs.declared.forms.Form.TheVariants.{Check, Normal, Times, Certify}
+use Rattle.pert_cli.specs.declared.forms.Form.TheVariants.{Check, Normal, Times, Summary, Value, Certify}
 use Rattle.pert_cli.specs.declared.status.Status.{Status}
 use Rattle.pert_cli.specs.Status.{code_of}
 use Rattle.pert_cli.specs.Certificate.{priced_in}
@@ -23,6 +23,8 @@ only_certify : (form : Form) → words_of form ≡ words_of Certify → form ≡
 only_certify Check same = absurd cc
 only_certify Normal same = absurd cc
 only_certify Times same = absurd cc
+only_certify Summary same = absurd cc
+only_certify Value same = absurd cc
 only_certify Certify same = refl
 
 of_deck : {X : Type 0} (left : Option (List ℕ)) (out : Side X) (project : Project) (text : List ℕ) → Took out text → IsCertificate (priced_in project) text

@@ -3,6 +3,7 @@ mod DecidedLaws
 mod HandingLaws
 mod OutcomeLaws
 mod ScheduleLaws
+mod OneProjectLaws
 mod VerdictLaws
 mod CheckLaws
 mod CheckDecided

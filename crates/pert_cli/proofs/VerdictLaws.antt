@@ -13,7 +13,9 @@ use Rattle.pc_deck.proofs.ToldLemmas.{told_of-refusal}
 use Rattle.pc_deck.proofs.DeckLaws.{one_deck, not_both as cards_not_refused}
 use Rattle.pc_project.specs.Refusal.{IsRefusedWith}
 use Rattle.pc_project.proofs.RefusalLaws.{makes_not_refused, told_of-refused}
-use Rattle.pc_project.specs.Project.{Project, project_in}
+use Rattle.pc_project.specs.Project.{Project}
+use Rattle.pc_project.specs.Figures.{IsProjectOfDeck}
+use Rattle.pert_cli.proofs.OneProjectLaws.{one_project_of}
 use Rattle.pert_cli.specs.Verdict.{IsAccepted, IsFault, IsProjectOf, too_long, card_refusal, project_refusal}
 
 -- the refusal of a project is the fault of its deck
@@ -38,4 +40,5 @@ not_both bytes deck fault accepted (project_refusal other short cards refused) =
 -- an accepted deck has one project
 pub one_project : (bytes : List ℕ) (project other : Project) → IsProjectOf bytes project → IsProjectOf bytes other → project ≡ other
 one_project bytes project other is also =
-    is.is ∙ ap project_in (one_deck bytes is.deck also.deck is.accepted.cards also.accepted.cards) ∙ sym also.is
+    one_project_of is.deck is.accepted.makes.figures.once project other is.is
+    (subst (λ d. IsProjectOfDeck d other) (one_deck bytes also.deck is.deck also.accepted.cards is.accepted.cards) also.is)
