@@ -16,7 +16,7 @@ use Rattle.pert_cli.specs.Handing.{IsReply}
 use Rattle.pert_cli.specs.Headline.{TookWholeCurve}
 use Rattle.pert_cli.specs.Sides.{Side, OfDeck, Took}
 use Rattle.pert_cli.specs.Verdict.{IsProjectOf}
-use Rattle.pert_cli.specs.Outcome.{IsDone, Outcome, done, refused, usage, no_memory, read_fault, write_fault}
+use Rattle.pert_cli.specs.Outcome.{Outcome, done, refused, usage, no_memory, read_fault, write_fault}
 
 -- no other form has the word
 only_certify : (form : Form) → words_of form ≡ words_of Certify → form ≡ Certify
