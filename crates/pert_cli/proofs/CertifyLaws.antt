@@ -1,5 +1,5 @@
 -- What answers `certify` prints the whole time-cost curve.
-use Rattle.std.proofs.Common.{◌≡◌, ℕ, List, Option, Some, None, refl, sym, subst, ◌∙◌, arith}
+use Rattle.std.proofs.Common.{◌≡◌, ℕ, List, Option, Some, None, refl, sym, subst, ◌∙◌, arith, get_or, [], ap}
 use Rattle.std.specs.Prelude.{IfSome, String}
 use Rattle.std.specs.declared.alloc.Global.{Global}
 use Rattle.pc_project.specs.Project.{Project}
@@ -23,7 +23,7 @@ only_certify : (form : Form) → words_of form ≡ words_of Certify → form ≡
 only_certify Check same = absurd cc
 only_certify Normal same = absurd cc
 only_certify Times same = absurd cc
-only_certify Summary same = absurd cc
+only_certify Summary same = absurd (omega (arith, ap (λ (words : List (List ℕ)). get_or (get_or words 0 []) 0 0) same))
 only_certify Value same = absurd cc
 only_certify Certify same = refl
 
