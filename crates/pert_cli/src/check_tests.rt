@@ -13,6 +13,7 @@ EVENT,T,End\n\
 ACT,A,S,M,1,3,4,5,4,2,10,3,Dig\n\
 ACT,B,M,T,1,4,5,12,5,3,20,5,Cover\n\
 ACT,C,S,T,1,7,7,7,7,5,15,2,Frame\n\
+ACCT,X,1,45,All work\n\
 END\n";
 
 const HEAD: &[u8] = b"CERT 1 E1 3 3\nNORMAL\nSTEP A\nSTEP B\nCRASH\nSTEP A\nSTEP B\n";
