@@ -1,0 +1,207 @@
+//! The breakpoints of the curve, one after another.
+ghost use Rattle.std.specs.Prelude.{◌≡◌, ◌+◌, ◌<◌, ◌≤◌, ◌≢◌, ◌↔◌, Some, None, true, false, IsNone, IfSome, IfNone};
+ghost use Rattle.pc_curve_laws.specs.Segment.{Holds, cost_for};
+ghost use Rattle.pc_flow.specs.Courses.{present, lower_of, IsSameCurve, most_looks};
+ghost use Rattle.pc_curve.specs.Points.{IsThere};
+ghost use Rattle.pc_curve.specs.Breaks.{IsNextBreak, StandsAt, StandsBy};
+
+use crate::reading::cost_at;
+use pc_crash::{CrashNet, SegmentView, Steps};
+use pc_flow::Solver;
+use std::marker::Model;
+use std::sync::ledger::Ledger;
+
+/// A breakpoint of the time-cost curve: a length at which the slope changes, or an end of the range.
+#[derive(Clone, Copy, Debug, PartialEq, Eq)]
+pub struct Break {
+    /// In units.
+    pub length: u64,
+    /// The least cost for this length.
+    pub cost: u64,
+    /// What one unit less costs more; none at the all-crash length.
+    pub slope: Option<u64>,
+}
+
+/// The breakpoints of the curve of a solver, from the all-normal length down to the all-crash length. It keeps no more than
+/// the length of the one that it gave last.
+#[derive(Drop)]
+pub struct Breaks {
+    last: Option<u64>,
+}
+
+impl Model for Breaks {
+    ghost use Rattle.std.specs.Prelude.{ℕ, Option};
+
+    ghost Value = { Option ℕ };
+
+    ghost view = { λ breaks. breaks.last };
+}
+
+impl Breaks {
+    /// Before the first breakpoint.
+    pub fn new() -> Breaks
+        ensures { result ≡ None }
+    {
+        Breaks { last: None }
+    }
+
+    /// The length of the breakpoint that was given last.
+    pub fn last(&self) -> Option<u64>
+        ensures { result ≡ self.now }
+    {
+        self.last
+    }
+
+    /// The next breakpoint: the first one, or the longest that is shorter than the last. None comes after the one at the
+    /// all-crash length, and then nothing changes.
+    ///
+    /// The solver, of this network, goes on until its present segment begins or ends there; segments of one slope that
+    /// follow one another have no breakpoint between them. At most four looks at each activity for each unit by which the
+    /// slope rises or the lower end comes down. It takes no memory.
+    pub fn next<L: Ledger>(
+        &mut self,
+        net: &CrashNet<'_>,
+        solver: &mut Solver<'_>,
+        steps: &mut Steps<L>,
+    ) -> Option<Break>
+        requires net { solver.old.net ≡ net.now }
+        requires place { StandsBy self.old solver.old }
+        ensures ended { IsNone result ↔ (self.old ≡ Some solver.old.shortest) }
+        ensures unchanged { IfNone result (self.new ≡ self.old) }
+        ensures still { IfNone result (solver.new ≡ solver.old) }
+        ensures next { IfSome result (λ b. IsNextBreak solver.old self.old b) }
+        ensures last { IfSome result (λ b. self.new ≡ Some b.length) }
+        ensures place { StandsBy self.new solver.new }
+        ensures same { IsSameCurve solver.old solver.new }
+        ensures counted { steps.new ≤ steps.old + most_looks solver.old solver.new }
+    {
+        let point = break_after(self.last, net, solver, steps)?;
+        self.last = Some(point.length);
+        Some(point)
+    }
+}
+
+// The breakpoint after the one of this length, or the first one.
+fn break_after<L: Ledger>(
+    last: Option<u64>,
+    net: &CrashNet<'_>,
+    solver: &mut Solver<'_>,
+    steps: &mut Steps<L>,
+) -> Option<Break>
+    requires net { solver.old.net ≡ net.now }
+    requires place { StandsBy last solver.old }
+    ensures ended { IsNone result ↔ (last ≡ Some solver.old.shortest) }
+    ensures still { IfNone result (solver.new ≡ solver.old) }
+    ensures next { IfSome result (λ b. IsNextBreak solver.old last b) }
+    ensures place { IfSome result (λ b. StandsAt b.length solver.new) }
+    ensures same { IsSameCurve solver.old solver.new }
+    ensures counted { steps.new ≤ steps.old + most_looks solver.old solver.new }
+{
+    match last {
+        None => Some(first_break(net, solver, steps)),
+        Some(last) => break_below(net, solver, last, steps),
+    }
+}
+
+// The breakpoint at the all-normal length.
+fn first_break<L: Ledger>(
+    net: &CrashNet<'_>,
+    solver: &mut Solver<'_>,
+    steps: &mut Steps<L>,
+) -> Break
+    requires net { solver.old.net ≡ net.now }
+    requires before { solver.old.given ≡ false }
+    ensures next { IsNextBreak solver.old None result }
+    ensures place { StandsAt result.length solver.new }
+    ensures same { IsSameCurve solver.old solver.new }
+    ensures counted { steps.new ≤ steps.old + most_looks solver.old solver.new }
+{
+    // What is known of the network says that the least costs are those of a curve.
+    let _net = net.net();
+    solver.next_segment(steps);
+    break_at_upper(solver)
+}
+
+// The next breakpoint below a length.
+fn break_below<L: Ledger>(
+    net: &CrashNet<'_>,
+    solver: &mut Solver<'_>,
+    last: u64,
+    steps: &mut Steps<L>,
+) -> Option<Break>
+    requires net { solver.old.net ≡ net.now }
+    requires place { StandsAt last solver.old }
+    ensures ended { IsNone result ↔ (last ≡ solver.old.shortest) }
+    ensures still { IfNone result (solver.new ≡ solver.old) }
+    ensures next { IfSome result (λ b. IsNextBreak solver.old (Some last) b) }
+    ensures place { IfSome result (λ b. StandsAt b.length solver.new) }
+    ensures same { IsSameCurve solver.old solver.new }
+    ensures counted { steps.new ≤ steps.old + most_looks solver.old solver.new }
+{
+    if last == solver.shortest() {
+        None
+    } else {
+        Some(next_turn(net, solver, last, steps))
+    }
+}
+
+// The next length below one at which the slope changes or the curve ends.
+fn next_turn<L: Ledger>(
+    net: &CrashNet<'_>,
+    solver: &mut Solver<'_>,
+    last: u64,
+    steps: &mut Steps<L>,
+) -> Break
+    requires net { solver.old.net ≡ net.now }
+    requires place { StandsAt last solver.old }
+    requires above { last ≢ solver.old.shortest }
+    ensures next { IsNextBreak solver.old (Some last) result }
+    ensures place { StandsAt result.length solver.new }
+    ensures same { IsSameCurve solver.old solver.new }
+    ensures counted { steps.new ≤ steps.old + most_looks solver.old solver.new }
+{
+    let _net = net.net();
+    // The present segment is whole.
+    let _given = solver.given();
+    let mut slope = solver.slope();
+    while solver.next_segment(steps) {
+        if solver.slope() != slope && solver.upper() < last {
+            return break_at_upper(solver);
+        }
+        slope = solver.slope();
+    }
+    break_at_lower(net, solver)
+}
+
+// The upper end of the present segment; without a slope where the curve has one length alone.
+fn break_at_upper(solver: &Solver<'_>) -> Break
+    requires { solver.now.given ≡ true }
+    ensures length { result.length ≡ (present solver.now).upper }
+    ensures cost { result.cost ≡ (present solver.now).cost }
+    ensures slope { solver.now.shortest < (present solver.now).upper → result.slope ≡ Some (present solver.now).slope }
+    ensures flat { (present solver.now).upper ≤ solver.now.shortest → result.slope ≡ None }
+{
+    let length = solver.upper();
+    let slope = (length > solver.shortest()).then_some(solver.slope());
+    Break {
+        length,
+        cost: solver.cost(),
+        slope,
+    }
+}
+
+// The lower end of the present segment, where the curve ends.
+fn break_at_lower(net: &CrashNet<'_>, solver: &Solver<'_>) -> Break
+    requires net { solver.now.net ≡ net.now }
+    requires there { IsThere solver.now (lower_of solver.now) }
+    ensures length { result.length ≡ (present solver.now).lower }
+    ensures cost { result.cost ≡ cost_for (present solver.now) (present solver.now).lower }
+    ensures slope { result.slope ≡ None }
+{
+    let length = solver.lower();
+    Break {
+        length,
+        cost: cost_at(net, solver, length),
+        slope: None,
+    }
+}
