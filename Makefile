@@ -7,14 +7,16 @@
 PREFIX ?= /usr/local
 PROGRAMS := pert pert_check
 SECTION1 := pert.1 pert_check.1
-DOCS := README.md docs/deck.md docs/tasks.md docs/reports.md docs/curve.md docs/certificate.md
-EXAMPLES := examples/shed.csv examples/house.csv examples/shed.certificate examples/tasks.awk examples/tasks.csv
+PAGES := README.md $(wildcard docs/*.md)
+PICTURES := $(wildcard docs/*.svg)
+EXAMPLES := $(wildcard examples/*)
 
 VERSION := $(shell cat VERSION)
 SOURCES := crates.txt VERSION Makefile tools/prove \
 	$(shell find crates -path '*/out' -prune -o -type f \( -name '*.rt' -o -name '*.antt' \) -print)
 ROOT := $(DESTDIR)$(PREFIX)
 DOC := $(ROOT)/share/doc/pert
+MAN := $(ROOT)/share/man
 COMPLETIONS := $(ROOT)/share/bash-completion/completions
 
 all: $(PROGRAMS:%=bin/%)
@@ -32,17 +34,22 @@ out/built: $(SOURCES)
 check:
 	.ci/run
 
+# A page that is installed names this version and this place, and takes the programs from the path in its commands.
+SHOWN := sed -e 's/@VERSION@/$(VERSION)/' -e 's:@DOC@:$(PREFIX)/share/doc/pert:g' -e '/^    \$$ /s:bin/pert:pert:g'
+
 install: all
-	install -d "$(ROOT)/bin" "$(ROOT)/share/man/man1" "$(ROOT)/share/man/man5" "$(DOC)/examples" "$(COMPLETIONS)"
+	install -d "$(ROOT)/bin" "$(MAN)/man1" "$(MAN)/man5" "$(DOC)/docs" "$(DOC)/examples" "$(COMPLETIONS)"
 	install -m 755 $(PROGRAMS:%=bin/%) "$(ROOT)/bin"
-	for page in $(SECTION1); do sed 's/@VERSION@/$(VERSION)/' "docs/man/$$page" >"$(ROOT)/share/man/man1/$$page" || exit 1; done
-	tools/deck-page docs/deck.md | sed 's/@VERSION@/$(VERSION)/' >"$(ROOT)/share/man/man5/pert-deck.5"
-	install -m 644 $(DOCS) "$(DOC)"
+	for page in $(SECTION1); do $(SHOWN) "docs/man/$$page" >"$(MAN)/man1/$$page" || exit 1; done
+	tools/deck-page docs/deck.md | $(SHOWN) >"$(MAN)/man5/pert-deck.5"
+	for page in $(PAGES); do $(SHOWN) "$$page" >"$(DOC)/$$page" || exit 1; done
+	for picture in $(PICTURES); do install -m 644 "$$picture" "$(DOC)/docs" || exit 1; done
 	install -m 644 $(EXAMPLES) "$(DOC)/examples"
+	chmod 644 $(SECTION1:%="$(MAN)/man1/%") "$(MAN)/man5/pert-deck.5" $(PAGES:%="$(DOC)/%")
 	for program in $(PROGRAMS); do install -m 644 tools/completion.bash "$(COMPLETIONS)/$$program" || exit 1; done
 
 uninstall:
-	rm -f $(PROGRAMS:%="$(ROOT)/bin/%") $(SECTION1:%="$(ROOT)/share/man/man1/%") "$(ROOT)/share/man/man5/pert-deck.5" $(PROGRAMS:%="$(COMPLETIONS)/%")
+	rm -f $(PROGRAMS:%="$(ROOT)/bin/%") $(SECTION1:%="$(MAN)/man1/%") "$(MAN)/man5/pert-deck.5" $(PROGRAMS:%="$(COMPLETIONS)/%")
 	rm -rf "$(DOC)"
 
 clean:

@@ -4,3 +4,5 @@ mod AmountLaws
 mod SecondLaws
 mod PackageLaws
 mod EntryLaws
+pub mod WholeLaws
+pub mod OneBookLaws

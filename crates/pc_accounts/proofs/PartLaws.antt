@@ -2,7 +2,8 @@
 use Rattle.std.proofs.Common.{◌≡◌, ℕ, zero, suc, ◌+◌, ◌*◌, ◌<◌, ◌≤◌, Bool, true, false, cond, List, [], ◌∷◌, length, get_or, take, refl, ap, ◌∙◌, arith}
 use Rattle.std.specs.List.{filter, sum_by}
 use Rattle.std.proofs.lemmas.List.Elements.{filter_more}
-use Rattle.std.proofs.lemmas.List.Sums.{sum_by-append}
+use Rattle.std.proofs.lemmas.List.Sums.{sum_by-append, sum_by_more}
+use Rattle.pc_model.specs.Sums.{sum_to}
 
 -- what one row more adds
 pub part_more : {X : Type 0} (f : X → ℕ) (p : X → Bool) (xs : List X) (i : ℕ) (d : X) → i < length xs → sum_by f (filter p (take (i + 1) xs)) ≡ sum_by f (filter p (take i xs)) + cond (p (get_or xs i d)) (f (get_or xs i d)) 0
@@ -15,6 +16,13 @@ part_more {X} f p xs i d h =
     of_test : (b : Bool) → sum_by f (cond b (x ∷ []) []) ≡ cond b (f x) 0
     of_test true = omega arith
     of_test false = refl
+
+-- what the first rows add up to, by their numbers
+pub part_sum : {X : Type 0} (f : X → ℕ) (xs : List X) (d : X) (i : ℕ) → i ≤ length xs → sum_by f (take i xs) ≡ sum_to i (λ k. f (get_or xs k d))
+part_sum f xs d zero h = refl
+part_sum f xs d (suc i) h =
+    let e : suc i ≡ i + 1 = omega arith in
+    omega (arith, ap (λ (k : ℕ). sum_by f (take k xs)) e, sum_by_more f xs i d (omega arith), part_sum f xs d i (omega arith))
 
 -- where no row adds more than m, so many rows add at most so many times m
 pub part_le : {X : Type 0} (f : X → ℕ) (p : X → Bool) (xs : List X) (d : X) (m i : ℕ) → i ≤ length xs → ((k : ℕ) → k < length xs → f (get_or xs k d) ≤ m) → sum_by f (filter p (take i xs)) ≤ i * m

@@ -30,6 +30,10 @@ is_due as_of a row = (row.account == a) && int_le row.day as_of
 abbrev pub actual_of : List MoneyRow → ℤ → ℕ → ℕ
 actual_of charges as_of a = sum_by (λ row. row.amount) (filter (is_due as_of a) charges)
 
+-- the sum of all charges dated up to as-of, whichever account they are of
+abbrev pub all_charged : List MoneyRow → ℤ → ℕ
+all_charged charges as_of = sum_by (λ row. row.amount) (filter (λ row. int_le row.day as_of) charges)
+
 -- row k is of account a, and dated up to as-of
 pub record IsDue (rows : List MoneyRow) (as_of : ℤ) (a k : ℕ) : Type 0 where
   pub in_rows : k < length rows
@@ -58,6 +62,14 @@ pub record IsEntryOf (accounts : List AcctRow) (charges togos : List MoneyRow) (
 pub record AreEntriesOf (accounts : List AcctRow) (charges togos : List MoneyRow) (as_of : ℤ) (entries : List Entry) : Type 0 where
   pub one_each : length entries ≡ length accounts
   pub each : (a : ℕ) → a < length accounts → IsEntryOf accounts charges togos as_of a (entry_at entries a)
+
+-- all accounts as one: their budgets, all charges dated up to as-of, and what is to go of them
+abbrev pub entry_of_project : List AcctRow → List MoneyRow → ℤ → List Entry → Entry
+entry_of_project accounts charges as_of entries = record {
+  budget = sum_by (λ account. account.budget) accounts;
+  actual = all_charged charges as_of;
+  to_go = sum_by (λ entry. entry.to_go) entries;
+}
 
 -- no budget is above the limit
 abbrev pub AreBudgets : List AcctRow → Type 0

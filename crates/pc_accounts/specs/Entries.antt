@@ -7,6 +7,14 @@ use Rattle.pc_accounts.specs.declared.entry.Entry.{Entry}
 abbrev pub entry_at : List Entry → ℕ → Entry
 entry_at entries a = slice_index_or entries a (record { budget = 0; actual = 0; to_go = 0 })
 
+-- what all entries come to: their budgets, what they have spent, and what is to go
+abbrev pub entry_of_all : List Entry → Entry
+entry_of_all entries = record {
+  budget = sum_by (λ entry. entry.budget) entries;
+  actual = sum_by (λ entry. entry.actual) entries;
+  to_go = sum_by (λ entry. entry.to_go) entries;
+}
+
 -- what the account will have cost
 abbrev pub latest_of : Entry → ℕ
 latest_of entry = entry.actual + entry.to_go

@@ -1,8 +1,8 @@
 //! The book of all accounts.
 ghost use Rattle.std.specs.Prelude.{◌≡◌, ℕ, ◌+◌, ◌*◌, ◌<◌, ◌≤◌, length, slice_index, sum, sum_by, IsTrue, IsFalse, IfOk, IfErr, IfSome, OnOk};
 ghost use Rattle.pc_model.specs.declared.limits.TheConstants.{MAX_ACCOUNTS, MAX_CHARGES, MAX_TOGOS, MAX_COST};
-ghost use Rattle.pc_accounts.specs.Entries.{entry_at, latest_of, value_of, AreSmall, IsShare};
-ghost use Rattle.pc_accounts.specs.Amounts.{AreBudgets, AreMoney, AreEntriesOf};
+ghost use Rattle.pc_accounts.specs.Entries.{entry_at, entry_of_all, latest_of, value_of, AreSmall, IsShare};
+ghost use Rattle.pc_accounts.specs.Amounts.{AreBudgets, AreMoney, AreEntriesOf, entry_of_project};
 ghost use Rattle.pc_accounts.specs.Parts.{AreActuals, AreKnown, AreMade, entry_from};
 ghost use Rattle.pc_accounts.specs.Second.{IsRepeated, IsRefusal};
 
@@ -50,6 +50,7 @@ impl Book {
         requires charges { AreMoney (length accounts.now) charges.now }
         requires togos { AreMoney (length accounts.now) togos.now }
         ensures entries { IfOk result (λ book. AreEntriesOf accounts.now charges.now togos.now as_of book) }
+        ensures whole { IfOk result (λ book. entry_of_all book ≡ entry_of_project accounts.now charges.now as_of book) }
         ensures once { OnOk result ((k : ℕ) → IsRepeated togos.now k → ⊥) }
         ensures refused { IfErr result (IsRefusal togos.now) }
     {

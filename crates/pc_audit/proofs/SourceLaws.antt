@@ -8,7 +8,10 @@ use Rattle.pc_edges.specs.Pulls.{TakesPulls}
 use Rattle.pc_check.specs.declared.fail.Fail.{Fail}
 use Rattle.pc_check.specs.declared.fail.Verdict.{Verdict}
 use Rattle.pc_audit.specs.Texts.{IsFailing, Finds}
+use Rattle.pc_check.specs.declared.fail.Verdict.TheVariants.{No}
 use Rattle.pc_audit.specs.Auditing.{Auditing, HasRead, IsGoing, bytes_left}
+use Rattle.pc_audit.specs.Stops.{HasNoFailure, IsSettled}
+use Rattle.pc_audit.proofs.AuditLaws.{reading, checking}
 
 -- ---- pulls
 
@@ -43,6 +46,22 @@ with_anything (Some all) None bytes P taken holds = absurd taken
 with_anything (Some all) (Some rest) bytes P taken holds = subst P (sym taken) (holds rest)
 
 -- ---- between two pulls
+
+-- nothing fails in what was read
+no_failure : (audit : Auditing) (text : List ℕ) → IsGoing audit → HasRead text audit → HasNoFailure audit.checker.net text
+no_failure audit text going h =
+    let read = reading audit.reader h.lines text going.well_formed h.read in
+    let checked = checking audit.checker h.lines going.no_fail h.checked in
+    record {
+      place = audit.reader.place;
+      lines = h.lines;
+      rest = audit.reader.held;
+      led = read.led;
+      none = checked.none;
+      whole = read.whole;
+      no_end = read.no_end;
+      short = going.short;
+    }
 
 -- the bytes that were pulled are used, no fault came, and each pull left fewer bytes to come
 pub record IsPulling (before now : Auditing) (left left_now : Option (List ℕ)) (faults faults_now : ℕ) (pulls pulls_now : Option ℕ) : Type 0 where
@@ -103,3 +122,27 @@ module _ {before now : Auditing} {left left_now : Option (List ℕ)} {faults fau
   fails_in_piece left_new fail piece taken fails =
       with_anything left left_new (h.text ++ piece) (λ text. IsFailing before.checker.net text fail) (Consumes-trans left left_now left_new h.text piece h.taken taken)
       (λ more. subst (λ n. IsFailing n ((h.text ++ piece) ++ more) fail) h.net (subst (λ t. IsFailing now.checker.net t fail) (sym (append_assoc h.text piece more)) (fails h.text more h.read)))
+
+  -- what was taken of a source that is at its end
+  pub settled_at_end : (left_new : Option (List ℕ)) (verdict : Verdict) (room : ℕ) (piece : List ℕ) → Consumes left_now left_new piece → length piece ≡ 0 → ((text : List ℕ) → HasRead text now → Finds now.checker.net text verdict) → IsSettled before.checker.net verdict room left left_new
+  settled_at_end left_new verdict room piece taken none finds =
+      let same : h.text ++ piece ≡ h.text = ap (λ p. h.text ++ p) (nil_from_length piece none) ∙ append-nil h.text in
+      record {
+        front = h.text;
+        last = piece;
+        taken = Consumes-trans left left_now left_new h.text piece h.taken taken;
+        before = subst (λ n. HasNoFailure n h.text) h.net (no_failure now h.text h.going h.read);
+        short = omega (arith, none);
+        found = subst (λ n. Finds n (h.text ++ piece) verdict) h.net (subst (λ t. Finds now.checker.net t verdict) (sym same) (finds h.text h.read));
+      }
+
+  -- what was taken of a source in which a line fails
+  pub settled_in_piece : (left_new : Option (List ℕ)) (fail : Fail) (room : ℕ) (piece : List ℕ) → Consumes left_now left_new piece → length piece ≤ room → ((text more : List ℕ) → HasRead text now → IsFailing now.checker.net (text ++ (piece ++ more)) fail) → IsSettled before.checker.net (No fail.line fail.reason) room left left_new
+  settled_in_piece left_new fail room piece taken fits fails = record {
+    front = h.text;
+    last = piece;
+    taken = Consumes-trans left left_now left_new h.text piece h.taken taken;
+    before = subst (λ n. HasNoFailure n h.text) h.net (no_failure now h.text h.going h.read);
+    short = fits;
+    found = subst (λ n. IsFailing n (h.text ++ piece) fail) h.net (subst (λ p. IsFailing now.checker.net (h.text ++ p) fail) (append-nil piece) (fails h.text [] h.read));
+  }

@@ -4,17 +4,20 @@ ghost use Rattle.pc_audit.specs.Texts.{IsFailing, Finds};
 ghost use Rattle.pc_audit.specs.Auditing.{HasRead, IsGoing, bytes_left, most_bytes};
 ghost use Rattle.pc_check.specs.declared.fail.Fail.{Fail};
 
-use pc_cert::{CertReader, Fed};
+use pc_cert::{CertReader, Fed, KnownLines};
 use pc_check::{Checker, Fail, Verdict};
 use pc_crash::CrashNet;
 use std::alloc::{AllocError, Global};
 use std::marker::Model;
 
 /// A reader of a certificate's text, and a checker of its lines.
+///
+/// Beside them it knows the lines of one segment, so that those that come again in the next are not read anew.
 #[derive(Drop)]
 pub struct Audit<'n> {
     reader: CertReader,
     checker: Checker<'n>,
+    known: KnownLines,
 }
 
 impl<'n> Model for Audit<'n> {
@@ -33,9 +36,12 @@ impl<'n> Audit<'n> {
         ensures net { IfOk result (λ audit. audit.checker.net ≡ net.now) }
         ensures left { IfOk result (λ audit. bytes_left audit ≤ most_bytes net.now) }
     {
+        let rows = net.net().events() as usize + net.net().activities() as usize;
         Ok(Audit {
             reader: CertReader::begin(),
             checker: Checker::begin(alloc, net)?,
+            // a segment has two lines beside those of its events and activities
+            known: KnownLines::begin(alloc, rows + 2)?,
         })
     }
 
@@ -73,7 +79,7 @@ impl<'n> Audit<'n> {
         ensures net { self.new.checker.net ≡ self.old.checker.net }
         ensures left { OnOk result (bytes_left self.new < bytes_left self.old) }
     {
-        let (used, line) = match self.reader.feed(piece) {
+        let (used, line) = match self.reader.feed_again(piece, self.known.here()) {
             Ok(Fed { used, line }) => (used, line),
             Err(malformed) => {
                 return Err(Fail {
@@ -84,10 +90,13 @@ impl<'n> Audit<'n> {
         };
         match line {
             None => Ok(used),
-            Some(line) => match self.checker.take(line) {
-                None => Ok(used),
-                Some(fail) => Err(fail),
-            },
+            Some(line) => {
+                self.known.go_on();
+                match self.checker.take(line) {
+                    None => Ok(used),
+                    Some(fail) => Err(fail),
+                }
+            }
         }
     }
 

@@ -5,12 +5,14 @@ ghost use Rattle.pc_edges.specs.Faults.{Rose};
 ghost use Rattle.pc_edges.specs.Pulls.{TakesPulls};
 ghost use Rattle.pc_check.specs.Certified.{OnYes};
 ghost use Rattle.pc_audit.specs.Texts.{Finds};
+ghost use Rattle.pc_audit.specs.Stops.{IsSettled};
+ghost use Rattle.pc_edges.specs.declared.loading.TheConstants.{STREAM_ROOM};
 ghost use Rattle.pc_audit.specs.Auditing.{HasRead, IsGoing, bytes_left, most_bytes};
 
 use crate::Audit;
 use pc_check::Verdict;
 use pc_crash::CrashNet;
-use pc_edges::Source;
+use pc_edges::{STREAM_ROOM, Source};
 use std::alloc::Global;
 use thiserror::Error;
 
@@ -23,13 +25,10 @@ pub enum AuditError {
     OutOfMemory,
 }
 
-/// How many bytes a pull is offered room for.
-const PULL: usize = 65_536;
-
 /// What the text of a source is found to be: a certificate of the network, or one whose first failing point is this.
 ///
 /// All memory is taken before the first pull, and how much does not depend on the text. What a pull gave is used before the
-/// next pull, and none comes behind the first failing line. A text has no limit of its own: the lines of one that does not
+/// next pull, and none comes behind the one in which the first failing line ends. A text has no limit of its own: the lines of one that does not
 /// fail are bounded by the network, so a source that never ends is refused.
 pub fn audit_source<C: Source>(
     alloc: Global,
@@ -37,6 +36,8 @@ pub fn audit_source<C: Source>(
     source: &mut C,
 ) -> Result<Verdict, AuditError>
     ensures finds { IfOk result (λ verdict. IfSome (C.left source.old) (λ text. Finds net.now text verdict)) }
+    // nothing is pulled behind the failing line
+    ensures stops { IfOk result (λ verdict. IsSettled net.now verdict STREAM_ROOM (C.left source.old) (C.left source.new)) }
     ensures end { IfOk result (λ verdict. OnYes verdict (IsAtEnd (C.left source.new))) }
     ensures no_fault { OnOk result (C.faults source.new ≡ C.faults source.old) }
     ensures fault { IsErrOf result AuditError.ReadFault → Rose (C.faults source.old) (C.faults source.new) }
@@ -46,7 +47,7 @@ pub fn audit_source<C: Source>(
     let Ok(audit) = Audit::begin(alloc, net) else {
         return Err(AuditError::OutOfMemory);
     };
-    let Ok(mut buffer) = vec![in alloc; 0u8; PULL] else {
+    let Ok(mut buffer) = vec![in alloc; 0u8; STREAM_ROOM] else {
         return Err(AuditError::OutOfMemory);
     };
     audit_by(audit, source, buffer.as_mut_slice())
@@ -58,10 +59,11 @@ fn audit_by<C: Source>(
     source: &mut C,
     buffer: &mut [u8],
 ) -> Result<Verdict, AuditError>
-    requires room { 0 < length buffer.old }
+    requires room { length buffer.old ≡ STREAM_ROOM }
     requires read { HasRead [] audit }
     requires going { IsGoing audit }
     ensures finds { IfOk result (λ verdict. IfSome (C.left source.old) (λ text. Finds audit.entry.checker.net text verdict)) }
+    ensures stops { IfOk result (λ verdict. IsSettled audit.entry.checker.net verdict STREAM_ROOM (C.left source.old) (C.left source.new)) }
     ensures end { IfOk result (λ verdict. OnYes verdict (IsAtEnd (C.left source.new))) }
     ensures no_fault { OnOk result (C.faults source.new ≡ C.faults source.old) }
     ensures fault { IsErrOf result AuditError.ReadFault → Rose (C.faults source.old) (C.faults source.new) }

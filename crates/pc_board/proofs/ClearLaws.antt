@@ -1,7 +1,8 @@
 -- A board on which nothing stands yet.
-use Rattle.std.proofs.Common.{◌≡◌, ℕ, zero, suc, ◌+◌, ◌^◌, ◌<◌, [], ◌++◌, length, take, replicate, get_or, refl, sym, ◌∙◌, ap, subst, arith}
+use Rattle.std.proofs.Common.{◌≡◌, ℕ, zero, ◌+◌, ◌^◌, ◌<◌, [], ◌++◌, length, take, get_or, refl, sym, ◌∙◌, ap, subst, arith}
 use Rattle.std.specs.Prelude.{slice_index, sum_by}
 use Rattle.std.proofs.lemmas.List.{length-append, get_or-append-add, take-append-le, take_at, length-replicate}
+use Rattle.pc_model.proofs.Walks.PlaceLaws.{zero-at}
 use Rattle.pc_cells.specs.declared.span.Mark.{Mark}
 use Rattle.pc_cells.specs.Spans.{Cells, cells_before, IsSpan, IsMark}
 use Rattle.pc_board.specs.declared.columns.Column.{Column}
@@ -13,11 +14,6 @@ use Rattle.pc_board.specs.Places.{place_of, span_of, size_of}
 use Rattle.pc_board.specs.Taken.{AreColumnsTaken, zeros}
 use Rattle.pc_board.specs.Layout.{laid_sheet, list_behind, home_of, sheet_of, IsBoard}
 use Rattle.pc_board.proofs.BoardLaws.{laid-same, home_made}
-
-zero-at : (n i : ℕ) → slice_index (replicate n 0) i ≡ 0
-zero-at zero i = refl
-zero-at (suc n) zero = refl
-zero-at (suc n) (suc i) = zero-at n i
 
 zeros-at : (events activities : ℕ) (column : Column) (i : ℕ) → slice_index (get_or (zeros events activities) (place_of column) []) i ≡ 0
 zeros-at events activities Time i = zero-at events i

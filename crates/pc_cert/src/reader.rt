@@ -7,7 +7,8 @@ ghost use Rattle.pc_cert.specs.Reader.{arrived, StandsFor, Reading, EndsAs};
 ghost use Rattle.pc_cert.specs.Fed.{given, used};
 ghost use Rattle.pc_cert.specs.declared.reader.Malformed.{Malformed};
 
-use pc_lines::{CertLine, MAX_LINE, Place, run_len};
+use crate::known::KnownLine;
+use pc_lines::{CertLine, MAX_LINE, Place, line_len};
 use std::marker::Model;
 
 /// A line that may not stand where it does, or that is missing. Lines are counted from 1.
@@ -50,6 +51,7 @@ impl CertReader {
     pub fn begin() -> CertReader
         ensures stands { StandsFor result [] [] }
         ensures nothing { (result.held ≡ []) × (result.malformed ≡ None) }
+        ensures no_lines { result.lines ≡ 0 }
     {
         CertReader {
             place: Place::Start,
@@ -79,11 +81,34 @@ impl CertReader {
         ensures again { (malformed : Malformed) → self.old.malformed ≡ Some malformed
             → (result ≡ Err malformed) × (self.new ≡ self.old) }
         ensures short { length self.new.held < MAX_LINE }
+        ensures count { IfOk result (λ fed. self.new.lines ≤ self.old.lines + 1) }
+    {
+        let mut known = KnownLine::new();
+        self.feed_again(piece, &mut known)
+    }
+
+    /// As `feed`, where the line may be one that is known: it is read through `known`.
+    pub fn feed_again(&mut self, piece: &[u8], known: &mut KnownLine) -> Result<Fed, Malformed>
+        requires { IfNone self.old.malformed (self.old.lines < 2 ^ 63) }
+        // a reader that stood for these lines of this text stands for them with what was given and used
+        ensures stands { (lines : List CertLine) (text : List ℕ) → StandsFor self.old lines text
+            → StandsFor self.new (lines ++ given result) (text ++ used result piece.now) }
+        ensures within { IfOk result (λ fed. fed.used ≤ length piece.now) }
+        ensures no_line { IfOk result (λ fed. IsNone fed.line → fed.used ≡ length piece.now) }
+        ensures held { IfOk result (λ fed. IsNone fed.line → self.new.held ≡ self.old.held ++ piece.now) }
+        ensures one_line { IfOk result (λ fed. IsSome fed.line → (0 < fed.used) × (self.new.held ≡ [])) }
+
+        // a line that is malformed is kept, and answered again
+        ensures kept { MatchResult result (λ _. self.new.malformed ≡ None) (λ malformed. self.new.malformed ≡ Some malformed) }
+        ensures again { (malformed : Malformed) → self.old.malformed ≡ Some malformed
+            → (result ≡ Err malformed) × (self.new ≡ self.old) }
+        ensures short { length self.new.held < MAX_LINE }
+        ensures count { IfOk result (λ fed. self.new.lines ≤ self.old.lines + 1) }
     {
         if let Some(malformed) = self.malformed {
             return Err(malformed);
         }
-        let end = run_len(piece, b'\n');
+        let end = line_len(piece);
         if MAX_LINE - self.held <= end {
             return Err(self.stop());
         }
@@ -94,7 +119,7 @@ impl CertReader {
                 line: None,
             });
         }
-        match self.whole_line(&piece[..end]) {
+        match self.whole_line(&piece[..end], known) {
             None => Err(self.stop()),
             Some((line, place)) => {
                 self.go_on(place);
@@ -148,17 +173,17 @@ impl CertReader {
     }
 
     /// The line that ends with the piece, where it may stand in its place, and the place behind it.
-    fn whole_line(&mut self, piece: &[u8]) -> Option<(CertLine, Place)>
+    fn whole_line(&mut self, piece: &[u8], known: &mut KnownLine) -> Option<(CertLine, Place)>
         requires { length self.old.held + length piece.now < MAX_LINE }
         ensures line { result ≡ arrived self.old.place (self.old.held ++ piece.now) }
         ensures rest { self.new ≡ record self.old { held = self.new.held } }
         ensures short { length self.new.held < MAX_LINE }
     {
         if self.held == 0 {
-            return arrived(self.place, piece);
+            return arrived(self.place, piece, known);
         }
         self.hold(piece);
-        arrived(self.place, &self.cells[..self.held])
+        arrived(self.place, &self.cells[..self.held], known)
     }
 
     /// Goes on behind a whole line.
@@ -173,10 +198,10 @@ impl CertReader {
 }
 
 /// The line that the bytes spell, where it may stand in this place, and the place behind it.
-fn arrived(place: Place, bytes: &[u8]) -> Option<(CertLine, Place)>
+fn arrived(place: Place, bytes: &[u8], known: &mut KnownLine) -> Option<(CertLine, Place)>
     ensures { result ≡ arrived place bytes.now }
 {
-    match CertLine::read(bytes) {
+    match known.read(bytes) {
         None => None,
         Some(line) => match place.next(&line) {
             None => None,

@@ -1,8 +1,9 @@
 -- The lines of a certificate: what its writer says of a network, of two walks along it, and of the segments of its curve.
 use Rattle.std.specs.Prelude.{ℕ, ◌<◌, ◌==◌, List, [], ◌∷◌, ◌++◌, length, map, if◌then◌else◌}
 use Rattle.std.specs.List.{flat_map}
+use Rattle.pc_model.specs.Codes.{code_at}
 use Rattle.pc_curve_laws.specs.Segment.{Segment as Stretch}
-use Rattle.pc_crash.specs.Priced.{PricedNetwork, knees_in, code_at}
+use Rattle.pc_crash.specs.Priced.{PricedNetwork, knees_in}
 use Rattle.pc_lines.specs.declared.line.CertLine.{CertLine}
 use Rattle.pc_lines.specs.declared.line.CertLine.TheVariants.{Head, Normal, Step, Crash, Segment, Event, Act, Close, End}
 use Rattle.pc_lines.specs.Lines.{IsSmall}

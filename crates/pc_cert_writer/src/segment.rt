@@ -3,7 +3,7 @@ ghost use Rattle.std.specs.Prelude.{◌≡◌, ℕ, ◌<◌, [], ◌∷◌, leng
 ghost use Rattle.pc_page.specs.Puts.{Puts};
 ghost use Rattle.pc_lines.specs.Lines.{numbers, IsCode};
 ghost use Rattle.pc_lines.specs.Text.{text_of, AllFit};
-ghost use Rattle.pc_crash.specs.Priced.{code_at};
+ghost use Rattle.pc_model.specs.Codes.{code_at};
 ghost use Rattle.pc_cert_writer.specs.Listed.{listed};
 ghost use Rattle.pc_cert_writer.specs.Document.{ends_line, event_line, act_line, flows_along, segment_lines, HasSmallNumbers};
 

@@ -4,6 +4,7 @@ use Rattle.std.proofs.lemmas.Bool.{eq-eqb, eqb-true, lt-ltb, cond-true}
 use Rattle.std.proofs.lemmas.List.{nil_from_length}
 use Rattle.std.specs.List.{flat_map}
 use Rattle.std.specs.Prelude.{◌==◌, nat_lt, if◌then◌else◌}
+use Rattle.pc_model.specs.Codes.{code_at}
 use Rattle.pc_model.specs.Pieces.{pieces_of}
 use Rattle.pc_curve_laws.specs.Segment.{Segment as Stretch}
 use Rattle.pc_lines.specs.declared.line.CertLine.{CertLine}
@@ -15,7 +16,7 @@ use Rattle.pc_lines.specs.Fields.{◌>>=◌}
 use Rattle.pc_lines.specs.Grammar.{next, opened, takes_flows}
 use Rattle.pc_lines.specs.Text.{ran}
 use Rattle.pc_lines.proofs.TextLaws.{ran-append}
-use Rattle.pc_crash.specs.Priced.{PricedNetwork, code_at}
+use Rattle.pc_crash.specs.Priced.{PricedNetwork}
 use Rattle.pc_cert_writer.specs.Listed.{listed}
 use Rattle.pc_cert_writer.specs.Document.{version_of, first_line, steps, head_lines, ends_line, event_line, act_line, flows_along, segment_lines, end_lines, document_lines}
 use Rattle.pc_certified.proofs.HoldLaws.{both, left, right}

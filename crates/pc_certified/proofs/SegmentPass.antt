@@ -1,11 +1,12 @@
 -- None of the lines that are written of a whole segment fails.
 use Rattle.std.proofs.Common.{◌≡◌, ℕ, ◌<◌, ◌≤◌, zero, suc, true, List, [], ◌∷◌, ◌++◌, length, None, refl, sym, ap, subst, arith}
 use Rattle.std.specs.Prelude.{◌==◌}
+use Rattle.pc_model.specs.Codes.{code_at}
 use Rattle.pc_model.specs.Cost.{IsPriced}
 use Rattle.pc_model.specs.Schedule.{normal_of}
 use Rattle.pc_curve_laws.specs.Segment.{Segment, IsSegment}
 use Rattle.pc_lines.specs.declared.line.CertLine.TheVariants.{Event, Act, Close}
-use Rattle.pc_crash.specs.Priced.{PricedNetwork, knees_in, code_at}
+use Rattle.pc_crash.specs.Priced.{PricedNetwork, knees_in}
 use Rattle.pc_check.specs.Draft.{Part, Draft, begun_part}
 use Rattle.pc_check.specs.Conditions.{conditions}
 use Rattle.pc_check.specs.Failures.{reason_at, first_failing}

@@ -2,10 +2,11 @@
 use Rattle.std.proofs.Common.{◌≡◌, ℕ, ◌+◌, ◌<◌, Bool, true, false, ◌&&◌, List, [], ◌∷◌, ◌++◌, length, Some, None, refl, sym, ap, subst, ◌∙◌, arith, append_assoc, append-nil}
 use Rattle.std.proofs.lemmas.Bool.{eq-eqb, cond-true}
 use Rattle.std.specs.Prelude.{map, slice_index, ◌==◌}
+use Rattle.pc_model.specs.Codes.{code_at}
 use Rattle.pc_model.specs.Walk.{from_of, to_of, IsWalk, walk_sum}
 use Rattle.pc_lines.specs.Fields.{◌>>=◌}
 use Rattle.pc_lines.specs.declared.line.CertLine.TheVariants.{Step}
-use Rattle.pc_crash.specs.Priced.{PricedNetwork, AreNames, code_at}
+use Rattle.pc_crash.specs.Priced.{PricedNetwork, AreNames}
 use Rattle.pc_check.specs.declared.walk.Reached.{Reached}
 use Rattle.pc_check.specs.Draft.{Draft, begun_part}
 use Rattle.pc_check.specs.Walks.{place_of, further, stepped, walked, at_start, is_through}

@@ -1,8 +1,9 @@
 -- What the lines that are written of a segment say.
 use Rattle.std.specs.Prelude.{◌≡◌, ℕ, ◌<◌, List, length}
+use Rattle.pc_model.specs.Codes.{code_at}
 use Rattle.pc_curve_laws.specs.Segment.{Segment}
 use Rattle.pc_curve_laws.specs.Cover.{segment_at}
-use Rattle.pc_crash.specs.Priced.{PricedNetwork, knees_in, code_at}
+use Rattle.pc_crash.specs.Priced.{PricedNetwork, knees_in}
 use Rattle.pc_check.specs.Draft.{EventRow, ActRow, Part}
 use Rattle.pc_cert_writer.specs.Listed.{listed}
 use Rattle.pc_cert_writer.specs.Document.{flows_along}

@@ -2,7 +2,7 @@
 use Rattle.std.proofs.Common.{◌≡◌, ◌≢◌, ℕ, ◌+◌, ◌<◌, zero, suc, Bool, true, false, List, [], ◌∷◌, length, Option, Some, None, refl, sym, ap, ◌∙◌, arith}
 use Rattle.std.proofs.lemmas.Slice.Eq.{bytes_eq-Decides}
 use Rattle.std.specs.Prelude.{bytes_eq, IfSome, IfNone}
-use Rattle.pc_crash.specs.Priced.{code_at, IsNamedOnce}
+use Rattle.pc_model.specs.Codes.{code_at, IsNamedOnce}
 use Rattle.pc_check.specs.Walks.{place_of}
 
 false_unless : (b : Bool) → (b ≡ true → ⊥) → b ≡ false

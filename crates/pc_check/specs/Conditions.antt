@@ -1,8 +1,9 @@
 -- The fifteen conditions, as a table: at each line the conditions that are reported there, in the order of their numbers.
 use Rattle.std.specs.Prelude.{ℕ, ◌+◌, ◌==◌, Bool, not, ◌&&◌, ◌||◌, nat_lt, nat_le, bytes_eq, List, [], ◌∷◌, length, slice_index, if◌then◌else◌}
+use Rattle.pc_model.specs.Codes.{code_at}
 use Rattle.pc_model.specs.Network.{Network}
 use Rattle.pc_model.specs.Schedule.{normal_of, crash_of, lesser_of}
-use Rattle.pc_crash.specs.Priced.{PricedNetwork, knees_in, code_at}
+use Rattle.pc_crash.specs.Priced.{PricedNetwork, knees_in}
 use Rattle.pc_lines.specs.declared.line.CertLine.{CertLine}
 use Rattle.pc_lines.specs.declared.line.CertLine.TheVariants.{Head, Segment, Event, Act, Close, End}
 use Rattle.pc_check.specs.Walks.{is_through}

@@ -2,7 +2,7 @@
 use Rattle.std.specs.Prelude.{ℕ, ◌+◌, ◌==◌, Bool, not, ◌&&◌, ◌||◌, nat_le, nat_lt, List, length, slice_index, if◌then◌else◌}
 use Rattle.pc_model.specs.declared.Knee.{Knee}
 use Rattle.pc_model.specs.Sums.{sum_to}
-use Rattle.pc_crash.specs.KneeLists.{knee_at}
+use Rattle.pc_model.specs.Pieces.{knee_at}
 use Rattle.pc_check.specs.Known.{each_below, some_below}
 use Rattle.pc_check.specs.declared.gaps.Crossing.{Crossing}
 

@@ -15,3 +15,6 @@ mod walk;
 pub use checker::Checker;
 pub use fail::{Fail, Verdict};
 pub use pc_lines::{CertLine, Flows};
+
+#[cfg(test)]
+mod tests;

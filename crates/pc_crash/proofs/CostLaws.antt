@@ -1,5 +1,5 @@
 -- Costs stay within their limits.
-use Rattle.std.proofs.Common.{◌≡◌, ℕ, zero, suc, ◌+◌, ◌-◌, ◌*◌, ◌^◌, ◌<◌, ◌≤◌, All, List, length, ◌==◌, get_or, refl, sym, ◌∙◌, ap, subst, inl, inr, arith, add-one}
+use Rattle.std.proofs.Common.{◌≡◌, ℕ, zero, suc, ◌+◌, ◌-◌, ◌*◌, ◌^◌, ◌<◌, ◌≤◌, All, List, length, ◌==◌, get_or, refl, ◌∙◌, ap, inl, inr, arith, add-one}
 use Rattle.std.proofs.Math.Nat.{mul-le-mul, mul-le-mul_left, mul_comm}
 use Rattle.std.proofs.Math.ListN.{get_or-eq_default}
 use Rattle.std.proofs.lemmas.Bool.{cases_lt}
@@ -10,20 +10,15 @@ use Rattle.pc_model.specs.declared.Term.{Term}
 use Rattle.pc_model.specs.declared.limits.TheConstants.{MAX_DURATION, MAX_SLOPE}
 use Rattle.pc_model.specs.Sums.{sum_to}
 use Rattle.pc_model.specs.Network.{Network}
-use Rattle.pc_model.specs.Cost.{Knees, activity_cost, last_slope, one_knee}
-use Rattle.pc_model.specs.Pieces.{pieces_of, knees_of, slope_in, rise_in, ArePieces}
-use Rattle.pc_model.specs.Schedule.{term_at, normal_of, base_cost_of, slope_of, AreTerms}
-use Rattle.pc_model.proofs.Sums.{sum_to-le, sum_to-same, sum_to-times}
+use Rattle.pc_model.specs.Cost.{activity_cost, cost_of, last_slope}
+use Rattle.pc_model.specs.Pieces.{pieces_of, knees_of, slope_in, ArePieces, knee_at}
+use Rattle.pc_model.specs.Schedule.{term_at, AreTerms}
+use Rattle.pc_model.proofs.Sums.{sum_to-le, sum_to-most, sum_to-same, sum_to-times}
 use Rattle.pc_model.proofs.Costs.PieceLaws.{knee-normal, last_slope-pieces, pieces_fit}
-use Rattle.pc_crash.specs.KneeLists.{knee_at, AreKneesOf, AreSmallKnees}
+use Rattle.pc_crash.specs.KneeLists.{AreKneesOf, AreSmallKnees}
 use Rattle.pc_crash.specs.CrashNets.{IsWhole}
-use Rattle.pc_crash.specs.Priced.{PricedNetwork, knees_in, piece_at, ArePiecesWithinLimits}
+use Rattle.pc_crash.specs.Priced.{PricedNetwork, knees_in, ArePiecesWithinLimits}
 use Rattle.pc_crash.specs.Terms.{AreWithinLimits}
-
--- a sum of so many terms, none above a bound
-pub sum_to-most : (n most : ℕ) (f : ℕ → ℕ) → ((k : ℕ) → k < n → f k ≤ most) → sum_to n f ≤ n * most
-sum_to-most zero most f below = omega arith
-sum_to-most (suc n) most f below = omega (arith, sum_to-most n most f (λ k inside. below k (omega arith)), below n (omega arith))
 
 -- one term more
 pub sum_to-more : (n : ℕ) (f : ℕ → ℕ) → sum_to (n + 1) f ≡ sum_to n f + f n
@@ -108,3 +103,14 @@ pub costs-most : (net : PricedNetwork) → IsWhole net → (durations : ℕ → 
 costs-most net whole durations k within =
     sum_to-most k 11000000000000 (λ a. activity_cost net.terms (knees_in net) a (durations a))
     (λ a below. activity_cost-most net.network net.terms net.pieces whole.terms whole.limits whole.pieces whole.piece_limits a (omega arith) (durations a))
+
+-- and all of them together at most so much
+pub cost_of-most : (net : PricedNetwork) → AreTerms net.network net.terms → AreWithinLimits net.terms → ArePieces net.terms net.pieces
+    → ArePiecesWithinLimits net.pieces → (durations : ℕ → ℕ) → cost_of net.terms (knees_in net) durations ≤ 220000000000000000
+cost_of-most net fit limits right small durations =
+    omega (
+      arith,
+      sum_to-most (length net.terms) 11000000000000 (λ a. activity_cost net.terms (knees_in net) a (durations a))
+          (λ a inside. activity_cost-most net.network net.terms net.pieces fit limits right small a inside (durations a)),
+      limits.few,
+    )

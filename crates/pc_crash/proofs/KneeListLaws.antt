@@ -7,9 +7,9 @@ use Rattle.pc_model.specs.declared.Knee.{Knee}
 use Rattle.pc_model.specs.declared.PieceRow.{PieceRow}
 use Rattle.pc_model.specs.declared.Term.{Term}
 use Rattle.pc_model.specs.Cost.{Knees}
-use Rattle.pc_model.specs.Pieces.{pieces_of, knees_of, units_of, slope_in, rise_in, ArePieces}
+use Rattle.pc_model.specs.Pieces.{pieces_of, knees_of, units_of, slope_in, rise_in, ArePieces, knee_at}
 use Rattle.pc_model.specs.Schedule.{term_at}
-use Rattle.pc_crash.specs.KneeLists.{knee_at, knee_list, piece_knees, AreKneesOf}
+use Rattle.pc_crash.specs.KneeLists.{knee_list, piece_knees, AreKneesOf}
 use Rattle.pc_crash.specs.Laid.{IsRising}
 use Rattle.pc_crash.specs.Priced.{piece_at}
 

@@ -3,5 +3,5 @@ mod GroupLaws
 mod KneeListLaws
 mod LaidLaws
 mod NameLaws
-mod CostLaws
+pub mod CostLaws
 mod InsideLaws

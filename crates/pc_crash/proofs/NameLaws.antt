@@ -9,7 +9,7 @@ use Rattle.std.proofs.lemmas.Cmp.{nat_list_eq_equiv}
 use Rattle.std.specs.Cmp.Lexicographic.{pointwise, same_text}
 use Rattle.std.specs.List.{list_any, position}
 use Rattle.indexmap.specs.IndexSet.{insert_key}
-use Rattle.pc_crash.specs.Priced.{IsNamedOnce, code_at}
+use Rattle.pc_model.specs.Codes.{code_at, IsNamedOnce}
 
 -- the place where a code is found has it
 pub code-found : (codes : List (List ℕ)) (code : List ℕ) (a : ℕ) → position (pointwise nat_eq code) codes ≡ Some a → (a < length codes) × (code_at codes a ≡ code)

@@ -1,15 +1,11 @@
 -- The knees of one activity as a list.
-use Rattle.std.specs.Prelude.{◌≡◌, ℕ, ◌+◌, ◌-◌, ◌<◌, ◌≤◌, List, [], ◌∷◌, length, slice_index_or}
+use Rattle.std.specs.Prelude.{◌≡◌, ℕ, ◌+◌, ◌-◌, ◌<◌, ◌≤◌, List, [], ◌∷◌, length}
 use Rattle.pc_model.specs.declared.Knee.{Knee}
 use Rattle.pc_model.specs.declared.PieceRow.{PieceRow}
 use Rattle.pc_model.specs.declared.Term.{Term}
 use Rattle.pc_model.specs.declared.limits.TheConstants.{MAX_DURATION, MAX_PIECES_EACH, MAX_SLOPE}
 use Rattle.pc_model.specs.Cost.{Knees}
-use Rattle.pc_model.specs.Pieces.{units_of}
-
--- the k-th knee of a list; past its end one at duration 0 that does not rise
-abbrev pub knee_at : List Knee → ℕ → Knee
-knee_at list k = slice_index_or list k (record { at = 0; rise = 0 })
+use Rattle.pc_model.specs.Pieces.{knee_at, units_of}
 
 -- the list has the knees of activity a, each once, from its normal duration down
 pub record AreKneesOf (knees : Knees) (a : ℕ) (list : List Knee) : Type 0 where

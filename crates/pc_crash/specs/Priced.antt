@@ -1,9 +1,10 @@
 -- A network whose activities can be shortened at a price.
-use Rattle.std.specs.Prelude.{◌≡◌, ◌≢◌, ℕ, ◌+◌, ◌<◌, ◌≤◌, List, [], All, length, slice_index, slice_index_or}
+use Rattle.std.specs.Prelude.{◌≡◌, ℕ, ◌+◌, ◌<◌, ◌≤◌, List, All, length, slice_index, slice_index_or}
 use Rattle.pc_model.specs.declared.PieceRow.{PieceRow}
 use Rattle.pc_model.specs.declared.Term.{Term}
 use Rattle.pc_model.specs.declared.limits.TheConstants.{MAX_PIECES, MAX_SLOPE}
 use Rattle.pc_model.specs.Network.{Network}
+use Rattle.pc_model.specs.Codes.{IsNamedOnce}
 use Rattle.pc_model.specs.Cost.{Knees}
 use Rattle.pc_model.specs.Pieces.{knees_of}
 use Rattle.pc_model.specs.Schedule.{crash_of, normal_of}
@@ -31,14 +32,6 @@ piece_at pieces i = slice_index_or pieces i (record { activity = 0; units = 0; s
 pub record ArePiecesWithinLimits (pieces : List PieceRow) : Type 0 where
   pub few : length pieces ≤ MAX_PIECES
   pub gentle : All (λ piece. piece.slope ≤ MAX_SLOPE) pieces
-
--- the code with a number among those; none past their end
-abbrev pub code_at : List (List ℕ) → ℕ → List ℕ
-code_at codes i = slice_index_or codes i []
-
--- no code stands at two places
-abbrev pub IsNamedOnce : List (List ℕ) → Type 0
-IsNamedOnce codes = (j k : ℕ) → j < k → k < length codes → code_at codes j ≢ code_at codes k
 
 -- a code for each of n things, none of them twice
 pub record AreNames (n : ℕ) (codes : List (List ℕ)) : Type 0 where

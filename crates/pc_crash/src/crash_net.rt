@@ -1,11 +1,12 @@
 //! A network whose activities can be shortened at a price.
 ghost use Rattle.std.specs.Prelude.{◌≡◌, ◌≢◌, ℕ, ◌+◌, ◌<◌, length, slice_index, pos, ◌-ℤ◌, IsTrue, ◌↔◌, IfOk, IfSome, IfNone};
+ghost use Rattle.pc_model.specs.Codes.{code_at};
 ghost use Rattle.pc_model.specs.Cost.{IsPriced};
 ghost use Rattle.pc_model.specs.Pieces.{ArePieces};
 ghost use Rattle.pc_model.specs.Schedule.{AreTerms, term_at};
 ghost use Rattle.pc_crash.specs.KneeLists.{AreKneesOf};
 ghost use Rattle.pc_crash.specs.Looks.{IsLookAt};
-ghost use Rattle.pc_crash.specs.Priced.{knees_in, code_at, AreNames, ArePiecesWithinLimits};
+ghost use Rattle.pc_crash.specs.Priced.{knees_in, AreNames, ArePiecesWithinLimits};
 ghost use Rattle.pc_crash.specs.Terms.{AreWithinLimits};
 
 use crate::counting::Steps;

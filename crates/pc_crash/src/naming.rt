@@ -1,6 +1,6 @@
 //! Codes that are looked up.
 ghost use Rattle.std.specs.Prelude.{◌≡◌, IfOk};
-ghost use Rattle.pc_crash.specs.Priced.{IsNamedOnce};
+ghost use Rattle.pc_model.specs.Codes.{IsNamedOnce};
 
 use indexmap::IndexSet;
 use pc_text::Code;

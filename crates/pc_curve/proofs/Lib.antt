@@ -1,5 +1,4 @@
 pub mod ListLaws
-mod CostLimits
 mod TurnLaws
 mod CurveLaws
 mod LookLaws

@@ -13,9 +13,9 @@ use Rattle.pc_model.specs.Pieces.{ArePieces}
 use Rattle.pc_curve_laws.specs.Segment.{Segment, times_for, durations_for, cost_for, IsRight}
 use Rattle.pc_crash.specs.Priced.{PricedNetwork, knees_in, ArePiecesWithinLimits}
 use Rattle.pc_crash.specs.Terms.{AreWithinLimits}
+use Rattle.pc_crash.proofs.CostLaws.{cost_of-most}
 use Rattle.pc_flow.specs.Courses.{Course, present}
 use Rattle.pc_curve.specs.Points.{curve_in, IsThere, AreTimesRead, AreDurationsRead}
-use Rattle.pc_curve.proofs.CostLimits.{cost_of-most}
 use Rattle.pc_curve.proofs.CurveLaws.{right-there}
 
 -- a schedule of durations and times that are alike
@@ -44,7 +44,7 @@ reading-small net priced limits pieces piece_limits c same limit there =
     omega (
       arith,
       (right-there net priced c same limit there).costs,
-      cost_of-most net priced limits pieces piece_limits (durations_for net.network net.terms (present c) limit),
+      cost_of-most net priced.terms_fit limits pieces piece_limits (durations_for net.network net.terms (present c) limit),
     )
 
 -- one time more is read

@@ -5,7 +5,7 @@ ghost use Rattle.pc_flow.specs.Courses.{present, lower_of, IsSameCurve, most_loo
 ghost use Rattle.pc_curve.specs.Points.{IsThere};
 ghost use Rattle.pc_curve.specs.Breaks.{IsNextBreak, StandsAt, StandsBy};
 
-use crate::reading::cost_at;
+use crate::reading::least_cost_for;
 use pc_crash::{CrashNet, SegmentView, Steps};
 use pc_flow::Solver;
 use std::marker::Model;
@@ -201,7 +201,7 @@ fn break_at_lower(net: &CrashNet<'_>, solver: &Solver<'_>) -> Break
     let length = solver.lower();
     Break {
         length,
-        cost: cost_at(net, solver, length),
+        cost: least_cost_for(net, solver, length),
         slope: None,
     }
 }

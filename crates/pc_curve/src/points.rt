@@ -8,7 +8,7 @@ ghost use Rattle.pc_crash.specs.Priced.{knees_in};
 ghost use Rattle.pc_flow.specs.Courses.{present, lower_of, IsSameCurve, IsLevel, IsOnCurve, most_looks};
 ghost use Rattle.pc_curve.specs.Points.{curve_in, IsToCome, IsThere, HasPlaces, AreTimesRead, AreDurationsRead};
 
-use crate::reading::cost_at;
+use crate::reading::least_cost_for;
 use pc_crash::{CrashNet, SegmentView, Steps};
 use pc_flow::Solver;
 use std::sync::ledger::Ledger;
@@ -46,7 +46,7 @@ pub fn point_at<L: Ledger>(
     come_to(solver, length, steps);
     read_times(net, solver, length, times);
     read_durations(net, times, durations);
-    cost_at(net, solver, length)
+    least_cost_for(net, solver, length)
 }
 
 // Goes on until the present segment holds a length.

@@ -8,7 +8,7 @@ use pc_crash::{CrashNet, SegmentView};
 use pc_flow::Solver;
 
 /// The cost of the schedule for a length: that at the upper end, and the slope for each unit by which it is shorter.
-pub(crate) fn cost_at(net: &CrashNet<'_>, solver: &Solver<'_>, length: u64) -> u64
+pub(crate) fn least_cost_for(net: &CrashNet<'_>, solver: &Solver<'_>, length: u64) -> u64
     requires net { solver.now.net ≡ net.now }
     requires there { IsThere solver.now length }
     ensures { result ≡ cost_for (present solver.now) length }

@@ -1,5 +1,5 @@
 -- What is found, and what is not, by one test behind another.
-use Rattle.std.proofs.Common.{◌≡◌, ℕ, Bool, true, false, not, List, [], ◌∷◌, find, Option, Some, None, if◌then◌else◌, ap, ◌∙◌, refl, sym}
+use Rattle.std.proofs.Common.{◌≡◌, ℕ, Bool, true, false, not, List, [], ◌∷◌, Option, Some, None, if◌then◌else◌, ap, refl}
 use Rattle.pc_deck.specs.Forms.{AllFit, Slot, field_numbered, first_misshapen, first_over_limit, has_shape, is_over_limit}
 use Rattle.pc_deck.specs.Judged.{flaw_of_fields, misshapen_at, or_else, over_limit_at}
 

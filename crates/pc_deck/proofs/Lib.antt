@@ -1,4 +1,5 @@
 pub mod Utf8Lemmas
+pub mod MisfitLemmas
 pub mod NameLemmas
 pub mod FindLemmas
 pub mod JudgeLemmas

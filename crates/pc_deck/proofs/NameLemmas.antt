@@ -6,7 +6,7 @@ use Rattle.std.proofs.lemmas.List.Folds.{list_any_at}
 use Rattle.std.proofs.lemmas.Cmp.{nat_list_eq_equiv}
 use Rattle.std.specs.Cmp.Lexicographic.{pointwise}
 use Rattle.std.specs.List.{list_any}
-use Rattle.pc_deck.specs.Deck.{IsNamedOnce}
+use Rattle.pc_model.specs.Codes.{IsNamedOnce}
 
 -- no code stands twice where there is none
 pub IsNamedOnce-nil : IsNamedOnce []

@@ -18,7 +18,6 @@ use Rattle.pc_deck.specs.Status.{status_of}
 use Rattle.pc_deck.specs.Res.{resource_of}
 use Rattle.pc_deck.specs.Load.{load_of}
 use Rattle.pc_deck.specs.Named.{count_once}
-use Rattle.pc_deck.specs.Judged.{Seen}
 use Rattle.pc_deck.specs.Reading.{count_in, codes_in, seen_in, version_of}
 use Rattle.pc_deck.specs.Refusal.{of_kind, own_codes, are_none, seen_among, version_said}
 use Rattle.pc_deck.specs.Says.{spelled, as_list}

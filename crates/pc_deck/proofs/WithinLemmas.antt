@@ -1,16 +1,18 @@
 -- What was read keeps to the limits.
-use Rattle.std.proofs.Common.{◌≡◌, ℕ, ◌+◌, ◌≤◌, Bool, true, false, ◌&&◌, ◌==◌, nat_lt, List, [], ◌∷◌, ◌++◌, length, map, get_or, Option, Some, None, is_some, unwrap_or, if◌then◌else◌, All, Ok, refl, sym, ap, subst, arith, length-append}
+use Rattle.std.proofs.Common.{◌≡◌, ℕ, ◌+◌, ◌≤◌, Bool, true, false, ◌&&◌, ◌==◌, nat_lt, List, [], ◌∷◌, ◌++◌, length, map, get_or, Option, Some, None, is_some, unwrap_or, if◌then◌else◌, All, Ok, refl, sym, subst, arith, length-append}
 use Rattle.std.specs.Option.{ForSome}
 use Rattle.std.proofs.lemmas.List.{map-append}
 use Rattle.std.proofs.lemmas.List.Elements.{All-append, All-nil}
 use Rattle.std.proofs.lemmas.Bool.Decides.{nat_tests}
+use Rattle.pc_model.specs.Codes.{IsNamedOnce}
 use Rattle.pc_records.specs.Deck.{field_at}
 use Rattle.pc_text.specs.Number.{number_of}
-use Rattle.pc_model.specs.declared.limits.TheConstants.{MAX_ACCOUNTS, MAX_ACTIVITIES, MAX_CHARGES, MAX_COST, MAX_DURATION, MAX_EVENTS, MAX_ITEMS, MAX_LOADS, MAX_PIECES, MAX_RESOURCES, MAX_SLOPE, MAX_STATUSES, MAX_TERMS, MAX_TOGOS, MAX_UNIT_DAYS}
+use Rattle.pc_model.specs.declared.limits.TheConstants.{MAX_ACCOUNTS, MAX_ACTIVITIES, MAX_CHARGES, MAX_COST, MAX_DIRECTED, MAX_DURATION, MAX_EVENTS, MAX_ITEMS, MAX_LOADS, MAX_PIECES, MAX_RESOURCES, MAX_SLOPE, MAX_STATUSES, MAX_TERMS, MAX_TOGOS, MAX_UNIT_DAYS}
 use Rattle.pc_faults.specs.declared.kind.Kind.{Kind}
-use Rattle.pc_faults.specs.declared.kind.Kind.TheVariants.{Project, AsOf, Terms, Wbs, Event, Act, Piece, Acct, Charge, ToGo, Status, Res, Load, End}
-use Rattle.pc_deck.specs.Deck.{Deck, IsNamedOnce}
-use Rattle.pc_deck.specs.Kinds.{by_version, limit_of}
+use Rattle.pc_faults.specs.declared.kind.Kind.TheVariants.{Project, Terms, Wbs, Event, Act, Piece, Acct, Charge, ToGo, Status, Res, Load}
+use Rattle.pc_deck.specs.Deck.{Deck}
+use Rattle.pc_deck.specs.Kinds.{by_version, limit_of, most_acts, most_charges, most_events, most_pieces, most_statuses}
+use Rattle.pc_deck.specs.declared.limits.TheConstants.{SMALL_ACTIVITIES, SMALL_CHARGES, SMALL_EVENTS, SMALL_PIECES, SMALL_STATUSES}
 use Rattle.pc_deck.specs.Forms.{AllFit, is_outside}
 use Rattle.pc_deck.specs.Named.{is_among}
 use Rattle.pc_deck.specs.Project.{project_slots, project_of, version_in, IsProjectWithin}
@@ -33,12 +35,8 @@ use Rattle.pc_deck.specs.declared.kinds.terms.TermsCard.{TermsCard}
 use Rattle.pc_deck.specs.declared.kinds.wbs.ItemCard.{ItemCard}
 use Rattle.pc_deck.specs.declared.kinds.event.EventCard.{EventCard}
 use Rattle.pc_deck.specs.declared.kinds.act.ActCard.{ActCard}
-use Rattle.pc_deck.specs.declared.kinds.piece.PieceCard.{PieceCard}
 use Rattle.pc_deck.specs.declared.kinds.acct.AcctCard.{AcctCard}
-use Rattle.pc_deck.specs.declared.kinds.money.MoneyCard.{MoneyCard}
 use Rattle.pc_deck.specs.declared.kinds.res.ResCard.{ResCard}
-use Rattle.pc_deck.specs.declared.kinds.load.LoadCard.{LoadCard}
-use Rattle.pc_deck.specs.declared.kinds.status.StatusCard.{StatusCard}
 use Rattle.pc_deck.specs.declared.draft.Draft.{Draft}
 use Rattle.pc_deck.proofs.JudgeLemmas.{IsFaultless, faultless, fits, room_as, number_fits}
 use Rattle.pc_deck.proofs.NameLemmas.{IsNamedOnce-nil, IsNamedOnce-push}
@@ -59,7 +57,7 @@ project_within row fields fit =
     record {
       unit_some = (number_fits 1 MAX_UNIT_DAYS (number_of (field_at fields 5)) from_6.0.0 from_6.0.1).0;
       unit_within = (number_fits 1 MAX_UNIT_DAYS (number_of (field_at fields 5)) from_6.0.0 from_6.0.1).1;
-      directed_within = λ days is. (number_fits 0 1000000 (Some days) refl (subst (λ (o : Option ℕ). is_outside 0 1000000 o ≡ false) is from_6.1.0.1)).1;
+      directed_within = λ days is. (number_fits 0 MAX_DIRECTED (Some days) refl (subst (λ (o : Option ℕ). is_outside 0 MAX_DIRECTED o ≡ false) is from_6.1.0.1)).1;
       version_some = version.0;
       version_within = version.1;
     }
@@ -183,37 +181,37 @@ module _ (draft : Draft) (row : ℕ) (fields : List (List ℕ)) where
   items-more Wbs known old = named_more (λ (card : ItemCard). card.code) MAX_ITEMS IsAny draft.items (item_of row fields) old (room_as Wbs row (length draft.items) MAX_ITEMS (limit_of (version_of draft.project) Wbs) refl known.room) known.differs (any_within (item_of row fields))
   items-more other known old = old
 
-  events-more : (kind : Kind) → IsFaultless (seen_in draft) row fields kind → IsNamedWithin (λ (card : EventCard). card.code) (by_version (version_of draft.project) 5000 MAX_EVENTS) IsAny draft.events → IsNamedWithin (λ (card : EventCard). card.code) (by_version (version_of (with_card draft kind row fields).project) 5000 MAX_EVENTS) IsAny (with_card draft kind row fields).events
-  events-more Event known old = named_more (λ (card : EventCard). card.code) (by_version (version_of draft.project) 5000 MAX_EVENTS) IsAny draft.events (event_of row fields) old (room_as Event row (length draft.events) (by_version (version_of draft.project) 5000 MAX_EVENTS) (limit_of (version_of draft.project) Event) refl known.room) known.differs (any_within (event_of row fields))
-  events-more Project known old = named_wider (λ (card : EventCard). card.code) (by_version (version_of draft.project) 5000 MAX_EVENTS) (by_version (version_in (field_at fields 8)) 5000 MAX_EVENTS) IsAny draft.events (widened draft (version_in (field_at fields 8)) 5000 MAX_EVENTS (no_version draft.project known.once) (omega arith)) old
+  events-more : (kind : Kind) → IsFaultless (seen_in draft) row fields kind → IsNamedWithin (λ (card : EventCard). card.code) (most_events (version_of draft.project)) IsAny draft.events → IsNamedWithin (λ (card : EventCard). card.code) (most_events (version_of (with_card draft kind row fields).project)) IsAny (with_card draft kind row fields).events
+  events-more Event known old = named_more (λ (card : EventCard). card.code) (most_events (version_of draft.project)) IsAny draft.events (event_of row fields) old (room_as Event row (length draft.events) (most_events (version_of draft.project)) (limit_of (version_of draft.project) Event) refl known.room) known.differs (any_within (event_of row fields))
+  events-more Project known old = named_wider (λ (card : EventCard). card.code) (most_events (version_of draft.project)) (most_events (version_in (field_at fields 8))) IsAny draft.events (widened draft (version_in (field_at fields 8)) SMALL_EVENTS MAX_EVENTS (no_version draft.project known.once) (omega arith)) old
   events-more other known old = old
 
-  acts-more : (kind : Kind) → IsFaultless (seen_in draft) row fields kind → IsNamedWithin (λ (card : ActCard). card.code) (by_version (version_of draft.project) 10000 MAX_ACTIVITIES) IsActWithin draft.acts → IsNamedWithin (λ (card : ActCard). card.code) (by_version (version_of (with_card draft kind row fields).project) 10000 MAX_ACTIVITIES) IsActWithin (with_card draft kind row fields).acts
-  acts-more Act known old = let fit = fits (seen_in draft) row fields Act known in named_more (λ (card : ActCard). card.code) (by_version (version_of draft.project) 10000 MAX_ACTIVITIES) IsActWithin draft.acts (act_of row fields) old (room_as Act row (length draft.acts) (by_version (version_of draft.project) 10000 MAX_ACTIVITIES) (limit_of (version_of draft.project) Act) refl known.room) known.differs (act_within row fields fit)
-  acts-more Project known old = named_wider (λ (card : ActCard). card.code) (by_version (version_of draft.project) 10000 MAX_ACTIVITIES) (by_version (version_in (field_at fields 8)) 10000 MAX_ACTIVITIES) IsActWithin draft.acts (widened draft (version_in (field_at fields 8)) 10000 MAX_ACTIVITIES (no_version draft.project known.once) (omega arith)) old
+  acts-more : (kind : Kind) → IsFaultless (seen_in draft) row fields kind → IsNamedWithin (λ (card : ActCard). card.code) (most_acts (version_of draft.project)) IsActWithin draft.acts → IsNamedWithin (λ (card : ActCard). card.code) (most_acts (version_of (with_card draft kind row fields).project)) IsActWithin (with_card draft kind row fields).acts
+  acts-more Act known old = let fit = fits (seen_in draft) row fields Act known in named_more (λ (card : ActCard). card.code) (most_acts (version_of draft.project)) IsActWithin draft.acts (act_of row fields) old (room_as Act row (length draft.acts) (most_acts (version_of draft.project)) (limit_of (version_of draft.project) Act) refl known.room) known.differs (act_within row fields fit)
+  acts-more Project known old = named_wider (λ (card : ActCard). card.code) (most_acts (version_of draft.project)) (most_acts (version_in (field_at fields 8))) IsActWithin draft.acts (widened draft (version_in (field_at fields 8)) SMALL_ACTIVITIES MAX_ACTIVITIES (no_version draft.project known.once) (omega arith)) old
   acts-more other known old = old
 
-  pieces-more : (kind : Kind) → IsFaultless (seen_in draft) row fields kind → IsListWithin (by_version (version_of draft.project) 40000 MAX_PIECES) IsPieceWithin draft.pieces → IsListWithin (by_version (version_of (with_card draft kind row fields).project) 40000 MAX_PIECES) IsPieceWithin (with_card draft kind row fields).pieces
-  pieces-more Piece known old = let fit = fits (seen_in draft) row fields Piece known in list_more (by_version (version_of draft.project) 40000 MAX_PIECES) IsPieceWithin draft.pieces (piece_of row fields) old (room_as Piece row (length draft.pieces) (by_version (version_of draft.project) 40000 MAX_PIECES) (limit_of (version_of draft.project) Piece) refl known.room) (piece_within row fields fit)
-  pieces-more Project known old = list_wider (by_version (version_of draft.project) 40000 MAX_PIECES) (by_version (version_in (field_at fields 8)) 40000 MAX_PIECES) IsPieceWithin draft.pieces (widened draft (version_in (field_at fields 8)) 40000 MAX_PIECES (no_version draft.project known.once) (omega arith)) old
+  pieces-more : (kind : Kind) → IsFaultless (seen_in draft) row fields kind → IsListWithin (most_pieces (version_of draft.project)) IsPieceWithin draft.pieces → IsListWithin (most_pieces (version_of (with_card draft kind row fields).project)) IsPieceWithin (with_card draft kind row fields).pieces
+  pieces-more Piece known old = let fit = fits (seen_in draft) row fields Piece known in list_more (most_pieces (version_of draft.project)) IsPieceWithin draft.pieces (piece_of row fields) old (room_as Piece row (length draft.pieces) (most_pieces (version_of draft.project)) (limit_of (version_of draft.project) Piece) refl known.room) (piece_within row fields fit)
+  pieces-more Project known old = list_wider (most_pieces (version_of draft.project)) (most_pieces (version_in (field_at fields 8))) IsPieceWithin draft.pieces (widened draft (version_in (field_at fields 8)) SMALL_PIECES MAX_PIECES (no_version draft.project known.once) (omega arith)) old
   pieces-more other known old = old
 
   accounts-more : (kind : Kind) → IsFaultless (seen_in draft) row fields kind → IsNamedWithin (λ (card : AcctCard). card.code) MAX_ACCOUNTS IsBudgetWithin draft.accounts → IsNamedWithin (λ (card : AcctCard). card.code) MAX_ACCOUNTS IsBudgetWithin (with_card draft kind row fields).accounts
   accounts-more Acct known old = let fit = fits (seen_in draft) row fields Acct known in named_more (λ (card : AcctCard). card.code) MAX_ACCOUNTS IsBudgetWithin draft.accounts (account_of row fields) old (room_as Acct row (length draft.accounts) MAX_ACCOUNTS (limit_of (version_of draft.project) Acct) refl known.room) known.differs (budget_within row fields fit)
   accounts-more other known old = old
 
-  charges-more : (kind : Kind) → IsFaultless (seen_in draft) row fields kind → IsListWithin (by_version (version_of draft.project) 200000 MAX_CHARGES) IsAmountWithin draft.charges → IsListWithin (by_version (version_of (with_card draft kind row fields).project) 200000 MAX_CHARGES) IsAmountWithin (with_card draft kind row fields).charges
-  charges-more Charge known old = let fit = fits (seen_in draft) row fields Charge known in list_more (by_version (version_of draft.project) 200000 MAX_CHARGES) IsAmountWithin draft.charges (money_of row fields) old (room_as Charge row (length draft.charges) (by_version (version_of draft.project) 200000 MAX_CHARGES) (limit_of (version_of draft.project) Charge) refl known.room) (amount_within row fields fit)
-  charges-more Project known old = list_wider (by_version (version_of draft.project) 200000 MAX_CHARGES) (by_version (version_in (field_at fields 8)) 200000 MAX_CHARGES) IsAmountWithin draft.charges (widened draft (version_in (field_at fields 8)) 200000 MAX_CHARGES (no_version draft.project known.once) (omega arith)) old
+  charges-more : (kind : Kind) → IsFaultless (seen_in draft) row fields kind → IsListWithin (most_charges (version_of draft.project)) IsAmountWithin draft.charges → IsListWithin (most_charges (version_of (with_card draft kind row fields).project)) IsAmountWithin (with_card draft kind row fields).charges
+  charges-more Charge known old = let fit = fits (seen_in draft) row fields Charge known in list_more (most_charges (version_of draft.project)) IsAmountWithin draft.charges (money_of row fields) old (room_as Charge row (length draft.charges) (most_charges (version_of draft.project)) (limit_of (version_of draft.project) Charge) refl known.room) (amount_within row fields fit)
+  charges-more Project known old = list_wider (most_charges (version_of draft.project)) (most_charges (version_in (field_at fields 8))) IsAmountWithin draft.charges (widened draft (version_in (field_at fields 8)) SMALL_CHARGES MAX_CHARGES (no_version draft.project known.once) (omega arith)) old
   charges-more other known old = old
 
   togos-more : (kind : Kind) → IsFaultless (seen_in draft) row fields kind → IsListWithin MAX_TOGOS IsAmountWithin draft.togos → IsListWithin MAX_TOGOS IsAmountWithin (with_card draft kind row fields).togos
   togos-more ToGo known old = let fit = fits (seen_in draft) row fields ToGo known in list_more MAX_TOGOS IsAmountWithin draft.togos (money_of row fields) old (room_as ToGo row (length draft.togos) MAX_TOGOS (limit_of (version_of draft.project) ToGo) refl known.room) (amount_within row fields fit)
   togos-more other known old = old
 
-  statuses-more : (kind : Kind) → IsFaultless (seen_in draft) row fields kind → IsListWithin (by_version (version_of draft.project) 20000 MAX_STATUSES) IsAny draft.statuses → IsListWithin (by_version (version_of (with_card draft kind row fields).project) 20000 MAX_STATUSES) IsAny (with_card draft kind row fields).statuses
-  statuses-more Status known old = list_more (by_version (version_of draft.project) 20000 MAX_STATUSES) IsAny draft.statuses (status_of row fields) old (room_as Status row (length draft.statuses) (by_version (version_of draft.project) 20000 MAX_STATUSES) (limit_of (version_of draft.project) Status) refl known.room) (any_within (status_of row fields))
-  statuses-more Project known old = list_wider (by_version (version_of draft.project) 20000 MAX_STATUSES) (by_version (version_in (field_at fields 8)) 20000 MAX_STATUSES) IsAny draft.statuses (widened draft (version_in (field_at fields 8)) 20000 MAX_STATUSES (no_version draft.project known.once) (omega arith)) old
+  statuses-more : (kind : Kind) → IsFaultless (seen_in draft) row fields kind → IsListWithin (most_statuses (version_of draft.project)) IsAny draft.statuses → IsListWithin (most_statuses (version_of (with_card draft kind row fields).project)) IsAny (with_card draft kind row fields).statuses
+  statuses-more Status known old = list_more (most_statuses (version_of draft.project)) IsAny draft.statuses (status_of row fields) old (room_as Status row (length draft.statuses) (most_statuses (version_of draft.project)) (limit_of (version_of draft.project) Status) refl known.room) (any_within (status_of row fields))
+  statuses-more Project known old = list_wider (most_statuses (version_of draft.project)) (most_statuses (version_in (field_at fields 8))) IsAny draft.statuses (widened draft (version_in (field_at fields 8)) SMALL_STATUSES MAX_STATUSES (no_version draft.project known.once) (omega arith)) old
   statuses-more other known old = old
 
   resources-more : (kind : Kind) → IsFaultless (seen_in draft) row fields kind → IsNamedWithin (λ (card : ResCard). card.code) MAX_RESOURCES IsAny draft.resources → IsNamedWithin (λ (card : ResCard). card.code) MAX_RESOURCES IsAny (with_card draft kind row fields).resources
@@ -273,13 +271,13 @@ deck_by draft project as_of terms = record {
 pub deck_within : (draft : Draft) (project : ProjectCard) (as_of : Option AsOfCard) (terms : Option TermsCard) → draft.project ≡ Some project → terms ≡ draft.terms → IsDraftWithin draft → IsWithinLimits (deck_by draft project as_of terms)
 deck_within draft project as_of terms is same within = record {
   few_items = within.items.list.few;
-  few_events = omega (arith, within.events.list.few, largest (version_of draft.project) 5000 MAX_EVENTS (omega arith));
-  few_acts = omega (arith, within.acts.list.few, largest (version_of draft.project) 10000 MAX_ACTIVITIES (omega arith));
-  few_pieces = omega (arith, within.pieces.few, largest (version_of draft.project) 40000 MAX_PIECES (omega arith));
+  few_events = omega (arith, within.events.list.few, largest (version_of draft.project) SMALL_EVENTS MAX_EVENTS (omega arith));
+  few_acts = omega (arith, within.acts.list.few, largest (version_of draft.project) SMALL_ACTIVITIES MAX_ACTIVITIES (omega arith));
+  few_pieces = omega (arith, within.pieces.few, largest (version_of draft.project) SMALL_PIECES MAX_PIECES (omega arith));
   few_accounts = within.accounts.list.few;
-  few_charges = omega (arith, within.charges.few, largest (version_of draft.project) 200000 MAX_CHARGES (omega arith));
+  few_charges = omega (arith, within.charges.few, largest (version_of draft.project) SMALL_CHARGES MAX_CHARGES (omega arith));
   few_togos = within.togos.few;
-  few_statuses = omega (arith, within.statuses.few, largest (version_of draft.project) 20000 MAX_STATUSES (omega arith));
+  few_statuses = omega (arith, within.statuses.few, largest (version_of draft.project) SMALL_STATUSES MAX_STATUSES (omega arith));
   few_resources = within.resources.list.few;
   few_loads = within.loads.few;
   items_differ = within.items.differ;

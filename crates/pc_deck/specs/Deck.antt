@@ -1,5 +1,5 @@
 -- The cards of a deck, as lists in card order.
-use Rattle.std.specs.Prelude.{◌≢◌, ℕ, ◌<◌, nat_eq, List, [], length, map, position, slice_index_or, Option}
+use Rattle.std.specs.Prelude.{ℕ, nat_eq, List, map, position, Option}
 use Rattle.std.specs.Cmp.Lexicographic.{pointwise}
 use Rattle.pc_deck.specs.declared.kinds.project.ProjectCard.{ProjectCard}
 use Rattle.pc_deck.specs.declared.kinds.as_of.AsOfCard.{AsOfCard}
@@ -69,7 +69,3 @@ account_named deck code = position (pointwise nat_eq code) (account_codes deck)
 -- the number of the resource with a code, as that of an item
 abbrev pub resource_named : Deck → List ℕ → Option ℕ
 resource_named deck code = position (pointwise nat_eq code) (resource_codes deck)
-
--- no code stands at two places
-abbrev pub IsNamedOnce : List (List ℕ) → Type 0
-IsNamedOnce codes = (j k : ℕ) → j < k → k < length codes → slice_index_or codes j [] ≢ slice_index_or codes k []

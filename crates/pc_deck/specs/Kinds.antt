@@ -4,6 +4,7 @@ use Rattle.pc_model.specs.declared.limits.TheConstants.{MAX_ACCOUNTS, MAX_ACTIVI
 use Rattle.pc_faults.specs.Kinds.{word_of}
 use Rattle.pc_faults.specs.declared.kind.Kind.{Kind}
 use Rattle.pc_faults.specs.declared.kind.Kind.TheVariants.{Project, AsOf, Terms, Wbs, Event, Act, Piece, Acct, Charge, ToGo, Status, Res, Load, End}
+use Rattle.pc_deck.specs.declared.limits.TheConstants.{SMALL_ACTIVITIES, SMALL_CHARGES, SMALL_EVENTS, SMALL_PIECES, SMALL_STATUSES}
 use Rattle.pc_deck.specs.Forms.{Slot}
 use Rattle.pc_deck.specs.Project.{project_slots}
 use Rattle.pc_deck.specs.AsOf.{as_of_slots}
@@ -101,16 +102,32 @@ is_project other = false
 abbrev pub by_version : ℕ → ℕ → ℕ → ℕ
 by_version version small large = if version == 2 then large else small
 
+-- the limits that depend on the version
+abbrev pub most_events : ℕ → ℕ
+most_events version = by_version version SMALL_EVENTS MAX_EVENTS
+
+abbrev pub most_acts : ℕ → ℕ
+most_acts version = by_version version SMALL_ACTIVITIES MAX_ACTIVITIES
+
+abbrev pub most_pieces : ℕ → ℕ
+most_pieces version = by_version version SMALL_PIECES MAX_PIECES
+
+abbrev pub most_charges : ℕ → ℕ
+most_charges version = by_version version SMALL_CHARGES MAX_CHARGES
+
+abbrev pub most_statuses : ℕ → ℕ
+most_statuses version = by_version version SMALL_STATUSES MAX_STATUSES
+
 -- how many cards of the kind a deck of the version may have, where that is a limit of its own
 abbrev pub limit_of : ℕ → Kind → Option ℕ
 limit_of version Wbs = Some MAX_ITEMS
-limit_of version Event = Some (by_version version 5000 MAX_EVENTS)
-limit_of version Act = Some (by_version version 10000 MAX_ACTIVITIES)
-limit_of version Piece = Some (by_version version 40000 MAX_PIECES)
+limit_of version Event = Some (most_events version)
+limit_of version Act = Some (most_acts version)
+limit_of version Piece = Some (most_pieces version)
 limit_of version Acct = Some MAX_ACCOUNTS
-limit_of version Charge = Some (by_version version 200000 MAX_CHARGES)
+limit_of version Charge = Some (most_charges version)
 limit_of version ToGo = Some MAX_TOGOS
-limit_of version Status = Some (by_version version 20000 MAX_STATUSES)
+limit_of version Status = Some (most_statuses version)
 limit_of version Res = Some MAX_RESOURCES
 limit_of version Load = Some MAX_LOADS
 limit_of version other = None

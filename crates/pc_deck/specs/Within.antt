@@ -1,9 +1,10 @@
 -- What holds of every deck that was read.
-use Rattle.std.specs.Prelude.{ℕ, ◌≤◌, ◌==◌, List, length, map, All, if◌then◌else◌}
+use Rattle.std.specs.Prelude.{ℕ, ◌≤◌, List, length, map, All}
 use Rattle.std.specs.Option.{ForSome}
+use Rattle.pc_model.specs.Codes.{IsNamedOnce}
 use Rattle.pc_model.specs.declared.limits.TheConstants.{MAX_ACCOUNTS, MAX_ACTIVITIES, MAX_CHARGES, MAX_EVENTS, MAX_ITEMS, MAX_LOADS, MAX_PIECES, MAX_RESOURCES, MAX_STATUSES, MAX_TOGOS}
-use Rattle.pc_deck.specs.Kinds.{by_version}
-use Rattle.pc_deck.specs.Deck.{Deck, item_codes, event_codes, act_codes, account_codes, resource_codes, IsNamedOnce}
+use Rattle.pc_deck.specs.Kinds.{most_acts, most_charges, most_events, most_pieces, most_statuses}
+use Rattle.pc_deck.specs.Deck.{Deck, item_codes, event_codes, act_codes, account_codes, resource_codes}
 use Rattle.pc_deck.specs.Project.{IsProjectWithin}
 use Rattle.pc_deck.specs.Terms.{AreTermsWithin}
 use Rattle.pc_deck.specs.Act.{IsActWithin}
@@ -65,12 +66,12 @@ pub record IsDraftWithin (draft : Draft) : Type 0 where
   pub project : ForSome draft.project IsProjectWithin
   pub terms : ForSome draft.terms AreTermsWithin
   pub items : IsNamedWithin (λ (item : ItemCard). item.code) MAX_ITEMS IsAny draft.items
-  pub events : IsNamedWithin (λ (event : EventCard). event.code) (by_version (version_of draft.project) 5000 MAX_EVENTS) IsAny draft.events
-  pub acts : IsNamedWithin (λ (act : ActCard). act.code) (by_version (version_of draft.project) 10000 MAX_ACTIVITIES) IsActWithin draft.acts
-  pub pieces : IsListWithin (by_version (version_of draft.project) 40000 MAX_PIECES) IsPieceWithin draft.pieces
+  pub events : IsNamedWithin (λ (event : EventCard). event.code) (most_events (version_of draft.project)) IsAny draft.events
+  pub acts : IsNamedWithin (λ (act : ActCard). act.code) (most_acts (version_of draft.project)) IsActWithin draft.acts
+  pub pieces : IsListWithin (most_pieces (version_of draft.project)) IsPieceWithin draft.pieces
   pub accounts : IsNamedWithin (λ (account : AcctCard). account.code) MAX_ACCOUNTS IsBudgetWithin draft.accounts
-  pub charges : IsListWithin (by_version (version_of draft.project) 200000 MAX_CHARGES) IsAmountWithin draft.charges
+  pub charges : IsListWithin (most_charges (version_of draft.project)) IsAmountWithin draft.charges
   pub togos : IsListWithin MAX_TOGOS IsAmountWithin draft.togos
-  pub statuses : IsListWithin (by_version (version_of draft.project) 20000 MAX_STATUSES) IsAny draft.statuses
+  pub statuses : IsListWithin (most_statuses (version_of draft.project)) IsAny draft.statuses
   pub resources : IsNamedWithin (λ (resource : ResCard). resource.code) MAX_RESOURCES IsAny draft.resources
   pub loads : IsListWithin MAX_LOADS IsLoadWithin draft.loads

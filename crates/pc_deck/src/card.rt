@@ -1,9 +1,9 @@
 //! What each kind of card has: how its fields are read, and what they must be.
-ghost use Rattle.std.specs.Prelude.{◌≡◌, ℕ, List, IfOk, OnOk, OnErr};
+ghost use Rattle.std.specs.Prelude.{◌≡◌, ℕ, List, IfOk, OnOk, IfErr};
 ghost use Rattle.pc_records.specs.Deck.{field_at};
-ghost use Rattle.pc_deck.specs.Forms.{AllFit, Slot};
+ghost use Rattle.pc_deck.specs.Forms.{AllFit, IsFirstMisfit, Slot};
 
-use crate::field::Flaw;
+use crate::field::Misfit;
 use crate::form::Slot;
 use pc_records::Row;
 use pc_text::Code;
@@ -30,11 +30,11 @@ pub trait Card: Copy {
     fn width() -> usize
         ensures { result ≡ most };
 
-    /// The card that a record spells, or what is wrong with the first of its fields that is not what it must be.
-    fn read(row: u32, fields: &Row) -> Result<Self, Flaw>
+    /// The card that a record spells, or the first of its fields that is not what it must be.
+    fn read(row: u32, fields: &Row) -> Result<Self, Misfit>
         ensures card { IfOk result (λ card. card ≡ spelled row fields.now) }
         ensures fit { OnOk result (AllFit slots fields.now) }
-        ensures unfit { OnErr result (AllFit slots fields.now → ⊥) };
+        ensures misfit { IfErr result (IsFirstMisfit slots fields.now) };
 }
 
 /// A card with a code of its own, which stands in its second field.

@@ -1,14 +1,13 @@
 //! What one field of a card must be, and what is wrong with fields that are not.
-ghost use Rattle.std.specs.Prelude.{◌≡◌, option_copied};
-ghost use Rattle.pc_deck.specs.Forms.{field_numbered, first_misshapen, first_over_limit, has_shape, is_over_limit};
+ghost use Rattle.std.specs.Prelude.{◌≡◌, not, option_copied, IfSome, IfNone};
+ghost use Rattle.pc_deck.specs.Forms.{Fits, IsMisfit, field_numbered, first_misshapen, has_shape, slots_behind};
 
-use pc_days::{DayError, read_day};
+use crate::field::{
+    Misfit, read_amount, read_amount_or_none, read_code, read_code_or_none, read_date, read_letter,
+    read_title,
+};
 use pc_model::{MAX_COST, MAX_DURATION};
 use pc_records::Row;
-use pc_text::{is_code, is_title_shape, read_number};
-
-/// The most bytes of a title.
-const TITLE_LIMIT: usize = 80;
 
 /// An estimate or a duration, in units.
 pub const DURATION: Form = Form::Number {
@@ -40,56 +39,51 @@ pub enum Form {
 /// The number of a field, the kind being field 1, and what the field must be.
 pub type Slot = (u8, Form);
 
-impl Form {
-    /// Whether the field has the shape of what it must be.
-    pub fn has_shape(self, field: &[u8]) -> bool
-        ensures { result ≡ has_shape self field.now }
-    {
-        match self {
-            Form::Code => is_code(field),
-            Form::CodeOrNone => field.is_empty() || is_code(field),
-            Form::Title => is_title_shape(field),
-            Form::Date => read_day(field) != Err(DayError::Shape),
-            Form::Number { .. } => read_number(field).is_some(),
-            Form::NumberOrNone { .. } => field.is_empty() || read_number(field).is_some(),
-            Form::Letter => field == b"S".as_slice() || field == b"F".as_slice(),
+/// What is wrong with the field of a slot, if anything is.
+fn misfit_of(slot: &Slot, fields: &Row) -> Option<Misfit>
+    ensures misfit { IfSome result (IsMisfit slot.now.0 slot.now.1 (field_numbered fields.now slot.now.0)) }
+    ensures fit { IfNone result (Fits slot.now.1 (field_numbered fields.now slot.now.0)) }
+{
+    let number = slot.0;
+    match slot.1 {
+        Form::Code => read_code(fields, number).err(),
+        Form::CodeOrNone => read_code_or_none(fields, number).err(),
+        Form::Title => read_title(fields, number).err(),
+        Form::Date => read_date(fields, number).err(),
+        Form::Number { least, most } => read_amount(fields, number, least, most).err(),
+        Form::NumberOrNone { least, most } => {
+            read_amount_or_none(fields, number, least, most).err()
         }
-    }
-
-    /// Whether the field has that shape and is over its limit.
-    pub fn is_over_limit(self, field: &[u8]) -> bool
-        ensures { result ≡ is_over_limit self field.now }
-    {
-        match self {
-            Form::Code | Form::CodeOrNone | Form::Letter => false,
-            Form::Title => field.len() > TITLE_LIMIT,
-            Form::Date => read_day(field) == Err(DayError::Years),
-            Form::Number { least, most } | Form::NumberOrNone { least, most } => {
-                read_number(field).is_some_and(|number| number < least || most < number)
-            }
-        }
+        Form::Letter => read_letter(fields, number).err(),
     }
 }
 
-/// The field with a number, counted from 1.
-fn field_numbered<'a>(fields: &'a Row, number: u8) -> &'a [u8]
-    ensures { result.now ≡ field_numbered fields.now number }
+/// Whether the field of a slot has not the shape of what it must be.
+#[tactic(auto, using(crate::proofs::MisfitLemmas::shape_told))]
+fn is_misshapen(slot: &Slot, fields: &Row) -> bool
+    ensures { result ≡ not (has_shape slot.now.1 (field_numbered fields.now slot.now.0)) }
 {
-    fields.field(usize::from(number).saturating_sub(1))
+    match misfit_of(slot, fields) {
+        Some(misfit) => misfit.flaw.is_of_shape(),
+        None => false,
+    }
 }
 
 /// The first field that has not the shape of what it must be.
 pub fn first_misshapen<'s>(slots: &'s [Slot], fields: &Row) -> Option<&'s Slot>
     ensures { option_copied result ≡ first_misshapen slots.now fields.now }
 {
-    slots
-        .iter()
-        .find(|slot| !slot.1.has_shape(field_numbered(fields, slot.0)))
+    slots.iter().find(|slot| is_misshapen(*slot, fields))
 }
 
-/// The first field that is over its limit.
-pub fn first_over_limit<'s>(slots: &'s [Slot], fields: &Row) -> Option<&'s Slot>
-    ensures { option_copied result ≡ first_over_limit slots.now fields.now }
+/// The slots behind the first with a number.
+pub fn slots_behind(number: u8, slots: &[Slot]) -> &[Slot]
+    ensures { result.now ≡ slots_behind number slots.now }
 {
-    slots.iter().find(|slot| slot.1.is_over_limit(field_numbered(fields, slot.0)))
+    for (i, slot) in slots.iter().enumerate() {
+        if slot.0 == number {
+            return &slots[i + 1..];
+        }
+    }
+    &[]
 }

@@ -1,17 +1,16 @@
 //! Reading the card of a record, or the fault of its fields.
 ghost use Rattle.std.specs.Prelude.{◌≡◌, ℕ, List, None, Some, IfOk, OnOk, IfErr};
-ghost use Rattle.pc_deck.specs.Forms.{AllFit, Slot};
+ghost use Rattle.pc_deck.specs.Forms.{AllFit, IsFirstMisfit, Slot};
 ghost use Rattle.pc_deck.specs.Judged.{flaw_of_fields, or_else, wrong_fields};
 
 use crate::card::Card;
-use crate::form::{Slot, first_misshapen, first_over_limit};
+use crate::field::{Flaw, Misfit};
+use crate::form::{Slot, first_misshapen, slots_behind};
 use crate::place::Place;
 use pc_faults::Fault;
 use pc_records::Row;
 
-/// The card that a record spells, or the fault of its fields (F6 to F8).
-///
-/// Each field is read once. Only where one is not what it must be are they tried again, for the fault that comes first.
+/// The card that a record spells, or the fault of its fields (F6 to F8). Each field is read once.
 #[tactic(auto, using(crate::proofs::FindLemmas::no_flaw))]
 pub fn read_card<C: Card>(place: &Place, fields: &Row) -> Result<C, Fault>
     ensures card { IfOk result (λ card. card ≡ C.spelled place.now.row fields.now) }
@@ -24,7 +23,7 @@ pub fn read_card<C: Card>(place: &Place, fields: &Row) -> Result<C, Fault>
     }
     match C::read(place.row, fields) {
         Ok(card) => Ok(card),
-        Err(_) => Err(flaw_of_fields(place.row, C::slots(), fields)),
+        Err(misfit) => Err(fault_of_misfit(place.row, misfit, C::slots(), fields)),
     }
 }
 
@@ -42,16 +41,17 @@ pub fn wrong_fields(place: &Place, least: usize, most: usize, fields: &Row) -> O
     None
 }
 
-/// The fault of the first field of a wrong shape (F7), or else of the first over its limit (F8).
-fn flaw_of_fields(row: u32, slots: &[Slot], fields: &Row) -> Fault
-    requires { AllFit slots.now fields.now → ⊥ }
+/// The fault of a card, of whose fields this is the first that is not what it must be. A wrong shape (F7) goes before a
+/// limit (F8), also where the field of a wrong shape stands behind the other: only the fields behind are still to be read.
+fn fault_of_misfit(row: u32, misfit: Misfit, slots: &[Slot], fields: &Row) -> Fault
+    requires { IsFirstMisfit slots.now fields.now misfit }
     ensures { flaw_of_fields row slots.now fields.now ≡ Some result }
 {
-    if let Some(slot) = first_misshapen(slots, fields) {
-        return Fault::misshapen(row, slot.0);
-    }
-    match first_over_limit(slots, fields) {
-        Some(slot) => Fault::over_limit(row, slot.0),
-        None => unreachable!(),
+    match misfit.flaw {
+        Flaw::Shape => Fault::misshapen(row, misfit.number),
+        Flaw::Limit => match first_misshapen(slots_behind(misfit.number, slots), fields) {
+            Some(slot) => Fault::misshapen(row, slot.0),
+            None => Fault::over_limit(row, misfit.number),
+        },
     }
 }

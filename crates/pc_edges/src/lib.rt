@@ -20,7 +20,7 @@ mod tests;
 mod write_sink;
 
 pub use file_source::FileSource;
-pub use loading::{LoadError, load};
+pub use loading::{LoadError, STREAM_ROOM, load};
 pub use mem_sink::MemSink;
 pub use mem_source::MemSource;
 pub use pushing::push_all;

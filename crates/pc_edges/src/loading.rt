@@ -19,8 +19,8 @@ pub enum LoadError {
     OutOfMemory,
 }
 
-/// How many bytes a pull is offered room for.
-const PULL: usize = 65536;
+/// How many bytes a buffer between a stream and the program has room for: what one pull or one push moves at the most.
+pub const STREAM_ROOM: usize = 65_536;
 
 /// All bytes of `source` up to its end, where there are at most `limit`.
 ///
@@ -39,7 +39,7 @@ pub fn load<S: Source>(alloc: Global, source: &mut S, limit: usize) -> Result<Ve
     ensures count { S.faults source.old ≤ S.faults source.new }
     ensures turns { TakesPulls (limit + 2) (S.pulls source.old) (S.pulls source.new) }
 {
-    let mut buffer = vec![in alloc; 0u8; PULL].map_err(|_| LoadError::OutOfMemory)?;
+    let mut buffer = vec![in alloc; 0u8; STREAM_ROOM].map_err(|_| LoadError::OutOfMemory)?;
     load_by(alloc, source, limit, buffer.as_mut_slice())
 }
 

@@ -5,19 +5,19 @@ use Rattle.std.proofs.lemmas.List.{length_push}
 use Rattle.std.proofs.Math.Seq.{take-length}
 use Rattle.std.proofs.lemmas.List.Sums.{sum_by_push, sum_by_more, fold_more}
 use Rattle.pc_wbs.specs.declared.row.ItemRow.{ItemRow}
-use Rattle.pc_wbs.specs.Climb.{AreInRange, IsBelow, IsOnlyTop, IsTop, IsTree}
-use Rattle.pc_wbs.proofs.OrderLaws.{IsBelow-top}
+use Rattle.pc_wbs.specs.Climb.{AreInRange, IsBelow, IsTree}
 use Rattle.pc_accounts.specs.declared.rows.AcctRow.{AcctRow}
 use Rattle.pc_accounts.specs.Amounts.{item_of}
 use Rattle.pc_rollup.specs.declared.totals.Placed.{Placed}
 use Rattle.pc_rollup.specs.declared.levels.LevelLine.{LevelLine}
-use Rattle.pc_rollup.specs.Lines.{line_at, sum_of}
+use Rattle.pc_rollup.specs.Lines.{line_at, AreLevelLines, sum_of}
 use Rattle.pc_rollup.specs.Sums.{IsSumOver}
 use Rattle.pc_rollup.specs.Totals.{amount_at, placed_at, place_of, amount_of, AreTotalsOf}
 use Rattle.pc_rollup.proofs.SumLaws.{IsSumOver-same, unsigned_abs-add}
-use Rattle.pc_figures.specs.Columns.{AreOnTree, AreItemSums, Column, IsColumn, IsLevelSum, IsTotal, IsWhole}
+use Rattle.pc_rollup.proofs.WholeLaws.{lines_sum}
+use Rattle.pc_figures.specs.Columns.{AreOnTree, AreItemSums, Column, IsColumn, IsLevelSum, AreLevelSums, IsTotal, IsWhole, AddUpTo}
 use Rattle.pc_figures.proofs.PushLaws.{each_more}
-use Rattle.pc_figures.specs.ColumnParts.{ArePlaced, HaveOneSum}
+use Rattle.pc_figures.specs.ColumnParts.{ArePlaced}
 
 -- sums of functions that agree
 pub IsSumOver-alike : (P : ℕ → Type 0) (n : ℕ) (f g : ℕ → ℤ) (t : ℤ) → ((x : ℕ) → x < n → f x ≡ g x) → IsSumOver P n f t → IsSumOver P n g t
@@ -66,19 +66,25 @@ item_sum_bound tree accounts amounts totals y one_each sums lt =
     let whole : take (length accounts) amounts ≡ amounts = ap (λ (k : ℕ). take k amounts) (sym one_each) ∙ take-length amounts in
     omega (arith, sum_bound (λ a. IsBelow tree (item_of accounts a) y) amounts (length accounts) (amount_at totals y) (omega arith) (sums.each y lt), ap (sum_by unsigned_abs) whole)
 
--- every account stands below the top, so that the top has the sum of all
-pub top_is_total : (tree : List ItemRow) (accounts : List AcctRow) (amount : ℕ → ℤ) (totals : List ℤ) (top : ℕ) → AreInRange tree → IsTree tree → IsOnlyTop tree top → AreOnTree tree accounts → AreItemSums tree accounts amount totals → IsTotal accounts amount (amount_at totals top)
-top_is_total tree accounts amount totals top ranged sound only on_tree sums =
-    IsSumOver-same (λ a. IsBelow tree (item_of accounts a) top) (λ a. a < length accounts) (length accounts) amount (amount_at totals top)
-    (λ a h below. h)
-    (λ a h lt. IsBelow-top tree top (item_of accounts a) ranged sound only (on_tree.known a h))
-    (sums.each top only.is_top.0)
+-- the lines of a level have what all accounts have, each account once
+pub lines_are_whole : (tree : List ItemRow) (accounts : List AcctRow) (amount : ℕ → ℤ) (totals : List ℤ) (level : ℕ) (lines : List LevelLine) → AreInRange tree → IsTree tree → AreOnTree tree accounts → AreItemSums tree accounts amount totals → 1 ≤ level → AreLevelLines tree level totals lines → IsTotal accounts amount (sum_of lines)
+lines_are_whole tree accounts amount totals level lines ranged sound on_tree sums some (order, (preorder, are)) =
+    lines_sum tree order level (λ a. a < length accounts) (item_of accounts) (length accounts) amount totals lines (record {
+      ranged = ranged;
+      tree = sound;
+      preorder = preorder;
+      some = some;
+      known = λ a h lt. on_tree.known a h;
+      leaves = λ a h lt. on_tree.leaves a h;
+      summed = λ y lt. IsSumOver-same (λ a. IsBelow tree (item_of accounts a) y) (λ a. (a < length accounts) × IsBelow tree (item_of accounts a) y) (length accounts) amount (amount_at totals y) (λ a h below. (h, below)) (λ a h (known, below). below) (sums.each y lt);
+      lines = are;
+    })
 
 -- so has each level
-pub levels_are_whole : (tree : List ItemRow) (accounts : List AcctRow) (amount : ℕ → ℤ) (totals levels : List ℤ) → AreInRange tree → IsTree tree → AreOnTree tree accounts → AreItemSums tree accounts amount totals → HaveOneSum tree totals levels → (k : ℕ) → k < length levels → IsTotal accounts amount (amount_at levels k)
-levels_are_whole tree accounts amount totals levels ranged sound on_tree sums one k lt =
-    let (top, only) = sound.top in
-    subst (λ (z : ℤ). IsTotal accounts amount z) (sym (one k top lt only.is_top)) (top_is_total tree accounts amount totals top ranged sound only on_tree sums)
+pub levels_are_whole : (tree : List ItemRow) (accounts : List AcctRow) (amount : ℕ → ℤ) (totals levels : List ℤ) → AreInRange tree → IsTree tree → AreOnTree tree accounts → AreItemSums tree accounts amount totals → AreLevelSums tree totals levels → (k : ℕ) → k < length levels → IsTotal accounts amount (amount_at levels k)
+levels_are_whole tree accounts amount totals levels ranged sound on_tree sums are k lt =
+    let (lines, (its, e)) = are.each k lt in
+    subst (λ (z : ℤ). IsTotal accounts amount z) (sym e) (lines_are_whole tree accounts amount totals (k + 1) lines ranged sound on_tree sums (omega arith) its)
 
 -- the amounts of the first n accounts on their items
 pub record ArePlacedTo (accounts : List AcctRow) (amounts : List ℤ) (n : ℕ) (placed : List Placed) : Type 0 where
@@ -100,15 +106,13 @@ placed_more accounts amounts n placed more next so_far within pushed is =
 pub record AreSumsTo (tree : List ItemRow) (totals : List ℤ) (n : ℕ) (sums : List ℤ) : Type 0 where
   pub one_each : length sums ≡ n
   pub each : (k : ℕ) → k < n → IsLevelSum tree totals (k + 1) (amount_at sums k)
-  pub whole : (k : ℕ) → k < n → (top : ℕ) → IsTop tree top → amount_at sums k ≡ amount_at totals top
 
 -- one level more
-pub sums_more : (tree : List ItemRow) (totals : List ℤ) (n : ℕ) (sums more : List ℤ) (next : ℤ) → AreSumsTo tree totals n sums → more ≡ sums ++ next ∷ [] → IsLevelSum tree totals (n + 1) next → ((top : ℕ) → IsTop tree top → next ≡ amount_at totals top) → AreSumsTo tree totals (n + 1) more
-sums_more tree totals n sums more next so_far pushed is whole =
+pub sums_more : (tree : List ItemRow) (totals : List ℤ) (n : ℕ) (sums more : List ℤ) (next : ℤ) → AreSumsTo tree totals n sums → more ≡ sums ++ next ∷ [] → IsLevelSum tree totals (n + 1) next → AreSumsTo tree totals (n + 1) more
+sums_more tree totals n sums more next so_far pushed is =
     subst (AreSumsTo tree totals (n + 1)) (sym pushed) (record {
       one_each = omega (arith, length_push sums next, so_far.one_each);
       each = each_more (λ k z. IsLevelSum tree totals (k + 1) z) sums next (pos 0) n so_far.one_each so_far.each is;
-      whole = each_more (λ k z. (top : ℕ) → IsTop tree top → z ≡ amount_at totals top) sums next (pos 0) n so_far.one_each so_far.whole whole;
     })
 
 -- the sum of the lines so far and the next one
@@ -120,7 +124,8 @@ pub column_alike : (tree : List ItemRow) (accounts : List AcctRow) (f g : ℕ �
 column_alike tree accounts f g column same is =
     record { items = item_sums_alike tree accounts f g column.items same is.items; levels = is.levels }
 
--- and so is what its levels have
-pub whole_alike : (accounts : List AcctRow) (f g : ℕ → ℤ) (column : Column) → ((a : ℕ) → a < length accounts → f a ≡ g a) → IsWhole accounts f column → IsWhole accounts g column
-whole_alike accounts f g column same is =
-    λ k lt. IsSumOver-alike (λ a. a < length accounts) (length accounts) f g (amount_at column.levels k) same (is k lt)
+-- where all accounts together have a sum, the lines of each level add up to it
+pub adds_up : (tree : List ItemRow) (accounts : List AcctRow) (f g : ℕ → ℤ) (sum : ℤ) (column : Column) → ((a : ℕ) → a < length accounts → f a ≡ g a) → ((t : ℤ) → IsTotal accounts g t → t ≡ sum) → IsColumn tree accounts f column → IsWhole accounts f column → AddUpTo tree sum column
+adds_up tree accounts f g sum column same total is whole = λ k lt.
+    let e = total (amount_at column.levels k) (IsSumOver-alike (λ a. a < length accounts) (length accounts) f g (amount_at column.levels k) same (whole k lt)) in
+    (subst (λ (z : ℤ). IsLevelSum tree column.items (k + 1) z) e (is.levels.each k lt), e)

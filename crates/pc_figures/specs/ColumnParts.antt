@@ -1,7 +1,5 @@
 -- What a column is made from.
 use Rattle.std.specs.Prelude.{◌≡◌, ℕ, ◌<◌, ℤ, List, length}
-use Rattle.pc_wbs.specs.declared.row.ItemRow.{ItemRow}
-use Rattle.pc_wbs.specs.Climb.{IsTop}
 use Rattle.pc_accounts.specs.declared.rows.AcctRow.{AcctRow}
 use Rattle.pc_accounts.specs.Amounts.{item_of}
 use Rattle.pc_rollup.specs.declared.totals.Placed.{Placed}
@@ -11,8 +9,3 @@ use Rattle.pc_rollup.specs.Totals.{amount_at, placed_at}
 pub record ArePlaced (accounts : List AcctRow) (amounts : List ℤ) (n : ℕ) (placed : List Placed) : Type 0 where
   pub one_each : length placed ≡ n
   pub each : (a : ℕ) → a < n → placed_at placed a ≡ record { item = item_of accounts a; amount = amount_at amounts a }
-
--- each of the sums is the total of the top
-abbrev pub HaveOneSum : List ItemRow → List ℤ → List ℤ → Type 0
-HaveOneSum tree totals sums =
-    (k top : ℕ) → k < length sums → IsTop tree top → amount_at sums k ≡ amount_at totals top

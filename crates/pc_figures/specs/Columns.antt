@@ -54,6 +54,11 @@ abbrev pub IsWhole : List AcctRow → (ℕ → ℤ) → Column → Type 0
 IsWhole accounts amount column =
     (k : ℕ) → k < length column.levels → IsTotal accounts amount (amount_at column.levels k)
 
+-- at each level the lines add up to this sum, and it is what the level has
+abbrev pub AddUpTo : List ItemRow → ℤ → Column → Type 0
+AddUpTo tree sum column =
+    (k : ℕ) → k < length column.levels → IsLevelSum tree column.items (k + 1) sum × (amount_at column.levels k ≡ sum)
+
 -- at each level each account is below one line and no other
 abbrev pub HaveOneLine : List ItemRow → List AcctRow → Type 0
 HaveOneLine tree accounts =

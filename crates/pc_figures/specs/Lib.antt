@@ -6,3 +6,5 @@ pub mod Summary
 pub mod Packages
 pub mod Worth
 pub mod Slacks
+pub mod Outlook
+pub mod OutlookParts

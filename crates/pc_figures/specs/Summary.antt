@@ -1,14 +1,17 @@
 -- What the management summary tells.
-use Rattle.std.specs.Prelude.{ℕ, List}
+use Rattle.std.specs.Prelude.{ℕ, ℤ, List, length}
 use Rattle.pc_wbs.specs.declared.row.ItemRow.{ItemRow}
+use Rattle.pc_wbs.specs.Climb.{AreInRange, IsTree}
 use Rattle.pc_accounts.specs.declared.rows.AcctRow.{AcctRow}
+use Rattle.pc_accounts.specs.declared.rows.MoneyRow.{MoneyRow}
 use Rattle.pc_accounts.specs.declared.entry.Entry.{Entry}
+use Rattle.pc_accounts.specs.Amounts.{AreMoney, AreEntriesOf}
 use Rattle.pc_figures.specs.declared.outline.OutlineRow.{OutlineRow}
 use Rattle.pc_rollup.specs.Totals.{amount_at}
 use Rattle.pc_figures.specs.declared.summary.SummaryAmounts.{SummaryAmounts}
 use Rattle.pc_figures.specs.declared.figures.Figure.TheVariants.{Budget, Actual, ToGo, Latest, Overrun}
-use Rattle.pc_figures.specs.Columns.{Column, IsColumn, IsWhole, HaveOneLine}
-use Rattle.pc_figures.specs.Figures.{figure_at}
+use Rattle.pc_figures.specs.Columns.{Column, AreOnTree, IsColumn, AddUpTo, HaveOneLine}
+use Rattle.pc_figures.specs.Figures.{figure_of, figure_at}
 use Rattle.pc_figures.specs.Outline.{IsOutline}
 
 -- the items in preorder, and each amount by item and by level
@@ -29,15 +32,22 @@ pub record IsSummaryOf (tree : List ItemRow) (accounts : List AcctRow) (entries 
   pub latest : IsColumn tree accounts (figure_at Latest entries) summary.latest
   pub overrun : IsColumn tree accounts (figure_at Overrun entries) summary.overrun
 
--- at each level each account is below exactly one line, so the lines of a level sum to what all accounts have, and each
--- charge up to as-of counts once
-pub record CountsOnce (tree : List ItemRow) (accounts : List AcctRow) (entries : List Entry) (summary : Summary) : Type 0 where
+-- at each level each account is below exactly one line, and the lines add up to what the whole has
+pub record CountsOnce (tree : List ItemRow) (accounts : List AcctRow) (whole : Entry) (summary : Summary) : Type 0 where
   pub one_line : HaveOneLine tree accounts
-  pub budget : IsWhole accounts (figure_at Budget entries) summary.budget
-  pub actual : IsWhole accounts (figure_at Actual entries) summary.actual
-  pub to_go : IsWhole accounts (figure_at ToGo entries) summary.to_go
-  pub latest : IsWhole accounts (figure_at Latest entries) summary.latest
-  pub overrun : IsWhole accounts (figure_at Overrun entries) summary.overrun
+  pub budget : AddUpTo tree (figure_of Budget whole) summary.budget
+  pub actual : AddUpTo tree (figure_of Actual whole) summary.actual
+  pub to_go : AddUpTo tree (figure_of ToGo whole) summary.to_go
+  pub latest : AddUpTo tree (figure_of Latest whole) summary.latest
+  pub overrun : AddUpTo tree (figure_of Overrun whole) summary.overrun
+
+-- the accounts stand on the leaves of a tree, and the entries are what charges and amounts to go make of them at as-of
+pub record AreBooked (tree : List ItemRow) (accounts : List AcctRow) (charges togos : List MoneyRow) (as_of : ℤ) (entries : List Entry) : Type 0 where
+  pub ranged : AreInRange tree
+  pub sound : IsTree tree
+  pub on_tree : AreOnTree tree accounts
+  pub known : AreMoney (length accounts) charges
+  pub are : AreEntriesOf accounts charges togos as_of entries
 
 -- the amounts of item x
 abbrev pub item_amounts : Summary → ℕ → SummaryAmounts

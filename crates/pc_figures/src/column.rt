@@ -5,7 +5,7 @@ ghost use Rattle.pc_wbs.specs.Climb.{AreInRange, IsTree};
 ghost use Rattle.pc_rollup.specs.Lines.{sum_of};
 ghost use Rattle.pc_rollup.specs.Totals.{amount_at, IsRolledUp};
 ghost use Rattle.pc_figures.specs.Columns.{AreOnTree, AreItemSums, AreLevelSums, IsColumn, IsWhole};
-ghost use Rattle.pc_figures.specs.ColumnParts.{ArePlaced, HaveOneSum};
+ghost use Rattle.pc_figures.specs.ColumnParts.{ArePlaced};
 
 use pc_accounts::AcctRow;
 use pc_rollup::{LevelLine, Placed, level_lines, totals_of};
@@ -111,8 +111,7 @@ fn level_sums(alloc: Global, tree: &Tree, totals: &[i64]) -> Result<Vec<i64>, Al
     requires one_each { length totals.now ≡ length tree.now }
     requires fits { (y : ℕ) → y < length tree.now → FitsSigned w64 (amount_at totals.now y) }
     requires rolled { IsRolledUp tree.now totals.now }
-    ensures sums { IfOk result (λ sums. AreLevelSums tree.now totals.now sums.items) }
-    ensures whole { IfOk result (λ sums. HaveOneSum tree.now totals.now sums.items) }
+    ensures { IfOk result (λ sums. AreLevelSums tree.now totals.now sums.items) }
 {
     let depth = tree.depth();
     let mut sums = Vec::with_capacity(alloc, depth as usize)?;

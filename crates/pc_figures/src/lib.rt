@@ -5,12 +5,15 @@
 mod column;
 mod figures;
 mod outline;
+mod outlook;
+mod outlook_parts;
 mod packages;
 mod slacks;
 mod summary;
 mod worth;
 
 pub use outline::{OutlineRow, outline_of};
+pub use outlook::{Outlook, OutlookAmounts};
 pub use slacks::least_slacks;
 pub use summary::{Summary, SummaryAmounts};
 pub use worth::{Worth, WorthAmounts};

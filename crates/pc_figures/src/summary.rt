@@ -1,12 +1,19 @@
 //! What the management summary tells.
-ghost use Rattle.std.specs.Prelude.{◌≡◌, ◌+◌, ◌<◌, ◌^◌, length, IfOk};
+ghost use Rattle.std.specs.Prelude.{◌≡◌, ℕ, ◌+◌, ◌<◌, ◌≤◌, ◌^◌, ℤ, pos, List, length, IfOk};
+ghost use Rattle.pc_wbs.specs.declared.row.ItemRow.{ItemRow};
 ghost use Rattle.pc_wbs.specs.Climb.{AreInRange, IsTree};
-ghost use Rattle.pc_accounts.specs.Entries.{AreSmall};
-ghost use Rattle.pc_rollup.specs.Totals.{amount_at};
-ghost use Rattle.pc_figures.specs.Columns.{AreOnTree, IsColumn, IsWhole};
-ghost use Rattle.pc_figures.specs.Figures.{figure_at};
+ghost use Rattle.pc_accounts.specs.declared.rows.AcctRow.{AcctRow};
+ghost use Rattle.pc_accounts.specs.declared.rows.MoneyRow.{MoneyRow};
+ghost use Rattle.pc_accounts.specs.declared.entry.Entry.{Entry};
+ghost use Rattle.pc_accounts.specs.Amounts.{all_charged};
+ghost use Rattle.pc_accounts.specs.Entries.{AreSmall, entry_of_all};
+ghost use Rattle.pc_rollup.specs.declared.levels.LevelLine.{LevelLine};
+ghost use Rattle.pc_rollup.specs.Lines.{AreLevelLines, sum_of};
+ghost use Rattle.pc_figures.specs.declared.figures.Figure.TheVariants.{Actual};
+ghost use Rattle.pc_figures.specs.Columns.{AreOnTree, AreItemSums, IsColumn, AddUpTo};
+ghost use Rattle.pc_figures.specs.Figures.{figure_of, figure_at};
 ghost use Rattle.pc_figures.specs.Outline.{row_at};
-ghost use Rattle.pc_figures.specs.Summary.{IsSummaryOf, CountsOnce, item_amounts, level_amounts};
+ghost use Rattle.pc_figures.specs.Summary.{IsSummaryOf, AreBooked, CountsOnce, item_amounts, level_amounts};
 
 use crate::column::Column;
 use crate::figures::{Figure, figures};
@@ -66,7 +73,7 @@ impl Summary {
         requires one_each { length entries.now ≡ length accounts.now }
         requires small { AreSmall entries.now }
         ensures summary { IfOk result (IsSummaryOf tree.now accounts.now entries.now) }
-        ensures once { IfOk result (CountsOnce tree.now accounts.now entries.now) }
+        ensures once { IfOk result (CountsOnce tree.now accounts.now (entry_of_all entries.now)) }
     {
         each_leaf_has_one_line();
         Ok(Summary {
@@ -153,8 +160,18 @@ fn column_of(
     requires one_each { length entries.now ≡ length accounts.now }
     requires small { AreSmall entries.now }
     ensures column { IfOk result (IsColumn tree.now accounts.now (figure_at figure entries.now)) }
-    ensures whole { IfOk result (IsWhole accounts.now (figure_at figure entries.now)) }
+    ensures whole { IfOk result (AddUpTo tree.now (figure_of figure (entry_of_all entries.now))) }
 {
     let amounts = figures(alloc, entries, figure)?;
     Column::of(alloc, tree, accounts, &amounts)
 }
+
+/// At each level the lines' actuals add up to all charges dated up to as-of: each of these charges counts once, and no other
+/// does.
+///
+/// This function does nothing: its contract is the law.
+pub fn each_charge_counts_once()
+    ensures once { (tree : List ItemRow) (accounts : List AcctRow) (charges togos : List MoneyRow) (as_of : ℤ) (entries : List Entry) (level : ℕ) (totals : List ℤ) (lines : List LevelLine)
+        → AreBooked tree accounts charges togos as_of entries → AreItemSums tree accounts (figure_at Actual entries) totals
+        → 1 ≤ level → AreLevelLines tree level totals lines → sum_of lines ≡ pos (all_charged charges as_of) }
+{}

@@ -8,12 +8,12 @@ use Rattle.pc_curve_laws.specs.State.{segment_of}
 use Rattle.pc_curve_laws.specs.Steps.{filled_state}
 use Rattle.pc_curve_laws.proofs.Stairs.StairStates.{stair-within_range, stair-fall_in_range, stair-fall_positive, stair-segment, stair-level_segment, stair-times_within, stair-cost}
 use Rattle.pc_crash.specs.Priced.{knees_in}
+use Rattle.pc_crash.proofs.CostLaws.{cost_of-most}
 use Rattle.pc_board.specs.Sheets.{Sheet, time_of, rank_of, flow_of}
 use Rattle.pc_search.specs.Choosing.{moving}
 use Rattle.pc_search.specs.Labelling.{slope_at, IsStateWith, MayFall}
 use Rattle.pc_search.proofs.StateLaws.{IsKnown, slopes-small, value-bounded, flow-bounded}
 use Rattle.pc_flow.specs.Courses.{Course, upper_of, lower_of, moves_at, present, IsOnCurve, IsOnCourse, HasSmallNumbers}
-use Rattle.pc_flow.proofs.CostLimits.{cost_of-most}
 
 -- where a segment has more than one length, the events without a label move
 pub moves-are : (s : Sheet) (fall : ℕ) → 0 < fall → moves_at s fall ≡ moving s
@@ -97,7 +97,7 @@ module _ (c : Course) (on : IsOnCourse c) where
               ap (λ n. n * c.fall) on.slope,
               stair-cost c.net.network c.net.terms (knees_in c.net) on.priced (upper_of c) (time_of c.board) (flow_of c.board) (slope_at c.net c.board) state
                   (moving c.board) c.fall (falls some),
-              cost_of-most c.net on.priced on.limits on.pieces on.piece_limits
+              cost_of-most c.net on.priced.terms_fit on.limits on.pieces on.piece_limits
                   (lesser_of c.net.network c.net.terms (λ e. time_of c.board e - fall_of (moving c.board) c.fall e)),
             )
         | inr none ↦
@@ -106,7 +106,7 @@ module _ (c : Course) (on : IsOnCourse c) where
               arith,
               on.cost,
               ap (λ n. c.slope * n) zero_is,
-              cost_of-most c.net on.priced on.limits on.pieces on.piece_limits (lesser_of c.net.network c.net.terms (time_of c.board)),
+              cost_of-most c.net on.priced.terms_fit on.limits on.pieces on.piece_limits (lesser_of c.net.network c.net.terms (time_of c.board)),
             )
       ]
 
@@ -141,7 +141,7 @@ module _ (c : Course) (on : IsOnCourse c) where
     lower = omega (arith, on.within, on.small);
     cost = omega (
       arith,
-      cost_of-most c.net on.priced on.limits on.pieces on.piece_limits (lesser_of c.net.network c.net.terms (time_of c.board)),
+      cost_of-most c.net on.priced.terms_fit on.limits on.pieces on.piece_limits (lesser_of c.net.network c.net.terms (time_of c.board)),
     );
     slope = omega (arith, on.slope, slope-small given);
     time = λ e inside. omega (

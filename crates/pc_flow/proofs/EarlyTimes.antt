@@ -1,9 +1,7 @@
 -- How the greatest sum at one event comes from those at the events before it, and the pass over all events.
 use Rattle.std.proofs.Common.{◌≡◌, ℕ, ◌+◌, ◌<◌, ◌≤◌, List, [], ◌∷◌, ◌++◌, length, slice_index, refl, sym, ap, subst, ◌⊎◌, inl, inr, max, below_more, arith}
-use Rattle.std.specs.Ordering.{nat_cmp, ord_max}
 use Rattle.std.proofs.Math.Nat.{mul-le-mul_right}
 use Rattle.std.proofs.lemmas.Bool.{cases_lt}
-use Rattle.std.proofs.lemmas.Bool.Decides.{nat_tests}
 use Rattle.pc_model.specs.declared.Term.{Term}
 use Rattle.pc_model.specs.declared.limits.TheConstants.{MAX_EVENTS, MAX_DURATION}
 use Rattle.pc_model.specs.Greatest.{IsListed}
@@ -19,10 +17,6 @@ use Rattle.pc_crash.specs.Terms.{AreWithinLimits}
 use Rattle.pc_flow.specs.declared.pace.Pace.{Pace}
 use Rattle.pc_flow.specs.declared.pace.Pace.TheVariants.{Crash, Normal}
 use Rattle.pc_flow.specs.Paces.{durations_at, HasSmallTimes, AreEarlyBefore}
-
--- `max` of numbers
-pub ord_max-nat : (a b : ℕ) → ord_max nat_cmp a b ≡ max a b
-ord_max-nat a b = grind (arith, nat_tests)
 
 module _ (net : Network) (lengths : List ℕ) (times : ℕ → ℕ) where
   -- what activity a brings to the event where it ends

@@ -1,4 +1,3 @@
-mod CostLimits
 mod CourseLaws
 mod EarlyTimes
 mod FlowLaws

@@ -1,5 +1,5 @@
 -- A solver before its first segment: all durations are normal, and nothing flows.
-use Rattle.std.proofs.Common.{◌≡◌, ℕ, zero, suc, ◌-◌, ◌<◌, ◌≤◌, true, false, List, [], ◌∷◌, length, slice_index, replicate, refl, sym, ◌∙◌, ap, subst, inl, inr, arith}
+use Rattle.std.proofs.Common.{◌≡◌, ℕ, zero, ◌-◌, ◌<◌, ◌≤◌, true, false, List, [], ◌∷◌, length, refl, sym, ◌∙◌, ap, subst, inl, inr, arith}
 use Rattle.std.proofs.Math.Path.{fun_ext}
 use Rattle.std.proofs.lemmas.Bool.{cases_eq, cases_lt}
 use Rattle.pc_cells.specs.Spans.{Cells}
@@ -13,6 +13,7 @@ use Rattle.pc_model.proofs.Walks.EarlyLaws.{early_at_start, early_fits}
 use Rattle.pc_model.proofs.Schedules.Durations.{normals-at, crash-normal}
 use Rattle.pc_model.proofs.Costs.NormalCost.{cost_of-same}
 use Rattle.pc_model.proofs.Costs.PieceLaws.{normal_cost}
+use Rattle.pc_model.proofs.Walks.PlaceLaws.{zero-at}
 use Rattle.pc_curve_laws.specs.Steps.{IsStairOptimal}
 use Rattle.pc_curve_laws.proofs.Stairs.OnStair.{knees_fall}
 use Rattle.pc_curve_laws.proofs.Stairs.StairStates.{stair-opening_state}
@@ -31,12 +32,6 @@ use Rattle.pc_search.proofs.StateLaws.{state-own}
 use Rattle.pc_flow.specs.declared.early.TheConstants.{MAX_LENGTH}
 use Rattle.pc_flow.specs.Courses.{Course, IsLevel, IsOnCourse}
 use Rattle.pc_flow.specs.Openings.{IsOpened}
-
--- a list of zeros has a 0 at each place
-zero-at : (n i : ℕ) → slice_index (replicate n 0) i ≡ 0
-zero-at zero i = refl
-zero-at (suc n) zero = refl
-zero-at (suc n) (suc i) = zero-at n i
 
 -- a sound network has events and activities
 pub some-events : (net : Network) → IsInRange net → 0 < net.events

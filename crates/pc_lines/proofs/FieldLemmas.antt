@@ -10,7 +10,7 @@ use Rattle.std.specs.List.{list_all}
 use Rattle.std.specs.Char.{is_ascii_digit}
 use Rattle.std.specs.Fmt.{decimal}
 use Rattle.pc_text.specs.Code.{is_code, is_code_byte, code_of}
-use Rattle.pc_lines.specs.Number.{number_of}
+use Rattle.pc_lines.specs.Number.{numeral_of}
 use Rattle.pc_lines.specs.Fields.{◌>>=◌, run_len, field, code_field, number_field, bit_of, bit_field}
 use Rattle.pc_lines.specs.Lines.{Lacks, spaced, bit_text, IsSmall, IsCode}
 use Rattle.pc_lines.proofs.NumberLemmas.{number_takes, number_again, decimal_parts}
@@ -117,8 +117,8 @@ pub record TakesNumber (bytes : List ℕ) (n : ℕ) (rest : List ℕ) : Type 0 w
 pub number_field_takes : (bytes : List ℕ) (x : ℕ × List ℕ) → number_field bytes ≡ Some x → TakesNumber bytes (x.0) (x.1)
 unfolding number_field
 number_field_takes bytes x e =
-    let word = bind_some (field bytes) (λ word. number_of (word.0) >>= (λ number. Some (number, word.1))) x e in
-    let number = bind_some (number_of (word.0.0)) (λ number. Some (number, word.0.1)) x (word.2) in
+    let word = bind_some (field bytes) (λ word. numeral_of (word.0) >>= (λ number. Some (number, word.1))) x e in
+    let number = bind_some (numeral_of (word.0.0)) (λ number. Some (number, word.0.1)) x (word.2) in
     let spells = number_takes (word.0.0) (number.0) (number.1) in
     let text = field_takes bytes (word.0) (word.1) in
     let same : (number.0, word.0.1) ≡ x = cc in

@@ -4,3 +4,4 @@ pub mod FlowsLemmas
 pub mod LineLaws
 pub mod LineLengths
 pub mod TextLaws
+mod RunLemmas

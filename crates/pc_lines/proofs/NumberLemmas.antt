@@ -10,7 +10,7 @@ use Rattle.std.specs.Char.{is_ascii_digit}
 use Rattle.std.specs.Fmt.{decimal}
 use Rattle.pc_text.specs.Number.{value_after}
 use Rattle.pc_text.proofs.NumberLemmas.{own}
-use Rattle.pc_lines.specs.Number.{is_number, number_of}
+use Rattle.pc_lines.specs.Number.{is_numeral, numeral_of}
 
 -- a number of fewer than 18 digits is below 10 ^ 17
 pub below_17_digits : (n i : ℕ) → n < 10 ^ i → i < 18 → n < 10 ^ 17
@@ -26,7 +26,7 @@ pub record IsDigits (word : List ℕ) : Type 0 where
   pub digits : list_all is_ascii_digit word ≡ true
   pub plain : get_or word 0 0 ≡ 48 → length word ≡ 1
 
-pub parts : (word : List ℕ) → is_number word ≡ true → IsDigits word
+pub parts : (word : List ℕ) → is_numeral word ≡ true → IsDigits word
 parts word h = record {
   some = grind (arith, nat_tests);
   short = grind (arith, nat_tests);
@@ -34,7 +34,7 @@ parts word h = record {
   plain = grind (arith, nat_tests);
 }
 
-joined : (word : List ℕ) → IsDigits word → is_number word ≡ true
+joined : (word : List ℕ) → IsDigits word → is_numeral word ≡ true
 joined word p =
     let some = p.some in let short = p.short in let digits = p.digits in let plain = p.plain in
     grind (arith, nat_tests)
@@ -50,9 +50,9 @@ spelled word p =
     record { small = small; same = sym (decimal-digits_value own word p.digits p.some p.plain (omega (arith, small))) }
 
 -- what is read is spelled so
-pub number_takes : (word : List ℕ) (n : ℕ) → number_of word ≡ Some n → Spells word n
+pub number_takes : (word : List ℕ) (n : ℕ) → numeral_of word ≡ Some n → Spells word n
 number_takes word n h =
-    let read = cond_some (is_number word) (value_after 0 word) n h in
+    let read = cond_some (is_numeral word) (value_after 0 word) n h in
     subst (Spells word) (read.1) (spelled word (parts word (read.0)))
 
 plain_decimal : (n : ℕ) → n < 2 ^ 64 → get_or (decimal n) 0 0 ≡ 48 → length (decimal n) ≡ 1
@@ -71,7 +71,7 @@ decimal_parts n h =
     }
 
 -- what is spelled so is read
-pub number_again : (n : ℕ) → n < 10 ^ 18 → number_of (decimal n) ≡ Some n
+pub number_again : (n : ℕ) → n < 10 ^ 18 → numeral_of (decimal n) ≡ Some n
 number_again n h =
-    let test : is_number (decimal n) ≡ true = joined (decimal n) (decimal_parts n h) in
+    let test : is_numeral (decimal n) ≡ true = joined (decimal n) (decimal_parts n h) in
     rw test (ap Some (digits_value-decimal own n (omega arith)))

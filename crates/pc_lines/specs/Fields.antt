@@ -1,7 +1,7 @@
 -- The fields of a line: each is a space and the word behind it.
 use Rattle.std.specs.Prelude.{ℕ, zero, suc, Bool, true, false, ◌==◌, List, [], ◌∷◌, take, drop, Option, Some, None, bytes_eq, codes, if◌then◌else◌}
 use Rattle.pc_text.specs.Code.{code_of}
-use Rattle.pc_lines.specs.Number.{number_of}
+use Rattle.pc_lines.specs.Number.{numeral_of}
 
 infixl 10 ◌>>=◌
 -- what comes of a value, where there is one
@@ -30,7 +30,7 @@ code_field bytes = do
 unfoldable pub number_field : List ℕ → Option (ℕ × List ℕ)
 number_field bytes = do
   word ← field bytes
-  number ← number_of word.0
+  number ← numeral_of word.0
   Some (number, word.1)
 
 -- the bit that a word spells: `0` or `1`

@@ -3,10 +3,10 @@ ghost use Rattle.std.specs.Prelude.{◌≡◌, ◌≤◌, length};
 ghost use Rattle.std.specs.Option.{option_map};
 ghost use Rattle.pc_lines.specs.Fields.{run_len, field, number_field, bit_field, bit_of};
 
-use crate::number::number_of;
+use crate::number::numeral_of;
 
 /// How many bytes stand before the first `stop`.
-pub fn run_len(bytes: &[u8], stop: u8) -> usize
+pub(crate) fn run_len(bytes: &[u8], stop: u8) -> usize
     ensures value { result ≡ run_len stop bytes.now }
     ensures within { result ≤ length bytes.now }
 {
@@ -37,7 +37,7 @@ pub(crate) fn number_field(bytes: &[u8]) -> Option<(u64, &[u8])>
     ensures { option_map (λ parts. (parts.0, parts.1.now)) result ≡ number_field bytes.now }
 {
     let (word, rest) = field(bytes)?;
-    let number = number_of(word)?;
+    let number = numeral_of(word)?;
     Some((number, rest))
 }
 

@@ -1,50 +1,42 @@
 //! The numbers of a certificate, which may be longer than those of a deck.
-ghost use Rattle.std.specs.Prelude.{◌≡◌, ◌≤◌, IsTrue, length};
-ghost use Rattle.std.specs.List.{list_all};
-ghost use Rattle.std.specs.Char.{is_ascii_digit};
-ghost use Rattle.pc_text.specs.Number.{value_after};
-ghost use Rattle.pc_lines.specs.Number.{is_number, number_of};
+ghost use Rattle.std.specs.Prelude.{◌≡◌, ◌≤◌, length};
+ghost use Rattle.pc_text.specs.Number.{value_of};
+ghost use Rattle.pc_lines.specs.Number.{is_unpadded, numeral_of};
 
 /// The most digits that a number of a certificate has.
 pub const MAX_DIGITS: usize = 18;
 
 /// The number whose decimal form the word is, without a sign or a leading zero and with at most 18 digits.
-pub(crate) fn number_of(word: &[u8]) -> Option<u64>
-    ensures { result ≡ number_of word.now }
+///
+/// One pass reads it, up to the first byte that is no digit.
+pub(crate) fn numeral_of(word: &[u8]) -> Option<u64>
+    ensures { result ≡ numeral_of word.now }
 {
-    if is_number(word) {
-        Some(value_of(word))
+    if is_unpadded(word) {
+        value_of(word)
     } else {
         None
     }
 }
 
-/// Whether the word is `0`, or digits without a leading zero, at most 18 of them.
-fn is_number(word: &[u8]) -> bool
-    ensures { result ≡ is_number word.now }
+/// Whether the word has 1 to 18 bytes, and no zero in front of others.
+fn is_unpadded(word: &[u8]) -> bool
+    ensures { result ≡ is_unpadded word.now }
 {
-    1 <= word.len()
-        && word.len() <= MAX_DIGITS
-        && has_digits(word)
-        && (word[0] != b'0' || word.len() == 1)
+    1 <= word.len() && word.len() <= MAX_DIGITS && (word[0] != b'0' || word.len() == 1)
 }
 
-/// Whether each byte is a digit.
-fn has_digits(word: &[u8]) -> bool
-    ensures { result ≡ list_all is_ascii_digit word.now }
-{
-    word.iter().all(|byte| byte.is_ascii_digit())
-}
-
-/// The value of at most 18 digits.
-fn value_of(word: &[u8]) -> u64
-    requires digits { IsTrue (list_all is_ascii_digit word.now) }
+/// The value of at most 18 bytes, where each is a digit.
+fn value_of(word: &[u8]) -> Option<u64>
     requires short { length word.now ≤ MAX_DIGITS }
-    ensures { result ≡ value_after 0 word.now }
+    ensures { result ≡ value_of word.now }
 {
     let mut number = 0;
-    for digit in word {
-        number = number * 10 + u64::from(digit - b'0');
+    for byte in word {
+        if !byte.is_ascii_digit() {
+            return None;
+        }
+        number = number * 10 + u64::from(byte - b'0');
     }
-    number
+    Some(number)
 }

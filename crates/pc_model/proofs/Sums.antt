@@ -22,6 +22,11 @@ sum_to-le zero f g below = omega arith
 sum_to-le (suc n) f g below =
     omega (arith, sum_to-le n f g (λ a h. below a (omega arith)), below n (omega arith))
 
+-- a sum of so many terms, none above a bound
+pub sum_to-most : (n most : ℕ) (f : ℕ → ℕ) → ((k : ℕ) → k < n → f k ≤ most) → sum_to n f ≤ n * most
+sum_to-most zero most f below = omega arith
+sum_to-most (suc n) most f below = omega (arith, sum_to-most n most f (λ k inside. below k (omega arith)), below n (omega arith))
+
 -- a sum of zeros is 0
 pub sum_to-zero : (n : ℕ) (f : ℕ → ℕ) → ((a : ℕ) → a < n → f a ≡ 0) → sum_to n f ≡ 0
 sum_to-zero zero f none = refl

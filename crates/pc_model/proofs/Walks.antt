@@ -6,3 +6,4 @@ pub mod EarlyExists
 pub mod CycleLaws
 pub mod ListedLaws
 pub mod UnsoundLaws
+pub mod PlaceLaws

@@ -5,4 +5,5 @@ pub mod Network
 pub mod Schedule
 pub mod Cost
 pub mod Pieces
+pub mod Codes
 pub mod Worked

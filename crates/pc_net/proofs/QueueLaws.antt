@@ -8,7 +8,7 @@ use Rattle.pc_model.specs.Network.{Network, IsPartOrder}
 use Rattle.pc_model.proofs.Walks.ListedLaws.{StandsBelow-more, StandsBelow-push, StandsBelow-unpush, StandsBelow-last}
 use Rattle.pc_net.specs.declared.side.Side.TheVariants.{Ends}
 use Rattle.pc_net.specs.Sides.{events_of}
-use Rattle.pc_net.specs.Queue.{AreEntering, IsWaiting, IsQueue, IsStuck}
+use Rattle.pc_net.specs.Queue.{AreEntering, IsWaiting, IsQueue, IsBlocked}
 use Rattle.pc_net.proofs.SideLaws.{events_of_at, length-events_of}
 use Rattle.pc_net.proofs.CountLaws.{one_at_same, one_at_other, count-set, count_none, count_some}
 
@@ -47,8 +47,8 @@ IsQueue-start net counts order entering listed = (
 )
 
 -- all events of the queue are crossed, and those that are left are entered from one another
-pub IsStuck-end : (net : Network) (order missing : List ℕ) (at : ℕ) → IsQueue net order missing at → length order ≤ at → IsStuck net order
-IsStuck-end net order missing at queue past v known away =
+pub IsBlocked-end : (net : Network) (order missing : List ℕ) (at : ℕ) → IsQueue net order missing at → length order ≤ at → IsBlocked net order
+IsBlocked-end net order missing at queue past v known away =
     let waits = queue.1.0 in
     let waiting = queue.1.1 in
     let entered : slice_index missing v ≢ 0 = λ none. (let stands = waiting.placed v known none in away stands.0 stands.1 stands.2) in

@@ -1,4 +1,4 @@
--- A network with an order of all its events, no event that dangles and free ends is sound; one whose order is stuck
+-- A network with an order of all its events, no event that dangles and free ends is sound; one whose order is blocked
 -- has a cycle.
 use Rattle.std.proofs.Common.{◌≡◌, ◌≢◌, ℕ, zero, suc, ◌+◌, ◌<◌, ◌≤◌, List, [], ◌∷◌, ◌++◌, length, slice_index, refl, sym, ◌∙◌, ap, subst, ◌⊎◌, inl, inr, ⊎_elim, arith}
 use Rattle.std.proofs.lemmas.Bool.{cases_eq}
@@ -8,7 +8,7 @@ use Rattle.pc_model.specs.Network.{Network, IsInRange, IsEntered, IsLeft, IsDang
 use Rattle.pc_model.proofs.Walks.WalkLaws.{IsWalk-push}
 use Rattle.pc_model.proofs.Walks.OrderLaws.{stands_in_order, same_place, no_cycle_from_order}
 use Rattle.pc_model.proofs.Walks.CycleLaws.{HasCycle, long_walk_has_cycle, all_stand, stand_or_misses}
-use Rattle.pc_net.specs.Queue.{IsMissing, IsStuck}
+use Rattle.pc_net.specs.Queue.{IsMissing, IsBlocked}
 
 -- a function has a value somewhere below n, or nowhere
 value_or_not : (f : ℕ → ℕ) (v n : ℕ) → ((a : ℕ) × (a < n) × (f a ≡ v)) ⊎ ((a : ℕ) → a < n → f a ≢ v)
@@ -76,20 +76,20 @@ module _ (net : Network) (order : List ℕ) (ranged : IsInRange net) (ordered : 
   }
 
 -- back from a missing event there are walks of every length
-walk_back : (net : Network) (order : List ℕ) → IsInRange net → IsStuck net order → (n v : ℕ) → v < net.events → IsMissing order v → (e : ℕ) × (e < net.events) × ((walk : List ℕ) × (length walk ≡ n) × IsWalk net.arcs e walk v)
-walk_back net order ranged stuck zero v known missing = (v, known, ([], refl, refl))
-walk_back net order ranged stuck (suc n) v known missing =
-    let (a, a_in, ends, before) = stuck v known missing in
-    let (e, e_in, behind) = walk_back net order ranged stuck n (from_of net.arcs a) (ranged.from_in a a_in) before in
+walk_back : (net : Network) (order : List ℕ) → IsInRange net → IsBlocked net order → (n v : ℕ) → v < net.events → IsMissing order v → (e : ℕ) × (e < net.events) × ((walk : List ℕ) × (length walk ≡ n) × IsWalk net.arcs e walk v)
+walk_back net order ranged blocked zero v known missing = (v, known, ([], refl, refl))
+walk_back net order ranged blocked (suc n) v known missing =
+    let (a, a_in, ends, before) = blocked v known missing in
+    let (e, e_in, behind) = walk_back net order ranged blocked n (from_of net.arcs a) (ranged.from_in a a_in) before in
     let (walk, len, walked) = behind in
     let more : IsWalk net.arcs e (walk ++ a ∷ []) (to_of net.arcs a) = IsWalk-push net.arcs e (from_of net.arcs a) walk a walked a_in refl in
     (e, e_in, (walk ++ a ∷ [], omega (arith, length_push walk a), subst (IsWalk net.arcs e (walk ++ a ∷ [])) ends more))
 
--- where an event is missing from an order that is stuck, there is a cycle
-pub cycle_from_stuck : (net : Network) (order : List ℕ) → IsInRange net → IsStuck net order → length order < net.events → HasCycle net.arcs
-cycle_from_stuck net order ranged stuck short =
+-- where an event is missing from an order that is blocked, there is a cycle
+pub cycle_from_blocked : (net : Network) (order : List ℕ) → IsInRange net → IsBlocked net order → length order < net.events → HasCycle net.arcs
+cycle_from_blocked net order ranged blocked short =
     ⊎_elim (λ all. absurd (omega (arith, all_stand order net.events all)))
     (λ missing.
-    let (e, e_in, behind) = walk_back net order ranged stuck net.events missing.0 missing.1 missing.2 in
+    let (e, e_in, behind) = walk_back net order ranged blocked net.events missing.0 missing.1 missing.2 in
     long_walk_has_cycle net ranged e missing.0 behind.0 behind.2 e_in (omega (arith, behind.1)))
     (stand_or_misses order net.events)

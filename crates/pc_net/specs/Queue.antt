@@ -33,6 +33,6 @@ abbrev pub IsMissing : List ℕ → ℕ → Type 0
 IsMissing order v = (k : ℕ) → k < length order → slice_index order k ≢ v
 
 -- each event that does not stand in the order is entered from another that does not
-abbrev pub IsStuck : Network → List ℕ → Type 0
-IsStuck net order =
+abbrev pub IsBlocked : Network → List ℕ → Type 0
+IsBlocked net order =
     (v : ℕ) → v < net.events → IsMissing order v → (a : ℕ) × (a < length net.arcs) × (to_of net.arcs a ≡ v) × IsMissing order (from_of net.arcs a)

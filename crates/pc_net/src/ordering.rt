@@ -2,7 +2,7 @@
 ghost use Rattle.std.specs.Prelude.{◌≡◌, ℕ, ◌+◌, ◌<◌, ◌≤◌, ◌^◌, IfOk, OnOk, length, slice_index, vec_len};
 ghost use Rattle.pc_model.specs.Greatest.{IsListed};
 ghost use Rattle.pc_model.specs.Network.{IsPartOrder};
-ghost use Rattle.pc_net.specs.Queue.{AreEntering, IsQueue, IsStuck};
+ghost use Rattle.pc_net.specs.Queue.{AreEntering, IsQueue, IsBlocked};
 
 use crate::graph::Graph;
 use pc_model::MAX_EVENTS;
@@ -12,7 +12,7 @@ use std::alloc::{AllocError, Global};
 /// Linear in events and activities.
 pub(crate) fn ordered(alloc: Global, graph: &Graph) -> Result<Vec<u32>, AllocError>
     ensures part { IfOk result (λ o. IsPartOrder graph.now o.items) }
-    ensures stuck { IfOk result (λ o. IsStuck graph.now o.items) }
+    ensures blocked { IfOk result (λ o. IsBlocked graph.now o.items) }
 {
     let mut missing = entering(alloc, graph)?;
     let mut order = free_events(alloc, &missing)?;

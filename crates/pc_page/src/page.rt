@@ -5,13 +5,13 @@ ghost use Rattle.pc_edges.specs.Writes.{Writes};
 ghost use Rattle.pc_page.specs.Page.{fresh};
 ghost use Rattle.pc_page.specs.Puts.{Adds, Desk, Puts, desk};
 
-use pc_edges::{Failed, Sink, push_all};
+use pc_edges::{Failed, STREAM_ROOM, Sink, push_all};
 use pc_text::{digits, signed};
 use std::alloc::{AllocError, Global};
 use std::marker::Model;
 
 /// The room of a page that an answer of a program is gathered on.
-pub const PAGE_ROOM: usize = 65_536;
+pub const PAGE_ROOM: usize = STREAM_ROOM;
 
 /// A page of a text on its way to a sink.
 ///

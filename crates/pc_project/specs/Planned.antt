@@ -1,10 +1,11 @@
 -- What holds of every project.
 use Rattle.std.specs.Prelude.{◌≡◌, ℕ, ◌<◌, ◌≤◌, ◌≤ℤ◌, All, length, slice_index}
 use Rattle.std.specs.Option.{ForSome}
+use Rattle.pc_model.specs.Codes.{IsNamedOnce}
 use Rattle.pc_model.specs.Network.{IsInRange, IsSound}
 use Rattle.pc_model.specs.Schedule.{AreTerms}
 use Rattle.pc_model.specs.Pieces.{ArePieces}
-use Rattle.pc_crash.specs.Priced.{ArePiecesWithinLimits, IsNamedOnce}
+use Rattle.pc_crash.specs.Priced.{ArePiecesWithinLimits}
 use Rattle.pc_crash.specs.Terms.{AreWithinLimits}
 use Rattle.pc_wbs.specs.Climb.{IsLeaf, IsTree}
 use Rattle.pc_accounts.specs.Amounts.{AreEntriesOf}

@@ -1,10 +1,7 @@
 -- The records and the codes of cards, by their numbers in card order.
-use Rattle.std.specs.Prelude.{ℕ, List, [], map, slice_index_or}
+use Rattle.std.specs.Prelude.{ℕ, List, map}
+use Rattle.pc_model.specs.Codes.{code_at}
 use Rattle.pc_deck.specs.Deck.{Deck}
-
--- the code with a number among those; none past their end
-abbrev pub code_at : List (List ℕ) → ℕ → List ℕ
-code_at codes i = slice_index_or codes i []
 
 -- the codes with these numbers
 abbrev pub codes_at : List (List ℕ) → List ℕ → List (List ℕ)

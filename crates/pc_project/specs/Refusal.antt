@@ -4,6 +4,7 @@
 -- accounts stand on (F28), then the budgets of packages (F29), then statuses and as-of (F30), then second amounts to go
 -- (F31), then the pieces of the activities' costs (F33 to F35), and last the terms of time (F36).
 use Rattle.std.specs.Prelude.{◌≡◌, ℕ, slice_index}
+use Rattle.pc_model.specs.Codes.{code_at}
 use Rattle.pc_accounts.specs.Packages.{IsUneven}
 use Rattle.pc_accounts.specs.Second.{IsRepeated}
 use Rattle.pc_model.specs.Network.{IsSound}
@@ -24,7 +25,7 @@ use Rattle.pc_project.specs.DisorderFaults.{HasDisorder, HasNoDisorder}
 use Rattle.pc_project.specs.PackageFaults.{HasLeafFault, HasNoLeafFault, IsFirstUnevenFault}
 use Rattle.pc_project.specs.PieceFaults.{HasPieceFault, HasNoPieceFault}
 use Rattle.pc_project.specs.Project.{accounts_in, network_of, rows_of, togos_in, work_in}
-use Rattle.pc_project.specs.Records.{act_records, code_at, codes_at, event_records, item_records}
+use Rattle.pc_project.specs.Records.{act_records, codes_at, event_records, item_records}
 use Rattle.pc_project.specs.TermsFaults.{HasTermsFault, HasNoTermsFault}
 use Rattle.pc_project.specs.ToGoFaults.{IsFirstSecondToGo}
 use Rattle.pc_project.specs.Misfit.{HasMisfit, HasNoMisfit}

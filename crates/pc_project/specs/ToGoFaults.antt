@@ -1,5 +1,6 @@
 -- The fault of second amounts to go (F31).
 use Rattle.std.specs.Prelude.{◌≡◌, ℕ, slice_index}
+use Rattle.pc_model.specs.Codes.{code_at}
 use Rattle.pc_accounts.specs.Amounts.{money_at}
 use Rattle.pc_accounts.specs.Second.{IsRepeated}
 use Rattle.pc_deck.specs.Deck.{Deck}
@@ -7,7 +8,7 @@ use Rattle.pc_faults.specs.Faults.{second_to_go}
 use Rattle.pc_faults.specs.declared.fault.Fault.{Fault}
 use Rattle.pc_model.specs.Greatest.{IsFirst}
 use Rattle.pc_project.specs.Project.{togos_in}
-use Rattle.pc_project.specs.Records.{code_at, togo_codes, togo_records}
+use Rattle.pc_project.specs.Records.{togo_codes, togo_records}
 
 -- the fault of the k-th TOGO card: its record, and its account and day
 abbrev pub second_to_go_at : Deck → ℕ → Fault

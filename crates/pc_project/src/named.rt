@@ -1,7 +1,8 @@
 //! The cards that a refusal names by their numbers.
 ghost use Rattle.std.specs.Prelude.{◌≡◌, ◌<◌, All, length, map, slice_index, IfOk};
+ghost use Rattle.pc_model.specs.Codes.{code_at};
 ghost use Rattle.pc_deck.specs.Deck.{act_codes, event_codes, item_codes};
-ghost use Rattle.pc_project.specs.Records.{act_records, code_at, codes_at, event_records, item_records};
+ghost use Rattle.pc_project.specs.Records.{act_records, codes_at, event_records, item_records};
 
 use pc_deck::Cards;
 use pc_text::{Code, Codes};

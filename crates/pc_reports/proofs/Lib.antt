@@ -1,4 +1,5 @@
 mod DateLaws
 mod ForecastLaws
+mod OutlookLaws
 mod PathLaws
 mod WorkedRows

@@ -9,3 +9,4 @@ pub mod SummaryText
 pub mod Earned
 pub mod EarnedInside
 pub mod ValueText
+pub mod OutlookText

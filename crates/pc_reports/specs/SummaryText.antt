@@ -3,12 +3,13 @@ use Rattle.std.specs.Prelude.{◌≡◌, ℕ, ◌+◌, ℤ, List, [], ◌∷◌,
 use Rattle.std.specs.Fmt.{signed_decimal}
 use Rattle.pc_edges.specs.Texts.{texts_to}
 use Rattle.pc_page.specs.Cells.{left, right}
+use Rattle.pc_accounts.specs.Amounts.{entry_of_project}
 use Rattle.pc_project.specs.Project.{Project}
 use Rattle.pc_figures.specs.declared.summary.SummaryAmounts.{SummaryAmounts}
 use Rattle.pc_reports.specs.Cells.{row}
 use Rattle.pc_reports.specs.Lines.{dated_line}
 use Rattle.pc_figures.specs.Outline.{row_at}
-use Rattle.pc_figures.specs.Summary.{Summary, IsSummaryOf, item_amounts, level_amounts}
+use Rattle.pc_figures.specs.Summary.{Summary, IsSummaryOf, CountsOnce, item_amounts, level_amounts}
 
 -- the words above the items
 abbrev pub summary_head : List ℕ
@@ -49,6 +50,12 @@ summary_text project summary =
 -- the summary is the project's
 abbrev pub IsSummary : Project → Summary → Type 0
 IsSummary project summary = IsSummaryOf project.tree project.accounts project.entries summary
+
+-- each charge dated up to as-of counts once at each level: the actuals of its lines add up to all these charges, whichever
+-- account they are of, as their budgets add up to all budgets and what is to go to that of all accounts
+abbrev pub ChargesCountOnce : Project → Summary → Type 0
+ChargesCountOnce project summary =
+    CountsOnce project.tree project.accounts (entry_of_project project.accounts project.charges project.heading.as_of project.entries) summary
 
 -- the text is the project's management summary
 pub record IsSummaryText (project : Project) (text : List ℕ) : Type 0 where

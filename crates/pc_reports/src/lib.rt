@@ -6,6 +6,9 @@ mod dates;
 mod earned;
 mod forecasts;
 mod lines;
+mod outlook_costs;
+mod outlook_report;
+mod outlook_rows;
 mod schedule;
 mod summary_report;
 mod summary_rows;
@@ -18,6 +21,7 @@ mod value_report;
 mod value_rows;
 
 pub use check::write_check;
+pub use outlook_report::OutlookReport;
 pub use schedule::{Schedule, put_schedule, write_schedule};
 pub use summary_report::SummaryReport;
 pub use times_report::TimesReport;

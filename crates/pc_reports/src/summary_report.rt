@@ -2,8 +2,7 @@
 ghost use Rattle.std.specs.Prelude.{◌≡◌, IfOk};
 ghost use Rattle.pc_edges.specs.Writes.{Writes};
 ghost use Rattle.pc_page.specs.Puts.{Puts};
-ghost use Rattle.pc_figures.specs.Summary.{CountsOnce};
-ghost use Rattle.pc_reports.specs.SummaryText.{IsSummary, summary_text};
+ghost use Rattle.pc_reports.specs.SummaryText.{IsSummary, ChargesCountOnce, summary_text};
 
 use crate::lines::put_dated;
 use crate::summary_rows::{ItemRows, LevelRows};
@@ -43,7 +42,7 @@ impl SummaryReport {
     /// The summary of the project. It takes time in proportion to its accounts, and to its items at each level.
     pub fn build(alloc: Global, project: &Project) -> Result<SummaryReport, AllocError>
         ensures summary { IfOk result (IsSummary project.now) }
-        ensures once { IfOk result (CountsOnce project.now.tree project.now.accounts project.now.entries) }
+        ensures once { IfOk result (ChargesCountOnce project.now) }
     {
         let entries = project.book().entries();
         Ok(SummaryReport {

@@ -1,6 +1,6 @@
 -- The least of what is placed on items, and how it is gathered from the end of the preorder on.
 use Rattle.std.proofs.Common.{◌≡◌, ◌≢◌, ℕ, ◌+◌, ◌<◌, ◌≤◌, ◌⊎◌, inl, inr, ⊎_elim, Bool, true, false, cond, List, length, get_or, set, Option, Some, None, refl, sym, ap, ◌∙◌, subst, get_or-set_same, get_or-set_other, length-set, arith}
-use Rattle.std.specs.Prelude.{ℤ, ◌≤ℤ◌, int_lt, slice_index}
+use Rattle.std.specs.Prelude.{ℤ, int_lt, slice_index}
 use Rattle.std.proofs.lemmas.Bool.{cases_eq}
 use Rattle.std.proofs.lemmas.Int.{ints}
 use Rattle.std.proofs.lemmas.List.{get_or_default}

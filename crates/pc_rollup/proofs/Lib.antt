@@ -3,4 +3,4 @@ mod RollLaws
 mod LeastLaws
 mod PlacedLaws
 mod LineLaws
-mod WholeLaws
+pub mod WholeLaws

@@ -135,6 +135,6 @@ lines_all rows order n level totals lines preorder all so_far = record {
   known = λ k lt. let (j, (less, e)) = so_far.place k lt in let inside = preorder.range j (omega arith) in omega (arith, e);
   each = so_far.each;
   amount = so_far.amount;
-  every = λ x lt line. let (j, (less, e)) = preorder.every x lt in let (k, (low, is)) = so_far.every j (omega arith) (subst (HasLine rows level) (sym e) line) in (k, (low, is ∙ e));
+  every = λ x lt line. let (j, less, e) = preorder.every x lt in let (k, (low, is)) = so_far.every j (omega arith) (subst (HasLine rows level) (sym e) line) in (k, (low, is ∙ e));
   in_order = so_far.in_order;
 }

@@ -1,9 +1,9 @@
 -- How totals are gathered from the end of the preorder on.
-use Rattle.std.proofs.Common.{◌≡◌, ◌≢◌, ℕ, zero, suc, ◌+◌, ◌-◌, ◌<◌, ◌≤◌, ◌⊎◌, inl, inr, ⊎_elim, List, length, get_or, set, take, reverse, Option, Some, None, refl, sym, ap, ◌∙◌, subst, get_or-set_same, get_or-set_other, length-set, ◌^◌, FitsSigned, to_z, of_z, w64, arith}
+use Rattle.std.proofs.Common.{◌≡◌, ◌≢◌, ℕ, zero, suc, ◌+◌, ◌<◌, ◌≤◌, ◌⊎◌, inl, inr, ⊎_elim, List, length, get_or, set, take, Option, Some, None, refl, sym, ap, ◌∙◌, subst, get_or-set_same, get_or-set_other, length-set, ◌^◌, FitsSigned, to_z, of_z, w64, arith}
 use Rattle.std.specs.Prelude.{ℤ, pos, ◌+ℤ◌, unsigned_abs, slice_index, sum_by}
 use Rattle.std.proofs.lemmas.Bool.{cases_eq, cases_order}
 use Rattle.std.proofs.lemmas.Int.{to_z-of_z, fits_signed_from_abs}
-use Rattle.std.proofs.lemmas.List.{length-reverse, get_or-reverse, get_or_default}
+use Rattle.std.proofs.lemmas.List.{get_or_default}
 use Rattle.std.proofs.lemmas.List.Sums.{sum_by_more}
 use Rattle.std.proofs.Math.Seq.{take-length}
 use Rattle.pc_model.specs.Sums.{sum_to}
@@ -38,13 +38,6 @@ same_place rows order i k preorder lt less same =
     ⊎_elim (λ e. e)
     (λ apart. ⊎_elim (λ before. absurd (preorder.once i k before less same)) (λ behind. absurd (preorder.once k i behind lt (sym same))) apart)
     (cases_order i k)
-
--- the item from the end that a reversed order has
-pub place_from_end : (order : List ℕ) (k e : ℕ) → k < length (reverse order) → e ≡ get_or (reverse order) k e → (i : ℕ) × (i < length order) × (i + k + 1 ≡ length order) × (slice_index order i ≡ e)
-place_from_end order k e in_list is =
-    let all : length (reverse order) ≡ length order = length-reverse order in
-    let at : e ≡ get_or order (length order - 1 - k) e = is ∙ get_or-reverse order k e (omega arith) in
-    (length order - 1 - k, omega arith, omega arith, sym (at ∙ get_or_default order (length order - 1 - k) e 0 (omega arith)))
 
 -- one item more
 passed_more : (order : List ℕ) (i j c : ℕ) → i + j + 1 ≡ length order → IsPassed order (j + 1) c → (slice_index order i ≡ c) ⊎ IsPassed order j c
@@ -88,9 +81,9 @@ whole rows order i j x preorder within place below = of_child (below_child rows 
     of_child : (x ≡ v) ⊎ ((c : ℕ) × ((parent_of rows c ≡ Some v) × IsBelow rows x c)) → IsGathered rows order j v x
     of_child (inl same) = inl same
     of_child (inr (c, (e, b))) =
-        let (k, (lt, at)) = preorder.every c (parent-inside rows c v e) in
+        let (k, lt, at) = preorder.every c (parent-inside rows c v e) in
         let up : parent_of rows (slice_index order k) ≡ Some v = ap (parent_of rows) at ∙ e in
-        let (h, (less, is)) = preorder.before k v lt up in
+        let (h, less, is) = preorder.before k v lt up in
         let here : h ≡ i = same_place rows order h i preorder (omega arith) within is in
         inr (c, (e, b, (k, (omega arith, lt, at))))
 
@@ -310,7 +303,7 @@ all_gathered rows order j y x preorder all below = of_child (below_child rows x 
     of_child : (x ≡ y) ⊎ ((c : ℕ) × ((parent_of rows c ≡ Some y) × IsBelow rows x c)) → IsGathered rows order j y x
     of_child (inl same) = inl same
     of_child (inr (c, (e, b))) =
-        let (k, (lt, at)) = preorder.every c (parent-inside rows c y e) in
+        let (k, lt, at) = preorder.every c (parent-inside rows c y e) in
         inr (c, (e, b, (k, (omega arith, lt, at))))
 
 -- all passed their totals on

@@ -1,5 +1,5 @@
 -- Laws of sums over the numbers that have a property.
-use Rattle.std.proofs.Common.{◌≡◌, ℕ, zero, suc, ◌+◌, ◌<◌, ◌≤◌, ◌⊎◌, inl, inr, ⊎_elim, refl, ap, sym, subst, add-one, arith}
+use Rattle.std.proofs.Common.{◌≡◌, ℕ, zero, suc, ◌+◌, ◌<◌, ◌≤◌, ◌⊎◌, inl, inr, ⊎_elim, refl, ap, sym, ◌∙◌, subst, add-one, arith}
 use Rattle.std.specs.Prelude.{ℤ, pos, ◌+ℤ◌, unsigned_abs}
 use Rattle.std.proofs.lemmas.Int.{ints}
 use Rattle.std.proofs.lemmas.Bool.{cases_eq}
@@ -63,6 +63,15 @@ IsSumOver-has P n f s t p over e = rw add-one (inl (p, (s, (over, e))))
 
 pub IsSumOver-lacks : (P : ℕ → Type 0) (n : ℕ) (f : ℕ → ℤ) (s : ℤ) → (P n → ⊥) → IsSumOver P n f s → IsSumOver P (n + 1) f s
 IsSumOver-lacks P n f s none over = rw add-one (inr (none, over))
+
+-- where every number has it, the sum is what grows by the amount of each number
+pub IsSumOver-all : (P : ℕ → Type 0) (n : ℕ) (f so_far : ℕ → ℤ) (t : ℤ) → so_far 0 ≡ pos 0 → ((x : ℕ) → x < n → so_far (x + 1) ≡ so_far x +ℤ f x) → ((x : ℕ) → x < n → P x) → IsSumOver P n f t → t ≡ so_far n
+IsSumOver-all P zero f so_far t none more every is = is ∙ sym none
+IsSumOver-all P (suc n) f so_far t none more every (inl (p, (r, (over, e)))) =
+    let same = IsSumOver-all P n f so_far r none (λ x h. more x (omega arith)) (λ x h. every x (omega arith)) over in
+    let next : n + 1 ≡ suc n = omega arith in
+    e ∙ ap (λ (z : ℤ). z +ℤ f n) same ∙ sym (more n (omega arith)) ∙ ap so_far next
+IsSumOver-all P (suc n) f so_far t none more every (inr (lacks, over)) = absurd (lacks (every n (omega arith)))
 
 -- what has no part in the sum may be left out
 pub IsSumOver-part : (P Q : ℕ → Type 0) (n : ℕ) (f : ℕ → ℤ) (t : ℤ) → ((x : ℕ) → x < n → Q x ⊎ ((Q x → ⊥) × (f x ≡ pos 0))) → IsSumOver P n f t → IsSumOver (λ x. Q x × P x) n f t

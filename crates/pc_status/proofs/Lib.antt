@@ -1,1 +1,2 @@
 mod StateLaws
+pub mod OneStateLaws

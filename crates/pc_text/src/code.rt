@@ -1,14 +1,12 @@
 //! Codes: the short names of projects, events, items, activities and accounts.
-ghost use Rattle.std.specs.Prelude.{◌≡◌, ◌≤◌, IsTrue, Some, refl, nat_eq, length};
-ghost use Rattle.std.proofs.Common.{rules};
+ghost use Rattle.std.specs.Prelude.{◌≡◌, ◌≤◌, [], ◌∷◌, IsTrue, Some, refl, nat_eq, length};
 ghost use Rattle.std.specs.Ordering.{nat_cmp};
-ghost use Rattle.std.specs.Hash as fed;
 ghost use Rattle.std.specs.Cmp.{partial_equiv_from_equiv};
 ghost use Rattle.std.specs.Cmp.Lexicographic.{pointwise, slice_cmp, nat_list_eq_equiv, nat_list_cmp_total, texts_ties, texts_po};
-ghost use Rattle.std.specs.Cmp.Rules.{hashing};
 ghost use Rattle.std.specs.List.{list_all};
 ghost use Rattle.pc_text.specs.Code.{is_code_byte, has_code_length, is_code, code_of};
-ghost use Rattle.pc_text.specs.CodeCells.{cells_of};
+ghost use Rattle.pc_text.specs.CodeCells.{cells_of, same_cells};
+ghost use Rattle.pc_text.specs.Words.{padded};
 
 use std::cmp::Ordering;
 use std::hash::{Hash, Hasher};
@@ -117,8 +115,9 @@ impl PartialEq for Code {
 
     ghost laws = { partial_equiv_from_equiv nat_list_eq_equiv };
 
+    // All cells at once, the zeros among them.
     fn eq(&self, other: &Code) -> bool {
-        self.bytes() == other.bytes()
+        self.len == other.len && self.cells == other.cells
     }
 }
 
@@ -151,11 +150,12 @@ impl Ord for Code {
 }
 
 impl Hash for Code {
-    ghost hash_input = { fed.slice fed.u8 };
+    ghost hash_input = { λ code. padded 16 code ∷ [] };
 
-    ghost respects_eq = { Prim.search (hashing, rules) };
+    ghost respects_eq = { same_cells };
 
+    // All cells at once, the zeros among them: two codes are equal exactly where all their cells are.
     fn hash<H: Hasher>(&self, state: &mut H) {
-        self.bytes().hash(state);
+        state.write(&self.cells);
     }
 }

@@ -11,7 +11,7 @@ use Rattle.pc_model.proofs.Walks.WalkLaws.{IsWalk-append, IsWalk-push, walk_sum-
 use Rattle.pc_model.proofs.Walks.EarlyLaws.{early_at_start, early_fits}
 use Rattle.pc_times.specs.Times.{AreEarly, AreTails}
 use Rattle.pc_times.specs.Picked.{IsCriticalAt, IsPickedFrom, IsPickedWalk}
-use Rattle.pc_times.specs.Passes.{IsTight}
+use Rattle.pc_times.specs.Passes.{HasNoSlack}
 
 -- the first of the listed activities that meets the test, all of one event, is the first that does
 pub first_listed : (P : ℕ → Type 0) (n e k : ℕ) (place : ℕ → ℕ) (items : List ℕ) → ((a : ℕ) → P a → (a < n) × (place a ≡ e)) → IsListed (λ a. place a ≡ e) n items → k < length items → P (slice_index items k) → ((j : ℕ) → j < k → P (slice_index items j) → ⊥) → IsFirst P (slice_index items k)
@@ -53,14 +53,14 @@ module _ (net : Network) (lengths times tails : List ℕ) (ranged : IsInRange ne
       (front ++ a ∷ back, IsWalk-append net.arcs net.start _ net.end front (a ∷ back) front_walked (below, refl, back_walked), omega (arith, walk_sum-append lengths front (a ∷ back)), (length front, omega (arith, length-append front (a ∷ back)), get_or_at front a back a (length front) refl))
 
   -- an activity that meets the test lies on a longest walk
-  pub critical_from_tight : (e a : ℕ) → IsTight net lengths times tails e a → IsCriticalAt net lengths e a
-  critical_from_tight e a (below, begins, tight) =
+  pub critical_without_slack : (e a : ℕ) → HasNoSlack net lengths times tails e a → IsCriticalAt net lengths e a
+  critical_without_slack e a (below, begins, tight) =
       let (walk, walked, sums, has) = walk_through a below in
       (below, begins, (walk, (walked, subst (λ (n : ℕ). IsLongest net lengths n) (omega (arith, sums, tight, ap (slice_index times) begins)) (early.each net.end ranged.end_in)), has))
 
   -- an activity that lies on a longest walk meets the test
-  pub tight_from_critical : (e a : ℕ) → IsCriticalAt net lengths e a → IsTight net lengths times tails e a
-  tight_from_critical e a (below, begins, (walk, (walked, longest), (k, in_walk, at))) =
+  pub without_slack_where_critical : (e a : ℕ) → IsCriticalAt net lengths e a → HasNoSlack net lengths times tails e a
+  without_slack_where_critical e a (below, begins, (walk, (walked, longest), (k, in_walk, at))) =
       let rest : List ℕ = drop (k + 1) walk in
       let parts : take k walk ++ a ∷ rest ≡ walk = ap (λ (x : List ℕ). take k walk ++ x) (sym (drop_more walk k a in_walk ∙ ap (λ (x : ℕ). x ∷ rest) at)) ∙ take-append-drop k walk in
       let (m, front, back) = split_walk net.arcs net.start net.end (take k walk) (a ∷ rest) (subst (λ (x : List ℕ). IsWalk net.arcs net.start x net.end) (sym parts) walked) in
@@ -73,10 +73,10 @@ module _ (net : Network) (lengths times tails : List ℕ) (ranged : IsInRange ne
       (below, begins, omega (arith, ap (slice_index times) begins))
 
   -- the first activity that meets the test is the first critical one
-  pub first_critical_from_tight : (e a : ℕ) → IsFirst (IsTight net lengths times tails e) a → IsFirst (IsCriticalAt net lengths e) a
-  first_critical_from_tight e a first_tight = record {
-    holds = critical_from_tight e a first_tight.holds;
-    first = λ b lower critical. first_tight.first b lower (tight_from_critical e b critical);
+  pub first_critical_without_slack : (e a : ℕ) → IsFirst (HasNoSlack net lengths times tails e) a → IsFirst (IsCriticalAt net lengths e) a
+  first_critical_without_slack e a first_without_slack = record {
+    holds = critical_without_slack e a first_without_slack.holds;
+    first = λ b lower critical. first_without_slack.first b lower (without_slack_where_critical e b critical);
   }
 
   -- the empty walk at the start
@@ -90,9 +90,9 @@ module _ (net : Network) (lengths times tails : List ℕ) (ranged : IsInRange ne
   }
 
   -- one activity further, by the first that meets the test
-  pub picked_to_next : (path : List ℕ) (e a : ℕ) → IsPickedTo net lengths times tails path e → IsFirst (IsTight net lengths times tails e) a → IsPickedTo net lengths times tails (path ++ a ∷ []) (to_of net.arcs a)
-  picked_to_next path e a so_far first_tight =
-      let (below, begins, tight) = first_tight.holds in
+  pub picked_to_next : (path : List ℕ) (e a : ℕ) → IsPickedTo net lengths times tails path e → IsFirst (HasNoSlack net lengths times tails e) a → IsPickedTo net lengths times tails (path ++ a ∷ []) (to_of net.arcs a)
+  picked_to_next path e a so_far first_without_slack =
+      let (below, begins, tight) = first_without_slack.holds in
       let fits : slice_index times (from_of net.arcs a) + slice_index lengths a ≤ slice_index times (to_of net.arcs a) = early_fits net lengths a below _ _ (early.each _ (ranged.from_in a below)) (early.each _ (ranged.to_in a below)) in
       let bound : slice_index times (to_of net.arcs a) + slice_index tails (to_of net.arcs a) ≤ slice_index times net.end = sum_at_bound _ (ranged.to_in a below) in
       record {
@@ -100,12 +100,12 @@ module _ (net : Network) (lengths times tails : List ℕ) (ranged : IsInRange ne
         in_range = ranged.to_in a below;
         sums = omega (arith, walk_sum-push lengths path a, so_far.sums, ap (slice_index times) begins);
         on_longest = omega (arith, ap (slice_index times) begins);
-        picked = λ rest from_next. subst (λ (x : List ℕ). IsPickedFrom net lengths net.start x) (sym (append_assoc path (a ∷ []) rest)) (so_far.picked (a ∷ rest) (first_critical_from_tight e a first_tight, from_next));
+        picked = λ rest from_next. subst (λ (x : List ℕ). IsPickedFrom net lengths net.start x) (sym (append_assoc path (a ∷ []) rest)) (so_far.picked (a ∷ rest) (first_critical_without_slack e a first_without_slack, from_next));
       }
 
   -- where no activity meets the test the end is reached
-  pub end_when_none_tight : (path : List ℕ) (e : ℕ) → IsPickedTo net lengths times tails path e → ((a : ℕ) → IsTight net lengths times tails e a → ⊥) → e ≡ net.end
-  end_when_none_tight path e so_far none =
+  pub end_when_none_without_slack : (path : List ℕ) (e : ℕ) → IsPickedTo net lengths times tails path e → ((a : ℕ) → HasNoSlack net lengths times tails e a → ⊥) → e ≡ net.end
+  end_when_none_without_slack path e so_far none =
       let (walk, walked, sums) = (late.each e so_far.in_range).attained in at_end walk walked sums
     where
       at_end : (walk : List ℕ) → IsWalk net.arcs e walk net.end → walk_sum lengths walk ≡ slice_index tails e → e ≡ net.end

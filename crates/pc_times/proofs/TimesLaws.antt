@@ -1,10 +1,7 @@
 -- How the greatest sum at one event comes from those at its neighbours.
-use Rattle.std.proofs.Common.{◌≡◌, ◌≢◌, ℕ, ◌+◌, ◌*◌, ◌-◌, ◌<◌, ◌≤◌, List, [], ◌∷◌, ◌++◌, length, slice_index, reverse, get_or, set, get_or-set_same, get_or-set_other, length-set, ◌∙◌, refl, sym, ap, subst, ◌⊎◌, inl, inr, ⊎_elim, max, below_more, arith}
+use Rattle.std.proofs.Common.{◌≡◌, ◌≢◌, ℕ, ◌+◌, ◌*◌, ◌-◌, ◌<◌, ◌≤◌, List, [], ◌∷◌, ◌++◌, length, slice_index, get_or, set, get_or-set_same, get_or-set_other, length-set, ◌∙◌, refl, sym, ap, subst, ◌⊎◌, inl, inr, ⊎_elim, max, below_more, arith}
 use Rattle.std.proofs.Math.Nat.{mul-le-mul_right}
-use Rattle.std.specs.Ordering.{nat_cmp, ord_max}
-use Rattle.std.proofs.lemmas.List.{length-reverse, get_or-reverse, get_or_default}
 use Rattle.std.proofs.lemmas.Bool.{cases_eq, cases_lt}
-use Rattle.std.proofs.lemmas.Bool.Decides.{nat_tests}
 use Rattle.pc_model.specs.Greatest.{IsListed}
 use Rattle.pc_model.specs.Walk.{from_of, to_of, IsWalk, walk_sum, IsSumOfWalk}
 use Rattle.pc_model.specs.Network.{Network, IsInRange, IsSound, IsOrder, IsEntered, IsLeft, IsEarly}
@@ -14,10 +11,6 @@ use Rattle.pc_model.specs.declared.limits.TheConstants.{MAX_EVENTS}
 use Rattle.pc_times.specs.declared.TheConstants.{MAX_LENGTH}
 use Rattle.pc_times.specs.Times.{IsTail, AreLengths, AreEarly, AreTails}
 use Rattle.pc_times.specs.Passes.{HasBoundedWalks, AreEarlyBefore, AreTailsAfter}
-
--- `max` of numbers
-pub ord_max-nat : (a b : ℕ) → ord_max nat_cmp a b ≡ max a b
-ord_max-nat a b = grind (arith, nat_tests)
 
 -- n bounds what the activities that enter event e bring, and one of them brings it, or none enters and n is 0
 pub record IsArrival (net : Network) (lengths times : List ℕ) (e n : ℕ) : Type 0 where
@@ -196,13 +189,6 @@ tails_none net lengths tails order one_each = record {
   one_each = one_each;
   each = λ j in_order late. absurd (omega arith);
 }
-
--- what a list has at place k from its end
-pub place_from_end : (order : List ℕ) (k e : ℕ) → k < length (reverse order) → e ≡ get_or (reverse order) k e → (i : ℕ) × (i < length order) × (i + k + 1 ≡ length order) × (slice_index order i ≡ e)
-place_from_end order k e in_list is =
-    let all : length (reverse order) ≡ length order = length-reverse order in
-    let at : e ≡ get_or order (length order - 1 - k) e = is ∙ get_or-reverse order k e (omega arith) in
-    (length order - 1 - k, omega arith, omega arith, sym (at ∙ get_or_default order (length order - 1 - k) e 0 (omega arith)))
 
 -- the event before them in the order has all it needs after it
 pub tails_after : (net : Network) (lengths tails order : List ℕ) (i k : ℕ) → IsInRange net → IsOrder net order → AreTailsFrom net lengths tails order k → i < length order → i + k + 1 ≡ length order → AreTailsAfter net lengths tails (slice_index order i)

@@ -27,8 +27,8 @@ pub record AreTailsAfter (net : Network) (lengths tails : List ℕ) (e : ℕ) : 
   pub each : (a : ℕ) → a < length net.arcs → from_of net.arcs a ≡ e → IsTail net lengths (to_of net.arcs a) (slice_index tails (to_of net.arcs a))
 
 -- activity a begins at event e, and its length with the sums to e and from its end is the sum to the end event
-abbrev pub IsTight : Network → List ℕ → List ℕ → List ℕ → ℕ → ℕ → Type 0
-IsTight net lengths times tails e a =
+abbrev pub HasNoSlack : Network → List ℕ → List ℕ → List ℕ → ℕ → ℕ → Type 0
+HasNoSlack net lengths times tails e a =
     (a < length net.arcs)
     × (from_of net.arcs a ≡ e)
     × (slice_index times e + slice_index lengths a + slice_index tails (to_of net.arcs a) ≡ slice_index times net.end)

@@ -6,7 +6,7 @@ ghost use Rattle.pc_model.specs.Walk.{IsWalk, walk_sum};
 ghost use Rattle.pc_model.specs.Network.{IsLongest};
 ghost use Rattle.pc_times.specs.Times.{AreLengths, AreEarly, AreTails};
 ghost use Rattle.pc_times.specs.Picked.{IsPickedWalk, IsLongestWalk};
-ghost use Rattle.pc_times.specs.Passes.{HasBoundedWalks, IsTight};
+ghost use Rattle.pc_times.specs.Passes.{HasBoundedWalks, HasNoSlack};
 
 use crate::MAX_TIME;
 use crate::found::Longest;
@@ -69,7 +69,7 @@ pub(crate) fn picked_walk(
 {
     let mut path = Vec::with_capacity(alloc, net.events() as usize)?;
     let mut event = net.start();
-    while let Some(a) = first_tight(net, lengths, times, tails, event) {
+    while let Some(a) = first_without_slack(net, lengths, times, tails, event) {
         path.push(a)?;
         event = net.to(a);
     }
@@ -77,14 +77,20 @@ pub(crate) fn picked_walk(
 }
 
 /// The first activity at the event that lies on a longest walk.
-fn first_tight(net: &Net, lengths: &[u64], times: &[u64], tails: &[u64], event: u32) -> Option<u32>
+fn first_without_slack(
+    net: &Net,
+    lengths: &[u64],
+    times: &[u64],
+    tails: &[u64],
+    event: u32,
+) -> Option<u32>
     requires event { event < net.now.events }
     requires lengths { AreLengths net.now lengths.now }
     requires walks { HasBoundedWalks net.now lengths.now }
     requires times { AreEarly net.now lengths.now times.now }
     requires tails { AreTails net.now lengths.now tails.now }
-    ensures found { IfSome result (λ a. IsFirst (IsTight net.now lengths.now times.now tails.now event) a) }
-    ensures none { IfNone result ((a : ℕ) → IsTight net.now lengths.now times.now tails.now event a → ⊥) }
+    ensures found { IfSome result (λ a. IsFirst (HasNoSlack net.now lengths.now times.now tails.now event) a) }
+    ensures none { IfNone result ((a : ℕ) → HasNoSlack net.now lengths.now times.now tails.now event a → ⊥) }
 {
     let longest = times[net.end() as usize];
     for &a in net.out_arcs(event) {

@@ -8,7 +8,7 @@ use Rattle.pc_model.specs.declared.limits.TheConstants.{MAX_LEVEL}
 use Rattle.pc_wbs.specs.Climb.{parent_of, AreInRange, climb, HasLevel, IsLeaf, IsDepth, IsOnlyTop, IsTree}
 use Rattle.pc_wbs.specs.Refusal.{IsFirst, IsLooped, IsTooDeep}
 use Rattle.pc_wbs.specs.Links.{link_at, IsFirstChild}
-use Rattle.pc_wbs.specs.Preorder.{StandsBelow}
+use Rattle.pc_model.specs.Greatest.{StandsBelow}
 use Rattle.pc_wbs.specs.Ends.{AreEnds, AreDoubled, StayInside, IsLeastBelow, IsFirstLooped, AreLevels, AreGreatest, lesser}
 use Rattle.pc_wbs.proofs.ClimbLaws.{climb-add, climb-lower, climb-more, climb-range, HasLevel-same}
 use Rattle.pc_wbs.proofs.LoopLaws.{IsOnLoop-end, end-IsOnLoop}
@@ -126,10 +126,10 @@ AreGreatest-more xs n greatest next h e = record {
 }
   where
     newer : greatest ≤ next → StandsBelow xs (n + 1) (max greatest next)
-    newer le = let is : max greatest next ≡ next = omega arith in (n, (omega arith, e ∙ sym is))
+    newer le = let is : max greatest next ≡ next = omega arith in (n, omega arith, e ∙ sym is)
 
     keep : next ≤ greatest → StandsBelow xs n greatest → StandsBelow xs (n + 1) (max greatest next)
-    keep ge (j, (lt, is)) = let m : max greatest next ≡ greatest = omega arith in (j, (omega arith, is ∙ sym m))
+    keep ge (j, lt, is) = let m : max greatest next ≡ greatest = omega arith in (j, omega arith, is ∙ sym m)
 
     by_order : (greatest < next) ⊎ (next ≤ greatest) → (n ≡ 0) ⊎ (n ≢ 0) → StandsBelow xs (n + 1) (max greatest next)
     by_order (inl lt) zero_or = newer (omega arith)
@@ -161,7 +161,7 @@ IsDepth-greatest rows levels depth some h g = record {
 }
   where
     at : StandsBelow levels (length levels) depth → (x : ℕ) × ((x < length rows) × HasLevel rows x depth)
-    at (j, (lt, e)) =
+    at (j, lt, e) =
         let inside : j < length rows = omega (arith, h.one_each) in
         (j, (inside, rw (← e) (h.level j inside)))
 

@@ -3,10 +3,11 @@ use Rattle.std.proofs.Common.{◌≡◌, ◌≢◌, ℕ, zero, suc, ◌+◌, ◌
 use Rattle.std.specs.Prelude.{slice_index}
 use Rattle.std.proofs.lemmas.Bool.{cases_lt, cases_eq, cases_order}
 use Rattle.std.proofs.lemmas.List.{length_push, get_or_push, get_or_append_left, get_or_past}
+use Rattle.pc_model.specs.Greatest.{StandsBelow}
 use Rattle.pc_wbs.specs.declared.row.ItemRow.{ItemRow}
 use Rattle.pc_wbs.specs.Climb.{parent_of, AreInRange, climb, IsBelow, HasLevel, IsOnlyTop, IsTree}
 use Rattle.pc_wbs.specs.Links.{IsFirstChild, link_at, AreNextSiblings, IsNextBeside}
-use Rattle.pc_wbs.specs.Preorder.{StandsBelow, IsPreorder}
+use Rattle.pc_wbs.specs.Preorder.{IsPreorder}
 use Rattle.pc_wbs.specs.Precedes.{IsUnder, Parts, Precedes, IsSuccessor}
 use Rattle.pc_wbs.proofs.Pigeon.{Repeats, repeats, length-apart}
 use Rattle.pc_wbs.proofs.ClimbLaws.{climb-add, step-some, climb-range, IsBelow-self, IsBelow-parent}
@@ -168,10 +169,10 @@ IsFront-more rows xs x next h is = record {
     earlier k lt = get_or_append_left xs (x ∷ []) 0 k lt
 
     stands : (u : ℕ) → StandsBelow xs (length xs) u → StandsBelow (xs ++ x ∷ []) (length (xs ++ x ∷ [])) u
-    stands u (j, (lt, e)) = (j, (omega (arith, lt, length_push xs x), earlier j lt ∙ e))
+    stands u (j, lt, e) = (j, omega (arith, lt, length_push xs x), earlier j lt ∙ e)
 
     stands_last : StandsBelow (xs ++ x ∷ []) (length (xs ++ x ∷ [])) x
-    stands_last = (length xs, (omega (arith, length_push xs x), here))
+    stands_last = (length xs, omega (arith, length_push xs x), here)
 
     before : (t : ℕ) → Precedes rows x t → (k : ℕ) → k < length xs + 1 → Precedes rows (slice_index (xs ++ x ∷ []) k) t
     before t first =
@@ -201,7 +202,7 @@ place rows xs h u (inr past) = 0
 
 place-is : (rows : List ItemRow) (xs : List ℕ) (h : IsFront rows xs None) (u : ℕ) (d : (u < length rows) ⊎ (length rows ≤ u)) → u < length rows → (place rows xs h u d < length xs) × (slice_index xs (place rows xs h u d) ≡ u)
 unfolding place
-place-is rows xs h u (inl lt) is = (h.continues u lt).1
+place-is rows xs h u (inl lt) is = ((h.continues u lt).1, (h.continues u lt).2)
 place-is rows xs h u (inr past) is = absurd (omega arith)
 
 -- all rows are there
@@ -242,10 +243,10 @@ IsPreorder-front rows xs r t h = record {
         Precedes-self rows (slice_index xs k) none (Precedes-trans rows (slice_index xs k) (slice_index xs j) (slice_index xs k) back (h.sorted j k lt within))
 
     behind : (k p : ℕ) → k < length xs → parent_of rows (slice_index xs k) ≡ Some p → StandsBelow xs (length xs) p → StandsBelow xs k p
-    behind k p lt e (j, (within, is)) =
+    behind k p lt e (j, within, is) =
         let under : IsUnder rows (slice_index xs k) p = (p, (e, IsBelow-self rows p)) in
         ⊎_elim (λ same. let here : slice_index xs k ≡ p = ap (λ n. slice_index xs n) (sym same) ∙ is in absurd (IsUnder-self rows p none (rw here at under)))
-        (λ order. ⊎_elim (λ less. (j, (less, is))) (λ gt. absurd (never k j gt within (rw is (inl under)))) order)
+        (λ order. ⊎_elim (λ less. (j, less, is)) (λ gt. absurd (never k j gt within (rw is (inl under)))) order)
         (cases_order j k)
 
     between : (j k m : ℕ) → j < k → k < m → m < length xs → IsBelow rows (slice_index xs m) (slice_index xs j) → Precedes rows (slice_index xs j) (slice_index xs k) → IsBelow rows (slice_index xs k) (slice_index xs j)

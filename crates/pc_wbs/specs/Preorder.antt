@@ -1,11 +1,8 @@
 -- The preorder of a tree: an item, then the items below it, child by child in row order.
 use Rattle.std.specs.Prelude.{◌≡◌, ◌≢◌, ℕ, ◌<◌, ◌≤◌, List, length, slice_index, Some}
+use Rattle.pc_model.specs.Greatest.{StandsBelow}
 use Rattle.pc_wbs.specs.declared.row.ItemRow.{ItemRow}
 use Rattle.pc_wbs.specs.Climb.{parent_of, IsBelow}
-
--- x stands among the first n of the list
-abbrev pub StandsBelow : List ℕ → ℕ → ℕ → Type 0
-StandsBelow xs n x = (j : ℕ) × ((j < n) × (slice_index xs j ≡ x))
 
 -- all rows, each once; each behind its parent; those below an item right behind it, with no other row between
 -- them; and the children of an item in row order

@@ -6,11 +6,13 @@ use Rattle.pc_project.specs.Project.{Project}
 use Rattle.pc_certify.specs.Certificate.{IsCertificate}
 use Rattle.pc_certify.proofs.HeadlineLaws.{prints_whole_curve}
 use Rattle.pert_cli.specs.declared.forms.Form.{Form}
-use Rattle.pert_cli.specs.declared.forms.Form.TheVariants.{Check, Normal, Times, Summary, Value, Certify}
+use Rattle.pert_cli.specs.declared.forms.Form.TheVariants.{Check, Normal, Times, Summary, Value, Curve, Certify, Point, Outlook, Bench}
 use Rattle.pert_cli.specs.declared.status.Status.{Status}
 use Rattle.pert_cli.specs.Status.{code_of}
 use Rattle.pert_cli.specs.Certificate.{priced_in}
+use Rattle.pert_cli.specs.FormDeck.{ReadsSource}
 use Rattle.pert_cli.specs.Forms.{words_of}
+use Rattle.pert_cli.proofs.FormDeckLaws.{read_project}
 use Rattle.pert_cli.specs.Words.{AskFor}
 use Rattle.pert_cli.specs.Handing.{IsReply}
 use Rattle.pert_cli.specs.Headline.{TookWholeCurve}
@@ -25,7 +27,11 @@ only_certify Normal same = absurd cc
 only_certify Times same = absurd cc
 only_certify Summary same = absurd (omega (arith, ap (λ (words : List (List ℕ)). get_or (get_or words 0 []) 0 0) same))
 only_certify Value same = absurd cc
+only_certify Curve same = absurd cc
 only_certify Certify same = refl
+only_certify (Point limit) same = absurd cc
+only_certify (Outlook limit) same = absurd cc
+only_certify (Bench n) same = absurd cc
 
 of_deck : {X : Type 0} (left : Option (List ℕ)) (out : Side X) (project : Project) (text : List ℕ) → Took out text → IsCertificate (priced_in project) text
     → IfSome left (λ bytes. IsProjectOf bytes project) → IfSome left (TookWholeCurve out)
@@ -47,9 +53,9 @@ module _ {S O E : Type 0} (words : List (String Global)) (source : Side S) (out 
   -- where a run for `certify` ended with 0, the output took the whole curve
   pub takes_whole_curve : (status : Status) → Outcome words source out err status → answer ≡ code_of status → answer ≡ 0 → AskFor Certify words → OfDeck source (TookWholeCurve out)
   takes_whole_curve _ (done is same) code at_0 asked =
-      of_reply (source.bytes source.old) out is.form is.answer.project is.text (only_certify is.form (sym is.asked ∙ asked)) is.took is.answer.reply is.answer.deck.is
+      of_reply (source.bytes source.old) out is.form is.answer.project is.text (only_certify is.form (sym is.asked.are ∙ asked.are)) is.took is.answer.reply (read_project source is.form is.answer.project (subst ReadsSource (sym (only_certify is.form (sym is.asked.are ∙ asked.are))) refl) is.answer.deck).is
   takes_whole_curve _ (refused is same) code at_0 asked = absurd (omega (arith, code, at_0))
   takes_whole_curve _ (usage no_form took same also) code at_0 asked = absurd (omega (arith, code, at_0))
-  takes_whole_curve _ (no_memory form same also) code at_0 asked = absurd (omega (arith, code, at_0))
+  takes_whole_curve _ (no_memory form how left same also) code at_0 asked = absurd (omega (arith, code, at_0))
   takes_whole_curve _ (read_fault form rose same also) code at_0 asked = absurd (omega (arith, code, at_0))
   takes_whole_curve _ (write_fault is) code at_0 asked = absurd (omega (arith, code, at_0))

@@ -7,7 +7,7 @@ use Rattle.pert_cli.specs.Sides.{Side}
 use Rattle.pert_cli.specs.Handing.{Answers}
 
 -- a text that was written answers what follows from it
-Answers-weaker : {X : Type 0} (P Q : List ℕ → Type 0) (out : Side X) (status : Status) → ((text : List ℕ) → P text → Q text) → Answers P out status → Answers Q out status
+pub Answers-weaker : {X : Type 0} (P Q : List ℕ → Type 0) (out : Side X) (status : Status) → ((text : List ℕ) → P text → Q text) → Answers P out status → Answers Q out status
 Answers-weaker P Q out Done follows a = (a.0, follows a.0 a.1, a.2)
 Answers-weaker P Q out OutOfMemory follows a = a
 Answers-weaker P Q out WriteFault follows a = (a.0, follows a.0 a.1, a.2)

@@ -1,6 +1,7 @@
 mod ReadingLaws
 mod DecidedLaws
 mod HandingLaws
+mod FormDeckLaws
 mod OutcomeLaws
 mod ScheduleLaws
 mod OneProjectLaws
@@ -8,3 +9,4 @@ mod VerdictLaws
 mod CheckLaws
 mod CheckDecided
 mod CertifyLaws
+mod PointLaws

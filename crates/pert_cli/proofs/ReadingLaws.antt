@@ -1,6 +1,7 @@
 -- What reading a deck says of its bytes, where the source tells them.
 use Rattle.std.proofs.Common.{◌≤◌, ℕ, ◌<◌, List, ◌++◌, length, Option, Some, None, sym, ◌∙◌, ap, subst, arith, length-append, append-nil}
-use Rattle.std.specs.Prelude.{IfSome}
+use Rattle.std.specs.Prelude.{IfSome, String}
+use Rattle.std.specs.declared.alloc.Global.{Global}
 use Rattle.std.specs.Io.KnownBytes.{Consumes, IsAtEnd}
 use Rattle.pc_deck.specs.Limits.{longest_deck}
 use Rattle.pc_faults.specs.declared.fault.Fault.{Fault}
@@ -8,7 +9,10 @@ use Rattle.pert_cli.specs.Sides.{Side, IsReadToEnd, OfDeck}
 use Rattle.pert_cli.specs.Reading.{HasRefusal, too_long as took_too_much, faulty}
 use Rattle.pert_cli.specs.Verdict.{IsFault, too_long}
 use Rattle.pert_cli.specs.declared.forms.Form.{Form}
+use Rattle.pert_cli.specs.FormDeck.{AskToRead}
 use Rattle.pert_cli.specs.Outcome.{IsTurnedDown, by_deck, by_form}
+use Rattle.pert_cli.specs.Words.{AskFor}
+use Rattle.pert_cli.proofs.FormDeckLaws.{read_project, read_refusal, reads_too}
 
 -- what holds of the bytes that were read to the end holds of the deck
 pub of_the_deck : (P : List ℕ → Type 0) (left left_after : Option (List ℕ)) (bytes : List ℕ) → Consumes left left_after bytes → IsAtEnd left_after → P bytes → IfSome left P
@@ -40,7 +44,10 @@ refusal_is_read source fault (took_too_much is took) =
     weaker (source.bytes source.old) _ _ (λ bytes long short. absurd (omega (arith, long, short))) (of_a_long_deck _ _ took.0 took.1 took.2)
 refusal_is_read source fault (faulty read has) = weaker (source.bytes source.old) _ _ (λ bytes both short. read) has
 
--- a deck that is not too long was read to its end, where it or the form refuses with a fault
-pub turned_down_is_read : {S : Type 0} (form : Form) (source : Side S) (fault : Fault) → IsTurnedDown form source fault → OfDeck source (λ bytes. length bytes ≤ longest_deck → IsReadToEnd source)
-turned_down_is_read form source fault (by_deck refusal) = refusal_is_read source fault refusal
-turned_down_is_read form source fault (by_form project has denial) = weaker (source.bytes source.old) _ _ (λ bytes is short. has.read) has.is
+-- a deck that is not too long was read to its end, where it or the form refuses with a fault and reads the source
+pub turned_down_is_read : {S : Type 0} (words : List (String Global)) (form : Form) (source : Side S) (fault : Fault) → AskFor form words → AskToRead words → IsTurnedDown form source fault → OfDeck source (λ bytes. length bytes ≤ longest_deck → IsReadToEnd source)
+turned_down_is_read words form source fault asked reads (by_deck refusal) =
+    refusal_is_read source fault (read_refusal source form fault (reads_too words form reads asked) refusal)
+turned_down_is_read words form source fault asked reads (by_form project has denial) =
+    let mine = read_project source form project (reads_too words form reads asked) has in
+    weaker (source.bytes source.old) _ _ (λ bytes is short. mine.read) mine.is

@@ -1,43 +1,85 @@
 -- The table of the forms: the words of each, its name in the usage line, which texts answer it for a project, and with which
 -- faults it refuses the project of an accepted deck.
-use Rattle.std.specs.Prelude.{◌≡◌, ℕ, List, [], ◌∷◌, codes}
+use Rattle.std.specs.Prelude.{◌≡◌, ℕ, ◌^◌, ◌<◌, ◌≤◌, ⊤, List, [], ◌∷◌, codes, decimal}
 use Rattle.pc_faults.specs.declared.fault.Fault.{Fault}
 use Rattle.pc_reports.specs.Check.{check_text}
 use Rattle.pc_reports.specs.SummaryText.{IsSummaryText}
 use Rattle.pc_reports.specs.TimesText.{IsTimesText}
 use Rattle.pc_reports.specs.ValueText.{IsValueText}
+use Rattle.pc_bench.specs.Report.{IsBenchText}
+use Rattle.pc_bench.specs.declared.deck.TheConstants.{MOST_ACTIVITIES}
 use Rattle.pc_certify.specs.Certificate.{IsCertificate}
+use Rattle.pc_curve_text.specs.CurveText.{IsCurveText}
 use Rattle.pc_project.specs.Project.{Project}
 use Rattle.pert_cli.specs.declared.forms.Form.{Form}
-use Rattle.pert_cli.specs.declared.forms.Form.TheVariants.{Check, Normal, Times, Summary, Value, Certify}
+use Rattle.pert_cli.specs.declared.forms.Form.TheVariants.{Check, Normal, Times, Summary, Value, Curve, Certify, Point, Outlook, Bench}
 use Rattle.pert_cli.specs.Certificate.{priced_in}
 use Rattle.pert_cli.specs.Normal.{IsNormalText}
+use Rattle.pert_cli.specs.Outlook.{IsOutlookReply}
+use Rattle.pert_cli.specs.Point.{IsOutside, IsPointText}
 
--- the words of a form
+-- the words of a form; the number of a form is in its decimal form
 abbrev pub words_of : Form → List (List ℕ)
 words_of Check = codes "check" ∷ []
 words_of Normal = codes "normal" ∷ []
 words_of Times = codes "times" ∷ []
 words_of Summary = codes "summary" ∷ []
 words_of Value = codes "value" ∷ []
+words_of Curve = codes "curve" ∷ []
 words_of Certify = codes "certify" ∷ []
+words_of (Point limit) = codes "point" ∷ decimal limit ∷ []
+words_of (Outlook limit) = codes "outlook" ∷ decimal limit ∷ []
+words_of (Bench n) = codes "bench" ∷ decimal n ∷ []
+
+-- the number of a form is one that it may have: a length has at most 13 digits, and the benchmark's deck 1 to 4,000 activities
+abbrev pub IsNumbered : Form → Type 0
+IsNumbered Check = ⊤
+IsNumbered Normal = ⊤
+IsNumbered Times = ⊤
+IsNumbered Summary = ⊤
+IsNumbered Value = ⊤
+IsNumbered Curve = ⊤
+IsNumbered Certify = ⊤
+IsNumbered (Point limit) = limit < 10 ^ 13
+IsNumbered (Outlook limit) = limit < 10 ^ 13
+IsNumbered (Bench n) = (1 ≤ n) × (n ≤ MOST_ACTIVITIES)
+
+-- the words ask for the form: they are its words, and its number is one that they may have
+pub record IsAskedBy (form : Form) (words : List (List ℕ)) : Type 0 where
+  pub are : words ≡ words_of form
+  pub numbered : IsNumbered form
 
 -- the names of the forms, in the order of the usage line
 abbrev pub form_names : List (List ℕ)
-form_names = codes "check" ∷ codes "normal" ∷ codes "times" ∷ codes "summary" ∷ codes "value" ∷ codes "certify" ∷ []
+form_names = codes "check" ∷ codes "normal" ∷ codes "times" ∷ codes "summary" ∷ codes "value" ∷ codes "curve" ∷ codes "certify" ∷ codes "point L" ∷ codes "outlook L" ∷ codes "bench N" ∷ []
 
 -- the text answers the form: `check` with the project's code and the counts of its cards, `normal` with the schedule at
 -- the all-normal length, `times` with the times of the events and the critical path, `summary` with what the accounts add up
--- to by item and by level, `value` with the forecast and what the work is worth, `certify` with a certified text of the whole
--- time-cost curve, whose two walks are the picked ones
+-- to by item and by level, `value` with the forecast and what the work is worth, `curve` with the breakpoints of the
+-- time-cost curve, `certify` with a certified text of the whole time-cost curve, whose two walks are the picked ones, `point`
+-- with a schedule of least cost for the length, `outlook` with such a schedule and what each item costs by it, `bench` with
+-- the figures of the curve of its own deck
 abbrev pub IsTextOf : Form → Project → List ℕ → Type 0
 IsTextOf Check project text = text ≡ check_text project
 IsTextOf Normal project text = IsNormalText project text
 IsTextOf Times project text = IsTimesText project text
 IsTextOf Summary project text = IsSummaryText project text
 IsTextOf Value project text = IsValueText project text
+IsTextOf Curve project text = IsCurveText (priced_in project) text
 IsTextOf Certify project text = IsCertificate (priced_in project) text
+IsTextOf (Point limit) project text = IsPointText project limit text
+IsTextOf (Outlook limit) project text = IsOutlookReply project limit text
+IsTextOf (Bench n) project text = IsBenchText n (priced_in project) text
 
--- the form refuses the project with the fault; none of these forms refuses one
+-- the form refuses the project with the fault: `point` and `outlook` where the length lies outside the range of the project
 abbrev pub IsDenial : Form → Project → Fault → Type 0
-IsDenial form project fault = ⊥
+IsDenial Check project fault = ⊥
+IsDenial Normal project fault = ⊥
+IsDenial Times project fault = ⊥
+IsDenial Summary project fault = ⊥
+IsDenial Value project fault = ⊥
+IsDenial Curve project fault = ⊥
+IsDenial Certify project fault = ⊥
+IsDenial (Point limit) project fault = IsOutside (priced_in project) limit fault
+IsDenial (Outlook limit) project fault = IsOutside (priced_in project) limit fault
+IsDenial (Bench n) project fault = ⊥

@@ -1,10 +1,13 @@
 pub mod Normal
+pub mod Point
+pub mod Outlook
 pub mod Forms
 pub mod Words
 pub mod Verdict
 pub mod Sides
 pub mod Handing
 pub mod Reading
+pub mod FormDeck
 pub mod Outcome
 pub mod Status
 pub mod Ending

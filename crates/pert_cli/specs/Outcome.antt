@@ -7,23 +7,24 @@ use Rattle.pc_project.specs.Project.{Project}
 use Rattle.pert_cli.specs.declared.status.Status.{Status}
 use Rattle.pert_cli.specs.declared.status.Status.TheVariants.{Done, Refused, Usage, OutOfMemory, ReadFault, WriteFault}
 use Rattle.pert_cli.specs.declared.forms.Form.{Form}
-use Rattle.pert_cli.specs.Words.{AskFor, AskForOne, AskForNone, usage_text}
+use Rattle.pert_cli.specs.Words.{AskFor, AskForNone, usage_text}
 use Rattle.pert_cli.specs.Sides.{Side, HadFault, IsUntouched, Took, TookFront}
 use Rattle.pert_cli.specs.Verdict.{IsProjectOf, RefusedBy}
-use Rattle.pert_cli.specs.Reading.{HasProject, HasRefusal}
+use Rattle.pert_cli.specs.FormDeck.{AskToRead, HasProjectFor, HasRefusalFor, IsLeftBy, ReadsSource}
 use Rattle.pert_cli.specs.Forms.{IsDenial}
 use Rattle.pert_cli.specs.Handing.{IsReply}
 
--- the deck was read to its end and is accepted, the form does not refuse its project, and the text answers the form for it
+-- the form's deck was read to its end and is accepted, the form does not refuse its project, and the text answers the form for it
 pub record IsAnswer {S : Type 0} (form : Form) (source : Side S) (text : List ℕ) : Type 0 where
   pub project : Project
-  pub deck : HasProject source project
+  pub deck : HasProjectFor form source project
   pub reply : IsReply form project text
 
--- the deck is refused with the fault; or it was read to its end and is accepted, and the form refuses its project with the fault
+-- the form's deck is refused with the fault; or it was read to its end and is accepted, and the form refuses its project with the
+-- fault
 pub data IsTurnedDown {S : Type 0} (form : Form) (source : Side S) (fault : Fault) : Type 0 where
-  by_deck : HasRefusal source fault → IsTurnedDown form source fault
-  by_form : (project : Project) → HasProject source project → IsDenial form project fault → IsTurnedDown form source fault
+  by_deck : HasRefusalFor form source fault → IsTurnedDown form source fault
+  by_form : (project : Project) → HasProjectFor form source project → IsDenial form project fault → IsTurnedDown form source fault
 
 -- the words ask for a form, and the output took its answer
 pub record IsDone {S O : Type 0} (words : List (String Global)) (source : Side S) (out : Side O) : Type 0 where
@@ -69,8 +70,8 @@ pub data Outcome {S O E : Type 0} (words : List (String Global)) (source : Side 
   done : IsDone words source out → IsUntouched err → Outcome words source out err Done
   refused : IsRefused words source err → IsUntouched out → Outcome words source out err Refused
   usage : AskForNone words → Took err usage_text → IsUntouched source → IsUntouched out → Outcome words source out err Usage
-  no_memory : AskForOne words → IsUntouched out → IsUntouched err → Outcome words source out err OutOfMemory
-  read_fault : AskForOne words → HadFault source → IsUntouched out → IsUntouched err → Outcome words source out err ReadFault
+  no_memory : (form : Form) → AskFor form words → IsLeftBy form source → IsUntouched out → IsUntouched err → Outcome words source out err OutOfMemory
+  read_fault : AskToRead words → HadFault source → IsUntouched out → IsUntouched err → Outcome words source out err ReadFault
   write_fault : IsCut words source out err → Outcome words source out err WriteFault
 
 -- the deck is accepted, and the form that the words ask for does not refuse its project

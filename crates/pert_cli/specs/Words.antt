@@ -3,11 +3,11 @@ use Rattle.std.specs.Prelude.{◌≡◌, ℕ, List, [], ◌∷◌, ◌++◌, map
 use Rattle.std.specs.String.{string_bytes}
 use Rattle.std.specs.declared.alloc.Global.{Global}
 use Rattle.pert_cli.specs.declared.forms.Form.{Form}
-use Rattle.pert_cli.specs.Forms.{form_names, words_of}
+use Rattle.pert_cli.specs.Forms.{form_names, IsAskedBy}
 
--- the words ask for the form: they are the form's words
+-- the words ask for the form
 abbrev pub AskFor : Form → List (String Global) → Type 0
-AskFor form words = map string_bytes words ≡ words_of form
+AskFor form words = IsAskedBy form (map string_bytes words)
 
 -- the words ask for some form
 abbrev pub AskForOne : List (String Global) → Type 0

@@ -35,9 +35,21 @@ pub(crate) fn deliver<A: Answer + Drop, O: Sink>(
     ensures built { IfOk built (λ answer. Answers (λ text. text ≡ A.text answer project.now) (side O.taken O.faults out.old out.new) result) }
     ensures none { OnErr built (Answers (λ text. ⊥) (side O.taken O.faults out.old out.new) result) }
 {
-    let Ok(mut answer) = built else {
+    let Ok(answer) = built else {
         return Status::OutOfMemory;
     };
+    hand(answer, project, out)
+}
+
+/// Writes an answer that was put together.
+pub(crate) fn hand<A: Answer + Drop, O: Sink>(
+    mut answer: A,
+    project: &Project,
+    out: &mut O,
+) -> Status
+    requires { A.IsFor answer project.now }
+    ensures { Answers (λ text. text ≡ A.text answer project.now) (side O.taken O.faults out.old out.new) result }
+{
     match answer.write_to(project, out) {
         Ok(()) => Status::Done,
         Err(Failed) => Status::WriteFault,

@@ -1,17 +1,15 @@
 //! `certify`: the certificate of the time-cost curve.
-ghost use Rattle.std.specs.Prelude.{◌≡◌, ◌+◌, ◌*◌, ◌≤◌, length, IfOk};
-ghost use Rattle.pc_cells.specs.Spans.{free_of};
+ghost use Rattle.std.specs.Prelude.{◌≡◌};
 ghost use Rattle.pert_cli.specs.Handing.{Answers, IsReply};
 ghost use Rattle.pert_cli.specs.Sides.{side};
 ghost use Rattle.pert_cli.specs.declared.forms.Form.TheVariants.{Certify};
 
+use crate::solving::solver_region;
 use crate::status::Status;
-use pc_cells::Region;
 use pc_certify::CertifyError;
 use pc_edges::Sink;
-use pc_flow::cells_needed;
 use pc_project::Project;
-use std::alloc::{AllocError, Global};
+use std::alloc::Global;
 
 /// The words of the form.
 pub(crate) const WORDS: &[u8] = b"certify";
@@ -31,18 +29,4 @@ pub(crate) fn answer<O: Sink>(alloc: Global, project: &Project, out: &mut O) -> 
         Err(CertifyError::WriteFault) => Status::WriteFault,
         Err(CertifyError::OutOfMemory) => Status::OutOfMemory,
     }
-}
-
-/// The memory that a solver of the project's curve works in.
-fn solver_region(alloc: Global, project: &Project) -> Result<Region, AllocError>
-    ensures { IfOk result (λ region. 8 * project.now.network.events + 6 * length project.now.network.arcs
-        + 2 * length project.now.pieces + 16 ≤ free_of region) }
-{
-    let net = project.net();
-    let cells = cells_needed(
-        net.events() as usize,
-        net.activities() as usize,
-        project.pieces().len(),
-    );
-    Region::with_cells(alloc, cells)
 }

@@ -1,19 +1,23 @@
 //! The table of the forms: what the words can ask for, and what answers it.
 //!
-//! A form has a variant of `Form`, and a line in `usage`, in `of_one_word` and in `answer`; the rest of it is in a file of its
-//! own.
+//! A form has a variant of `Form`, and a line in `usage`, in `of_one_word` or `of_two_words`, and in `answer`; the rest of it
+//! is in a file of its own.
 ghost use Rattle.std.specs.Prelude.{◌≡◌, ◌+◌, ◌≤◌, [], ◌∷◌, ◌++◌, length, IfNone, IfSome};
-ghost use Rattle.pert_cli.specs.Forms.{words_of};
+ghost use Rattle.pert_cli.specs.FormDeck.{ReadsSource};
+ghost use Rattle.pert_cli.specs.Forms.{IsAskedBy};
 ghost use Rattle.pert_cli.specs.Handing.{Replies};
 ghost use Rattle.pert_cli.specs.Sides.{side};
 ghost use Rattle.pert_cli.specs.declared.forms.Form.{Form as TheForm};
+ghost use Rattle.pert_cli.specs.declared.forms.Form.TheVariants.{Bench};
 ghost use Rattle.pert_cli.specs.Words.{AskFor, AskForNone, usage_text};
 
 use crate::status::Status;
-use crate::{certify, check, normal, summary, times, value};
+use crate::{bench, certify, check, curve, normal, outlook, point, summary, times, value};
 use arrayvec::ArrayVec;
+use pc_bench::MOST_ACTIVITIES;
 use pc_edges::Sink;
 use pc_project::Project;
+use pc_text::read_number;
 use std::alloc::Global;
 
 /// The room of the usage line.
@@ -29,8 +33,12 @@ pub(crate) fn usage() -> ArrayVec<u8, USAGE_ROOM>
     append(&mut line, b" | ", times::WORDS);
     append(&mut line, b" | ", summary::WORDS);
     append(&mut line, b" | ", value::WORDS);
+    append(&mut line, b" | ", curve::WORDS);
     append(&mut line, b" | ", certify::WORDS);
-    append(&mut line, b"\n", b"");
+    append(&mut line, b" | ", point::WORDS);
+    append(&mut line, b" L | ", outlook::WORDS);
+    append(&mut line, b" L | ", bench::WORDS);
+    append(&mut line, b" N\n", b"");
     line
 }
 
@@ -56,8 +64,16 @@ pub(crate) enum Form {
     Summary,
     /// The forecast, and what the work is worth.
     Value,
+    /// The breakpoints of the time-cost curve.
+    Curve,
     /// The certificate of the time-cost curve.
     Certify,
+    /// A schedule of least cost for this length.
+    Point(u64),
+    /// A schedule of least cost for this length, and what each item costs by it.
+    Outlook(u64),
+    /// Figures of the curve of the benchmark's deck with so many activities.
+    Bench(u64),
 }
 
 impl Form {
@@ -68,14 +84,15 @@ impl Form {
     {
         match words {
             [word] => Form::of_one_word(word.as_bytes()),
+            [word, number] => Form::of_two_words(word.as_bytes(), number.as_bytes()),
             _ => None,
         }
     }
 
     /// The form of this word alone.
     fn of_one_word(word: &[u8]) -> Option<Form>
-        ensures form { IfSome result (λ form. word.now ∷ [] ≡ words_of form) }
-        ensures none { IfNone result ((form : Form) → word.now ∷ [] ≡ words_of form → ⊥) }
+        ensures form { IfSome result (λ form. IsAskedBy form (word.now ∷ [])) }
+        ensures none { IfNone result ((form : Form) → IsAskedBy form (word.now ∷ []) → ⊥) }
     {
         if word == check::WORDS {
             Some(Form::Check)
@@ -87,6 +104,8 @@ impl Form {
             Some(Form::Summary)
         } else if word == value::WORDS {
             Some(Form::Value)
+        } else if word == curve::WORDS {
+            Some(Form::Curve)
         } else if word == certify::WORDS {
             Some(Form::Certify)
         } else {
@@ -94,9 +113,45 @@ impl Form {
         }
     }
 
-    /// Writes on `out` what the form asks for of a project. All memory is taken before the first byte is written.
-    ///
-    /// `err` is for the fault with which a form refuses a project; none of these forms refuses one.
+    /// The form of this word with a number behind it.
+    fn of_two_words(word: &[u8], number: &[u8]) -> Option<Form>
+        ensures form { IfSome result (λ form. IsAskedBy form (word.now ∷ number.now ∷ [])) }
+        ensures none { IfNone result ((form : Form) → IsAskedBy form (word.now ∷ number.now ∷ []) → ⊥) }
+    {
+        if word == point::WORDS {
+            read_number(number).map(Form::Point)
+        } else if word == outlook::WORDS {
+            read_number(number).map(Form::Outlook)
+        } else if word == bench::WORDS {
+            read_number(number)
+                .filter(|n| (1..=MOST_ACTIVITIES).contains(n))
+                .map(Form::Bench)
+        } else {
+            None
+        }
+    }
+
+    /// How many activities the deck has that the form has of its own; none, where it reads the source's.
+    pub(crate) fn bench(self) -> Option<u64>
+        ensures own { IfSome result (λ n. self ≡ Bench n) }
+        ensures none { IfNone result (ReadsSource self) }
+    {
+        match self {
+            Form::Bench(n) => Some(n),
+            Form::Check
+            | Form::Normal
+            | Form::Times
+            | Form::Summary
+            | Form::Value
+            | Form::Curve
+            | Form::Certify
+            | Form::Point(_)
+            | Form::Outlook(_) => None,
+        }
+    }
+
+    /// Writes on `out` what the form asks for of a project, or on `err` the fault with which it refuses the project. All memory
+    /// is taken before the first byte is written.
     pub(crate) fn answer<O: Sink, E: Sink>(
         self,
         alloc: Global,
@@ -112,7 +167,11 @@ impl Form {
             Form::Times => times::answer(alloc, project, out),
             Form::Summary => summary::answer(alloc, project, out),
             Form::Value => value::answer(alloc, project, out),
+            Form::Curve => curve::answer(alloc, project, out),
             Form::Certify => certify::answer(alloc, project, out),
+            Form::Point(limit) => point::answer(alloc, limit, project, out, err),
+            Form::Outlook(limit) => outlook::answer(alloc, limit, project, out, err),
+            Form::Bench(n) => bench::answer(alloc, n, project, out),
         }
     }
 }

@@ -2,16 +2,22 @@
 #![tactic(auto)]
 
 mod answer;
+mod bench;
 mod certificate;
 mod certify;
+mod cheapest;
 mod check;
+mod curve;
 mod ending;
 mod forms;
 mod normal;
+mod outlook;
+mod point;
 mod reading;
 mod refusing;
 mod schedule;
 mod sending;
+mod solving;
 mod status;
 mod summary;
 mod telling;
@@ -22,6 +28,8 @@ mod value;
 pub use crate::certificate::check_run;
 pub use crate::top::run;
 
+#[cfg(test)]
+mod bench_tests;
 #[cfg(test)]
 mod check_tests;
 #[cfg(test)]

@@ -121,7 +121,25 @@ ACT C 7 2 0\n\
 CLOSE\n\
 END\n";
 
-const USAGE: &[u8] = b"usage: pert check | normal | times | summary | value | certify\n";
+const BREAKS: &[u8] = b"9 45 3\n7 51 7\n5 65 -\n";
+
+// The length lies between two breakpoints.
+const POINT_6: &[u8] =
+    b"LENGTH 6\nCOST 58\nEVENT S 0\nEVENT M 2\nEVENT T 6\nACT A 2\nACT B 4\nACT C 6\n";
+
+const OUTLOOK_6: &[u8] =
+    b"LENGTH 6\nCOST 58\nEVENT S 0\nEVENT M 2\nEVENT T 6\nACT A 2\nACT B 4\nACT C 6\n\
+ITEM             LV         BUDGET        OUTLOOK         CHANGE TITLE\n\
+1                 1             45             58             13 Whole\n\
+1.1               2             25             33              8 Frame, north\n\
+1.2               2             20             25              5 Roof\n";
+
+const TOO_SHORT: &[u8] = b"F32 record 0: length 4 is outside 5 to 9\n";
+
+const TOO_LONG: &[u8] = b"F32 record 0: length 10 is outside 5 to 9\n";
+
+const USAGE: &[u8] =
+    b"usage: pert check | normal | times | summary | value | curve | certify | point L | outlook L | bench N\n";
 
 const NO_PROJECT: &[u8] = b"F3 record 1: first card is not PROJECT\n";
 
@@ -169,24 +187,30 @@ fn left_by(alloc: Global, words: &[&str], deck: &[u8], edges: Edges) -> Result<L
     })
 }
 
-// A form and a deck, with the status, the output and the error output that they give.
-const RUNS: [(&str, &[u8], u8, &[u8], &[u8]); 9] = [
-    ("check", WHOLE, 0, COUNTS, b""),
-    ("normal", WHOLE, 0, SCHEDULE, b""),
-    ("times", WHOLE, 0, TIMES, b""),
-    ("summary", AT_WORK, 0, SUMMARY, b""),
-    ("value", AT_WORK, 0, VALUE, b""),
-    ("certify", WHOLE, 0, CERTIFICATE, b""),
-    ("check", b"END\n", 1, b"", NO_PROJECT),
+// Words that ask for a form and a deck, with the status, the output and the error output that they give.
+const RUNS: [(&[&str], &[u8], u8, &[u8], &[u8]); 15] = [
+    (&["check"], WHOLE, 0, COUNTS, b""),
+    (&["normal"], WHOLE, 0, SCHEDULE, b""),
+    (&["times"], WHOLE, 0, TIMES, b""),
+    (&["summary"], AT_WORK, 0, SUMMARY, b""),
+    (&["value"], AT_WORK, 0, VALUE, b""),
+    (&["curve"], WHOLE, 0, BREAKS, b""),
+    (&["certify"], WHOLE, 0, CERTIFICATE, b""),
+    (&["point", "6"], WHOLE, 0, POINT_6, b""),
+    (&["outlook", "6"], WHOLE, 0, OUTLOOK_6, b""),
+    (&["outlook", "4"], WHOLE, 1, b"", TOO_SHORT),
+    (&["point", "4"], WHOLE, 1, b"", TOO_SHORT),
+    (&["point", "10"], WHOLE, 1, b"", TOO_LONG),
+    (&["check"], b"END\n", 1, b"", NO_PROJECT),
     (
-        "check",
+        &["point", "6"],
         NO_ITEMS,
         1,
         b"",
         b"F14 record 5: unknown item 1.1\n",
     ),
     (
-        "times",
+        &["times"],
         ROUND,
         1,
         b"",
@@ -196,8 +220,8 @@ const RUNS: [(&str, &[u8], u8, &[u8], &[u8]); 9] = [
 
 #[test]
 fn answers_or_refuses_decks(rt: HostRuntime) -> Result<(), Fail> {
-    for (word, deck, status, out, err) in RUNS {
-        let left = left_by(rt.alloc(), &[word], deck, SOUND)?;
+    for (words, deck, status, out, err) in RUNS {
+        let left = left_by(rt.alloc(), words, deck, SOUND)?;
         assert_eq!(rt; left.status, status);
         assert_eq!(rt; left.out.as_slice(), out);
         assert_eq!(rt; left.err.as_slice(), err);
@@ -206,7 +230,21 @@ fn answers_or_refuses_decks(rt: HostRuntime) -> Result<(), Fail> {
 }
 
 // Words that ask for no form.
-const WORDS: [&[&str]; 5] = [&[], &["NORMAL"], &["normal", "check"], &["times "], &[""]];
+const WORDS: [&[&str]; 13] = [
+    &[],
+    &["NORMAL"],
+    &["normal", "check"],
+    &["times "],
+    &[""],
+    &["point"],
+    &["point", "06"],
+    &["point", "-1"],
+    &["point", ""],
+    &["point", "12345678901234"],
+    &["point", "6", "7"],
+    &["6", "point"],
+    &["curve", "6"],
+];
 
 #[test]
 fn refuses_words(rt: HostRuntime) -> Result<(), Fail> {
@@ -290,20 +328,24 @@ fn a_failing_push_of_a_refusal_leaves_a_front(rt: HostRuntime) -> Result<(), Fai
     Ok(())
 }
 
-// Each form, a deck, and the form's text.
-const FORMS: [(&str, &[u8], &[u8]); 6] = [
-    ("check", WHOLE, COUNTS),
-    ("normal", WHOLE, SCHEDULE),
-    ("times", WHOLE, TIMES),
-    ("summary", AT_WORK, SUMMARY),
-    ("value", AT_WORK, VALUE),
-    ("certify", WHOLE, CERTIFICATE),
+// The words of each form, a deck, and the form's text.
+const FORMS: [(&[&str], &[u8], &[u8]); 9] = [
+    (&["check"], WHOLE, COUNTS),
+    (&["normal"], WHOLE, SCHEDULE),
+    (&["times"], WHOLE, TIMES),
+    (&["summary"], AT_WORK, SUMMARY),
+    (&["value"], AT_WORK, VALUE),
+    (&["curve"], WHOLE, BREAKS),
+    (&["certify"], WHOLE, CERTIFICATE),
+    (&["point", "6"], WHOLE, POINT_6),
+    (&["outlook", "6"], WHOLE, OUTLOOK_6),
 ];
 
 #[test]
 fn an_output_fails_in_each_form(rt: HostRuntime) -> Result<(), Fail> {
-    for (word, deck, text) in FORMS {
-        let small = left_by(rt.alloc(), &[word], deck, Edges { room: 5, ..SOUND })?;
+    for (words, deck, text) in FORMS {
+        let small = left_by(rt.alloc(), words, deck, Edges { room: 5, ..SOUND })?;
+        let word = words[0];
         assert_eq!(rt; small.status, 5, "{word}");
         assert_eq!(rt; small.out.as_slice(), &text[..5], "{word}");
         assert!(rt; small.err.is_empty());
@@ -314,13 +356,14 @@ fn an_output_fails_in_each_form(rt: HostRuntime) -> Result<(), Fail> {
 // One push of the whole text, and then the flush. No clause asks for a flush: what is seen of one is that it fails.
 #[test]
 fn each_form_is_flushed(rt: HostRuntime) -> Result<(), Fail> {
-    for (word, deck, text) in FORMS {
+    for (words, deck, text) in FORMS {
+        let word = words[0];
         for (failing_push, status, taken) in [(1, 5, 0), (2, 5, text.len()), (3, 0, text.len())] {
             let edges = Edges {
                 failing_push,
                 ..SOUND
             };
-            let left = left_by(rt.alloc(), &[word], deck, edges)?;
+            let left = left_by(rt.alloc(), words, deck, edges)?;
             assert_eq!(rt; left.status, status, "{word} {failing_push}");
             assert_eq!(rt;
                 left.out.as_slice(),

@@ -1,7 +1,9 @@
 //! The top call.
 ghost use Rattle.std.specs.Prelude.{◌≡◌, ◌≢◌, ℕ, List, ◌≤◌, ◌⊎◌, length};
 ghost use Rattle.pc_deck.specs.Limits.{longest_deck};
+ghost use Rattle.pert_cli.specs.declared.forms.Form.{Form as TheForm};
 ghost use Rattle.pert_cli.specs.declared.forms.Form.TheVariants.{Certify};
+ghost use Rattle.pert_cli.specs.FormDeck.{AskToRead, IsOwnDeck};
 ghost use Rattle.pert_cli.specs.Headline.{TookWholeCurve};
 ghost use Rattle.pert_cli.specs.Words.{AskFor, AskForOne, AskForNone, usage_text};
 ghost use Rattle.pert_cli.specs.Sides.{side, HadFault, HadNoFault, IsReadToEnd, OfDeck, Took};
@@ -9,7 +11,7 @@ ghost use Rattle.pert_cli.specs.Verdict.{AcceptedBy, RefusedBy};
 ghost use Rattle.pert_cli.specs.Outcome.{Outcome, IsAcceptedFor, IsCut, IsDone, IsRefused, IsRefusedFor};
 
 use crate::forms::{Form, usage};
-use crate::reading::{NoProject, read_project};
+use crate::reading::{NoProject, project_for};
 use crate::refusing::refuse;
 use crate::sending::send;
 use crate::status::Status;
@@ -19,10 +21,12 @@ use std::alloc::Global;
 /// Does what the words ask for: reads a deck from `source`, writes its answer on `out`, or on `err` why there is none.
 ///
 /// The words are one of the forms: `check` asks how many cards of each kind an accepted deck has, `normal` for the
-/// schedule at the all-normal length, `times` for the times of the events and the critical path, and `certify` for the
-/// certificate of the time-cost curve. The words come
-/// first, then the whole deck, then its faults, then all memory that the answer needs, then the answer and a flush. The
-/// answer of the call is the status with which the program ends.
+/// schedule at the all-normal length, `times` for the times of the events and the critical path, `summary` for what the
+/// accounts add up to, `value` for the forecast and what the work is worth, `curve` for the breakpoints of the time-cost
+/// curve, `certify` for its certificate, `point L` for a schedule of least cost for the length L, `outlook L` for that and
+/// what each item costs by it. `bench N` asks for figures of the curve of a deck of its own, and reads none. The words come
+/// first, then the whole deck, then its faults, then whether the form refuses it and all memory that the answer needs, then
+/// the answer and a flush. The answer of the call is the status with which the program ends.
 pub fn run<S: Source, O: Sink, E: Sink>(
     alloc: Global,
     words: &[String],
@@ -32,7 +36,7 @@ pub fn run<S: Source, O: Sink, E: Sink>(
 ) -> u8
     ensures statuses { result ≤ 5 }
 
-    // 0: the words ask for a form, the deck was read to its end, deck and form accept it, and `out` took the form's answer.
+    // 0: the words ask for a form, its deck was read to its end, deck and form accept it, and `out` took the form's answer.
     ensures done { result ≡ 0 → IsDone words.now (side S.left S.faults source.old source.new) (side O.taken O.faults out.old out.new) }
     ensures done_only { result ≡ 0 → err.new ≡ err.old }
 
@@ -43,9 +47,9 @@ pub fn run<S: Source, O: Sink, E: Sink>(
     ensures headline { result ≡ 0 → AskFor Certify words.now → OfDeck (side S.left S.faults source.old source.new)
         (TookWholeCurve (side O.taken O.faults out.old out.new)) }
 
-    // 1: the words ask for a form, the deck or the form refuses with a fault, and `err` took the line of the fault.
+    // 1: the words ask for a form, its deck or the form refuses with a fault, and `err` took the line of the fault.
     ensures refused { result ≡ 1 → IsRefused words.now (side S.left S.faults source.old source.new) (side E.taken E.faults err.old err.new) }
-    ensures refused_read { result ≡ 1 → OfDeck (side S.left S.faults source.old source.new)
+    ensures refused_read { result ≡ 1 → AskToRead words.now → OfDeck (side S.left S.faults source.old source.new)
         (λ bytes. length bytes ≤ longest_deck → IsReadToEnd (side S.left S.faults source.old source.new)) }
     ensures refused_only { result ≡ 1 → out.new ≡ out.old }
 
@@ -58,8 +62,9 @@ pub fn run<S: Source, O: Sink, E: Sink>(
     // 3: memory ran out, before anything was written.
     ensures no_memory { result ≡ 3 → (out.new ≡ out.old) × (err.new ≡ err.old) }
 
-    // 4: the deck could not be read.
+    // 4: the deck could not be read. It comes only where the words ask for a form that reads it.
     ensures read_fault { result ≡ 4 → HadFault (side S.left S.faults source.old source.new) }
+    ensures read_fault_reads { result ≡ 4 → AskToRead words.now }
     ensures read_fault_only { result ≡ 4 → (out.new ≡ out.old) × (err.new ≡ err.old) }
 
     // 5: a fault of `out` or `err` came in the answer, the line of a fault or the usage line.
@@ -72,14 +77,21 @@ pub fn run<S: Source, O: Sink, E: Sink>(
     // No deck is both accepted and refused.
     ensures one_verdict { (bytes : List ℕ) → AcceptedBy bytes → RefusedBy bytes → ⊥ }
 
-    // Where no fault came, the words and the deck decide, but for want of memory.
+    // A form that has a deck of its own reads nothing.
+    ensures unread { (form : TheForm) (deck : List ℕ) → AskFor form words.now → IsOwnDeck form deck → source.new ≡ source.old }
+
+    // Where no fault came, the words and the deck decide, but for want of memory: the deck of the source, or the form's own.
     ensures words_refused { AskForNone words.now → HadNoFault (side E.taken E.faults err.old err.new) → result ≡ 2 }
-    ensures deck_accepted { AskForOne words.now → OfDeck (side S.left S.faults source.old source.new) (λ bytes. IsAcceptedFor words.now bytes
+    ensures deck_accepted { AskToRead words.now → OfDeck (side S.left S.faults source.old source.new) (λ bytes. IsAcceptedFor words.now bytes
         → HadNoFault (side S.left S.faults source.old source.new)
         → HadNoFault (side O.taken O.faults out.old out.new) → (result ≡ 0) ⊎ (result ≡ 3)) }
-    ensures deck_refused { AskForOne words.now → OfDeck (side S.left S.faults source.old source.new) (λ bytes. IsRefusedFor words.now bytes
+    ensures deck_refused { AskToRead words.now → OfDeck (side S.left S.faults source.old source.new) (λ bytes. IsRefusedFor words.now bytes
         → HadNoFault (side S.left S.faults source.old source.new)
         → HadNoFault (side E.taken E.faults err.old err.new) → (result ≡ 1) ⊎ (result ≡ 3)) }
+    ensures own_accepted { (form : TheForm) (deck : List ℕ) → AskFor form words.now → IsOwnDeck form deck → IsAcceptedFor words.now deck
+        → HadNoFault (side O.taken O.faults out.old out.new) → (result ≡ 0) ⊎ (result ≡ 3) }
+    ensures own_refused { (form : TheForm) (deck : List ℕ) → AskFor form words.now → IsOwnDeck form deck → IsRefusedFor words.now deck
+        → HadNoFault (side E.taken E.faults err.old err.new) → (result ≡ 1) ⊎ (result ≡ 3) }
 {
     outcome(alloc, words, source, out, err).code()
 }
@@ -101,7 +113,7 @@ fn outcome<S: Source, O: Sink, E: Sink>(
             Err(Failed) => Status::WriteFault,
         };
     };
-    match read_project(alloc, source) {
+    match project_for(alloc, form, source) {
         Ok(project) => form.answer(alloc, &project, out, err),
         Err(NoProject::Refused(fault)) => refuse(alloc, &fault, err),
         Err(NoProject::ReadFault) => Status::ReadFault,

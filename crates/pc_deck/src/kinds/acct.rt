@@ -3,7 +3,7 @@ ghost use Rattle.std.specs.Prelude.{refl};
 ghost use Rattle.pc_deck.specs.Acct.{account_slots, account_of};
 
 use crate::card::{Card, Coded};
-use crate::field::{Flaw, read_amount, read_code, read_title};
+use crate::field::{Misfit, read_amount, read_code, read_title};
 use crate::form::{Form, MONEY, Slot};
 use pc_model::MAX_COST;
 use pc_records::Row;
@@ -47,13 +47,13 @@ impl Card for AcctCard {
         5
     }
 
-    fn read(row: u32, fields: &Row) -> Result<AcctCard, Flaw> {
+    fn read(row: u32, fields: &Row) -> Result<AcctCard, Misfit> {
         Ok(AcctCard {
             row,
-            code: read_code(fields.field(1))?,
-            item: read_code(fields.field(2))?,
-            budget: read_amount(fields.field(3), 0, MAX_COST)?,
-            title: read_title(fields.field(4))?,
+            code: read_code(fields, 2)?,
+            item: read_code(fields, 3)?,
+            budget: read_amount(fields, 4, 0, MAX_COST)?,
+            title: read_title(fields, 5)?,
         })
     }
 }

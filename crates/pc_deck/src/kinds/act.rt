@@ -3,7 +3,7 @@ ghost use Rattle.std.specs.Prelude.{refl};
 ghost use Rattle.pc_deck.specs.Act.{act_slots, act_of};
 
 use crate::card::{Card, Coded};
-use crate::field::{Flaw, read_amount, read_code, read_title};
+use crate::field::{Misfit, read_amount, read_code, read_title};
 use crate::form::{DURATION, Form, MONEY, Slot};
 use pc_model::{MAX_COST, MAX_DURATION, MAX_SLOPE};
 use pc_records::Row;
@@ -68,21 +68,21 @@ impl Card for ActCard {
         13
     }
 
-    fn read(row: u32, fields: &Row) -> Result<ActCard, Flaw> {
+    fn read(row: u32, fields: &Row) -> Result<ActCard, Misfit> {
         Ok(ActCard {
             row,
-            code: read_code(fields.field(1))?,
-            from: read_code(fields.field(2))?,
-            to: read_code(fields.field(3))?,
-            item: read_code(fields.field(4))?,
-            opt: read_amount(fields.field(5), 0, MAX_DURATION)?,
-            likely: read_amount(fields.field(6), 0, MAX_DURATION)?,
-            pess: read_amount(fields.field(7), 0, MAX_DURATION)?,
-            normal: read_amount(fields.field(8), 0, MAX_DURATION)?,
-            crash: read_amount(fields.field(9), 0, MAX_DURATION)?,
-            cost: read_amount(fields.field(10), 0, MAX_COST)?,
-            slope: read_amount(fields.field(11), 0, MAX_SLOPE)?,
-            title: read_title(fields.field(12))?,
+            code: read_code(fields, 2)?,
+            from: read_code(fields, 3)?,
+            to: read_code(fields, 4)?,
+            item: read_code(fields, 5)?,
+            opt: read_amount(fields, 6, 0, MAX_DURATION)?,
+            likely: read_amount(fields, 7, 0, MAX_DURATION)?,
+            pess: read_amount(fields, 8, 0, MAX_DURATION)?,
+            normal: read_amount(fields, 9, 0, MAX_DURATION)?,
+            crash: read_amount(fields, 10, 0, MAX_DURATION)?,
+            cost: read_amount(fields, 11, 0, MAX_COST)?,
+            slope: read_amount(fields, 12, 0, MAX_SLOPE)?,
+            title: read_title(fields, 13)?,
         })
     }
 }

@@ -2,7 +2,7 @@
 ghost use Rattle.pc_deck.specs.AsOf.{as_of_slots, as_of_of};
 
 use crate::card::Card;
-use crate::field::{Flaw, read_date};
+use crate::field::{Misfit, read_date};
 use crate::form::{Form, Slot};
 use pc_days::Day;
 use pc_records::Row;
@@ -37,10 +37,10 @@ impl Card for AsOfCard {
         2
     }
 
-    fn read(row: u32, fields: &Row) -> Result<AsOfCard, Flaw> {
+    fn read(row: u32, fields: &Row) -> Result<AsOfCard, Misfit> {
         Ok(AsOfCard {
             row,
-            day: read_date(fields.field(1))?,
+            day: read_date(fields, 2)?,
         })
     }
 }

@@ -2,7 +2,7 @@
 ghost use Rattle.pc_deck.specs.Load.{load_slots, load_of};
 
 use crate::card::Card;
-use crate::field::{Flaw, read_amount, read_code};
+use crate::field::{Misfit, read_amount, read_code};
 use crate::form::{Form, MONEY, Slot};
 use pc_model::MAX_COST;
 use pc_records::Row;
@@ -40,12 +40,12 @@ impl Card for LoadCard {
         4
     }
 
-    fn read(row: u32, fields: &Row) -> Result<LoadCard, Flaw> {
+    fn read(row: u32, fields: &Row) -> Result<LoadCard, Misfit> {
         Ok(LoadCard {
             row,
-            activity: read_code(fields.field(1))?,
-            resource: read_code(fields.field(2))?,
-            quantity: read_amount(fields.field(3), 0, MAX_COST)?,
+            activity: read_code(fields, 2)?,
+            resource: read_code(fields, 3)?,
+            quantity: read_amount(fields, 4, 0, MAX_COST)?,
         })
     }
 }

@@ -2,7 +2,7 @@
 ghost use Rattle.pc_deck.specs.Money.{money_slots, money_of};
 
 use crate::card::Card;
-use crate::field::{Flaw, read_amount, read_code, read_date};
+use crate::field::{Misfit, read_amount, read_code, read_date};
 use crate::form::{Form, MONEY, Slot};
 use pc_days::Day;
 use pc_model::MAX_COST;
@@ -41,12 +41,12 @@ impl Card for MoneyCard {
         4
     }
 
-    fn read(row: u32, fields: &Row) -> Result<MoneyCard, Flaw> {
+    fn read(row: u32, fields: &Row) -> Result<MoneyCard, Misfit> {
         Ok(MoneyCard {
             row,
-            account: read_code(fields.field(1))?,
-            day: read_date(fields.field(2))?,
-            amount: read_amount(fields.field(3), 0, MAX_COST)?,
+            account: read_code(fields, 2)?,
+            day: read_date(fields, 3)?,
+            amount: read_amount(fields, 4, 0, MAX_COST)?,
         })
     }
 }

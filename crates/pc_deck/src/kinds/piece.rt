@@ -2,7 +2,7 @@
 ghost use Rattle.pc_deck.specs.Piece.{piece_slots, piece_of};
 
 use crate::card::Card;
-use crate::field::{Flaw, read_amount, read_code};
+use crate::field::{Misfit, read_amount, read_code};
 use crate::form::{Form, Slot};
 use pc_model::{MAX_DURATION, MAX_SLOPE};
 use pc_records::Row;
@@ -51,12 +51,12 @@ impl Card for PieceCard {
         4
     }
 
-    fn read(row: u32, fields: &Row) -> Result<PieceCard, Flaw> {
+    fn read(row: u32, fields: &Row) -> Result<PieceCard, Misfit> {
         Ok(PieceCard {
             row,
-            activity: read_code(fields.field(1))?,
-            units: read_amount(fields.field(2), 1, MAX_DURATION)?,
-            slope: read_amount(fields.field(3), 0, MAX_SLOPE)?,
+            activity: read_code(fields, 2)?,
+            units: read_amount(fields, 3, 1, MAX_DURATION)?,
+            slope: read_amount(fields, 4, 0, MAX_SLOPE)?,
         })
     }
 }

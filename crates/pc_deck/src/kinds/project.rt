@@ -2,7 +2,7 @@
 ghost use Rattle.pc_deck.specs.Project.{project_slots, project_of};
 
 use crate::card::Card;
-use crate::field::{Flaw, read_amount, read_amount_or_none, read_code, read_date, read_title};
+use crate::field::{Misfit, read_amount, read_amount_or_none, read_code, read_date, read_title};
 use crate::form::{Form, Slot};
 use pc_days::Day;
 use pc_model::{MAX_DIRECTED, MAX_UNIT_DAYS};
@@ -77,17 +77,17 @@ impl Card for ProjectCard {
         9
     }
 
-    fn read(row: u32, fields: &Row) -> Result<ProjectCard, Flaw> {
+    fn read(row: u32, fields: &Row) -> Result<ProjectCard, Misfit> {
         Ok(ProjectCard {
             row,
-            code: read_code(fields.field(1))?,
-            start: read_code(fields.field(2))?,
-            end: read_code(fields.field(3))?,
-            start_day: read_date(fields.field(4))?,
-            unit_days: read_amount(fields.field(5), 1, MAX_UNIT_DAYS)?,
-            directed: read_amount_or_none(fields.field(6), 0, MAX_DIRECTED)?,
-            title: read_title(fields.field(7))?,
-            version: read_amount_or_none(fields.field(8), 1, LAST_VERSION)?.unwrap_or(1),
+            code: read_code(fields, 2)?,
+            start: read_code(fields, 3)?,
+            end: read_code(fields, 4)?,
+            start_day: read_date(fields, 5)?,
+            unit_days: read_amount(fields, 6, 1, MAX_UNIT_DAYS)?,
+            directed: read_amount_or_none(fields, 7, 0, MAX_DIRECTED)?,
+            title: read_title(fields, 8)?,
+            version: read_amount_or_none(fields, 9, 1, LAST_VERSION)?.unwrap_or(1),
         })
     }
 }

@@ -3,7 +3,7 @@ ghost use Rattle.std.specs.Prelude.{refl};
 ghost use Rattle.pc_deck.specs.Res.{resource_slots, resource_of};
 
 use crate::card::{Card, Coded};
-use crate::field::{Flaw, read_code, read_title};
+use crate::field::{Misfit, read_code, read_title};
 use crate::form::{Form, Slot};
 use pc_records::Row;
 use pc_text::{Code, Title};
@@ -39,11 +39,11 @@ impl Card for ResCard {
         3
     }
 
-    fn read(row: u32, fields: &Row) -> Result<ResCard, Flaw> {
+    fn read(row: u32, fields: &Row) -> Result<ResCard, Misfit> {
         Ok(ResCard {
             row,
-            code: read_code(fields.field(1))?,
-            title: read_title(fields.field(2))?,
+            code: read_code(fields, 2)?,
+            title: read_title(fields, 3)?,
         })
     }
 }

@@ -2,7 +2,7 @@
 ghost use Rattle.pc_deck.specs.Status.{status_slots, status_of};
 
 use crate::card::Card;
-use crate::field::{Flaw, read_code, read_date, read_letter};
+use crate::field::{Misfit, read_code, read_date, read_letter};
 use crate::form::{Form, Slot};
 use pc_days::Day;
 use pc_records::Row;
@@ -40,12 +40,12 @@ impl Card for StatusCard {
         4
     }
 
-    fn read(row: u32, fields: &Row) -> Result<StatusCard, Flaw> {
+    fn read(row: u32, fields: &Row) -> Result<StatusCard, Misfit> {
         Ok(StatusCard {
             row,
-            activity: read_code(fields.field(1))?,
-            finished: read_letter(fields.field(2))?,
-            day: read_date(fields.field(3))?,
+            activity: read_code(fields, 2)?,
+            finished: read_letter(fields, 3)?,
+            day: read_date(fields, 4)?,
         })
     }
 }

@@ -2,7 +2,7 @@
 ghost use Rattle.pc_deck.specs.Terms.{terms_slots, terms_of};
 
 use crate::card::Card;
-use crate::field::{Flaw, read_amount};
+use crate::field::{Misfit, read_amount};
 use crate::form::{Form, Slot};
 use pc_model::MAX_TERMS;
 use pc_records::Row;
@@ -51,13 +51,13 @@ impl Card for TermsCard {
         5
     }
 
-    fn read(row: u32, fields: &Row) -> Result<TermsCard, Flaw> {
+    fn read(row: u32, fields: &Row) -> Result<TermsCard, Misfit> {
         Ok(TermsCard {
             row,
-            overhead: read_amount(fields.field(1), 0, MAX_TERMS)?,
-            target: read_amount(fields.field(2), 0, MAX_TERMS)?,
-            bonus: read_amount(fields.field(3), 0, MAX_TERMS)?,
-            penalty: read_amount(fields.field(4), 0, MAX_TERMS)?,
+            overhead: read_amount(fields, 2, 0, MAX_TERMS)?,
+            target: read_amount(fields, 3, 0, MAX_TERMS)?,
+            bonus: read_amount(fields, 4, 0, MAX_TERMS)?,
+            penalty: read_amount(fields, 5, 0, MAX_TERMS)?,
         })
     }
 }

@@ -3,7 +3,7 @@ ghost use Rattle.std.specs.Prelude.{refl};
 ghost use Rattle.pc_deck.specs.Wbs.{item_slots, item_of};
 
 use crate::card::{Card, Coded};
-use crate::field::{Flaw, read_code, read_code_or_none, read_title};
+use crate::field::{Misfit, read_code, read_code_or_none, read_title};
 use crate::form::{Form, Slot};
 use pc_records::Row;
 use pc_text::{Code, Title};
@@ -40,12 +40,12 @@ impl Card for ItemCard {
         4
     }
 
-    fn read(row: u32, fields: &Row) -> Result<ItemCard, Flaw> {
+    fn read(row: u32, fields: &Row) -> Result<ItemCard, Misfit> {
         Ok(ItemCard {
             row,
-            code: read_code(fields.field(1))?,
-            parent: read_code_or_none(fields.field(2))?,
-            title: read_title(fields.field(3))?,
+            code: read_code(fields, 2)?,
+            parent: read_code_or_none(fields, 3)?,
+            title: read_title(fields, 4)?,
         })
     }
 }

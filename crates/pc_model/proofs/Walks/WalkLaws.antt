@@ -15,10 +15,6 @@ pub IsWalk-push : (arcs : List Arc) (e m : ℕ) (walk : List ℕ) (a : ℕ) → 
 IsWalk-push arcs e m walk a front below begins =
     IsWalk-append arcs e m (to_of arcs a) walk (a ∷ []) front (below, begins, refl)
 
--- one activity is a walk from its beginning to its end
-pub IsWalk-one : (arcs : List Arc) (a : ℕ) → a < length arcs → IsWalk arcs (from_of arcs a) (a ∷ []) (to_of arcs a)
-IsWalk-one arcs a below = (below, refl, refl)
-
 -- the sum over two walks, one after the other, is the sum of theirs
 pub walk_sum-append : (lengths walk rest : List ℕ) → walk_sum lengths (walk ++ rest) ≡ walk_sum lengths walk + walk_sum lengths rest
 walk_sum-append lengths [] rest = omega arith

@@ -1,6 +1,6 @@
 use Rattle.std.proofs.Common.{◌∷◌, ◌+◌, [], take, get_or, ap, subst}
 use Rattle.std.proofs.lemmas.List.{take_more}
-use Rattle.pc_crash.specs.Priced.{code_at}
+use Rattle.pc_model.specs.Codes.{code_at}
 use Rattle.pc_lines.specs.declared.line.CertLine.TheVariants.{Step}
 use Rattle.pc_lines.specs.Text.{AllFit, text_of}
 use Rattle.pc_page.proofs.PageLaws.{Adds-as, ◌⨾◌}

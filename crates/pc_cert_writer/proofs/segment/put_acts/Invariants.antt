@@ -1,5 +1,5 @@
 use Rattle.std.proofs.Common.{ℕ, ◌<◌}
-use Rattle.pc_crash.specs.Priced.{code_at}
+use Rattle.pc_model.specs.Codes.{code_at}
 use Rattle.pc_lines.specs.Lines.{IsCode}
 use Rattle.pc_lines.specs.Text.{text_of}
 use Rattle.pc_page.specs.Puts.{Puts}

@@ -20,13 +20,13 @@ returns-clause-ends g c =
 
 pub returns-clause-costs : goal.returns-clause-costs
 returns-clause-costs g c =
-    c.cost_at.ensures
+    c.least_cost_for.ensures
     ∙ read-costs c.args.net.now c.net-net.ensures.priced c.come_to.new.solver (c.come_to.ensures.same.net ∙ c.requires.net) c.args.length
     c.come_to.ensures.there c.read_times.new.times c.read_times.ensures c.read_durations.new.durations c.read_durations.ensures
 
 pub returns-clause-least : goal.returns-clause-least
 returns-clause-least g c =
-    subst (curve_in c.args.net.now c.args.length) (sym c.cost_at.ensures)
+    subst (curve_in c.args.net.now c.args.length) (sym c.least_cost_for.ensures)
     (read-least c.args.net.now c.net-net.ensures.priced c.come_to.new.solver (c.come_to.ensures.same.net ∙ c.requires.net) c.args.length
     c.come_to.ensures.there)
 

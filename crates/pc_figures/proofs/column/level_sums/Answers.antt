@@ -18,13 +18,12 @@ sum_of-requires c =
 
 pub loop-k-preserved : goal.loop-k-preserved
 loop-k-preserved c =
-    let (amounts, rolled) = c.requires.rolled in
     let fits : SFits w64 c.sum_of.result = search rules in
     let next : to_z w64 (of_z w64 c.sum_of.result) ≡ sum_of c.in_ok-lines.lines.items = to_z-of_z w64 c.sum_of.result fits ∙ rw (← c.deref.ensures.value) c.sum_of.ensures in
-    sums_more _ _ _ _ _ _ c.loop-k.invariant c.in_ok-push.ensures.items (c.in_ok-lines.lines.items, (c.in_ok-lines.ensures.lines, next)) (λ top is_top. next ∙ c.in_ok-lines.ensures.whole amounts top rolled is_top)
+    sums_more _ _ _ _ _ _ c.loop-k.invariant c.in_ok-push.ensures.items (c.in_ok-lines.lines.items, (c.in_ok-lines.ensures.lines, next))
 
-pub returns-clause-sums : goal.returns-clause-sums
-returns-clause-sums c =
+pub returns : goal.returns
+returns c =
     let all : c.depth-depth.result ≡ length c.loop-k.sums.items = omega (arith, c.loop-k.invariant.one_each) in
     record {
       depth = subst (IsDepth c.args.tree.now) all c.depth-depth.ensures.depth;

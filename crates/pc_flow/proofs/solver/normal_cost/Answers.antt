@@ -1,7 +1,7 @@
 use Rattle.std.proofs.Common.{◌<◌, length, ap, arith}
 use Rattle.pc_model.specs.declared.Term.{Term}
 use Rattle.pc_model.specs.Schedule.{base_cost_of}
-use Rattle.pc_flow.proofs.CostLimits.{sum_to-most}
+use Rattle.pc_model.proofs.Sums.{sum_to-most}
 use Rattle.pc_flow.proofs.solver.normal_cost.Goals as goal
 
 pub overflow_add-cost : goal.overflow_add-cost

@@ -1,7 +1,11 @@
 use Rattle.std.proofs.Common.{◌≡◌, ◌^◌, ◌<◌, drop}
+use Rattle.std.specs.List.{list_all}
+use Rattle.std.specs.Char.{is_ascii_digit}
 use Rattle.pc_text.specs.Number.{value_after}
 use Rattle.pc_lines.proofs.number.value_of.Given as goal
 
-abbrev pub invariant-loop-digit : goal.invariant-loop-digit
-invariant-loop-digit l =
-    (l.number < 10 ^ l.digit-index) × (value_after l.number (drop l.digit-index l.word) ≡ value_after 0 l.word)
+abbrev pub invariant-loop-byte : goal.invariant-loop-byte
+invariant-loop-byte l =
+    (l.number < 10 ^ l.byte-index)
+    × ((value_after l.number (drop l.byte-index l.word) ≡ value_after 0 l.word)
+    × (list_all is_ascii_digit (drop l.byte-index l.word) ≡ list_all is_ascii_digit l.word))

@@ -1,7 +1,7 @@
 use Rattle.std.proofs.Common.{◌≡◌, length, slice_index, subst, arith}
 use Rattle.pc_model.specs.Greatest.{IsListed}
 use Rattle.pc_model.proofs.Walks.OrderLaws.{room_below}
-use Rattle.pc_net.proofs.QueueLaws.{IsQueue-start, IsStuck-end}
+use Rattle.pc_net.proofs.QueueLaws.{IsQueue-start, IsBlocked-end}
 use Rattle.pc_net.proofs.ordering.ordered.Goals as goal
 
 pub loop-at-init : goal.loop-at-init
@@ -15,6 +15,6 @@ loop-at-smaller c =
     let part = c.loop-at.invariant.1.1.part in
     omega (arith, room_below c.loop-at.order.items c.args.graph.now.events part.range part.once, c.loop-at.order.ok.0, c.len.ensures)
 
-pub returns-clause-stuck : goal.returns-clause-stuck
-returns-clause-stuck c =
-    IsStuck-end c.args.graph.now c.loop-at.order.items c.loop-at.missing.items c.loop-at.at c.loop-at.invariant (omega (arith, c.loop-at.order.ok.0, c.len.ensures))
+pub returns-clause-blocked : goal.returns-clause-blocked
+returns-clause-blocked c =
+    IsBlocked-end c.args.graph.now c.loop-at.order.items c.loop-at.missing.items c.loop-at.at c.loop-at.invariant (omega (arith, c.loop-at.order.ok.0, c.len.ensures))

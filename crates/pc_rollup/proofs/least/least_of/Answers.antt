@@ -6,7 +6,7 @@ use Rattle.std.proofs.lemmas.Iterator.Adapters.{YieldsList-from_rev_slice}
 use Rattle.std.proofs.lemmas.Iterator.Consumers.{YieldsList-turn, YieldsList-end}
 use Rattle.pc_wbs.specs.declared.row.ItemRow.{ItemRow}
 use Rattle.pc_wbs.specs.Preorder.{IsPreorder}
-use Rattle.pc_rollup.proofs.RollLaws.{place_from_end}
+use Rattle.pc_model.proofs.Walks.PlaceLaws.{place_from_end}
 use Rattle.pc_rollup.proofs.LeastLaws.{least_none, least_taken, least_top, least_all}
 use Rattle.pc_rollup.proofs.least.least_of.Goals as goal
 

@@ -27,11 +27,5 @@ returns-clause-lines c =
 pub returns-clause-whole : goal.returns-clause-whole
 returns-clause-whole c = λ amounts top rolled is_top.
     let order = c.preorder-item-items.ensures in
-    whole_sum c.args.tree.now c.preorder-item-items.result.now c.args.level top amounts c.args.totals.now c.loop-item.lines.items (record {
-      ranged = order.in_range;
-      tree = order.tree;
-      preorder = order.order;
-      some = c.requires.level;
-      lines = lines_all _ _ _ _ _ _ order.order (omega arith) c.loop-item.invariant;
-      rolled = rolled;
-    }) is_top
+    whole_sum c.args.tree.now c.preorder-item-items.result.now c.args.level top amounts c.args.totals.now c.loop-item.lines.items
+    order.in_range order.tree order.order c.requires.level (lines_all _ _ _ _ _ _ order.order (omega arith) c.loop-item.invariant) rolled is_top

@@ -4,9 +4,10 @@ use Rattle.std.specs.Iterator.Adapters.{rev_source}
 use Rattle.std.proofs.lemmas.List.{length_push, length-reverse}
 use Rattle.std.proofs.lemmas.Iterator.Adapters.{YieldsList-from_rev_slice}
 use Rattle.std.proofs.lemmas.Iterator.Consumers.{YieldsList-turn, YieldsList-end}
+use Rattle.pc_model.proofs.Walks.PlaceLaws.{place_from_end}
 use Rattle.pc_wbs.specs.declared.row.ItemRow.{ItemRow}
 use Rattle.pc_wbs.specs.Preorder.{IsPreorder}
-use Rattle.pc_rollup.proofs.RollLaws.{place_from_end, gathered_none, turn_fits, turn_taken, top_taken, gathered_all}
+use Rattle.pc_rollup.proofs.RollLaws.{gathered_none, turn_fits, turn_taken, top_taken, gathered_all}
 use Rattle.pc_rollup.proofs.totals.rollup.Goals as goal
 
 pub loop-item-init : goal.loop-item-init

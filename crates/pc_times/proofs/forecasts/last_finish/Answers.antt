@@ -1,5 +1,5 @@
 use Rattle.std.proofs.Common.{arith}
-use Rattle.pc_times.proofs.TimesLaws.{ord_max-nat}
+use Rattle.pc_model.proofs.Walks.PlaceLaws.{ord_max-nat}
 use Rattle.pc_times.proofs.ForecastLaws.{last_more, last_all}
 use Rattle.pc_times.proofs.forecasts.last_finish.Goals as goal
 

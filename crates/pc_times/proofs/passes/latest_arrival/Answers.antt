@@ -1,5 +1,6 @@
 use Rattle.std.proofs.Common.{ℕ, ◌+◌, slice_index, ap, arith}
-use Rattle.pc_times.proofs.TimesLaws.{ord_max-nat, arrival_more, arrival_all, early_from_arrival}
+use Rattle.pc_model.proofs.Walks.PlaceLaws.{ord_max-nat}
+use Rattle.pc_times.proofs.TimesLaws.{arrival_more, arrival_all, early_from_arrival}
 use Rattle.pc_times.proofs.passes.latest_arrival.Goals as goal
 
 pub overflow_add-times : goal.overflow_add-times

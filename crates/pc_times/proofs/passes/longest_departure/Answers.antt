@@ -1,5 +1,6 @@
 use Rattle.std.proofs.Common.{ℕ, ◌+◌, slice_index, ap, arith}
-use Rattle.pc_times.proofs.TimesLaws.{ord_max-nat, departure_more, departure_all, tail_from_departure}
+use Rattle.pc_model.proofs.Walks.PlaceLaws.{ord_max-nat}
+use Rattle.pc_times.proofs.TimesLaws.{departure_more, departure_all, tail_from_departure}
 use Rattle.pc_times.proofs.passes.longest_departure.Goals as goal
 
 pub overflow_add-lengths : goal.overflow_add-lengths

@@ -20,9 +20,9 @@ pub returns-in-Err : goal.returns-in-Err
 returns-in-Err g c =
     write_fault (in_usage c.in_default.ensures.none (subst (TookFront (side g.E.Sink.taken g.E.Sink.faults c.args.err.now c.send.new.sink)) (c.as_slice.ensures.value ∙ c.usage.ensures) c.in-Err.ensures.err) refl refl)
 
-pub returns-in-Ok-read_project : goal.returns-in-Ok-read_project
-returns-in-Ok-read_project g c =
-    after_reply c.args.words.now _ _ _ c.in-Some.form c.in-Some.ensures.form c.in-Ok-read_project.project c.answer.result c.in-Ok-read_project.ensures.project c.answer.ensures
+pub returns-in-Ok-project_for : goal.returns-in-Ok-project_for
+returns-in-Ok-project_for g c =
+    after_reply c.args.words.now _ _ _ c.in-Some.form c.in-Some.ensures.form c.in-Ok-project_for.project c.answer.result c.in-Ok-project_for.ensures.project c.answer.ensures
 
 pub returns-in-Err-Refused : goal.returns-in-Err-Refused
 returns-in-Err-Refused g c =
@@ -31,7 +31,13 @@ returns-in-Err-Refused g c =
     (subst (λ (fault : Fault). Refusal fault (side g.E.Sink.taken g.E.Sink.faults c.args.err.now c.refuse.new.err) c.refuse.result) c.in-Err-Refused.fault-is c.refuse.ensures)
 
 pub returns-in-Err-ReadFault : goal.returns-in-Err-ReadFault
-returns-in-Err-ReadFault g c = read_fault (c.in-Some.form, c.in-Some.ensures.form) (rw c.in-Err-ReadFault.field-0-is at c.in-Err-ReadFault.ensures.none) refl refl
+returns-in-Err-ReadFault g c =
+    let why = rw c.in-Err-ReadFault.field-0-is at c.in-Err-ReadFault.ensures.none in
+    read_fault (c.in-Some.form, c.in-Some.ensures.form, why.0) why.1 refl refl
 
 pub returns-in-Err-OutOfMemory : goal.returns-in-Err-OutOfMemory
-returns-in-Err-OutOfMemory g c = no_memory (c.in-Some.form, c.in-Some.ensures.form) refl refl
+returns-in-Err-OutOfMemory g c =
+    no_memory c.in-Some.form c.in-Some.ensures.form (rw c.in-Err-OutOfMemory.field-0-is at c.in-Err-OutOfMemory.ensures.none) refl refl
+
+pub project_for-requires : goal.project_for-requires
+project_for-requires g c = c.in-Some.ensures.form.numbered

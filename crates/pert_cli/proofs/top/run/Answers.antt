@@ -1,5 +1,5 @@
 use Rattle.pert_cli.proofs.CertifyLaws.{takes_whole_curve}
-use Rattle.pert_cli.proofs.DecidedLaws.{accepted_ends, ended_asked, five_is_cut, refused_ends}
+use Rattle.pert_cli.proofs.DecidedLaws.{accepted_ends, ended_asked, five_is_cut, four_is_read, one_is_read, own_accepted_ends, own_refused_ends, own_unread, refused_ends}
 use Rattle.pert_cli.proofs.VerdictLaws.{not_both}
 use Rattle.pert_cli.proofs.top.run.Goals as goal
 
@@ -20,3 +20,18 @@ returns-clause-form g c = ended_asked c.args.words.now _ _ _ c.code.result c.out
 
 pub returns-clause-headline : goal.returns-clause-headline
 returns-clause-headline g c = takes_whole_curve c.args.words.now _ _ _ c.code.result c.outcome.result c.outcome.ensures c.code.ensures
+
+pub returns-clause-read_fault_reads : goal.returns-clause-read_fault_reads
+returns-clause-read_fault_reads g c = four_is_read c.args.words.now _ _ _ c.code.result c.outcome.result c.outcome.ensures c.code.ensures
+
+pub returns-clause-unread : goal.returns-clause-unread
+returns-clause-unread g c = λ form deck asked own. own_unread c.args.words.now _ _ _ c.code.result form deck asked own c.outcome.result c.outcome.ensures
+
+pub returns-clause-own_accepted : goal.returns-clause-own_accepted
+returns-clause-own_accepted g c = λ form deck asked own. own_accepted_ends c.args.words.now _ _ _ c.code.result form deck asked own c.outcome.result c.outcome.ensures c.code.ensures
+
+pub returns-clause-own_refused : goal.returns-clause-own_refused
+returns-clause-own_refused g c = λ form deck asked own. own_refused_ends c.args.words.now _ _ _ c.code.result form deck asked own c.outcome.result c.outcome.ensures c.code.ensures
+
+pub returns-clause-refused_read : goal.returns-clause-refused_read
+returns-clause-refused_read g c = one_is_read c.args.words.now _ _ _ c.code.result c.outcome.result c.outcome.ensures c.code.ensures

@@ -1,4 +1,4 @@
-use Rattle.std.proofs.Common.{None, sym, ap, ◌∙◌}
+use Rattle.std.proofs.Common.{sym, ap, ◌∙◌}
 use Rattle.pc_deck.specs.Judged.{fault_of_place}
 use Rattle.pc_deck.proofs.FindLemmas.{none_then}
 use Rattle.pc_deck.proofs.lists.Listed.take.Goals as goal

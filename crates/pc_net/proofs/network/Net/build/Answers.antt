@@ -2,7 +2,7 @@ use Rattle.std.proofs.Common.{◌≡◌, length, sym, ap, subst, arith}
 use Rattle.pc_model.specs.Network.{Network, IsInRange, IsSound, IsOrder}
 use Rattle.pc_model.proofs.Walks.OrderLaws.{room_below}
 use Rattle.pc_net.proofs.SearchLaws.{LiesOnCycle-from_cycle}
-use Rattle.pc_net.proofs.SoundLaws.{IsSound-from_order, cycle_from_stuck}
+use Rattle.pc_net.proofs.SoundLaws.{IsSound-from_order, cycle_from_blocked}
 use Rattle.pc_net.proofs.network.Net.build.Goals as goal
 
 pub unreachable-requires : goal.unreachable-requires
@@ -11,7 +11,7 @@ unreachable-requires c =
     let is = c.in_ok-graph.ensures in
     let ranged : IsInRange net = subst IsInRange (sym is) c.requires.in_range in
     let known : net.events ≡ c.args.events = ap (λ (n : Network). n.events) is in
-    let cycle = cycle_from_stuck net c.in_ok-order.order.items ranged c.in_ok-order.ensures.stuck (omega (arith, known, c.in_ok-order.order.ok.0, c.len.ensures)) in
+    let cycle = cycle_from_blocked net c.in_ok-order.order.items ranged c.in_ok-order.ensures.blocked (omega (arith, known, c.in_ok-order.order.ok.0, c.len.ensures)) in
     let none = rw c.in-None.is at c.in_ok-cycle.ensures in
     none _ (LiesOnCycle-from_cycle net.arcs cycle.0 cycle.1)
 

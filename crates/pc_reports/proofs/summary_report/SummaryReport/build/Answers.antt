@@ -1,3 +1,11 @@
+use Rattle.std.proofs.Common.{length, subst}
+use Rattle.pc_accounts.specs.declared.entry.Entry.{Entry}
+use Rattle.pc_accounts.specs.Amounts.{AreEntriesOf, AreMoney}
+use Rattle.pc_accounts.specs.Entries.{entry_of_all}
+use Rattle.pc_accounts.proofs.WholeLaws.{entries_are_project}
+use Rattle.pc_figures.specs.Summary.{Summary, CountsOnce}
+use Rattle.pc_project.specs.Project.{Project}
+use Rattle.pc_reports.specs.SummaryText.{ChargesCountOnce}
 use Rattle.pc_reports.proofs.summary_report.SummaryReport.build.Goals as goal
 
 pub of-requires : goal.of-requires
@@ -13,6 +21,15 @@ pub returns-clause-summary : goal.returns-clause-summary
 returns-clause-summary c =
     rw (← c.tree.ensures.tree, ← c.accounts.ensures.accounts, ← c.book.ensures.entries, ← c.entries-entries.ensures.entries) c.in_ok-of.ensures.summary
 
+-- what the entries of a project come to is what its accounts and charges do
+of_project : (project : Project) (summary : Summary) → AreMoney (length project.accounts) project.charges → AreEntriesOf project.accounts project.charges project.togos project.heading.as_of project.entries → CountsOnce project.tree project.accounts (entry_of_all project.entries) summary → ChargesCountOnce project summary
+of_project project summary known are once =
+    subst (λ (whole : Entry). CountsOnce project.tree project.accounts whole summary)
+    (entries_are_project project.accounts project.charges project.togos project.heading.as_of project.entries known are)
+    once
+
 pub returns-clause-once : goal.returns-clause-once
 returns-clause-once c =
-    rw (← c.tree.ensures.tree, ← c.accounts.ensures.accounts, ← c.book.ensures.entries, ← c.entries-entries.ensures.entries) c.in_ok-of.ensures.once
+    let figures = c.book.ensures.planned.figures in
+    of_project c.args.project.now _ figures.figures.charges_known figures.entries
+    (rw (← c.tree.ensures.tree, ← c.accounts.ensures.accounts, ← c.book.ensures.entries, ← c.entries-entries.ensures.entries) c.in_ok-of.ensures.once)

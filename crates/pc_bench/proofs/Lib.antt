@@ -1,0 +1,5 @@
+mod ActivityLaws
+mod DeckLaws
+mod SumLaws
+mod CountLaws
+mod TallyLaws

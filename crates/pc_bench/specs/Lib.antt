@@ -1,0 +1,6 @@
+pub mod Draws
+pub mod Recipe
+pub mod Deck
+pub mod Figures
+pub mod Tallies
+pub mod Report

@@ -1,0 +1,14 @@
+//! The benchmark: a deck that is the same on every machine, and what is said of its time-cost curve.
+#![tactic(auto)]
+
+mod activity;
+mod deck;
+mod draws;
+mod figures;
+mod report;
+#[cfg(test)]
+mod tests;
+
+pub use deck::{MOST_ACTIVITIES, bench_deck};
+pub use figures::{Figures, figures_of};
+pub use report::write_bench;

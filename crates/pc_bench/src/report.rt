@@ -1,0 +1,87 @@
+//! What the benchmark prints.
+ghost use Rattle.std.specs.Prelude.{◌≡◌, ℕ, List, decimal, false};
+ghost use Rattle.pc_edges.specs.Writes.{Writes};
+ghost use Rattle.pc_page.specs.Page.{fresh};
+ghost use Rattle.pc_page.specs.Puts.{Puts};
+ghost use Rattle.pc_bench.specs.Report.{IsBenchText, bench_text, count_line, point_line};
+
+use crate::figures::{Figures, figures_of};
+use pc_crash::{CrashNet, Steps};
+use pc_edges::{Failed, Sink};
+use pc_flow::Solver;
+use pc_page::Page;
+use pc_text::wide;
+use std::sync::ledger::Ledger;
+
+/// Writes what the benchmark of `n` activities says of a network's curve and flushes the sink: the all-normal and the
+/// all-crash length, each with its least cost, the number of breakpoints, and the sum of the least costs of all lengths.
+///
+/// The solver is one of this network, before its first segment. It takes no memory.
+pub fn write_bench<O: Sink, L: Ledger>(
+    page: &mut Page,
+    sink: &mut O,
+    n: u64,
+    net: &CrashNet<'_>,
+    solver: &mut Solver<'_>,
+    steps: &mut Steps<L>,
+) -> Result<(), Failed>
+    requires fresh { page.old ≡ fresh }
+    requires net { solver.old.net ≡ net.now }
+    requires before { solver.old.given ≡ false }
+    ensures { (text : List ℕ) × IsBenchText n net.now text
+        × Writes result (O.taken sink.old) (O.taken sink.new) (O.faults sink.old) (O.faults sink.new) text }
+{
+    let figures = figures_of(net, solver, steps);
+    put_figures(page, sink, n, &figures);
+    page.finish(sink)
+}
+
+/// Puts the lines of the figures.
+fn put_figures<O: Sink>(page: &mut Page, sink: &mut O, n: u64, figures: &Figures)
+    ensures { Puts O.taken O.faults page.old sink.old page.new sink.new (bench_text n figures.now) }
+{
+    put_count(page, sink, b"BENCH ", n as u128);
+    put_point(
+        page,
+        sink,
+        b"NORMAL ",
+        figures.longest,
+        figures.longest_cost as u128,
+    );
+    put_point(
+        page,
+        sink,
+        b"CRASH ",
+        figures.shortest,
+        figures.shortest_cost,
+    );
+    put_count(page, sink, b"BREAKS ", figures.breaks as u128);
+    put_count(page, sink, b"SUM ", figures.sum);
+}
+
+/// Puts the line of a number.
+fn put_count<O: Sink>(page: &mut Page, sink: &mut O, name: &[u8], count: u128)
+    ensures { Puts O.taken O.faults page.old sink.old page.new sink.new (count_line name.now count) }
+{
+    page.put(sink, name);
+    put_wide(page, sink, count);
+    page.put(sink, b"\n");
+}
+
+/// Puts the line of a length and its cost.
+fn put_point<O: Sink>(page: &mut Page, sink: &mut O, name: &[u8], length: u64, cost: u128)
+    ensures { Puts O.taken O.faults page.old sink.old page.new sink.new (point_line name.now length cost) }
+{
+    page.put(sink, name);
+    page.put_number(sink, length);
+    page.put(sink, b" ");
+    put_wide(page, sink, cost);
+    page.put(sink, b"\n");
+}
+
+/// Puts the decimal form of a number.
+fn put_wide<O: Sink>(page: &mut Page, sink: &mut O, number: u128)
+    ensures { Puts O.taken O.faults page.old sink.old page.new sink.new (decimal number) }
+{
+    page.put(sink, wide(number).bytes());
+}

@@ -1,0 +1,29 @@
+use Rattle.std.proofs.Common.{refl, arith}
+use Rattle.pc_page.proofs.PageLaws.{Adds-as}
+use Rattle.pc_figures.proofs.OutlineLaws.{row_known}
+use Rattle.pc_reports.specs.OutlookText.{IsOutlookFor, outlook_row}
+use Rattle.pc_reports.proofs.outlook_rows.OutlookRowsRows.put.Goals as goal
+
+pub item_code-code-requires : goal.item_code-code-requires
+item_code-code-requires g c =
+    let t = c.args.self.now in
+    let told : IsOutlookFor t.project.now t.outlook.now = c.requires.ready in
+    rw c.row-row.ensures (row_known t.project.now.tree t.outlook.now.outline c.args.i told.is.outline c.requires.known)
+
+pub item_title-title-requires : goal.item_title-title-requires
+item_title-title-requires g c =
+    let t = c.args.self.now in
+    let told : IsOutlookFor t.project.now t.outlook.now = c.requires.ready in
+    rw c.row-row.ensures (row_known t.project.now.tree t.outlook.now.outline c.args.i told.is.outline c.requires.known)
+
+pub of_item-amounts-requires : goal.of_item-amounts-requires
+of_item-amounts-requires g c =
+    let t = c.args.self.now in
+    let told : IsOutlookFor t.project.now t.outlook.now = c.requires.ready in
+    let known = row_known t.project.now.tree t.outlook.now.outline c.args.i told.is.outline c.requires.known in
+    rw c.row-row.ensures (omega (arith, known, told.is.one_each))
+
+pub returns : goal.returns
+returns g c =
+    let t = c.args.self.now in
+    Adds-as (outlook_row t.project.now t.outlook.now c.args.i) (rw (c.item_code-code.ensures, c.of_item-amounts.ensures, c.item_title-title.ensures, c.row-row.ensures) refl) c.put_amounts.ensures

@@ -1,0 +1,110 @@
+//! The outlook: what the items are going to cost at given durations of the activities.
+ghost use Rattle.std.specs.Prelude.{◌≡◌, ◌++◌, length, IfOk};
+ghost use Rattle.pc_edges.specs.Writes.{Writes};
+ghost use Rattle.pc_page.specs.Puts.{Puts};
+ghost use Rattle.pc_reports.specs.OutlookText.{IsOutlook, IsOutlookFor, TellsTop, outlook_text};
+ghost use Rattle.pc_reports.specs.Schedule.{text_of, IsWhole};
+
+use crate::outlook_costs::costs_at;
+use crate::outlook_rows::OutlookRows;
+use crate::schedule::{Schedule, put_schedule};
+use pc_edges::{Failed, Sink};
+use pc_figures::Outlook;
+use pc_page::{PAGE_ROOM, Page, put_rows};
+use pc_project::Project;
+use std::alloc::{AllocError, Global};
+use std::marker::Model;
+
+/// The words above the items.
+const HEAD: &[u8] = b"ITEM             LV         BUDGET        OUTLOOK         CHANGE TITLE\n";
+
+/// What the items of a project are going to cost, where its activities last so long: it takes all its memory when it is
+/// built, and is written without.
+///
+/// In contracts it is the outlook that it tells.
+#[derive(Drop)]
+pub struct OutlookReport {
+    page: Page,
+    outlook: Outlook,
+}
+
+impl Model for OutlookReport {
+    ghost use Rattle.std.specs.Prelude.{◌≡◌};
+    ghost use Rattle.pc_page.specs.Page.{fresh};
+    ghost use Rattle.pc_figures.specs.Outlook.{Outlook};
+
+    ghost Value = { Outlook };
+
+    ghost view = { λ report. report.outlook };
+
+    ghost invariant = { λ report. report.page ≡ fresh };
+}
+
+impl OutlookReport {
+    /// The outlook of the project at these durations, which are in units, one per activity in card order. Linear in its
+    /// activities, pieces, accounts and items.
+    pub fn build(
+        alloc: Global,
+        project: &Project,
+        durations: &[u64],
+    ) -> Result<OutlookReport, AllocError>
+        requires { length durations.now ≡ length project.now.network.arcs }
+        ensures outlook { IfOk result (IsOutlook project.now durations.now) }
+        ensures top { IfOk result (TellsTop project.now durations.now) }
+    {
+        Ok(OutlookReport {
+            page: Page::with_room(alloc, PAGE_ROOM)?,
+            outlook: outlook_at(alloc, project, durations)?,
+        })
+    }
+
+    /// Writes the outlook, a row for each item in preorder, and flushes the sink.
+    pub fn write<O: Sink>(&mut self, project: &Project, sink: &mut O) -> Result<(), Failed>
+        requires { IsOutlookFor project.now self.old }
+        ensures text { Writes result (O.taken sink.old) (O.taken sink.new) (O.faults sink.old) (O.faults sink.new)
+            (outlook_text project.now self.old) }
+        ensures same { self.new ≡ self.old }
+    {
+        put_outlook(&mut self.page, sink, project, &self.outlook);
+        self.page.finish(sink)
+    }
+
+    /// Writes a schedule and the outlook after it, and flushes the sink.
+    pub fn write_after<O: Sink>(
+        &mut self,
+        schedule: &Schedule<'_>,
+        project: &Project,
+        sink: &mut O,
+    ) -> Result<(), Failed>
+        requires whole { IsWhole schedule.now }
+        requires outlook { IsOutlookFor project.now self.old }
+        ensures text { Writes result (O.taken sink.old) (O.taken sink.new) (O.faults sink.old) (O.faults sink.new)
+            (text_of schedule.now ++ outlook_text project.now self.old) }
+        ensures same { self.new ≡ self.old }
+    {
+        put_schedule(&mut self.page, sink, schedule);
+        put_outlook(&mut self.page, sink, project, &self.outlook);
+        self.page.finish(sink)
+    }
+}
+
+/// What the items are going to cost at these durations.
+fn outlook_at(alloc: Global, project: &Project, durations: &[u64]) -> Result<Outlook, AllocError>
+    requires { length durations.now ≡ length project.now.network.arcs }
+    ensures outlook { IfOk result (IsOutlook project.now durations.now) }
+    ensures top { IfOk result (TellsTop project.now durations.now) }
+{
+    let costs = costs_at(alloc, project, durations)?;
+    let (tree, places) = (project.tree(), project.places());
+    let entries = project.book().entries();
+    Outlook::of(alloc, tree, places, &costs, project.accounts(), entries)
+}
+
+/// Puts the outlook on a page.
+fn put_outlook<O: Sink>(page: &mut Page, sink: &mut O, project: &Project, outlook: &Outlook)
+    requires { IsOutlookFor project.now outlook.now }
+    ensures { Puts O.taken O.faults page.old sink.old page.new sink.new (outlook_text project.now outlook.now) }
+{
+    page.put(sink, HEAD);
+    put_rows(page, sink, &OutlookRows { project, outlook });
+}

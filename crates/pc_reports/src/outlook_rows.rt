@@ -1,0 +1,62 @@
+//! The rows of the outlook.
+ghost use Rattle.std.specs.Prelude.{length};
+ghost use Rattle.pc_page.specs.Puts.{Puts};
+ghost use Rattle.pc_reports.specs.OutlookText.{IsOutlookFor, outlook_cells, outlook_row};
+
+use pc_edges::Sink;
+use pc_figures::{Outlook, OutlookAmounts};
+use pc_page::{Page, Rows};
+use pc_project::Project;
+use pc_text::{Code, Title};
+
+/// A row for each item, in preorder.
+#[derive(Clone, Copy)]
+pub(crate) struct OutlookRows<'a> {
+    pub(crate) project: &'a Project,
+    pub(crate) outlook: &'a Outlook,
+}
+
+impl<'a> Rows for OutlookRows<'a> {
+    ghost row_count = { λ t. length t.outlook.now.outline };
+
+    ghost row_text = { λ t. outlook_row t.project.now t.outlook.now };
+
+    ghost IsReady = { λ t. IsOutlookFor t.project.now t.outlook.now };
+
+    fn count(&self) -> usize {
+        self.outlook.items()
+    }
+
+    fn put<O: Sink>(&self, i: usize, page: &mut Page, sink: &mut O) {
+        let row = self.outlook.row(i);
+        let code = self.project.item_code(row.item);
+        let amounts = self.outlook.of_item(row.item);
+        let title = self.project.item_title(row.item);
+        put_amounts(page, sink, &code, row.level, &amounts, title);
+    }
+}
+
+/// Puts the row of an item.
+fn put_amounts<O: Sink>(
+    page: &mut Page,
+    sink: &mut O,
+    code: &Code,
+    level: u32,
+    amounts: &OutlookAmounts,
+    title: &Title,
+)
+    ensures { Puts O.taken O.faults page.old sink.old page.new sink.new (outlook_cells code.now level amounts.now title.now) }
+{
+    page.put_left(sink, 16, code.bytes());
+    page.put(sink, b" ");
+    page.put_number_right(sink, 2, level as u64);
+    page.put(sink, b" ");
+    page.put_signed_right(sink, 14, amounts.budget);
+    page.put(sink, b" ");
+    page.put_signed_right(sink, 14, amounts.outlook);
+    page.put(sink, b" ");
+    page.put_signed_right(sink, 14, amounts.change);
+    page.put(sink, b" ");
+    page.put(sink, title.bytes());
+    page.put(sink, b"\n");
+}

@@ -1,0 +1,61 @@
+-- Lengths of a network's range and their schedules.
+use Rattle.std.proofs.Common.{◌≡◌, ◌≤◌, ℕ, ◌<◌, List, ◌++◌, ◌⊎◌, inl, inr, refl, sym, ap, subst, arith}
+use Rattle.pc_faults.specs.declared.fault.Fault.{Fault}
+use Rattle.pc_faults.specs.FaultText.{IsTold}
+use Rattle.pc_faults.specs.Faults.{outside_range}
+use Rattle.pc_model.proofs.Walks.WalkLaws.{greatest_unique}
+use Rattle.pc_crash.specs.Priced.{PricedNetwork}
+use Rattle.pc_model.specs.Schedule.{IsAllCrashLength, IsAllNormalLength}
+use Rattle.pc_project.specs.Project.{Project}
+use Rattle.pc_figures.specs.Outlook.{amounts_at, IsWholeOutlook, Outlook as TheOutlook}
+use Rattle.pc_reports.specs.OutlookText.{IsOutlook, TellsTop, outlook_text}
+use Rattle.pert_cli.specs.declared.forms.Form.TheVariants.{Point, Outlook}
+use Rattle.pert_cli.specs.Certificate.{priced_in}
+use Rattle.pert_cli.specs.Handing.{IsReply}
+use Rattle.pert_cli.specs.Normal.{Printed, printed_text}
+use Rattle.pert_cli.specs.Point.{IsCheapestFor, IsRange, IsWithin, IsOutside}
+
+-- the ends of a range are two numbers
+one_range : (net : PricedNetwork) (low high short long : ℕ) → IsRange net low high → IsRange net short long → (low ≡ short) × (high ≡ long)
+one_range net low high short long is also =
+    (greatest_unique _ low short is.all_crash also.all_crash, greatest_unique _ high long is.all_normal also.all_normal)
+
+-- no length is both one of the network and none
+pub within_not_outside : (net : PricedNetwork) (limit : ℕ) (fault : Fault) → IsWithin net limit → IsOutside net limit fault → ⊥
+within_not_outside net limit fault inside out =
+    let same = one_range net inside.shortest inside.longest out.shortest out.longest inside.range out.range in
+    elim out.outside [
+      | inl below ↦ omega (arith, below, inside.above, same.0)
+      | inr above ↦ omega (arith, above, inside.below, same.1)
+    ]
+
+-- the fault of a length that is none can be told
+pub told_of-outside : (net : PricedNetwork) (limit : ℕ) (fault : Fault) → IsOutside net limit fault → IsTold fault
+told_of-outside net limit fault out = subst IsTold (sym out.is) refl
+
+-- the range of a network that is another
+pub range_of : (net other : PricedNetwork) (shortest longest : ℕ) → net ≡ other → IsAllCrashLength net.network net.terms shortest → IsAllNormalLength net.network net.terms longest → IsRange other shortest longest
+range_of net other shortest longest same crash normal =
+    subst (λ (n : PricedNetwork). IsRange n shortest longest) same (record { all_crash = crash; all_normal = normal })
+
+-- the text of a schedule of least cost for the length answers `point`
+pub point_reply : (project : Project) (limit : ℕ) (printed : Printed) (text : List ℕ) → IsCheapestFor (priced_in project) limit printed → text ≡ printed_text project printed → IsReply (Point limit) project text
+point_reply project limit printed text right is = record {
+  right = record { printed = printed; right = right; is = is };
+  fits = λ fault. within_not_outside (priced_in project) limit fault right.within;
+}
+
+-- so does the text of one with the outlook of the items at its durations answer `outlook`
+pub outlook_reply : (project : Project) (limit : ℕ) (printed : Printed) (outlook : TheOutlook) (text : List ℕ) → IsCheapestFor (priced_in project) limit printed → IsOutlook project printed.durations outlook → TellsTop project printed.durations outlook
+    → text ≡ printed_text project printed ++ outlook_text project outlook → IsReply (Outlook limit) project text
+outlook_reply project limit printed outlook text right at top is = record {
+  right = record {
+    printed = printed;
+    right = right;
+    outlook = outlook;
+    at = at;
+    whole = λ k of_tree. subst (λ cost. IsWholeOutlook project.places project.accounts project.entries cost (amounts_at outlook.amounts k).outlook) (sym right.cheapest.cost) (top k of_tree);
+    is = is;
+  };
+  fits = λ fault. within_not_outside (priced_in project) limit fault right.within;
+}

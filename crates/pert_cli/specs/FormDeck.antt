@@ -1,0 +1,68 @@
+-- Which deck a form speaks of: that of the source, or one of its own, for which nothing is read.
+use Rattle.std.specs.Prelude.{◌≡◌, ◌≤◌, ℕ, List, length, Option, Some, None, ⊤, String}
+use Rattle.std.specs.declared.alloc.Global.{Global}
+use Rattle.pc_bench.specs.Deck.{deck_text}
+use Rattle.pc_faults.specs.declared.fault.Fault.{Fault}
+use Rattle.pc_faults.specs.FaultText.{IsTold}
+use Rattle.pc_project.specs.Project.{Project}
+use Rattle.pert_cli.specs.declared.forms.Form.{Form}
+use Rattle.pert_cli.specs.declared.forms.Form.TheVariants.{Check, Normal, Times, Summary, Value, Curve, Certify, Point, Outlook, Bench}
+use Rattle.pert_cli.specs.declared.reading.NoProject.{NoProject}
+use Rattle.pert_cli.specs.declared.reading.NoProject.TheVariants.{Refused, ReadFault, OutOfMemory}
+use Rattle.pert_cli.specs.Sides.{Side, HadFault, IsUntouched}
+use Rattle.pert_cli.specs.Reading.{HasProject, HasRefusal}
+use Rattle.pert_cli.specs.Verdict.{IsFault, IsProjectOf}
+use Rattle.pert_cli.specs.Words.{AskFor}
+
+-- the deck that a form has of its own; the other forms read that of the source
+abbrev pub own_deck : Form → Option (List ℕ)
+own_deck Check = None
+own_deck Normal = None
+own_deck Times = None
+own_deck Summary = None
+own_deck Value = None
+own_deck Curve = None
+own_deck Certify = None
+own_deck (Point limit) = None
+own_deck (Outlook limit) = None
+own_deck (Bench n) = Some (deck_text n)
+
+-- the form reads the source
+abbrev pub ReadsSource : Form → Type 0
+ReadsSource form = own_deck form ≡ None
+
+-- the form has this deck of its own
+abbrev pub IsOwnDeck : Form → List ℕ → Type 0
+IsOwnDeck form deck = own_deck form ≡ Some deck
+
+-- the words ask for a form that reads the source
+abbrev pub AskToRead : List (String Global) → Type 0
+AskToRead words = (form : Form) × AskFor form words × ReadsSource form
+
+-- the form's deck is accepted, and this is its project: the source's, which was read to its end, or its own, and then nothing
+-- was read
+pub data HasProjectFor {X : Type 0} (form : Form) (source : Side X) (project : Project) : Type 0 where
+  project_read : ReadsSource form → HasProject source project → HasProjectFor form source project
+  project_owned : (deck : List ℕ) → IsOwnDeck form deck → IsUntouched source → IsProjectOf deck project → HasProjectFor form source project
+
+-- the form's deck is refused with the fault
+pub data HasRefusalFor {X : Type 0} (form : Form) (source : Side X) (fault : Fault) : Type 0 where
+  refusal_read : ReadsSource form → HasRefusal source fault → HasRefusalFor form source fault
+  refusal_owned : (deck : List ℕ) → IsOwnDeck form deck → IsUntouched source → IsFault deck fault → HasRefusalFor form source fault
+
+-- a form that has a deck of its own left the source as it was
+abbrev pub IsLeftBy : {X : Type 0} → Form → Side X → Type 0
+IsLeftBy form source = (deck : List ℕ) → IsOwnDeck form deck → IsUntouched source
+
+-- why a form has no project: its deck is refused, or the source that it reads could not be read; want of memory comes at any
+-- time
+abbrev pub HasNoProjectFor : {X : Type 0} → Form → Side X → NoProject → Type 0
+HasNoProjectFor form source (Refused fault) = IsTold fault × HasRefusalFor form source fault
+HasNoProjectFor form source ReadFault = ReadsSource form × HadFault source
+HasNoProjectFor form source OutOfMemory = IsLeftBy form source
+
+-- why a deck of a form's own gives no project: it has a fault; want of memory comes at any time
+abbrev pub IsNoProjectOf : List ℕ → NoProject → Type 0
+IsNoProjectOf deck (Refused fault) = IsTold fault × IsFault deck fault
+IsNoProjectOf deck ReadFault = ⊥
+IsNoProjectOf deck OutOfMemory = ⊤

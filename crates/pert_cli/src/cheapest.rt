@@ -1,0 +1,159 @@
+//! A schedule of least cost for a length of the project's range.
+ghost use Rattle.std.specs.Prelude.{◌≡◌, ◌≤◌, IfOk, IfErr, IfSome, IfNone};
+ghost use Rattle.pc_crash.specs.Steps.{IsBlankOf};
+ghost use Rattle.pc_curve.specs.Points.{HasPlaces, IsToCome};
+ghost use Rattle.pc_faults.specs.FaultText.{IsTold};
+ghost use Rattle.pc_reports.specs.Schedule.{text_of, IsWhole};
+ghost use Rattle.pert_cli.specs.Certificate.{priced_in};
+ghost use Rattle.pert_cli.specs.Normal.{printed_text};
+ghost use Rattle.pert_cli.specs.Point.{HasNoSchedule, IsCheapest, IsCheapestFor, IsOutside, IsWithin};
+
+use crate::solving::solver_region;
+use pc_crash::{CrashNet, Steps};
+use pc_curve::point_at;
+use pc_faults::Fault;
+use pc_flow::Solver;
+use pc_project::Project;
+use pc_reports::Schedule;
+use std::alloc::{AllocError, Global};
+use std::marker::{Brand, Model};
+use std::sync::ledger::{Blank, Ledger};
+
+/// Why there is no schedule for a length.
+#[derive(Debug, Drop)]
+pub(crate) enum NoSchedule {
+    /// The length lies outside the project's range.
+    Outside(Fault),
+    OutOfMemory,
+}
+
+impl From<AllocError> for NoSchedule {
+    ghost use Rattle.std.specs.Prelude.{◌≡◌};
+    ghost use Rattle.pert_cli.specs.declared.cheapest.NoSchedule.TheVariants.{OutOfMemory};
+
+    ghost from_gives = { λ _ e. e ≡ OutOfMemory };
+
+    fn from(_: AllocError) -> NoSchedule {
+        NoSchedule::OutOfMemory
+    }
+}
+
+/// A schedule for a length, in units, that costs as little as any.
+#[derive(Drop)]
+pub(crate) struct CheapestSchedule {
+    total: u64,
+    cost: u64,
+    times: Vec<u64>,
+    durations: Vec<u64>,
+}
+
+impl Model for CheapestSchedule {
+    ghost use Rattle.pert_cli.specs.Normal.{Printed};
+
+    ghost Value = { Printed };
+
+    ghost view = { λ s. record { length = s.total; cost = s.cost; times = s.times.items; durations = s.durations.items } };
+}
+
+impl CheapestSchedule {
+    /// A cheapest schedule for a length, with all memory that it takes; or the fault of a length outside the project's range.
+    pub(crate) fn for_length(
+        alloc: Global,
+        project: &Project,
+        limit: u64,
+    ) -> Result<CheapestSchedule, NoSchedule>
+        ensures cheapest { IfOk result (IsCheapestFor (priced_in project.now) limit) }
+        ensures none { IfErr result (HasNoSchedule (priced_in project.now) limit) }
+    {
+        let net = project.priced(alloc)?;
+        let mut solver = Solver::begin(solver_region(alloc, project)?, &net);
+        if let Some(fault) = outside(&solver, limit) {
+            return Err(NoSchedule::Outside(fault));
+        }
+        Ok(CheapestSchedule::find(alloc, &net, &mut solver, limit)?)
+    }
+
+    /// A cheapest schedule for a length, to which the solver of the network comes down.
+    fn find(
+        alloc: Global,
+        net: &CrashNet<'_>,
+        solver: &mut Solver<'_>,
+        limit: u64,
+    ) -> Result<CheapestSchedule, AllocError>
+        requires net { solver.old.net ≡ net.now }
+        requires to_come { IsToCome solver.old limit }
+        ensures length { IfOk result (λ schedule. schedule.length ≡ limit) }
+        ensures cheapest { IfOk result (IsCheapest net.now) }
+    {
+        let shape = net.net();
+        let mut times = vec![in alloc; 0; shape.events() as usize]?;
+        let mut durations = vec![in alloc; 0; shape.activities() as usize]?;
+        let blank = Blank::new(1);
+        let cost = fill::<Brand>(net, solver, limit, &mut times, &mut durations, blank);
+        Ok(CheapestSchedule {
+            total: limit,
+            cost,
+            times,
+            durations,
+        })
+    }
+
+    /// The schedule as it is printed, with the codes of the project.
+    pub(crate) fn printed<'a>(&'a self, project: &'a Project) -> Schedule<'a>
+        requires { IsCheapest (priced_in project.now) self.now }
+        ensures whole { IsWhole result }
+        ensures text { text_of result ≡ printed_text project.now self.now }
+    {
+        Schedule {
+            length: self.total,
+            cost: self.cost,
+            events: project.event_codes(),
+            times: &self.times,
+            activities: project.activity_codes(),
+            durations: &self.durations,
+        }
+    }
+
+    /// One duration for each activity, in card order.
+    pub(crate) fn durations(&self) -> &[u64]
+        ensures { result.now ≡ self.now.durations }
+    {
+        &self.durations
+    }
+}
+
+/// The fault of a length that is none of the solver's network.
+fn outside(solver: &Solver<'_>, limit: u64) -> Option<Fault>
+    ensures told { IfSome result IsTold }
+    ensures outside { IfSome result (IsOutside solver.now.net limit) }
+    ensures within { IfNone result (IsWithin solver.now.net limit) }
+    ensures to_come { IfNone result ((solver.now.shortest ≤ limit) × (limit ≤ solver.now.longest)) }
+{
+    let shortest = solver.shortest();
+    let longest = solver.longest();
+    if limit < shortest || longest < limit {
+        Some(Fault::outside_range(limit, shortest, longest))
+    } else {
+        None
+    }
+}
+
+/// Fills in a cheapest schedule for a length, and answers its cost. The steps of the solver are counted in a ledger of their
+/// own.
+fn fill<L: Ledger>(
+    net: &CrashNet<'_>,
+    solver: &mut Solver<'_>,
+    limit: u64,
+    times: &mut [u64],
+    durations: &mut [u64],
+    blank: Blank,
+) -> u64
+    requires net { solver.old.net ≡ net.now }
+    requires to_come { IsToCome solver.old limit }
+    requires places { HasPlaces net.now times.old durations.old }
+    requires blank { IsBlankOf L.name L.parts blank.name blank.parts }
+    ensures { IsCheapest net.now (record { length = limit; cost = result; times = times.new; durations = durations.new }) }
+{
+    let mut steps = Steps::<L>::new(blank);
+    point_at(net, solver, limit, times, durations, &mut steps)
+}

@@ -1,0 +1,63 @@
+//! `curve`: the breakpoints of the time-cost curve.
+ghost use Rattle.std.specs.Prelude.{◌≡◌, ℕ, List, false};
+ghost use Rattle.pc_crash.specs.Steps.{IsBlankOf};
+ghost use Rattle.pc_curve_text.specs.CurveText.{IsCurveText};
+ghost use Rattle.pc_edges.specs.Writes.{Writes};
+ghost use Rattle.pc_page.specs.Page.{fresh};
+ghost use Rattle.pert_cli.specs.Handing.{Answers, IsReply};
+ghost use Rattle.pert_cli.specs.Sides.{side};
+ghost use Rattle.pert_cli.specs.declared.forms.Form.TheVariants.{Curve};
+
+use crate::solving::solver_region;
+use crate::status::Status;
+use pc_crash::{CrashNet, Steps};
+use pc_curve_text::write_curve;
+use pc_edges::{Failed, Sink};
+use pc_flow::Solver;
+use pc_page::{PAGE_ROOM, Page};
+use pc_project::Project;
+use std::alloc::Global;
+use std::marker::Brand;
+use std::sync::ledger::{Blank, Ledger};
+
+/// The words of the form.
+pub(crate) const WORDS: &[u8] = b"curve";
+
+/// Answers the form. The memory that it takes does not depend on the number of breakpoints.
+pub(crate) fn answer<O: Sink>(alloc: Global, project: &Project, out: &mut O) -> Status
+    ensures { Answers (IsReply Curve project.now) (side O.taken O.faults out.old out.new) result }
+{
+    let Ok(net) = project.priced(alloc) else {
+        return Status::OutOfMemory;
+    };
+    let Ok(region) = solver_region(alloc, project) else {
+        return Status::OutOfMemory;
+    };
+    let Ok(mut page) = Page::with_room(alloc, PAGE_ROOM) else {
+        return Status::OutOfMemory;
+    };
+    let mut solver = Solver::begin(region, &net);
+    match write::<O, Brand>(&mut page, out, &net, &mut solver, Blank::new(1)) {
+        Ok(()) => Status::Done,
+        Err(Failed) => Status::WriteFault,
+    }
+}
+
+/// Writes the breakpoints, without memory. The steps of the solver are counted in a ledger of their own.
+fn write<O: Sink, L: Ledger>(
+    page: &mut Page,
+    out: &mut O,
+    net: &CrashNet<'_>,
+    solver: &mut Solver<'_>,
+    blank: Blank,
+) -> Result<(), Failed>
+    requires fresh { page.old ≡ fresh }
+    requires net { solver.old.net ≡ net.now }
+    requires before { solver.old.given ≡ false }
+    requires blank { IsBlankOf L.name L.parts blank.name blank.parts }
+    ensures { (text : List ℕ) × IsCurveText net.now text
+        × Writes result (O.taken out.old) (O.taken out.new) (O.faults out.old) (O.faults out.new) text }
+{
+    let mut steps = Steps::<L>::new(blank);
+    write_curve(page, out, net, solver, &mut steps)
+}
