@@ -87,8 +87,8 @@ impl<'n> Search<'n> {
 
     /// Labels the far event of an activity where its step has room, and else has the activity wait for a fall. One look.
     ///
-    /// Most activities that a search comes to are crossed by no label. So only the test stands in the loops that call this,
-    /// and what crosses is a call with what the look told.
+    /// Most of the activities that a search comes to, labels may not cross. So only the test stands in the loops that call
+    /// this, and the rest is a call with what the look told.
     #[inline(always)]
     pub fn visit<L: Ledger>(&mut self, a: u32, steps: &mut Steps<L>)
         requires known { a < length self.old.net.now.network.arcs }
