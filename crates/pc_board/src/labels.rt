@@ -52,6 +52,25 @@ impl Board {
         }
     }
 
+    /// The time of an event with a label.
+    pub fn resting_time(&self, e: u32) -> u64
+        requires known { e < self.now.events }
+        requires labelled { 0 < rank_of self.now e }
+        ensures { result ≡ time_of self.now e }
+    {
+        self.get(Column::Time, e)
+    }
+
+    /// The time of an event without a label.
+    pub fn falling_time(&self, e: u32) -> u64
+        requires known { e < self.now.events }
+        requires unlabelled { rank_of self.now e ≡ 0 }
+        requires deep { self.now.fallen ≤ kept_time self.now e }
+        ensures { result ≡ time_of self.now e }
+    {
+        self.get(Column::Time, e) - self.fallen
+    }
+
     /// What is kept of an event's time.
     pub fn kept_time(&self, e: u32) -> u64
         requires { e < self.now.events }

@@ -12,6 +12,7 @@ fn an_event_enters(rt: HostRuntime) -> Result<(), AllocError> {
     board.start_at(0);
     board.fall(2);
     assert_eq!(rt; (board.time(0), board.time(1)), (0, 5));
+    assert_eq!(rt; (board.resting_time(0), board.falling_time(1)), (0, 5));
     board.enter(1, 0, false, 0, 3);
     assert_eq!(rt; (board.rank(1), board.queued(1), board.count()), (2, 1, 2));
     assert_eq!(rt; (board.time(1), board.near(1), board.room(1)), (5, 0, 3));

@@ -1,17 +1,16 @@
 -- An activity that labels may cross: it waits for a fall, or its far event enters.
-use Rattle.std.proofs.Common.{◌≡◌, ◌≢◌, ℕ, ◌<◌, ◌≤◌, Some, true, false, length, sym, ◌∙◌, ap, subst, inl, inr, arith}
+use Rattle.std.proofs.Common.{◌≡◌, ◌≢◌, ℕ, List, ◌<◌, ◌≤◌, Some, true, false, length, sym, ◌∙◌, ap, subst, inl, inr, arith}
 use Rattle.std.proofs.lemmas.Bool.{cases_eq}
+use Rattle.pc_model.specs.declared.Knee.{Knee}
 use Rattle.pc_stair.specs.declared.stop.Stop.{Stop}
-use Rattle.pc_crash.specs.declared.looking.Look.{Look}
 use Rattle.pc_crash.specs.Priced.{PricedNetwork}
-use Rattle.pc_crash.specs.Looks.{IsLookAt}
 use Rattle.pc_board.specs.Sheets.{Sheet, kept_time, rank_of, slot_of}
 use Rattle.pc_board.specs.Moves.{WaitsOnce, EntersAt}
 use Rattle.pc_board.specs.Labelling.{HaveRoom}
 use Rattle.pc_board.proofs.AfterEntering.{IsNewStep, queue-room}
 use Rattle.pc_search.specs.declared.way.Way.{Way}
 use Rattle.pc_search.specs.declared.way.Way.TheVariants.{Along, Against}
-use Rattle.pc_search.specs.Searches.{gap_at, next_at, last_at, IsSearch, MayGoAlong, MayGoAgainst, IsWay, StopsAlong, StopsAgainst, StopsAfter, IsVisited}
+use Rattle.pc_search.specs.Searches.{gap_at, next_at, last_at, IsSearch, IsSeen, MayGoAlong, MayGoAgainst, IsWay, StopsAlong, StopsAgainst, StopsAfter, IsVisited}
 use Rattle.pc_search.proofs.VisitLaws.{visited-still, visited-waits}
 use Rattle.pc_search.proofs.EnterLaws.{visited-enters}
 
@@ -45,63 +44,63 @@ module _ (net : PricedNetwork) (s : Sheet) (a : ℕ) (search : IsSearch net s) (
             }))
       ]
 
-  module _ (look : Look) (looked : IsLookAt net a look) where
-    pub from-known : look.from < s.events
-    from-known = omega (arith, looked.from, search.in_range.from_in a known, search.fits.events)
+  module _ (from to crash : ℕ) (knees : List Knee) (seen : IsSeen net a from to crash knees) where
+    pub from-known : from < s.events
+    from-known = omega (arith, seen.begins, search.in_range.from_in a known, search.fits.events)
 
-    pub to-known : look.to < s.events
-    to-known = omega (arith, looked.to, search.in_range.to_in a known, search.fits.events)
+    pub to-known : to < s.events
+    to-known = omega (arith, seen.ends, search.in_range.to_in a known, search.fits.events)
 
     -- the event where it ends enters
     module _ (stop : Stop) (may : MayGoAlong net s a) (stops : StopsAlong net s a stop) where
-      pub to-none : rank_of s look.to ≡ 0
-      to-none = ap (rank_of s) looked.to ∙ may.to
+      pub to-none : rank_of s to ≡ 0
+      to-none = ap (rank_of s) seen.ends ∙ may.to
 
       pub to-room : s.count < s.events
-      to-room = queue-room s look.to search.ranked to-known to-none
+      to-room = queue-room s to search.ranked to-known to-none
 
-      pub to-deep : s.fallen ≤ kept_time s look.to
-      to-deep = search.times.deep look.to to-known to-none
+      pub to-deep : s.fallen ≤ kept_time s to
+      to-deep = search.times.deep to to-known to-none
 
-      to-new : IsNewStep net.network s look.to a false look.from stop.room
+      to-new : IsNewStep net.network s to a false from stop.room
       to-new = record {
         unlabelled = to-none;
         known = to-known;
         near_known = from-known;
-        near_labelled = omega (arith, ap (rank_of s) looked.from, may.from);
+        near_labelled = omega (arith, ap (rank_of s) seen.begins, may.from);
         activity = activity;
         some = stops.some;
-        along = λ is. (sym looked.from, sym looked.to, stops.small);
+        along = λ is. (sym seen.begins, sym seen.ends, stops.small);
         back = λ is. cc;
       }
 
-      pub crossed-along : (t : Sheet) → stop.after ≡ 0 → EntersAt s t look.to a false look.from stop.room → IsVisited net s t a
+      pub crossed-along : (t : Sheet) → stop.after ≡ 0 → EntersAt s t to a false from stop.room → IsVisited net s t a
       crossed-along t now entered =
-          visited-enters net s t look.to a false look.from stop.room search known to-new entered (λ is. stops.room now) (λ is. cc) room
+          visited-enters net s t to a false from stop.room search known to-new entered (λ is. stops.room now) (λ is. cc) room
 
     -- the event where it begins enters
     module _ (stop : Stop) (may : MayGoAgainst net s a) (stops : StopsAgainst net s a stop) where
-      pub from-none : rank_of s look.from ≡ 0
-      from-none = ap (rank_of s) looked.from ∙ may.from
+      pub from-none : rank_of s from ≡ 0
+      from-none = ap (rank_of s) seen.begins ∙ may.from
 
       pub from-room : s.count < s.events
-      from-room = queue-room s look.from search.ranked from-known from-none
+      from-room = queue-room s from search.ranked from-known from-none
 
-      pub from-deep : s.fallen ≤ kept_time s look.from
-      from-deep = search.times.deep look.from from-known from-none
+      pub from-deep : s.fallen ≤ kept_time s from
+      from-deep = search.times.deep from from-known from-none
 
-      from-new : IsNewStep net.network s look.from a true look.to stop.room
+      from-new : IsNewStep net.network s from a true to stop.room
       from-new = record {
         unlabelled = from-none;
         known = from-known;
         near_known = to-known;
-        near_labelled = omega (arith, ap (rank_of s) looked.to, may.to);
+        near_labelled = omega (arith, ap (rank_of s) seen.ends, may.to);
         activity = activity;
         some = stops.some;
         along = λ is. cc;
-        back = λ is. (sym looked.from, sym looked.to, stops.within);
+        back = λ is. (sym seen.begins, sym seen.ends, stops.within);
       }
 
-      pub crossed-against : (t : Sheet) → stop.after ≡ 0 → EntersAt s t look.from a true look.to stop.room → IsVisited net s t a
+      pub crossed-against : (t : Sheet) → stop.after ≡ 0 → EntersAt s t from a true to stop.room → IsVisited net s t a
       crossed-against t now entered =
-          visited-enters net s t look.from a true look.to stop.room search known from-new entered (λ is. cc) (λ is. stops.room now) room
+          visited-enters net s t from a true to stop.room search known from-new entered (λ is. cc) (λ is. stops.room now) room

@@ -1,11 +1,13 @@
 -- The search for steps with room on the board of a priced network.
-use Rattle.std.specs.Prelude.{◌≡◌, ℕ, ◌+◌, ◌-◌, ◌^◌, ◌<◌, ◌≤◌, Option, Some, None, length}
+use Rattle.std.specs.Prelude.{◌≡◌, ℕ, ◌+◌, ◌-◌, ◌^◌, ◌<◌, ◌≤◌, Option, Some, None, List, length}
 use Rattle.pc_model.specs.declared.limits.TheConstants.{MAX_ACTIVITIES}
 use Rattle.pc_model.specs.Walk.{from_of, to_of}
 use Rattle.pc_model.specs.Network.{IsInRange}
-use Rattle.pc_model.specs.Schedule.{gap_of}
+use Rattle.pc_model.specs.declared.Knee.{Knee}
+use Rattle.pc_model.specs.Schedule.{crash_of, gap_of}
 use Rattle.pc_curve_laws.specs.Stair.{Stair, IsFalling, stair_of, full_reach, unit_length, IsOnStair}
 use Rattle.pc_stair.specs.declared.stop.Stop.{Stop}
+use Rattle.pc_crash.specs.KneeLists.{AreKneesOf}
 use Rattle.pc_crash.specs.Priced.{PricedNetwork, knees_in}
 use Rattle.pc_board.specs.Sheets.{Sheet, time_of, rank_of, queue_of, step_of, against_of, room_of, flow_of, waiting_of, slot_of}
 use Rattle.pc_board.specs.Labelling.{HasStep, IsRanked, IsRankedBack, HaveSteps, HaveRoom, AreTimes, IsFor, AreJoined}
@@ -85,6 +87,13 @@ abbrev pub IsWay : PricedNetwork → Sheet → ℕ → Option Way → Type 0
 IsWay net s a (Some Along) = MayGoAlong net s a
 IsWay net s a (Some Against) = MayGoAgainst net s a
 IsWay net s a None = IsQuiet net s a
+
+-- activity a begins and ends at these events, and has this crash duration and these knees
+pub record IsSeen (net : PricedNetwork) (a from to crash : ℕ) (knees : List Knee) : Type 0 where
+  pub begins : from ≡ from_of net.network.arcs a
+  pub ends : to ≡ to_of net.network.arcs a
+  pub lasts : crash ≡ crash_of net.terms a
+  pub bends : AreKneesOf (knees_in net) a knees
 
 -- after so much of a fall the gap is the next unit's arc; where that is now, the room leads to a flow on the staircase
 pub record StopsAlong (net : PricedNetwork) (s : Sheet) (a : ℕ) (stop : Stop) : Type 0 where

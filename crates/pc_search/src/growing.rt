@@ -12,6 +12,7 @@ use std::sync::ledger::Ledger;
 
 impl<'n> Search<'n> {
     /// Visits all activities at an event. One look for each.
+    #[inline(always)]
     pub fn scan<L: Ledger>(&mut self, e: u32, steps: &mut Steps<L>)
         requires known { e < self.old.net.now.network.events }
         requires search { IsSearch self.old.net.now self.old.board }
@@ -26,6 +27,7 @@ impl<'n> Search<'n> {
     }
 
     // Visits these activities.
+    #[inline(always)]
     fn visit_all<L: Ledger>(&mut self, activities: &[u32], steps: &mut Steps<L>)
         requires known { (k : ℕ) → k < length activities.now → slice_index activities.now k < length self.old.net.now.network.arcs }
         requires search { IsSearch self.old.net.now self.old.board }

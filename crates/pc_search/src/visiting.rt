@@ -4,12 +4,12 @@ ghost use Rattle.pc_model.specs.Walk.{from_of, to_of};
 ghost use Rattle.pc_crash.specs.Looks.{IsLookAt};
 ghost use Rattle.pc_model.specs.Network.{IsInRange};
 ghost use Rattle.pc_board.specs.Labelling.{HaveRoom, AreTimes, IsFor};
-ghost use Rattle.pc_search.specs.Searches.{IsSearch, IsOnStairs, IsWay, StopsAfter, IsVisited};
+ghost use Rattle.pc_search.specs.Searches.{IsSearch, IsSeen, IsOnStairs, IsWay, MayGoAlong, MayGoAgainst, StopsAlong, StopsAgainst, StopsAfter, IsVisited};
 
 use crate::search::Search;
 use crate::way::Way;
 use pc_crash::{Look, Steps};
-use pc_stair::{Stop, stop_against, stop_along};
+use pc_stair::{Knee, Stop, stop_against, stop_along};
 use std::sync::ledger::Ledger;
 
 impl<'n> Search<'n> {
@@ -24,9 +24,9 @@ impl<'n> Search<'n> {
     {
         let from = self.board.rank(look.from) > 0;
         let to = self.board.rank(look.to) > 0;
-        if from && !to {
-            Some(Way::Along)
-        } else if to && !from && self.board.flow(a) > 0 {
+        if from {
+            if to { None } else { Some(Way::Along) }
+        } else if to && self.board.flow(a) > 0 {
             Some(Way::Against)
         } else {
             None
@@ -35,6 +35,7 @@ impl<'n> Search<'n> {
 
     /// After how much of a fall an activity stops that the labels may cross this way, and what room its step has where that
     /// is 0.
+    #[inline(always)]
     pub fn stop(&self, a: u32, look: &Look, way: Way) -> Stop
         requires known { a < length self.now.net.now.network.arcs }
         requires look { IsLookAt self.now.net.now a look.now }
@@ -45,16 +46,50 @@ impl<'n> Search<'n> {
         requires way { IsWay self.now.net.now self.now.board a (Some way) }
         ensures { StopsAfter self.now.net.now self.now.board a way result }
     {
-        let gap = self.board.time(look.to) - self.board.time(look.from);
         let knees = look.knees.as_slice();
-        let flow = self.board.flow(a);
         match way {
-            Way::Along => stop_along(knees, look.crash, gap, flow),
-            Way::Against => stop_against(knees, look.crash, gap, flow),
+            Way::Along => self.stops_along(a, look.from, look.to, look.crash, knees),
+            Way::Against => self.stops_against(a, look.from, look.to, look.crash, knees),
         }
     }
 
+    // The stop of an activity that labels may cross along it.
+    #[inline(always)]
+    fn stops_along(&self, a: u32, from: u32, to: u32, crash: u64, knees: &[Knee]) -> Stop
+        requires known { a < length self.now.net.now.network.arcs }
+        requires seen { IsSeen self.now.net.now a from to crash knees.now }
+        requires in_range { IsInRange self.now.net.now.network }
+        requires fits { IsFor self.now.net.now.network self.now.board }
+        requires times { AreTimes self.now.board }
+        requires stairs { IsOnStairs self.now.net.now self.now.board }
+        requires way { MayGoAlong self.now.net.now self.now.board a }
+        ensures { StopsAlong self.now.net.now self.now.board a result }
+    {
+        let gap = self.board.falling_time(to) - self.board.resting_time(from);
+        stop_along(knees, crash, gap, self.board.flow(a))
+    }
+
+    // The stop of an activity that labels may cross against it.
+    #[inline(always)]
+    fn stops_against(&self, a: u32, from: u32, to: u32, crash: u64, knees: &[Knee]) -> Stop
+        requires known { a < length self.now.net.now.network.arcs }
+        requires seen { IsSeen self.now.net.now a from to crash knees.now }
+        requires in_range { IsInRange self.now.net.now.network }
+        requires fits { IsFor self.now.net.now.network self.now.board }
+        requires times { AreTimes self.now.board }
+        requires stairs { IsOnStairs self.now.net.now self.now.board }
+        requires way { MayGoAgainst self.now.net.now self.now.board a }
+        ensures { StopsAgainst self.now.net.now self.now.board a result }
+    {
+        let gap = self.board.resting_time(to) - self.board.falling_time(from);
+        stop_against(knees, crash, gap, self.board.flow(a))
+    }
+
     /// Labels the far event of an activity where its step has room, and else has the activity wait for a fall. One look.
+    ///
+    /// Most of the activities that a search comes to, labels may not cross. So only the test stands in the loops that call
+    /// this, and the rest is a call with what the look told.
+    #[inline(always)]
     pub fn visit<L: Ledger>(&mut self, a: u32, steps: &mut Steps<L>)
         requires known { a < length self.old.net.now.network.arcs }
         requires search { IsSearch self.old.net.now self.old.board }
@@ -68,14 +103,48 @@ impl<'n> Search<'n> {
             Some(way) => way,
             None => return,
         };
-        let stop = self.stop(a, &look, way);
+        let knees = look.knees.as_slice();
+        match way {
+            Way::Along => self.cross_along(a, look.from, look.to, look.crash, knees),
+            Way::Against => self.cross_against(a, look.from, look.to, look.crash, knees),
+        }
+    }
+
+    // Labels the event where an activity ends that labels may cross along it, or has the activity wait.
+    #[inline(never)]
+    fn cross_along(&mut self, a: u32, from: u32, to: u32, crash: u64, knees: &[Knee])
+        requires known { a < length self.old.net.now.network.arcs }
+        requires seen { IsSeen self.old.net.now a from to crash knees.now }
+        requires search { IsSearch self.old.net.now self.old.board }
+        requires room { HaveRoom self.old.board }
+        requires way { MayGoAlong self.old.net.now self.old.board a }
+        ensures net { self.new.net.now ≡ self.old.net.now }
+        ensures visited { IsVisited self.old.net.now self.old.board self.new.board a }
+    {
+        let stop = self.stops_along(a, from, to, crash, knees);
         if stop.after > 0 {
             self.board.wait(a);
             return;
         }
-        match way {
-            Way::Along => self.board.enter(look.to, a, false, look.from, stop.room),
-            Way::Against => self.board.enter(look.from, a, true, look.to, stop.room),
+        self.board.enter(to, a, false, from, stop.room);
+    }
+
+    // Labels the event where an activity begins that labels may cross against it, or has the activity wait.
+    #[inline(never)]
+    fn cross_against(&mut self, a: u32, from: u32, to: u32, crash: u64, knees: &[Knee])
+        requires known { a < length self.old.net.now.network.arcs }
+        requires seen { IsSeen self.old.net.now a from to crash knees.now }
+        requires search { IsSearch self.old.net.now self.old.board }
+        requires room { HaveRoom self.old.board }
+        requires way { MayGoAgainst self.old.net.now self.old.board a }
+        ensures net { self.new.net.now ≡ self.old.net.now }
+        ensures visited { IsVisited self.old.net.now self.old.board self.new.board a }
+    {
+        let stop = self.stops_against(a, from, to, crash, knees);
+        if stop.after > 0 {
+            self.board.wait(a);
+            return;
         }
+        self.board.enter(from, a, true, to, stop.room);
     }
 }
