@@ -1,5 +1,5 @@
 //! The segments of small time-cost curves, one after another.
-ghost use Rattle.std.specs.Prelude.{◌≡◌, ◌<◌, ◌≤◌, [], length, IfOk, IfSome};
+ghost use Rattle.std.specs.Prelude.{◌≡◌, ◌<◌, ◌≤◌, false, [], length, IfOk, IfSome};
 ghost use Rattle.pc_crash.specs.Steps.{IsBlankOf};
 
 use crate::small::{small_net, small_priced};
@@ -13,9 +13,10 @@ use std::marker::Brand;
 use std::sync::ledger::{Blank, Ledger};
 
 /// A solver before its first segment.
-fn solver<'n>(alloc: Global, net: &'n CrashNet<'n>) -> Result<Solver<'n>, AllocError>
+pub(crate) fn solver<'n>(alloc: Global, net: &'n CrashNet<'n>) -> Result<Solver<'n>, AllocError>
     requires { length net.now.pieces ≤ 1 }
-    ensures { IfOk result (λ solver. solver.net ≡ net.now) }
+    ensures net { IfOk result (λ solver. solver.net ≡ net.now) }
+    ensures before { IfOk result (λ solver. solver.given ≡ false) }
 {
     let shape = net.net();
     let cells = cells_needed(shape.events() as usize, shape.activities() as usize, 1);
@@ -177,9 +178,19 @@ fn segments_of_parallel_activities(rt: HostRuntime) {
     assert_eq!(rt; parallel_curve(rt.alloc()), Some(rows));
 }
 
-/// The curve of one activity that cannot be shortened: one length.
-fn single_curve(alloc: Global) -> Option<[[u64; 4]; 5]> {
-    let net = Net::build(alloc, 2, 0, 1, &[Arc { from: 0, to: 1 }]).ok()?;
+/// One activity that cannot be shortened.
+fn single_net(alloc: Global) -> Option<Net>
+    ensures events { IfSome result (λ net. net.events ≡ 2) }
+    ensures activities { IfSome result (λ net. length net.arcs ≡ 1) }
+{
+    Net::build(alloc, 2, 0, 1, &[Arc { from: 0, to: 1 }]).ok()
+}
+
+fn single_priced<'n>(alloc: Global, net: &'n Net) -> Option<CrashNet<'n>>
+    requires events { net.now.events ≡ 2 }
+    requires activities { length net.now.arcs ≡ 1 }
+    ensures { IfSome result (λ priced. priced.pieces ≡ []) }
+{
     let terms = [Term {
         normal: 3,
         crash: 3,
@@ -187,7 +198,12 @@ fn single_curve(alloc: Global) -> Option<[[u64; 4]; 5]> {
         slope: 2,
     }];
     let (a, b) = (Code::read(b"A")?, Code::read(b"B")?);
-    let priced = CrashNet::build(alloc, &net, &terms, &[], a, &[a, b], &[a]).ok()?;
+    CrashNet::build(alloc, net, &terms, &[], a, &[a, b], &[a]).ok()
+}
+
+fn single_curve(alloc: Global) -> Option<[[u64; 4]; 5]> {
+    let net = single_net(alloc)?;
+    let priced = single_priced(alloc, &net)?;
     curve(alloc, &priced)
 }
 

@@ -14,22 +14,24 @@ const EACH_KIND: &[u8] =
 const FIRST_VERSION: &[u8] =
     b"PROJECT,P,S,T,2024-01-01,2,9,\nASOF,2024-01-08\nWBS,1,,Whole\nWBS,1.1,1,Frame\nEVENT,S,\nEVENT,T,\nACT,A,S,T,1.1,3,4,11,4,2,10,5,\nACCT,X,1.1,10,\nCHARGE,X,2024-01-02,5\nTOGO,X,2024-01-02,5\nSTATUS,A,S,2024-01-02\nEND\n";
 
+/// Whether the deck's cards make a project; none where the deck is refused before.
+fn makes_a_project(alloc: Global, deck: &[u8]) -> Option<bool>
+    requires { length deck.now ≤ 1000 }
+{
+    // (the cards are handed on, since a function that drops all cards is long to prove)
+    let cards = read_cards(alloc, deck).ok()?;
+    Some(project_of(alloc, cards).is_ok())
+}
+
 #[test]
 fn reads_each_kind(rt: HostRuntime) {
-    assert!(rt; read_cards(rt.alloc(), EACH_KIND).is_ok());
+    assert!(rt; makes_a_project(rt.alloc(), EACH_KIND).is_some());
 }
 
 #[test]
 fn refuses_a_deck_without_end(rt: HostRuntime) {
-    assert!(rt; read_cards(rt.alloc(), b"PROJECT,E,S,T,2024-01-01,2,9,Example,2\n").is_err());
-}
-
-/// Whether the deck's cards make a project; none where the cards are refused.
-fn makes_a_project(alloc: Global, deck: &[u8]) -> Option<bool>
-    requires { length deck.now ≤ 1000 }
-{
-    let cards = read_cards(alloc, deck).ok()?;
-    Some(project_of(alloc, cards).is_ok())
+    let deck = b"PROJECT,E,S,T,2024-01-01,2,9,Example,2\n";
+    assert_eq!(rt; makes_a_project(rt.alloc(), deck), None);
 }
 
 #[test]

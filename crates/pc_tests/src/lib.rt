@@ -6,6 +6,8 @@
 #![tactic(auto)]
 
 #[cfg(test)]
+mod bench;
+#[cfg(test)]
 mod curves;
 #[cfg(test)]
 mod decks;
@@ -15,5 +17,7 @@ mod priced;
 mod schedules;
 #[cfg(test)]
 mod small;
+#[cfg(test)]
+mod statuses;
 #[cfg(test)]
 mod times;
