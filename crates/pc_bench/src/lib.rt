@@ -6,8 +6,6 @@ mod deck;
 mod draws;
 mod figures;
 mod report;
-#[cfg(test)]
-mod tests;
 
 pub use deck::{MOST_ACTIVITIES, bench_deck};
 pub use figures::{Figures, figures_of};

@@ -29,6 +29,3 @@ pub use crate::kinds::{
 };
 pub use crate::limits::DECK_LIMIT;
 pub use crate::read::read_cards;
-
-#[cfg(test)]
-mod tests;

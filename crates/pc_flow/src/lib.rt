@@ -12,6 +12,3 @@ mod viewing;
 pub use early::MAX_LENGTH;
 pub use pc_crash::{CrashNet, SegmentView, Steps};
 pub use solver::{Solver, cells_needed};
-
-#[cfg(test)]
-mod tests;

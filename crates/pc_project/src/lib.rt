@@ -33,6 +33,3 @@ pub use crate::load::LoadItem;
 pub use crate::phases::project_of;
 pub use crate::project::Project;
 pub use pc_model::PieceRow as Piece;
-
-#[cfg(test)]
-mod tests;

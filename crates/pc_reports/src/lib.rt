@@ -12,8 +12,6 @@ mod outlook_rows;
 mod schedule;
 mod summary_report;
 mod summary_rows;
-#[cfg(test)]
-mod tests;
 mod times;
 mod times_report;
 mod times_rows;

@@ -8,6 +8,3 @@ mod row;
 
 pub use log::Log;
 pub use row::StatusRow;
-
-#[cfg(test)]
-mod tests;

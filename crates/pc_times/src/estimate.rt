@@ -33,17 +33,3 @@ pub fn variance_36(opt: u64, pess: u64, unit_days: u64) -> u64
     let range = (pess - opt) * unit_days;
     range * range
 }
-
-#[cfg(test)]
-mod tests {
-    use super::*;
-
-    #[test]
-    fn times_of_estimates(rt: HostRuntime) {
-        assert_eq!(rt; expected_sixths(2, 4, 12, 5), 150);
-        assert_eq!(rt; expected_sixths(3, 3, 3, 1), 18);
-        assert_eq!(rt; expected_sixths(100_000, 100_000, 100_000, 7), 4_200_000);
-        assert_eq!(rt; variance_36(2, 12, 5), 2_500);
-        assert_eq!(rt; variance_36(3, 3, 1), 0);
-    }
-}

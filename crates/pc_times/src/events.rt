@@ -53,30 +53,3 @@ pub fn slack(late: i64, early: u64) -> i64
 {
     late - early as i64
 }
-
-#[cfg(test)]
-mod tests {
-    use super::*;
-    use pc_net::Arc;
-    use std::test::Fail;
-
-    #[test]
-    fn early_and_late_times_of_a_small_deck(rt: HostRuntime) -> Result<(), Fail> {
-        let arcs = [
-            Arc { from: 0, to: 1 },
-            Arc { from: 1, to: 2 },
-            Arc { from: 0, to: 2 },
-        ];
-        let net = Net::build(rt.alloc(), 3, 0, 2, &arcs)?;
-
-        let reached = early(rt.alloc(), &net, &[4, 5, 7])?;
-        assert_eq!(rt; reached.as_slice(), [0, 4, 9].as_slice());
-        let latest = late(rt.alloc(), &net, &[4, 5, 7], 12)?;
-        assert_eq!(rt; latest.as_slice(), [3, 7, 12].as_slice());
-        let too_early = late(rt.alloc(), &net, &[4, 5, 7], 6)?;
-        assert_eq!(rt; too_early.as_slice(), [-3, 1, 6].as_slice());
-        assert_eq!(rt; slack(7, 4), 3);
-        assert_eq!(rt; slack(1, 4), -3);
-        Ok(())
-    }
-}

@@ -138,39 +138,3 @@ fn finish(state: ActState, length: u64, as_of: u64, begin: u64) -> u64
         ActState::Waiting => begin.max(as_of) + length,
     }
 }
-
-#[cfg(test)]
-mod tests {
-    use super::*;
-    use pc_net::Arc;
-    use std::test::Fail;
-
-    #[test]
-    fn forecasts_a_small_deck(rt: HostRuntime) -> Result<(), Fail> {
-        let arcs = [
-            Arc { from: 0, to: 1 },
-            Arc { from: 1, to: 2 },
-            Arc { from: 0, to: 2 },
-        ];
-        let net = Net::build(rt.alloc(), 3, 0, 2, &arcs)?;
-        let lengths = [24, 36, 42];
-
-        let waiting = [ActState::Waiting, ActState::Waiting, ActState::Waiting];
-        let later = forecast(rt.alloc(), &net, &lengths, &waiting, 42)?;
-        let times = (later.time(0), later.time(1), later.time(2));
-        assert_eq!(rt; times, (0, 66, 102));
-        assert_eq!(rt; later.finish(2), 84);
-
-        let finished = ActState::Finished(30);
-        let started = [finished, ActState::Waiting, ActState::Started(6)];
-        let sooner = forecast(rt.alloc(), &net, &lengths, &started, 42)?;
-        let times = (sooner.time(0), sooner.time(1), sooner.time(2));
-        assert_eq!(rt; times, (0, 30, 78));
-        assert_eq!(rt; sooner.finish(2), 48);
-
-        // a dummy that waits takes no time and does not wait for as-of
-        let dummy = forecast(rt.alloc(), &net, &[0, 36, 42], &waiting, 42)?;
-        assert_eq!(rt; (dummy.time(1), dummy.time(2)), (0, 84));
-        Ok(())
-    }
-}

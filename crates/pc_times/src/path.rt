@@ -100,37 +100,3 @@ fn first_without_slack(
     }
     None
 }
-
-#[cfg(test)]
-mod tests {
-    use super::*;
-    use pc_net::Arc;
-    use std::test::Fail;
-
-    #[test]
-    fn times_and_path_of_a_small_deck(rt: HostRuntime) -> Result<(), Fail> {
-        let arcs = [
-            Arc { from: 0, to: 1 },
-            Arc { from: 1, to: 2 },
-            Arc { from: 0, to: 2 },
-        ];
-        let net = Net::build(rt.alloc(), 3, 0, 2, &arcs)?;
-
-        let normal = longest(rt.alloc(), &net, &[4, 5, 7])?;
-        assert_eq!(rt; normal.length(), 9);
-        assert_eq!(rt; normal.times(), [0, 4, 9].as_slice());
-        assert_eq!(rt; normal.time(1), 4);
-        assert_eq!(rt; normal.path(), [0, 1].as_slice());
-
-        // Both walks take 5 units, and A stands before C.
-        let crash = longest(rt.alloc(), &net, &[2, 3, 5])?;
-        assert_eq!(rt; crash.length(), 5);
-        assert_eq!(rt; crash.path(), [0, 1].as_slice());
-
-        let direct = longest(rt.alloc(), &net, &[1, 1, 5])?;
-        assert_eq!(rt; direct.path(), [2].as_slice());
-        let path = critical_path(rt.alloc(), &net, &[1, 1, 5])?;
-        assert_eq!(rt; path.as_slice(), [2].as_slice());
-        Ok(())
-    }
-}

@@ -1,0 +1,40 @@
+//! Small decks are read, and their project made. What the getters give is said by their contracts, and seen in the texts of
+//! whole decks.
+ghost use Rattle.std.specs.Prelude.{◌≤◌, length};
+
+use pc_deck::read_cards;
+use pc_project::project_of;
+use std::alloc::Global;
+
+// One card or two of each kind.
+const EACH_KIND: &[u8] =
+    b"PROJECT,E,S,T,2024-01-01,2,9,Example,2\nASOF,2024-01-08\nTERMS,4,6,2,10\nWBS,1,,Whole\nWBS,1.1,1,\nEVENT,S,\nEVENT,T,End\nACT,A,S,T,1.1,3,4,5,4,2,10,7,Dig\nPIECE,A,1,8\nACCT,X,1.1,25,\nCHARGE,X,2024-01-03,11\nTOGO,X,2024-01-05,12\nSTATUS,A,S,2024-01-02\nSTATUS,A,F,2024-01-04\nRES,R,\nRES,CREW,Crew\nLOAD,A,CREW,13\nEND\n";
+
+// A deck of the first version, with even packages.
+const FIRST_VERSION: &[u8] =
+    b"PROJECT,P,S,T,2024-01-01,2,9,\nASOF,2024-01-08\nWBS,1,,Whole\nWBS,1.1,1,Frame\nEVENT,S,\nEVENT,T,\nACT,A,S,T,1.1,3,4,11,4,2,10,5,\nACCT,X,1.1,10,\nCHARGE,X,2024-01-02,5\nTOGO,X,2024-01-02,5\nSTATUS,A,S,2024-01-02\nEND\n";
+
+/// Whether the deck's cards make a project; none where the deck is refused before.
+fn makes_a_project(alloc: Global, deck: &[u8]) -> Option<bool>
+    requires { length deck.now ≤ 1000 }
+{
+    // (the cards are handed on, since a function that drops all cards is long to prove)
+    let cards = read_cards(alloc, deck).ok()?;
+    Some(project_of(alloc, cards).is_ok())
+}
+
+#[test]
+fn reads_each_kind(rt: HostRuntime) {
+    assert!(rt; makes_a_project(rt.alloc(), EACH_KIND).is_some());
+}
+
+#[test]
+fn refuses_a_deck_without_end(rt: HostRuntime) {
+    let deck = b"PROJECT,E,S,T,2024-01-01,2,9,Example,2\n";
+    assert_eq!(rt; makes_a_project(rt.alloc(), deck), None);
+}
+
+#[test]
+fn project_of_a_small_deck(rt: HostRuntime) {
+    assert_eq!(rt; makes_a_project(rt.alloc(), FIRST_VERSION), Some(true));
+}

@@ -1,0 +1,23 @@
+//! Tests of the public calls of crates that are long to prove. They stand in a crate that has nothing else, since a crate
+//! with tests is proved twice.
+//!
+//! Each test function is proved too, and one that keeps several values with memory is long to prove: so a helper makes what
+//! is asked, asks it, and answers plain numbers.
+#![tactic(auto)]
+
+#[cfg(test)]
+mod bench;
+#[cfg(test)]
+mod curves;
+#[cfg(test)]
+mod decks;
+#[cfg(test)]
+mod priced;
+#[cfg(test)]
+mod schedules;
+#[cfg(test)]
+mod small;
+#[cfg(test)]
+mod statuses;
+#[cfg(test)]
+mod times;

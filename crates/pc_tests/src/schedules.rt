@@ -1,0 +1,59 @@
+//! A schedule as it is printed, and what a sink that is full or fails leaves of it.
+use pc_edges::{Failed, MemSink};
+use pc_page::Page;
+use pc_reports::{Schedule, write_schedule};
+use pc_text::Code;
+use std::alloc::Global;
+
+const TEXT: &[u8] =
+    b"LENGTH 9\nCOST 45\nEVENT S 0\nEVENT M 4\nEVENT T 9\nACT A 4\nACT B 5\nACT C 7\n";
+
+/// What a write of the schedule on such a page to such a sink answers, and how much of the text the sink took: none where
+/// it took something else.
+fn written(
+    alloc: Global,
+    room: usize,
+    page_room: usize,
+    failing: &[u64],
+) -> Option<(Result<(), Failed>, usize)> {
+    let events = [Code::read(b"S")?, Code::read(b"M")?, Code::read(b"T")?];
+    let activities = [Code::read(b"A")?, Code::read(b"B")?, Code::read(b"C")?];
+    let schedule = Schedule {
+        length: 9,
+        cost: 45,
+        events: &events,
+        times: &[0, 4, 9],
+        activities: &activities,
+        durations: &[4, 5, 7],
+    };
+    let mut page = Page::with_room(alloc, page_room).ok()?;
+    let mut sink = MemSink::new(alloc, room, 1000, failing).ok()?;
+    let answer = write_schedule(&mut page, &mut sink, &schedule);
+    if !TEXT.starts_with(sink.bytes()) {
+        return None;
+    }
+    Some((answer, sink.bytes().len()))
+}
+
+/// Room in the sink, room on the page, the calls that fail, the answer, and how much of the text is written. A page of
+/// 64 bytes is pushed when 63 stand on it, then with the other 8, and then comes the flush.
+#[test]
+fn schedule_is_written(rt: HostRuntime) {
+    let cases: [(usize, usize, &[u64], Result<(), Failed>, usize); 8] = [
+        (200, 1000, &[], Ok(()), 71),
+        (200, 1000, &[2], Err(Failed), 71),
+        (200, 1000, &[3], Ok(()), 71),
+        (200, 64, &[], Ok(()), 71),
+        (200, 64, &[1], Err(Failed), 0),
+        (200, 64, &[2], Err(Failed), 63),
+        (200, 64, &[3], Err(Failed), 71),
+        (5, 1000, &[], Err(Failed), 5),
+    ];
+    for (room, page_room, failing, answer, taken) in cases {
+        assert_eq!(rt;
+            written(rt.alloc(), room, page_room, failing),
+            Some((answer, taken)),
+            "room {room} failing {failing:?}"
+        );
+    }
+}
