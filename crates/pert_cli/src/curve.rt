@@ -27,16 +27,14 @@ pub(crate) const WORDS: &[u8] = b"curve";
 pub(crate) fn answer<O: Sink>(alloc: Global, project: &Project, out: &mut O) -> Status
     ensures { Answers (IsReply Curve project.now) (side O.taken O.faults out.old out.new) result }
 {
-    let Ok(
-        Workplace {
-            net,
-            region,
-            mut page,
-        },
-    ) = Workplace::take(alloc, project)
-    else {
+    let Ok(place) = Workplace::take(alloc, project) else {
         return Status::OutOfMemory;
     };
+    let Workplace {
+        net,
+        region,
+        mut page,
+    } = place;
     let mut solver = Solver::begin(region, &net);
     match write::<O, Brand>(&mut page, out, &net, &mut solver, Blank::new(1)) {
         Ok(()) => Status::Done,
