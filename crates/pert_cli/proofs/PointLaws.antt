@@ -1,8 +1,7 @@
 -- Lengths of a network's range and their schedules.
-use Rattle.std.proofs.Common.{◌≡◌, ◌≤◌, ℕ, ◌<◌, List, ◌++◌, ◌⊎◌, inl, inr, refl, sym, ap, subst, arith}
+use Rattle.std.proofs.Common.{◌≡◌, ℕ, List, ◌++◌, inl, inr, refl, sym, subst, arith}
 use Rattle.pc_faults.specs.declared.fault.Fault.{Fault}
 use Rattle.pc_faults.specs.FaultText.{IsTold}
-use Rattle.pc_faults.specs.Faults.{outside_range}
 use Rattle.pc_model.proofs.Walks.WalkLaws.{greatest_unique}
 use Rattle.pc_crash.specs.Priced.{PricedNetwork}
 use Rattle.pc_model.specs.Schedule.{IsAllCrashLength, IsAllNormalLength}

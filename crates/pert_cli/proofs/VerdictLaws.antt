@@ -1,5 +1,5 @@
 -- Verdicts on a deck: accepted, or refused with a fault, and never both.
-use Rattle.std.proofs.Common.{◌≡◌, ℕ, ◌≤◌, List, length, sym, ◌∙◌, ap, subst, refl, arith, Result, Ok, Err}
+use Rattle.std.proofs.Common.{◌≡◌, ℕ, ◌≤◌, List, length, sym, subst, refl, arith, Result, Ok, Err}
 use Rattle.std.specs.Prelude.{IfErr}
 use Rattle.pc_deck.specs.Limits.{longest_deck}
 use Rattle.pc_faults.specs.declared.fault.Fault.{Fault as ADeckFault}

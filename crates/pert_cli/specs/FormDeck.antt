@@ -1,5 +1,5 @@
 -- Which deck a form speaks of: that of the source, or one of its own, for which nothing is read.
-use Rattle.std.specs.Prelude.{◌≡◌, ◌≤◌, ℕ, List, length, Option, Some, None, ⊤, String}
+use Rattle.std.specs.Prelude.{◌≡◌, ℕ, List, Option, Some, None, ⊤, String}
 use Rattle.std.specs.declared.alloc.Global.{Global}
 use Rattle.pc_bench.specs.Deck.{deck_text}
 use Rattle.pc_faults.specs.declared.fault.Fault.{Fault}

@@ -10,7 +10,7 @@ use Rattle.pert_cli.specs.declared.forms.Form.{Form}
 use Rattle.pert_cli.specs.Words.{AskFor, AskForNone, usage_text}
 use Rattle.pert_cli.specs.Sides.{Side, HadFault, IsUntouched, Took, TookFront}
 use Rattle.pert_cli.specs.Verdict.{IsProjectOf, RefusedBy}
-use Rattle.pert_cli.specs.FormDeck.{AskToRead, HasProjectFor, HasRefusalFor, IsLeftBy, ReadsSource}
+use Rattle.pert_cli.specs.FormDeck.{AskToRead, HasProjectFor, HasRefusalFor, IsLeftBy}
 use Rattle.pert_cli.specs.Forms.{IsDenial}
 use Rattle.pert_cli.specs.Handing.{IsReply}
 

@@ -8,13 +8,13 @@ ghost use Rattle.pert_cli.specs.Handing.{Answers, IsReply};
 ghost use Rattle.pert_cli.specs.Sides.{side};
 ghost use Rattle.pert_cli.specs.declared.forms.Form.TheVariants.{Bench};
 
-use crate::solving::solver_region;
+use crate::solving::Workplace;
 use crate::status::Status;
 use pc_bench::write_bench;
 use pc_crash::{CrashNet, Steps};
 use pc_edges::{Failed, Sink};
 use pc_flow::Solver;
-use pc_page::{PAGE_ROOM, Page};
+use pc_page::Page;
 use pc_project::Project;
 use std::alloc::Global;
 use std::marker::Brand;
@@ -27,15 +27,14 @@ pub(crate) const WORDS: &[u8] = b"bench";
 pub(crate) fn answer<O: Sink>(alloc: Global, n: u64, project: &Project, out: &mut O) -> Status
     ensures { Answers (IsReply (Bench n) project.now) (side O.taken O.faults out.old out.new) result }
 {
-    let Ok(net) = project.priced(alloc) else {
+    let Ok(place) = Workplace::take(alloc, project) else {
         return Status::OutOfMemory;
     };
-    let Ok(region) = solver_region(alloc, project) else {
-        return Status::OutOfMemory;
-    };
-    let Ok(mut page) = Page::with_room(alloc, PAGE_ROOM) else {
-        return Status::OutOfMemory;
-    };
+    let Workplace {
+        net,
+        region,
+        mut page,
+    } = place;
     let mut solver = Solver::begin(region, &net);
     match write::<O, Brand>(&mut page, out, n, &net, &mut solver, Blank::new(1)) {
         Ok(()) => Status::Done,

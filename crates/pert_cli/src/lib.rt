@@ -33,4 +33,8 @@ mod bench_tests;
 #[cfg(test)]
 mod check_tests;
 #[cfg(test)]
+mod edge_tests;
+#[cfg(test)]
+mod testing;
+#[cfg(test)]
 mod tests;

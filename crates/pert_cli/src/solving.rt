@@ -1,11 +1,40 @@
-//! The memory of a solver.
+//! The memory that solving takes.
 ghost use Rattle.std.specs.Prelude.{◌≡◌, ◌+◌, ◌*◌, ◌≤◌, length, IfOk};
 ghost use Rattle.pc_cells.specs.Spans.{free_of};
+ghost use Rattle.pc_page.specs.Page.{fresh};
+ghost use Rattle.pert_cli.specs.Certificate.{priced_in};
 
 use pc_cells::Region;
+use pc_crash::CrashNet;
 use pc_flow::cells_needed;
+use pc_page::{PAGE_ROOM, Page};
 use pc_project::Project;
 use std::alloc::{AllocError, Global};
+
+/// All memory of a form that solves and writes as it goes: the network whose curve is solved, what a solver of it works in, and
+/// the page.
+#[derive(Drop)]
+pub(crate) struct Workplace<'p> {
+    pub(crate) net: CrashNet<'p>,
+    pub(crate) region: Region,
+    pub(crate) page: Page,
+}
+
+impl<'p> Workplace<'p> {
+    /// The memory for the curve of a project. It does not depend on the curve.
+    pub(crate) fn take(alloc: Global, project: &'p Project) -> Result<Workplace<'p>, AllocError>
+        ensures net { IfOk result (λ place. place.net ≡ priced_in project.now) }
+        ensures region { IfOk result (λ place. 8 * place.net.network.events + 6 * length place.net.network.arcs
+            + 2 * length place.net.pieces + 16 ≤ free_of place.region) }
+        ensures page { IfOk result (λ place. place.page ≡ fresh) }
+    {
+        Ok(Workplace {
+            net: project.priced(alloc)?,
+            region: solver_region(alloc, project)?,
+            page: Page::with_room(alloc, PAGE_ROOM)?,
+        })
+    }
+}
 
 /// The memory that a solver of the project's curve works in, whatever the curve is.
 pub(crate) fn solver_region(alloc: Global, project: &Project) -> Result<Region, AllocError>

@@ -1,19 +1,14 @@
 use Rattle.std.proofs.Common.{subst}
 use Rattle.pc_crash.specs.Priced.{PricedNetwork}
 use Rattle.pc_bench.specs.Report.{IsBenchText}
-use Rattle.pert_cli.proofs.CheckLaws.{priced_is}
 use Rattle.pert_cli.proofs.bench.answer.Goals as goal
 
 pub returns-in-Ok-write : goal.returns-in-Ok-write
 returns-in-Ok-write g c =
-    let has = c.in-Ok.ensures in
-    let same = priced_is c.in-Ok.net c.args.project.now has.network has.terms has.pieces has.project has.events has.activities in
     let (text, right, written) = c.in-Ok-write.ensures in
-    (text, record { right = subst (λ (net : PricedNetwork). IsBenchText c.args.n net text) same right; fits = λ fault denied. denied }, written.ok)
+    (text, record { right = subst (λ (net : PricedNetwork). IsBenchText c.args.n net text) c.in-Ok.ensures.net right; fits = λ fault denied. denied }, written.ok)
 
 pub returns : goal.returns
 returns g c =
-    let has = c.in-Ok.ensures in
-    let same = priced_is c.in-Ok.net c.args.project.now has.network has.terms has.pieces has.project has.events has.activities in
     let (text, right, written) = c.in-Err.ensures in
-    (text, record { right = subst (λ (net : PricedNetwork). IsBenchText c.args.n net text) same right; fits = λ fault denied. denied }, written.err)
+    (text, record { right = subst (λ (net : PricedNetwork). IsBenchText c.args.n net text) c.in-Ok.ensures.net right; fits = λ fault denied. denied }, written.err)

@@ -1,0 +1,253 @@
+//! What the tests share: a small deck with its answers, and what a program leaves of edges in memory of which a call fails.
+
+use crate::{check_run, run};
+use pc_edges::{MemSink, MemSource};
+use std::alloc::{AllocError, Global};
+
+/// A deck of three activities.
+pub(crate) const WHOLE: &[u8] = b"PROJECT,E1,S,T,2024-01-01,1,,Example one\n\
+WBS,1,,Whole\n\
+WBS,1.1,1,\"Frame, north\"\n\
+WBS,1.2,1,Roof\n\
+EVENT,S,Start\n\
+EVENT,M,Middle\n\
+EVENT,T,End\n\
+ACT,A,S,M,1.1,3,4,5,4,2,10,3,Dig\n\
+ACT,B,M,T,1.2,4,5,12,5,3,20,5,Cover\n\
+ACT,C,S,T,1.1,7,7,7,7,5,15,2,Frame\n\
+ACCT,X1,1.1,25,Frame account\n\
+ACCT,X2,1.2,20,Roof account\n\
+END\n";
+
+/// The same in the middle of its work.
+pub(crate) const AT_WORK: &[u8] = b"PROJECT,E1,S,T,2024-01-01,1,,Example one\n\
+WBS,1,,Whole\n\
+WBS,1.1,1,\"Frame, north\"\n\
+WBS,1.2,1,Roof\n\
+EVENT,S,Start\n\
+EVENT,M,Middle\n\
+EVENT,T,End\n\
+ACT,A,S,M,1.1,3,4,5,4,2,10,3,Dig\n\
+ACT,B,M,T,1.2,4,5,12,5,3,20,5,Cover\n\
+ACT,C,S,T,1.1,7,7,7,7,5,15,2,Frame\n\
+ACCT,X1,1.1,25,Frame account\n\
+ACCT,X2,1.2,20,Roof account\n\
+ASOF,2024-01-08\n\
+CHARGE,X1,2024-01-03,10\n\
+TOGO,X1,2024-01-08,30\n\
+END\n";
+
+/// The certificate of the deck's time-cost curve.
+pub(crate) const CERTIFICATE: &[u8] = b"CERT 1 E1 3 3\n\
+NORMAL\n\
+STEP A\n\
+STEP B\n\
+CRASH\n\
+STEP A\n\
+STEP B\n\
+SEGMENT 9 7 45 3\n\
+EVENT S 0 0\n\
+EVENT M 4 1\n\
+EVENT T 9 1\n\
+ACT A 4 3 0\n\
+ACT B 5 3 0\n\
+ACT C 7 0 0\n\
+CLOSE\n\
+SEGMENT 7 5 51 7\n\
+EVENT S 0 0\n\
+EVENT M 2 0\n\
+EVENT T 7 1\n\
+ACT A 2 3 2\n\
+ACT B 5 5 0\n\
+ACT C 7 2 0\n\
+CLOSE\n\
+END\n";
+
+/// The usage line of `run`.
+pub(crate) const USAGE: &[u8] =
+    b"usage: pert check | normal | times | summary | value | curve | certify | point L | outlook L | bench N\n";
+
+/// The two top calls.
+#[derive(Clone, Copy)]
+pub(crate) enum Call {
+    Run,
+    CheckRun,
+}
+
+/// A top call, its words, and what it may read.
+#[derive(Clone, Copy)]
+pub(crate) struct Task<'a> {
+    pub(crate) call: Call,
+    pub(crate) words: &'a [&'a str],
+    pub(crate) deck: &'a [u8],
+    pub(crate) cert: &'a [u8],
+}
+
+/// A run of these words on a deck.
+pub(crate) fn run_of<'a>(words: &'a [&'a str], deck: &'a [u8]) -> Task<'a> {
+    Task {
+        call: Call::Run,
+        words,
+        deck,
+        cert: b"",
+    }
+}
+
+/// A check with these words of a certificate of a deck.
+pub(crate) fn check_of<'a>(words: &'a [&'a str], deck: &'a [u8], cert: &'a [u8]) -> Task<'a> {
+    Task {
+        call: Call::CheckRun,
+        words,
+        deck,
+        cert,
+    }
+}
+
+/// How many bytes a pull gives and a push takes at most, how many an output takes in all, and which call of those at an edge
+/// fails; 0 for none.
+#[derive(Clone, Copy)]
+pub(crate) struct Edges {
+    pub(crate) pulled: usize,
+    pub(crate) pushed: usize,
+    pub(crate) room: usize,
+    pub(crate) failing_deck: u64,
+    pub(crate) failing_cert: u64,
+    pub(crate) failing_push: u64,
+}
+
+/// Edges without a failing call, which give and take little at once.
+pub(crate) const SMALL: Edges = Edges {
+    pulled: 100,
+    pushed: 7,
+    room: 1000,
+    failing_deck: 0,
+    failing_cert: 0,
+    failing_push: 0,
+};
+
+/// The status of a call, and what it left on the output and the error output.
+#[derive(Drop)]
+pub(crate) struct Left {
+    pub(crate) status: u8,
+    pub(crate) out: Vec<u8>,
+    pub(crate) err: Vec<u8>,
+}
+
+impl Left {
+    /// Whether this and nothing else was left.
+    pub(crate) fn is(&self, status: u8, out: &[u8], err: &[u8]) -> bool {
+        self.status == status && self.out.as_slice() == out && self.err.as_slice() == err
+    }
+}
+
+/// What a task leaves behind at these edges.
+pub(crate) fn left_by(alloc: Global, task: &Task<'_>, edges: Edges) -> Result<Left, AllocError> {
+    let words = owned(alloc, task.words)?;
+    let pulled = edges.pulled.max(1);
+    let pushed = edges.pushed.max(1);
+    let mut deck = MemSource::new(alloc, task.deck, pulled, &[edges.failing_deck])?;
+    let mut cert = MemSource::new(alloc, task.cert, pulled, &[edges.failing_cert])?;
+    let mut out = MemSink::new(alloc, edges.room, pushed, &[edges.failing_push])?;
+    let mut err = MemSink::new(alloc, edges.room, pushed, &[edges.failing_push])?;
+    let status = match task.call {
+        Call::Run => run(alloc, &words, &mut deck, &mut out, &mut err),
+        Call::CheckRun => check_run(alloc, &words, &mut deck, &mut cert, &mut out, &mut err),
+    };
+    Ok(Left {
+        status,
+        out: out.bytes().to_vec(alloc)?,
+        err: err.bytes().to_vec(alloc)?,
+    })
+}
+
+fn owned(alloc: Global, words: &[&str]) -> Result<Vec<String>, AllocError> {
+    let mut owned = Vec::new(alloc);
+    for word in words {
+        owned.push(word.to_string(alloc)?)?;
+    }
+    Ok(owned)
+}
+
+/// An edge of which the calls fail in turn.
+#[derive(Clone, Copy)]
+pub(crate) enum Edge {
+    Deck,
+    Cert,
+}
+
+/// The small edges, of which this pull fails.
+fn failing_pull(edge: Edge, pull: u64) -> Edges {
+    match edge {
+        Edge::Deck => Edges {
+            failing_deck: pull,
+            ..SMALL
+        },
+        Edge::Cert => Edges {
+            failing_cert: pull,
+            ..SMALL
+        },
+    }
+}
+
+/// Lets each of so many pulls fail in turn, and then the one behind them, which the task does not come to. Answers the first that
+/// leaves another thing than it must: status 4 and nothing written, or behind the last what the task leaves without a failure.
+pub(crate) fn first_wrong_pull(
+    alloc: Global,
+    task: &Task<'_>,
+    edge: Edge,
+    pulls: u64,
+) -> Result<Option<u64>, AllocError> {
+    for pull in 1..=pulls {
+        if !left_by(alloc, task, failing_pull(edge, pull))?.is(4, b"", b"") {
+            return Ok(Some(pull));
+        }
+    }
+    let behind = pulls.saturating_add(1);
+    leaves_all(alloc, task, failing_pull(edge, behind), behind)
+}
+
+/// The small edges, of which this push or flush fails, on each output.
+fn failing_push(call: u64) -> Edges {
+    Edges {
+        failing_push: call,
+        ..SMALL
+    }
+}
+
+/// What so many pushes take of a text.
+fn front(text: &[u8], pushes: usize) -> &[u8] {
+    let taken = pushes.saturating_mul(SMALL.pushed).min(text.len());
+    &text[..taken]
+}
+
+/// Lets each push and the flush of what a task writes fail in turn, and then the call behind them, which it does not come to.
+/// Answers the first that leaves another thing than it must: status 5 and what the calls before took of the text, or behind the flush
+/// what the task leaves without a failure.
+pub(crate) fn first_wrong_push(alloc: Global, task: &Task<'_>) -> Result<Option<u64>, AllocError> {
+    let whole = left_by(alloc, task, SMALL)?;
+    let pushes = whole.out.len().max(whole.err.len()).div_ceil(SMALL.pushed);
+    for before in 0..=pushes {
+        let call = (before as u64).saturating_add(1);
+        let left = left_by(alloc, task, failing_push(call))?;
+        if !left.is(5, front(&whole.out, before), front(&whole.err, before)) {
+            return Ok(Some(call));
+        }
+    }
+    let behind = (pushes as u64).saturating_add(2);
+    leaves_all(alloc, task, failing_push(behind), behind)
+}
+
+/// The number of a call, unless the task leaves at these edges what it leaves at sound ones.
+fn leaves_all(
+    alloc: Global,
+    task: &Task<'_>,
+    edges: Edges,
+    call: u64,
+) -> Result<Option<u64>, AllocError> {
+    let whole = left_by(alloc, task, SMALL)?;
+    let left = left_by(alloc, task, edges)?;
+    if left.is(whole.status, &whole.out, &whole.err) {
+        return Ok(None);
+    }
+    Ok(Some(call))
+}
