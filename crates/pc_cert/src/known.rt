@@ -97,7 +97,11 @@ impl KnownLine {
     pub(crate) fn again(&self, piece: &[u8]) -> usize
         ensures { 0 < result → IsAgain self.now.line piece.now result }
     {
-        if begins(piece, &self.cells, self.len) { self.len } else { 0 }
+        if begins(piece, &self.cells, self.len) {
+            self.len
+        } else {
+            0
+        }
     }
 }
 

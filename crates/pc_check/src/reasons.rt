@@ -174,6 +174,9 @@ fn has_gaps(net: &CrashNet<'_>, tally: &Tally, a: u32, crossing: &Crossing) -> b
     ensures { result ≡ (has_room net.now (stretch_of tally.now) 0 a && has_room net.now (stretch_of tally.now) (span (stretch_of tally.now)) a) }
 {
     let crash = net.term(a).crash;
+    if !crossing.crosses() {
+        return has_room(crossing.upper, crash);
+    }
     has_room(crossing.upper, crash) && has_room(crossing.lower, crash)
 }
 
@@ -194,6 +197,9 @@ fn fits_gaps(net: &CrashNet<'_>, tally: &Tally, a: u32, crossing: &Crossing, flo
     requires flows { length flows.now ≡ (knees_in net.now).count a + 1 }
     ensures { result ≡ (is_slack net.now (stretch_of tally.now) 0 a flows.now && is_slack net.now (stretch_of tally.now) (span (stretch_of tally.now)) a flows.now) }
 {
+    if !crossing.crosses() {
+        return fits_gap(net, a, crossing.upper, flows);
+    }
     fits_gap(net, a, crossing.upper, flows) && fits_gap(net, a, crossing.lower, flows)
 }
 

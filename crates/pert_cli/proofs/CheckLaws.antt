@@ -118,7 +118,7 @@ module _ {D C O E : Type 0} (words : List (String Global)) (deck : Side D) (cert
 
   after_verdict : (project : Project) (verdict : Verdict) → IsOneWord words → HasProject deck project → IsFound (priced_in project) cert verdict → Took out (verdict_text verdict) → IsUntouched err → CheckOutcome words deck cert out err (ending_for verdict)
   after_verdict project (Yes segments) asked has finds took same = certified segments (checked project (Yes segments) asked has finds took) finds.end same
-  after_verdict project (No line reason) asked has finds took same = 
+  after_verdict project (No line reason) asked has finds took same =
       not_certified line reason (checked project (No line reason) asked has finds took) (settled_for (deck.bytes deck.old) cert project (No line reason) has.is finds.settled) same
 
   after_told : (project : Project) (verdict : Verdict) (ending : Ending) → IsOneWord words → HasProject deck project → IsFound (priced_in project) cert verdict → IsUntouched err → Told verdict out ending → CheckOutcome words deck cert out err ending
