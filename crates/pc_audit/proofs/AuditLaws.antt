@@ -1,7 +1,7 @@
 -- What an audit stands for after a piece.
 use Rattle.std.proofs.Common.{◌≡◌, ℕ, ◌+◌, ◌*◌, ◌^◌, ◌<◌, ◌≤◌, List, [], ◌∷◌, ◌++◌, length, Option, Some, None, refl, sym, ap, subst, ◌∙◌, arith, append_assoc, append-nil, length-append}
 use Rattle.std.proofs.Math.Nat.{mul-le-mul_right}
-use Rattle.std.specs.Prelude.{IsSome, IfNone}
+use Rattle.std.specs.Prelude.{IfNone}
 use Rattle.pc_lines.specs.declared.line.CertLine.{CertLine}
 use Rattle.pc_lines.specs.declared.place.Place.{Place}
 use Rattle.pc_lines.specs.declared.place.Place.TheVariants.{Start}
@@ -39,20 +39,17 @@ may_feed text audit h going =
     let checked = checking audit.checker h.lines going.no_fail h.checked in
     subst (λ m. IfNone m (audit.reader.lines < 2 ^ 63)) (sym going.well_formed) (omega (arith, read.count, checked.count, going.few))
 
-some_from : {A : Type 0} (found : Option A) (x : A) → found ≡ Some x → IsSome found
-some_from found x is = subst (λ f. IsSome f) (sym is) refl
-
 next_of_last : (line : CertLine) (place behind : Place) → ran place (line ∷ []) ≡ Some behind → next place line ≡ Some behind
 next_of_last line place behind h = let step = bind_some (next place line) (λ p. ran p []) behind h in step.1 ∙ step.2
 
--- the checker may take the line that was read
-pub may_take : (audit : Auditing) (reader : Reading) (lines : List CertLine) (line : CertLine) (text : List ℕ) → IsGoing audit → ChecksAs audit.checker lines → reader.malformed ≡ None → ReadsAs reader (lines ++ line ∷ []) text → IfNone audit.checker.fail (IsSome (next audit.checker.kept.place line))
+-- the checker may take the line that was read, and the next one stands where the reader has it
+pub may_take : (audit : Auditing) (reader : Reading) (lines : List CertLine) (line : CertLine) (text : List ℕ) → IsGoing audit → ChecksAs audit.checker lines → reader.malformed ≡ None → ReadsAs reader (lines ++ line ∷ []) text → IfNone audit.checker.fail (next audit.checker.kept.place line ≡ Some reader.place)
 may_take audit reader lines line text going checked none read =
     let led = (reading reader (lines ++ line ∷ []) text none read).led in
     let before = (checking audit.checker lines going.no_fail checked).order in
     let after : ran audit.checker.kept.place (line ∷ []) ≡ Some reader.place =
     sym (ap (λ found. found >>= (λ p. ran p (line ∷ []))) before) ∙ sym (ran-append Start lines (line ∷ [])) ∙ led.order in
-    subst (λ f. IfNone f (IsSome (next audit.checker.kept.place line))) (sym going.no_fail) (some_from _ reader.place (next_of_last line audit.checker.kept.place reader.place after))
+    subst (λ f. IfNone f (next audit.checker.kept.place line ≡ Some reader.place)) (sym going.no_fail) (next_of_last line audit.checker.kept.place reader.place after)
 
 -- a malformed line
 pub malformed_fails : (text more piece : List ℕ) (audit : Auditing) (reader : Reading) (m : Malformed) → IsGoing audit → (h : HasRead text audit) → reader.malformed ≡ Some m → ReadsAs reader (h.lines ++ []) (text ++ piece) → IsFailing audit.checker.net (text ++ (piece ++ more)) (record { line = m.line; reason = 0 })

@@ -4,7 +4,7 @@ ghost use Rattle.pc_audit.specs.Texts.{IsFailing, Finds};
 ghost use Rattle.pc_audit.specs.Auditing.{HasRead, IsGoing, bytes_left, most_bytes};
 ghost use Rattle.pc_check.specs.declared.fail.Fail.{Fail};
 
-use pc_cert::{CertReader, Fed, KnownLines};
+use pc_cert::{CertReader, KnownLines};
 use pc_check::{Checker, Fail, Verdict};
 use pc_crash::CrashNet;
 use std::alloc::{AllocError, Global};
@@ -79,8 +79,9 @@ impl<'n> Audit<'n> {
         ensures net { self.new.checker.net ≡ self.old.checker.net }
         ensures left { OnOk result (bytes_left self.new < bytes_left self.old) }
     {
-        let (used, line) = match self.reader.feed_again(piece, self.known.here()) {
-            Ok(Fed { used, line }) => (used, line),
+        let known = self.known.here();
+        let used = match self.reader.feed_known(piece, known) {
+            Ok(used) => used,
             Err(malformed) => {
                 return Err(Fail {
                     line: malformed.line,
@@ -88,15 +89,15 @@ impl<'n> Audit<'n> {
                 });
             }
         };
-        match line {
+        match known.line() {
             None => Ok(used),
-            Some(line) => {
-                self.known.go_on();
-                match self.checker.take(line) {
-                    None => Ok(used),
-                    Some(fail) => Err(fail),
+            Some(line) => match self.checker.take_before(line, self.reader.place()) {
+                None => {
+                    self.known.go_on();
+                    Ok(used)
                 }
-            }
+                Some(fail) => Err(fail),
+            },
         }
     }
 

@@ -9,3 +9,6 @@ pub use audit::Audit;
 pub use laws::one_verdict;
 pub use pc_check::{Fail, Verdict};
 pub use source::{AuditError, audit_source};
+
+#[cfg(test)]
+mod tests;

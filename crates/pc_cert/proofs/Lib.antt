@@ -1,2 +1,3 @@
 pub mod ReaderLaws
 mod KnownLaws
+mod FrontLaws

@@ -1,5 +1,5 @@
 -- What a reader stands for after a piece.
-use Rattle.std.proofs.Common.{◌≡◌, ℕ, ◌+◌, ◌-◌, ◌<◌, ◌≤◌, zero, suc, List, [], ◌∷◌, ◌++◌, length, take, drop, inl, inr, Option, Some, None, refl, sym, ap, subst, ◌∙◌, append_assoc, append-nil, arith, add-one, length-append}
+use Rattle.std.proofs.Common.{◌≡◌, ℕ, ◌+◌, ◌-◌, ◌<◌, ◌≤◌, zero, suc, List, [], ◌∷◌, ◌++◌, length, take, drop, inl, inr, Option, Some, None, Result, Ok, Err, refl, sym, ap, subst, ◌∙◌, append_assoc, append-nil, arith, add-one, length-append}
 use Rattle.std.proofs.lemmas.Bool.Decides.{eqb_tells}
 use Rattle.std.proofs.lemmas.List.{take-append-drop, length-take, take_all}
 use Rattle.pc_lines.specs.declared.line.CertLine.{CertLine}
@@ -12,7 +12,8 @@ use Rattle.pc_lines.specs.Text.{text_of}
 use Rattle.pc_lines.proofs.FieldLemmas.{bind_some}
 use Rattle.pc_lines.proofs.LineLaws.{line_takes, line_again}
 use Rattle.pc_lines.proofs.TextLaws.{text_of-append, LeadTo-more}
-use Rattle.pc_cert.specs.Reader.{arrived, IsGoing, IsNotAllowed, IsStopped, Stands}
+use Rattle.pc_cert.specs.Reader.{arrived, IsGoing, IsNotAllowed, IsStopped, Stands, StandsFor, Reading, HasPassed, place_behind}
+use Rattle.pc_cert.specs.Fed.{line_list, left_in, used_of}
 use Rattle.pc_cert.specs.declared.reader.Malformed.{Malformed}
 
 -- ---- a piece and the first end of a line in it
@@ -135,14 +136,29 @@ accepted {place} {number} {held} {lines} {text} piece line after h ends found =
       no_end = tt;
     }
 
--- the same, of the number that a search for the first end of a line gave
-pub refused_at : {place : Place} {number : ℕ} {held : List ℕ} {lines : List CertLine} {text : List ℕ} (malformed : Malformed) (piece : List ℕ) (end : ℕ) → IsGoing place number held lines text → end ≡ run_len 10 piece → end < length piece → arrived place (held ++ take end piece) ≡ None → malformed.line ≡ number + 1 → IsStopped malformed lines (text ++ piece)
-refused_at {place} {number} {held} malformed piece end h is within none line =
-    refused malformed piece h (omega arith) (subst (λ n. arrived place (held ++ take n piece) ≡ None) is none) line
+-- a line with the place behind it
+abbrev arrival : Place → Option CertLine → Option (CertLine × Place)
+arrival place line = line >>= (λ l. next place l >>= (λ b. Some (l, b)))
 
-pub accepted_at : {place : Place} {number : ℕ} {held : List ℕ} {lines : List CertLine} {text : List ℕ} (piece : List ℕ) (line : CertLine) (after : Place) (end : ℕ) → IsGoing place number held lines text → end ≡ run_len 10 piece → end < length piece → arrived place (held ++ take end piece) ≡ Some (line, after) → IsGoing after (number + 1) [] (lines ++ line ∷ []) (text ++ take (end + 1) piece)
-accepted_at {place} {number} {held} {lines} {text} piece line after end h is within found =
-    subst (λ n. IsGoing after (number + 1) [] (lines ++ line ∷ []) (text ++ take (n + 1) piece)) (sym is) (accepted piece line after h (omega arith) (subst (λ n. arrived place (held ++ take n piece) ≡ Some (line, after)) is found))
+no_arrival : (place : Place) (line : Option CertLine) → place_behind place line ≡ None → arrival place line ≡ None
+no_arrival place None none = refl
+no_arrival place (Some line) none = ap (λ found. found >>= (λ b. Some (line, b))) none
+
+-- what comes of a line that ends in the piece
+pub passed : (old new : Reading) (held : List ℕ) (line : Option CertLine) (piece : List ℕ) (used : ℕ) (result : Result ℕ Malformed) → old.malformed ≡ None → used ≡ run_len 10 piece + 1 → run_len 10 piece < length piece → line_of (old.held ++ take (run_len 10 piece) piece) ≡ line → HasPassed line used (record old { held = held }) new result → (lines : List CertLine) (text : List ℕ) → StandsFor old lines text → StandsFor new (lines ++ left_in line result) (text ++ used_of result piece)
+passed old new held line piece used (Ok count) none ends less read p lines text h =
+    let found : arrived old.place (old.held ++ take (run_len 10 piece) piece) ≡ Some (p.taken, new.place) =
+    ap (arrival old.place) (read ∙ p.there) ∙ ap (λ found. found >>= (λ b. Some (p.taken, b))) p.goes in
+    let gone = accepted piece p.taken new.place (going none h) less found in
+    subst (λ (r : Reading). StandsFor r (lines ++ line_list line) (text ++ take count piece)) (sym p.moved)
+    (subst (λ m. Stands m new.place (old.lines + 1) [] (lines ++ line_list line) (text ++ take count piece)) (sym none)
+    (subst (λ l. IsGoing new.place (old.lines + 1) [] (lines ++ line_list l) (text ++ take count piece)) (sym p.there)
+    (subst (λ n. IsGoing new.place (old.lines + 1) [] (lines ++ p.taken ∷ []) (text ++ take n piece)) (sym (p.used_is ∙ ends)) gone)))
+passed old new held line piece used (Err malformed) none ends less read p lines text h =
+    let found : arrived old.place (old.held ++ take (run_len 10 piece) piece) ≡ None =
+    ap (arrival old.place) read ∙ no_arrival old.place line p.none in
+    subst (λ (r : Reading). StandsFor r (lines ++ []) (text ++ piece)) (sym p.kept)
+    (subst (λ ls. IsStopped malformed ls (text ++ piece)) (sym (append-nil lines)) (refused malformed piece (going none h) less found p.number))
 
 -- what is not some is none
 pub none_from : (malformed : Option Malformed) → ((m : Malformed) → malformed ≡ Some m → ⊥) → malformed ≡ None

@@ -1,8 +1,29 @@
 -- A line that was read before.
-use Rattle.std.specs.Prelude.{ℕ, List, Option}
+use Rattle.std.specs.Prelude.{◌≡◌, ℕ, ◌+◌, ◌<◌, ◌≤◌, List, [], ◌∷◌, ◌++◌, length, take, Option}
 use Rattle.pc_lines.specs.declared.line.CertLine.{CertLine}
+use Rattle.pc_lines.specs.Fields.{run_len}
+use Rattle.pc_lines.specs.Lines.{Lacks}
+use Rattle.pc_lines.specs.Reading.{line_of}
 
--- the bytes of a line, and the line that they spell, if they spell one
+-- the line that was read last, if the bytes spelled one
 pub record Known : Type 0 where
-  pub bytes : List ℕ
   pub line : Option CertLine
+
+-- the bytes are the line and its end (10)
+pub record AreLine (bytes : List ℕ) (line : Option CertLine) : Type 0 where
+  pub text : List ℕ
+  pub no_end : Lacks 10 text
+  pub read : line_of text ≡ line
+  pub whole : bytes ≡ text ++ 10 ∷ []
+
+-- of 64 cells the first `len` are the line and its end, where these are kept
+pub record AreCells (cells : List ℕ) (len : ℕ) (line : Option CertLine) : Type 0 where
+  pub room : length cells ≡ 64
+  pub within : len ≤ 64
+  pub kept : 0 < len → AreLine (take len cells) line
+
+-- the first line that ends in the piece is this one, and so many bytes are it and its end
+pub record IsAgain (line : Option CertLine) (piece : List ℕ) (used : ℕ) : Type 0 where
+  pub within : used ≤ length piece
+  pub ends : used ≡ run_len 10 piece + 1
+  pub read : line_of (take (run_len 10 piece) piece) ≡ line

@@ -78,3 +78,26 @@ pub record IsMissing (malformed : Malformed) (lines : List CertLine) (text : Lis
 abbrev pub EndsAs : {A : Type 0} → Result A Malformed → List CertLine → List ℕ → Type 0
 EndsAs (Ok done) lines text = IsWhole lines text
 EndsAs (Err malformed) lines text = IsStopped malformed lines text ⊎ IsMissing malformed lines text
+
+-- the place behind a line, where there is one and it may stand in this place
+abbrev pub place_behind : Place → Option CertLine → Option Place
+place_behind place line = line >>= next place
+
+-- a reader has gone on behind a line that may stand in its place
+pub record GoesBehind (line : Option CertLine) (used count : ℕ) (old new : Reading) : Type 0 where
+  pub used_is : count ≡ used
+  pub taken : CertLine
+  pub there : line ≡ Some taken
+  pub goes : next old.place taken ≡ Some new.place
+  pub moved : new ≡ record old { place = new.place; lines = old.lines + 1; held = [] }
+
+-- a reader has stopped at a line that may not stand in its place, or at bytes that spell none
+pub record StopsAt (line : Option CertLine) (malformed : Malformed) (old new : Reading) : Type 0 where
+  pub number : malformed.line ≡ old.lines + 1
+  pub kept : new ≡ record old { malformed = Some malformed }
+  pub none : place_behind old.place line ≡ None
+
+-- what comes of the line that ends in a piece, of which so many bytes are used with it
+abbrev pub HasPassed : Option CertLine → ℕ → Reading → Reading → Result ℕ Malformed → Type 0
+HasPassed line used old new (Ok count) = GoesBehind line used count old new
+HasPassed line used old new (Err malformed) = StopsAt line malformed old new

@@ -1,38 +1,40 @@
 //! A line that was read before, which comes again in most segments.
-ghost use Rattle.std.specs.Prelude.{◌≡◌, ◌≤◌, IsTrue, None, length};
+ghost use Rattle.std.specs.Prelude.{◌≡◌, ◌<◌, ◌≤◌, IsTrue, IsSome, None, length, take};
+ghost use Rattle.std.specs.Option.{option_map};
 ghost use Rattle.pc_lines.specs.Reading.{line_of};
+ghost use Rattle.pc_cert.specs.Known.{IsAgain};
 
+use crate::front::{WIDTH, begin_same};
 use pc_lines::CertLine;
 use std::marker::Model;
 
-/// The most bytes of a line that is kept: a longer one is read anew each time.
+/// The most bytes of a line and its end that are kept: a longer one is read anew each time.
 const ROOM: usize = 64;
 
-/// The bytes of a line that was read, and what they spell.
+/// The line that was read last, and the bytes that it and its end are.
 ///
 /// Most lines of a segment are those of the segment before. What stands in one place of a segment is read through one
-/// `KnownLine`, so that a line that comes again is compared with its bytes, and not read.
+/// `KnownLine`, so that a line that comes again is compared with its bytes, and neither searched for its end nor read.
 #[derive(Drop)]
 pub struct KnownLine {
+    /// the bytes of the line and its end, and how many these are: 0 where they are not kept
     cells: [u8; ROOM],
     len: usize,
     line: Option<CertLine>,
 }
 
 impl Model for KnownLine {
-    ghost use Rattle.std.specs.Prelude.{◌≡◌, ◌≤◌, length, take};
-    ghost use Rattle.pc_lines.specs.Reading.{line_of};
-    ghost use Rattle.pc_cert.specs.Known.{Known};
+    ghost use Rattle.pc_cert.specs.Known.{Known, AreCells};
 
     ghost Value = { Known };
 
-    ghost view = { λ s. record { bytes = take s.len s.cells; line = s.line } };
+    ghost view = { λ s. record { line = s.line } };
 
-    ghost invariant = { λ s. (s.len ≤ 64) × (length s.cells ≡ 64) × (s.line ≡ line_of (take s.len s.cells)) };
+    ghost invariant = { λ s. AreCells s.cells s.len s.line };
 }
 
 impl KnownLine {
-    /// No bytes, which spell no line.
+    /// No line.
     pub fn new() -> KnownLine
         ensures { result.line ≡ None }
     {
@@ -43,43 +45,74 @@ impl KnownLine {
         }
     }
 
-    /// The line that the bytes spell, or none where they spell none: what is known, where they are the same bytes, and else
-    /// what they are read to be, which is known from then on.
+    /// The line that was read last, where its bytes spelled one.
+    pub fn line(&self) -> Option<&CertLine>
+        ensures { option_map (λ line. line.now) result ≡ self.now.line }
+    {
+        self.line.as_ref()
+    }
+
+    /// The line that the bytes spell, or none where they spell none. It is known from then on.
     pub fn read(&mut self, bytes: &[u8]) -> Option<CertLine>
         ensures { result ≡ line_of bytes.now }
     {
-        if are_same(&self.cells[..self.len], bytes) {
-            return self.line;
-        }
-        let line = CertLine::read(bytes);
-        if bytes.len() <= ROOM {
-            self.keep(bytes, &line);
-        }
-        line
+        self.learn(bytes);
+        self.line
     }
 
-    /// Keeps the bytes of a line, and what they spell.
-    fn keep(&mut self, bytes: &[u8], line: &Option<CertLine>)
-        requires short { length bytes.now ≤ ROOM }
-        requires line { line.now ≡ line_of bytes.now }
-        ensures { self.new ≡ record { bytes = bytes.now; line = line.now } }
+    /// Reads the line that the bytes spell, which is known from then on.
+    pub(crate) fn learn(&mut self, bytes: &[u8])
+        ensures { self.new.line ≡ line_of bytes.now }
     {
-        self.cells[..bytes.len()].copy_from_slice(bytes);
-        self.len = bytes.len();
-        self.line = *line;
+        let line = CertLine::read(bytes);
+        self.len = 0;
+        self.line = line;
+        if line.is_some() && bytes.len() < ROOM {
+            self.keep(bytes);
+        }
+    }
+
+    /// Keeps the bytes of the line.
+    fn keep(&mut self, bytes: &[u8])
+        requires short { length bytes.now < ROOM }
+        requires some { IsSome self.old.line }
+        requires line { self.old.line ≡ line_of bytes.now }
+        ensures { self.new ≡ self.old }
+    {
+        let end = bytes.len();
+        self.cells[..end].copy_from_slice(bytes);
+        self.cells[end] = b'\n';
+        self.len = end + 1;
+    }
+
+    /// Forgets the line.
+    pub(crate) fn forget(&mut self)
+        ensures { self.new.line ≡ None }
+    {
+        self.len = 0;
+        self.line = None;
+    }
+
+    /// How many bytes at the front of the piece are the line and its end, where it comes again there, and else 0.
+    pub(crate) fn again(&self, piece: &[u8]) -> usize
+        ensures { 0 < result → IsAgain self.now.line piece.now result }
+    {
+        if begins(piece, &self.cells, self.len) {
+            self.len
+        } else {
+            0
+        }
     }
 }
 
-/// Whether the bytes are the same. All of them are compared, which takes fewer steps than to stop at the first that differ.
-fn are_same(bytes: &[u8], others: &[u8]) -> bool
-    ensures { IsTrue result → bytes.now ≡ others.now }
+/// Whether the piece begins with the first so many of the bytes.
+fn begins(piece: &[u8], bytes: &[u8; ROOM], count: usize) -> bool
+    requires { count ≤ ROOM }
+    ensures within { IsTrue result → count ≤ length piece.now }
+    ensures same { IsTrue result → take count piece.now ≡ take count bytes.now }
 {
-    if bytes.len() != others.len() {
-        return false;
+    if count <= WIDTH && WIDTH <= piece.len() {
+        return begin_same(piece, bytes, count);
     }
-    let mut same = true;
-    for i in 0..bytes.len() {
-        same = same & (bytes[i] == others[i]);
-    }
-    same
+    count <= piece.len() && piece[..count] == bytes[..count]
 }

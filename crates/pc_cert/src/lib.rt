@@ -1,6 +1,7 @@
 //! The text of a certificate: the reader that takes its lines off bytes which come in pieces.
 #![tactic(auto)]
 
+mod front;
 mod known;
 mod known_lines;
 mod reader;

@@ -3,8 +3,9 @@ ghost use Rattle.std.specs.Prelude.{◌≡◌, ℕ, ◌+◌, ◌^◌, ◌<◌, �
 ghost use Rattle.pc_lines.specs.Lines.{Lacks};
 ghost use Rattle.pc_lines.specs.declared.line.CertLine.{CertLine};
 ghost use Rattle.pc_lines.specs.declared.place.Place.TheVariants.{Start};
-ghost use Rattle.pc_cert.specs.Reader.{arrived, StandsFor, Reading, EndsAs};
-ghost use Rattle.pc_cert.specs.Fed.{given, used};
+ghost use Rattle.pc_lines.specs.Reading.{line_of};
+ghost use Rattle.pc_cert.specs.Reader.{StandsFor, HasPassed, place_behind, Reading, EndsAs};
+ghost use Rattle.pc_cert.specs.Fed.{given, used, left_in, used_of};
 ghost use Rattle.pc_cert.specs.declared.reader.Malformed.{Malformed};
 
 use crate::known::KnownLine;
@@ -105,8 +106,40 @@ impl CertReader {
         ensures short { length self.new.held < MAX_LINE }
         ensures count { IfOk result (λ fed. self.new.lines ≤ self.old.lines + 1) }
     {
+        match self.feed_known(piece, known) {
+            Ok(used) => Ok(Fed {
+                used,
+                line: known.line().copied(),
+            }),
+            Err(malformed) => Err(malformed),
+        }
+    }
+
+    /// As `feed_again`, where the line is not given but left in `known`: it has the line that ended, or none where no line ended.
+    ///
+    /// A line that comes again is not copied, and its end is not searched for.
+    pub fn feed_known(&mut self, piece: &[u8], known: &mut KnownLine) -> Result<usize, Malformed>
+        requires { IfNone self.old.malformed (self.old.lines < 2 ^ 63) }
+        ensures stands { (lines : List CertLine) (text : List ℕ) → StandsFor self.old lines text
+            → StandsFor self.new (lines ++ left_in known.new.line result) (text ++ used_of result piece.now) }
+        ensures within { IfOk result (λ used. used ≤ length piece.now) }
+        ensures no_line { IfOk result (λ used. IsNone known.new.line → used ≡ length piece.now) }
+        ensures held { IfOk result (λ used. IsNone known.new.line → self.new.held ≡ self.old.held ++ piece.now) }
+        ensures one_line { IfOk result (λ used. IsSome known.new.line → (0 < used) × (self.new.held ≡ [])) }
+        ensures kept { MatchResult result (λ _. self.new.malformed ≡ None) (λ malformed. self.new.malformed ≡ Some malformed) }
+        ensures again { (malformed : Malformed) → self.old.malformed ≡ Some malformed
+            → (result ≡ Err malformed) × (self.new ≡ self.old) }
+        ensures short { length self.new.held < MAX_LINE }
+        ensures count { IfOk result (λ used. self.new.lines ≤ self.old.lines + 1) }
+    {
         if let Some(malformed) = self.malformed {
             return Err(malformed);
+        }
+        if self.held == 0 {
+            let used = known.again(piece);
+            if 0 < used {
+                return self.pass(known, used);
+            }
         }
         let end = line_len(piece);
         if MAX_LINE - self.held <= end {
@@ -114,21 +147,18 @@ impl CertReader {
         }
         if end == piece.len() {
             self.hold(piece);
-            return Ok(Fed {
-                used: end,
-                line: None,
-            });
+            known.forget();
+            return Ok(end);
         }
-        match self.whole_line(&piece[..end], known) {
-            None => Err(self.stop()),
-            Some((line, place)) => {
-                self.go_on(place);
-                Ok(Fed {
-                    used: end + 1,
-                    line: Some(line),
-                })
-            }
-        }
+        self.learn(&piece[..end], known);
+        self.pass(known, end + 1)
+    }
+
+    /// Where the next line stands.
+    pub fn place(&self) -> Place
+        ensures { result ≡ self.now.place }
+    {
+        self.place
     }
 
     /// Whether the text that was fed is a whole one: its last line was the last of a certificate, and no byte followed.
@@ -172,18 +202,33 @@ impl CertReader {
         self.held = end;
     }
 
-    /// The line that ends with the piece, where it may stand in its place, and the place behind it.
-    fn whole_line(&mut self, piece: &[u8], known: &mut KnownLine) -> Option<(CertLine, Place)>
+    /// Reads the line that ends with the piece.
+    fn learn(&mut self, piece: &[u8], known: &mut KnownLine)
         requires { length self.old.held + length piece.now < MAX_LINE }
-        ensures line { result ≡ arrived self.old.place (self.old.held ++ piece.now) }
+        ensures line { known.new.line ≡ line_of (self.old.held ++ piece.now) }
         ensures rest { self.new ≡ record self.old { held = self.new.held } }
         ensures short { length self.new.held < MAX_LINE }
     {
         if self.held == 0 {
-            return arrived(self.place, piece, known);
+            known.learn(piece);
+        } else {
+            self.hold(piece);
+            known.learn(&self.cells[..self.held]);
         }
-        self.hold(piece);
-        arrived(self.place, &self.cells[..self.held], known)
+    }
+
+    /// Goes on behind the line that is known, with which so many bytes are used, where it may stand in its place.
+    fn pass(&mut self, known: &KnownLine, used: usize) -> Result<usize, Malformed>
+        requires { self.old.lines < 2 ^ 63 }
+        ensures { HasPassed known.now.line used self.old self.new result }
+    {
+        match behind(self.place, known) {
+            None => Err(self.stop()),
+            Some(place) => {
+                self.go_on(place);
+                Ok(used)
+            }
+        }
     }
 
     /// Goes on behind a whole line.
@@ -197,15 +242,12 @@ impl CertReader {
     }
 }
 
-/// The line that the bytes spell, where it may stand in this place, and the place behind it.
-fn arrived(place: Place, bytes: &[u8], known: &mut KnownLine) -> Option<(CertLine, Place)>
-    ensures { result ≡ arrived place bytes.now }
+/// The place behind the line that is known, where there is one and it may stand in this place.
+fn behind(place: Place, known: &KnownLine) -> Option<Place>
+    ensures { result ≡ place_behind place known.now.line }
 {
-    match known.read(bytes) {
+    match known.line() {
         None => None,
-        Some(line) => match place.next(&line) {
-            None => None,
-            Some(behind) => Some((line, behind)),
-        },
+        Some(line) => place.next(line),
     }
 }

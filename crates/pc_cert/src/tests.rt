@@ -36,15 +36,15 @@ fn read(text: &[u8], pull: usize, known: &mut KnownLines) -> [u64; 2]
             break;
         }
         let size = left.min(text.len() - at);
-        match reader.feed_again(&text[at..at + size], known.here()) {
+        match reader.feed_known(&text[at..at + size], known.here()) {
             Err(malformed) => return [lines, malformed.line],
-            Ok(Fed { used, line }) => {
+            Ok(used) => {
                 at += used;
                 left -= used;
                 if left == 0 {
                     left = pull;
                 }
-                if line.is_some() {
+                if known.here().line().is_some() {
                     known.go_on();
                     lines = lines.saturating_add(1);
                 }
@@ -108,4 +108,5 @@ fn a_reader_is_fed(rt: HostRuntime) {
             })
         )
     );
+    assert!(rt; matches!(reader.place(), Place::AfterHead(_)));
 }

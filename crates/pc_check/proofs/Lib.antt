@@ -12,3 +12,4 @@ pub mod GoodRows
 pub mod GoodSegments
 pub mod GoodLines
 pub mod FinishLaws
+pub mod StillLaws

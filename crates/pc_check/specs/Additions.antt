@@ -7,6 +7,11 @@ use Rattle.pc_crash.specs.Priced.{PricedNetwork}
 use Rattle.pc_check.specs.declared.kept.Kept.{Kept}
 use Rattle.pc_check.specs.Walks.{sum_of}
 
+-- the line is that of an activity
+abbrev pub IsAct : CertLine → Type 0
+IsAct (Act code duration flows) = Unit {0}
+IsAct other = ⊥
+
 -- sums, lists and counts have room for one more
 abbrev pub MayBeAdded : PricedNetwork → CertLine → Kept → Type 0
 MayBeAdded net (Step code) kept = (sum_of kept.normal + MAX_DURATION < 2 ^ 64) × (sum_of kept.crash + MAX_DURATION < 2 ^ 64)

@@ -89,6 +89,9 @@ pub(crate) fn stops(crossing: &Crossing, crash: u64, knees: &[Knee]) -> bool
     requires lower { crossing.now.lower.tail < 2 ^ 65 }
     ensures { result ≡ stops_over crossing.now crash knees.now }
 {
+    if !crossing.crosses() {
+        return false;
+    }
     let lower = crossing.lower;
     if crossing.forward && lower.head == lower.tail + u128::from(crash) {
         return true;

@@ -9,7 +9,7 @@ ghost use Rattle.pc_check.specs.Safe.{IsSafe, IsBegun, IsRaised, AddsAct};
 ghost use Rattle.pc_check.specs.Segments.{stops_in};
 
 use crate::acts::{flow_sum, rises_over, stops};
-use crate::gaps::{Crossing, Gap, crossing_of};
+use crate::gaps::{Crossing, Gap};
 use crate::kept::Tally;
 use pc_crash::CrashNet;
 use pc_model::Knee;
@@ -67,17 +67,23 @@ pub(crate) fn add_event(net: &CrashNet<'_>, tally: &mut Tally, time: u64, moves:
     tally.moves.push(moves).unwrap();
 }
 
-/// Adds an activity, with its duration and its flows.
-pub(crate) fn add_act(net: &CrashNet<'_>, tally: &mut Tally, duration: u64, flows: &[u64])
+/// Adds an activity with these gaps, with its duration and its flows.
+pub(crate) fn add_act(
+    net: &CrashNet<'_>,
+    tally: &mut Tally,
+    crossing: &Crossing,
+    duration: u64,
+    flows: &[u64],
+)
     requires safe { IsSafe net.now.network.events (length net.now.network.arcs) tally.old }
     requires known { tally.old.acts < length net.now.network.arcs }
+    requires crossing { IsCrossing net.now.network.arcs (stretch_of tally.old) tally.old.acts crossing.now }
     requires few { length flows.now ≤ 6 }
     ensures added { AddsAct net.now tally.old duration flows.now tally.new }
     ensures safe { IsSafe net.now.network.events (length net.now.network.arcs) tally.new }
 {
     let a = tally.acts;
-    let crossing = crossing_of(net, tally, a);
-    let cut = cut_of(net, tally, a, &crossing);
+    let cut = cut_of(net, tally, a, crossing);
     let cost = net.activity_cost(a, duration);
     let flow = flow_sum(flows);
     let to = net.net().to(a);

@@ -1,29 +1,35 @@
 //! Going on by one line.
-ghost use Rattle.std.specs.Prelude.{◌≡◌, ◌^◌, ◌<◌, length, IsSome, IfNone, OnSome};
+ghost use Rattle.std.specs.Prelude.{◌≡◌, ◌^◌, ◌<◌, length, None, Some, IfNone, OnSome};
 ghost use Rattle.pc_lines.specs.Grammar.{next};
-ghost use Rattle.pc_lines.specs.declared.line.CertLine.TheVariants.{Step};
+ghost use Rattle.pc_lines.specs.declared.line.CertLine.TheVariants.{Step, Act};
 ghost use Rattle.pc_check.specs.Advances.{Adds, AddsStep, Advances};
 ghost use Rattle.pc_check.specs.Bounds.{IsBounded, lines_left};
 ghost use Rattle.pc_check.specs.Conditions.{conditions};
 ghost use Rattle.pc_check.specs.Failures.{first_failing};
 ghost use Rattle.pc_check.specs.Kept.{known_by};
-ghost use Rattle.pc_check.specs.Additions.{MayBeAdded};
+ghost use Rattle.pc_check.specs.Additions.{IsAct, MayBeAdded};
 ghost use Rattle.pc_check.specs.Safe.{IsSafe};
 
 use crate::adding::{add_act, add_event, begin_segment};
+use crate::gaps::crossing_of;
 use crate::kept::Kept;
-use crate::reasons::reason;
+use crate::reasons::{has_act_code, reason, reason_at_act};
 use crate::walk::stepped;
 use pc_crash::CrashNet;
-use pc_lines::CertLine;
+use pc_lines::{CertLine, Flows, Place};
 use pc_text::Code;
 
-/// Takes a line that may come: adds it to what is kept, or answers the first condition that is reported there and does
-/// not hold.
-pub(crate) fn advance(net: &CrashNet<'_>, kept: &mut Kept, line: &CertLine) -> Option<u8>
+/// Takes a line that may come, behind which the next one stands there: adds it to what is kept, or answers the first condition
+/// that is reported there and does not hold.
+pub(crate) fn advance(
+    net: &CrashNet<'_>,
+    kept: &mut Kept,
+    line: &CertLine,
+    behind: Place,
+) -> Option<u8>
     requires safe { IsSafe net.now.network.events (length net.now.network.arcs) kept.old.tally }
     requires bounded { IsBounded net.now kept.old }
-    requires allowed { IsSome (next kept.old.place line.now) }
+    requires goes { next kept.old.place line.now ≡ Some behind }
     ensures reason { result ≡ first_failing (conditions net.now (known_by kept.old) line.now) }
     ensures advances { IfNone result (Advances net.now line.now kept.old kept.new) }
     ensures same { OnSome result (kept.new ≡ kept.old) }
@@ -34,24 +40,73 @@ pub(crate) fn advance(net: &CrashNet<'_>, kept: &mut Kept, line: &CertLine) -> O
 {
     let _events = net.net().events();
     let _activities = net.net().activities();
-    let place = match kept.place.next(line) {
-        Some(place) => place,
-        None => unreachable!(),
-    };
-    match reason(net, kept, line) {
+    match judge(net, kept, line) {
         Some(reason) => Some(reason),
         None => {
-            add(net, kept, line);
-            kept.place = place;
+            kept.place = behind;
             kept.lines += 1;
             None
         }
     }
 }
 
-/// Adds a line to what is kept.
-pub(crate) fn add(net: &CrashNet<'_>, kept: &mut Kept, line: &CertLine)
+/// Adds a line to what is kept, or answers the first condition that is reported there and does not hold.
+fn judge(net: &CrashNet<'_>, kept: &mut Kept, line: &CertLine) -> Option<u8>
     requires safe { IsSafe net.now.network.events (length net.now.network.arcs) kept.old.tally }
+    requires fits { first_failing (conditions net.now (known_by kept.old) line.now) ≡ None → MayBeAdded net.now line.now kept.old }
+    ensures reason { result ≡ first_failing (conditions net.now (known_by kept.old) line.now) }
+    ensures added { IfNone result (Adds net.now line.now kept.old kept.new) }
+    ensures same { OnSome result (kept.new ≡ kept.old) }
+    ensures safe { IsSafe net.now.network.events (length net.now.network.arcs) kept.new.tally }
+{
+    match line {
+        CertLine::Act {
+            code,
+            duration,
+            flows,
+        } => judge_act(net, kept, code, *duration, flows),
+        _ => match reason(net, kept, line) {
+            Some(reason) => Some(reason),
+            None => {
+                add(net, kept, line);
+                None
+            }
+        },
+    }
+}
+
+/// The same of the line of an activity, whose gaps are looked up once for all that is asked of it and all that it adds.
+fn judge_act(
+    net: &CrashNet<'_>,
+    kept: &mut Kept,
+    code: &Code,
+    duration: u64,
+    flows: &Flows,
+) -> Option<u8>
+    requires safe { IsSafe net.now.network.events (length net.now.network.arcs) kept.old.tally }
+    ensures reason { result ≡ first_failing (conditions net.now (known_by kept.old) (Act code.now duration flows.now)) }
+    ensures added { IfNone result (Adds net.now (Act code.now duration flows.now) kept.old kept.new) }
+    ensures same { OnSome result (kept.new ≡ kept.old) }
+    ensures safe { IsSafe net.now.network.events (length net.now.network.arcs) kept.new.tally }
+{
+    let a = kept.tally.acts;
+    if !has_act_code(net, a, code, flows) {
+        return Some(4);
+    }
+    let crossing = crossing_of(net, &kept.tally, a);
+    match reason_at_act(net, kept, &crossing, duration, flows) {
+        Some(reason) => Some(reason),
+        None => {
+            add_act(net, &mut kept.tally, &crossing, duration, flows.as_slice());
+            None
+        }
+    }
+}
+
+/// Adds a line of another kind to what is kept.
+fn add(net: &CrashNet<'_>, kept: &mut Kept, line: &CertLine)
+    requires safe { IsSafe net.now.network.events (length net.now.network.arcs) kept.old.tally }
+    requires other { IsAct line.now → ⊥ }
     requires fits { MayBeAdded net.now line.now kept.old }
     ensures added { Adds net.now line.now kept.old kept.new }
     ensures safe { IsSafe net.now.network.events (length net.now.network.arcs) kept.new.tally }
@@ -70,11 +125,7 @@ pub(crate) fn add(net: &CrashNet<'_>, kept: &mut Kept, line: &CertLine)
             time,
             moves,
         } => add_event(net, &mut kept.tally, *time, *moves),
-        CertLine::Act {
-            code: _,
-            duration,
-            flows,
-        } => add_act(net, &mut kept.tally, *duration, flows.as_slice()),
+        CertLine::Act { .. } => unreachable!(),
         CertLine::Close => kept.parts += 1,
         _ => {}
     }

@@ -12,7 +12,7 @@ use crate::advancing::advance;
 use crate::fail::{Fail, Verdict};
 use crate::kept::{Kept, kept_of};
 use pc_crash::CrashNet;
-use pc_lines::CertLine;
+use pc_lines::{CertLine, Place};
 use std::alloc::{AllocError, Global};
 use std::marker::Model;
 
@@ -65,7 +65,26 @@ impl<'n> Checker<'n> {
         if let Some(fail) = self.fail {
             return Some(fail);
         }
-        match advance(self.net, &mut self.kept, &line) {
+        match self.kept.place.next(&line) {
+            Some(behind) => self.take_before(&line, behind),
+            None => unreachable!(),
+        }
+    }
+
+    /// As `take`, of a line that stays where it is, by one who knows where the next line stands.
+    pub fn take_before(&mut self, line: &CertLine, behind: Place) -> Option<Fail>
+        requires { IfNone self.old.fail (next self.old.kept.place line.now ≡ Some behind) }
+        ensures stands { (lines : List CertLine) → StandsFor self.old lines → StandsFor self.new (lines ++ line.now ∷ []) }
+        ensures fail { result ≡ self.new.fail }
+        ensures again { (fail : Fail) → self.old.fail ≡ Some fail → self.new ≡ self.old }
+        ensures net { self.new.net ≡ self.old.net }
+        ensures few { IfNone result (self.new.kept.lines < 2 ^ 63) }
+        ensures left { IfNone result (lines_left self.new.net self.new.kept < lines_left self.old.net self.old.kept) }
+    {
+        if let Some(fail) = self.fail {
+            return Some(fail);
+        }
+        match advance(self.net, &mut self.kept, line, behind) {
             None => None,
             Some(reason) => {
                 let fail = Fail {

@@ -1,5 +1,5 @@
 //! The gaps of activities, and the cut between the resting and the moving events.
-ghost use Rattle.std.specs.Prelude.{◌≡◌, ◌+◌, ◌^◌, ◌<◌, nat_le, length, if◌then◌else◌};
+ghost use Rattle.std.specs.Prelude.{◌≡◌, ◌+◌, ◌^◌, ◌<◌, ◌||◌, nat_le, length, if◌then◌else◌};
 ghost use Rattle.pc_check.specs.Kept.{stretch_of};
 ghost use Rattle.pc_check.specs.Crossings.{IsCrossing};
 
@@ -21,6 +21,16 @@ pub struct Crossing {
     pub(crate) lower: Gap,
     pub(crate) forward: bool,
     pub(crate) backward: bool,
+}
+
+impl Crossing {
+    /// Whether the activity crosses the cut. Where it does not, its two ends move alike, and its gap is the same at both ends
+    /// of the segment.
+    pub(crate) fn crosses(&self) -> bool
+        ensures { result ≡ (self.now.forward || self.now.backward) }
+    {
+        self.forward || self.backward
+    }
 }
 
 /// The gaps of an activity and how it crosses the cut.

@@ -1,5 +1,6 @@
 //! The reason for which a line fails, if it does: the first condition that is reported there and does not hold.
-ghost use Rattle.std.specs.Prelude.{◌≡◌, ◌+◌, ◌^◌, ◌<◌, ◌&&◌, [], ◌∷◌, length};
+ghost use Rattle.std.specs.Prelude.{◌≡◌, ℕ, ◌+◌, ◌^◌, ◌<◌, ◌&&◌, List, [], ◌∷◌, IsTrue, length};
+ghost use Rattle.pc_check.specs.Additions.{IsAct};
 ghost use Rattle.pc_check.specs.Conditions.{condition, conditions, has_head, has_joined_ends, is_code_at, has_act_code, has_duration, has_room, keeps_rises, is_slack, is_slack_in};
 ghost use Rattle.pc_check.specs.Failures.{first_failing};
 ghost use Rattle.pc_curve_laws.specs.Segment.{span};
@@ -11,16 +12,17 @@ ghost use Rattle.pc_lines.specs.declared.line.CertLine.TheVariants.{Head, Segmen
 
 use crate::acts::{is_slack, is_still, keeps_rises};
 use crate::closing::reason_at_close;
-use crate::gaps::{Crossing, Gap, crossing_of, has_room};
+use crate::gaps::{Crossing, Gap, has_room};
 use crate::kept::{Kept, Tally, number_at};
 use crate::walk::is_through;
 use pc_crash::CrashNet;
 use pc_lines::{CertLine, Flows};
 use pc_text::Code;
 
-/// The first condition that is reported at the line and does not hold.
+/// The first condition that is reported at the line and does not hold, where it is not the line of an activity.
 pub(crate) fn reason(net: &CrashNet<'_>, kept: &Kept, line: &CertLine) -> Option<u8>
-    requires { IsSafe net.now.network.events (length net.now.network.arcs) kept.now.tally }
+    requires safe { IsSafe net.now.network.events (length net.now.network.arcs) kept.now.tally }
+    requires other { IsAct line.now → ⊥ }
     ensures { result ≡ first_failing (conditions net.now (known_by kept.now) line.now) }
 {
     match line {
@@ -37,11 +39,7 @@ pub(crate) fn reason(net: &CrashNet<'_>, kept: &Kept, line: &CertLine) -> Option
             slope,
         } => reason_at_segment(net, kept, *upper, *lower, *slope),
         CertLine::Event { code, time, moves } => reason_at_event(net, kept, code, *time, *moves),
-        CertLine::Act {
-            code,
-            duration,
-            flows,
-        } => reason_at_act(net, kept, code, *duration, flows),
+        CertLine::Act { .. } => unreachable!(),
         CertLine::Close => reason_at_close(net, kept),
         CertLine::End => {
             if is_through(net, kept.tally.lower, kept.crash) {
@@ -134,22 +132,24 @@ fn has_event_code(net: &CrashNet<'_>, e: usize, code: &Code) -> bool
     e < net.net().events() as usize && *code == net.event_code(e as u32)
 }
 
-fn reason_at_act(
+/// The first condition on the gaps and the flows of the next activity that does not hold, where its line has its code and as many
+/// flows as it should.
+pub(crate) fn reason_at_act(
     net: &CrashNet<'_>,
     kept: &Kept,
-    code: &Code,
+    crossing: &Crossing,
     duration: u64,
     flows: &Flows,
 ) -> Option<u8>
-    ensures { result ≡ first_failing (conditions net.now (known_by kept.now) (Act code.now duration flows.now)) }
+    requires known { kept.now.tally.acts < length net.now.network.arcs }
+    requires crossing { IsCrossing net.now.network.arcs (stretch_of kept.now.tally) kept.now.tally.acts crossing.now }
+    requires flows { length flows.now ≡ (knees_in net.now).count kept.now.tally.acts + 1 }
+    ensures { (code : List ℕ) → IsTrue (has_act_code net.now kept.now.tally.acts code flows.now)
+        → result ≡ first_failing (conditions net.now (known_by kept.now) (Act code duration flows.now)) }
 {
     let tally = &kept.tally;
     let a = tally.acts;
-    if !has_act_code(net, a, code, flows) {
-        return Some(4);
-    }
-    let crossing = crossing_of(net, tally, a);
-    if !has_gaps(net, tally, a, &crossing) {
+    if !has_gaps(net, tally, a, crossing) {
         return Some(6);
     }
     if !has_duration(net, kept, a, duration) {
@@ -158,7 +158,7 @@ fn reason_at_act(
     if !has_small_flows(net, a, flows) {
         return Some(8);
     }
-    if !fits_gaps(net, tally, a, &crossing, flows) {
+    if !fits_gaps(net, tally, a, crossing, flows) {
         return Some(11);
     }
     if tally.upper == tally.lower && !is_still(flows.as_slice()) {
@@ -174,6 +174,9 @@ fn has_gaps(net: &CrashNet<'_>, tally: &Tally, a: u32, crossing: &Crossing) -> b
     ensures { result ≡ (has_room net.now (stretch_of tally.now) 0 a && has_room net.now (stretch_of tally.now) (span (stretch_of tally.now)) a) }
 {
     let crash = net.term(a).crash;
+    if !crossing.crosses() {
+        return has_room(crossing.upper, crash);
+    }
     has_room(crossing.upper, crash) && has_room(crossing.lower, crash)
 }
 
@@ -194,6 +197,9 @@ fn fits_gaps(net: &CrashNet<'_>, tally: &Tally, a: u32, crossing: &Crossing, flo
     requires flows { length flows.now ≡ (knees_in net.now).count a + 1 }
     ensures { result ≡ (is_slack net.now (stretch_of tally.now) 0 a flows.now && is_slack net.now (stretch_of tally.now) (span (stretch_of tally.now)) a flows.now) }
 {
+    if !crossing.crosses() {
+        return fits_gap(net, a, crossing.upper, flows);
+    }
     fits_gap(net, a, crossing.upper, flows) && fits_gap(net, a, crossing.lower, flows)
 }
 
@@ -209,7 +215,7 @@ fn fits_gap(net: &CrashNet<'_>, a: u32, gap: Gap, flows: &Flows) -> bool
 }
 
 /// Whether the code is that of an activity, and there is a flow for each of its knees and one beside them.
-fn has_act_code(net: &CrashNet<'_>, a: u32, code: &Code, flows: &Flows) -> bool
+pub(crate) fn has_act_code(net: &CrashNet<'_>, a: u32, code: &Code, flows: &Flows) -> bool
     ensures { result ≡ has_act_code net.now a code.now flows.now }
 {
     a < net.net().activities()

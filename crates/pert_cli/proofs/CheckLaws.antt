@@ -13,12 +13,14 @@ use Rattle.pc_check.specs.declared.fail.Verdict.{Verdict}
 use Rattle.pc_check.specs.declared.fail.Verdict.TheVariants.{Yes, No}
 use Rattle.pc_audit.specs.Texts.{IsCertified, IsFailing, Finds}
 use Rattle.pc_audit.specs.Auditing.{most_bytes}
+use Rattle.pc_audit.specs.Stops.{IsSettled}
+use Rattle.pc_edges.specs.declared.loading.TheConstants.{STREAM_ROOM}
 use Rattle.pc_audit.proofs.TextLaws.{not_both as one_text_verdict, one_number}
 use Rattle.pc_audit.proofs.OnceLaws.{one_failure}
 use Rattle.pc_audit.proofs.SourceLaws.{TakesPulls-none}
 use Rattle.pc_project.specs.Project.{Project}
 use Rattle.pert_cli.specs.declared.ending.Ending.{Ending}
-use Rattle.pert_cli.specs.Certificate.{IsOneWord, verdict_text, priced_in, HasVerdict, Certifies, FailsAsCertificate, ProvesCurve, IsFound, ending_for, Told, told, cut, Answered, found, unread, no_room, FaultTold, fault_told, fault_cut, fault_untold}
+use Rattle.pert_cli.specs.Certificate.{IsOneWord, verdict_text, priced_in, HasVerdict, Certifies, FailsAsCertificate, ProvesCurve, IsFound, IsSettledFor, ending_for, Told, told, cut, Answered, found, unread, no_room, FaultTold, fault_told, fault_cut, fault_untold}
 use Rattle.pert_cli.specs.CheckOutcome.{IsChecked, CheckOutcome, certified, not_certified, deck_refused, no_memory, cert_fault, write_fault, in_verdict, in_refusal}
 use Rattle.pert_cli.specs.Reading.{HasProject, HasRefusal}
 use Rattle.pert_cli.specs.Sides.{Side, IsUntouched, Took}
@@ -88,6 +90,10 @@ accepted_of : (left : Option (List ℕ)) (project : Project) → IfSome left (λ
 accepted_of None project p = tt
 accepted_of (Some bytes) project p = (p.deck, p.accepted)
 
+settled_for : {X : Type 0} (left : Option (List ℕ)) (cert : Side X) (project : Project) (verdict : Verdict) → IfSome left (λ bytes. IsProjectOf bytes project) → IsSettled (priced_in project) verdict STREAM_ROOM (cert.bytes cert.old) (cert.bytes cert.new) → IfSome left (λ bytes. IsSettledFor bytes cert verdict)
+settled_for None cert project verdict p settled = tt
+settled_for (Some bytes) cert project verdict p settled = record { project = project; accepted = p; settled = settled }
+
 -- what holds of the project of a deck holds of each project of it
 pub of_each_project : (left : Option (List ℕ)) (project : Project) (P : Project → Type 0) → IfSome left (λ bytes. IsProjectOf bytes project) → P project → IfSome left (λ bytes. (other : Project) → IsProjectOf bytes other → P other)
 of_each_project None project P is holds = tt
@@ -112,7 +118,8 @@ module _ {D C O E : Type 0} (words : List (String Global)) (deck : Side D) (cert
 
   after_verdict : (project : Project) (verdict : Verdict) → IsOneWord words → HasProject deck project → IsFound (priced_in project) cert verdict → Took out (verdict_text verdict) → IsUntouched err → CheckOutcome words deck cert out err (ending_for verdict)
   after_verdict project (Yes segments) asked has finds took same = certified segments (checked project (Yes segments) asked has finds took) finds.end same
-  after_verdict project (No line reason) asked has finds took same = not_certified line reason (checked project (No line reason) asked has finds took) same
+  after_verdict project (No line reason) asked has finds took same =
+      not_certified line reason (checked project (No line reason) asked has finds took) (settled_for (deck.bytes deck.old) cert project (No line reason) has.is finds.settled) same
 
   after_told : (project : Project) (verdict : Verdict) (ending : Ending) → IsOneWord words → HasProject deck project → IsFound (priced_in project) cert verdict → IsUntouched err → Told verdict out ending → CheckOutcome words deck cert out err ending
   after_told project verdict _ asked has finds same (told ending is took) = subst (CheckOutcome words deck cert out err) (sym is) (after_verdict project verdict asked has finds took same)

@@ -9,7 +9,9 @@ use Rattle.pc_crash.specs.Priced.{PricedNetwork, knees_in}
 use Rattle.pc_check.specs.Certified.{segments_of, OnYes}
 use Rattle.pc_check.specs.declared.fail.Verdict.{Verdict}
 use Rattle.pc_check.specs.declared.fail.Verdict.TheVariants.{Yes, No}
+use Rattle.pc_edges.specs.declared.loading.TheConstants.{STREAM_ROOM}
 use Rattle.pc_audit.specs.Texts.{Finds}
+use Rattle.pc_audit.specs.Stops.{IsSettled}
 use Rattle.pc_faults.specs.declared.fault.Fault.{Fault}
 use Rattle.pc_faults.specs.FaultText.{fault_text}
 use Rattle.pc_project.specs.Project.{Project}
@@ -88,10 +90,19 @@ pub record ProvesCurve (deck text : List ℕ) : Type 0 where
 
 -- ---- what a check leaves
 
--- what the source had left is found to be this, and a certified text was read to its end
+-- what the source had left is found to be this, a certified text was read to its end, and nothing was pulled behind the first
+-- failing line
 pub record IsFound {X : Type 0} (net : PricedNetwork) (cert : Side X) (verdict : Verdict) : Type 0 where
   pub finds : OfDeck cert (λ text. Finds net text verdict)
   pub end : OnYes verdict (IsReadToEnd cert)
+  pub settled : IsSettled net verdict STREAM_ROOM (cert.bytes cert.old) (cert.bytes cert.new)
+
+-- the deck is accepted, and the bytes that were taken of the certificate are found to be this of its project; of those that
+-- came before the last pull no line fails, so nothing is pulled behind the pull in which the first failing line ends
+pub record IsSettledFor {X : Type 0} (deck : List ℕ) (cert : Side X) (verdict : Verdict) : Type 0 where
+  pub project : Project
+  pub accepted : IsProjectOf deck project
+  pub settled : IsSettled (priced_in project) verdict STREAM_ROOM (cert.bytes cert.old) (cert.bytes cert.new)
 
 -- the status of a verdict that was told
 abbrev pub ending_for : Verdict → Ending

@@ -7,7 +7,7 @@ use Rattle.pc_faults.specs.declared.fault.Fault.{Fault}
 use Rattle.pc_faults.specs.FaultText.{fault_text}
 use Rattle.pert_cli.specs.declared.ending.Ending.{Ending}
 use Rattle.pert_cli.specs.declared.ending.Ending.TheVariants.{Certified, Refused, Usage, OutOfMemory, ReadFault, WriteFault, NotCertified}
-use Rattle.pert_cli.specs.Certificate.{IsOneWord, check_usage_text, verdict_text, HasVerdict}
+use Rattle.pert_cli.specs.Certificate.{IsOneWord, check_usage_text, verdict_text, HasVerdict, IsSettledFor}
 use Rattle.pert_cli.specs.Sides.{Side, HadFault, IsReadToEnd, IsUntouched, OfDeck, Took, TookFront}
 use Rattle.pert_cli.specs.Reading.{HasRefusal}
 use Rattle.pert_cli.specs.Verdict.{AcceptedBy}
@@ -58,7 +58,7 @@ pub data IsCheckCut {D C O E : Type 0} (words : List (String Global)) (deck : Si
 -- what a check that ended with the status means and leaves behind
 pub data CheckOutcome {D C O E : Type 0} (words : List (String Global)) (deck : Side D) (cert : Side C) (out : Side O) (err : Side E) : Ending → Type 0 where
   certified : (segments : ℕ) → IsChecked words deck cert out (Yes segments) → IsReadToEnd cert → IsUntouched err → CheckOutcome words deck cert out err Certified
-  not_certified : (line reason : ℕ) → IsChecked words deck cert out (No line reason) → IsUntouched err → CheckOutcome words deck cert out err NotCertified
+  not_certified : (line reason : ℕ) → IsChecked words deck cert out (No line reason) → OfDeck deck (λ bytes. IsSettledFor bytes cert (No line reason)) → IsUntouched err → CheckOutcome words deck cert out err NotCertified
   deck_refused : IsDeckRefused words deck err → IsUntouched cert → IsUntouched out → CheckOutcome words deck cert out err Refused
   check_usage : (IsOneWord words → ⊥) → Took err check_usage_text → IsUntouched deck → IsUntouched cert → IsUntouched out → CheckOutcome words deck cert out err Usage
   no_memory : IsOneWord words → IsUntouched out → IsUntouched err → CheckOutcome words deck cert out err OutOfMemory

@@ -7,7 +7,7 @@ ghost use Rattle.pc_edges.specs.Pulls.{TakesPulls};
 ghost use Rattle.pc_faults.specs.FaultText.{IsTold};
 ghost use Rattle.pc_audit.specs.Auditing.{most_bytes};
 ghost use Rattle.pc_project.specs.Project.{Project as TheProject};
-ghost use Rattle.pert_cli.specs.Certificate.{Answered, FaultTold, IsOneWord, check_usage_text, priced_in, Certifies, FailsAsCertificate, HasVerdict, ProvesCurve};
+ghost use Rattle.pert_cli.specs.Certificate.{Answered, FaultTold, IsOneWord, IsSettledFor, check_usage_text, failing_text, priced_in, Certifies, FailsAsCertificate, HasVerdict, ProvesCurve};
 ghost use Rattle.pert_cli.specs.CheckOutcome.{CheckOutcome, IsChecked, IsDeckRefused, IsCheckCut, OfBoth};
 ghost use Rattle.pert_cli.specs.Sides.{side, HadFault, HadNoFault, IsReadToEnd, OfDeck, Took};
 ghost use Rattle.pert_cli.specs.Verdict.{AcceptedBy, IsProjectOf, RefusedBy};
@@ -57,6 +57,10 @@ pub fn check_run<D: Source, C: Source, O: Sink, E: Sink>(
     ensures not_certified { result ≡ 6 → (line reason : ℕ) × IsChecked words.now (side D.left D.faults deck.old deck.new)
         (side C.left C.faults cert.old cert.new) (side O.taken O.faults out.old out.new) (No line reason) }
     ensures not_certified_only { result ≡ 6 → err.new ≡ err.old }
+
+    // Nothing of the certificate is pulled behind the pull in which that point's line ends.
+    ensures stops { result ≡ 6 → (line reason : ℕ) × Took (side O.taken O.faults out.old out.new) (failing_text line reason)
+        × OfDeck (side D.left D.faults deck.old deck.new) (λ bytes. IsSettledFor bytes (side C.left C.faults cert.old cert.new) (No line reason)) }
 
     // 1: the deck is refused, and `err` took the line of its fault. Of the certificate nothing was read.
     ensures refused { result ≡ 1 → IsDeckRefused words.now (side D.left D.faults deck.old deck.new) (side E.taken E.faults err.old err.new) }

@@ -1,5 +1,7 @@
 use Rattle.std.proofs.Common.{Err, refl, ap, subst}
 use Rattle.std.specs.Prelude.{IfSome}
+use Rattle.pc_edges.specs.declared.loading.TheConstants.{STREAM_ROOM}
+use Rattle.pc_audit.specs.Stops.{IsSettled}
 use Rattle.pc_audit.specs.Texts.{Finds}
 use Rattle.pert_cli.specs.Certificate.{found, unread, no_room}
 use Rattle.pert_cli.proofs.CheckLaws.{priced_is}
@@ -16,6 +18,7 @@ returns-in-Ok-audit_source-clause-answered g c =
     (record {
       finds = subst (λ n. IfSome (g.C.Source.left c.args.cert.now) (λ text. Finds n text c.in-Ok-audit_source.verdict)) same c.in-Ok-audit_source.ensures.finds;
       end = c.in-Ok-audit_source.ensures.end;
+      settled = subst (λ n. IsSettled n c.in-Ok-audit_source.verdict STREAM_ROOM (g.C.Source.left c.args.cert.now) (g.C.Source.left c.audit_source.new.source)) same c.in-Ok-audit_source.ensures.stops;
     })
     c.tell.ensures
 

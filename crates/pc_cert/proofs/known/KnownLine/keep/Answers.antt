@@ -1,0 +1,11 @@
+use Rattle.std.proofs.Common.{sym, ap, subst, ◌∙◌}
+use Rattle.std.specs.Prelude.{IsSome}
+use Rattle.pc_cert.specs.Known.{Known}
+use Rattle.pc_cert.proofs.KnownLaws.{kept_cells}
+use Rattle.pc_cert.proofs.known.KnownLine.keep.Goals as goal
+
+pub invariant_of-self : goal.invariant_of-self
+invariant_of-self c =
+    kept_cells c.self.inside.line c.args.bytes.now c.copy_from_slice.new.self c.self.inside.cells c.copy_from_slice.ensures.after c.self.invariant.room c.requires.short
+    (subst (λ (k : Known). IsSome k.line) (sym c.self.view_is) c.requires.some)
+    (ap (λ (k : Known). k.line) c.self.view_is ∙ c.requires.line)

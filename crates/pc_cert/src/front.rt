@@ -1,0 +1,41 @@
+//! The bytes at the front of two slices, compared 32 at once.
+ghost use Rattle.std.specs.Prelude.{◌≡◌, ℕ, ◌<◌, ◌≤◌, IsTrue, length, take, slice_index};
+ghost use Rattle.std.specs.Int.{bit_at};
+
+use std::simd::prelude::*;
+
+/// How many bytes are compared at once.
+pub(crate) const WIDTH: usize = 32;
+
+/// Whether the first so many bytes of the two slices are the same, of which each has at least 32.
+#[inline(always)]
+pub(crate) fn begin_same(bytes: &[u8], others: &[u8], count: usize) -> bool
+    requires bytes { WIDTH ≤ length bytes.now }
+    requires others { WIDTH ≤ length others.now }
+    requires count { count ≤ WIDTH }
+    ensures { IsTrue result → take count bytes.now ≡ take count others.now }
+{
+    let first = low_bits(count);
+    same_lanes(bytes, others) & first == first
+}
+
+/// A bit for each of the first 32 bytes, which is set where the two are the same.
+#[inline(always)]
+fn same_lanes(bytes: &[u8], others: &[u8]) -> u64
+    requires bytes { WIDTH ≤ length bytes.now }
+    requires others { WIDTH ≤ length others.now }
+    ensures { (k : ℕ) → k < WIDTH → bit_at result k ≡ 1 → slice_index bytes.now k ≡ slice_index others.now k }
+{
+    u8x32::from_slice(bytes)
+        .simd_eq(u8x32::from_slice(others))
+        .to_bitmask()
+}
+
+/// The lowest so many bits.
+#[inline(always)]
+fn low_bits(count: usize) -> u64
+    requires { count ≤ WIDTH }
+    ensures { (k : ℕ) → k < count → bit_at result k ≡ 1 }
+{
+    (1 << count) - 1
+}
