@@ -46,6 +46,7 @@ fn field_numbered(fields: &Row, number: u8) -> &[u8]
 }
 
 /// The code that a field is.
+#[inline(never)]
 pub fn read_code(fields: &Row, number: u8) -> Result<Code, Misfit>
     ensures value { IfOk result (λ code. code ≡ field_numbered fields.now number) }
     ensures fit { OnOk result (Fits form.Code (field_numbered fields.now number)) }
@@ -58,6 +59,7 @@ pub fn read_code(fields: &Row, number: u8) -> Result<Code, Misfit>
 }
 
 /// The code that a field is, or none where it is empty.
+#[inline(never)]
 pub fn read_code_or_none(fields: &Row, number: u8) -> Result<Option<Code>, Misfit>
     ensures value { IfOk result (λ code. code ≡ code_of (field_numbered fields.now number)) }
     ensures fit { OnOk result (Fits form.CodeOrNone (field_numbered fields.now number)) }
@@ -72,6 +74,7 @@ pub fn read_code_or_none(fields: &Row, number: u8) -> Result<Option<Code>, Misfi
 }
 
 /// The title that a field is.
+#[inline(never)]
 pub fn read_title(fields: &Row, number: u8) -> Result<Title, Misfit>
     ensures value { IfOk result (λ title. title ≡ field_numbered fields.now number) }
     ensures fit { OnOk result (Fits form.Title (field_numbered fields.now number)) }
