@@ -46,7 +46,6 @@ fn field_numbered(fields: &Row, number: u8) -> &[u8]
 }
 
 /// The code that a field is.
-#[inline(never)]
 pub fn read_code(fields: &Row, number: u8) -> Result<Code, Misfit>
     ensures value { IfOk result (λ code. code ≡ field_numbered fields.now number) }
     ensures fit { OnOk result (Fits form.Code (field_numbered fields.now number)) }
@@ -59,7 +58,6 @@ pub fn read_code(fields: &Row, number: u8) -> Result<Code, Misfit>
 }
 
 /// The code that a field is, or none where it is empty.
-#[inline(never)]
 pub fn read_code_or_none(fields: &Row, number: u8) -> Result<Option<Code>, Misfit>
     ensures value { IfOk result (λ code. code ≡ code_of (field_numbered fields.now number)) }
     ensures fit { OnOk result (Fits form.CodeOrNone (field_numbered fields.now number)) }
@@ -74,7 +72,6 @@ pub fn read_code_or_none(fields: &Row, number: u8) -> Result<Option<Code>, Misfi
 }
 
 /// The title that a field is.
-#[inline(never)]
 pub fn read_title(fields: &Row, number: u8) -> Result<Title, Misfit>
     ensures value { IfOk result (λ title. title ≡ field_numbered fields.now number) }
     ensures fit { OnOk result (Fits form.Title (field_numbered fields.now number)) }
@@ -101,7 +98,8 @@ pub fn read_date(fields: &Row, number: u8) -> Result<Day, Misfit>
     }
 }
 
-/// The number that a field is, from `least` to `most`.
+/// The number that a field is, from `least` to `most`. Inlined, since most cards have several of them.
+#[inline(always)]
 pub fn read_amount(fields: &Row, number: u8, least: u64, most: u64) -> Result<u64, Misfit>
     ensures value { IfOk result (λ amount. amount ≡ number_in (field_numbered fields.now number)) }
     ensures fit { OnOk result (Fits (form.Number least most) (field_numbered fields.now number)) }

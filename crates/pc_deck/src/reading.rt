@@ -11,9 +11,6 @@ use pc_faults::Fault;
 use pc_records::Row;
 
 /// The card that a record spells, or the fault of its fields (F6 to F8). Each field is read once.
-///
-/// It is a call of its own, so that the card is made where it is to stand, and moved whole.
-#[inline(never)]
 #[tactic(auto, using(crate::proofs::FindLemmas::no_flaw))]
 pub fn read_card<C: Card>(place: &Place, fields: &Row) -> Result<C, Fault>
     ensures card { IfOk result (λ card. card ≡ C.spelled place.now.row fields.now) }

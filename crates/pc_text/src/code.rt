@@ -122,6 +122,18 @@ fn cells_of(field: &[u8]) -> Option<[u8; LIMIT]>
     Some(cells)
 }
 
+/// Whether the cells of two codes are the same.
+fn are_same(one: &[u8; LIMIT], other: &[u8; LIMIT]) -> bool
+    ensures { result ≡ pointwise nat_eq one.now other.now }
+{
+    let mut are_same = true;
+    for i in 0..LIMIT {
+        // No early end: so a processor compares all cells at once.
+        are_same = are_same & (one[i] == other[i]);
+    }
+    are_same
+}
+
 impl PartialEq for Code {
     ghost eq = { pointwise nat_eq };
 
@@ -129,7 +141,7 @@ impl PartialEq for Code {
 
     // All cells at once, the zeros among them.
     fn eq(&self, other: &Code) -> bool {
-        self.len == other.len && self.cells == other.cells
+        self.len == other.len && are_same(&self.cells, &other.cells)
     }
 }
 
