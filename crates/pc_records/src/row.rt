@@ -81,18 +81,15 @@ impl Row {
     pub fn is_blank_from(&self, start: usize) -> bool
         ensures { result ≡ is_blank (drop start self.now) }
     {
-        let Some(last) = self.len().checked_sub(1) else {
-            return true;
-        };
         if !self.field(start).is_empty() {
             return false;
         }
-        // Those behind another are told by where two fields end: none of them is the first. No early end: so a
-        // processor tests several fields at once.
-        let mut is_blank = true;
-        for i in start..last {
-            is_blank = is_blank & self.field(i + 1).is_empty();
+        // Those behind another are told by where two fields end: none of them is the first.
+        for i in start..self.len().saturating_sub(1) {
+            if !self.field(i + 1).is_empty() {
+                return false;
+            }
         }
-        is_blank
+        true
     }
 }
