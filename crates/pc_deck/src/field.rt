@@ -98,7 +98,8 @@ pub fn read_date(fields: &Row, number: u8) -> Result<Day, Misfit>
     }
 }
 
-/// The number that a field is, from `least` to `most`.
+/// The number that a field is, from `least` to `most`. Inlined, since most cards have several of them.
+#[inline(always)]
 pub fn read_amount(fields: &Row, number: u8, least: u64, most: u64) -> Result<u64, Misfit>
     ensures value { IfOk result (λ amount. amount ≡ number_in (field_numbered fields.now number)) }
     ensures fit { OnOk result (Fits (form.Number least most) (field_numbered fields.now number)) }

@@ -19,6 +19,12 @@ use pc_records::Row;
 use std::alloc::Global;
 use std::str;
 
+/// The room of a row from the beginning: as many bytes as are read from the deck at once, so that a record is copied in one
+/// piece, and more fields than a card has.
+const ROW_BYTES: usize = 8192;
+
+const ROW_FIELDS: usize = 64;
+
 /// Reads the cards of a deck, or answers its first fault: not UTF-8, or else the fault of the earliest record, and of
 /// that record the fault with the least number. That there is no END card counts as a fault of the record behind the
 /// last.
@@ -67,7 +73,7 @@ fn take_all(alloc: Global, bytes: &[u8], draft: &mut Draft) -> Result<u32, DeckE
     ensures fault { IfErr result (Refuses (λ fault. read_from draft.old (length (deck_records bytes.now) + 1) (deck_cards bytes.now) ≡ Err fault)) }
 {
     let mut rows = CardRows::new(alloc, bytes);
-    let mut fields = Row::new(alloc);
+    let mut fields = Row::with_room(alloc, ROW_BYTES, ROW_FIELDS)?;
     'cards: loop {
         let row = match rows.next(&mut fields)? {
             Next::Card(row) => row,

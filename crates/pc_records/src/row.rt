@@ -1,11 +1,11 @@
 // One record of a deck.
 
-ghost use Rattle.std.specs.Prelude.{◌≡◌, ◌==◌, [], List, ℕ, drop, length, option_map, slice_get};
+ghost use Rattle.std.specs.Prelude.{◌≡◌, ◌==◌, [], List, ℕ, drop, length, option_map, slice_get, IfOk};
 ghost use Rattle.csv.specs.Records.{fields_of};
 ghost use Rattle.pc_records.specs.Deck.{field_at, is_blank};
 
 use csv::ByteRecord;
-use std::alloc::Global;
+use std::alloc::{AllocError, Global};
 use std::marker::Model;
 
 /// One record of a deck: a list of fields, each of any bytes.
@@ -30,6 +30,16 @@ impl Row {
         Row {
             fields: ByteRecord::new(alloc),
         }
+    }
+
+    /// A row with no fields yet, and with room for so many bytes and so many fields. It takes further memory for what is
+    /// longer.
+    pub fn with_room(alloc: Global, bytes: usize, fields: usize) -> Result<Row, AllocError>
+        ensures { IfOk result (λ row. row ≡ []) }
+    {
+        Ok(Row {
+            fields: ByteRecord::with_capacity(alloc, bytes, fields)?,
+        })
     }
 
     /// How many fields there are, the empty ones among them.

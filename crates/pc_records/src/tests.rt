@@ -5,7 +5,7 @@ use std::test::Fail;
 // Every record of a deck in square brackets, its fields between strokes, as `[a|b][c]`.
 fn spelled(alloc: Global, deck: &[u8]) -> Result<Vec<u8>, AllocError> {
     let mut rows = Rows::new(alloc, deck);
-    let mut row = Row::new(alloc);
+    let mut row = Row::with_room(alloc, 8, 2)?;
     let mut text = Vec::new(alloc);
     'rows: while rows.next_row(&mut row)? {
         text.push(b'[')?;

@@ -1,3 +1,4 @@
 mod CodeLemmas
 pub mod NumberLemmas
 pub mod DigitsLemmas
+mod TableLemmas
