@@ -1,15 +1,19 @@
 -- Which deck bytes are: at most one, and none where they are refused.
-use Rattle.std.proofs.Common.{◌≡◌, ℕ, true, List, [], ◌∷◌, Option, Some, None, Result, Ok, Err, refl, sym, ap, ◌∙◌}
+use Rattle.std.proofs.Common.{◌≡◌, ℕ, true, List, [], ◌∷◌, Bool, false, Option, Some, None, Result, Ok, Err, refl, sym, ap, ◌∙◌}
 use Rattle.std.specs.Prelude.{IfOk}
 use Rattle.std.specs.Str.{is_utf8}
 use Rattle.pc_faults.specs.declared.fault.Fault.{Fault}
 use Rattle.pc_faults.specs.declared.fault.DeckError.{DeckError}
 use Rattle.pc_deck.specs.Cards.{Numbered}
-use Rattle.pc_deck.specs.Deck.{Deck}
+use Rattle.pc_faults.specs.declared.kind.Kind.{Kind}
+use Rattle.pc_faults.specs.declared.kind.Kind.TheVariants.{Project, End}
+use Rattle.pc_deck.specs.Kinds.{CardOf, stands_once, held_in, lists_with}
+use Rattle.pc_deck.specs.Named.{as_list, HeldBy, listed_by}
+use Rattle.pc_deck.specs.Deck.{Deck, list_of}
 use Rattle.pc_deck.specs.Reading.{cards_of}
 use Rattle.pc_deck.specs.Read.{IsDeckOf}
 use Rattle.pc_deck.specs.Refusal.{IsCardRefusal}
-use Rattle.pc_deck.specs.Says.{as_list, Says}
+use Rattle.pc_deck.specs.Says.{Says}
 use Rattle.pc_deck.proofs.RefusalLemmas.{none_of-read}
 use Rattle.pc_deck.proofs.SaysLemmas.{says_of-read}
 
@@ -33,23 +37,24 @@ one x y same = ap (first_or x) same
 one_or_none : {X : Type 0} (card other : Option X) → as_list card ≡ as_list other → card ≡ other
 one_or_none card other same = sym (first_of-as_list card) ∙ (ap first_of same ∙ first_of-as_list other)
 
+same_held : (once : Bool) (C : Type 0) (held other : HeldBy once C) → listed_by once C held ≡ listed_by once C other → held ≡ other
+same_held true C held other same = one_or_none held other same
+same_held false C held other same = same
+
 -- the cards of a deck say one thing alone
 pub said_once : (cards : List Numbered) (deck other : Deck) → Says cards deck → Says cards other → deck ≡ other
-said_once cards deck other says also = λ i. record {
-  project = one deck.project other.project (sym says.project ∙ also.project) i;
-  as_of = one_or_none deck.as_of other.as_of (sym says.as_of ∙ also.as_of) i;
-  terms = one_or_none deck.terms other.terms (sym says.terms ∙ also.terms) i;
-  items = (sym says.items ∙ also.items) i;
-  events = (sym says.events ∙ also.events) i;
-  acts = (sym says.acts ∙ also.acts) i;
-  pieces = (sym says.pieces ∙ also.pieces) i;
-  accounts = (sym says.accounts ∙ also.accounts) i;
-  charges = (sym says.charges ∙ also.charges) i;
-  togos = (sym says.togos ∙ also.togos) i;
-  statuses = (sym says.statuses ∙ also.statuses) i;
-  resources = (sym says.resources ∙ also.resources) i;
-  loads = (sym says.loads ∙ also.loads) i;
-}
+said_once cards deck other says also = λ i. record { project = one deck.project other.project (list Project) i; lists = lists i }
+  where
+    list : (kind : Kind) → list_of deck kind ≡ list_of other kind
+    list kind = sym (says kind) ∙ also kind
+
+    held : (kind : Kind) → held_in deck.lists kind ≡ held_in other.lists kind
+    held Project = refl
+    held End = refl
+    held kind = same_held (stands_once kind) (CardOf kind) (held_in deck.lists kind) (held_in other.lists kind) (list kind)
+
+    lists : deck.lists ≡ other.lists
+    lists = let all : held_in deck.lists ≡ held_in other.lists = λ i kind. held kind i in ap lists_with all
 
 -- bytes are one deck at most
 pub one_deck : (bytes : List ℕ) (deck other : Deck) → IsDeckOf bytes deck → IsDeckOf bytes other → deck ≡ other

@@ -3,10 +3,12 @@ pub mod MisfitLemmas
 pub mod NameLemmas
 pub mod FindLemmas
 pub mod JudgeLemmas
-pub mod WithinLemmas
+pub mod KindLemmas
 pub mod ReadLemmas
 pub mod CardFaultLemmas
 pub mod SoFarLemmas
+pub mod WithinLemmas
+pub mod NumberLemmas
 pub mod SeenLemmas
 pub mod RefusalLemmas
 pub mod ToldLemmas

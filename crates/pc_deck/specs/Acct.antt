@@ -1,7 +1,8 @@
 -- ACCT,code,item,budget,title
-use Rattle.std.specs.Prelude.{ℕ, ◌≤◌, List, [], ◌∷◌}
+use Rattle.std.specs.Prelude.{ℕ, ◌≤◌, List, [], ◌∷◌, false, true}
 use Rattle.pc_records.specs.Deck.{field_at}
-use Rattle.pc_model.specs.declared.limits.TheConstants.{MAX_COST}
+use Rattle.pc_model.specs.declared.limits.TheConstants.{MAX_COST, MAX_ACCOUNTS}
+use Rattle.pc_deck.specs.Entry.{Entry, up_to}
 use Rattle.pc_deck.specs.Forms.{Slot, money, number_in}
 use Rattle.pc_deck.specs.declared.form.Form.TheVariants as form
 use Rattle.pc_deck.specs.declared.kinds.acct.AcctCard.{AcctCard}
@@ -23,3 +24,18 @@ account_of row fields = record {
 -- the budget of an account is within the limit of money
 abbrev pub IsBudgetWithin : AcctCard → Type 0
 IsBudgetWithin account = account.budget ≤ MAX_COST
+
+-- the kind
+abbrev pub account_kind : Entry
+account_kind = record {
+  Card = AcctCard;
+  spelled = account_of;
+  slots = account_slots;
+  least = 5;
+  most = 5;
+  once = false;
+  held = λ lists. lists.accounts;
+  limit = up_to MAX_ACCOUNTS;
+  is_coded = true;
+  code = λ account. account.code;
+}

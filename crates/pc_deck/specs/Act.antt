@@ -1,7 +1,9 @@
 -- ACT,code,from,to,item,opt,likely,pess,normal,crash,cost,slope,title
-use Rattle.std.specs.Prelude.{ℕ, ◌≤◌, List, [], ◌∷◌}
+use Rattle.std.specs.Prelude.{ℕ, ◌≤◌, List, [], ◌∷◌, false, true}
 use Rattle.pc_records.specs.Deck.{field_at}
-use Rattle.pc_model.specs.declared.limits.TheConstants.{MAX_COST, MAX_DURATION, MAX_SLOPE}
+use Rattle.pc_model.specs.declared.limits.TheConstants.{MAX_COST, MAX_DURATION, MAX_SLOPE, MAX_ACTIVITIES}
+use Rattle.pc_deck.specs.Entry.{Entry, growing}
+use Rattle.pc_deck.specs.declared.limits.TheConstants.{SMALL_ACTIVITIES}
 use Rattle.pc_deck.specs.Forms.{Slot, duration, money, number_in}
 use Rattle.pc_deck.specs.declared.form.Form.TheVariants as form
 use Rattle.pc_deck.specs.declared.kinds.act.ActCard.{ActCard}
@@ -40,3 +42,18 @@ pub record IsActWithin (act : ActCard) : Type 0 where
   pub crash : act.crash ≤ MAX_DURATION
   pub cost : act.cost ≤ MAX_COST
   pub slope : act.slope ≤ MAX_SLOPE
+
+-- the kind
+abbrev pub act_kind : Entry
+act_kind = record {
+  Card = ActCard;
+  spelled = act_of;
+  slots = act_slots;
+  least = 13;
+  most = 13;
+  once = false;
+  held = λ lists. lists.acts;
+  limit = growing SMALL_ACTIVITIES MAX_ACTIVITIES;
+  is_coded = true;
+  code = λ act. act.code;
+}

@@ -1,6 +1,7 @@
 -- ASOF,date
-use Rattle.std.specs.Prelude.{ℕ, List, [], ◌∷◌}
+use Rattle.std.specs.Prelude.{ℕ, List, [], ◌∷◌, false, true}
 use Rattle.pc_records.specs.Deck.{field_at}
+use Rattle.pc_deck.specs.Entry.{Entry, unlimited, no_code}
 use Rattle.pc_deck.specs.Forms.{Slot, day_in}
 use Rattle.pc_deck.specs.declared.form.Form.TheVariants as form
 use Rattle.pc_deck.specs.declared.kinds.as_of.AsOfCard.{AsOfCard}
@@ -12,3 +13,18 @@ as_of_slots = (2, form.Date) ∷ []
 -- the card that a record spells
 abbrev pub as_of_of : ℕ → List (List ℕ) → AsOfCard
 as_of_of row fields = record { row = row; day = day_in (field_at fields 1) }
+
+-- the kind
+abbrev pub as_of_kind : Entry
+as_of_kind = record {
+  Card = AsOfCard;
+  spelled = as_of_of;
+  slots = as_of_slots;
+  least = 2;
+  most = 2;
+  once = true;
+  held = λ lists. lists.as_of;
+  limit = unlimited;
+  is_coded = false;
+  code = no_code;
+}

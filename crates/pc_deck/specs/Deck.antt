@@ -1,34 +1,23 @@
 -- The cards of a deck, as lists in card order.
-use Rattle.std.specs.Prelude.{ℕ, nat_eq, List, map, position, Option}
+use Rattle.std.specs.Prelude.{ℕ, nat_eq, List, [], ◌∷◌, map, position, Option}
 use Rattle.std.specs.Cmp.Lexicographic.{pointwise}
+use Rattle.pc_faults.specs.declared.kind.Kind.{Kind}
+use Rattle.pc_faults.specs.declared.kind.Kind.TheVariants.{Project, End}
+use Rattle.pc_deck.specs.Kinds.{CardOf, cards_in}
 use Rattle.pc_deck.specs.declared.kinds.project.ProjectCard.{ProjectCard}
-use Rattle.pc_deck.specs.declared.kinds.as_of.AsOfCard.{AsOfCard}
-use Rattle.pc_deck.specs.declared.kinds.wbs.ItemCard.{ItemCard}
-use Rattle.pc_deck.specs.declared.kinds.event.EventCard.{EventCard}
-use Rattle.pc_deck.specs.declared.kinds.act.ActCard.{ActCard}
-use Rattle.pc_deck.specs.declared.kinds.acct.AcctCard.{AcctCard}
-use Rattle.pc_deck.specs.declared.kinds.money.MoneyCard.{MoneyCard}
-use Rattle.pc_deck.specs.declared.kinds.status.StatusCard.{StatusCard}
-use Rattle.pc_deck.specs.declared.kinds.terms.TermsCard.{TermsCard}
-use Rattle.pc_deck.specs.declared.kinds.piece.PieceCard.{PieceCard}
-use Rattle.pc_deck.specs.declared.kinds.res.ResCard.{ResCard}
-use Rattle.pc_deck.specs.declared.kinds.load.LoadCard.{LoadCard}
+use Rattle.pc_deck.specs.declared.kinds.CardLists.{CardLists}
 
--- what the cards of a deck say
+-- what the cards of a deck say: `deck.items` are its items, and so on for each of the lists
 pub record Deck : Type 0 where
   pub project : ProjectCard
-  pub as_of : Option AsOfCard
-  pub terms : Option TermsCard
-  pub items : List ItemCard
-  pub events : List EventCard
-  pub acts : List ActCard
-  pub pieces : List PieceCard
-  pub accounts : List AcctCard
-  pub charges : List MoneyCard
-  pub togos : List MoneyCard
-  pub statuses : List StatusCard
-  pub resources : List ResCard
-  pub loads : List LoadCard
+  pub lists : CardLists
+  pub open lists use *
+
+-- the cards of a kind, in card order; a deck has one PROJECT card and one END card
+abbrev pub list_of : Deck → (kind : Kind) → List (CardOf kind)
+list_of deck Project = deck.project ∷ []
+list_of deck End = tt ∷ []
+list_of deck other = cards_in deck.lists other
 
 -- the codes of the items, in card order
 abbrev pub item_codes : Deck → List (List ℕ)

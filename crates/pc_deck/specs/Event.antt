@@ -1,6 +1,9 @@
 -- EVENT,code,title
-use Rattle.std.specs.Prelude.{ℕ, List, [], ◌∷◌}
+use Rattle.std.specs.Prelude.{ℕ, List, [], ◌∷◌, false, true}
 use Rattle.pc_records.specs.Deck.{field_at}
+use Rattle.pc_deck.specs.Entry.{Entry, growing}
+use Rattle.pc_deck.specs.declared.limits.TheConstants.{SMALL_EVENTS}
+use Rattle.pc_model.specs.declared.limits.TheConstants.{MAX_EVENTS}
 use Rattle.pc_deck.specs.Forms.{Slot}
 use Rattle.pc_deck.specs.declared.form.Form.TheVariants as form
 use Rattle.pc_deck.specs.declared.kinds.event.EventCard.{EventCard}
@@ -12,3 +15,18 @@ event_slots = (2, form.Code) ∷ (3, form.Title) ∷ []
 -- the card that a record spells
 abbrev pub event_of : ℕ → List (List ℕ) → EventCard
 event_of row fields = record { row = row; code = field_at fields 1; title = field_at fields 2 }
+
+-- the kind
+abbrev pub event_kind : Entry
+event_kind = record {
+  Card = EventCard;
+  spelled = event_of;
+  slots = event_slots;
+  least = 3;
+  most = 3;
+  once = false;
+  held = λ lists. lists.events;
+  limit = growing SMALL_EVENTS MAX_EVENTS;
+  is_coded = true;
+  code = λ event. event.code;
+}

@@ -36,6 +36,10 @@ place_of seen kind row = record { kind = kind; row = row; limit = limit_of seen.
 abbrev pub not_project : Seen → Kind → ℕ → Option Fault
 not_project seen kind row = where_so (seen.is_first && not (is_project kind)) (fault.first_not_project row)
 
+-- a card behind others of its kind, where there may be one alone
+abbrev pub not_alone : Place → ℕ → Option Fault
+not_alone place count = where_so (nat_lt 0 count) (fault.second_card place.row place.kind)
+
 -- F5: a second card of a kind that stands once
 abbrev pub second : Place → ℕ → Option Fault
 second place count = where_so (stands_once place.kind && nat_lt 0 count) (fault.second_card place.row place.kind)

@@ -1,5 +1,7 @@
 pub mod Limits
 pub mod Forms
+pub mod Named
+pub mod Entry
 pub mod Project
 pub mod AsOf
 pub mod Terms
@@ -12,8 +14,8 @@ pub mod Money
 pub mod Status
 pub mod Res
 pub mod Load
+pub mod End
 pub mod Kinds
-pub mod Named
 pub mod Deck
 pub mod Cards
 pub mod Judged

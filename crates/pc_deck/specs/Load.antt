@@ -1,7 +1,8 @@
 -- LOAD,activity,resource,quantity
-use Rattle.std.specs.Prelude.{ℕ, ◌≤◌, List, [], ◌∷◌}
+use Rattle.std.specs.Prelude.{ℕ, ◌≤◌, List, [], ◌∷◌, false}
 use Rattle.pc_records.specs.Deck.{field_at}
-use Rattle.pc_model.specs.declared.limits.TheConstants.{MAX_COST}
+use Rattle.pc_model.specs.declared.limits.TheConstants.{MAX_COST, MAX_LOADS}
+use Rattle.pc_deck.specs.Entry.{Entry, up_to, no_code}
 use Rattle.pc_deck.specs.Forms.{Slot, money, number_in}
 use Rattle.pc_deck.specs.declared.form.Form.TheVariants as form
 use Rattle.pc_deck.specs.declared.kinds.load.LoadCard.{LoadCard}
@@ -17,3 +18,18 @@ load_of row fields = record { row = row; activity = field_at fields 1; resource 
 -- the quantity of a load is within the limit of money
 abbrev pub IsLoadWithin : LoadCard → Type 0
 IsLoadWithin card = card.quantity ≤ MAX_COST
+
+-- the kind
+abbrev pub load_kind : Entry
+load_kind = record {
+  Card = LoadCard;
+  spelled = load_of;
+  slots = load_slots;
+  least = 4;
+  most = 4;
+  once = false;
+  held = λ lists. lists.loads;
+  limit = up_to MAX_LOADS;
+  is_coded = false;
+  code = no_code;
+}

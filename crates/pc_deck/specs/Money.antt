@@ -1,7 +1,9 @@
 -- CHARGE,account,date,amount and TOGO,account,date,amount
-use Rattle.std.specs.Prelude.{ℕ, ◌≤◌, List, [], ◌∷◌}
+use Rattle.std.specs.Prelude.{ℕ, ◌≤◌, List, [], ◌∷◌, false}
 use Rattle.pc_records.specs.Deck.{field_at}
-use Rattle.pc_model.specs.declared.limits.TheConstants.{MAX_COST}
+use Rattle.pc_model.specs.declared.limits.TheConstants.{MAX_COST, MAX_CHARGES, MAX_TOGOS}
+use Rattle.pc_deck.specs.Entry.{Entry, growing, no_code, up_to}
+use Rattle.pc_deck.specs.declared.limits.TheConstants.{SMALL_CHARGES}
 use Rattle.pc_deck.specs.Forms.{Slot, money, number_in, day_in}
 use Rattle.pc_deck.specs.declared.form.Form.TheVariants as form
 use Rattle.pc_deck.specs.declared.kinds.money.MoneyCard.{MoneyCard}
@@ -17,3 +19,33 @@ money_of row fields = record { row = row; account = field_at fields 1; day = day
 -- the amount of a CHARGE or TOGO card is within the limit of money
 abbrev pub IsAmountWithin : MoneyCard → Type 0
 IsAmountWithin card = card.amount ≤ MAX_COST
+
+-- the kind CHARGE
+abbrev pub charge_kind : Entry
+charge_kind = record {
+  Card = MoneyCard;
+  spelled = money_of;
+  slots = money_slots;
+  least = 4;
+  most = 4;
+  once = false;
+  held = λ lists. lists.charges;
+  limit = growing SMALL_CHARGES MAX_CHARGES;
+  is_coded = false;
+  code = no_code;
+}
+
+-- the kind TOGO
+abbrev pub togo_kind : Entry
+togo_kind = record {
+  Card = MoneyCard;
+  spelled = money_of;
+  slots = money_slots;
+  least = 4;
+  most = 4;
+  once = false;
+  held = λ lists. lists.togos;
+  limit = up_to MAX_TOGOS;
+  is_coded = false;
+  code = no_code;
+}

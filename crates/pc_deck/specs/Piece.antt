@@ -1,7 +1,9 @@
 -- PIECE,activity,units,slope
-use Rattle.std.specs.Prelude.{ℕ, ◌≤◌, List, [], ◌∷◌}
+use Rattle.std.specs.Prelude.{ℕ, ◌≤◌, List, [], ◌∷◌, false}
 use Rattle.pc_records.specs.Deck.{field_at}
-use Rattle.pc_model.specs.declared.limits.TheConstants.{MAX_DURATION, MAX_SLOPE}
+use Rattle.pc_model.specs.declared.limits.TheConstants.{MAX_DURATION, MAX_SLOPE, MAX_PIECES}
+use Rattle.pc_deck.specs.Entry.{Entry, growing, no_code}
+use Rattle.pc_deck.specs.declared.limits.TheConstants.{SMALL_PIECES}
 use Rattle.pc_deck.specs.Forms.{Slot, number_in}
 use Rattle.pc_deck.specs.declared.form.Form.TheVariants as form
 use Rattle.pc_deck.specs.declared.kinds.piece.PieceCard.{PieceCard}
@@ -19,3 +21,18 @@ pub record IsPieceWithin (piece : PieceCard) : Type 0 where
   pub some_units : 1 ≤ piece.units
   pub units : piece.units ≤ MAX_DURATION
   pub slope : piece.slope ≤ MAX_SLOPE
+
+-- the kind
+abbrev pub piece_kind : Entry
+piece_kind = record {
+  Card = PieceCard;
+  spelled = piece_of;
+  slots = piece_slots;
+  least = 4;
+  most = 4;
+  once = false;
+  held = λ lists. lists.pieces;
+  limit = growing SMALL_PIECES MAX_PIECES;
+  is_coded = false;
+  code = no_code;
+}

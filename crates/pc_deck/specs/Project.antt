@@ -1,9 +1,10 @@
 -- PROJECT,code,start,end,date,days of a unit,directed end,title,version
-use Rattle.std.specs.Prelude.{ℕ, ◌≤◌, List, [], ◌∷◌, unwrap_or}
+use Rattle.std.specs.Prelude.{ℕ, ◌≤◌, List, [], ◌∷◌, unwrap_or, false, true, None}
 use Rattle.pc_records.specs.Deck.{field_at}
 use Rattle.std.specs.Option.{ForSome}
 use Rattle.pc_text.specs.Number.{number_of}
 use Rattle.pc_model.specs.declared.limits.TheConstants.{MAX_DIRECTED, MAX_UNIT_DAYS}
+use Rattle.pc_deck.specs.Entry.{Entry, unlimited, no_code}
 use Rattle.pc_deck.specs.Forms.{Slot, number_in, day_in}
 use Rattle.pc_deck.specs.declared.form.Form.TheVariants as form
 use Rattle.pc_deck.specs.declared.kinds.project.ProjectCard.{ProjectCard}
@@ -38,3 +39,18 @@ pub record IsProjectWithin (project : ProjectCard) : Type 0 where
   pub directed_within : ForSome project.directed (λ days. days ≤ MAX_DIRECTED)
   pub version_some : 1 ≤ project.version
   pub version_within : project.version ≤ 2
+
+-- the kind; its card stands beside the lists
+abbrev pub project_kind : Entry
+project_kind = record {
+  Card = ProjectCard;
+  spelled = project_of;
+  slots = project_slots;
+  least = 8;
+  most = 9;
+  once = true;
+  held = λ lists. None;
+  limit = unlimited;
+  is_coded = false;
+  code = no_code;
+}

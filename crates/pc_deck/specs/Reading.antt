@@ -1,90 +1,50 @@
 -- What a deck says, card by card.
-use Rattle.std.specs.Prelude.{◌≡◌, ℕ, ◌+◌, true, false, List, [], ◌∷◌, ◌++◌, length, map, Option, Some, None, is_none, Result, Ok, Err, if◌then◌else◌}
+use Rattle.std.specs.Prelude.{◌≡◌, ℕ, ◌+◌, false, ◌||◌, List, [], ◌∷◌, length, map, Option, Some, None, is_none, Result, Ok, Err, if◌then◌else◌}
 use Rattle.pc_records.specs.Deck.{deck_records}
 use Rattle.pc_faults.specs.Faults as fault
 use Rattle.pc_faults.specs.declared.kind.Kind.{Kind}
-use Rattle.pc_faults.specs.declared.kind.Kind.TheVariants.{Project, AsOf, Terms, Wbs, Event, Act, Piece, Acct, Charge, ToGo, Status, Res, Load, End}
+use Rattle.pc_faults.specs.declared.kind.Kind.TheVariants.{Project, End}
 use Rattle.pc_faults.specs.declared.fault.Fault.{Fault}
 use Rattle.pc_deck.specs.Cards.{Numbered, deck_cards}
 use Rattle.pc_deck.specs.Deck.{Deck}
-use Rattle.pc_deck.specs.Named.{count_once}
+use Rattle.pc_deck.specs.Kinds.{CardOf, entry_of, has_code_of_its_own, is_end, is_project, no_lists, cards_in, lists_and}
+use Rattle.pc_deck.specs.Named.{as_list}
 use Rattle.pc_deck.specs.Judged.{Seen, judge}
 use Rattle.pc_deck.specs.Project.{project_of}
-use Rattle.pc_deck.specs.AsOf.{as_of_of}
-use Rattle.pc_deck.specs.Terms.{terms_of}
-use Rattle.pc_deck.specs.Wbs.{item_of}
-use Rattle.pc_deck.specs.Event.{event_of}
-use Rattle.pc_deck.specs.Act.{act_of}
-use Rattle.pc_deck.specs.Piece.{piece_of}
-use Rattle.pc_deck.specs.Acct.{account_of}
-use Rattle.pc_deck.specs.Money.{money_of}
-use Rattle.pc_deck.specs.Status.{status_of}
-use Rattle.pc_deck.specs.Res.{resource_of}
-use Rattle.pc_deck.specs.Load.{load_of}
 use Rattle.pc_deck.specs.declared.kinds.project.ProjectCard.{ProjectCard}
 use Rattle.pc_deck.specs.declared.draft.Draft.{Draft}
 
 -- nothing is read yet
 abbrev pub no_cards : Draft
-no_cards = record {
-  project = None;
-  as_of = None;
-  terms = None;
-  items = [];
-  events = [];
-  acts = [];
-  pieces = [];
-  accounts = [];
-  charges = [];
-  togos = [];
-  statuses = [];
-  resources = [];
-  loads = [];
-  has_ended = false;
-}
+no_cards = record { project = None; lists = no_lists; has_ended = false }
 
 -- the cards so far and one more, which has no fault
 abbrev pub with_card : Draft → Kind → ℕ → List (List ℕ) → Draft
-with_card draft Project row fields = record draft { project = Some (project_of row fields) }
-with_card draft AsOf row fields = record draft { as_of = Some (as_of_of row fields) }
-with_card draft Terms row fields = record draft { terms = Some (terms_of row fields) }
-with_card draft Wbs row fields = record draft { items = draft.items ++ item_of row fields ∷ [] }
-with_card draft Event row fields = record draft { events = draft.events ++ event_of row fields ∷ [] }
-with_card draft Act row fields = record draft { acts = draft.acts ++ act_of row fields ∷ [] }
-with_card draft Piece row fields = record draft { pieces = draft.pieces ++ piece_of row fields ∷ [] }
-with_card draft Acct row fields = record draft { accounts = draft.accounts ++ account_of row fields ∷ [] }
-with_card draft Charge row fields = record draft { charges = draft.charges ++ money_of row fields ∷ [] }
-with_card draft ToGo row fields = record draft { togos = draft.togos ++ money_of row fields ∷ [] }
-with_card draft Status row fields = record draft { statuses = draft.statuses ++ status_of row fields ∷ [] }
-with_card draft Res row fields = record draft { resources = draft.resources ++ resource_of row fields ∷ [] }
-with_card draft Load row fields = record draft { loads = draft.loads ++ load_of row fields ∷ [] }
-with_card draft End row fields = record draft { has_ended = true }
+with_card draft kind row fields = record {
+  project = if is_project kind then Some (project_of row fields) else draft.project;
+  lists = lists_and draft.lists kind row fields;
+  has_ended = is_end kind || draft.has_ended;
+}
 
--- how many cards of a kind there are
+-- the cards of a kind so far
+abbrev pub list_so_far : Draft → (kind : Kind) → List (CardOf kind)
+list_so_far draft Project = as_list draft.project
+list_so_far draft End = if draft.has_ended then tt ∷ [] else []
+list_so_far draft other = cards_in draft.lists other
+
+-- the codes that cards of a kind have of their own
+abbrev pub codes_among : (kind : Kind) → List (CardOf kind) → List (List ℕ)
+codes_among kind cards = if has_code_of_its_own kind then map (entry_of kind).code cards else []
+
+-- how many cards of a kind there are; by cases, so that what is known of the kind can be put in its place
 abbrev pub count_in : Draft → Kind → ℕ
-count_in draft Project = count_once draft.project
-count_in draft AsOf = count_once draft.as_of
-count_in draft Terms = count_once draft.terms
-count_in draft Wbs = length draft.items
-count_in draft Event = length draft.events
-count_in draft Act = length draft.acts
-count_in draft Piece = length draft.pieces
-count_in draft Acct = length draft.accounts
-count_in draft Charge = length draft.charges
-count_in draft ToGo = length draft.togos
-count_in draft Status = length draft.statuses
-count_in draft Res = length draft.resources
-count_in draft Load = length draft.loads
-count_in draft End = if draft.has_ended then 1 else 0
+count_in draft Project = length (list_so_far draft Project)
+count_in draft other = length (list_so_far draft other)
 
--- the codes that the cards of a kind have of their own
+-- the codes that the cards of a kind have of their own, by cases too
 abbrev pub codes_in : Draft → Kind → List (List ℕ)
-codes_in draft Wbs = map (λ card. card.code) draft.items
-codes_in draft Event = map (λ card. card.code) draft.events
-codes_in draft Act = map (λ card. card.code) draft.acts
-codes_in draft Acct = map (λ card. card.code) draft.accounts
-codes_in draft Res = map (λ card. card.code) draft.resources
-codes_in draft other = []
+codes_in draft Project = codes_among Project (list_so_far draft Project)
+codes_in draft other = codes_among other (list_so_far draft other)
 
 -- the version of a deck, as its PROJECT card says; 1 where there is none
 abbrev pub version_of : Option ProjectCard → ℕ
@@ -107,21 +67,7 @@ IsKept old row fields new = (kind : Kind) × ((judge (seen_in old) row fields �
 
 -- the cards so far with their PROJECT card, as a deck
 abbrev pub deck_with : Draft → ProjectCard → Deck
-deck_with draft project = record {
-  project = project;
-  as_of = draft.as_of;
-  terms = draft.terms;
-  items = draft.items;
-  events = draft.events;
-  acts = draft.acts;
-  pieces = draft.pieces;
-  accounts = draft.accounts;
-  charges = draft.charges;
-  togos = draft.togos;
-  statuses = draft.statuses;
-  resources = draft.resources;
-  loads = draft.loads;
-}
+deck_with draft project = record { project = project; lists = draft.lists }
 
 abbrev pub closed_with : Draft → ℕ → Option ProjectCard → Result Deck Fault
 closed_with draft end None = Err (fault.no_end end)

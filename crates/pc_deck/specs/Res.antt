@@ -1,6 +1,8 @@
 -- RES,code,title
-use Rattle.std.specs.Prelude.{ℕ, List, [], ◌∷◌}
+use Rattle.std.specs.Prelude.{ℕ, List, [], ◌∷◌, false, true}
 use Rattle.pc_records.specs.Deck.{field_at}
+use Rattle.pc_deck.specs.Entry.{Entry, up_to}
+use Rattle.pc_model.specs.declared.limits.TheConstants.{MAX_RESOURCES}
 use Rattle.pc_deck.specs.Forms.{Slot}
 use Rattle.pc_deck.specs.declared.form.Form.TheVariants as form
 use Rattle.pc_deck.specs.declared.kinds.res.ResCard.{ResCard}
@@ -12,3 +14,18 @@ resource_slots = (2, form.Code) ∷ (3, form.Title) ∷ []
 -- the card that a record spells
 abbrev pub resource_of : ℕ → List (List ℕ) → ResCard
 resource_of row fields = record { row = row; code = field_at fields 1; title = field_at fields 2 }
+
+-- the kind
+abbrev pub resource_kind : Entry
+resource_kind = record {
+  Card = ResCard;
+  spelled = resource_of;
+  slots = resource_slots;
+  least = 3;
+  most = 3;
+  once = false;
+  held = λ lists. lists.resources;
+  limit = up_to MAX_RESOURCES;
+  is_coded = true;
+  code = λ resource. resource.code;
+}

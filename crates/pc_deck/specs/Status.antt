@@ -1,6 +1,9 @@
 -- STATUS,activity,S or F,date
-use Rattle.std.specs.Prelude.{ℕ, List, [], ◌∷◌}
+use Rattle.std.specs.Prelude.{ℕ, List, [], ◌∷◌, false}
 use Rattle.pc_records.specs.Deck.{field_at}
+use Rattle.pc_deck.specs.Entry.{Entry, growing, no_code}
+use Rattle.pc_deck.specs.declared.limits.TheConstants.{SMALL_STATUSES}
+use Rattle.pc_model.specs.declared.limits.TheConstants.{MAX_STATUSES}
 use Rattle.pc_deck.specs.Forms.{Slot, day_in, is_finish}
 use Rattle.pc_deck.specs.declared.form.Form.TheVariants as form
 use Rattle.pc_deck.specs.declared.kinds.status.StatusCard.{StatusCard}
@@ -12,3 +15,18 @@ status_slots = (2, form.Code) ∷ (3, form.Letter) ∷ (4, form.Date) ∷ []
 -- the card that a record spells
 abbrev pub status_of : ℕ → List (List ℕ) → StatusCard
 status_of row fields = record { row = row; activity = field_at fields 1; finished = is_finish (field_at fields 2); day = day_in (field_at fields 3) }
+
+-- the kind
+abbrev pub status_kind : Entry
+status_kind = record {
+  Card = StatusCard;
+  spelled = status_of;
+  slots = status_slots;
+  least = 4;
+  most = 4;
+  once = false;
+  held = λ lists. lists.statuses;
+  limit = growing SMALL_STATUSES MAX_STATUSES;
+  is_coded = false;
+  code = no_code;
+}

@@ -1,7 +1,8 @@
 -- TERMS,overhead,target,bonus,penalty
-use Rattle.std.specs.Prelude.{ℕ, ◌≤◌, List, [], ◌∷◌}
+use Rattle.std.specs.Prelude.{ℕ, ◌≤◌, List, [], ◌∷◌, false, true}
 use Rattle.pc_records.specs.Deck.{field_at}
 use Rattle.pc_model.specs.declared.limits.TheConstants.{MAX_TERMS}
+use Rattle.pc_deck.specs.Entry.{Entry, unlimited, no_code}
 use Rattle.pc_deck.specs.Forms.{Slot, number_in}
 use Rattle.pc_deck.specs.declared.form.Form.{Form}
 use Rattle.pc_deck.specs.declared.form.Form.TheVariants as form
@@ -31,3 +32,18 @@ pub record AreTermsWithin (terms : TermsCard) : Type 0 where
   pub target : terms.target ≤ MAX_TERMS
   pub bonus : terms.bonus ≤ MAX_TERMS
   pub penalty : terms.penalty ≤ MAX_TERMS
+
+-- the kind
+abbrev pub terms_kind : Entry
+terms_kind = record {
+  Card = TermsCard;
+  spelled = terms_of;
+  slots = terms_slots;
+  least = 5;
+  most = 5;
+  once = true;
+  held = λ lists. lists.terms;
+  limit = unlimited;
+  is_coded = false;
+  code = no_code;
+}

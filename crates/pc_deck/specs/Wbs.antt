@@ -1,7 +1,9 @@
 -- WBS,code,parent,title; the top item has no parent
-use Rattle.std.specs.Prelude.{ℕ, List, [], ◌∷◌}
+use Rattle.std.specs.Prelude.{ℕ, List, [], ◌∷◌, false, true}
 use Rattle.pc_records.specs.Deck.{field_at}
 use Rattle.pc_text.specs.Code.{code_of}
+use Rattle.pc_deck.specs.Entry.{Entry, up_to}
+use Rattle.pc_model.specs.declared.limits.TheConstants.{MAX_ITEMS}
 use Rattle.pc_deck.specs.Forms.{Slot}
 use Rattle.pc_deck.specs.declared.form.Form.TheVariants as form
 use Rattle.pc_deck.specs.declared.kinds.wbs.ItemCard.{ItemCard}
@@ -13,3 +15,18 @@ item_slots = (2, form.Code) ∷ (3, form.CodeOrNone) ∷ (4, form.Title) ∷ []
 -- the card that a record spells
 abbrev pub item_of : ℕ → List (List ℕ) → ItemCard
 item_of row fields = record { row = row; code = field_at fields 1; parent = code_of (field_at fields 2); title = field_at fields 3 }
+
+-- the kind
+abbrev pub item_kind : Entry
+item_kind = record {
+  Card = ItemCard;
+  spelled = item_of;
+  slots = item_slots;
+  least = 4;
+  most = 4;
+  once = false;
+  held = λ lists. lists.items;
+  limit = up_to MAX_ITEMS;
+  is_coded = true;
+  code = λ item. item.code;
+}

@@ -5,12 +5,8 @@ ghost use Rattle.pc_faults.specs.declared.kind.Kind.TheVariants as kind;
 ghost use Rattle.pc_faults.specs.First.{Refuses};
 
 use crate::cards::Cards;
-use crate::kind::{kind_of, limit_of};
-use crate::kinds::{
-    AcctCard, ActCard, AsOfCard, EventCard, ItemCard, LoadCard, MoneyCard, PieceCard, ProjectCard,
-    ResCard, StatusCard, TermsCard,
-};
-use crate::lists::{Listed, Named, Once};
+use crate::kinds::{CardLists, ProjectCard, kind_of, limit_of};
+use crate::lists::Once;
 use crate::place::Place;
 use crate::reading::wrong_fields;
 use pc_faults::{DeckError, Fault, Kind};
@@ -21,24 +17,13 @@ use std::alloc::Global;
 #[derive(Drop)]
 pub struct Draft {
     pub project: Once<ProjectCard>,
-    pub as_of: Once<AsOfCard>,
-    pub terms: Once<TermsCard>,
-    pub items: Named<ItemCard>,
-    pub events: Named<EventCard>,
-    pub acts: Named<ActCard>,
-    pub pieces: Listed<PieceCard>,
-    pub accounts: Named<AcctCard>,
-    pub charges: Listed<MoneyCard>,
-    pub togos: Listed<MoneyCard>,
-    pub statuses: Listed<StatusCard>,
-    pub resources: Named<ResCard>,
-    pub loads: Listed<LoadCard>,
+    pub lists: CardLists,
     pub has_ended: bool,
 }
 
 impl Draft {
-    ghost use Rattle.pc_deck.specs.Judged.{fault_at, judge, place_of};
-    ghost use Rattle.pc_deck.specs.Reading.{IsKept, no_cards, with_card, closed, count_in, codes_in, seen_in, version_of};
+    ghost use Rattle.pc_deck.specs.Judged.{judge, place_of};
+    ghost use Rattle.pc_deck.specs.Reading.{IsKept, no_cards, closed, count_in, seen_in, version_of};
     ghost use Rattle.pc_deck.specs.Within.{IsDraftWithin};
 
     /// No cards.
@@ -47,18 +32,7 @@ impl Draft {
     {
         Draft {
             project: Once::new(),
-            as_of: Once::new(),
-            terms: Once::new(),
-            items: Named::new(alloc),
-            events: Named::new(alloc),
-            acts: Named::new(alloc),
-            pieces: Listed::new(alloc),
-            accounts: Named::new(alloc),
-            charges: Listed::new(alloc),
-            togos: Listed::new(alloc),
-            statuses: Listed::new(alloc),
-            resources: Named::new(alloc),
-            loads: Listed::new(alloc),
+            lists: CardLists::new(alloc),
             has_ended: false,
         }
     }
@@ -101,32 +75,8 @@ impl Draft {
         self.keep(&place, fields)
     }
 
-    /// Takes the next card, of a kind that is known, or answers its fault.
-    fn keep(&mut self, place: &Place, fields: &Row) -> Result<(), DeckError>
-        ensures kept { OnOk result (self.new ≡ with_card self.old place.now.kind place.now.row fields.now) }
-        ensures sound { OnOk result (fault_at place.now (count_in self.old place.now.kind) (codes_in self.old place.now.kind) fields.now ≡ None) }
-        ensures fault { IfErr result (Refuses (λ fault. fault_at place.now (count_in self.old place.now.kind) (codes_in self.old place.now.kind) fields.now ≡ Some fault)) }
-    {
-        match place.kind {
-            Kind::Project => self.project.take(place, fields),
-            Kind::AsOf => self.as_of.take(place, fields),
-            Kind::Terms => self.terms.take(place, fields),
-            Kind::Wbs => self.items.take(place, fields),
-            Kind::Event => self.events.take(place, fields),
-            Kind::Act => self.acts.take(place, fields),
-            Kind::Piece => self.pieces.take(place, fields),
-            Kind::Acct => self.accounts.take(place, fields),
-            Kind::Charge => self.charges.take(place, fields),
-            Kind::ToGo => self.togos.take(place, fields),
-            Kind::Status => self.statuses.take(place, fields),
-            Kind::Res => self.resources.take(place, fields),
-            Kind::Load => self.loads.take(place, fields),
-            Kind::End => self.end(place, fields),
-        }
-    }
-
     /// Takes the END card, or answers its fault.
-    fn end(&mut self, place: &Place, fields: &Row) -> Result<(), DeckError>
+    pub(crate) fn end(&mut self, place: &Place, fields: &Row) -> Result<(), DeckError>
         requires { place.now.kind ≡ kind.End }
         ensures kept { OnOk result (self.new ≡ record self.old { has_ended = true }) }
         ensures sound { OnOk result (fault_of_listed place.now (count_in self.old kind.End) 1 1 [] fields.now ≡ None) }
@@ -135,11 +85,19 @@ impl Draft {
         if let Some(fault) = wrong_fields(place, 1, 1, fields) {
             return Err(DeckError::Fault(fault));
         }
-        if let Some(fault) = place.fault(usize::from(self.has_ended)) {
+        let before = self.ends();
+        if let Some(fault) = place.fault(before) {
             return Err(DeckError::Fault(fault));
         }
         self.has_ended = true;
         Ok(())
+    }
+
+    /// How many END cards there are.
+    fn ends(&self) -> usize
+        ensures { result ≡ count_in self.now kind.End }
+    {
+        if self.has_ended { 1 } else { 0 }
     }
 
     /// The cards of the deck, if its END card came; `end` is the number behind its last record.
@@ -149,36 +107,11 @@ impl Draft {
     {
         let Draft {
             project,
-            as_of,
-            terms,
-            items,
-            events,
-            acts,
-            pieces,
-            accounts,
-            charges,
-            togos,
-            statuses,
-            resources,
-            loads,
+            lists,
             has_ended,
         } = self;
         match project.get() {
-            Some(project) if has_ended => Ok(Cards {
-                project,
-                as_of: as_of.get(),
-                terms: terms.get(),
-                items,
-                events,
-                acts,
-                pieces,
-                accounts,
-                charges,
-                togos,
-                statuses,
-                resources,
-                loads,
-            }),
+            Some(project) if has_ended => Ok(Cards { project, lists }),
             _ => Err(Fault::no_end(end)),
         }
     }

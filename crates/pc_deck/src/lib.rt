@@ -13,7 +13,6 @@ mod cards;
 mod draft;
 pub mod field;
 pub mod form;
-mod kind;
 mod kinds;
 mod limits;
 pub mod lists;

@@ -1,5 +1,7 @@
 //! How large a deck may be, and how many cards one of version 1 may have where version 2 may have more. The greater
 //! limits stand beside those of projects.
+ghost use Rattle.std.specs.Prelude.{◌≡◌};
+ghost use Rattle.pc_deck.specs.Entry.{by_version};
 
 /// How many bytes a deck may have, of either version.
 pub const DECK_LIMIT: usize = 67_108_864;
@@ -18,3 +20,10 @@ pub const SMALL_CHARGES: u32 = 200_000;
 
 /// How many STATUS cards a deck of version 1 may have.
 pub const SMALL_STATUSES: u32 = 20_000;
+
+/// A limit that is greater in decks of version 2.
+pub fn by_version(version: u64, small: u32, large: u32) -> u32
+    ensures { result ≡ by_version version small large }
+{
+    if version == 2 { large } else { small }
+}

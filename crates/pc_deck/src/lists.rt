@@ -4,7 +4,7 @@
 ghost use Rattle.std.specs.Prelude.{◌≡◌, [], ◌∷◌, ◌++◌, None, Some, true, not, nat_eq, length, map, position, IfOk, OnOk, IfErr};
 ghost use Rattle.std.specs.Cmp.Lexicographic.{pointwise};
 ghost use Rattle.pc_faults.specs.First.{Refuses};
-ghost use Rattle.pc_deck.specs.Judged.{fault_of_listed, fault_of_named, or_else, second};
+ghost use Rattle.pc_deck.specs.Judged.{fault_of_listed, fault_of_named, not_alone, or_else};
 ghost use Rattle.pc_deck.specs.Named.{count_once, has_code};
 
 use crate::card::{Card, Coded};
@@ -42,8 +42,8 @@ impl<C: Card> Once<C> {
     /// Takes the card that a record spells, or answers its fault.
     pub fn take(&mut self, place: &Place, fields: &Row) -> Result<(), DeckError>
         ensures kept { OnOk result (self.new ≡ Some (C.spelled place.now.row fields.now)) }
-        ensures sound { OnOk result (or_else (second place.now (count_once self.old)) (fault_of_listed place.now (count_once self.old) C.least C.most C.slots fields.now) ≡ None) }
-        ensures fault { IfErr result (Refuses (λ fault. or_else (second place.now (count_once self.old)) (fault_of_listed place.now (count_once self.old) C.least C.most C.slots fields.now) ≡ Some fault)) }
+        ensures sound { OnOk result (or_else (not_alone place.now (count_once self.old)) (fault_of_listed place.now (count_once self.old) C.least C.most C.slots fields.now) ≡ None) }
+        ensures fault { IfErr result (Refuses (λ fault. or_else (not_alone place.now (count_once self.old)) (fault_of_listed place.now (count_once self.old) C.least C.most C.slots fields.now) ≡ Some fault)) }
     {
         let before = self.count();
         if let Some(fault) = place.second(before) {
@@ -64,7 +64,10 @@ impl<C: Card> Once<C> {
     fn count(&self) -> usize
         ensures { result ≡ count_once self.now }
     {
-        usize::from(self.card.is_some())
+        match self.card {
+            Some(_) => 1,
+            None => 0,
+        }
     }
 
     /// The card.

@@ -1,8 +1,7 @@
 //! Where a card stands among those before it, and what may be wrong with that.
 ghost use Rattle.std.specs.Prelude.{◌≡◌};
-ghost use Rattle.pc_deck.specs.Judged.{fault_of_place, second};
+ghost use Rattle.pc_deck.specs.Judged.{fault_of_place, not_alone};
 
-use crate::kind::stands_once;
 use pc_faults::{Fault, Kind};
 
 /// Where a card stands: its kind and record, how many cards of its kind the deck may have, and whether the END card
@@ -18,9 +17,9 @@ pub struct Place {
 impl Place {
     /// The fault of a second card of a kind that stands once (F5), behind so many cards of the kind.
     pub fn second(&self, count: usize) -> Option<Fault>
-        ensures { result ≡ second self.now count }
+        ensures { result ≡ not_alone self.now count }
     {
-        if stands_once(self.kind) && count > 0 {
+        if count > 0 {
             Some(Fault::second_card(self.row, self.kind))
         } else {
             None

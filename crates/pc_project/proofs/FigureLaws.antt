@@ -2,6 +2,7 @@
 use Rattle.std.proofs.Common.{◌≡◌, ◌<◌, ◌≤◌, ℕ, List, [], ◌∷◌, length, get_or, map, refl, sym, ap, subst, ◌∙◌, arith}
 use Rattle.std.specs.Prelude.{pos, false, slice_index}
 use Rattle.std.proofs.lemmas.List.{get_or-map, length-map}
+use Rattle.pc_faults.specs.declared.kind.Kind.TheVariants.{Acct, Charge, Status, ToGo}
 use Rattle.pc_accounts.specs.Amounts.{AreEntriesOf, AreMoney, account_at, money_at}
 use Rattle.pc_accounts.specs.Entries.{AreSmall}
 use Rattle.pc_accounts.specs.Packages.{AreWork, IsUneven, work_at}
@@ -15,6 +16,7 @@ use Rattle.pc_deck.specs.declared.kinds.acct.AcctCard.{AcctCard}
 use Rattle.pc_deck.specs.declared.kinds.act.ActCard.{ActCard}
 use Rattle.pc_deck.specs.declared.kinds.money.MoneyCard.{MoneyCard}
 use Rattle.pc_deck.specs.declared.kinds.status.StatusCard.{StatusCard}
+use Rattle.pc_deck.proofs.NumberLemmas.{accounts-within, acts-within, charges-within, togos-within}
 use Rattle.pc_model.specs.declared.limits.TheConstants.{MAX_COST}
 use Rattle.pc_status.specs.Statuses.{AreKnown, status_at}
 use Rattle.pc_status.specs.declared.row.StatusRow.{StatusRow}
@@ -74,7 +76,7 @@ module _ (deck : Deck) (limits : IsWithinLimits deck) (none : HasNoMisfit deck) 
   pub accounts_cheap : (a : ℕ) → a < length (accounts_in deck) → (account_at (accounts_in deck) a).budget ≤ MAX_COST
   accounts_cheap a below =
       let inside : a < length deck.accounts = omega (arith, below, length-map deck.accounts (account_of deck)) in
-      omega (arith, ap (λ (r : AcctRow). r.budget) (account_there deck a inside), limits.accounts_within a no_account inside)
+      omega (arith, ap (λ (r : AcctRow). r.budget) (account_there deck a inside), accounts-within deck limits a no_account inside)
 
   pub are_charges : AreMoney (length (accounts_in deck)) (charges_in deck)
   are_charges = record {
@@ -83,7 +85,7 @@ module _ (deck : Deck) (limits : IsWithinLimits deck) (none : HasNoMisfit deck) 
         omega (arith, ap (λ (r : MoneyRow). r.account) (charge_there deck k inside), charge_account-within deck none k no_money inside, length-map deck.accounts (account_of deck));
     small = λ k below.
         let inside : k < length deck.charges = omega (arith, below, length-map deck.charges (money_of deck)) in
-        omega (arith, ap (λ (r : MoneyRow). r.amount) (charge_there deck k inside), limits.charges_within k no_money inside);
+        omega (arith, ap (λ (r : MoneyRow). r.amount) (charge_there deck k inside), charges-within deck limits k no_money inside);
   }
 
   pub are_togos : AreMoney (length (accounts_in deck)) (togos_in deck)
@@ -93,7 +95,7 @@ module _ (deck : Deck) (limits : IsWithinLimits deck) (none : HasNoMisfit deck) 
         omega (arith, ap (λ (r : MoneyRow). r.account) (togo_there deck k inside), togo_account-within deck none k no_money inside, length-map deck.accounts (account_of deck));
     small = λ k below.
         let inside : k < length deck.togos = omega (arith, below, length-map deck.togos (money_of deck)) in
-        omega (arith, ap (λ (r : MoneyRow). r.amount) (togo_there deck k inside), limits.togos_within k no_money inside);
+        omega (arith, ap (λ (r : MoneyRow). r.amount) (togo_there deck k inside), togos-within deck limits k no_money inside);
   }
 
   pub are_work : AreWork (length (rows_of deck)) (work_in deck)
@@ -101,7 +103,7 @@ module _ (deck : Deck) (limits : IsWithinLimits deck) (none : HasNoMisfit deck) 
     known = λ a below. omega (arith, work_known deck none a below, length-map deck.items (row_of deck));
     small = λ a below.
         let inside : a < length deck.acts = omega (arith, below, length-map deck.acts (work_of deck)) in
-        omega (arith, ap (λ (r : WorkRow). r.cost) (work_there deck a inside), (limits.acts_within a no_act inside).cost);
+        omega (arith, ap (λ (r : WorkRow). r.cost) (work_there deck a inside), (acts-within deck limits a no_act inside).cost);
   }
 
   pub are_known : AreKnown (length deck.acts) (statuses_in deck)
@@ -111,7 +113,7 @@ module _ (deck : Deck) (limits : IsWithinLimits deck) (none : HasNoMisfit deck) 
 
   accounts_stand : HasNoLeafFault deck → AreAccounts (rows_of deck) (accounts_in deck)
   accounts_stand leaves = record {
-    few = omega (arith, length-map deck.accounts (account_of deck), limits.few_accounts);
+    few = omega (arith, length-map deck.accounts (account_of deck), (limits Acct).few);
     known = accounts_known;
     leaves = λ a below.
         let inside : a < length deck.accounts = omega (arith, below, length-map deck.accounts (account_of deck)) in
@@ -126,9 +128,9 @@ module _ (deck : Deck) (limits : IsWithinLimits deck) (none : HasNoMisfit deck) 
 
   are_figures : HasNoSecondToGo deck → AreFigures (length (accounts_in deck)) (charges_in deck) (togos_in deck)
   are_figures once = record {
-    few_charges = omega (arith, length-map deck.charges (money_of deck), limits.few_charges);
+    few_charges = omega (arith, length-map deck.charges (money_of deck), (limits Charge).few);
     charges_known = are_charges;
-    few_togos = omega (arith, length-map deck.togos (money_of deck), limits.few_togos);
+    few_togos = omega (arith, length-map deck.togos (money_of deck), (limits ToGo).few);
     togos_known = are_togos;
     once = once;
   }
@@ -153,7 +155,7 @@ module _ (deck : Deck) (limits : IsWithinLimits deck) (none : HasNoMisfit deck) 
         entries = made;
         small_entries = small;
         as_of = as_of-late deck sound.ordered;
-        few_statuses = omega (arith, length-map deck.statuses (status_of deck), limits.few_statuses);
+        few_statuses = omega (arith, length-map deck.statuses (status_of deck), (limits Status).few);
         statuses_known = subst (λ n. AreKnown n (statuses_in deck)) (sym arcs) are_known;
         in_order = all_in_order deck sound.ordered (length-map deck.statuses (status_of deck));
         states = subst (λ n. AreStatesOf deck.project.start_day (statuses_in deck) n states) (sym arcs) far;

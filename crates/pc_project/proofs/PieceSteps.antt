@@ -12,6 +12,7 @@ use Rattle.pc_deck.specs.Deck.{Deck}
 use Rattle.pc_deck.specs.Within.{IsWithinLimits}
 use Rattle.pc_deck.specs.declared.kinds.act.ActCard.{ActCard}
 use Rattle.pc_deck.specs.declared.kinds.piece.PieceCard.{PieceCard}
+use Rattle.pc_deck.proofs.NumberLemmas.{pieces-within}
 use Rattle.pc_faults.specs.declared.fault.Fault.{Fault}
 use Rattle.pc_project.specs.declared.pieces.Run.{Run}
 use Rattle.pc_project.specs.First.{IsFirstIn}
@@ -32,7 +33,7 @@ module _ (deck : Deck) (none : HasNoMisfit deck) (limits : IsWithinLimits deck) 
 
   -- its units are within their limit
   pub piece-short : piece.units ≤ MAX_DURATION
-  piece-short = omega (arith, ap (λ (p : PieceRow). p.units) (piece_there deck i inside), (limits.pieces_within i no_piece inside).units)
+  piece-short = omega (arith, ap (λ (p : PieceRow). p.units) (piece_there deck i inside), (pieces-within deck limits i no_piece inside).units)
 
   -- a run that was read is small
   module _ (runs : List Run) (run : Run) (are : AreRuns (terms_in deck) (pieces_in deck) i runs) (read : run ≡ get_or runs piece.activity run) where

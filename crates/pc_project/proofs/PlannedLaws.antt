@@ -6,6 +6,7 @@ use Rattle.std.proofs.Math.Nat.{mul-le-mul, pow-le-pow_left}
 use Rattle.std.proofs.lemmas.Bool.{cases_lt}
 use Rattle.std.proofs.lemmas.List.{get_or-map, length-map}
 use Rattle.std.proofs.lemmas.List.Elements.{All-from_get_or}
+use Rattle.pc_faults.specs.declared.kind.Kind.TheVariants.{Act, Event, Load, Piece, Res, Wbs}
 use Rattle.pc_model.specs.declared.PieceRow.{PieceRow}
 use Rattle.pc_model.specs.declared.limits.TheConstants.{MAX_DURATION, MAX_PIECES_EACH, MAX_SLOPE, MAX_UNIT_DAYS, MAX_VARIANCE}
 use Rattle.pc_model.specs.Pieces.{ArePieces, slope_in, units_of}
@@ -23,6 +24,7 @@ use Rattle.pc_deck.specs.declared.kinds.terms.TermsCard.{TermsCard}
 use Rattle.pc_deck.specs.Deck.{Deck, act_codes, event_codes, item_codes, resource_codes}
 use Rattle.pc_deck.specs.Terms.{AreTermsWithin}
 use Rattle.pc_deck.specs.Within.{IsWithinLimits}
+use Rattle.pc_deck.proofs.NumberLemmas.{acts-within, loads-within, pieces-within, project-within, terms-within}
 use Rattle.pc_project.specs.Project.{Project, accounts_in, arc_of, charges_in, counts_of, expected_of, heading_of, load_of, network_of, piece_of, pieces_in, place_of, project_in, row_of, rows_of, statuses_in, term_of, terms_in, time_terms_of, togos_in, variance_in}
 use Rattle.pc_project.specs.DisorderFaults.{as_of_in}
 use Rattle.pc_project.specs.Figures.{AreStatesOf, IsProjectOfDeck}
@@ -75,10 +77,10 @@ module _ (deck : Deck) (limits : IsWithinLimits deck) (none : HasNoMisfit deck) 
 
   within_limits : AreWithinLimits (map term_of deck.acts)
   within_limits = record {
-    few = omega (arith, length-map deck.acts term_of, limits.few_acts);
-    short = λ a below. let inside = inside_of term_of a below in omega (arith, ap (λ t. t.normal) (term_there deck a inside), (limits.acts_within a no_act inside).normal);
-    cheap = λ a below. let inside = inside_of term_of a below in omega (arith, ap (λ t. t.cost) (term_there deck a inside), (limits.acts_within a no_act inside).cost);
-    gentle = λ a below. let inside = inside_of term_of a below in omega (arith, ap (λ t. t.slope) (term_there deck a inside), (limits.acts_within a no_act inside).slope);
+    few = omega (arith, length-map deck.acts term_of, (limits Act).few);
+    short = λ a below. let inside = inside_of term_of a below in omega (arith, ap (λ t. t.normal) (term_there deck a inside), (acts-within deck limits a no_act inside).normal);
+    cheap = λ a below. let inside = inside_of term_of a below in omega (arith, ap (λ t. t.cost) (term_there deck a inside), (acts-within deck limits a no_act inside).cost);
+    gentle = λ a below. let inside = inside_of term_of a below in omega (arith, ap (λ t. t.slope) (term_there deck a inside), (acts-within deck limits a no_act inside).slope);
   }
 
   are_lengths : AreLengths (network_of deck) (map (expected_of deck) deck.acts)
@@ -88,7 +90,7 @@ module _ (deck : Deck) (limits : IsWithinLimits deck) (none : HasNoMisfit deck) 
         let inside = inside_arcs a below in
         let fits = (all_fit deck none a no_act inside).ordered in
         let card = card_at deck a in
-        let bound = expected_small card.opt card.likely card.pess deck.project.unit_days fits.optimistic fits.pessimistic (limits.acts_within a no_act inside).pess limits.project_within.unit_within in
+        let bound = expected_small card.opt card.likely card.pess deck.project.unit_days fits.optimistic fits.pessimistic (acts-within deck limits a no_act inside).pess (project-within deck limits).unit_within in
         omega (arith, bound, get_or-map (expected_of deck) deck.acts a no_act 0 inside);
   }
 
@@ -96,7 +98,7 @@ module _ (deck : Deck) (limits : IsWithinLimits deck) (none : HasNoMisfit deck) 
   small_variance a below =
       let inside = inside_arcs a below in
       let card = card_at deck a in
-      let bound = variance_small card.opt card.pess deck.project.unit_days (limits.acts_within a no_act inside).pess limits.project_within.unit_within in
+      let bound = variance_small card.opt card.pess deck.project.unit_days (acts-within deck limits a no_act inside).pess (project-within deck limits).unit_within in
       omega (arith, bound, get_or-map (variance_in deck) deck.acts a no_act 0 inside)
 
   item_there : (a : ℕ) → a < length (network_of deck).arcs → slice_index (map (place_of deck) deck.acts) a < length (rows_of deck)
@@ -135,10 +137,10 @@ pieces_of_deck deck cards none =
 -- they are within their limits
 within_pieces : (deck : Deck) → IsWithinLimits deck → ArePiecesWithinLimits (pieces_in deck)
 within_pieces deck limits = record {
-  few = omega (arith, length-map deck.pieces (piece_of deck), limits.few_pieces);
+  few = omega (arith, length-map deck.pieces (piece_of deck), (limits Piece).few);
   gentle = All-from_get_or (λ (piece : PieceRow). piece.slope ≤ MAX_SLOPE) (pieces_in deck) (record { activity = 0; units = 0; slope = 0 }) (λ i within.
       let inside : i < length deck.pieces = omega (arith, within, length-map deck.pieces (piece_of deck)) in
-      omega (arith, ap (λ (p : PieceRow). p.slope) (piece_there deck i inside), (limits.pieces_within i no_piece inside).slope));
+      omega (arith, ap (λ (p : PieceRow). p.slope) (piece_there deck i inside), (pieces-within deck limits i no_piece inside).slope));
 }
 
 -- the loads of a deck without faults
@@ -151,7 +153,7 @@ loads_of_deck deck entries states cards limits =
     record {
       activity = omega (arith, ap (λ (l : LoadItem). l.activity) load, known.0, length-map deck.acts (arc_of deck));
       resource = omega (arith, ap (λ (l : LoadItem). l.resource) load, known.1, length-map deck.resources (λ resource. resource.code));
-      quantity = omega (arith, ap (λ (l : LoadItem). l.quantity) load, limits.loads_within i no_load inside);
+      quantity = omega (arith, ap (λ (l : LoadItem). l.quantity) load, loads-within deck limits i no_load inside);
     })
 
 -- the terms of time
@@ -178,22 +180,22 @@ project_in-planned deck entries states makes limits figures = record {
   small_variances = small_variance deck limits makes.cards;
   place_each = length-map deck.acts (place_of deck) ∙ sym (length-map deck.acts (arc_of deck));
   placed = item_there deck limits makes.cards;
-  few_events = limits.few_events;
-  few_items = omega (arith, length-map deck.items (row_of deck), limits.few_items);
+  few_events = (limits Event).few;
+  few_items = omega (arith, length-map deck.items (row_of deck), (limits Wbs).few);
   event_codes = length-map deck.events (λ event. event.code);
   activity_codes = length-map deck.acts (λ act. act.code) ∙ sym (length-map deck.acts (arc_of deck));
   item_codes = length-map deck.items (λ item. item.code) ∙ sym (length-map deck.items (row_of deck));
   item_titles = length-map deck.items (λ item. item.title) ∙ sym (length-map deck.items (row_of deck));
-  unit_days = limits.project_within.unit_within;
-  directed = limits.project_within.directed_within;
-  events_differ = limits.events_differ;
-  activities_differ = limits.acts_differ;
+  unit_days = (project-within deck limits).unit_within;
+  directed = (project-within deck limits).directed_within;
+  events_differ = ((limits Event).differ refl);
+  activities_differ = ((limits Act).differ refl);
   pieces = pieces_of_deck deck makes.cards makes.pieces;
   piece_limits = within_pieces deck limits;
-  few_resources = omega (arith, length-map deck.resources (λ resource. resource.code), limits.few_resources);
-  few_loads = omega (arith, length-map deck.loads (load_of deck), limits.few_loads);
+  few_resources = omega (arith, length-map deck.resources (λ resource. resource.code), (limits Res).few);
+  few_loads = omega (arith, length-map deck.loads (load_of deck), (limits Load).few);
   loads = loads_of_deck deck entries states makes.cards limits;
-  time_terms = time_terms_of_deck deck deck.terms makes.terms limits.terms_within refl;
+  time_terms = time_terms_of_deck deck deck.terms makes.terms (terms-within deck limits) refl;
   figures = figures;
 }
 

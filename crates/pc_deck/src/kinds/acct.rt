@@ -3,6 +3,7 @@ ghost use Rattle.std.specs.Prelude.{refl};
 ghost use Rattle.pc_deck.specs.Acct.{account_slots, account_of};
 
 use crate::card::{Card, Coded};
+use crate::cards::Cards;
 use crate::field::{Misfit, read_amount, read_code, read_title};
 use crate::form::{Form, MONEY, Slot};
 use pc_model::MAX_COST;
@@ -66,4 +67,17 @@ impl Coded for AcctCard {
     }
 
     ghost second_field = { λ row fields. refl };
+}
+
+impl Cards {
+    ghost use Rattle.std.specs.Prelude.{◌≡◌};
+    ghost use Rattle.pc_deck.specs.Within.{IsWithinLimits};
+
+    /// The ACCT cards.
+    pub fn accounts(&self) -> &[AcctCard]
+        ensures cards { result.now ≡ self.now.accounts }
+        ensures within { IsWithinLimits self.now }
+    {
+        self.lists.accounts.as_slice()
+    }
 }

@@ -3,6 +3,7 @@ ghost use Rattle.std.specs.Prelude.{refl};
 ghost use Rattle.pc_deck.specs.Act.{act_slots, act_of};
 
 use crate::card::{Card, Coded};
+use crate::cards::Cards;
 use crate::field::{Misfit, read_amount, read_code, read_title};
 use crate::form::{DURATION, Form, MONEY, Slot};
 use pc_model::{MAX_COST, MAX_DURATION, MAX_SLOPE};
@@ -95,4 +96,19 @@ impl Coded for ActCard {
     }
 
     ghost second_field = { λ row fields. refl };
+}
+
+impl Cards {
+    ghost use Rattle.std.specs.Prelude.{◌≡◌, ◌≤◌, length};
+    ghost use Rattle.pc_model.specs.declared.limits.TheConstants.{MAX_ACTIVITIES};
+    ghost use Rattle.pc_deck.specs.Within.{IsWithinLimits};
+
+    /// The ACT cards.
+    pub fn acts(&self) -> &[ActCard]
+        ensures cards { result.now ≡ self.now.acts }
+        ensures few { length result.now ≤ MAX_ACTIVITIES }
+        ensures within { IsWithinLimits self.now }
+    {
+        self.lists.acts.as_slice()
+    }
 }

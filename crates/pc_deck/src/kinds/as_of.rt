@@ -2,6 +2,7 @@
 ghost use Rattle.pc_deck.specs.AsOf.{as_of_slots, as_of_of};
 
 use crate::card::Card;
+use crate::cards::Cards;
 use crate::field::{Misfit, read_date};
 use crate::form::{Form, Slot};
 use pc_days::Day;
@@ -42,5 +43,16 @@ impl Card for AsOfCard {
             row,
             day: read_date(fields, 2)?,
         })
+    }
+}
+
+impl Cards {
+    ghost use Rattle.std.specs.Prelude.{◌≡◌};
+
+    /// The ASOF card, where there is one.
+    pub fn as_of(&self) -> Option<AsOfCard>
+        ensures { result ≡ self.now.as_of }
+    {
+        self.lists.as_of.get()
     }
 }

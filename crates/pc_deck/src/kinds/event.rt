@@ -3,6 +3,7 @@ ghost use Rattle.std.specs.Prelude.{refl};
 ghost use Rattle.pc_deck.specs.Event.{event_slots, event_of};
 
 use crate::card::{Card, Coded};
+use crate::cards::Cards;
 use crate::field::{Misfit, read_code, read_title};
 use crate::form::{Form, Slot};
 use pc_records::Row;
@@ -56,4 +57,19 @@ impl Coded for EventCard {
     }
 
     ghost second_field = { λ row fields. refl };
+}
+
+impl Cards {
+    ghost use Rattle.std.specs.Prelude.{◌≡◌, ◌≤◌, length};
+    ghost use Rattle.pc_model.specs.declared.limits.TheConstants.{MAX_EVENTS};
+    ghost use Rattle.pc_deck.specs.Within.{IsWithinLimits};
+
+    /// The EVENT cards.
+    pub fn events(&self) -> &[EventCard]
+        ensures cards { result.now ≡ self.now.events }
+        ensures few { length result.now ≤ MAX_EVENTS }
+        ensures within { IsWithinLimits self.now }
+    {
+        self.lists.events.as_slice()
+    }
 }

@@ -2,6 +2,7 @@
 ghost use Rattle.pc_deck.specs.Load.{load_slots, load_of};
 
 use crate::card::Card;
+use crate::cards::Cards;
 use crate::field::{Misfit, read_amount, read_code};
 use crate::form::{Form, MONEY, Slot};
 use pc_model::MAX_COST;
@@ -47,5 +48,18 @@ impl Card for LoadCard {
             resource: read_code(fields, 3)?,
             quantity: read_amount(fields, 4, 0, MAX_COST)?,
         })
+    }
+}
+
+impl Cards {
+    ghost use Rattle.std.specs.Prelude.{◌≡◌};
+    ghost use Rattle.pc_deck.specs.Within.{IsWithinLimits};
+
+    /// The LOAD cards.
+    pub fn loads(&self) -> &[LoadCard]
+        ensures cards { result.now ≡ self.now.loads }
+        ensures within { IsWithinLimits self.now }
+    {
+        self.lists.loads.as_slice()
     }
 }

@@ -1,4 +1,21 @@
-//! The kinds of cards, a file for each.
+//! The kinds of cards, a file for each, and the table of them: the word of each kind, its list and its limit.
+ghost use Rattle.std.specs.Prelude.{◌≡◌, None, Some, OnOk, IfErr};
+ghost use Rattle.pc_faults.specs.First.{Refuses};
+ghost use Rattle.pc_deck.specs.Kinds.{kind_of, limit_of};
+
+use crate::draft::Draft;
+use crate::limits::{
+    SMALL_ACTIVITIES, SMALL_CHARGES, SMALL_EVENTS, SMALL_PIECES, SMALL_STATUSES, by_version,
+};
+use crate::lists::{Listed, Named, Once};
+use crate::place::Place;
+use pc_faults::{DeckError, Kind};
+use pc_model::{
+    MAX_ACCOUNTS, MAX_ACTIVITIES, MAX_CHARGES, MAX_EVENTS, MAX_ITEMS, MAX_LOADS, MAX_PIECES,
+    MAX_RESOURCES, MAX_STATUSES, MAX_TOGOS,
+};
+use pc_records::Row;
+use std::alloc::Global;
 
 mod acct;
 mod act;
@@ -25,3 +42,130 @@ pub use res::ResCard;
 pub use status::StatusCard;
 pub use terms::TermsCard;
 pub use wbs::ItemCard;
+
+/// The cards of a deck by kind, but for its PROJECT card.
+#[derive(Drop)]
+pub struct CardLists {
+    pub as_of: Once<AsOfCard>,
+    pub terms: Once<TermsCard>,
+    pub items: Named<ItemCard>,
+    pub events: Named<EventCard>,
+    pub acts: Named<ActCard>,
+    pub pieces: Listed<PieceCard>,
+    pub accounts: Named<AcctCard>,
+    pub charges: Listed<MoneyCard>,
+    pub togos: Listed<MoneyCard>,
+    pub statuses: Listed<StatusCard>,
+    pub resources: Named<ResCard>,
+    pub loads: Listed<LoadCard>,
+}
+
+impl CardLists {
+    ghost use Rattle.pc_deck.specs.Kinds.{no_lists};
+
+    /// No cards.
+    pub fn new(alloc: Global) -> CardLists
+        ensures { result ≡ no_lists }
+    {
+        CardLists {
+            as_of: Once::new(),
+            terms: Once::new(),
+            items: Named::new(alloc),
+            events: Named::new(alloc),
+            acts: Named::new(alloc),
+            pieces: Listed::new(alloc),
+            accounts: Named::new(alloc),
+            charges: Listed::new(alloc),
+            togos: Listed::new(alloc),
+            statuses: Listed::new(alloc),
+            resources: Named::new(alloc),
+            loads: Listed::new(alloc),
+        }
+    }
+}
+
+impl Draft {
+    ghost use Rattle.pc_deck.specs.Judged.{fault_at};
+    ghost use Rattle.pc_deck.specs.Reading.{with_card, count_in, codes_in};
+
+    /// Takes the next card, of a kind that is known, or answers its fault.
+    pub(crate) fn keep(&mut self, place: &Place, fields: &Row) -> Result<(), DeckError>
+        ensures kept { OnOk result (self.new ≡ with_card self.old place.now.kind place.now.row fields.now) }
+        ensures sound { OnOk result (fault_at place.now (count_in self.old place.now.kind) (codes_in self.old place.now.kind) fields.now ≡ None) }
+        ensures fault { IfErr result (Refuses (λ fault. fault_at place.now (count_in self.old place.now.kind) (codes_in self.old place.now.kind) fields.now ≡ Some fault)) }
+    {
+        match place.kind {
+            Kind::Project => self.project.take(place, fields),
+            Kind::AsOf => self.lists.as_of.take(place, fields),
+            Kind::Terms => self.lists.terms.take(place, fields),
+            Kind::Wbs => self.lists.items.take(place, fields),
+            Kind::Event => self.lists.events.take(place, fields),
+            Kind::Act => self.lists.acts.take(place, fields),
+            Kind::Piece => self.lists.pieces.take(place, fields),
+            Kind::Acct => self.lists.accounts.take(place, fields),
+            Kind::Charge => self.lists.charges.take(place, fields),
+            Kind::ToGo => self.lists.togos.take(place, fields),
+            Kind::Status => self.lists.statuses.take(place, fields),
+            Kind::Res => self.lists.resources.take(place, fields),
+            Kind::Load => self.lists.loads.take(place, fields),
+            Kind::End => self.end(place, fields),
+        }
+    }
+}
+
+/// The kind that a card's first field names, in capital letters, or none where it names none.
+pub fn kind_of(field: &[u8]) -> Option<Kind>
+    ensures { result ≡ kind_of field.now }
+{
+    if field == b"PROJECT".as_slice() {
+        Some(Kind::Project)
+    } else if field == b"ASOF".as_slice() {
+        Some(Kind::AsOf)
+    } else if field == b"TERMS".as_slice() {
+        Some(Kind::Terms)
+    } else if field == b"WBS".as_slice() {
+        Some(Kind::Wbs)
+    } else if field == b"EVENT".as_slice() {
+        Some(Kind::Event)
+    } else if field == b"ACT".as_slice() {
+        Some(Kind::Act)
+    } else if field == b"PIECE".as_slice() {
+        Some(Kind::Piece)
+    } else if field == b"ACCT".as_slice() {
+        Some(Kind::Acct)
+    } else if field == b"CHARGE".as_slice() {
+        Some(Kind::Charge)
+    } else if field == b"TOGO".as_slice() {
+        Some(Kind::ToGo)
+    } else if field == b"STATUS".as_slice() {
+        Some(Kind::Status)
+    } else if field == b"RES".as_slice() {
+        Some(Kind::Res)
+    } else if field == b"LOAD".as_slice() {
+        Some(Kind::Load)
+    } else if field == b"END".as_slice() {
+        Some(Kind::End)
+    } else {
+        None
+    }
+}
+
+/// How many cards of the kind a deck of the version may have, where that is a limit of its own.
+pub fn limit_of(version: u64, kind: Kind) -> Option<usize>
+    ensures { result ≡ limit_of version kind }
+{
+    let limit = match kind {
+        Kind::Wbs => MAX_ITEMS,
+        Kind::Event => by_version(version, SMALL_EVENTS, MAX_EVENTS),
+        Kind::Act => by_version(version, SMALL_ACTIVITIES, MAX_ACTIVITIES),
+        Kind::Piece => by_version(version, SMALL_PIECES, MAX_PIECES),
+        Kind::Acct => MAX_ACCOUNTS,
+        Kind::Charge => by_version(version, SMALL_CHARGES, MAX_CHARGES),
+        Kind::ToGo => MAX_TOGOS,
+        Kind::Status => by_version(version, SMALL_STATUSES, MAX_STATUSES),
+        Kind::Res => MAX_RESOURCES,
+        Kind::Load => MAX_LOADS,
+        Kind::Project | Kind::AsOf | Kind::Terms | Kind::End => return None,
+    };
+    Some(limit as usize)
+}

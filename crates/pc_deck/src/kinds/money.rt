@@ -2,6 +2,7 @@
 ghost use Rattle.pc_deck.specs.Money.{money_slots, money_of};
 
 use crate::card::Card;
+use crate::cards::Cards;
 use crate::field::{Misfit, read_amount, read_code, read_date};
 use crate::form::{Form, MONEY, Slot};
 use pc_days::Day;
@@ -48,5 +49,26 @@ impl Card for MoneyCard {
             day: read_date(fields, 3)?,
             amount: read_amount(fields, 4, 0, MAX_COST)?,
         })
+    }
+}
+
+impl Cards {
+    ghost use Rattle.std.specs.Prelude.{◌≡◌};
+    ghost use Rattle.pc_deck.specs.Within.{IsWithinLimits};
+
+    /// The CHARGE cards.
+    pub fn charges(&self) -> &[MoneyCard]
+        ensures cards { result.now ≡ self.now.charges }
+        ensures within { IsWithinLimits self.now }
+    {
+        self.lists.charges.as_slice()
+    }
+
+    /// The TOGO cards.
+    pub fn togos(&self) -> &[MoneyCard]
+        ensures cards { result.now ≡ self.now.togos }
+        ensures within { IsWithinLimits self.now }
+    {
+        self.lists.togos.as_slice()
     }
 }

@@ -2,6 +2,7 @@
 ghost use Rattle.pc_deck.specs.Piece.{piece_slots, piece_of};
 
 use crate::card::Card;
+use crate::cards::Cards;
 use crate::field::{Misfit, read_amount, read_code};
 use crate::form::{Form, Slot};
 use pc_model::{MAX_DURATION, MAX_SLOPE};
@@ -58,5 +59,18 @@ impl Card for PieceCard {
             units: read_amount(fields, 3, 1, MAX_DURATION)?,
             slope: read_amount(fields, 4, 0, MAX_SLOPE)?,
         })
+    }
+}
+
+impl Cards {
+    ghost use Rattle.std.specs.Prelude.{◌≡◌};
+    ghost use Rattle.pc_deck.specs.Within.{IsWithinLimits};
+
+    /// The PIECE cards.
+    pub fn pieces(&self) -> &[PieceCard]
+        ensures cards { result.now ≡ self.now.pieces }
+        ensures within { IsWithinLimits self.now }
+    {
+        self.lists.pieces.as_slice()
     }
 }

@@ -3,6 +3,7 @@ ghost use Rattle.std.specs.Prelude.{refl};
 ghost use Rattle.pc_deck.specs.Res.{resource_slots, resource_of};
 
 use crate::card::{Card, Coded};
+use crate::cards::Cards;
 use crate::field::{Misfit, read_code, read_title};
 use crate::form::{Form, Slot};
 use pc_records::Row;
@@ -56,4 +57,17 @@ impl Coded for ResCard {
     }
 
     ghost second_field = { λ row fields. refl };
+}
+
+impl Cards {
+    ghost use Rattle.std.specs.Prelude.{◌≡◌};
+    ghost use Rattle.pc_deck.specs.Within.{IsWithinLimits};
+
+    /// The RES cards.
+    pub fn resources(&self) -> &[ResCard]
+        ensures cards { result.now ≡ self.now.resources }
+        ensures within { IsWithinLimits self.now }
+    {
+        self.lists.resources.as_slice()
+    }
 }

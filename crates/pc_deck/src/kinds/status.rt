@@ -2,6 +2,7 @@
 ghost use Rattle.pc_deck.specs.Status.{status_slots, status_of};
 
 use crate::card::Card;
+use crate::cards::Cards;
 use crate::field::{Misfit, read_code, read_date, read_letter};
 use crate::form::{Form, Slot};
 use pc_days::Day;
@@ -47,5 +48,18 @@ impl Card for StatusCard {
             finished: read_letter(fields, 3)?,
             day: read_date(fields, 4)?,
         })
+    }
+}
+
+impl Cards {
+    ghost use Rattle.std.specs.Prelude.{◌≡◌};
+    ghost use Rattle.pc_deck.specs.Within.{IsWithinLimits};
+
+    /// The STATUS cards.
+    pub fn statuses(&self) -> &[StatusCard]
+        ensures cards { result.now ≡ self.now.statuses }
+        ensures within { IsWithinLimits self.now }
+    {
+        self.lists.statuses.as_slice()
     }
 }

@@ -2,6 +2,7 @@
 ghost use Rattle.pc_deck.specs.Terms.{terms_slots, terms_of};
 
 use crate::card::Card;
+use crate::cards::Cards;
 use crate::field::{Misfit, read_amount};
 use crate::form::{Form, Slot};
 use pc_model::MAX_TERMS;
@@ -59,5 +60,18 @@ impl Card for TermsCard {
             bonus: read_amount(fields, 4, 0, MAX_TERMS)?,
             penalty: read_amount(fields, 5, 0, MAX_TERMS)?,
         })
+    }
+}
+
+impl Cards {
+    ghost use Rattle.std.specs.Prelude.{◌≡◌};
+    ghost use Rattle.pc_deck.specs.Within.{IsWithinLimits};
+
+    /// The TERMS card, where there is one.
+    pub fn terms(&self) -> Option<TermsCard>
+        ensures terms { result ≡ self.now.terms }
+        ensures within { IsWithinLimits self.now }
+    {
+        self.lists.terms.get()
     }
 }

@@ -3,6 +3,7 @@ ghost use Rattle.std.specs.Prelude.{refl};
 ghost use Rattle.pc_deck.specs.Wbs.{item_slots, item_of};
 
 use crate::card::{Card, Coded};
+use crate::cards::Cards;
 use crate::field::{Misfit, read_code, read_code_or_none, read_title};
 use crate::form::{Form, Slot};
 use pc_records::Row;
@@ -58,4 +59,17 @@ impl Coded for ItemCard {
     }
 
     ghost second_field = { λ row fields. refl };
+}
+
+impl Cards {
+    ghost use Rattle.std.specs.Prelude.{◌≡◌};
+    ghost use Rattle.pc_deck.specs.Within.{IsWithinLimits};
+
+    /// The WBS cards.
+    pub fn items(&self) -> &[ItemCard]
+        ensures cards { result.now ≡ self.now.items }
+        ensures within { IsWithinLimits self.now }
+    {
+        self.lists.items.as_slice()
+    }
 }

@@ -1,5 +1,10 @@
-use Rattle.std.proofs.Common.{◌∙◌, ap, map}
+use Rattle.std.proofs.Common.{◌∙◌, ◌≤◌, ap, map, sym, subst}
+use Rattle.std.specs.Prelude.{All}
 use Rattle.std.proofs.lemmas.Simd.{map-map}
+use Rattle.pc_model.specs.declared.limits.TheConstants.{MAX_UNIT_DAYS}
+use Rattle.pc_deck.specs.Act.{IsActWithin}
+use Rattle.pc_deck.specs.declared.kinds.project.ProjectCard.{ProjectCard}
+use Rattle.pc_deck.proofs.NumberLemmas.{acts-within, project-within}
 use Rattle.pc_project.specs.Project.{placement_of}
 use Rattle.pc_project.proofs.lists.lists_of.Goals as goal
 
@@ -8,3 +13,19 @@ returns-clause-places c =
     c.in_ok-places.ensures
     ∙ (ap (map (λ placement. placement.item)) c.requires.placements
     ∙ map-map (λ placement. placement.item) (placement_of c.args.cards.now) c.args.cards.now.acts)
+
+pub expected_times-requires-clause-unit : goal.expected_times-requires-clause-unit
+expected_times-requires-clause-unit c =
+    subst (λ (card : ProjectCard). card.unit_days ≤ MAX_UNIT_DAYS) (sym c.project.ensures) (project-within c.args.cards.now c.acts-acts.ensures.within).unit_within
+
+pub expected_times-requires-clause-within : goal.expected_times-requires-clause-within
+expected_times-requires-clause-within c =
+    subst (All IsActWithin) (sym c.acts-acts.ensures.cards) (acts-within c.args.cards.now c.acts-acts.ensures.within)
+
+pub variances-requires-clause-unit : goal.variances-requires-clause-unit
+variances-requires-clause-unit c =
+    subst (λ (card : ProjectCard). card.unit_days ≤ MAX_UNIT_DAYS) (sym c.project.ensures) (project-within c.args.cards.now c.acts-acts.ensures.within).unit_within
+
+pub variances-requires-clause-within : goal.variances-requires-clause-within
+variances-requires-clause-within c =
+    subst (All IsActWithin) (sym c.acts-acts.ensures.cards) (acts-within c.args.cards.now c.acts-acts.ensures.within)

@@ -1,6 +1,7 @@
 use Rattle.std.proofs.Common.{◌≡◌, List, Option, Some, None, length, map, sym, ◌∙◌, ap, subst, arith}
 use Rattle.std.specs.List.{Any}
 use Rattle.std.proofs.lemmas.List.{length-map}
+use Rattle.pc_faults.specs.declared.kind.Kind.TheVariants.{Wbs}
 use Rattle.pc_deck.specs.Deck.{Deck}
 use Rattle.pc_deck.specs.declared.kinds.act.ActCard.{ActCard}
 use Rattle.pc_deck.specs.declared.kinds.load.LoadCard.{LoadCard}
@@ -53,7 +54,7 @@ returns-in-Ok-None-clause-numbers c =
       start = c.in-Ok-None.ensures.start;
       end = c.in-Ok-None.ensures.end;
       rows = rows;
-      few = omega (arith, ap length rows, length-map deck.items (row_of deck), c.items.ensures.within.few_items);
+      few = omega (arith, ap length rows, length-map deck.items (row_of deck), (c.items.ensures.within Wbs).few);
       placements = c.in_ok-acts.ensures.numbers of_acts.1 ∙ ap (map (placement_of deck)) c.acts.ensures.cards;
       pieces = c.in_ok-pieces.ensures.numbers of_parts.0 ∙ ap (map (piece_of deck)) c.pieces.ensures.cards;
       loads = c.in_ok-loads.ensures.numbers of_parts.1 ∙ ap (map (load_of deck)) c.loads.ensures.cards;

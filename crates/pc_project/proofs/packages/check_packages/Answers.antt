@@ -1,5 +1,6 @@
 use Rattle.std.proofs.Common.{◌∙◌, length, sym, ap, subst, arith}
 use Rattle.std.proofs.lemmas.List.{length-map}
+use Rattle.pc_faults.specs.declared.kind.Kind.TheVariants.{Acct, Act}
 use Rattle.pc_accounts.specs.Amounts.{AreBudgets, item_of}
 use Rattle.pc_accounts.specs.Packages.{AreWork}
 use Rattle.pc_project.specs.Project.{account_of, rows_of, work_of}
@@ -9,12 +10,12 @@ use Rattle.pc_project.proofs.packages.check_packages.Goals as goal
 pub reconcile-requires-clause-few_accounts : goal.reconcile-requires-clause-few_accounts
 reconcile-requires-clause-few_accounts c =
     let deck = c.args.cards.now in
-    omega (arith, ap length (c.deref-2.ensures.value ∙ c.requires.numbers.figures.accounts), length-map deck.accounts (account_of deck), c.requires.numbers.within.few_accounts)
+    omega (arith, ap length (c.deref-2.ensures.value ∙ c.requires.numbers.figures.accounts), length-map deck.accounts (account_of deck), (c.requires.numbers.within Acct).few)
 
 pub reconcile-requires-clause-few_activities : goal.reconcile-requires-clause-few_activities
 reconcile-requires-clause-few_activities c =
     let deck = c.args.cards.now in
-    omega (arith, ap length (c.deref-3.ensures.value ∙ c.in_ok-work.ensures), length-map deck.acts (work_of deck), c.requires.numbers.within.few_acts)
+    omega (arith, ap length (c.deref-3.ensures.value ∙ c.in_ok-work.ensures), length-map deck.acts (work_of deck), (c.requires.numbers.within Act).few)
 
 pub reconcile-requires-clause-items : goal.reconcile-requires-clause-items
 reconcile-requires-clause-items c =

@@ -1,7 +1,9 @@
 use Rattle.std.proofs.Common.{◌<◌, length, map, refl, ◌∙◌, ap, arith}
 use Rattle.std.proofs.lemmas.List.{get_or_read, length-map}
+use Rattle.pc_faults.specs.declared.kind.Kind.TheVariants.{Piece}
 use Rattle.pc_crash.specs.Priced.{piece_at}
 use Rattle.pc_deck.specs.declared.kinds.act.ActCard.{ActCard}
+use Rattle.pc_deck.proofs.NumberLemmas.{acts-within}
 use Rattle.pc_project.specs.PieceFaults.{HasPieceFaultAt}
 use Rattle.pc_project.specs.Project.{piece_of, pieces_in, term_of, terms_in}
 use Rattle.pc_project.proofs.CountLaws.{first_of_none, first_of_all, first_with}
@@ -42,8 +44,8 @@ flaw-requires c =
     let are = c.loop-i.invariant.runs in
     let act = rw (c.acts-acts.ensures.cards, c.requires.numbers) at c.index-acts-activity.is in
     let read_act = get_or_read deck.acts (piece_at (pieces_in deck) i).activity c.index-acts-activity.result (piece-known deck c.requires.faultless limits i inside) act no_act in
-    let crash = (limits.acts_within (piece_at (pieces_in deck) i).activity no_act (piece-known deck c.requires.faultless limits i inside)).crash in
-    rw c.requires.numbers (omega (arith, ap (λ (a : ActCard). a.crash) read_act, crash, limits.few_pieces, units-small deck c.requires.faultless limits i inside runs run are read, piece-short deck c.requires.faultless limits i inside))
+    let crash = (acts-within deck limits (piece_at (pieces_in deck) i).activity no_act (piece-known deck c.requires.faultless limits i inside)).crash in
+    rw c.requires.numbers (omega (arith, ap (λ (a : ActCard). a.crash) read_act, crash, (limits Piece).few, units-small deck c.requires.faultless limits i inside runs run are read, piece-short deck c.requires.faultless limits i inside))
 
 pub overflow_add-run : goal.overflow_add-run
 overflow_add-run c =
@@ -55,7 +57,7 @@ overflow_add-run c =
     let run = c.index-run.result.now in
     let read = rw c.requires.numbers at c.index-run.ensures in
     let are = c.loop-i.invariant.runs in
-    omega (arith, limits.few_pieces, count-small deck c.requires.faultless limits i inside runs run are read)
+    omega (arith, (limits Piece).few, count-small deck c.requires.faultless limits i inside runs run are read)
 
 pub overflow_add-run-in-loop-i : goal.overflow_add-run-in-loop-i
 overflow_add-run-in-loop-i c =
@@ -67,7 +69,7 @@ overflow_add-run-in-loop-i c =
     let run = c.index-run.result.now in
     let read = rw c.requires.numbers at c.index-run.ensures in
     let are = c.loop-i.invariant.runs in
-    rw c.requires.numbers (omega (arith, limits.few_pieces, units-small deck c.requires.faultless limits i inside runs run are read, piece-short deck c.requires.faultless limits i inside))
+    rw c.requires.numbers (omega (arith, (limits Piece).few, units-small deck c.requires.faultless limits i inside runs run are read, piece-short deck c.requires.faultless limits i inside))
 
 pub index_mut-requires : goal.index_mut-requires
 index_mut-requires c =

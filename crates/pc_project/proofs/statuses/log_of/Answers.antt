@@ -1,5 +1,8 @@
 use Rattle.std.proofs.Common.{◌∙◌, length, ap, arith}
+use Rattle.std.proofs.lemmas.List.{length-map}
+use Rattle.pc_faults.specs.declared.kind.Kind.TheVariants.{Status}
 use Rattle.pc_status.specs.Statuses.{status_at}
+use Rattle.pc_project.specs.Project.{status_of}
 use Rattle.pc_project.proofs.FigureLaws.{are_known}
 use Rattle.pc_project.proofs.statuses.log_of.Goals as goal
 
@@ -13,3 +16,8 @@ build-requires-clause-known c =
       are_known c.args.cards.now c.acts.ensures.within c.requires.faultless k (omega (arith, below, ap length same)),
       ap length c.acts.ensures.cards,
     )
+
+pub build-requires-clause-few : goal.build-requires-clause-few
+build-requires-clause-few c =
+    let deck = c.args.cards.now in
+    omega (arith, ap length (c.in_ok-from_slice.ensures.items ∙ c.requires.statuses), length-map deck.statuses (status_of deck), (c.acts.ensures.within Status).few)

@@ -1,7 +1,10 @@
-use Rattle.std.proofs.Common.{◌≡◌, ◌+◌, ◌<◌, ◌∙◌, length, sym, ap, subst, arith}
+use Rattle.std.proofs.Common.{◌≡◌, ◌+◌, ◌<◌, ◌≤◌, ◌∙◌, length, sym, ap, subst, arith}
 use Rattle.std.specs.Prelude.{option_map, slice_index}
+use Rattle.std.proofs.lemmas.Grind.{common_steps}
 use Rattle.std.proofs.lemmas.List.{get_or-map, get_or_read}
 use Rattle.pc_deck.specs.declared.kinds.status.StatusCard.{StatusCard}
+use Rattle.pc_model.specs.declared.limits.TheConstants.{MAX_STATUSES}
+use Rattle.pc_faults.specs.declared.kind.Kind.TheVariants.{Status}
 use Rattle.pc_faults.specs.Faults.{disorder}
 use Rattle.pc_project.specs.DisorderFaults.{IsDisorderAt}
 use Rattle.pc_project.specs.First.{IsFirstIn}
@@ -10,6 +13,12 @@ use Rattle.pc_project.proofs.CountLaws.{IsFirstBelow, first_of_none, first_of_al
 use Rattle.pc_project.proofs.DisorderLaws.{disorder-first}
 use Rattle.pc_project.proofs.FigureLaws.{no_status}
 use Rattle.pc_project.proofs.statuses.status_fault.Goals as goal
+
+pub overflow_cast-k : goal.overflow_cast-k
+overflow_cast-k c =
+    let inside : c.loop-k.k < length c.args.cards.now.statuses = omega (arith, c.loop-k-test.true, ap length c.statuses-card-items.ensures.cards) in
+    let few : length c.args.cards.now.statuses ≤ MAX_STATUSES = (c.statuses-card-items.ensures.within Status).few in
+    grind (arith, common_steps)
 
 pub loop-k-init : goal.loop-k-init
 loop-k-init c = first_of_none (IsDisorderAt c.args.cards.now)

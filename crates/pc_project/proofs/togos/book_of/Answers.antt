@@ -1,5 +1,6 @@
 use Rattle.std.proofs.Common.{◌∙◌, length, sym, ap, subst, arith}
 use Rattle.std.proofs.lemmas.List.{length-map}
+use Rattle.pc_faults.specs.declared.kind.Kind.TheVariants.{Acct, Charge, ToGo}
 use Rattle.pc_accounts.specs.Amounts.{AreBudgets, AreMoney}
 use Rattle.pc_accounts.specs.Second.{IsRepeated}
 use Rattle.pc_project.specs.Project.{account_of, accounts_in, money_of}
@@ -9,17 +10,17 @@ use Rattle.pc_project.proofs.togos.book_of.Goals as goal
 pub build-requires-clause-few_accounts : goal.build-requires-clause-few_accounts
 build-requires-clause-few_accounts c =
     let deck = c.args.cards.now in
-    omega (arith, ap length (c.deref.ensures.value ∙ c.requires.figures.accounts), length-map deck.accounts (account_of deck), c.requires.within.few_accounts)
+    omega (arith, ap length (c.deref.ensures.value ∙ c.requires.figures.accounts), length-map deck.accounts (account_of deck), (c.requires.within Acct).few)
 
 pub build-requires-clause-few_charges : goal.build-requires-clause-few_charges
 build-requires-clause-few_charges c =
     let deck = c.args.cards.now in
-    omega (arith, ap length (c.deref-2.ensures.value ∙ c.requires.figures.charges), length-map deck.charges (money_of deck), c.requires.within.few_charges)
+    omega (arith, ap length (c.deref-2.ensures.value ∙ c.requires.figures.charges), length-map deck.charges (money_of deck), (c.requires.within Charge).few)
 
 pub build-requires-clause-few_togos : goal.build-requires-clause-few_togos
 build-requires-clause-few_togos c =
     let deck = c.args.cards.now in
-    omega (arith, ap length (c.deref-3.ensures.value ∙ c.requires.figures.togos), length-map deck.togos (money_of deck), c.requires.within.few_togos)
+    omega (arith, ap length (c.deref-3.ensures.value ∙ c.requires.figures.togos), length-map deck.togos (money_of deck), (c.requires.within ToGo).few)
 
 pub build-requires-clause-budgets : goal.build-requires-clause-budgets
 build-requires-clause-budgets c =

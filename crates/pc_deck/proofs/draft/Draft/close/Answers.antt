@@ -3,5 +3,4 @@ use Rattle.pc_deck.proofs.WithinLemmas.{deck_within}
 use Rattle.pc_deck.proofs.draft.Draft.close.Goals as goal
 
 pub invariant_of-result : goal.invariant_of-result
-invariant_of-result c =
-    deck_within c.args.self c.in-Some.project c.get-in-Some.result c.get-in-Some-2.result (sym c.get.ensures ∙ c.in-Some.is) c.get-in-Some-2.ensures c.requires
+invariant_of-result c = deck_within c.args.self c.in-Some.project (sym c.get.ensures ∙ c.in-Some.is) c.requires

@@ -1,0 +1,18 @@
+-- END
+use Rattle.std.specs.Prelude.{[], false}
+use Rattle.pc_deck.specs.Entry.{Entry, unlimited, no_code}
+
+-- the kind: a card that says nothing but that it is there
+abbrev pub end_kind : Entry
+end_kind = record {
+  Card = Unit {0};
+  spelled = λ row fields. tt;
+  slots = [];
+  least = 1;
+  most = 1;
+  once = false;
+  held = λ lists. [];
+  limit = unlimited;
+  is_coded = false;
+  code = no_code;
+}
