@@ -27,14 +27,3 @@ mod value;
 
 pub use crate::certificate::check_run;
 pub use crate::top::run;
-
-#[cfg(test)]
-mod bench_tests;
-#[cfg(test)]
-mod check_tests;
-#[cfg(test)]
-mod edge_tests;
-#[cfg(test)]
-mod testing;
-#[cfg(test)]
-mod tests;

@@ -1,7 +1,7 @@
 //! What the tests share: a small deck with its answers, and what a program leaves of edges in memory of which a call fails.
 
-use crate::{check_run, run};
 use pc_edges::{MemSink, MemSource};
+use pert_cli::{check_run, run};
 use std::alloc::{AllocError, Global};
 
 /// A deck of three activities.

@@ -1,0 +1,14 @@
+//! Tests of the top calls, `run` and `check_run`, on decks and edges in memory. They stand in a crate that has nothing else,
+//! since a crate with tests is proved twice.
+#![tactic(auto)]
+
+#[cfg(test)]
+mod bench;
+#[cfg(test)]
+mod checks;
+#[cfg(test)]
+mod edges;
+#[cfg(test)]
+mod runs;
+#[cfg(test)]
+mod testing;
