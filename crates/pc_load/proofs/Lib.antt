@@ -1,0 +1,6 @@
+mod ShareLaws
+mod ColumnLaws
+mod AddLaws
+mod SeriesLaws
+mod TableLaws
+mod ItemLaws

@@ -1,0 +1,5 @@
+pub mod Share
+pub mod Table
+pub mod TableInside
+pub mod Adding
+pub mod Items

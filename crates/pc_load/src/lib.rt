@@ -1,0 +1,10 @@
+//! What a project spends and what it takes of its resources in each period: costs and quantities spread over the expected
+//! times of activities, by item and by resource.
+#![tactic(auto)]
+
+mod adding;
+mod spread;
+mod table;
+
+pub use spread::{Spread, part};
+pub use table::{LoadRow, MAX_PERIODS, Table, item_table};
