@@ -1,3 +1,6 @@
 pub mod EventTimes
 pub mod Drawing
 pub mod Keeping
+pub mod Kept
+pub mod Joined
+pub mod Cycles

@@ -1,5 +1,5 @@
 -- The arrows of tasks: the network whose activities are the tasks, each between two events of its own, and links of no duration.
-use Rattle.std.specs.Prelude.{ℕ, ◌+◌, ◌*◌, ◌==◌, Bool, not, List, ◌++◌, length, map, filter, replicate}
+use Rattle.std.specs.Prelude.{ℕ, ◌+◌, ◌*◌, ◌==◌, Bool, not, nat_lt, List, ◌++◌, length, map, filter, replicate}
 use Rattle.std.specs.List.{list_any, range_with_len}
 use Rattle.pc_model.specs.declared.Arc.{Arc}
 use Rattle.pc_model.specs.declared.Term.{Term}
@@ -59,6 +59,22 @@ arrows n afters = record {
   end = last_event n;
   arcs = map task_arc (range_with_len 0 n) ++ links n afters;
 }
+
+-- the same with a link from the start to every task and one from every task to the end: it has the same cycles, and no loose end
+abbrev pub wide_links : ℕ → List AfterRow → List Arc
+wide_links n afters = map after_arc afters ++ (map first_arc (range_with_len 0 n) ++ map (last_arc n) (range_with_len 0 n))
+
+abbrev pub wide_arrows : ℕ → List AfterRow → Network
+wide_arrows n afters = record {
+  events = 2 * n + 2;
+  start = 0;
+  end = last_event n;
+  arcs = map task_arc (range_with_len 0 n) ++ wide_links n afters;
+}
+
+-- the tasks among the activities of a walk
+abbrev pub tasks_of : ℕ → List ℕ → List ℕ
+tasks_of n walk = filter (λ a. nat_lt a n) walk
 
 -- what a link may last and costs: nothing
 abbrev pub no_term : Term
