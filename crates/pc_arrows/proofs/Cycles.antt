@@ -1,16 +1,16 @@
 -- The cycles of arrows are those of the tasks.
-use Rattle.std.proofs.Common.{◌≡◌, ◌≢◌, ℕ, zero, suc, ◌+◌, ◌<◌, ◌≤◌, ◌⊎◌, inl, inr, ⊎_elim, List, [], ◌∷◌, ◌++◌, length, slice_index, refl, sym, ◌∙◌, ap, subst, arith}
+use Rattle.std.proofs.Common.{◌≡◌, ℕ, ◌<◌, ◌≤◌, ◌⊎◌, inl, inr, ⊎_elim, List, [], ◌∷◌, ◌++◌, length, slice_index, refl, sym, ◌∙◌, ap, subst, arith}
 use Rattle.std.specs.Prelude.{All, nat_lt}
-use Rattle.std.proofs.lemmas.Bool.{cases_lt, lt-ltb}
+use Rattle.std.proofs.lemmas.Bool.{lt-ltb}
 use Rattle.pc_model.specs.declared.Arc.{Arc}
-use Rattle.pc_model.specs.Greatest.{IsFirst, StandsBelow}
-use Rattle.pc_model.specs.Walk.{arc_at, from_of, to_of, IsWalk, IsCycle}
+use Rattle.pc_model.specs.Greatest.{StandsBelow}
+use Rattle.pc_model.specs.Walk.{from_of, to_of, IsWalk, IsCycle}
 use Rattle.pc_model.proofs.Walks.WalkLaws.{last_of_walk, IsWalk-push}
-use Rattle.pc_net.specs.Cycles.{LiesOnCycle, MeetsOnce, IsFirstCycle}
+use Rattle.pc_net.specs.Cycles.{LiesOnCycle, IsFirstCycle}
 use Rattle.pc_arrows.specs.declared.AfterRow.{AfterRow}
 use Rattle.pc_arrows.specs.Tasks.{after_at, AreAmong}
 use Rattle.pc_arrows.specs.Arrows.{begin_event, end_event, last_event, tasks_of}
-use Rattle.pc_arrows.specs.Cycles.{ComesAfter, IsTaskWalk, IsTaskCycle, LiesOnTaskCycle, IsFirstTaskCycle}
+use Rattle.pc_arrows.specs.Cycles.{IsTaskCycle, LiesOnTaskCycle, IsFirstTaskCycle}
 use Rattle.pc_arrows.proofs.Kept.{filter-yes, kept_stands, AreOnce, AreOnce-filter}
 use Rattle.pc_arrows.proofs.Joined as joined
 
@@ -72,7 +72,7 @@ module _ (n : ℕ) (afters : List AfterRow) (among : AreAmong n afters) (more : 
       of (by_link past u known rest is to) =
           let on : IsWalk arcs (begin_event u) (u ∷ rest) e = subst (λ w. IsWalk arcs (begin_event u) w e) is (subst (λ x. IsWalk arcs x walk e) to walked.2) in
           let round : IsWalk arcs (begin_event u) ((u ∷ rest) ++ a ∷ []) (begin_event u) =
-              subst (λ x. IsWalk arcs (begin_event u) ((u ∷ rest) ++ a ∷ []) x) to (IsWalk-push arcs (begin_event u) e (u ∷ rest) a on walked.0 walked.1) in
+          subst (λ x. IsWalk arcs (begin_event u) ((u ∷ rest) ++ a ∷ []) x) to (IsWalk-push arcs (begin_event u) e (u ∷ rest) a on walked.0 walked.1) in
           (tasks_of n (u ∷ (rest ++ a ∷ [])), from_task (begin_event u) u (rest ++ a ∷ []) known round)
 
   -- and a task on a cycle of tasks is an activity on one of arrows

@@ -1,13 +1,12 @@
 -- The activities of arrows: the tasks, the links of the rows, and links at the two ends; and which of them follow one another.
-use Rattle.std.proofs.Common.{◌≡◌, ◌≢◌, ℕ, zero, suc, ◌+◌, ◌-◌, ◌*◌, ◌<◌, ◌≤◌, ◌⊎◌, inl, inr, ⊎_elim, Bool, true, false, List, [], ◌∷◌, ◌++◌, length, map, slice_index, slice_index_or, refl, sym, ◌∙◌, ap, subst, arith}
+use Rattle.std.proofs.Common.{◌≡◌, ℕ, ◌+◌, ◌-◌, ◌<◌, ◌≤◌, ◌⊎◌, inl, inr, ⊎_elim, true, false, List, [], ◌∷◌, ◌++◌, length, map, slice_index_or, refl, sym, ◌∙◌, ap, subst, arith}
 use Rattle.std.specs.Prelude.{All, nat_lt}
 use Rattle.std.specs.List.{range_with_len}
 use Rattle.std.proofs.lemmas.Bool.{cases_lt, lt-ltb, ltb-true, false_from_ne_true}
 use Rattle.std.proofs.lemmas.List.{get_or_append_left, get_or-append_right, get_or-map, length-append, length-map}
 use Rattle.std.proofs.lemmas.List.FromFn.{get_or-map-range_with_len, length-map-range_with_len}
 use Rattle.pc_model.specs.declared.Arc.{Arc}
-use Rattle.pc_model.specs.Walk.{arc_at, from_of, to_of, IsWalk, IsCycle}
-use Rattle.pc_model.proofs.Walks.WalkLaws.{last_of_walk}
+use Rattle.pc_model.specs.Walk.{arc_at, from_of, to_of, IsWalk}
 use Rattle.pc_arrows.specs.declared.AfterRow.{AfterRow}
 use Rattle.pc_arrows.specs.Tasks.{after_at, AreAmong}
 use Rattle.pc_arrows.specs.Arrows.{begin_event, end_event, last_event, task_arc, after_arc, tasks_of}
@@ -29,8 +28,13 @@ module _ (n : ℕ) (afters : List AfterRow) (among : AreAmong n afters) (more : 
 
   pub length-joined : length arcs ≡ n + (length afters + length more)
   length-joined =
-      omega (arith, length-append (map task_arc (range_with_len 0 n)) (map after_arc afters ++ more), length-map-range_with_len task_arc 0 n,
-      length-append (map after_arc afters) more, length-map afters after_arc)
+      omega (
+        arith,
+        length-append (map task_arc (range_with_len 0 n)) (map after_arc afters ++ more),
+        length-map-range_with_len task_arc 0 n,
+        length-append (map after_arc afters) more,
+        length-map afters after_arc,
+      )
 
   pub at_task : (a : ℕ) → a < n → arc_at arcs a ≡ task_arc a
   at_task a inside =
@@ -129,7 +133,7 @@ module _ (n : ℕ) (afters : List AfterRow) (among : AreAmong n afters) (more : 
       ⊎_elim
       (λ (u, comes, past, to_u). let rest : IsWalk arcs (begin_event u) walk (begin_event t) = subst (λ e. IsWalk arcs e walk (begin_event t)) to_u next.2 in
       let kept : tasks_of n (a ∷ b ∷ walk) ≡ a ∷ tasks_of n walk =
-          filter-yes (λ x. nat_lt x n) a (b ∷ walk) (is_task a (omega arith)) ∙ ap (λ tasks. a ∷ tasks) (filter-no (λ x. nat_lt x n) b walk (is_link b past)) in
+      filter-yes (λ x. nat_lt x n) a (b ∷ walk) (is_task a (omega arith)) ∙ ap (λ tasks. a ∷ tasks) (filter-no (λ x. nat_lt x n) b walk (is_link b past)) in
       let goes : IsTaskWalk afters s (a ∷ tasks_of n walk) t = (same, u, comes, read_walk u t walk below rest) in
       subst (λ tasks. IsTaskWalk afters s tasks t) (sym kept) goes)
       (λ to_last. absurd (ends walk (subst (λ e. IsWalk arcs e walk (begin_event t)) to_last next.2)))
@@ -149,11 +153,11 @@ module _ (n : ℕ) (afters : List AfterRow) (among : AreAmong n afters) (more : 
       let from_link : from_of arcs link ≡ to_of arcs s = ap (λ arc. arc.from) (at_after j known) ∙ (ap end_event before_is ∙ sym (ap (λ arc. arc.to) (at_task s below))) in
       let to_link : to_of arcs link ≡ begin_event u = ap (λ arc. arc.to) (at_after j known) ∙ ap begin_event task_is in
       let kept : tasks_of n (s ∷ link ∷ walk) ≡ s ∷ tasks_of n walk =
-          filter-yes (λ x. nat_lt x n) s (link ∷ walk) (is_task s below) ∙ ap (λ kept. s ∷ kept) (filter-no (λ x. nat_lt x n) link walk (is_link link (omega arith))) in
-      (
+      filter-yes (λ x. nat_lt x n) s (link ∷ walk) (is_task s below) ∙ ap (λ kept. s ∷ kept) (filter-no (λ x. nat_lt x n) link walk (is_link link (omega arith))) in (
         s ∷ link ∷ walk,
         (
-          omega (arith, length-joined), ap (λ arc. arc.from) (at_task s below),
+          omega (arith, length-joined),
+          ap (λ arc. arc.from) (at_task s below),
           (omega (arith, length-joined), from_link, subst (λ e. IsWalk arcs e walk (begin_event t)) (sym to_link) walked),
         ),
         kept ∙ (ap (λ kept. s ∷ kept) of ∙ ap (λ first. first ∷ tasks) (sym is)),

@@ -4,3 +4,5 @@ pub mod Keeping
 pub mod Kept
 pub mod Joined
 pub mod Cycles
+pub mod Outer
+pub mod Sound

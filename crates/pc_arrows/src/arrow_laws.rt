@@ -3,16 +3,38 @@
 //! Each function here does nothing: its contract is the law, proved once, and a caller that calls it has the law
 //! as a fact.
 
-ghost use Rattle.std.specs.Prelude.{◌<◌, ℕ, List, length, All};
+ghost use Rattle.std.specs.Prelude.{◌≡◌, ◌<◌, ℕ, List, length, All};
 ghost use Rattle.pc_model.specs.declared.PieceRow.{PieceRow};
 ghost use Rattle.pc_model.specs.declared.Term.{Term};
-ghost use Rattle.pc_model.specs.Network.{IsSound};
+ghost use Rattle.pc_model.specs.Network.{IsInRange, IsSound};
+ghost use Rattle.pc_model.specs.Walk.{IsCycle};
 ghost use Rattle.pc_model.specs.Schedule.{HasSchedule};
 ghost use Rattle.pc_model.specs.Cost.{IsLeastCost};
 ghost use Rattle.pc_model.specs.Pieces.{knees_of};
 ghost use Rattle.pc_arrows.specs.declared.AfterRow.{AfterRow};
 ghost use Rattle.pc_arrows.specs.Tasks.{AreAmong, HasTaskSchedule, IsLeastTaskCost};
-ghost use Rattle.pc_arrows.specs.Arrows.{arrows, arrow_terms};
+ghost use Rattle.pc_arrows.specs.Arrows.{arrows, arrow_terms, tasks_of, wide_arrows};
+ghost use Rattle.pc_arrows.specs.Cycles.{IsFirstTaskCycle, IsTaskCycle};
+ghost use Rattle.pc_net.specs.Cycles.{IsFirstCycle};
+ghost use Rattle.pc_net.specs.Firmness.{IsFirm};
+
+/// The arrows of some tasks that do not wait for each other in a circle are a sound network.
+pub fn arrows_are_sound()
+    ensures range { (n : ℕ) (afters : List AfterRow) → AreAmong n afters → IsInRange (arrows n afters) }
+    ensures sound { (n : ℕ) (afters : List AfterRow) → AreAmong n afters → 0 < n →
+        ((tasks : List ℕ) → IsTaskCycle afters tasks → ⊥) → IsSound (arrows n afters) }
+{}
+
+/// The wide arrows of some tasks have no loose end, and a cycle exactly where the tasks have one: the first cycle of the arrows passes the
+/// first cycle of the tasks.
+pub fn wide_arrows_have_the_cycles()
+    ensures range { (n : ℕ) (afters : List AfterRow) → AreAmong n afters → IsInRange (wide_arrows n afters) }
+    ensures firm { (n : ℕ) (afters : List AfterRow) → AreAmong n afters → 0 < n → IsFirm (wide_arrows n afters) }
+    ensures first { (n : ℕ) (afters : List AfterRow) (walk : List ℕ) → AreAmong n afters →
+        IsFirstCycle (wide_arrows n afters).arcs walk → IsFirstTaskCycle afters (tasks_of n walk) }
+    ensures drawn { (n : ℕ) (afters : List AfterRow) (tasks : List ℕ) → AreAmong n afters → IsTaskCycle afters tasks →
+        (walk : List ℕ) × IsCycle (wide_arrows n afters).arcs walk × (tasks_of n walk ≡ tasks) }
+{}
 
 /// For a length there is a schedule of the tasks exactly where there is one of their arrows.
 pub fn arrows_keep_schedules()
