@@ -1,3 +1,4 @@
 pub mod DeckFacts
 mod ReaderFacts
 pub mod FieldFacts
+pub mod TextFacts
