@@ -2,3 +2,4 @@ pub mod DeckFacts
 mod ReaderFacts
 pub mod FieldFacts
 pub mod TextFacts
+pub mod Utf8Facts

@@ -1,10 +1,10 @@
 -- The text of records: it is the same whether or not records may be of any length, and it is read back.
-use Rattle.std.proofs.Common.{◌≡◌, ◌==◌, ◌∙◌, Bool, true, false, ℕ, List, [], ◌∷◌, ◌++◌, length, nat_eq, not, Option, Some, None, refl, sym, ap, if◌then◌else◌, All, ◌<◌, arith, zero, suc, inl, inr}
-use Rattle.std.specs.List.{list_any, starts_with}
+use Rattle.std.proofs.Common.{◌≡◌, ◌∙◌, true, false, ℕ, List, [], ◌∷◌, ◌++◌, length, nat_eq, Some, refl, sym, ap, All, ◌<◌, arith, suc, inl, inr}
+use Rattle.std.specs.List.{starts_with}
 use Rattle.std.proofs.lemmas.Bool.{and_parts, cases_Bool, eqb-true, false≢true}
 use Rattle.csv.specs.Machine.{next_record}
-use Rattle.csv.specs.Reading.{default_config, is_bom, strip_bom}
-use Rattle.csv.specs.Writing.{default_writer, escaped, field_text, fields_text, is_blank, needs_byte, read_back, row_text}
+use Rattle.csv.specs.Reading.{is_bom, strip_bom}
+use Rattle.csv.specs.Writing.{default_writer, escaped, field_text, fields_text, is_blank, read_back, row_text}
 use Rattle.csv.specs.declared.parser.State.TheVariants as st
 use Rattle.csv.proofs.RoundTrip.{read-write}
 use Rattle.pc_records.specs.Deck.{deck_records, mark, without_mark}

@@ -1,7 +1,6 @@
 -- The record's text is what the default writer would have written.
-use Rattle.std.proofs.Common.{◌≡◌, ◌≢◌, ◌∙◌, ◌++◌, Bor, List, ℕ, refl, ap, map}
+use Rattle.std.proofs.Common.{◌≢◌, Bor, List, ℕ, map}
 use Rattle.csv.specs.declared.writer.QuoteStyle.TheVariants as style
-use Rattle.pc_records.specs.Text.{record_text}
 use Rattle.pc_records.proofs.TextFacts.{row_text-any_length}
 use Rattle.pc_records.proofs.writer.RowWriter.put.Goals as goal
 
