@@ -4,3 +4,6 @@ mod AddLaws
 mod SeriesLaws
 mod TableLaws
 mod ItemLaws
+mod EndLaws
+mod EntryLaws
+mod LoadingLaws

@@ -16,10 +16,14 @@ abbrev pub date_or_none : ℤ → List ℕ
 date_or_none day =
     if int_le (neg_ℤ (pos 25_567)) day && int_le day (pos 2_932_896) then text_of_day day else no_date
 
--- the row of period k: its number and the date on which it begins
+-- the row of a period: its number and a date
+abbrev pub period_cells : ℕ → List ℕ → List ℕ
+period_cells k date = row (left 16 (codes "PERIOD") ∷ right 6 (decimal k) ∷ date ∷ [])
+
+-- the row of period k, with the date on which it begins
 abbrev pub period_row : Project → ℕ → ℕ → List ℕ
 period_row project days k =
-    row (left 16 (codes "PERIOD") ∷ right 6 (decimal k) ∷ date_or_none (project.heading.start_day +ℤ pos (days * k)) ∷ [])
+    period_cells k (date_or_none (project.heading.start_day +ℤ pos (days * k)))
 
 -- the row of an amount in period k; none where it is 0
 abbrev pub amount_row : List ℕ → ℕ → ℤ → List ℕ
@@ -38,11 +42,15 @@ item_rows project loading i =
 abbrev pub resource_rows : Project → Loading → ℕ → List ℕ
 resource_rows project loading i = amount_rows loading.resources (slice_index_or project.resources i []) i
 
+-- the project's code and the days of a period
+abbrev pub head_line : List ℕ → ℕ → List ℕ
+head_line code days = named_line (codes "LOAD ") code days
+
 -- the project's code and the days of a period, a row for each period, a row for each item in preorder and each period in which
 -- it has a part, and the same for each resource in card order
 unfoldable pub load_text : Project → Loading → List ℕ
 load_text project loading =
-    named_line (codes "LOAD ") project.heading.code loading.days
+    head_line project.heading.code loading.days
     ++ texts_to loading.items.periods (period_row project loading.days)
     ++ (codes "ITEMS" ++ 10 ∷ [])
     ++ texts_to (length loading.order) (item_rows project loading)

@@ -1,7 +1,7 @@
 -- What a project spends in each period by item, and what it takes of each resource.
 use Rattle.std.specs.Prelude.{◌≡◌, ℕ, ◌+◌, ◌*◌, ◌/◌, ◌<◌, ◌≤◌, pos, ⊤, List, length, slice_index, slice_index_or}
 use Rattle.pc_model.specs.Network.{IsEarly}
-use Rattle.pc_model.specs.Schedule.{term_at}
+use Rattle.pc_model.specs.Schedule.{base_cost_of}
 use Rattle.pc_model.specs.Walk.{from_of}
 use Rattle.pc_project.specs.Project.{Project}
 use Rattle.pc_project.specs.declared.load.LoadItem.{LoadItem}
@@ -12,6 +12,7 @@ use Rattle.pc_wbs.specs.Preorder.{IsPreorder}
 use Rattle.pc_load.specs.declared.spread.Spread.{Spread}
 use Rattle.pc_load.specs.declared.table.TheConstants.{MAX_PERIODS}
 use Rattle.pc_load.specs.declared.loading.NoLoad.{NoLoad}
+use Rattle.pc_load.specs.declared.loading.TheConstants.{MAX_DAYS}
 use Rattle.pc_load.specs.declared.loading.NoLoad.TheVariants.{TooMany, OutOfMemory}
 use Rattle.pc_load.specs.Items.{LevelsAddUp}
 use Rattle.pc_load.specs.Share.{part}
@@ -29,7 +30,7 @@ spread_at project times a amount = record {
 
 -- what activity a costs at its normal duration
 abbrev pub cost_at : Project → ℕ → ℕ
-cost_at project a = (term_at project.terms a).cost
+cost_at project a = base_cost_of project.terms a
 
 -- the l-th load; past the end of the list one without a quantity
 abbrev pub load_at : Project → ℕ → LoadItem
@@ -109,6 +110,15 @@ pub record Loading : Type 0 where
   pub order : List ℕ
   pub items : Table
   pub resources : Table
+
+-- the tables have the project's items and resources, and equal periods; and nothing is more than it may be
+pub record IsReadyFor (project : Project) (loading : Loading) : Type 0 where
+  pub days : loading.days ≤ MAX_DAYS
+  pub order : (i : ℕ) → i < length loading.order → slice_index loading.order i < length project.tree
+  pub items : loading.items.rows ≡ length project.tree
+  pub resources : loading.resources.rows ≡ length project.resources
+  pub periods : loading.resources.periods ≡ loading.items.periods
+  pub few : loading.items.periods ≤ MAX_PERIODS
 
 -- the tables are the project's, items in preorder, for periods of so many days, no more than a report may have; and they add up
 pub record IsLoading (project : Project) (days : ℕ) (loading : Loading) : Type 0 where

@@ -3,8 +3,14 @@
 #![tactic(auto)]
 
 mod adding;
+mod entries;
+mod loading;
+mod rows;
 mod spread;
 mod table;
+mod text;
 
+pub use loading::{Loading, MAX_DAYS, NoLoad};
 pub use spread::{Spread, part};
 pub use table::{LoadRow, MAX_PERIODS, Table, item_table};
+pub use text::write_load;
