@@ -1,5 +1,6 @@
 -- What a project spends in each period by item, and what it takes of each resource.
 use Rattle.std.specs.Prelude.{◌≡◌, ℕ, ◌+◌, ◌*◌, ◌/◌, ◌<◌, ◌≤◌, pos, ⊤, List, length, slice_index, slice_index_or}
+use Rattle.pc_model.specs.declared.limits.TheConstants.{MAX_RESOURCES}
 use Rattle.pc_model.specs.Network.{IsEarly}
 use Rattle.pc_model.specs.Schedule.{base_cost_of}
 use Rattle.pc_model.specs.Walk.{from_of}
@@ -118,7 +119,8 @@ pub record IsReadyFor (project : Project) (loading : Loading) : Type 0 where
   pub items : loading.items.rows ≡ length project.tree
   pub resources : loading.resources.rows ≡ length project.resources
   pub periods : loading.resources.periods ≡ loading.items.periods
-  pub few : loading.items.periods ≤ MAX_PERIODS
+  pub few_periods : loading.items.periods ≤ MAX_PERIODS
+  pub few_resources : loading.resources.rows ≤ MAX_RESOURCES
 
 -- the tables are the project's, items in preorder, for periods of so many days, no more than a report may have; and they add up
 pub record IsLoading (project : Project) (days : ℕ) (loading : Loading) : Type 0 where

@@ -64,6 +64,11 @@ pub record IsTable (table : Table) : Type 0 where
   pub whole : length table.cells ≡ table.periods * table.rows
   pub natural : (row k : ℕ) → row < table.rows → k < table.periods → pos 0 ≤ℤ amount_in table row k
 
+-- the row is one of the table, which has no more periods than a table may have
+pub record IsRowOf (table : Table) (row : ℕ) : Type 0 where
+  pub known : row < table.rows
+  pub periods : table.periods ≤ MAX_PERIODS
+
 -- ---- the table of entries
 
 -- the part of the e-th entry in period k, where a period is so wide

@@ -36,10 +36,10 @@ impl From<AllocError> for NoLoad {
 /// What a project spends by item and takes by resource in periods of so many days, and the order in which the items are told.
 #[derive(Debug, Drop)]
 pub struct Loading {
-    pub(crate) days: u64,
-    pub(crate) order: Vec<u32>,
-    pub(crate) items: Table,
-    pub(crate) resources: Table,
+    days: u64,
+    order: Vec<u32>,
+    items: Table,
+    resources: Table,
 }
 
 impl Model for Loading {
@@ -77,6 +77,34 @@ impl Loading {
             items: items_of(alloc, project, &times, 6 * days, periods)?,
             resources: resources_of(alloc, project, &times, 6 * days, periods)?,
         })
+    }
+
+    /// How many days a period has.
+    pub fn days(&self) -> u64
+        ensures { result ≡ self.now.days }
+    {
+        self.days
+    }
+
+    /// The items in preorder.
+    pub fn order(&self) -> &[u32]
+        ensures { result.now ≡ self.now.order }
+    {
+        &self.order
+    }
+
+    /// What is spent in each period by item.
+    pub fn items(&self) -> &Table
+        ensures { result.now ≡ self.now.items }
+    {
+        &self.items
+    }
+
+    /// What is taken in each period by resource.
+    pub fn resources(&self) -> &Table
+        ensures { result.now ≡ self.now.resources }
+    {
+        &self.resources
     }
 }
 

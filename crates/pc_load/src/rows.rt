@@ -3,7 +3,7 @@ ghost use Rattle.std.specs.Prelude.{◌≡◌, ◌*◌, ◌+◌, ◌<◌, ◌≤
 ghost use Rattle.pc_page.specs.Puts.{Puts};
 ghost use Rattle.pc_load.specs.Loading.{IsReadyFor};
 ghost use Rattle.pc_load.specs.LoadText.{amount_row, amount_rows, date_or_none, item_rows, period_cells, period_row, resource_rows};
-ghost use Rattle.pc_load.specs.Table.{amount_in};
+ghost use Rattle.pc_load.specs.Table.{IsRowOf, amount_in};
 
 use crate::loading::Loading;
 use crate::table::Table;
@@ -28,11 +28,11 @@ impl<'a> Rows for PeriodRows<'a> {
     ghost IsReady = { λ t. IsReadyFor t.project.now t.loading.now };
 
     fn count(&self) -> usize {
-        self.loading.items.periods() as usize
+        self.loading.items().periods() as usize
     }
 
     fn put<O: Sink>(&self, i: usize, page: &mut Page, sink: &mut O) {
-        let date = date_after(self.project.start_day(), self.loading.days * i as u64);
+        let date = date_after(self.project.start_day(), self.loading.days() * i as u64);
         put_period(page, sink, i as u64, &date);
     }
 }
@@ -52,13 +52,13 @@ impl<'a> Rows for ItemRows<'a> {
     ghost IsReady = { λ t. IsReadyFor t.project.now t.loading.now };
 
     fn count(&self) -> usize {
-        self.loading.order.len()
+        self.loading.order().len()
     }
 
     fn put<O: Sink>(&self, i: usize, page: &mut Page, sink: &mut O) {
-        let row = self.loading.order[i];
+        let row = self.loading.order()[i];
         let code = &self.project.item_code(row);
-        let table = &self.loading.items;
+        let table = self.loading.items();
         put_rows(page, sink, &AmountRows { code, table, row });
     }
 }
@@ -84,7 +84,7 @@ impl<'a> Rows for ResourceRows<'a> {
     fn put<O: Sink>(&self, i: usize, page: &mut Page, sink: &mut O) {
         let row = i as u32;
         let code = &self.project.resource_code(row);
-        let table = &self.loading.resources;
+        let table = self.loading.resources();
         put_rows(page, sink, &AmountRows { code, table, row });
     }
 }
@@ -98,14 +98,11 @@ struct AmountRows<'a> {
 }
 
 impl<'a> Rows for AmountRows<'a> {
-    ghost use Rattle.pc_load.specs.Table.{amount_in};
-    ghost use Rattle.pc_load.specs.LoadText.{amount_row};
-
     ghost row_count = { λ t. t.table.now.periods };
 
     ghost row_text = { λ t k. amount_row t.code.now k (amount_in t.table.now t.row k) };
 
-    ghost IsReady = { λ t. t.row < t.table.now.rows };
+    ghost IsReady = { λ t. IsRowOf t.table.now t.row };
 
     fn count(&self) -> usize {
         self.table.periods() as usize

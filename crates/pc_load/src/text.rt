@@ -35,7 +35,7 @@ fn put_load<O: Sink>(page: &mut Page, sink: &mut O, project: &Project, loading: 
     requires { IsReadyFor project.now loading.now }
     ensures { Puts O.taken O.faults page.old sink.old page.new sink.new (load_text project.now loading.now) }
 {
-    put_head(page, sink, project, loading.days);
+    put_head(page, sink, project, loading.days());
     put_rows(page, sink, &PeriodRows { project, loading });
     page.put(sink, b"ITEMS\n");
     put_rows(page, sink, &ItemRows { project, loading });
