@@ -10,3 +10,4 @@ mod CheckLaws
 mod CheckDecided
 mod CertifyLaws
 mod PointLaws
+mod LoadLaws

@@ -10,10 +10,13 @@ use Rattle.pc_bench.specs.Report.{IsBenchText}
 use Rattle.pc_bench.specs.declared.deck.TheConstants.{MOST_ACTIVITIES}
 use Rattle.pc_certify.specs.Certificate.{IsCertificate}
 use Rattle.pc_curve.specs.CurveText.{IsCurveText}
+use Rattle.pc_load.specs.LoadText.{IsLoadText}
+use Rattle.pc_load.specs.declared.loading.TheConstants.{MAX_DAYS}
 use Rattle.pc_project.specs.Project.{Project}
 use Rattle.pert_cli.specs.declared.forms.Form.{Form}
-use Rattle.pert_cli.specs.declared.forms.Form.TheVariants.{Check, Normal, Times, Summary, Value, Curve, Certify, Point, Outlook, Bench}
+use Rattle.pert_cli.specs.declared.forms.Form.TheVariants.{Check, Normal, Times, Summary, Value, Curve, Certify, Point, Outlook, Bench, Load}
 use Rattle.pert_cli.specs.Certificate.{priced_in}
+use Rattle.pert_cli.specs.Load.{IsTooLong}
 use Rattle.pert_cli.specs.Normal.{IsNormalText}
 use Rattle.pert_cli.specs.Outlook.{IsOutlookReply}
 use Rattle.pert_cli.specs.Point.{IsOutside, IsPointText}
@@ -30,8 +33,10 @@ words_of Certify = codes "certify" ∷ []
 words_of (Point limit) = codes "point" ∷ decimal limit ∷ []
 words_of (Outlook limit) = codes "outlook" ∷ decimal limit ∷ []
 words_of (Bench n) = codes "bench" ∷ decimal n ∷ []
+words_of (Load days) = codes "load" ∷ decimal days ∷ []
 
--- the number of a form is one that it may have: a length has at most 13 digits, and the benchmark's deck 1 to 4,000 activities
+-- the number of a form is one that it may have: a length has at most 13 digits, the benchmark's deck 1 to 4,000 activities,
+-- and a period 1 to 3,660 days
 abbrev pub IsNumbered : Form → Type 0
 IsNumbered Check = ⊤
 IsNumbered Normal = ⊤
@@ -43,6 +48,7 @@ IsNumbered Certify = ⊤
 IsNumbered (Point limit) = limit < 10 ^ 13
 IsNumbered (Outlook limit) = limit < 10 ^ 13
 IsNumbered (Bench n) = (1 ≤ n) × (n ≤ MOST_ACTIVITIES)
+IsNumbered (Load days) = (1 ≤ days) × (days ≤ MAX_DAYS)
 
 -- the words ask for the form: they are its words, and its number is one that they may have
 pub record IsAskedBy (form : Form) (words : List (List ℕ)) : Type 0 where
@@ -51,14 +57,14 @@ pub record IsAskedBy (form : Form) (words : List (List ℕ)) : Type 0 where
 
 -- the names of the forms, in the order of the usage line
 abbrev pub form_names : List (List ℕ)
-form_names = codes "check" ∷ codes "normal" ∷ codes "times" ∷ codes "summary" ∷ codes "value" ∷ codes "curve" ∷ codes "certify" ∷ codes "point L" ∷ codes "outlook L" ∷ codes "bench N" ∷ []
+form_names = codes "check" ∷ codes "normal" ∷ codes "times" ∷ codes "summary" ∷ codes "value" ∷ codes "curve" ∷ codes "certify" ∷ codes "point L" ∷ codes "outlook L" ∷ codes "bench N" ∷ codes "load P" ∷ []
 
 -- the text answers the form: `check` with the project's code and the counts of its cards, `normal` with the schedule at
 -- the all-normal length, `times` with the times of the events and the critical path, `summary` with what the accounts add up
 -- to by item and by level, `value` with the forecast and what the work is worth, `curve` with the breakpoints of the
 -- time-cost curve, `certify` with a certified text of the whole time-cost curve, whose two walks are the picked ones, `point`
 -- with a schedule of least cost for the length, `outlook` with such a schedule and what each item costs by it, `bench` with
--- the figures of the curve of its own deck
+-- the figures of the curve of its own deck, `load` with what is spent by item and taken by resource in each period
 abbrev pub IsTextOf : Form → Project → List ℕ → Type 0
 IsTextOf Check project text = text ≡ check_text project
 IsTextOf Normal project text = IsNormalText project text
@@ -70,8 +76,10 @@ IsTextOf Certify project text = IsCertificate (priced_in project) text
 IsTextOf (Point limit) project text = IsPointText project limit text
 IsTextOf (Outlook limit) project text = IsOutlookReply project limit text
 IsTextOf (Bench n) project text = IsBenchText n (priced_in project) text
+IsTextOf (Load days) project text = IsLoadText project days text
 
--- the form refuses the project with the fault: `point` and `outlook` where the length lies outside the range of the project
+-- the form refuses the project with the fault: `point` and `outlook` where the length lies outside the range of the project,
+-- `load` where the project takes too many periods
 abbrev pub IsDenial : Form → Project → Fault → Type 0
 IsDenial Check project fault = ⊥
 IsDenial Normal project fault = ⊥
@@ -83,3 +91,4 @@ IsDenial Certify project fault = ⊥
 IsDenial (Point limit) project fault = IsOutside (priced_in project) limit fault
 IsDenial (Outlook limit) project fault = IsOutside (priced_in project) limit fault
 IsDenial (Bench n) project fault = ⊥
+IsDenial (Load days) project fault = IsTooLong project days fault

@@ -1,6 +1,7 @@
 pub mod Normal
 pub mod Point
 pub mod Outlook
+pub mod Load
 pub mod Forms
 pub mod Words
 pub mod Verdict

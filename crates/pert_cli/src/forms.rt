@@ -4,7 +4,7 @@
 //! is in a file of its own.
 ghost use Rattle.std.specs.Prelude.{◌≡◌, ◌+◌, ◌≤◌, [], ◌∷◌, ◌++◌, length, IfNone, IfSome};
 ghost use Rattle.pert_cli.specs.FormDeck.{ReadsSource};
-ghost use Rattle.pert_cli.specs.Forms.{IsAskedBy};
+ghost use Rattle.pert_cli.specs.Forms.{IsAskedBy, IsNumbered};
 ghost use Rattle.pert_cli.specs.Handing.{Replies};
 ghost use Rattle.pert_cli.specs.Sides.{side};
 ghost use Rattle.pert_cli.specs.declared.forms.Form.{Form as TheForm};
@@ -12,10 +12,11 @@ ghost use Rattle.pert_cli.specs.declared.forms.Form.TheVariants.{Bench};
 ghost use Rattle.pert_cli.specs.Words.{AskFor, AskForNone, usage_text};
 
 use crate::status::Status;
-use crate::{bench, certify, check, curve, normal, outlook, point, summary, times, value};
+use crate::{bench, certify, check, curve, load, normal, outlook, point, summary, times, value};
 use arrayvec::ArrayVec;
 use pc_bench::MOST_ACTIVITIES;
 use pc_edges::Sink;
+use pc_load::MAX_DAYS;
 use pc_project::Project;
 use pc_text::read_number;
 use std::alloc::Global;
@@ -38,7 +39,8 @@ pub(crate) fn usage() -> ArrayVec<u8, USAGE_ROOM>
     append(&mut line, b" | ", point::WORDS);
     append(&mut line, b" L | ", outlook::WORDS);
     append(&mut line, b" L | ", bench::WORDS);
-    append(&mut line, b" N\n", b"");
+    append(&mut line, b" N | ", load::WORDS);
+    append(&mut line, b" P\n", b"");
     line
 }
 
@@ -74,6 +76,8 @@ pub(crate) enum Form {
     Outlook(u64),
     /// Figures of the curve of the benchmark's deck with so many activities.
     Bench(u64),
+    /// What is spent and taken in each period of so many days.
+    Load(u64),
 }
 
 impl Form {
@@ -126,6 +130,10 @@ impl Form {
             read_number(number)
                 .filter(|n| (1..=MOST_ACTIVITIES).contains(n))
                 .map(Form::Bench)
+        } else if word == load::WORDS {
+            read_number(number)
+                .filter(|days| (1..=MAX_DAYS).contains(days))
+                .map(Form::Load)
         } else {
             None
         }
@@ -146,7 +154,8 @@ impl Form {
             | Form::Curve
             | Form::Certify
             | Form::Point(_)
-            | Form::Outlook(_) => None,
+            | Form::Outlook(_)
+            | Form::Load(_) => None,
         }
     }
 
@@ -159,6 +168,7 @@ impl Form {
         out: &mut O,
         err: &mut E,
     ) -> Status
+        requires { IsNumbered self }
         ensures { Replies self project.now (side O.taken O.faults out.old out.new) (side E.taken E.faults err.old err.new) result }
     {
         match self {
@@ -172,6 +182,7 @@ impl Form {
             Form::Point(limit) => point::answer(alloc, limit, project, out, err),
             Form::Outlook(limit) => outlook::answer(alloc, limit, project, out, err),
             Form::Bench(n) => bench::answer(alloc, n, project, out),
+            Form::Load(days) => load::answer(alloc, days, project, out, err),
         }
     }
 }

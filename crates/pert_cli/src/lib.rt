@@ -10,6 +10,7 @@ mod check;
 mod curve;
 mod ending;
 mod forms;
+mod load;
 mod normal;
 mod outlook;
 mod point;
