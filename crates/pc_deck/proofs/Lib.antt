@@ -11,3 +11,5 @@ pub mod RefusalLemmas
 pub mod ToldLemmas
 pub mod SaysLemmas
 pub mod DeckLaws
+pub mod WrittenLemmas
+pub mod RowsLemmas
