@@ -13,3 +13,4 @@ pub mod SaysLemmas
 pub mod DeckLaws
 pub mod WrittenLemmas
 pub mod RowsLemmas
+pub mod PutLemmas

@@ -63,8 +63,8 @@ word-text kind = IsUtf8-from_is_utf8 (word_of kind) refl
 -- where the values of fields are written as these
 spelled : (kind : Kind) (card : CardOf kind) (row : ℕ) (fields : List (List ℕ)) → card ≡ card_of kind row fields → (entry_of kind).written card ≡ all_respelled (slots_of kind) fields
     → AllFit (slots_of kind) fields → All IsUtf8 fields → IsWritten kind card
-spelled kind card row fields is as fit text =
-    let same : record_of kind card ≡ word_of kind ∷ fields_of (slots_of kind) fields = ap (λ rest. word_of kind ∷ rest) (as ∙ all_respelled-same (slots_of kind) fields fit) in
+spelled kind card row fields is values fit text =
+    let same : record_of kind card ≡ word_of kind ∷ fields_of (slots_of kind) fields = ap (λ rest. word_of kind ∷ rest) (values ∙ all_respelled-same (slots_of kind) fields fit) in
     record {
       whole = subst (λ r. is_whole (least_width_of kind) (width_of kind) r ≡ true) (sym same) (whole_again kind (word_of kind) fields);
       fit = subst (AllFit (slots_of kind)) (sym same) (fit_again kind (word_of kind) fields fit);

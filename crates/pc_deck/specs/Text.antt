@@ -1,5 +1,5 @@
 -- The text of a deck in its one form: what a deck says is written as cards of version 2, kind by kind.
-use Rattle.std.specs.Prelude.{ℕ, ℤ, ◌+◌, ◌&&◌, ◌==◌, List, [], ◌∷◌, length, map, flat_map, Bool, Option, Some, None, if◌then◌else◌}
+use Rattle.std.specs.Prelude.{ℕ, ℤ, ◌+◌, ◌&&◌, ◌==◌, List, [], ◌∷◌, length, map, flat_map, Bool, Option, Some, None, unwrap_or, if◌then◌else◌}
 use Rattle.pc_records.specs.Text.{records_text}
 use Rattle.pc_faults.specs.Kinds.{word_of}
 use Rattle.pc_faults.specs.declared.kind.Kind.{Kind}
@@ -13,8 +13,7 @@ use Rattle.pc_deck.specs.declared.kinds.terms.TermsCard.{TermsCard}
 
 -- the ASOF card; where there is none, one with the day on which the project starts
 abbrev pub settled_as_of : Option AsOfCard → ℤ → AsOfCard
-settled_as_of None start = record { row = 0; day = start }
-settled_as_of (Some card) start = card
+settled_as_of card start = unwrap_or card (record { row = 0; day = start })
 
 -- the four numbers of the card are 0, as they are where there is no card
 abbrev pub says_nothing : TermsCard → Bool

@@ -1,11 +1,11 @@
 //! Writing the text of a deck.
 ghost use Rattle.std.specs.Prelude.{◌≡◌, ◌++◌, IfOk, OnOk};
-ghost use Rattle.pc_deck.specs.Text.{deck_text, lead_text, lists_text, says_nothing};
+ghost use Rattle.pc_deck.specs.Text.{deck_text, lead_text, lists_text, says_nothing, settled_terms};
 
 use crate::cards::Cards;
 use crate::kinds::{AsOfCard, ProjectCard, TermsCard};
 use pc_cards::card::Card;
-use pc_cards::writing::put_cards;
+use pc_cards::writing::{put_card, put_cards};
 use pc_faults::Kind;
 use pc_records::RowWriter;
 use std::alloc::{AllocError, Global};
@@ -54,11 +54,10 @@ impl Cards {
             row: 0,
             day: project.start_day,
         };
-        self.as_of().unwrap_or(first).put(Kind::AsOf, text)?;
-        match self.terms() {
-            Some(terms) if !says_nothing(&terms) => terms.put(Kind::Terms, text),
-            _ => Ok(()),
-        }
+        let as_of = self.as_of().unwrap_or(first);
+        as_of.put(Kind::AsOf, text)?;
+        put_card(settled_terms(self.terms()), Kind::Terms, text)?;
+        Ok(())
     }
 
     /// Puts the cards of the other kinds, one kind after the other.
@@ -74,8 +73,17 @@ impl Cards {
         put_cards(self.togos(), Kind::ToGo, text)?;
         put_cards(self.statuses(), Kind::Status, text)?;
         put_cards(self.resources(), Kind::Res, text)?;
-        put_cards(self.loads(), Kind::Load, text)
+        put_cards(self.loads(), Kind::Load, text)?;
+        Ok(())
     }
+}
+
+/// The TERMS card, where it says something.
+fn settled_terms(terms: Option<TermsCard>) -> Option<TermsCard>
+    ensures { result ≡ settled_terms terms }
+{
+    let card = terms?;
+    if says_nothing(&card) { None } else { Some(card) }
 }
 
 /// Whether the four numbers of a TERMS card are 0.

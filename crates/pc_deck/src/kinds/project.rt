@@ -1,4 +1,5 @@
 //! PROJECT: what the project is called, where it starts and ends, and when.
+ghost use Rattle.std.specs.Prelude.{◌≡◌, [], if◌then◌else◌};
 ghost use Rattle.pc_deck.specs.Project.{project_slots, project_of, written_project};
 
 use pc_cards::card::{Card, Layout};
@@ -96,11 +97,6 @@ impl Card for ProjectCard {
         let card = *self;
         let start_day = day_text(card.start_day);
         let days = digits(card.directed.unwrap_or(0));
-        let directed = if card.directed.is_some() {
-            days.bytes()
-        } else {
-            b"".as_slice()
-        };
         text.put(&[
             kind.word(),
             card.code.bytes(),
@@ -108,9 +104,16 @@ impl Card for ProjectCard {
             card.end.bytes(),
             start_day.as_slice(),
             digits(card.unit_days).bytes(),
-            directed,
+            where_so(card.directed.is_some(), days.bytes()),
             card.title.bytes(),
             digits(card.version).bytes(),
         ])
     }
+}
+
+/// The bytes, where the test holds, or else none.
+fn where_so(test: bool, bytes: &[u8]) -> &[u8]
+    ensures { result.now ≡ (if test then bytes.now else []) }
+{
+    if test { bytes } else { &[] }
 }

@@ -1,4 +1,6 @@
 //! STATUS: when an activity was begun or ended.
+ghost use Rattle.std.specs.Prelude.{◌≡◌};
+ghost use Rattle.pc_cards.specs.Forms.{letter_text};
 ghost use Rattle.pc_deck.specs.Status.{status_slots, status_of, written_status};
 
 use crate::cards::Cards;
@@ -53,10 +55,16 @@ impl Card for StatusCard {
     fn put(&self, kind: Kind, text: &mut RowWriter) -> Result<(), AllocError> {
         // A copy, so that all that is lent below lives equally long.
         let card = *self;
-        let letter = if card.finished { b"F" } else { b"S" };
         let day = day_text(card.day);
-        text.put(&[kind.word(), card.activity.bytes(), letter.as_slice(), day.as_slice()])
+        text.put(&[kind.word(), card.activity.bytes(), letter(card.finished), day.as_slice()])
     }
+}
+
+/// The letter of a status: `F` where the activity is finished, or else `S`.
+fn letter(finished: bool) -> &'static [u8]
+    ensures { result.now ≡ letter_text finished }
+{
+    if finished { b"F" } else { b"S" }
 }
 
 impl Cards {
