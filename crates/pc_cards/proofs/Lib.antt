@@ -2,3 +2,4 @@ pub mod FindLemmas
 pub mod MisfitLemmas
 pub mod NameLemmas
 pub mod FitLemmas
+pub mod RoomLemmas

@@ -5,6 +5,10 @@ use Rattle.std.proofs.lemmas.Bool.{and_parts, cases_Bool, eqb-true, false≢true
 use Rattle.csv.specs.Writing.{default_writer, escaped, field_text, fields_text, is_blank, needs_byte, quoted}
 use Rattle.pc_records.specs.Text.{record_text}
 
+-- a field as it is written
+abbrev pub written_field : List ℕ → List ℕ
+written_field field = field_text default_writer field
+
 -- a quote that is written twice makes a field at most twice as long
 length-escaped : (field : List ℕ) → length (escaped default_writer field) ≤ 2 * length field
 unfolding escaped
@@ -17,8 +21,8 @@ length-escaped (b ∷ rest) = by (b == 34) (length-escaped rest)
     by false more = omega arith
 
 -- and quotes stand around it
-pub length-field_text : (field : List ℕ) → length (field_text default_writer field) ≤ 2 * length field + 2
-length-field_text field = by (list_any (needs_byte default_writer) field)
+pub length-written_field : (field : List ℕ) → length (written_field field) ≤ 2 * length field + 2
+length-written_field field = by (list_any (needs_byte default_writer) field)
   where
     by : (needs : Bool) → length (if needs then quoted default_writer field else field) ≤ 2 * length field + 2
     by true = omega (arith, length-escaped field, length-append (escaped default_writer field) (34 ∷ []))
@@ -47,18 +51,18 @@ plain_field passes (b ∷ rest) plain pass =
     let parts = and_parts (passes b) (list_all passes rest) pass in
     rw (plain_byte passes b plain parts.0) (plain_field passes rest plain parts.1)
 
-pub field_text-plain : (passes : ℕ → Bool) (field : List ℕ) → IsPlain passes → list_all passes field ≡ true → field_text default_writer field ≡ field
-field_text-plain passes field plain pass = rw (plain_field passes field plain pass) refl
+pub written_field-plain : (passes : ℕ → Bool) (field : List ℕ) → IsPlain passes → list_all passes field ≡ true → written_field field ≡ field
+written_field-plain passes field plain pass = rw (plain_field passes field plain pass) refl
 
 -- how long fields are as they are written, a comma or the end of the line behind each
 abbrev pub written_length : List (List ℕ) → ℕ
 written_length [] = 0
-written_length (field ∷ rest) = (length (field_text default_writer field) + 1) + written_length rest
+written_length (field ∷ rest) = (length (written_field field) + 1) + written_length rest
 
 length-fields_text : (fields : List (List ℕ)) → length (fields_text default_writer fields) ≡ written_length fields
 unfolding fields_text
 length-fields_text [] = refl
-length-fields_text (field ∷ rest) = omega (arith, length-append (field_text default_writer field) (fields_text default_writer rest), length-fields_text rest)
+length-fields_text (field ∷ rest) = omega (arith, length-append (written_field field) (fields_text default_writer rest), length-fields_text rest)
 
 -- a record of fields is no longer, but for two quotes where it shows no byte
 pub length-record_text : (field : List ℕ) (rest : List (List ℕ)) → length (record_text (field ∷ rest)) ≤ written_length (field ∷ rest) + 2
@@ -66,11 +70,11 @@ unfolding record_text
 length-record_text field rest = by (is_blank default_writer (field ∷ rest))
   where
     body : List ℕ
-    body = field_text default_writer field ++ fields_text default_writer rest
+    body = written_field field ++ fields_text default_writer rest
 
     blank : Bool → List ℕ
     blank test = if test then 34 ∷ 34 ∷ [] else []
 
     by : (test : Bool) → length (body ++ (blank test ++ 10 ∷ [])) ≤ written_length (field ∷ rest) + 2
-    by true = omega (arith, length-append body (34 ∷ 34 ∷ 10 ∷ []), length-append (field_text default_writer field) (fields_text default_writer rest), length-fields_text rest)
-    by false = omega (arith, length-append body (10 ∷ []), length-append (field_text default_writer field) (fields_text default_writer rest), length-fields_text rest)
+    by true = omega (arith, length-append body (34 ∷ 34 ∷ 10 ∷ []), length-append (written_field field) (fields_text default_writer rest), length-fields_text rest)
+    by false = omega (arith, length-append body (10 ∷ []), length-append (written_field field) (fields_text default_writer rest), length-fields_text rest)
