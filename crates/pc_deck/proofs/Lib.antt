@@ -11,3 +11,4 @@ pub mod RefusalLemmas
 pub mod ToldLemmas
 pub mod SaysLemmas
 pub mod DeckLaws
+pub mod FaultlessLemmas
