@@ -3,3 +3,4 @@ pub mod MisfitLemmas
 pub mod NameLemmas
 pub mod FitLemmas
 pub mod RoomLemmas
+pub mod SpellingLemmas

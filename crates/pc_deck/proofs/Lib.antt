@@ -12,3 +12,5 @@ pub mod ToldLemmas
 pub mod SaysLemmas
 pub mod DeckLaws
 pub mod FaultlessLemmas
+pub mod WrittenLemmas
+pub mod RowsLemmas

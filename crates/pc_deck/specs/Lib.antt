@@ -13,6 +13,7 @@ pub mod Load
 pub mod End
 pub mod Kinds
 pub mod Deck
+pub mod Text
 pub mod Judged
 pub mod Reading
 pub mod Within

@@ -12,6 +12,7 @@ mod draft;
 mod kinds;
 mod limits;
 mod read;
+mod text;
 
 pub use crate::cards::Cards;
 pub use crate::kinds::{

@@ -1,5 +1,5 @@
 //! Reading the cards of a deck, or its first fault.
-ghost use Rattle.std.specs.Prelude.{◌≡◌, ◌≤◌, ◌+◌, length, Ok, Err, IfOk, IfErr, OnOk};
+ghost use Rattle.std.specs.Prelude.{◌≡◌, true, ◌≤◌, ◌+◌, length, Ok, Err, IfOk, IfErr, OnOk};
 ghost use Rattle.std.specs.Str.{is_utf8};
 ghost use Rattle.pc_records.specs.Deck.{deck_records};
 ghost use Rattle.pc_faults.specs.First.{Refuses};
@@ -49,7 +49,8 @@ fn is_utf8(bytes: &[u8]) -> bool
 
 /// The cards of a deck that is UTF-8, or its first fault.
 fn cards_of(alloc: Global, bytes: &[u8]) -> Result<Cards, DeckError>
-    requires { length bytes.now ≤ DECK_LIMIT }
+    requires short { length bytes.now ≤ DECK_LIMIT }
+    requires utf8 { is_utf8 bytes.now ≡ true }
     ensures cards { IfOk result (λ cards. cards_of bytes.now ≡ Ok cards) }
     ensures fault { IfErr result (Refuses (λ fault. cards_of bytes.now ≡ Err fault)) }
 {
@@ -67,6 +68,7 @@ fn cards_of(alloc: Global, bytes: &[u8]) -> Result<Cards, DeckError>
 /// Takes the cards of a deck one by one, up to the first fault, and gives the number behind the last record.
 fn take_all(alloc: Global, bytes: &[u8], draft: &mut Draft) -> Result<u32, DeckError>
     requires short { length bytes.now ≤ DECK_LIMIT }
+    requires utf8 { is_utf8 bytes.now ≡ true }
     requires within { IsDraftWithin draft.old }
     ensures cards { IfOk result (λ end. closed draft.new end ≡ read_from draft.old (length (deck_records bytes.now) + 1) (deck_cards bytes.now)) }
     ensures within { OnOk result (IsDraftWithin draft.new) }

@@ -1,13 +1,15 @@
 //! STATUS: when an activity was begun or ended.
-ghost use Rattle.pc_deck.specs.Status.{status_slots, status_of};
+ghost use Rattle.pc_deck.specs.Status.{status_slots, status_of, written_status};
 
 use crate::cards::Cards;
-use pc_cards::card::Card;
+use pc_cards::card::{Card, Layout};
 use pc_cards::field::{Misfit, read_code, read_date, read_letter};
 use pc_cards::form::{Form, Slot};
-use pc_days::Day;
-use pc_records::Row;
+use pc_days::{Day, day_text};
+use pc_faults::Kind;
+use pc_records::{Row, RowWriter};
 use pc_text::Code;
+use std::alloc::AllocError;
 
 /// A STATUS card: when an activity was begun or, where `finished`, ended.
 #[derive(Clone, Copy, Debug)]
@@ -29,16 +31,14 @@ impl Card for StatusCard {
 
     ghost spelled = { status_of };
 
-    fn slots() -> &'static [Slot] {
-        &SLOTS
-    }
+    ghost written = { written_status };
 
-    fn least_width() -> usize {
-        4
-    }
-
-    fn width() -> usize {
-        4
+    fn layout() -> Layout {
+        Layout {
+            slots: &SLOTS,
+            least: 4,
+            most: 4,
+        }
     }
 
     fn read(row: u32, fields: &Row) -> Result<StatusCard, Misfit> {
@@ -48,6 +48,14 @@ impl Card for StatusCard {
             finished: read_letter(fields, 3)?,
             day: read_date(fields, 4)?,
         })
+    }
+
+    fn put(&self, kind: Kind, text: &mut RowWriter) -> Result<(), AllocError> {
+        // A copy, so that all that is lent below lives equally long.
+        let card = *self;
+        let letter = if card.finished { b"F" } else { b"S" };
+        let day = day_text(card.day);
+        text.put(&[kind.word(), card.activity.bytes(), letter.as_slice(), day.as_slice()])
     }
 }
 
