@@ -11,6 +11,7 @@ pub mod RefusalLemmas
 pub mod ToldLemmas
 pub mod SaysLemmas
 pub mod DeckLaws
+pub mod FaultlessLemmas
 pub mod WrittenLemmas
 pub mod RowsLemmas
 pub mod PutLemmas
