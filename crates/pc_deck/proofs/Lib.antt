@@ -15,3 +15,7 @@ pub mod FaultlessLemmas
 pub mod WrittenLemmas
 pub mod RowsLemmas
 pub mod PutLemmas
+pub mod LengthLemmas
+pub mod OrderLemmas
+pub mod TextLaws
+pub mod AgainLemmas
