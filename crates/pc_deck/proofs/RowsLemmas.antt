@@ -3,7 +3,7 @@ use Rattle.std.proofs.Common.{◌≡◌, ℕ, ◌+◌, Bool, true, false, List, 
 use Rattle.std.specs.List.{enumerate_from}
 use Rattle.std.specs.Prelude.{option_map}
 use Rattle.std.proofs.lemmas.List.{length-map}
-use Rattle.std.proofs.lemmas.List.Elements.{filter-append}
+use Rattle.std.proofs.lemmas.List.Elements.{All-append, All-cons, All-nil, filter-append}
 use Rattle.pc_records.specs.Deck.{field_at}
 use Rattle.pc_faults.specs.Kinds.{word_of}
 use Rattle.pc_faults.specs.declared.kind.Kind.{Kind}
@@ -15,7 +15,8 @@ use Rattle.pc_deck.specs.Deck.{Deck, list_of}
 use Rattle.pc_deck.specs.Refusal.{of_kind}
 use Rattle.pc_deck.specs.Says.{Says, spelled}
 use Rattle.pc_deck.specs.Text.{deck_rows, first_record, record_of, records_of, renumbered, settled}
-use Rattle.pc_deck.proofs.WrittenLemmas.{IsWritten}
+use Rattle.pc_deck.specs.Within.{IsWithinLimits}
+use Rattle.pc_deck.proofs.WrittenLemmas.{IsWritten, written-settled}
 
 enumerate_from-append : (row : ℕ) (some more : List (List (List ℕ))) → enumerate_from row (some ++ more) ≡ enumerate_from row some ++ enumerate_from (row + length some) more
 enumerate_from-append row [] more = let same : row ≡ row + 0 = omega arith in ap (λ (n : ℕ). enumerate_from n more) same
@@ -83,3 +84,28 @@ all_cards row (r ∷ rows) all =
     let here : is_card (0, r) ≡ true = all 0 r (omega arith) in
     ap (λ (b : Bool). if b then (row, r) ∷ cards_from (row + 1) rows else cards_from (row + 1) rows) here
     ∙ ap (λ rest. (row, r) ∷ rest) (all_cards (row + 1) rows (λ k d below. all (suc k) d (omega arith)))
+
+a_card : (kind : Kind) (card : CardOf kind) → is_card (0, record_of kind card) ≡ true
+a_card Project card = refl
+a_card kind card = refl
+
+are_cards : (kind : Kind) (cards : List (CardOf kind)) → All (λ (r : List (List ℕ)). is_card (0, r) ≡ true) (map (record_of kind) cards)
+are_cards kind [] = All-nil (λ (r : List (List ℕ)). is_card (0, r) ≡ true)
+are_cards kind (card ∷ cards) = All-cons (λ (r : List (List ℕ)). is_card (0, r) ≡ true) (record_of kind card) (map (record_of kind) cards) (a_card kind card) (are_cards kind cards)
+
+some_cards : (deck : Deck) (some : List Kind) → All (λ (r : List (List ℕ)). is_card (0, r) ≡ true) (flat_map (records_of deck) some)
+some_cards deck [] = All-nil (λ (r : List (List ℕ)). is_card (0, r) ≡ true)
+some_cards deck (kind ∷ rest) =
+    All-append (λ (r : List (List ℕ)). is_card (0, r) ≡ true) (records_of deck kind) (flat_map (records_of deck) rest) (are_cards kind (list_of deck kind)) (some_cards deck rest)
+
+-- each record of a deck is a card
+pub rows-cards : (deck : Deck) → cards_from 1 (deck_rows deck) ≡ enumerate_from 1 (deck_rows deck)
+rows-cards deck = all_cards 1 (deck_rows deck) (some_cards (settled deck) kinds)
+
+-- so the records of a deck say the same deck, settled and with other record numbers
+pub rows-say : (deck : Deck) → IsWithinLimits deck → Says (cards_from 1 (deck_rows deck)) (renumbered (settled deck))
+rows-say deck limits kind =
+    ap (λ (cards : List Numbered). spelled kind cards) (rows-cards deck)
+    ∙ (ap (map (λ (c : Numbered). card_of kind c.0 c.1)) (of_kind-all (settled deck) kind)
+    ∙ (reads kind (first_record (settled deck) kind) (list_of (settled deck) kind) (written-settled deck limits kind)
+    ∙ sym (list-renumbered (settled deck) kind)))

@@ -1,8 +1,12 @@
 -- A card that is written is read as the same card, in another record.
-use Rattle.std.proofs.Common.{◌≡◌, ℕ, true, false, List, [], ◌∷◌, map, get_or, codes, Option, Some, None, All, if◌then◌else◌, Bool, refl, sym, ap, ◌∙◌, subst, arith, zero, suc}
+use Rattle.std.proofs.Common.{◌≡◌, ℕ, ◌<◌, nat_lt, true, false, List, [], ◌∷◌, ◌++◌, map, take, get_or, codes, Option, Some, None, All, if◌then◌else◌, Bool, refl, sym, ap, ◌∙◌, subst, arith, zero, suc}
 use Rattle.std.specs.Str.{IsUtf8}
-use Rattle.std.proofs.lemmas.Str.{IsUtf8-from_is_utf8, IsUtf8-nil}
-use Rattle.std.proofs.lemmas.List.Elements.{All-cons, All-head, All-nil, All-tail}
+use Rattle.std.specs.List.{list_all}
+use Rattle.std.proofs.lemmas.Str.{IsUtf8-nil}
+use Rattle.std.proofs.lemmas.Bool.{and_parts}
+use Rattle.std.proofs.lemmas.Bool.Decides.{nat_tests}
+use Rattle.pc_records.proofs.Utf8Facts.{join_ascii}
+use Rattle.std.proofs.lemmas.List.Elements.{All-append, All-cons, All-head, All-nil, All-tail}
 use Rattle.pc_records.specs.Deck.{field_at}
 use Rattle.pc_faults.specs.Kinds.{word_of}
 use Rattle.pc_faults.specs.declared.kind.Kind.{Kind}
@@ -56,9 +60,18 @@ fields-text [] fields all = All-nil IsUtf8
 fields-text (slot ∷ slots) fields all =
     All-cons IsUtf8 (field_numbered fields slot.0) (fields_of slots fields) (field-text fields _ all) (fields-text slots fields all)
 
+-- bytes of ASCII are text
+ascii-text : (bytes : List ℕ) → list_all (λ b. nat_lt b 128) bytes ≡ true → IsUtf8 bytes
+ascii-text [] all = IsUtf8-nil
+ascii-text (b ∷ rest) all =
+    let parts = and_parts (nat_lt b 128) (list_all (λ c. nat_lt c 128) rest) all in join_ascii b rest (below b parts.0) (ascii-text rest parts.1)
+  where
+    below : (n : ℕ) → nat_lt n 128 ≡ true → n < 128
+    below n h = grind (arith, nat_tests)
+
 word-text : (kind : Kind) → IsUtf8 (word_of kind)
-word-text Project = IsUtf8-from_is_utf8 (word_of Project) refl
-word-text kind = IsUtf8-from_is_utf8 (word_of kind) refl
+word-text Project = ascii-text (word_of Project) refl
+word-text kind = ascii-text (word_of kind) refl
 
 -- where the values of fields are written as these
 spelled : (kind : Kind) (card : CardOf kind) (row : ℕ) (fields : List (List ℕ)) → card ≡ card_of kind row fields → (entry_of kind).written card ≡ all_respelled (slots_of kind) fields
@@ -97,15 +110,9 @@ module _ (project : ProjectCard) (row : ℕ) (fields : List (List ℕ)) (is : pr
 
   second-text : All IsUtf8 (second_fields fields)
   second-text =
-      All-cons IsUtf8 _ _ IsUtf8-nil
-      (All-cons IsUtf8 _ _ (field-text fields 1 text)
-      (All-cons IsUtf8 _ _ (field-text fields 2 text)
-      (All-cons IsUtf8 _ _ (field-text fields 3 text)
-      (All-cons IsUtf8 _ _ (field-text fields 4 text)
-      (All-cons IsUtf8 _ _ (field-text fields 5 text)
-      (All-cons IsUtf8 _ _ (field-text fields 6 text)
-      (All-cons IsUtf8 _ _ (field-text fields 7 text)
-      (All-one IsUtf8 (codes "2") (IsUtf8-from_is_utf8 (codes "2") refl)))))))))
+      let front = fields_of (take 7 project_slots) fields in
+      All-cons IsUtf8 [] (front ++ codes "2" ∷ []) IsUtf8-nil
+      (All-append IsUtf8 front (codes "2" ∷ []) (fields-text (take 7 project_slots) fields text) (All-one IsUtf8 (codes "2") (ascii-text (codes "2") refl)))
 
 -- the PROJECT card of version 2
 project-fit : (project : ProjectCard) → IsFit Project project → IsFit Project (record project { version = 2 })
