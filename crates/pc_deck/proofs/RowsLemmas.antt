@@ -1,7 +1,6 @@
 -- The records of a deck, kind by kind: those of one kind are its cards' records, one behind the other, and spell its cards.
-use Rattle.std.proofs.Common.{◌≡◌, ℕ, ◌+◌, Bool, true, false, List, [], ◌∷◌, ◌++◌, length, map, filter, flat_map, Option, Some, None, All, refl, sym, ap, ◌∙◌, subst, arith, append-nil, if◌then◌else◌, bytes_eq, zero, suc, not}
+use Rattle.std.proofs.Common.{◌≡◌, ℕ, ◌+◌, Bool, true, false, List, [], ◌∷◌, ◌++◌, length, map, flat_map, Some, None, All, refl, sym, ap, ◌∙◌, arith, append-nil, if◌then◌else◌, bytes_eq, suc}
 use Rattle.std.specs.List.{enumerate_from}
-use Rattle.std.specs.Prelude.{option_map}
 use Rattle.std.proofs.lemmas.List.{length-map}
 use Rattle.std.proofs.lemmas.List.Elements.{All-append, All-cons, All-nil, filter-append}
 use Rattle.pc_records.specs.Deck.{field_at}
@@ -9,7 +8,7 @@ use Rattle.pc_faults.specs.Kinds.{word_of}
 use Rattle.pc_faults.specs.declared.kind.Kind.{Kind}
 use Rattle.pc_faults.specs.declared.kind.Kind.TheVariants.{Project, End}
 use Rattle.pc_cards.specs.Cards.{Numbered, cards_from, is_card}
-use Rattle.pc_cards.specs.Named.{HeldBy, as_list, listed_by, numbered_by, numbered_from}
+use Rattle.pc_cards.specs.Named.{HeldBy, listed_by, numbered_by, numbered_from}
 use Rattle.pc_deck.specs.Kinds.{CardOf, card_of, entry_of, held_in, is_same, kinds, stands_once}
 use Rattle.pc_deck.specs.Deck.{Deck, list_of}
 use Rattle.pc_deck.specs.Refusal.{of_kind}
@@ -18,7 +17,7 @@ use Rattle.pc_deck.specs.Text.{deck_rows, first_record, record_of, records_of, r
 use Rattle.pc_deck.specs.Within.{IsWithinLimits}
 use Rattle.pc_deck.proofs.WrittenLemmas.{IsWritten, written-settled}
 
-enumerate_from-append : (row : ℕ) (some more : List (List (List ℕ))) → enumerate_from row (some ++ more) ≡ enumerate_from row some ++ enumerate_from (row + length some) more
+pub enumerate_from-append : (row : ℕ) (some more : List (List (List ℕ))) → enumerate_from row (some ++ more) ≡ enumerate_from row some ++ enumerate_from (row + length some) more
 enumerate_from-append row [] more = let same : row ≡ row + 0 = omega arith in ap (λ (n : ℕ). enumerate_from n more) same
 enumerate_from-append row (x ∷ some) more =
     let same : row + 1 + length some ≡ row + suc (length some) = omega arith in
@@ -72,7 +71,7 @@ listed-numbered true C at_row row None = refl
 listed-numbered true C at_row row (Some card) = refl
 listed-numbered false C at_row row held = refl
 
-list-renumbered : (deck : Deck) (kind : Kind) → list_of (renumbered deck) kind ≡ numbered_from (entry_of kind).at_row (first_record deck kind) (list_of deck kind)
+pub list-renumbered : (deck : Deck) (kind : Kind) → list_of (renumbered deck) kind ≡ numbered_from (entry_of kind).at_row (first_record deck kind) (list_of deck kind)
 list-renumbered deck Project = refl
 list-renumbered deck End = refl
 list-renumbered deck kind = listed-numbered (stands_once kind) (CardOf kind) (entry_of kind).at_row (first_record deck kind) (held_in deck.lists kind)
