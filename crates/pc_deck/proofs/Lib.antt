@@ -15,3 +15,4 @@ pub mod FaultlessLemmas
 pub mod WrittenLemmas
 pub mod RowsLemmas
 pub mod PutLemmas
+pub mod TitleLemmas
