@@ -45,7 +45,7 @@ fn is_written_as(alloc: Global, deck: &[u8], text: &[u8]) -> Option<bool>
 fn writes_the_text_of_a_deck(rt: HostRuntime) {
     assert_eq!(rt; is_written_as(rt.alloc(), TO_SETTLE, SETTLED), Some(true));
     assert_eq!(rt; is_written_as(rt.alloc(), SETTLED, SETTLED), Some(true));
-    assert_eq!(rt; is_written_as(rt.alloc(), EACH_KIND, EACH_KIND), Some(false));
+    assert_eq!(rt; is_written_as(rt.alloc(), EACH_KIND, EACH_KIND), Some(true));
 }
 
 #[test]
