@@ -16,3 +16,7 @@ pub mod WrittenLemmas
 pub mod RowsLemmas
 pub mod PutLemmas
 pub mod TitleLemmas
+pub mod LengthLemmas
+pub mod OrderLemmas
+pub mod TextLaws
+pub mod AgainLemmas

@@ -10,6 +10,7 @@
 mod cards;
 mod draft;
 mod kinds;
+pub mod laws;
 mod limits;
 mod read;
 mod text;
