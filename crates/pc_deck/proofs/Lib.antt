@@ -15,6 +15,7 @@ pub mod FaultlessLemmas
 pub mod WrittenLemmas
 pub mod RowsLemmas
 pub mod PutLemmas
+pub mod TitleLemmas
 pub mod LengthLemmas
 pub mod OrderLemmas
 pub mod TextLaws

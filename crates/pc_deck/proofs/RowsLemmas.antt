@@ -71,6 +71,7 @@ listed-numbered true C at_row row None = refl
 listed-numbered true C at_row row (Some card) = refl
 listed-numbered false C at_row row held = refl
 
+-- each list in its new records
 pub list-renumbered : (deck : Deck) (kind : Kind) → list_of (renumbered deck) kind ≡ numbered_from (entry_of kind).at_row (first_record deck kind) (list_of deck kind)
 list-renumbered deck Project = refl
 list-renumbered deck End = refl

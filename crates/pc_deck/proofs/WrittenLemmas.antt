@@ -49,7 +49,8 @@ pub record IsWritten (kind : Kind) (card : CardOf kind) : Type 0 where
   pub text : All IsUtf8 (record_of kind card)
   pub reads : (row : ℕ) → card_of kind row (record_of kind card) ≡ (entry_of kind).at_row row card
 
-field-text : (fields : List (List ℕ)) (i : ℕ) → All IsUtf8 fields → IsUtf8 (field_at fields i)
+-- a field of a card of text is text
+pub field-text : (fields : List (List ℕ)) (i : ℕ) → All IsUtf8 fields → IsUtf8 (field_at fields i)
 field-text [] i all = IsUtf8-nil
 field-text (field ∷ fields) zero all = All-head IsUtf8 field fields all
 field-text (field ∷ fields) (suc i) all = field-text fields i (All-tail IsUtf8 field fields all)

@@ -17,6 +17,7 @@ pub mod Text
 pub mod Judged
 pub mod Reading
 pub mod Within
+pub mod Titles
 pub mod Refusal
 pub mod Says
 pub mod Read

@@ -8,7 +8,8 @@ ghost use Rattle.pc_deck.specs.Reading.{cards_of, closed, read_from};
 ghost use Rattle.pc_cards.specs.Cards.{deck_cards};
 ghost use Rattle.pc_deck.specs.Read.{IsDeckOf};
 ghost use Rattle.pc_deck.specs.Refusal.{IsCardRefusal};
-ghost use Rattle.pc_deck.specs.Within.{IsDraftWithin};
+ghost use Rattle.pc_deck.specs.Titles.{AreTitlesText};
+ghost use Rattle.pc_deck.specs.Within.{IsDraftWithin, IsWithinLimits};
 
 use crate::cards::Cards;
 use crate::draft::Draft;
@@ -33,6 +34,8 @@ const ROW_FIELDS: usize = 64;
 pub fn read_cards(alloc: Global, bytes: &[u8]) -> Result<Cards, DeckError>
     requires { length bytes.now ≤ longest_deck }
     ensures accepted { IfOk result (IsDeckOf bytes.now) }
+    ensures within { IfOk result IsWithinLimits }
+    ensures titles { IfOk result AreTitlesText }
     ensures first { IfErr result (Refuses (IsCardRefusal bytes.now)) }
 {
     if !is_utf8(bytes) {
@@ -52,6 +55,7 @@ fn cards_of(alloc: Global, bytes: &[u8]) -> Result<Cards, DeckError>
     requires short { length bytes.now ≤ DECK_LIMIT }
     requires utf8 { is_utf8 bytes.now ≡ true }
     ensures cards { IfOk result (λ cards. cards_of bytes.now ≡ Ok cards) }
+    ensures within { IfOk result IsWithinLimits }
     ensures fault { IfErr result (Refuses (λ fault. cards_of bytes.now ≡ Err fault)) }
 {
     let mut draft = Draft::new(alloc);

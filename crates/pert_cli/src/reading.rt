@@ -2,7 +2,7 @@
 ghost use Rattle.std.specs.Prelude.{◌≡◌, ◌≤◌, length, IfOk, IfErr};
 ghost use Rattle.pc_faults.specs.First.{Refuses};
 ghost use Rattle.pc_deck.specs.Limits.{longest_deck};
-ghost use Rattle.pc_bench.specs.Deck.{deck_text};
+ghost use Rattle.pc_bench.specs.Deck.{bench_text};
 ghost use Rattle.pert_cli.specs.FormDeck.{HasProjectFor, HasNoProjectFor, IsNoProjectOf};
 ghost use Rattle.pert_cli.specs.Forms.{IsNumbered};
 ghost use Rattle.pert_cli.specs.Reading.{HasProject, HasNoProject};
@@ -47,8 +47,8 @@ pub(crate) fn project_for<S: Source>(
 fn bench_project(alloc: Global, n: u64) -> Result<Project, NoProject>
     requires least { 1 ≤ n }
     requires most { n ≤ MOST_ACTIVITIES }
-    ensures project { IfOk result (IsProjectOf (deck_text n)) }
-    ensures none { IfErr result (IsNoProjectOf (deck_text n)) }
+    ensures project { IfOk result (IsProjectOf (bench_text n)) }
+    ensures none { IfErr result (IsNoProjectOf (bench_text n)) }
 {
     let Ok(deck) = bench_deck(alloc, n) else {
         return Err(NoProject::OutOfMemory);
