@@ -1,6 +1,5 @@
 pub mod ListLaws
 mod TurnLaws
 mod CurveLaws
-mod LookLaws
 mod ComeLaws
 mod ReadLaws

@@ -9,3 +9,4 @@ mod reading;
 pub use breaks::{Break, Breaks};
 pub use list_laws::breaks_make_the_list;
 pub use points::point_at;
+pub use reading::cost_at;
