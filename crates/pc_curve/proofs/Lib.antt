@@ -3,3 +3,4 @@ mod TurnLaws
 mod CurveLaws
 mod ComeLaws
 mod ReadLaws
+mod TextLaws
