@@ -4,7 +4,7 @@ ghost use Rattle.pc_crash.specs.Steps.{IsBlankOf};
 ghost use Rattle.pc_curve.specs.Points.{HasPlaces, IsToCome};
 ghost use Rattle.pc_faults.specs.FaultText.{IsTold};
 ghost use Rattle.pc_reports.specs.Schedule.{text_of, IsWhole};
-ghost use Rattle.pert_cli.specs.Certificate.{priced_in};
+ghost use Rattle.pc_reading.specs.Priced.{priced_in};
 ghost use Rattle.pert_cli.specs.Normal.{printed_text};
 ghost use Rattle.pert_cli.specs.Point.{HasNoSchedule, IsCheapest, IsCheapestFor, IsOutside, IsWithin};
 
