@@ -18,7 +18,7 @@ use Rattle.pc_deck.specs.Text.{deck_rows, first_record, record_of, records_of, r
 use Rattle.pc_deck.specs.Within.{IsWithinLimits}
 use Rattle.pc_deck.proofs.WrittenLemmas.{IsWritten, written-settled}
 
-enumerate_from-append : (row : ℕ) (some more : List (List (List ℕ))) → enumerate_from row (some ++ more) ≡ enumerate_from row some ++ enumerate_from (row + length some) more
+pub enumerate_from-append : (row : ℕ) (some more : List (List (List ℕ))) → enumerate_from row (some ++ more) ≡ enumerate_from row some ++ enumerate_from (row + length some) more
 enumerate_from-append row [] more = let same : row ≡ row + 0 = omega arith in ap (λ (n : ℕ). enumerate_from n more) same
 enumerate_from-append row (x ∷ some) more =
     let same : row + 1 + length some ≡ row + suc (length some) = omega arith in
