@@ -4,3 +4,4 @@ mod CurveLaws
 mod LookLaws
 mod ComeLaws
 mod ReadLaws
+mod TextLaws

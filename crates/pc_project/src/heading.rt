@@ -3,6 +3,7 @@ ghost use Rattle.std.specs.Prelude.{◌≡◌};
 ghost use Rattle.pc_project.specs.Project.{counts_of, time_terms_of};
 
 use pc_deck::Cards;
+use pc_model::TimeTerms;
 
 /// How many cards of each kind a deck has.
 #[derive(Clone, Copy, Debug, PartialEq, Eq)]
@@ -29,19 +30,6 @@ pub(crate) fn count_cards(cards: &Cards) -> Counts
         togos: cards.togos().len() as u64,
         statuses: cards.statuses().len() as u64,
     }
-}
-
-/// What time costs: amounts of money for each unit of the project's length, and for each unit by which the end comes
-/// before or after the target.
-#[derive(Clone, Copy, Debug)]
-pub(crate) struct TimeTerms {
-    pub overhead: u64,
-    /// The length, in units, from which on an end is late.
-    pub target: u64,
-    /// What each unit before the target brings.
-    pub bonus: u64,
-    /// What each unit after the target costs.
-    pub penalty: u64,
 }
 
 /// What time costs by the TERMS card; nothing without one.

@@ -1,7 +1,7 @@
 //! `curve`: the breakpoints of the time-cost curve.
 ghost use Rattle.std.specs.Prelude.{◌≡◌, ℕ, List, false};
 ghost use Rattle.pc_crash.specs.Steps.{IsBlankOf};
-ghost use Rattle.pc_curve_text.specs.CurveText.{IsCurveText};
+ghost use Rattle.pc_curve.specs.CurveText.{IsCurveText};
 ghost use Rattle.pc_edges.specs.Writes.{Writes};
 ghost use Rattle.pc_page.specs.Page.{fresh};
 ghost use Rattle.pert_cli.specs.Handing.{Answers, IsReply};
@@ -11,7 +11,7 @@ ghost use Rattle.pert_cli.specs.declared.forms.Form.TheVariants.{Curve};
 use crate::solving::Workplace;
 use crate::status::Status;
 use pc_crash::{CrashNet, Steps};
-use pc_curve_text::write_curve;
+use pc_curve::write_curve;
 use pc_edges::{Failed, Sink};
 use pc_flow::Solver;
 use pc_page::Page;

@@ -1,6 +1,6 @@
 use Rattle.std.proofs.Common.{subst}
 use Rattle.pc_crash.specs.Priced.{PricedNetwork}
-use Rattle.pc_curve_text.specs.CurveText.{IsCurveText}
+use Rattle.pc_curve.specs.CurveText.{IsCurveText}
 use Rattle.pert_cli.proofs.curve.answer.Goals as goal
 
 pub returns-in-Ok-write : goal.returns-in-Ok-write

@@ -1,0 +1,21 @@
+use Rattle.std.proofs.Common.{subst, sym}
+use Rattle.pc_page.specs.Puts.{desk}
+use Rattle.pc_curve.specs.Breaks.{StandsAt, StandsBy}
+use Rattle.pc_curve.proofs.TextLaws.{ArePutTo, put-begins, put-more}
+use Rattle.pc_curve.proofs.curve_text.put_breaks.Goals as goal
+
+pub loop-point-init : goal.loop-point-init
+loop-point-init g c =
+    subst (λ last. ArePutTo c.args.solver.now last c.args.solver.now (desk g.O.Sink.taken g.O.Sink.faults c.args.page.now c.args.sink.now)
+    (desk g.O.Sink.taken g.O.Sink.faults c.args.page.now c.args.sink.now)) (sym c.new-breaks.ensures)
+    (put-begins c.args.solver.now (desk g.O.Sink.taken g.O.Sink.faults c.args.page.now c.args.sink.now) c.requires.before)
+
+pub loop-point-preserved : goal.loop-point-preserved
+loop-point-preserved g c =
+    let start = desk g.O.Sink.taken g.O.Sink.faults c.args.page.now c.args.sink.now in
+    let here = desk g.O.Sink.taken g.O.Sink.faults c.loop-point.page c.loop-point.sink in
+    let there = desk g.O.Sink.taken g.O.Sink.faults c.put_break.new.page c.put_break.new.sink in
+    let place : StandsAt c.in-Some.point.length c.next.new.solver = subst (λ last. StandsBy last c.next.new.solver) c.in-Some.ensures.last c.in-Some.ensures.place in
+    subst (λ last. ArePutTo c.args.solver.now last c.next.new.solver start there) (sym c.in-Some.ensures.last)
+    (put-more c.args.solver.now c.loop-point.solver c.next.new.solver c.loop-point.breaks start here there c.in-Some.point c.loop-point.invariant
+    c.in-Some.ensures.next c.in-Some.ensures.same place c.put_break.ensures)
