@@ -2,13 +2,13 @@
 use Rattle.std.proofs.Common.{◌≡◌, ℕ, ◌+◌, ◌<◌, ◌≤◌, List, [], ◌∷◌, ◌++◌, length, take, drop, set, Option, Some, None, sym, ap, subst, ◌∙◌, arith, append_assoc, length-append, length-take-le}
 use Rattle.std.specs.Prelude.{IsSome}
 use Rattle.std.proofs.lemmas.List.{take-append-drop, take-append-le, take_all, length-drop, length-set, take_more_set}
-use Rattle.pc_lines.specs.declared.line.CertLine.{CertLine}
-use Rattle.pc_lines.specs.Fields.{run_len}
-use Rattle.pc_lines.specs.Lines.{Lacks}
-use Rattle.pc_lines.specs.Reading.{line_of}
-use Rattle.pc_lines.proofs.FieldLemmas.{run_len-before}
-use Rattle.pc_lines.proofs.LineLaws.{line_takes}
-use Rattle.pc_lines.proofs.LineLengths.{spelling_lacks_end}
+use Rattle.pc_cert.specs.declared.line.CertLine.{CertLine}
+use Rattle.pc_cert.specs.Fields.{run_len}
+use Rattle.pc_cert.specs.Lines.{Lacks}
+use Rattle.pc_cert.specs.Reading.{line_of}
+use Rattle.pc_cert.proofs.FieldLemmas.{run_len-before}
+use Rattle.pc_cert.proofs.LineLaws.{line_takes}
+use Rattle.pc_cert.proofs.LineLengths.{spelling_lacks_end}
 use Rattle.pc_cert.specs.Known.{AreCells, IsAgain}
 
 -- the piece begins with the bytes that are kept of the line

@@ -1,3 +1,10 @@
+pub mod NumberLemmas
+pub mod FieldLemmas
+pub mod FlowsLemmas
+pub mod LineLaws
+pub mod LineLengths
+pub mod TextLaws
+mod RunLemmas
 pub mod ReaderLaws
 mod KnownLaws
 mod FrontLaws

@@ -2,16 +2,16 @@
 use Rattle.std.proofs.Common.{◌≡◌, ℕ, ◌+◌, ◌-◌, ◌<◌, ◌≤◌, zero, suc, List, [], ◌∷◌, ◌++◌, length, take, drop, inl, inr, Option, Some, None, Result, Ok, Err, refl, sym, ap, subst, ◌∙◌, append_assoc, append-nil, arith, add-one, length-append}
 use Rattle.std.proofs.lemmas.Bool.Decides.{eqb_tells}
 use Rattle.std.proofs.lemmas.List.{take-append-drop, length-take, take_all}
-use Rattle.pc_lines.specs.declared.line.CertLine.{CertLine}
-use Rattle.pc_lines.specs.declared.place.Place.{Place}
-use Rattle.pc_lines.specs.Fields.{◌>>=◌, run_len}
-use Rattle.pc_lines.specs.Lines.{Lacks, spelling, Fits}
-use Rattle.pc_lines.specs.Reading.{line_of}
-use Rattle.pc_lines.specs.Grammar.{next}
-use Rattle.pc_lines.specs.Text.{text_of}
-use Rattle.pc_lines.proofs.FieldLemmas.{bind_some}
-use Rattle.pc_lines.proofs.LineLaws.{line_takes, line_again}
-use Rattle.pc_lines.proofs.TextLaws.{text_of-append, LeadTo-more}
+use Rattle.pc_cert.specs.declared.line.CertLine.{CertLine}
+use Rattle.pc_cert.specs.declared.place.Place.{Place}
+use Rattle.pc_cert.specs.Fields.{◌>>=◌, run_len}
+use Rattle.pc_cert.specs.Lines.{Lacks, spelling, Fits}
+use Rattle.pc_cert.specs.Reading.{line_of}
+use Rattle.pc_cert.specs.Grammar.{next}
+use Rattle.pc_cert.specs.Text.{text_of}
+use Rattle.pc_cert.proofs.FieldLemmas.{bind_some}
+use Rattle.pc_cert.proofs.LineLaws.{line_takes, line_again}
+use Rattle.pc_cert.proofs.TextLaws.{text_of-append, LeadTo-more}
 use Rattle.pc_cert.specs.Reader.{arrived, IsGoing, IsNotAllowed, IsStopped, Stands, StandsFor, Reading, HasPassed, place_behind}
 use Rattle.pc_cert.specs.Fed.{line_list, left_in, used_of}
 use Rattle.pc_cert.specs.declared.reader.Malformed.{Malformed}

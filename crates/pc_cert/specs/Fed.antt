@@ -1,6 +1,6 @@
 -- What a call of a reader gave and used.
 use Rattle.std.specs.Prelude.{ℕ, List, [], ◌∷◌, take, Option, Some, None, Result, Ok, Err}
-use Rattle.pc_lines.specs.declared.line.CertLine.{CertLine}
+use Rattle.pc_cert.specs.declared.line.CertLine.{CertLine}
 use Rattle.pc_cert.specs.declared.reader.Malformed.{Malformed}
 use Rattle.pc_cert.specs.declared.reader.Fed.{Fed}
 

@@ -1,9 +1,9 @@
 -- A line that was read before.
 use Rattle.std.specs.Prelude.{◌≡◌, ℕ, ◌+◌, ◌<◌, ◌≤◌, List, [], ◌∷◌, ◌++◌, length, take, Option}
-use Rattle.pc_lines.specs.declared.line.CertLine.{CertLine}
-use Rattle.pc_lines.specs.Fields.{run_len}
-use Rattle.pc_lines.specs.Lines.{Lacks}
-use Rattle.pc_lines.specs.Reading.{line_of}
+use Rattle.pc_cert.specs.declared.line.CertLine.{CertLine}
+use Rattle.pc_cert.specs.Fields.{run_len}
+use Rattle.pc_cert.specs.Lines.{Lacks}
+use Rattle.pc_cert.specs.Reading.{line_of}
 
 -- the line that was read last, if the bytes spelled one
 pub record Known : Type 0 where

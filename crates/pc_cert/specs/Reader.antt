@@ -1,14 +1,14 @@
 -- What a reader of a certificate stands for.
 use Rattle.std.specs.Prelude.{◌≡◌, ◌≢◌, ℕ, ◌+◌, List, [], ◌∷◌, ◌++◌, length, Option, Some, None, Result, Ok, Err, ◌⊎◌}
-use Rattle.pc_lines.specs.declared.line.CertLine.{CertLine}
-use Rattle.pc_lines.specs.declared.line.TheConstants.{MAX_LINE}
-use Rattle.pc_lines.specs.declared.place.Place.{Place}
-use Rattle.pc_lines.specs.declared.place.Place.TheVariants.{Ended}
-use Rattle.pc_lines.specs.Fields.{◌>>=◌}
-use Rattle.pc_lines.specs.Lines.{Lacks, spelling, Fits}
-use Rattle.pc_lines.specs.Reading.{line_of}
-use Rattle.pc_lines.specs.Grammar.{next}
-use Rattle.pc_lines.specs.Text.{text_of, LeadTo}
+use Rattle.pc_cert.specs.declared.line.CertLine.{CertLine}
+use Rattle.pc_cert.specs.declared.line.TheConstants.{MAX_LINE}
+use Rattle.pc_cert.specs.declared.place.Place.{Place}
+use Rattle.pc_cert.specs.declared.place.Place.TheVariants.{Ended}
+use Rattle.pc_cert.specs.Fields.{◌>>=◌}
+use Rattle.pc_cert.specs.Lines.{Lacks, spelling, Fits}
+use Rattle.pc_cert.specs.Reading.{line_of}
+use Rattle.pc_cert.specs.Grammar.{next}
+use Rattle.pc_cert.specs.Text.{text_of, LeadTo}
 use Rattle.pc_cert.specs.declared.reader.Malformed.{Malformed}
 
 -- what a reader keeps: its place in the order of lines, how many whole lines there were, the bytes of the line that has

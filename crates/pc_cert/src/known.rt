@@ -1,11 +1,11 @@
 //! A line that was read before, which comes again in most segments.
 ghost use Rattle.std.specs.Prelude.{◌≡◌, ◌<◌, ◌≤◌, IsTrue, IsSome, None, length, take};
 ghost use Rattle.std.specs.Option.{option_map};
-ghost use Rattle.pc_lines.specs.Reading.{line_of};
+ghost use Rattle.pc_cert.specs.Reading.{line_of};
 ghost use Rattle.pc_cert.specs.Known.{IsAgain};
 
 use crate::front::{WIDTH, begin_same};
-use pc_lines::CertLine;
+use crate::line::CertLine;
 use std::marker::Model;
 
 /// The most bytes of a line and its end that are kept: a longer one is read anew each time.

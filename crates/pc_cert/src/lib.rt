@@ -1,15 +1,32 @@
-//! The text of a certificate: the reader that takes its lines off bytes which come in pieces.
+//! The text of a certificate: how each line is spelled and read, in which order lines may come, and the reader that takes
+//! them off bytes which come in pieces.
 #![tactic(auto)]
 
+mod act;
+mod field;
+mod flows;
 mod front;
 mod known;
 mod known_lines;
+mod line;
+mod line_end;
+mod line_laws;
+mod number;
+mod place;
 mod reader;
+mod reading;
 
+pub use flows::{Flows, MAX_FLOWS};
 pub use known::KnownLine;
 pub use known_lines::KnownLines;
-pub use pc_lines::{CertLine, Flows, MAX_FLOWS, MAX_LINE, Place, Shape};
+pub use line::{CertLine, MAX_LINE};
+pub use line_end::line_len;
+pub use line_laws::{spelling_is_once, text_is_once};
+pub use number::MAX_DIGITS;
+pub use place::{Place, Shape};
 pub use reader::{CertReader, Fed, Malformed};
 
 #[cfg(test)]
-mod tests;
+mod line_tests;
+#[cfg(test)]
+mod reader_tests;

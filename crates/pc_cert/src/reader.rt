@@ -1,15 +1,17 @@
 //! The reader of a certificate, which takes its lines off bytes that come in pieces, however they are cut.
 ghost use Rattle.std.specs.Prelude.{◌≡◌, ℕ, ◌+◌, ◌^◌, ◌<◌, ◌≤◌, List, [], ◌++◌, length, take, drop, Some, None, Ok, Err, IfOk, IfNone, IsNone, IsSome, MatchResult};
-ghost use Rattle.pc_lines.specs.Lines.{Lacks};
-ghost use Rattle.pc_lines.specs.declared.line.CertLine.{CertLine};
-ghost use Rattle.pc_lines.specs.declared.place.Place.TheVariants.{Start};
-ghost use Rattle.pc_lines.specs.Reading.{line_of};
+ghost use Rattle.pc_cert.specs.Lines.{Lacks};
+ghost use Rattle.pc_cert.specs.declared.line.CertLine.{CertLine};
+ghost use Rattle.pc_cert.specs.declared.place.Place.TheVariants.{Start};
+ghost use Rattle.pc_cert.specs.Reading.{line_of};
 ghost use Rattle.pc_cert.specs.Reader.{StandsFor, HasPassed, place_behind, Reading, EndsAs};
 ghost use Rattle.pc_cert.specs.Fed.{given, used, left_in, used_of};
 ghost use Rattle.pc_cert.specs.declared.reader.Malformed.{Malformed};
 
 use crate::known::KnownLine;
-use pc_lines::{CertLine, MAX_LINE, Place, line_len};
+use crate::line::{CertLine, MAX_LINE};
+use crate::line_end::line_len;
+use crate::place::Place;
 use std::marker::Model;
 
 /// A line that may not stand where it does, or that is missing. Lines are counted from 1.

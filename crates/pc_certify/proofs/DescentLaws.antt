@@ -8,7 +8,7 @@ use Rattle.pc_curve_laws.specs.Cover.{IsFront}
 use Rattle.pc_curve_laws.proofs.Segments.Covering.{front_begins, front_grows}
 use Rattle.pc_crash.specs.Priced.{PricedNetwork, knees_in}
 use Rattle.pc_flow.specs.Courses.{Course, upper_of, lower_of, present, HasEnded, IsSameCurve, IsNext, HasSmallNumbers as IsSmallBelow}
-use Rattle.pc_cert_writer.specs.Document.{HasSmallNumbers}
+use Rattle.pc_certify.specs.Document.{HasSmallNumbers}
 use Rattle.pc_certify.specs.Descent.{IsAlong, IsAtTop, AreFront, HasGiven, still_to_come}
 
 -- numbers below 10 ^ 18 can be written

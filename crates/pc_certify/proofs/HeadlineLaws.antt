@@ -3,11 +3,11 @@ use Rattle.std.proofs.Common.{◌≡◌, ℕ, List, Some, None, refl, arith}
 use Rattle.std.specs.Prelude.{Option, IsSomeAnd}
 use Rattle.pc_curve_laws.specs.Segment.{Segment, Holds, IsRight}
 use Rattle.pc_curve_laws.specs.Cover.{segment_for}
-use Rattle.pc_lines.specs.declared.line.CertLine.{CertLine}
+use Rattle.pc_cert.specs.declared.line.CertLine.{CertLine}
 use Rattle.pc_cert.specs.Reader.{IsWhole}
 use Rattle.pc_crash.specs.Priced.{PricedNetwork, knees_in}
 use Rattle.pc_check.specs.Certified.{segments_of}
-use Rattle.pc_audit.specs.Texts.{IsCertified}
+use Rattle.pc_check.specs.Texts.{IsCertified}
 use Rattle.pc_certify.specs.Headline.{PrintsCheapest, PrintsWholeCurve}
 
 of_read : (net : PricedNetwork) (text : List ℕ) (limit : ℕ) (lines : List CertLine) → IsWhole lines text → (found : Option Segment)

@@ -3,11 +3,11 @@ use Rattle.std.specs.Prelude.{◌≡◌, ℕ, List, length, Option}
 use Rattle.pc_model.specs.Schedule.{normals, crashes}
 use Rattle.pc_edges.specs.Writes.{Wrote, Stopped}
 use Rattle.pc_curve_laws.specs.Segment.{Segment}
-use Rattle.pc_lines.specs.Text.{text_of}
+use Rattle.pc_cert.specs.Text.{text_of}
 use Rattle.pc_crash.specs.Priced.{PricedNetwork}
 use Rattle.pc_times.specs.Picked.{IsPickedWalk}
-use Rattle.pc_audit.specs.Texts.{IsCertified}
-use Rattle.pc_cert_writer.specs.Document.{document_lines}
+use Rattle.pc_check.specs.Texts.{IsCertified}
+use Rattle.pc_certify.specs.Document.{document_lines}
 
 -- the text is a certified one of the network; its normal walk is the picked one at normal durations, its crash walk the
 -- picked one at crash durations, and its other lines are those of segments

@@ -3,11 +3,11 @@ use Rattle.std.specs.Prelude.{◌≡◌, ℕ, ◌+◌, ◌-◌, ◌<◌, ◌≤�
 use Rattle.pc_model.specs.Schedule.{IsAllNormalLength, IsAllCrashLength}
 use Rattle.pc_curve_laws.specs.Segment.{Segment}
 use Rattle.pc_curve_laws.specs.Cover.{IsFront}
-use Rattle.pc_lines.specs.Text.{text_of, AllFit}
+use Rattle.pc_cert.specs.Text.{text_of, AllFit}
 use Rattle.pc_crash.specs.Priced.{PricedNetwork, knees_in}
 use Rattle.pc_page.specs.Puts.{Desk, Adds}
-use Rattle.pc_cert_writer.specs.Document.{head_lines, segment_lines}
-use Rattle.pc_certified.specs.Complete.{begun_lines}
+use Rattle.pc_certify.specs.Document.{head_lines, segment_lines}
+use Rattle.pc_certify.specs.Complete.{begun_lines}
 use Rattle.pc_flow.specs.Courses.{Course, lower_of}
 
 -- the course goes along the curve of the network, from its all-normal length down to its all-crash length

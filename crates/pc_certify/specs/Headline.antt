@@ -5,7 +5,7 @@ use Rattle.pc_model.specs.Cost.{cost_of}
 use Rattle.pc_curve_laws.specs.Flow.{IsFlow, bound_of}
 use Rattle.pc_curve_laws.specs.Segment.{Segment, times_for, durations_for, cost_for, cut_gain}
 use Rattle.pc_curve_laws.specs.Cover.{segment_for}
-use Rattle.pc_lines.specs.declared.line.CertLine.{CertLine}
+use Rattle.pc_cert.specs.declared.line.CertLine.{CertLine}
 use Rattle.pc_cert.specs.Reader.{IsWhole}
 use Rattle.pc_crash.specs.Priced.{PricedNetwork, knees_in}
 use Rattle.pc_check.specs.Certified.{segments_of}

@@ -8,9 +8,11 @@ ghost use Rattle.pc_certify.specs.Certificate.{IsCertificate};
 ghost use Rattle.pc_certify.specs.Descent.{IsAtTop, IsPutDown};
 ghost use Rattle.pc_certify.specs.Walks.{ArePicked};
 
+use crate::certified::written_is_certified;
+use crate::end::put_end;
+use crate::head::put_head;
+use crate::segment::put_segment;
 use crate::walks::Walks;
-use pc_cert_writer::{put_end, put_head, put_segment};
-use pc_certified::written_is_certified;
 use pc_crash::{CrashNet, Steps};
 use pc_edges::{Failed, Sink};
 use pc_flow::Solver;

@@ -6,12 +6,12 @@ use Rattle.std.proofs.lemmas.Option.{cond_some}
 use Rattle.std.specs.Prelude.{◌==◌, nat_lt}
 use Rattle.pc_model.specs.declared.limits.TheConstants.{MAX_DURATION, MAX_EVENTS, MAX_ACTIVITIES}
 use Rattle.pc_crash.specs.Priced.{PricedNetwork}
-use Rattle.pc_lines.specs.Grammar.{next}
-use Rattle.pc_lines.specs.declared.line.CertLine.{CertLine}
-use Rattle.pc_lines.specs.declared.line.CertLine.TheVariants.{Head, Normal, Step, Crash, Segment, Event, Act, Close, End}
-use Rattle.pc_lines.specs.declared.place.Shape.{Shape}
-use Rattle.pc_lines.specs.declared.place.Place.{Place}
-use Rattle.pc_lines.specs.declared.place.Place.TheVariants.{Start, AfterHead, NormalWalk, CrashWalk, InSegment, Between, Ended}
+use Rattle.pc_cert.specs.Grammar.{next}
+use Rattle.pc_cert.specs.declared.line.CertLine.{CertLine}
+use Rattle.pc_cert.specs.declared.line.CertLine.TheVariants.{Head, Normal, Step, Crash, Segment, Event, Act, Close, End}
+use Rattle.pc_cert.specs.declared.place.Shape.{Shape}
+use Rattle.pc_cert.specs.declared.place.Place.{Place}
+use Rattle.pc_cert.specs.declared.place.Place.TheVariants.{Start, AfterHead, NormalWalk, CrashWalk, InSegment, Between, Ended}
 use Rattle.pc_check.specs.declared.kept.Kept.{Kept}
 use Rattle.pc_check.specs.declared.walk.Reached.{Reached}
 use Rattle.pc_check.specs.Walks.{sum_of, is_through}

@@ -2,8 +2,8 @@
 use Rattle.std.proofs.Common.{◌≡◌, List, length, Some, None, ap, ◌∙◌}
 use Rattle.std.specs.Prelude.{IfNone}
 use Rattle.pc_model.specs.Cost.{IsPriced}
-use Rattle.pc_lines.specs.declared.line.CertLine.{CertLine}
-use Rattle.pc_lines.specs.declared.place.Place.TheVariants.{Ended}
+use Rattle.pc_cert.specs.declared.line.CertLine.{CertLine}
+use Rattle.pc_cert.specs.declared.place.Place.TheVariants.{Ended}
 use Rattle.pc_crash.specs.Priced.{knees_in}
 use Rattle.pc_check.specs.Certified.{AreCurve, segments_of}
 use Rattle.pc_check.specs.Checking.{Checking, StandsFor}

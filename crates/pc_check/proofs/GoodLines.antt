@@ -13,14 +13,14 @@ use Rattle.pc_curve_laws.specs.Segment.{IsSegment}
 use Rattle.pc_curve_laws.specs.Cover.{IsFront, IsCovering}
 use Rattle.pc_curve_laws.proofs.Segments.Covering.{front_begins, front_grows, begins_longest, covers_shortest, read_right}
 use Rattle.pc_crash.specs.Priced.{PricedNetwork, knees_in}
-use Rattle.pc_lines.specs.Grammar.{next}
-use Rattle.pc_lines.specs.Text.{ran}
-use Rattle.pc_lines.proofs.FieldLemmas.{bind_some}
-use Rattle.pc_lines.specs.declared.line.CertLine.{CertLine}
-use Rattle.pc_lines.specs.declared.line.CertLine.TheVariants.{Head, Normal, Step, Crash, Segment as SegmentLine, Event, Act, Close, End}
-use Rattle.pc_lines.specs.declared.place.Shape.{Shape}
-use Rattle.pc_lines.specs.declared.place.Place.{Place}
-use Rattle.pc_lines.specs.declared.place.Place.TheVariants.{Start, AfterHead, NormalWalk, CrashWalk, InSegment, Between, Ended}
+use Rattle.pc_cert.specs.Grammar.{next}
+use Rattle.pc_cert.specs.Text.{ran}
+use Rattle.pc_cert.proofs.FieldLemmas.{bind_some}
+use Rattle.pc_cert.specs.declared.line.CertLine.{CertLine}
+use Rattle.pc_cert.specs.declared.line.CertLine.TheVariants.{Head, Normal, Step, Crash, Segment as SegmentLine, Event, Act, Close, End}
+use Rattle.pc_cert.specs.declared.place.Shape.{Shape}
+use Rattle.pc_cert.specs.declared.place.Place.{Place}
+use Rattle.pc_cert.specs.declared.place.Place.TheVariants.{Start, AfterHead, NormalWalk, CrashWalk, InSegment, Between, Ended}
 use Rattle.pc_check.specs.declared.fail.Fail.{Fail}
 use Rattle.pc_check.specs.Bounds.{IsShaped}
 use Rattle.pc_check.specs.Draft.{Part, Draft, EventRow, ActRow, empty_draft, begun_part, event_at, act_at, with_event, with_act, with_step, with_line, draft_after, draft_of}

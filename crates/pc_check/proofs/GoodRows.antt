@@ -7,7 +7,7 @@ use Rattle.pc_model.specs.Schedule.{normal_of, crash_of, lesser_of}
 use Rattle.pc_curve_laws.specs.Tight.{IsSlackAtKnee, IsSlack}
 use Rattle.pc_curve_laws.specs.Segment.{Segment, span, head_at, tail_at, HasRoomAt}
 use Rattle.pc_crash.specs.Priced.{PricedNetwork, knees_in}
-use Rattle.pc_lines.specs.declared.line.CertLine.TheVariants.{Event, Act}
+use Rattle.pc_cert.specs.declared.line.CertLine.TheVariants.{Event, Act}
 use Rattle.pc_check.specs.Draft.{Part, EventRow, ActRow, event_at}
 use Rattle.pc_check.specs.Known.{Known, frame}
 use Rattle.pc_check.specs.KneeTests.{is_slack_at_knee}

@@ -8,7 +8,7 @@ use Rattle.pc_model.specs.Walk.{from_of, to_of}
 use Rattle.pc_model.specs.Cost.{IsPriced, activity_cost}
 use Rattle.pc_curve_laws.specs.Segment.{Segment, IsSegment, StopsAtLower}
 use Rattle.pc_crash.specs.Priced.{PricedNetwork, knees_in}
-use Rattle.pc_lines.specs.declared.line.CertLine.TheVariants.{Close}
+use Rattle.pc_cert.specs.declared.line.CertLine.TheVariants.{Close}
 use Rattle.pc_check.specs.Draft.{Part, Draft, event_at, act_at}
 use Rattle.pc_check.specs.Known.{Known}
 use Rattle.pc_check.specs.Segments.{stops_at_knee_in, stops_in}

@@ -13,3 +13,10 @@ pub mod GoodSegments
 pub mod GoodLines
 pub mod FinishLaws
 pub mod StillLaws
+pub mod AuditLaws
+pub mod AuditFinishLaws
+pub mod FeedLaws
+pub mod TextLaws
+pub mod BeginLaws
+pub mod SourceLaws
+pub mod OnceLaws

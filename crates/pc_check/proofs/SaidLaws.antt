@@ -11,8 +11,8 @@ use Rattle.pc_model.specs.Cost.{activity_cost}
 use Rattle.pc_model.proofs.Sums.{sum_to-same}
 use Rattle.pc_curve_laws.specs.Segment.{Segment}
 use Rattle.pc_crash.specs.Priced.{PricedNetwork, knees_in}
-use Rattle.pc_lines.specs.declared.line.CertLine.{CertLine}
-use Rattle.pc_lines.specs.declared.line.CertLine.TheVariants.{Head, Normal, Step, Crash, Segment as SegmentLine, Event, Act, Close, End}
+use Rattle.pc_cert.specs.declared.line.CertLine.{CertLine}
+use Rattle.pc_cert.specs.declared.line.CertLine.TheVariants.{Head, Normal, Step, Crash, Segment as SegmentLine, Event, Act, Close, End}
 use Rattle.pc_check.specs.declared.kept.Kept.{Kept}
 use Rattle.pc_check.specs.declared.kept.Tally.{Tally}
 use Rattle.pc_check.specs.declared.walk.Reached.{Reached}

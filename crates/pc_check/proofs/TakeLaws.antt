@@ -2,14 +2,14 @@
 use Rattle.std.proofs.Common.{◌≡◌, ℕ, ◌+◌, List, [], ◌∷◌, ◌++◌, length, Option, Some, None, sym, ap, subst, ◌∙◌, arith, length-append}
 use Rattle.std.proofs.lemmas.Bool.{eqb-true}
 use Rattle.std.specs.Prelude.{IfNone}
-use Rattle.pc_lines.specs.Fields.{◌>>=◌}
-use Rattle.pc_lines.specs.Grammar.{next}
-use Rattle.pc_lines.specs.Text.{ran}
-use Rattle.pc_lines.proofs.TextLaws.{ran-append}
-use Rattle.pc_lines.specs.declared.line.CertLine.{CertLine}
-use Rattle.pc_lines.specs.declared.line.CertLine.TheVariants.{Head, Normal, Step, Crash, Segment, Event, Act, Close, End}
-use Rattle.pc_lines.specs.declared.place.Place.{Place}
-use Rattle.pc_lines.specs.declared.place.Place.TheVariants.{Start}
+use Rattle.pc_cert.specs.Fields.{◌>>=◌}
+use Rattle.pc_cert.specs.Grammar.{next}
+use Rattle.pc_cert.specs.Text.{ran}
+use Rattle.pc_cert.proofs.TextLaws.{ran-append}
+use Rattle.pc_cert.specs.declared.line.CertLine.{CertLine}
+use Rattle.pc_cert.specs.declared.line.CertLine.TheVariants.{Head, Normal, Step, Crash, Segment, Event, Act, Close, End}
+use Rattle.pc_cert.specs.declared.place.Place.{Place}
+use Rattle.pc_cert.specs.declared.place.Place.TheVariants.{Start}
 use Rattle.pc_crash.specs.Priced.{PricedNetwork, knees_in}
 use Rattle.pc_check.specs.declared.fail.Fail.{Fail}
 use Rattle.pc_check.specs.declared.kept.Kept.{Kept}

@@ -1,8 +1,8 @@
 -- What has to hold so that a line can be added to what is kept.
 use Rattle.std.specs.Prelude.{◌+◌, ◌^◌, ◌<◌, length}
 use Rattle.pc_model.specs.declared.limits.TheConstants.{MAX_DURATION}
-use Rattle.pc_lines.specs.declared.line.CertLine.{CertLine}
-use Rattle.pc_lines.specs.declared.line.CertLine.TheVariants.{Step, Event, Act, Close}
+use Rattle.pc_cert.specs.declared.line.CertLine.{CertLine}
+use Rattle.pc_cert.specs.declared.line.CertLine.TheVariants.{Step, Event, Act, Close}
 use Rattle.pc_crash.specs.Priced.{PricedNetwork}
 use Rattle.pc_check.specs.declared.kept.Kept.{Kept}
 use Rattle.pc_check.specs.Walks.{sum_of}

@@ -1,10 +1,10 @@
 -- What one more line adds to what is kept.
 use Rattle.std.specs.Prelude.{◌≡◌, ℕ, ◌+◌, ◌≤◌, Bool, true, false, List, [], ◌∷◌, ◌++◌, Some, if◌then◌else◌}
 use Rattle.pc_model.specs.declared.limits.TheConstants.{MAX_DURATION}
-use Rattle.pc_lines.specs.declared.line.CertLine.{CertLine}
-use Rattle.pc_lines.specs.declared.line.CertLine.TheVariants.{Step, Crash, Segment, Event, Act, Close}
-use Rattle.pc_lines.specs.Grammar.{next}
-use Rattle.pc_lines.specs.declared.place.Place.{Place}
+use Rattle.pc_cert.specs.declared.line.CertLine.{CertLine}
+use Rattle.pc_cert.specs.declared.line.CertLine.TheVariants.{Step, Crash, Segment, Event, Act, Close}
+use Rattle.pc_cert.specs.Grammar.{next}
+use Rattle.pc_cert.specs.declared.place.Place.{Place}
 use Rattle.pc_crash.specs.Priced.{PricedNetwork}
 use Rattle.pc_check.specs.declared.kept.Kept.{Kept}
 use Rattle.pc_check.specs.declared.kept.Tally.{Tally}

@@ -1,8 +1,8 @@
 -- What a checker stands for.
 use Rattle.std.specs.Prelude.{◌≡◌, ℕ, ◌<◌, List, length, map, slice_index, Option, Some, None}
-use Rattle.pc_lines.specs.declared.line.CertLine.{CertLine}
-use Rattle.pc_lines.specs.declared.place.Place.TheVariants.{Start}
-use Rattle.pc_lines.specs.Text.{ran}
+use Rattle.pc_cert.specs.declared.line.CertLine.{CertLine}
+use Rattle.pc_cert.specs.declared.place.Place.TheVariants.{Start}
+use Rattle.pc_cert.specs.Text.{ran}
 use Rattle.pc_model.specs.Sums.{sum_to}
 use Rattle.pc_model.specs.Walk.{from_of, to_of}
 use Rattle.pc_crash.specs.Priced.{PricedNetwork}

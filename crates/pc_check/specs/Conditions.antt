@@ -4,8 +4,8 @@ use Rattle.pc_model.specs.Codes.{code_at}
 use Rattle.pc_model.specs.Network.{Network}
 use Rattle.pc_model.specs.Schedule.{normal_of, crash_of, lesser_of}
 use Rattle.pc_crash.specs.Priced.{PricedNetwork, knees_in}
-use Rattle.pc_lines.specs.declared.line.CertLine.{CertLine}
-use Rattle.pc_lines.specs.declared.line.CertLine.TheVariants.{Head, Segment, Event, Act, Close, End}
+use Rattle.pc_cert.specs.declared.line.CertLine.{CertLine}
+use Rattle.pc_cert.specs.declared.line.CertLine.TheVariants.{Head, Segment, Event, Act, Close, End}
 use Rattle.pc_check.specs.Walks.{is_through}
 use Rattle.pc_curve_laws.specs.Segment.{Segment as Stretch, span, head_at, tail_at}
 use Rattle.pc_check.specs.Known.{Known, each_below, frame}

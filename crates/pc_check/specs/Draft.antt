@@ -1,7 +1,7 @@
 -- What the lines of a certificate say so far.
 use Rattle.std.specs.Prelude.{ℕ, Bool, true, false, List, [], ◌∷◌, ◌++◌, slice_index_or}
-use Rattle.pc_lines.specs.declared.line.CertLine.{CertLine}
-use Rattle.pc_lines.specs.declared.line.CertLine.TheVariants.{Head, Normal, Step, Crash, Segment, Event, Act, Close, End}
+use Rattle.pc_cert.specs.declared.line.CertLine.{CertLine}
+use Rattle.pc_cert.specs.declared.line.CertLine.TheVariants.{Head, Normal, Step, Crash, Segment, Event, Act, Close, End}
 
 -- what an EVENT line says: the event's code, its time at the upper end, and whether it moves
 pub record EventRow : Type 0 where

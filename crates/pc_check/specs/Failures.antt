@@ -1,6 +1,6 @@
 -- The first condition that fails.
 use Rattle.std.specs.Prelude.{ℕ, ◌+◌, List, [], ◌∷◌, Option, Some, None, if◌then◌else◌}
-use Rattle.pc_lines.specs.declared.line.CertLine.{CertLine}
+use Rattle.pc_cert.specs.declared.line.CertLine.{CertLine}
 use Rattle.pc_crash.specs.Priced.{PricedNetwork}
 use Rattle.pc_check.specs.Draft.{Draft, empty_draft, with_line}
 use Rattle.pc_check.specs.Conditions.{Condition, conditions}

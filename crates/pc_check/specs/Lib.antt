@@ -15,3 +15,6 @@ pub mod Additions
 pub mod Checking
 pub mod Checkers
 pub mod Certified
+pub mod Texts
+pub mod Auditing
+pub mod Stops

@@ -1,7 +1,7 @@
 //! Going on by one line.
 ghost use Rattle.std.specs.Prelude.{◌≡◌, ◌^◌, ◌<◌, length, None, Some, IfNone, OnSome};
-ghost use Rattle.pc_lines.specs.Grammar.{next};
-ghost use Rattle.pc_lines.specs.declared.line.CertLine.TheVariants.{Step, Act};
+ghost use Rattle.pc_cert.specs.Grammar.{next};
+ghost use Rattle.pc_cert.specs.declared.line.CertLine.TheVariants.{Step, Act};
 ghost use Rattle.pc_check.specs.Advances.{Adds, AddsStep, Advances};
 ghost use Rattle.pc_check.specs.Bounds.{IsBounded, lines_left};
 ghost use Rattle.pc_check.specs.Conditions.{conditions};
@@ -15,8 +15,8 @@ use crate::gaps::crossing_of;
 use crate::kept::Kept;
 use crate::reasons::{has_act_code, reason, reason_at_act};
 use crate::walk::stepped;
+use pc_cert::{CertLine, Flows, Place};
 use pc_crash::CrashNet;
-use pc_lines::{CertLine, Flows, Place};
 use pc_text::Code;
 
 /// Takes a line that may come, behind which the next one stands there: adds it to what is kept, or answers the first condition

@@ -1,8 +1,8 @@
 //! The checker of a certificate.
 ghost use Rattle.std.specs.Prelude.{◌≡◌, ◌^◌, ◌<◌, ◌∷◌, ◌++◌, [], List, IsSome, IfNone, IfOk, None, Some};
-ghost use Rattle.pc_lines.specs.Grammar.{next};
-ghost use Rattle.pc_lines.specs.declared.line.CertLine.{CertLine};
-ghost use Rattle.pc_lines.specs.declared.place.Place.TheVariants.{Ended};
+ghost use Rattle.pc_cert.specs.Grammar.{next};
+ghost use Rattle.pc_cert.specs.declared.line.CertLine.{CertLine};
+ghost use Rattle.pc_cert.specs.declared.place.Place.TheVariants.{Ended};
 ghost use Rattle.pc_check.specs.Bounds.{lines_left};
 ghost use Rattle.pc_check.specs.Certified.{AreCurve, Finds, OnYes, segments_of};
 ghost use Rattle.pc_check.specs.Checking.{StandsFor};
@@ -11,8 +11,8 @@ ghost use Rattle.pc_check.specs.declared.fail.Fail.{Fail};
 use crate::advancing::advance;
 use crate::fail::{Fail, Verdict};
 use crate::kept::{Kept, kept_of};
+use pc_cert::{CertLine, Place};
 use pc_crash::CrashNet;
-use pc_lines::{CertLine, Place};
 use std::alloc::{AllocError, Global};
 use std::marker::Model;
 

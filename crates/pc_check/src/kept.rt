@@ -1,14 +1,14 @@
 //! What a checker keeps of the lines that have come.
 ghost use Rattle.std.specs.Prelude.{◌≡◌, length, slice_index, slice_index_or, false, IfOk};
-ghost use Rattle.pc_lines.specs.declared.place.Place.TheVariants.{Start};
+ghost use Rattle.pc_cert.specs.declared.place.Place.TheVariants.{Start};
 ghost use Rattle.pc_check.specs.Bounds.{IsBounded};
 ghost use Rattle.pc_check.specs.Checking.{IsKept};
 ghost use Rattle.pc_check.specs.Draft.{empty_draft};
 ghost use Rattle.pc_check.specs.Safe.{IsBegun, IsSafe};
 
 use crate::walk::Reached;
+use pc_cert::Place;
 use pc_crash::CrashNet;
-use pc_lines::Place;
 use std::alloc::{AllocError, Global};
 
 /// What is kept of the lines so far.

@@ -1,20 +1,29 @@
-//! The checker of certificates: it takes the lines one by one, and answers the first condition that fails.
+//! The checker of certificates: it takes the lines one by one, and answers the first condition that fails; and the audit of
+//! a certificate's text, read and checked as it comes in pieces. It stands on nothing that makes certificates.
 #![tactic(auto)]
 
 mod acts;
 mod adding;
 mod advancing;
+mod audit;
 mod checker;
 mod closing;
 mod fail;
 mod gaps;
 mod kept;
 mod reasons;
+mod source;
+mod verdict_laws;
 mod walk;
 
+pub use audit::Audit;
 pub use checker::Checker;
 pub use fail::{Fail, Verdict};
-pub use pc_lines::{CertLine, Flows};
+pub use pc_cert::{CertLine, Flows};
+pub use source::{AuditError, audit_source};
+pub use verdict_laws::one_verdict;
 
 #[cfg(test)]
-mod tests;
+mod audit_tests;
+#[cfg(test)]
+mod checker_tests;

@@ -8,15 +8,15 @@ ghost use Rattle.pc_crash.specs.Priced.{knees_in};
 ghost use Rattle.pc_check.specs.Crossings.{IsCrossing};
 ghost use Rattle.pc_check.specs.Kept.{known_by, stretch_of};
 ghost use Rattle.pc_check.specs.Safe.{IsSafe};
-ghost use Rattle.pc_lines.specs.declared.line.CertLine.TheVariants.{Head, Segment, Event, Act};
+ghost use Rattle.pc_cert.specs.declared.line.CertLine.TheVariants.{Head, Segment, Event, Act};
 
 use crate::acts::{is_slack, is_still, keeps_rises};
 use crate::closing::reason_at_close;
 use crate::gaps::{Crossing, Gap, has_room};
 use crate::kept::{Kept, Tally, number_at};
 use crate::walk::is_through;
+use pc_cert::{CertLine, Flows};
 use pc_crash::CrashNet;
-use pc_lines::{CertLine, Flows};
 use pc_text::Code;
 
 /// The first condition that is reported at the line and does not hold, where it is not the line of an activity.

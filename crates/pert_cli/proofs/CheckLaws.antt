@@ -11,13 +11,13 @@ use Rattle.pc_crash.specs.Priced.{PricedNetwork}
 use Rattle.pc_check.specs.declared.fail.Fail.{Fail}
 use Rattle.pc_check.specs.declared.fail.Verdict.{Verdict}
 use Rattle.pc_check.specs.declared.fail.Verdict.TheVariants.{Yes, No}
-use Rattle.pc_audit.specs.Texts.{IsCertified, IsFailing, Finds}
-use Rattle.pc_audit.specs.Auditing.{most_bytes}
-use Rattle.pc_audit.specs.Stops.{IsSettled}
+use Rattle.pc_check.specs.Texts.{IsCertified, IsFailing, Finds}
+use Rattle.pc_check.specs.Auditing.{most_bytes}
+use Rattle.pc_check.specs.Stops.{IsSettled}
 use Rattle.pc_edges.specs.declared.loading.TheConstants.{STREAM_ROOM}
-use Rattle.pc_audit.proofs.TextLaws.{not_both as one_text_verdict, one_number}
-use Rattle.pc_audit.proofs.OnceLaws.{one_failure}
-use Rattle.pc_audit.proofs.SourceLaws.{TakesPulls-none}
+use Rattle.pc_check.proofs.TextLaws.{not_both as one_text_verdict, one_number}
+use Rattle.pc_check.proofs.OnceLaws.{one_failure}
+use Rattle.pc_check.proofs.SourceLaws.{TakesPulls-none}
 use Rattle.pc_project.specs.Project.{Project}
 use Rattle.pert_cli.specs.declared.ending.Ending.{Ending}
 use Rattle.pert_cli.specs.Certificate.{IsOneWord, verdict_text, priced_in, HasVerdict, Certifies, FailsAsCertificate, ProvesCurve, IsFound, IsSettledFor, ending_for, Told, told, cut, Answered, found, unread, no_room, FaultTold, fault_told, fault_cut, fault_untold}

@@ -9,7 +9,7 @@ use Rattle.pc_reports.specs.ValueText.{IsValueText}
 use Rattle.pc_bench.specs.Report.{IsBenchText}
 use Rattle.pc_bench.specs.declared.deck.TheConstants.{MOST_ACTIVITIES}
 use Rattle.pc_certify.specs.Certificate.{IsCertificate}
-use Rattle.pc_curve_text.specs.CurveText.{IsCurveText}
+use Rattle.pc_curve.specs.CurveText.{IsCurveText}
 use Rattle.pc_project.specs.Project.{Project}
 use Rattle.pert_cli.specs.declared.forms.Form.{Form}
 use Rattle.pert_cli.specs.declared.forms.Form.TheVariants.{Check, Normal, Times, Summary, Value, Curve, Certify, Point, Outlook, Bench}

@@ -6,7 +6,7 @@ ghost use Rattle.pert_cli.specs.Sides.{side};
 use crate::ending::Ending;
 use crate::sending::send;
 use arrayvec::ArrayVec;
-use pc_audit::Verdict;
+use pc_check::Verdict;
 use pc_edges::{Failed, Sink};
 use pc_text::digits;
 

@@ -1,8 +1,8 @@
-use Rattle.pc_lines.specs.Text.{text_of}
+use Rattle.pc_cert.specs.Text.{text_of}
 use Rattle.pc_page.specs.Puts.{desk}
 use Rattle.pc_page.proofs.PageLaws.{Adds-as, ◌⨾◌}
-use Rattle.pc_cert_writer.specs.Document.{document_lines}
-use Rattle.pc_certified.proofs.CertifiedLaws.{text_ends, document_fits}
+use Rattle.pc_certify.specs.Document.{document_lines}
+use Rattle.pc_certify.proofs.CertifiedLaws.{text_ends, document_fits}
 use Rattle.pc_certify.proofs.CertificateLaws.{complete, certificate}
 use Rattle.pc_certify.proofs.writing.write.Goals as goal
 

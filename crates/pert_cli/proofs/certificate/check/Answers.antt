@@ -1,8 +1,8 @@
 use Rattle.std.proofs.Common.{Err, refl, ap, subst}
 use Rattle.std.specs.Prelude.{IfSome}
 use Rattle.pc_edges.specs.declared.loading.TheConstants.{STREAM_ROOM}
-use Rattle.pc_audit.specs.Stops.{IsSettled}
-use Rattle.pc_audit.specs.Texts.{Finds}
+use Rattle.pc_check.specs.Stops.{IsSettled}
+use Rattle.pc_check.specs.Texts.{Finds}
 use Rattle.pert_cli.specs.Certificate.{found, unread, no_room}
 use Rattle.pert_cli.proofs.CheckLaws.{priced_is}
 use Rattle.pert_cli.proofs.certificate.check.Goals as goal

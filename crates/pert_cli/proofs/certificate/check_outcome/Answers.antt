@@ -1,7 +1,7 @@
 use Rattle.std.proofs.Common.{◌+◌, refl, subst, arith}
 use Rattle.pc_edges.specs.Pulls.{TakesPulls}
 use Rattle.pc_faults.specs.declared.fault.Fault.{Fault}
-use Rattle.pc_audit.specs.Auditing.{most_bytes}
+use Rattle.pc_check.specs.Auditing.{most_bytes}
 use Rattle.pc_project.specs.Project.{Project}
 use Rattle.pert_cli.specs.Certificate.{priced_in, FaultTold}
 use Rattle.pert_cli.specs.CheckOutcome.{check_usage, no_memory, deck_fault, write_fault, in_check_usage}

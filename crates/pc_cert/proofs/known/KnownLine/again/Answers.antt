@@ -1,4 +1,4 @@
-use Rattle.std.proofs.Common.{◌<◌, ap, subst}
+use Rattle.std.proofs.Common.{ap, subst}
 use Rattle.pc_cert.specs.Known.{IsAgain}
 use Rattle.pc_cert.proofs.KnownLaws.{comes_again}
 use Rattle.pc_cert.proofs.known.KnownLine.again.Goals as goal

@@ -1,7 +1,7 @@
 use Rattle.std.proofs.Common.{◌≡◌, ◌+◌, [], Some, refl, sym, ap, ◌∙◌}
-use Rattle.pc_lines.specs.declared.place.Place.{Place}
-use Rattle.pc_lines.specs.Grammar.{next}
-use Rattle.pc_lines.proofs.FieldLemmas.{bind_some}
+use Rattle.pc_cert.specs.declared.place.Place.{Place}
+use Rattle.pc_cert.specs.Grammar.{next}
+use Rattle.pc_cert.proofs.FieldLemmas.{bind_some}
 use Rattle.pc_cert.specs.Reader.{Reading}
 use Rattle.pc_cert.proofs.reader.CertReader.pass.Goals as goal
 

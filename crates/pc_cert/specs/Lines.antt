@@ -1,0 +1,67 @@
+-- The lines of a certificate, and how each is spelled.
+use Rattle.std.specs.Prelude.{◌≡◌, ◌≢◌, ℕ, ◌^◌, ◌<◌, ◌≤◌, Bool, true, List, [], ◌∷◌, ◌++◌, length, decimal, codes, if◌then◌else◌}
+use Rattle.pc_text.specs.Code.{is_code}
+use Rattle.pc_cert.specs.declared.line.CertLine.{CertLine}
+use Rattle.pc_cert.specs.declared.line.CertLine.TheVariants.{Head, Normal, Step, Crash, Segment, Event, Act, Close, End}
+use Rattle.pc_cert.specs.declared.number.TheConstants.{MAX_DIGITS}
+use Rattle.pc_cert.specs.declared.flows.TheConstants.{MAX_FLOWS}
+
+-- a space, the word, and what follows
+abbrev pub spaced : List ℕ → List ℕ → List ℕ
+spaced word rest = 32 ∷ (word ++ rest)
+
+-- each of the numbers behind a space
+abbrev pub numbers : List ℕ → List ℕ
+numbers [] = []
+numbers (n ∷ ns) = spaced (decimal n) (numbers ns)
+
+-- a bit as its digit
+abbrev pub bit_text : Bool → List ℕ
+bit_text bit = if bit then codes "1" else codes "0"
+
+-- the one spelling of a line, without its end
+abbrev pub spelling : CertLine → List ℕ
+spelling (Head version project events activities) =
+    codes "CERT" ++ spaced (decimal version) (spaced project (spaced (decimal events) (spaced (decimal activities) [])))
+spelling Normal = codes "NORMAL"
+spelling (Step code) = codes "STEP" ++ spaced code []
+spelling Crash = codes "CRASH"
+spelling (Segment upper lower cost slope) =
+    codes "SEGMENT" ++ spaced (decimal upper) (spaced (decimal lower) (spaced (decimal cost) (spaced (decimal slope) [])))
+spelling (Event code time moves) = codes "EVENT" ++ spaced code (spaced (decimal time) (spaced (bit_text moves) []))
+spelling (Act code duration flows) = codes "ACT" ++ spaced code (spaced (decimal duration) (numbers flows))
+spelling Close = codes "CLOSE"
+spelling End = codes "END"
+
+-- the byte does not stand in the text
+abbrev pub Lacks : ℕ → List ℕ → Type 0
+Lacks byte [] = Unit {0}
+Lacks byte (b ∷ bs) = (b ≢ byte) × Lacks byte bs
+
+-- a number of at most 18 digits
+abbrev pub IsSmall : ℕ → Type 0
+IsSmall n = n < 10 ^ MAX_DIGITS
+
+-- a code
+abbrev pub IsCode : List ℕ → Type 0
+IsCode code = is_code code ≡ true
+
+-- version 1 or 2
+abbrev pub IsVersion : ℕ → Type 0
+IsVersion version = (1 ≤ version) × (version ≤ 2)
+
+-- each of the numbers is one of at most 18 digits
+abbrev pub AreSmall : List ℕ → Type 0
+AreSmall [] = Unit {0}
+AreSmall (n ∷ ns) = IsSmall n × AreSmall ns
+
+-- what a line says can be spelled: codes are codes, numbers have at most 18 digits, the version is 1 or 2, and an
+-- activity has two to six flows
+abbrev pub Fits : CertLine → Type 0
+Fits (Head version project events activities) = IsVersion version × IsCode project × IsSmall events × IsSmall activities
+Fits (Step code) = IsCode code
+Fits (Segment upper lower cost slope) = IsSmall upper × IsSmall lower × IsSmall cost × IsSmall slope
+Fits (Event code time moves) = IsCode code × IsSmall time
+Fits (Act code duration flows) =
+    IsCode code × IsSmall duration × AreSmall flows × (2 ≤ length flows) × (length flows ≤ MAX_FLOWS)
+Fits other = Unit {0}

@@ -1,0 +1,28 @@
+-- Texts of lines, and lines in the order in which they may come.
+use Rattle.std.specs.Prelude.{◌≡◌, ℕ, List, [], ◌∷◌, ◌++◌, Option, Some}
+use Rattle.pc_cert.specs.declared.line.CertLine.{CertLine}
+use Rattle.pc_cert.specs.declared.place.Place.{Place}
+use Rattle.pc_cert.specs.declared.place.Place.TheVariants.{Start}
+use Rattle.pc_cert.specs.Fields.{◌>>=◌}
+use Rattle.pc_cert.specs.Lines.{spelling, Fits}
+use Rattle.pc_cert.specs.Grammar.{next}
+
+-- the lines one behind the other, each with its end (10)
+abbrev pub text_of : List CertLine → List ℕ
+text_of [] = []
+text_of (line ∷ lines) = spelling line ++ 10 ∷ text_of lines
+
+-- each line can be spelled
+abbrev pub AllFit : List CertLine → Type 0
+AllFit [] = Unit {0}
+AllFit (line ∷ lines) = Fits line × AllFit lines
+
+-- the place behind lines that come from a place on, where each may stand in its own
+abbrev pub ran : Place → List CertLine → Option Place
+ran place [] = Some place
+ran place (line ∷ lines) = next place line >>= (λ behind. ran behind lines)
+
+-- the lines can be spelled and may come from the beginning on, and this is the place behind them
+pub record LeadTo (place : Place) (lines : List CertLine) : Type 0 where
+  pub fit : AllFit lines
+  pub order : ran Start lines ≡ Some place

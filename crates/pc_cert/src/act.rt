@@ -1,0 +1,43 @@
+//! Reading the line of an activity, which has two to six flows.
+ghost use Rattle.std.specs.Prelude.{◌≡◌};
+ghost use Rattle.pc_cert.specs.Reading.{act_of, flows_of};
+
+use crate::field::{field, number_field};
+use crate::flows::{Flows, MAX_FLOWS};
+use crate::line::CertLine;
+use pc_text::Code;
+
+#[tactic(auto, unfolding(crate::specs::Reading::act_of, crate::specs::Fields::code_field))]
+pub(crate) fn act_of(fields: &[u8]) -> Option<CertLine>
+    ensures { result ≡ act_of fields.now }
+{
+    let (word, rest) = field(fields)?;
+    let code = Code::read(word)?;
+    let (duration, rest) = number_field(rest)?;
+    let flows = flows_of(rest)?;
+    if flows.as_slice().len() < 2 {
+        return None;
+    }
+    Some(CertLine::Act {
+        code,
+        duration,
+        flows,
+    })
+}
+
+/// The flows that the fields are, all of them, where there are at most six.
+fn flows_of(fields: &[u8]) -> Option<Flows>
+    ensures { result ≡ flows_of fields.now }
+{
+    let mut flows = Flows::new();
+    let mut rest = fields;
+    while !rest.is_empty() {
+        if flows.as_slice().len() == MAX_FLOWS {
+            return None;
+        }
+        let (flow, behind) = number_field(rest)?;
+        flows.push(flow);
+        rest = behind;
+    }
+    Some(flows)
+}

@@ -1,0 +1,18 @@
+//! Laws of lines and texts of them. Each function is its contract, and does nothing.
+ghost use Rattle.std.specs.Prelude.{◌≡◌, ◌<◌, List, length};
+ghost use Rattle.pc_cert.specs.declared.line.CertLine.{CertLine};
+ghost use Rattle.pc_cert.specs.declared.line.TheConstants.{MAX_LINE};
+ghost use Rattle.pc_cert.specs.Lines.{Lacks, spelling, Fits};
+ghost use Rattle.pc_cert.specs.Text.{text_of, AllFit};
+
+/// A line has one spelling, which is that of no other line, has no end of a line in it, and is short.
+pub fn spelling_is_once()
+    ensures once { (line other : CertLine) → Fits line → Fits other → spelling line ≡ spelling other → line ≡ other }
+    ensures without_end { (line : CertLine) → Fits line → Lacks 10 (spelling line) }
+    ensures short { (line : CertLine) → Fits line → length (spelling line) < MAX_LINE }
+{}
+
+/// No text is that of two lists of lines.
+pub fn text_is_once()
+    ensures { (lines others : List CertLine) → AllFit lines → AllFit others → text_of lines ≡ text_of others → lines ≡ others }
+{}

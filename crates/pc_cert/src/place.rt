@@ -1,0 +1,173 @@
+//! The order in which the lines of a certificate come.
+ghost use Rattle.std.specs.Prelude.{◌≡◌};
+ghost use Rattle.pc_cert.specs.Grammar.{next, next_at_start, next_after_head, next_in_normal_walk, next_in_crash_walk, next_in_segment, next_between, opened, takes_flows};
+
+use crate::flows::Flows;
+use crate::line::CertLine;
+
+/// What the first line says of the lines that follow: the version, and the numbers of events and of activities.
+#[derive(Clone, Copy, Debug)]
+pub struct Shape {
+    pub version: u64,
+    pub events: u64,
+    pub activities: u64,
+}
+
+/// Where in a certificate the next line stands.
+#[derive(Clone, Copy, Debug)]
+pub enum Place {
+    /// at the beginning
+    Start,
+    /// behind the first line
+    AfterHead(Shape),
+    /// among the steps of the normal walk, of which so many more may come
+    NormalWalk {
+        shape: Shape,
+        steps: u64,
+    },
+    /// among the steps of the crash walk, of which so many more may come
+    CrashWalk {
+        shape: Shape,
+        steps: u64,
+    },
+    /// in a segment, of which so many events and activities are still to come
+    InSegment {
+        shape: Shape,
+        events: u64,
+        activities: u64,
+    },
+    /// behind a segment
+    Between(Shape),
+    /// behind the last line
+    Ended,
+}
+
+impl Place {
+    /// Where the line behind this one stands, or none where this one may not stand here.
+    pub fn next(self, line: &CertLine) -> Option<Place>
+        ensures { result ≡ next self line.now }
+    {
+        match self {
+            Place::Start => next_at_start(line),
+            Place::AfterHead(shape) => next_after_head(shape, line),
+            Place::NormalWalk { shape, steps } => next_in_normal_walk(shape, steps, line),
+            Place::CrashWalk { shape, steps } => next_in_crash_walk(shape, steps, line),
+            Place::InSegment {
+                shape,
+                events,
+                activities,
+            } => next_in_segment(shape, events, activities, line),
+            Place::Between(shape) => next_between(shape, line),
+            Place::Ended => None,
+        }
+    }
+}
+
+fn next_at_start(line: &CertLine) -> Option<Place>
+    ensures { result ≡ next_at_start line.now }
+{
+    match line {
+        CertLine::Head {
+            version,
+            project: _,
+            events,
+            activities,
+        } => Some(Place::AfterHead(Shape {
+            version: *version,
+            events: *events,
+            activities: *activities,
+        })),
+        _ => None,
+    }
+}
+
+fn next_after_head(shape: Shape, line: &CertLine) -> Option<Place>
+    ensures { result ≡ next_after_head shape line.now }
+{
+    match line {
+        CertLine::Normal => Some(Place::NormalWalk {
+            shape,
+            steps: shape.events,
+        }),
+        _ => None,
+    }
+}
+
+fn next_in_normal_walk(shape: Shape, steps: u64, line: &CertLine) -> Option<Place>
+    ensures { result ≡ next_in_normal_walk shape steps line.now }
+{
+    match line {
+        CertLine::Step(_) if 0 < steps => Some(Place::NormalWalk {
+            shape,
+            steps: steps - 1,
+        }),
+        CertLine::Crash => Some(Place::CrashWalk {
+            shape,
+            steps: shape.events,
+        }),
+        _ => None,
+    }
+}
+
+fn next_in_crash_walk(shape: Shape, steps: u64, line: &CertLine) -> Option<Place>
+    ensures { result ≡ next_in_crash_walk shape steps line.now }
+{
+    match line {
+        CertLine::Step(_) if 0 < steps => Some(Place::CrashWalk {
+            shape,
+            steps: steps - 1,
+        }),
+        CertLine::Segment { .. } => Some(opened(shape)),
+        _ => None,
+    }
+}
+
+fn next_between(shape: Shape, line: &CertLine) -> Option<Place>
+    ensures { result ≡ next_between shape line.now }
+{
+    match line {
+        CertLine::Segment { .. } => Some(opened(shape)),
+        CertLine::End => Some(Place::Ended),
+        _ => None,
+    }
+}
+
+/// In a segment of which nothing has come.
+fn opened(shape: Shape) -> Place
+    ensures { result ≡ opened shape }
+{
+    Place::InSegment {
+        shape,
+        events: shape.events,
+        activities: shape.activities,
+    }
+}
+
+fn next_in_segment(shape: Shape, events: u64, activities: u64, line: &CertLine) -> Option<Place>
+    ensures { result ≡ next_in_segment shape events activities line.now }
+{
+    match line {
+        CertLine::Event { .. } if 0 < events => Some(Place::InSegment {
+            shape,
+            events: events - 1,
+            activities,
+        }),
+        CertLine::Act { flows, .. } if events == 0 && 0 < activities && takes_flows(shape, flows) =>
+            {
+                Some(Place::InSegment {
+                    shape,
+                    events,
+                    activities: activities - 1,
+                })
+            }
+        CertLine::Close if events == 0 && activities == 0 => Some(Place::Between(shape)),
+        _ => None,
+    }
+}
+
+/// Whether an activity may have so many flows: two in version 1, and two to six in version 2.
+fn takes_flows(shape: Shape, flows: &Flows) -> bool
+    ensures { result ≡ takes_flows shape flows.now }
+{
+    shape.version == 2 || flows.as_slice().len() == 2
+}

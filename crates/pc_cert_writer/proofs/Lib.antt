@@ -1,3 +1,0 @@
-pub mod ListedLaws
-pub mod WordLaws
-pub mod FitLaws

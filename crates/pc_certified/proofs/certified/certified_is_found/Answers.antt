@@ -1,5 +1,0 @@
-use Rattle.pc_certified.proofs.ExactLaws.{found_certified}
-use Rattle.pc_certified.proofs.certified.certified_is_found.Goals as goal
-
-pub returns : goal.returns
-returns c = λ net text segments verdict certified finds. found_certified net text segments certified verdict finds

@@ -1,0 +1,26 @@
+use Rattle.std.proofs.Common.{ap, subst, arith}
+use Rattle.pc_model.specs.Network.{Network, IsOrder}
+use Rattle.pc_certify.proofs.CertifiedLaws.{certified, text_certified, all_same, curve}
+use Rattle.pc_certify.proofs.SmallLaws.{IsSized, small_segments}
+use Rattle.pc_certify.proofs.certified.written_is_certified.Goals as goal
+
+pub returns : goal.returns
+returns c =
+    let net = c.args.net.now in
+    let known = c.net-network.ensures in
+    let sized : IsSized net = record {
+      priced = known.priced;
+      limits = known.limits;
+      pieces = known.pieces;
+      piece_limits = known.piece_limits;
+      few = omega (arith, c.events-few.ensures.events, c.events-few.ensures.limit, ap (λ (n : Network). n.events) known.network);
+      order = c.order-order.result.now;
+      ordered = subst (λ (n : Network). IsOrder n c.order-order.result.now) known.network c.order-order.ensures.order;
+    } in
+    record {
+      certified = certified net sized known.activity_names;
+      text = text_certified net sized known.activity_names;
+      same = all_same net sized known.activity_names;
+      curve = curve net sized known.activity_names;
+      small = small_segments net sized;
+    }

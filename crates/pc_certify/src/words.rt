@@ -1,0 +1,36 @@
+//! Words of a line.
+ghost use Rattle.std.specs.Prelude.{◌≡◌, [], decimal, true};
+ghost use Rattle.pc_text.specs.Code.{is_code};
+ghost use Rattle.pc_page.specs.Puts.{Puts};
+ghost use Rattle.pc_cert.specs.Lines.{spaced, bit_text};
+
+use pc_edges::Sink;
+use pc_page::Page;
+use pc_text::Code;
+
+/// Puts a space and the code.
+#[inline]
+pub(crate) fn put_code<O: Sink>(page: &mut Page, sink: &mut O, code: &Code)
+    ensures text { Puts O.taken O.faults page.old sink.old page.new sink.new (spaced code.now []) }
+    ensures code { is_code code.now ≡ true }
+{
+    page.put(sink, b" ");
+    page.put(sink, code.bytes());
+}
+
+/// Puts a space and the number.
+#[inline]
+pub(crate) fn put_number<O: Sink>(page: &mut Page, sink: &mut O, number: u64)
+    ensures { Puts O.taken O.faults page.old sink.old page.new sink.new (spaced (decimal number) []) }
+{
+    page.put(sink, b" ");
+    page.put_number(sink, number);
+}
+
+/// Puts a space and the bit.
+#[inline]
+pub(crate) fn put_bit<O: Sink>(page: &mut Page, sink: &mut O, bit: bool)
+    ensures { Puts O.taken O.faults page.old sink.old page.new sink.new (spaced (bit_text bit) []) }
+{
+    page.put(sink, if bit { b" 1" } else { b" 0" });
+}

@@ -1,0 +1,25 @@
+//! Certificates worked by hand, to see that the words mean what they should and can be met.
+ghost use Rattle.std.specs.Prelude.{◌≡◌, [], ◌∷◌};
+ghost use Rattle.pc_curve_laws.specs.Worked.{small_1, small_segments};
+ghost use Rattle.pc_cert.specs.Text.{text_of};
+ghost use Rattle.pc_certify.specs.Document.{document_lines};
+ghost use Rattle.pc_certify.specs.Complete.{IsComplete, begun_lines};
+ghost use Rattle.pc_certify.specs.Worked.{
+  small_deck,
+  small_deck_in_pieces,
+  along_a_and_b,
+  upper_segment,
+  lower_segment,
+  small_certificate,
+  begun_in_pieces,
+};
+
+/// The certificate of the small deck, byte for byte, and the beginning of the one where the second unit saved of A costs
+/// 6, in version 2; what is written of that deck's four segments is all that a certified one needs.
+pub fn small_decks_are_written()
+    ensures one_slope { text_of (document_lines small_deck along_a_and_b along_a_and_b (upper_segment ∷ lower_segment ∷ [])) ≡ small_certificate }
+    ensures in_pieces { text_of (begun_lines small_deck_in_pieces along_a_and_b along_a_and_b (small_1 ∷ [])) ≡ begun_in_pieces }
+    ensures complete { IsComplete small_deck_in_pieces along_a_and_b along_a_and_b small_segments }
+{
+    pc_curve_laws::worked_laws::pieces_are_worked();
+}

@@ -1,0 +1,12 @@
+use Rattle.std.proofs.Common.{sym, subst, arith}
+use Rattle.std.proofs.lemmas.List.{take_all, length-drop}
+use Rattle.pc_check.proofs.FeedLaws.{IsFeeding, more, fails_in_rest}
+use Rattle.pc_check.proofs.audit.Audit.feed.Goals as goal
+
+pub loop-rest-preserved : goal.loop-rest-preserved
+loop-rest-preserved c =
+    subst (λ t. IsFeeding c.args.self.now c.step.new.self c.args.piece.now t) (sym (take_all _ _ (omega (arith, length-drop c.in-Ok.used c.loop-rest.rest.now))))
+    (more c.step.new.self c.in-Ok.used c.loop-rest.invariant c.in-Ok.ensures.going c.step.ensures.net c.in-Ok.ensures.goes_on c.in-Ok.ensures.left)
+
+pub returns-in-Err-clause-fails : goal.returns-in-Err-clause-fails
+returns-in-Err-clause-fails c = fails_in_rest c.in-Err.fail c.loop-rest.invariant c.in-Err.ensures.fails

@@ -1,0 +1,33 @@
+-- Where the reading of a source stops.
+use Rattle.std.specs.Prelude.{◌≡◌, ℕ, ◌<◌, ◌≤◌, List, ◌++◌, length, Option, None}
+use Rattle.std.specs.Io.KnownBytes.{Consumes}
+use Rattle.pc_cert.specs.declared.line.CertLine.{CertLine}
+use Rattle.pc_cert.specs.declared.line.TheConstants.{MAX_LINE}
+use Rattle.pc_cert.specs.declared.place.Place.{Place}
+use Rattle.pc_cert.specs.Lines.{Lacks}
+use Rattle.pc_cert.specs.Text.{text_of, LeadTo}
+use Rattle.pc_crash.specs.Priced.{PricedNetwork}
+use Rattle.pc_check.specs.declared.fail.Verdict.{Verdict}
+use Rattle.pc_check.specs.Failures.{failure_of}
+use Rattle.pc_check.specs.Texts.{Finds}
+
+-- the bytes are whole lines, which may come in this order and of which none fails, and the beginning of one more
+pub record HasNoFailure (net : PricedNetwork) (bytes : List ℕ) : Type 0 where
+  pub place : Place
+  pub lines : List CertLine
+  pub rest : List ℕ
+  pub led : LeadTo place lines
+  pub none : failure_of net lines ≡ None
+  pub whole : bytes ≡ text_of lines ++ rest
+  pub no_end : Lacks 10 rest
+  pub short : length rest < MAX_LINE
+
+-- the bytes that were taken are found to be this; of those that came before the last pull, of at most so many bytes, no line
+-- fails, so nothing is pulled behind the failing line
+pub record IsSettled (net : PricedNetwork) (verdict : Verdict) (room : ℕ) (left left_after : Option (List ℕ)) : Type 0 where
+  pub front : List ℕ
+  pub last : List ℕ
+  pub taken : Consumes left left_after (front ++ last)
+  pub before : HasNoFailure net front
+  pub short : length last ≤ room
+  pub found : Finds net (front ++ last) verdict

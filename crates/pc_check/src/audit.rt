@@ -1,0 +1,119 @@
+//! Reading and checking the text of a certificate.
+ghost use Rattle.std.specs.Prelude.{◌≡◌, ℕ, ◌<◌, ◌≤◌, List, [], ◌++◌, length, take, IfOk, IfErr, IfSome, OnOk, IfNone};
+ghost use Rattle.pc_check.specs.Texts.{IsFailing, Finds};
+ghost use Rattle.pc_check.specs.Auditing.{HasRead, IsGoing, bytes_left, most_bytes};
+ghost use Rattle.pc_check.specs.declared.fail.Fail.{Fail};
+
+use crate::checker::Checker;
+use crate::fail::{Fail, Verdict};
+use pc_cert::{CertReader, KnownLines};
+use pc_crash::CrashNet;
+use std::alloc::{AllocError, Global};
+use std::marker::Model;
+
+/// A reader of a certificate's text, and a checker of its lines.
+///
+/// Beside them it knows the lines of one segment, so that those that come again in the next are not read anew.
+#[derive(Drop)]
+pub struct Audit<'n> {
+    reader: CertReader,
+    checker: Checker<'n>,
+    known: KnownLines,
+}
+
+impl<'n> Model for Audit<'n> {
+    ghost use Rattle.pc_check.specs.Auditing.{Auditing};
+
+    ghost Value = { Auditing };
+
+    ghost view = { λ a. record { reader = a.reader; checker = a.checker } };
+}
+
+impl<'n> Audit<'n> {
+    /// An audit of a text of which nothing has come, with all the memory that it takes.
+    pub fn begin(alloc: Global, net: &'n CrashNet<'n>) -> Result<Audit<'n>, AllocError>
+        ensures read { IfOk result (HasRead []) }
+        ensures going { IfOk result IsGoing }
+        ensures net { IfOk result (λ audit. audit.checker.net ≡ net.now) }
+        ensures left { IfOk result (λ audit. bytes_left audit ≤ most_bytes net.now) }
+    {
+        let rows = net.net().events() as usize + net.net().activities() as usize;
+        Ok(Audit {
+            reader: CertReader::begin(),
+            checker: Checker::begin(alloc, net)?,
+            // a segment has two lines beside those of its events and activities
+            known: KnownLines::begin(alloc, rows + 2)?,
+        })
+    }
+
+    /// Uses the next piece of the text. A failure is the first one of the text, however it goes on; its reason is 0 where
+    /// the line is malformed.
+    pub fn feed(&mut self, piece: &[u8]) -> Option<Fail>
+        requires read { (text : List ℕ) × HasRead text self.old }
+        requires going { IsGoing self.old }
+        ensures goes_on { IfNone result ((text : List ℕ) → HasRead text self.old → HasRead (text ++ piece.now) self.new) }
+        ensures going { IfNone result (IsGoing self.new) }
+        ensures fails { IfSome result (λ fail. (text more : List ℕ) → HasRead text self.old → IsFailing self.old.checker.net (text ++ (piece.now ++ more)) fail) }
+        ensures net { self.new.checker.net ≡ self.old.checker.net }
+        ensures left { IfNone result (0 < length piece.now → bytes_left self.new < bytes_left self.old) }
+    {
+        let mut rest = piece;
+        while !rest.is_empty() {
+            match self.step(rest) {
+                Ok(used) => rest = &rest[used..],
+                Err(fail) => return Some(fail),
+            }
+        }
+        None
+    }
+
+    /// Uses the piece up to the end of one line.
+    fn step(&mut self, piece: &[u8]) -> Result<usize, Fail>
+        requires read { (text : List ℕ) × HasRead text self.old }
+        requires going { IsGoing self.old }
+        requires some { 0 < length piece.now }
+        ensures within { IfOk result (λ used. used ≤ length piece.now) }
+        ensures some { IfOk result (λ used. 0 < used) }
+        ensures goes_on { IfOk result (λ used. (text : List ℕ) → HasRead text self.old → HasRead (text ++ take used piece.now) self.new) }
+        ensures going { OnOk result (IsGoing self.new) }
+        ensures fails { IfErr result (λ fail. (text more : List ℕ) → HasRead text self.old → IsFailing self.old.checker.net (text ++ (piece.now ++ more)) fail) }
+        ensures net { self.new.checker.net ≡ self.old.checker.net }
+        ensures left { OnOk result (bytes_left self.new < bytes_left self.old) }
+    {
+        let known = self.known.here();
+        let used = match self.reader.feed_known(piece, known) {
+            Ok(used) => used,
+            Err(malformed) => {
+                return Err(Fail {
+                    line: malformed.line,
+                    reason: 0,
+                });
+            }
+        };
+        match known.line() {
+            None => Ok(used),
+            Some(line) => match self.checker.take_before(line, self.reader.place()) {
+                None => {
+                    self.known.go_on();
+                    Ok(used)
+                }
+                Some(fail) => Err(fail),
+            },
+        }
+    }
+
+    /// What the text that was read to its end is found to be.
+    pub fn finish(self) -> Verdict
+        requires read { (text : List ℕ) × HasRead text self }
+        requires going { IsGoing self }
+        ensures { (text : List ℕ) → HasRead text self.entry → Finds self.entry.checker.net text result }
+    {
+        match self.reader.finish() {
+            Ok(()) => self.checker.finish(),
+            Err(malformed) => Verdict::No {
+                line: malformed.line,
+                reason: 0,
+            },
+        }
+    }
+}

@@ -1,0 +1,13 @@
+//! Laws of texts. Each function is its contract, and does nothing.
+ghost use Rattle.std.specs.Prelude.{◌≡◌, ℕ, List};
+ghost use Rattle.pc_check.specs.Texts.{IsCertified, IsFailing};
+ghost use Rattle.pc_check.specs.declared.fail.Fail.{Fail};
+ghost use Rattle.pc_crash.specs.Priced.{PricedNetwork};
+
+/// A text is found to be one thing: it is not both certified and failing, has one number of segments where it is certified, and
+/// one first failing point where it fails.
+pub fn one_verdict()
+    ensures not_both { (net : PricedNetwork) (text : List ℕ) (segments : ℕ) (fail : Fail) → IsCertified net text segments → IsFailing net text fail → ⊥ }
+    ensures one_number { (net : PricedNetwork) (text : List ℕ) (segments others : ℕ) → IsCertified net text segments → IsCertified net text others → segments ≡ others }
+    ensures one_failure { (net : PricedNetwork) (text : List ℕ) (fail other : Fail) → IsFailing net text fail → IsFailing net text other → fail ≡ other }
+{}

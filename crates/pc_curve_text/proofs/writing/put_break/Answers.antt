@@ -1,5 +1,0 @@
-use Rattle.pc_page.proofs.PageLaws.{◌▸◌}
-use Rattle.pc_curve_text.proofs.writing.put_break.Goals as goal
-
-pub returns : goal.returns
-returns g c = c.put_number.ensures ▸ c.put.ensures ▸ c.put_number-2.ensures ▸ c.put-2.ensures ▸ c.put_slope.ensures ▸ c.put-3.ensures

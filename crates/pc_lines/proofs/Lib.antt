@@ -1,7 +1,0 @@
-pub mod NumberLemmas
-pub mod FieldLemmas
-pub mod FlowsLemmas
-pub mod LineLaws
-pub mod LineLengths
-pub mod TextLaws
-mod RunLemmas
