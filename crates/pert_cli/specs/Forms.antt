@@ -15,7 +15,7 @@ use Rattle.pc_load.specs.declared.loading.TheConstants.{MAX_DAYS}
 use Rattle.pc_project.specs.Project.{Project}
 use Rattle.pert_cli.specs.declared.forms.Form.{Form}
 use Rattle.pert_cli.specs.declared.forms.Form.TheVariants.{Check, Normal, Times, Summary, Value, Curve, Certify, Point, Outlook, Bench, Load}
-use Rattle.pert_cli.specs.Certificate.{priced_in}
+use Rattle.pc_reading.specs.Priced.{priced_in}
 use Rattle.pert_cli.specs.Load.{IsTooLong}
 use Rattle.pert_cli.specs.Normal.{IsNormalText}
 use Rattle.pert_cli.specs.Outlook.{IsOutlookReply}

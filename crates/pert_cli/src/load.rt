@@ -5,17 +5,16 @@ ghost use Rattle.pc_load.specs.LoadText.{load_text};
 ghost use Rattle.pc_page.specs.Page.{fresh};
 ghost use Rattle.pert_cli.specs.Forms.{IsNumbered};
 ghost use Rattle.pert_cli.specs.Handing.{Replies};
-ghost use Rattle.pert_cli.specs.Sides.{side};
+ghost use Rattle.pc_reading.specs.Sides.{side};
 ghost use Rattle.pert_cli.specs.declared.forms.Form.TheVariants.{Load};
 
 use crate::answer::{Answer, hand};
-use crate::refusing::refuse;
-use crate::status::Status;
 use pc_edges::{Failed, Sink};
 use pc_faults::Fault;
 use pc_load::{Loading, NoLoad, write_load};
 use pc_page::{PAGE_ROOM, Page};
 use pc_project::Project;
+use pc_reading::{Status, refuse};
 use std::alloc::Global;
 
 /// The first word of the form; the second is the number of days.

@@ -3,8 +3,8 @@ use Rattle.pc_faults.specs.declared.fault.Fault.{Fault}
 use Rattle.pc_faults.specs.Faults.{too_many_periods}
 use Rattle.pc_load.specs.LoadText.{load_text}
 use Rattle.pert_cli.specs.declared.forms.Form.TheVariants.{Load}
-use Rattle.pert_cli.specs.Handing.{IsReply, Refusal, answers, denies}
-use Rattle.pert_cli.specs.Sides.{side}
+use Rattle.pert_cli.specs.Handing.{IsReply, answers, denies}
+use Rattle.pc_reading.specs.Sides.{side}
 use Rattle.pert_cli.proofs.HandingLaws.{Answers-weaker}
 use Rattle.pert_cli.proofs.LoadLaws.{load_reply}
 use Rattle.pert_cli.proofs.load.answer.Goals as goal
