@@ -1,6 +1,6 @@
 //! Runs over sources and sinks in memory: what each status leaves behind.
 
-use crate::testing::{AT_WORK, CERTIFICATE, Edges, SMALL, USAGE, WHOLE, left_by, run_of};
+use crate::testing::{AT_WORK, CERTIFICATE, Edges, SMALL, USAGE, WHOLE, WITH_CREW, left_by, run_of};
 use std::test::Fail;
 
 // Activities of an item that no card has.
@@ -75,6 +75,19 @@ ITEM             LV         BUDGET        OUTLOOK         CHANGE TITLE\n\
 1.1               2             25             33              8 Frame, north\n\
 1.2               2             20             25              5 Roof\n";
 
+const LOAD_7: &[u8] = b"LOAD E1 7\n\
+PERIOD                0 2024-01-01\n\
+PERIOD                1 2024-01-08\n\
+ITEMS\n\
+1                     0             35\n\
+1                     1             10\n\
+1.1                   0             25\n\
+1.2                   0             10\n\
+1.2                   1             10\n\
+RESOURCES\n\
+CREW                  0              3\n\
+CREW                  1              4\n";
+
 const TOO_SHORT: &[u8] = b"F32 record 0: length 4 is outside 5 to 9\n";
 
 const TOO_LONG: &[u8] = b"F32 record 0: length 10 is outside 5 to 9\n";
@@ -82,7 +95,7 @@ const TOO_LONG: &[u8] = b"F32 record 0: length 10 is outside 5 to 9\n";
 const NO_PROJECT: &[u8] = b"F3 record 1: first card is not PROJECT\n";
 
 // Words that ask for a form and a deck, with the status, the output and the error output that they give.
-const RUNS: [(&[&str], &[u8], u8, &[u8], &[u8]); 15] = [
+const RUNS: [(&[&str], &[u8], u8, &[u8], &[u8]); 16] = [
     (&["check"], WHOLE, 0, COUNTS, b""),
     (&["normal"], WHOLE, 0, SCHEDULE, b""),
     (&["times"], WHOLE, 0, TIMES, b""),
@@ -92,6 +105,7 @@ const RUNS: [(&[&str], &[u8], u8, &[u8], &[u8]); 15] = [
     (&["certify"], WHOLE, 0, CERTIFICATE, b""),
     (&["point", "6"], WHOLE, 0, POINT_6, b""),
     (&["outlook", "6"], WHOLE, 0, OUTLOOK_6, b""),
+    (&["load", "7"], WITH_CREW, 0, LOAD_7, b""),
     (&["outlook", "4"], WHOLE, 1, b"", TOO_SHORT),
     (&["point", "4"], WHOLE, 1, b"", TOO_SHORT),
     (&["point", "10"], WHOLE, 1, b"", TOO_LONG),
