@@ -1,0 +1,3 @@
+pub mod Totals
+pub mod Bests
+pub mod Stops
