@@ -5,6 +5,7 @@
 mod finding;
 pub mod laws;
 mod optimum;
+mod report;
 mod signs;
 mod stopping;
 mod time;
@@ -12,4 +13,5 @@ mod time;
 pub use finding::best;
 pub use optimum::Best;
 pub use pc_model::TimeTerms;
+pub use report::put_best;
 pub use time::time_cost;
