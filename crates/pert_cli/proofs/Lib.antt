@@ -9,4 +9,5 @@ mod VerdictLaws
 mod CheckLaws
 mod CheckDecided
 mod CertifyLaws
+mod OptimumLaws
 mod PointLaws

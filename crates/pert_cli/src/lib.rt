@@ -11,6 +11,7 @@ mod curve;
 mod ending;
 mod forms;
 mod normal;
+mod optimum;
 mod outlook;
 mod point;
 mod reading;
