@@ -1,13 +1,8 @@
-mod ReadingLaws
 mod DecidedLaws
 mod HandingLaws
 mod FormDeckLaws
 mod OutcomeLaws
 mod ScheduleLaws
-mod OneProjectLaws
-mod VerdictLaws
-mod CheckLaws
-mod CheckDecided
 mod CertifyLaws
 mod OptimumLaws
 mod PointLaws

@@ -1,7 +1,7 @@
 use Rattle.std.proofs.Common.{refl}
 use Rattle.pert_cli.specs.Handing.{IsReply}
 use Rattle.pert_cli.specs.Optimum.{IsOptimumWith, optimum_text}
-use Rattle.pert_cli.specs.Sides.{side}
+use Rattle.pc_reading.specs.Sides.{side}
 use Rattle.pert_cli.specs.declared.forms.Form.TheVariants.{Optimum}
 use Rattle.pert_cli.proofs.HandingLaws.{of_built}
 use Rattle.pert_cli.proofs.optimum.answer.Goals as goal
