@@ -1,5 +1,6 @@
 pub mod Normal
 pub mod Point
+pub mod Optimum
 pub mod Outlook
 pub mod Forms
 pub mod Words

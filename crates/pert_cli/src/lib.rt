@@ -10,6 +10,7 @@ mod curve;
 mod form_deck;
 mod forms;
 mod normal;
+mod optimum;
 mod outlook;
 mod point;
 mod schedule;

@@ -75,6 +75,10 @@ ITEM             LV         BUDGET        OUTLOOK         CHANGE TITLE\n\
 1.1               2             25             33              8 Frame, north\n\
 1.2               2             20             25              5 Roof\n";
 
+// Without terms the time costs nothing.
+const OPTIMUM: &[u8] = b"OPTIMUM E1\nLENGTH 9\nDIRECT 45\nTIME 0\nTOTAL 45\nBELOW 3\nABOVE -\n\
+EVENT S 0\nEVENT M 4\nEVENT T 9\nACT A 4\nACT B 5\nACT C 7\n";
+
 const TOO_SHORT: &[u8] = b"F32 record 0: length 4 is outside 5 to 9\n";
 
 const TOO_LONG: &[u8] = b"F32 record 0: length 10 is outside 5 to 9\n";
@@ -82,7 +86,7 @@ const TOO_LONG: &[u8] = b"F32 record 0: length 10 is outside 5 to 9\n";
 const NO_PROJECT: &[u8] = b"F3 record 1: first card is not PROJECT\n";
 
 // Words that ask for a form and a deck, with the status, the output and the error output that they give.
-const RUNS: [(&[&str], &[u8], u8, &[u8], &[u8]); 15] = [
+const RUNS: [(&[&str], &[u8], u8, &[u8], &[u8]); 16] = [
     (&["check"], WHOLE, 0, COUNTS, b""),
     (&["normal"], WHOLE, 0, SCHEDULE, b""),
     (&["times"], WHOLE, 0, TIMES, b""),
@@ -92,6 +96,7 @@ const RUNS: [(&[&str], &[u8], u8, &[u8], &[u8]); 15] = [
     (&["certify"], WHOLE, 0, CERTIFICATE, b""),
     (&["point", "6"], WHOLE, 0, POINT_6, b""),
     (&["outlook", "6"], WHOLE, 0, OUTLOOK_6, b""),
+    (&["optimum"], WHOLE, 0, OPTIMUM, b""),
     (&["outlook", "4"], WHOLE, 1, b"", TOO_SHORT),
     (&["point", "4"], WHOLE, 1, b"", TOO_SHORT),
     (&["point", "10"], WHOLE, 1, b"", TOO_LONG),
