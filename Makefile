@@ -2,9 +2,14 @@
 # make check        runs the gate (every proof, edit, test and program) and the acceptance cases
 # make install      copies programs, manual pages, docs, examples and completion below $(PREFIX)
 # make uninstall    takes them away again
+# make dist         packs them into one archive in out/, for offices that have no kit: the same bytes from the same sources
+# make soak         tries generated decks, certificates and failing memory for MINUTES minutes (SEED=.. repeats a run)
 # make clean        removes all that was built
 
 PREFIX ?= /usr/local
+# where the pages say that the documents stand, if that is not where they are copied to
+PLACE ?= $(PREFIX)
+MINUTES ?= 30
 PROGRAMS := pert pert_check
 SECTION1 := pert.1 pert_check.1
 PAGES := README.md $(wildcard docs/*.md)
@@ -35,7 +40,7 @@ check:
 	.ci/run
 
 # A page that is installed names this version and this place, and takes the programs from the path in its commands.
-SHOWN := sed -e 's/@VERSION@/$(VERSION)/' -e 's:@DOC@:$(PREFIX)/share/doc/pert:g' -e '/^    \$$ /s:bin/pert:pert:g'
+SHOWN := sed -e 's/@VERSION@/$(VERSION)/' -e 's:@DOC@:$(PLACE)/share/doc/pert:g' -e '/^    \$$ /s:bin/pert:pert:g'
 
 install: all
 	install -d "$(ROOT)/bin" "$(MAN)/man1" "$(MAN)/man5" "$(DOC)/docs" "$(DOC)/examples" "$(COMPLETIONS)"
@@ -52,7 +57,22 @@ uninstall:
 	rm -f $(PROGRAMS:%="$(ROOT)/bin/%") $(SECTION1:%="$(MAN)/man1/%") "$(MAN)/man5/pert-deck.5" $(PROGRAMS:%="$(COMPLETIONS)/%")
 	rm -rf "$(DOC)"
 
+# The archive holds a folder with bin/ and share/, whose pages name /usr/local, and the checksum of each file. Names are sorted, and
+# owners, times and modes are fixed, so that whoever builds the same sources gets the same archive.
+ARCHIVE := pert-$(VERSION)
+dist: all
+	rm -rf "out/$(ARCHIVE)" "out/$(ARCHIVE).tar.gz"
+	$(MAKE) -s install DESTDIR= PREFIX="$(CURDIR)/out/$(ARCHIVE)" PLACE=/usr/local
+	cd "out/$(ARCHIVE)" && find . -type f ! -name SHA256SUMS | LC_ALL=C sort | xargs sha256sum >SHA256SUMS
+	tar -C out --sort=name --format=ustar --owner=0 --group=0 --numeric-owner --mtime=@0 --mode=u=rwX,go=rX -cf - "$(ARCHIVE)" \
+		| gzip -9n >"out/$(ARCHIVE).tar.gz"
+	rm -rf "out/$(ARCHIVE)"
+	@sha256sum "out/$(ARCHIVE).tar.gz"
+
+soak:
+	tests/soak $(MINUTES) $(SEED)
+
 clean:
 	rm -rf bin out crates/*/out
 
-.PHONY: all check install uninstall clean
+.PHONY: all check install uninstall dist soak clean

@@ -1,3 +1,8 @@
-# Completion for bash of pert's forms and of pert_check's deck. What comes on standard input is completed behind `<`.
-complete -W 'check normal times summary value curve certify point outlook bench' pert
+# Completion for bash: pert's forms as its first word, files behind `<` and for the other programs.
+_pert() {
+    if [ "$COMP_CWORD" -eq 1 ]; then
+        mapfile -t COMPREPLY < <(compgen -W 'check normal times summary value curve certify point outlook bench' -- "$2")
+    fi
+}
+complete -o bashdefault -o default -F _pert pert
 complete -f pert_check

@@ -10,12 +10,11 @@
 #include <cstdio>
 #include <cstdlib>
 #include <cstring>
-#include <fstream>
 #include <iostream>
-#include <map>
-#include <sstream>
 #include <string>
 #include <vector>
+
+#include "plan.h"
 
 using u32 = std::uint32_t;
 using u64 = std::uint64_t;
@@ -272,58 +271,19 @@ static void add(Labels &curve, u32 from, u32 to, u64 normal, u64 crash, u64 slop
     curve.activities.push_back({from, to, normal, crash, slope, cost, first, u32(pieces.size()) + 1});
 }
 
-static Labels bench(u64 n) {
-    u64 x = n;
-    auto draw = [&x]() { return x = (75 * x + 74) % 65537; };
+static Labels curve_of(const Plan &plan) {
     Labels curve;
-    const u64 k = (n + 1) / 2;
-    curve.events = u32(k + 1);
-    curve.end = u32(k);
-    for (u64 i = 1; i <= n; ++i) {
-        u64 from = i - 1, to = i;
-        if (i > k) {
-            from = draw() % k;
-            to = std::min(k, from + 1 + draw() % 4);
-        }
-        const u64 normal = (to - from) * (1 + draw() % 20), crash = draw() % (normal + 1), slope = 1 + draw() % 9;
-        add(curve, u32(from), u32(to), normal, crash, slope, 10 + draw() % 90, {});
-    }
-    return curve;
-}
-
-static Labels deck(const char *path) {
-    Labels curve;
-    std::map<std::string, u32> events, activities;
-    std::vector<std::vector<std::string>> acts;
-    std::vector<std::vector<std::pair<u64, u64>>> pieces;
-    std::string start, end, line;
-    std::ifstream file(path);
-    while (std::getline(file, line)) {
-        std::vector<std::string> fields;
-        std::stringstream parts(line + ",");
-        for (std::string field; std::getline(parts, field, ',');) fields.push_back(field);
-        if (fields[0] == "PROJECT") start = fields[2], end = fields[3];
-        if (fields[0] == "EVENT") events.emplace(fields[1], u32(events.size()));
-        if (fields[0] == "ACT") {
-            activities.emplace(fields[1], u32(acts.size()));
-            acts.push_back(fields);
-            pieces.emplace_back();
-        }
-        if (fields[0] == "PIECE") pieces[activities.at(fields[1])].emplace_back(std::stoull(fields[2]), std::stoull(fields[3]));
-    }
-    for (u32 i = 0; i < acts.size(); ++i)
-        add(curve, events.at(acts[i][2]), events.at(acts[i][3]), std::stoull(acts[i][8]), std::stoull(acts[i][9]), std::stoull(acts[i][11]),
-            std::stoull(acts[i][10]), pieces[i]);
-    curve.events = u32(events.size());
-    curve.start = events.at(start);
-    curve.end = events.at(end);
+    for (const PlanActivity &a : plan.activities) add(curve, u32(a.from), u32(a.to), a.normal, a.crash, a.slope, a.cost, a.pieces);
+    curve.events = u32(plan.events);
+    curve.start = u32(plan.start);
+    curve.end = u32(plan.end);
     return curve;
 }
 
 int main(int count, char **words) {
     const bool is_bench = count == 3 && !std::strcmp(words[1], "bench");
     if (!is_bench && !(count == 3 && !std::strcmp(words[1], "deck"))) return 2;
-    Labels curve = is_bench ? bench(std::stoull(words[2])) : deck(words[2]);
+    Labels curve = curve_of(is_bench ? bench_plan(std::stoull(words[2])) : deck_plan(words[2]));
     curve.lay_out();
     curve.begin();
     const u64 longest = curve.length, first_cost = curve.cost;

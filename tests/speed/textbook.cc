@@ -7,12 +7,11 @@
 #include <cstdio>
 #include <cstdlib>
 #include <cstring>
-#include <fstream>
 #include <iostream>
-#include <map>
-#include <sstream>
 #include <string>
 #include <vector>
+
+#include "plan.h"
 
 using i64 = std::int64_t;
 
@@ -150,59 +149,22 @@ struct Curve {
     }
 };
 
-static Curve bench(i64 n) {
-    std::uint64_t x = std::uint64_t(n);
-    auto draw = [&x]() { return i64(x = (75 * x + 74) % 65537); };
+static Curve curve_of(const Plan &plan) {
     Curve curve;
-    const i64 k = (n + 1) / 2;
-    curve.events = int(k + 1);
-    curve.start = 0;
-    curve.end = int(k);
-    for (i64 i = 1; i <= n; ++i) {
-        i64 from = i - 1, to = i;
-        if (i > k) {
-            from = draw() % k;
-            to = std::min(k, from + 1 + draw() % 4);
-        }
-        Activity a{int(from), int(to), 0, 0, 0, 0, {}};
-        a.normal = (to - from) * (1 + draw() % 20);
-        a.crash = draw() % (a.normal + 1);
-        a.slope = 1 + draw() % 9;
-        a.cost = 10 + draw() % 90;
-        curve.activities.push_back(a);
+    for (const PlanActivity &a : plan.activities) {
+        curve.activities.push_back({a.from, a.to, i64(a.normal), i64(a.crash), i64(a.slope), i64(a.cost), {}});
+        for (const auto &piece : a.pieces) curve.activities.back().pieces.emplace_back(i64(piece.first), i64(piece.second));
     }
-    return curve;
-}
-
-static Curve deck(const char *path) {
-    Curve curve;
-    std::map<std::string, int> events, activities;
-    std::string start, end, line;
-    std::ifstream file(path);
-    while (std::getline(file, line)) {
-        std::vector<std::string> fields;
-        std::stringstream parts(line + ",");
-        for (std::string field; std::getline(parts, field, ',');) fields.push_back(field);
-        if (fields[0] == "PROJECT") start = fields[2], end = fields[3];
-        if (fields[0] == "EVENT") events.emplace(fields[1], int(events.size()));
-        if (fields[0] == "ACT") {
-            activities.emplace(fields[1], int(activities.size()));
-            curve.activities.push_back({events.at(fields[2]), events.at(fields[3]), std::stoll(fields[8]), std::stoll(fields[9]),
-                                        std::stoll(fields[11]), std::stoll(fields[10]), {}});
-        }
-        if (fields[0] == "PIECE")
-            curve.activities[activities.at(fields[1])].pieces.emplace_back(std::stoll(fields[2]), std::stoll(fields[3]));
-    }
-    curve.events = int(events.size());
-    curve.start = events.at(start);
-    curve.end = events.at(end);
+    curve.events = plan.events;
+    curve.start = plan.start;
+    curve.end = plan.end;
     return curve;
 }
 
 int main(int count, char **words) {
     const bool is_bench = count == 3 && !std::strcmp(words[1], "bench");
     if (!is_bench && !(count == 3 && !std::strcmp(words[1], "deck"))) return 2;
-    Curve curve = is_bench ? bench(std::stoll(words[2])) : deck(words[2]);
+    Curve curve = curve_of(is_bench ? bench_plan(std::stoull(words[2])) : deck_plan(words[2]));
     curve.begin();
     const i64 longest = curve.length, first_cost = curve.cost;
     i64 slope = -1, breaks = 1;

@@ -2,12 +2,12 @@
 ghost use Rattle.std.specs.Prelude.{◌≡◌, ◌+◌, ◌*◌, ◌^◌, ◌<◌, ◌≤◌, ◌==◌, if◌then◌else◌, true, false};
 ghost use Rattle.pc_model.specs.Sums.{sum_to};
 ghost use Rattle.pc_curve_laws.specs.Segment.{cost_for};
-ghost use Rattle.pc_flow.specs.Courses.{IsNext, IsSameCurve, present};
+ghost use Rattle.pc_flow.specs.Courses.{IsFurther, IsNext, IsSameCurve, most_looks, present};
 ghost use Rattle.pc_flow.specs.declared.early.TheConstants.{MAX_LENGTH};
 ghost use Rattle.pc_bench.specs.Figures.{IsFiguresOf};
 ghost use Rattle.pc_bench.specs.Tallies.{HasRoomFor, IsSmall, costs_below, first_tally, next_tally};
 
-use pc_crash::{CrashNet, SegmentView, Steps};
+use pc_crash::{SegmentView, Steps};
 use pc_flow::{MAX_LENGTH, Solver};
 use std::sync::ledger::Ledger;
 
@@ -39,20 +39,19 @@ pub(crate) struct Tally {
     pub(crate) sum: u128,
 }
 
-/// The figures of the curve of a network. The solver, of this network, goes from before its first segment to the last one.
+/// The figures of the curve of a solver's network. The solver goes from before its first segment to the last one.
 ///
-/// A few steps a segment. It takes no memory.
-pub fn figures_of<L: Ledger>(
-    net: &CrashNet<'_>,
-    solver: &mut Solver<'_>,
-    steps: &mut Steps<L>,
-) -> Figures
-    requires net { solver.old.net ≡ net.now }
-    requires before { solver.old.given ≡ false }
-    ensures { IsFiguresOf net.now result }
+/// A few steps a segment, and at most four looks at each activity for each unit by which the slope rises or the lower end
+/// comes down. It takes no memory.
+pub fn figures_of<L: Ledger>(solver: &mut Solver<'_>, steps: &mut Steps<L>) -> Figures
+    requires { solver.old.given ≡ false }
+    ensures figures { IsFiguresOf solver.old.net result }
+    ensures same { IsSameCurve solver.old solver.new }
+    ensures further { IsFurther solver.old solver.new }
+    ensures counted { steps.new ≤ steps.old + most_looks solver.old solver.new }
 {
     // What is known of the network says that the least costs are those of a curve.
-    let _net = net.net();
+    let _net = solver.net().net();
     let longest = solver.longest();
     let shortest = solver.shortest();
     first_segment(solver, steps);
@@ -75,7 +74,9 @@ pub fn figures_of<L: Ledger>(
 fn first_segment<L: Ledger>(solver: &mut Solver<'_>, steps: &mut Steps<L>)
     requires { solver.old.given ≡ false }
     ensures same { IsSameCurve solver.old solver.new }
+    ensures further { IsFurther solver.old solver.new }
     ensures next { IsNext solver.old solver.new }
+    ensures counted { steps.new ≤ steps.old + most_looks solver.old solver.new }
 {
     solver.next_segment(steps);
 }

@@ -1,37 +1,41 @@
 //! What the benchmark prints.
-ghost use Rattle.std.specs.Prelude.{◌≡◌, ℕ, List, decimal, false};
+ghost use Rattle.std.specs.Prelude.{◌≡◌, ◌+◌, ◌≤◌, ℕ, List, decimal, false};
 ghost use Rattle.pc_edges.specs.Writes.{Writes};
+ghost use Rattle.pc_flow.specs.Courses.{IsFurther, IsSameCurve, most_looks};
 ghost use Rattle.pc_page.specs.Page.{fresh};
 ghost use Rattle.pc_page.specs.Puts.{Puts};
 ghost use Rattle.pc_bench.specs.Report.{IsBenchText, bench_text, count_line, point_line};
 
 use crate::figures::{Figures, figures_of};
-use pc_crash::{CrashNet, Steps};
+use pc_crash::Steps;
 use pc_edges::{Failed, Sink};
 use pc_flow::Solver;
 use pc_page::Page;
 use pc_text::wide;
 use std::sync::ledger::Ledger;
 
-/// Writes what the benchmark of `n` activities says of a network's curve and flushes the sink: the all-normal and the
+/// Writes what the benchmark of `n` activities says of the curve of a solver's network and flushes the sink: the all-normal and the
 /// all-crash length, each with its least cost, the number of breakpoints, and the sum of the least costs of all lengths.
 ///
-/// The solver is one of this network, before its first segment. It takes no memory.
+/// The solver goes from before its first segment to the last one: at most four looks at each activity for each unit by which
+/// the slope rises or the lower end comes down. It takes no memory.
 pub fn write_bench<O: Sink, L: Ledger>(
     page: &mut Page,
     sink: &mut O,
     n: u64,
-    net: &CrashNet<'_>,
     solver: &mut Solver<'_>,
     steps: &mut Steps<L>,
 ) -> Result<(), Failed>
     requires fresh { page.old ≡ fresh }
-    requires net { solver.old.net ≡ net.now }
     requires before { solver.old.given ≡ false }
-    ensures { (text : List ℕ) × IsBenchText n net.now text
+    ensures text { (text : List ℕ) × IsBenchText n solver.old.net text
         × Writes result (O.taken sink.old) (O.taken sink.new) (O.faults sink.old) (O.faults sink.new) text }
+    ensures fresh { page.new ≡ fresh }
+    ensures same { IsSameCurve solver.old solver.new }
+    ensures further { IsFurther solver.old solver.new }
+    ensures counted { steps.new ≤ steps.old + most_looks solver.old solver.new }
 {
-    let figures = figures_of(net, solver, steps);
+    let figures = figures_of(solver, steps);
     put_figures(page, sink, n, &figures);
     page.finish(sink)
 }

@@ -4,7 +4,6 @@ use Rattle.std.specs.Prelude.{◌↔◌, IsFalse}
 use Rattle.std.proofs.lemmas.Bool.{cases_Bool, cases_lt}
 use Rattle.pc_flow.specs.Courses.{Course, upper_of, lower_of, present, IsLevel, IsOnCurve, IsSameCurve, HasEnded, IsNext}
 use Rattle.pc_curve.specs.Points.{IsToCome, IsThere}
-use Rattle.pc_curve.proofs.LookLaws.{IsDown}
 
 -- one step comes before the first segment
 abbrev step_before : Bool → ℕ
@@ -46,11 +45,6 @@ module _ (c d : Course) (limit : ℕ) (to_come : IsToCome c limit) (level : c.gi
         | inl given ↦ next.joined given
         | inr none ↦ begins none
       ]
-
-  pub come-down : IsDown c d
-  come-down =
-      let lower : lower_of d ≤ upper_of d = ordered in
-      record { same = same; steeper = next.steeper; lower = omega (arith, lower, joined) }
 
   -- one that does not come down to it leaves it to come
   pub still-to_come : (c.given ≡ true → lower_of c ≤ limit → ⊥) → IsToCome d limit

@@ -7,11 +7,11 @@ use Rattle.pc_curve_laws.specs.Curve.{Breakpoint}
 use Rattle.pc_curve_laws.proofs.Curves.Turns.{IsCurve, LiesOn, is_curve, lies_on}
 use Rattle.pc_curve_laws.proofs.Segments.Readings.{right_at}
 use Rattle.pc_crash.specs.Priced.{PricedNetwork, knees_in}
-use Rattle.pc_flow.specs.Courses.{Course, upper_of, lower_of, present, IsOnCurve, IsSameCurve, HasEnded, IsNext}
+use Rattle.pc_flow.specs.Courses.{Course, upper_of, lower_of, present, IsOnCurve, IsSameCurve, IsFurther, HasEnded, IsNext}
 use Rattle.pc_curve.specs.declared.breaks.Break.{Break}
 use Rattle.pc_curve.specs.Points.{curve_in, IsThere}
 use Rattle.pc_curve.specs.Breaks.{IsNextBreakpoint, IsNextBreak, StandsAt}
-use Rattle.pc_curve.proofs.LookLaws.{IsDown, down-stays, down-joins}
+use Rattle.pc_flow.proofs.LookLaws.{same-stays, same-joins, further-stays, further-joins}
 use Rattle.pc_curve.proofs.TurnLaws.{IsClear, clear-begins, clear-goes_on, next-upper, next-lower, first-upper, first-only}
 
 -- the costs of the schedules of the solver's network
@@ -103,29 +103,31 @@ first-place c d b none same next upper =
 
 -- the solver has come down from there, and the curve has not broken since
 pub record IsOnTheWay (from : Course) (last : ℕ) (c : Course) : Type 0 where
-  pub down : IsDown from c
+  pub same : IsSameCurve from c
+  pub further : IsFurther from c
   pub given : c.given ≡ true
   pub whole : IsOnCurve c
   pub clear : IsClear (curve_in from.net) from.shortest from.longest last (present c)
 
 pub way-begins : (c : Course) (last : ℕ) → IsPricedThere c → StandsAt last c → IsOnCurve c → c.shortest ≤ lower_of c → IsOnTheWay c last c
 way-begins c last priced stands whole within = record {
-  down = down-stays c;
+  same = same-stays c;
+  further = further-stays c;
   given = stands.given;
   whole = whole;
   clear = clear-begins (curve_in c.net) (curve-there c priced) c.shortest c.longest last stands.within (present c)
-      (lies-there c priced c (down-stays c).same.net whole) within stands.above stands.below;
+      (lies-there c priced c (same-stays c).net whole) within stands.above stands.below;
 }
 
 module _ (from : Course) (last : ℕ) (priced : IsPricedThere from) (within : last ≤ from.longest) (c : Course) (way : IsOnTheWay from last c) where
   on : LiesOn (curve_in from.net) (present c)
-  on = lies-there from priced c way.down.same.net way.whole
+  on = lies-there from priced c way.same.net way.whole
 
   -- at the all-crash length the way ends
   pub way-ends : (b : Break) → HasEnded c → last ≢ from.shortest → HasParts b (present c).lower (cost_for (present c) (present c).lower) None
       → IsNextBreak from (Some last) b
   way-ends b ended apart parts =
-      let ends : (present c).lower ≡ from.shortest = ended.lowest ∙ way.down.same.shortest in
+      let ends : (present c).lower ≡ from.shortest = ended.lowest ∙ way.same.shortest in
       next-is from (Some last) b (present c).lower (cost_for (present c) (present c).lower) None parts
       (next-lower (curve_in from.net) (curve-there from priced) from.shortest from.longest last within (present c) on way.clear
       way.whole.right.proper.ordered ends (omega (arith, apart, way.clear.within, way.clear.below)))
@@ -144,10 +146,10 @@ module _ (from : Course) (last : ℕ) (priced : IsPricedThere from) (within : la
         given = way.given;
         above = omega (arith, is);
         below = omega (arith, is, ordered);
-        within = omega (arith, is, way.clear.below, within, way.down.same.longest);
+        within = omega (arith, is, way.clear.below, within, way.same.longest);
       }
 
-  module _ (d : Course) (same : IsSameCurve c d) (next : IsNext c d) (going : HasEnded c → ⊥) where
+  module _ (d : Course) (same : IsSameCurve c d) (further : IsFurther c d) (next : IsNext c d) (going : HasEnded c → ⊥) where
     joined : (present d).upper ≡ (present c).lower
     joined = next.joined way.given
 
@@ -155,7 +157,7 @@ module _ (from : Course) (last : ℕ) (priced : IsPricedThere from) (within : la
     above =
         let low : from.shortest ≤ (present c).lower = way.clear.within in
         let apart : (present c).lower ≢ c.shortest = λ at. going (record { given = way.given; lowest = at }) in
-        let some : c.shortest < (present d).upper = omega (arith, low, apart, joined, way.down.same.shortest) in
+        let some : c.shortest < (present d).upper = omega (arith, low, apart, joined, way.same.shortest) in
         some
 
     long : (present d).lower < (present d).upper
@@ -167,26 +169,21 @@ module _ (from : Course) (last : ℕ) (priced : IsPricedThere from) (within : la
         let lower : (present d).lower < (present c).lower = omega (arith, long, joined) in
         lower
 
-    step : IsDown c d
-    step = record { same = same; steeper = next.steeper; lower = omega (arith, way-lower) }
-
-    pub way-down : IsDown from d
-    way-down = down-joins from c d way.down step
-
-    pub way-step : IsDown c d
-    way-step = step
+    way-same : IsSameCurve from d
+    way-same = same-joins from c d way.same same
 
     next_on : LiesOn (curve_in from.net) (present d)
-    next_on = lies-there from priced d way-down.same.net next.whole
+    next_on = lies-there from priced d way-same.net next.whole
 
     low : from.shortest ≤ (present d).lower
     low =
         let within : c.shortest ≤ (present d).lower = next.within in
-        omega (arith, within, way.down.same.shortest)
+        omega (arith, within, way.same.shortest)
 
     pub way-goes_on : ((present c).slope ≡ (present d).slope) ⊎ (last ≤ (present d).upper) → IsOnTheWay from last d
     way-goes_on goes = record {
-      down = way-down;
+      same = way-same;
+      further = further-joins from c d way.further further;
       given = next.given;
       whole = next.whole;
       clear = clear-goes_on (curve_in from.net) (curve-there from priced) from.shortest from.longest last within (present c) (present d) on next_on
@@ -205,5 +202,5 @@ module _ (from : Course) (last : ℕ) (priced : IsPricedThere from) (within : la
       given = next.given;
       above = omega (arith, is, long);
       below = omega (arith, is);
-      within = omega (arith, is, below, within, way-down.same.longest);
+      within = omega (arith, is, below, within, way-same.longest);
     }

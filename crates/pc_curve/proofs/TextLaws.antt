@@ -5,6 +5,7 @@ use Rattle.pc_crash.specs.Priced.{PricedNetwork}
 use Rattle.pc_page.specs.Puts.{Desk, Adds}
 use Rattle.pc_page.proofs.PageLaws.{Adds-nil, Adds-then, Adds-as}
 use Rattle.pc_flow.specs.Courses.{Course, IsSameCurve}
+use Rattle.pc_flow.proofs.LookLaws.{same-stays, same-joins}
 use Rattle.pc_curve_laws.specs.Curve.{Breakpoint, AreBreakpoints}
 use Rattle.pc_curve.specs.declared.breaks.Break.{Break}
 use Rattle.pc_curve.specs.Points.{curve_in}
@@ -33,7 +34,7 @@ still_to_come c (Some last) = last
 
 pub put-begins : (c : Course) (desk : Desk) → StandsBy None c → ArePutTo c None c desk desk
 put-begins c desk place = record {
-  same = record { net = refl; home = refl; longest = refl; shortest = refl };
+  same = same-stays c;
   place = place;
   points = [];
   breaks = list-begins (curve_in c.net) c.shortest c.longest;
@@ -47,18 +48,10 @@ next-there from c last b same next =
     (subst (λ n. IsNextBreakpoint (curve_in c.net) n from.longest last (point_of b)) same.shortest
     (subst (λ n. IsNextBreakpoint (curve_in c.net) c.shortest n last (point_of b)) same.longest next))
 
-joins : (from c d : Course) → IsSameCurve from c → IsSameCurve c d → IsSameCurve from d
-joins from c d first second = record {
-  net = second.net ∙ first.net;
-  home = second.home ∙ first.home;
-  longest = second.longest ∙ first.longest;
-  shortest = second.shortest ∙ first.shortest;
-}
-
 module _ (from c d : Course) (last : Option ℕ) (old new newer : Desk) (b : Break) (put : ArePutTo from last c old new) (next : IsNextBreak c last b) where
   pub put-more : IsSameCurve c d → StandsAt b.length d → Adds new newer (break_line (point_of b)) → ArePutTo from (Some b.length) d old newer
   put-more same place line = record {
-    same = joins from c d put.same same;
+    same = same-joins from c d put.same same;
     place = place;
     points = put.points ++ point_of b ∷ [];
     breaks = list-grows (curve_in from.net) from.shortest from.longest last put.points (point_of b) put.breaks (next-there from c last b put.same next);

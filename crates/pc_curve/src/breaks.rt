@@ -1,12 +1,13 @@
 //! The breakpoints of the curve, one after another.
 ghost use Rattle.std.specs.Prelude.{◌≡◌, ◌+◌, ◌<◌, ◌≤◌, ◌≢◌, ◌↔◌, Some, None, true, false, IsNone, IfSome, IfNone};
 ghost use Rattle.pc_curve_laws.specs.Segment.{Holds, cost_for};
-ghost use Rattle.pc_flow.specs.Courses.{present, lower_of, IsSameCurve, most_looks};
+ghost use Rattle.pc_flow.specs.Courses.{present, lower_of, IsSameCurve, IsFurther, most_looks};
+ghost use Rattle.pc_search.specs.Labelling.{slopes_in};
 ghost use Rattle.pc_curve.specs.Points.{IsThere};
 ghost use Rattle.pc_curve.specs.Breaks.{IsNextBreak, StandsAt, StandsBy};
 
 use crate::reading::least_cost_for;
-use pc_crash::{CrashNet, SegmentView, Steps};
+use pc_crash::{SegmentView, Steps};
 use pc_flow::Solver;
 use std::marker::Model;
 use std::sync::ledger::Ledger;
@@ -55,16 +56,14 @@ impl Breaks {
     /// The next breakpoint: the first one, or the longest that is shorter than the last. None comes after the one at the
     /// all-crash length, and then nothing changes.
     ///
-    /// The solver, of this network, goes on until its present segment begins or ends there; segments of one slope that
+    /// The solver goes on until its present segment begins or ends there; segments of one slope that
     /// follow one another have no breakpoint between them. At most four looks at each activity for each unit by which the
     /// slope rises or the lower end comes down. It takes no memory.
     pub fn next<L: Ledger>(
         &mut self,
-        net: &CrashNet<'_>,
         solver: &mut Solver<'_>,
         steps: &mut Steps<L>,
     ) -> Option<Break>
-        requires net { solver.old.net ≡ net.now }
         requires place { StandsBy self.old solver.old }
         ensures ended { IsNone result ↔ (self.old ≡ Some solver.old.shortest) }
         ensures unchanged { IfNone result (self.new ≡ self.old) }
@@ -73,9 +72,11 @@ impl Breaks {
         ensures last { IfSome result (λ b. self.new ≡ Some b.length) }
         ensures place { StandsBy self.new solver.new }
         ensures same { IsSameCurve solver.old solver.new }
+        ensures further { IsFurther solver.old solver.new }
+        ensures gentle { solver.new.slope ≤ slopes_in solver.new.net }
         ensures counted { steps.new ≤ steps.old + most_looks solver.old solver.new }
     {
-        let point = break_after(self.last, net, solver, steps)?;
+        let point = break_after(self.last, solver, steps)?;
         self.last = Some(point.length);
         Some(point)
     }
@@ -84,83 +85,85 @@ impl Breaks {
 // The breakpoint after the one of this length, or the first one.
 fn break_after<L: Ledger>(
     last: Option<u64>,
-    net: &CrashNet<'_>,
     solver: &mut Solver<'_>,
     steps: &mut Steps<L>,
 ) -> Option<Break>
-    requires net { solver.old.net ≡ net.now }
     requires place { StandsBy last solver.old }
     ensures ended { IsNone result ↔ (last ≡ Some solver.old.shortest) }
     ensures still { IfNone result (solver.new ≡ solver.old) }
     ensures next { IfSome result (λ b. IsNextBreak solver.old last b) }
     ensures place { IfSome result (λ b. StandsAt b.length solver.new) }
     ensures same { IsSameCurve solver.old solver.new }
+    ensures further { IsFurther solver.old solver.new }
+    ensures gentle { solver.new.slope ≤ slopes_in solver.new.net }
     ensures counted { steps.new ≤ steps.old + most_looks solver.old solver.new }
 {
     match last {
-        None => Some(first_break(net, solver, steps)),
-        Some(last) => break_below(net, solver, last, steps),
+        None => Some(first_break(solver, steps)),
+        Some(last) => break_below(solver, last, steps),
     }
 }
 
 // The breakpoint at the all-normal length.
 fn first_break<L: Ledger>(
-    net: &CrashNet<'_>,
     solver: &mut Solver<'_>,
     steps: &mut Steps<L>,
 ) -> Break
-    requires net { solver.old.net ≡ net.now }
-    requires before { solver.old.given ≡ false }
+    requires { solver.old.given ≡ false }
     ensures next { IsNextBreak solver.old None result }
     ensures place { StandsAt result.length solver.new }
     ensures same { IsSameCurve solver.old solver.new }
+    ensures further { IsFurther solver.old solver.new }
+    ensures gentle { solver.new.slope ≤ slopes_in solver.new.net }
     ensures counted { steps.new ≤ steps.old + most_looks solver.old solver.new }
 {
     // What is known of the network says that the least costs are those of a curve.
-    let _net = net.net();
+    let _net = solver.net().net();
     solver.next_segment(steps);
     break_at_upper(solver)
 }
 
 // The next breakpoint below a length.
 fn break_below<L: Ledger>(
-    net: &CrashNet<'_>,
     solver: &mut Solver<'_>,
     last: u64,
     steps: &mut Steps<L>,
 ) -> Option<Break>
-    requires net { solver.old.net ≡ net.now }
     requires place { StandsAt last solver.old }
     ensures ended { IsNone result ↔ (last ≡ solver.old.shortest) }
     ensures still { IfNone result (solver.new ≡ solver.old) }
     ensures next { IfSome result (λ b. IsNextBreak solver.old (Some last) b) }
     ensures place { IfSome result (λ b. StandsAt b.length solver.new) }
     ensures same { IsSameCurve solver.old solver.new }
+    ensures further { IsFurther solver.old solver.new }
+    ensures gentle { solver.new.slope ≤ slopes_in solver.new.net }
     ensures counted { steps.new ≤ steps.old + most_looks solver.old solver.new }
 {
+    // At any time a solver's slope is at most the sum of the last slopes.
+    let _given = solver.given();
     if last == solver.shortest() {
         None
     } else {
-        Some(next_turn(net, solver, last, steps))
+        Some(next_turn(solver, last, steps))
     }
 }
 
 // The next length below one at which the slope changes or the curve ends.
 fn next_turn<L: Ledger>(
-    net: &CrashNet<'_>,
     solver: &mut Solver<'_>,
     last: u64,
     steps: &mut Steps<L>,
 ) -> Break
-    requires net { solver.old.net ≡ net.now }
     requires place { StandsAt last solver.old }
     requires above { last ≢ solver.old.shortest }
     ensures next { IsNextBreak solver.old (Some last) result }
     ensures place { StandsAt result.length solver.new }
     ensures same { IsSameCurve solver.old solver.new }
+    ensures further { IsFurther solver.old solver.new }
+    ensures gentle { solver.new.slope ≤ slopes_in solver.new.net }
     ensures counted { steps.new ≤ steps.old + most_looks solver.old solver.new }
 {
-    let _net = net.net();
+    let _net = solver.net().net();
     // The present segment is whole.
     let _given = solver.given();
     let mut slope = solver.slope();
@@ -170,7 +173,7 @@ fn next_turn<L: Ledger>(
         }
         slope = solver.slope();
     }
-    break_at_lower(net, solver)
+    break_at_lower(solver)
 }
 
 // The upper end of the present segment; without a slope where the curve has one length alone.
@@ -191,9 +194,8 @@ fn break_at_upper(solver: &Solver<'_>) -> Break
 }
 
 // The lower end of the present segment, where the curve ends.
-fn break_at_lower(net: &CrashNet<'_>, solver: &Solver<'_>) -> Break
-    requires net { solver.now.net ≡ net.now }
-    requires there { IsThere solver.now (lower_of solver.now) }
+fn break_at_lower(solver: &Solver<'_>) -> Break
+    requires { IsThere solver.now (lower_of solver.now) }
     ensures length { result.length ≡ (present solver.now).lower }
     ensures cost { result.cost ≡ cost_for (present solver.now) (present solver.now).lower }
     ensures slope { result.slope ≡ None }
@@ -201,7 +203,7 @@ fn break_at_lower(net: &CrashNet<'_>, solver: &Solver<'_>) -> Break
     let length = solver.lower();
     Break {
         length,
-        cost: least_cost_for(net, solver, length),
+        cost: least_cost_for(solver, length),
         slope: None,
     }
 }

@@ -1,7 +1,8 @@
 //! The breakpoints of a curve, a line each.
-ghost use Rattle.std.specs.Prelude.{◌≡◌, ℕ, List, false};
+ghost use Rattle.std.specs.Prelude.{◌≡◌, ◌+◌, ◌≤◌, ℕ, List, false};
 ghost use Rattle.pc_edges.specs.Writes.{Writes};
 ghost use Rattle.pc_curve_laws.specs.Curve.{Breakpoint, AreBreakpoints};
+ghost use Rattle.pc_flow.specs.Courses.{IsSameCurve, IsFurther, most_looks};
 ghost use Rattle.pc_page.specs.Page.{fresh};
 ghost use Rattle.pc_page.specs.Puts.{Puts};
 ghost use Rattle.pc_curve.specs.Points.{curve_in};
@@ -9,33 +10,36 @@ ghost use Rattle.pc_curve.specs.Breaks.{point_of};
 ghost use Rattle.pc_curve.specs.CurveText.{IsCurveText, curve_text, break_line, slope_text};
 
 use crate::breaks::{Break, Breaks};
-use pc_crash::{CrashNet, Steps};
+use pc_crash::Steps;
 use pc_edges::{Failed, Sink};
 use pc_flow::Solver;
 use pc_page::Page;
 use std::sync::ledger::Ledger;
 
-/// Writes the breakpoints of a network's curve and flushes the sink: for each, from the all-normal length down, its length,
-/// its least cost, and what one unit less costs more, with a dash at the all-crash length.
+/// Writes the breakpoints of the curve of a solver's network and flushes the sink: for each, from the all-normal length down,
+/// its length, its least cost, and what one unit less costs more, with a dash at the all-crash length.
 ///
-/// The solver is one of this network, before its first segment. It takes no memory.
+/// The solver goes from before its first segment to the last one: at most four looks at each activity for each unit by which
+/// the slope rises or the lower end comes down. It takes no memory.
 pub fn write_curve<O: Sink, L: Ledger>(
     page: &mut Page,
     sink: &mut O,
-    net: &CrashNet<'_>,
     solver: &mut Solver<'_>,
     steps: &mut Steps<L>,
 ) -> Result<(), Failed>
     requires fresh { page.old ≡ fresh }
-    requires net { solver.old.net ≡ net.now }
     requires before { solver.old.given ≡ false }
-    ensures { (text : List ℕ) × IsCurveText net.now text
+    ensures text { (text : List ℕ) × IsCurveText solver.old.net text
         × Writes result (O.taken sink.old) (O.taken sink.new) (O.faults sink.old) (O.faults sink.new) text }
+    ensures fresh { page.new ≡ fresh }
+    ensures same { IsSameCurve solver.old solver.new }
+    ensures further { IsFurther solver.old solver.new }
+    ensures counted { steps.new ≤ steps.old + most_looks solver.old solver.new }
 {
     // Which lengths the two ends of the curve are.
     let _longest = solver.longest();
     let _shortest = solver.shortest();
-    put_breaks(page, sink, net, solver, steps);
+    put_breaks(page, sink, solver, steps);
     page.finish(sink)
 }
 
@@ -43,17 +47,18 @@ pub fn write_curve<O: Sink, L: Ledger>(
 fn put_breaks<O: Sink, L: Ledger>(
     page: &mut Page,
     sink: &mut O,
-    net: &CrashNet<'_>,
     solver: &mut Solver<'_>,
     steps: &mut Steps<L>,
 )
-    requires net { solver.old.net ≡ net.now }
-    requires before { solver.old.given ≡ false }
-    ensures { (points : List Breakpoint) × AreBreakpoints (curve_in net.now) solver.old.shortest solver.old.longest points
+    requires { solver.old.given ≡ false }
+    ensures text { (points : List Breakpoint) × AreBreakpoints (curve_in solver.old.net) solver.old.shortest solver.old.longest points
         × Puts O.taken O.faults page.old sink.old page.new sink.new (curve_text points) }
+    ensures same { IsSameCurve solver.old solver.new }
+    ensures further { IsFurther solver.old solver.new }
+    ensures counted { steps.new ≤ steps.old + most_looks solver.old solver.new }
 {
     let mut breaks = Breaks::new();
-    while let Some(point) = breaks.next(net, solver, steps) {
+    while let Some(point) = breaks.next(solver, steps) {
         put_break(page, sink, &point);
     }
 }

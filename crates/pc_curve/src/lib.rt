@@ -12,3 +12,4 @@ pub use breaks::{Break, Breaks};
 pub use curve_text::write_curve;
 pub use list_laws::breaks_make_the_list;
 pub use points::point_at;
+pub use reading::cost_at;

@@ -4,11 +4,11 @@ use Rattle.std.specs.Prelude.{IfOk}
 use Rattle.std.specs.Str.{is_utf8}
 use Rattle.pc_faults.specs.declared.fault.Fault.{Fault}
 use Rattle.pc_faults.specs.declared.fault.DeckError.{DeckError}
-use Rattle.pc_deck.specs.Cards.{Numbered}
+use Rattle.pc_cards.specs.Cards.{Numbered}
 use Rattle.pc_faults.specs.declared.kind.Kind.{Kind}
 use Rattle.pc_faults.specs.declared.kind.Kind.TheVariants.{Project, End}
 use Rattle.pc_deck.specs.Kinds.{CardOf, stands_once, held_in, lists_with}
-use Rattle.pc_deck.specs.Named.{as_list, HeldBy, listed_by}
+use Rattle.pc_cards.specs.Named.{as_list, HeldBy, listed_by}
 use Rattle.pc_deck.specs.Deck.{Deck, list_of}
 use Rattle.pc_deck.specs.Reading.{cards_of}
 use Rattle.pc_deck.specs.Read.{IsDeckOf}

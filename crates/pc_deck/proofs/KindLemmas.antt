@@ -5,7 +5,7 @@ use Rattle.pc_records.specs.Deck.{field_at}
 use Rattle.pc_faults.specs.Kinds.{word_of}
 use Rattle.pc_faults.specs.declared.kind.Kind.{Kind}
 use Rattle.pc_faults.specs.declared.kind.Kind.TheVariants.{Project, End}
-use Rattle.pc_deck.specs.Entry.{Limit, unlimited, up_to, growing, limit_at}
+use Rattle.pc_cards.specs.Entry.{Limit, unlimited, up_to, growing, limit_at}
 use Rattle.pc_deck.specs.Kinds.{entry_of, kinds, kind_of, card_of, has_code_of_its_own, is_project, is_end, is_same, limit_of}
 use Rattle.pc_deck.specs.Within.{IsUpTo}
 

@@ -1,7 +1,4 @@
 pub mod Utf8Lemmas
-pub mod MisfitLemmas
-pub mod NameLemmas
-pub mod FindLemmas
 pub mod JudgeLemmas
 pub mod KindLemmas
 pub mod ReadLemmas

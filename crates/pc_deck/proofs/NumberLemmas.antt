@@ -8,8 +8,8 @@ use Rattle.pc_faults.specs.declared.kind.Kind.{Kind}
 use Rattle.pc_faults.specs.declared.kind.Kind.TheVariants.{Project, Terms, Act, Piece, Acct, Charge, ToGo, Load}
 use Rattle.pc_deck.specs.Deck.{Deck, list_of}
 use Rattle.pc_deck.specs.Kinds.{CardOf, card_of, slots_of}
-use Rattle.pc_deck.specs.Forms.{AllFit, is_outside}
-use Rattle.pc_deck.specs.Named.{as_list}
+use Rattle.pc_cards.specs.Forms.{AllFit, is_outside}
+use Rattle.pc_cards.specs.Named.{as_list}
 use Rattle.pc_deck.specs.Project.{project_slots, project_of, IsProjectWithin}
 use Rattle.pc_deck.specs.Terms.{terms_slots, terms_of, AreTermsWithin}
 use Rattle.pc_deck.specs.Act.{act_slots, act_of, IsActWithin}
@@ -19,7 +19,7 @@ use Rattle.pc_deck.specs.Money.{money_slots, money_of, IsAmountWithin}
 use Rattle.pc_deck.specs.Load.{load_slots, load_of, IsLoadWithin}
 use Rattle.pc_deck.specs.Within.{IsFit, IsWithinLimits}
 use Rattle.pc_deck.specs.declared.kinds.terms.TermsCard.{TermsCard}
-use Rattle.pc_deck.proofs.JudgeLemmas.{number_fits}
+use Rattle.pc_cards.proofs.FitLemmas.{number_fits}
 
 -- a number that is empty or fits is within its limits, where the number of an empty field is
 or_fits : (least most other : ℕ) (found : Option ℕ) → least ≤ other → other ≤ most → is_outside least most found ≡ false → (least ≤ unwrap_or found other) × (unwrap_or found other ≤ most)

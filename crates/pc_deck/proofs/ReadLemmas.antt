@@ -1,13 +1,13 @@
 -- Reading one card after the other.
 use Rattle.std.proofs.Common.{◌≡◌, ℕ, List, ◌∷◌, Result, Ok, sym, ap, ◌∙◌, subst}
-use Rattle.pc_deck.specs.Cards.{Numbered, CardsLeft, Follows}
+use Rattle.pc_cards.specs.Cards.{Numbered, CardsLeft, Follows}
 use Rattle.pc_deck.specs.Judged.{judge}
 use Rattle.pc_deck.specs.Reading.{IsKept, and_then, read_from, seen_in, with_card}
 use Rattle.pc_faults.specs.declared.kind.Kind.{Kind}
 use Rattle.pc_faults.specs.declared.fault.Fault.{Fault}
 use Rattle.pc_deck.specs.declared.draft.Draft.{Draft}
-use Rattle.pc_deck.specs.declared.rows.Next.{Next}
-use Rattle.pc_deck.specs.declared.rows.Next.TheVariants.{Card}
+use Rattle.pc_cards.specs.declared.rows.Next.{Next}
+use Rattle.pc_cards.specs.declared.rows.Next.TheVariants.{Card}
 use Rattle.pc_deck.specs.Within.{IsDraftWithin}
 use Rattle.pc_deck.proofs.WithinLemmas.{next_within}
 

@@ -3,7 +3,7 @@ use Rattle.std.proofs.Common.{◌≡◌, ℕ, ◌+◌, ◌≤◌, Bool, true, fa
 use Rattle.std.specs.Prelude.{IfErr}
 use Rattle.std.specs.Str.{is_utf8}
 use Rattle.pc_records.specs.Deck.{deck_records}
-use Rattle.pc_deck.specs.Cards.{Numbered, is_card, cards_from, deck_cards}
+use Rattle.pc_cards.specs.Cards.{Numbered, is_card, cards_from, deck_cards}
 use Rattle.pc_deck.specs.Deck.{Deck}
 use Rattle.pc_deck.specs.Judged.{Seen, judge}
 use Rattle.pc_faults.specs.Faults as faults

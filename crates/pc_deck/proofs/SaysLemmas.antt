@@ -4,10 +4,10 @@ use Rattle.pc_faults.specs.Faults as faults
 use Rattle.pc_faults.specs.declared.kind.Kind.{Kind}
 use Rattle.pc_faults.specs.declared.kind.Kind.TheVariants.{Project, End}
 use Rattle.pc_faults.specs.declared.fault.Fault.{Fault}
-use Rattle.pc_deck.specs.Cards.{Numbered, deck_cards}
+use Rattle.pc_cards.specs.Cards.{Numbered, deck_cards}
 use Rattle.pc_deck.specs.Deck.{Deck, list_of}
 use Rattle.pc_deck.specs.Judged.{judge}
-use Rattle.pc_deck.specs.Named.{as_list}
+use Rattle.pc_cards.specs.Named.{as_list}
 use Rattle.pc_deck.specs.Reading.{no_cards, with_card, list_so_far, seen_in, deck_with, closed, closed_with, and_then, read_from, cards_of}
 use Rattle.pc_deck.specs.Says.{Says}
 use Rattle.pc_deck.specs.declared.kinds.project.ProjectCard.{ProjectCard}

@@ -7,8 +7,8 @@ use Rattle.pc_faults.specs.Kinds.{word_of}
 use Rattle.pc_faults.specs.declared.kind.Kind.{Kind}
 use Rattle.pc_faults.specs.declared.kind.Kind.TheVariants.{Project, End}
 use Rattle.pc_deck.specs.Kinds.{CardOf, card_of, is_end, is_project, is_same, stands_once, held_in}
-use Rattle.pc_deck.specs.Cards.{Numbered}
-use Rattle.pc_deck.specs.Named.{as_list, HeldBy, listed_by, more_if}
+use Rattle.pc_cards.specs.Cards.{Numbered}
+use Rattle.pc_cards.specs.Named.{as_list, HeldBy, listed_by, more_if}
 use Rattle.pc_deck.specs.Project.{project_of}
 use Rattle.pc_deck.specs.Judged.{judge}
 use Rattle.pc_deck.specs.Reading.{no_cards, with_card, codes_among, codes_in, count_in, list_so_far, seen_in}

@@ -3,7 +3,7 @@ use Rattle.std.proofs.Common.{ℕ, Bool, true, false, List, [], ◌∷◌, ◌++
 use Rattle.std.specs.Str.{is_utf8}
 use Rattle.pc_faults.specs.FaultText.{IsTold}
 use Rattle.pc_faults.specs.declared.fault.Fault.{Fault}
-use Rattle.pc_deck.specs.Cards.{Numbered, deck_cards}
+use Rattle.pc_cards.specs.Cards.{Numbered, deck_cards}
 use Rattle.pc_deck.specs.Judged.{Seen}
 use Rattle.pc_deck.specs.Refusal.{HasCardFault, HasFaultFrom, HasFaultWhere, IsCardRefusal}
 use Rattle.pc_deck.specs.Refusal as has

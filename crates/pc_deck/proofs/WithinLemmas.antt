@@ -9,16 +9,18 @@ use Rattle.pc_faults.specs.declared.kind.Kind.{Kind}
 use Rattle.pc_faults.specs.declared.kind.Kind.TheVariants.{Project, End}
 use Rattle.pc_deck.specs.Deck.{list_of}
 use Rattle.pc_deck.specs.Kinds.{CardOf, card_of, entry_of, has_code_of_its_own, is_project, is_same, limit_of}
-use Rattle.pc_deck.specs.Named.{as_list, is_among}
+use Rattle.pc_cards.specs.Named.{as_list, is_among}
 use Rattle.pc_deck.specs.Project.{project_of}
-use Rattle.pc_deck.specs.Judged.{judge, one_too_many}
+use Rattle.pc_cards.specs.Findings.{one_too_many}
+use Rattle.pc_deck.specs.Judged.{judge}
 use Rattle.pc_deck.specs.Reading.{no_cards, with_card, deck_with, list_so_far, seen_in, version_of}
 use Rattle.pc_deck.specs.Within.{IsUpTo, IsFit, IsListWithin, IsDraftWithin}
 use Rattle.pc_deck.specs.declared.kinds.project.ProjectCard.{ProjectCard}
 use Rattle.pc_deck.specs.declared.draft.Draft.{Draft}
-use Rattle.pc_deck.proofs.JudgeLemmas.{IsFaultless, faultless, fits, room_as}
+use Rattle.pc_cards.proofs.FitLemmas.{room_as}
+use Rattle.pc_deck.proofs.JudgeLemmas.{IsFaultless, faultless, fits}
 use Rattle.pc_deck.proofs.KindLemmas.{own_code, same_is, wider}
-use Rattle.pc_deck.proofs.NameLemmas.{IsNamedOnce-nil, IsNamedOnce-push}
+use Rattle.pc_cards.proofs.NameLemmas.{IsNamedOnce-nil, IsNamedOnce-push}
 use Rattle.pc_deck.proofs.SoFarLemmas.{codes-are, count-is, list-more, nothing, one_if, still_first, unchanged}
 
 All-one : {C : Type 0} (P : C → Type 0) (card : C) → P card → All P (card ∷ [])

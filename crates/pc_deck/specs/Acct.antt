@@ -2,10 +2,11 @@
 use Rattle.std.specs.Prelude.{ℕ, ◌≤◌, List, [], ◌∷◌, false, true}
 use Rattle.pc_records.specs.Deck.{field_at}
 use Rattle.pc_model.specs.declared.limits.TheConstants.{MAX_COST, MAX_ACCOUNTS}
-use Rattle.pc_deck.specs.Entry.{Entry, up_to}
-use Rattle.pc_deck.specs.Forms.{Slot, money, number_in}
-use Rattle.pc_deck.specs.declared.form.Form.TheVariants as form
+use Rattle.pc_cards.specs.Entry.{Entry, up_to}
+use Rattle.pc_cards.specs.Forms.{Slot, money, number_in}
+use Rattle.pc_cards.specs.declared.form.Form.TheVariants as form
 use Rattle.pc_deck.specs.declared.kinds.acct.AcctCard.{AcctCard}
+use Rattle.pc_deck.specs.declared.kinds.CardLists.{CardLists}
 
 -- the fields behind the kind
 abbrev pub account_slots : List Slot
@@ -26,7 +27,7 @@ abbrev pub IsBudgetWithin : AcctCard → Type 0
 IsBudgetWithin account = account.budget ≤ MAX_COST
 
 -- the kind
-abbrev pub account_kind : Entry
+abbrev pub account_kind : Entry CardLists
 account_kind = record {
   Card = AcctCard;
   spelled = account_of;

@@ -2,11 +2,12 @@
 use Rattle.std.specs.Prelude.{ℕ, ◌≤◌, List, [], ◌∷◌, false, true}
 use Rattle.pc_records.specs.Deck.{field_at}
 use Rattle.pc_model.specs.declared.limits.TheConstants.{MAX_COST, MAX_DURATION, MAX_SLOPE, MAX_ACTIVITIES}
-use Rattle.pc_deck.specs.Entry.{Entry, growing}
+use Rattle.pc_cards.specs.Entry.{Entry, growing}
 use Rattle.pc_deck.specs.declared.limits.TheConstants.{SMALL_ACTIVITIES}
-use Rattle.pc_deck.specs.Forms.{Slot, duration, money, number_in}
-use Rattle.pc_deck.specs.declared.form.Form.TheVariants as form
+use Rattle.pc_cards.specs.Forms.{Slot, duration, money, number_in}
+use Rattle.pc_cards.specs.declared.form.Form.TheVariants as form
 use Rattle.pc_deck.specs.declared.kinds.act.ActCard.{ActCard}
+use Rattle.pc_deck.specs.declared.kinds.CardLists.{CardLists}
 
 -- the fields behind the kind
 abbrev pub act_slots : List Slot
@@ -44,7 +45,7 @@ pub record IsActWithin (act : ActCard) : Type 0 where
   pub slope : act.slope ≤ MAX_SLOPE
 
 -- the kind
-abbrev pub act_kind : Entry
+abbrev pub act_kind : Entry CardLists
 act_kind = record {
   Card = ActCard;
   spelled = act_of;

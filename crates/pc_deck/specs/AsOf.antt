@@ -1,10 +1,11 @@
 -- ASOF,date
 use Rattle.std.specs.Prelude.{ℕ, List, [], ◌∷◌, false, true}
 use Rattle.pc_records.specs.Deck.{field_at}
-use Rattle.pc_deck.specs.Entry.{Entry, unlimited, no_code}
-use Rattle.pc_deck.specs.Forms.{Slot, day_in}
-use Rattle.pc_deck.specs.declared.form.Form.TheVariants as form
+use Rattle.pc_cards.specs.Entry.{Entry, unlimited, no_code}
+use Rattle.pc_cards.specs.Forms.{Slot, day_in}
+use Rattle.pc_cards.specs.declared.form.Form.TheVariants as form
 use Rattle.pc_deck.specs.declared.kinds.as_of.AsOfCard.{AsOfCard}
+use Rattle.pc_deck.specs.declared.kinds.CardLists.{CardLists}
 
 -- the field behind the kind
 abbrev pub as_of_slots : List Slot
@@ -15,7 +16,7 @@ abbrev pub as_of_of : ℕ → List (List ℕ) → AsOfCard
 as_of_of row fields = record { row = row; day = day_in (field_at fields 1) }
 
 -- the kind
-abbrev pub as_of_kind : Entry
+abbrev pub as_of_kind : Entry CardLists
 as_of_kind = record {
   Card = AsOfCard;
   spelled = as_of_of;

@@ -1,12 +1,13 @@
 -- EVENT,code,title
 use Rattle.std.specs.Prelude.{ℕ, List, [], ◌∷◌, false, true}
 use Rattle.pc_records.specs.Deck.{field_at}
-use Rattle.pc_deck.specs.Entry.{Entry, growing}
+use Rattle.pc_cards.specs.Entry.{Entry, growing}
 use Rattle.pc_deck.specs.declared.limits.TheConstants.{SMALL_EVENTS}
 use Rattle.pc_model.specs.declared.limits.TheConstants.{MAX_EVENTS}
-use Rattle.pc_deck.specs.Forms.{Slot}
-use Rattle.pc_deck.specs.declared.form.Form.TheVariants as form
+use Rattle.pc_cards.specs.Forms.{Slot}
+use Rattle.pc_cards.specs.declared.form.Form.TheVariants as form
 use Rattle.pc_deck.specs.declared.kinds.event.EventCard.{EventCard}
+use Rattle.pc_deck.specs.declared.kinds.CardLists.{CardLists}
 
 -- the fields behind the kind
 abbrev pub event_slots : List Slot
@@ -17,7 +18,7 @@ abbrev pub event_of : ℕ → List (List ℕ) → EventCard
 event_of row fields = record { row = row; code = field_at fields 1; title = field_at fields 2 }
 
 -- the kind
-abbrev pub event_kind : Entry
+abbrev pub event_kind : Entry CardLists
 event_kind = record {
   Card = EventCard;
   spelled = event_of;

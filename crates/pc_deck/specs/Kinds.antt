@@ -3,9 +3,9 @@ use Rattle.std.specs.Prelude.{ℕ, Bool, true, false, List, [], ◌∷◌, Optio
 use Rattle.pc_faults.specs.Kinds.{word_of}
 use Rattle.pc_faults.specs.declared.kind.Kind.{Kind}
 use Rattle.pc_faults.specs.declared.kind.Kind.TheVariants.{Project, AsOf, Terms, Wbs, Event, Act, Piece, Acct, Charge, ToGo, Status, Res, Load, End}
-use Rattle.pc_deck.specs.Entry.{Entry, limit_at}
-use Rattle.pc_deck.specs.Forms.{Slot}
-use Rattle.pc_deck.specs.Named.{HeldBy, none_by, listed_by, more_if}
+use Rattle.pc_cards.specs.Entry.{Entry, limit_at}
+use Rattle.pc_cards.specs.Forms.{Slot}
+use Rattle.pc_cards.specs.Named.{HeldBy, none_by, listed_by, more_if}
 use Rattle.pc_deck.specs.declared.kinds.CardLists.{CardLists}
 use Rattle.pc_deck.specs.Project.{project_kind}
 use Rattle.pc_deck.specs.AsOf.{as_of_kind}
@@ -22,7 +22,7 @@ use Rattle.pc_deck.specs.Load.{load_kind}
 use Rattle.pc_deck.specs.End.{end_kind}
 
 -- what each kind is
-abbrev pub entry_of : Kind → Entry
+abbrev pub entry_of : Kind → Entry CardLists
 entry_of Project = project_kind
 entry_of AsOf = as_of_kind
 entry_of Terms = terms_kind

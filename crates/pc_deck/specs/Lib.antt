@@ -1,7 +1,3 @@
-pub mod Limits
-pub mod Forms
-pub mod Named
-pub mod Entry
 pub mod Project
 pub mod AsOf
 pub mod Terms
@@ -17,10 +13,10 @@ pub mod Load
 pub mod End
 pub mod Kinds
 pub mod Deck
-pub mod Cards
 pub mod Judged
 pub mod Reading
 pub mod Within
 pub mod Refusal
 pub mod Says
 pub mod Read
+pub use Rattle.pc_cards.specs.Limits

@@ -2,10 +2,11 @@
 use Rattle.std.specs.Prelude.{ℕ, ◌≤◌, List, [], ◌∷◌, false}
 use Rattle.pc_records.specs.Deck.{field_at}
 use Rattle.pc_model.specs.declared.limits.TheConstants.{MAX_COST, MAX_LOADS}
-use Rattle.pc_deck.specs.Entry.{Entry, up_to, no_code}
-use Rattle.pc_deck.specs.Forms.{Slot, money, number_in}
-use Rattle.pc_deck.specs.declared.form.Form.TheVariants as form
+use Rattle.pc_cards.specs.Entry.{Entry, up_to, no_code}
+use Rattle.pc_cards.specs.Forms.{Slot, money, number_in}
+use Rattle.pc_cards.specs.declared.form.Form.TheVariants as form
 use Rattle.pc_deck.specs.declared.kinds.load.LoadCard.{LoadCard}
+use Rattle.pc_deck.specs.declared.kinds.CardLists.{CardLists}
 
 -- the fields behind the kind
 abbrev pub load_slots : List Slot
@@ -20,7 +21,7 @@ abbrev pub IsLoadWithin : LoadCard → Type 0
 IsLoadWithin card = card.quantity ≤ MAX_COST
 
 -- the kind
-abbrev pub load_kind : Entry
+abbrev pub load_kind : Entry CardLists
 load_kind = record {
   Card = LoadCard;
   spelled = load_of;

@@ -2,11 +2,12 @@
 use Rattle.std.specs.Prelude.{ℕ, ◌≤◌, List, [], ◌∷◌, false}
 use Rattle.pc_records.specs.Deck.{field_at}
 use Rattle.pc_model.specs.declared.limits.TheConstants.{MAX_COST, MAX_CHARGES, MAX_TOGOS}
-use Rattle.pc_deck.specs.Entry.{Entry, growing, no_code, up_to}
+use Rattle.pc_cards.specs.Entry.{Entry, growing, no_code, up_to}
 use Rattle.pc_deck.specs.declared.limits.TheConstants.{SMALL_CHARGES}
-use Rattle.pc_deck.specs.Forms.{Slot, money, number_in, day_in}
-use Rattle.pc_deck.specs.declared.form.Form.TheVariants as form
+use Rattle.pc_cards.specs.Forms.{Slot, money, number_in, day_in}
+use Rattle.pc_cards.specs.declared.form.Form.TheVariants as form
 use Rattle.pc_deck.specs.declared.kinds.money.MoneyCard.{MoneyCard}
+use Rattle.pc_deck.specs.declared.kinds.CardLists.{CardLists}
 
 -- the fields behind the kind
 abbrev pub money_slots : List Slot
@@ -21,7 +22,7 @@ abbrev pub IsAmountWithin : MoneyCard → Type 0
 IsAmountWithin card = card.amount ≤ MAX_COST
 
 -- the kind CHARGE
-abbrev pub charge_kind : Entry
+abbrev pub charge_kind : Entry CardLists
 charge_kind = record {
   Card = MoneyCard;
   spelled = money_of;
@@ -36,7 +37,7 @@ charge_kind = record {
 }
 
 -- the kind TOGO
-abbrev pub togo_kind : Entry
+abbrev pub togo_kind : Entry CardLists
 togo_kind = record {
   Card = MoneyCard;
   spelled = money_of;

@@ -2,11 +2,12 @@
 use Rattle.std.specs.Prelude.{ℕ, ◌≤◌, List, [], ◌∷◌, false}
 use Rattle.pc_records.specs.Deck.{field_at}
 use Rattle.pc_model.specs.declared.limits.TheConstants.{MAX_DURATION, MAX_SLOPE, MAX_PIECES}
-use Rattle.pc_deck.specs.Entry.{Entry, growing, no_code}
+use Rattle.pc_cards.specs.Entry.{Entry, growing, no_code}
 use Rattle.pc_deck.specs.declared.limits.TheConstants.{SMALL_PIECES}
-use Rattle.pc_deck.specs.Forms.{Slot, number_in}
-use Rattle.pc_deck.specs.declared.form.Form.TheVariants as form
+use Rattle.pc_cards.specs.Forms.{Slot, number_in}
+use Rattle.pc_cards.specs.declared.form.Form.TheVariants as form
 use Rattle.pc_deck.specs.declared.kinds.piece.PieceCard.{PieceCard}
+use Rattle.pc_deck.specs.declared.kinds.CardLists.{CardLists}
 
 -- the fields behind the kind
 abbrev pub piece_slots : List Slot
@@ -23,7 +24,7 @@ pub record IsPieceWithin (piece : PieceCard) : Type 0 where
   pub slope : piece.slope ≤ MAX_SLOPE
 
 -- the kind
-abbrev pub piece_kind : Entry
+abbrev pub piece_kind : Entry CardLists
 piece_kind = record {
   Card = PieceCard;
   spelled = piece_of;

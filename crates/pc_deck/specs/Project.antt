@@ -4,10 +4,11 @@ use Rattle.pc_records.specs.Deck.{field_at}
 use Rattle.std.specs.Option.{ForSome}
 use Rattle.pc_text.specs.Number.{number_of}
 use Rattle.pc_model.specs.declared.limits.TheConstants.{MAX_DIRECTED, MAX_UNIT_DAYS}
-use Rattle.pc_deck.specs.Entry.{Entry, unlimited, no_code}
-use Rattle.pc_deck.specs.Forms.{Slot, number_in, day_in}
-use Rattle.pc_deck.specs.declared.form.Form.TheVariants as form
+use Rattle.pc_cards.specs.Entry.{Entry, unlimited, no_code}
+use Rattle.pc_cards.specs.Forms.{Slot, number_in, day_in}
+use Rattle.pc_cards.specs.declared.form.Form.TheVariants as form
 use Rattle.pc_deck.specs.declared.kinds.project.ProjectCard.{ProjectCard}
+use Rattle.pc_deck.specs.declared.kinds.CardLists.{CardLists}
 
 -- the fields behind the kind; the last one may be missing
 abbrev pub project_slots : List Slot
@@ -41,7 +42,7 @@ pub record IsProjectWithin (project : ProjectCard) : Type 0 where
   pub version_within : project.version ≤ 2
 
 -- the kind; its card stands beside the lists
-abbrev pub project_kind : Entry
+abbrev pub project_kind : Entry CardLists
 project_kind = record {
   Card = ProjectCard;
   spelled = project_of;

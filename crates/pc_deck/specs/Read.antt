@@ -1,7 +1,7 @@
 -- When bytes are the deck of some cards.
 use Rattle.std.specs.Prelude.{ℕ, List}
 use Rattle.pc_faults.specs.declared.fault.Fault.{Fault}
-use Rattle.pc_deck.specs.Cards.{deck_cards}
+use Rattle.pc_cards.specs.Cards.{deck_cards}
 use Rattle.pc_deck.specs.Deck.{Deck}
 use Rattle.pc_deck.specs.Says.{Says}
 use Rattle.pc_deck.specs.Refusal.{HasFault}

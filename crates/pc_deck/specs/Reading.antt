@@ -5,10 +5,10 @@ use Rattle.pc_faults.specs.Faults as fault
 use Rattle.pc_faults.specs.declared.kind.Kind.{Kind}
 use Rattle.pc_faults.specs.declared.kind.Kind.TheVariants.{Project, End}
 use Rattle.pc_faults.specs.declared.fault.Fault.{Fault}
-use Rattle.pc_deck.specs.Cards.{Numbered, deck_cards}
+use Rattle.pc_cards.specs.Cards.{Numbered, deck_cards}
 use Rattle.pc_deck.specs.Deck.{Deck}
 use Rattle.pc_deck.specs.Kinds.{CardOf, entry_of, has_code_of_its_own, is_end, is_project, no_lists, cards_in, lists_and}
-use Rattle.pc_deck.specs.Named.{as_list}
+use Rattle.pc_cards.specs.Named.{as_list}
 use Rattle.pc_deck.specs.Judged.{Seen, judge}
 use Rattle.pc_deck.specs.Project.{project_of}
 use Rattle.pc_deck.specs.declared.kinds.project.ProjectCard.{ProjectCard}

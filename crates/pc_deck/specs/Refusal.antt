@@ -9,11 +9,12 @@ use Rattle.pc_faults.specs.declared.kind.Kind.{Kind}
 use Rattle.pc_faults.specs.declared.kind.Kind.TheVariants.{Project, End}
 use Rattle.pc_faults.specs.declared.fault.Fault.{Fault}
 use Rattle.pc_deck.specs.Kinds.{kind_of, has_code_of_its_own, least_width_of, limit_of, slots_of, stands_once, width_of}
-use Rattle.pc_deck.specs.Forms.{Slot, first_misshapen, first_over_limit, is_whole}
+use Rattle.pc_cards.specs.Forms.{Slot, first_misshapen, first_over_limit, is_whole}
 use Rattle.pc_deck.specs.Project.{version_in}
-use Rattle.pc_deck.specs.Cards.{Numbered, deck_cards}
-use Rattle.pc_deck.specs.Named.{is_among}
-use Rattle.pc_deck.specs.Judged.{Seen, width_wanted}
+use Rattle.pc_cards.specs.Cards.{Numbered, deck_cards}
+use Rattle.pc_cards.specs.Named.{is_among}
+use Rattle.pc_cards.specs.Findings.{width_wanted}
+use Rattle.pc_deck.specs.Judged.{Seen}
 
 -- the kind that a card names in its first field
 abbrev pub kind_named : Numbered → Option Kind

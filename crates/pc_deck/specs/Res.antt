@@ -1,11 +1,12 @@
 -- RES,code,title
 use Rattle.std.specs.Prelude.{ℕ, List, [], ◌∷◌, false, true}
 use Rattle.pc_records.specs.Deck.{field_at}
-use Rattle.pc_deck.specs.Entry.{Entry, up_to}
+use Rattle.pc_cards.specs.Entry.{Entry, up_to}
 use Rattle.pc_model.specs.declared.limits.TheConstants.{MAX_RESOURCES}
-use Rattle.pc_deck.specs.Forms.{Slot}
-use Rattle.pc_deck.specs.declared.form.Form.TheVariants as form
+use Rattle.pc_cards.specs.Forms.{Slot}
+use Rattle.pc_cards.specs.declared.form.Form.TheVariants as form
 use Rattle.pc_deck.specs.declared.kinds.res.ResCard.{ResCard}
+use Rattle.pc_deck.specs.declared.kinds.CardLists.{CardLists}
 
 -- the fields behind the kind
 abbrev pub resource_slots : List Slot
@@ -16,7 +17,7 @@ abbrev pub resource_of : ℕ → List (List ℕ) → ResCard
 resource_of row fields = record { row = row; code = field_at fields 1; title = field_at fields 2 }
 
 -- the kind
-abbrev pub resource_kind : Entry
+abbrev pub resource_kind : Entry CardLists
 resource_kind = record {
   Card = ResCard;
   spelled = resource_of;

@@ -1,7 +1,7 @@
 -- What a deck says, in terms of its cards alone: of each kind the cards of that kind, in their order.
 use Rattle.std.specs.Prelude.{◌≡◌, List, map}
 use Rattle.pc_faults.specs.declared.kind.Kind.{Kind}
-use Rattle.pc_deck.specs.Cards.{Numbered}
+use Rattle.pc_cards.specs.Cards.{Numbered}
 use Rattle.pc_deck.specs.Kinds.{CardOf, card_of}
 use Rattle.pc_deck.specs.Deck.{Deck, list_of}
 use Rattle.pc_deck.specs.Refusal.{of_kind}

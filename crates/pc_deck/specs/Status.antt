@@ -1,12 +1,13 @@
 -- STATUS,activity,S or F,date
 use Rattle.std.specs.Prelude.{ℕ, List, [], ◌∷◌, false}
 use Rattle.pc_records.specs.Deck.{field_at}
-use Rattle.pc_deck.specs.Entry.{Entry, growing, no_code}
+use Rattle.pc_cards.specs.Entry.{Entry, growing, no_code}
 use Rattle.pc_deck.specs.declared.limits.TheConstants.{SMALL_STATUSES}
 use Rattle.pc_model.specs.declared.limits.TheConstants.{MAX_STATUSES}
-use Rattle.pc_deck.specs.Forms.{Slot, day_in, is_finish}
-use Rattle.pc_deck.specs.declared.form.Form.TheVariants as form
+use Rattle.pc_cards.specs.Forms.{Slot, day_in, is_finish}
+use Rattle.pc_cards.specs.declared.form.Form.TheVariants as form
 use Rattle.pc_deck.specs.declared.kinds.status.StatusCard.{StatusCard}
+use Rattle.pc_deck.specs.declared.kinds.CardLists.{CardLists}
 
 -- the fields behind the kind
 abbrev pub status_slots : List Slot
@@ -17,7 +18,7 @@ abbrev pub status_of : ℕ → List (List ℕ) → StatusCard
 status_of row fields = record { row = row; activity = field_at fields 1; finished = is_finish (field_at fields 2); day = day_in (field_at fields 3) }
 
 -- the kind
-abbrev pub status_kind : Entry
+abbrev pub status_kind : Entry CardLists
 status_kind = record {
   Card = StatusCard;
   spelled = status_of;

@@ -2,11 +2,12 @@
 use Rattle.std.specs.Prelude.{ℕ, ◌≤◌, List, [], ◌∷◌, false, true}
 use Rattle.pc_records.specs.Deck.{field_at}
 use Rattle.pc_model.specs.declared.limits.TheConstants.{MAX_TERMS}
-use Rattle.pc_deck.specs.Entry.{Entry, unlimited, no_code}
-use Rattle.pc_deck.specs.Forms.{Slot, number_in}
-use Rattle.pc_deck.specs.declared.form.Form.{Form}
-use Rattle.pc_deck.specs.declared.form.Form.TheVariants as form
+use Rattle.pc_cards.specs.Entry.{Entry, unlimited, no_code}
+use Rattle.pc_cards.specs.Forms.{Slot, number_in}
+use Rattle.pc_cards.specs.declared.form.Form.{Form}
+use Rattle.pc_cards.specs.declared.form.Form.TheVariants as form
 use Rattle.pc_deck.specs.declared.kinds.terms.TermsCard.{TermsCard}
+use Rattle.pc_deck.specs.declared.kinds.CardLists.{CardLists}
 
 -- one of the four numbers
 abbrev pub term : Form
@@ -34,7 +35,7 @@ pub record AreTermsWithin (terms : TermsCard) : Type 0 where
   pub penalty : terms.penalty ≤ MAX_TERMS
 
 -- the kind
-abbrev pub terms_kind : Entry
+abbrev pub terms_kind : Entry CardLists
 terms_kind = record {
   Card = TermsCard;
   spelled = terms_of;

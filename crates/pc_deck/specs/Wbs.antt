@@ -2,11 +2,12 @@
 use Rattle.std.specs.Prelude.{ℕ, List, [], ◌∷◌, false, true}
 use Rattle.pc_records.specs.Deck.{field_at}
 use Rattle.pc_text.specs.Code.{code_of}
-use Rattle.pc_deck.specs.Entry.{Entry, up_to}
+use Rattle.pc_cards.specs.Entry.{Entry, up_to}
 use Rattle.pc_model.specs.declared.limits.TheConstants.{MAX_ITEMS}
-use Rattle.pc_deck.specs.Forms.{Slot}
-use Rattle.pc_deck.specs.declared.form.Form.TheVariants as form
+use Rattle.pc_cards.specs.Forms.{Slot}
+use Rattle.pc_cards.specs.declared.form.Form.TheVariants as form
 use Rattle.pc_deck.specs.declared.kinds.wbs.ItemCard.{ItemCard}
+use Rattle.pc_deck.specs.declared.kinds.CardLists.{CardLists}
 
 -- the fields behind the kind
 abbrev pub item_slots : List Slot
@@ -17,7 +18,7 @@ abbrev pub item_of : ℕ → List (List ℕ) → ItemCard
 item_of row fields = record { row = row; code = field_at fields 1; parent = code_of (field_at fields 2); title = field_at fields 3 }
 
 -- the kind
-abbrev pub item_kind : Entry
+abbrev pub item_kind : Entry CardLists
 item_kind = record {
   Card = ItemCard;
   spelled = item_of;

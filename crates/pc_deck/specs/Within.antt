@@ -2,7 +2,7 @@
 use Rattle.std.specs.Prelude.{◌≡◌, ℕ, ◌≤◌, true, List, [], length, map, All, Option, Some, None, is_none}
 use Rattle.pc_faults.specs.declared.kind.Kind.{Kind}
 use Rattle.pc_model.specs.Codes.{IsNamedOnce}
-use Rattle.pc_deck.specs.Forms.{AllFit}
+use Rattle.pc_cards.specs.Forms.{AllFit}
 use Rattle.pc_deck.specs.Kinds.{CardOf, card_of, entry_of, has_code_of_its_own, limit_of, slots_of}
 use Rattle.pc_deck.specs.Deck.{Deck, list_of}
 use Rattle.pc_deck.specs.Reading.{list_so_far, version_of}

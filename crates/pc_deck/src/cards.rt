@@ -25,9 +25,12 @@ impl Model for Cards {
 }
 
 impl Cards {
+    ghost use Rattle.pc_deck.specs.Within.{IsWithinLimits};
+
     /// The PROJECT card.
     pub fn project(&self) -> &ProjectCard
-        ensures { result.now ≡ self.now.project }
+        ensures card { result.now ≡ self.now.project }
+        ensures within { IsWithinLimits self.now }
     {
         &self.project
     }

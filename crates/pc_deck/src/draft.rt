@@ -1,14 +1,15 @@
 //! The cards so far, while a deck is read.
 ghost use Rattle.std.specs.Prelude.{◌≡◌, [], true, None, Some, Err, OnOk, IfErr};
-ghost use Rattle.pc_deck.specs.Judged.{fault_of_listed, no_kind};
+ghost use Rattle.pc_cards.specs.Findings.{fault_of_listed};
+ghost use Rattle.pc_deck.specs.Judged.{no_kind};
 ghost use Rattle.pc_faults.specs.declared.kind.Kind.TheVariants as kind;
 ghost use Rattle.pc_faults.specs.First.{Refuses};
 
 use crate::cards::Cards;
 use crate::kinds::{CardLists, ProjectCard, kind_of, limit_of};
-use crate::lists::Once;
-use crate::place::Place;
-use crate::reading::wrong_fields;
+use pc_cards::lists::Once;
+use pc_cards::place::Place;
+use pc_cards::reading::wrong_fields;
 use pc_faults::{DeckError, Fault, Kind};
 use pc_records::Row;
 use std::alloc::Global;

@@ -4,22 +4,14 @@
 //! [`read_cards`] reads the whole deck. Codes are read but not looked up here: what refers to another card is
 //! judged where the project is put together.
 //!
-//! The public modules are what a deck of another sort is made of too: they read a field, a card of any kind and a list of
-//! them, and judge where a card stands, and none of them knows which kinds a deck has.
+//! What knows no kind by name stands in `pc_cards`: here are the kinds, the table of them, and the reading of a whole deck.
 #![tactic(auto)]
 
-pub mod card;
 mod cards;
 mod draft;
-pub mod field;
-pub mod form;
 mod kinds;
 mod limits;
-pub mod lists;
-pub mod place;
 mod read;
-pub mod reading;
-pub mod rows;
 
 pub use crate::cards::Cards;
 pub use crate::kinds::{

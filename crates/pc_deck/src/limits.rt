@@ -1,7 +1,7 @@
 //! How large a deck may be, and how many cards one of version 1 may have where version 2 may have more. The greater
 //! limits stand beside those of projects.
 ghost use Rattle.std.specs.Prelude.{◌≡◌};
-ghost use Rattle.pc_deck.specs.Entry.{by_version};
+ghost use Rattle.pc_cards.specs.Entry.{by_version};
 
 /// How many bytes a deck may have, of either version.
 pub const DECK_LIMIT: usize = 67_108_864;

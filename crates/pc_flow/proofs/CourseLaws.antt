@@ -11,7 +11,7 @@ use Rattle.pc_crash.specs.Priced.{knees_in}
 use Rattle.pc_crash.proofs.CostLaws.{cost_of-most}
 use Rattle.pc_board.specs.Sheets.{Sheet, time_of, rank_of, flow_of}
 use Rattle.pc_search.specs.Choosing.{moving}
-use Rattle.pc_search.specs.Labelling.{slope_at, IsStateWith, MayFall}
+use Rattle.pc_search.specs.Labelling.{slope_at, slopes_in, IsStateWith, MayFall}
 use Rattle.pc_search.proofs.StateLaws.{IsKnown, slopes-small, value-bounded, flow-bounded}
 use Rattle.pc_flow.specs.Courses.{Course, upper_of, lower_of, moves_at, present, IsOnCurve, IsOnCourse, HasSmallNumbers}
 
@@ -111,26 +111,31 @@ module _ (c : Course) (on : IsOnCourse c) where
       ]
 
   -- the slope is at most the sum of the last slopes
-  pub slope-small : c.given ≡ true → c.slope < 10 ^ 13
-  slope-small given =
-      elim (cases_lt c.shortest (upper_of c)) [
-        | inl above ↦
-            omega (
-              arith,
-              on.slope,
-              slopes-small c.net known on.between.search.few,
-              value-bounded c.net known on.ordered.0 on.ordered.1 (upper_of c) c.shortest (slope_at c.net c.board) (time_of c.board) (flow_of c.board) state on.shortest above,
-            )
-        | inr at ↦ omega (arith, (on.level given at).slope)
+  pub slope-most : c.slope ≤ slopes_in c.net
+  slope-most =
+      elim (cases_Bool c.given) [
+        | inl given ↦ elim (cases_lt c.shortest (upper_of c)) [
+          | inl above ↦
+              omega (
+                arith,
+                on.slope,
+                value-bounded c.net known on.ordered.0 on.ordered.1 (upper_of c) c.shortest (slope_at c.net c.board) (time_of c.board) (flow_of c.board) state on.shortest above,
+              )
+          | inr at ↦ omega (arith, (on.level given at).slope)
+        ]
+        | inr none ↦ omega (arith, (on.untouched none).slope)
       ]
 
+  pub slope-small : c.slope < 10 ^ 13
+  slope-small = omega (arith, slope-most, slopes-small c.net known on.between.search.few)
+
   -- so is each flow
-  flow-small : c.given ≡ true → (a : ℕ) → a < length c.net.network.arcs → flow_of c.board a < 10 ^ 13
-  flow-small given a inside =
+  flow-small : (a : ℕ) → a < length c.net.network.arcs → flow_of c.board a < 10 ^ 13
+  flow-small a inside =
       omega (
         arith,
         on.slope,
-        slope-small given,
+        slope-small,
         flow-bounded c.net known on.ordered.0 on.ordered.1 (upper_of c) (slope_at c.net c.board) (time_of c.board) (flow_of c.board) state a inside,
       )
 
@@ -143,7 +148,7 @@ module _ (c : Course) (on : IsOnCourse c) where
       arith,
       cost_of-most c.net on.priced.terms_fit on.limits on.pieces on.piece_limits (lesser_of c.net.network c.net.terms (time_of c.board)),
     );
-    slope = omega (arith, on.slope, slope-small given);
+    slope = omega (arith, on.slope, slope-small);
     time = λ e inside. omega (
       arith,
       on.within,
@@ -151,6 +156,6 @@ module _ (c : Course) (on : IsOnCourse c) where
       stair-times_within c.net.network c.net.terms (knees_in c.net) on.priced (upper_of c) (time_of c.board) (flow_of c.board) (slope_at c.net c.board) state e inside,
     );
     duration = λ a inside. omega (arith, on.limits.short a (omega (arith, inside, on.priced.terms_fit.one_each)));
-    flow = λ a k inside below. omega (arith, flow-small given a inside);
-    beside = λ a inside. omega (arith, flow-small given a inside);
+    flow = λ a k inside below. omega (arith, flow-small a inside);
+    beside = λ a inside. omega (arith, flow-small a inside);
   }

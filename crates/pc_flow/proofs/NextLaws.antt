@@ -14,7 +14,7 @@ use Rattle.pc_board.specs.Sheets.{Sheet, time_of, rank_of, flow_of}
 use Rattle.pc_search.specs.Growing.{AreListed}
 use Rattle.pc_search.specs.Choosing.{moving}
 use Rattle.pc_search.specs.Labelling.{length_at, slope_at, IsBetween, HasFallen}
-use Rattle.pc_flow.specs.Courses.{Course, upper_of, lower_of, IsLevel, IsOnCourse, HasEnded, IsSameCurve, IsNext, most_looks}
+use Rattle.pc_flow.specs.Courses.{Course, upper_of, lower_of, IsLevel, IsOnCourse, HasEnded, IsSameCurve, IsNext, IsFurther, most_looks}
 use Rattle.pc_flow.specs.Descents.{HasDescended, HasSearched}
 use Rattle.pc_flow.proofs.CourseLaws.{state, falls, fall-within, lower-above, fall-some, whole, slope-small, small}
 
@@ -242,6 +242,12 @@ module _ (c : Course) (on : IsOnCourse c) (s : Sheet) (descended : HasDescended 
       pub same-after : IsSameCurve c after
       same-after = record { net = refl; home = home-after ∙ home-mid; longest = refl; shortest = refl }
 
+      pub further-after : IsFurther c after
+      further-after = record {
+        steeper = next-after.steeper;
+        lower = let low : lower_of after ≤ upper_of after = omega arith in omega (arith, low, upper-after);
+      }
+
       -- what it took
       looks-after : rise + fall ≡ ((after.slope - c.slope) + (lower_of c - lower_of after))
       looks-after =
@@ -250,7 +256,7 @@ module _ (c : Course) (on : IsOnCourse c) (s : Sheet) (descended : HasDescended 
 
       -- the slope fits
       pub slope-fits : c.slope + rise < 2 ^ 64
-      slope-fits = let slope : c.slope + rise < 10 ^ 13 = slope-small after on_course-after refl in omega (arith, slope)
+      slope-fits = let slope : c.slope + rise < 10 ^ 13 = slope-small after on_course-after in omega (arith, slope)
 
       pub counted-after : (before used : ℕ) → used ≤ before + 4 * length c.net.network.arcs * (rise + fall) → used ≤ before + most_looks c after
       counted-after before used counted = omega (arith, counted, ap (λ n. 4 * length c.net.network.arcs * n) looks-after)

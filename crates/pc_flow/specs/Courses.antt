@@ -11,7 +11,7 @@ use Rattle.pc_crash.specs.Priced.{PricedNetwork, knees_in, ArePiecesWithinLimits
 use Rattle.pc_crash.specs.Terms.{AreWithinLimits}
 use Rattle.pc_board.specs.Sheets.{Sheet, time_of, rank_of, flow_of}
 use Rattle.pc_search.specs.Growing.{AreListed}
-use Rattle.pc_search.specs.Labelling.{length_at, slope_at, IsBetween, MayFall}
+use Rattle.pc_search.specs.Labelling.{length_at, slope_at, slopes_in, IsBetween, MayFall}
 use Rattle.pc_flow.specs.declared.early.TheConstants.{MAX_LENGTH}
 
 -- a network and a board, the all-normal and the all-crash length, and of the present segment its cost and slope, how far
@@ -109,10 +109,19 @@ pub record IsSameCurve (c d : Course) : Type 0 where
   pub longest : d.longest ≡ c.longest
   pub shortest : d.shortest ≡ c.shortest
 
--- how many looks a segment may take at most, from the one before: four at each activity for each unit by which the slope
--- rose or the lower end came down
+-- from one solver to another further down the curve the slope never falls, and the lower end never rises
+pub record IsFurther (c d : Course) : Type 0 where
+  pub steeper : c.slope ≤ d.slope
+  pub lower : lower_of d ≤ lower_of c
+
+-- how many looks the way from one solver to another further down may take at most: four at each activity for each unit by
+-- which the slope rose or the lower end came down
 abbrev pub most_looks : Course → Course → ℕ
 most_looks c d = 4 * length c.net.network.arcs * ((d.slope - c.slope) + (lower_of c - lower_of d))
+
+-- how many the whole curve may take at most: the slope rises to no more than the sum of the last slopes
+abbrev pub all_looks : Course → ℕ
+all_looks c = 4 * length c.net.network.arcs * (slopes_in c.net + (c.longest - c.shortest))
 
 -- solver d has the segment that comes after that of solver c
 pub record IsNext (c d : Course) : Type 0 where

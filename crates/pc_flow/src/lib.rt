@@ -3,6 +3,7 @@
 #![tactic(auto)]
 
 mod early;
+pub mod look_laws;
 mod opening;
 mod pace;
 mod solver;

@@ -5,6 +5,7 @@ ghost use Rattle.pc_model.specs.Sums.{sum_to};
 ghost use Rattle.pc_model.specs.Schedule.{base_cost_of, IsAllNormalLength, IsAllCrashLength};
 ghost use Rattle.pc_flow.specs.declared.early.TheConstants.{MAX_LENGTH};
 ghost use Rattle.pc_cells.specs.Spans.{free_of};
+ghost use Rattle.pc_search.specs.Labelling.{slopes_in};
 ghost use Rattle.pc_flow.specs.Courses.{IsLevel, IsOnCurve, lower_of};
 
 use crate::early::MAX_LENGTH;
@@ -82,6 +83,13 @@ impl<'n> Solver<'n> {
         }
     }
 
+    /// The network whose curve it is.
+    pub fn net(&self) -> &'n CrashNet<'n>
+        ensures { result.now ≡ self.now.net }
+    {
+        self.search.net
+    }
+
     /// The all-normal length: how long the project takes where each activity has its normal duration, in units.
     pub fn longest(&self) -> u64
         ensures longest { result ≡ self.now.longest }
@@ -106,6 +114,7 @@ impl<'n> Solver<'n> {
         ensures level { result ≡ false → IsLevel self.now }
         ensures whole { result ≡ true → IsOnCurve self.now }
         ensures range { self.now.shortest ≤ lower_of self.now }
+        ensures gentle { self.now.slope ≤ slopes_in self.now.net }
     {
         self.given
     }

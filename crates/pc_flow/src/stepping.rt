@@ -2,8 +2,8 @@
 ghost use Rattle.std.specs.Prelude.{◌≡◌, ◌+◌, ◌*◌, ◌<◌, ◌↔◌, ◌≤◌, length, IsTrue, IsFalse};
 ghost use Rattle.pc_model.specs.Schedule.{IsAllCrashLength};
 ghost use Rattle.pc_search.specs.Growing.{AreListed};
-ghost use Rattle.pc_search.specs.Labelling.{IsBetween, MayFall};
-ghost use Rattle.pc_flow.specs.Courses.{IsSameCurve, IsNext, HasEnded, most_looks};
+ghost use Rattle.pc_search.specs.Labelling.{IsBetween, MayFall, slopes_in};
+ghost use Rattle.pc_flow.specs.Courses.{IsSameCurve, IsNext, IsFurther, HasEnded, most_looks};
 ghost use Rattle.pc_flow.specs.Descents.{HasDescended, HasSearched};
 
 use crate::solver::Solver;
@@ -18,6 +18,8 @@ impl<'n> Solver<'n> {
         ensures ended { IsFalse result ↔ HasEnded self.old }
         ensures unchanged { IsFalse result → self.new ≡ self.old }
         ensures same { IsSameCurve self.old self.new }
+        ensures further { IsFurther self.old self.new }
+        ensures gentle { self.new.slope ≤ slopes_in self.new.net }
         ensures next { IsTrue result → IsNext self.old self.new }
         ensures counted { steps.new ≤ steps.old + most_looks self.old self.new }
     {

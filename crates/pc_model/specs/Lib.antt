@@ -5,5 +5,6 @@ pub mod Network
 pub mod Schedule
 pub mod Cost
 pub mod Pieces
+pub mod TimeCost
 pub mod Codes
 pub mod Worked

@@ -50,3 +50,19 @@ pub struct Knee {
     pub at: u64,
     pub rise: u64,
 }
+
+/// What time costs: amounts of money for each unit of the project's length, and for each unit by which the end comes
+/// before or after the target.
+///
+/// A project of length L costs `overhead` · L for its time, and `penalty` more for each unit by which L is above the target,
+/// or `bonus` less for each unit by which it is below. Each number is at most `MAX_TERMS`, and the bonus at most the penalty.
+#[derive(Clone, Copy, Debug, PartialEq, Eq, Hash)]
+pub struct TimeTerms {
+    pub overhead: u64,
+    /// The length, in units, from which on an end is late.
+    pub target: u64,
+    /// What each unit before the target brings.
+    pub bonus: u64,
+    /// What each unit after the target costs.
+    pub penalty: u64,
+}

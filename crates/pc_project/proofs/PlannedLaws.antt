@@ -33,7 +33,8 @@ use Rattle.pc_project.specs.declared.load.LoadItem.{LoadItem}
 use Rattle.pc_project.specs.PieceFaults.{HasNoPieceFault, pieces_before, one_too_many, not_rising, none_left}
 use Rattle.pc_project.specs.TermsFaults.{HasNoTermsFault, bonus_above}
 use Rattle.pc_project.specs.Refusal.{MakesProject}
-use Rattle.pc_project.specs.Planned.{AreTimeTerms, HasFigures, IsLoad, IsPlanned}
+use Rattle.pc_model.specs.TimeCost.{AreTimeTerms}
+use Rattle.pc_project.specs.Planned.{HasFigures, IsLoad, IsPlanned}
 use Rattle.pc_project.proofs.FitLaws.{all_fit, load_known, network_of-in_range, no_act, piece_activity-within, place_of-within}
 use Rattle.pc_project.proofs.PieceLaws.{ArePieces-flawless}
 

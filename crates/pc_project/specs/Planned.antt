@@ -4,6 +4,7 @@ use Rattle.std.specs.Option.{ForSome}
 use Rattle.pc_model.specs.Codes.{IsNamedOnce}
 use Rattle.pc_model.specs.Network.{IsInRange, IsSound}
 use Rattle.pc_model.specs.Schedule.{AreTerms}
+use Rattle.pc_model.specs.TimeCost.{AreTimeTerms}
 use Rattle.pc_model.specs.Pieces.{ArePieces}
 use Rattle.pc_crash.specs.Priced.{ArePiecesWithinLimits}
 use Rattle.pc_crash.specs.Terms.{AreWithinLimits}
@@ -14,10 +15,9 @@ use Rattle.pc_accounts.specs.Packages.{IsUneven}
 use Rattle.pc_status.specs.Statuses.{AreInOrder, AreKnown}
 use Rattle.pc_times.specs.Forecast.{AreStates}
 use Rattle.pc_times.specs.Times.{AreLengths}
-use Rattle.pc_model.specs.declared.limits.TheConstants.{MAX_COST, MAX_DIRECTED, MAX_EVENTS, MAX_ITEMS, MAX_LOADS, MAX_RESOURCES, MAX_STATUSES, MAX_TERMS, MAX_UNIT_DAYS, MAX_VARIANCE}
+use Rattle.pc_model.specs.declared.limits.TheConstants.{MAX_COST, MAX_DIRECTED, MAX_EVENTS, MAX_ITEMS, MAX_LOADS, MAX_RESOURCES, MAX_STATUSES, MAX_UNIT_DAYS, MAX_VARIANCE}
 use Rattle.pc_project.specs.Figures.{AreAccounts, AreFigures, AreStatesOf, work_rows}
 use Rattle.pc_project.specs.Project.{Project}
-use Rattle.pc_project.specs.declared.heading.TimeTerms.{TimeTerms}
 use Rattle.pc_project.specs.declared.load.LoadItem.{LoadItem}
 
 -- the load is one of an activity on a resource, and its quantity within the limit of money
@@ -25,13 +25,6 @@ pub record IsLoad (project : Project) (load : LoadItem) : Type 0 where
   pub activity : load.activity < length project.network.arcs
   pub resource : load.resource < length project.resources
   pub quantity : load.quantity ≤ MAX_COST
-
--- the terms of time are within their limit, and the bonus is not above the penalty
-pub record AreTimeTerms (terms : TimeTerms) : Type 0 where
-  pub overhead : terms.overhead ≤ MAX_TERMS
-  pub target : terms.target ≤ MAX_TERMS
-  pub bonus : terms.bonus ≤ terms.penalty
-  pub penalty : terms.penalty ≤ MAX_TERMS
 
 -- activities and accounts stand on leaves, and where an item has activities, the budgets of its accounts add up to what
 -- these cost; the entries are what charges and amounts to go make of the accounts; the statuses are in order, and the

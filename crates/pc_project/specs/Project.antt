@@ -26,7 +26,7 @@ use Rattle.pc_deck.specs.declared.kinds.wbs.ItemCard.{ItemCard}
 use Rattle.pc_deck.specs.Deck.{Deck, act_codes, event_codes, item_codes, event_named, item_named, account_named, act_named, resource_named, resource_codes}
 use Rattle.pc_project.specs.declared.heading.Counts.{Counts}
 use Rattle.pc_project.specs.declared.heading.Heading.{Heading}
-use Rattle.pc_project.specs.declared.heading.TimeTerms.{TimeTerms}
+use Rattle.pc_model.specs.declared.TimeTerms.{TimeTerms}
 use Rattle.pc_project.specs.declared.activity.Activity.{Activity}
 use Rattle.pc_project.specs.declared.load.LoadItem.{LoadItem}
 use Rattle.pc_project.specs.declared.placed.Placement.{Placement}

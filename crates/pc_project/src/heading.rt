@@ -27,16 +27,3 @@ pub struct Counts {
     pub togos: u64,
     pub statuses: u64,
 }
-
-/// What time costs: amounts of money for each unit of the project's length, and for each unit by which the end comes
-/// before or after the target.
-#[derive(Clone, Copy, Debug)]
-pub(crate) struct TimeTerms {
-    pub overhead: u64,
-    /// The length, in units, from which on an end is late.
-    pub target: u64,
-    /// What each unit before the target brings.
-    pub bonus: u64,
-    /// What each unit after the target costs.
-    pub penalty: u64,
-}

@@ -10,7 +10,7 @@ ghost use Rattle.pc_project.specs.Project.{accounts_in, charges_in, counts_of, h
 ghost use Rattle.pc_project.specs.Refusal.{HasSoundFigures, HasSoundPlan, IsRefusedWith, MakesProject};
 ghost use Rattle.pc_project.specs.TermsFaults.{HasNoTermsFault};
 
-use crate::heading::{Counts, Heading, TimeTerms};
+use crate::heading::{Counts, Heading};
 use crate::lists::lists_of;
 use crate::network::net_of;
 use crate::numbers::{Numbers, numbers_of};
@@ -23,6 +23,7 @@ use crate::tree::tree_of;
 use pc_accounts::Book;
 use pc_deck::Cards;
 use pc_faults::DeckError;
+use pc_model::TimeTerms;
 use pc_net::Net;
 use pc_times::ActState;
 use pc_wbs::Tree;

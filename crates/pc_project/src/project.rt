@@ -7,11 +7,11 @@ ghost use Rattle.pc_project.specs.Planned.{IsPlanned};
 ghost use Rattle.pc_project.specs.Project.{activity_at};
 
 use crate::activity::Activity;
-use crate::heading::{Counts, Heading, TimeTerms};
+use crate::heading::{Counts, Heading};
 use crate::load::LoadItem;
 use pc_accounts::{AcctRow, Book, MoneyRow};
 use pc_days::{Day, days_between};
-use pc_model::{PieceRow, Term};
+use pc_model::{PieceRow, Term, TimeTerms};
 use pc_net::Net;
 use pc_status::StatusRow;
 use pc_text::{Code, Title};

@@ -1,3 +1,5 @@
 pub mod DeckFacts
 mod ReaderFacts
 pub mod FieldFacts
+pub mod TextFacts
+pub mod Utf8Facts

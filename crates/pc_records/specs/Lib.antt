@@ -1,2 +1,4 @@
 pub mod Deck
 pub mod Reading
+pub mod Text
+pub mod Writing

@@ -1,14 +1,16 @@
-//! The records of a deck, one at a time: the rows of fields that `csv` reads from its bytes.
+//! The records of a deck, one at a time: the rows of fields that `csv` reads from its bytes, and writes as bytes.
 //!
 //! A deck is a text of comma-separated values without a header, with records of any length, double quotes, and no
 //! trimming. A byte order mark in front is dropped once. [`Rows`] streams its records into one [`Row`] that is
-//! used again for each, so that nothing is allocated per record.
+//! used again for each, so that nothing is allocated per record. [`RowWriter`] writes records into one text.
 #![tactic(auto)]
 
 mod row;
 mod rows;
 #[cfg(test)]
 mod tests;
+mod writer;
 
 pub use crate::row::Row;
 pub use crate::rows::Rows;
+pub use crate::writer::RowWriter;

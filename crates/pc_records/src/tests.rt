@@ -1,4 +1,4 @@
-use crate::{Row, Rows};
+use crate::{Row, RowWriter, Rows};
 use std::alloc::{AllocError, Global};
 use std::test::Fail;
 
@@ -78,5 +78,21 @@ fn tells_fields(rt: HostRuntime) -> Result<(), Fail> {
     assert!(rt; row.is_blank() && row.len() == 3);
     assert!(rt; !rows.next_row(&mut row)?);
     assert!(rt; !rows.next_row(&mut row)?);
+    Ok(())
+}
+
+// Quotes where a field has a comma, a quote or a line's end, or where a record has nothing but one empty field.
+#[test]
+fn writes_records(rt: HostRuntime) -> Result<(), Fail> {
+    let mut writer = RowWriter::with_room(rt.alloc(), 16)?;
+    writer.put(&[b"ACT", b"", b" a b "])?;
+    writer.put(&[b"x,y", b"say \"so\"", b"l\nm", b"n\ro"])?;
+    writer.put(&[b""])?;
+    writer.put(&[b"", b""])?;
+    let text = writer.finish()?;
+    assert_eq!(rt;
+        text.as_slice(),
+        b"ACT,, a b \n\"x,y\",\"say \"\"so\"\"\",\"l\nm\",\"n\ro\"\n\"\"\n,\n".as_slice()
+    );
     Ok(())
 }

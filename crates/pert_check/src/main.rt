@@ -2,11 +2,11 @@
 //! output whether the certificate is right.
 //!
 //! The program only collects its words, makes the adapters of the file and the real streams, and calls
-//! [`pert_cli::check_run`], whose answer is its status.
+//! [`pc_checking::check_run`], whose answer is its status.
 #![tactic(auto)]
 
 use pc_edges::{FileSource, ReadSource, WriteSink};
-use pert_cli::check_run;
+use pc_checking::check_run;
 use std::alloc::AllocError;
 use std::env;
 use std::io::ErrorKind;

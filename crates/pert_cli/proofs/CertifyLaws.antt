@@ -7,17 +7,17 @@ use Rattle.pc_certify.specs.Certificate.{IsCertificate}
 use Rattle.pc_certify.proofs.HeadlineLaws.{prints_whole_curve}
 use Rattle.pert_cli.specs.declared.forms.Form.{Form}
 use Rattle.pert_cli.specs.declared.forms.Form.TheVariants.{Check, Normal, Times, Summary, Value, Curve, Certify, Point, Outlook, Bench}
-use Rattle.pert_cli.specs.declared.status.Status.{Status}
-use Rattle.pert_cli.specs.Status.{code_of}
-use Rattle.pert_cli.specs.Certificate.{priced_in}
+use Rattle.pc_reading.specs.declared.status.Status.{Status}
+use Rattle.pc_reading.specs.Status.{code_of}
+use Rattle.pc_reading.specs.Priced.{priced_in}
 use Rattle.pert_cli.specs.FormDeck.{ReadsSource}
 use Rattle.pert_cli.specs.Forms.{words_of}
 use Rattle.pert_cli.proofs.FormDeckLaws.{read_project}
 use Rattle.pert_cli.specs.Words.{AskFor}
 use Rattle.pert_cli.specs.Handing.{IsReply}
 use Rattle.pert_cli.specs.Headline.{TookWholeCurve}
-use Rattle.pert_cli.specs.Sides.{Side, OfDeck, Took}
-use Rattle.pert_cli.specs.Verdict.{IsProjectOf}
+use Rattle.pc_reading.specs.Sides.{Side, OfDeck, Took}
+use Rattle.pc_reading.specs.Verdict.{IsProjectOf}
 use Rattle.pert_cli.specs.Outcome.{Outcome, done, refused, usage, no_memory, read_fault, write_fault}
 
 -- no other form has the word

@@ -1,33 +1,32 @@
 -- Where no fault came, the words and the deck decide how a run ends, but for want of memory.
-use Rattle.std.proofs.Common.{◌≡◌, ◌≢◌, ◌≤◌, ℕ, List, length, Option, Some, None, ◌⊎◌, inl, inr, arith, subst}
-use Rattle.std.specs.Prelude.{IfSome, String}
+use Rattle.std.proofs.Common.{◌≡◌, ◌≢◌, ◌≤◌, ℕ, List, length, ◌⊎◌, inl, inr, arith, subst}
+use Rattle.std.specs.Prelude.{String}
 use Rattle.std.specs.declared.alloc.Global.{Global}
 use Rattle.pc_deck.specs.Limits.{longest_deck}
 use Rattle.pc_faults.specs.declared.fault.Fault.{Fault}
 use Rattle.pc_project.specs.Project.{Project}
-use Rattle.pert_cli.specs.declared.status.Status.{Status}
-use Rattle.pert_cli.specs.Status.{code_of}
+use Rattle.pc_reading.specs.declared.status.Status.{Status}
+use Rattle.pc_reading.specs.Status.{code_of}
 use Rattle.pert_cli.specs.declared.forms.Form.{Form}
 use Rattle.pert_cli.specs.FormDeck.{AskToRead, IsOwnDeck, ReadsSource}
 use Rattle.pert_cli.specs.Words.{AskFor, AskForOne}
-use Rattle.pert_cli.specs.Sides.{Side, HadNoFault, IsReadToEnd, IsUntouched, OfDeck}
+use Rattle.pc_reading.specs.Sides.{Side, HadNoFault, IsReadToEnd, IsUntouched, OfDeck}
 use Rattle.pert_cli.specs.Forms.{IsDenial}
 use Rattle.pert_cli.specs.Handing.{IsReply}
-use Rattle.pert_cli.specs.Verdict.{IsFault, IsProjectOf}
+use Rattle.pc_reading.specs.Verdict.{IsFault, IsProjectOf}
 use Rattle.pert_cli.specs.Outcome.{IsAcceptedFor, IsAnswer, IsCut, IsRefusedFor, IsTurnedDown, Outcome, by_deck, by_form, deck_refused, done, form_refuses, refused, usage, no_memory, read_fault, write_fault, in_answer, in_fault, in_usage}
 use Rattle.pert_cli.proofs.FormDeckLaws.{left_turned_down, left_with_project, one_own_deck, owned_project, owned_refusal, read_project, read_refusal, reads_not_owned, reads_too}
-use Rattle.pert_cli.proofs.ReadingLaws.{refusal_is_fault, turned_down_is_read}
-use Rattle.pert_cli.proofs.VerdictLaws.{not_both, one_project}
+use Rattle.pc_reading.proofs.ReadingLaws.{refusal_is_fault, refusal_is_read}
+use Rattle.pc_reading.proofs.SideLaws.{from_both, of_any, of_one}
+use Rattle.pc_reading.proofs.VerdictLaws.{not_both, one_project}
 
--- what follows from two things that don't go together
-from_both : (left : Option (List ℕ)) (P Q R : List ℕ → Type 0) → ((bytes : List ℕ) → P bytes → Q bytes → ⊥) → IfSome left P → IfSome left (λ bytes. Q bytes → R bytes)
-from_both None P Q R never holds = tt
-from_both (Some bytes) P Q R never holds = λ also. absurd (never bytes holds also)
-
--- what holds of all bytes
-of_all : (left : Option (List ℕ)) (P : List ℕ → Type 0) → ((bytes : List ℕ) → P bytes) → IfSome left P
-of_all None P holds = tt
-of_all (Some bytes) P holds = holds bytes
+-- a deck that is not too long was read to its end, where it or the form refuses with a fault and reads the source
+turned_down_is_read : {S : Type 0} (words : List (String Global)) (form : Form) (source : Side S) (fault : Fault) → AskFor form words → AskToRead words → IsTurnedDown form source fault → OfDeck source (λ bytes. length bytes ≤ longest_deck → IsReadToEnd source)
+turned_down_is_read words form source fault asked reads (by_deck refusal) =
+    refusal_is_read source fault (read_refusal source form fault (reads_too words form reads asked) refusal)
+turned_down_is_read words form source fault asked reads (by_form project has denial) =
+    let mine = read_project source form project (reads_too words form reads asked) has in
+    of_one (source.bytes source.old) _ _ (λ bytes is short. mine.read) mine.is
 
 module _ (words : List (String Global)) where
   -- a deck that has a fault is not accepted for the words
@@ -73,24 +72,24 @@ module _ (words : List (String Global)) where
 module _ {S O E : Type 0} (words : List (String Global)) (source : Side S) (out : Side O) (err : Side E) (answer : ℕ) where
   -- an accepted deck of the source is answered
   pub accepted_ends : (asked : AskToRead words) (status : Status) → Outcome words source out err status → answer ≡ code_of status → OfDeck source (λ bytes. IsAcceptedFor words bytes → HadNoFault source → HadNoFault out → (answer ≡ 0) ⊎ (answer ≡ 3))
-  accepted_ends asked _ (done is same) is_code = of_all (source.bytes source.old) _ (λ bytes accepted reads takes. inl is_code)
+  accepted_ends asked _ (done is same) is_code = of_any (source.bytes source.old) _ (λ bytes accepted reads takes. inl is_code)
   accepted_ends asked _ (refused is same) is_code = turned_down_not_accepted words source is.form is.fault _ is.asked (reads_too words is.form asked is.asked) is.refusal
   accepted_ends asked _ (usage no_form took same also) is_code = absurd (no_form asked.0 asked.1)
-  accepted_ends asked _ (no_memory form how left same also) is_code = of_all (source.bytes source.old) _ (λ bytes accepted reads takes. inr is_code)
-  accepted_ends asked _ (read_fault form rose same also) is_code = of_all (source.bytes source.old) _ (λ bytes accepted reads takes. absurd (reads rose))
-  accepted_ends asked _ (write_fault (in_answer is same)) is_code = of_all (source.bytes source.old) _ (λ bytes accepted reads takes. absurd (takes is.took.fault))
+  accepted_ends asked _ (no_memory form how left same also) is_code = of_any (source.bytes source.old) _ (λ bytes accepted reads takes. inr is_code)
+  accepted_ends asked _ (read_fault form rose same also) is_code = of_any (source.bytes source.old) _ (λ bytes accepted reads takes. absurd (reads rose))
+  accepted_ends asked _ (write_fault (in_answer is same)) is_code = of_any (source.bytes source.old) _ (λ bytes accepted reads takes. absurd (takes is.took.fault))
   accepted_ends asked _ (write_fault (in_fault is same)) is_code = turned_down_not_accepted words source is.form is.fault _ is.asked (reads_too words is.form asked is.asked) is.refusal
   accepted_ends asked _ (write_fault (in_usage no_form took same also)) is_code = absurd (no_form asked.0 asked.1)
 
   -- a refused one is refused
   pub refused_ends : (asked : AskToRead words) (status : Status) → Outcome words source out err status → answer ≡ code_of status → OfDeck source (λ bytes. IsRefusedFor words bytes → HadNoFault source → HadNoFault err → (answer ≡ 1) ⊎ (answer ≡ 3))
   refused_ends asked _ (done is same) is_code = answered_not_refused words source is.form is.text _ is.asked (reads_too words is.form asked is.asked) is.answer
-  refused_ends asked _ (refused is same) is_code = of_all (source.bytes source.old) _ (λ bytes faulty reads takes. inl is_code)
+  refused_ends asked _ (refused is same) is_code = of_any (source.bytes source.old) _ (λ bytes faulty reads takes. inl is_code)
   refused_ends asked _ (usage no_form took same also) is_code = absurd (no_form asked.0 asked.1)
-  refused_ends asked _ (no_memory form how left same also) is_code = of_all (source.bytes source.old) _ (λ bytes faulty reads takes. inr is_code)
-  refused_ends asked _ (read_fault form rose same also) is_code = of_all (source.bytes source.old) _ (λ bytes faulty reads takes. absurd (reads rose))
+  refused_ends asked _ (no_memory form how left same also) is_code = of_any (source.bytes source.old) _ (λ bytes faulty reads takes. inr is_code)
+  refused_ends asked _ (read_fault form rose same also) is_code = of_any (source.bytes source.old) _ (λ bytes faulty reads takes. absurd (reads rose))
   refused_ends asked _ (write_fault (in_answer is same)) is_code = answered_not_refused words source is.form is.text _ is.asked (reads_too words is.form asked is.asked) is.answer
-  refused_ends asked _ (write_fault (in_fault is same)) is_code = of_all (source.bytes source.old) _ (λ bytes faulty reads takes. absurd (takes is.took.fault))
+  refused_ends asked _ (write_fault (in_fault is same)) is_code = of_any (source.bytes source.old) _ (λ bytes faulty reads takes. absurd (takes is.took.fault))
   refused_ends asked _ (write_fault (in_usage no_form took same also)) is_code = absurd (no_form asked.0 asked.1)
 
   module _ (form : Form) (deck : List ℕ) (asked : AskFor form words) (own : IsOwnDeck form deck) where

@@ -9,13 +9,13 @@ use Rattle.pc_project.specs.Project.{Project}
 use Rattle.pert_cli.specs.declared.forms.Form.{Form}
 use Rattle.pert_cli.specs.declared.forms.Form.TheVariants.{Check, Normal, Times, Summary, Value, Curve, Certify, Point, Outlook, Bench}
 use Rattle.pert_cli.specs.Forms.{IsNumbered, words_of}
-use Rattle.pert_cli.specs.FormDeck.{AskToRead, HasProjectFor, HasNoProjectFor, HasRefusalFor, IsLeftBy, IsNoProjectOf, IsOwnDeck, ReadsSource, own_deck, project_owned, project_read, refusal_owned, refusal_read}
+use Rattle.pert_cli.specs.FormDeck.{AskToRead, HasProjectFor, HasNoProjectFor, HasRefusalFor, IsLeftBy, IsOwnDeck, ReadsSource, own_deck, project_owned, project_read, refusal_owned, refusal_read}
 use Rattle.pert_cli.specs.Outcome.{IsTurnedDown, by_deck, by_form}
-use Rattle.pert_cli.specs.declared.reading.NoProject.{NoProject}
-use Rattle.pert_cli.specs.declared.reading.NoProject.TheVariants.{Refused, ReadFault, OutOfMemory}
-use Rattle.pert_cli.specs.Reading.{HasNoProject, HasProject, HasRefusal}
-use Rattle.pert_cli.specs.Sides.{Side, IsUntouched}
-use Rattle.pert_cli.specs.Verdict.{IsFault, IsProjectOf}
+use Rattle.pc_reading.specs.declared.reading.NoProject.{NoProject}
+use Rattle.pc_reading.specs.declared.reading.NoProject.TheVariants.{Refused, ReadFault, OutOfMemory}
+use Rattle.pc_reading.specs.Reading.{HasNoProject, HasProject, HasRefusal, IsNoProjectOf}
+use Rattle.pc_reading.specs.Sides.{Side, IsUntouched}
+use Rattle.pc_reading.specs.Verdict.{IsFault, IsProjectOf}
 use Rattle.pert_cli.specs.Words.{AskFor}
 
 -- ---- one form with a deck of its own

@@ -1,9 +1,9 @@
 -- What an answer that was put together is written as.
 use Rattle.std.proofs.Common.{◌≡◌, ℕ, List, Result, Ok, Err, subst, sym}
 use Rattle.std.specs.Prelude.{IfOk, OnErr}
-use Rattle.pert_cli.specs.declared.status.Status.{Status}
-use Rattle.pert_cli.specs.declared.status.Status.TheVariants.{Done, Refused, Usage, OutOfMemory, ReadFault, WriteFault}
-use Rattle.pert_cli.specs.Sides.{Side}
+use Rattle.pc_reading.specs.declared.status.Status.{Status}
+use Rattle.pc_reading.specs.declared.status.Status.TheVariants.{Done, OutOfMemory, WriteFault}
+use Rattle.pc_reading.specs.Sides.{Side}
 use Rattle.pert_cli.specs.Handing.{Answers}
 
 -- a text that was written answers what follows from it
@@ -11,9 +11,7 @@ pub Answers-weaker : {X : Type 0} (P Q : List ℕ → Type 0) (out : Side X) (st
 Answers-weaker P Q out Done follows a = (a.0, follows a.0 a.1, a.2)
 Answers-weaker P Q out OutOfMemory follows a = a
 Answers-weaker P Q out WriteFault follows a = (a.0, follows a.0 a.1, a.2)
-Answers-weaker P Q out Refused follows a = a
-Answers-weaker P Q out Usage follows a = a
-Answers-weaker P Q out ReadFault follows a = a
+Answers-weaker P Q out _ follows a = absurd a
 
 -- an answer that was put together, if there was memory, is a text that is asked for
 pub of_built : {A E X : Type 0} (built : Result A E) (IsFor : A → Type 0) (text_of : A → List ℕ) (IsText : List ℕ → Type 0) (out : Side X) (status : Status)

@@ -1,12 +1,7 @@
-mod ReadingLaws
 mod DecidedLaws
 mod HandingLaws
 mod FormDeckLaws
 mod OutcomeLaws
 mod ScheduleLaws
-mod OneProjectLaws
-mod VerdictLaws
-mod CheckLaws
-mod CheckDecided
 mod CertifyLaws
 mod PointLaws

@@ -4,12 +4,13 @@ use Rattle.std.specs.Prelude.{String}
 use Rattle.std.specs.declared.alloc.Global.{Global}
 use Rattle.pc_faults.specs.declared.fault.Fault.{Fault}
 use Rattle.pc_project.specs.Project.{Project}
-use Rattle.pert_cli.specs.declared.status.Status.{Status}
-use Rattle.pert_cli.specs.declared.status.Status.TheVariants.{Done, Refused, Usage, OutOfMemory, ReadFault, WriteFault}
+use Rattle.pc_reading.specs.declared.status.Status.{Status}
+use Rattle.pc_reading.specs.declared.status.Status.TheVariants.{Done, Refused, OutOfMemory, WriteFault}
 use Rattle.pert_cli.specs.declared.forms.Form.{Form}
 use Rattle.pert_cli.specs.Words.{AskFor}
-use Rattle.pert_cli.specs.Sides.{Side, IsUntouched}
-use Rattle.pert_cli.specs.Handing.{Answers, IsReply, Refusal, Replies, answers, denies}
+use Rattle.pc_reading.specs.Sides.{Side, IsUntouched}
+use Rattle.pc_reading.specs.Refusing.{Refusal}
+use Rattle.pert_cli.specs.Handing.{Answers, IsReply, Replies, answers, denies}
 use Rattle.pert_cli.specs.FormDeck.{HasProjectFor, HasRefusalFor}
 use Rattle.pert_cli.proofs.FormDeckLaws.{left_turned_down, left_with_project}
 use Rattle.pert_cli.specs.Outcome.{IsTurnedDown, Outcome, by_deck, by_form, done, refused, no_memory, write_fault, in_answer, in_fault}
@@ -20,9 +21,7 @@ module _ {S O E : Type 0} (words : List (String Global)) (source : Side S) (out 
   after_fault fault Refused refusal unused took = refused (record { form = form; asked = asked; fault = fault; refusal = refusal; took = took }) unused
   after_fault fault OutOfMemory refusal unused same = no_memory form asked (left_turned_down source form fault refusal) unused same
   after_fault fault WriteFault refusal unused took = write_fault (in_fault (record { form = form; asked = asked; fault = fault; refusal = refusal; took = took }) unused)
-  after_fault fault Done refusal unused never = absurd never
-  after_fault fault Usage refusal unused never = absurd never
-  after_fault fault ReadFault refusal unused never = absurd never
+  after_fault fault _ refusal unused never = absurd never
 
   -- the deck is refused, and the line of its fault was handed to the error output
   pub after_refusal : (fault : Fault) (status : Status) → HasRefusalFor form source fault → IsUntouched out → Refusal fault err status → Outcome words source out err status
@@ -35,9 +34,7 @@ module _ {S O E : Type 0} (words : List (String Global)) (source : Side S) (out 
   after_answer project OutOfMemory has unused same = no_memory form asked (left_with_project source form project has) same unused
   after_answer project WriteFault has unused answered =
       write_fault (in_answer (record { form = form; asked = asked; text = answered.0; answer = record { project = project; deck = has; reply = answered.1 }; took = answered.2 }) unused)
-  after_answer project Refused has unused never = absurd never
-  after_answer project Usage has unused never = absurd never
-  after_answer project ReadFault has unused never = absurd never
+  after_answer project _ has unused never = absurd never
 
   -- the deck is accepted, and the form replied to its project
   pub after_reply : (project : Project) (status : Status) → HasProjectFor form source project → Replies form project out err status → Outcome words source out err status

@@ -9,7 +9,7 @@ use Rattle.pc_project.specs.Project.{Project}
 use Rattle.pc_figures.specs.Outlook.{amounts_at, IsWholeOutlook, Outlook as TheOutlook}
 use Rattle.pc_reports.specs.OutlookText.{IsOutlook, TellsTop, outlook_text}
 use Rattle.pert_cli.specs.declared.forms.Form.TheVariants.{Point, Outlook}
-use Rattle.pert_cli.specs.Certificate.{priced_in}
+use Rattle.pc_reading.specs.Priced.{priced_in}
 use Rattle.pert_cli.specs.Handing.{IsReply}
 use Rattle.pert_cli.specs.Normal.{Printed, printed_text}
 use Rattle.pert_cli.specs.Point.{IsCheapestFor, IsRange, IsWithin, IsOutside}

@@ -1,5 +1,5 @@
 -- Which deck a form speaks of: that of the source, or one of its own, for which nothing is read.
-use Rattle.std.specs.Prelude.{◌≡◌, ℕ, List, Option, Some, None, ⊤, String}
+use Rattle.std.specs.Prelude.{◌≡◌, ℕ, List, Option, Some, None, String}
 use Rattle.std.specs.declared.alloc.Global.{Global}
 use Rattle.pc_bench.specs.Deck.{deck_text}
 use Rattle.pc_faults.specs.declared.fault.Fault.{Fault}
@@ -7,11 +7,11 @@ use Rattle.pc_faults.specs.FaultText.{IsTold}
 use Rattle.pc_project.specs.Project.{Project}
 use Rattle.pert_cli.specs.declared.forms.Form.{Form}
 use Rattle.pert_cli.specs.declared.forms.Form.TheVariants.{Check, Normal, Times, Summary, Value, Curve, Certify, Point, Outlook, Bench}
-use Rattle.pert_cli.specs.declared.reading.NoProject.{NoProject}
-use Rattle.pert_cli.specs.declared.reading.NoProject.TheVariants.{Refused, ReadFault, OutOfMemory}
-use Rattle.pert_cli.specs.Sides.{Side, HadFault, IsUntouched}
-use Rattle.pert_cli.specs.Reading.{HasProject, HasRefusal}
-use Rattle.pert_cli.specs.Verdict.{IsFault, IsProjectOf}
+use Rattle.pc_reading.specs.declared.reading.NoProject.{NoProject}
+use Rattle.pc_reading.specs.declared.reading.NoProject.TheVariants.{Refused, ReadFault, OutOfMemory}
+use Rattle.pc_reading.specs.Sides.{Side, HadFault, IsUntouched}
+use Rattle.pc_reading.specs.Reading.{HasProject, HasRefusal}
+use Rattle.pc_reading.specs.Verdict.{IsFault, IsProjectOf}
 use Rattle.pert_cli.specs.Words.{AskFor}
 
 -- the deck that a form has of its own; the other forms read that of the source
@@ -60,9 +60,3 @@ abbrev pub HasNoProjectFor : {X : Type 0} → Form → Side X → NoProject → 
 HasNoProjectFor form source (Refused fault) = IsTold fault × HasRefusalFor form source fault
 HasNoProjectFor form source ReadFault = ReadsSource form × HadFault source
 HasNoProjectFor form source OutOfMemory = IsLeftBy form source
-
--- why a deck of a form's own gives no project: it has a fault; want of memory comes at any time
-abbrev pub IsNoProjectOf : List ℕ → NoProject → Type 0
-IsNoProjectOf deck (Refused fault) = IsTold fault × IsFault deck fault
-IsNoProjectOf deck ReadFault = ⊥
-IsNoProjectOf deck OutOfMemory = ⊤

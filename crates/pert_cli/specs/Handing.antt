@@ -1,31 +1,20 @@
 -- What handing a text to an output leaves, by the status that it ends with.
 use Rattle.std.specs.Prelude.{ℕ, List}
 use Rattle.pc_faults.specs.declared.fault.Fault.{Fault}
-use Rattle.pc_faults.specs.FaultText.{fault_text}
 use Rattle.pc_project.specs.Project.{Project}
 use Rattle.pert_cli.specs.declared.forms.Form.{Form}
-use Rattle.pert_cli.specs.declared.status.Status.{Status}
-use Rattle.pert_cli.specs.declared.status.Status.TheVariants.{Done, Refused, Usage, OutOfMemory, ReadFault, WriteFault}
+use Rattle.pc_reading.specs.declared.status.Status.{Status}
+use Rattle.pc_reading.specs.declared.status.Status.TheVariants.{Done, OutOfMemory, WriteFault}
 use Rattle.pert_cli.specs.Forms.{IsDenial, IsTextOf}
-use Rattle.pert_cli.specs.Sides.{Side, IsUntouched, Took, TookFront}
+use Rattle.pc_reading.specs.Refusing.{Refusal}
+use Rattle.pc_reading.specs.Sides.{Side, IsUntouched, Took, TookFront}
 
 -- a text that answers was written, or there was no memory for it, or a fault of the sink came in it
 abbrev pub Answers : {X : Type 0} → (List ℕ → Type 0) → Side X → Status → Type 0
 Answers IsText out Done = (text : List ℕ) × IsText text × Took out text
 Answers IsText out OutOfMemory = IsUntouched out
 Answers IsText out WriteFault = (text : List ℕ) × IsText text × TookFront out text
-Answers IsText out Refused = ⊥
-Answers IsText out Usage = ⊥
-Answers IsText out ReadFault = ⊥
-
--- the line of the fault was written, or there was no memory for it, or a fault of the sink came in it
-abbrev pub Refusal : {X : Type 0} → Fault → Side X → Status → Type 0
-Refusal fault err Refused = Took err (fault_text fault)
-Refusal fault err OutOfMemory = IsUntouched err
-Refusal fault err WriteFault = TookFront err (fault_text fault)
-Refusal fault err Done = ⊥
-Refusal fault err Usage = ⊥
-Refusal fault err ReadFault = ⊥
+Answers IsText out _ = ⊥
 
 -- the text answers the form for the project, and the form does not refuse the project
 pub record IsReply (form : Form) (project : Project) (text : List ℕ) : Type 0 where

@@ -2,9 +2,9 @@
 use Rattle.std.specs.Prelude.{ℕ, List}
 use Rattle.pc_certify.specs.Headline.{PrintsWholeCurve}
 use Rattle.pc_project.specs.Project.{Project}
-use Rattle.pert_cli.specs.Certificate.{priced_in}
-use Rattle.pert_cli.specs.Sides.{Side, Took}
-use Rattle.pert_cli.specs.Verdict.{IsProjectOf}
+use Rattle.pc_reading.specs.Priced.{priced_in}
+use Rattle.pc_reading.specs.Sides.{Side, Took}
+use Rattle.pc_reading.specs.Verdict.{IsProjectOf}
 
 -- the deck is accepted, and the output took a text that prints the whole time-cost curve of its project: for every length
 -- from the all-crash to the all-normal length a schedule of that length, what it costs, that none costs less, and why

@@ -3,16 +3,9 @@ pub mod Point
 pub mod Outlook
 pub mod Forms
 pub mod Words
-pub mod Verdict
-pub mod Sides
 pub mod Handing
-pub mod Reading
 pub mod FormDeck
 pub mod Outcome
-pub mod Status
-pub mod Ending
-pub mod Certificate
-pub mod CheckOutcome
 pub mod Headline
 pub use Rattle.pc_edges.specs.Faults
 pub use Rattle.pc_edges.specs.Writes

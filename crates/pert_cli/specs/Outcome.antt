@@ -4,12 +4,12 @@ use Rattle.std.specs.declared.alloc.Global.{Global}
 use Rattle.pc_faults.specs.declared.fault.Fault.{Fault}
 use Rattle.pc_faults.specs.FaultText.{fault_text}
 use Rattle.pc_project.specs.Project.{Project}
-use Rattle.pert_cli.specs.declared.status.Status.{Status}
-use Rattle.pert_cli.specs.declared.status.Status.TheVariants.{Done, Refused, Usage, OutOfMemory, ReadFault, WriteFault}
+use Rattle.pc_reading.specs.declared.status.Status.{Status}
+use Rattle.pc_reading.specs.declared.status.Status.TheVariants.{Done, Refused, Usage, OutOfMemory, ReadFault, WriteFault}
 use Rattle.pert_cli.specs.declared.forms.Form.{Form}
 use Rattle.pert_cli.specs.Words.{AskFor, AskForNone, usage_text}
-use Rattle.pert_cli.specs.Sides.{Side, HadFault, IsUntouched, Took, TookFront}
-use Rattle.pert_cli.specs.Verdict.{IsProjectOf, RefusedBy}
+use Rattle.pc_reading.specs.Sides.{Side, HadFault, IsUntouched, Took, TookFront}
+use Rattle.pc_reading.specs.Verdict.{IsProjectOf, RefusedBy}
 use Rattle.pert_cli.specs.FormDeck.{AskToRead, HasProjectFor, HasRefusalFor, IsLeftBy}
 use Rattle.pert_cli.specs.Forms.{IsDenial}
 use Rattle.pert_cli.specs.Handing.{IsReply}

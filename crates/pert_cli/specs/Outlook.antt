@@ -4,7 +4,7 @@ use Rattle.pc_figures.specs.Outlook.{Outlook, amounts_at, IsWholeOutlook}
 use Rattle.pc_project.specs.Project.{Project}
 use Rattle.pc_reports.specs.OutlookText.{IsOutlook, outlook_text}
 use Rattle.pc_wbs.specs.Climb.{IsTop}
-use Rattle.pert_cli.specs.Certificate.{priced_in}
+use Rattle.pc_reading.specs.Priced.{priced_in}
 use Rattle.pert_cli.specs.Normal.{Printed, printed_text}
 use Rattle.pert_cli.specs.Point.{IsCheapestFor}
 

@@ -7,7 +7,7 @@ use Rattle.pc_model.specs.Schedule.{IsAllCrashLength, IsAllNormalLength, IsSched
 use Rattle.pc_model.specs.Cost.{cost_of}
 use Rattle.pc_crash.specs.Priced.{PricedNetwork, knees_in}
 use Rattle.pc_project.specs.Project.{Project}
-use Rattle.pert_cli.specs.Certificate.{priced_in}
+use Rattle.pc_reading.specs.Priced.{priced_in}
 use Rattle.pert_cli.specs.Normal.{Printed, printed_text}
 use Rattle.pert_cli.specs.declared.cheapest.NoSchedule.{NoSchedule}
 use Rattle.pert_cli.specs.declared.cheapest.NoSchedule.TheVariants.{Outside, OutOfMemory}

@@ -1,14 +1,14 @@
 //! `certify`: the certificate of the time-cost curve.
 ghost use Rattle.std.specs.Prelude.{◌≡◌};
 ghost use Rattle.pert_cli.specs.Handing.{Answers, IsReply};
-ghost use Rattle.pert_cli.specs.Sides.{side};
+ghost use Rattle.pc_reading.specs.Sides.{side};
 ghost use Rattle.pert_cli.specs.declared.forms.Form.TheVariants.{Certify};
 
 use crate::solving::solver_region;
-use crate::status::Status;
 use pc_certify::CertifyError;
 use pc_edges::Sink;
 use pc_project::Project;
+use pc_reading::Status;
 use std::alloc::Global;
 
 /// The words of the form.

@@ -4,12 +4,12 @@ ghost use Rattle.pc_crash.specs.Steps.{IsBlankOf};
 ghost use Rattle.pc_curve.specs.Points.{HasPlaces, IsToCome};
 ghost use Rattle.pc_faults.specs.FaultText.{IsTold};
 ghost use Rattle.pc_reports.specs.Schedule.{text_of, IsWhole};
-ghost use Rattle.pert_cli.specs.Certificate.{priced_in};
+ghost use Rattle.pc_reading.specs.Priced.{priced_in};
 ghost use Rattle.pert_cli.specs.Normal.{printed_text};
 ghost use Rattle.pert_cli.specs.Point.{HasNoSchedule, IsCheapest, IsCheapestFor, IsOutside, IsWithin};
 
 use crate::solving::solver_region;
-use pc_crash::{CrashNet, Steps};
+use pc_crash::Steps;
 use pc_curve::point_at;
 use pc_faults::Fault;
 use pc_flow::Solver;
@@ -70,26 +70,24 @@ impl CheapestSchedule {
         if let Some(fault) = outside(&solver, limit) {
             return Err(NoSchedule::Outside(fault));
         }
-        Ok(CheapestSchedule::find(alloc, &net, &mut solver, limit)?)
+        Ok(CheapestSchedule::find(alloc, &mut solver, limit)?)
     }
 
     /// A cheapest schedule for a length, to which the solver of the network comes down.
     fn find(
         alloc: Global,
-        net: &CrashNet<'_>,
         solver: &mut Solver<'_>,
         limit: u64,
     ) -> Result<CheapestSchedule, AllocError>
-        requires net { solver.old.net ≡ net.now }
-        requires to_come { IsToCome solver.old limit }
+        requires { IsToCome solver.old limit }
         ensures length { IfOk result (λ schedule. schedule.length ≡ limit) }
-        ensures cheapest { IfOk result (IsCheapest net.now) }
+        ensures cheapest { IfOk result (IsCheapest solver.old.net) }
     {
-        let shape = net.net();
+        let shape = solver.net().net();
         let mut times = vec![in alloc; 0; shape.events() as usize]?;
         let mut durations = vec![in alloc; 0; shape.activities() as usize]?;
         let blank = Blank::new(1);
-        let cost = fill::<Brand>(net, solver, limit, &mut times, &mut durations, blank);
+        let cost = fill::<Brand>(solver, limit, &mut times, &mut durations, blank);
         Ok(CheapestSchedule {
             total: limit,
             cost,
@@ -141,19 +139,17 @@ fn outside(solver: &Solver<'_>, limit: u64) -> Option<Fault>
 /// Fills in a cheapest schedule for a length, and answers its cost. The steps of the solver are counted in a ledger of their
 /// own.
 fn fill<L: Ledger>(
-    net: &CrashNet<'_>,
     solver: &mut Solver<'_>,
     limit: u64,
     times: &mut [u64],
     durations: &mut [u64],
     blank: Blank,
 ) -> u64
-    requires net { solver.old.net ≡ net.now }
     requires to_come { IsToCome solver.old limit }
-    requires places { HasPlaces net.now times.old durations.old }
+    requires places { HasPlaces solver.old.net times.old durations.old }
     requires blank { IsBlankOf L.name L.parts blank.name blank.parts }
-    ensures { IsCheapest net.now (record { length = limit; cost = result; times = times.new; durations = durations.new }) }
+    ensures { IsCheapest solver.old.net (record { length = limit; cost = result; times = times.new; durations = durations.new }) }
 {
     let mut steps = Steps::<L>::new(blank);
-    point_at(net, solver, limit, times, durations, &mut steps)
+    point_at(solver, limit, times, durations, &mut steps)
 }

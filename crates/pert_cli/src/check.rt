@@ -3,14 +3,14 @@ ghost use Rattle.std.specs.Prelude.{◌≡◌, IfOk};
 ghost use Rattle.pc_page.specs.Page.{fresh};
 ghost use Rattle.pc_reports.specs.Check.{check_text};
 ghost use Rattle.pert_cli.specs.Handing.{Answers, IsReply};
-ghost use Rattle.pert_cli.specs.Sides.{side};
+ghost use Rattle.pc_reading.specs.Sides.{side};
 ghost use Rattle.pert_cli.specs.declared.forms.Form.TheVariants.{Check};
 
 use crate::answer::{Answer, deliver};
-use crate::status::Status;
 use pc_edges::{Failed, Sink};
 use pc_page::{PAGE_ROOM, Page};
 use pc_project::Project;
+use pc_reading::Status;
 use pc_reports::write_check;
 use std::alloc::{AllocError, Global};
 

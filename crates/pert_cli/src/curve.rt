@@ -5,17 +5,17 @@ ghost use Rattle.pc_curve.specs.CurveText.{IsCurveText};
 ghost use Rattle.pc_edges.specs.Writes.{Writes};
 ghost use Rattle.pc_page.specs.Page.{fresh};
 ghost use Rattle.pert_cli.specs.Handing.{Answers, IsReply};
-ghost use Rattle.pert_cli.specs.Sides.{side};
+ghost use Rattle.pc_reading.specs.Sides.{side};
 ghost use Rattle.pert_cli.specs.declared.forms.Form.TheVariants.{Curve};
 
 use crate::solving::Workplace;
-use crate::status::Status;
-use pc_crash::{CrashNet, Steps};
+use pc_crash::Steps;
 use pc_curve::write_curve;
 use pc_edges::{Failed, Sink};
 use pc_flow::Solver;
 use pc_page::Page;
 use pc_project::Project;
+use pc_reading::Status;
 use std::alloc::Global;
 use std::marker::Brand;
 use std::sync::ledger::{Blank, Ledger};
@@ -36,7 +36,7 @@ pub(crate) fn answer<O: Sink>(alloc: Global, project: &Project, out: &mut O) -> 
         mut page,
     } = place;
     let mut solver = Solver::begin(region, &net);
-    match write::<O, Brand>(&mut page, out, &net, &mut solver, Blank::new(1)) {
+    match write::<O, Brand>(&mut page, out, &mut solver, Blank::new(1)) {
         Ok(()) => Status::Done,
         Err(Failed) => Status::WriteFault,
     }
@@ -46,17 +46,15 @@ pub(crate) fn answer<O: Sink>(alloc: Global, project: &Project, out: &mut O) -> 
 fn write<O: Sink, L: Ledger>(
     page: &mut Page,
     out: &mut O,
-    net: &CrashNet<'_>,
     solver: &mut Solver<'_>,
     blank: Blank,
 ) -> Result<(), Failed>
     requires fresh { page.old ≡ fresh }
-    requires net { solver.old.net ≡ net.now }
     requires before { solver.old.given ≡ false }
     requires blank { IsBlankOf L.name L.parts blank.name blank.parts }
-    ensures { (text : List ℕ) × IsCurveText net.now text
+    ensures { (text : List ℕ) × IsCurveText solver.old.net text
         × Writes result (O.taken out.old) (O.taken out.new) (O.faults out.old) (O.faults out.new) text }
 {
     let mut steps = Steps::<L>::new(blank);
-    write_curve(page, out, net, solver, &mut steps)
+    write_curve(page, out, solver, &mut steps)
 }

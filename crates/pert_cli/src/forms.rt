@@ -6,17 +6,17 @@ ghost use Rattle.std.specs.Prelude.{◌≡◌, ◌+◌, ◌≤◌, [], ◌∷◌
 ghost use Rattle.pert_cli.specs.FormDeck.{ReadsSource};
 ghost use Rattle.pert_cli.specs.Forms.{IsAskedBy};
 ghost use Rattle.pert_cli.specs.Handing.{Replies};
-ghost use Rattle.pert_cli.specs.Sides.{side};
+ghost use Rattle.pc_reading.specs.Sides.{side};
 ghost use Rattle.pert_cli.specs.declared.forms.Form.{Form as TheForm};
 ghost use Rattle.pert_cli.specs.declared.forms.Form.TheVariants.{Bench};
 ghost use Rattle.pert_cli.specs.Words.{AskFor, AskForNone, usage_text};
 
-use crate::status::Status;
 use crate::{bench, certify, check, curve, normal, outlook, point, summary, times, value};
 use arrayvec::ArrayVec;
 use pc_bench::MOST_ACTIVITIES;
 use pc_edges::Sink;
 use pc_project::Project;
+use pc_reading::Status;
 use pc_text::read_number;
 use std::alloc::Global;
 

@@ -1,29 +1,23 @@
-//! The top calls of the programs: words and bytes in, bytes and a status out.
+//! The top call of the program: words and bytes in, bytes and a status out. The call that checks certificates is given on.
 #![tactic(auto)]
 
 mod answer;
 mod bench;
-mod certificate;
 mod certify;
 mod cheapest;
 mod check;
 mod curve;
-mod ending;
+mod form_deck;
 mod forms;
 mod normal;
 mod outlook;
 mod point;
-mod reading;
-mod refusing;
 mod schedule;
-mod sending;
 mod solving;
-mod status;
 mod summary;
-mod telling;
 mod times;
 mod top;
 mod value;
 
-pub use crate::certificate::check_run;
 pub use crate::top::run;
+pub use pc_checking::check_run;

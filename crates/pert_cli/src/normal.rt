@@ -3,15 +3,15 @@ ghost use Rattle.std.specs.Prelude.{◌≡◌, IfOk};
 ghost use Rattle.pc_page.specs.Page.{fresh};
 ghost use Rattle.pert_cli.specs.Handing.{Answers, IsReply};
 ghost use Rattle.pert_cli.specs.Normal.{IsNormalSchedule, printed_text};
-ghost use Rattle.pert_cli.specs.Sides.{side};
+ghost use Rattle.pc_reading.specs.Sides.{side};
 ghost use Rattle.pert_cli.specs.declared.forms.Form.TheVariants.{Normal};
 
 use crate::answer::{Answer, deliver};
 use crate::schedule::NormalSchedule;
-use crate::status::Status;
 use pc_edges::{Failed, Sink};
 use pc_page::{PAGE_ROOM, Page};
 use pc_project::Project;
+use pc_reading::Status;
 use pc_reports::{Schedule, write_schedule};
 use std::alloc::{AllocError, Global};
 

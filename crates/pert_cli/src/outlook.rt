@@ -1,19 +1,18 @@
 //! `outlook L`: a schedule of least cost for the length L, and what each item costs by it.
 ghost use Rattle.std.specs.Prelude.{◌++◌};
 ghost use Rattle.pc_reports.specs.OutlookText.{IsOutlookFor, outlook_text};
-ghost use Rattle.pert_cli.specs.Certificate.{priced_in};
+ghost use Rattle.pc_reading.specs.Priced.{priced_in};
 ghost use Rattle.pert_cli.specs.Handing.{Replies};
 ghost use Rattle.pert_cli.specs.Normal.{printed_text};
 ghost use Rattle.pert_cli.specs.Point.{IsCheapest};
-ghost use Rattle.pert_cli.specs.Sides.{side};
+ghost use Rattle.pc_reading.specs.Sides.{side};
 ghost use Rattle.pert_cli.specs.declared.forms.Form.TheVariants.{Outlook};
 
 use crate::answer::{Answer, hand};
 use crate::cheapest::{CheapestSchedule, NoSchedule};
-use crate::refusing::refuse;
-use crate::status::Status;
 use pc_edges::{Failed, Sink};
 use pc_project::Project;
+use pc_reading::{Status, refuse};
 use pc_reports::OutlookReport;
 use std::alloc::Global;
 

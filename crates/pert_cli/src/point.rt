@@ -1,20 +1,19 @@
 //! `point L`: a schedule of least cost for the length L.
 ghost use Rattle.std.specs.Prelude.{◌≡◌};
 ghost use Rattle.pc_page.specs.Page.{fresh};
-ghost use Rattle.pert_cli.specs.Certificate.{priced_in};
+ghost use Rattle.pc_reading.specs.Priced.{priced_in};
 ghost use Rattle.pert_cli.specs.Handing.{Replies};
 ghost use Rattle.pert_cli.specs.Normal.{printed_text};
 ghost use Rattle.pert_cli.specs.Point.{IsCheapest};
-ghost use Rattle.pert_cli.specs.Sides.{side};
+ghost use Rattle.pc_reading.specs.Sides.{side};
 ghost use Rattle.pert_cli.specs.declared.forms.Form.TheVariants.{Point};
 
 use crate::answer::{Answer, hand};
 use crate::cheapest::{CheapestSchedule, NoSchedule};
-use crate::refusing::refuse;
-use crate::status::Status;
 use pc_edges::{Failed, Sink};
 use pc_page::{PAGE_ROOM, Page};
 use pc_project::Project;
+use pc_reading::{Status, refuse};
 use pc_reports::write_schedule;
 use std::alloc::Global;
 

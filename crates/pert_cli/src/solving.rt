@@ -2,7 +2,7 @@
 ghost use Rattle.std.specs.Prelude.{◌≡◌, ◌+◌, ◌*◌, ◌≤◌, length, IfOk};
 ghost use Rattle.pc_cells.specs.Spans.{free_of};
 ghost use Rattle.pc_page.specs.Page.{fresh};
-ghost use Rattle.pert_cli.specs.Certificate.{priced_in};
+ghost use Rattle.pc_reading.specs.Priced.{priced_in};
 
 use pc_cells::Region;
 use pc_crash::CrashNet;

@@ -1,13 +1,13 @@
 //! `summary`: what the accounts add up to, by item and by level.
 ghost use Rattle.pc_reports.specs.SummaryText.{IsSummary, summary_text};
 ghost use Rattle.pert_cli.specs.Handing.{Answers, IsReply};
-ghost use Rattle.pert_cli.specs.Sides.{side};
+ghost use Rattle.pc_reading.specs.Sides.{side};
 ghost use Rattle.pert_cli.specs.declared.forms.Form.TheVariants.{Summary};
 
 use crate::answer::{Answer, deliver};
-use crate::status::Status;
 use pc_edges::{Failed, Sink};
 use pc_project::Project;
+use pc_reading::Status;
 use pc_reports::SummaryReport;
 use std::alloc::Global;
 

@@ -6,16 +6,14 @@ ghost use Rattle.pert_cli.specs.declared.forms.Form.TheVariants.{Certify};
 ghost use Rattle.pert_cli.specs.FormDeck.{AskToRead, IsOwnDeck};
 ghost use Rattle.pert_cli.specs.Headline.{TookWholeCurve};
 ghost use Rattle.pert_cli.specs.Words.{AskFor, AskForOne, AskForNone, usage_text};
-ghost use Rattle.pert_cli.specs.Sides.{side, HadFault, HadNoFault, IsReadToEnd, OfDeck, Took};
-ghost use Rattle.pert_cli.specs.Verdict.{AcceptedBy, RefusedBy};
+ghost use Rattle.pc_reading.specs.Sides.{side, HadFault, HadNoFault, IsReadToEnd, OfDeck, Took};
+ghost use Rattle.pc_reading.specs.Verdict.{AcceptedBy, RefusedBy};
 ghost use Rattle.pert_cli.specs.Outcome.{Outcome, IsAcceptedFor, IsCut, IsDone, IsRefused, IsRefusedFor};
 
+use crate::form_deck::project_for;
 use crate::forms::{Form, usage};
-use crate::reading::{NoProject, project_for};
-use crate::refusing::refuse;
-use crate::sending::send;
-use crate::status::Status;
 use pc_edges::{Failed, Sink, Source};
+use pc_reading::{NoProject, Status, refuse, send};
 use std::alloc::Global;
 
 /// Does what the words ask for: reads a deck from `source`, writes its answer on `out`, or on `err` why there is none.

@@ -2,13 +2,13 @@
 ghost use Rattle.pc_reports.specs.Earned.{IsEarned};
 ghost use Rattle.pc_reports.specs.ValueText.{value_text};
 ghost use Rattle.pert_cli.specs.Handing.{Answers, IsReply};
-ghost use Rattle.pert_cli.specs.Sides.{side};
+ghost use Rattle.pc_reading.specs.Sides.{side};
 ghost use Rattle.pert_cli.specs.declared.forms.Form.TheVariants.{Value};
 
 use crate::answer::{Answer, deliver};
-use crate::status::Status;
 use pc_edges::{Failed, Sink};
 use pc_project::Project;
+use pc_reading::Status;
 use pc_reports::ValueReport;
 use std::alloc::Global;
 

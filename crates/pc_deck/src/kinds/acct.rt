@@ -2,10 +2,10 @@
 ghost use Rattle.std.specs.Prelude.{refl};
 ghost use Rattle.pc_deck.specs.Acct.{account_slots, account_of};
 
-use crate::card::{Card, Coded};
 use crate::cards::Cards;
-use crate::field::{Misfit, read_amount, read_code, read_title};
-use crate::form::{Form, MONEY, Slot};
+use pc_cards::card::{Card, Coded};
+use pc_cards::field::{Misfit, read_amount, read_code, read_title};
+use pc_cards::form::{Form, MONEY, Slot};
 use pc_model::MAX_COST;
 use pc_records::Row;
 use pc_text::{Code, Title};

@@ -1,10 +1,10 @@
 //! ASOF: the day that the figures are of.
 ghost use Rattle.pc_deck.specs.AsOf.{as_of_slots, as_of_of};
 
-use crate::card::Card;
 use crate::cards::Cards;
-use crate::field::{Misfit, read_date};
-use crate::form::{Form, Slot};
+use pc_cards::card::Card;
+use pc_cards::field::{Misfit, read_date};
+use pc_cards::form::{Form, Slot};
 use pc_days::Day;
 use pc_records::Row;
 
@@ -48,10 +48,12 @@ impl Card for AsOfCard {
 
 impl Cards {
     ghost use Rattle.std.specs.Prelude.{◌≡◌};
+    ghost use Rattle.pc_deck.specs.Within.{IsWithinLimits};
 
     /// The ASOF card, where there is one.
     pub fn as_of(&self) -> Option<AsOfCard>
-        ensures { result ≡ self.now.as_of }
+        ensures card { result ≡ self.now.as_of }
+        ensures within { IsWithinLimits self.now }
     {
         self.lists.as_of.get()
     }

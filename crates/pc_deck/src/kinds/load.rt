@@ -1,10 +1,10 @@
 //! LOAD: what an activity uses of a resource.
 ghost use Rattle.pc_deck.specs.Load.{load_slots, load_of};
 
-use crate::card::Card;
 use crate::cards::Cards;
-use crate::field::{Misfit, read_amount, read_code};
-use crate::form::{Form, MONEY, Slot};
+use pc_cards::card::Card;
+use pc_cards::field::{Misfit, read_amount, read_code};
+use pc_cards::form::{Form, MONEY, Slot};
 use pc_model::MAX_COST;
 use pc_records::Row;
 use pc_text::Code;

@@ -7,8 +7,8 @@ use crate::draft::Draft;
 use crate::limits::{
     SMALL_ACTIVITIES, SMALL_CHARGES, SMALL_EVENTS, SMALL_PIECES, SMALL_STATUSES, by_version,
 };
-use crate::lists::{Listed, Named, Once};
-use crate::place::Place;
+use pc_cards::lists::{Listed, Named, Once};
+use pc_cards::place::Place;
 use pc_faults::{DeckError, Kind};
 use pc_model::{
     MAX_ACCOUNTS, MAX_ACTIVITIES, MAX_CHARGES, MAX_EVENTS, MAX_ITEMS, MAX_LOADS, MAX_PIECES,

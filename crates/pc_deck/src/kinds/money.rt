@@ -1,10 +1,10 @@
 //! CHARGE and TOGO: amounts of money, spent or still to be spent.
 ghost use Rattle.pc_deck.specs.Money.{money_slots, money_of};
 
-use crate::card::Card;
 use crate::cards::Cards;
-use crate::field::{Misfit, read_amount, read_code, read_date};
-use crate::form::{Form, MONEY, Slot};
+use pc_cards::card::Card;
+use pc_cards::field::{Misfit, read_amount, read_code, read_date};
+use pc_cards::form::{Form, MONEY, Slot};
 use pc_days::Day;
 use pc_model::MAX_COST;
 use pc_records::Row;

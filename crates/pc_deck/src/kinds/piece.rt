@@ -1,10 +1,10 @@
 //! PIECE: a further piece of an activity's cost.
 ghost use Rattle.pc_deck.specs.Piece.{piece_slots, piece_of};
 
-use crate::card::Card;
 use crate::cards::Cards;
-use crate::field::{Misfit, read_amount, read_code};
-use crate::form::{Form, Slot};
+use pc_cards::card::Card;
+use pc_cards::field::{Misfit, read_amount, read_code};
+use pc_cards::form::{Form, Slot};
 use pc_model::{MAX_DURATION, MAX_SLOPE};
 use pc_records::Row;
 use pc_text::Code;

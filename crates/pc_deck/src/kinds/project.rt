@@ -1,9 +1,9 @@
 //! PROJECT: what the project is called, where it starts and ends, and when.
 ghost use Rattle.pc_deck.specs.Project.{project_slots, project_of};
 
-use crate::card::Card;
-use crate::field::{Misfit, read_amount, read_amount_or_none, read_code, read_date, read_title};
-use crate::form::{Form, Slot};
+use pc_cards::card::Card;
+use pc_cards::field::{Misfit, read_amount, read_amount_or_none, read_code, read_date, read_title};
+use pc_cards::form::{Form, Slot};
 use pc_days::Day;
 use pc_model::{MAX_DIRECTED, MAX_UNIT_DAYS};
 use pc_records::Row;

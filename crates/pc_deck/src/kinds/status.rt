@@ -1,10 +1,10 @@
 //! STATUS: when an activity was begun or ended.
 ghost use Rattle.pc_deck.specs.Status.{status_slots, status_of};
 
-use crate::card::Card;
 use crate::cards::Cards;
-use crate::field::{Misfit, read_code, read_date, read_letter};
-use crate::form::{Form, Slot};
+use pc_cards::card::Card;
+use pc_cards::field::{Misfit, read_code, read_date, read_letter};
+use pc_cards::form::{Form, Slot};
 use pc_days::Day;
 use pc_records::Row;
 use pc_text::Code;

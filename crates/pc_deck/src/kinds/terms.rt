@@ -1,10 +1,10 @@
 //! TERMS: what time costs.
 ghost use Rattle.pc_deck.specs.Terms.{terms_slots, terms_of};
 
-use crate::card::Card;
 use crate::cards::Cards;
-use crate::field::{Misfit, read_amount};
-use crate::form::{Form, Slot};
+use pc_cards::card::Card;
+use pc_cards::field::{Misfit, read_amount};
+use pc_cards::form::{Form, Slot};
 use pc_model::MAX_TERMS;
 use pc_records::Row;
 

@@ -5,15 +5,15 @@ use Rattle.pc_curve.proofs.breaks.first_break.Goals as goal
 
 pub returns-clause-next : goal.returns-clause-next
 returns-clause-next g c =
-    let priced = priced-there c.args.net.now c.args.solver.now c.requires.net c.net-net.ensures.priced in
+    let priced = priced-there c.net.result.now c.args.solver.now (sym c.net.ensures) c.net-net.ensures.priced in
     elim (cases_Bool c.next_segment.result) [
       | inl goes ↦
-          first-break c.args.solver.now c.next_segment.new.self c.break_at_upper.result priced c.requires.before c.next_segment.ensures.same
+          first-break c.args.solver.now c.next_segment.new.self c.break_at_upper.result priced c.requires c.next_segment.ensures.same
           (c.next_segment.ensures.next goes) (record {
             length = c.break_at_upper.ensures.length;
             cost = c.break_at_upper.ensures.cost;
             slope = c.break_at_upper.ensures.slope;
             flat = c.break_at_upper.ensures.flat;
           })
-      | inr stays ↦ (let no : true ≡ false = sym (c.next_segment.ensures.ended.0 stays).given ∙ c.requires.before in absurd (true≢false no))
+      | inr stays ↦ (let no : true ≡ false = sym (c.next_segment.ensures.ended.0 stays).given ∙ c.requires in absurd (true≢false no))
     ]

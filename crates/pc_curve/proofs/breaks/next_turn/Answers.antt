@@ -1,33 +1,33 @@
 use Rattle.std.proofs.Common.{◌≡◌, ◌≢◌, ◌<◌, ◌≤◌, ◌⊎◌, ◌∙◌, true≢false, inl, inr, sym, subst, arith}
 use Rattle.pc_flow.specs.Courses.{lower_of, present, HasEnded}
 use Rattle.pc_curve.specs.Points.{IsThere}
-use Rattle.pc_curve.proofs.LookLaws.{IsDown, down-stays, looks-none, looks-join}
-use Rattle.pc_curve.proofs.CurveLaws.{priced-there, IsOnTheWay, way-begins, way-there, way-ends, ends-place, way-lower, way-step, way-goes_on, way-turns}
+use Rattle.pc_flow.proofs.LookLaws.{further-joins, looks-none, looks-join}
+use Rattle.pc_curve.proofs.CurveLaws.{priced-there, IsOnTheWay, way-begins, way-there, way-ends, ends-place, way-lower, way-goes_on, way-turns}
 use Rattle.pc_curve.proofs.breaks.next_turn.Goals.{else-slope-via-then-slope+else-upper-last, else-slope-via-else-slope}
 use Rattle.pc_curve.proofs.breaks.next_turn.Goals as goal
 
 pub loop-solver-init : goal.loop-solver-init
 loop-solver-init g c =
     let from = c.args.solver.now in
-    let priced = priced-there c.args.net.now from c.requires.net c.net-net.ensures.priced in
+    let priced = priced-there c.net.result.now from (sym c.net.ensures) c.net-net.ensures.priced in
     record {
       way = way-begins from c.args.last priced c.requires.place (c.given-given.ensures.whole (c.given-given.ensures.given ∙ c.requires.place.given))
           c.given-given.ensures.range;
       slope = c.slope-slope.ensures;
-      counted = looks-none from c.args.steps.now;
+      counted = omega (arith, looks-none from);
     }
 
 pub returns-then-upper-last-clause-next : goal.returns-then-upper-last-clause-next
 returns-then-upper-last-clause-next g c =
     let from = c.args.solver.now in
-    let priced = priced-there c.args.net.now from c.requires.net c.net-net.ensures.priced in
+    let priced = priced-there c.net.result.now from (sym c.net.ensures) c.net-net.ensures.priced in
     let stop = c.loop-solver.solver in
     let next = c.next_segment.new.self in
     let going : HasEnded stop → ⊥ = λ ended. true≢false (sym c.loop-solver-test.true ∙ c.next_segment.ensures.ended.1 ended) in
     let differ : (present stop).slope ≢ (present next).slope =
     λ same. omega (arith, c.if-slope.true, c.slope.ensures, c.loop-solver.invariant.slope, same) in
     let below : (present next).upper < c.args.last = omega (arith, c.if-upper-last.true, c.upper.ensures) in
-    way-turns from c.args.last priced c.requires.place.within stop c.loop-solver.invariant.way next c.next_segment.ensures.same
+    way-turns from c.args.last priced c.requires.place.within stop c.loop-solver.invariant.way next c.next_segment.ensures.same c.next_segment.ensures.further
     (c.next_segment.ensures.next c.loop-solver-test.true) going c.break_at_upper.result differ below (record {
       length = c.break_at_upper.ensures.length;
       cost = c.break_at_upper.ensures.cost;
@@ -38,28 +38,31 @@ returns-then-upper-last-clause-next g c =
 pub returns-then-upper-last-clause-counted : goal.returns-then-upper-last-clause-counted
 returns-then-upper-last-clause-counted g c =
     let from = c.args.solver.now in
-    let priced = priced-there c.args.net.now from c.requires.net c.net-net.ensures.priced in
+    let priced = priced-there c.net.result.now from (sym c.net.ensures) c.net-net.ensures.priced in
     let stop = c.loop-solver.solver in
     let next = c.next_segment.new.self in
     let going : HasEnded stop → ⊥ = λ ended. true≢false (sym c.loop-solver-test.true ∙ c.next_segment.ensures.ended.1 ended) in
-    looks-join from stop next c.loop-solver.invariant.way.down
-    (way-step from c.args.last priced c.requires.place.within stop c.loop-solver.invariant.way next c.next_segment.ensures.same
-    (c.next_segment.ensures.next c.loop-solver-test.true) going) _ _ _ c.loop-solver.invariant.counted c.next_segment.ensures.counted
+    looks-join from stop next c.loop-solver.invariant.way.same c.loop-solver.invariant.way.further c.next_segment.ensures.further _ _ _
+    c.loop-solver.invariant.counted c.next_segment.ensures.counted
+
+pub returns-then-upper-last-clause-further : goal.returns-then-upper-last-clause-further
+returns-then-upper-last-clause-further g c =
+    further-joins c.args.solver.now c.loop-solver.solver c.next_segment.new.self c.loop-solver.invariant.way.further c.next_segment.ensures.further
 
 pub loop-solver-smaller : goal.loop-solver-smaller
 loop-solver-smaller g c =
     let from = c.args.solver.now in
-    let priced = priced-there c.args.net.now from c.requires.net c.net-net.ensures.priced in
+    let priced = priced-there c.net.result.now from (sym c.net.ensures) c.net-net.ensures.priced in
     let stop = c.loop-solver.solver in
     let next = c.next_segment.new.self in
     let going : HasEnded stop → ⊥ = λ ended. true≢false (sym c.loop-solver-test.true ∙ c.next_segment.ensures.ended.1 ended) in
-    way-lower from c.args.last priced c.requires.place.within stop c.loop-solver.invariant.way next c.next_segment.ensures.same
+    way-lower from c.args.last priced c.requires.place.within stop c.loop-solver.invariant.way next c.next_segment.ensures.same c.next_segment.ensures.further
     (c.next_segment.ensures.next c.loop-solver-test.true) going
 
 pub loop-solver-preserved : goal.loop-solver-preserved
 loop-solver-preserved g c =
     let from = c.args.solver.now in
-    let priced = priced-there c.args.net.now from c.requires.net c.net-net.ensures.priced in
+    let priced = priced-there c.net.result.now from (sym c.net.ensures) c.net-net.ensures.priced in
     let stop = c.loop-solver.solver in
     let next = c.next_segment.new.self in
     let way = c.loop-solver.invariant.way in
@@ -72,16 +75,16 @@ loop-solver-preserved g c =
       | else-slope-via-else-slope w ↦ inl (omega (arith, w.if-slope.false, c.slope.ensures, c.loop-solver.invariant.slope))
     ] in
     record {
-      way = way-goes_on from c.args.last priced within stop way next c.next_segment.ensures.same goes going even;
+      way = way-goes_on from c.args.last priced within stop way next c.next_segment.ensures.same c.next_segment.ensures.further goes going even;
       slope = c.slope-slope-in-loop-solver.ensures;
-      counted = looks-join from stop next way.down (way-step from c.args.last priced within stop way next c.next_segment.ensures.same goes going) _ _ _
-          c.loop-solver.invariant.counted c.next_segment.ensures.counted;
+      counted = looks-join from stop next way.same way.further c.next_segment.ensures.further _ _ _ c.loop-solver.invariant.counted
+          c.next_segment.ensures.counted;
     }
 
-pub break_at_lower-requires-clause-there : goal.break_at_lower-requires-clause-there
-break_at_lower-requires-clause-there g c =
+pub break_at_lower-requires : goal.break_at_lower-requires
+break_at_lower-requires g c =
     let from = c.args.solver.now in
-    let priced = priced-there c.args.net.now from c.requires.net c.net-net.ensures.priced in
+    let priced = priced-there c.net.result.now from (sym c.net.ensures) c.net-net.ensures.priced in
     let stop = c.loop-solver.solver in
     let stays : c.next_segment.new.self ≡ stop = c.next_segment.ensures.unchanged c.loop-solver-test.false in
     subst (λ d. IsThere d (lower_of d)) (sym stays) (way-there from c.args.last priced c.requires.place.within stop c.loop-solver.invariant.way)
@@ -89,7 +92,7 @@ break_at_lower-requires-clause-there g c =
 pub returns-clause-next : goal.returns-clause-next
 returns-clause-next g c =
     let from = c.args.solver.now in
-    let priced = priced-there c.args.net.now from c.requires.net c.net-net.ensures.priced in
+    let priced = priced-there c.net.result.now from (sym c.net.ensures) c.net-net.ensures.priced in
     let last = c.next_segment.new.self in
     let stays : last ≡ c.loop-solver.solver = c.next_segment.ensures.unchanged c.loop-solver-test.false in
     let way = subst (λ d. IsOnTheWay from c.args.last d) (sym stays) c.loop-solver.invariant.way in
@@ -103,7 +106,7 @@ returns-clause-next g c =
 pub returns-clause-place : goal.returns-clause-place
 returns-clause-place g c =
     let from = c.args.solver.now in
-    let priced = priced-there c.args.net.now from c.requires.net c.net-net.ensures.priced in
+    let priced = priced-there c.net.result.now from (sym c.net.ensures) c.net-net.ensures.priced in
     let last = c.next_segment.new.self in
     let stays : last ≡ c.loop-solver.solver = c.next_segment.ensures.unchanged c.loop-solver-test.false in
     let way = subst (λ d. IsOnTheWay from c.args.last d) (sym stays) c.loop-solver.invariant.way in
@@ -113,6 +116,9 @@ pub returns-clause-counted : goal.returns-clause-counted
 returns-clause-counted g c =
     let from = c.args.solver.now in
     let stop = c.loop-solver.solver in
-    let stays : c.next_segment.new.self ≡ stop = c.next_segment.ensures.unchanged c.loop-solver-test.false in
-    looks-join from stop c.next_segment.new.self c.loop-solver.invariant.way.down (subst (IsDown stop) (sym stays) (down-stays stop)) _ _ _
+    looks-join from stop c.next_segment.new.self c.loop-solver.invariant.way.same c.loop-solver.invariant.way.further c.next_segment.ensures.further _ _ _
     c.loop-solver.invariant.counted c.next_segment.ensures.counted
+
+pub returns-clause-further : goal.returns-clause-further
+returns-clause-further g c =
+    further-joins c.args.solver.now c.loop-solver.solver c.next_segment.new.self c.loop-solver.invariant.way.further c.next_segment.ensures.further

@@ -1,6 +1,6 @@
 use Rattle.std.proofs.Common.{◌≡◌, ◌+◌, length}
 use Rattle.pc_records.specs.Deck.{deck_records}
-use Rattle.pc_deck.specs.Cards.{deck_cards}
+use Rattle.pc_cards.specs.Cards.{deck_cards}
 use Rattle.pc_deck.specs.Reading.{read_from}
 use Rattle.pc_deck.specs.Within.{IsDraftWithin}
 use Rattle.pc_deck.proofs.read.take_all.Given as goal

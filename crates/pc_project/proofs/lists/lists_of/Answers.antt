@@ -16,7 +16,7 @@ returns-clause-places c =
 
 pub expected_times-requires-clause-unit : goal.expected_times-requires-clause-unit
 expected_times-requires-clause-unit c =
-    subst (λ (card : ProjectCard). card.unit_days ≤ MAX_UNIT_DAYS) (sym c.project.ensures) (project-within c.args.cards.now c.acts-acts.ensures.within).unit_within
+    subst (λ (card : ProjectCard). card.unit_days ≤ MAX_UNIT_DAYS) (sym c.project.ensures.card) (project-within c.args.cards.now c.acts-acts.ensures.within).unit_within
 
 pub expected_times-requires-clause-within : goal.expected_times-requires-clause-within
 expected_times-requires-clause-within c =
@@ -24,7 +24,7 @@ expected_times-requires-clause-within c =
 
 pub variances-requires-clause-unit : goal.variances-requires-clause-unit
 variances-requires-clause-unit c =
-    subst (λ (card : ProjectCard). card.unit_days ≤ MAX_UNIT_DAYS) (sym c.project.ensures) (project-within c.args.cards.now c.acts-acts.ensures.within).unit_within
+    subst (λ (card : ProjectCard). card.unit_days ≤ MAX_UNIT_DAYS) (sym c.project.ensures.card) (project-within c.args.cards.now c.acts-acts.ensures.within).unit_within
 
 pub variances-requires-clause-within : goal.variances-requires-clause-within
 variances-requires-clause-within c =

@@ -10,7 +10,7 @@ pub loop-a-preserved : goal.loop-a-preserved
 loop-a-preserved c =
     let start = c.args.cards.now.project.start_day in
     let statuses = c.args.log.now.statuses in
-    let state = rw c.project.ensures at c.state.ensures.state in
+    let state = rw c.project.ensures.card at c.state.ensures.state in
     subst (AreStatesOf start statuses (c.loop-a.a + 1)) (sym c.in_ok-push.ensures.items)
     (AreStatesOf-push start statuses c.loop-a.a c.loop-a.states.items c.state.result c.loop-a.invariant state c.state.ensures.small)
 

@@ -32,8 +32,8 @@ loop-k-preserved c =
     let there = get_or_read deck.statuses k c.card-item.result inside read no_status in
     let row : c.card-item.result.row ≡ slice_index (status_records deck) k = ap (λ (s : StatusCard). s.row) there ∙ sym (get_or-map (λ (s : StatusCard). s.row) deck.statuses k no_status 0 inside) in
     let reason = c.disorder-reason.result in
-    let told = rw (c.project.ensures, c.as_of-as_of.ensures) at c.disorder-reason.ensures.told in
-    let none = rw (c.project.ensures, c.as_of-as_of.ensures) at c.disorder-reason.ensures.none in
+    let told = rw (c.project.ensures.card, c.as_of-as_of.ensures) at c.disorder-reason.ensures.told in
+    let none = rw (c.project.ensures.card, c.as_of-as_of.ensures) at c.disorder-reason.ensures.none in
     let found = disorder-first deck k (slice_index (status_records deck) k) c.args.log.now.statuses reason c.requires told none in
     subst (IsFirstBelow (IsDisorderAt deck) (k + 1)) (sym c.earliest-fault.ensures)
     (first_with (IsDisorderAt deck) k c.loop-k.fault c.told.result c.loop-k.invariant

@@ -3,7 +3,7 @@ use Rattle.pc_page.specs.Page.{fresh}
 use Rattle.pc_reports.specs.Check.{check_text}
 use Rattle.pert_cli.specs.declared.forms.Form.TheVariants.{Check}
 use Rattle.pert_cli.specs.Handing.{IsReply}
-use Rattle.pert_cli.specs.Sides.{side}
+use Rattle.pc_reading.specs.Sides.{side}
 use Rattle.pert_cli.proofs.HandingLaws.{of_built}
 use Rattle.pert_cli.proofs.check.answer.Goals as goal
 

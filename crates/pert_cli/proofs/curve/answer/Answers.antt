@@ -1,4 +1,4 @@
-use Rattle.std.proofs.Common.{subst}
+use Rattle.std.proofs.Common.{◌∙◌, subst}
 use Rattle.pc_crash.specs.Priced.{PricedNetwork}
 use Rattle.pc_curve.specs.CurveText.{IsCurveText}
 use Rattle.pert_cli.proofs.curve.answer.Goals as goal
@@ -6,9 +6,9 @@ use Rattle.pert_cli.proofs.curve.answer.Goals as goal
 pub returns-in-Ok-write : goal.returns-in-Ok-write
 returns-in-Ok-write g c =
     let (text, right, written) = c.in-Ok-write.ensures in
-    (text, record { right = subst (λ (net : PricedNetwork). IsCurveText net text) c.in-Ok.ensures.net right; fits = λ fault denied. denied }, written.ok)
+    (text, record { right = subst (λ (net : PricedNetwork). IsCurveText net text) (c.begin-solver.ensures.net ∙ c.in-Ok.ensures.net) right; fits = λ fault denied. denied }, written.ok)
 
 pub returns : goal.returns
 returns g c =
     let (text, right, written) = c.in-Err.ensures in
-    (text, record { right = subst (λ (net : PricedNetwork). IsCurveText net text) c.in-Ok.ensures.net right; fits = λ fault denied. denied }, written.err)
+    (text, record { right = subst (λ (net : PricedNetwork). IsCurveText net text) (c.begin-solver.ensures.net ∙ c.in-Ok.ensures.net) right; fits = λ fault denied. denied }, written.err)

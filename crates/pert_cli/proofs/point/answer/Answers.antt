@@ -1,9 +1,10 @@
 use Rattle.std.proofs.Common.{◌≡◌, ℕ, List, refl, subst}
 use Rattle.pc_faults.specs.declared.fault.Fault.{Fault}
 use Rattle.pert_cli.specs.declared.forms.Form.TheVariants.{Point}
-use Rattle.pert_cli.specs.Handing.{IsReply, Refusal, answers, denies}
+use Rattle.pc_reading.specs.Refusing.{Refusal}
+use Rattle.pert_cli.specs.Handing.{IsReply, answers, denies}
 use Rattle.pert_cli.specs.Normal.{printed_text}
-use Rattle.pert_cli.specs.Sides.{side}
+use Rattle.pc_reading.specs.Sides.{side}
 use Rattle.pert_cli.proofs.HandingLaws.{Answers-weaker}
 use Rattle.pert_cli.proofs.PointLaws.{point_reply}
 use Rattle.pert_cli.proofs.point.answer.Goals as goal

@@ -1,8 +1,8 @@
 use Rattle.std.proofs.Common.{refl, sym, subst, ◌∙◌}
 use Rattle.pc_faults.specs.declared.fault.Fault.{Fault}
 use Rattle.pc_faults.specs.FaultText.{IsTold}
-use Rattle.pert_cli.specs.Handing.{Refusal}
-use Rattle.pert_cli.specs.Sides.{side, Took, TookFront}
+use Rattle.pc_reading.specs.Refusing.{Refusal}
+use Rattle.pc_reading.specs.Sides.{side, Took, TookFront}
 use Rattle.pert_cli.specs.Outcome.{usage, no_memory, read_fault, write_fault, in_usage}
 use Rattle.pert_cli.proofs.OutcomeLaws.{after_refusal, after_reply}
 use Rattle.pert_cli.proofs.top.outcome.Goals as goal

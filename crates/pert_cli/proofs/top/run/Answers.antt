@@ -1,6 +1,6 @@
 use Rattle.pert_cli.proofs.CertifyLaws.{takes_whole_curve}
 use Rattle.pert_cli.proofs.DecidedLaws.{accepted_ends, ended_asked, five_is_cut, four_is_read, one_is_read, own_accepted_ends, own_refused_ends, own_unread, refused_ends}
-use Rattle.pert_cli.proofs.VerdictLaws.{not_both}
+use Rattle.pc_reading.proofs.VerdictLaws.{not_both}
 use Rattle.pert_cli.proofs.top.run.Goals as goal
 
 pub returns-clause-deck_accepted : goal.returns-clause-deck_accepted

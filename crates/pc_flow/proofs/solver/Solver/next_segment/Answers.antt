@@ -1,7 +1,7 @@
 use Rattle.std.proofs.Common.{◌≡◌, true, false, refl, arith}
 use Rattle.pc_flow.specs.Solvers.{course_of}
-use Rattle.pc_flow.proofs.CourseLaws.{falls, cost-lower}
-use Rattle.pc_flow.proofs.NextLaws.{not_ended, between-mid, listed-mid, on_course-after, next-after, same-after, slope-fits, counted-after}
+use Rattle.pc_flow.proofs.CourseLaws.{falls, slope-most, cost-lower}
+use Rattle.pc_flow.proofs.NextLaws.{not_ended, between-mid, listed-mid, on_course-after, next-after, same-after, further-after, slope-fits, counted-after}
 use Rattle.pc_flow.proofs.solver.Solver.next_segment.Goals as goal
 
 pub returns-then-has_ended-clause-ended : goal.returns-then-has_ended-clause-ended
@@ -70,3 +70,22 @@ returns-clause-counted g c =
     let counted = rw c.descend.ensures.net at c.search_on-labelling.ensures.counted in
     rw (← c.self.view_is, c.search_on-labelling.ensures.net, c.descend.ensures.net)
     (counted-after (course_of c.self.inside) c.self.invariant.on_course c.descend.new.search.board c.descend.ensures.descended c.search_on-labelling.new.search.board _ _ searched going _ _ counted)
+
+pub returns-clause-further : goal.returns-clause-further
+returns-clause-further g c =
+    let searched = rw c.descend.ensures.net at c.search_on-labelling.ensures.searched in
+    let decides = rw (← c.self.view_is) at c.has_ended.ensures in
+    let going = not_ended _ (course_of c.self.inside) decides c.if-has_ended.false in
+    rw (← c.self.view_is, c.search_on-labelling.ensures.net, c.descend.ensures.net)
+    (further-after (course_of c.self.inside) c.self.invariant.on_course c.descend.new.search.board c.descend.ensures.descended c.search_on-labelling.new.search.board _ _ searched going)
+
+pub returns-then-has_ended-clause-gentle : goal.returns-then-has_ended-clause-gentle
+returns-then-has_ended-clause-gentle g c = rw (← c.self.view_is) (slope-most _ c.self.invariant.on_course)
+
+pub returns-clause-gentle : goal.returns-clause-gentle
+returns-clause-gentle g c =
+    let searched = rw c.descend.ensures.net at c.search_on-labelling.ensures.searched in
+    let decides = rw (← c.self.view_is) at c.has_ended.ensures in
+    let going = not_ended _ (course_of c.self.inside) decides c.if-has_ended.false in
+    rw (c.search_on-labelling.ensures.net, c.descend.ensures.net)
+    (slope-most _ (on_course-after (course_of c.self.inside) c.self.invariant.on_course c.descend.new.search.board c.descend.ensures.descended c.search_on-labelling.new.search.board _ _ searched going))

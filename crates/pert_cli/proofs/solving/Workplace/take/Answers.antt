@@ -1,4 +1,4 @@
-use Rattle.pert_cli.proofs.CheckLaws.{priced_is}
+use Rattle.pc_reading.proofs.PricedLaws.{priced_is}
 use Rattle.pert_cli.proofs.solving.Workplace.take.Goals as goal
 
 pub returns-clause-net : goal.returns-clause-net

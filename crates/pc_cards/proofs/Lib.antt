@@ -1,0 +1,4 @@
+pub mod FindLemmas
+pub mod MisfitLemmas
+pub mod NameLemmas
+pub mod FitLemmas

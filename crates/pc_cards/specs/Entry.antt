@@ -1,0 +1,49 @@
+-- What a kind of cards is: all that is asked of its cards, and what they say. Each kind's own file gives its entry, over the
+-- lists in which a deck has its cards.
+use Rattle.std.specs.Prelude.{ℕ, Bool, ◌==◌, List, [], Option, Some, None, if◌then◌else◌}
+use Rattle.pc_cards.specs.Forms.{Slot}
+use Rattle.pc_cards.specs.Named.{HeldBy}
+
+-- how many cards of a kind a deck may have: as many as there are, up to a number, or up to a number that is greater in
+-- decks of version 2
+pub data Limit : Type 0 where
+  unlimited : Limit
+  up_to : ℕ → Limit
+  growing : ℕ → ℕ → Limit
+
+-- a limit that is greater in decks of version 2
+abbrev pub by_version : ℕ → ℕ → ℕ → ℕ
+by_version version small large = if version == 2 then large else small
+
+-- the number, in a deck of a version, where there is one
+abbrev pub limit_at : ℕ → Limit → Option ℕ
+limit_at version unlimited = None
+limit_at version (up_to most) = Some most
+limit_at version (growing small large) = Some (by_version version small large)
+
+-- no code of its own
+abbrev pub no_code : {C : Type 0} → C → List ℕ
+no_code card = []
+
+-- a kind of cards
+pub record Entry (Lists : Type 0) : Type 1 where
+  -- a card as plain data
+  pub Card : Type 0
+  -- the card that a record spells, of the record's number and its fields
+  pub spelled : ℕ → List (List ℕ) → Card
+  -- what the fields must be, behind the kind itself
+  pub slots : List Slot
+  -- how many fields a card must have, the kind itself among them
+  pub least : ℕ
+  -- how many fields it may have
+  pub most : ℕ
+  -- whether a second card is a fault of its own
+  pub once : Bool
+  -- the cards that a deck has of the kind: one or none where it stands once, or else a list
+  pub held : Lists → HeldBy once Card
+  -- how many cards a deck may have
+  pub limit : Limit
+  -- whether the cards have codes of their own, no two of them the same
+  pub is_coded : Bool
+  -- that code
+  pub code : Card → List ℕ

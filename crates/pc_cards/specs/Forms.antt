@@ -1,0 +1,130 @@
+-- What one field of a card must be.
+use Rattle.std.specs.Prelude.{◌≡◌, ℕ, ℤ, pos, ◌-◌, Bool, true, false, not, ◌||◌, nat_lt, List, [], ◌∷◌, length, drop, Option, Some, None, is_some, unwrap_or, Result, Ok, Err, find, bytes_eq, codes, nat_le, ◌&&◌, ◌⊎◌, ◌==◌, if◌then◌else◌}
+use Rattle.pc_records.specs.Deck.{field_at, is_blank, is_empty}
+use Rattle.pc_text.specs.Code.{is_code}
+use Rattle.pc_text.specs.Title.{is_title_shape}
+use Rattle.pc_text.specs.Number.{number_of}
+use Rattle.pc_days.specs.Dates.{day_of}
+use Rattle.pc_days.specs.declared.error.DayError.{DayError}
+use Rattle.pc_days.specs.declared.error.DayError.TheVariants.{Shape, Years}
+use Rattle.pc_model.specs.declared.limits.TheConstants.{MAX_COST, MAX_DURATION}
+use Rattle.pc_cards.specs.declared.field.Flaw.{Flaw}
+use Rattle.pc_cards.specs.declared.field.Flaw.TheVariants as flaw
+use Rattle.pc_cards.specs.declared.field.Misfit.{Misfit}
+use Rattle.pc_cards.specs.declared.form.Form.{Form}
+use Rattle.pc_cards.specs.declared.form.Form.TheVariants as form
+
+-- the number of a field, the kind being field 1, and what the field must be
+abbrev pub Slot : Type 0
+Slot = ℕ × Form
+
+-- an estimate or a duration, in units
+abbrev pub duration : Form
+duration = form.Number 0 MAX_DURATION
+
+-- an amount of money
+abbrev pub money : Form
+money = form.Number 0 MAX_COST
+
+-- whether reading a date gave an error
+abbrev pub is_misshapen : {A : Type 0} → Result A DayError → Bool
+is_misshapen (Ok day) = false
+is_misshapen (Err Shape) = true
+is_misshapen (Err Years) = false
+
+abbrev pub is_of_other_years : {A : Type 0} → Result A DayError → Bool
+is_of_other_years (Ok day) = false
+is_of_other_years (Err Shape) = false
+is_of_other_years (Err Years) = true
+
+-- the field has the shape of what it must be: a code, a title, a date of the calendar, a number, or `S` or `F`
+abbrev pub has_shape : Form → List ℕ → Bool
+has_shape form.Code field = is_code field
+has_shape form.CodeOrNone field = is_empty field || is_code field
+has_shape form.Title field = is_title_shape field
+has_shape form.Date field = not (is_misshapen (day_of field))
+has_shape (form.Number least most) field = is_some (number_of field)
+has_shape (form.NumberOrNone least most) field = is_empty field || is_some (number_of field)
+has_shape form.Letter field = bytes_eq field (codes "S") || bytes_eq field (codes "F")
+
+-- a number that was read is outside its limits
+abbrev pub is_outside : ℕ → ℕ → Option ℕ → Bool
+is_outside least most None = false
+is_outside least most (Some number) = nat_lt number least || nat_lt most number
+
+-- the field is over its limit: a title of more than 80 bytes, a date outside 1900 to 2199, a number outside its limits
+abbrev pub is_over_limit : Form → List ℕ → Bool
+is_over_limit form.Code field = false
+is_over_limit form.CodeOrNone field = false
+is_over_limit form.Title field = nat_lt 80 (length field)
+is_over_limit form.Date field = is_of_other_years (day_of field)
+is_over_limit (form.Number least most) field = is_outside least most (number_of field)
+is_over_limit (form.NumberOrNone least most) field = is_outside least most (number_of field)
+is_over_limit form.Letter field = false
+
+-- whether it is the shape that is wrong
+abbrev pub is_of_shape : Flaw → Bool
+is_of_shape flaw.Shape = true
+is_of_shape flaw.Limit = false
+
+-- what is wrong with a field that must be this, if anything is
+abbrev pub flaw_of : Form → List ℕ → Option Flaw
+flaw_of form field = if has_shape form field then (if is_over_limit form field then Some flaw.Limit else None) else Some flaw.Shape
+
+-- this is what is wrong with the field that has the number and must be this
+abbrev pub IsMisfit : ℕ → Form → List ℕ → Misfit → Type 0
+IsMisfit number form field misfit = (number ≡ misfit.number) × (flaw_of form field ≡ Some misfit.flaw)
+
+-- the field with a number, counted from 1
+abbrev pub field_numbered : List (List ℕ) → ℕ → List ℕ
+field_numbered fields number = field_at fields (number - 1)
+
+-- the field is what it must be
+abbrev pub Fits : Form → List ℕ → Type 0
+Fits form field = (has_shape form field ≡ true) × (is_over_limit form field ≡ false)
+
+-- each of the fields is what it must be
+abbrev pub AllFit : List Slot → List (List ℕ) → Type 0
+AllFit [] fields = Unit {0}
+AllFit (slot ∷ slots) fields = Fits slot.1 (field_numbered fields slot.0) × AllFit slots fields
+
+-- this is the first of the fields that is not what it must be
+abbrev pub IsFirstMisfit : List Slot → List (List ℕ) → Misfit → Type 0
+IsFirstMisfit [] fields misfit = ⊥
+IsFirstMisfit (slot ∷ slots) fields misfit =
+    IsMisfit slot.0 slot.1 (field_numbered fields slot.0) misfit
+    ⊎ (Fits slot.1 (field_numbered fields slot.0) × IsFirstMisfit slots fields misfit)
+
+-- the record has enough fields, and those past the most that it may have are empty
+abbrev pub is_whole : ℕ → ℕ → List (List ℕ) → Bool
+is_whole least most fields = nat_le least (length fields) && is_blank (drop most fields)
+
+-- the first field that has not the shape of what it must be
+abbrev pub first_misshapen : List Slot → List (List ℕ) → Option Slot
+first_misshapen slots fields = find (λ slot. not (has_shape slot.1 (field_numbered fields slot.0))) slots
+
+-- the first field that is over its limit
+abbrev pub first_over_limit : List Slot → List (List ℕ) → Option Slot
+first_over_limit slots fields = find (λ slot. is_over_limit slot.1 (field_numbered fields slot.0)) slots
+
+-- the slots behind the first with a number
+abbrev pub slots_behind : ℕ → List Slot → List Slot
+slots_behind number [] = []
+slots_behind number (slot ∷ slots) = if slot.0 == number then slots else slots_behind number slots
+
+-- the number that a field spells
+abbrev pub number_in : List ℕ → ℕ
+number_in field = unwrap_or (number_of field) 0
+
+-- the day that was read
+abbrev pub day_read : Result ℤ DayError → ℤ
+day_read (Ok day) = day
+day_read (Err error) = pos 0
+
+-- the day whose date a field is
+abbrev pub day_in : List ℕ → ℤ
+day_in field = day_read (day_of field)
+
+-- the letter F
+abbrev pub is_finish : List ℕ → Bool
+is_finish field = bytes_eq field (codes "F")

@@ -1,0 +1,6 @@
+pub mod Limits
+pub mod Forms
+pub mod Named
+pub mod Entry
+pub mod Cards
+pub mod Findings

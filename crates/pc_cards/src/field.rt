@@ -1,0 +1,167 @@
+//! Reading one field of a card: its value, or what is wrong with it. Each form is read here and nowhere else.
+ghost use Rattle.std.specs.Prelude.{◌≡◌, IfOk, OnOk, IfErr};
+ghost use Rattle.pc_text.specs.Code.{code_of};
+ghost use Rattle.pc_text.specs.Number.{number_of};
+ghost use Rattle.pc_cards.specs.Forms.{Fits, IsMisfit, field_numbered, number_in, day_in, is_finish, is_of_shape};
+ghost use Rattle.pc_cards.specs.declared.field.Flaw.TheVariants as flaw;
+ghost use Rattle.pc_cards.specs.declared.form.Form.TheVariants as form;
+
+use pc_days::{Day, DayError, read_day};
+use pc_records::Row;
+use pc_text::{Code, Title, is_title_shape, read_number};
+
+/// What is wrong with a field.
+#[derive(Clone, Copy, Debug, PartialEq, Eq)]
+pub enum Flaw {
+    /// It has not the shape of what it must be.
+    Shape,
+    /// It has that shape, and is over its limit.
+    Limit,
+}
+
+impl Flaw {
+    /// Whether it is the shape that is wrong.
+    pub fn is_of_shape(self) -> bool
+        ensures { result ≡ is_of_shape self }
+    {
+        match self {
+            Flaw::Shape => true,
+            Flaw::Limit => false,
+        }
+    }
+}
+
+/// A field that is not what it must be: its number, the kind being field 1, and what is wrong with it.
+#[derive(Clone, Copy, Debug, PartialEq, Eq)]
+pub struct Misfit {
+    pub number: u8,
+    pub flaw: Flaw,
+}
+
+/// The field with a number, counted from 1; an empty one past the last.
+fn field_numbered(fields: &Row, number: u8) -> &[u8]
+    ensures { result.now ≡ field_numbered fields.now number }
+{
+    fields.field(usize::from(number).saturating_sub(1))
+}
+
+/// The code that a field is.
+pub fn read_code(fields: &Row, number: u8) -> Result<Code, Misfit>
+    ensures value { IfOk result (λ code. code ≡ field_numbered fields.now number) }
+    ensures fit { OnOk result (Fits form.Code (field_numbered fields.now number)) }
+    ensures misfit { IfErr result (IsMisfit number form.Code (field_numbered fields.now number)) }
+{
+    match Code::read(field_numbered(fields, number)) {
+        Some(code) => Ok(code),
+        None => Err(misshapen(number)),
+    }
+}
+
+/// The code that a field is, or none where it is empty.
+pub fn read_code_or_none(fields: &Row, number: u8) -> Result<Option<Code>, Misfit>
+    ensures value { IfOk result (λ code. code ≡ code_of (field_numbered fields.now number)) }
+    ensures fit { OnOk result (Fits form.CodeOrNone (field_numbered fields.now number)) }
+    ensures misfit { IfErr result (IsMisfit number form.CodeOrNone (field_numbered fields.now number)) }
+{
+    let field = field_numbered(fields, number);
+    match Code::read(field) {
+        Some(code) => Ok(Some(code)),
+        None if field.is_empty() => Ok(None),
+        None => Err(misshapen(number)),
+    }
+}
+
+/// The title that a field is.
+pub fn read_title(fields: &Row, number: u8) -> Result<Title, Misfit>
+    ensures value { IfOk result (λ title. title ≡ field_numbered fields.now number) }
+    ensures fit { OnOk result (Fits form.Title (field_numbered fields.now number)) }
+    ensures misfit { IfErr result (IsMisfit number form.Title (field_numbered fields.now number)) }
+{
+    let field = field_numbered(fields, number);
+    match Title::read(field) {
+        Some(title) => Ok(title),
+        None if is_title_shape(field) => Err(over_limit(number)),
+        None => Err(misshapen(number)),
+    }
+}
+
+/// The day whose date a field is.
+pub fn read_date(fields: &Row, number: u8) -> Result<Day, Misfit>
+    ensures value { IfOk result (λ day. day ≡ day_in (field_numbered fields.now number)) }
+    ensures fit { OnOk result (Fits form.Date (field_numbered fields.now number)) }
+    ensures misfit { IfErr result (IsMisfit number form.Date (field_numbered fields.now number)) }
+{
+    match read_day(field_numbered(fields, number)) {
+        Ok(day) => Ok(day),
+        Err(DayError::Shape) => Err(misshapen(number)),
+        Err(DayError::Years) => Err(over_limit(number)),
+    }
+}
+
+/// The number that a field is, from `least` to `most`. Inlined, since most cards have several of them.
+#[inline(always)]
+pub fn read_amount(fields: &Row, number: u8, least: u64, most: u64) -> Result<u64, Misfit>
+    ensures value { IfOk result (λ amount. amount ≡ number_in (field_numbered fields.now number)) }
+    ensures fit { OnOk result (Fits (form.Number least most) (field_numbered fields.now number)) }
+    ensures misfit { IfErr result (IsMisfit number (form.Number least most) (field_numbered fields.now number)) }
+{
+    match read_number(field_numbered(fields, number)) {
+        Some(amount) if least <= amount && amount <= most => Ok(amount),
+        Some(_) => Err(over_limit(number)),
+        None => Err(misshapen(number)),
+    }
+}
+
+/// The number that a field is, from `least` to `most`, or none where it is empty.
+pub fn read_amount_or_none(
+    fields: &Row,
+    number: u8,
+    least: u64,
+    most: u64,
+) -> Result<Option<u64>, Misfit>
+    ensures value { IfOk result (λ amount. amount ≡ number_of (field_numbered fields.now number)) }
+    ensures fit { OnOk result (Fits (form.NumberOrNone least most) (field_numbered fields.now number)) }
+    ensures misfit { IfErr result (IsMisfit number (form.NumberOrNone least most) (field_numbered fields.now number)) }
+{
+    let field = field_numbered(fields, number);
+    match read_number(field) {
+        Some(amount) if least <= amount && amount <= most => Ok(Some(amount)),
+        Some(_) => Err(over_limit(number)),
+        None if field.is_empty() => Ok(None),
+        None => Err(misshapen(number)),
+    }
+}
+
+/// Whether a field is `F`, where it must be `S` or `F`.
+pub fn read_letter(fields: &Row, number: u8) -> Result<bool, Misfit>
+    ensures value { IfOk result (λ finished. finished ≡ is_finish (field_numbered fields.now number)) }
+    ensures fit { OnOk result (Fits form.Letter (field_numbered fields.now number)) }
+    ensures misfit { IfErr result (IsMisfit number form.Letter (field_numbered fields.now number)) }
+{
+    let field = field_numbered(fields, number);
+    if field == b"F".as_slice() {
+        Ok(true)
+    } else if field == b"S".as_slice() {
+        Ok(false)
+    } else {
+        Err(misshapen(number))
+    }
+}
+
+fn misshapen(number: u8) -> Misfit
+    ensures { result ≡ record { number = number; flaw = flaw.Shape } }
+{
+    Misfit {
+        number,
+        flaw: Flaw::Shape,
+    }
+}
+
+fn over_limit(number: u8) -> Misfit
+    ensures { result ≡ record { number = number; flaw = flaw.Limit } }
+{
+    Misfit {
+        number,
+        flaw: Flaw::Limit,
+    }
+}

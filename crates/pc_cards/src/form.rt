@@ -1,0 +1,89 @@
+//! What one field of a card must be, and what is wrong with fields that are not.
+ghost use Rattle.std.specs.Prelude.{◌≡◌, not, option_copied, IfSome, IfNone};
+ghost use Rattle.pc_cards.specs.Forms.{Fits, IsMisfit, field_numbered, first_misshapen, has_shape, slots_behind};
+
+use crate::field::{
+    Misfit, read_amount, read_amount_or_none, read_code, read_code_or_none, read_date, read_letter,
+    read_title,
+};
+use pc_model::{MAX_COST, MAX_DURATION};
+use pc_records::Row;
+
+/// An estimate or a duration, in units.
+pub const DURATION: Form = Form::Number {
+    least: 0,
+    most: MAX_DURATION,
+};
+
+/// An amount of money.
+pub const MONEY: Form = Form::Number {
+    least: 0,
+    most: MAX_COST,
+};
+
+/// What a field must be.
+#[derive(Clone, Copy)]
+pub enum Form {
+    Code,
+    CodeOrNone,
+    Title,
+    Date,
+    /// A number from `least` to `most`.
+    Number { least: u64, most: u64 },
+    /// A number from `least` to `most`, or nothing.
+    NumberOrNone { least: u64, most: u64 },
+    /// `S` or `F`.
+    Letter,
+}
+
+/// The number of a field, the kind being field 1, and what the field must be.
+pub type Slot = (u8, Form);
+
+/// What is wrong with the field of a slot, if anything is.
+fn misfit_of(slot: &Slot, fields: &Row) -> Option<Misfit>
+    ensures misfit { IfSome result (IsMisfit slot.now.0 slot.now.1 (field_numbered fields.now slot.now.0)) }
+    ensures fit { IfNone result (Fits slot.now.1 (field_numbered fields.now slot.now.0)) }
+{
+    let number = slot.0;
+    match slot.1 {
+        Form::Code => read_code(fields, number).err(),
+        Form::CodeOrNone => read_code_or_none(fields, number).err(),
+        Form::Title => read_title(fields, number).err(),
+        Form::Date => read_date(fields, number).err(),
+        Form::Number { least, most } => read_amount(fields, number, least, most).err(),
+        Form::NumberOrNone { least, most } => {
+            read_amount_or_none(fields, number, least, most).err()
+        }
+        Form::Letter => read_letter(fields, number).err(),
+    }
+}
+
+/// Whether the field of a slot has not the shape of what it must be.
+#[tactic(auto, using(crate::proofs::MisfitLemmas::shape_told))]
+fn is_misshapen(slot: &Slot, fields: &Row) -> bool
+    ensures { result ≡ not (has_shape slot.now.1 (field_numbered fields.now slot.now.0)) }
+{
+    match misfit_of(slot, fields) {
+        Some(misfit) => misfit.flaw.is_of_shape(),
+        None => false,
+    }
+}
+
+/// The first field that has not the shape of what it must be.
+pub fn first_misshapen<'s>(slots: &'s [Slot], fields: &Row) -> Option<&'s Slot>
+    ensures { option_copied result ≡ first_misshapen slots.now fields.now }
+{
+    slots.iter().find(|slot| is_misshapen(*slot, fields))
+}
+
+/// The slots behind the first with a number.
+pub fn slots_behind(number: u8, slots: &[Slot]) -> &[Slot]
+    ensures { result.now ≡ slots_behind number slots.now }
+{
+    for (i, slot) in slots.iter().enumerate() {
+        if slot.0 == number {
+            return &slots[i + 1..];
+        }
+    }
+    &[]
+}

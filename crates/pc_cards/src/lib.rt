@@ -1,0 +1,13 @@
+//! The cards of a deck of any sort: how a field is read, and what it must be; what a kind of cards is; where a card stands, and
+//! what is wrong with it; the cards of one kind; and the cards among the records of a deck.
+//!
+//! Nothing here knows which kinds a deck has. So decks of another sort are read by the same parts.
+#![tactic(auto)]
+
+pub mod card;
+pub mod field;
+pub mod form;
+pub mod lists;
+pub mod place;
+pub mod reading;
+pub mod rows;

@@ -1,0 +1,225 @@
+//! The cards of one kind: a single one, several, or several that other cards name by their codes.
+//!
+//! Each takes the next card of its kind, or answers the fault of that card. After a fault the list is of no more use.
+ghost use Rattle.std.specs.Prelude.{◌≡◌, [], ◌∷◌, ◌++◌, None, Some, true, not, nat_eq, length, map, position, IfOk, OnOk, IfErr};
+ghost use Rattle.std.specs.Cmp.Lexicographic.{pointwise};
+ghost use Rattle.pc_faults.specs.First.{Refuses};
+ghost use Rattle.pc_cards.specs.Findings.{fault_of_listed, fault_of_named, not_alone, or_else};
+ghost use Rattle.pc_cards.specs.Named.{count_once, has_code};
+
+use crate::card::{Card, Coded};
+use crate::place::Place;
+use crate::reading::read_card;
+use indexmap::IndexSet;
+use pc_faults::{DeckError, Fault};
+use pc_records::Row;
+use pc_text::Code;
+use std::alloc::{AllocError, Global};
+use std::marker::Model;
+
+/// The card of a kind that stands once, where it was read.
+#[derive(Drop)]
+pub struct Once<C: Card> {
+    card: Option<C>,
+}
+
+impl<C: Card> Model for Once<C> {
+    ghost use Rattle.std.specs.Prelude.{Option};
+
+    ghost Value = { Option C };
+
+    ghost view = { λ once. once.card };
+}
+
+impl<C: Card> Once<C> {
+    /// No card.
+    pub fn new() -> Self
+        ensures { result ≡ None }
+    {
+        Once { card: None }
+    }
+
+    /// Takes the card that a record spells, or answers its fault.
+    pub fn take(&mut self, place: &Place, fields: &Row) -> Result<(), DeckError>
+        ensures kept { OnOk result (self.new ≡ Some (C.spelled place.now.row fields.now)) }
+        ensures sound { OnOk result (or_else (not_alone place.now (count_once self.old)) (fault_of_listed place.now (count_once self.old) C.least C.most C.slots fields.now) ≡ None) }
+        ensures fault { IfErr result (Refuses (λ fault. or_else (not_alone place.now (count_once self.old)) (fault_of_listed place.now (count_once self.old) C.least C.most C.slots fields.now) ≡ Some fault)) }
+    {
+        let before = self.count();
+        if let Some(fault) = place.second(before) {
+            return Err(DeckError::Fault(fault));
+        }
+        let card = match read_card(place, fields) {
+            Ok(card) => card,
+            Err(fault) => return Err(DeckError::Fault(fault)),
+        };
+        if let Some(fault) = place.fault(before) {
+            return Err(DeckError::Fault(fault));
+        }
+        self.card = Some(card);
+        Ok(())
+    }
+
+    /// How many cards there are.
+    fn count(&self) -> usize
+        ensures { result ≡ count_once self.now }
+    {
+        match self.card {
+            Some(_) => 1,
+            None => 0,
+        }
+    }
+
+    /// The card.
+    pub fn get(&self) -> Option<C>
+        ensures { result ≡ self.now }
+    {
+        self.card
+    }
+}
+
+/// Cards of one kind in card order.
+#[derive(Drop)]
+pub struct Listed<C: Card> {
+    cards: Vec<C>,
+}
+
+impl<C: Card> Model for Listed<C> {
+    ghost use Rattle.std.specs.Prelude.{List};
+
+    ghost Value = { List C };
+
+    ghost view = { λ listed. listed.cards.items };
+}
+
+impl<C: Card> Listed<C> {
+    /// No cards.
+    pub fn new(alloc: Global) -> Self
+        ensures { result ≡ [] }
+    {
+        Listed {
+            cards: Vec::new(alloc),
+        }
+    }
+
+    /// Takes the card that a record spells, or answers its fault.
+    pub fn take(&mut self, place: &Place, fields: &Row) -> Result<(), DeckError>
+        ensures kept { OnOk result (self.new ≡ self.old ++ C.spelled place.now.row fields.now ∷ []) }
+        ensures sound { OnOk result (fault_of_listed place.now (length self.old) C.least C.most C.slots fields.now ≡ None) }
+        ensures fault { IfErr result (Refuses (λ fault. fault_of_listed place.now (length self.old) C.least C.most C.slots fields.now ≡ Some fault)) }
+    {
+        let card = match read_card(place, fields) {
+            Ok(card) => card,
+            Err(fault) => return Err(DeckError::Fault(fault)),
+        };
+        let before = self.count();
+        if let Some(fault) = place.fault(before) {
+            return Err(DeckError::Fault(fault));
+        }
+        if self.cards.push(card).is_err() {
+            return Err(DeckError::OutOfMemory);
+        }
+        Ok(())
+    }
+
+    /// How many cards there are.
+    fn count(&self) -> usize
+        ensures { result ≡ length self.now }
+    {
+        self.cards.len()
+    }
+
+    /// The cards.
+    pub fn as_slice(&self) -> &[C]
+        ensures { result.now ≡ self.now }
+    {
+        self.cards.as_slice()
+    }
+}
+
+/// Cards of one kind in card order, no two of them with one code.
+///
+/// The names are the codes of the cards in the same order, so that the place of a code among them is the card's.
+#[derive(Drop)]
+pub struct Named<C: Coded> {
+    cards: Vec<C>,
+    names: IndexSet<Code>,
+}
+
+impl<C: Coded> Model for Named<C> {
+    ghost use Rattle.std.specs.Prelude.{◌≡◌, List, map};
+
+    ghost Value = { List C };
+
+    ghost view = { λ named. named.cards.items };
+
+    ghost invariant = { λ named. named.names.keys ≡ map C.own_code named.cards.items };
+}
+
+impl<C: Coded> Named<C> {
+    /// No cards.
+    pub fn new(alloc: Global) -> Self
+        ensures { result ≡ [] }
+    {
+        Named {
+            cards: Vec::new(alloc),
+            names: IndexSet::new(alloc),
+        }
+    }
+
+    /// Takes the card that a record spells, or answers its fault.
+    pub fn take(&mut self, place: &Place, fields: &Row) -> Result<(), DeckError>
+        ensures kept { OnOk result (self.new ≡ self.old ++ C.spelled place.now.row fields.now ∷ []) }
+        ensures sound { OnOk result (fault_of_named place.now (map C.own_code self.old) (length self.old) C.least C.most C.slots fields.now ≡ None) }
+        ensures fault { IfErr result (Refuses (λ fault. fault_of_named place.now (map C.own_code self.old) (length self.old) C.least C.most C.slots fields.now ≡ Some fault)) }
+    {
+        let card = match read_card(place, fields) {
+            Ok(card) => card,
+            Err(fault) => return Err(DeckError::Fault(fault)),
+        };
+        let before = self.count();
+        if !self.add(card)? {
+            return Err(DeckError::Fault(Fault::repeated_code(place.row, *card.code())));
+        }
+        match place.fault(before) {
+            Some(fault) => Err(DeckError::Fault(fault)),
+            None => Ok(()),
+        }
+    }
+
+    /// Adds the card, and says whether its code is a new one.
+    fn add(&mut self, card: C) -> Result<bool, AllocError>
+        ensures added { IfOk result (λ is_new. is_new ≡ not (has_code C.own_code self.old (C.own_code card))) }
+        ensures kept { IfOk result (λ is_new. is_new ≡ true → self.new ≡ self.old ++ card ∷ []) }
+    {
+        self.cards.reserve(1)?;
+        let Ok((_, is_new)) = self.names.insert_full(*card.code()) else {
+            return Err(AllocError);
+        };
+        if is_new {
+            self.cards.push(card).unwrap();
+        }
+        Ok(is_new)
+    }
+
+    /// How many cards there are.
+    fn count(&self) -> usize
+        ensures { result ≡ length self.now }
+    {
+        self.cards.len()
+    }
+
+    /// The cards.
+    pub fn as_slice(&self) -> &[C]
+        ensures { result.now ≡ self.now }
+    {
+        self.cards.as_slice()
+    }
+
+    /// The place of the card with a code, from 0.
+    pub fn place_of(&self, code: &Code) -> Option<usize>
+        ensures { result ≡ position (pointwise nat_eq code.now) (map C.own_code self.now) }
+    {
+        self.names.get_index_of(code)
+    }
+}

@@ -1,0 +1,43 @@
+//! Where a card stands among those before it, and what may be wrong with that.
+ghost use Rattle.std.specs.Prelude.{◌≡◌};
+ghost use Rattle.pc_cards.specs.Findings.{fault_of_place, not_alone};
+
+use pc_faults::{Fault, Kind};
+
+/// Where a card stands: its kind and record, how many cards of its kind the deck may have, and whether the END card
+/// came before it.
+#[derive(Clone, Copy, Debug)]
+pub struct Place {
+    pub kind: Kind,
+    pub row: u32,
+    pub limit: Option<usize>,
+    pub has_ended: bool,
+}
+
+impl Place {
+    /// The fault of a second card of a kind that stands once (F5), behind so many cards of the kind.
+    pub fn second(&self, count: usize) -> Option<Fault>
+        ensures { result ≡ not_alone self.now count }
+    {
+        if count > 0 {
+            Some(Fault::second_card(self.row, self.kind))
+        } else {
+            None
+        }
+    }
+
+    /// The fault of a card that is one too many (F10) or behind the END card (F11), behind so many cards of its kind.
+    pub fn fault(&self, count: usize) -> Option<Fault>
+        ensures { result ≡ fault_of_place self.now count }
+    {
+        if let Some(limit) = self.limit {
+            if count == limit {
+                return Some(Fault::too_many(self.row, self.kind, limit as u64));
+            }
+        }
+        if self.has_ended {
+            return Some(Fault::behind_end(self.row));
+        }
+        None
+    }
+}

@@ -1,0 +1,57 @@
+//! Reading the card of a record, or the fault of its fields.
+ghost use Rattle.std.specs.Prelude.{◌≡◌, ℕ, List, None, Some, IfOk, OnOk, IfErr};
+ghost use Rattle.pc_cards.specs.Forms.{AllFit, IsFirstMisfit, Slot};
+ghost use Rattle.pc_cards.specs.Findings.{flaw_of_fields, or_else, wrong_fields};
+
+use crate::card::Card;
+use crate::field::{Flaw, Misfit};
+use crate::form::{Slot, first_misshapen, slots_behind};
+use crate::place::Place;
+use pc_faults::Fault;
+use pc_records::Row;
+
+/// The card that a record spells, or the fault of its fields (F6 to F8). Each field is read once.
+#[tactic(auto, using(crate::proofs::FindLemmas::no_flaw))]
+pub fn read_card<C: Card>(place: &Place, fields: &Row) -> Result<C, Fault>
+    ensures card { IfOk result (λ card. card ≡ C.spelled place.now.row fields.now) }
+    ensures whole { OnOk result (wrong_fields place.now C.least C.most fields.now ≡ None) }
+    ensures fit { OnOk result (flaw_of_fields place.now.row C.slots fields.now ≡ None) }
+    ensures fault { IfErr result (λ fault. or_else (wrong_fields place.now C.least C.most fields.now) (flaw_of_fields place.now.row C.slots fields.now) ≡ Some fault) }
+{
+    if let Some(fault) = wrong_fields(place, C::least_width(), C::width(), fields) {
+        return Err(fault);
+    }
+    match C::read(place.row, fields) {
+        Ok(card) => Ok(card),
+        Err(misfit) => Err(fault_of_misfit(place.row, misfit, C::slots(), fields)),
+    }
+}
+
+/// The fault of a card with too few fields, or with too many (F6).
+pub fn wrong_fields(place: &Place, least: usize, most: usize, fields: &Row) -> Option<Fault>
+    ensures { result ≡ wrong_fields place.now least most fields.now }
+{
+    let have = fields.len();
+    if have < least {
+        return Some(Fault::wrong_fields(place.row, place.kind, have as u64, least as u64));
+    }
+    if !fields.is_blank_from(most) {
+        return Some(Fault::wrong_fields(place.row, place.kind, have as u64, most as u64));
+    }
+    None
+}
+
+/// The fault of a card, of whose fields this is the first that is not what it must be. A wrong shape (F7) goes before a
+/// limit (F8), also where the field of a wrong shape stands behind the other: only the fields behind are still to be read.
+fn fault_of_misfit(row: u32, misfit: Misfit, slots: &[Slot], fields: &Row) -> Fault
+    requires { IsFirstMisfit slots.now fields.now misfit }
+    ensures { flaw_of_fields row slots.now fields.now ≡ Some result }
+{
+    match misfit.flaw {
+        Flaw::Shape => Fault::misshapen(row, misfit.number),
+        Flaw::Limit => match first_misshapen(slots_behind(misfit.number, slots), fields) {
+            Some(slot) => Fault::misshapen(row, slot.0),
+            None => Fault::over_limit(row, misfit.number),
+        },
+    }
+}

@@ -1,0 +1,2 @@
+mod CheckLaws
+mod CheckDecided

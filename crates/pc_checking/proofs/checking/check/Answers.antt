@@ -1,0 +1,29 @@
+use Rattle.std.proofs.Common.{Err, refl, ap, subst}
+use Rattle.std.specs.Prelude.{IfSome}
+use Rattle.pc_edges.specs.declared.loading.TheConstants.{STREAM_ROOM}
+use Rattle.pc_check.specs.Stops.{IsSettled}
+use Rattle.pc_check.specs.Texts.{Finds}
+use Rattle.pc_checking.specs.Certificate.{found, unread, no_room}
+use Rattle.pc_reading.proofs.PricedLaws.{priced_is}
+use Rattle.pc_checking.proofs.checking.check.Goals as goal
+
+pub returns-in_default-clause-answered : goal.returns-in_default-clause-answered
+returns-in_default-clause-answered g c = no_room refl
+
+pub returns-in-Ok-audit_source-clause-answered : goal.returns-in-Ok-audit_source-clause-answered
+returns-in-Ok-audit_source-clause-answered g c =
+    let has = c.in-Ok.ensures in
+    let same = priced_is c.in-Ok.net c.args.project.now has.network has.terms has.pieces has.project has.events has.activities in
+    found c.in-Ok-audit_source.verdict c.tell.result
+    (record {
+      finds = subst (λ n. IfSome (g.C.Source.left c.args.cert.now) (λ text. Finds n text c.in-Ok-audit_source.verdict)) same c.in-Ok-audit_source.ensures.finds;
+      end = c.in-Ok-audit_source.ensures.end;
+      settled = subst (λ n. IsSettled n c.in-Ok-audit_source.verdict STREAM_ROOM (g.C.Source.left c.args.cert.now) (g.C.Source.left c.audit_source.new.source)) same c.in-Ok-audit_source.ensures.stops;
+    })
+    c.tell.ensures
+
+pub returns-in-Err-ReadFault-clause-answered : goal.returns-in-Err-ReadFault-clause-answered
+returns-in-Err-ReadFault-clause-answered g c = unread (c.in-Err-ReadFault.ensures.fault (ap (λ e. Err e) c.in-Err-ReadFault.field-0-is)) refl
+
+pub returns-clause-answered : goal.returns-clause-answered
+returns-clause-answered g c = no_room refl

@@ -1,0 +1,109 @@
+-- Certificates of a deck's project, and what is said of them.
+use Rattle.std.specs.Prelude.{◌≡◌, ℕ, ◌≤◌, List, [], ◌∷◌, ◌++◌, length, codes, decimal, String}
+use Rattle.std.specs.declared.alloc.Global.{Global}
+use Rattle.pc_model.specs.Schedule.{IsAllNormalLength, IsAllCrashLength}
+use Rattle.pc_curve_laws.specs.Cover.{Joins, IsReadRight}
+use Rattle.pc_cert.specs.declared.line.CertLine.{CertLine}
+use Rattle.pc_cert.specs.Reader.{IsWhole}
+use Rattle.pc_crash.specs.Priced.{PricedNetwork, knees_in}
+use Rattle.pc_check.specs.Certified.{segments_of, OnYes}
+use Rattle.pc_check.specs.declared.fail.Verdict.{Verdict}
+use Rattle.pc_check.specs.declared.fail.Verdict.TheVariants.{Yes, No}
+use Rattle.pc_edges.specs.declared.loading.TheConstants.{STREAM_ROOM}
+use Rattle.pc_check.specs.Texts.{Finds}
+use Rattle.pc_check.specs.Stops.{IsSettled}
+use Rattle.pc_project.specs.Project.{Project}
+use Rattle.pc_reading.specs.declared.status.Status.{Status}
+use Rattle.pc_reading.specs.declared.status.Status.TheVariants.{Done, OutOfMemory, ReadFault, WriteFault, NotCertified}
+use Rattle.pc_reading.specs.Priced.{priced_in}
+use Rattle.pc_reading.specs.Sides.{Side, HadFault, IsReadToEnd, IsUntouched, OfBytes, Took, TookFront}
+use Rattle.pc_reading.specs.Verdict.{IsProjectOf}
+
+-- ---- words and lines
+
+-- there is one word, the deck's name
+abbrev pub IsOneWord : List (String Global) → Type 0
+IsOneWord words = length words ≡ 1
+
+-- the line that says which words are asked for
+abbrev pub check_usage_text : List ℕ
+check_usage_text = codes "usage: pert_check DECK" ++ 10 ∷ []
+
+-- the line of a certificate that is certified, with so many segments
+abbrev pub certified_text : ℕ → List ℕ
+certified_text segments = codes "certified " ++ (decimal segments ++ 10 ∷ [])
+
+-- the line of one whose first failing point is this
+abbrev pub failing_text : ℕ → ℕ → List ℕ
+failing_text line reason = (((codes "not certified line " ++ decimal line) ++ codes " reason ") ++ decimal reason) ++ 10 ∷ []
+
+-- the line of a verdict
+abbrev pub verdict_text : Verdict → List ℕ
+verdict_text (Yes segments) = certified_text segments
+verdict_text (No line reason) = failing_text line reason
+
+-- ---- what certificates mean
+
+-- the deck is accepted, and the text is found to be this of its project: certified, with so many segments, or failing, first
+-- at this line for this reason
+pub record HasVerdict (deck text : List ℕ) (verdict : Verdict) : Type 0 where
+  pub project : Project
+  pub accepted : IsProjectOf deck project
+  pub finds : Finds (priced_in project) text verdict
+
+-- the text is a certificate of the deck's project with so many segments
+abbrev pub Certifies : List ℕ → List ℕ → Type 0
+Certifies deck text = (segments : ℕ) × HasVerdict deck text (Yes segments)
+
+-- the text has a first failing point as a certificate of the deck's project
+abbrev pub FailsAsCertificate : List ℕ → List ℕ → Type 0
+FailsAsCertificate deck text = (line reason : ℕ) × HasVerdict deck text (No line reason)
+
+-- the deck is accepted, and the text says the whole time-cost curve of its project: its segments join from the all-normal
+-- length down to the all-crash length, and for every length between them what is read is right. It is a schedule that ends
+-- at the length, its cost is what is said, no schedule for the length costs less, the flow has the slope as its value and the
+-- cost as its bound, and the slope is the cut gain (`IsRight`)
+pub record ProvesCurve (deck text : List ℕ) : Type 0 where
+  pub project : Project
+  pub accepted : IsProjectOf deck project
+  pub lines : List CertLine
+  pub whole : IsWhole lines text
+  pub high : ℕ
+  pub low : ℕ
+  pub longest : IsAllNormalLength project.network project.terms high
+  pub shortest : IsAllCrashLength project.network project.terms low
+  pub joined : Joins high (segments_of (priced_in project) lines) low
+  pub read : (limit : ℕ) → low ≤ limit → limit ≤ high
+      → IsReadRight project.network project.terms (knees_in (priced_in project)) (segments_of (priced_in project) lines) limit
+
+-- ---- what a check leaves
+
+-- what the source had left is found to be this, a certified text was read to its end, and nothing was pulled behind the first
+-- failing line
+pub record IsFound {X : Type 0} (net : PricedNetwork) (cert : Side X) (verdict : Verdict) : Type 0 where
+  pub finds : OfBytes cert (λ text. Finds net text verdict)
+  pub end : OnYes verdict (IsReadToEnd cert)
+  pub settled : IsSettled net verdict STREAM_ROOM (cert.bytes cert.old) (cert.bytes cert.new)
+
+-- the deck is accepted, and the bytes that were taken of the certificate are found to be this of its project; of those that
+-- came before the last pull no line fails, so nothing is pulled behind the pull in which the first failing line ends
+pub record IsSettledFor {X : Type 0} (deck : List ℕ) (cert : Side X) (verdict : Verdict) : Type 0 where
+  pub project : Project
+  pub accepted : IsProjectOf deck project
+  pub settled : IsSettled (priced_in project) verdict STREAM_ROOM (cert.bytes cert.old) (cert.bytes cert.new)
+
+-- the status of a verdict that was told
+abbrev pub status_for : Verdict → Status
+status_for (Yes segments) = Done
+status_for (No line reason) = NotCertified
+
+-- the line of the verdict was written, or a fault of the sink came in it
+pub data Told {X : Type 0} (verdict : Verdict) (out : Side X) : Status → Type 0 where
+  told : (status : Status) → status ≡ status_for verdict → Took out (verdict_text verdict) → Told verdict out status
+  cut : TookFront out (verdict_text verdict) → Told verdict out WriteFault
+
+-- how the check of a certificate of the project ends: with a verdict, a fault of the source, or for want of memory
+pub data Answered {C O : Type 0} (project : Project) (cert : Side C) (out : Side O) : Status → Type 0 where
+  found : (verdict : Verdict) (status : Status) → IsFound (priced_in project) cert verdict → Told verdict out status → Answered project cert out status
+  unread : HadFault cert → IsUntouched out → Answered project cert out ReadFault
+  no_room : IsUntouched out → Answered project cert out OutOfMemory

@@ -1,0 +1,67 @@
+-- What a check of a certificate means and leaves behind, by its status.
+use Rattle.std.specs.Prelude.{ℕ, List, String}
+use Rattle.std.specs.declared.alloc.Global.{Global}
+use Rattle.pc_check.specs.declared.fail.Verdict.{Verdict}
+use Rattle.pc_check.specs.declared.fail.Verdict.TheVariants.{Yes, No}
+use Rattle.pc_faults.specs.declared.fault.Fault.{Fault}
+use Rattle.pc_faults.specs.FaultText.{fault_text}
+use Rattle.pc_reading.specs.declared.status.Status.{Status}
+use Rattle.pc_reading.specs.declared.status.Status.TheVariants.{Done, Refused, Usage, OutOfMemory, ReadFault, WriteFault, NotCertified}
+use Rattle.pc_checking.specs.Certificate.{IsOneWord, check_usage_text, verdict_text, HasVerdict, IsSettledFor}
+use Rattle.pc_reading.specs.Sides.{Side, HadFault, IsReadToEnd, IsUntouched, OfBytes, OfDeck, Took, TookFront}
+use Rattle.pc_reading.specs.Reading.{HasRefusal}
+use Rattle.pc_reading.specs.Verdict.{AcceptedBy}
+
+-- the bytes that the two sources had left have P, where they tell them
+abbrev pub OfBoth : {D C : Type 0} → Side D → Side C → (List ℕ → List ℕ → Type 0) → Type 0
+OfBoth deck cert P = OfDeck deck (λ bytes. OfBytes cert (P bytes))
+
+-- there is one word, the deck was read to its end and is accepted, the certificate is found to be this, and the output took
+-- the line that says so
+pub record IsChecked {D C O : Type 0} (words : List (String Global)) (deck : Side D) (cert : Side C) (out : Side O) (verdict : Verdict) : Type 0 where
+  pub asked : IsOneWord words
+  pub read : IsReadToEnd deck
+  pub accepted : OfDeck deck AcceptedBy
+  pub has : OfBoth deck cert (λ bytes text. HasVerdict bytes text verdict)
+  pub took : Took out (verdict_text verdict)
+
+-- the same, but that a fault of the output came when it had taken a front of the line
+pub record IsVerdictCut {D C O : Type 0} (words : List (String Global)) (deck : Side D) (cert : Side C) (out : Side O) : Type 0 where
+  pub asked : IsOneWord words
+  pub read : IsReadToEnd deck
+  pub accepted : OfDeck deck AcceptedBy
+  pub verdict : Verdict
+  pub has : OfBoth deck cert (λ bytes text. HasVerdict bytes text verdict)
+  pub took : TookFront out (verdict_text verdict)
+
+-- there is one word, the deck is refused, and the error output took the line of its fault
+pub record IsDeckRefused {D E : Type 0} (words : List (String Global)) (deck : Side D) (err : Side E) : Type 0 where
+  pub asked : IsOneWord words
+  pub fault : Fault
+  pub refusal : HasRefusal deck fault
+  pub took : Took err (fault_text fault)
+
+-- the same, but that a fault of the error output came when it had taken a front of the line
+pub record IsRefusalCut {D E : Type 0} (words : List (String Global)) (deck : Side D) (err : Side E) : Type 0 where
+  pub asked : IsOneWord words
+  pub fault : Fault
+  pub refusal : HasRefusal deck fault
+  pub took : TookFront err (fault_text fault)
+
+-- where a write fault came: in the verdict, in the line of a fault, or in the usage line. The other output is as it was, and
+-- the certificate is unread where no verdict was found
+pub data IsCheckCut {D C O E : Type 0} (words : List (String Global)) (deck : Side D) (cert : Side C) (out : Side O) (err : Side E) : Type 0 where
+  in_verdict : IsVerdictCut words deck cert out → IsUntouched err → IsCheckCut words deck cert out err
+  in_refusal : IsRefusalCut words deck err → IsUntouched cert → IsUntouched out → IsCheckCut words deck cert out err
+  in_check_usage : (IsOneWord words → ⊥) → TookFront err check_usage_text → IsUntouched deck → IsUntouched cert → IsUntouched out → IsCheckCut words deck cert out err
+
+-- what a check that ended with the status means and leaves behind
+pub data CheckOutcome {D C O E : Type 0} (words : List (String Global)) (deck : Side D) (cert : Side C) (out : Side O) (err : Side E) : Status → Type 0 where
+  certified : (segments : ℕ) → IsChecked words deck cert out (Yes segments) → IsReadToEnd cert → IsUntouched err → CheckOutcome words deck cert out err Done
+  not_certified : (line reason : ℕ) → IsChecked words deck cert out (No line reason) → OfDeck deck (λ bytes. IsSettledFor bytes cert (No line reason)) → IsUntouched err → CheckOutcome words deck cert out err NotCertified
+  deck_refused : IsDeckRefused words deck err → IsUntouched cert → IsUntouched out → CheckOutcome words deck cert out err Refused
+  check_usage : (IsOneWord words → ⊥) → Took err check_usage_text → IsUntouched deck → IsUntouched cert → IsUntouched out → CheckOutcome words deck cert out err Usage
+  no_memory : IsOneWord words → IsUntouched out → IsUntouched err → CheckOutcome words deck cert out err OutOfMemory
+  deck_fault : IsOneWord words → HadFault deck → IsUntouched cert → IsUntouched out → IsUntouched err → CheckOutcome words deck cert out err ReadFault
+  cert_fault : IsOneWord words → OfDeck deck AcceptedBy → HadFault cert → IsUntouched out → IsUntouched err → CheckOutcome words deck cert out err ReadFault
+  write_fault : IsCheckCut words deck cert out err → CheckOutcome words deck cert out err WriteFault

@@ -1,0 +1,5 @@
+pub mod SideLaws
+pub mod ReadingLaws
+pub mod VerdictLaws
+pub mod OneProjectLaws
+pub mod PricedLaws

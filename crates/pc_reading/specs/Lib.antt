@@ -1,0 +1,10 @@
+pub mod Sides
+pub mod Status
+pub mod Verdict
+pub mod Reading
+pub mod Refusing
+pub mod Priced
+pub use Rattle.pc_edges.specs.Faults
+pub use Rattle.pc_edges.specs.Writes
+pub use Rattle.pc_deck.specs.Deck
+pub use Rattle.pc_project.specs.Project

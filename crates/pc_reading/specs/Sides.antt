@@ -1,0 +1,53 @@
+-- What a source or a sink was before a call, and what it is after it.
+use Rattle.std.specs.Prelude.{◌≡◌, ℕ, ◌<◌, List, length, Option, IfSome}
+use Rattle.std.specs.Io.KnownBytes.{Consumes, IsAtEnd}
+use Rattle.pc_edges.specs.Faults.{Rose}
+use Rattle.pc_edges.specs.Writes.{Wrote, Stopped}
+
+-- a source or a sink at the beginning and the end of a call; its bytes, where it tells them: of a source those that it has
+-- left, of a sink those that it has taken; and its count of faults
+pub record Side (X : Type 0) : Type 0 where
+  pub bytes : X → Option (List ℕ)
+  pub faults : X → ℕ
+  pub old : X
+  pub new : X
+
+-- a source or a sink, by the words of its trait
+abbrev pub side : {X : Type 0} → (X → Option (List ℕ)) → (X → ℕ) → X → X → Side X
+side bytes faults old new = record { bytes = bytes; faults = faults; old = old; new = new }
+
+-- its count of faults rose
+abbrev pub HadFault : {X : Type 0} → Side X → Type 0
+HadFault s = Rose (s.faults s.old) (s.faults s.new)
+
+-- its count of faults did not rise
+abbrev pub HadNoFault : {X : Type 0} → Side X → Type 0
+HadNoFault s = HadFault s → ⊥
+
+-- nothing was read from it, or written on it
+abbrev pub IsUntouched : {X : Type 0} → Side X → Type 0
+IsUntouched s = s.new ≡ s.old
+
+-- the bytes that the source had left have P, where it tells them
+abbrev pub OfBytes : {X : Type 0} → Side X → (List ℕ → Type 0) → Type 0
+OfBytes s P = IfSome (s.bytes s.old) P
+
+-- the same, where they are a deck
+abbrev pub OfDeck : {X : Type 0} → Side X → (List ℕ → Type 0) → Type 0
+OfDeck s P = OfBytes s P
+
+-- the source has nothing left
+abbrev pub IsReadToEnd : {X : Type 0} → Side X → Type 0
+IsReadToEnd s = IsAtEnd (s.bytes s.new)
+
+-- more bytes than so many were taken from the source
+abbrev pub TookMoreThan : {X : Type 0} → ℕ → Side X → Type 0
+TookMoreThan limit s = (bytes : List ℕ) × Consumes (s.bytes s.old) (s.bytes s.new) bytes × (limit < length bytes)
+
+-- the sink took the whole text, and no fault came
+abbrev pub Took : {X : Type 0} → Side X → List ℕ → Type 0
+Took s text = Wrote (s.bytes s.old) (s.bytes s.new) (s.faults s.old) (s.faults s.new) text
+
+-- a fault of the sink came when it had taken a front of the text
+abbrev pub TookFront : {X : Type 0} → Side X → List ℕ → Type 0
+TookFront s text = Stopped (s.bytes s.old) (s.bytes s.new) (s.faults s.old) (s.faults s.new) text

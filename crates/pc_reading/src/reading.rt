@@ -1,0 +1,63 @@
+//! From a deck to its project, or to why there is none.
+ghost use Rattle.std.specs.Prelude.{◌≡◌, ◌≤◌, length, IfOk, IfErr};
+ghost use Rattle.pc_faults.specs.First.{Refuses};
+ghost use Rattle.pc_deck.specs.Limits.{longest_deck};
+ghost use Rattle.pc_reading.specs.Reading.{HasProject, HasNoProject, IsNoProjectOf};
+ghost use Rattle.pc_reading.specs.Sides.{side};
+ghost use Rattle.pc_reading.specs.Verdict.{IsFault, IsProjectOf};
+
+use pc_deck::{DECK_LIMIT, read_cards};
+use pc_edges::{LoadError, Source, load};
+use pc_faults::{DeckError, Fault, TOO_LONG};
+use pc_project::{Project, project_of};
+use std::alloc::Global;
+
+/// Why there is no project.
+#[derive(Debug, Drop)]
+pub enum NoProject {
+    /// The deck is refused.
+    Refused(Fault),
+    /// The source had a fault.
+    ReadFault,
+    OutOfMemory,
+}
+
+/// Reads a deck to its end, and gives its project.
+pub fn read_project<S: Source>(alloc: Global, source: &mut S) -> Result<Project, NoProject>
+    ensures project { IfOk result (HasProject (side S.left S.faults source.old source.new)) }
+    ensures none { IfErr result (HasNoProject (side S.left S.faults source.old source.new)) }
+{
+    match load(alloc, source, DECK_LIMIT) {
+        Ok(bytes) => project_in(alloc, &bytes),
+        Err(LoadError::ReadFault) => Err(NoProject::ReadFault),
+        Err(LoadError::TooLong) => Err(NoProject::Refused(TOO_LONG)),
+        Err(LoadError::OutOfMemory) => Err(NoProject::OutOfMemory),
+    }
+}
+
+/// The project of these bytes, which are a whole deck.
+pub fn project_in(alloc: Global, bytes: &[u8]) -> Result<Project, NoProject>
+    ensures project { IfOk result (IsProjectOf bytes.now) }
+    ensures none { IfErr result (IsNoProjectOf bytes.now) }
+{
+    if bytes.len() > DECK_LIMIT {
+        return Err(NoProject::Refused(TOO_LONG));
+    }
+    match project_or_fault(alloc, bytes) {
+        Ok(project) => Ok(project),
+        Err(DeckError::Fault(fault)) => Err(NoProject::Refused(fault)),
+        Err(DeckError::OutOfMemory) => Err(NoProject::OutOfMemory),
+    }
+}
+
+/// The project of a deck that is not too long, or the fault with which the deck is refused.
+fn project_or_fault(alloc: Global, bytes: &[u8]) -> Result<Project, DeckError>
+    requires { length bytes.now ≤ longest_deck }
+    ensures accepted { IfOk result (IsProjectOf bytes.now) }
+    ensures refused { IfErr result (Refuses (IsFault bytes.now)) }
+{
+    match read_cards(alloc, bytes) {
+        Ok(cards) => project_of(alloc, cards),
+        Err(e) => Err(e),
+    }
+}
