@@ -1,6 +1,6 @@
 -- The parts of the deck one behind the other.
 use Rattle.std.proofs.Common.{◌≡◌, ℕ, List, [], ◌++◌, ap, ◌∙◌}
-use Rattle.pc_bench.specs.Deck.{activities_text, all_costs, deck_text, end_text, events_text, item_line, project_line}
+use Rattle.pc_bench.specs.Deck.{activities_text, all_costs, bench_text, end_text, events_text, item_line, project_line}
 use Rattle.pc_bench.specs.Recipe.{last_event}
 
 -- the deck with a last event and a budget
@@ -9,7 +9,7 @@ with_parts n last costs = (((project_line last ++ item_line) ++ events_text last
 
 pub whole-deck : (n last costs : ℕ) (none one two three four all : List ℕ) → last ≡ last_event n → costs ≡ all_costs n → none ≡ []
     → one ≡ none ++ project_line last → two ≡ one ++ item_line → three ≡ two ++ events_text last → four ≡ three ++ activities_text n
-    → all ≡ four ++ end_text costs → all ≡ deck_text n
+    → all ≡ four ++ end_text costs → all ≡ bench_text n
 whole-deck n last costs none one two three four all last_is costs_are empty first second third fourth fifth =
     let to_one : one ≡ project_line last = first ∙ ap (λ text. text ++ project_line last) empty in
     let to_two : two ≡ project_line last ++ item_line = second ∙ ap (λ text. text ++ item_line) to_one in

@@ -58,5 +58,5 @@ abbrev pub end_text : ℕ → List ℕ
 end_text costs = account_line costs ++ last_line
 
 -- the deck of n activities
-abbrev pub deck_text : ℕ → List ℕ
-deck_text n = (((project_line (last_event n) ++ item_line) ++ events_text (last_event n)) ++ activities_text n) ++ end_text (all_costs n)
+abbrev pub bench_text : ℕ → List ℕ
+bench_text n = (((project_line (last_event n) ++ item_line) ++ events_text (last_event n)) ++ activities_text n) ++ end_text (all_costs n)

@@ -1,6 +1,6 @@
 //! The text of the deck.
 ghost use Rattle.std.specs.Prelude.{◌≡◌, ◌≤◌, ◌++◌, IfOk, OnOk, string_bytes};
-ghost use Rattle.pc_bench.specs.Deck.{activities_text, activity_line, all_costs, deck_text, end_text, events_text, item_line, project_line};
+ghost use Rattle.pc_bench.specs.Deck.{activities_text, activity_line, all_costs, bench_text, end_text, events_text, item_line, project_line};
 
 use crate::activity::{Activity, draw_activity, last_event};
 use crate::draws::Draws;
@@ -16,7 +16,7 @@ pub const MOST_ACTIVITIES: u64 = 4_000;
 pub fn bench_deck(alloc: Global, n: u64) -> Result<Vec<u8>, AllocError>
     requires least { 1 ≤ n }
     requires most { n ≤ MOST_ACTIVITIES }
-    ensures { IfOk result (λ deck. deck.items ≡ deck_text n) }
+    ensures { IfOk result (λ deck. deck.items ≡ bench_text n) }
 {
     let mut deck = String::new(alloc);
     let last = last_event(n);

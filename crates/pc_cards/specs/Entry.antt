@@ -31,6 +31,10 @@ pub record Entry (Lists : Type 0) : Type 1 where
   pub Card : Type 0
   -- the card that a record spells, of the record's number and its fields
   pub spelled : ℕ → List (List ℕ) → Card
+  -- the fields of a card as they are written, behind the kind itself, each in the one spelling that its form has
+  pub written : Card → List (List ℕ)
+  -- the same card in another record
+  pub at_row : ℕ → Card → Card
   -- what the fields must be, behind the kind itself
   pub slots : List Slot
   -- how many fields a card must have, the kind itself among them

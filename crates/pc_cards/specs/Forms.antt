@@ -1,5 +1,5 @@
 -- What one field of a card must be.
-use Rattle.std.specs.Prelude.{◌≡◌, ℕ, ℤ, pos, ◌-◌, Bool, true, false, not, ◌||◌, nat_lt, List, [], ◌∷◌, length, drop, Option, Some, None, is_some, unwrap_or, Result, Ok, Err, find, bytes_eq, codes, nat_le, ◌&&◌, ◌⊎◌, ◌==◌, if◌then◌else◌}
+use Rattle.std.specs.Prelude.{◌≡◌, ℕ, ℤ, pos, ◌-◌, Bool, true, false, not, ◌||◌, nat_lt, List, [], ◌∷◌, length, drop, Option, Some, None, is_some, unwrap_or, Result, Ok, Err, find, bytes_eq, codes, decimal, nat_le, ◌&&◌, ◌⊎◌, ◌==◌, if◌then◌else◌}
 use Rattle.pc_records.specs.Deck.{field_at, is_blank, is_empty}
 use Rattle.pc_text.specs.Code.{is_code}
 use Rattle.pc_text.specs.Title.{is_title_shape}
@@ -128,3 +128,17 @@ day_in field = day_read (day_of field)
 -- the letter F
 abbrev pub is_finish : List ℕ → Bool
 is_finish field = bytes_eq field (codes "F")
+
+-- a code as it is written; nothing where there is none
+abbrev pub code_text : Option (List ℕ) → List ℕ
+code_text None = []
+code_text (Some code) = code
+
+-- a number as it is written, in decimal form; nothing where there is none
+abbrev pub number_text : Option ℕ → List ℕ
+number_text None = []
+number_text (Some number) = decimal number
+
+-- the letter F or S
+abbrev pub letter_text : Bool → List ℕ
+letter_text finished = if finished then codes "F" else codes "S"

@@ -1,5 +1,5 @@
 -- Cards of one kind: how many, and which of them other cards name by their codes.
-use Rattle.std.specs.Prelude.{ℕ, Bool, true, false, List, [], ◌∷◌, ◌++◌, length, map, nat_eq, Option, Some, None}
+use Rattle.std.specs.Prelude.{ℕ, ◌+◌, Bool, true, false, List, [], ◌∷◌, ◌++◌, length, map, nat_eq, Option, Some, None, option_map}
 use Rattle.std.specs.List.{list_any}
 use Rattle.std.specs.Cmp.Lexicographic.{pointwise}
 
@@ -40,3 +40,13 @@ abbrev pub more_if : (test once : Bool) (C : Type 0) → HeldBy once C → C →
 more_if false once C held card = held
 more_if true true C held card = Some card
 more_if true false C held card = held ++ card ∷ []
+
+-- the cards in other records, one behind the other: each by how it looks in another record
+abbrev pub numbered_from : {C : Type 0} → (ℕ → C → C) → ℕ → List C → List C
+numbered_from at_row row [] = []
+numbered_from at_row row (card ∷ cards) = at_row row card ∷ numbered_from at_row (row + 1) cards
+
+-- the same of the cards of a kind
+abbrev pub numbered_by : (once : Bool) (C : Type 0) → (ℕ → C → C) → ℕ → HeldBy once C → HeldBy once C
+numbered_by true C at_row row held = option_map (at_row row) held
+numbered_by false C at_row row held = numbered_from at_row row held

@@ -1,12 +1,27 @@
-//! What each kind of card has: how its fields are read, and what they must be.
-ghost use Rattle.std.specs.Prelude.{◌≡◌, ℕ, List, IfOk, OnOk, IfErr};
+//! What each kind of card has: how its fields are read and written, and what they must be.
+ghost use Rattle.std.specs.Prelude.{◌≡◌, ◌++◌, ◌∷◌, [], ℕ, List, IfOk, OnOk, IfErr, OnErr};
 ghost use Rattle.pc_records.specs.Deck.{field_at};
+ghost use Rattle.pc_records.specs.Text.{record_text};
+ghost use Rattle.pc_faults.specs.Kinds.{word_of};
 ghost use Rattle.pc_cards.specs.Forms.{AllFit, IsFirstMisfit, Slot};
 
 use crate::field::Misfit;
 use crate::form::Slot;
-use pc_records::Row;
+use pc_faults::Kind;
+use pc_records::{Row, RowWriter};
 use pc_text::Code;
+use std::alloc::AllocError;
+
+/// How a card of some kind is laid out.
+#[derive(Drop)]
+pub struct Layout {
+    /// What the fields must be, behind the kind itself.
+    pub slots: &'static [Slot],
+    /// How many fields a card must have, the kind itself among them.
+    pub least: usize,
+    /// How many fields it may have. Further ones must be empty.
+    pub most: usize,
+}
 
 /// A card of some kind, as plain data.
 pub trait Card: Copy {
@@ -18,23 +33,24 @@ pub trait Card: Copy {
 
     ghost spelled: { ℕ → List (List ℕ) → Self };
 
-    /// What the fields must be, behind the kind itself.
-    fn slots() -> &'static [Slot]
-        ensures { result.now ≡ slots };
+    ghost written: { Self → List (List ℕ) };
 
-    /// How many fields a card must have, the kind itself among them.
-    fn least_width() -> usize
-        ensures { result ≡ least };
-
-    /// How many fields it may have. Further ones must be empty.
-    fn width() -> usize
-        ensures { result ≡ most };
+    /// How a card is laid out.
+    fn layout() -> Layout
+        ensures slots { result.slots.now ≡ slots }
+        ensures least { result.least ≡ least }
+        ensures most { result.most ≡ most };
 
     /// The card that a record spells, or the first of its fields that is not what it must be.
     fn read(row: u32, fields: &Row) -> Result<Self, Misfit>
         ensures card { IfOk result (λ card. card ≡ spelled row fields.now) }
         ensures fit { OnOk result (AllFit slots fields.now) }
         ensures misfit { IfErr result (IsFirstMisfit slots fields.now) };
+
+    /// Puts the record of the card, which is of the kind, behind a text. After an error nothing of the text is left.
+    fn put(&self, kind: Kind, text: &mut RowWriter) -> Result<(), AllocError>
+        ensures put { OnOk result (text.new ≡ text.old ++ record_text (word_of kind ∷ written self.now)) }
+        ensures stopped { OnErr result (text.new ≡ []) };
 }
 
 /// A card with a code of its own, which stands in its second field.

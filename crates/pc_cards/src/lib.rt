@@ -1,5 +1,5 @@
 //! The cards of a deck of any sort: how a field is read, and what it must be; what a kind of cards is; where a card stands, and
-//! what is wrong with it; the cards of one kind; and the cards among the records of a deck.
+//! what is wrong with it; the cards of one kind, and how they are written; and the cards among the records of a deck.
 //!
 //! Nothing here knows which kinds a deck has. So decks of another sort are read by the same parts.
 #![tactic(auto)]
@@ -11,3 +11,4 @@ pub mod lists;
 pub mod place;
 pub mod reading;
 pub mod rows;
+pub mod writing;

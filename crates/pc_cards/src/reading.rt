@@ -18,12 +18,13 @@ pub fn read_card<C: Card>(place: &Place, fields: &Row) -> Result<C, Fault>
     ensures fit { OnOk result (flaw_of_fields place.now.row C.slots fields.now ≡ None) }
     ensures fault { IfErr result (λ fault. or_else (wrong_fields place.now C.least C.most fields.now) (flaw_of_fields place.now.row C.slots fields.now) ≡ Some fault) }
 {
-    if let Some(fault) = wrong_fields(place, C::least_width(), C::width(), fields) {
+    let layout = C::layout();
+    if let Some(fault) = wrong_fields(place, layout.least, layout.most, fields) {
         return Err(fault);
     }
     match C::read(place.row, fields) {
         Ok(card) => Ok(card),
-        Err(misfit) => Err(fault_of_misfit(place.row, misfit, C::slots(), fields)),
+        Err(misfit) => Err(fault_of_misfit(place.row, misfit, layout.slots, fields)),
     }
 }
 

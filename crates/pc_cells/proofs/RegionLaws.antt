@@ -8,15 +8,20 @@ use Rattle.pc_cells.specs.declared.span.Span.{Span}
 use Rattle.pc_cells.specs.declared.span.Mark.{Mark}
 use Rattle.pc_cells.specs.declared.region.Region.TheInside.{Inside}
 use Rattle.pc_cells.specs.Spans.{Cells, span_at, cells_before, with_span, free_of, IsSpan, IsLive, IsMark}
-use Rattle.pc_cells.specs.Layout.{between_starts, spans_of, cells_of, AreStarts, IsLaidOut, IsRangeFilled}
-use Rattle.pc_cells.proofs.SpanLaws.{length-spans, sum-spans, span-within, spans-get, spans-set, spans-fill, spans-released, starts-released, spans-grown, mark-at, start-rises, start-above}
+use Rattle.pc_cells.specs.Layout.{between_starts, spans_of, cells_of, AreStarts, IsLaidOut, IsRangeFilled, IsRangeWritten}
+use Rattle.pc_cells.proofs.SpanLaws.{length-spans, sum-spans, span-within, spans-get, spans-set, spans-written, span-begins, span-ends, spans-at, spans-released, starts-released, spans-grown, mark-at, start-rises, start-above}
 
--- what a call that fills a range of a vector's slice leaves in the vector
+-- what a call that writes a range of a vector's slice leaves in the vector
+pub vector-written : {Z : Type 0} (v : Vec ℕ Z) (was new : List ℕ) (from to : ℕ) (xs : List ℕ) → was ≡ v.items → length was ≡ v.len
+    → IsRangeWritten was new from to xs → IsRangeWritten v.items (with_items v new).items from to xs
+vector-written v was new from to xs same size written =
+    subst (λ ys. IsRangeWritten v.items ys from to xs) (sym (with_items_is v new (written.size ∙ size)))
+    (subst (λ ys. IsRangeWritten ys new from to xs) same written)
+
+-- the same where it fills it
 pub vector-filled : {Z : Type 0} (v : Vec ℕ Z) (was new : List ℕ) (from to x : ℕ) → was ≡ v.items → length was ≡ v.len
     → IsRangeFilled was new from to x → IsRangeFilled v.items (with_items v new).items from to x
-vector-filled v was new from to x same size filled =
-    subst (λ xs. IsRangeFilled v.items xs from to x) (sym (with_items_is v new (filled.size ∙ size)))
-    (subst (λ xs. IsRangeFilled xs new from to x) same filled)
+vector-filled v was new from to x same size filled = vector-written v was new from to (replicate (to - from) x) same size filled
 
 abbrev cells_made : ℕ → List (List ℕ) → Cells
 cells_made n spans = record { capacity = n; spans = spans }
@@ -73,14 +78,30 @@ module _ (r : Inside) (now : Cells) (view : cells_of r ≡ now) (laid : IsLaidOu
       ∙ ap (cells_made (length r.cells.items)) (spans-set r.cells.items r.starts.items r.count laid.starts k s i v (here k s is) below)
       ∙ ap (λ c. with_span c k (set (span_at c.spans k) i v)) view
 
+  pub region-written : (after : List ℕ) (k : ℕ) (s : Span) (ys : List ℕ) → IsSpan now.spans k s
+      → IsRangeWritten r.cells.items after s.place (s.place + s.len) ys
+      → let next : Cells = record { capacity = length after; spans = spans_of after r.starts.items r.count } in
+      next ≡ with_span now k ys
+  region-written after k s ys is written =
+      ap (λ n. cells_made n (spans_of after r.starts.items r.count)) written.size
+      ∙ ap (cells_made (length r.cells.items)) (spans-written r.cells.items r.starts.items r.count laid.starts after k s ys (here k s is) written)
+      ∙ ap (λ c. with_span c k ys) view
+
   pub region-fill : (after : List ℕ) (k : ℕ) (s : Span) (v : ℕ) → IsSpan now.spans k s
       → IsRangeFilled r.cells.items after s.place (s.place + s.len) v
       → let next : Cells = record { capacity = length after; spans = spans_of after r.starts.items r.count } in
       next ≡ with_span now k (replicate s.len v)
   region-fill after k s v is filled =
-      ap (λ n. cells_made n (spans_of after r.starts.items r.count)) filled.size
-      ∙ ap (cells_made (length r.cells.items)) (spans-fill r.cells.items r.starts.items r.count laid.starts after k s v (here k s is) filled)
-      ∙ ap (λ c. with_span c k (replicate s.len v)) view
+      region-written after k s (replicate (s.place + s.len - s.place) v) is filled
+      ∙ ap (λ n. with_span now k (replicate n v)) (let e : s.place + s.len - s.place ≡ s.len = omega arith in e)
+
+  -- the cells of a span are its list
+  pub region-list : (k : ℕ) (s : Span) → IsSpan now.spans k s → slice_range r.cells.items s.place (s.place + s.len) ≡ span_at now.spans k
+  region-list k s is =
+      ap (λ n. slice_range r.cells.items n (s.place + s.len)) (span-begins r.cells.items r.starts.items r.count laid.starts k s (here k s is))
+      ∙ ap (slice_range r.cells.items (slice_index r.starts.items k)) (span-ends r.cells.items r.starts.items r.count laid.starts k s (here k s is))
+      ∙ sym (spans-at r.cells.items r.starts.items r.count laid.starts k [] (omega (arith, is.known, region-length)))
+      ∙ ap (λ c. span_at c.spans k) view
 
   -- the mark's number of cells is the start of its number of spans
   pub region-mark : (m : Mark) → m.spans ≤ r.count → slice_index r.starts.items m.spans ≡ m.cells → IsMark now.spans m

@@ -11,7 +11,7 @@ use Rattle.std.proofs.lemmas.Bool.{cases_eq, cases_lt}
 use borrow.Rule.Slice.PartMut.{put_mid}
 use Rattle.pc_cells.specs.declared.span.Span.{Span}
 use Rattle.pc_cells.specs.Spans.{span_at, cells_before, IsSpan}
-use Rattle.pc_cells.specs.Layout.{between_starts, spans_of, AreStarts, IsRangeFilled}
+use Rattle.pc_cells.specs.Layout.{between_starts, spans_of, AreStarts, IsRangeFilled, IsRangeWritten}
 
 module _ (starts : List ℕ) (n size : ℕ) (good : AreStarts starts n size) where
   rises_by : (j d : ℕ) → j + d ≤ n → slice_index starts j ≤ slice_index starts (j + d)
@@ -118,31 +118,30 @@ range-in : (xs : List ℕ) (from to i v : ℕ) → from + i < to → slice_range
 range-in xs from to i v below =
     ap (take (to - from)) (drop-set-add from xs i v) ∙ take-set-lt (to - from) (drop from xs) i v (omega arith)
 
--- writing the same value over a range fills it
-pub range-filled : (xs : List ℕ) (from to v : ℕ) → from ≤ to → to ≤ length xs
-    → IsRangeFilled xs (put_mid from (to - from) xs (replicate (to - from) v)) from to v
-range-filled xs from to v ordered within = record {
+-- what is written over a range stands there
+pub range-written : (xs : List ℕ) (from to : ℕ) (ys : List ℕ) → from ≤ to → to ≤ length xs → length ys ≡ to - from
+    → IsRangeWritten xs (put_mid from (to - from) xs ys) from to ys
+range-written xs from to ys ordered within long = record {
   size = length-put_mid;
-  inside = between-put_mid from (to - from) xs ys to (omega arith) (length-replicate (to - from) v);
+  inside = between-put_mid from (to - from) xs ys to (omega arith) long;
   outside = λ a b apart. elim apart [ inl behind ↦ above a b behind | inr before ↦ below a b before ];
 } where
-  ys : List ℕ
-  ys = replicate (to - from) v
-
-  after : List ℕ
-  after = put_mid from (to - from) xs ys
-
-  length-put_mid : length (put_mid from (to - from) xs (replicate (to - from) v)) ≡ length xs
+  length-put_mid : length (put_mid from (to - from) xs ys) ≡ length xs
   length-put_mid = search (rules, places, overwrites)
 
-  above : (a b : ℕ) → to ≤ a → slice_range (put_mid from (to - from) xs (replicate (to - from) v)) a b ≡ slice_range xs a b
-  above a b behind = ap (take (b - a)) (drop-put_mid from (to - from) xs ys a (omega arith) (omega arith) (length-replicate (to - from) v))
+  above : (a b : ℕ) → to ≤ a → slice_range (put_mid from (to - from) xs ys) a b ≡ slice_range xs a b
+  above a b behind = ap (take (b - a)) (drop-put_mid from (to - from) xs ys a (omega arith) (omega arith) long)
 
-  below : (a b : ℕ) → b ≤ from → slice_range (put_mid from (to - from) xs (replicate (to - from) v)) a b ≡ slice_range xs a b
+  below : (a b : ℕ) → b ≤ from → slice_range (put_mid from (to - from) xs ys) a b ≡ slice_range xs a b
   below a b before =
       between_is (put_mid from (to - from) xs ys) a b
       ∙ ap (drop a) (take-put_mid_below from (to - from) xs ys b before (omega arith))
       ∙ sym (between_is xs a b)
+
+-- writing the same value over a range fills it
+pub range-filled : (xs : List ℕ) (from to v : ℕ) → from ≤ to → to ≤ length xs
+    → IsRangeFilled xs (put_mid from (to - from) xs (replicate (to - from) v)) from to v
+range-filled xs from to v ordered within = range-written xs from to (replicate (to - from) v) ordered within (length-replicate (to - from) v)
 
 -- two spans do not overlap
 apart_starts : (starts : List ℕ) (n size : ℕ) → AreStarts starts n size → (j k : ℕ) → j < n → k < n → j ≢ k
@@ -169,21 +168,20 @@ module _ (cells starts : List ℕ) (n : ℕ) (good : AreStarts starts n (length 
       (λ j jn apart. range-off cells (slice_index starts j) (slice_index starts (j + 1)) (s.place + i) v
       (elim (apart_starts starts n (length cells) good j k jn known apart) [ inl before ↦ inl (omega arith) | inr behind ↦ inr (omega arith) ]))
 
-  -- filling a whole span changes its list alone
-  pub spans-fill : (after : List ℕ) (k : ℕ) (s : Span) (v : ℕ) → IsSpan (spans_of cells starts n) k s
-      → IsRangeFilled cells after s.place (s.place + s.len) v
-      → spans_of after starts n ≡ set (spans_of cells starts n) k (replicate s.len v)
-  spans-fill after k s v is filled =
+  -- writing a whole span changes its list alone
+  pub spans-written : (after : List ℕ) (k : ℕ) (s : Span) (ys : List ℕ) → IsSpan (spans_of cells starts n) k s
+      → IsRangeWritten cells after s.place (s.place + s.len) ys
+      → spans_of after starts n ≡ set (spans_of cells starts n) k ys
+  spans-written after k s ys is written =
       let known : k < n = omega (arith, is.known, length-spans cells starts n good) in
       let begins : s.place ≡ slice_index starts k = span-begins cells starts n good k s is in
       let ends : s.place + s.len ≡ slice_index starts (k + 1) = span-ends cells starts n good k s is in
-      let here : between_starts after starts k ≡ replicate s.len v =
+      let here : between_starts after starts k ≡ ys =
       ap (λ p. slice_range after p (slice_index starts (k + 1))) (sym begins)
       ∙ ap (slice_range after s.place) (sym ends)
-      ∙ filled.inside
-      ∙ ap (λ m. replicate m v) (let e : s.place + s.len - s.place ≡ s.len = omega arith in e) in
-      spans-edited cells starts n good after k (replicate s.len v) known here
-      (λ j jn apart. filled.outside (slice_index starts j) (slice_index starts (j + 1))
+      ∙ written.inside in
+      spans-edited cells starts n good after k ys known here
+      (λ j jn apart. written.outside (slice_index starts j) (slice_index starts (j + 1))
       (elim (apart_starts starts n (length cells) good j k jn known apart) [ inl before ↦ inl (omega arith) | inr behind ↦ inr (omega arith) ]))
 
   -- what stands in a span's cell

@@ -28,8 +28,12 @@ pub record IsLaidOut (r : Inside) : Type 0 where
   pub room : length r.starts.items ≡ length r.cells.items + 1
   pub starts : AreStarts r.starts.items r.count (length r.cells.items)
 
--- the cells from one place up to another hold v, and the others what they held before
-pub record IsRangeFilled (old new : List ℕ) (from to v : ℕ) : Type 0 where
+-- the cells from one place up to another hold these numbers, and the others what they held before
+pub record IsRangeWritten (old new : List ℕ) (from to : ℕ) (xs : List ℕ) : Type 0 where
   pub size : length new ≡ length old
-  pub inside : slice_range new from to ≡ replicate (to - from) v
+  pub inside : slice_range new from to ≡ xs
   pub outside : (a b : ℕ) → (to ≤ a) ⊎ (b ≤ from) → slice_range new a b ≡ slice_range old a b
+
+-- the cells from one place up to another hold v, and the others what they held before
+abbrev pub IsRangeFilled : List ℕ → List ℕ → ℕ → ℕ → ℕ → Type 0
+IsRangeFilled old new from to v = IsRangeWritten old new from to (replicate (to - from) v)

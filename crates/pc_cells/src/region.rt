@@ -1,7 +1,7 @@
 //! A region and the spans that are live in it.
-ghost use Rattle.std.specs.Prelude.{◌≡◌, ◌<◌, ◌≤◌, ◌↔◌, ℕ, [], ◌∷◌, ◌++◌, IfOk, IfErr, OnOk, OnErr, IsOk, IsTrue, length, take, replicate, slice_index, slice_set, sum_by};
+ghost use Rattle.std.specs.Prelude.{◌≡◌, ◌+◌, ◌<◌, ◌≤◌, ◌↔◌, ℕ, [], ◌∷◌, ◌++◌, IfOk, IfErr, OnOk, OnErr, IsOk, IsTrue, length, take, replicate, slice_index, slice_set, sum_by};
 ghost use Rattle.pc_cells.specs.Spans.{free_of, span_at, with_span, IsSpan, IsLive, IsMark};
-ghost use Rattle.pc_cells.specs.Layout.{IsRangeFilled};
+ghost use Rattle.pc_cells.specs.Layout.{IsRangeFilled, IsRangeWritten};
 
 use crate::span::{Mark, RegionFull, Span};
 use std::alloc::{AllocError, Global};
@@ -96,6 +96,23 @@ impl Region {
         self.cells[s.place + i] = v;
     }
 
+    /// What stands in the span's cells, one after the other.
+    pub fn list(&self, s: Span) -> &[u64]
+        requires { IsLive self.now.spans s }
+        ensures { (k : ℕ) → IsSpan self.now.spans k s → result.now ≡ span_at self.now.spans k }
+    {
+        &self.cells[s.place..s.place + s.len]
+    }
+
+    /// Puts these numbers into the span's cells, and changes nothing else.
+    pub fn write(&mut self, s: Span, numbers: &[u64])
+        requires live { IsLive self.old.spans s }
+        requires one_each { length numbers.now ≡ s.len }
+        ensures { (k : ℕ) → IsSpan self.old.spans k s → self.new ≡ with_span self.old k numbers.now }
+    {
+        write_range(&mut self.cells, s.place, numbers);
+    }
+
     /// Puts `v` into each cell of the span, and changes nothing else.
     pub fn fill(&mut self, s: Span, v: u64)
         requires { IsLive self.old.spans s }
@@ -129,6 +146,14 @@ impl Region {
     {
         self.count = m.spans;
     }
+}
+
+// Puts these numbers into the cells from place `from` on.
+fn write_range(cells: &mut [u64], from: usize, numbers: &[u64])
+    requires { from + length numbers.now ≤ length cells.old }
+    ensures { IsRangeWritten cells.old cells.new from (from + length numbers.now) numbers.now }
+{
+    cells[from..from + numbers.len()].copy_from_slice(numbers);
 }
 
 // Puts `v` into each cell from place `from` up to `to`.

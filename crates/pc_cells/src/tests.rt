@@ -18,6 +18,9 @@ fn spans_are_taken_and_given_back(rt: HostRuntime) -> Result<(), AllocError> {
     region.set(second, 4, 9);
     assert_eq!(rt; region.get(first, 3), 7);
     assert_eq!(rt; (region.get(second, 3), region.get(second, 4)), (0, 9));
+    region.write(second, &[1, 2, 3, 4, 5]);
+    assert_eq!(rt; region.list(second), [1, 2, 3, 4, 5].as_slice());
+    assert_eq!(rt; region.list(first), [7; 4].as_slice());
     assert_eq!(rt; region.take(2), Err(RegionFull { need: 2, free: 1 }));
     let mark = region.mark();
     assert!(rt; region.take(1).is_ok());

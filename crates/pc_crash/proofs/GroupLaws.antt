@@ -1,8 +1,8 @@
 -- Groups of pieces, one activity or one piece further.
-use Rattle.std.proofs.Common.{◌≡◌, ℕ, ◌+◌, ◌<◌, List, [], ◌∷◌, ◌++◌, length, take, drop, filter, set, length-append, cond, Bool, ◌==◌, slice_index_or, sym, ◌∙◌, ap, ⊎_elim, arith, eq-eqb}
-use Rattle.std.proofs.lemmas.Bool.{cases_eq, cond-true, ne_eqb}
-use Rattle.std.proofs.lemmas.List.{get_or_append_left, get_or_push, take-append-drop, length_push, length-set, get_or-set_same, get_or-set_other, append-nil}
-use Rattle.std.proofs.lemmas.List.Elements.{filter_more, filter-append}
+use Rattle.std.proofs.Common.{◌≡◌, ℕ, ◌+◌, ◌<◌, List, [], ◌∷◌, ◌++◌, length, take, drop, set, length-append, Bool, ◌==◌, slice_index_or, sym, ◌∙◌, ap, ⊎_elim, arith, eq-eqb}
+use Rattle.std.proofs.lemmas.Bool.{cases_eq, cond-true}
+use Rattle.std.proofs.lemmas.List.{get_or_append_left, get_or_push, take-append-drop, length_push, length-set, get_or-set_same, get_or-set_other}
+use Rattle.std.proofs.lemmas.List.Elements.{filter-append}
 use Rattle.std.proofs.lemmas.List.Filters.{length-filter_more}
 use Rattle.arrayvec.specs.ArrayVec.{ArrayVec}
 use Rattle.pc_model.specs.declared.PieceRow.{PieceRow}

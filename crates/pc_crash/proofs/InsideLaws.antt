@@ -1,5 +1,5 @@
 -- What the fields of a priced network say of one activity, and that they are made well.
-use Rattle.std.proofs.Common.{◌≡◌, ℕ, ◌<◌, ◌≤◌, List, length, map, take, get_or, sym, ◌∙◌, ap, subst, arith}
+use Rattle.std.proofs.Common.{◌≡◌, ℕ, ◌<◌, List, length, map, get_or, sym, ◌∙◌, subst, arith}
 use Rattle.std.proofs.lemmas.List.{get_or_read, length-map, take_all}
 use Rattle.pc_model.specs.declared.Arc.{Arc}
 use Rattle.pc_model.specs.declared.Knee.{Knee}
@@ -9,7 +9,7 @@ use Rattle.pc_crash.specs.declared.crash_net.CrashNet.TheInside.{Inside}
 use Rattle.pc_crash.specs.declared.laying.Row.{Row}
 use Rattle.pc_crash.specs.CrashNets.{priced_network, IsWholeInside}
 use Rattle.pc_crash.specs.KneeLists.{AreKneesOf}
-use Rattle.pc_crash.specs.Laid.{AreLaid, IsRowOf, row_at, part_of}
+use Rattle.pc_crash.specs.Laid.{AreLaid, IsRowOf, part_of}
 use Rattle.pc_crash.specs.Priced.{knees_in}
 use Rattle.pc_crash.proofs.KneeListLaws.{AreKneesOf-knee_list}
 

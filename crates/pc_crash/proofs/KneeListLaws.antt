@@ -6,7 +6,6 @@ use Rattle.std.proofs.lemmas.List.Sums.{sum_by-drop_more}
 use Rattle.pc_model.specs.declared.Knee.{Knee}
 use Rattle.pc_model.specs.declared.PieceRow.{PieceRow}
 use Rattle.pc_model.specs.declared.Term.{Term}
-use Rattle.pc_model.specs.Cost.{Knees}
 use Rattle.pc_model.specs.Pieces.{pieces_of, knees_of, units_of, slope_in, rise_in, ArePieces, knee_at}
 use Rattle.pc_model.specs.Schedule.{term_at}
 use Rattle.pc_crash.specs.KneeLists.{knee_list, piece_knees, AreKneesOf}
@@ -63,13 +62,13 @@ length-piece_knees crash slope [] = refl
 length-piece_knees crash slope (piece ∷ pieces) = ap suc (length-piece_knees crash piece.slope pieces)
 
 -- the k-th is where the k-th piece begins
-piece_knees-at : (crash slope : ℕ) (pieces : List PieceRow) (k : ℕ) → k < length pieces → (knee_at (piece_knees crash slope pieces) k).at ≡ crash + units_of (drop k pieces)
+pub piece_knees-at : (crash slope : ℕ) (pieces : List PieceRow) (k : ℕ) → k < length pieces → (knee_at (piece_knees crash slope pieces) k).at ≡ crash + units_of (drop k pieces)
 piece_knees-at crash slope [] k inside = absurd (omega arith)
 piece_knees-at crash slope (piece ∷ pieces) zero inside = refl
 piece_knees-at crash slope (piece ∷ pieces) (suc k) inside = piece_knees-at crash piece.slope pieces k (omega arith)
 
 -- and it rises from the slope before to that of the piece
-piece_knees-rise : (term : Term) (pieces : List PieceRow) (k : ℕ) → k < length pieces → (knee_at (piece_knees term.crash term.slope pieces) k).rise ≡ rise_in term pieces (suc k)
+pub piece_knees-rise : (term : Term) (pieces : List PieceRow) (k : ℕ) → k < length pieces → (knee_at (piece_knees term.crash term.slope pieces) k).rise ≡ rise_in term pieces (suc k)
 piece_knees-rise term [] k inside = absurd (omega arith)
 piece_knees-rise term (piece ∷ pieces) zero inside = refl
 piece_knees-rise term (piece ∷ pieces) (suc zero) inside = piece_knees-rise (record term { slope = piece.slope }) pieces zero (omega arith)

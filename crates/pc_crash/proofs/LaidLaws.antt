@@ -1,5 +1,5 @@
 -- The activities laid out, one further.
-use Rattle.std.proofs.Common.{◌≡◌, ℕ, ◌+◌, ◌-◌, ◌*◌, ◌<◌, ◌≤◌, List, [], ◌∷◌, ◌++◌, length, map, take, drop, slice_range, refl, sym, ◌∙◌, ap, subst, ⊎_elim, arith, length-append, length-drop}
+use Rattle.std.proofs.Common.{◌≡◌, ℕ, ◌+◌, ◌-◌, ◌<◌, ◌≤◌, List, [], ◌∷◌, ◌++◌, length, take, drop, slice_range, refl, sym, ◌∙◌, ap, subst, ⊎_elim, arith, length-append, length-drop}
 use Rattle.std.proofs.lemmas.Bool.{cases_eq}
 use Rattle.std.proofs.lemmas.List.{get_or_append_left, get_or_push, length_push, take_more, take_all, drop_at, drop-append-le, take-append-le, map-append}
 use Rattle.pc_model.specs.declared.Arc.{Arc}
@@ -12,7 +12,7 @@ use Rattle.pc_model.specs.Schedule.{term_at}
 use Rattle.pc_model.specs.Walk.{arc_at}
 use Rattle.pc_crash.specs.declared.laying.Row.{Row}
 use Rattle.pc_crash.specs.KneeLists.{knee_list}
-use Rattle.pc_crash.specs.Laid.{AreLaid, IsRowOf, part_of, row_at}
+use Rattle.pc_crash.specs.Laid.{AreLaid, IsRowOf, row_at}
 
 -- no activity is laid out yet
 pub AreLaid-start : (arcs : List Arc) (terms : List Term) (pieces : List PieceRow) → AreLaid arcs terms pieces 0 [] []
@@ -21,6 +21,7 @@ AreLaid-start arcs terms pieces = record {
   same_terms = refl;
   small = omega arith;
   each = λ a below. absurd (omega arith);
+  apart = λ a b order below. absurd (omega arith);
 }
 
 -- a part of a list is the same after more is put behind it
@@ -51,12 +52,20 @@ AreLaid-push arcs terms pieces n rows knees more row laid inside same_arc same_t
   small = omega (arith, laid.small, length-append knees more);
   each = λ a below. ⊎_elim
       (λ same. subst (λ b. IsRowOf arcs terms pieces (knees ++ more) b (row_at (rows ++ row ∷ []) b)) (sym same) (subst (IsRowOf arcs terms pieces (knees ++ more) n) (sym (get_or_push rows row none n laid.one_each)) new))
-      (λ other. subst (IsRowOf arcs terms pieces (knees ++ more) a) (sym (get_or_append_left rows (row ∷ []) none a (omega (arith, laid.one_each)))) (IsRowOf-append arcs terms pieces knees more a (row_at rows a) (laid.each a (omega arith))))
+      (λ other. subst (IsRowOf arcs terms pieces (knees ++ more) a) (sym (kept a (omega arith))) (IsRowOf-append arcs terms pieces knees more a (row_at rows a) (laid.each a (omega arith))))
       (cases_eq a n);
+  apart = λ a b order below. ⊎_elim
+      (λ same. rw (kept a (omega arith), same, get_or_push rows row none n laid.one_each) (omega (arith, begins, (laid.each a (omega arith)).within)))
+      (λ other. rw (kept a (omega arith), kept b (omega arith)) (laid.apart a b order (omega arith)))
+      (cases_eq b n);
 }
   where
     none : Row
     none = record { arc = record { from = 0; to = 0 }; term = record { normal = 0; crash = 0; cost = 0; slope = 0 }; first = 0; count = 0 }
+
+    -- the rows before are those that were there
+    kept : (a : ℕ) → a < n → row_at (rows ++ row ∷ []) a ≡ row_at rows a
+    kept a below = get_or_append_left rows (row ∷ []) none a (omega (arith, laid.one_each))
 
     new : IsRowOf arcs terms pieces (knees ++ more) n row
     new = record {

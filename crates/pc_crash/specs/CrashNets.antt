@@ -1,5 +1,5 @@
 -- What the fields of a priced network say.
-use Rattle.std.specs.Prelude.{◌≡◌, length, map}
+use Rattle.std.specs.Prelude.{length, map}
 use Rattle.pc_model.specs.Network.{IsInRange, IsSound}
 use Rattle.pc_model.specs.Pieces.{ArePieces}
 use Rattle.pc_model.specs.Schedule.{AreTerms}

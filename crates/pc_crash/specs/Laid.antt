@@ -27,12 +27,13 @@ pub record IsRowOf (arcs : List Arc) (terms : List Term) (pieces : List PieceRow
   pub few : row.count ≤ MAX_PIECES_EACH + 1
   pub part : part_of knees row ≡ knee_list (term_at terms a) (pieces_of pieces a)
 
--- a row for each of the first n activities
+-- a row for each of the first n activities, and the knees of each before those of the next
 pub record AreLaid (arcs : List Arc) (terms : List Term) (pieces : List PieceRow) (n : ℕ) (rows : List Row) (knees : List Knee) : Type 0 where
   pub one_each : length rows ≡ n
   pub same_terms : map (λ row. row.term) rows ≡ take n terms
   pub small : length knees ≤ n * (MAX_PIECES_EACH + 1)
   pub each : (a : ℕ) → a < n → IsRowOf arcs terms pieces knees a (row_at rows a)
+  pub apart : (a b : ℕ) → a < b → b < n → (row_at rows a).first + (row_at rows a).count ≤ (row_at rows b).first
 
 -- each piece has a slope above the one before, the first above the given one
 abbrev pub IsRising : ℕ → List PieceRow → Type 0

@@ -2,6 +2,7 @@ pub mod Terms
 pub mod KneeLists
 pub mod Groups
 pub mod Laid
+pub mod Moved
 pub mod Priced
 pub mod Looks
 pub mod CrashNets

@@ -2,6 +2,7 @@
 //! of a unit rises.
 #![tactic(auto)]
 
+mod changing;
 mod costing;
 mod counting;
 mod crash_net;

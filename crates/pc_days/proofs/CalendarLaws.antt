@@ -1,14 +1,14 @@
 -- Counting the days of the calendar one by one gives each day its date.
-use Rattle.std.proofs.Common.{◌≡◌, ◌≢◌, ℕ, zero, suc, ◌+◌, ◌<◌, ◌≤◌, Bool, true, false, nat_lt, if◌then◌else◌, List, refl, sym, ◌∙◌, ap, subst, arith, ℤ, pos, negsuc, ◌+ℤ◌, ◌≤ℤ◌, unsigned_abs}
+use Rattle.std.proofs.Common.{◌≡◌, ◌≢◌, ℕ, zero, suc, ◌+◌, ◌<◌, ◌≤◌, Bool, true, false, nat_lt, if◌then◌else◌, List, refl, sym, ◌∙◌, ap, subst, arith, Ok, ℤ, pos, negsuc, ◌+ℤ◌, ◌≤ℤ◌, unsigned_abs}
 use Rattle.std.proofs.lemmas.Bool.Decides.{nat_tests}
 use Rattle.jiff_core.proofs.CalendarLemmas.{days_from_civil-day_count, days_in_month_bounds}
 use Rattle.jiff_core.proofs.DateLemmas.{days_from_civil-day, days_from_civil-next_month, days_from_civil-next_year, days_from_civil-max}
 use Rattle.jiff_core.proofs.SignedLemmas.{signed_arith}
 use Rattle.jiff_core.specs.Calendar.{IsCivilDate, days_from_civil, days_in_month}
 use Rattle.pc_days.specs.Calendar.{CalendarDay, calendar_day, first_day, next_day, text_of_day}
-use Rattle.pc_days.specs.Dates.{IsPrintedDay, NamesDay, date_text}
-use Rattle.pc_days.proofs.Form.{day_count-1900}
-use Rattle.pc_days.proofs.Reading.{NamesDay-same}
+use Rattle.pc_days.specs.Dates.{IsPrintedDay, NamesDay, NamesDeckDay, date_text, day_of}
+use Rattle.pc_days.proofs.Form.{day_count-1900, day_number_range}
+use Rattle.pc_days.proofs.Reading.{NamesDay-same, day_clause}
 
 -- the calendar day is a date, and lies so many days after 1 January 1900
 record Lies (n : ℕ) (today : CalendarDay) : Type 0 where
@@ -110,3 +110,11 @@ names_its_day day within =
 -- and is the one text that does
 pub text_of-day : (text : List ℕ) (day : ℤ) → IsPrintedDay day → NamesDay text day → text ≡ text_of_day day
 text_of-day text day within names = NamesDay-same text (text_of_day day) day names (names_its_day day within)
+
+-- a day that was read is written as it was read
+pub text_of-read : (text : List ℕ) (day : ℤ) → day_of text ≡ Ok day → text ≡ text_of_day day
+text_of-read text day is = from_deck ((day_clause text (day_of text) refl day).0 is)
+  where
+    from_deck : NamesDeckDay text day → text ≡ text_of_day day
+    from_deck (y, (m, (d, (years, (h, e))))) =
+        text_of-day text day (subst IsPrintedDay e (day_number_range y m d h.civil years.0)) (y, (m, (d, (h, e))))

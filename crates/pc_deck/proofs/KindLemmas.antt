@@ -24,7 +24,7 @@ pub word_of-kind : (field : List ℕ) (kind : Kind) → kind_of field ≡ Some k
 word_of-kind field kind h = among kinds field kind h
 
 -- a kind is the one that its word names
-kind_of-word : (kind : Kind) → kind_of (word_of kind) ≡ Some kind
+pub kind_of-word : (kind : Kind) → kind_of (word_of kind) ≡ Some kind
 kind_of-word Project = refl
 kind_of-word other = refl
 

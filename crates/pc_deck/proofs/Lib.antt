@@ -11,3 +11,12 @@ pub mod RefusalLemmas
 pub mod ToldLemmas
 pub mod SaysLemmas
 pub mod DeckLaws
+pub mod FaultlessLemmas
+pub mod WrittenLemmas
+pub mod RowsLemmas
+pub mod PutLemmas
+pub mod TitleLemmas
+pub mod LengthLemmas
+pub mod OrderLemmas
+pub mod TextLaws
+pub mod AgainLemmas

@@ -82,7 +82,7 @@ all_so : (kind : Kind) (P : CardOf kind → Type 0) (deck : Deck) → IsWithinLi
 all_so kind P deck limits follows = λ k d inside. so (get_or (list_of deck kind) k d) ((limits kind).fit k d inside)
   where
     so : (card : CardOf kind) → IsFit kind card → P card
-    so card (row, fields, is, fit) = subst P (sym is) (follows row fields fit)
+    so card (row, fields, is, fit, text) = subst P (sym is) (follows row fields fit)
 
 for_some : (terms : Option TermsCard) → All AreTermsWithin (as_list terms) → ForSome terms AreTermsWithin
 for_some None all = λ card is. absurd (let is' = is in cc)

@@ -3,6 +3,7 @@ use Rattle.std.proofs.Common.{◌≡◌, ℕ, ◌+◌, ◌≤◌, Bool, true, fa
 use Rattle.std.proofs.lemmas.List.{map-append}
 use Rattle.std.proofs.lemmas.List.Elements.{All-append, All-nil}
 use Rattle.std.proofs.lemmas.Bool.Decides.{nat_tests}
+use Rattle.std.specs.Str.{IsUtf8}
 use Rattle.pc_model.specs.Codes.{IsNamedOnce}
 use Rattle.pc_records.specs.Deck.{field_at}
 use Rattle.pc_faults.specs.declared.kind.Kind.{Kind}
@@ -70,7 +71,7 @@ none_yet None once = refl
 none_yet (Some project) once = absurd (let once' = once in cc)
 
 -- what one more card without a fault does to each list
-module _ (draft : Draft) (row : ℕ) (fields : List (List ℕ)) (old : IsDraftWithin draft) where
+module _ (draft : Draft) (row : ℕ) (fields : List (List ℕ)) (text : All IsUtf8 fields) (old : IsDraftWithin draft) where
   -- to that of its own kind
   own_list : (kind : Kind) → IsFaultless (seen_in draft) row fields kind → IsListWithin kind (version_of draft.project) (list_so_far draft kind ++ card_of kind row fields ∷ [])
   own_list kind known =
@@ -81,7 +82,7 @@ module _ (draft : Draft) (row : ℕ) (fields : List (List ℕ)) (old : IsDraftWi
       subst (λ (code : List ℕ). is_among code (map (entry_of kind).code (list_so_far draft kind)) ≡ false) (sym (own_code kind coded row fields))
       (among_codes (has_code_of_its_own kind) (field_at fields 1) (map (entry_of kind).code (list_so_far draft kind)) coded
       (subst (λ (codes : List (List ℕ)). is_among (field_at fields 1) codes ≡ false) (codes-are draft kind) known.differs)))
-      (row, fields, refl, fits (seen_in draft) row fields kind known)
+      (row, fields, refl, fits (seen_in draft) row fields kind known, text)
 
   -- the same where the card may tell the version
   own_then : (kind : Kind) → IsFaultless (seen_in draft) row fields kind → IsListWithin kind (version_of (with_card draft kind row fields).project) (list_so_far draft kind ++ card_of kind row fields ∷ [])
@@ -101,14 +102,14 @@ module _ (draft : Draft) (row : ℕ) (fields : List (List ℕ)) (old : IsDraftWi
       subst (λ (k : Kind). IsListWithin k (version_of (with_card draft kind row fields).project) (list_so_far draft k ++ card_of k row fields ∷ [])) (same_is kind other is) (own_then kind known)
 
 -- one more card without a fault keeps the cards within the limits
-pub next_within : (draft : Draft) (kind : Kind) (row : ℕ) (fields : List (List ℕ)) → IsDraftWithin draft → judge (seen_in draft) row fields ≡ Ok kind → IsDraftWithin (with_card draft kind row fields)
-next_within draft kind row fields old h =
+pub next_within : (draft : Draft) (kind : Kind) (row : ℕ) (fields : List (List ℕ)) → All IsUtf8 fields → IsDraftWithin draft → judge (seen_in draft) row fields ≡ Ok kind → IsDraftWithin (with_card draft kind row fields)
+next_within draft kind row fields text old h =
     let known = faultless (seen_in draft) row fields kind h in
     record {
       empty = λ none. absurd (let some = still_first (is_project kind) draft.project (project_of row fields) known.placed in let apart : true ≡ false = sym none ∙ some in cc);
       lists = λ other.
           subst (IsListWithin other (version_of (with_card draft kind row fields).project)) (sym (list-more draft row fields kind known other))
-          (list_then draft row fields old kind other (is_same kind other) known refl);
+          (list_then draft row fields text old kind other (is_same kind other) known refl);
     }
 
 -- a list within the limit of its version is within that of version 2
@@ -116,7 +117,7 @@ list_wider : (kind : Kind) (version : ℕ) (cards : List (CardOf kind)) → IsLi
 list_wider kind version cards old = record { few = wider kind version (length cards) old.few; fit = old.fit; differ = old.differ }
 
 end_within : IsListWithin End 2 (tt ∷ [])
-end_within = record { few = tt; fit = All-one (IsFit End) tt (0, [], refl, tt); differ = λ coded. absurd (let coded' = coded in cc) }
+end_within = record { few = tt; fit = All-one (IsFit End) tt (0, [], refl, tt, All-nil IsUtf8); differ = λ coded. absurd (let coded' = coded in cc) }
 
 -- a draft within the limits is a deck within the limits
 pub deck_within : (draft : Draft) (project : ProjectCard) → draft.project ≡ Some project → IsDraftWithin draft → (kind : Kind) → IsListWithin kind 2 (list_of (deck_with draft project) kind)

@@ -1,5 +1,5 @@
 -- ACCT,code,item,budget,title
-use Rattle.std.specs.Prelude.{ℕ, ◌≤◌, List, [], ◌∷◌, false, true}
+use Rattle.std.specs.Prelude.{ℕ, ◌≤◌, List, [], ◌∷◌, false, true, decimal}
 use Rattle.pc_records.specs.Deck.{field_at}
 use Rattle.pc_model.specs.declared.limits.TheConstants.{MAX_COST, MAX_ACCOUNTS}
 use Rattle.pc_cards.specs.Entry.{Entry, up_to}
@@ -26,11 +26,21 @@ account_of row fields = record {
 abbrev pub IsBudgetWithin : AcctCard → Type 0
 IsBudgetWithin account = account.budget ≤ MAX_COST
 
+-- its fields as they are written
+abbrev pub written_account : AcctCard → List (List ℕ)
+written_account account = account.code ∷ account.item ∷ decimal account.budget ∷ account.title ∷ []
+
+-- the card in another record
+abbrev pub account_at : ℕ → AcctCard → AcctCard
+account_at row account = record account { row = row }
+
 -- the kind
 abbrev pub account_kind : Entry CardLists
 account_kind = record {
   Card = AcctCard;
   spelled = account_of;
+  written = written_account;
+  at_row = account_at;
   slots = account_slots;
   least = 5;
   most = 5;

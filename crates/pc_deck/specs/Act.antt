@@ -1,5 +1,5 @@
 -- ACT,code,from,to,item,opt,likely,pess,normal,crash,cost,slope,title
-use Rattle.std.specs.Prelude.{ℕ, ◌≤◌, List, [], ◌∷◌, false, true}
+use Rattle.std.specs.Prelude.{ℕ, ◌≤◌, List, [], ◌∷◌, false, true, decimal}
 use Rattle.pc_records.specs.Deck.{field_at}
 use Rattle.pc_model.specs.declared.limits.TheConstants.{MAX_COST, MAX_DURATION, MAX_SLOPE, MAX_ACTIVITIES}
 use Rattle.pc_cards.specs.Entry.{Entry, growing}
@@ -44,11 +44,24 @@ pub record IsActWithin (act : ActCard) : Type 0 where
   pub cost : act.cost ≤ MAX_COST
   pub slope : act.slope ≤ MAX_SLOPE
 
+-- its fields as they are written
+abbrev pub written_act : ActCard → List (List ℕ)
+written_act act =
+    act.code ∷ act.from ∷ act.to ∷ act.item
+    ∷ decimal act.opt ∷ decimal act.likely ∷ decimal act.pess ∷ decimal act.normal ∷ decimal act.crash
+    ∷ decimal act.cost ∷ decimal act.slope ∷ act.title ∷ []
+
+-- the card in another record
+abbrev pub act_at : ℕ → ActCard → ActCard
+act_at row act = record act { row = row }
+
 -- the kind
 abbrev pub act_kind : Entry CardLists
 act_kind = record {
   Card = ActCard;
   spelled = act_of;
+  written = written_act;
+  at_row = act_at;
   slots = act_slots;
   least = 13;
   most = 13;

@@ -1,6 +1,7 @@
 -- ASOF,date
 use Rattle.std.specs.Prelude.{ℕ, List, [], ◌∷◌, false, true}
 use Rattle.pc_records.specs.Deck.{field_at}
+use Rattle.pc_days.specs.Calendar.{text_of_day}
 use Rattle.pc_cards.specs.Entry.{Entry, unlimited, no_code}
 use Rattle.pc_cards.specs.Forms.{Slot, day_in}
 use Rattle.pc_cards.specs.declared.form.Form.TheVariants as form
@@ -15,11 +16,21 @@ as_of_slots = (2, form.Date) ∷ []
 abbrev pub as_of_of : ℕ → List (List ℕ) → AsOfCard
 as_of_of row fields = record { row = row; day = day_in (field_at fields 1) }
 
+-- its fields as they are written
+abbrev pub written_as_of : AsOfCard → List (List ℕ)
+written_as_of card = text_of_day card.day ∷ []
+
+-- the card in another record
+abbrev pub as_of_at : ℕ → AsOfCard → AsOfCard
+as_of_at row card = record card { row = row }
+
 -- the kind
 abbrev pub as_of_kind : Entry CardLists
 as_of_kind = record {
   Card = AsOfCard;
   spelled = as_of_of;
+  written = written_as_of;
+  at_row = as_of_at;
   slots = as_of_slots;
   least = 2;
   most = 2;

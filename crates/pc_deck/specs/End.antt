@@ -8,6 +8,8 @@ abbrev pub end_kind : Entry CardLists
 end_kind = record {
   Card = Unit {0};
   spelled = λ row fields. tt;
+  written = λ card. [];
+  at_row = λ row card. tt;
   slots = [];
   least = 1;
   most = 1;

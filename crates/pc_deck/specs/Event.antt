@@ -17,11 +17,21 @@ event_slots = (2, form.Code) ∷ (3, form.Title) ∷ []
 abbrev pub event_of : ℕ → List (List ℕ) → EventCard
 event_of row fields = record { row = row; code = field_at fields 1; title = field_at fields 2 }
 
+-- its fields as they are written
+abbrev pub written_event : EventCard → List (List ℕ)
+written_event event = event.code ∷ event.title ∷ []
+
+-- the card in another record
+abbrev pub event_at : ℕ → EventCard → EventCard
+event_at row event = record event { row = row }
+
 -- the kind
 abbrev pub event_kind : Entry CardLists
 event_kind = record {
   Card = EventCard;
   spelled = event_of;
+  written = written_event;
+  at_row = event_at;
   slots = event_slots;
   least = 3;
   most = 3;

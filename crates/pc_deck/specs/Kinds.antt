@@ -38,7 +38,7 @@ entry_of Res = resource_kind
 entry_of Load = load_kind
 entry_of End = end_kind
 
--- all of them
+-- all of them, in the order in which the text of a deck has their cards
 abbrev pub kinds : List Kind
 kinds = Project ∷ AsOf ∷ Terms ∷ Wbs ∷ Event ∷ Act ∷ Piece ∷ Acct ∷ Charge ∷ ToGo ∷ Status ∷ Res ∷ Load ∷ End ∷ []
 

@@ -13,9 +13,11 @@ pub mod Load
 pub mod End
 pub mod Kinds
 pub mod Deck
+pub mod Text
 pub mod Judged
 pub mod Reading
 pub mod Within
+pub mod Titles
 pub mod Refusal
 pub mod Says
 pub mod Read

@@ -1,5 +1,5 @@
 -- LOAD,activity,resource,quantity
-use Rattle.std.specs.Prelude.{ℕ, ◌≤◌, List, [], ◌∷◌, false}
+use Rattle.std.specs.Prelude.{ℕ, ◌≤◌, List, [], ◌∷◌, false, decimal}
 use Rattle.pc_records.specs.Deck.{field_at}
 use Rattle.pc_model.specs.declared.limits.TheConstants.{MAX_COST, MAX_LOADS}
 use Rattle.pc_cards.specs.Entry.{Entry, up_to, no_code}
@@ -20,11 +20,21 @@ load_of row fields = record { row = row; activity = field_at fields 1; resource 
 abbrev pub IsLoadWithin : LoadCard → Type 0
 IsLoadWithin card = card.quantity ≤ MAX_COST
 
+-- its fields as they are written
+abbrev pub written_load : LoadCard → List (List ℕ)
+written_load card = card.activity ∷ card.resource ∷ decimal card.quantity ∷ []
+
+-- the card in another record
+abbrev pub load_at : ℕ → LoadCard → LoadCard
+load_at row card = record card { row = row }
+
 -- the kind
 abbrev pub load_kind : Entry CardLists
 load_kind = record {
   Card = LoadCard;
   spelled = load_of;
+  written = written_load;
+  at_row = load_at;
   slots = load_slots;
   least = 4;
   most = 4;

@@ -1,7 +1,8 @@
 -- CHARGE,account,date,amount and TOGO,account,date,amount
-use Rattle.std.specs.Prelude.{ℕ, ◌≤◌, List, [], ◌∷◌, false}
+use Rattle.std.specs.Prelude.{ℕ, ◌≤◌, List, [], ◌∷◌, false, decimal}
 use Rattle.pc_records.specs.Deck.{field_at}
 use Rattle.pc_model.specs.declared.limits.TheConstants.{MAX_COST, MAX_CHARGES, MAX_TOGOS}
+use Rattle.pc_days.specs.Calendar.{text_of_day}
 use Rattle.pc_cards.specs.Entry.{Entry, growing, no_code, up_to}
 use Rattle.pc_deck.specs.declared.limits.TheConstants.{SMALL_CHARGES}
 use Rattle.pc_cards.specs.Forms.{Slot, money, number_in, day_in}
@@ -21,11 +22,21 @@ money_of row fields = record { row = row; account = field_at fields 1; day = day
 abbrev pub IsAmountWithin : MoneyCard → Type 0
 IsAmountWithin card = card.amount ≤ MAX_COST
 
+-- its fields as they are written
+abbrev pub written_money : MoneyCard → List (List ℕ)
+written_money card = card.account ∷ text_of_day card.day ∷ decimal card.amount ∷ []
+
+-- the card in another record
+abbrev pub money_at : ℕ → MoneyCard → MoneyCard
+money_at row card = record card { row = row }
+
 -- the kind CHARGE
 abbrev pub charge_kind : Entry CardLists
 charge_kind = record {
   Card = MoneyCard;
   spelled = money_of;
+  written = written_money;
+  at_row = money_at;
   slots = money_slots;
   least = 4;
   most = 4;
@@ -41,6 +52,8 @@ abbrev pub togo_kind : Entry CardLists
 togo_kind = record {
   Card = MoneyCard;
   spelled = money_of;
+  written = written_money;
+  at_row = money_at;
   slots = money_slots;
   least = 4;
   most = 4;

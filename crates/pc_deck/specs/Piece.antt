@@ -1,5 +1,5 @@
 -- PIECE,activity,units,slope
-use Rattle.std.specs.Prelude.{ℕ, ◌≤◌, List, [], ◌∷◌, false}
+use Rattle.std.specs.Prelude.{ℕ, ◌≤◌, List, [], ◌∷◌, false, decimal}
 use Rattle.pc_records.specs.Deck.{field_at}
 use Rattle.pc_model.specs.declared.limits.TheConstants.{MAX_DURATION, MAX_SLOPE, MAX_PIECES}
 use Rattle.pc_cards.specs.Entry.{Entry, growing, no_code}
@@ -23,11 +23,21 @@ pub record IsPieceWithin (piece : PieceCard) : Type 0 where
   pub units : piece.units ≤ MAX_DURATION
   pub slope : piece.slope ≤ MAX_SLOPE
 
+-- its fields as they are written
+abbrev pub written_piece : PieceCard → List (List ℕ)
+written_piece piece = piece.activity ∷ decimal piece.units ∷ decimal piece.slope ∷ []
+
+-- the card in another record
+abbrev pub piece_at : ℕ → PieceCard → PieceCard
+piece_at row piece = record piece { row = row }
+
 -- the kind
 abbrev pub piece_kind : Entry CardLists
 piece_kind = record {
   Card = PieceCard;
   spelled = piece_of;
+  written = written_piece;
+  at_row = piece_at;
   slots = piece_slots;
   least = 4;
   most = 4;

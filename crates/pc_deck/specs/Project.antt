@@ -1,11 +1,12 @@
 -- PROJECT,code,start,end,date,days of a unit,directed end,title,version
-use Rattle.std.specs.Prelude.{ℕ, ◌≤◌, List, [], ◌∷◌, unwrap_or, false, true, None}
+use Rattle.std.specs.Prelude.{ℕ, ◌≤◌, List, [], ◌∷◌, unwrap_or, false, true, None, decimal}
 use Rattle.pc_records.specs.Deck.{field_at}
 use Rattle.std.specs.Option.{ForSome}
 use Rattle.pc_text.specs.Number.{number_of}
 use Rattle.pc_model.specs.declared.limits.TheConstants.{MAX_DIRECTED, MAX_UNIT_DAYS}
+use Rattle.pc_days.specs.Calendar.{text_of_day}
 use Rattle.pc_cards.specs.Entry.{Entry, unlimited, no_code}
-use Rattle.pc_cards.specs.Forms.{Slot, number_in, day_in}
+use Rattle.pc_cards.specs.Forms.{Slot, number_in, day_in, number_text}
 use Rattle.pc_cards.specs.declared.form.Form.TheVariants as form
 use Rattle.pc_deck.specs.declared.kinds.project.ProjectCard.{ProjectCard}
 use Rattle.pc_deck.specs.declared.kinds.CardLists.{CardLists}
@@ -41,11 +42,21 @@ pub record IsProjectWithin (project : ProjectCard) : Type 0 where
   pub version_some : 1 ≤ project.version
   pub version_within : project.version ≤ 2
 
+-- its fields as they are written
+abbrev pub written_project : ProjectCard → List (List ℕ)
+written_project project = project.code ∷ project.start ∷ project.end ∷ text_of_day project.start_day ∷ decimal project.unit_days ∷ number_text project.directed ∷ project.title ∷ decimal project.version ∷ []
+
+-- the card in another record
+abbrev pub project_at : ℕ → ProjectCard → ProjectCard
+project_at row project = record project { row = row }
+
 -- the kind; its card stands beside the lists
 abbrev pub project_kind : Entry CardLists
 project_kind = record {
   Card = ProjectCard;
   spelled = project_of;
+  written = written_project;
+  at_row = project_at;
   slots = project_slots;
   least = 8;
   most = 9;

@@ -16,11 +16,21 @@ resource_slots = (2, form.Code) ∷ (3, form.Title) ∷ []
 abbrev pub resource_of : ℕ → List (List ℕ) → ResCard
 resource_of row fields = record { row = row; code = field_at fields 1; title = field_at fields 2 }
 
+-- its fields as they are written
+abbrev pub written_resource : ResCard → List (List ℕ)
+written_resource resource = resource.code ∷ resource.title ∷ []
+
+-- the card in another record
+abbrev pub resource_at : ℕ → ResCard → ResCard
+resource_at row resource = record resource { row = row }
+
 -- the kind
 abbrev pub resource_kind : Entry CardLists
 resource_kind = record {
   Card = ResCard;
   spelled = resource_of;
+  written = written_resource;
+  at_row = resource_at;
   slots = resource_slots;
   least = 3;
   most = 3;

@@ -1,5 +1,5 @@
 -- TERMS,overhead,target,bonus,penalty
-use Rattle.std.specs.Prelude.{ℕ, ◌≤◌, List, [], ◌∷◌, false, true}
+use Rattle.std.specs.Prelude.{ℕ, ◌≤◌, List, [], ◌∷◌, false, true, decimal}
 use Rattle.pc_records.specs.Deck.{field_at}
 use Rattle.pc_model.specs.declared.limits.TheConstants.{MAX_TERMS}
 use Rattle.pc_cards.specs.Entry.{Entry, unlimited, no_code}
@@ -34,11 +34,21 @@ pub record AreTermsWithin (terms : TermsCard) : Type 0 where
   pub bonus : terms.bonus ≤ MAX_TERMS
   pub penalty : terms.penalty ≤ MAX_TERMS
 
+-- its fields as they are written
+abbrev pub written_terms : TermsCard → List (List ℕ)
+written_terms terms = decimal terms.overhead ∷ decimal terms.target ∷ decimal terms.bonus ∷ decimal terms.penalty ∷ []
+
+-- the card in another record
+abbrev pub terms_at : ℕ → TermsCard → TermsCard
+terms_at row terms = record terms { row = row }
+
 -- the kind
 abbrev pub terms_kind : Entry CardLists
 terms_kind = record {
   Card = TermsCard;
   spelled = terms_of;
+  written = written_terms;
+  at_row = terms_at;
   slots = terms_slots;
   least = 5;
   most = 5;

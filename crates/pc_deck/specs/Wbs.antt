@@ -4,7 +4,7 @@ use Rattle.pc_records.specs.Deck.{field_at}
 use Rattle.pc_text.specs.Code.{code_of}
 use Rattle.pc_cards.specs.Entry.{Entry, up_to}
 use Rattle.pc_model.specs.declared.limits.TheConstants.{MAX_ITEMS}
-use Rattle.pc_cards.specs.Forms.{Slot}
+use Rattle.pc_cards.specs.Forms.{Slot, code_text}
 use Rattle.pc_cards.specs.declared.form.Form.TheVariants as form
 use Rattle.pc_deck.specs.declared.kinds.wbs.ItemCard.{ItemCard}
 use Rattle.pc_deck.specs.declared.kinds.CardLists.{CardLists}
@@ -17,11 +17,21 @@ item_slots = (2, form.Code) ∷ (3, form.CodeOrNone) ∷ (4, form.Title) ∷ []
 abbrev pub item_of : ℕ → List (List ℕ) → ItemCard
 item_of row fields = record { row = row; code = field_at fields 1; parent = code_of (field_at fields 2); title = field_at fields 3 }
 
+-- its fields as they are written
+abbrev pub written_item : ItemCard → List (List ℕ)
+written_item item = item.code ∷ code_text item.parent ∷ item.title ∷ []
+
+-- the card in another record
+abbrev pub item_at : ℕ → ItemCard → ItemCard
+item_at row item = record item { row = row }
+
 -- the kind
 abbrev pub item_kind : Entry CardLists
 item_kind = record {
   Card = ItemCard;
   spelled = item_of;
+  written = written_item;
+  at_row = item_at;
   slots = item_slots;
   least = 4;
   most = 4;

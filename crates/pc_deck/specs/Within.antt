@@ -1,5 +1,6 @@
 -- What holds of every deck that was read.
 use Rattle.std.specs.Prelude.{◌≡◌, ℕ, ◌≤◌, true, List, [], length, map, All, Option, Some, None, is_none}
+use Rattle.std.specs.Str.{IsUtf8}
 use Rattle.pc_faults.specs.declared.kind.Kind.{Kind}
 use Rattle.pc_model.specs.Codes.{IsNamedOnce}
 use Rattle.pc_cards.specs.Forms.{AllFit}
@@ -13,12 +14,13 @@ abbrev pub IsUpTo : Option ℕ → ℕ → Type 0
 IsUpTo None count = Unit {0}
 IsUpTo (Some most) count = count ≤ most
 
--- the card is one that a record spells, whose fields are what they must be
+-- the card is one that a record spells, whose fields are text (UTF-8) and are what they must be
 abbrev pub IsFit : (kind : Kind) → CardOf kind → Type 0
-IsFit kind card = (row : ℕ) × (fields : List (List ℕ)) × (card ≡ card_of kind row fields) × AllFit (slots_of kind) fields
+IsFit kind card =
+    (row : ℕ) × (fields : List (List ℕ)) × (card ≡ card_of kind row fields) × AllFit (slots_of kind) fields × All IsUtf8 fields
 
--- the cards of a kind are no more than a deck of the version may have, the fields of each are what they must be, and no
--- two of them have one code of their own
+-- the cards of a kind are no more than a deck of the version may have, the fields of each are text and what they must be, and
+-- no two of them have one code of their own
 pub record IsListWithin (kind : Kind) (version : ℕ) (cards : List (CardOf kind)) : Type 0 where
   pub few : IsUpTo (limit_of version kind) (length cards)
   pub fit : All (IsFit kind) cards

@@ -1,5 +1,5 @@
 //! The cards so far, while a deck is read.
-ghost use Rattle.std.specs.Prelude.{◌≡◌, [], true, None, Some, Err, OnOk, IfErr};
+ghost use Rattle.std.specs.Prelude.{◌≡◌, [], true, None, Some, Err, IfOk, OnOk, IfErr};
 ghost use Rattle.pc_cards.specs.Findings.{fault_of_listed};
 ghost use Rattle.pc_deck.specs.Judged.{no_kind};
 ghost use Rattle.pc_faults.specs.declared.kind.Kind.TheVariants as kind;
@@ -25,7 +25,7 @@ pub struct Draft {
 impl Draft {
     ghost use Rattle.pc_deck.specs.Judged.{judge, place_of};
     ghost use Rattle.pc_deck.specs.Reading.{IsKept, no_cards, closed, count_in, seen_in, version_of};
-    ghost use Rattle.pc_deck.specs.Within.{IsDraftWithin};
+    ghost use Rattle.pc_deck.specs.Within.{IsDraftWithin, IsWithinLimits};
 
     /// No cards.
     pub fn new(alloc: Global) -> Draft
@@ -104,7 +104,8 @@ impl Draft {
     /// The cards of the deck, if its END card came; `end` is the number behind its last record.
     pub fn close(self, end: u32) -> Result<Cards, Fault>
         requires { IsDraftWithin self }
-        ensures { result ≡ closed self end }
+        ensures cards { result ≡ closed self end }
+        ensures within { IfOk result IsWithinLimits }
     {
         let Draft {
             project,

@@ -10,8 +10,10 @@
 mod cards;
 mod draft;
 mod kinds;
+pub mod laws;
 mod limits;
 mod read;
+mod text;
 
 pub use crate::cards::Cards;
 pub use crate::kinds::{

@@ -1,5 +1,5 @@
 //! Reading the cards of a deck, or its first fault.
-ghost use Rattle.std.specs.Prelude.{◌≡◌, ◌≤◌, ◌+◌, length, Ok, Err, IfOk, IfErr, OnOk};
+ghost use Rattle.std.specs.Prelude.{◌≡◌, true, ◌≤◌, ◌+◌, length, Ok, Err, IfOk, IfErr, OnOk};
 ghost use Rattle.std.specs.Str.{is_utf8};
 ghost use Rattle.pc_records.specs.Deck.{deck_records};
 ghost use Rattle.pc_faults.specs.First.{Refuses};
@@ -8,7 +8,8 @@ ghost use Rattle.pc_deck.specs.Reading.{cards_of, closed, read_from};
 ghost use Rattle.pc_cards.specs.Cards.{deck_cards};
 ghost use Rattle.pc_deck.specs.Read.{IsDeckOf};
 ghost use Rattle.pc_deck.specs.Refusal.{IsCardRefusal};
-ghost use Rattle.pc_deck.specs.Within.{IsDraftWithin};
+ghost use Rattle.pc_deck.specs.Titles.{AreTitlesText};
+ghost use Rattle.pc_deck.specs.Within.{IsDraftWithin, IsWithinLimits};
 
 use crate::cards::Cards;
 use crate::draft::Draft;
@@ -33,6 +34,8 @@ const ROW_FIELDS: usize = 64;
 pub fn read_cards(alloc: Global, bytes: &[u8]) -> Result<Cards, DeckError>
     requires { length bytes.now ≤ longest_deck }
     ensures accepted { IfOk result (IsDeckOf bytes.now) }
+    ensures within { IfOk result IsWithinLimits }
+    ensures titles { IfOk result AreTitlesText }
     ensures first { IfErr result (Refuses (IsCardRefusal bytes.now)) }
 {
     if !is_utf8(bytes) {
@@ -49,8 +52,10 @@ fn is_utf8(bytes: &[u8]) -> bool
 
 /// The cards of a deck that is UTF-8, or its first fault.
 fn cards_of(alloc: Global, bytes: &[u8]) -> Result<Cards, DeckError>
-    requires { length bytes.now ≤ DECK_LIMIT }
+    requires short { length bytes.now ≤ DECK_LIMIT }
+    requires utf8 { is_utf8 bytes.now ≡ true }
     ensures cards { IfOk result (λ cards. cards_of bytes.now ≡ Ok cards) }
+    ensures within { IfOk result IsWithinLimits }
     ensures fault { IfErr result (Refuses (λ fault. cards_of bytes.now ≡ Err fault)) }
 {
     let mut draft = Draft::new(alloc);
@@ -67,6 +72,7 @@ fn cards_of(alloc: Global, bytes: &[u8]) -> Result<Cards, DeckError>
 /// Takes the cards of a deck one by one, up to the first fault, and gives the number behind the last record.
 fn take_all(alloc: Global, bytes: &[u8], draft: &mut Draft) -> Result<u32, DeckError>
     requires short { length bytes.now ≤ DECK_LIMIT }
+    requires utf8 { is_utf8 bytes.now ≡ true }
     requires within { IsDraftWithin draft.old }
     ensures cards { IfOk result (λ end. closed draft.new end ≡ read_from draft.old (length (deck_records bytes.now) + 1) (deck_cards bytes.now)) }
     ensures within { OnOk result (IsDraftWithin draft.new) }

@@ -13,7 +13,6 @@ use Rattle.pc_model.specs.Pieces.{ArePieces, slope_in, units_of}
 use Rattle.pc_model.specs.Schedule.{AreTerms, term_at}
 use Rattle.pc_crash.specs.Priced.{ArePiecesWithinLimits, piece_at}
 use Rattle.pc_crash.specs.Terms.{AreWithinLimits}
-use Rattle.pc_accounts.specs.Amounts.{AreEntriesOf}
 use Rattle.pc_accounts.specs.declared.entry.Entry.{Entry}
 use Rattle.pc_times.specs.Times.{AreLengths}
 use Rattle.pc_times.specs.declared.state.ActState.{ActState}
@@ -26,8 +25,6 @@ use Rattle.pc_deck.specs.Terms.{AreTermsWithin}
 use Rattle.pc_deck.specs.Within.{IsWithinLimits}
 use Rattle.pc_deck.proofs.NumberLemmas.{acts-within, loads-within, pieces-within, project-within, terms-within}
 use Rattle.pc_project.specs.Project.{Project, accounts_in, arc_of, charges_in, counts_of, expected_of, heading_of, load_of, network_of, piece_of, pieces_in, place_of, project_in, row_of, rows_of, statuses_in, term_of, terms_in, time_terms_of, togos_in, variance_in}
-use Rattle.pc_project.specs.DisorderFaults.{as_of_in}
-use Rattle.pc_project.specs.Figures.{AreStatesOf, IsProjectOfDeck}
 use Rattle.pc_project.specs.Misfit.{HasNoMisfit}
 use Rattle.pc_project.specs.declared.load.LoadItem.{LoadItem}
 use Rattle.pc_project.specs.PieceFaults.{HasNoPieceFault, pieces_before, one_too_many, not_rising, none_left}
@@ -171,6 +168,7 @@ time_terms_of_deck deck (Some card) none within is =
 -- the project of cards that make one
 pub project_in-planned : (deck : Deck) (entries : List Entry) (states : List ActState) → MakesProject deck → IsWithinLimits deck → HasFigures (project_in deck entries states) → IsPlanned (project_in deck entries states)
 project_in-planned deck entries states makes limits figures = record {
+  own = record { within = limits; makes = makes; is = record { lists = refl; entries = figures.entries; states = figures.states } };
   in_range = network_of-in_range deck makes.cards;
   sound = makes.sound;
   tree = makes.tree;
@@ -200,10 +198,18 @@ project_in-planned deck entries states makes limits figures = record {
   figures = figures;
 }
 
--- the project of a deck, from its parts
-pub project_in-is : (deck : Deck) (project : Project) → project.heading ≡ heading_of deck → project.network ≡ network_of deck → project.tree ≡ rows_of deck → project.events ≡ event_codes deck → project.activities ≡ act_codes deck → project.places ≡ map (place_of deck) deck.acts → project.terms ≡ map term_of deck.acts → project.expected ≡ map (expected_of deck) deck.acts → project.variances ≡ map (variance_in deck) deck.acts → project.items ≡ item_codes deck → project.titles ≡ map (λ item. item.title) deck.items → project.pieces ≡ pieces_in deck → project.resources ≡ resource_codes deck → project.loads ≡ map (load_of deck) deck.loads → project.accounts ≡ accounts_in deck → project.charges ≡ charges_in deck → project.togos ≡ togos_in deck → project.statuses ≡ statuses_in deck → project.time_terms ≡ time_terms_of deck.terms → project.counts ≡ counts_of deck → project ≡ project_in deck project.entries project.states
-project_in-is deck project heading network tree events activities places terms expected variances items titles pieces resources loads accounts charges togos statuses time_terms counts =
+-- a project is that of the deck that it keeps, where its lists are the deck's
+pub project_in-is : (deck : Deck) (project : Project) → project.deck ≡ deck → project.heading ≡ heading_of deck →
+    project.network ≡ network_of deck → project.tree ≡ rows_of deck → project.events ≡ event_codes deck → project.activities ≡ act_codes deck →
+    project.places ≡ map (place_of deck) deck.acts → project.terms ≡ map term_of deck.acts → project.expected ≡ map (expected_of deck) deck.acts →
+    project.variances ≡ map (variance_in deck) deck.acts → project.items ≡ item_codes deck →
+    project.titles ≡ map (λ item. item.title) deck.items → project.pieces ≡ pieces_in deck → project.resources ≡ resource_codes deck →
+    project.loads ≡ map (load_of deck) deck.loads → project.accounts ≡ accounts_in deck → project.charges ≡ charges_in deck →
+    project.togos ≡ togos_in deck → project.statuses ≡ statuses_in deck → project.time_terms ≡ time_terms_of deck.terms →
+    project.counts ≡ counts_of deck → project ≡ project_in deck project.entries project.states
+project_in-is deck project own heading network tree events activities places terms expected variances items titles pieces resources loads accounts charges togos statuses time_terms counts =
     λ i. record {
+      deck = own i;
       heading = heading i;
       network = network i;
       tree = tree i;
@@ -227,15 +233,3 @@ project_in-is deck project heading network tree events activities places terms e
       time_terms = time_terms i;
       counts = counts i;
     }
-
--- a project is that of the deck whose lists it has, with entries and states that the deck's cards make
-pub IsProjectOfDeck-made : (deck : Deck) (project : Project) → project ≡ project_in deck project.entries project.states →
-    AreEntriesOf (accounts_in deck) (charges_in deck) (togos_in deck) (as_of_in deck) project.entries →
-    AreStatesOf deck.project.start_day (statuses_in deck) (length deck.acts) project.states →
-    IsProjectOfDeck deck project
-IsProjectOfDeck-made deck project is made far = record {
-  lists = is;
-  entries = subst (λ (p : Project). AreEntriesOf p.accounts p.charges p.togos p.heading.as_of project.entries) (sym is) made;
-  states = subst (λ (p : Project). AreStatesOf p.heading.start_day p.statuses (length p.network.arcs) project.states) (sym is)
-      (subst (λ n. AreStatesOf deck.project.start_day (statuses_in deck) n project.states) (sym (length-map deck.acts (arc_of deck))) far);
-}

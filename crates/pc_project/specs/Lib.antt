@@ -1,5 +1,6 @@
 pub mod Project
 pub mod Records
+pub mod Kept
 pub mod Figures
 pub mod Misfit
 pub mod First

@@ -1,33 +1,41 @@
 -- The project that the parts of a project hold.
+use Rattle.std.specs.Prelude.{map}
+use Rattle.pc_deck.specs.Deck.{Deck, item_codes, resource_codes}
+use Rattle.pc_project.specs.declared.plan.Plan.{Plan}
 use Rattle.pc_project.specs.declared.project.Project.TheInside.{Inside}
-use Rattle.pc_project.specs.Project.{Project}
+use Rattle.pc_project.specs.Project.{Project, counts_of, heading_of, time_terms_of}
 use Rattle.pc_project.specs.Planned.{IsPlanned}
 
-abbrev pub project_from : Inside → Project
-project_from a = record {
-  heading = a.heading;
-  network = a.net;
-  tree = a.tree;
-  events = a.events.items;
-  activities = a.activities.items;
-  places = a.places.items;
-  terms = a.terms.items;
-  expected = a.expected.items;
-  variances = a.variances.items;
-  items = a.items.items;
-  titles = a.titles.items;
-  pieces = a.pieces.items;
-  resources = a.resources.items;
-  loads = a.loads.items;
-  accounts = a.accounts.items;
-  charges = a.charges.items;
-  togos = a.togos.items;
-  entries = a.book;
-  statuses = a.statuses.items;
-  states = a.states.items;
-  time_terms = a.time_terms;
-  counts = a.counts;
+-- the project of the cards of a deck, and of what they come to
+abbrev pub project_with : Deck → Plan → Project
+project_with deck plan = record {
+  deck = deck;
+  heading = heading_of deck;
+  network = plan.net;
+  tree = plan.tree;
+  events = plan.events.items;
+  activities = plan.activities.items;
+  places = plan.places.items;
+  terms = plan.terms.items;
+  expected = plan.expected.items;
+  variances = plan.variances.items;
+  items = item_codes deck;
+  titles = map (λ item. item.title) deck.items;
+  pieces = plan.pieces.items;
+  resources = resource_codes deck;
+  loads = plan.loads.items;
+  accounts = plan.accounts.items;
+  charges = plan.charges.items;
+  togos = plan.togos.items;
+  entries = plan.book;
+  statuses = plan.statuses.items;
+  states = plan.states.items;
+  time_terms = time_terms_of deck.terms;
+  counts = counts_of deck;
 }
+
+abbrev pub project_from : Inside → Project
+project_from a = project_with a.cards a.plan
 
 abbrev pub IsPlannedInside : Inside → Type 0
 IsPlannedInside a = IsPlanned (project_from a)

@@ -16,7 +16,9 @@ use Rattle.pc_status.specs.Statuses.{AreInOrder, AreKnown}
 use Rattle.pc_times.specs.Forecast.{AreStates}
 use Rattle.pc_times.specs.Times.{AreLengths}
 use Rattle.pc_model.specs.declared.limits.TheConstants.{MAX_COST, MAX_DIRECTED, MAX_EVENTS, MAX_ITEMS, MAX_LOADS, MAX_RESOURCES, MAX_STATUSES, MAX_UNIT_DAYS, MAX_VARIANCE}
-use Rattle.pc_project.specs.Figures.{AreAccounts, AreFigures, AreStatesOf, work_rows}
+use Rattle.pc_deck.specs.Within.{IsWithinLimits}
+use Rattle.pc_project.specs.Figures.{AreAccounts, AreFigures, AreStatesOf, IsProjectOfDeck, work_rows}
+use Rattle.pc_project.specs.Refusal.{MakesProject}
 use Rattle.pc_project.specs.Project.{Project}
 use Rattle.pc_project.specs.declared.load.LoadItem.{LoadItem}
 
@@ -43,10 +45,17 @@ pub record HasFigures (project : Project) : Type 0 where
   pub states : AreStatesOf project.heading.start_day project.statuses (length project.network.arcs) project.states
   pub small_states : AreStates project.network project.states
 
--- the network is sound and the items are a tree; each activity has its term and the pieces of its cost within the limits,
+-- the project is that of the deck which it keeps, whose cards are within the limits and make a project
+pub record IsOfItsDeck (project : Project) : Type 0 where
+  pub within : IsWithinLimits project.deck
+  pub makes : MakesProject project.deck
+  pub is : IsProjectOfDeck project.deck project
+
+-- it is the project of its deck; the network is sound and the items are a tree; each activity has its term and the pieces of its cost within the limits,
 -- its expected time, its variance and its item; each event, activity and item has its code, no event and no activity that
 -- of another; loads and terms of time are within their limits; and it has its figures
 pub record IsPlanned (project : Project) : Type 0 where
+  pub own : IsOfItsDeck project
   pub in_range : IsInRange project.network
   pub sound : IsSound project.network
   pub tree : IsTree project.tree

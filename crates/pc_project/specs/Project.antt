@@ -25,18 +25,28 @@ use Rattle.pc_deck.specs.declared.kinds.terms.TermsCard.{TermsCard}
 use Rattle.pc_deck.specs.declared.kinds.wbs.ItemCard.{ItemCard}
 use Rattle.pc_deck.specs.Deck.{Deck, act_codes, event_codes, item_codes, event_named, item_named, account_named, act_named, resource_named, resource_codes}
 use Rattle.pc_project.specs.declared.heading.Counts.{Counts}
-use Rattle.pc_project.specs.declared.heading.Heading.{Heading}
 use Rattle.pc_model.specs.declared.TimeTerms.{TimeTerms}
 use Rattle.pc_project.specs.declared.activity.Activity.{Activity}
 use Rattle.pc_project.specs.declared.load.LoadItem.{LoadItem}
 use Rattle.pc_project.specs.declared.placed.Placement.{Placement}
 
+-- what a project is called, when it starts and the day that its figures are of, how many days a unit is, and the end to be
+-- met, in days from the start, where one is given
+pub record Heading : Type 0 where
+  pub code : List ℕ
+  pub start_day : ℤ
+  pub as_of : ℤ
+  pub unit_days : ℕ
+  pub directed : Option ℕ
+
 -- what a project is: what it is called and when, the network of its activities, the tree of its items, and the lists
 -- of its events (codes), its activities (codes, items, what each may last and cost, expected times in sixths of a day
 -- and their variances in thirty-sixths of a square day), the further pieces of their costs, its items (codes, titles),
 -- its resources (codes) and the loads on them, its accounts, the charges and the amounts to go of these and what each
--- account has come to, and the statuses of its activities and how far each is, all in card order; and what time costs
+-- account has come to, and the statuses of its activities and how far each is, all in card order; and what time costs.
+-- Beside these it is the deck of its cards, which say what no number does: titles, codes of accounts, estimates
 pub record Project : Type 0 where
+  pub deck : Deck
   pub heading : Heading
   pub network : Network
   pub tree : List ItemRow
@@ -214,6 +224,7 @@ counts_of deck = record {
 -- the project of a deck whose accounts have come to these entries and whose activities are that far
 abbrev pub project_in : Deck → List Entry → List ActState → Project
 project_in deck entries states = record {
+  deck = deck;
   heading = heading_of deck;
   network = network_of deck;
   tree = rows_of deck;

@@ -18,8 +18,8 @@ impl Project {
         ensures cost { result ≡ activity_cost self.now.terms (knees_of self.now.terms self.now.pieces) a duration }
         ensures limit { result ≤ MAX_ACTIVITY_COST }
     {
-        let own = pieces_of(&self.pieces, a);
-        cost_with(self.terms[a as usize], own.as_slice(), duration)
+        let own = pieces_of(&self.plan.pieces, a);
+        cost_with(self.plan.terms[a as usize], own.as_slice(), duration)
     }
 }
 

@@ -5,9 +5,11 @@
 
 mod activity;
 mod costing;
+mod estimates;
 mod figures;
 mod first;
 mod heading;
+mod kept;
 mod leaves;
 mod lists;
 mod load;
@@ -18,6 +20,7 @@ mod packages;
 mod phases;
 mod pieces;
 mod placed;
+mod plan;
 mod pricing;
 mod progress;
 mod project;
@@ -28,6 +31,7 @@ mod togos;
 mod tree;
 
 pub use crate::activity::Activity;
+pub use crate::estimates::Estimates;
 pub use crate::heading::Counts;
 pub use crate::load::LoadItem;
 pub use crate::phases::project_of;

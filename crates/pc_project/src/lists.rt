@@ -2,7 +2,7 @@
 ghost use Rattle.std.specs.Prelude.{◌≡◌, ◌≤◌, All, map, IfOk};
 ghost use Rattle.pc_model.specs.declared.limits.TheConstants.{MAX_UNIT_DAYS};
 ghost use Rattle.pc_times.specs.Estimates.{expected_time, variance_of};
-ghost use Rattle.pc_deck.specs.Deck.{act_codes, event_codes, item_codes, resource_codes};
+ghost use Rattle.pc_deck.specs.Deck.{act_codes, event_codes, item_codes};
 ghost use Rattle.pc_deck.specs.Act.{IsActWithin};
 ghost use Rattle.pc_deck.specs.Within.{IsWithinLimits};
 ghost use Rattle.pc_project.specs.Misfit.{IsInOrder};
@@ -11,11 +11,11 @@ ghost use Rattle.pc_project.specs.Project.{expected_of, place_of, placement_of, 
 use crate::placed::Placement;
 use pc_deck::{ActCard, Cards};
 use pc_model::{Arc, Term};
-use pc_text::{Code, Title};
+use pc_text::Code;
 use pc_times::{expected_sixths, variance_36};
 use std::alloc::{AllocError, Global};
 
-/// The lists of a project's activities, events and items.
+/// The lists of a project's activities and events.
 #[derive(Drop)]
 pub(crate) struct Lists {
     pub events: Vec<Code>,
@@ -24,9 +24,6 @@ pub(crate) struct Lists {
     pub terms: Vec<Term>,
     pub expected: Vec<u64>,
     pub variances: Vec<u64>,
-    pub items: Vec<Code>,
-    pub titles: Vec<Title>,
-    pub resources: Vec<Code>,
 }
 
 /// The lists of the cards.
@@ -43,9 +40,6 @@ pub(crate) fn lists_of(
     ensures terms { IfOk result (λ lists. lists.terms.items ≡ map term_of cards.now.acts) }
     ensures expected { IfOk result (λ lists. lists.expected.items ≡ map (expected_of cards.now) cards.now.acts) }
     ensures variances { IfOk result (λ lists. lists.variances.items ≡ map (variance_in cards.now) cards.now.acts) }
-    ensures items { IfOk result (λ lists. lists.items.items ≡ item_codes cards.now) }
-    ensures titles { IfOk result (λ lists. lists.titles.items ≡ map (λ item. item.title) cards.now.items) }
-    ensures resources { IfOk result (λ lists. lists.resources.items ≡ resource_codes cards.now) }
     ensures within { IsWithinLimits cards.now }
 {
     let acts = cards.acts();
@@ -57,9 +51,6 @@ pub(crate) fn lists_of(
         terms: terms(alloc, acts)?,
         expected: expected_times(alloc, acts, unit_days)?,
         variances: variances(alloc, acts, unit_days)?,
-        items: codes_of_items(alloc, cards)?,
-        titles: titles(alloc, cards)?,
-        resources: codes_of_resources(alloc, cards)?,
     })
 }
 
@@ -82,24 +73,6 @@ pub(crate) fn codes_of_items(alloc: Global, cards: &Cards) -> Result<Vec<Code>, 
     ensures { IfOk result (λ codes. codes.items ≡ item_codes cards.now) }
 {
     cards.items().iter().map(|item| item.code).collect(alloc)
-}
-
-/// The codes of the resources.
-fn codes_of_resources(alloc: Global, cards: &Cards) -> Result<Vec<Code>, AllocError>
-    ensures { IfOk result (λ codes. codes.items ≡ resource_codes cards.now) }
-{
-    cards
-        .resources()
-        .iter()
-        .map(|resource| resource.code)
-        .collect(alloc)
-}
-
-/// The titles of the items.
-fn titles(alloc: Global, cards: &Cards) -> Result<Vec<Title>, AllocError>
-    ensures { IfOk result (λ titles. titles.items ≡ map (λ item. item.title) cards.now.items) }
-{
-    cards.items().iter().map(|item| item.title).collect(alloc)
 }
 
 /// The items of the activities.

@@ -5,25 +5,25 @@ ghost use Rattle.pc_faults.specs.First.{Refuses};
 ghost use Rattle.pc_project.specs.DisorderFaults.{as_of_in};
 ghost use Rattle.pc_project.specs.Figures.{AreStatesOf, IsProjectOfDeck};
 ghost use Rattle.pc_project.specs.Numbered.{AreNumbersOf};
+ghost use Rattle.pc_project.specs.Parts.{project_with};
+ghost use Rattle.pc_project.specs.Planned.{IsPlanned};
 ghost use Rattle.pc_project.specs.PieceFaults.{HasNoPieceFault};
-ghost use Rattle.pc_project.specs.Project.{accounts_in, charges_in, counts_of, heading_of, network_of, rows_of, statuses_in, time_terms_of, togos_in};
+ghost use Rattle.pc_project.specs.Project.{accounts_in, charges_in, network_of, rows_of, statuses_in, togos_in};
 ghost use Rattle.pc_project.specs.Refusal.{HasSoundFigures, HasSoundPlan, IsRefusedWith, MakesProject};
 ghost use Rattle.pc_project.specs.TermsFaults.{HasNoTermsFault};
 
-use crate::heading::{Counts, Heading};
 use crate::lists::lists_of;
 use crate::network::net_of;
 use crate::numbers::{Numbers, numbers_of};
 use crate::pieces::check_pieces;
+use crate::plan::Plan;
 use crate::progress::{Progress, progress_of};
 use crate::project::Project;
-use crate::statuses::as_of;
 use crate::terms::terms_fault;
 use crate::tree::tree_of;
 use pc_accounts::Book;
 use pc_deck::Cards;
 use pc_faults::DeckError;
-use pc_model::TimeTerms;
 use pc_net::Net;
 use pc_times::ActState;
 use pc_wbs::Tree;
@@ -34,20 +34,22 @@ use std::alloc::{AllocError, Global};
 /// stand on, or else of the budgets of packages, or else of statuses and as-of, or else of second amounts to go, or else of
 /// the pieces of the activities' costs, or else of the terms of time.
 ///
-/// It takes time in proportion to the cards.
+/// It takes time in proportion to the cards, and keeps them.
 pub fn project_of(alloc: Global, cards: Cards) -> Result<Project, DeckError>
     ensures project { IfOk result (IsProjectOfDeck cards) }
     ensures makes { IfOk result (λ _. MakesProject cards) }
     ensures refused { IfErr result (Refuses (IsRefusedWith cards)) }
 {
-    judged(alloc, &cards)
+    match plan_of(alloc, &cards) {
+        Ok(plan) => Ok(Project { cards, plan }),
+        Err(error) => Err(error),
+    }
 }
 
-/// What `project_of` answers, while the cards are kept: one phase after another, each of which may take it that those
-/// before it found no fault, and answers its own first one.
-fn judged(alloc: Global, cards: &Cards) -> Result<Project, DeckError>
-    ensures project { IfOk result (IsProjectOfDeck cards.now) }
-    ensures makes { IfOk result (λ _. MakesProject cards.now) }
+/// What the cards come to, or the first fault that keeps them from making a project: one phase after another, each of which
+/// may take it that those before it found no fault, and answers its own first one.
+fn plan_of(alloc: Global, cards: &Cards) -> Result<Plan, DeckError>
+    ensures plan { IfOk result (λ plan. IsPlanned (project_with cards.now plan)) }
     ensures refused { IfErr result (Refuses (IsRefusedWith cards.now)) }
 {
     let numbers = match numbers_of(alloc, cards) {
@@ -71,7 +73,7 @@ fn judged(alloc: Global, cards: &Cards) -> Result<Project, DeckError>
     }
     let Progress { book, states } = progress;
     match planned(alloc, cards, numbers, tree, net, book, states) {
-        Ok(project) => Ok(project),
+        Ok(plan) => Ok(plan),
         Err(_) => Err(DeckError::OutOfMemory),
     }
 }
@@ -94,36 +96,7 @@ fn check_costs(alloc: Global, cards: &Cards, numbers: &Numbers) -> Result<(), De
     }
 }
 
-/// What the cards say of the project as a whole.
-fn heading(cards: &Cards) -> Heading
-    ensures { result ≡ heading_of cards.now }
-{
-    let card = cards.project();
-    Heading {
-        code: card.code,
-        start_day: card.start_day,
-        as_of: as_of(cards),
-        unit_days: card.unit_days,
-        directed: card.directed,
-    }
-}
-
-/// How many cards of each kind there are.
-fn counts(cards: &Cards) -> Counts
-    ensures { result ≡ counts_of cards.now }
-{
-    Counts {
-        events: cards.events().len() as u64,
-        activities: cards.acts().len() as u64,
-        items: cards.items().len() as u64,
-        accounts: cards.accounts().len() as u64,
-        charges: cards.charges().len() as u64,
-        togos: cards.togos().len() as u64,
-        statuses: cards.statuses().len() as u64,
-    }
-}
-
-/// The project of cards that make one, around its tree, its network, its book and its states.
+/// What cards come to that make a project, around its tree, its network, its book and its states.
 fn planned(
     alloc: Global,
     cards: &Cards,
@@ -132,18 +105,17 @@ fn planned(
     net: Net,
     book: Book,
     states: Vec<ActState>,
-) -> Result<Project, AllocError>
+) -> Result<Plan, AllocError>
     requires makes { MakesProject cards.now }
     requires numbers { AreNumbersOf cards.now numbers }
     requires tree { tree ≡ rows_of cards.now }
     requires network { net ≡ network_of cards.now }
     requires entries { AreEntriesOf (accounts_in cards.now) (charges_in cards.now) (togos_in cards.now) (as_of_in cards.now) book }
     requires states { AreStatesOf cards.now.project.start_day (statuses_in cards.now) (length cards.now.acts) states.items }
-    ensures { IfOk result (IsProjectOfDeck cards.now) }
+    ensures { IfOk result (λ plan. IsPlanned (project_with cards.now plan)) }
 {
     let lists = lists_of(alloc, cards, &numbers.placements)?;
-    Ok(Project {
-        heading: heading(cards),
+    Ok(Plan {
         net,
         tree,
         events: lists.events,
@@ -152,10 +124,7 @@ fn planned(
         terms: lists.terms,
         expected: lists.expected,
         variances: lists.variances,
-        items: lists.items,
-        titles: lists.titles,
         pieces: numbers.pieces,
-        resources: lists.resources,
         loads: numbers.loads,
         accounts: numbers.figures.accounts,
         charges: numbers.figures.charges,
@@ -163,27 +132,5 @@ fn planned(
         book,
         statuses: numbers.figures.statuses,
         states,
-        time_terms: time_terms(cards),
-        counts: counts(cards),
     })
-}
-
-/// What time costs.
-fn time_terms(cards: &Cards) -> TimeTerms
-    ensures { result ≡ time_terms_of cards.now.terms }
-{
-    match cards.terms() {
-        Some(card) => TimeTerms {
-            overhead: card.overhead,
-            target: card.target,
-            bonus: card.bonus,
-            penalty: card.penalty,
-        },
-        None => TimeTerms {
-            overhead: 0,
-            target: 0,
-            bonus: 0,
-            penalty: 0,
-        },
-    }
 }

@@ -19,12 +19,12 @@ impl Project {
     {
         CrashNet::build(
             alloc,
-            &self.net,
-            &self.terms,
-            &self.pieces,
-            self.heading.code,
-            &self.events,
-            &self.activities,
+            &self.plan.net,
+            &self.plan.terms,
+            &self.plan.pieces,
+            self.cards.project().code,
+            &self.plan.events,
+            &self.plan.activities,
         )
     }
 }

@@ -7,11 +7,14 @@ ghost use Rattle.pc_project.specs.Planned.{IsPlanned};
 ghost use Rattle.pc_project.specs.Project.{activity_at};
 
 use crate::activity::Activity;
-use crate::heading::{Counts, Heading};
+use crate::heading::{Counts, count_cards, time_terms};
 use crate::load::LoadItem;
+use crate::plan::Plan;
+use crate::statuses::as_of;
 use pc_accounts::{AcctRow, Book, MoneyRow};
 use pc_days::{Day, days_between};
-use pc_model::{PieceRow, Term, TimeTerms};
+use pc_deck::Cards;
+use pc_model::{PieceRow, Term};
 use pc_net::Net;
 use pc_status::StatusRow;
 use pc_text::{Code, Title};
@@ -20,30 +23,12 @@ use pc_wbs::Tree;
 use std::marker::Model;
 
 /// What a deck says, with numbers for codes: events, activities and items are counted in card order from 0.
+///
+/// It keeps the cards themselves, so that nothing that they say is lost.
 #[derive(Drop)]
 pub struct Project {
-    pub(crate) heading: Heading,
-    pub(crate) net: Net,
-    pub(crate) tree: Tree,
-    pub(crate) events: Vec<Code>,
-    pub(crate) activities: Vec<Code>,
-    pub(crate) places: Vec<u32>,
-    pub(crate) terms: Vec<Term>,
-    pub(crate) expected: Vec<u64>,
-    pub(crate) variances: Vec<u64>,
-    pub(crate) items: Vec<Code>,
-    pub(crate) titles: Vec<Title>,
-    pub(crate) pieces: Vec<PieceRow>,
-    pub(crate) resources: Vec<Code>,
-    pub(crate) loads: Vec<LoadItem>,
-    pub(crate) accounts: Vec<AcctRow>,
-    pub(crate) charges: Vec<MoneyRow>,
-    pub(crate) togos: Vec<MoneyRow>,
-    pub(crate) book: Book,
-    pub(crate) statuses: Vec<StatusRow>,
-    pub(crate) states: Vec<ActState>,
-    pub(crate) time_terms: TimeTerms,
-    pub(crate) counts: Counts,
+    pub(crate) cards: Cards,
+    pub(crate) plan: Plan,
 }
 
 impl Model for Project {
@@ -63,21 +48,21 @@ impl Project {
     pub fn code(&self) -> Code
         ensures { result ≡ self.now.heading.code }
     {
-        self.heading.code
+        self.cards.project().code
     }
 
     /// The day on which the project starts.
     pub fn start_day(&self) -> Day
         ensures { result ≡ self.now.heading.start_day }
     {
-        self.heading.start_day
+        self.cards.project().start_day
     }
 
     /// The day that the figures are of: the ASOF card's, or the start day where there is no such card.
     pub fn as_of(&self) -> Day
         ensures { result ≡ self.now.heading.as_of }
     {
-        self.heading.as_of
+        as_of(&self.cards)
     }
 
     /// How many days a unit is, 1 to 7.
@@ -85,7 +70,7 @@ impl Project {
         ensures unit { result ≡ self.now.heading.unit_days }
         ensures within { result ≤ MAX_UNIT_DAYS }
     {
-        self.heading.unit_days
+        self.cards.project().unit_days
     }
 
     /// The end to be met, in days from the start, where one is given.
@@ -93,7 +78,7 @@ impl Project {
         ensures directed { result ≡ self.now.heading.directed }
         ensures planned { IsPlanned self.now }
     {
-        self.heading.directed
+        self.cards.project().directed
     }
 
     /// The network of the activities.
@@ -101,7 +86,7 @@ impl Project {
         ensures network { result.now ≡ self.now.network }
         ensures planned { IsPlanned self.now }
     {
-        &self.net
+        &self.plan.net
     }
 
     /// The tree of the items.
@@ -109,14 +94,14 @@ impl Project {
         ensures tree { result.now ≡ self.now.tree }
         ensures planned { IsPlanned self.now }
     {
-        &self.tree
+        &self.plan.tree
     }
 
     /// How many cards of each kind the deck has.
     pub fn counts(&self) -> Counts
         ensures { result ≡ self.now.counts }
     {
-        self.counts
+        count_cards(&self.cards)
     }
 
     /// The code of an event.
@@ -124,7 +109,7 @@ impl Project {
         requires { e < self.now.network.events }
         ensures { result ≡ slice_index_or self.now.events e [] }
     {
-        self.events[e as usize]
+        self.plan.events[e as usize]
     }
 
     /// What is known of an activity.
@@ -132,14 +117,14 @@ impl Project {
         requires { a < length self.now.network.arcs }
         ensures { result ≡ activity_at self.now a }
     {
-        let term = self.terms[a as usize];
+        let term = self.plan.terms[a as usize];
         Activity {
-            code: self.activities[a as usize],
-            from: self.net.from(a),
-            to: self.net.to(a),
-            item: self.places[a as usize],
-            expected: self.expected[a as usize],
-            variance: self.variances[a as usize],
+            code: self.plan.activities[a as usize],
+            from: self.plan.net.from(a),
+            to: self.plan.net.to(a),
+            item: self.plan.places[a as usize],
+            expected: self.plan.expected[a as usize],
+            variance: self.plan.variances[a as usize],
             normal: term.normal,
             crash: term.crash,
             cost: term.cost,
@@ -152,7 +137,7 @@ impl Project {
         requires { i < length self.now.tree }
         ensures { result ≡ slice_index_or self.now.items i [] }
     {
-        self.items[i as usize]
+        self.cards.items()[i as usize].code
     }
 
     /// The title of an item.
@@ -160,7 +145,7 @@ impl Project {
         requires { i < length self.now.tree }
         ensures { result.now ≡ slice_index_or self.now.titles i [] }
     {
-        &self.titles[i as usize]
+        &self.cards.items()[i as usize].title
     }
 
     /// The codes of the events.
@@ -169,7 +154,7 @@ impl Project {
         ensures each { length result.now ≡ self.now.network.events }
         ensures planned { IsPlanned self.now }
     {
-        &self.events
+        &self.plan.events
     }
 
     /// The codes of the activities.
@@ -178,7 +163,7 @@ impl Project {
         ensures each { length result.now ≡ length self.now.network.arcs }
         ensures planned { IsPlanned self.now }
     {
-        &self.activities
+        &self.plan.activities
     }
 
     /// What each activity may last, in units, and costs.
@@ -186,7 +171,7 @@ impl Project {
         ensures terms { result.now ≡ self.now.terms }
         ensures planned { IsPlanned self.now }
     {
-        &self.terms
+        &self.plan.terms
     }
 
     /// The expected time of each activity, in sixths of a day.
@@ -194,7 +179,7 @@ impl Project {
         ensures expected { result.now ≡ self.now.expected }
         ensures planned { IsPlanned self.now }
     {
-        &self.expected
+        &self.plan.expected
     }
 
     /// The variance of each activity's time, in thirty-sixths of a square day.
@@ -203,7 +188,7 @@ impl Project {
         ensures each { length result.now ≡ length self.now.network.arcs }
         ensures planned { IsPlanned self.now }
     {
-        &self.variances
+        &self.plan.variances
     }
 
     /// The item on which each activity stands.
@@ -211,7 +196,7 @@ impl Project {
         ensures places { result.now ≡ self.now.places }
         ensures planned { IsPlanned self.now }
     {
-        &self.places
+        &self.plan.places
     }
 
     /// The further pieces of the activities' costs.
@@ -219,7 +204,7 @@ impl Project {
         ensures pieces { result.now ≡ self.now.pieces }
         ensures planned { IsPlanned self.now }
     {
-        &self.pieces
+        &self.plan.pieces
     }
 
     /// What each unit of the project's length costs, the target, and what each unit before it brings and each unit after it
@@ -231,7 +216,7 @@ impl Project {
         ensures penalty { result.3 ≡ self.now.time_terms.penalty }
         ensures planned { IsPlanned self.now }
     {
-        let terms = self.time_terms;
+        let terms = time_terms(&self.cards);
         (terms.overhead, terms.target, terms.bonus, terms.penalty)
     }
 
@@ -240,7 +225,7 @@ impl Project {
         ensures count { result ≡ length self.now.resources }
         ensures planned { IsPlanned self.now }
     {
-        self.resources.len() as u32
+        self.cards.resources().len() as u32
     }
 
     /// The code of a resource.
@@ -248,7 +233,7 @@ impl Project {
         requires { r < length self.now.resources }
         ensures { result ≡ slice_index_or self.now.resources r [] }
     {
-        self.resources[r as usize]
+        self.cards.resources()[r as usize].code
     }
 
     /// The loads of the activities on the resources.
@@ -256,7 +241,7 @@ impl Project {
         ensures loads { result.now ≡ self.now.loads }
         ensures planned { IsPlanned self.now }
     {
-        &self.loads
+        &self.plan.loads
     }
 
     /// The cost accounts, each on its leaf of the tree.
@@ -264,7 +249,7 @@ impl Project {
         ensures accounts { result.now ≡ self.now.accounts }
         ensures planned { IsPlanned self.now }
     {
-        &self.accounts
+        &self.plan.accounts
     }
 
     /// What the accounts were charged, whenever.
@@ -272,7 +257,7 @@ impl Project {
         ensures charges { result.now ≡ self.now.charges }
         ensures planned { IsPlanned self.now }
     {
-        &self.charges
+        &self.plan.charges
     }
 
     /// What was to go of the accounts, on each day of which a card says it.
@@ -280,7 +265,7 @@ impl Project {
         ensures togos { result.now ≡ self.now.togos }
         ensures planned { IsPlanned self.now }
     {
-        &self.togos
+        &self.plan.togos
     }
 
     /// What each account has spent up to as-of, and what is to go.
@@ -288,7 +273,7 @@ impl Project {
         ensures entries { result.now ≡ self.now.entries }
         ensures planned { IsPlanned self.now }
     {
-        &self.book
+        &self.plan.book
     }
 
     /// When activities were begun and ended, as the cards say it.
@@ -296,7 +281,7 @@ impl Project {
         ensures statuses { result.now ≡ self.now.statuses }
         ensures planned { IsPlanned self.now }
     {
-        &self.statuses
+        &self.plan.statuses
     }
 
     /// How far each activity is, in sixths of a day from the start.
@@ -304,7 +289,7 @@ impl Project {
         ensures states { result.now ≡ self.now.states }
         ensures planned { IsPlanned self.now }
     {
-        &self.states
+        &self.plan.states
     }
 
     /// How far an activity is, in sixths of a day from the start.
@@ -312,7 +297,7 @@ impl Project {
         requires { a < length self.now.network.arcs }
         ensures { result ≡ state_at self.now.states a }
     {
-        self.states[a as usize]
+        self.plan.states[a as usize]
     }
 
     /// The day that the figures are of, in sixths of a day from the start.
@@ -320,6 +305,7 @@ impl Project {
         ensures time { IsSixths self.now.heading.start_day self.now.heading.as_of result }
         ensures small { result < 2 ^ 25 }
     {
-        6 * days_between(self.heading.start_day, self.heading.as_of) as u64
+        let start = self.cards.project().start_day;
+        6 * days_between(start, as_of(&self.cards)) as u64
     }
 }

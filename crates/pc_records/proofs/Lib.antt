@@ -3,3 +3,4 @@ mod ReaderFacts
 pub mod FieldFacts
 pub mod TextFacts
 pub mod Utf8Facts
+pub mod LengthFacts

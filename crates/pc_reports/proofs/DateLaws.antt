@@ -1,8 +1,16 @@
 -- Dates that are made one after the other.
-use Rattle.std.proofs.Common.{◌≡◌, ℕ, ◌+◌, ◌-◌, ◌<◌, ◌⊎◌, ℤ, List, [], ◌∷◌, ◌++◌, length, slice_index, slice_index_or, sym, ap, ◌∙◌, subst, ⊎_elim, arith, length-append}
+use Rattle.std.proofs.Common.{◌≡◌, ℕ, ◌+◌, ◌-◌, ◌<◌, ◌⊎◌, ◌&&◌, true, false, int_le, ℤ, pos, neg_ℤ, ◌/◌, inl, inr, refl, List, [], ◌∷◌, ◌++◌, length, slice_index, slice_index_or, sym, ap, ◌∙◌, subst, ⊎_elim, arith, length-append}
 use Rattle.std.proofs.lemmas.List.{get_or_append_left, get_or-append_right}
+use Rattle.std.proofs.lemmas.Bool.{cases_Bool, true≢false}
+use Rattle.std.proofs.lemmas.Int.{ints}
 use Rattle.std.proofs.Math.Nat.{eq-or-lt_of_le}
-use Rattle.pc_reports.specs.Times.{IsDate, AreDates}
+use Rattle.pc_days.specs.Calendar.{text_of_day}
+use Rattle.pc_days.specs.Dates.{IsAfterSixths, IsPrintedDay, IsRoundedUp}
+use Rattle.pc_days.proofs.Sixths.{after_sixths, after_sixths-only}
+use Rattle.pc_days.specs.Dates.{NamesDay}
+use Rattle.pc_days.proofs.CalendarLaws.{names_its_day}
+use Rattle.pc_reports.specs.Times.{IsDate, AreDates, date_of, day_after, no_date, printed, past}
+
 
 -- the dates of the first times
 pub record AreDatesTo (start : ℤ) (times : List ℕ) (count : ℕ) (dates : List (List ℕ)) : Type 0 where
@@ -38,3 +46,53 @@ dates_all start times i dates so_far whole = record {
   one_each = so_far.one_each ∙ whole;
   each = λ e below. so_far.each e (omega arith);
 }
+
+-- so many sixths of a day, rounded up to whole days
+rounded : (n : ℕ) → IsRoundedUp (pos n) (pos ((n + 5) / 6))
+rounded n = (omega (arith, ints), omega (arith, ints))
+
+-- the day that is so long after the start
+pub after-day : (start : ℤ) (n : ℕ) → IsAfterSixths start (pos n) (day_after start n)
+after-day start n = after_sixths start (pos ((n + 5) / 6)) (pos n) (rounded n)
+
+-- and no other
+pub only-day : (start : ℤ) (n : ℕ) (day : ℤ) → IsAfterSixths start (pos n) day → day ≡ day_after start n
+only-day start n day after = after_sixths-only start (pos ((n + 5) / 6)) (pos n) day (rounded n) after
+
+-- the days that are printed are those that pass the two tests
+is_printed : (day : ℤ) → IsPrintedDay day → (int_le (neg_ℤ (pos 25_567)) day && int_le day (pos 2_932_896)) ≡ true
+is_printed day there = grind (arith, ints, there.0, there.1)
+
+is_past : (day : ℤ) → (IsPrintedDay day → ⊥) → (int_le (neg_ℤ (pos 25_567)) day && int_le day (pos 2_932_896)) ≡ false
+is_past day none =
+    elim (cases_Bool (int_le (neg_ℤ (pos 25_567)) day && int_le day (pos 2_932_896))) [
+      | inl is ↦ absurd (none (grind (arith, ints), grind (arith, ints)))
+      | inr isnt ↦ isnt
+    ]
+
+-- a printed day is told by its date
+pub date_of-printed : (start : ℤ) (n : ℕ) (day : ℤ) → IsAfterSixths start (pos n) day → IsPrintedDay day → text_of_day day ≡ date_of start n
+unfolding date_of
+date_of-printed start n day after there =
+    let same = only-day start n day after in
+    rw (is_printed (day_after start n) (subst IsPrintedDay same there)) (ap text_of_day same)
+
+-- a day past those by ten hyphens
+pub date_of-past : (start : ℤ) (n : ℕ) → ((day : ℤ) → IsAfterSixths start (pos n) day → IsPrintedDay day → ⊥) → no_date ≡ date_of start n
+unfolding date_of
+date_of-past start n none = rw (is_past (day_after start n) (none (day_after start n) (after-day start n))) refl
+
+-- so the function tells how the relation does
+pub IsDate-date_of : (start : ℤ) (n : ℕ) → IsDate start n (date_of start n)
+IsDate-date_of start n =
+    elim (cases_Bool (int_le (neg_ℤ (pos 25_567)) (day_after start n) && int_le (day_after start n) (pos 2_932_896))) [
+      | inl is ↦ let there : IsPrintedDay (day_after start n) = in_print (day_after start n) is in
+          printed (day_after start n) (after-day start n) there (subst (λ text. NamesDay text (day_after start n)) (date_of-printed start n (day_after start n) (after-day start n) there) (names_its_day (day_after start n) there))
+      | inr isnt ↦ past (none isnt) (sym (date_of-past start n (none isnt)))
+    ]
+  where
+    in_print : (day : ℤ) → (int_le (neg_ℤ (pos 25_567)) day && int_le day (pos 2_932_896)) ≡ true → IsPrintedDay day
+    in_print day is = (grind (arith, ints), grind (arith, ints))
+
+    none : (int_le (neg_ℤ (pos 25_567)) (day_after start n) && int_le (day_after start n) (pos 2_932_896)) ≡ false → (day : ℤ) → IsAfterSixths start (pos n) day → IsPrintedDay day → ⊥
+    none isnt day after there = true≢false (sym (is_printed (day_after start n) (subst IsPrintedDay (only-day start n day after) there)) ∙ isnt)

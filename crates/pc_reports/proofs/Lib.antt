@@ -1,5 +1,6 @@
-mod DateLaws
+pub mod DateLaws
 mod ForecastLaws
 mod OutlookLaws
 mod PathLaws
+mod RowLaws
 mod WorkedRows

@@ -3,6 +3,7 @@ pub mod Cells
 pub mod Schedule
 pub mod Check
 pub mod Times
+pub mod View
 pub mod TimesText
 pub mod TimesInside
 pub mod SummaryText

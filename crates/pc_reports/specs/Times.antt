@@ -1,6 +1,7 @@
 -- What the report of event times tells.
-use Rattle.std.specs.Prelude.{◌≡◌, ℕ, ◌*◌, ◌<◌, ◌≤◌, ℤ, pos, unsigned_abs, List, [], length, slice_index, slice_index_or, codes, Option, Some, None}
+use Rattle.std.specs.Prelude.{◌≡◌, ℕ, ◌+◌, ◌*◌, ◌/◌, ◌<◌, ◌≤◌, ◌&&◌, if◌then◌else◌, ℤ, pos, neg_ℤ, ◌+ℤ◌, int_le, unsigned_abs, List, [], length, slice_index, slice_index_or, codes, Option, Some, None}
 use Rattle.std.specs.List.{All}
+use Rattle.pc_days.specs.Calendar.{text_of_day}
 use Rattle.pc_days.specs.Dates.{IsAfterSixths, IsPrintedDay, NamesDay}
 use Rattle.pc_model.specs.declared.limits.TheConstants.{MAX_EVENTS}
 use Rattle.pc_times.specs.Times.{AreEarly}
@@ -10,12 +11,11 @@ use Rattle.pc_times.specs.declared.TheConstants.{MAX_TIME}
 use Rattle.pc_project.specs.Project.{Project}
 
 -- for each event when it is reached at the earliest and when it must be at the latest, in sixths of a day from the
--- start, and the date of its earliest time; and the activities of the critical path
+-- start; and the activities of the critical path
 pub record Times : Type 0 where
   pub early : List ℕ
   pub late : List ℤ
   pub path : List ℕ
-  pub dates : List (List ℕ)
 
 -- when the end is to be met, in sixths of a day: the directed number of days, or else when it is reached
 abbrev pub end_to_meet : Option ℕ → ℕ → ℤ
@@ -32,6 +32,15 @@ pub data IsDate (start : ℤ) (sixths : ℕ) (text : List ℕ) : Type 0 where
   printed : (day : ℤ) → IsAfterSixths start (pos sixths) day → IsPrintedDay day → NamesDay text day → IsDate start sixths text
   past : ((day : ℤ) → IsAfterSixths start (pos sixths) day → IsPrintedDay day → ⊥) → text ≡ no_date → IsDate start sixths text
 
+-- the day that is the start and so many sixths of a day, rounded up to whole days
+abbrev pub day_after : ℤ → ℕ → ℤ
+day_after start sixths = start +ℤ pos ((sixths + 5) / 6)
+
+-- how it is told, as a function
+unfoldable pub date_of : ℤ → ℕ → List ℕ
+date_of start sixths =
+    if int_le (neg_ℤ (pos 25_567)) (day_after start sixths) && int_le (day_after start sixths) (pos 2_932_896) then text_of_day (day_after start sixths) else no_date
+
 -- one date for each time
 pub record AreDates (start : ℤ) (times : List ℕ) (dates : List (List ℕ)) : Type 0 where
   pub one_each : length dates ≡ length times
@@ -42,7 +51,6 @@ pub record IsTimes (project : Project) (times : Times) : Type 0 where
   pub early : AreEarly project.network project.expected times.early
   pub late : AreLate project.network project.expected (end_to_meet project.heading.directed (slice_index times.early project.network.end)) times.late
   pub path : IsPickedWalk project.network project.expected times.path
-  pub dates : AreDates project.heading.start_day times.early times.dates
 
 -- no time is longer than a project can take, and the path has no more activities than a project has events
 pub record AreSmall (times : Times) : Type 0 where

@@ -7,7 +7,7 @@ use Rattle.pc_project.specs.Project.{Project}
 use Rattle.pc_page.specs.Cells.{left, right}
 use Rattle.pc_reports.specs.Cells.{row}
 use Rattle.pc_reports.specs.Lines.{code_line, number_line}
-use Rattle.pc_reports.specs.Times.{Times, IsTimes}
+use Rattle.pc_reports.specs.Times.{Times, IsTimes, date_of}
 
 -- the words above the events
 abbrev pub event_head : List ℕ
@@ -21,7 +21,7 @@ event_cells code early late date =
 -- the row of event e
 abbrev pub event_row : Project → Times → ℕ → List ℕ
 event_row project times e =
-    event_cells (slice_index_or project.events e []) (slice_index times.early e) (slice_index_or times.late e (pos 0)) (slice_index_or times.dates e [])
+    event_cells (slice_index_or project.events e []) (slice_index times.early e) (slice_index_or times.late e (pos 0)) (date_of project.heading.start_day (slice_index times.early e))
 
 -- the words above the activities
 abbrev pub activity_head : List ℕ

@@ -1,7 +1,7 @@
 //! The dates of times.
 ghost use Rattle.std.specs.Prelude.{◌≡◌, ◌<◌, ◌^◌, IfOk};
 ghost use Rattle.std.specs.List.{All};
-ghost use Rattle.pc_reports.specs.Times.{IsDate, AreDates};
+ghost use Rattle.pc_reports.specs.Times.{IsDate, AreDates, date_of};
 
 use pc_days::{Day, date_of_sixths, day_text};
 use std::alloc::{AllocError, Global};
@@ -26,9 +26,10 @@ pub(crate) fn dates_of(
 }
 
 /// The date of the day that is the start and so many sixths of a day, or ten hyphens.
-fn date_text(start: Day, sixths: u64) -> [u8; DATE_LENGTH]
+pub(crate) fn date_text(start: Day, sixths: u64) -> [u8; DATE_LENGTH]
     requires { sixths < 2 ^ 40 }
-    ensures { IsDate start sixths result }
+    ensures date { IsDate start sixths result }
+    ensures value { result ≡ date_of start sixths }
 {
     match date_of_sixths(start, sixths as i64) {
         Some(day) => day_text(day),

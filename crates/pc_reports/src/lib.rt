@@ -17,10 +17,12 @@ mod times_report;
 mod times_rows;
 mod value_report;
 mod value_rows;
+mod view;
 
 pub use check::write_check;
 pub use outlook_report::OutlookReport;
 pub use schedule::{Schedule, put_schedule, write_schedule};
 pub use summary_report::SummaryReport;
-pub use times_report::TimesReport;
+pub use times_report::{TimesReport, write_times};
 pub use value_report::ValueReport;
+pub use view::TimesView;

@@ -1,26 +1,23 @@
 //! What the report of event times tells.
-ghost use Rattle.std.specs.Prelude.{◌≡◌, ◌<◌, ◌≤◌, ◌≤ℤ◌, [], pos, unsigned_abs, length, slice_index, slice_index_or, IfOk};
+ghost use Rattle.std.specs.Prelude.{◌≡◌, ◌<◌, ◌≤◌, ◌≤ℤ◌, pos, unsigned_abs, length, slice_index, slice_index_or, IfOk};
 ghost use Rattle.std.specs.List.{All};
 ghost use Rattle.std.specs.Option.{ForSome};
 ghost use Rattle.pc_model.specs.declared.limits.TheConstants.{MAX_DIRECTED, MAX_EVENTS};
 ghost use Rattle.pc_times.specs.declared.TheConstants.{MAX_TIME};
-ghost use Rattle.pc_reports.specs.Times.{IsTimes, IsDate, AreDates, end_to_meet};
+ghost use Rattle.pc_reports.specs.Times.{IsTimes, AreSmall, end_to_meet};
 
-use crate::dates::{DATE_LENGTH, dates_of};
 use pc_project::Project;
 use pc_times::{Longest, late, longest};
 use std::alloc::{AllocError, Global};
 use std::marker::Model;
 
-/// For each event its earliest and its latest time and the date of the earliest, and the activities of the critical
-/// path.
+/// For each event its earliest and its latest time, and the activities of the critical path.
 ///
 /// Times are in sixths of a day from the project's start.
 #[derive(Drop)]
 pub struct Times {
     longest: Longest,
     late: Vec<i64>,
-    dates: Vec<[u8; DATE_LENGTH]>,
 }
 
 impl Model for Times {
@@ -38,17 +35,13 @@ impl Model for Times {
 impl Times {
     /// The times of the project. Linear in events and activities.
     pub fn of(alloc: Global, project: &Project) -> Result<Times, AllocError>
-        ensures { IfOk result (IsTimes project.now) }
+        ensures times { IfOk result (IsTimes project.now) }
+        ensures small { IfOk result AreSmall }
     {
         let longest = longest(alloc, project.net(), project.expected())?;
         let by = end_to_meet(project.directed(), longest.length());
         let late = late(alloc, project.net(), project.expected(), by)?;
-        let dates = dates_of(alloc, project.start_day(), longest.times())?;
-        Ok(Times {
-            longest,
-            late,
-            dates,
-        })
+        Ok(Times { longest, late })
     }
 
     /// The earliest time of an event.
@@ -67,14 +60,6 @@ impl Times {
         ensures limit { unsigned_abs result ≤ MAX_TIME }
     {
         self.late[e as usize]
-    }
-
-    /// The date of an event's earliest time, or ten hyphens where it is past the days that are printed.
-    pub fn date(&self, e: u32) -> &[u8; DATE_LENGTH]
-        requires { e < length self.now.dates }
-        ensures { result.now ≡ slice_index_or self.now.dates e [] }
-    {
-        &self.dates[e as usize]
     }
 
     /// The activities of the critical path, from the start event to the end event.

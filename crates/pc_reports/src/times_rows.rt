@@ -1,94 +1,83 @@
 //! The rows of the report of event times.
-ghost use Rattle.std.specs.Prelude.{◌≡◌, ◌<◌, ◌≤◌, length, unsigned_abs};
+ghost use Rattle.std.specs.Prelude.{◌≡◌, ◌<◌, ◌^◌, length, unsigned_abs};
 ghost use Rattle.pc_page.specs.Puts.{Puts};
-ghost use Rattle.pc_times.specs.declared.TheConstants.{MAX_TIME};
-ghost use Rattle.pc_reports.specs.Times.{IsTimes};
-ghost use Rattle.pc_reports.specs.TimesText.{event_row, event_cells, activity_row, activity_cells, activity_slack, critical_row};
+ghost use Rattle.pc_reports.specs.TimesText.{event_table, event_cells, activity_table, activity_cells, activity_slack, critical_text};
+ghost use Rattle.pc_reports.specs.View.{IsShownOf, as_shown};
 
-use crate::lines::put_code;
-use crate::times::Times;
+use crate::dates::{DATE_LENGTH, date_text};
+use crate::lines::{put_code, put_number};
+use crate::view::TimesView;
 use pc_edges::Sink;
-use pc_page::{Page, Rows};
+use pc_page::Page;
 use pc_project::Project;
 use pc_text::Code;
 use pc_times::slack;
 
-/// A row for each event.
-#[derive(Clone, Copy)]
-pub(crate) struct EventRows<'a> {
-    pub(crate) project: &'a Project,
-    pub(crate) times: &'a Times,
-}
+/// The words above the events.
+const EVENT_HEAD: &[u8] = b"EVENT                      TE           TL        SLACK DATE\n";
 
-impl<'a> Rows for EventRows<'a> {
-    ghost row_count = { λ t. length t.project.now.events };
+/// The words above the activities.
+const ACTIVITY_HEAD: &[u8] = b"ACTIVITY             EXPECTED         VARIANCE        SLACK\n";
 
-    ghost row_text = { λ t. event_row t.project.now t.times.now };
-
-    ghost IsReady = { λ t. IsTimes t.project.now t.times.now };
-
-    fn count(&self) -> usize {
-        self.project.event_codes().len()
-    }
-
-    fn put<O: Sink>(&self, i: usize, page: &mut Page, sink: &mut O) {
-        let code = &self.project.event_codes()[i];
-        let e = i as u32;
-        let (early, late) = (self.times.early(e), self.times.late(e));
-        put_event(page, sink, code, early, late, self.times.date(e));
-    }
-}
-
-/// A row for each activity.
-#[derive(Clone, Copy)]
-pub(crate) struct ActivityRows<'a> {
-    pub(crate) project: &'a Project,
-    pub(crate) times: &'a Times,
-}
-
-impl<'a> Rows for ActivityRows<'a> {
-    ghost row_count = { λ t. length t.project.now.activities };
-
-    ghost row_text = { λ t. activity_row t.project.now t.times.now };
-
-    ghost IsReady = { λ t. IsTimes t.project.now t.times.now };
-
-    fn count(&self) -> usize {
-        self.project.activity_codes().len()
-    }
-
-    fn put<O: Sink>(&self, i: usize, page: &mut Page, sink: &mut O) {
-        let code = &self.project.activity_codes()[i];
-        let expected = self.project.expected()[i];
-        let slack = activity_slack(self.project, self.times, i as u32);
-        let variance = self.project.variances()[i];
-        put_activity(page, sink, code, expected, variance, slack);
+/// Puts a row for each event, in card order.
+pub(crate) fn put_events<O: Sink, V: TimesView>(
+    page: &mut Page,
+    sink: &mut O,
+    project: &Project,
+    view: &V,
+)
+    requires { IsShownOf project.now (V.shown view.now) }
+    ensures { Puts O.taken O.faults page.old sink.old page.new sink.new
+        (event_table (as_shown project.now (V.shown view.now)) (V.shown view.now).times) }
+{
+    let start = project.start_day();
+    page.put(sink, EVENT_HEAD);
+    for (e, code) in project.event_codes().iter().enumerate() {
+        let early = view.early(e as u32);
+        let late = view.late(e as u32);
+        put_event(page, sink, code, early, late, &date_text(start, early));
     }
 }
 
-/// A line for each activity of the critical path.
-#[derive(Clone, Copy)]
-pub(crate) struct CriticalRows<'a> {
-    pub(crate) project: &'a Project,
-    pub(crate) times: &'a Times,
+/// Puts a row for each activity, in card order.
+pub(crate) fn put_activities<O: Sink, V: TimesView>(
+    page: &mut Page,
+    sink: &mut O,
+    project: &Project,
+    view: &V,
+)
+    requires { IsShownOf project.now (V.shown view.now) }
+    ensures { Puts O.taken O.faults page.old sink.old page.new sink.new
+        (activity_table (as_shown project.now (V.shown view.now)) (V.shown view.now).times) }
+{
+    page.put(sink, ACTIVITY_HEAD);
+    for (i, code) in project.activity_codes().iter().enumerate() {
+        let a = i as u32;
+        let slack = activity_slack(project, view, a);
+        put_activity(page, sink, code, view.expected(a), view.variance(a), slack);
+    }
 }
 
-impl<'a> Rows for CriticalRows<'a> {
-    ghost row_count = { λ t. length t.times.now.path };
-
-    ghost row_text = { λ t. critical_row t.project.now t.times.now };
-
-    ghost IsReady = { λ t. IsTimes t.project.now t.times.now };
-
-    fn count(&self) -> usize {
-        self.times.path().len()
+/// Puts a line for each activity of the critical path, and the sum of their variances, in thirty-sixths of a square day.
+pub(crate) fn put_path<O: Sink, V: TimesView>(
+    page: &mut Page,
+    sink: &mut O,
+    project: &Project,
+    view: &V,
+)
+    requires { IsShownOf project.now (V.shown view.now) }
+    ensures { Puts O.taken O.faults page.old sink.old page.new sink.new
+        (critical_text (as_shown project.now (V.shown view.now)) (V.shown view.now).times) }
+{
+    let codes = project.activity_codes();
+    let mut k = 0;
+    let mut variance = 0;
+    while let Some(a) = view.on_path(k) {
+        put_code(page, sink, b"CRITICAL ", &codes[a as usize]);
+        variance += view.variance(a);
+        k += 1;
     }
-
-    fn put<O: Sink>(&self, i: usize, page: &mut Page, sink: &mut O) {
-        let a = self.times.path()[i];
-        let code = &self.project.activity_codes()[a as usize];
-        put_code(page, sink, b"CRITICAL ", code);
-    }
+    put_number(page, sink, b"VARIANCE ", variance);
 }
 
 /// Puts the row of an event.
@@ -98,10 +87,10 @@ fn put_event<O: Sink>(
     code: &Code,
     early: u64,
     late: i64,
-    date: &[u8; 10],
+    date: &[u8; DATE_LENGTH],
 )
-    requires early { early ≤ MAX_TIME }
-    requires late { unsigned_abs late ≤ MAX_TIME }
+    requires early { early < 2 ^ 40 }
+    requires late { unsigned_abs late < 2 ^ 40 }
     ensures { Puts O.taken O.faults page.old sink.old page.new sink.new (event_cells code.now early late date.now) }
 {
     page.put_left(sink, 16, code.bytes());
@@ -138,12 +127,12 @@ fn put_activity<O: Sink>(
 }
 
 /// How long an activity can wait, in sixths of a day: the time that it has between its events, less its expected time.
-fn activity_slack(project: &Project, times: &Times, a: u32) -> i64
-    requires times { IsTimes project.now times.now }
+fn activity_slack<V: TimesView>(project: &Project, view: &V, a: u32) -> i64
+    requires view { IsShownOf project.now (V.shown view.now) }
     requires known { a < length project.now.network.arcs }
-    ensures { result ≡ activity_slack project.now times.now a }
+    ensures { result ≡ activity_slack (as_shown project.now (V.shown view.now)) (V.shown view.now).times a }
 {
     let net = project.net();
-    let between = slack(times.late(net.to(a)), times.early(net.from(a)));
-    slack(between, project.expected()[a as usize])
+    let between = slack(view.late(net.to(a)), view.early(net.from(a)));
+    slack(between, view.expected(a))
 }

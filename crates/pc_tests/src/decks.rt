@@ -14,6 +14,13 @@ const EACH_KIND: &[u8] =
 const FIRST_VERSION: &[u8] =
     b"PROJECT,P,S,T,2024-01-01,2,9,\nASOF,2024-01-08\nWBS,1,,Whole\nWBS,1.1,1,Frame\nEVENT,S,\nEVENT,T,\nACT,A,S,T,1.1,3,4,11,4,2,10,5,\nACCT,X,1.1,10,\nCHARGE,X,2024-01-02,5\nTOGO,X,2024-01-02,5\nSTATUS,A,S,2024-01-02\nEND\n";
 
+// Quotes, a TERMS card that says nothing, a number of units to be met, and no ASOF card; and what it is written as.
+const TO_SETTLE: &[u8] =
+    b"PROJECT,E1,S,T,2024-01-01,1,30,\"Example, one\"\nRES,R,\nTERMS,0,0,0,0\nWBS,1,,Whole\nEVENT,S,Start\nEVENT,T,\"The \"\"end\"\"\"\nACT,A,S,T,1,3,4,5,4,2,10,3,\"Dig\"\nLOAD,A,R,7\nSTATUS,A,S,2024-01-02\nACCT,X1,1,10,Account\nEND,,\n";
+
+const SETTLED: &[u8] =
+    b"PROJECT,E1,S,T,2024-01-01,1,30,\"Example, one\",2\nASOF,2024-01-01\nWBS,1,,Whole\nEVENT,S,Start\nEVENT,T,\"The \"\"end\"\"\"\nACT,A,S,T,1,3,4,5,4,2,10,3,Dig\nACCT,X1,1,10,Account\nSTATUS,A,S,2024-01-02\nRES,R,\nLOAD,A,R,7\nEND\n";
+
 /// Whether the deck's cards make a project; none where the deck is refused before.
 fn makes_a_project(alloc: Global, deck: &[u8]) -> Option<bool>
     requires { length deck.now ≤ 1000 }
@@ -21,6 +28,24 @@ fn makes_a_project(alloc: Global, deck: &[u8]) -> Option<bool>
     // (the cards are handed on, since a function that drops all cards is long to prove)
     let cards = read_cards(alloc, deck).ok()?;
     Some(project_of(alloc, cards).is_ok())
+}
+
+/// Whether the text of the deck is this one; none where the deck is refused.
+fn is_written_as(alloc: Global, deck: &[u8], text: &[u8]) -> Option<bool>
+    requires { length deck.now ≤ 1000 }
+{
+    let cards = read_cards(alloc, deck).ok()?;
+    let written = cards.text(alloc).ok();
+    // (handed on, as above)
+    let _ = project_of(alloc, cards).is_ok();
+    Some(written?.as_slice() == text)
+}
+
+#[test]
+fn writes_the_text_of_a_deck(rt: HostRuntime) {
+    assert_eq!(rt; is_written_as(rt.alloc(), TO_SETTLE, SETTLED), Some(true));
+    assert_eq!(rt; is_written_as(rt.alloc(), SETTLED, SETTLED), Some(true));
+    assert_eq!(rt; is_written_as(rt.alloc(), EACH_KIND, EACH_KIND), Some(true));
 }
 
 #[test]

@@ -36,8 +36,9 @@ pub fn late(alloc: Global, net: &Net, lengths: &[u64], by: i64) -> Result<Vec<i6
     Ok(times)
 }
 
-/// The time that lies so long before another.
-fn so_long_before(by: i64, tail: u64) -> i64
+/// The time that lies so long before another: the latest time of an event, where `tail` is the greatest sum of lengths over
+/// the walks from it to the end, which is to be met at `by`.
+pub fn so_long_before(by: i64, tail: u64) -> i64
     requires by { unsigned_abs by < 2 ^ 40 }
     requires tail { tail ≤ MAX_TIME }
     ensures { result ≡ by -ℤ pos tail }

@@ -12,11 +12,12 @@ mod path;
 mod state;
 
 pub use estimate::{expected_sixths, variance_36};
-pub use events::{early, late, slack};
+pub use events::{early, late, slack, so_long_before};
 pub use expected::Forecast;
 pub use forecasts::forecast;
 pub use found::Longest;
-pub use path::{critical_path, longest};
+pub use passes::{early_into, tails_into};
+pub use path::{critical_path, critical_path_into, longest};
 pub use state::ActState;
 
 /// The greatest length of an activity: 100,000 units of 7 days, in sixths of a day.

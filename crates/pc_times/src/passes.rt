@@ -1,5 +1,5 @@
 //! The passes over the events: greatest sums from the start and to the end.
-ghost use Rattle.std.specs.Prelude.{◌≡◌, ◌≤◌, IfOk, OnOk};
+ghost use Rattle.std.specs.Prelude.{◌≡◌, ◌≤◌, length, IfOk, OnOk};
 ghost use Rattle.std.specs.List.{All};
 ghost use Rattle.pc_model.specs.Network.{IsEarly};
 ghost use Rattle.pc_times.specs.Times.{AreLengths, AreEarly, AreTails, IsTail};
@@ -9,7 +9,7 @@ use crate::MAX_TIME;
 use pc_net::Net;
 use std::alloc::{AllocError, Global};
 
-/// For each event the greatest sum of lengths over the walks from the start to it. One pass in the order.
+/// For each event the greatest sum of lengths over the walks from the start to it.
 pub(crate) fn early_times(alloc: Global, net: &Net, lengths: &[u64]) -> Result<Vec<u64>, AllocError>
     requires { AreLengths net.now lengths.now }
     ensures times { IfOk result (λ times. AreEarly net.now lengths.now times.items) }
@@ -17,13 +17,11 @@ pub(crate) fn early_times(alloc: Global, net: &Net, lengths: &[u64]) -> Result<V
     ensures walks { OnOk result (HasBoundedWalks net.now lengths.now) }
 {
     let mut times = vec![in alloc; 0; net.events() as usize]?;
-    for &event in net.order() {
-        times[event as usize] = latest_arrival(net, lengths, &times, event);
-    }
+    early_into(net, lengths, &mut times);
     Ok(times)
 }
 
-/// For each event the greatest sum of lengths over the walks from it to the end. One pass against the order.
+/// For each event the greatest sum of lengths over the walks from it to the end.
 pub(crate) fn tails_to_end(
     alloc: Global,
     net: &Net,
@@ -35,10 +33,40 @@ pub(crate) fn tails_to_end(
     ensures walks { OnOk result (HasBoundedWalks net.now lengths.now) }
 {
     let mut tails = vec![in alloc; 0; net.events() as usize]?;
-    for &event in net.order().iter().rev() {
-        tails[event as usize] = longest_departure(net, lengths, &tails, event);
-    }
+    tails_into(net, lengths, &mut tails);
     Ok(tails)
+}
+
+/// Puts for each event, in card order, when it is reached at the earliest: the greatest sum of lengths over the walks from
+/// the start to it. One pass in the order; it takes no memory.
+pub fn early_into(net: &Net, lengths: &[u64], times: &mut [u64])
+    requires lengths { AreLengths net.now lengths.now }
+    requires places { length times.old ≡ net.now.events }
+    ensures times { AreEarly net.now lengths.now times.new }
+    ensures limit { All (λ time. time ≤ MAX_TIME) times.new }
+    ensures walks { HasBoundedWalks net.now lengths.now }
+{
+    // No more events than a project may have, so that no sum is too great.
+    let _events = net.events();
+    for &event in net.order() {
+        times[event as usize] = latest_arrival(net, lengths, times, event);
+    }
+}
+
+/// Puts for each event, in card order, the greatest sum of lengths over the walks from it to the end. One pass against the
+/// order; it takes no memory.
+pub fn tails_into(net: &Net, lengths: &[u64], tails: &mut [u64])
+    requires lengths { AreLengths net.now lengths.now }
+    requires places { length tails.old ≡ net.now.events }
+    ensures tails { AreTails net.now lengths.now tails.new }
+    ensures limit { All (λ tail. tail ≤ MAX_TIME) tails.new }
+    ensures walks { HasBoundedWalks net.now lengths.now }
+{
+    // No more events than a project may have, so that no sum is too great.
+    let _events = net.events();
+    for &event in net.order().iter().rev() {
+        tails[event as usize] = longest_departure(net, lengths, tails, event);
+    }
 }
 
 /// The time of an event, from those of the events where the activities that enter it begin.

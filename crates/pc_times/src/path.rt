@@ -1,5 +1,5 @@
 //! The longest walk, and the one of several that is picked.
-ghost use Rattle.std.specs.Prelude.{◌≡◌, ℕ, ◌<◌, ◌≤◌, length, slice_index, IfOk, IfSome, IfNone};
+ghost use Rattle.std.specs.Prelude.{◌≡◌, ℕ, ◌<◌, ◌≤◌, length, take, slice_index, IfOk, IfSome, IfNone};
 ghost use Rattle.std.specs.List.{All};
 ghost use Rattle.pc_model.specs.Greatest.{IsFirst};
 ghost use Rattle.pc_model.specs.Walk.{IsWalk, walk_sum};
@@ -74,6 +74,35 @@ pub(crate) fn picked_walk(
         event = net.to(a);
     }
     Ok(path)
+}
+
+/// Puts the picked walk at the front, by the sums to each event and from it, and answers how many activities it has. In two
+/// passes over the activities at most; it takes no memory.
+pub fn critical_path_into(
+    net: &Net,
+    lengths: &[u64],
+    times: &[u64],
+    tails: &[u64],
+    path: &mut [u64],
+) -> usize
+    requires lengths { AreLengths net.now lengths.now }
+    requires times { AreEarly net.now lengths.now times.now }
+    requires tails { AreTails net.now lengths.now tails.now }
+    requires places { length path.old ≡ net.now.events }
+    ensures picked { IsPickedWalk net.now lengths.now (take result path.new) }
+    ensures short { result < net.now.events }
+{
+    // No more events than a project may have, in an order: so no walk is long.
+    let _events = net.events();
+    let _order = net.order();
+    let mut event = net.start();
+    let mut count = 0;
+    while let Some(a) = first_without_slack(net, lengths, times, tails, event) {
+        path[count] = u64::from(a);
+        count += 1;
+        event = net.to(a);
+    }
+    count
 }
 
 /// The first activity at the event that lies on a longest walk.

@@ -1,7 +1,7 @@
 -- Which deck a form speaks of: that of the source, or one of its own, for which nothing is read.
 use Rattle.std.specs.Prelude.{◌≡◌, ℕ, List, Option, Some, None, String}
 use Rattle.std.specs.declared.alloc.Global.{Global}
-use Rattle.pc_bench.specs.Deck.{deck_text}
+use Rattle.pc_bench.specs.Deck.{bench_text}
 use Rattle.pc_faults.specs.declared.fault.Fault.{Fault}
 use Rattle.pc_faults.specs.FaultText.{IsTold}
 use Rattle.pc_project.specs.Project.{Project}
@@ -25,7 +25,7 @@ own_deck Curve = None
 own_deck Certify = None
 own_deck (Point limit) = None
 own_deck (Outlook limit) = None
-own_deck (Bench n) = Some (deck_text n)
+own_deck (Bench n) = Some (bench_text n)
 
 -- the form reads the source
 abbrev pub ReadsSource : Form → Type 0

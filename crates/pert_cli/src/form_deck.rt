@@ -1,6 +1,6 @@
 //! From the deck that a form speaks of to its project, or to why there is none.
 ghost use Rattle.std.specs.Prelude.{◌≤◌, IfOk, IfErr};
-ghost use Rattle.pc_bench.specs.Deck.{deck_text};
+ghost use Rattle.pc_bench.specs.Deck.{bench_text};
 ghost use Rattle.pc_reading.specs.Reading.{IsNoProjectOf};
 ghost use Rattle.pc_reading.specs.Sides.{side};
 ghost use Rattle.pc_reading.specs.Verdict.{IsProjectOf};
@@ -34,8 +34,8 @@ pub(crate) fn project_for<S: Source>(
 fn bench_project(alloc: Global, n: u64) -> Result<Project, NoProject>
     requires least { 1 ≤ n }
     requires most { n ≤ MOST_ACTIVITIES }
-    ensures project { IfOk result (IsProjectOf (deck_text n)) }
-    ensures none { IfErr result (IsNoProjectOf (deck_text n)) }
+    ensures project { IfOk result (IsProjectOf (bench_text n)) }
+    ensures none { IfErr result (IsNoProjectOf (bench_text n)) }
 {
     let Ok(deck) = bench_deck(alloc, n) else {
         return Err(NoProject::OutOfMemory);

@@ -1,14 +1,16 @@
 //! ACCT: a cost account.
 ghost use Rattle.std.specs.Prelude.{refl};
-ghost use Rattle.pc_deck.specs.Acct.{account_slots, account_of};
+ghost use Rattle.pc_deck.specs.Acct.{account_slots, account_of, written_account};
 
 use crate::cards::Cards;
-use pc_cards::card::{Card, Coded};
+use pc_cards::card::{Card, Coded, Layout};
 use pc_cards::field::{Misfit, read_amount, read_code, read_title};
 use pc_cards::form::{Form, MONEY, Slot};
 use pc_model::MAX_COST;
-use pc_records::Row;
-use pc_text::{Code, Title};
+use pc_faults::Kind;
+use pc_records::{Row, RowWriter};
+use pc_text::{Code, Title, digits};
+use std::alloc::AllocError;
 
 /// An ACCT card: a cost account of an item, with its budget.
 #[derive(Clone, Copy, Debug)]
@@ -36,16 +38,14 @@ impl Card for AcctCard {
 
     ghost spelled = { account_of };
 
-    fn slots() -> &'static [Slot] {
-        &SLOTS
-    }
+    ghost written = { written_account };
 
-    fn least_width() -> usize {
-        5
-    }
-
-    fn width() -> usize {
-        5
+    fn layout() -> Layout {
+        Layout {
+            slots: &SLOTS,
+            least: 5,
+            most: 5,
+        }
     }
 
     fn read(row: u32, fields: &Row) -> Result<AcctCard, Misfit> {
@@ -56,6 +56,18 @@ impl Card for AcctCard {
             budget: read_amount(fields, 4, 0, MAX_COST)?,
             title: read_title(fields, 5)?,
         })
+    }
+
+    fn put(&self, kind: Kind, text: &mut RowWriter) -> Result<(), AllocError> {
+        // A copy, so that all that is lent below lives equally long.
+        let card = *self;
+        text.put(&[
+            kind.word(),
+            card.code.bytes(),
+            card.item.bytes(),
+            digits(card.budget).bytes(),
+            card.title.bytes(),
+        ])
     }
 }
 

@@ -1,14 +1,16 @@
 //! ACT: an activity of the network.
 ghost use Rattle.std.specs.Prelude.{refl};
-ghost use Rattle.pc_deck.specs.Act.{act_slots, act_of};
+ghost use Rattle.pc_deck.specs.Act.{act_slots, act_of, written_act};
 
 use crate::cards::Cards;
-use pc_cards::card::{Card, Coded};
+use pc_cards::card::{Card, Coded, Layout};
 use pc_cards::field::{Misfit, read_amount, read_code, read_title};
 use pc_cards::form::{DURATION, Form, MONEY, Slot};
 use pc_model::{MAX_COST, MAX_DURATION, MAX_SLOPE};
-use pc_records::Row;
-use pc_text::{Code, Title};
+use pc_faults::Kind;
+use pc_records::{Row, RowWriter};
+use pc_text::{Code, Title, digits};
+use std::alloc::AllocError;
 
 /// An ACT card: an activity, with its estimates and durations in units and its costs.
 #[derive(Clone, Copy, Debug)]
@@ -57,16 +59,14 @@ impl Card for ActCard {
 
     ghost spelled = { act_of };
 
-    fn slots() -> &'static [Slot] {
-        &SLOTS
-    }
+    ghost written = { written_act };
 
-    fn least_width() -> usize {
-        13
-    }
-
-    fn width() -> usize {
-        13
+    fn layout() -> Layout {
+        Layout {
+            slots: &SLOTS,
+            least: 13,
+            most: 13,
+        }
     }
 
     fn read(row: u32, fields: &Row) -> Result<ActCard, Misfit> {
@@ -85,6 +85,26 @@ impl Card for ActCard {
             slope: read_amount(fields, 12, 0, MAX_SLOPE)?,
             title: read_title(fields, 13)?,
         })
+    }
+
+    fn put(&self, kind: Kind, text: &mut RowWriter) -> Result<(), AllocError> {
+        // A copy, so that all that is lent below lives equally long.
+        let card = *self;
+        text.put(&[
+            kind.word(),
+            card.code.bytes(),
+            card.from.bytes(),
+            card.to.bytes(),
+            card.item.bytes(),
+            digits(card.opt).bytes(),
+            digits(card.likely).bytes(),
+            digits(card.pess).bytes(),
+            digits(card.normal).bytes(),
+            digits(card.crash).bytes(),
+            digits(card.cost).bytes(),
+            digits(card.slope).bytes(),
+            card.title.bytes(),
+        ])
     }
 }
 

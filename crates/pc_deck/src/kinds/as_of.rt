@@ -1,12 +1,14 @@
 //! ASOF: the day that the figures are of.
-ghost use Rattle.pc_deck.specs.AsOf.{as_of_slots, as_of_of};
+ghost use Rattle.pc_deck.specs.AsOf.{as_of_slots, as_of_of, written_as_of};
 
 use crate::cards::Cards;
-use pc_cards::card::Card;
+use pc_cards::card::{Card, Layout};
 use pc_cards::field::{Misfit, read_date};
 use pc_cards::form::{Form, Slot};
-use pc_days::Day;
-use pc_records::Row;
+use pc_days::{Day, day_text};
+use pc_faults::Kind;
+use pc_records::{Row, RowWriter};
+use std::alloc::AllocError;
 
 /// The ASOF card: the day that the figures are of.
 #[derive(Clone, Copy, Debug)]
@@ -26,16 +28,14 @@ impl Card for AsOfCard {
 
     ghost spelled = { as_of_of };
 
-    fn slots() -> &'static [Slot] {
-        &SLOTS
-    }
+    ghost written = { written_as_of };
 
-    fn least_width() -> usize {
-        2
-    }
-
-    fn width() -> usize {
-        2
+    fn layout() -> Layout {
+        Layout {
+            slots: &SLOTS,
+            least: 2,
+            most: 2,
+        }
     }
 
     fn read(row: u32, fields: &Row) -> Result<AsOfCard, Misfit> {
@@ -43,6 +43,13 @@ impl Card for AsOfCard {
             row,
             day: read_date(fields, 2)?,
         })
+    }
+
+    fn put(&self, kind: Kind, text: &mut RowWriter) -> Result<(), AllocError> {
+        // A copy, so that all that is lent below lives equally long.
+        let card = *self;
+        let day = day_text(card.day);
+        text.put(&[kind.word(), day.as_slice()])
     }
 }
 

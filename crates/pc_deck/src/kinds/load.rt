@@ -1,13 +1,15 @@
 //! LOAD: what an activity uses of a resource.
-ghost use Rattle.pc_deck.specs.Load.{load_slots, load_of};
+ghost use Rattle.pc_deck.specs.Load.{load_slots, load_of, written_load};
 
 use crate::cards::Cards;
-use pc_cards::card::Card;
+use pc_cards::card::{Card, Layout};
 use pc_cards::field::{Misfit, read_amount, read_code};
 use pc_cards::form::{Form, MONEY, Slot};
 use pc_model::MAX_COST;
-use pc_records::Row;
-use pc_text::Code;
+use pc_faults::Kind;
+use pc_records::{Row, RowWriter};
+use pc_text::{Code, digits};
+use std::alloc::AllocError;
 
 /// A LOAD card: how much of a resource an activity uses.
 #[derive(Clone, Copy, Debug)]
@@ -29,16 +31,14 @@ impl Card for LoadCard {
 
     ghost spelled = { load_of };
 
-    fn slots() -> &'static [Slot] {
-        &SLOTS
-    }
+    ghost written = { written_load };
 
-    fn least_width() -> usize {
-        4
-    }
-
-    fn width() -> usize {
-        4
+    fn layout() -> Layout {
+        Layout {
+            slots: &SLOTS,
+            least: 4,
+            most: 4,
+        }
     }
 
     fn read(row: u32, fields: &Row) -> Result<LoadCard, Misfit> {
@@ -48,6 +48,17 @@ impl Card for LoadCard {
             resource: read_code(fields, 3)?,
             quantity: read_amount(fields, 4, 0, MAX_COST)?,
         })
+    }
+
+    fn put(&self, kind: Kind, text: &mut RowWriter) -> Result<(), AllocError> {
+        // A copy, so that all that is lent below lives equally long.
+        let card = *self;
+        text.put(&[
+            kind.word(),
+            card.activity.bytes(),
+            card.resource.bytes(),
+            digits(card.quantity).bytes(),
+        ])
     }
 }
 

@@ -1,14 +1,16 @@
 //! CHARGE and TOGO: amounts of money, spent or still to be spent.
-ghost use Rattle.pc_deck.specs.Money.{money_slots, money_of};
+ghost use Rattle.pc_deck.specs.Money.{money_slots, money_of, written_money};
 
 use crate::cards::Cards;
-use pc_cards::card::Card;
+use pc_cards::card::{Card, Layout};
 use pc_cards::field::{Misfit, read_amount, read_code, read_date};
 use pc_cards::form::{Form, MONEY, Slot};
-use pc_days::Day;
+use pc_days::{Day, day_text};
 use pc_model::MAX_COST;
-use pc_records::Row;
-use pc_text::Code;
+use pc_faults::Kind;
+use pc_records::{Row, RowWriter};
+use pc_text::{Code, digits};
+use std::alloc::AllocError;
 
 /// A CHARGE or a TOGO card: an amount of money, spent or still to be spent.
 #[derive(Clone, Copy, Debug)]
@@ -30,16 +32,14 @@ impl Card for MoneyCard {
 
     ghost spelled = { money_of };
 
-    fn slots() -> &'static [Slot] {
-        &SLOTS
-    }
+    ghost written = { written_money };
 
-    fn least_width() -> usize {
-        4
-    }
-
-    fn width() -> usize {
-        4
+    fn layout() -> Layout {
+        Layout {
+            slots: &SLOTS,
+            least: 4,
+            most: 4,
+        }
     }
 
     fn read(row: u32, fields: &Row) -> Result<MoneyCard, Misfit> {
@@ -49,6 +49,18 @@ impl Card for MoneyCard {
             day: read_date(fields, 3)?,
             amount: read_amount(fields, 4, 0, MAX_COST)?,
         })
+    }
+
+    fn put(&self, kind: Kind, text: &mut RowWriter) -> Result<(), AllocError> {
+        // A copy, so that all that is lent below lives equally long.
+        let card = *self;
+        let day = day_text(card.day);
+        text.put(&[
+            kind.word(),
+            card.account.bytes(),
+            day.as_slice(),
+            digits(card.amount).bytes(),
+        ])
     }
 }
 

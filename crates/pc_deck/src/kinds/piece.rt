@@ -1,13 +1,15 @@
 //! PIECE: a further piece of an activity's cost.
-ghost use Rattle.pc_deck.specs.Piece.{piece_slots, piece_of};
+ghost use Rattle.pc_deck.specs.Piece.{piece_slots, piece_of, written_piece};
 
 use crate::cards::Cards;
-use pc_cards::card::Card;
+use pc_cards::card::{Card, Layout};
 use pc_cards::field::{Misfit, read_amount, read_code};
 use pc_cards::form::{Form, Slot};
 use pc_model::{MAX_DURATION, MAX_SLOPE};
-use pc_records::Row;
-use pc_text::Code;
+use pc_faults::Kind;
+use pc_records::{Row, RowWriter};
+use pc_text::{Code, digits};
+use std::alloc::AllocError;
 
 /// A PIECE card: a further piece of an activity's cost. Behind the slope of the ACT card, so many units cost this much
 /// each to be taken off.
@@ -40,16 +42,14 @@ impl Card for PieceCard {
 
     ghost spelled = { piece_of };
 
-    fn slots() -> &'static [Slot] {
-        &SLOTS
-    }
+    ghost written = { written_piece };
 
-    fn least_width() -> usize {
-        4
-    }
-
-    fn width() -> usize {
-        4
+    fn layout() -> Layout {
+        Layout {
+            slots: &SLOTS,
+            least: 4,
+            most: 4,
+        }
     }
 
     fn read(row: u32, fields: &Row) -> Result<PieceCard, Misfit> {
@@ -59,6 +59,17 @@ impl Card for PieceCard {
             units: read_amount(fields, 3, 1, MAX_DURATION)?,
             slope: read_amount(fields, 4, 0, MAX_SLOPE)?,
         })
+    }
+
+    fn put(&self, kind: Kind, text: &mut RowWriter) -> Result<(), AllocError> {
+        // A copy, so that all that is lent below lives equally long.
+        let card = *self;
+        text.put(&[
+            kind.word(),
+            card.activity.bytes(),
+            digits(card.units).bytes(),
+            digits(card.slope).bytes(),
+        ])
     }
 }
 

@@ -1,13 +1,16 @@
 //! PROJECT: what the project is called, where it starts and ends, and when.
-ghost use Rattle.pc_deck.specs.Project.{project_slots, project_of};
+ghost use Rattle.std.specs.Prelude.{◌≡◌, [], if◌then◌else◌};
+ghost use Rattle.pc_deck.specs.Project.{project_slots, project_of, written_project};
 
-use pc_cards::card::Card;
+use pc_cards::card::{Card, Layout};
 use pc_cards::field::{Misfit, read_amount, read_amount_or_none, read_code, read_date, read_title};
 use pc_cards::form::{Form, Slot};
-use pc_days::Day;
+use pc_days::{Day, day_text};
 use pc_model::{MAX_DIRECTED, MAX_UNIT_DAYS};
-use pc_records::Row;
-use pc_text::{Code, Title};
+use pc_faults::Kind;
+use pc_records::{Row, RowWriter};
+use pc_text::{Code, Title, digits};
+use std::alloc::AllocError;
 
 /// The PROJECT card: what the project is called, where it starts and ends, and when.
 #[derive(Clone, Copy, Debug)]
@@ -65,16 +68,14 @@ impl Card for ProjectCard {
 
     ghost spelled = { project_of };
 
-    fn slots() -> &'static [Slot] {
-        &SLOTS
-    }
+    ghost written = { written_project };
 
-    fn least_width() -> usize {
-        8
-    }
-
-    fn width() -> usize {
-        9
+    fn layout() -> Layout {
+        Layout {
+            slots: &SLOTS,
+            least: 8,
+            most: 9,
+        }
     }
 
     fn read(row: u32, fields: &Row) -> Result<ProjectCard, Misfit> {
@@ -90,4 +91,29 @@ impl Card for ProjectCard {
             version: read_amount_or_none(fields, 9, 1, LAST_VERSION)?.unwrap_or(1),
         })
     }
+
+    fn put(&self, kind: Kind, text: &mut RowWriter) -> Result<(), AllocError> {
+        // A copy, so that all that is lent below lives equally long.
+        let card = *self;
+        let start_day = day_text(card.start_day);
+        let days = digits(card.directed.unwrap_or(0));
+        text.put(&[
+            kind.word(),
+            card.code.bytes(),
+            card.start.bytes(),
+            card.end.bytes(),
+            start_day.as_slice(),
+            digits(card.unit_days).bytes(),
+            where_so(card.directed.is_some(), days.bytes()),
+            card.title.bytes(),
+            digits(card.version).bytes(),
+        ])
+    }
+}
+
+/// The bytes, where the test holds, or else none.
+fn where_so(test: bool, bytes: &[u8]) -> &[u8]
+    ensures { result.now ≡ (if test then bytes.now else []) }
+{
+    if test { bytes } else { &[] }
 }

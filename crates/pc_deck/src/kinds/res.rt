@@ -1,13 +1,15 @@
 //! RES: a resource.
 ghost use Rattle.std.specs.Prelude.{refl};
-ghost use Rattle.pc_deck.specs.Res.{resource_slots, resource_of};
+ghost use Rattle.pc_deck.specs.Res.{resource_slots, resource_of, written_resource};
 
 use crate::cards::Cards;
-use pc_cards::card::{Card, Coded};
+use pc_cards::card::{Card, Coded, Layout};
 use pc_cards::field::{Misfit, read_code, read_title};
 use pc_cards::form::{Form, Slot};
-use pc_records::Row;
+use pc_faults::Kind;
+use pc_records::{Row, RowWriter};
 use pc_text::{Code, Title};
+use std::alloc::AllocError;
 
 /// A RES card: a resource that activities use.
 #[derive(Clone, Copy, Debug)]
@@ -28,16 +30,14 @@ impl Card for ResCard {
 
     ghost spelled = { resource_of };
 
-    fn slots() -> &'static [Slot] {
-        &SLOTS
-    }
+    ghost written = { written_resource };
 
-    fn least_width() -> usize {
-        3
-    }
-
-    fn width() -> usize {
-        3
+    fn layout() -> Layout {
+        Layout {
+            slots: &SLOTS,
+            least: 3,
+            most: 3,
+        }
     }
 
     fn read(row: u32, fields: &Row) -> Result<ResCard, Misfit> {
@@ -46,6 +46,12 @@ impl Card for ResCard {
             code: read_code(fields, 2)?,
             title: read_title(fields, 3)?,
         })
+    }
+
+    fn put(&self, kind: Kind, text: &mut RowWriter) -> Result<(), AllocError> {
+        // A copy, so that all that is lent below lives equally long.
+        let card = *self;
+        text.put(&[kind.word(), card.code.bytes(), card.title.bytes()])
     }
 }
 

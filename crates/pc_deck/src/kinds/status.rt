@@ -1,13 +1,17 @@
 //! STATUS: when an activity was begun or ended.
-ghost use Rattle.pc_deck.specs.Status.{status_slots, status_of};
+ghost use Rattle.std.specs.Prelude.{◌≡◌};
+ghost use Rattle.pc_cards.specs.Forms.{letter_text};
+ghost use Rattle.pc_deck.specs.Status.{status_slots, status_of, written_status};
 
 use crate::cards::Cards;
-use pc_cards::card::Card;
+use pc_cards::card::{Card, Layout};
 use pc_cards::field::{Misfit, read_code, read_date, read_letter};
 use pc_cards::form::{Form, Slot};
-use pc_days::Day;
-use pc_records::Row;
+use pc_days::{Day, day_text};
+use pc_faults::Kind;
+use pc_records::{Row, RowWriter};
 use pc_text::Code;
+use std::alloc::AllocError;
 
 /// A STATUS card: when an activity was begun or, where `finished`, ended.
 #[derive(Clone, Copy, Debug)]
@@ -29,16 +33,14 @@ impl Card for StatusCard {
 
     ghost spelled = { status_of };
 
-    fn slots() -> &'static [Slot] {
-        &SLOTS
-    }
+    ghost written = { written_status };
 
-    fn least_width() -> usize {
-        4
-    }
-
-    fn width() -> usize {
-        4
+    fn layout() -> Layout {
+        Layout {
+            slots: &SLOTS,
+            least: 4,
+            most: 4,
+        }
     }
 
     fn read(row: u32, fields: &Row) -> Result<StatusCard, Misfit> {
@@ -49,6 +51,20 @@ impl Card for StatusCard {
             day: read_date(fields, 4)?,
         })
     }
+
+    fn put(&self, kind: Kind, text: &mut RowWriter) -> Result<(), AllocError> {
+        // A copy, so that all that is lent below lives equally long.
+        let card = *self;
+        let day = day_text(card.day);
+        text.put(&[kind.word(), card.activity.bytes(), letter(card.finished), day.as_slice()])
+    }
+}
+
+/// The letter of a status: `F` where the activity is finished, or else `S`.
+fn letter(finished: bool) -> &'static [u8]
+    ensures { result.now ≡ letter_text finished }
+{
+    if finished { b"F" } else { b"S" }
 }
 
 impl Cards {

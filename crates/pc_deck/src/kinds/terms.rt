@@ -1,12 +1,15 @@
 //! TERMS: what time costs.
-ghost use Rattle.pc_deck.specs.Terms.{terms_slots, terms_of};
+ghost use Rattle.pc_deck.specs.Terms.{terms_slots, terms_of, written_terms};
 
 use crate::cards::Cards;
-use pc_cards::card::Card;
+use pc_cards::card::{Card, Layout};
 use pc_cards::field::{Misfit, read_amount};
 use pc_cards::form::{Form, Slot};
 use pc_model::MAX_TERMS;
-use pc_records::Row;
+use pc_faults::Kind;
+use pc_records::{Row, RowWriter};
+use pc_text::digits;
+use std::alloc::AllocError;
 
 /// The TERMS card: what a unit of time costs, and what is paid for an early end or for a late one, in amounts of money
 /// for each unit.
@@ -40,16 +43,14 @@ impl Card for TermsCard {
 
     ghost spelled = { terms_of };
 
-    fn slots() -> &'static [Slot] {
-        &SLOTS
-    }
+    ghost written = { written_terms };
 
-    fn least_width() -> usize {
-        5
-    }
-
-    fn width() -> usize {
-        5
+    fn layout() -> Layout {
+        Layout {
+            slots: &SLOTS,
+            least: 5,
+            most: 5,
+        }
     }
 
     fn read(row: u32, fields: &Row) -> Result<TermsCard, Misfit> {
@@ -60,6 +61,18 @@ impl Card for TermsCard {
             bonus: read_amount(fields, 4, 0, MAX_TERMS)?,
             penalty: read_amount(fields, 5, 0, MAX_TERMS)?,
         })
+    }
+
+    fn put(&self, kind: Kind, text: &mut RowWriter) -> Result<(), AllocError> {
+        // A copy, so that all that is lent below lives equally long.
+        let card = *self;
+        text.put(&[
+            kind.word(),
+            digits(card.overhead).bytes(),
+            digits(card.target).bytes(),
+            digits(card.bonus).bytes(),
+            digits(card.penalty).bytes(),
+        ])
     }
 }
 

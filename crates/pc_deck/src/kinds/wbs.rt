@@ -1,13 +1,15 @@
 //! WBS: an item of the work breakdown structure.
 ghost use Rattle.std.specs.Prelude.{refl};
-ghost use Rattle.pc_deck.specs.Wbs.{item_slots, item_of};
+ghost use Rattle.pc_deck.specs.Wbs.{item_slots, item_of, written_item};
 
 use crate::cards::Cards;
-use pc_cards::card::{Card, Coded};
+use pc_cards::card::{Card, Coded, Layout};
 use pc_cards::field::{Misfit, read_code, read_code_or_none, read_title};
 use pc_cards::form::{Form, Slot};
-use pc_records::Row;
+use pc_faults::Kind;
+use pc_records::{Row, RowWriter};
 use pc_text::{Code, Title};
+use std::alloc::AllocError;
 
 /// A WBS card: an item of the work breakdown structure. The top item has no parent.
 #[derive(Clone, Copy, Debug)]
@@ -29,16 +31,14 @@ impl Card for ItemCard {
 
     ghost spelled = { item_of };
 
-    fn slots() -> &'static [Slot] {
-        &SLOTS
-    }
+    ghost written = { written_item };
 
-    fn least_width() -> usize {
-        4
-    }
-
-    fn width() -> usize {
-        4
+    fn layout() -> Layout {
+        Layout {
+            slots: &SLOTS,
+            least: 4,
+            most: 4,
+        }
     }
 
     fn read(row: u32, fields: &Row) -> Result<ItemCard, Misfit> {
@@ -48,6 +48,16 @@ impl Card for ItemCard {
             parent: read_code_or_none(fields, 3)?,
             title: read_title(fields, 4)?,
         })
+    }
+
+    fn put(&self, kind: Kind, text: &mut RowWriter) -> Result<(), AllocError> {
+        // A copy, so that all that is lent below lives equally long.
+        let card = *self;
+        let parent = match &card.parent {
+            Some(code) => code.bytes(),
+            None => b"".as_slice(),
+        };
+        text.put(&[kind.word(), card.code.bytes(), parent, card.title.bytes()])
     }
 }
 

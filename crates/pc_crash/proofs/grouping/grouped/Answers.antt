@@ -1,8 +1,7 @@
-use Rattle.std.proofs.Common.{◌≡◌, ◌<◌, [], length, refl, subst, sym, arith}
+use Rattle.std.proofs.Common.{◌<◌, [], length, refl, subst, sym, arith}
 use Rattle.std.proofs.lemmas.List.{get_or_read}
 use Rattle.arrayvec.specs.ArrayVec.{ArrayVec, array_vec_len}
 use Rattle.pc_model.specs.declared.PieceRow.{PieceRow}
-use Rattle.pc_crash.specs.Groups.{group_at}
 use Rattle.pc_crash.specs.Priced.{piece_at}
 use Rattle.pc_crash.proofs.GroupLaws.{group_room}
 use Rattle.pc_crash.proofs.grouping.grouped.Goals as goal

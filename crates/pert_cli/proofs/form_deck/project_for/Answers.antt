@@ -1,5 +1,5 @@
 use Rattle.std.proofs.Common.{refl, ap}
-use Rattle.pc_bench.specs.Deck.{deck_text}
+use Rattle.pc_bench.specs.Deck.{bench_text}
 use Rattle.pert_cli.specs.FormDeck.{own_deck}
 use Rattle.pc_reading.specs.Sides.{side}
 use Rattle.pert_cli.proofs.FormDeckLaws.{own_gives, own_lacks}
@@ -7,8 +7,8 @@ use Rattle.pert_cli.proofs.form_deck.project_for.Goals as goal
 
 pub returns-in-Some-clause-project : goal.returns-in-Some-clause-project
 returns-in-Some-clause-project g c =
-    own_gives (side g.S.Source.left g.S.Source.faults c.args.source.now c.args.source.now) c.args.form c.bench_project.result (deck_text c.in-Some.n) (ap own_deck c.in-Some.ensures.own) refl c.bench_project.ensures.project
+    own_gives (side g.S.Source.left g.S.Source.faults c.args.source.now c.args.source.now) c.args.form c.bench_project.result (bench_text c.in-Some.n) (ap own_deck c.in-Some.ensures.own) refl c.bench_project.ensures.project
 
 pub returns-in-Some-clause-none : goal.returns-in-Some-clause-none
 returns-in-Some-clause-none g c =
-    own_lacks (side g.S.Source.left g.S.Source.faults c.args.source.now c.args.source.now) c.args.form c.bench_project.result (deck_text c.in-Some.n) (ap own_deck c.in-Some.ensures.own) refl c.bench_project.ensures.none
+    own_lacks (side g.S.Source.left g.S.Source.faults c.args.source.now c.args.source.now) c.args.form c.bench_project.result (bench_text c.in-Some.n) (ap own_deck c.in-Some.ensures.own) refl c.bench_project.ensures.none

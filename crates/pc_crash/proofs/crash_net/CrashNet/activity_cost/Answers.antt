@@ -1,4 +1,4 @@
-use Rattle.std.proofs.Common.{◌≡◌, ◌+◌, ◌<◌, ◌≤◌, length, ap, sym, ◌∙◌, subst, arith}
+use Rattle.std.proofs.Common.{◌≡◌, ◌+◌, ◌<◌, ◌≤◌, length, ap, arith}
 use Rattle.pc_model.specs.Cost.{activity_cost}
 use Rattle.pc_crash.specs.CrashNets.{priced_network}
 use Rattle.pc_crash.specs.KneeLists.{AreKneesOf}

@@ -1,4 +1,4 @@
-use Rattle.std.proofs.Common.{◌∙◌, sym, length, ap, arith}
+use Rattle.std.proofs.Common.{sym, arith}
 use Rattle.pc_crash.proofs.NameLaws.{code-found, code-missing}
 use Rattle.pc_crash.proofs.crash_net.CrashNet.activity_named.Goals as goal
 

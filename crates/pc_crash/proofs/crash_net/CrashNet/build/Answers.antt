@@ -1,10 +1,3 @@
-use Rattle.std.proofs.Common.{◌≡◌, length, map, sym, ◌∙◌, ap, subst}
-use Rattle.std.proofs.lemmas.List.{length-map}
-use Rattle.pc_model.specs.Pieces.{ArePieces}
-use Rattle.pc_model.specs.Schedule.{AreTerms}
-use Rattle.pc_crash.specs.Laid.{AreLaid}
-use Rattle.pc_crash.specs.Priced.{AreNames, ArePiecesWithinLimits}
-use Rattle.pc_crash.specs.Terms.{AreWithinLimits}
 use Rattle.pc_crash.proofs.InsideLaws.{terms-laid}
 use Rattle.pc_crash.proofs.crash_net.CrashNet.build.Goals as goal
 

@@ -1,4 +1,4 @@
-use Rattle.std.proofs.Common.{◌≡◌, ◌<◌, ◌≤◌, length, ap, arith}
+use Rattle.std.proofs.Common.{◌<◌, length, ap, arith}
 use Rattle.pc_crash.proofs.InsideLaws.{rows-each, knees-read}
 use Rattle.pc_crash.specs.Laid.{row_at}
 use Rattle.pc_crash.proofs.crash_net.CrashNet.knees.Goals as goal

@@ -10,8 +10,3 @@ invariant_of-result c = record {
   late = λ k d within. let up = c.in_ok-late.ensures.limit k d within in grind (arith, ints, up.0, up.1, c.end_to_meet-by.ensures.limit);
   path = omega (arith, c.in_ok-longest.ensures.short, ap (λ n. n.events) c.net.ensures.network, c.net.ensures.planned.few_events);
 }
-
-pub dates_of-requires : goal.dates_of-requires
-dates_of-requires c =
-    let early : All (λ time. time ≤ MAX_TIME) c.times.result.now = search rules in
-    λ k d within. let bound = early k d within in omega (arith, bound)

@@ -1,0 +1,19 @@
+//! Why the text of a deck is that deck, whatever lists it has.
+//!
+//! Each public function does nothing: its contract is a law, proved once, and a caller that calls it has the law as a fact.
+
+ghost use Rattle.std.specs.Prelude.{◌≡◌, ◌≤◌, length};
+ghost use Rattle.pc_cards.specs.Limits.{longest_deck};
+ghost use Rattle.pc_deck.specs.Deck.{Deck};
+ghost use Rattle.pc_deck.specs.Read.{IsDeckOf};
+ghost use Rattle.pc_deck.specs.Text.{deck_text, renumbered, settled};
+ghost use Rattle.pc_deck.specs.Within.{IsWithinLimits};
+
+/// The text of a deck whose lists are within the limits of version 2 is no longer than a deck may be, has none of the faults of
+/// cards, and is that deck: its lists are those that were written, in version 2, with an ASOF card, and with the record numbers
+/// that they have in the text. What was read from the text has the same text again.
+pub fn text_is_the_deck()
+    ensures short { (deck : Deck) → IsWithinLimits deck → length (deck_text deck) ≤ longest_deck }
+    ensures read { (deck : Deck) → IsWithinLimits deck → IsDeckOf (deck_text deck) (renumbered (settled deck)) }
+    ensures again { (deck : Deck) → deck_text (renumbered (settled deck)) ≡ deck_text deck }
+{}
