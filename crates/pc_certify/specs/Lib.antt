@@ -1,5 +1,6 @@
 pub mod Listed
 pub mod Document
+pub mod Spelled
 pub mod Rows
 pub mod Complete
 pub mod Worked

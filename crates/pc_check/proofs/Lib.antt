@@ -13,6 +13,7 @@ pub mod GoodSegments
 pub mod GoodLines
 pub mod FinishLaws
 pub mod StillLaws
+pub mod PassedLaws
 pub mod AuditLaws
 pub mod AuditFinishLaws
 pub mod FeedLaws

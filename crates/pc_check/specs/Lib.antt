@@ -10,6 +10,7 @@ pub mod Kept
 pub mod Crossings
 pub mod Safe
 pub mod Bounds
+pub mod Passed
 pub mod Advances
 pub mod Additions
 pub mod Checking

@@ -11,6 +11,7 @@ mod closing;
 mod fail;
 mod gaps;
 mod kept;
+mod passed;
 mod reasons;
 mod source;
 mod verdict_laws;
