@@ -1,6 +1,6 @@
 pub mod SumLaws
-mod RollLaws
+pub mod RollLaws
 mod LeastLaws
-mod PlacedLaws
+pub mod PlacedLaws
 mod LineLaws
 pub mod WholeLaws

@@ -1,6 +1,6 @@
 -- Laws of sums over the numbers that have a property.
 use Rattle.std.proofs.Common.{◌≡◌, ℕ, zero, suc, ◌+◌, ◌<◌, ◌≤◌, ◌⊎◌, inl, inr, ⊎_elim, refl, ap, sym, ◌∙◌, subst, add-one, arith}
-use Rattle.std.specs.Prelude.{ℤ, pos, ◌+ℤ◌, unsigned_abs}
+use Rattle.std.specs.Prelude.{ℤ, pos, ◌+ℤ◌, ◌≤ℤ◌, unsigned_abs}
 use Rattle.std.proofs.lemmas.Int.{ints}
 use Rattle.std.proofs.lemmas.Bool.{cases_eq}
 use Rattle.pc_model.specs.Sums.{sum_to}
@@ -106,3 +106,67 @@ IsSumOver-bound P zero f t is = omega (arith, ap unsigned_abs is)
 IsSumOver-bound P (suc n) f t (inl (p, (r, (over, e)))) =
     omega (arith, IsSumOver-bound P n f r over, ap unsigned_abs e, unsigned_abs-add r (f n))
 IsSumOver-bound P (suc n) f t (inr (none, over)) = omega (arith, IsSumOver-bound P n f t over)
+
+-- amounts that agree below the count have the same sum
+pub IsSumOver-amounts : (P : ℕ → Type 0) (n : ℕ) (f g : ℕ → ℤ) (t : ℤ) → ((x : ℕ) → x < n → f x ≡ g x) → IsSumOver P n f t → IsSumOver P n g t
+IsSumOver-amounts P zero f g t agree is = is
+IsSumOver-amounts P (suc n) f g t agree (inl (p, (r, (over, e)))) =
+    inl (p, (r, (IsSumOver-amounts P n f g r (λ x h. agree x (omega arith)) over, e ∙ ap (λ (z : ℤ). r +ℤ z) (agree n (omega arith)))))
+IsSumOver-amounts P (suc n) f g t agree (inr (none, over)) =
+    inr (none, IsSumOver-amounts P n f g t (λ x h. agree x (omega arith)) over)
+
+-- what is nothing each time sums to nothing
+pub IsSumOver-nothing : (P : ℕ → Type 0) (n : ℕ) (f : ℕ → ℤ) (t : ℤ) → IsSumOver P n f t → IsSumOver P n (λ x. pos 0) (pos 0)
+IsSumOver-nothing P zero f t is = refl
+IsSumOver-nothing P (suc n) f t (inl (p, (r, (over, e)))) =
+    inl (p, (pos 0, (IsSumOver-nothing P n f r over, omega (arith, ints))))
+IsSumOver-nothing P (suc n) f t (inr (none, over)) =
+    inr (none, IsSumOver-nothing P n f t over)
+
+-- the sum of two amounts is summed by their sums
+pub IsSumOver-plus : (P : ℕ → Type 0) (n : ℕ) (f g : ℕ → ℤ) (s t : ℤ) → IsSumOver P n f s → IsSumOver P n g t → IsSumOver P n (λ x. f x +ℤ g x) (s +ℤ t)
+IsSumOver-plus P zero f g s t is at = omega (arith, ints)
+IsSumOver-plus P (suc n) f g s t (inl (p, (r, (over, e)))) (inl (q, (u, (above, h)))) =
+    inl (p, (r +ℤ u, (IsSumOver-plus P n f g r u over above, omega (arith, ints))))
+IsSumOver-plus P (suc n) f g s t (inl (p, rest)) (inr (none, above)) = absurd (none p)
+IsSumOver-plus P (suc n) f g s t (inr (none, over)) (inl (p, rest)) = absurd (none p)
+IsSumOver-plus P (suc n) f g s t (inr (none, over)) (inr (never, above)) =
+    inr (none, IsSumOver-plus P n f g s t over above)
+
+-- what is never negative has no negative sum
+pub IsSumOver-natural : (P : ℕ → Type 0) (n : ℕ) (f : ℕ → ℤ) (t : ℤ) → ((x : ℕ) → x < n → pos 0 ≤ℤ f x) → IsSumOver P n f t → pos 0 ≤ℤ t
+IsSumOver-natural P zero f t natural is = omega (arith, ints)
+IsSumOver-natural P (suc n) f t natural (inl (p, (r, (over, e)))) =
+    let rest = IsSumOver-natural P n f r (λ x h. natural x (omega arith)) over in
+    let here = natural n (omega arith) in
+    omega (arith, ints)
+IsSumOver-natural P (suc n) f t natural (inr (none, over)) =
+    IsSumOver-natural P n f t (λ x h. natural x (omega arith)) over
+
+-- where it can be told which numbers have the property, there is a sum
+pub IsSumOver-some : (P : ℕ → Type 0) (n : ℕ) (f : ℕ → ℤ) → ((x : ℕ) → x < n → P x ⊎ (P x → ⊥)) → (t : ℤ) × IsSumOver P n f t
+IsSumOver-some P zero f told = (pos 0, refl)
+IsSumOver-some P (suc n) f told =
+    let (r, over) = IsSumOver-some P n f (λ x h. told x (omega arith)) in
+    ⊎_elim (λ p. (r +ℤ f n, inl (p, (r, (over, refl))))) (λ none. (r, inr (none, over))) (told n (omega arith))
+
+-- a sum of sums that have no number in common: where f x is the sum of g over Q x for each x that has P, the sum of f over P is
+-- that of g over the numbers in some such Q x
+pub IsSumOver-parts : (P : ℕ → Type 0) (Q : ℕ → ℕ → Type 0) (n m : ℕ) (f g : ℕ → ℤ) (t : ℤ)
+    → ((x : ℕ) → x < n → P x → IsSumOver (Q x) m g (f x))
+    → ((x y k : ℕ) → x < y → y < n → k < m → P x → P y → Q x k → Q y k → ⊥)
+    → IsSumOver P n f t → IsSumOver (λ k. (x : ℕ) × ((x < n) × P x × Q x k)) m g t
+IsSumOver-parts P Q zero m f g t each apart is =
+    IsSumOver-at (λ k. (x : ℕ) × ((x < 0) × P x × Q x k)) m g (pos 0) t (sym is) (IsSumOver-none (λ k. (x : ℕ) × ((x < 0) × P x × Q x k)) m g (λ k h (x, (lt, has, in_x)). absurd (omega arith)))
+IsSumOver-parts P Q (suc n) m f g t each apart (inl (p, (r, (over, e)))) =
+    let lower = IsSumOver-parts P Q n m f g r (λ x h. each x (omega arith)) (λ x y k less h. apart x y k less (omega arith)) over in
+    IsSumOver-at (λ k. (x : ℕ) × ((x < suc n) × P x × Q x k)) m g (r +ℤ f n) t (sym e)
+    (IsSumOver-same (λ k. ((x : ℕ) × ((x < n) × P x × Q x k)) ⊎ Q n k) (λ k. (x : ℕ) × ((x < suc n) × P x × Q x k)) m g (r +ℤ f n)
+    (λ k h either. ⊎_elim (λ (x, (lt, has, in_x)). (x, (omega arith, has, in_x))) (λ in_n. (n, (omega arith, p, in_n))) either)
+    (λ k h (x, (lt, has, in_x)). ⊎_elim (λ same. inr (subst (λ (y : ℕ). Q y k) same in_x)) (λ ne. inl (x, (omega arith, has, in_x))) (cases_eq x n))
+    (IsSumOver-both (λ k. (x : ℕ) × ((x < n) × P x × Q x k)) (Q n) m g r (f n) (λ k h (x, (lt, has, in_x)) in_n. apart x n k lt (omega arith) h has p in_x in_n) lower (each n (omega arith) p)))
+IsSumOver-parts P Q (suc n) m f g t each apart (inr (none, over)) =
+    IsSumOver-same (λ k. (x : ℕ) × ((x < n) × P x × Q x k)) (λ k. (x : ℕ) × ((x < suc n) × P x × Q x k)) m g t
+    (λ k h (x, (lt, has, in_x)). (x, (omega arith, has, in_x)))
+    (λ k h (x, (lt, has, in_x)). ⊎_elim (λ same. absurd (none (subst P same has))) (λ ne. (x, (omega arith, has, in_x))) (cases_eq x n))
+    (IsSumOver-parts P Q n m f g t (λ x h. each x (omega arith)) (λ x y k less h. apart x y k less (omega arith)) over)

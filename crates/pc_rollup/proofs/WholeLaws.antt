@@ -1,18 +1,19 @@
 -- The lines of a level together have all that stands on leaves, and so what the top has.
-use Rattle.std.proofs.Common.{◌≡◌, ℕ, zero, suc, ◌+◌, ◌<◌, ◌≤◌, ◌⊎◌, inl, inr, ⊎_elim, List, length, take, sym, ◌∙◌, subst, arith}
+use Rattle.std.proofs.Common.{◌≡◌, ◌≢◌, ap, Option, Some, None, ℕ, zero, suc, ◌+◌, ◌<◌, ◌≤◌, ◌⊎◌, inl, inr, ⊎_elim, List, length, take, sym, ◌∙◌, subst, arith}
 use Rattle.std.specs.Prelude.{ℤ, pos, ◌+ℤ◌, slice_index}
-use Rattle.std.proofs.lemmas.Bool.{cases_eq}
+use Rattle.std.proofs.lemmas.Bool.{cases_eq, cases_lt}
 use Rattle.std.proofs.lemmas.List.Sums.{fold_more}
 use Rattle.std.proofs.Math.Seq.{take-length}
 use Rattle.pc_wbs.specs.declared.row.ItemRow.{ItemRow}
-use Rattle.pc_wbs.specs.Climb.{AreInRange, IsBelow, IsTop, IsOnlyTop, IsLeaf, IsTree}
+use Rattle.pc_wbs.specs.Climb.{parent_of, AreInRange, HasLevel, IsBelow, IsTop, IsOnlyTop, IsLeaf, IsTree}
+use Rattle.pc_wbs.proofs.ClimbLaws.{HasLevel-same}
 use Rattle.pc_wbs.specs.Preorder.{IsPreorder}
 use Rattle.pc_wbs.proofs.OrderLaws.{IsBelow-top}
 use Rattle.pc_rollup.specs.declared.levels.LevelLine.{LevelLine}
 use Rattle.pc_rollup.specs.Sums.{IsSumOver}
 use Rattle.pc_rollup.specs.Totals.{amount_at, AreRolledUp}
-use Rattle.pc_rollup.specs.Lines.{line_at, StandsBefore, AreLines, sum_of}
-use Rattle.pc_rollup.proofs.SumLaws.{IsSumOver-none, IsSumOver-same, IsSumOver-both, IsSumOver-only}
+use Rattle.pc_rollup.specs.Lines.{HasLine, line_at, StandsBefore, AreLines, sum_of}
+use Rattle.pc_rollup.proofs.SumLaws.{IsSumOver-none, IsSumOver-same, IsSumOver-both, IsSumOver-only, IsSumOver-at, IsSumOver-parts, IsSumOver-some}
 use Rattle.pc_rollup.proofs.LineLaws.{line_of_leaf}
 
 -- what stands on the leaves of a tree, and the lines of a level: those numbers below n that have P stand on leaves, each
@@ -92,6 +93,17 @@ lines_sum rows order level P place n amount totals lines all =
         let (j, (less, e)) = all.lines.every y its.known its.line in
         (j, (less, subst (IsBelow rows (place x)) (sym e) its.at.below))
 
+-- the top has the sum over all leaves
+leaves_of_top : (rows : List ItemRow) (top : ℕ) (amounts totals : List ℤ) → AreInRange rows → IsTree rows → AreRolledUp rows amounts totals → IsTop rows top → IsSumOver (IsLeaf rows) (length rows) (amount_at amounts) (amount_at totals top)
+leaves_of_top rows top amounts totals ranged tree rolled is_top =
+    IsSumOver-same (λ x. IsLeaf rows x × IsBelow rows x top) (IsLeaf rows) (length rows) (amount_at amounts) (amount_at totals top)
+    (λ x h (leaf, rest). leaf)
+    (λ x h leaf. (leaf, IsBelow-top rows top x ranged tree only h))
+    (rolled.each top is_top.0)
+  where
+    only : IsOnlyTop rows top
+    only = let (first, alone) = tree.top in subst (IsOnlyTop rows) (sym (alone.only top is_top.0 is_top.1)) alone
+
 -- so they have what the top has, where the totals are rolled up from the leaves' own amounts
 pub whole_sum : (rows : List ItemRow) (order : List ℕ) (level top : ℕ) (amounts totals : List ℤ) (lines : List LevelLine) → AreInRange rows → IsTree rows → IsPreorder rows order → 1 ≤ level → AreLines rows order level totals lines → AreRolledUp rows amounts totals → IsTop rows top → sum_of lines ≡ amount_at totals top
 whole_sum rows order level top amounts totals lines ranged tree preorder some are rolled is_top =
@@ -106,10 +118,60 @@ whole_sum rows order level top amounts totals lines ranged tree preorder some ar
       summed = rolled.each;
       lines = are;
     }))
-    (IsSumOver-same (λ x. IsLeaf rows x × IsBelow rows x top) (IsLeaf rows) (length rows) (amount_at amounts) (amount_at totals top)
-    (λ x h (leaf, rest). leaf)
-    (λ x h leaf. (leaf, IsBelow-top rows top x ranged tree only h))
-    (rolled.each top is_top.0))
+    (leaves_of_top rows top amounts totals ranged tree rolled is_top)
+
+-- ---- the lines of a level as items
+
+-- of the first n items one has this parent, or none
+child_or_none : (rows : List ItemRow) (x n : ℕ) → ((y : ℕ) × ((y < n) × (parent_of rows y ≡ Some x))) ⊎ ((y : ℕ) → y < n → parent_of rows y ≢ Some x)
+child_or_none rows x zero = inr (λ y lt. absurd (omega arith))
+child_or_none rows x (suc n) =
+    ⊎_elim (λ (y, (lt, e)). inl (y, (omega arith, e)))
+    (λ none. ⊎_elim (λ e. inl (n, (omega arith, e))) (λ ne. inr (λ y lt. ⊎_elim (λ same. subst (λ (i : ℕ). parent_of rows i ≢ Some x) (sym same) ne) (λ apart. none y (omega arith)) (cases_eq y n))) (parent_or_not (parent_of rows n)))
+    (child_or_none rows x n)
   where
-    only : IsOnlyTop rows top
-    only = let (first, alone) = tree.top in subst (IsOnlyTop rows) (sym (alone.only top is_top.0 is_top.1)) alone
+    parent_or_not : (p : Option ℕ) → (p ≡ Some x) ⊎ (p ≢ Some x)
+    parent_or_not None = inr (λ e. cc)
+    parent_or_not (Some y) = ⊎_elim (λ e. inl (ap Some e)) (λ ne. inr (λ e. ne (cc))) (cases_eq y x)
+
+-- it can be told whether an item is a leaf
+leaf_or_not : (rows : List ItemRow) (x : ℕ) → IsLeaf rows x ⊎ (IsLeaf rows x → ⊥)
+leaf_or_not rows x =
+    ⊎_elim (λ (y, (lt, e)). inr (λ leaf. leaf y lt e)) (λ none. inl none) (child_or_none rows x (length rows))
+
+-- and whether it has a line
+line_or_not : (rows : List ItemRow) (level x : ℕ) → IsTree rows → x < length rows → HasLine rows level x ⊎ (HasLine rows level x → ⊥)
+line_or_not rows level x tree lt =
+    let (own, (has, within)) = tree.levels x lt in
+    ⊎_elim (λ e. inl (inl (subst (HasLevel rows x) e has))) (λ ne. ⊎_elim (λ less. high own has less ne) (λ le. inr (low own has le ne)) (cases_lt own level)) (cases_eq own level)
+  where
+    high : (own : ℕ) → HasLevel rows x own → own < level → own ≢ level → HasLine rows level x ⊎ (HasLine rows level x → ⊥)
+    high own has less ne =
+        ⊎_elim (λ leaf. inl (inr (leaf, (own, (has, less))))) (λ none. inr (λ line. ⊎_elim (λ at. ne (HasLevel-same rows x own level has at)) (λ (leaf, rest). none leaf) line)) (leaf_or_not rows x)
+
+    low : (own : ℕ) → HasLevel rows x own → level ≤ own → own ≢ level → HasLine rows level x → ⊥
+    low own has le ne line =
+        ⊎_elim (λ at. ne (HasLevel-same rows x own level has at)) (λ (leaf, (other, (at, less))). let same = HasLevel-same rows x own other has at in absurd (omega arith)) line
+
+-- the items at a level and the leaves above it have together what the top has
+pub lines_have_all : (rows : List ItemRow) (level top : ℕ) (amounts totals : List ℤ) → AreInRange rows → IsTree rows → 1 ≤ level → AreRolledUp rows amounts totals → IsTop rows top → IsSumOver (HasLine rows level) (length rows) (amount_at totals) (amount_at totals top)
+lines_have_all rows level top amounts totals ranged tree some rolled is_top =
+    let (sum, over) = IsSumOver-some (HasLine rows level) (length rows) (amount_at totals) (λ x h. line_or_not rows level x tree h) in
+    IsSumOver-at (HasLine rows level) (length rows) (amount_at totals) sum (amount_at totals top) (same sum over) over
+  where
+    -- a leaf has one line
+    apart : (x y k : ℕ) → x < y → y < length rows → k < length rows → HasLine rows level x → HasLine rows level y → IsLeaf rows k × IsBelow rows k x → IsLeaf rows k × IsBelow rows k y → ⊥
+    apart x y k less h known on_x on_y (leaf, in_x) (also, in_y) =
+        let (z, line) = line_of_leaf rows level k ranged tree some known leaf in
+        let first = line.only x on_x in_x in
+        let second = line.only y on_y in_y in
+        omega arith
+
+    same : (sum : ℤ) → IsSumOver (HasLine rows level) (length rows) (amount_at totals) sum → sum ≡ amount_at totals top
+    same sum over =
+        IsSumOver-only (IsLeaf rows) (length rows) (amount_at amounts) sum (amount_at totals top)
+        (IsSumOver-same (λ k. (x : ℕ) × ((x < length rows) × HasLine rows level x × (IsLeaf rows k × IsBelow rows k x))) (IsLeaf rows) (length rows) (amount_at amounts) sum
+        (λ k h (x, (lt, line, (leaf, below))). leaf)
+        (λ k h leaf. let (y, line) = line_of_leaf rows level k ranged tree some h leaf in (y, (line.known, line.line, (leaf, line.at.below))))
+        (IsSumOver-parts (HasLine rows level) (λ x k. IsLeaf rows k × IsBelow rows k x) (length rows) (length rows) (amount_at totals) (amount_at amounts) sum (λ x h line. rolled.each x h) apart over))
+        (leaves_of_top rows top amounts totals ranged tree rolled is_top)

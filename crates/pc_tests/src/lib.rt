@@ -12,6 +12,8 @@ mod curves;
 #[cfg(test)]
 mod decks;
 #[cfg(test)]
+mod loads;
+#[cfg(test)]
 mod priced;
 #[cfg(test)]
 mod schedules;

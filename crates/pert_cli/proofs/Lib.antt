@@ -6,3 +6,4 @@ mod ScheduleLaws
 mod CertifyLaws
 mod OptimumLaws
 mod PointLaws
+mod LoadLaws

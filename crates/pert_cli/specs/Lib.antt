@@ -2,6 +2,7 @@ pub mod Normal
 pub mod Point
 pub mod Optimum
 pub mod Outlook
+pub mod Load
 pub mod Forms
 pub mod Words
 pub mod Handing

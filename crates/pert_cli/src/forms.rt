@@ -4,19 +4,18 @@
 //! is in a file of its own.
 ghost use Rattle.std.specs.Prelude.{◌≡◌, ◌+◌, ◌≤◌, [], ◌∷◌, ◌++◌, length, IfNone, IfSome};
 ghost use Rattle.pert_cli.specs.FormDeck.{ReadsSource};
-ghost use Rattle.pert_cli.specs.Forms.{IsAskedBy};
+ghost use Rattle.pert_cli.specs.Forms.{IsAskedBy, IsNumbered};
 ghost use Rattle.pert_cli.specs.Handing.{Replies};
 ghost use Rattle.pc_reading.specs.Sides.{side};
 ghost use Rattle.pert_cli.specs.declared.forms.Form.{Form as TheForm};
 ghost use Rattle.pert_cli.specs.declared.forms.Form.TheVariants.{Bench};
 ghost use Rattle.pert_cli.specs.Words.{AskFor, AskForNone, usage_text};
 
-use crate::{
-    bench, certify, check, curve, normal, optimum, outlook, point, summary, times, value,
-};
+use crate::{bench, certify, check, curve, load, normal, optimum, outlook, point, summary, times, value};
 use arrayvec::ArrayVec;
 use pc_bench::MOST_ACTIVITIES;
 use pc_edges::Sink;
+use pc_load::MAX_DAYS;
 use pc_project::Project;
 use pc_reading::Status;
 use pc_text::read_number;
@@ -41,7 +40,8 @@ pub(crate) fn usage() -> ArrayVec<u8, USAGE_ROOM>
     append(&mut line, b" L | ", outlook::WORDS);
     append(&mut line, b" L | ", bench::WORDS);
     append(&mut line, b" N | ", optimum::WORDS);
-    append(&mut line, b"\n", b"");
+    append(&mut line, b" | ", load::WORDS);
+    append(&mut line, b" P\n", b"");
     line
 }
 
@@ -79,6 +79,8 @@ pub(crate) enum Form {
     Bench(u64),
     /// The length for which the project costs least in all, and a schedule for it.
     Optimum,
+    /// What is spent and taken in each period of so many days.
+    Load(u64),
 }
 
 impl Form {
@@ -133,6 +135,10 @@ impl Form {
             read_number(number)
                 .filter(|n| (1..=MOST_ACTIVITIES).contains(n))
                 .map(Form::Bench)
+        } else if word == load::WORDS {
+            read_number(number)
+                .filter(|days| (1..=MAX_DAYS).contains(days))
+                .map(Form::Load)
         } else {
             None
         }
@@ -154,7 +160,8 @@ impl Form {
             | Form::Certify
             | Form::Point(_)
             | Form::Outlook(_)
-            | Form::Optimum => None,
+            | Form::Optimum
+            | Form::Load(_) => None,
         }
     }
 
@@ -167,6 +174,7 @@ impl Form {
         out: &mut O,
         err: &mut E,
     ) -> Status
+        requires { IsNumbered self }
         ensures { Replies self project.now (side O.taken O.faults out.old out.new) (side E.taken E.faults err.old err.new) result }
     {
         match self {
@@ -181,6 +189,7 @@ impl Form {
             Form::Outlook(limit) => outlook::answer(alloc, limit, project, out, err),
             Form::Bench(n) => bench::answer(alloc, n, project, out),
             Form::Optimum => optimum::answer(alloc, project, out),
+            Form::Load(days) => load::answer(alloc, days, project, out, err),
         }
     }
 }

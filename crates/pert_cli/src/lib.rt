@@ -9,6 +9,7 @@ mod check;
 mod curve;
 mod form_deck;
 mod forms;
+mod load;
 mod normal;
 mod optimum;
 mod outlook;

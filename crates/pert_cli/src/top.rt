@@ -22,9 +22,10 @@ use std::alloc::Global;
 /// schedule at the all-normal length, `times` for the times of the events and the critical path, `summary` for what the
 /// accounts add up to, `value` for the forecast and what the work is worth, `curve` for the breakpoints of the time-cost
 /// curve, `certify` for its certificate, `point L` for a schedule of least cost for the length L, `outlook L` for that and
-/// what each item costs by it. `bench N` asks for figures of the curve of a deck of its own, and reads none. The words come
-/// first, then the whole deck, then its faults, then whether the form refuses it and all memory that the answer needs, then
-/// the answer and a flush. The answer of the call is the status with which the program ends.
+/// what each item costs by it, `load P` for what is spent and taken in each period of P days. `bench N` asks for figures of
+/// the curve of a deck of its own, and reads none. The words come first, then the whole deck, then its faults, then whether
+/// the form refuses it and all memory that the answer needs, then the answer and a flush. The answer of the call is the
+/// status with which the program ends.
 pub fn run<S: Source, O: Sink, E: Sink>(
     alloc: Global,
     words: &[String],

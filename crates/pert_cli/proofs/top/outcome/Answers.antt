@@ -41,3 +41,6 @@ returns-in-Err-OutOfMemory g c =
 
 pub project_for-requires : goal.project_for-requires
 project_for-requires g c = c.in-Some.ensures.form.numbered
+
+pub answer-requires : goal.answer-requires
+answer-requires g c = c.in-Some.ensures.form.numbered

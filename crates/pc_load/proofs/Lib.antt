@@ -1,0 +1,9 @@
+mod ShareLaws
+mod ColumnLaws
+mod AddLaws
+mod SeriesLaws
+mod TableLaws
+mod ItemLaws
+mod EndLaws
+mod EntryLaws
+mod LoadingLaws

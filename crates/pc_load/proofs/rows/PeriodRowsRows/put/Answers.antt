@@ -1,0 +1,11 @@
+use Rattle.std.proofs.Common.{◌*◌, ap, ◌∙◌}
+use Rattle.std.specs.Prelude.{pos, ◌+ℤ◌}
+use Rattle.pc_page.proofs.PageLaws.{Adds-as}
+use Rattle.pc_load.specs.LoadText.{date_or_none, period_cells, period_row}
+use Rattle.pc_load.proofs.rows.PeriodRowsRows.put.Goals as goal
+
+pub returns : goal.returns
+returns g c =
+    let t = c.args.self.now in
+    Adds-as (period_row t.project.now t.loading.now.days c.args.i)
+    (ap (period_cells c.args.i) (rw (c.start_day.ensures, c.days.ensures) at c.date_after-date.ensures)) c.put_period.ensures

@@ -1,0 +1,24 @@
+-- The share of a spread amount that has come by a time, and its part between two times.
+use Rattle.std.specs.Prelude.{ℕ, ◌+◌, ◌-◌, ◌*◌, ◌/◌, ◌<◌, ◌≤◌, ◌^◌, nat_le, if◌then◌else◌}
+use Rattle.pc_model.specs.declared.limits.TheConstants.{MAX_COST}
+use Rattle.pc_times.specs.declared.TheConstants.{MAX_LENGTH}
+use Rattle.pc_load.specs.declared.spread.Spread.{Spread}
+
+-- the spread is one of a project: it begins at a time of one, lasts no longer than an activity may, and its amount is one of
+-- a card
+pub record IsSpread (s : Spread) : Type 0 where
+  pub begin : s.begin < 2 ^ 40
+  pub length : s.length ≤ MAX_LENGTH
+  pub amount : s.amount ≤ MAX_COST
+
+-- the share by a time: nothing up to the beginning; behind it the whole from the end on; and before the end as much of the
+-- amount as the time since the beginning is of the length, rounded down
+abbrev pub share : Spread → ℕ → ℕ
+share s time =
+    if nat_le time s.begin then 0
+    else if nat_le (s.begin + s.length) time then s.amount
+    else (s.amount * (time - s.begin) / s.length)
+
+-- the part between two times: the share by the later one less the share by the earlier one
+abbrev pub part : Spread → ℕ → ℕ → ℕ
+part s from to = share s to - share s from

@@ -1,0 +1,152 @@
+//! The rows of the report of loads.
+ghost use Rattle.std.specs.Prelude.{◌≡◌, ◌*◌, ◌+◌, ◌<◌, ◌≤◌, pos, ◌+ℤ◌, length, slice_index_or, []};
+ghost use Rattle.pc_page.specs.Puts.{Puts};
+ghost use Rattle.pc_load.specs.Loading.{IsReadyFor};
+ghost use Rattle.pc_load.specs.LoadText.{amount_row, amount_rows, date_or_none, item_rows, period_cells, period_row, resource_rows};
+ghost use Rattle.pc_load.specs.Table.{IsRowOf, amount_in};
+
+use crate::loading::Loading;
+use crate::table::Table;
+use pc_days::{Day, date_of_sixths, day_text};
+use pc_edges::Sink;
+use pc_page::{Page, Rows, put_rows};
+use pc_project::Project;
+use pc_text::Code;
+
+/// A row for each period.
+#[derive(Clone, Copy)]
+pub(crate) struct PeriodRows<'a> {
+    pub(crate) project: &'a Project,
+    pub(crate) loading: &'a Loading,
+}
+
+impl<'a> Rows for PeriodRows<'a> {
+    ghost row_count = { λ t. t.loading.now.items.periods };
+
+    ghost row_text = { λ t. period_row t.project.now t.loading.now.days };
+
+    ghost IsReady = { λ t. IsReadyFor t.project.now t.loading.now };
+
+    fn count(&self) -> usize {
+        self.loading.items().periods() as usize
+    }
+
+    fn put<O: Sink>(&self, i: usize, page: &mut Page, sink: &mut O) {
+        let date = date_after(self.project.start_day(), self.loading.days() * i as u64);
+        put_period(page, sink, i as u64, &date);
+    }
+}
+
+/// The rows of each item, in preorder.
+#[derive(Clone, Copy)]
+pub(crate) struct ItemRows<'a> {
+    pub(crate) project: &'a Project,
+    pub(crate) loading: &'a Loading,
+}
+
+impl<'a> Rows for ItemRows<'a> {
+    ghost row_count = { λ t. length t.loading.now.order };
+
+    ghost row_text = { λ t. item_rows t.project.now t.loading.now };
+
+    ghost IsReady = { λ t. IsReadyFor t.project.now t.loading.now };
+
+    fn count(&self) -> usize {
+        self.loading.order().len()
+    }
+
+    fn put<O: Sink>(&self, i: usize, page: &mut Page, sink: &mut O) {
+        let row = self.loading.order()[i];
+        let code = &self.project.item_code(row);
+        let table = self.loading.items();
+        put_rows(page, sink, &AmountRows { code, table, row });
+    }
+}
+
+/// The rows of each resource, in card order.
+#[derive(Clone, Copy)]
+pub(crate) struct ResourceRows<'a> {
+    pub(crate) project: &'a Project,
+    pub(crate) loading: &'a Loading,
+}
+
+impl<'a> Rows for ResourceRows<'a> {
+    ghost row_count = { λ t. length t.project.now.resources };
+
+    ghost row_text = { λ t. resource_rows t.project.now t.loading.now };
+
+    ghost IsReady = { λ t. IsReadyFor t.project.now t.loading.now };
+
+    fn count(&self) -> usize {
+        self.project.resource_count() as usize
+    }
+
+    fn put<O: Sink>(&self, i: usize, page: &mut Page, sink: &mut O) {
+        let row = i as u32;
+        let code = &self.project.resource_code(row);
+        let table = self.loading.resources();
+        put_rows(page, sink, &AmountRows { code, table, row });
+    }
+}
+
+/// A row for each period in which a row of a table has an amount.
+#[derive(Clone, Copy)]
+struct AmountRows<'a> {
+    code: &'a Code,
+    table: &'a Table,
+    row: u32,
+}
+
+impl<'a> Rows for AmountRows<'a> {
+    ghost row_count = { λ t. t.table.now.periods };
+
+    ghost row_text = { λ t k. amount_row t.code.now k (amount_in t.table.now t.row k) };
+
+    ghost IsReady = { λ t. IsRowOf t.table.now t.row };
+
+    fn count(&self) -> usize {
+        self.table.periods() as usize
+    }
+
+    fn put<O: Sink>(&self, i: usize, page: &mut Page, sink: &mut O) {
+        let amount = self.table.amount(self.row, i as u32);
+        if amount > 0 {
+            put_amount(page, sink, self.code, i as u64, amount);
+        }
+    }
+}
+
+/// Puts the row of a period.
+fn put_period<O: Sink>(page: &mut Page, sink: &mut O, k: u64, date: &[u8; 10])
+    ensures { Puts O.taken O.faults page.old sink.old page.new sink.new (period_cells k date.now) }
+{
+    page.put(sink, b"PERIOD           ");
+    page.put_number_right(sink, 6, k);
+    page.put(sink, b" ");
+    page.put(sink, date);
+    page.put(sink, b"\n");
+}
+
+/// Puts the row of an amount in a period.
+fn put_amount<O: Sink>(page: &mut Page, sink: &mut O, code: &Code, k: u64, amount: u64)
+    requires { 0 < amount }
+    ensures { Puts O.taken O.faults page.old sink.old page.new sink.new (amount_row code.now k (pos amount)) }
+{
+    page.put_left(sink, 16, code.bytes());
+    page.put(sink, b" ");
+    page.put_number_right(sink, 6, k);
+    page.put(sink, b" ");
+    page.put_number_right(sink, 14, amount);
+    page.put(sink, b"\n");
+}
+
+/// The date so many days after a day, or ten hyphens where it is past the days that are printed.
+fn date_after(start: Day, days: u64) -> [u8; 10]
+    requires { days < 10_000_000 }
+    ensures { result ≡ date_or_none (start +ℤ pos days) }
+{
+    match date_of_sixths(start, 6 * days as i64) {
+        Some(day) => day_text(day),
+        None => *b"----------",
+    }
+}

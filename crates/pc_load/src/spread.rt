@@ -1,0 +1,42 @@
+//! An amount that is spread over time.
+ghost use Rattle.std.specs.Prelude.{◌≡◌, ◌+◌, ◌^◌, ◌<◌, ◌≤◌};
+ghost use Rattle.pc_load.specs.Share.{IsSpread, part, share};
+
+/// An amount that comes evenly over some time. All times are in sixths of a day from the project's start.
+#[derive(Clone, Copy, Debug, PartialEq, Eq)]
+pub struct Spread {
+    /// When it begins.
+    pub begin: u64,
+    /// How long it lasts; 0 where it comes all at once.
+    pub length: u64,
+    pub amount: u64,
+}
+
+/// The part of an amount that comes between two times: its share by the later one less its share by the earlier one.
+///
+/// Shares are rounded, and parts are not: so the parts of times that follow one another make up the whole.
+pub fn part(s: &Spread, from: u64, to: u64) -> u64
+    requires spread { IsSpread s.now }
+    requires order { from ≤ to }
+    requires time { to < 2 ^ 40 }
+    ensures part { result ≡ part s.now from to }
+    ensures nothing_lost { share s.now from + result ≡ share s.now to }
+{
+    share(s, to) - share(s, from)
+}
+
+/// The share of an amount that has come by a time.
+pub(crate) fn share(s: &Spread, time: u64) -> u64
+    requires spread { IsSpread s.now }
+    requires time { time < 2 ^ 40 }
+    ensures share { result ≡ share s.now time }
+    ensures most { result ≤ s.now.amount }
+{
+    if time <= s.begin {
+        0
+    } else if s.begin + s.length <= time {
+        s.amount
+    } else {
+        s.amount * (time - s.begin) / s.length
+    }
+}

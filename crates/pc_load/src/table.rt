@@ -1,0 +1,127 @@
+//! Tables of amounts by row and period.
+ghost use Rattle.std.specs.Prelude.{◌≡◌, ℕ, ◌^◌, ◌*◌, ◌<◌, ◌≤◌, pos, length, sum_by, unsigned_abs, IfOk};
+ghost use Rattle.pc_model.specs.declared.limits.TheConstants.{MAX_COST, MAX_ITEMS, MAX_LOADS};
+ghost use Rattle.pc_rollup.specs.Totals.{AreAtLeaves};
+ghost use Rattle.pc_load.specs.Items.{IsItemTable, LevelsAddUp};
+ghost use Rattle.pc_load.specs.Table.{AreEntries, IsTableOf, RowsAddUp, amount_in, column};
+
+use crate::adding::add;
+use crate::spread::Spread;
+use pc_rollup::rollup;
+use pc_wbs::Tree;
+use std::alloc::{AllocError, Global};
+use std::marker::Model;
+
+/// How many periods a table may have.
+pub const MAX_PERIODS: u32 = 400;
+
+/// A spread amount, and the row of a table that it counts on.
+#[derive(Clone, Copy, Debug, PartialEq, Eq)]
+pub struct LoadRow {
+    pub row: u32,
+    pub spread: Spread,
+}
+
+/// An amount for each row in each period, counted from 0. In memory the rows of one period stand together, as the sums over
+/// items want them.
+#[derive(Debug, Drop)]
+pub struct Table {
+    rows: u32,
+    periods: u32,
+    cells: Vec<i64>,
+}
+
+impl Model for Table {
+    ghost use Rattle.pc_load.specs.Table.{Table};
+
+    ghost Value = { Table };
+
+    ghost use Rattle.pc_load.specs.TableInside.{table_from, IsTableInside};
+
+    ghost view = { table_from };
+
+    ghost invariant = { IsTableInside };
+}
+
+impl Table {
+    /// The table of the entries: in each period each row has the sum of the parts of those that count on it.
+    ///
+    /// A period is `width` sixths of a day wide, and there are so many from the project's start on; what comes behind the last
+    /// is left out. It takes time in proportion to the cells, and to the periods that each entry spans.
+    pub fn build(
+        alloc: Global,
+        rows: u32,
+        entries: &[LoadRow],
+        width: u64,
+        periods: u32,
+    ) -> Result<Table, AllocError>
+        requires rows { rows ≤ MAX_ITEMS }
+        requires entries { AreEntries rows entries.now }
+        requires least_width { 6 ≤ width }
+        requires most_width { width ≤ 21_960 }
+        requires some_periods { 1 ≤ periods }
+        requires few_periods { periods ≤ MAX_PERIODS }
+        ensures table { IfOk result (IsTableOf rows entries.now width periods) }
+        ensures add_up { IfOk result (RowsAddUp rows entries.now width periods) }
+        ensures small { IfOk result (λ table. (k : ℕ) → k < periods → sum_by unsigned_abs (column table k) ≤ MAX_LOADS * MAX_COST) }
+    {
+        let mut cells = vec![in alloc; 0; rows as usize * periods as usize]?;
+        for entry in entries {
+            add(&mut cells, rows, periods, entry, width);
+        }
+        Ok(Table {
+            rows,
+            periods,
+            cells,
+        })
+    }
+
+    /// The amount of a row in period `k`.
+    pub fn amount(&self, row: u32, k: u32) -> u64
+        requires row { row < self.now.rows }
+        requires period { k < self.now.periods }
+        ensures { pos result ≡ amount_in self.now row k }
+    {
+        self.cells[k as usize * self.rows as usize + row as usize].unsigned_abs()
+    }
+
+    /// How many periods there are.
+    pub fn periods(&self) -> u32
+        ensures { result ≡ self.now.periods }
+    {
+        self.periods
+    }
+
+    /// The amounts of period `k`, one for each row.
+    fn column(&self, k: u32) -> &[i64]
+        requires { k < self.now.periods }
+        ensures column { result.now ≡ column self.now k }
+        ensures one_each { length result.now ≡ self.now.rows }
+    {
+        let at = k as usize * self.rows as usize;
+        &self.cells[at..at + self.rows as usize]
+    }
+}
+
+/// The table of all items from that of their leaves: in each period the sums of what is on them or below them.
+///
+/// It takes time in proportion to the cells.
+pub fn item_table(alloc: Global, tree: &Tree, leaves: &Table) -> Result<Table, AllocError>
+    requires one_each { leaves.now.rows ≡ length tree.now }
+    requires at_leaves { (k : ℕ) → k < leaves.now.periods → AreAtLeaves tree.now (column leaves.now k) }
+    requires small { (k : ℕ) → k < leaves.now.periods → sum_by unsigned_abs (column leaves.now k) < 2 ^ 63 }
+    ensures items { IfOk result (IsItemTable tree.now leaves.now) }
+    ensures levels { IfOk result (LevelsAddUp tree.now) }
+{
+    let rows = tree.len();
+    let mut cells = Vec::with_capacity(alloc, leaves.cells.len())?;
+    for k in 0..leaves.periods {
+        let totals = rollup(alloc, tree, leaves.column(k))?;
+        cells.extend_from_slice(&totals)?;
+    }
+    Ok(Table {
+        rows,
+        periods: leaves.periods,
+        cells,
+    })
+}

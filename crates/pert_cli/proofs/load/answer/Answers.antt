@@ -1,0 +1,19 @@
+use Rattle.std.proofs.Common.{◌≡◌, ℕ, List, refl, subst}
+use Rattle.pc_faults.specs.declared.fault.Fault.{Fault}
+use Rattle.pc_faults.specs.Faults.{too_many_periods}
+use Rattle.pc_load.specs.LoadText.{load_text}
+use Rattle.pert_cli.specs.declared.forms.Form.TheVariants.{Load}
+use Rattle.pert_cli.specs.Handing.{IsReply, answers, denies}
+use Rattle.pc_reading.specs.Sides.{side}
+use Rattle.pert_cli.proofs.HandingLaws.{Answers-weaker}
+use Rattle.pert_cli.proofs.LoadLaws.{load_reply}
+use Rattle.pert_cli.proofs.load.answer.Goals as goal
+
+pub returns-in-Ok-of : goal.returns-in-Ok-of
+returns-in-Ok-of g c =
+    let project = c.args.project.now in
+    let loading = c.in-Ok-of.loading in
+    answers
+    (Answers-weaker (λ (text : List ℕ). text ≡ load_text project loading) (IsReply (Load c.args.days) project) (side g.O.Sink.taken g.O.Sink.faults c.args.out.now c.hand.new.out) c.hand.result
+    (λ text same. load_reply project c.args.days loading text c.in-Ok-of.ensures.loading same) c.hand.ensures)
+    refl
