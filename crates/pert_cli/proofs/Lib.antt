@@ -4,4 +4,5 @@ mod FormDeckLaws
 mod OutcomeLaws
 mod ScheduleLaws
 mod CertifyLaws
+mod MigrateLaws
 mod PointLaws

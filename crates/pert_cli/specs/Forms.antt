@@ -11,8 +11,9 @@ use Rattle.pc_bench.specs.declared.deck.TheConstants.{MOST_ACTIVITIES}
 use Rattle.pc_certify.specs.Certificate.{IsCertificate}
 use Rattle.pc_curve.specs.CurveText.{IsCurveText}
 use Rattle.pc_project.specs.Project.{Project}
+use Rattle.pc_deck_text.specs.Written.{IsDeckText}
 use Rattle.pert_cli.specs.declared.forms.Form.{Form}
-use Rattle.pert_cli.specs.declared.forms.Form.TheVariants.{Check, Normal, Times, Summary, Value, Curve, Certify, Point, Outlook, Bench}
+use Rattle.pert_cli.specs.declared.forms.Form.TheVariants.{Check, Normal, Times, Summary, Value, Curve, Certify, Point, Outlook, Bench, Migrate}
 use Rattle.pc_reading.specs.Priced.{priced_in}
 use Rattle.pert_cli.specs.Normal.{IsNormalText}
 use Rattle.pert_cli.specs.Outlook.{IsOutlookReply}
@@ -30,6 +31,7 @@ words_of Certify = codes "certify" ∷ []
 words_of (Point limit) = codes "point" ∷ decimal limit ∷ []
 words_of (Outlook limit) = codes "outlook" ∷ decimal limit ∷ []
 words_of (Bench n) = codes "bench" ∷ decimal n ∷ []
+words_of Migrate = codes "migrate" ∷ []
 
 -- the number of a form is one that it may have: a length has at most 13 digits, and the benchmark's deck 1 to 4,000 activities
 abbrev pub IsNumbered : Form → Type 0
@@ -43,6 +45,7 @@ IsNumbered Certify = ⊤
 IsNumbered (Point limit) = limit < 10 ^ 13
 IsNumbered (Outlook limit) = limit < 10 ^ 13
 IsNumbered (Bench n) = (1 ≤ n) × (n ≤ MOST_ACTIVITIES)
+IsNumbered Migrate = ⊤
 
 -- the words ask for the form: they are its words, and its number is one that they may have
 pub record IsAskedBy (form : Form) (words : List (List ℕ)) : Type 0 where
@@ -51,14 +54,14 @@ pub record IsAskedBy (form : Form) (words : List (List ℕ)) : Type 0 where
 
 -- the names of the forms, in the order of the usage line
 abbrev pub form_names : List (List ℕ)
-form_names = codes "check" ∷ codes "normal" ∷ codes "times" ∷ codes "summary" ∷ codes "value" ∷ codes "curve" ∷ codes "certify" ∷ codes "point L" ∷ codes "outlook L" ∷ codes "bench N" ∷ []
+form_names = codes "check" ∷ codes "normal" ∷ codes "times" ∷ codes "summary" ∷ codes "value" ∷ codes "curve" ∷ codes "certify" ∷ codes "point L" ∷ codes "outlook L" ∷ codes "bench N" ∷ codes "migrate" ∷ []
 
 -- the text answers the form: `check` with the project's code and the counts of its cards, `normal` with the schedule at
 -- the all-normal length, `times` with the times of the events and the critical path, `summary` with what the accounts add up
 -- to by item and by level, `value` with the forecast and what the work is worth, `curve` with the breakpoints of the
 -- time-cost curve, `certify` with a certified text of the whole time-cost curve, whose two walks are the picked ones, `point`
 -- with a schedule of least cost for the length, `outlook` with such a schedule and what each item costs by it, `bench` with
--- the figures of the curve of its own deck
+-- the figures of the curve of its own deck, `migrate` with the text of the deck in its one form
 abbrev pub IsTextOf : Form → Project → List ℕ → Type 0
 IsTextOf Check project text = text ≡ check_text project
 IsTextOf Normal project text = IsNormalText project text
@@ -70,6 +73,7 @@ IsTextOf Certify project text = IsCertificate (priced_in project) text
 IsTextOf (Point limit) project text = IsPointText project limit text
 IsTextOf (Outlook limit) project text = IsOutlookReply project limit text
 IsTextOf (Bench n) project text = IsBenchText n (priced_in project) text
+IsTextOf Migrate project text = IsDeckText project text
 
 -- the form refuses the project with the fault: `point` and `outlook` where the length lies outside the range of the project
 abbrev pub IsDenial : Form → Project → Fault → Type 0
@@ -83,3 +87,4 @@ IsDenial Certify project fault = ⊥
 IsDenial (Point limit) project fault = IsOutside (priced_in project) limit fault
 IsDenial (Outlook limit) project fault = IsOutside (priced_in project) limit fault
 IsDenial (Bench n) project fault = ⊥
+IsDenial Migrate project fault = ⊥

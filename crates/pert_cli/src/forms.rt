@@ -11,7 +11,9 @@ ghost use Rattle.pert_cli.specs.declared.forms.Form.{Form as TheForm};
 ghost use Rattle.pert_cli.specs.declared.forms.Form.TheVariants.{Bench};
 ghost use Rattle.pert_cli.specs.Words.{AskFor, AskForNone, usage_text};
 
-use crate::{bench, certify, check, curve, normal, outlook, point, summary, times, value};
+use crate::{
+    bench, certify, check, curve, migrate, normal, outlook, point, summary, times, value,
+};
 use arrayvec::ArrayVec;
 use pc_bench::MOST_ACTIVITIES;
 use pc_edges::Sink;
@@ -38,7 +40,8 @@ pub(crate) fn usage() -> ArrayVec<u8, USAGE_ROOM>
     append(&mut line, b" | ", point::WORDS);
     append(&mut line, b" L | ", outlook::WORDS);
     append(&mut line, b" L | ", bench::WORDS);
-    append(&mut line, b" N\n", b"");
+    append(&mut line, b" N | ", migrate::WORDS);
+    append(&mut line, b"\n", b"");
     line
 }
 
@@ -74,6 +77,8 @@ pub(crate) enum Form {
     Outlook(u64),
     /// Figures of the curve of the benchmark's deck with so many activities.
     Bench(u64),
+    /// The deck in its one form.
+    Migrate,
 }
 
 impl Form {
@@ -108,6 +113,8 @@ impl Form {
             Some(Form::Curve)
         } else if word == certify::WORDS {
             Some(Form::Certify)
+        } else if word == migrate::WORDS {
+            Some(Form::Migrate)
         } else {
             None
         }
@@ -146,7 +153,8 @@ impl Form {
             | Form::Curve
             | Form::Certify
             | Form::Point(_)
-            | Form::Outlook(_) => None,
+            | Form::Outlook(_)
+            | Form::Migrate => None,
         }
     }
 
@@ -172,6 +180,7 @@ impl Form {
             Form::Point(limit) => point::answer(alloc, limit, project, out, err),
             Form::Outlook(limit) => outlook::answer(alloc, limit, project, out, err),
             Form::Bench(n) => bench::answer(alloc, n, project, out),
+            Form::Migrate => migrate::answer(alloc, project, out),
         }
     }
 }
