@@ -1,6 +1,6 @@
 -- What reading a deck says of its bytes, where the source tells them.
 use Rattle.std.proofs.Common.{◌≤◌, ℕ, ◌<◌, List, ◌++◌, length, Option, Some, None, Result, Ok, Err, ap, arith, length-append}
-use Rattle.std.specs.Prelude.{IfSome, IfOk, IfErr}
+use Rattle.std.specs.Prelude.{IfSome, IfErr}
 use Rattle.std.specs.Io.KnownBytes.{Consumes}
 use Rattle.pc_deck.specs.Limits.{longest_deck}
 use Rattle.pc_faults.specs.declared.fault.Fault.{Fault}
@@ -8,20 +8,15 @@ use Rattle.pc_project.specs.Project.{Project}
 use Rattle.pc_reading.specs.declared.reading.NoProject.{NoProject}
 use Rattle.pc_reading.specs.declared.reading.NoProject.TheVariants.{Refused, ReadFault, OutOfMemory}
 use Rattle.pc_reading.specs.Sides.{Side, IsReadToEnd, OfDeck}
-use Rattle.pc_reading.specs.Reading.{HasProject, HasNoProject, HasRefusal, IsNoProjectOf, too_long as took_too_much, faulty}
-use Rattle.pc_reading.specs.Verdict.{IsFault, IsProjectOf, too_long}
+use Rattle.pc_reading.specs.Reading.{HasNoProject, HasRefusal, IsNoProjectOf, too_long as took_too_much, faulty}
+use Rattle.pc_reading.specs.Verdict.{IsFault, too_long}
 use Rattle.pc_reading.proofs.SideLaws.{of_one, of_the_deck}
 
 -- ---- what is made of a deck that was read
 
 module _ {S : Type 0} (source : Side S) (bytes : List ℕ) (short : length bytes ≤ longest_deck) (all : Consumes (source.bytes source.old) (source.bytes source.new) bytes)
     (end : IsReadToEnd source) where
-  -- the project of the bytes that were read to the end is the deck's
-  pub read_gives : (result : Result Project NoProject) → IfOk result (IsProjectOf bytes) → IfOk result (HasProject source)
-  read_gives (Ok project) is = record { read = end; is = of_the_deck (λ deck. IsProjectOf deck project) _ _ bytes all end is }
-  read_gives (Err none) is = tt
-
-  -- and so is why there is none
+  -- why the bytes that were read to the end give no project is why the deck does
   pub read_lacks : (result : Result Project NoProject) → IfErr result (IsNoProjectOf bytes) → IfErr result (HasNoProject source)
   read_lacks (Ok project) why = tt
   read_lacks (Err (Refused fault)) why =

@@ -1,2 +1,13 @@
-use Rattle.pc_reading.proofs.ReadingLaws.{read_gives, read_lacks}
+use Rattle.std.proofs.Common.{◌≤◌, List, ℕ, length, rules, subst}
+use Rattle.std.specs.Prelude.{IfErr}
+use Rattle.pc_deck.specs.Limits.{longest_deck}
+use Rattle.pc_reading.specs.Reading.{IsNoProjectOf}
+use Rattle.pc_reading.specs.Sides.{side}
+use Rattle.pc_reading.proofs.ReadingLaws.{read_lacks}
 use Rattle.pc_reading.proofs.reading.read_project.Goals as goal
+
+pub returns-in-Ok-clause-none : goal.returns-in-Ok-clause-none
+returns-in-Ok-clause-none g c =
+    let short : length c.in-Ok.bytes.items ≤ longest_deck = search rules in
+    let why = subst (λ (bytes : List ℕ). IfErr c.project_in.result (IsNoProjectOf bytes)) c.deref.ensures.value c.project_in.ensures.none in
+    read_lacks (side g.S.Source.left g.S.Source.faults c.args.source.now c.load.new.source) c.in-Ok.bytes.items short c.in-Ok.ensures.all c.in-Ok.ensures.end c.project_in.result why
