@@ -32,7 +32,7 @@ only_certify Certify same = refl
 only_certify (Point limit) same = absurd cc
 only_certify (Outlook limit) same = absurd cc
 only_certify (Bench n) same = absurd cc
-only_certify Migrate same = absurd cc
+only_certify Migrate same = absurd (omega (arith, ap (λ (words : List (List ℕ)). get_or (get_or words 0 []) 0 0) same))
 
 of_deck : {X : Type 0} (left : Option (List ℕ)) (out : Side X) (project : Project) (text : List ℕ) → Took out text → IsCertificate (priced_in project) text
     → IfSome left (λ bytes. IsProjectOf bytes project) → IfSome left (TookWholeCurve out)
