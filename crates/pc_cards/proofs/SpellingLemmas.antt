@@ -1,5 +1,5 @@
 -- Each form has one spelling: what is written of the value of a field that fits is the field.
-use Rattle.std.proofs.Common.{◌≡◌, ℕ, ◌≤◌, Bool, true, false, not, ◌||◌, ◌==◌, List, [], ◌∷◌, length, map, Option, Some, None, is_some, unwrap_or, if◌then◌else◌, bytes_eq, codes, Result, Ok, Err, refl, sym, ap, ◌∙◌, arith, ℤ}
+use Rattle.std.proofs.Common.{◌≡◌, ℕ, Bool, true, false, not, ◌||◌, List, [], ◌∷◌, length, map, Some, None, is_some, unwrap_or, if◌then◌else◌, bytes_eq, codes, Result, Ok, Err, refl, sym, arith, ℤ}
 use Rattle.std.specs.Prelude.{decimal}
 use Rattle.std.proofs.lemmas.Bool.{eqb-true}
 use Rattle.std.specs.Cmp.Lexicographic.{bytes_decides}

@@ -11,7 +11,11 @@ use std::alloc::AllocError;
 
 /// Puts the record of a card of a kind that stands once behind a text, where there is one. After an error nothing of the
 /// text is left.
-pub fn put_card<C: Card>(card: Option<C>, kind: Kind, text: &mut RowWriter) -> Result<(), AllocError>
+pub fn put_card<C: Card>(
+    card: Option<C>,
+    kind: Kind,
+    text: &mut RowWriter,
+) -> Result<(), AllocError>
     ensures put { OnOk result (text.new ≡ text.old ++ records_text (map (λ card. word_of kind ∷ C.written card) (as_list card))) }
     ensures stopped { OnErr result (text.new ≡ []) }
 {

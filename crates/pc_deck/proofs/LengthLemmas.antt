@@ -1,5 +1,5 @@
 -- How long the text of a deck is at most: as many cards of each kind as there may be, each as long as its fields may be.
-use Rattle.std.proofs.Common.{◌≡◌, ℕ, ◌+◌, ◌*◌, ◌≤◌, true, List, [], ◌∷◌, ◌++◌, length, length-append, map, flat_map, Option, Some, None, All, refl, sym, ap, ◌∙◌, zero, suc, arith}
+use Rattle.std.proofs.Common.{◌≡◌, ℕ, ◌+◌, ◌*◌, ◌≤◌, true, List, [], ◌∷◌, ◌++◌, length, length-append, map, flat_map, Option, Some, None, All, refl, ap, suc, arith}
 use Rattle.std.proofs.Math.Nat.{mul-le-mul_right, suc-mul}
 use Rattle.std.proofs.lemmas.List.Concat.{flat_map-append}
 use Rattle.std.proofs.lemmas.List.Elements.{All-head, All-tail}
@@ -15,7 +15,7 @@ use Rattle.pc_cards.proofs.RoomLemmas.{length-all_fit, rooms}
 use Rattle.pc_deck.specs.Deck.{Deck, list_of}
 use Rattle.pc_deck.specs.Kinds.{CardOf, entry_of, kinds, limit_of, slots_of, stands_once}
 use Rattle.pc_deck.specs.Text.{deck_text, record_of, records_of, settled}
-use Rattle.pc_deck.specs.Within.{IsUpTo, IsWithinLimits}
+use Rattle.pc_deck.specs.Within.{IsWithinLimits}
 use Rattle.pc_deck.proofs.WrittenLemmas.{IsWritten, settled-within, written-settled}
 
 -- what is written of a card stands in the fields of its kind

@@ -1,5 +1,5 @@
 -- The records of a deck within its limits stand in order.
-use Rattle.std.proofs.Common.{◌≡◌, ℕ, ◌+◌, ◌<◌, ◌≤◌, Bool, true, false, List, [], ◌∷◌, ◌++◌, drop, length, length-append, map, filter, flat_map, All, if◌then◌else◌, bytes_eq, refl, sym, ap, ◌∙◌, subst, zero, suc, append_assoc, append-nil, arith}
+use Rattle.std.proofs.Common.{◌≡◌, ℕ, ◌+◌, ◌<◌, Bool, true, List, [], ◌∷◌, ◌++◌, drop, length, length-append, map, flat_map, All, if◌then◌else◌, bytes_eq, refl, sym, ap, ◌∙◌, subst, suc, arith}
 use Rattle.std.specs.Cmp.Lexicographic.{bytes_decides}
 use Rattle.std.specs.List.{enumerate_from}
 use Rattle.std.proofs.lemmas.List.{length-map}
@@ -12,7 +12,7 @@ use Rattle.pc_faults.specs.declared.kind.Kind.TheVariants.{Project, AsOf, Terms,
 use Rattle.pc_model.specs.Codes.{IsNamedOnce}
 use Rattle.pc_cards.specs.Cards.{Numbered}
 use Rattle.pc_deck.specs.Deck.{Deck, list_of}
-use Rattle.pc_deck.specs.Kinds.{CardOf, entry_of, has_code_of_its_own, kinds, limit_of, stands_once}
+use Rattle.pc_deck.specs.Kinds.{CardOf, entry_of, has_code_of_its_own, kinds, limit_of}
 use Rattle.pc_deck.specs.Refusal.{of_kind}
 use Rattle.pc_deck.specs.Text.{deck_rows, first_record, record_of, records_of, settled}
 use Rattle.pc_deck.specs.Within.{IsUpTo, IsWithinLimits}
@@ -113,7 +113,7 @@ module _ (deck : Deck) (limits : IsWithinLimits deck) where
     few = λ kind. subst (IsUpTo (limit_of 2 kind)) (sym (counted kind)) (settled-within deck limits kind).few;
     differ = λ kind coded.
         let codes = ap (map (λ (card : Numbered). field_at card.1 1)) (of_kind-all (settled deck) kind)
-            ∙ codes_written kind coded (first_record (settled deck) kind) (list_of (settled deck) kind) in
+        ∙ codes_written kind coded (first_record (settled deck) kind) (list_of (settled deck) kind) in
         subst IsNamedOnce (sym codes) ((settled-within deck limits kind).differ coded);
     begins = begins;
     ends_once = omega (arith, counted End);

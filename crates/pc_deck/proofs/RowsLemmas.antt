@@ -1,7 +1,6 @@
 -- The records of a deck, kind by kind: those of one kind are its cards' records, one behind the other, and spell its cards.
-use Rattle.std.proofs.Common.{◌≡◌, ℕ, ◌+◌, Bool, true, false, List, [], ◌∷◌, ◌++◌, length, map, filter, flat_map, Option, Some, None, All, refl, sym, ap, ◌∙◌, subst, arith, append-nil, if◌then◌else◌, bytes_eq, zero, suc, not}
+use Rattle.std.proofs.Common.{◌≡◌, ℕ, ◌+◌, Bool, true, false, List, [], ◌∷◌, ◌++◌, length, map, flat_map, Some, None, All, refl, sym, ap, ◌∙◌, arith, append-nil, if◌then◌else◌, bytes_eq, suc}
 use Rattle.std.specs.List.{enumerate_from}
-use Rattle.std.specs.Prelude.{option_map}
 use Rattle.std.proofs.lemmas.List.{length-map}
 use Rattle.std.proofs.lemmas.List.Elements.{All-append, All-cons, All-nil, filter-append}
 use Rattle.pc_records.specs.Deck.{field_at}
@@ -9,7 +8,7 @@ use Rattle.pc_faults.specs.Kinds.{word_of}
 use Rattle.pc_faults.specs.declared.kind.Kind.{Kind}
 use Rattle.pc_faults.specs.declared.kind.Kind.TheVariants.{Project, End}
 use Rattle.pc_cards.specs.Cards.{Numbered, cards_from, is_card}
-use Rattle.pc_cards.specs.Named.{HeldBy, as_list, listed_by, numbered_by, numbered_from}
+use Rattle.pc_cards.specs.Named.{HeldBy, listed_by, numbered_by, numbered_from}
 use Rattle.pc_deck.specs.Kinds.{CardOf, card_of, entry_of, held_in, is_same, kinds, stands_once}
 use Rattle.pc_deck.specs.Deck.{Deck, list_of}
 use Rattle.pc_deck.specs.Refusal.{of_kind}

@@ -1,20 +1,19 @@
 -- The text of a deck within the limits is that deck: its records are those that were written, it is text, and it has no fault.
-use Rattle.std.proofs.Common.{◌≡◌, ℕ, ◌+◌, ◌<◌, Bool, true, false, nat_eq, List, [], ◌∷◌, ◌++◌, length, map, flat_map, All, refl, sym, ap, ◌∙◌, subst, arith, zero, suc}
+use Rattle.std.proofs.Common.{◌≡◌, ℕ, ◌+◌, Bool, true, false, nat_eq, List, [], ◌∷◌, length, map, flat_map, All, refl, sym, ap, ◌∙◌, subst, arith}
 use Rattle.std.specs.List.{enumerate_from, starts_with}
 use Rattle.std.specs.Str.{IsUtf8, is_utf8}
 use Rattle.std.proofs.lemmas.Str.{is_utf8-from_IsUtf8}
 use Rattle.std.proofs.lemmas.List.Elements.{All-append, All-cons, All-head, All-nil, All-tail}
 use Rattle.pc_records.specs.Deck.{deck_records, mark}
-use Rattle.pc_records.specs.Text.{record_text, records_text}
+use Rattle.pc_records.specs.Text.{record_text}
 use Rattle.pc_records.proofs.TextFacts.{HasField, deck_records-records_text}
 use Rattle.pc_records.proofs.Utf8Facts.{records_text-text}
 use Rattle.pc_faults.specs.declared.kind.Kind.{Kind}
-use Rattle.pc_faults.specs.declared.fault.Fault.{Fault}
 use Rattle.pc_cards.specs.Cards.{Numbered, cards_from, deck_cards}
 use Rattle.pc_deck.specs.Deck.{Deck, list_of}
 use Rattle.pc_deck.specs.Kinds.{CardOf, kinds}
 use Rattle.pc_deck.specs.Read.{IsDeckOf}
-use Rattle.pc_deck.specs.Refusal.{HasFault, HasFaultFrom, HasFaultWhere}
+use Rattle.pc_deck.specs.Refusal.{HasFaultFrom, HasFaultWhere}
 use Rattle.pc_deck.specs.Says.{Says}
 use Rattle.pc_deck.specs.Text.{deck_rows, deck_text, record_of, records_of, renumbered, settled}
 use Rattle.pc_deck.specs.Within.{IsWithinLimits}

@@ -1,5 +1,5 @@
 -- A card that is written is read as the same card, in another record.
-use Rattle.std.proofs.Common.{◌≡◌, ℕ, ◌<◌, nat_lt, true, false, List, [], ◌∷◌, ◌++◌, map, take, get_or, codes, Option, Some, None, All, if◌then◌else◌, Bool, refl, sym, ap, ◌∙◌, subst, arith, zero, suc}
+use Rattle.std.proofs.Common.{◌≡◌, ℕ, ◌<◌, nat_lt, true, false, List, [], ◌∷◌, ◌++◌, take, get_or, codes, Option, Some, None, All, if◌then◌else◌, Bool, refl, sym, ap, ◌∙◌, subst, arith, zero, suc}
 use Rattle.std.specs.Str.{IsUtf8}
 use Rattle.std.specs.List.{list_all}
 use Rattle.std.proofs.lemmas.Str.{IsUtf8-nil}
@@ -11,15 +11,14 @@ use Rattle.pc_records.specs.Deck.{field_at}
 use Rattle.pc_faults.specs.Kinds.{word_of}
 use Rattle.pc_faults.specs.declared.kind.Kind.{Kind}
 use Rattle.pc_faults.specs.declared.kind.Kind.TheVariants.{Project, AsOf, Terms}
-use Rattle.pc_cards.specs.Forms.{AllFit, Slot, day_in, field_numbered, is_whole}
+use Rattle.pc_cards.specs.Forms.{AllFit, Slot, field_numbered, is_whole}
 use Rattle.pc_cards.specs.Named.{as_list}
 use Rattle.pc_cards.proofs.SpellingLemmas.{all_respelled, all_respelled-same, fields_of}
 use Rattle.pc_deck.specs.Deck.{Deck, list_of}
 use Rattle.pc_deck.specs.Kinds.{CardOf, card_of, entry_of, is_project, least_width_of, slots_of, width_of}
-use Rattle.pc_deck.specs.AsOf.{as_of_of}
 use Rattle.pc_deck.specs.Project.{project_of, project_slots, written_project}
 use Rattle.pc_deck.specs.Text.{record_of, says_nothing, settled, settled_as_of, settled_terms}
-use Rattle.pc_deck.specs.Within.{IsFit, IsListWithin, IsWithinLimits}
+use Rattle.pc_deck.specs.Within.{IsFit, IsWithinLimits}
 use Rattle.pc_deck.specs.declared.kinds.as_of.AsOfCard.{AsOfCard}
 use Rattle.pc_deck.specs.declared.kinds.project.ProjectCard.{ProjectCard}
 use Rattle.pc_deck.specs.declared.kinds.terms.TermsCard.{TermsCard}

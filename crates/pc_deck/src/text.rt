@@ -37,7 +37,9 @@ impl Cards {
         let money = self.charges().len().saturating_add(self.togos().len());
         let others = self.pieces().len().saturating_add(self.statuses().len());
         let short = plan.saturating_add(money).saturating_add(others);
-        SHORT.saturating_mul(short).saturating_add(LONG.saturating_mul(self.acts().len()))
+        SHORT
+            .saturating_mul(short)
+            .saturating_add(LONG.saturating_mul(self.acts().len()))
     }
 
     /// Puts the PROJECT card, the ASOF card and the TERMS card.
@@ -83,7 +85,11 @@ fn settled_terms(terms: Option<TermsCard>) -> Option<TermsCard>
     ensures { result ≡ settled_terms terms }
 {
     let card = terms?;
-    if says_nothing(&card) { None } else { Some(card) }
+    if says_nothing(&card) {
+        None
+    } else {
+        Some(card)
+    }
 }
 
 /// Whether the four numbers of a TERMS card are 0.

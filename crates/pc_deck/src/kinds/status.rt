@@ -56,7 +56,12 @@ impl Card for StatusCard {
         // A copy, so that all that is lent below lives equally long.
         let card = *self;
         let day = day_text(card.day);
-        text.put(&[kind.word(), card.activity.bytes(), letter(card.finished), day.as_slice()])
+        text.put(&[
+            kind.word(),
+            card.activity.bytes(),
+            letter(card.finished),
+            day.as_slice(),
+        ])
     }
 }
 

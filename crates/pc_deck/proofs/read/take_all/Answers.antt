@@ -1,5 +1,4 @@
 use Rattle.std.proofs.Common.{All, refl, sym, subst, ◌∙◌}
-use Rattle.pc_cards.specs.Cards.{Numbered}
 use Rattle.pc_deck.proofs.ReadLemmas.{IsTextCard, deck_cards-text, next-text, read_from-kept, within-kept}
 use Rattle.pc_deck.proofs.read.take_all.Goals as goal
 

@@ -1,4 +1,3 @@
-use Rattle.std.proofs.Common.{[]}
 use Rattle.pc_faults.specs.declared.kind.Kind.TheVariants.{Wbs, Event, Act, Piece, Acct, Charge, ToGo, Status, Res, Load}
 use Rattle.pc_deck.specs.Text.{record_of}
 use Rattle.pc_deck.proofs.PutLemmas.{put-none, put-some}
