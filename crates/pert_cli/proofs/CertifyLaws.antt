@@ -6,7 +6,7 @@ use Rattle.pc_project.specs.Project.{Project}
 use Rattle.pc_certify.specs.Certificate.{IsCertificate}
 use Rattle.pc_certify.proofs.HeadlineLaws.{prints_whole_curve}
 use Rattle.pert_cli.specs.declared.forms.Form.{Form}
-use Rattle.pert_cli.specs.declared.forms.Form.TheVariants.{Check, Normal, Times, Summary, Value, Curve, Certify, Point, Outlook, Bench, Optimum, Load}
+use Rattle.pert_cli.specs.declared.forms.Form.TheVariants.{Check, Normal, Times, Summary, Value, Curve, Certify, Point, Outlook, Bench, Migrate, Optimum, Load}
 use Rattle.pc_reading.specs.declared.status.Status.{Status}
 use Rattle.pc_reading.specs.Status.{code_of}
 use Rattle.pc_reading.specs.Priced.{priced_in}
@@ -32,6 +32,7 @@ only_certify Certify same = refl
 only_certify (Point limit) same = absurd cc
 only_certify (Outlook limit) same = absurd cc
 only_certify (Bench n) same = absurd cc
+only_certify Migrate same = absurd (omega (arith, ap (λ (words : List (List ℕ)). get_or (get_or words 0 []) 0 0) same))
 only_certify Optimum same = absurd (omega (arith, ap (λ (words : List (List ℕ)). get_or (get_or words 0 []) 0 0) same))
 only_certify (Load days) same = absurd cc
 

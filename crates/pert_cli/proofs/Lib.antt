@@ -4,6 +4,7 @@ mod FormDeckLaws
 mod OutcomeLaws
 mod ScheduleLaws
 mod CertifyLaws
+mod MigrateLaws
 mod OptimumLaws
 mod PointLaws
 mod LoadLaws

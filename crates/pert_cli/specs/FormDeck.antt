@@ -6,7 +6,7 @@ use Rattle.pc_faults.specs.declared.fault.Fault.{Fault}
 use Rattle.pc_faults.specs.FaultText.{IsTold}
 use Rattle.pc_project.specs.Project.{Project}
 use Rattle.pert_cli.specs.declared.forms.Form.{Form}
-use Rattle.pert_cli.specs.declared.forms.Form.TheVariants.{Check, Normal, Times, Summary, Value, Curve, Certify, Point, Outlook, Bench, Optimum, Load}
+use Rattle.pert_cli.specs.declared.forms.Form.TheVariants.{Check, Normal, Times, Summary, Value, Curve, Certify, Point, Outlook, Bench, Migrate, Optimum, Load}
 use Rattle.pc_reading.specs.declared.reading.NoProject.{NoProject}
 use Rattle.pc_reading.specs.declared.reading.NoProject.TheVariants.{Refused, ReadFault, OutOfMemory}
 use Rattle.pc_reading.specs.Sides.{Side, HadFault, IsUntouched}
@@ -26,6 +26,7 @@ own_deck Certify = None
 own_deck (Point limit) = None
 own_deck (Outlook limit) = None
 own_deck (Bench n) = Some (bench_text n)
+own_deck Migrate = None
 own_deck Optimum = None
 own_deck (Load days) = None
 

@@ -9,6 +9,7 @@ pub mod Handing
 pub mod FormDeck
 pub mod Outcome
 pub mod Headline
+pub mod Migrate
 pub use Rattle.pc_edges.specs.Faults
 pub use Rattle.pc_edges.specs.Writes
 pub use Rattle.pc_deck.specs.Deck

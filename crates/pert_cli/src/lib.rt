@@ -9,6 +9,7 @@ mod check;
 mod curve;
 mod form_deck;
 mod forms;
+mod migrate;
 mod load;
 mod normal;
 mod optimum;

@@ -2,9 +2,10 @@
 ghost use Rattle.std.specs.Prelude.{◌≡◌, ◌≢◌, ℕ, List, ◌≤◌, ◌⊎◌, length};
 ghost use Rattle.pc_deck.specs.Limits.{longest_deck};
 ghost use Rattle.pert_cli.specs.declared.forms.Form.{Form as TheForm};
-ghost use Rattle.pert_cli.specs.declared.forms.Form.TheVariants.{Certify};
+ghost use Rattle.pert_cli.specs.declared.forms.Form.TheVariants.{Certify, Migrate};
 ghost use Rattle.pert_cli.specs.FormDeck.{AskToRead, IsOwnDeck};
 ghost use Rattle.pert_cli.specs.Headline.{TookWholeCurve};
+ghost use Rattle.pert_cli.specs.Migrate.{TookSameProject};
 ghost use Rattle.pert_cli.specs.Words.{AskFor, AskForOne, AskForNone, usage_text};
 ghost use Rattle.pc_reading.specs.Sides.{side, HadFault, HadNoFault, IsReadToEnd, OfDeck, Took};
 ghost use Rattle.pc_reading.specs.Verdict.{AcceptedBy, RefusedBy};
@@ -22,10 +23,10 @@ use std::alloc::Global;
 /// schedule at the all-normal length, `times` for the times of the events and the critical path, `summary` for what the
 /// accounts add up to, `value` for the forecast and what the work is worth, `curve` for the breakpoints of the time-cost
 /// curve, `certify` for its certificate, `point L` for a schedule of least cost for the length L, `outlook L` for that and
-/// what each item costs by it, `load P` for what is spent and taken in each period of P days. `bench N` asks for figures of
-/// the curve of a deck of its own, and reads none. The words come first, then the whole deck, then its faults, then whether
-/// the form refuses it and all memory that the answer needs, then the answer and a flush. The answer of the call is the
-/// status with which the program ends.
+/// what each item costs by it, `load P` for what is spent and taken in each period of P days, `migrate` for the deck in its one
+/// form. `bench N` asks for figures of the curve of a deck of its own, and reads none. The words come first, then the whole deck,
+/// then its faults, then whether the form refuses it and all memory that the answer needs, then the answer and a flush. The
+/// answer of the call is the status with which the program ends.
 pub fn run<S: Source, O: Sink, E: Sink>(
     alloc: Global,
     words: &[String],
@@ -45,6 +46,10 @@ pub fn run<S: Source, O: Sink, E: Sink>(
     // the slope.
     ensures headline { result ≡ 0 → AskFor Certify words.now → OfDeck (side S.left S.faults source.old source.new)
         (TookWholeCurve (side O.taken O.faults out.old out.new)) }
+
+    // At 0 for `migrate`, `out` took a deck that is accepted and has the same project, and of which `migrate` writes the same bytes.
+    ensures migrated { result ≡ 0 → AskFor Migrate words.now → OfDeck (side S.left S.faults source.old source.new)
+        (TookSameProject (side O.taken O.faults out.old out.new)) }
 
     // 1: the words ask for a form, its deck or the form refuses with a fault, and `err` took the line of the fault.
     ensures refused { result ≡ 1 → IsRefused words.now (side S.left S.faults source.old source.new) (side E.taken E.faults err.old err.new) }

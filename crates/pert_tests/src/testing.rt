@@ -65,7 +65,7 @@ END\n";
 
 /// The usage line of `run`.
 pub(crate) const USAGE: &[u8] =
-    b"usage: pert check | normal | times | summary | value | curve | certify | point L | outlook L | bench N | optimum | load P\n";
+    b"usage: pert check | normal | times | summary | value | curve | certify | point L | outlook L | bench N | migrate | optimum | load P\n";
 
 /// The two top calls.
 #[derive(Clone, Copy)]

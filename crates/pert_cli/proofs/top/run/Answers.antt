@@ -1,6 +1,7 @@
 use Rattle.pert_cli.proofs.CertifyLaws.{takes_whole_curve}
 use Rattle.pert_cli.proofs.DecidedLaws.{accepted_ends, ended_asked, five_is_cut, four_is_read, one_is_read, own_accepted_ends, own_refused_ends, own_unread, refused_ends}
 use Rattle.pc_reading.proofs.VerdictLaws.{not_both}
+use Rattle.pert_cli.proofs.MigrateLaws.{takes_same_project}
 use Rattle.pert_cli.proofs.top.run.Goals as goal
 
 pub returns-clause-deck_accepted : goal.returns-clause-deck_accepted
@@ -35,3 +36,6 @@ returns-clause-own_refused g c = λ form deck asked own. own_refused_ends c.args
 
 pub returns-clause-refused_read : goal.returns-clause-refused_read
 returns-clause-refused_read g c = one_is_read c.args.words.now _ _ _ c.code.result c.outcome.result c.outcome.ensures c.code.ensures
+
+pub returns-clause-migrated : goal.returns-clause-migrated
+returns-clause-migrated g c = takes_same_project c.args.words.now _ _ _ c.code.result c.outcome.result c.outcome.ensures c.code.ensures
