@@ -89,6 +89,17 @@ ACT,C,S,T,1.1,7,7,7,7,5,15,2,Frame\n\
 ACCT,X1,1.1,25,Frame account\n\
 ACCT,X2,1.2,20,Roof account\n\
 END\n";
+const LOADED: &[u8] = b"LOAD E1 7\n\
+PERIOD                0 2024-01-01\n\
+PERIOD                1 2024-01-08\n\
+ITEMS\n\
+1                     0             35\n\
+1                     1             10\n\
+1.1                   0             25\n\
+1.2                   0             10\n\
+1.2                   1             10\n\
+RESOURCES\n";
+
 // Without terms the time costs nothing.
 const OPTIMUM: &[u8] = b"OPTIMUM E1\nLENGTH 9\nDIRECT 45\nTIME 0\nTOTAL 45\nBELOW 3\nABOVE -\n\
 EVENT S 0\nEVENT M 4\nEVENT T 9\nACT A 4\nACT B 5\nACT C 7\n";
@@ -100,7 +111,7 @@ const TOO_LONG: &[u8] = b"F32 record 0: length 10 is outside 5 to 9\n";
 const NO_PROJECT: &[u8] = b"F3 record 1: first card is not PROJECT\n";
 
 // Words that ask for a form and a deck, with the status, the output and the error output that they give.
-const RUNS: [(&[&str], &[u8], u8, &[u8], &[u8]); 18] = [
+const RUNS: [(&[&str], &[u8], u8, &[u8], &[u8]); 19] = [
     (&["check"], WHOLE, 0, COUNTS, b""),
     (&["normal"], WHOLE, 0, SCHEDULE, b""),
     (&["times"], WHOLE, 0, TIMES, b""),
@@ -113,6 +124,7 @@ const RUNS: [(&[&str], &[u8], u8, &[u8], &[u8]); 18] = [
     (&["migrate"], WHOLE, 0, MIGRATED, b""),
     (&["migrate"], MIGRATED, 0, MIGRATED, b""),
     (&["optimum"], WHOLE, 0, OPTIMUM, b""),
+    (&["load", "7"], WHOLE, 0, LOADED, b""),
     (&["outlook", "4"], WHOLE, 1, b"", TOO_SHORT),
     (&["point", "4"], WHOLE, 1, b"", TOO_SHORT),
     (&["point", "10"], WHOLE, 1, b"", TOO_LONG),
