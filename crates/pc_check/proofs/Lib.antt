@@ -20,3 +20,4 @@ pub mod TextLaws
 pub mod BeginLaws
 pub mod SourceLaws
 pub mod OnceLaws
+pub mod HeadlineLaws

@@ -5,3 +5,4 @@ mod OutcomeLaws
 mod ScheduleLaws
 mod CertifyLaws
 mod PointLaws
+mod OneTextLaws
