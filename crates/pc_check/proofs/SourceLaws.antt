@@ -116,30 +116,33 @@ module _ {before now : Auditing} {left left_now : Option (List ℕ)} {faults fau
     turns = turns_by_bytes pulls_new pulled;
   }
 
-  -- what was taken of a source that is at its end
-  pub settled_at_end : (left_new : Option (List ℕ)) (pulls_new : Option ℕ) (verdict : Verdict) (room : ℕ) (piece : List ℕ) → Consumes left_now left_new piece → TakesPulls 1 pulls_now pulls_new → length piece ≡ 0
-      → ((text : List ℕ) → HasRead text now → Finds now.checker.net text verdict) → IsSettled before.checker.net verdict room left left_new pulls pulls_new
-  settled_at_end left_new pulls_new verdict room piece taken pulled none finds =
-      let same : h.text ++ piece ≡ h.text = ap (λ p. h.text ++ p) (nil_from_length piece none) ∙ append-nil h.text in
-      record {
-        front = h.text;
-        last = piece;
-        taken = Consumes-trans left left_now left_new h.text piece h.taken taken;
-        before = subst (λ n. HasNoFailure n h.text) h.net (no_failure now h.text h.going h.read);
-        short = omega (arith, none);
-        turns = turns_by_bytes pulls_new pulled;
-        found = subst (λ n. Finds n (h.text ++ piece) verdict) h.net (subst (λ t. Finds now.checker.net t verdict) (sym same) (finds h.text h.read));
-      }
-
-  -- what was taken of a source in which a line fails
-  pub settled_in_piece : (left_new : Option (List ℕ)) (pulls_new : Option ℕ) (fail : Fail) (room : ℕ) (piece : List ℕ) → Consumes left_now left_new piece → TakesPulls 1 pulls_now pulls_new → length piece ≤ room
-      → ((text more : List ℕ) → HasRead text now → IsFailing now.checker.net (text ++ (piece ++ more)) fail) → IsSettled before.checker.net (No fail.line fail.reason) room left left_new pulls pulls_new
-  settled_in_piece left_new pulls_new fail room piece taken pulled fits fails = record {
+-- the source as it stood before the last pull, and as it stands
+module _ {X : Type 0} (left : X → Option (List ℕ)) (pulls : X → Option ℕ) (old mid new : X) {before now : Auditing} {faults faults_now : ℕ}
+    (h : IsPulling before now (left old) (left mid) faults faults_now (pulls old) (pulls mid)) (piece : List ℕ) (pulled : Consumes (left mid) (left new) piece) (once : TakesPulls 1 (pulls mid) (pulls new)) where
+  -- what is found of the bytes that were taken
+  settled : (verdict : Verdict) (room : ℕ) → length piece ≤ room → Finds before.checker.net (h.text ++ piece) verdict → IsSettled before.checker.net verdict room left pulls old new
+  settled verdict room fits found = record {
     front = h.text;
     last = piece;
-    taken = Consumes-trans left left_now left_new h.text piece h.taken taken;
-    before = subst (λ n. HasNoFailure n h.text) h.net (no_failure now h.text h.going h.read);
+    found = found;
+    before = mid;
+    came = h.taken;
+    none = subst (λ n. HasNoFailure n h.text) h.net (no_failure now h.text h.going h.read);
+    turns = TakesPulls-more h.count (length h.text) (pulls old) (pulls mid) h.some h.turns;
+    once = once;
+    pulled = pulled;
     short = fits;
-    turns = turns_by_bytes pulls_new pulled;
-    found = subst (λ n. IsFailing n (h.text ++ piece) fail) h.net (subst (λ p. IsFailing now.checker.net (h.text ++ p) fail) (append-nil piece) (fails h.text [] h.read));
   }
+
+  -- of a source that is at its end
+  pub settled_at_end : (verdict : Verdict) (room : ℕ) → length piece ≡ 0 → ((text : List ℕ) → HasRead text now → Finds now.checker.net text verdict) → IsSettled before.checker.net verdict room left pulls old new
+  settled_at_end verdict room none finds =
+      let same : h.text ++ piece ≡ h.text = ap (λ p. h.text ++ p) (nil_from_length piece none) ∙ append-nil h.text in
+      settled verdict room (omega (arith, none))
+      (subst (λ n. Finds n (h.text ++ piece) verdict) h.net (subst (λ t. Finds now.checker.net t verdict) (sym same) (finds h.text h.read)))
+
+  -- of a source in which a line fails
+  pub settled_in_piece : (fail : Fail) (room : ℕ) → length piece ≤ room → ((text more : List ℕ) → HasRead text now → IsFailing now.checker.net (text ++ (piece ++ more)) fail) → IsSettled before.checker.net (No fail.line fail.reason) room left pulls old new
+  settled_in_piece fail room fits fails =
+      settled (No fail.line fail.reason) room fits
+      (subst (λ n. IsFailing n (h.text ++ piece) fail) h.net (subst (λ p. IsFailing now.checker.net (h.text ++ p) fail) (append-nil piece) (fails h.text [] h.read)))

@@ -37,8 +37,7 @@ pub fn audit_source<C: Source>(
 ) -> Result<Verdict, AuditError>
     ensures finds { IfOk result (λ verdict. IfSome (C.left source.old) (λ text. Finds net.now text verdict)) }
     // nothing is pulled behind the failing line
-    ensures stops { IfOk result (λ verdict. IsSettled net.now verdict STREAM_ROOM (C.left source.old) (C.left source.new)
-        (C.pulls source.old) (C.pulls source.new)) }
+    ensures stops { IfOk result (λ verdict. IsSettled net.now verdict STREAM_ROOM C.left C.pulls source.old source.new) }
     ensures end { IfOk result (λ verdict. OnYes verdict (IsAtEnd (C.left source.new))) }
     ensures no_fault { OnOk result (C.faults source.new ≡ C.faults source.old) }
     ensures fault { IsErrOf result AuditError.ReadFault → Rose (C.faults source.old) (C.faults source.new) }
@@ -68,8 +67,7 @@ fn audit_by<C: Source>(
     requires read { HasRead [] audit }
     requires going { IsGoing audit }
     ensures finds { IfOk result (λ verdict. IfSome (C.left source.old) (λ text. Finds audit.entry.checker.net text verdict)) }
-    ensures stops { IfOk result (λ verdict. IsSettled audit.entry.checker.net verdict STREAM_ROOM (C.left source.old) (C.left source.new)
-        (C.pulls source.old) (C.pulls source.new)) }
+    ensures stops { IfOk result (λ verdict. IsSettled audit.entry.checker.net verdict STREAM_ROOM C.left C.pulls source.old source.new) }
     ensures end { IfOk result (λ verdict. OnYes verdict (IsAtEnd (C.left source.new))) }
     ensures no_fault { OnOk result (C.faults source.new ≡ C.faults source.old) }
     ensures fault { IsErrOf result AuditError.ReadFault → Rose (C.faults source.old) (C.faults source.new) }

@@ -64,11 +64,11 @@ pub record ProvesCurve (deck text : List ℕ) : Type 0 where
 
 -- ---- what a check leaves
 
--- the bytes that were taken of the certificate are found to be this of the network, and were taken by no more pulls than it takes to come
--- to the first failing line: so nothing is pulled behind the pull in which that line ends
+-- the bytes that were taken of the certificate are found to be this of the network, and one pull came behind those of which no line fails:
+-- so nothing is pulled behind the pull in which the first failing line ends
 abbrev pub IsSettledIn : {X : Type 0} → PricedNetwork → Verdict → Side X → Type 0
 IsSettledIn net verdict cert =
-    IsSettled net verdict STREAM_ROOM (cert.bytes cert.old) (cert.bytes cert.new) (cert.pulls cert.old) (cert.pulls cert.new)
+    IsSettled net verdict STREAM_ROOM cert.bytes cert.pulls cert.old cert.new
 
 -- what the source had left is found to be this, a certified text was read to its end, and nothing was pulled behind the first
 -- failing line

@@ -17,4 +17,4 @@ returns-clause-turns g c =
 
 pub returns-clause-stops : goal.returns-clause-stops
 returns-clause-stops g c =
-    subst (λ n. IfOk c.audit_by.result (λ verdict. IsSettled n verdict STREAM_ROOM (g.C.Source.left c.args.source.now) (g.C.Source.left c.audit_by.new.source) (g.C.Source.pulls c.args.source.now) (g.C.Source.pulls c.audit_by.new.source))) c.in-Ok.ensures.net c.audit_by.ensures.stops
+    subst (λ n. IfOk c.audit_by.result (λ verdict. IsSettled n verdict STREAM_ROOM g.C.Source.left g.C.Source.pulls c.args.source.now c.audit_by.new.source)) c.in-Ok.ensures.net c.audit_by.ensures.stops
