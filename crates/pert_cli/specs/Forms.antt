@@ -73,10 +73,14 @@ IsTextOf (Bench n) project text = IsBenchText n (priced_in project) text
 
 -- a project has one text that answers the form; of least schedules, and of certificates, there may be several
 abbrev pub HasOneText : Form → Type 0
-HasOneText Certify = ⊥
-HasOneText (Point limit) = ⊥
-HasOneText (Outlook limit) = ⊥
-HasOneText _ = ⊤
+HasOneText Check = ⊤
+HasOneText Normal = ⊤
+HasOneText Times = ⊤
+HasOneText Summary = ⊤
+HasOneText Value = ⊤
+HasOneText Curve = ⊤
+HasOneText (Bench n) = ⊤
+HasOneText _ = ⊥
 
 -- the form refuses the project with the fault: `point` and `outlook` where the length lies outside the range of the project
 abbrev pub IsDenial : Form → Project → Fault → Type 0

@@ -82,7 +82,7 @@ pub fn run<S: Source, O: Sink, E: Sink>(
     ensures acceptance { AskToRead words.now → HadNoFault (side S.left S.faults source.old source.new)
         → OfDeck (side S.left S.faults source.old source.new) (λ bytes. (RefusedBy bytes → ⊥) → AcceptedBy bytes ⊎ (result ≡ 3)) }
 
-    // An accepted deck has one answer to each form but `certify`, `point` and `outlook`.
+    // An accepted deck has one answer to each form that does not print a schedule of least cost, of which there may be several.
     ensures one_text { (form : TheForm) (bytes : List ℕ) (project : TheProject) (text other : List ℕ) → HasOneText form → IsProjectOf bytes project
         → IsTextOf form project text → IsTextOf form project other → text ≡ other }
 
