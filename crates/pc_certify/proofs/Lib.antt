@@ -17,4 +17,3 @@ pub mod ExactLaws
 mod DescentLaws
 mod CertificateLaws
 mod WalkLaws
-pub mod HeadlineLaws

@@ -7,4 +7,3 @@ pub mod Worked
 pub mod Certificate
 pub mod Walks
 pub mod Descent
-pub mod Headline

@@ -21,3 +21,4 @@ pub mod TextLaws
 pub mod BeginLaws
 pub mod SourceLaws
 pub mod OnceLaws
+pub mod HeadlineLaws

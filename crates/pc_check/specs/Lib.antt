@@ -19,3 +19,4 @@ pub mod Certified
 pub mod Texts
 pub mod Auditing
 pub mod Stops
+pub mod Headline

@@ -8,3 +8,4 @@ mod MigrateLaws
 mod OptimumLaws
 mod PointLaws
 mod LoadLaws
+mod OneTextLaws

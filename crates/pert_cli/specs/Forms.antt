@@ -88,6 +88,17 @@ IsTextOf Migrate project text = IsDeckText project text
 IsTextOf Optimum project text = IsOptimumText project text
 IsTextOf (Load days) project text = IsLoadText project days text
 
+-- a project has one text that answers the form; of least schedules, and of certificates, there may be several
+abbrev pub HasOneText : Form → Type 0
+HasOneText Check = ⊤
+HasOneText Normal = ⊤
+HasOneText Times = ⊤
+HasOneText Summary = ⊤
+HasOneText Value = ⊤
+HasOneText Curve = ⊤
+HasOneText (Bench n) = ⊤
+HasOneText _ = ⊥
+
 -- the form refuses the project with the fault: `point` and `outlook` where the length lies outside the range of the project,
 -- `load` where the project takes too many periods
 abbrev pub IsDenial : Form → Project → Fault → Type 0
