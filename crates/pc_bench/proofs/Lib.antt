@@ -3,3 +3,4 @@ mod DeckLaws
 mod SumLaws
 mod CountLaws
 mod TallyLaws
+pub mod OneTextLaws

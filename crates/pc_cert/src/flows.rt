@@ -1,5 +1,7 @@
 //! The flows of an activity.
-ghost use Rattle.std.specs.Prelude.{◌≡◌, ◌<◌, ◌≤◌, [], ◌∷◌, ◌++◌, length};
+ghost use Rattle.std.specs.Prelude.{◌≡◌, ◌<◌, ◌≤◌, [], ◌∷◌, ◌++◌, nat_eq, length};
+ghost use Rattle.std.specs.Cmp.{partial_equiv_from_equiv};
+ghost use Rattle.std.specs.Cmp.Lexicographic.{pointwise, nat_list_eq_equiv};
 
 use std::marker::Model;
 
@@ -56,4 +58,31 @@ impl Flows {
         self.cells[self.len] = flow;
         self.len += 1;
     }
+}
+
+impl PartialEq for Flows {
+    ghost eq = { pointwise nat_eq };
+
+    ghost laws = { partial_equiv_from_equiv nat_list_eq_equiv };
+
+    // All cells at once, the zeros among them.
+    fn eq(&self, other: &Flows) -> bool {
+        self.len == other.len && are_same(&self.cells, &other.cells)
+    }
+}
+
+impl Eq for Flows {
+    ghost laws = { nat_list_eq_equiv };
+}
+
+/// Whether the cells of two lists of flows are the same.
+fn are_same(one: &[u64; MAX_FLOWS], other: &[u64; MAX_FLOWS]) -> bool
+    ensures { result ≡ pointwise nat_eq one.now other.now }
+{
+    let mut are_same = true;
+    for i in 0..MAX_FLOWS {
+        // No early end: so a processor compares all cells at once.
+        are_same = are_same & (one[i] == other[i]);
+    }
+    are_same
 }

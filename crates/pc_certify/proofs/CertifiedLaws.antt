@@ -59,7 +59,6 @@ module _ (net : PricedNetwork) (sized : IsSized net) (names : AreNames (length n
     whole = record { led = record { fit = fit; order = certified.whole }; whole = refl };
     none = certified.none;
     count = sym all_same.one_each;
-    curve = curve;
   }
 
 -- ---- texts

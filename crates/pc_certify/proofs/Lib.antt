@@ -1,5 +1,6 @@
 pub mod ListedLaws
 pub mod WordLaws
+pub mod SpelledLaws
 pub mod FitLaws
 pub mod PassLaws
 pub mod StepLaws
@@ -16,4 +17,3 @@ pub mod ExactLaws
 mod DescentLaws
 mod CertificateLaws
 mod WalkLaws
-pub mod HeadlineLaws

@@ -1,9 +1,9 @@
 pub mod Listed
 pub mod Document
+pub mod Spelled
 pub mod Rows
 pub mod Complete
 pub mod Worked
 pub mod Certificate
 pub mod Walks
 pub mod Descent
-pub mod Headline

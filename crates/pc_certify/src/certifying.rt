@@ -3,6 +3,7 @@ ghost use Rattle.std.specs.Prelude.{◌≡◌, ◌+◌, ◌*◌, ◌≤◌, leng
 ghost use Rattle.pc_cells.specs.Spans.{free_of};
 ghost use Rattle.pc_certify.specs.Certificate.{TookCertificate, TookFrontOfOne};
 
+use crate::last_lines::LastLines;
 use crate::walks::Walks;
 use crate::writing::write;
 use pc_cells::Region;
@@ -45,11 +46,22 @@ pub fn certify<O: Sink>(
     let Ok(walks) = Walks::of(alloc, net) else {
         return Err(CertifyError::OutOfMemory);
     };
+    let Ok(mut lines) = LastLines::of(alloc, net) else {
+        return Err(CertifyError::OutOfMemory);
+    };
     let Ok(mut page) = Page::with_room(alloc, PAGE_ROOM) else {
         return Err(CertifyError::OutOfMemory);
     };
     let mut solver = Solver::begin(region, net);
-    match write::<O, Brand>(&mut page, sink, net, &walks, &mut solver, Blank::new(1)) {
+    match write::<O, Brand>(
+        &mut page,
+        sink,
+        net,
+        &walks,
+        &mut lines,
+        &mut solver,
+        Blank::new(1),
+    ) {
         Ok(()) => Ok(()),
         Err(Failed) => Err(CertifyError::WriteFault),
     }

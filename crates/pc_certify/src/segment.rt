@@ -1,35 +1,44 @@
 //! The lines of a segment.
 ghost use Rattle.std.specs.Prelude.{◌≡◌, ℕ, ◌<◌, [], ◌∷◌, length};
 ghost use Rattle.pc_page.specs.Puts.{Puts};
-ghost use Rattle.pc_cert.specs.Lines.{numbers, IsCode};
+ghost use Rattle.pc_cert.specs.Lines.{IsCode};
 ghost use Rattle.pc_cert.specs.Text.{text_of, AllFit};
 ghost use Rattle.pc_model.specs.Codes.{code_at};
 ghost use Rattle.pc_certify.specs.Listed.{listed};
 ghost use Rattle.pc_certify.specs.Document.{ends_line, event_line, act_line, flows_along, segment_lines, HasSmallNumbers};
+ghost use Rattle.pc_certify.specs.Spelled.{AreEventsSpelled, AreActsSpelled};
 
-use crate::words::{put_bit, put_code, put_number};
+use crate::last_lines::{ActRow, EventRow, LastLines};
+use crate::words::put_number;
+use pc_cert::Flows;
 use pc_crash::{CrashNet, SegmentView};
 use pc_edges::Sink;
 use pc_page::Page;
 
 /// Puts a segment: its ends, its cost and its slope, a line for each event and one for each activity, in card order, and
-/// its last line. Linear in events, activities and pieces.
+/// its last line. A line that says what it said in the segment that was put last is put as it was spelled there. Linear in events,
+/// activities and pieces.
 pub fn put_segment<O: Sink, V: SegmentView>(
     page: &mut Page,
     sink: &mut O,
     net: &CrashNet<'_>,
     view: &V,
+    lines: &mut LastLines,
 )
     requires present { V.IsPresent view.now }
     requires net { V.net view.now ≡ net.now }
+    requires events { AreEventsSpelled net.now lines.old.events.items }
+    requires acts { AreActsSpelled net.now lines.old.acts.items }
     ensures text { Puts O.taken O.faults page.old sink.old page.new sink.new
         (text_of (segment_lines net.now (V.segment view.now))) }
     ensures fit { HasSmallNumbers net.now (V.segment view.now) → AllFit (segment_lines net.now (V.segment view.now)) }
+    ensures events { AreEventsSpelled net.now lines.new.events.items }
+    ensures acts { AreActsSpelled net.now lines.new.acts.items }
 {
     let _whole = net.net();
     put_ends(page, sink, view);
-    put_events(page, sink, net, view);
-    put_acts(page, sink, net, view);
+    put_events(page, sink, net, view, &mut lines.events);
+    put_acts(page, sink, net, view, &mut lines.acts);
     page.put(sink, b"CLOSE\n");
 }
 
@@ -47,15 +56,23 @@ fn put_ends<O: Sink, V: SegmentView>(page: &mut Page, sink: &mut O, view: &V)
 }
 
 /// Puts a line for each event.
-fn put_events<O: Sink, V: SegmentView>(page: &mut Page, sink: &mut O, net: &CrashNet<'_>, view: &V)
+fn put_events<O: Sink, V: SegmentView>(
+    page: &mut Page,
+    sink: &mut O,
+    net: &CrashNet<'_>,
+    view: &V,
+    rows: &mut Vec<EventRow>,
+)
     requires present { V.IsPresent view.now }
     requires net { V.net view.now ≡ net.now }
+    requires rows { AreEventsSpelled net.now rows.old.items }
     ensures text { Puts O.taken O.faults page.old sink.old page.new sink.new
         (text_of (listed net.now.network.events (event_line net.now (V.segment view.now)))) }
     ensures codes { (e : ℕ) → e < net.now.network.events → IsCode (code_at net.now.events e) }
+    ensures rows { AreEventsSpelled net.now rows.new.items }
 {
     for e in 0..net.net().events() {
-        put_event(page, sink, net, view, e);
+        put_event(page, sink, net, view, e, rows);
     }
 }
 
@@ -65,31 +82,40 @@ fn put_event<O: Sink, V: SegmentView>(
     net: &CrashNet<'_>,
     view: &V,
     e: u32,
+    rows: &mut Vec<EventRow>,
 )
     requires present { V.IsPresent view.now }
     requires net { V.net view.now ≡ net.now }
+    requires rows { AreEventsSpelled net.now rows.old.items }
     requires event { e < net.now.network.events }
     ensures text { Puts O.taken O.faults page.old sink.old page.new sink.new
         (text_of (event_line net.now (V.segment view.now) e ∷ [])) }
     ensures code { IsCode (code_at net.now.events e) }
+    ensures rows { AreEventsSpelled net.now rows.new.items }
 {
-    page.put(sink, b"EVENT");
-    put_code(page, sink, &net.event_code(e));
-    put_number(page, sink, view.time(e));
-    put_bit(page, sink, view.moves(e));
-    page.put(sink, b"\n");
+    let row = &mut rows[e as usize];
+    row.say(&net.event_code(e), view.time(e), view.moves(e));
+    page.put(sink, row.spelling.bytes());
 }
 
 /// Puts a line for each activity.
-fn put_acts<O: Sink, V: SegmentView>(page: &mut Page, sink: &mut O, net: &CrashNet<'_>, view: &V)
+fn put_acts<O: Sink, V: SegmentView>(
+    page: &mut Page,
+    sink: &mut O,
+    net: &CrashNet<'_>,
+    view: &V,
+    rows: &mut Vec<ActRow>,
+)
     requires present { V.IsPresent view.now }
     requires net { V.net view.now ≡ net.now }
+    requires rows { AreActsSpelled net.now rows.old.items }
     ensures text { Puts O.taken O.faults page.old sink.old page.new sink.new
         (text_of (listed (length net.now.network.arcs) (act_line net.now (V.segment view.now)))) }
     ensures codes { (a : ℕ) → a < length net.now.network.arcs → IsCode (code_at net.now.activities a) }
+    ensures rows { AreActsSpelled net.now rows.new.items }
 {
     for a in 0..net.net().activities() {
-        put_act(page, sink, net, view, a);
+        put_act(page, sink, net, view, a, rows);
     }
 }
 
@@ -99,38 +125,38 @@ fn put_act<O: Sink, V: SegmentView>(
     net: &CrashNet<'_>,
     view: &V,
     a: u32,
+    rows: &mut Vec<ActRow>,
 )
     requires present { V.IsPresent view.now }
     requires net { V.net view.now ≡ net.now }
+    requires rows { AreActsSpelled net.now rows.old.items }
     requires activity { a < length net.now.network.arcs }
     ensures text { Puts O.taken O.faults page.old sink.old page.new sink.new
         (text_of (act_line net.now (V.segment view.now) a ∷ [])) }
     ensures code { IsCode (code_at net.now.activities a) }
+    ensures rows { AreActsSpelled net.now rows.new.items }
 {
-    page.put(sink, b"ACT");
-    put_code(page, sink, &net.activity_code(a));
-    put_number(page, sink, view.duration(a));
-    put_flows(page, sink, net, view, a);
-    page.put(sink, b"\n");
+    let row = &mut rows[a as usize];
+    row.say(
+        &net.activity_code(a),
+        view.duration(a),
+        &flows_along(net, view, a),
+    );
+    page.put(sink, row.spelling.bytes());
 }
 
-/// Puts the flow along an activity at each of its knees, and the one beside them.
-fn put_flows<O: Sink, V: SegmentView>(
-    page: &mut Page,
-    sink: &mut O,
-    net: &CrashNet<'_>,
-    view: &V,
-    a: u32,
-)
+/// The flow along an activity at each of its knees, and the one beside them.
+fn flows_along<V: SegmentView>(net: &CrashNet<'_>, view: &V, a: u32) -> Flows
     requires present { V.IsPresent view.now }
     requires net { V.net view.now ≡ net.now }
     requires activity { a < length net.now.network.arcs }
-    ensures { Puts O.taken O.faults page.old sink.old page.new sink.new
-        (numbers (flows_along net.now (V.segment view.now) a)) }
+    ensures { result ≡ flows_along net.now (V.segment view.now) a }
 {
     let knees = net.knees(a).len();
+    let mut flows = Flows::new();
     for k in 0..knees {
-        put_number(page, sink, view.flow(a, k));
+        flows.push(view.flow(a, k));
     }
-    put_number(page, sink, view.flow(a, knees));
+    flows.push(view.flow(a, knees));
+    flows
 }

@@ -2,7 +2,7 @@
 ghost use Rattle.std.specs.Prelude.{◌≡◌, [], decimal, true};
 ghost use Rattle.pc_text.specs.Code.{is_code};
 ghost use Rattle.pc_page.specs.Puts.{Puts};
-ghost use Rattle.pc_cert.specs.Lines.{spaced, bit_text};
+ghost use Rattle.pc_cert.specs.Lines.{spaced};
 
 use pc_edges::Sink;
 use pc_page::Page;
@@ -25,12 +25,4 @@ pub(crate) fn put_number<O: Sink>(page: &mut Page, sink: &mut O, number: u64)
 {
     page.put(sink, b" ");
     page.put_number(sink, number);
-}
-
-/// Puts a space and the bit.
-#[inline]
-pub(crate) fn put_bit<O: Sink>(page: &mut Page, sink: &mut O, bit: bool)
-    ensures { Puts O.taken O.faults page.old sink.old page.new sink.new (spaced (bit_text bit) []) }
-{
-    page.put(sink, if bit { b" 1" } else { b" 0" });
 }

@@ -6,11 +6,13 @@ ghost use Rattle.pc_page.specs.Puts.{desk};
 ghost use Rattle.pc_crash.specs.Steps.{IsBlankOf};
 ghost use Rattle.pc_certify.specs.Certificate.{IsCertificate};
 ghost use Rattle.pc_certify.specs.Descent.{IsAtTop, IsPutDown};
+ghost use Rattle.pc_certify.specs.Spelled.{AreEventsSpelled, AreActsSpelled};
 ghost use Rattle.pc_certify.specs.Walks.{ArePicked};
 
 use crate::certified::written_is_certified;
 use crate::end::put_end;
 use crate::head::put_head;
+use crate::last_lines::LastLines;
 use crate::segment::put_segment;
 use crate::walks::Walks;
 use pc_crash::{CrashNet, Steps};
@@ -25,10 +27,13 @@ pub(crate) fn write<O: Sink, L: Ledger>(
     sink: &mut O,
     net: &CrashNet<'_>,
     walks: &Walks,
+    lines: &mut LastLines,
     solver: &mut Solver<'_>,
     blank: Blank,
 ) -> Result<(), Failed>
     requires fresh { page.old ≡ fresh }
+    requires events { AreEventsSpelled net.now lines.old.events.items }
+    requires acts { AreActsSpelled net.now lines.old.acts.items }
     requires walks { ArePicked net.now walks.now.normal walks.now.crash }
     requires solver { IsAtTop net.now solver.old }
     requires blank { IsBlankOf L.name L.parts blank.name blank.parts }
@@ -37,7 +42,7 @@ pub(crate) fn write<O: Sink, L: Ledger>(
 {
     written_is_certified(net);
     let mut steps = Steps::<L>::new(blank);
-    put_segments(page, sink, net, walks, solver, &mut steps);
+    put_segments(page, sink, net, walks, lines, solver, &mut steps);
     put_end(page, sink);
     page.finish(sink)
 }
@@ -48,9 +53,12 @@ fn put_segments<O: Sink, L: Ledger>(
     sink: &mut O,
     net: &CrashNet<'_>,
     walks: &Walks,
+    lines: &mut LastLines,
     solver: &mut Solver<'_>,
     steps: &mut Steps<L>,
 )
+    requires events { AreEventsSpelled net.now lines.old.events.items }
+    requires acts { AreActsSpelled net.now lines.old.acts.items }
     requires walks { ArePicked net.now walks.now.normal walks.now.crash }
     requires solver { IsAtTop net.now solver.old }
     ensures { IsPutDown net.now walks.now.normal.path walks.now.crash.path
@@ -58,6 +66,6 @@ fn put_segments<O: Sink, L: Ledger>(
 {
     put_head(page, sink, net, walks.normal.path(), walks.crash.path());
     while solver.next_segment(steps) {
-        put_segment(page, sink, net, solver);
+        put_segment(page, sink, net, solver, lines);
     }
 }

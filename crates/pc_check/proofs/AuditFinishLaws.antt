@@ -11,7 +11,7 @@ use Rattle.pc_check.specs.declared.fail.Fail.{Fail}
 use Rattle.pc_check.specs.declared.fail.Verdict.{Verdict}
 use Rattle.pc_check.specs.declared.fail.Verdict.TheVariants.{Yes, No}
 use Rattle.pc_check.specs.Failures.{failure_of}
-use Rattle.pc_check.specs.Certified.{AreCurve, segments_of, OnYes, Finds as ChecksTo}
+use Rattle.pc_check.specs.Certified.{Finds as ChecksTo}
 use Rattle.pc_check.specs.Texts.{IsFailing, malformed, missing, Finds}
 use Rattle.pc_check.specs.Auditing.{Auditing, HasRead, IsGoing}
 use Rattle.pc_check.proofs.AuditLaws.{checking}
@@ -29,9 +29,9 @@ contrary : (fail : Fail) → None ≡ Some fail → ⊥
 contrary fail e = absurd cc
 
 -- a whole text is certified
-pub found_whole : (net : PricedNetwork) (lines : List CertLine) (text : List ℕ) (verdict : Verdict) → IsWhole lines text → failure_of net lines ≡ None → ChecksTo net lines verdict → OnYes verdict (AreCurve net (segments_of net lines)) → Finds net text verdict
-found_whole net lines text (Yes segments) whole none finds curve = record { lines = lines; whole = whole; none = none; count = finds.1; curve = curve }
-found_whole net lines text (No line reason) whole none finds curve = absurd (contrary (record { line = line; reason = reason }) (sym none ∙ finds))
+pub found_whole : (net : PricedNetwork) (lines : List CertLine) (text : List ℕ) (verdict : Verdict) → IsWhole lines text → failure_of net lines ≡ None → ChecksTo net lines verdict → Finds net text verdict
+found_whole net lines text (Yes segments) whole none finds = record { lines = lines; whole = whole; none = none; count = finds.1 }
+found_whole net lines text (No line reason) whole none finds = absurd (contrary (record { line = line; reason = reason }) (sym none ∙ finds))
 
 -- another text is malformed, or a line is missing
 pub found_broken : (net : PricedNetwork) (lines : List CertLine) (text : List ℕ) (m : Malformed) → failure_of net lines ≡ None → IsStopped m lines text ⊎ IsMissing m lines text → IsFailing net text (record { line = m.line; reason = 0 })

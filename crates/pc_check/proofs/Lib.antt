@@ -13,6 +13,7 @@ pub mod GoodSegments
 pub mod GoodLines
 pub mod FinishLaws
 pub mod StillLaws
+pub mod PassedLaws
 pub mod AuditLaws
 pub mod AuditFinishLaws
 pub mod FeedLaws
@@ -20,3 +21,4 @@ pub mod TextLaws
 pub mod BeginLaws
 pub mod SourceLaws
 pub mod OnceLaws
+pub mod HeadlineLaws

@@ -1,41 +1,18 @@
 -- A text is pulled from a source and used piece by piece.
-use Rattle.std.proofs.Common.{◌≡◌, ℕ, ◌+◌, ◌<◌, ◌≤◌, List, [], ◌++◌, length, Option, Some, None, refl, sym, ap, subst, ◌∙◌, arith, append_assoc, append-nil}
+use Rattle.std.proofs.Common.{◌≡◌, ℕ, ◌+◌, ◌<◌, ◌≤◌, List, [], ◌++◌, length, Option, Some, None, refl, sym, ap, subst, ◌∙◌, arith, append_assoc, append-nil, length-append}
 use Rattle.std.specs.Prelude.{IfSome}
-use Rattle.std.specs.Io.KnownBytes.{Consumes, IsAtEnd}
-use Rattle.std.proofs.KnownBytes.{Consumes-nil, Consumes-trans, Consumes-whole}
+use Rattle.std.specs.Io.KnownBytes.{Consumes, Keeps, IsAtEnd}
+use Rattle.std.proofs.KnownBytes.{Consumes-kept, Consumes-nil, Consumes-trans, Consumes-whole}
 use Rattle.std.proofs.lemmas.List.{nil_from_length}
 use Rattle.pc_edges.specs.Pulls.{TakesPulls}
+use Rattle.pc_edges.proofs.PullLaws.{TakesPulls-then, TakesPulls-none, TakesPulls-more}
 use Rattle.pc_check.specs.declared.fail.Fail.{Fail}
 use Rattle.pc_check.specs.declared.fail.Verdict.{Verdict}
 use Rattle.pc_check.specs.Texts.{IsFailing, Finds}
 use Rattle.pc_check.specs.declared.fail.Verdict.TheVariants.{No}
 use Rattle.pc_check.specs.Auditing.{Auditing, HasRead, IsGoing, bytes_left}
-use Rattle.pc_check.specs.Stops.{HasNoFailure, IsSettled}
+use Rattle.pc_check.specs.Stops.{HasNoFailure, IsSettled, IsUnsettled}
 use Rattle.pc_check.proofs.AuditLaws.{reading, checking}
-
--- ---- pulls
-
--- some pulls, and then some more
-pub TakesPulls-then : (j k : ℕ) (a b c : Option ℕ) → TakesPulls j a b → TakesPulls k b c → TakesPulls (j + k) a c
-TakesPulls-then j k None b c p q = tt
-TakesPulls-then j k (Some a) None c p q = absurd p
-TakesPulls-then j k (Some a) (Some b) None p q = absurd q
-TakesPulls-then j k (Some a) (Some b) (Some c) p q = omega (arith, p, q)
-
--- no pull
-pub TakesPulls-none : (k : ℕ) (a : Option ℕ) → TakesPulls k a a
-TakesPulls-none k None = tt
-TakesPulls-none k (Some a) = omega arith
-
--- at most more pulls
-pub TakesPulls-more : (j k : ℕ) (a b : Option ℕ) → j ≤ k → TakesPulls j a b → TakesPulls k a b
-TakesPulls-more j k None b more p = tt
-TakesPulls-more j k (Some a) None more p = absurd p
-TakesPulls-more j k (Some a) (Some b) more p = omega (arith, p, more)
-
--- one pull more than so many is at most one more than more
-pub TakesPulls-one_more : (j k : ℕ) (a b : Option ℕ) → j ≤ k → TakesPulls (j + 1) a b → TakesPulls (k + 1) a b
-TakesPulls-one_more j k a b more p = TakesPulls-more (j + 1) (k + 1) a b (omega (arith, more)) p
 
 -- ---- bytes
 
@@ -73,6 +50,7 @@ pub record IsPulling (before now : Auditing) (left left_now : Option (List ℕ))
   pub no_fault : faults_now ≡ faults
   pub count : ℕ
   pub fewer : count + bytes_left now ≤ bytes_left before
+  pub some : count ≤ length text
   pub turns : TakesPulls count pulls pulls_now
 
 -- nothing is pulled yet
@@ -86,6 +64,7 @@ none_pulled audit left faults pulls read going = record {
   no_fault = refl;
   count = 0;
   fewer = omega arith;
+  some = omega arith;
   turns = TakesPulls-none 0 pulls;
 }
 
@@ -102,6 +81,7 @@ module _ {before now : Auditing} {left left_now : Option (List ℕ)} {faults fau
     no_fault = no_fault ∙ h.no_fault;
     count = h.count + 1;
     fewer = omega (arith, h.fewer, less some);
+    some = omega (arith, h.some, some, length-append h.text piece);
     turns = TakesPulls-then h.count 1 pulls pulls_now pulls_new h.turns pulled;
   }
 
@@ -123,26 +103,46 @@ module _ {before now : Auditing} {left left_now : Option (List ℕ)} {faults fau
       with_anything left left_new (h.text ++ piece) (λ text. IsFailing before.checker.net text fail) (Consumes-trans left left_now left_new h.text piece h.taken taken)
       (λ more. subst (λ n. IsFailing n ((h.text ++ piece) ++ more) fail) h.net (subst (λ t. IsFailing now.checker.net t fail) (sym (append_assoc h.text piece more)) (fails h.text more h.read)))
 
-  -- what was taken of a source that is at its end
-  pub settled_at_end : (left_new : Option (List ℕ)) (verdict : Verdict) (room : ℕ) (piece : List ℕ) → Consumes left_now left_new piece → length piece ≡ 0 → ((text : List ℕ) → HasRead text now → Finds now.checker.net text verdict) → IsSettled before.checker.net verdict room left left_new
-  settled_at_end left_new verdict room piece taken none finds =
-      let same : h.text ++ piece ≡ h.text = ap (λ p. h.text ++ p) (nil_from_length piece none) ∙ append-nil h.text in
-      record {
-        front = h.text;
-        last = piece;
-        taken = Consumes-trans left left_now left_new h.text piece h.taken taken;
-        before = subst (λ n. HasNoFailure n h.text) h.net (no_failure now h.text h.going h.read);
-        short = omega (arith, none);
-        found = subst (λ n. Finds n (h.text ++ piece) verdict) h.net (subst (λ t. Finds now.checker.net t verdict) (sym same) (finds h.text h.read));
-      }
+  -- the pulls so far and one more are at most one more than the bytes so far
+  turns_by_bytes : (pulls_new : Option ℕ) → TakesPulls 1 pulls_now pulls_new → TakesPulls (length h.text + 1) pulls pulls_new
+  turns_by_bytes pulls_new pulled = TakesPulls-more (h.count + 1) (length h.text + 1) pulls pulls_new (omega (arith, h.some)) (TakesPulls-then h.count 1 pulls pulls_now pulls_new h.turns pulled)
 
-  -- what was taken of a source in which a line fails
-  pub settled_in_piece : (left_new : Option (List ℕ)) (fail : Fail) (room : ℕ) (piece : List ℕ) → Consumes left_now left_new piece → length piece ≤ room → ((text more : List ℕ) → HasRead text now → IsFailing now.checker.net (text ++ (piece ++ more)) fail) → IsSettled before.checker.net (No fail.line fail.reason) room left left_new
-  settled_in_piece left_new fail room piece taken fits fails = record {
+  -- a pull failed
+  pub unsettled : (left_new : Option (List ℕ)) (pulls_new : Option ℕ) → Keeps left_now left_new → TakesPulls 1 pulls_now pulls_new → IsUnsettled before.checker.net left left_new pulls pulls_new
+  unsettled left_new pulls_new kept pulled = record {
+    bytes = h.text;
+    taken = Consumes-kept left left_now left_new h.text h.taken kept;
+    none = subst (λ n. HasNoFailure n h.text) h.net (no_failure now h.text h.going h.read);
+    turns = turns_by_bytes pulls_new pulled;
+  }
+
+-- the source as it stood before the last pull, and as it stands
+module _ {X : Type 0} (left : X → Option (List ℕ)) (pulls : X → Option ℕ) (old mid new : X) {before now : Auditing} {faults faults_now : ℕ}
+    (h : IsPulling before now (left old) (left mid) faults faults_now (pulls old) (pulls mid)) (piece : List ℕ) (pulled : Consumes (left mid) (left new) piece) (once : TakesPulls 1 (pulls mid) (pulls new)) where
+  -- what is found of the bytes that were taken
+  settled : (verdict : Verdict) (room : ℕ) → length piece ≤ room → Finds before.checker.net (h.text ++ piece) verdict → IsSettled before.checker.net verdict room left pulls old new
+  settled verdict room fits found = record {
     front = h.text;
     last = piece;
-    taken = Consumes-trans left left_now left_new h.text piece h.taken taken;
-    before = subst (λ n. HasNoFailure n h.text) h.net (no_failure now h.text h.going h.read);
+    found = found;
+    before = mid;
+    came = h.taken;
+    none = subst (λ n. HasNoFailure n h.text) h.net (no_failure now h.text h.going h.read);
+    turns = TakesPulls-more h.count (length h.text) (pulls old) (pulls mid) h.some h.turns;
+    once = once;
+    pulled = pulled;
     short = fits;
-    found = subst (λ n. IsFailing n (h.text ++ piece) fail) h.net (subst (λ p. IsFailing now.checker.net (h.text ++ p) fail) (append-nil piece) (fails h.text [] h.read));
   }
+
+  -- of a source that is at its end
+  pub settled_at_end : (verdict : Verdict) (room : ℕ) → length piece ≡ 0 → ((text : List ℕ) → HasRead text now → Finds now.checker.net text verdict) → IsSettled before.checker.net verdict room left pulls old new
+  settled_at_end verdict room none finds =
+      let same : h.text ++ piece ≡ h.text = ap (λ p. h.text ++ p) (nil_from_length piece none) ∙ append-nil h.text in
+      settled verdict room (omega (arith, none))
+      (subst (λ n. Finds n (h.text ++ piece) verdict) h.net (subst (λ t. Finds now.checker.net t verdict) (sym same) (finds h.text h.read)))
+
+  -- of a source in which a line fails
+  pub settled_in_piece : (fail : Fail) (room : ℕ) → length piece ≤ room → ((text more : List ℕ) → HasRead text now → IsFailing now.checker.net (text ++ (piece ++ more)) fail) → IsSettled before.checker.net (No fail.line fail.reason) room left pulls old new
+  settled_in_piece fail room fits fails =
+      settled (No fail.line fail.reason) room fits
+      (subst (λ n. IsFailing n (h.text ++ piece) fail) h.net (subst (λ p. IsFailing now.checker.net (h.text ++ p) fail) (append-nil piece) (fails h.text [] h.read)))

@@ -1,7 +1,7 @@
 -- An activity that does not cross the cut has the same gap at both ends of a segment, and does not stop.
 use Rattle.std.proofs.Common.{◌≡◌, ℕ, ◌+◌, ◌<◌, zero, suc, Bool, true, false, not, ◌&&◌, ◌||◌, List, length, refl, sym, ap, ◌∙◌, arith, ⊎_elim}
 use Rattle.std.specs.Prelude.{◌==◌, nat_lt, slice_index, if◌then◌else◌}
-use Rattle.std.proofs.lemmas.Bool.{cases_lt, lt-ltb, le-ltb}
+use Rattle.std.proofs.lemmas.Bool.{cases_lt, lt-ltb, le-ltb, le-leb, leb-true}
 use Rattle.pc_model.specs.declared.Arc.{Arc}
 use Rattle.pc_model.specs.declared.Knee.{Knee}
 use Rattle.pc_model.specs.Pieces.{knee_at}
@@ -9,11 +9,12 @@ use Rattle.pc_model.specs.Schedule.{crash_of}
 use Rattle.pc_model.specs.Walk.{from_of, to_of}
 use Rattle.pc_crash.specs.Priced.{PricedNetwork, knees_in}
 use Rattle.pc_curve_laws.specs.Segment.{Segment, span, head_at, tail_at, is_forward, is_backward}
-use Rattle.pc_check.specs.Conditions.{is_slack, is_slack_in}
+use Rattle.pc_check.specs.Conditions.{has_room, is_slack, is_slack_in}
 use Rattle.pc_check.specs.Crossings.{IsCrossing}
 use Rattle.pc_check.specs.declared.gaps.Crossing.{Crossing}
 use Rattle.pc_check.specs.Known.{each_below, some_below}
 use Rattle.pc_check.specs.KneeTests.{is_slack_at_knee, stops_at_knee_over, stops_over}
+use Rattle.pc_check.specs.Segments.{stops_at_knee_in, stops_in}
 use Rattle.pc_check.proofs.BelowLaws.{each_below-same}
 
 -- ---- tests of two numbers that grow by the same
@@ -81,6 +82,14 @@ still_slack net seg a flows crossing is still =
     ∙ ap (λ t. is_slack_in net (head + grows.by) t a flows) grows.tail_is
     ∙ slack_shift net a head tail grows.by flows)
 
+pub still_room : (net : PricedNetwork) (seg : Segment) (a : ℕ) (crossing : Crossing) → IsCrossing net.network.arcs seg a crossing → (crossing.forward || crossing.backward) ≡ false → has_room net seg 0 a ≡ true → (has_room net seg 0 a && has_room net seg (span seg) a) ≡ true
+still_room net seg a crossing is still room =
+    let grows = grows_alike net.network.arcs seg a crossing is still in
+    let enough = leb-true (tail_at net.network.arcs seg 0 a + crash_of net.terms a) (head_at net.network.arcs seg 0 a) room in
+    let below : has_room net seg (span seg) a ≡ true =
+    le-leb (tail_at net.network.arcs seg (span seg) a + crash_of net.terms a) (head_at net.network.arcs seg (span seg) a) (omega (arith, grows.head_is, grows.tail_is, enough)) in
+    rw (room, below) refl
+
 -- ---- it does not stop
 
 none_below : (n : ℕ) (test : ℕ → Bool) → ((k : ℕ) → test k ≡ false) → some_below n test ≡ false
@@ -96,4 +105,18 @@ no_stop crossing crash knees still =
     let parts = both_false crossing.forward crossing.backward still in
     let none : some_below (length knees) (λ k. stops_at_knee_over crossing (knee_at knees k).at) ≡ false =
     none_below (length knees) (λ k. stops_at_knee_over crossing (knee_at knees k).at) (λ k. rw (parts.0, parts.1) (never _)) in
+    rw (none, parts.0) refl
+
+-- ---- it leads from a resting to a moving event no more than the other way round
+
+pub rests : {arcs : List Arc} {seg : Segment} {a : ℕ} {crossing : Crossing} → IsCrossing arcs seg a crossing → (crossing.forward || crossing.backward) ≡ false → (is_forward arcs seg.moves a ≡ false) × (is_backward arcs seg.moves a ≡ false)
+rests {arcs} {seg} {a} {crossing} is still =
+    let parts = both_false crossing.forward crossing.backward still in
+    (sym is.forward ∙ parts.0, sym is.backward ∙ parts.1)
+
+pub no_stop_in : {crossing : Crossing} (net : PricedNetwork) (seg : Segment) (a : ℕ) → IsCrossing net.network.arcs seg a crossing → (crossing.forward || crossing.backward) ≡ false → stops_in net seg a ≡ false
+no_stop_in net seg a is still =
+    let parts = rests is still in
+    let none : some_below ((knees_in net).count a) (stops_at_knee_in net seg a) ≡ false =
+    none_below ((knees_in net).count a) (stops_at_knee_in net seg a) (λ k. rw (parts.0, parts.1) (never _)) in
     rw (none, parts.0) refl

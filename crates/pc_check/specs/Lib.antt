@@ -10,6 +10,7 @@ pub mod Kept
 pub mod Crossings
 pub mod Safe
 pub mod Bounds
+pub mod Passed
 pub mod Advances
 pub mod Additions
 pub mod Checking
@@ -18,3 +19,4 @@ pub mod Certified
 pub mod Texts
 pub mod Auditing
 pub mod Stops
+pub mod Headline

@@ -1,6 +1,7 @@
 -- Where the reading of a source stops.
-use Rattle.std.specs.Prelude.{◌≡◌, ℕ, ◌<◌, ◌≤◌, List, ◌++◌, length, Option, None}
+use Rattle.std.specs.Prelude.{◌≡◌, ℕ, ◌+◌, ◌<◌, ◌≤◌, List, ◌++◌, length, Option, None}
 use Rattle.std.specs.Io.KnownBytes.{Consumes}
+use Rattle.pc_edges.specs.Pulls.{TakesPulls}
 use Rattle.pc_cert.specs.declared.line.CertLine.{CertLine}
 use Rattle.pc_cert.specs.declared.line.TheConstants.{MAX_LINE}
 use Rattle.pc_cert.specs.declared.place.Place.{Place}
@@ -22,12 +23,23 @@ pub record HasNoFailure (net : PricedNetwork) (bytes : List ℕ) : Type 0 where
   pub no_end : Lacks 10 rest
   pub short : length rest < MAX_LINE
 
--- the bytes that were taken are found to be this; of those that came before the last pull, of at most so many bytes, no line
--- fails, so nothing is pulled behind the failing line
-pub record IsSettled (net : PricedNetwork) (verdict : Verdict) (room : ℕ) (left left_after : Option (List ℕ)) : Type 0 where
+-- the bytes that were taken are found to be this, and one pull came behind the bytes of which no line fails: there is a state of the source in
+-- which it had given these alone, each by a pull at least, and from which it came to where it stands by one pull of at most so many bytes
+pub record IsSettled {X : Type 0} (net : PricedNetwork) (verdict : Verdict) (room : ℕ) (left : X → Option (List ℕ)) (pulls : X → Option ℕ) (old new : X) : Type 0 where
   pub front : List ℕ
   pub last : List ℕ
-  pub taken : Consumes left left_after (front ++ last)
-  pub before : HasNoFailure net front
-  pub short : length last ≤ room
   pub found : Finds net (front ++ last) verdict
+  pub before : X
+  pub came : Consumes (left old) (left before) front
+  pub none : HasNoFailure net front
+  pub turns : TakesPulls (length front) (pulls old) (pulls before)
+  pub once : TakesPulls 1 (pulls before) (pulls new)
+  pub pulled : Consumes (left before) (left new) last
+  pub short : length last ≤ room
+
+-- no line fails in the bytes that were taken, and each pull but the last gave at least one of them
+pub record IsUnsettled (net : PricedNetwork) (left left_after : Option (List ℕ)) (pulls pulls_after : Option ℕ) : Type 0 where
+  pub bytes : List ℕ
+  pub taken : Consumes left left_after bytes
+  pub none : HasNoFailure net bytes
+  pub turns : TakesPulls (length bytes + 1) pulls pulls_after

@@ -9,16 +9,15 @@ use Rattle.pc_check.specs.declared.fail.Fail.{Fail}
 use Rattle.pc_check.specs.declared.fail.Verdict.{Verdict}
 use Rattle.pc_check.specs.declared.fail.Verdict.TheVariants.{Yes, No}
 use Rattle.pc_check.specs.Failures.{failure_of}
-use Rattle.pc_check.specs.Certified.{AreCurve, segments_of}
+use Rattle.pc_check.specs.Certified.{segments_of}
 
--- the text is that of a whole certificate, of whose lines none fails; they have so many segments, and these are the whole
--- curve of the network
+-- the text is that of a whole certificate, of whose lines none fails, and they have so many segments. That these are the whole curve of
+-- the network follows (`certificates_print_the_curve`)
 pub record IsCertified (net : PricedNetwork) (text : List ℕ) (segments : ℕ) : Type 0 where
   pub lines : List CertLine
   pub whole : IsWhole lines text
   pub none : failure_of net lines ≡ None
   pub count : segments ≡ length (segments_of net lines)
-  pub curve : AreCurve net (segments_of net lines)
 
 -- the first failing point of a text: whole lines, in the order in which they may come, have their first failure there; or
 -- the lines before it have none, and the line is malformed or missing, which is reason 0

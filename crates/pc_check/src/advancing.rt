@@ -8,11 +8,13 @@ ghost use Rattle.pc_check.specs.Conditions.{conditions};
 ghost use Rattle.pc_check.specs.Failures.{first_failing};
 ghost use Rattle.pc_check.specs.Kept.{known_by};
 ghost use Rattle.pc_check.specs.Additions.{IsAct, MayBeAdded};
+ghost use Rattle.pc_check.specs.Passed.{ArePassed};
 ghost use Rattle.pc_check.specs.Safe.{IsSafe};
 
-use crate::adding::{add_act, add_event, begin_segment};
+use crate::adding::{add_act, add_again, add_event, begin_segment};
 use crate::gaps::crossing_of;
 use crate::kept::Kept;
+use crate::passed::{Passed, passed_of, passes_again};
 use crate::reasons::{has_act_code, reason, reason_at_act};
 use crate::walk::stepped;
 use pc_cert::{CertLine, Flows, Place};
@@ -24,10 +26,12 @@ use pc_text::Code;
 pub(crate) fn advance(
     net: &CrashNet<'_>,
     kept: &mut Kept,
+    passed: &mut Vec<Passed>,
     line: &CertLine,
     behind: Place,
 ) -> Option<u8>
     requires safe { IsSafe net.now.network.events (length net.now.network.arcs) kept.old.tally }
+    requires passed { ArePassed net.now passed.old.items }
     requires bounded { IsBounded net.now kept.old }
     requires goes { next kept.old.place line.now ≡ Some behind }
     ensures reason { result ≡ first_failing (conditions net.now (known_by kept.old) line.now) }
@@ -36,11 +40,12 @@ pub(crate) fn advance(
     ensures bounded { IsBounded net.now kept.new }
     ensures few { kept.new.lines < 2 ^ 63 }
     ensures safe { IsSafe net.now.network.events (length net.now.network.arcs) kept.new.tally }
+    ensures passed { ArePassed net.now passed.new.items }
     ensures left { IfNone result (lines_left net.now kept.new < lines_left net.now kept.old) }
 {
     let _events = net.net().events();
     let _activities = net.net().activities();
-    match judge(net, kept, line) {
+    match judge(net, kept, passed, line) {
         Some(reason) => Some(reason),
         None => {
             kept.place = behind;
@@ -51,20 +56,27 @@ pub(crate) fn advance(
 }
 
 /// Adds a line to what is kept, or answers the first condition that is reported there and does not hold.
-fn judge(net: &CrashNet<'_>, kept: &mut Kept, line: &CertLine) -> Option<u8>
+fn judge(
+    net: &CrashNet<'_>,
+    kept: &mut Kept,
+    passed: &mut Vec<Passed>,
+    line: &CertLine,
+) -> Option<u8>
     requires safe { IsSafe net.now.network.events (length net.now.network.arcs) kept.old.tally }
+    requires passed { ArePassed net.now passed.old.items }
     requires fits { first_failing (conditions net.now (known_by kept.old) line.now) ≡ None → MayBeAdded net.now line.now kept.old }
     ensures reason { result ≡ first_failing (conditions net.now (known_by kept.old) line.now) }
     ensures added { IfNone result (Adds net.now line.now kept.old kept.new) }
     ensures same { OnSome result (kept.new ≡ kept.old) }
     ensures safe { IsSafe net.now.network.events (length net.now.network.arcs) kept.new.tally }
+    ensures passed { ArePassed net.now passed.new.items }
 {
     match line {
         CertLine::Act {
             code,
             duration,
             flows,
-        } => judge_act(net, kept, code, *duration, flows),
+        } => judge_act(net, kept, passed, code, *duration, flows),
         _ => match reason(net, kept, line) {
             Some(reason) => Some(reason),
             None => {
@@ -75,28 +87,38 @@ fn judge(net: &CrashNet<'_>, kept: &mut Kept, line: &CertLine) -> Option<u8>
     }
 }
 
-/// The same of the line of an activity, whose gaps are looked up once for all that is asked of it and all that it adds.
+/// The same of the line of an activity, whose gaps are looked up once for all that is asked of it and all that it adds. Where it says
+/// what passed last of the activity, little is asked anew.
 fn judge_act(
     net: &CrashNet<'_>,
     kept: &mut Kept,
+    passed: &mut Vec<Passed>,
     code: &Code,
     duration: u64,
     flows: &Flows,
 ) -> Option<u8>
     requires safe { IsSafe net.now.network.events (length net.now.network.arcs) kept.old.tally }
+    requires passed { ArePassed net.now passed.old.items }
     ensures reason { result ≡ first_failing (conditions net.now (known_by kept.old) (Act code.now duration flows.now)) }
     ensures added { IfNone result (Adds net.now (Act code.now duration flows.now) kept.old kept.new) }
     ensures same { OnSome result (kept.new ≡ kept.old) }
     ensures safe { IsSafe net.now.network.events (length net.now.network.arcs) kept.new.tally }
+    ensures passed { ArePassed net.now passed.new.items }
 {
     let a = kept.tally.acts;
     if !has_act_code(net, a, code, flows) {
         return Some(4);
     }
     let crossing = crossing_of(net, &kept.tally, a);
+    let last = &passed[a as usize];
+    if passes_again(net, kept, &crossing, last, duration, flows) {
+        add_again(net, &mut kept.tally, &crossing, last);
+        return None;
+    }
     match reason_at_act(net, kept, &crossing, duration, flows) {
         Some(reason) => Some(reason),
         None => {
+            passed[a as usize] = passed_of(net, a, duration, flows);
             add_act(net, &mut kept.tally, &crossing, duration, flows.as_slice());
             None
         }

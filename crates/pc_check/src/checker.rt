@@ -11,6 +11,7 @@ ghost use Rattle.pc_check.specs.declared.fail.Fail.{Fail};
 use crate::advancing::advance;
 use crate::fail::{Fail, Verdict};
 use crate::kept::{Kept, kept_of};
+use crate::passed::{Passed, none_passed};
 use pc_cert::{CertLine, Place};
 use pc_crash::CrashNet;
 use std::alloc::{AllocError, Global};
@@ -22,6 +23,8 @@ pub struct Checker<'n> {
     net: &'n CrashNet<'n>,
     kept: Kept,
     fail: Option<Fail>,
+    /// what passed last of each activity
+    passed: Vec<Passed>,
 }
 
 impl<'n> Model for Checker<'n> {
@@ -37,7 +40,8 @@ impl<'n> Model for Checker<'n> {
 }
 
 impl<'n> Checker<'n> {
-    /// A checker to which no line has come. It takes all its memory here: room for each event's time and flows.
+    /// A checker to which no line has come. It takes all its memory here: room for each event's time and flows, and for what passes of
+    /// each activity.
     pub fn begin(alloc: Global, net: &'n CrashNet<'n>) -> Result<Checker<'n>, AllocError>
         ensures stands { IfOk result (λ checker. StandsFor checker []) }
         ensures net { IfOk result (λ checker. checker.net ≡ net.now) }
@@ -48,6 +52,7 @@ impl<'n> Checker<'n> {
             net,
             kept: kept_of(alloc, net)?,
             fail: None,
+            passed: none_passed(alloc, net)?,
         })
     }
 
@@ -84,7 +89,7 @@ impl<'n> Checker<'n> {
         if let Some(fail) = self.fail {
             return Some(fail);
         }
-        match advance(self.net, &mut self.kept, line, behind) {
+        match advance(self.net, &mut self.kept, &mut self.passed, line, behind) {
             None => None,
             Some(reason) => {
                 let fail = Fail {

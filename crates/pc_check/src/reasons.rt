@@ -224,7 +224,7 @@ pub(crate) fn has_act_code(net: &CrashNet<'_>, a: u32, code: &Code, flows: &Flow
 }
 
 /// Whether the duration is the lesser of normal and the gap at the upper end, and in the first segment normal.
-fn has_duration(net: &CrashNet<'_>, kept: &Kept, a: u32, duration: u64) -> bool
+pub(crate) fn has_duration(net: &CrashNet<'_>, kept: &Kept, a: u32, duration: u64) -> bool
     requires { a < length net.now.network.arcs }
     ensures { result ≡ has_duration net.now (known_by kept.now) a duration }
 {

@@ -1,11 +1,11 @@
 //! The audit of a source.
-ghost use Rattle.std.specs.Prelude.{◌≡◌, ℕ, ◌+◌, ◌<◌, ◌≤◌, [], length, IfOk, IfSome, OnOk, IsErrOf};
+ghost use Rattle.std.specs.Prelude.{◌≡◌, ℕ, ◌+◌, ◌<◌, ◌≤◌, [], length, IfOk, IfSome, OnOk, OnErr, IsErrOf};
 ghost use Rattle.std.specs.Io.KnownBytes.{IsAtEnd};
 ghost use Rattle.pc_edges.specs.Faults.{Rose};
 ghost use Rattle.pc_edges.specs.Pulls.{TakesPulls};
 ghost use Rattle.pc_check.specs.Certified.{OnYes};
 ghost use Rattle.pc_check.specs.Texts.{Finds};
-ghost use Rattle.pc_check.specs.Stops.{IsSettled};
+ghost use Rattle.pc_check.specs.Stops.{IsSettled, IsUnsettled};
 ghost use Rattle.pc_edges.specs.declared.loading.TheConstants.{STREAM_ROOM};
 ghost use Rattle.pc_check.specs.Auditing.{HasRead, IsGoing, bytes_left, most_bytes};
 
@@ -37,10 +37,14 @@ pub fn audit_source<C: Source>(
 ) -> Result<Verdict, AuditError>
     ensures finds { IfOk result (λ verdict. IfSome (C.left source.old) (λ text. Finds net.now text verdict)) }
     // nothing is pulled behind the failing line
-    ensures stops { IfOk result (λ verdict. IsSettled net.now verdict STREAM_ROOM (C.left source.old) (C.left source.new)) }
+    ensures stops { IfOk result (λ verdict. IsSettled net.now verdict STREAM_ROOM C.left C.pulls source.old source.new) }
     ensures end { IfOk result (λ verdict. OnYes verdict (IsAtEnd (C.left source.new))) }
     ensures no_fault { OnOk result (C.faults source.new ≡ C.faults source.old) }
     ensures fault { IsErrOf result AuditError.ReadFault → Rose (C.faults source.old) (C.faults source.new) }
+    // a fault counts only where no line has failed before it
+    ensures unsettled { IsErrOf result AuditError.ReadFault → IsUnsettled net.now (C.left source.old) (C.left source.new)
+        (C.pulls source.old) (C.pulls source.new) }
+    ensures no_room { IsErrOf result AuditError.OutOfMemory → source.new ≡ source.old }
     ensures count { C.faults source.old ≤ C.faults source.new }
     ensures turns { TakesPulls (most_bytes net.now + 1) (C.pulls source.old) (C.pulls source.new) }
 {
@@ -63,10 +67,13 @@ fn audit_by<C: Source>(
     requires read { HasRead [] audit }
     requires going { IsGoing audit }
     ensures finds { IfOk result (λ verdict. IfSome (C.left source.old) (λ text. Finds audit.entry.checker.net text verdict)) }
-    ensures stops { IfOk result (λ verdict. IsSettled audit.entry.checker.net verdict STREAM_ROOM (C.left source.old) (C.left source.new)) }
+    ensures stops { IfOk result (λ verdict. IsSettled audit.entry.checker.net verdict STREAM_ROOM C.left C.pulls source.old source.new) }
     ensures end { IfOk result (λ verdict. OnYes verdict (IsAtEnd (C.left source.new))) }
     ensures no_fault { OnOk result (C.faults source.new ≡ C.faults source.old) }
     ensures fault { IsErrOf result AuditError.ReadFault → Rose (C.faults source.old) (C.faults source.new) }
+    ensures unsettled { OnErr result (IsUnsettled audit.entry.checker.net (C.left source.old) (C.left source.new)
+        (C.pulls source.old) (C.pulls source.new)) }
+    ensures room { IsErrOf result AuditError.OutOfMemory → ⊥ }
     ensures count { C.faults source.old ≤ C.faults source.new }
     ensures turns { TakesPulls (bytes_left audit.entry + 1) (C.pulls source.old) (C.pulls source.new) }
 {

@@ -9,21 +9,21 @@ use Rattle.pc_check.specs.declared.fail.Verdict.{Verdict}
 use Rattle.pc_check.specs.declared.fail.Verdict.TheVariants.{Yes, No}
 use Rattle.pc_check.specs.Texts.{IsCertified, IsFailing, Finds}
 use Rattle.pc_check.specs.Auditing.{most_bytes}
-use Rattle.pc_check.specs.Stops.{IsSettled}
-use Rattle.pc_edges.specs.declared.loading.TheConstants.{STREAM_ROOM}
 use Rattle.pc_check.proofs.TextLaws.{not_both as one_text_verdict, one_number}
 use Rattle.pc_check.proofs.OnceLaws.{one_failure}
-use Rattle.pc_check.proofs.SourceLaws.{TakesPulls-none}
+use Rattle.pc_edges.proofs.PullLaws.{TakesPulls-none}
 use Rattle.pc_project.specs.Project.{Project}
 use Rattle.pc_reading.specs.declared.status.Status.{Status}
 use Rattle.pc_reading.specs.declared.status.Status.TheVariants.{Refused, OutOfMemory, WriteFault}
 use Rattle.pc_reading.specs.Priced.{priced_in}
 use Rattle.pc_reading.specs.Refusing.{Refusal}
-use Rattle.pc_checking.specs.Certificate.{IsOneWord, verdict_text, HasVerdict, Certifies, FailsAsCertificate, ProvesCurve, IsFound, IsSettledFor, status_for, Told, told, cut, Answered, found, unread, no_room}
-use Rattle.pc_checking.specs.CheckOutcome.{IsChecked, CheckOutcome, certified, not_certified, deck_refused, no_memory, cert_fault, write_fault, in_verdict, in_refusal}
+use Rattle.pc_checking.specs.Certificate.{IsOneWord, verdict_text, HasVerdict, Certifies, FailsAsCertificate, ProvesCurve, IsFound, IsSettledFor, IsSettledIn, IsUnsettledFor, IsUnsettledIn, status_for, Told, told, cut, Answered, found, unread, no_room}
+use Rattle.pc_checking.specs.CheckOutcome.{IsChecked, CheckOutcome, certified, not_certified, deck_refused, no_memory, read_fault, cert_unread, write_fault, in_verdict, in_refusal}
 use Rattle.pc_reading.specs.Reading.{HasProject, HasRefusal}
 use Rattle.pc_reading.specs.Sides.{Side, IsUntouched, Took}
 use Rattle.pc_reading.specs.Verdict.{IsProjectOf, AcceptedBy}
+use Rattle.pc_check.proofs.HeadlineLaws.{prints_whole_curve}
+use Rattle.pc_reading.proofs.PricedLaws.{is_named, is_priced}
 use Rattle.pc_reading.proofs.VerdictLaws.{one_project}
 
 -- ---- verdicts
@@ -56,14 +56,7 @@ pub curve_of : (bytes text : List ℕ) (segments : ℕ) → HasVerdict bytes tex
 curve_of bytes text segments h = record {
   project = h.project;
   accepted = h.accepted;
-  lines = h.finds.lines;
-  whole = h.finds.whole;
-  high = h.finds.curve.high;
-  low = h.finds.curve.low;
-  longest = h.finds.curve.longest;
-  shortest = h.finds.curve.shortest;
-  joined = h.finds.curve.covering.front.joined;
-  read = h.finds.curve.read;
+  prints = prints_whole_curve (priced_in h.project) text segments (is_priced bytes h.project h.accepted) (is_named bytes h.project h.accepted) h.finds;
 }
 
 -- ---- bytes of two sources
@@ -77,9 +70,15 @@ accepted_of : (left : Option (List ℕ)) (project : Project) → IfSome left (λ
 accepted_of None project p = tt
 accepted_of (Some bytes) project p = (p.deck, p.accepted)
 
-settled_for : {X : Type 0} (left : Option (List ℕ)) (cert : Side X) (project : Project) (verdict : Verdict) → IfSome left (λ bytes. IsProjectOf bytes project) → IsSettled (priced_in project) verdict STREAM_ROOM (cert.bytes cert.old) (cert.bytes cert.new) → IfSome left (λ bytes. IsSettledFor bytes cert verdict)
+settled_for : {X : Type 0} (left : Option (List ℕ)) (cert : Side X) (project : Project) (verdict : Verdict) → IfSome left (λ bytes. IsProjectOf bytes project)
+    → IsSettledIn (priced_in project) verdict cert → IfSome left (λ bytes. IsSettledFor bytes cert verdict)
 settled_for None cert project verdict p settled = tt
 settled_for (Some bytes) cert project verdict p settled = record { project = project; accepted = p; settled = settled }
+
+unsettled_for : {X : Type 0} (left : Option (List ℕ)) (cert : Side X) (project : Project) → IfSome left (λ bytes. IsProjectOf bytes project)
+    → IsUnsettledIn (priced_in project) cert → IfSome left (λ bytes. IsUnsettledFor bytes cert)
+unsettled_for None cert project p unsettled = tt
+unsettled_for (Some bytes) cert project p unsettled = record { project = project; accepted = p; unsettled = unsettled }
 
 -- what holds of the project of a deck holds of each project of it
 pub of_each_project : (left : Option (List ℕ)) (project : Project) (P : Project → Type 0) → IfSome left (λ bytes. IsProjectOf bytes project) → P project → IfSome left (λ bytes. (other : Project) → IsProjectOf bytes other → P other)
@@ -100,13 +99,13 @@ module _ {D C O E : Type 0} (words : List (String Global)) (deck : Side D) (cert
     read = has.read;
     accepted = accepted_of (deck.bytes deck.old) project has.is;
     has = both_have (deck.bytes deck.old) (cert.bytes cert.old) project verdict has.is finds.finds;
+    settled = settled_for (deck.bytes deck.old) cert project verdict has.is finds.settled;
     took = took;
   }
 
   after_verdict : (project : Project) (verdict : Verdict) → IsOneWord words → HasProject deck project → IsFound (priced_in project) cert verdict → Took out (verdict_text verdict) → IsUntouched err → CheckOutcome words deck cert out err (status_for verdict)
   after_verdict project (Yes segments) asked has finds took same = certified segments (checked project (Yes segments) asked has finds took) finds.end same
-  after_verdict project (No line reason) asked has finds took same =
-      not_certified line reason (checked project (No line reason) asked has finds took) (settled_for (deck.bytes deck.old) cert project (No line reason) has.is finds.settled) same
+  after_verdict project (No line reason) asked has finds took same = not_certified line reason (checked project (No line reason) asked has finds took) same
 
   after_told : (project : Project) (verdict : Verdict) (status : Status) → IsOneWord words → HasProject deck project → IsFound (priced_in project) cert verdict → IsUntouched err → Told verdict out status → CheckOutcome words deck cert out err status
   after_told project verdict _ asked has finds same (told status is took) = subst (CheckOutcome words deck cert out err) (sym is) (after_verdict project verdict asked has finds took same)
@@ -116,18 +115,20 @@ module _ {D C O E : Type 0} (words : List (String Global)) (deck : Side D) (cert
     accepted = accepted_of (deck.bytes deck.old) project has.is;
     verdict = verdict;
     has = both_have (deck.bytes deck.old) (cert.bytes cert.old) project verdict has.is finds.finds;
+    settled = settled_for (deck.bytes deck.old) cert project verdict has.is finds.settled;
     took = took;
   }) same)
 
   -- the deck is accepted, and a certificate of its project was checked
   pub after_check : (project : Project) (status : Status) → IsOneWord words → HasProject deck project → IsUntouched err → Answered project cert out status → CheckOutcome words deck cert out err status
   after_check project _ asked has same (found verdict status finds tells) = after_told project verdict status asked has finds same tells
-  after_check project _ asked has same (unread rose unused) = cert_fault asked (accepted_of (deck.bytes deck.old) project has.is) rose unused same
-  after_check project _ asked has same (no_room unused) = no_memory asked unused same
+  after_check project _ asked has same (unread rose unsettled unused) =
+      read_fault asked (cert_unread has.read (accepted_of (deck.bytes deck.old) project has.is) rose (unsettled_for (deck.bytes deck.old) cert project has.is unsettled)) unused same
+  after_check project _ asked has same (no_room unread_cert unused) = no_memory asked unread_cert unused same
 
   -- the deck is refused, and the line of its fault was handed to the error output
   pub after_deck : (fault : Fault) (status : Status) → IsOneWord words → HasRefusal deck fault → IsUntouched cert → IsUntouched out → Refusal fault err status → CheckOutcome words deck cert out err status
   after_deck fault Refused asked refusal unread_cert unused took = deck_refused (record { asked = asked; fault = fault; refusal = refusal; took = took }) unread_cert unused
   after_deck fault WriteFault asked refusal unread_cert unused took = write_fault (in_refusal (record { asked = asked; fault = fault; refusal = refusal; took = took }) unread_cert unused)
-  after_deck fault OutOfMemory asked refusal unread_cert unused same = no_memory asked unused same
+  after_deck fault OutOfMemory asked refusal unread_cert unused same = no_memory asked unread_cert unused same
   after_deck fault _ asked refusal unread_cert unused never = absurd never

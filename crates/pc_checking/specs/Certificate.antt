@@ -1,17 +1,14 @@
 -- Certificates of a deck's project, and what is said of them.
-use Rattle.std.specs.Prelude.{◌≡◌, ℕ, ◌≤◌, List, [], ◌∷◌, ◌++◌, length, codes, decimal, String}
+use Rattle.std.specs.Prelude.{◌≡◌, ℕ, List, [], ◌∷◌, ◌++◌, length, codes, decimal, String}
 use Rattle.std.specs.declared.alloc.Global.{Global}
-use Rattle.pc_model.specs.Schedule.{IsAllNormalLength, IsAllCrashLength}
-use Rattle.pc_curve_laws.specs.Cover.{Joins, IsReadRight}
-use Rattle.pc_cert.specs.declared.line.CertLine.{CertLine}
-use Rattle.pc_cert.specs.Reader.{IsWhole}
-use Rattle.pc_crash.specs.Priced.{PricedNetwork, knees_in}
-use Rattle.pc_check.specs.Certified.{segments_of, OnYes}
+use Rattle.pc_crash.specs.Priced.{PricedNetwork}
+use Rattle.pc_check.specs.Certified.{OnYes}
 use Rattle.pc_check.specs.declared.fail.Verdict.{Verdict}
 use Rattle.pc_check.specs.declared.fail.Verdict.TheVariants.{Yes, No}
 use Rattle.pc_edges.specs.declared.loading.TheConstants.{STREAM_ROOM}
 use Rattle.pc_check.specs.Texts.{Finds}
-use Rattle.pc_check.specs.Stops.{IsSettled}
+use Rattle.pc_check.specs.Headline.{PrintsWholeCurve}
+use Rattle.pc_check.specs.Stops.{IsSettled, IsUnsettled}
 use Rattle.pc_project.specs.Project.{Project}
 use Rattle.pc_reading.specs.declared.status.Status.{Status}
 use Rattle.pc_reading.specs.declared.status.Status.TheVariants.{Done, OutOfMemory, ReadFault, WriteFault, NotCertified}
@@ -59,38 +56,42 @@ Certifies deck text = (segments : ℕ) × HasVerdict deck text (Yes segments)
 abbrev pub FailsAsCertificate : List ℕ → List ℕ → Type 0
 FailsAsCertificate deck text = (line reason : ℕ) × HasVerdict deck text (No line reason)
 
--- the deck is accepted, and the text says the whole time-cost curve of its project: its segments join from the all-normal
--- length down to the all-crash length, and for every length between them what is read is right. It is a schedule that ends
--- at the length, its cost is what is said, no schedule for the length costs less, the flow has the slope as its value and the
--- cost as its bound, and the slope is the cut gain (`IsRight`)
+-- the deck is accepted, and the text says the whole time-cost curve of its project
 pub record ProvesCurve (deck text : List ℕ) : Type 0 where
   pub project : Project
   pub accepted : IsProjectOf deck project
-  pub lines : List CertLine
-  pub whole : IsWhole lines text
-  pub high : ℕ
-  pub low : ℕ
-  pub longest : IsAllNormalLength project.network project.terms high
-  pub shortest : IsAllCrashLength project.network project.terms low
-  pub joined : Joins high (segments_of (priced_in project) lines) low
-  pub read : (limit : ℕ) → low ≤ limit → limit ≤ high
-      → IsReadRight project.network project.terms (knees_in (priced_in project)) (segments_of (priced_in project) lines) limit
+  pub prints : PrintsWholeCurve (priced_in project) text
 
 -- ---- what a check leaves
+
+-- the bytes that were taken of the certificate are found to be this of the network, and one pull came behind those of which no line fails:
+-- so nothing is pulled behind the pull in which the first failing line ends
+abbrev pub IsSettledIn : {X : Type 0} → PricedNetwork → Verdict → Side X → Type 0
+IsSettledIn net verdict cert =
+    IsSettled net verdict STREAM_ROOM cert.bytes cert.pulls cert.old cert.new
 
 -- what the source had left is found to be this, a certified text was read to its end, and nothing was pulled behind the first
 -- failing line
 pub record IsFound {X : Type 0} (net : PricedNetwork) (cert : Side X) (verdict : Verdict) : Type 0 where
   pub finds : OfBytes cert (λ text. Finds net text verdict)
   pub end : OnYes verdict (IsReadToEnd cert)
-  pub settled : IsSettled net verdict STREAM_ROOM (cert.bytes cert.old) (cert.bytes cert.new)
+  pub settled : IsSettledIn net verdict cert
 
--- the deck is accepted, and the bytes that were taken of the certificate are found to be this of its project; of those that
--- came before the last pull no line fails, so nothing is pulled behind the pull in which the first failing line ends
+-- the deck is accepted, and this is so for the network of its project
 pub record IsSettledFor {X : Type 0} (deck : List ℕ) (cert : Side X) (verdict : Verdict) : Type 0 where
   pub project : Project
   pub accepted : IsProjectOf deck project
-  pub settled : IsSettled (priced_in project) verdict STREAM_ROOM (cert.bytes cert.old) (cert.bytes cert.new)
+  pub settled : IsSettledIn (priced_in project) verdict cert
+
+-- no line fails in the bytes that were taken of the certificate
+abbrev pub IsUnsettledIn : {X : Type 0} → PricedNetwork → Side X → Type 0
+IsUnsettledIn net cert = IsUnsettled net (cert.bytes cert.old) (cert.bytes cert.new) (cert.pulls cert.old) (cert.pulls cert.new)
+
+-- the deck is accepted, and this is so for the network of its project
+pub record IsUnsettledFor {X : Type 0} (deck : List ℕ) (cert : Side X) : Type 0 where
+  pub project : Project
+  pub accepted : IsProjectOf deck project
+  pub unsettled : IsUnsettledIn (priced_in project) cert
 
 -- the status of a verdict that was told
 abbrev pub status_for : Verdict → Status
@@ -102,8 +103,9 @@ pub data Told {X : Type 0} (verdict : Verdict) (out : Side X) : Status → Type 
   told : (status : Status) → status ≡ status_for verdict → Took out (verdict_text verdict) → Told verdict out status
   cut : TookFront out (verdict_text verdict) → Told verdict out WriteFault
 
--- how the check of a certificate of the project ends: with a verdict, a fault of the source, or for want of memory
+-- how the check of a certificate of the project ends: with a verdict, with a fault of the source before any line failed, or for want of
+-- memory before anything was pulled
 pub data Answered {C O : Type 0} (project : Project) (cert : Side C) (out : Side O) : Status → Type 0 where
   found : (verdict : Verdict) (status : Status) → IsFound (priced_in project) cert verdict → Told verdict out status → Answered project cert out status
-  unread : HadFault cert → IsUntouched out → Answered project cert out ReadFault
-  no_room : IsUntouched out → Answered project cert out OutOfMemory
+  unread : HadFault cert → IsUnsettledIn (priced_in project) cert → IsUntouched out → Answered project cert out ReadFault
+  no_room : IsUntouched cert → IsUntouched out → Answered project cert out OutOfMemory

@@ -3,12 +3,13 @@ use Rattle.std.specs.Prelude.{ℕ, List, String}
 use Rattle.std.specs.declared.alloc.Global.{Global}
 use Rattle.pc_check.specs.declared.fail.Verdict.{Verdict}
 use Rattle.pc_check.specs.declared.fail.Verdict.TheVariants.{Yes, No}
+use Rattle.pc_deck.specs.Limits.{longest_deck}
 use Rattle.pc_faults.specs.declared.fault.Fault.{Fault}
 use Rattle.pc_faults.specs.FaultText.{fault_text}
 use Rattle.pc_reading.specs.declared.status.Status.{Status}
 use Rattle.pc_reading.specs.declared.status.Status.TheVariants.{Done, Refused, Usage, OutOfMemory, ReadFault, WriteFault, NotCertified}
-use Rattle.pc_checking.specs.Certificate.{IsOneWord, check_usage_text, verdict_text, HasVerdict, IsSettledFor}
-use Rattle.pc_reading.specs.Sides.{Side, HadFault, IsReadToEnd, IsUntouched, OfBytes, OfDeck, Took, TookFront}
+use Rattle.pc_checking.specs.Certificate.{IsOneWord, check_usage_text, verdict_text, HasVerdict, IsSettledFor, IsUnsettledFor}
+use Rattle.pc_reading.specs.Sides.{Side, HadFault, IsReadToEnd, IsUntouched, OfBytes, OfDeck, Took, TookAtMost, TookFront}
 use Rattle.pc_reading.specs.Reading.{HasRefusal}
 use Rattle.pc_reading.specs.Verdict.{AcceptedBy}
 
@@ -16,13 +17,14 @@ use Rattle.pc_reading.specs.Verdict.{AcceptedBy}
 abbrev pub OfBoth : {D C : Type 0} → Side D → Side C → (List ℕ → List ℕ → Type 0) → Type 0
 OfBoth deck cert P = OfDeck deck (λ bytes. OfBytes cert (P bytes))
 
--- there is one word, the deck was read to its end and is accepted, the certificate is found to be this, and the output took
--- the line that says so
+-- there is one word, the deck was read to its end and is accepted, the certificate is found to be this with nothing pulled behind its
+-- first failing line, and the output took the line that says so
 pub record IsChecked {D C O : Type 0} (words : List (String Global)) (deck : Side D) (cert : Side C) (out : Side O) (verdict : Verdict) : Type 0 where
   pub asked : IsOneWord words
   pub read : IsReadToEnd deck
   pub accepted : OfDeck deck AcceptedBy
   pub has : OfBoth deck cert (λ bytes text. HasVerdict bytes text verdict)
+  pub settled : OfDeck deck (λ bytes. IsSettledFor bytes cert verdict)
   pub took : Took out (verdict_text verdict)
 
 -- the same, but that a fault of the output came when it had taken a front of the line
@@ -32,6 +34,7 @@ pub record IsVerdictCut {D C O : Type 0} (words : List (String Global)) (deck : 
   pub accepted : OfDeck deck AcceptedBy
   pub verdict : Verdict
   pub has : OfBoth deck cert (λ bytes text. HasVerdict bytes text verdict)
+  pub settled : OfDeck deck (λ bytes. IsSettledFor bytes cert verdict)
   pub took : TookFront out (verdict_text verdict)
 
 -- there is one word, the deck is refused, and the error output took the line of its fault
@@ -55,13 +58,18 @@ pub data IsCheckCut {D C O E : Type 0} (words : List (String Global)) (deck : Si
   in_refusal : IsRefusalCut words deck err → IsUntouched cert → IsUntouched out → IsCheckCut words deck cert out err
   in_check_usage : (IsOneWord words → ⊥) → TookFront err check_usage_text → IsUntouched deck → IsUntouched cert → IsUntouched out → IsCheckCut words deck cert out err
 
+-- why there is no verdict: the deck could not be read, and no more of it was taken than a deck may have; or it was read to its end and is
+-- accepted, and the certificate could not be read, of which no line had failed
+pub data IsUnread {D C : Type 0} (deck : Side D) (cert : Side C) : Type 0 where
+  deck_unread : HadFault deck → TookAtMost longest_deck deck → IsUntouched cert → IsUnread deck cert
+  cert_unread : IsReadToEnd deck → OfDeck deck AcceptedBy → HadFault cert → OfDeck deck (λ bytes. IsUnsettledFor bytes cert) → IsUnread deck cert
+
 -- what a check that ended with the status means and leaves behind
 pub data CheckOutcome {D C O E : Type 0} (words : List (String Global)) (deck : Side D) (cert : Side C) (out : Side O) (err : Side E) : Status → Type 0 where
   certified : (segments : ℕ) → IsChecked words deck cert out (Yes segments) → IsReadToEnd cert → IsUntouched err → CheckOutcome words deck cert out err Done
-  not_certified : (line reason : ℕ) → IsChecked words deck cert out (No line reason) → OfDeck deck (λ bytes. IsSettledFor bytes cert (No line reason)) → IsUntouched err → CheckOutcome words deck cert out err NotCertified
+  not_certified : (line reason : ℕ) → IsChecked words deck cert out (No line reason) → IsUntouched err → CheckOutcome words deck cert out err NotCertified
   deck_refused : IsDeckRefused words deck err → IsUntouched cert → IsUntouched out → CheckOutcome words deck cert out err Refused
   check_usage : (IsOneWord words → ⊥) → Took err check_usage_text → IsUntouched deck → IsUntouched cert → IsUntouched out → CheckOutcome words deck cert out err Usage
-  no_memory : IsOneWord words → IsUntouched out → IsUntouched err → CheckOutcome words deck cert out err OutOfMemory
-  deck_fault : IsOneWord words → HadFault deck → IsUntouched cert → IsUntouched out → IsUntouched err → CheckOutcome words deck cert out err ReadFault
-  cert_fault : IsOneWord words → OfDeck deck AcceptedBy → HadFault cert → IsUntouched out → IsUntouched err → CheckOutcome words deck cert out err ReadFault
+  no_memory : IsOneWord words → IsUntouched cert → IsUntouched out → IsUntouched err → CheckOutcome words deck cert out err OutOfMemory
+  read_fault : IsOneWord words → IsUnread deck cert → IsUntouched out → IsUntouched err → CheckOutcome words deck cert out err ReadFault
   write_fault : IsCheckCut words deck cert out err → CheckOutcome words deck cert out err WriteFault

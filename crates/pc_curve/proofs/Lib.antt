@@ -4,3 +4,4 @@ mod CurveLaws
 mod ComeLaws
 mod ReadLaws
 mod TextLaws
+pub mod OneTextLaws

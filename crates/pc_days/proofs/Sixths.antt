@@ -36,6 +36,10 @@ pub after_sixths-only : (start days t day : ℤ) → IsRoundedUp t days → IsAf
 after_sixths-only start days t day h g =
     omega (arith, signed_arith, h.0, h.1, g.0, g.1)
 
+-- so there is one such day
+pub one_day : (start t day other : ℤ) → IsAfterSixths start t day → IsAfterSixths start t other → day ≡ other
+one_day start t day other g h = omega (arith, signed_arith, g.0, g.1, h.0, h.1)
+
 -- so where it is out of print there is no printed day
 pub out_of_print : (start days t day : ℤ) → IsRoundedUp t days → IsAfterSixths start t day → IsPrintedDay day → ((start +ℤ days) <ℤ neg_ℤ (pos 25_567)) ⊎ (pos 2_932_896 <ℤ (start +ℤ days)) → ⊥
 out_of_print start days t day h g printed (inl low) =

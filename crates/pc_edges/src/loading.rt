@@ -36,10 +36,14 @@ pub fn load<S: Source>(alloc: Global, source: &mut S, limit: usize) -> Result<Ve
     ensures fault { IsErrOf result LoadError.ReadFault → Rose (S.faults source.old) (S.faults source.new) }
     ensures too_long { (bytes : List ℕ) × Consumes (S.left source.old) (S.left source.new) bytes
         × (IsErrOf result LoadError.TooLong ↔ (limit < length bytes)) }
+    // nothing is pulled behind the pull that passes the limit
+    ensures near { (bytes : List ℕ) × Consumes (S.left source.old) (S.left source.new) bytes × (length bytes ≤ limit + STREAM_ROOM) }
     ensures count { S.faults source.old ≤ S.faults source.new }
     ensures turns { TakesPulls (limit + 2) (S.pulls source.old) (S.pulls source.new) }
 {
-    let mut buffer = vec![in alloc; 0u8; STREAM_ROOM].map_err(|_| LoadError::OutOfMemory)?;
+    let Ok(mut buffer) = vec![in alloc; 0u8; STREAM_ROOM] else {
+        return Err(LoadError::OutOfMemory);
+    };
     load_by(alloc, source, limit, buffer.as_mut_slice())
 }
 
@@ -50,7 +54,7 @@ fn load_by<S: Source>(
     limit: usize,
     buffer: &mut [u8],
 ) -> Result<Vec<u8>, LoadError>
-    requires { 0 < length buffer.old }
+    requires { length buffer.old ≡ STREAM_ROOM }
     ensures all { IfOk result (λ v. Consumes (S.left source.old) (S.left source.new) v.items) }
     ensures end { OnOk result (IsAtEnd (S.left source.new)) }
     ensures within { IfOk result (λ v. vec_len v ≤ limit) }
@@ -58,6 +62,7 @@ fn load_by<S: Source>(
     ensures fault { IsErrOf result LoadError.ReadFault → Rose (S.faults source.old) (S.faults source.new) }
     ensures too_long { (bytes : List ℕ) × Consumes (S.left source.old) (S.left source.new) bytes
         × (IsErrOf result LoadError.TooLong ↔ (limit < length bytes)) }
+    ensures near { (bytes : List ℕ) × Consumes (S.left source.old) (S.left source.new) bytes × (length bytes ≤ limit + STREAM_ROOM) }
     ensures count { S.faults source.old ≤ S.faults source.new }
     ensures turns { TakesPulls (limit + 2) (S.pulls source.old) (S.pulls source.new) }
 {

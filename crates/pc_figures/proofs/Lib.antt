@@ -7,3 +7,4 @@ pub mod OutlineLaws
 pub mod DepthLaws
 pub mod PushLaws
 pub mod OutlookLaws
+pub mod OnceLaws

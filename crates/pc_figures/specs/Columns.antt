@@ -1,7 +1,7 @@
 -- An amount of each account, summed by item and by level.
 use Rattle.std.specs.Prelude.{◌≡◌, ℕ, ◌+◌, ◌<◌, ◌≤◌, ℤ, List, length}
 use Rattle.pc_wbs.specs.declared.row.ItemRow.{ItemRow}
-use Rattle.pc_wbs.specs.Climb.{IsBelow, IsLeaf, IsDepth}
+use Rattle.pc_wbs.specs.Climb.{IsAtLevel, IsBelow, IsLeaf, IsDepth}
 use Rattle.pc_accounts.specs.declared.rows.AcctRow.{AcctRow}
 use Rattle.pc_accounts.specs.Amounts.{item_of}
 use Rattle.pc_rollup.specs.declared.levels.LevelLine.{LevelLine}
@@ -59,9 +59,9 @@ abbrev pub AddUpTo : List ItemRow → ℤ → Column → Type 0
 AddUpTo tree sum column =
     (k : ℕ) → k < length column.levels → IsLevelSum tree column.items (k + 1) sum × (amount_at column.levels k ≡ sum)
 
--- at each level each account is below one line and no other
+-- at each level each account is below one line and no other: its item at that level, or its item itself where that is not so deep
 abbrev pub HaveOneLine : List ItemRow → List AcctRow → Type 0
 HaveOneLine tree accounts =
     (level a : ℕ) → 1 ≤ level → a < length accounts
-    → (y : ℕ) × ((y < length tree) × HasLine tree level y × IsBelow tree (item_of accounts a) y
+    → (y : ℕ) × ((y < length tree) × HasLine tree level y × IsAtLevel tree (item_of accounts a) level y
     × ((z : ℕ) → HasLine tree level z → IsBelow tree (item_of accounts a) z → z ≡ y))

@@ -15,5 +15,5 @@ mod worth;
 pub use outline::{OutlineRow, outline_of};
 pub use outlook::{Outlook, OutlookAmounts};
 pub use slacks::least_slacks;
-pub use summary::{Summary, SummaryAmounts};
+pub use summary::{Summary, SummaryAmounts, each_charge_counts_once};
 pub use worth::{Worth, WorthAmounts};

@@ -17,3 +17,4 @@ mod DisorderLaws
 mod FigureLaws
 mod StateLaws
 mod OwnPieceLaws
+pub mod SoundLaws

@@ -116,7 +116,7 @@ pub piece_there : (deck : Deck) (i : ℕ) → i < length deck.pieces → piece_a
 piece_there deck i within = get_or-map (piece_of deck) deck.pieces i no_piece (record { activity = 0; units = 0; slope = 0 }) within
 
 -- the pieces of a deck without faults
-pieces_of_deck : (deck : Deck) → HasNoMisfit deck → HasNoPieceFault deck → ArePieces (terms_in deck) (pieces_in deck)
+pub pieces_of_deck : (deck : Deck) → HasNoMisfit deck → HasNoPieceFault deck → ArePieces (terms_in deck) (pieces_in deck)
 pieces_of_deck deck cards none =
     ArePieces-flawless (terms_in deck) (pieces_in deck)
     (λ i within.

@@ -7,7 +7,7 @@ use Rattle.pc_faults.specs.Faults.{too_long as fault_too_long}
 use Rattle.pc_project.specs.Project.{Project}
 use Rattle.pc_reading.specs.declared.reading.NoProject.{NoProject}
 use Rattle.pc_reading.specs.declared.reading.NoProject.TheVariants.{Refused, ReadFault, OutOfMemory}
-use Rattle.pc_reading.specs.Sides.{Side, HadFault, IsReadToEnd, OfDeck, TookMoreThan}
+use Rattle.pc_reading.specs.Sides.{Side, HadFault, IsReadToEnd, OfDeck, TookAtMost, TookMoreThan}
 use Rattle.pc_reading.specs.Verdict.{IsFault, IsProjectOf}
 
 -- the deck was read to its end and is accepted, and this is its project
@@ -27,8 +27,9 @@ IsNoProjectOf deck (Refused fault) = IsTold fault × IsFault deck fault
 IsNoProjectOf deck ReadFault = ⊥
 IsNoProjectOf deck OutOfMemory = ⊤
 
--- why there is no project: the deck is refused, or it could not be read; want of memory comes at any time
+-- why there is no project: the deck is refused, or it could not be read, and no more of it was taken than a deck may have; want of memory
+-- comes at any time
 abbrev pub HasNoProject : {X : Type 0} → Side X → NoProject → Type 0
 HasNoProject source (Refused fault) = IsTold fault × HasRefusal source fault
-HasNoProject source ReadFault = HadFault source
+HasNoProject source ReadFault = HadFault source × TookAtMost longest_deck source
 HasNoProject source OutOfMemory = ⊤

@@ -4,3 +4,4 @@ mod OutlookLaws
 mod PathLaws
 mod RowLaws
 mod WorkedRows
+pub mod OneTextLaws

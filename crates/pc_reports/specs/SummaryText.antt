@@ -57,8 +57,9 @@ abbrev pub ChargesCountOnce : Project → Summary → Type 0
 ChargesCountOnce project summary =
     CountsOnce project.tree project.accounts (entry_of_project project.accounts project.charges project.heading.as_of project.entries) summary
 
--- the text is the project's management summary
+-- the text is the project's management summary, in which each charge counts once at each level
 pub record IsSummaryText (project : Project) (text : List ℕ) : Type 0 where
   pub summary : Summary
   pub are : IsSummary project summary
+  pub once : ChargesCountOnce project summary
   pub told : text ≡ summary_text project summary

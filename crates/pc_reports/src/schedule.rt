@@ -4,7 +4,7 @@ ghost use Rattle.pc_edges.specs.Writes.{Writes};
 ghost use Rattle.pc_page.specs.Page.{fresh};
 ghost use Rattle.pc_page.specs.Puts.{Puts};
 ghost use Rattle.pc_reports.specs.Lines.{line_at};
-ghost use Rattle.pc_reports.specs.Schedule.{text_of, IsWhole};
+ghost use Rattle.pc_reports.specs.Schedule.{plan_of, text_of, IsWhole};
 
 use crate::lines::{put_named, put_number};
 use pc_edges::{Failed, Sink};
@@ -47,6 +47,14 @@ pub fn put_schedule<O: Sink>(page: &mut Page, sink: &mut O, schedule: &Schedule<
 {
     put_number(page, sink, b"LENGTH ", schedule.length);
     put_number(page, sink, b"COST ", schedule.cost);
+    put_plan(page, sink, schedule);
+}
+
+/// Puts the lines of its events and activities alone.
+pub fn put_plan<O: Sink>(page: &mut Page, sink: &mut O, schedule: &Schedule<'_>)
+    requires { IsWhole schedule.now }
+    ensures { Puts O.taken O.faults page.old sink.old page.new sink.new (plan_of schedule.now) }
+{
     let events = Numbered {
         word: b"EVENT ",
         names: schedule.events,

@@ -4,3 +4,4 @@ mod LateLaws
 mod PickedLaws
 pub mod PickedWalks
 mod ForecastLaws
+pub mod OneForecastLaws

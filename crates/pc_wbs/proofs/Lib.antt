@@ -6,3 +6,4 @@ pub mod PrecedesLaws
 pub mod OrderLaws
 pub mod LevelLaws
 pub mod ExactLaws
+pub mod OnePreorderLaws

@@ -4,9 +4,10 @@ use Rattle.std.specs.Prelude.{IfSome, String}
 use Rattle.std.specs.declared.alloc.Global.{Global}
 use Rattle.pc_project.specs.Project.{Project}
 use Rattle.pc_certify.specs.Certificate.{IsCertificate}
-use Rattle.pc_certify.proofs.HeadlineLaws.{prints_whole_curve}
+use Rattle.pc_check.proofs.HeadlineLaws.{prints_whole_curve}
+use Rattle.pc_reading.proofs.PricedLaws.{is_named, is_priced}
 use Rattle.pert_cli.specs.declared.forms.Form.{Form}
-use Rattle.pert_cli.specs.declared.forms.Form.TheVariants.{Check, Normal, Times, Summary, Value, Curve, Certify, Point, Outlook, Bench, Load}
+use Rattle.pert_cli.specs.declared.forms.Form.TheVariants.{Check, Normal, Times, Summary, Value, Curve, Certify, Point, Outlook, Bench, Migrate, Optimum, Load}
 use Rattle.pc_reading.specs.declared.status.Status.{Status}
 use Rattle.pc_reading.specs.Status.{code_of}
 use Rattle.pc_reading.specs.Priced.{priced_in}
@@ -32,6 +33,8 @@ only_certify Certify same = refl
 only_certify (Point limit) same = absurd cc
 only_certify (Outlook limit) same = absurd cc
 only_certify (Bench n) same = absurd cc
+only_certify Migrate same = absurd (omega (arith, ap (λ (words : List (List ℕ)). get_or (get_or words 0 []) 0 0) same))
+only_certify Optimum same = absurd (omega (arith, ap (λ (words : List (List ℕ)). get_or (get_or words 0 []) 0 0) same))
 only_certify (Load days) same = absurd cc
 
 of_deck : {X : Type 0} (left : Option (List ℕ)) (out : Side X) (project : Project) (text : List ℕ) → Took out text → IsCertificate (priced_in project) text
@@ -42,7 +45,7 @@ of_deck (Some bytes) out project text took is accepted = record {
   accepted = accepted;
   text = text;
   took = took;
-  prints = prints_whole_curve (priced_in project) text _ is.certified;
+  prints = prints_whole_curve (priced_in project) text _ (is_priced bytes project accepted) (is_named bytes project accepted) is.certified;
 }
 
 of_reply : {X : Type 0} (left : Option (List ℕ)) (out : Side X) (form : Form) (project : Project) (text : List ℕ) → form ≡ Certify → Took out text → IsReply form project text
@@ -58,5 +61,5 @@ module _ {S O E : Type 0} (words : List (String Global)) (source : Side S) (out 
   takes_whole_curve _ (refused is same) code at_0 asked = absurd (omega (arith, code, at_0))
   takes_whole_curve _ (usage no_form took same also) code at_0 asked = absurd (omega (arith, code, at_0))
   takes_whole_curve _ (no_memory form how left same also) code at_0 asked = absurd (omega (arith, code, at_0))
-  takes_whole_curve _ (read_fault form rose same also) code at_0 asked = absurd (omega (arith, code, at_0))
+  takes_whole_curve _ (read_fault form rose few same also) code at_0 asked = absurd (omega (arith, code, at_0))
   takes_whole_curve _ (write_fault is) code at_0 asked = absurd (omega (arith, code, at_0))

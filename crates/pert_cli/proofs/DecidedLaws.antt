@@ -1,6 +1,6 @@
 -- Where no fault came, the words and the deck decide how a run ends, but for want of memory.
-use Rattle.std.proofs.Common.{◌≡◌, ◌≢◌, ◌≤◌, ℕ, List, length, ◌⊎◌, inl, inr, arith, subst}
-use Rattle.std.specs.Prelude.{String}
+use Rattle.std.proofs.Common.{◌≡◌, ◌≢◌, ◌≤◌, ℕ, List, length, Option, ◌⊎◌, inl, inr, arith, subst}
+use Rattle.std.specs.Prelude.{IfSome, String}
 use Rattle.std.specs.declared.alloc.Global.{Global}
 use Rattle.pc_deck.specs.Limits.{longest_deck}
 use Rattle.pc_faults.specs.declared.fault.Fault.{Fault}
@@ -13,7 +13,7 @@ use Rattle.pert_cli.specs.Words.{AskFor, AskForOne}
 use Rattle.pc_reading.specs.Sides.{Side, HadNoFault, IsReadToEnd, IsUntouched, OfDeck}
 use Rattle.pert_cli.specs.Forms.{IsDenial}
 use Rattle.pert_cli.specs.Handing.{IsReply}
-use Rattle.pc_reading.specs.Verdict.{IsFault, IsProjectOf}
+use Rattle.pc_reading.specs.Verdict.{AcceptedBy, IsFault, IsProjectOf, RefusedBy}
 use Rattle.pert_cli.specs.Outcome.{IsAcceptedFor, IsAnswer, IsCut, IsRefusedFor, IsTurnedDown, Outcome, by_deck, by_form, deck_refused, done, form_refuses, refused, usage, no_memory, read_fault, write_fault, in_answer, in_fault, in_usage}
 use Rattle.pert_cli.proofs.FormDeckLaws.{left_turned_down, left_with_project, one_own_deck, owned_project, owned_refusal, read_project, read_refusal, reads_not_owned, reads_too}
 use Rattle.pc_reading.proofs.ReadingLaws.{refusal_is_fault, refusal_is_read}
@@ -69,14 +69,35 @@ module _ (words : List (String Global)) where
   own_not_refused source form deck text asked own is faulty =
       answer_not_refused form is.project text asked is.reply deck (owned_project source form deck is.project own is.deck) faulty
 
+-- a deck that gives a project is accepted
+project_accepts : (left : Option (List ℕ)) (project : Project) (answer : ℕ) → IfSome left (λ bytes. IsProjectOf bytes project) → IfSome left (λ bytes. (RefusedBy bytes → ⊥) → AcceptedBy bytes ⊎ (answer ≡ 3))
+project_accepts left project answer is = of_one left (λ bytes. IsProjectOf bytes project) _ (λ bytes p never. inl (p.deck, p.accepted)) is
+
 module _ {S O E : Type 0} (words : List (String Global)) (source : Side S) (out : Side O) (err : Side E) (answer : ℕ) where
+  -- a deck that is turned down has a fault, or is accepted and the form refuses it
+  turned_down_accepts : (form : Form) (fault : Fault) → ReadsSource form → IsTurnedDown form source fault → OfDeck source (λ bytes. (RefusedBy bytes → ⊥) → AcceptedBy bytes ⊎ (answer ≡ 3))
+  turned_down_accepts form fault reads (by_deck refusal) =
+      of_one (source.bytes source.old) (λ bytes. IsFault bytes fault) _ (λ bytes is never. absurd (never (fault, is))) (refusal_is_fault source fault (read_refusal source form fault reads refusal))
+  turned_down_accepts form fault reads (by_form project has denial) = project_accepts (source.bytes source.old) project answer (read_project source form project reads has).is
+
+  -- a deck of the source that is not refused is accepted
+  pub not_refused_accepts : (asked : AskToRead words) → HadNoFault source → (status : Status) → Outcome words source out err status → answer ≡ code_of status → OfDeck source (λ bytes. (RefusedBy bytes → ⊥) → AcceptedBy bytes ⊎ (answer ≡ 3))
+  not_refused_accepts asked reads _ (done is same) is_code = project_accepts (source.bytes source.old) is.answer.project answer (read_project source is.form is.answer.project (reads_too words is.form asked is.asked) is.answer.deck).is
+  not_refused_accepts asked reads _ (refused is same) is_code = turned_down_accepts is.form is.fault (reads_too words is.form asked is.asked) is.refusal
+  not_refused_accepts asked reads _ (usage no_form took same also) is_code = absurd (no_form asked.0 asked.1)
+  not_refused_accepts asked reads _ (no_memory form how left same also) is_code = of_any (source.bytes source.old) _ (λ bytes never. inr is_code)
+  not_refused_accepts asked reads _ (read_fault form rose few same also) is_code = absurd (reads rose)
+  not_refused_accepts asked reads _ (write_fault (in_answer is same)) is_code = project_accepts (source.bytes source.old) is.answer.project answer (read_project source is.form is.answer.project (reads_too words is.form asked is.asked) is.answer.deck).is
+  not_refused_accepts asked reads _ (write_fault (in_fault is same)) is_code = turned_down_accepts is.form is.fault (reads_too words is.form asked is.asked) is.refusal
+  not_refused_accepts asked reads _ (write_fault (in_usage no_form took same also)) is_code = absurd (no_form asked.0 asked.1)
+
   -- an accepted deck of the source is answered
   pub accepted_ends : (asked : AskToRead words) (status : Status) → Outcome words source out err status → answer ≡ code_of status → OfDeck source (λ bytes. IsAcceptedFor words bytes → HadNoFault source → HadNoFault out → (answer ≡ 0) ⊎ (answer ≡ 3))
   accepted_ends asked _ (done is same) is_code = of_any (source.bytes source.old) _ (λ bytes accepted reads takes. inl is_code)
   accepted_ends asked _ (refused is same) is_code = turned_down_not_accepted words source is.form is.fault _ is.asked (reads_too words is.form asked is.asked) is.refusal
   accepted_ends asked _ (usage no_form took same also) is_code = absurd (no_form asked.0 asked.1)
   accepted_ends asked _ (no_memory form how left same also) is_code = of_any (source.bytes source.old) _ (λ bytes accepted reads takes. inr is_code)
-  accepted_ends asked _ (read_fault form rose same also) is_code = of_any (source.bytes source.old) _ (λ bytes accepted reads takes. absurd (reads rose))
+  accepted_ends asked _ (read_fault form rose few same also) is_code = of_any (source.bytes source.old) _ (λ bytes accepted reads takes. absurd (reads rose))
   accepted_ends asked _ (write_fault (in_answer is same)) is_code = of_any (source.bytes source.old) _ (λ bytes accepted reads takes. absurd (takes is.took.fault))
   accepted_ends asked _ (write_fault (in_fault is same)) is_code = turned_down_not_accepted words source is.form is.fault _ is.asked (reads_too words is.form asked is.asked) is.refusal
   accepted_ends asked _ (write_fault (in_usage no_form took same also)) is_code = absurd (no_form asked.0 asked.1)
@@ -87,7 +108,7 @@ module _ {S O E : Type 0} (words : List (String Global)) (source : Side S) (out 
   refused_ends asked _ (refused is same) is_code = of_any (source.bytes source.old) _ (λ bytes faulty reads takes. inl is_code)
   refused_ends asked _ (usage no_form took same also) is_code = absurd (no_form asked.0 asked.1)
   refused_ends asked _ (no_memory form how left same also) is_code = of_any (source.bytes source.old) _ (λ bytes faulty reads takes. inr is_code)
-  refused_ends asked _ (read_fault form rose same also) is_code = of_any (source.bytes source.old) _ (λ bytes faulty reads takes. absurd (reads rose))
+  refused_ends asked _ (read_fault form rose few same also) is_code = of_any (source.bytes source.old) _ (λ bytes faulty reads takes. absurd (reads rose))
   refused_ends asked _ (write_fault (in_answer is same)) is_code = answered_not_refused words source is.form is.text _ is.asked (reads_too words is.form asked is.asked) is.answer
   refused_ends asked _ (write_fault (in_fault is same)) is_code = of_any (source.bytes source.old) _ (λ bytes faulty reads takes. absurd (takes is.took.fault))
   refused_ends asked _ (write_fault (in_usage no_form took same also)) is_code = absurd (no_form asked.0 asked.1)
@@ -103,7 +124,7 @@ module _ {S O E : Type 0} (words : List (String Global)) (source : Side S) (out 
     own_unread _ (refused is same) = left_turned_down source is.form is.fault is.refusal deck (its_own is.form is.asked)
     own_unread _ (usage no_form took same also) = same
     own_unread _ (no_memory other how left same also) = left deck (its_own other how)
-    own_unread _ (read_fault other rose same also) = absurd (reads_not_owned other.0 deck other.2 (its_own other.0 other.1))
+    own_unread _ (read_fault other rose few same also) = absurd (reads_not_owned other.0 deck other.2 (its_own other.0 other.1))
     own_unread _ (write_fault (in_answer is same)) = left_with_project source is.form is.answer.project is.answer.deck deck (its_own is.form is.asked)
     own_unread _ (write_fault (in_fault is same)) = left_turned_down source is.form is.fault is.refusal deck (its_own is.form is.asked)
     own_unread _ (write_fault (in_usage no_form took same also)) = same
@@ -114,7 +135,7 @@ module _ {S O E : Type 0} (words : List (String Global)) (source : Side S) (out 
     own_accepted_ends _ (refused is same) is_code accepted takes = absurd (own_not_accepted words source is.form deck is.fault is.asked (its_own is.form is.asked) is.refusal accepted)
     own_accepted_ends _ (usage no_form took same also) is_code accepted takes = absurd (no_form form asked)
     own_accepted_ends _ (no_memory other how left same also) is_code accepted takes = inr is_code
-    own_accepted_ends _ (read_fault other rose same also) is_code accepted takes = absurd (reads_not_owned other.0 deck other.2 (its_own other.0 other.1))
+    own_accepted_ends _ (read_fault other rose few same also) is_code accepted takes = absurd (reads_not_owned other.0 deck other.2 (its_own other.0 other.1))
     own_accepted_ends _ (write_fault (in_answer is same)) is_code accepted takes = absurd (takes is.took.fault)
     own_accepted_ends _ (write_fault (in_fault is same)) is_code accepted takes = absurd (own_not_accepted words source is.form deck is.fault is.asked (its_own is.form is.asked) is.refusal accepted)
     own_accepted_ends _ (write_fault (in_usage no_form took same also)) is_code accepted takes = absurd (no_form form asked)
@@ -125,7 +146,7 @@ module _ {S O E : Type 0} (words : List (String Global)) (source : Side S) (out 
     own_refused_ends _ (refused is same) is_code faulty takes = inl is_code
     own_refused_ends _ (usage no_form took same also) is_code faulty takes = absurd (no_form form asked)
     own_refused_ends _ (no_memory other how left same also) is_code faulty takes = inr is_code
-    own_refused_ends _ (read_fault other rose same also) is_code faulty takes = absurd (reads_not_owned other.0 deck other.2 (its_own other.0 other.1))
+    own_refused_ends _ (read_fault other rose few same also) is_code faulty takes = absurd (reads_not_owned other.0 deck other.2 (its_own other.0 other.1))
     own_refused_ends _ (write_fault (in_answer is same)) is_code faulty takes = absurd (own_not_refused words source is.form deck is.text is.asked (its_own is.form is.asked) is.answer faulty)
     own_refused_ends _ (write_fault (in_fault is same)) is_code faulty takes = absurd (takes is.took.fault)
     own_refused_ends _ (write_fault (in_usage no_form took same also)) is_code faulty takes = absurd (no_form form asked)
@@ -136,7 +157,7 @@ five_is_cut words source out err answer _ (done is same) is_code five = absurd (
 five_is_cut words source out err answer _ (refused is same) is_code five = absurd (omega (arith, is_code, five))
 five_is_cut words source out err answer _ (usage no_form took same also) is_code five = absurd (omega (arith, is_code, five))
 five_is_cut words source out err answer _ (no_memory form how left same also) is_code five = absurd (omega (arith, is_code, five))
-five_is_cut words source out err answer _ (read_fault form rose same also) is_code five = absurd (omega (arith, is_code, five))
+five_is_cut words source out err answer _ (read_fault form rose few same also) is_code five = absurd (omega (arith, is_code, five))
 five_is_cut words source out err answer _ (write_fault cut) is_code five = cut
 
 -- a run that ended with another number than 2 and 5 was asked for a form
@@ -145,7 +166,7 @@ ended_asked words source out err answer _ (done is same) is_code no_usage no_cut
 ended_asked words source out err answer _ (refused is same) is_code no_usage no_cut = (is.form, is.asked)
 ended_asked words source out err answer _ (usage no_form took same also) is_code no_usage no_cut = absurd (no_usage is_code)
 ended_asked words source out err answer _ (no_memory form how left same also) is_code no_usage no_cut = (form, how)
-ended_asked words source out err answer _ (read_fault form rose same also) is_code no_usage no_cut = (form.0, form.1)
+ended_asked words source out err answer _ (read_fault form rose few same also) is_code no_usage no_cut = (form.0, form.1)
 ended_asked words source out err answer _ (write_fault cut) is_code no_usage no_cut = absurd (no_cut is_code)
 
 -- a run that ended with 4 was asked for a form that reads the source
@@ -154,7 +175,7 @@ four_is_read words source out err answer _ (done is same) is_code four = absurd 
 four_is_read words source out err answer _ (refused is same) is_code four = absurd (omega (arith, is_code, four))
 four_is_read words source out err answer _ (usage no_form took same also) is_code four = absurd (omega (arith, is_code, four))
 four_is_read words source out err answer _ (no_memory form how left same also) is_code four = absurd (omega (arith, is_code, four))
-four_is_read words source out err answer _ (read_fault form rose same also) is_code four = form
+four_is_read words source out err answer _ (read_fault form rose few same also) is_code four = form
 four_is_read words source out err answer _ (write_fault cut) is_code four = absurd (omega (arith, is_code, four))
 
 -- a run for a form that reads the source and that ended with 1 read a deck that is not too long to its end
@@ -163,5 +184,5 @@ one_is_read words source out err answer _ (done is same) is_code one reads = abs
 one_is_read words source out err answer _ (refused is same) is_code one reads = turned_down_is_read words is.form source is.fault is.asked reads is.refusal
 one_is_read words source out err answer _ (usage no_form took same also) is_code one reads = absurd (omega (arith, is_code, one))
 one_is_read words source out err answer _ (no_memory form how left same also) is_code one reads = absurd (omega (arith, is_code, one))
-one_is_read words source out err answer _ (read_fault form rose same also) is_code one reads = absurd (omega (arith, is_code, one))
+one_is_read words source out err answer _ (read_fault form rose few same also) is_code one reads = absurd (omega (arith, is_code, one))
 one_is_read words source out err answer _ (write_fault cut) is_code one reads = absurd (omega (arith, is_code, one))

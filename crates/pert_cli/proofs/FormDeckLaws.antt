@@ -7,7 +7,7 @@ use Rattle.std.proofs.lemmas.Option.{none-some, same_Some}
 use Rattle.pc_faults.specs.declared.fault.Fault.{Fault}
 use Rattle.pc_project.specs.Project.{Project}
 use Rattle.pert_cli.specs.declared.forms.Form.{Form}
-use Rattle.pert_cli.specs.declared.forms.Form.TheVariants.{Check, Normal, Times, Summary, Value, Curve, Certify, Point, Outlook, Bench, Load}
+use Rattle.pert_cli.specs.declared.forms.Form.TheVariants.{Check, Normal, Times, Summary, Value, Curve, Certify, Point, Outlook, Bench, Migrate, Optimum, Load}
 use Rattle.pert_cli.specs.Forms.{IsNumbered, words_of}
 use Rattle.pert_cli.specs.FormDeck.{AskToRead, HasProjectFor, HasNoProjectFor, HasRefusalFor, IsLeftBy, IsOwnDeck, ReadsSource, own_deck, project_owned, project_read, refusal_owned, refusal_read}
 use Rattle.pert_cli.specs.Outcome.{IsTurnedDown, by_deck, by_form}
@@ -41,6 +41,8 @@ only_bench n (Point limit) small also same = absurd (omega (arith, ap (λ (words
 only_bench n (Outlook limit) small also same = absurd (omega (arith, ap (λ (words : List (List ℕ)). get_or (get_or words 0 []) 0 0) same))
 only_bench n (Bench m) small also same =
     ap Bench (decimal_injective m n (omega (arith, also.1)) (omega (arith, small.1)) (ap (λ (words : List (List ℕ)). get_or words 1 []) same))
+only_bench n Migrate small also same = absurd cc
+only_bench n Optimum small also same = absurd (omega (arith, ap (λ (words : List (List ℕ)). get_or (get_or words 0 []) 0 0) same))
 only_bench n (Load days) small also same = absurd cc
 
 module _ (words : List (String Global)) where
@@ -55,9 +57,11 @@ module _ (words : List (String Global)) where
   one_own_deck Certify other deck asked also own = absurd (none-some deck own)
   one_own_deck (Point limit) other deck asked also own = absurd (none-some deck own)
   one_own_deck (Outlook limit) other deck asked also own = absurd (none-some deck own)
+  one_own_deck Optimum other deck asked also own = absurd (none-some deck own)
   one_own_deck (Load days) other deck asked also own = absurd (none-some deck own)
   one_own_deck (Bench n) other deck asked also own =
       subst (λ (form : Form). IsOwnDeck form deck) (sym (only_bench n other asked.numbered also.numbered (sym also.are ∙ asked.are))) own
+  one_own_deck Migrate other deck asked also own = absurd (none-some deck own)
 
   -- where they ask for a form that reads the source, each form that they ask for does
   pub reads_too : (form : Form) → AskToRead words → AskFor form words → ReadsSource form
@@ -114,7 +118,7 @@ module _ {S : Type 0} (source : Side S) (form : Form) where
   pub read_lacks : (result : Result Project NoProject) → ReadsSource form → IfErr result (HasNoProject source) → IfErr result (HasNoProjectFor form source)
   read_lacks (Ok project) reads why = tt
   read_lacks (Err (Refused fault)) reads why = (why.0, refusal_read reads why.1)
-  read_lacks (Err ReadFault) reads rose = (reads, rose)
+  read_lacks (Err ReadFault) reads why = (reads, why)
   read_lacks (Err OutOfMemory) reads why = λ deck own. absurd (reads_not_owned form deck reads own)
 
   -- what is made of a deck of its own is the form's

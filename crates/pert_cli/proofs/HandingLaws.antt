@@ -20,3 +20,8 @@ of_built (Ok a) IsFor text_of IsText out status right is written none =
     Answers-weaker (λ text. text ≡ text_of a) IsText out status (λ text same. subst IsText (sym same) (right a is)) written
 of_built (Err e) IsFor text_of IsText out status right is written none =
     Answers-weaker (λ text. ⊥) IsText out status (λ text never. absurd never) none
+
+-- two things of what was put together, if there was memory
+pub both_ok : {A E : Type 0} (built : Result A E) (P Q : A → Type 0) → IfOk built P → IfOk built Q → IfOk built (λ a. P a × Q a)
+both_ok (Ok a) P Q p q = (p, q)
+both_ok (Err e) P Q p q = tt

@@ -4,5 +4,8 @@ mod FormDeckLaws
 mod OutcomeLaws
 mod ScheduleLaws
 mod CertifyLaws
+mod MigrateLaws
+mod OptimumLaws
 mod PointLaws
 mod LoadLaws
+mod OneTextLaws

@@ -15,7 +15,7 @@ use Rattle.pert_cli.specs.Normal.{Printed, printed_text}
 use Rattle.pert_cli.specs.Point.{IsCheapestFor, IsRange, IsWithin, IsOutside}
 
 -- the ends of a range are two numbers
-one_range : (net : PricedNetwork) (low high short long : ℕ) → IsRange net low high → IsRange net short long → (low ≡ short) × (high ≡ long)
+pub one_range : (net : PricedNetwork) (low high short long : ℕ) → IsRange net low high → IsRange net short long → (low ≡ short) × (high ≡ long)
 one_range net low high short long is also =
     (greatest_unique _ low short is.all_crash also.all_crash, greatest_unique _ high long is.all_normal also.all_normal)
 

@@ -2,14 +2,15 @@
 use Rattle.std.specs.Prelude.{◌≡◌, ℕ, List, Option, Some, None, String}
 use Rattle.std.specs.declared.alloc.Global.{Global}
 use Rattle.pc_bench.specs.Deck.{bench_text}
+use Rattle.pc_deck.specs.Limits.{longest_deck}
 use Rattle.pc_faults.specs.declared.fault.Fault.{Fault}
 use Rattle.pc_faults.specs.FaultText.{IsTold}
 use Rattle.pc_project.specs.Project.{Project}
 use Rattle.pert_cli.specs.declared.forms.Form.{Form}
-use Rattle.pert_cli.specs.declared.forms.Form.TheVariants.{Check, Normal, Times, Summary, Value, Curve, Certify, Point, Outlook, Bench, Load}
+use Rattle.pert_cli.specs.declared.forms.Form.TheVariants.{Check, Normal, Times, Summary, Value, Curve, Certify, Point, Outlook, Bench, Migrate, Optimum, Load}
 use Rattle.pc_reading.specs.declared.reading.NoProject.{NoProject}
 use Rattle.pc_reading.specs.declared.reading.NoProject.TheVariants.{Refused, ReadFault, OutOfMemory}
-use Rattle.pc_reading.specs.Sides.{Side, HadFault, IsUntouched}
+use Rattle.pc_reading.specs.Sides.{Side, HadFault, IsUntouched, TookAtMost}
 use Rattle.pc_reading.specs.Reading.{HasProject, HasRefusal}
 use Rattle.pc_reading.specs.Verdict.{IsFault, IsProjectOf}
 use Rattle.pert_cli.specs.Words.{AskFor}
@@ -26,6 +27,8 @@ own_deck Certify = None
 own_deck (Point limit) = None
 own_deck (Outlook limit) = None
 own_deck (Bench n) = Some (bench_text n)
+own_deck Migrate = None
+own_deck Optimum = None
 own_deck (Load days) = None
 
 -- the form reads the source
@@ -55,9 +58,9 @@ pub data HasRefusalFor {X : Type 0} (form : Form) (source : Side X) (fault : Fau
 abbrev pub IsLeftBy : {X : Type 0} → Form → Side X → Type 0
 IsLeftBy form source = (deck : List ℕ) → IsOwnDeck form deck → IsUntouched source
 
--- why a form has no project: its deck is refused, or the source that it reads could not be read; want of memory comes at any
--- time
+-- why a form has no project: its deck is refused, or the source that it reads could not be read, and no more of it was taken than a deck
+-- may have; want of memory comes at any time
 abbrev pub HasNoProjectFor : {X : Type 0} → Form → Side X → NoProject → Type 0
 HasNoProjectFor form source (Refused fault) = IsTold fault × HasRefusalFor form source fault
-HasNoProjectFor form source ReadFault = ReadsSource form × HadFault source
+HasNoProjectFor form source ReadFault = ReadsSource form × HadFault source × TookAtMost longest_deck source
 HasNoProjectFor form source OutOfMemory = IsLeftBy form source

@@ -13,11 +13,13 @@ use Rattle.pc_curve.specs.CurveText.{IsCurveText}
 use Rattle.pc_load.specs.LoadText.{IsLoadText}
 use Rattle.pc_load.specs.declared.loading.TheConstants.{MAX_DAYS}
 use Rattle.pc_project.specs.Project.{Project}
+use Rattle.pc_deck_text.specs.Written.{IsDeckText}
 use Rattle.pert_cli.specs.declared.forms.Form.{Form}
-use Rattle.pert_cli.specs.declared.forms.Form.TheVariants.{Check, Normal, Times, Summary, Value, Curve, Certify, Point, Outlook, Bench, Load}
+use Rattle.pert_cli.specs.declared.forms.Form.TheVariants.{Check, Normal, Times, Summary, Value, Curve, Certify, Point, Outlook, Bench, Migrate, Optimum, Load}
 use Rattle.pc_reading.specs.Priced.{priced_in}
 use Rattle.pert_cli.specs.Load.{IsTooLong}
 use Rattle.pert_cli.specs.Normal.{IsNormalText}
+use Rattle.pert_cli.specs.Optimum.{IsOptimumText}
 use Rattle.pert_cli.specs.Outlook.{IsOutlookReply}
 use Rattle.pert_cli.specs.Point.{IsOutside, IsPointText}
 
@@ -33,6 +35,8 @@ words_of Certify = codes "certify" ∷ []
 words_of (Point limit) = codes "point" ∷ decimal limit ∷ []
 words_of (Outlook limit) = codes "outlook" ∷ decimal limit ∷ []
 words_of (Bench n) = codes "bench" ∷ decimal n ∷ []
+words_of Migrate = codes "migrate" ∷ []
+words_of Optimum = codes "optimum" ∷ []
 words_of (Load days) = codes "load" ∷ decimal days ∷ []
 
 -- the number of a form is one that it may have: a length has at most 13 digits, the benchmark's deck 1 to 4,000 activities,
@@ -48,6 +52,8 @@ IsNumbered Certify = ⊤
 IsNumbered (Point limit) = limit < 10 ^ 13
 IsNumbered (Outlook limit) = limit < 10 ^ 13
 IsNumbered (Bench n) = (1 ≤ n) × (n ≤ MOST_ACTIVITIES)
+IsNumbered Migrate = ⊤
+IsNumbered Optimum = ⊤
 IsNumbered (Load days) = (1 ≤ days) × (days ≤ MAX_DAYS)
 
 -- the words ask for the form: they are its words, and its number is one that they may have
@@ -57,14 +63,16 @@ pub record IsAskedBy (form : Form) (words : List (List ℕ)) : Type 0 where
 
 -- the names of the forms, in the order of the usage line
 abbrev pub form_names : List (List ℕ)
-form_names = codes "check" ∷ codes "normal" ∷ codes "times" ∷ codes "summary" ∷ codes "value" ∷ codes "curve" ∷ codes "certify" ∷ codes "point L" ∷ codes "outlook L" ∷ codes "bench N" ∷ codes "load P" ∷ []
+form_names = codes "check" ∷ codes "normal" ∷ codes "times" ∷ codes "summary" ∷ codes "value" ∷ codes "curve" ∷ codes "certify" ∷ codes "point L" ∷ codes "outlook L" ∷ codes "bench N" ∷ codes "migrate" ∷ codes "optimum" ∷ codes "load P" ∷ []
 
 -- the text answers the form: `check` with the project's code and the counts of its cards, `normal` with the schedule at
 -- the all-normal length, `times` with the times of the events and the critical path, `summary` with what the accounts add up
 -- to by item and by level, `value` with the forecast and what the work is worth, `curve` with the breakpoints of the
 -- time-cost curve, `certify` with a certified text of the whole time-cost curve, whose two walks are the picked ones, `point`
 -- with a schedule of least cost for the length, `outlook` with such a schedule and what each item costs by it, `bench` with
--- the figures of the curve of its own deck, `load` with what is spent by item and taken by resource in each period
+-- the figures of the curve of its own deck, `migrate` with the text of the deck in its one form,
+-- `optimum` with the length for which the project costs least in all and a schedule
+-- for it, `load` with what is spent by item and taken by resource in each period
 abbrev pub IsTextOf : Form → Project → List ℕ → Type 0
 IsTextOf Check project text = text ≡ check_text project
 IsTextOf Normal project text = IsNormalText project text
@@ -76,7 +84,20 @@ IsTextOf Certify project text = IsCertificate (priced_in project) text
 IsTextOf (Point limit) project text = IsPointText project limit text
 IsTextOf (Outlook limit) project text = IsOutlookReply project limit text
 IsTextOf (Bench n) project text = IsBenchText n (priced_in project) text
+IsTextOf Migrate project text = IsDeckText project text
+IsTextOf Optimum project text = IsOptimumText project text
 IsTextOf (Load days) project text = IsLoadText project days text
+
+-- a project has one text that answers the form; of least schedules, and of certificates, there may be several
+abbrev pub HasOneText : Form → Type 0
+HasOneText Check = ⊤
+HasOneText Normal = ⊤
+HasOneText Times = ⊤
+HasOneText Summary = ⊤
+HasOneText Value = ⊤
+HasOneText Curve = ⊤
+HasOneText (Bench n) = ⊤
+HasOneText _ = ⊥
 
 -- the form refuses the project with the fault: `point` and `outlook` where the length lies outside the range of the project,
 -- `load` where the project takes too many periods
@@ -91,4 +112,6 @@ IsDenial Certify project fault = ⊥
 IsDenial (Point limit) project fault = IsOutside (priced_in project) limit fault
 IsDenial (Outlook limit) project fault = IsOutside (priced_in project) limit fault
 IsDenial (Bench n) project fault = ⊥
+IsDenial Migrate project fault = ⊥
+IsDenial Optimum project fault = ⊥
 IsDenial (Load days) project fault = IsTooLong project days fault

@@ -1,6 +1,6 @@
 -- What the program exists for: the whole time-cost curve of an accepted deck, printed with what proves it.
 use Rattle.std.specs.Prelude.{ℕ, List}
-use Rattle.pc_certify.specs.Headline.{PrintsWholeCurve}
+use Rattle.pc_check.specs.Headline.{PrintsWholeCurve}
 use Rattle.pc_project.specs.Project.{Project}
 use Rattle.pc_reading.specs.Priced.{priced_in}
 use Rattle.pc_reading.specs.Sides.{Side, Took}

@@ -1,5 +1,6 @@
 pub mod Normal
 pub mod Point
+pub mod Optimum
 pub mod Outlook
 pub mod Load
 pub mod Forms
@@ -8,6 +9,7 @@ pub mod Handing
 pub mod FormDeck
 pub mod Outcome
 pub mod Headline
+pub mod Migrate
 pub use Rattle.pc_edges.specs.Faults
 pub use Rattle.pc_edges.specs.Writes
 pub use Rattle.pc_deck.specs.Deck

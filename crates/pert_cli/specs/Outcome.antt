@@ -1,6 +1,7 @@
 -- What a run means and leaves behind, by its status.
 use Rattle.std.specs.Prelude.{ℕ, List, String}
 use Rattle.std.specs.declared.alloc.Global.{Global}
+use Rattle.pc_deck.specs.Limits.{longest_deck}
 use Rattle.pc_faults.specs.declared.fault.Fault.{Fault}
 use Rattle.pc_faults.specs.FaultText.{fault_text}
 use Rattle.pc_project.specs.Project.{Project}
@@ -8,7 +9,7 @@ use Rattle.pc_reading.specs.declared.status.Status.{Status}
 use Rattle.pc_reading.specs.declared.status.Status.TheVariants.{Done, Refused, Usage, OutOfMemory, ReadFault, WriteFault}
 use Rattle.pert_cli.specs.declared.forms.Form.{Form}
 use Rattle.pert_cli.specs.Words.{AskFor, AskForNone, usage_text}
-use Rattle.pc_reading.specs.Sides.{Side, HadFault, IsUntouched, Took, TookFront}
+use Rattle.pc_reading.specs.Sides.{Side, HadFault, IsUntouched, Took, TookAtMost, TookFront}
 use Rattle.pc_reading.specs.Verdict.{IsProjectOf, RefusedBy}
 use Rattle.pert_cli.specs.FormDeck.{AskToRead, HasProjectFor, HasRefusalFor, IsLeftBy}
 use Rattle.pert_cli.specs.Forms.{IsDenial}
@@ -71,7 +72,7 @@ pub data Outcome {S O E : Type 0} (words : List (String Global)) (source : Side 
   refused : IsRefused words source err → IsUntouched out → Outcome words source out err Refused
   usage : AskForNone words → Took err usage_text → IsUntouched source → IsUntouched out → Outcome words source out err Usage
   no_memory : (form : Form) → AskFor form words → IsLeftBy form source → IsUntouched out → IsUntouched err → Outcome words source out err OutOfMemory
-  read_fault : AskToRead words → HadFault source → IsUntouched out → IsUntouched err → Outcome words source out err ReadFault
+  read_fault : AskToRead words → HadFault source → TookAtMost longest_deck source → IsUntouched out → IsUntouched err → Outcome words source out err ReadFault
   write_fault : IsCut words source out err → Outcome words source out err WriteFault
 
 -- the deck is accepted, and the form that the words ask for does not refuse its project

@@ -3,7 +3,7 @@ ghost use Rattle.std.specs.Prelude.{◌≡◌, ◌≤◌, IfOk, IfErr, IfSome, I
 ghost use Rattle.pc_crash.specs.Steps.{IsBlankOf};
 ghost use Rattle.pc_curve.specs.Points.{HasPlaces, IsToCome};
 ghost use Rattle.pc_faults.specs.FaultText.{IsTold};
-ghost use Rattle.pc_reports.specs.Schedule.{text_of, IsWhole};
+ghost use Rattle.pc_reports.specs.Schedule.{plan_of, plan_text, text_of, IsWhole};
 ghost use Rattle.pc_reading.specs.Priced.{priced_in};
 ghost use Rattle.pert_cli.specs.Normal.{printed_text};
 ghost use Rattle.pert_cli.specs.Point.{HasNoSchedule, IsCheapest, IsCheapestFor, IsOutside, IsWithin};
@@ -74,7 +74,7 @@ impl CheapestSchedule {
     }
 
     /// A cheapest schedule for a length, to which the solver of the network comes down.
-    fn find(
+    pub(crate) fn find(
         alloc: Global,
         solver: &mut Solver<'_>,
         limit: u64,
@@ -101,6 +101,7 @@ impl CheapestSchedule {
         requires { IsCheapest (priced_in project.now) self.now }
         ensures whole { IsWhole result }
         ensures text { text_of result ≡ printed_text project.now self.now }
+        ensures plan { plan_of result ≡ plan_text project.now.events self.now.times project.now.activities self.now.durations }
     {
         Schedule {
             length: self.total,

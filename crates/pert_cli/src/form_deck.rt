@@ -1,8 +1,11 @@
 //! From the deck that a form speaks of to its project, or to why there is none.
-ghost use Rattle.std.specs.Prelude.{◌≤◌, IfOk, IfErr};
+ghost use Rattle.std.specs.Prelude.{◌+◌, ◌≤◌, IfOk, IfErr};
 ghost use Rattle.pc_bench.specs.Deck.{bench_text};
+ghost use Rattle.pc_deck.specs.Limits.{longest_deck};
+ghost use Rattle.pc_edges.specs.Pulls.{TakesPulls};
+ghost use Rattle.pc_edges.specs.declared.loading.TheConstants.{STREAM_ROOM};
 ghost use Rattle.pc_reading.specs.Reading.{IsNoProjectOf};
-ghost use Rattle.pc_reading.specs.Sides.{side};
+ghost use Rattle.pc_reading.specs.Sides.{side, TookAtMost};
 ghost use Rattle.pc_reading.specs.Verdict.{IsProjectOf};
 ghost use Rattle.pert_cli.specs.FormDeck.{HasProjectFor, HasNoProjectFor};
 ghost use Rattle.pert_cli.specs.Forms.{IsNumbered};
@@ -23,6 +26,8 @@ pub(crate) fn project_for<S: Source>(
     requires { IsNumbered form }
     ensures project { IfOk result (HasProjectFor form (side S.left S.faults source.old source.new)) }
     ensures none { IfErr result (HasNoProjectFor form (side S.left S.faults source.old source.new)) }
+    ensures turns { TakesPulls (longest_deck + 2) (S.pulls source.old) (S.pulls source.new) }
+    ensures near { TookAtMost (longest_deck + STREAM_ROOM) (side S.left S.faults source.old source.new) }
 {
     match form.bench() {
         Some(n) => bench_project(alloc, n),

@@ -11,7 +11,9 @@ ghost use Rattle.pert_cli.specs.declared.forms.Form.{Form as TheForm};
 ghost use Rattle.pert_cli.specs.declared.forms.Form.TheVariants.{Bench};
 ghost use Rattle.pert_cli.specs.Words.{AskFor, AskForNone, usage_text};
 
-use crate::{bench, certify, check, curve, load, normal, outlook, point, summary, times, value};
+use crate::{
+    bench, certify, check, curve, load, migrate, normal, optimum, outlook, point, summary, times, value,
+};
 use arrayvec::ArrayVec;
 use pc_bench::MOST_ACTIVITIES;
 use pc_edges::Sink;
@@ -39,7 +41,9 @@ pub(crate) fn usage() -> ArrayVec<u8, USAGE_ROOM>
     append(&mut line, b" | ", point::WORDS);
     append(&mut line, b" L | ", outlook::WORDS);
     append(&mut line, b" L | ", bench::WORDS);
-    append(&mut line, b" N | ", load::WORDS);
+    append(&mut line, b" N | ", migrate::WORDS);
+    append(&mut line, b" | ", optimum::WORDS);
+    append(&mut line, b" | ", load::WORDS);
     append(&mut line, b" P\n", b"");
     line
 }
@@ -76,6 +80,10 @@ pub(crate) enum Form {
     Outlook(u64),
     /// Figures of the curve of the benchmark's deck with so many activities.
     Bench(u64),
+    /// The deck in its one form.
+    Migrate,
+    /// The length for which the project costs least in all, and a schedule for it.
+    Optimum,
     /// What is spent and taken in each period of so many days.
     Load(u64),
 }
@@ -112,6 +120,10 @@ impl Form {
             Some(Form::Curve)
         } else if word == certify::WORDS {
             Some(Form::Certify)
+        } else if word == migrate::WORDS {
+            Some(Form::Migrate)
+        } else if word == optimum::WORDS {
+            Some(Form::Optimum)
         } else {
             None
         }
@@ -155,6 +167,8 @@ impl Form {
             | Form::Certify
             | Form::Point(_)
             | Form::Outlook(_)
+            | Form::Migrate
+            | Form::Optimum
             | Form::Load(_) => None,
         }
     }
@@ -182,6 +196,8 @@ impl Form {
             Form::Point(limit) => point::answer(alloc, limit, project, out, err),
             Form::Outlook(limit) => outlook::answer(alloc, limit, project, out, err),
             Form::Bench(n) => bench::answer(alloc, n, project, out),
+            Form::Migrate => migrate::answer(alloc, project, out),
+            Form::Optimum => optimum::answer(alloc, project, out),
             Form::Load(days) => load::answer(alloc, days, project, out, err),
         }
     }

@@ -1,5 +1,5 @@
 //! `summary`: what the accounts add up to, by item and by level.
-ghost use Rattle.pc_reports.specs.SummaryText.{IsSummary, summary_text};
+ghost use Rattle.pc_reports.specs.SummaryText.{ChargesCountOnce, IsSummary, summary_text};
 ghost use Rattle.pert_cli.specs.Handing.{Answers, IsReply};
 ghost use Rattle.pc_reading.specs.Sides.{side};
 ghost use Rattle.pert_cli.specs.declared.forms.Form.TheVariants.{Summary};
@@ -22,7 +22,7 @@ pub(crate) fn answer<O: Sink>(alloc: Global, project: &Project, out: &mut O) -> 
 }
 
 impl Answer for SummaryReport {
-    ghost IsFor = { λ report project. IsSummary project report };
+    ghost IsFor = { λ report project. IsSummary project report × ChargesCountOnce project report };
 
     ghost text = { λ report project. summary_text project report };
 

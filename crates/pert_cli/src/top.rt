@@ -1,13 +1,18 @@
 //! The top call.
-ghost use Rattle.std.specs.Prelude.{◌≡◌, ◌≢◌, ℕ, List, ◌≤◌, ◌⊎◌, length};
+ghost use Rattle.std.specs.Prelude.{◌≡◌, ◌≢◌, ℕ, ◌+◌, List, ◌≤◌, ◌⊎◌, length};
 ghost use Rattle.pc_deck.specs.Limits.{longest_deck};
+ghost use Rattle.pc_edges.specs.Pulls.{TakesPulls};
+ghost use Rattle.pc_edges.specs.declared.loading.TheConstants.{STREAM_ROOM};
 ghost use Rattle.pert_cli.specs.declared.forms.Form.{Form as TheForm};
-ghost use Rattle.pert_cli.specs.declared.forms.Form.TheVariants.{Certify};
+ghost use Rattle.pert_cli.specs.declared.forms.Form.TheVariants.{Certify, Migrate};
 ghost use Rattle.pert_cli.specs.FormDeck.{AskToRead, IsOwnDeck};
+ghost use Rattle.pc_project.specs.Project.{Project as TheProject};
+ghost use Rattle.pert_cli.specs.Forms.{HasOneText, IsTextOf};
 ghost use Rattle.pert_cli.specs.Headline.{TookWholeCurve};
+ghost use Rattle.pert_cli.specs.Migrate.{TookSameProject};
 ghost use Rattle.pert_cli.specs.Words.{AskFor, AskForOne, AskForNone, usage_text};
-ghost use Rattle.pc_reading.specs.Sides.{side, HadFault, HadNoFault, IsReadToEnd, OfDeck, Took};
-ghost use Rattle.pc_reading.specs.Verdict.{AcceptedBy, RefusedBy};
+ghost use Rattle.pc_reading.specs.Sides.{side, HadFault, HadNoFault, IsReadToEnd, OfDeck, Took, TookAtMost};
+ghost use Rattle.pc_reading.specs.Verdict.{AcceptedBy, IsProjectOf, RefusedBy};
 ghost use Rattle.pert_cli.specs.Outcome.{Outcome, IsAcceptedFor, IsCut, IsDone, IsRefused, IsRefusedFor};
 
 use crate::form_deck::project_for;
@@ -22,10 +27,10 @@ use std::alloc::Global;
 /// schedule at the all-normal length, `times` for the times of the events and the critical path, `summary` for what the
 /// accounts add up to, `value` for the forecast and what the work is worth, `curve` for the breakpoints of the time-cost
 /// curve, `certify` for its certificate, `point L` for a schedule of least cost for the length L, `outlook L` for that and
-/// what each item costs by it, `load P` for what is spent and taken in each period of P days. `bench N` asks for figures of
-/// the curve of a deck of its own, and reads none. The words come first, then the whole deck, then its faults, then whether
-/// the form refuses it and all memory that the answer needs, then the answer and a flush. The answer of the call is the
-/// status with which the program ends.
+/// what each item costs by it, `load P` for what is spent and taken in each period of P days, `migrate` for the deck in its one
+/// form. `bench N` asks for figures of the curve of a deck of its own, and reads none. The words come first, then the whole deck,
+/// then its faults, then whether the form refuses it and all memory that the answer needs, then the answer and a flush. The
+/// answer of the call is the status with which the program ends.
 pub fn run<S: Source, O: Sink, E: Sink>(
     alloc: Global,
     words: &[String],
@@ -46,6 +51,10 @@ pub fn run<S: Source, O: Sink, E: Sink>(
     ensures headline { result ≡ 0 → AskFor Certify words.now → OfDeck (side S.left S.faults source.old source.new)
         (TookWholeCurve (side O.taken O.faults out.old out.new)) }
 
+    // At 0 for `migrate`, `out` took a deck that is accepted and has the same project, and of which `migrate` writes the same bytes.
+    ensures migrated { result ≡ 0 → AskFor Migrate words.now → OfDeck (side S.left S.faults source.old source.new)
+        (TookSameProject (side O.taken O.faults out.old out.new)) }
+
     // 1: the words ask for a form, its deck or the form refuses with a fault, and `err` took the line of the fault.
     ensures refused { result ≡ 1 → IsRefused words.now (side S.left S.faults source.old source.new) (side E.taken E.faults err.old err.new) }
     ensures refused_read { result ≡ 1 → AskToRead words.now → OfDeck (side S.left S.faults source.old source.new)
@@ -61,9 +70,11 @@ pub fn run<S: Source, O: Sink, E: Sink>(
     // 3: memory ran out, before anything was written.
     ensures no_memory { result ≡ 3 → (out.new ≡ out.old) × (err.new ≡ err.old) }
 
-    // 4: the deck could not be read. It comes only where the words ask for a form that reads it.
+    // 4: the deck could not be read. It comes only where the words ask for a form that reads it, and where no more of it was taken than
+    // a deck may have.
     ensures read_fault { result ≡ 4 → HadFault (side S.left S.faults source.old source.new) }
     ensures read_fault_reads { result ≡ 4 → AskToRead words.now }
+    ensures read_fault_within { result ≡ 4 → TookAtMost longest_deck (side S.left S.faults source.old source.new) }
     ensures read_fault_only { result ≡ 4 → (out.new ≡ out.old) × (err.new ≡ err.old) }
 
     // 5: a fault of `out` or `err` came in the answer, the line of a fault or the usage line.
@@ -73,11 +84,23 @@ pub fn run<S: Source, O: Sink, E: Sink>(
     // Each status but 2 and 5 comes only where the words ask for a form.
     ensures form { result ≢ 2 → result ≢ 5 → AskForOne words.now }
 
+    // A deck that is not refused is accepted, as far as it could be read and but for want of memory.
+    ensures acceptance { AskToRead words.now → HadNoFault (side S.left S.faults source.old source.new)
+        → OfDeck (side S.left S.faults source.old source.new) (λ bytes. (RefusedBy bytes → ⊥) → AcceptedBy bytes ⊎ (result ≡ 3)) }
+
+    // An accepted deck has one answer to each form that does not print a schedule of least cost, of which there may be several.
+    ensures one_text { (form : TheForm) (bytes : List ℕ) (project : TheProject) (text other : List ℕ) → HasOneText form → IsProjectOf bytes project
+        → IsTextOf form project text → IsTextOf form project other → text ≡ other }
+
     // No deck is both accepted and refused.
     ensures one_verdict { (bytes : List ℕ) → AcceptedBy bytes → RefusedBy bytes → ⊥ }
 
     // A form that has a deck of its own reads nothing.
     ensures unread { (form : TheForm) (deck : List ℕ) → AskFor form words.now → IsOwnDeck form deck → source.new ≡ source.old }
+
+    // However long the source is, no more pulls and hardly more bytes than those of the longest deck are taken of it.
+    ensures turns { TakesPulls (longest_deck + 2) (S.pulls source.old) (S.pulls source.new) }
+    ensures near { TookAtMost (longest_deck + STREAM_ROOM) (side S.left S.faults source.old source.new) }
 
     // Where no fault came, the words and the deck decide, but for want of memory: the deck of the source, or the form's own.
     ensures words_refused { AskForNone words.now → HadNoFault (side E.taken E.faults err.old err.new) → result ≡ 2 }
@@ -103,8 +126,10 @@ fn outcome<S: Source, O: Sink, E: Sink>(
     out: &mut O,
     err: &mut E,
 ) -> Status
-    ensures { Outcome words.now (side S.left S.faults source.old source.new)
+    ensures outcome { Outcome words.now (side S.left S.faults source.old source.new)
         (side O.taken O.faults out.old out.new) (side E.taken E.faults err.old err.new) result }
+    ensures turns { TakesPulls (longest_deck + 2) (S.pulls source.old) (S.pulls source.new) }
+    ensures near { TookAtMost (longest_deck + STREAM_ROOM) (side S.left S.faults source.old source.new) }
 {
     let Some(form) = Form::asked(words) else {
         return match send(err, usage().as_slice()) {

@@ -7,7 +7,7 @@ use std::test::Fail;
 
 // Words, a deck, and how many pulls read it: the last of them finds its end. The words ask for each form, for lengths that the deck
 // does not have, and for nothing; the last deck is none.
-const RUNS: [(&[&str], &[u8], u64); 24] = [
+const RUNS: [(&[&str], &[u8], u64); 25] = [
     (&["check"], WHOLE, 4),
     (&["normal"], WHOLE, 4),
     (&["times"], WHOLE, 4),
@@ -19,8 +19,10 @@ const RUNS: [(&[&str], &[u8], u64); 24] = [
     (&["certify"], WHOLE, 4),
     (&["point", "6"], WHOLE, 4),
     (&["outlook", "6"], WHOLE, 4),
-    (&["load", "7"], WHOLE, 4),
     (&["bench", "4"], WHOLE, 0),
+    (&["migrate"], WHOLE, 4),
+    (&["optimum"], WHOLE, 4),
+    (&["load", "7"], WHOLE, 4),
     (&["point", "4"], WHOLE, 4),
     (&["point", "10"], WHOLE, 4),
     (&["outlook", "10"], WHOLE, 4),
@@ -30,7 +32,6 @@ const RUNS: [(&[&str], &[u8], u64); 24] = [
     (&["curve", "x"], WHOLE, 0),
     (&["CURVE"], WHOLE, 0),
     (&["bench", "0"], WHOLE, 0),
-    (&["load", "0"], WHOLE, 0),
     (&["certify"], b"END\n", 2),
 ];
 

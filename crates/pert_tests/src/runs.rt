@@ -1,6 +1,6 @@
 //! Runs over sources and sinks in memory: what each status leaves behind.
 
-use crate::testing::{AT_WORK, CERTIFICATE, Edges, SMALL, USAGE, WHOLE, WITH_CREW, left_by, run_of};
+use crate::testing::{AT_WORK, CERTIFICATE, Edges, SMALL, USAGE, WHOLE, left_by, run_of};
 use std::test::Fail;
 
 // Activities of an item that no card has.
@@ -75,7 +75,21 @@ ITEM             LV         BUDGET        OUTLOOK         CHANGE TITLE\n\
 1.1               2             25             33              8 Frame, north\n\
 1.2               2             20             25              5 Roof\n";
 
-const LOAD_7: &[u8] = b"LOAD E1 7\n\
+const MIGRATED: &[u8] = b"PROJECT,E1,S,T,2024-01-01,1,,Example one,2\n\
+ASOF,2024-01-01\n\
+WBS,1,,Whole\n\
+WBS,1.1,1,\"Frame, north\"\n\
+WBS,1.2,1,Roof\n\
+EVENT,S,Start\n\
+EVENT,M,Middle\n\
+EVENT,T,End\n\
+ACT,A,S,M,1.1,3,4,5,4,2,10,3,Dig\n\
+ACT,B,M,T,1.2,4,5,12,5,3,20,5,Cover\n\
+ACT,C,S,T,1.1,7,7,7,7,5,15,2,Frame\n\
+ACCT,X1,1.1,25,Frame account\n\
+ACCT,X2,1.2,20,Roof account\n\
+END\n";
+const LOADED: &[u8] = b"LOAD E1 7\n\
 PERIOD                0 2024-01-01\n\
 PERIOD                1 2024-01-08\n\
 ITEMS\n\
@@ -84,9 +98,11 @@ ITEMS\n\
 1.1                   0             25\n\
 1.2                   0             10\n\
 1.2                   1             10\n\
-RESOURCES\n\
-CREW                  0              3\n\
-CREW                  1              4\n";
+RESOURCES\n";
+
+// Without terms the time costs nothing.
+const OPTIMUM: &[u8] = b"OPTIMUM E1\nLENGTH 9\nDIRECT 45\nTIME 0\nTOTAL 45\nBELOW 3\nABOVE -\n\
+EVENT S 0\nEVENT M 4\nEVENT T 9\nACT A 4\nACT B 5\nACT C 7\n";
 
 const TOO_SHORT: &[u8] = b"F32 record 0: length 4 is outside 5 to 9\n";
 
@@ -95,7 +111,7 @@ const TOO_LONG: &[u8] = b"F32 record 0: length 10 is outside 5 to 9\n";
 const NO_PROJECT: &[u8] = b"F3 record 1: first card is not PROJECT\n";
 
 // Words that ask for a form and a deck, with the status, the output and the error output that they give.
-const RUNS: [(&[&str], &[u8], u8, &[u8], &[u8]); 16] = [
+const RUNS: [(&[&str], &[u8], u8, &[u8], &[u8]); 19] = [
     (&["check"], WHOLE, 0, COUNTS, b""),
     (&["normal"], WHOLE, 0, SCHEDULE, b""),
     (&["times"], WHOLE, 0, TIMES, b""),
@@ -105,7 +121,10 @@ const RUNS: [(&[&str], &[u8], u8, &[u8], &[u8]); 16] = [
     (&["certify"], WHOLE, 0, CERTIFICATE, b""),
     (&["point", "6"], WHOLE, 0, POINT_6, b""),
     (&["outlook", "6"], WHOLE, 0, OUTLOOK_6, b""),
-    (&["load", "7"], WITH_CREW, 0, LOAD_7, b""),
+    (&["migrate"], WHOLE, 0, MIGRATED, b""),
+    (&["migrate"], MIGRATED, 0, MIGRATED, b""),
+    (&["optimum"], WHOLE, 0, OPTIMUM, b""),
+    (&["load", "7"], WHOLE, 0, LOADED, b""),
     (&["outlook", "4"], WHOLE, 1, b"", TOO_SHORT),
     (&["point", "4"], WHOLE, 1, b"", TOO_SHORT),
     (&["point", "10"], WHOLE, 1, b"", TOO_LONG),

@@ -19,23 +19,6 @@ ACCT,X1,1.1,25,Frame account\n\
 ACCT,X2,1.2,20,Roof account\n\
 END\n";
 
-/// The same with a crew.
-pub(crate) const WITH_CREW: &[u8] = b"PROJECT,E1,S,T,2024-01-01,1,,Example one\n\
-WBS,1,,Whole\n\
-WBS,1.1,1,\"Frame, north\"\n\
-WBS,1.2,1,Roof\n\
-EVENT,S,Start\n\
-EVENT,M,Middle\n\
-EVENT,T,End\n\
-ACT,A,S,M,1.1,3,4,5,4,2,10,3,Dig\n\
-ACT,B,M,T,1.2,4,5,12,5,3,20,5,Cover\n\
-ACT,C,S,T,1.1,7,7,7,7,5,15,2,Frame\n\
-ACCT,X1,1.1,25,Frame account\n\
-ACCT,X2,1.2,20,Roof account\n\
-RES,CREW,\n\
-LOAD,B,CREW,7\n\
-END\n";
-
 /// The same in the middle of its work.
 pub(crate) const AT_WORK: &[u8] = b"PROJECT,E1,S,T,2024-01-01,1,,Example one\n\
 WBS,1,,Whole\n\
@@ -82,7 +65,7 @@ END\n";
 
 /// The usage line of `run`.
 pub(crate) const USAGE: &[u8] =
-    b"usage: pert check | normal | times | summary | value | curve | certify | point L | outlook L | bench N | load P\n";
+    b"usage: pert check | normal | times | summary | value | curve | certify | point L | outlook L | bench N | migrate | optimum | load P\n";
 
 /// The two top calls.
 #[derive(Clone, Copy)]

@@ -9,10 +9,12 @@ pub loop-a-init : goal.loop-a-init
 loop-a-init g c = record {
   text = Adds-nil (desk g.O.Sink.taken g.O.Sink.faults c.args.page.now c.args.sink.now);
   codes = λ a lt. absurd (omega arith);
+  rows = c.requires.rows;
 }
 
 pub loop-a-preserved : goal.loop-a-preserved
 loop-a-preserved g c = record {
   text = Adds-as _ (text_of-more c.loop-a.a (act_line c.args.net.now (g.V.SegmentView.segment c.args.view.now))) (c.loop-a.invariant.text ⨾ c.put_act.ensures.text);
   codes = below_more _ _ c.loop-a.invariant.codes c.put_act.ensures.code;
+  rows = c.put_act.ensures.rows;
 }

@@ -5,10 +5,12 @@ use Rattle.pc_cert.specs.Text.{text_of}
 use Rattle.pc_page.specs.Puts.{Puts}
 use Rattle.pc_certify.specs.Listed.{listed}
 use Rattle.pc_certify.specs.Document.{act_line}
+use Rattle.pc_certify.specs.Spelled.{AreActsSpelled}
 use Rattle.pc_certify.proofs.segment.put_acts.Given as goal
 
 abbrev pub invariant-loop-a : goal.invariant-loop-a
 invariant-loop-a g l = record {
   text : Puts g.O.Sink.taken g.O.Sink.faults l.fn.page l.fn.sink l.page l.sink (text_of (listed l.a (act_line l.net (g.V.SegmentView.segment l.view))));
   codes : (a : ℕ) → a < l.a → IsCode (code_at l.net.activities a);
+  rows : AreActsSpelled l.net l.rows.items;
 }

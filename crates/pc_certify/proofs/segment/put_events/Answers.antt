@@ -9,10 +9,12 @@ pub loop-e-init : goal.loop-e-init
 loop-e-init g c = record {
   text = Adds-nil (desk g.O.Sink.taken g.O.Sink.faults c.args.page.now c.args.sink.now);
   codes = λ e lt. absurd (omega arith);
+  rows = c.requires.rows;
 }
 
 pub loop-e-preserved : goal.loop-e-preserved
 loop-e-preserved g c = record {
   text = Adds-as _ (text_of-more c.loop-e.e (event_line c.args.net.now (g.V.SegmentView.segment c.args.view.now))) (c.loop-e.invariant.text ⨾ c.put_event.ensures.text);
   codes = below_more _ _ c.loop-e.invariant.codes c.put_event.ensures.code;
+  rows = c.put_event.ensures.rows;
 }

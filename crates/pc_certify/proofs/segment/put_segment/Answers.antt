@@ -15,4 +15,6 @@ returns g c =
       text = Adds-as _ (text_of-between (ends_line seg) (listed net.network.events (event_line net seg)) (listed (length net.network.arcs) (act_line net seg)) Close)
           (c.put_ends.ensures ⨾ c.put_events.ensures.text ⨾ c.put_acts.ensures.text ⨾ c.put.ensures);
       fit = λ small. segment_fits net c.net-whole.ensures.priced c.net-whole.ensures.pieces seg c.put_events.ensures.codes c.put_acts.ensures.codes small;
+      events = c.put_events.ensures.rows;
+      acts = c.put_acts.ensures.rows;
     }

@@ -16,35 +16,43 @@ put_head-requires-clause-crash g c = rw c.path-2.ensures (walk_known _ _ _ _ c.r
 
 pub loop-page-init : goal.loop-page-init
 loop-page-init g c = record {
-  segments = [];
-  given = given-none _ _ c.requires.solver;
-  text = Adds-as _ (sym (text_begins c.args.net.now c.args.walks.now.normal.path c.args.walks.now.crash.path)) (rw (← c.path.ensures, ← c.path-2.ensures) c.put_head.ensures.text);
-  fit = All-nil (λ seg. AllFit (segment_lines c.args.net.now seg));
+  put = record {
+    segments = [];
+    given = given-none _ _ c.requires.solver;
+    text = Adds-as _ (sym (text_begins c.args.net.now c.args.walks.now.normal.path c.args.walks.now.crash.path)) (rw (← c.path.ensures, ← c.path-2.ensures) c.put_head.ensures.text);
+    fit = All-nil (λ seg. AllFit (segment_lines c.args.net.now seg));
+  };
+  events = c.requires.events;
+  acts = c.requires.acts;
 }
 
 pub loop-page-smaller : goal.loop-page-smaller
-loop-page-smaller g c = come-less c.args.net.now c.loop-page.solver c.next_segment.new.self c.loop-page.invariant.segments c.loop-page.invariant.given
+loop-page-smaller g c = come-less c.args.net.now c.loop-page.solver c.next_segment.new.self c.loop-page.invariant.put.segments c.loop-page.invariant.put.given
     (λ ended. let both : true ≡ false = sym c.loop-page-test.true ∙ c.next_segment.ensures.ended.1 ended in cc)
     c.next_segment.ensures.same (c.next_segment.ensures.next c.loop-page-test.true)
 
 pub loop-page-preserved : goal.loop-page-preserved
 loop-page-preserved g c =
     let net = c.args.net.now in
-    let had = c.loop-page.invariant in
+    let had = c.loop-page.invariant.put in
     let next = c.next_segment.ensures.next c.loop-page-test.true in
     let goes_on : HasEnded c.loop-page.solver → ⊥ = λ ended. let both : true ≡ false = sym c.loop-page-test.true ∙ c.next_segment.ensures.ended.1 ended in cc in
     let seg = present c.next_segment.new.self in
     let small = small-next net c.loop-page.solver c.next_segment.new.self had.segments had.given goes_on c.next_segment.ensures.same next in
     record {
-      segments = had.segments ++ seg ∷ [];
-      given = given-more net c.loop-page.solver c.next_segment.new.self had.segments had.given goes_on c.next_segment.ensures.same next;
-      text = Adds-as _ (text_goes_on net c.args.walks.now.normal.path c.args.walks.now.crash.path had.segments seg) (had.text ⨾ c.put_segment.ensures.text);
-      fit = All-push (λ seg. AllFit (segment_lines net seg)) had.segments seg had.fit (c.put_segment.ensures.fit small);
+      put = record {
+        segments = had.segments ++ seg ∷ [];
+        given = given-more net c.loop-page.solver c.next_segment.new.self had.segments had.given goes_on c.next_segment.ensures.same next;
+        text = Adds-as _ (text_goes_on net c.args.walks.now.normal.path c.args.walks.now.crash.path had.segments seg) (had.text ⨾ c.put_segment.ensures.text);
+        fit = All-push (λ seg. AllFit (segment_lines net seg)) had.segments seg had.fit (c.put_segment.ensures.fit small);
+      };
+      events = c.put_segment.ensures.events;
+      acts = c.put_segment.ensures.acts;
     }
 
 pub returns : goal.returns
 returns g c =
-    let put = c.loop-page.invariant in
+    let put = c.loop-page.invariant.put in
     record {
       high = c.loop-page.solver.longest;
       low = c.loop-page.solver.shortest;

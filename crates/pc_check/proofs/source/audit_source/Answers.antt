@@ -4,7 +4,7 @@ use Rattle.pc_edges.specs.declared.loading.TheConstants.{STREAM_ROOM}
 use Rattle.pc_check.specs.Texts.{Finds}
 use Rattle.pc_check.specs.Stops.{IsSettled}
 use Rattle.pc_check.specs.Auditing.{bytes_left, most_bytes}
-use Rattle.pc_check.proofs.SourceLaws.{TakesPulls-one_more}
+use Rattle.pc_edges.proofs.PullLaws.{TakesPulls-one_more}
 use Rattle.pc_check.proofs.source.audit_source.Goals as goal
 
 pub returns-clause-finds : goal.returns-clause-finds
@@ -17,4 +17,4 @@ returns-clause-turns g c =
 
 pub returns-clause-stops : goal.returns-clause-stops
 returns-clause-stops g c =
-    subst (λ n. IfOk c.audit_by.result (λ verdict. IsSettled n verdict STREAM_ROOM (g.C.Source.left c.args.source.now) (g.C.Source.left c.audit_by.new.source))) c.in-Ok.ensures.net c.audit_by.ensures.stops
+    subst (λ n. IfOk c.audit_by.result (λ verdict. IsSettled n verdict STREAM_ROOM g.C.Source.left g.C.Source.pulls c.args.source.now c.audit_by.new.source)) c.in-Ok.ensures.net c.audit_by.ensures.stops

@@ -1,29 +1,35 @@
 use Rattle.std.proofs.Common.{Err, refl, ap, subst}
 use Rattle.std.specs.Prelude.{IfSome}
-use Rattle.pc_edges.specs.declared.loading.TheConstants.{STREAM_ROOM}
-use Rattle.pc_check.specs.Stops.{IsSettled}
 use Rattle.pc_check.specs.Texts.{Finds}
-use Rattle.pc_checking.specs.Certificate.{found, unread, no_room}
+use Rattle.pc_checking.specs.Certificate.{IsSettledIn, IsUnsettledIn, found, unread, no_room}
+use Rattle.pc_reading.specs.Sides.{pulled_side}
 use Rattle.pc_reading.proofs.PricedLaws.{priced_is}
 use Rattle.pc_checking.proofs.checking.check.Goals as goal
 
 pub returns-in_default-clause-answered : goal.returns-in_default-clause-answered
-returns-in_default-clause-answered g c = no_room refl
+returns-in_default-clause-answered g c = no_room refl refl
 
 pub returns-in-Ok-audit_source-clause-answered : goal.returns-in-Ok-audit_source-clause-answered
 returns-in-Ok-audit_source-clause-answered g c =
     let has = c.in-Ok.ensures in
     let same = priced_is c.in-Ok.net c.args.project.now has.network has.terms has.pieces has.project has.events has.activities in
+    let s = g.C.Source in
     found c.in-Ok-audit_source.verdict c.tell.result
     (record {
-      finds = subst (λ n. IfSome (g.C.Source.left c.args.cert.now) (λ text. Finds n text c.in-Ok-audit_source.verdict)) same c.in-Ok-audit_source.ensures.finds;
+      finds = subst (λ n. IfSome (s.left c.args.cert.now) (λ text. Finds n text c.in-Ok-audit_source.verdict)) same c.in-Ok-audit_source.ensures.finds;
       end = c.in-Ok-audit_source.ensures.end;
-      settled = subst (λ n. IsSettled n c.in-Ok-audit_source.verdict STREAM_ROOM (g.C.Source.left c.args.cert.now) (g.C.Source.left c.audit_source.new.source)) same c.in-Ok-audit_source.ensures.stops;
+      settled = subst (λ n. IsSettledIn n c.in-Ok-audit_source.verdict (pulled_side s.left s.faults s.pulls c.args.cert.now c.audit_source.new.source)) same c.in-Ok-audit_source.ensures.stops;
     })
     c.tell.ensures
 
 pub returns-in-Err-ReadFault-clause-answered : goal.returns-in-Err-ReadFault-clause-answered
-returns-in-Err-ReadFault-clause-answered g c = unread (c.in-Err-ReadFault.ensures.fault (ap (λ e. Err e) c.in-Err-ReadFault.field-0-is)) refl
+returns-in-Err-ReadFault-clause-answered g c =
+    let is = ap (λ e. Err e) c.in-Err-ReadFault.field-0-is in
+    let has = c.in-Ok.ensures in
+    let same = priced_is c.in-Ok.net c.args.project.now has.network has.terms has.pieces has.project has.events has.activities in
+    let s = g.C.Source in
+    unread (c.in-Err-ReadFault.ensures.fault is)
+    (subst (λ n. IsUnsettledIn n (pulled_side s.left s.faults s.pulls c.args.cert.now c.audit_source.new.source)) same (c.in-Err-ReadFault.ensures.unsettled is)) refl
 
 pub returns-clause-answered : goal.returns-clause-answered
-returns-clause-answered g c = no_room refl
+returns-clause-answered g c = no_room (c.in-Err-OutOfMemory.ensures.no_room (ap (λ e. Err e) c.in-Err-OutOfMemory.field-0-is)) refl

@@ -5,7 +5,7 @@ use Rattle.pc_check.specs.Auditing.{most_bytes}
 use Rattle.pc_project.specs.Project.{Project}
 use Rattle.pc_reading.specs.Priced.{priced_in}
 use Rattle.pc_reading.specs.Refusing.{Refusal}
-use Rattle.pc_checking.specs.CheckOutcome.{check_usage, no_memory, deck_fault, write_fault, in_check_usage}
+use Rattle.pc_checking.specs.CheckOutcome.{check_usage, no_memory, read_fault, deck_unread, write_fault, in_check_usage}
 use Rattle.pc_reading.specs.Sides.{side}
 use Rattle.pc_checking.proofs.CheckLaws.{after_check, after_deck, of_each_project, unpulled}
 use Rattle.pc_checking.proofs.checking.check_outcome.Goals as goal
@@ -36,7 +36,8 @@ returns-in-Err-Refused-clause-turns g c = unpulled (g.D.Source.left c.args.deck.
 
 pub returns-in-Err-ReadFault-clause-outcome : goal.returns-in-Err-ReadFault-clause-outcome
 returns-in-Err-ReadFault-clause-outcome g c =
-    deck_fault (omega (arith, c.if-words-ne1.false)) (rw c.in-Err-ReadFault.field-0-is at c.in-Err-ReadFault.ensures.none) refl refl refl
+    let why = rw c.in-Err-ReadFault.field-0-is at c.in-Err-ReadFault.ensures.none in
+    read_fault (omega (arith, c.if-words-ne1.false)) (deck_unread why.0 why.1 refl) refl refl
 
 pub returns-in-Err-OutOfMemory-clause-outcome : goal.returns-in-Err-OutOfMemory-clause-outcome
-returns-in-Err-OutOfMemory-clause-outcome g c = no_memory (omega (arith, c.if-words-ne1.false)) refl refl
+returns-in-Err-OutOfMemory-clause-outcome g c = no_memory (omega (arith, c.if-words-ne1.false)) refl refl refl

@@ -1,5 +1,5 @@
 use Rattle.pc_checking.proofs.CheckLaws.{one_finding, one_verdict}
-use Rattle.pc_checking.proofs.CheckDecided.{found_certified, found_failing, stops_there, headline, check_cut, refused_deck_ends, right_ends, wrong_ends}
+use Rattle.pc_checking.proofs.CheckDecided.{found_certified, found_failing, stops_there, headline, check_cut, not_refused_accepts, refused_deck_ends, right_ends, wrong_ends}
 use Rattle.pc_reading.proofs.VerdictLaws.{not_both}
 use Rattle.pc_checking.proofs.checking.check_run.Goals as goal
 
@@ -26,6 +26,9 @@ returns-clause-one_finding g c = one_finding
 
 pub returns-clause-one_deck_verdict : goal.returns-clause-one_deck_verdict
 returns-clause-one_deck_verdict g c = λ bytes accepted refused. not_both bytes accepted.0 refused.0 accepted.1 refused.1
+
+pub returns-clause-acceptance : goal.returns-clause-acceptance
+returns-clause-acceptance g c = λ asked reads. not_refused_accepts c.args.words.now _ _ _ _ c.code.result asked reads c.check_outcome.result c.check_outcome.ensures.outcome c.code.ensures
 
 pub returns-clause-deck_refused : goal.returns-clause-deck_refused
 returns-clause-deck_refused g c = λ asked. refused_deck_ends c.args.words.now _ _ _ _ c.code.result asked c.check_outcome.result c.check_outcome.ensures.outcome c.code.ensures

@@ -2,4 +2,4 @@ use Rattle.pc_page.proofs.PageLaws.{◌⨾◌}
 use Rattle.pc_reports.proofs.schedule.put_schedule.Goals as goal
 
 pub returns : goal.returns
-returns g c = c.put_number.ensures ⨾ c.put_number-2.ensures ⨾ c.put_rows.ensures ⨾ c.put_rows-2.ensures
+returns g c = c.put_number.ensures ⨾ c.put_number-2.ensures ⨾ c.put_plan.ensures

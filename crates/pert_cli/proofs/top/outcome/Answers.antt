@@ -12,31 +12,31 @@ refuse-requires g c =
     let why = rw c.in-Err-Refused.field-0-is at c.in-Err-Refused.ensures.none in
     subst IsTold (sym c.in-Err-Refused.fault-is) why.0
 
-pub returns-in-Ok : goal.returns-in-Ok
-returns-in-Ok g c =
+pub returns-in-Ok-clause-outcome : goal.returns-in-Ok-clause-outcome
+returns-in-Ok-clause-outcome g c =
     usage c.in_default.ensures.none (subst (Took (side g.E.Sink.taken g.E.Sink.faults c.args.err.now c.send.new.sink)) (c.as_slice.ensures.value ∙ c.usage.ensures) c.in-Ok.ensures.ok) refl refl
 
-pub returns-in-Err : goal.returns-in-Err
-returns-in-Err g c =
+pub returns-in-Err-clause-outcome : goal.returns-in-Err-clause-outcome
+returns-in-Err-clause-outcome g c =
     write_fault (in_usage c.in_default.ensures.none (subst (TookFront (side g.E.Sink.taken g.E.Sink.faults c.args.err.now c.send.new.sink)) (c.as_slice.ensures.value ∙ c.usage.ensures) c.in-Err.ensures.err) refl refl)
 
-pub returns-in-Ok-project_for : goal.returns-in-Ok-project_for
-returns-in-Ok-project_for g c =
+pub returns-in-Ok-project_for-clause-outcome : goal.returns-in-Ok-project_for-clause-outcome
+returns-in-Ok-project_for-clause-outcome g c =
     after_reply c.args.words.now _ _ _ c.in-Some.form c.in-Some.ensures.form c.in-Ok-project_for.project c.answer.result c.in-Ok-project_for.ensures.project c.answer.ensures
 
-pub returns-in-Err-Refused : goal.returns-in-Err-Refused
-returns-in-Err-Refused g c =
+pub returns-in-Err-Refused-clause-outcome : goal.returns-in-Err-Refused-clause-outcome
+returns-in-Err-Refused-clause-outcome g c =
     let why = rw c.in-Err-Refused.field-0-is at c.in-Err-Refused.ensures.none in
     after_refusal c.args.words.now _ _ _ c.in-Some.form c.in-Some.ensures.form c.in-Err-Refused.fault c.refuse.result why.1 refl
     (subst (λ (fault : Fault). Refusal fault (side g.E.Sink.taken g.E.Sink.faults c.args.err.now c.refuse.new.err) c.refuse.result) c.in-Err-Refused.fault-is c.refuse.ensures)
 
-pub returns-in-Err-ReadFault : goal.returns-in-Err-ReadFault
-returns-in-Err-ReadFault g c =
+pub returns-in-Err-ReadFault-clause-outcome : goal.returns-in-Err-ReadFault-clause-outcome
+returns-in-Err-ReadFault-clause-outcome g c =
     let why = rw c.in-Err-ReadFault.field-0-is at c.in-Err-ReadFault.ensures.none in
-    read_fault (c.in-Some.form, c.in-Some.ensures.form, why.0) why.1 refl refl
+    read_fault (c.in-Some.form, c.in-Some.ensures.form, why.0) why.1 why.2 refl refl
 
-pub returns-in-Err-OutOfMemory : goal.returns-in-Err-OutOfMemory
-returns-in-Err-OutOfMemory g c =
+pub returns-in-Err-OutOfMemory-clause-outcome : goal.returns-in-Err-OutOfMemory-clause-outcome
+returns-in-Err-OutOfMemory-clause-outcome g c =
     no_memory c.in-Some.form c.in-Some.ensures.form (rw c.in-Err-OutOfMemory.field-0-is at c.in-Err-OutOfMemory.ensures.none) refl refl
 
 pub project_for-requires : goal.project_for-requires

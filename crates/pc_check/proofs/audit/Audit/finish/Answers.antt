@@ -12,7 +12,7 @@ returns-in-Ok c = λ text h.
     let before : HasRead text old = subst (λ a. HasRead text a) (sym c.self.view_is) h in
     let checked = checking old.checker before.lines going.no_fail before.checked in
     subst (λ (a : Auditing). Finds a.checker.net text c.finish-in-Ok.result) c.self.view_is
-    (found_whole old.checker.net before.lines text c.finish-in-Ok.result (c.in-Ok.ensures before.lines text before.read) checked.none (c.finish-in-Ok.ensures.finds before.lines before.checked) (c.finish-in-Ok.ensures.curve before.lines before.checked))
+    (found_whole old.checker.net before.lines text c.finish-in-Ok.result (c.in-Ok.ensures before.lines text before.read) checked.none (c.finish-in-Ok.ensures.finds before.lines before.checked))
 
 pub returns-in-Err : goal.returns-in-Err
 returns-in-Err c = λ text h.

@@ -1,0 +1,97 @@
+//! The bytes of a line with its end, as they were spelled last.
+ghost use Rattle.std.specs.Prelude.{◌≡◌, ◌+◌, ◌≤◌, [], ◌++◌, true, decimal, length};
+ghost use Rattle.pc_text.specs.Code.{is_code};
+ghost use Rattle.pc_cert.specs.Lines.{spaced, bit_text};
+
+use pc_text::{Code, digits};
+use std::marker::Model;
+
+/// The room of a line, however long its numbers are.
+pub(crate) const ROOM: usize = 192;
+
+/// The most bytes of a space and a code, and of a space and a number.
+pub(crate) const CODE_ROOM: usize = 17;
+
+pub(crate) const NUMBER_ROOM: usize = 21;
+
+/// A line and its end, word by word.
+#[derive(Debug, Drop)]
+pub struct Spelling {
+    cells: [u8; ROOM],
+    len: usize,
+}
+
+impl Model for Spelling {
+    ghost use Rattle.std.specs.Prelude.{◌≡◌, ◌≤◌, ℕ, List, length, take};
+
+    ghost Value = { List ℕ };
+
+    ghost view = { λ s. take s.len s.cells };
+
+    ghost invariant = { λ s. (s.len ≤ 192) × (length s.cells ≡ 192) };
+}
+
+impl Spelling {
+    /// No bytes.
+    pub(crate) fn new() -> Spelling
+        ensures { result ≡ [] }
+    {
+        Spelling {
+            cells: [0; ROOM],
+            len: 0,
+        }
+    }
+
+    /// The bytes.
+    pub(crate) fn bytes(&self) -> &[u8]
+        ensures { result.now ≡ self.now }
+    {
+        &self.cells[..self.len]
+    }
+
+    /// Takes all bytes away.
+    pub(crate) fn clear(&mut self)
+        ensures { self.new ≡ [] }
+    {
+        self.len = 0;
+    }
+
+    /// Adds a piece.
+    pub(crate) fn add(&mut self, piece: &[u8])
+        requires { length self.old + length piece.now ≤ ROOM }
+        ensures { self.new ≡ self.old ++ piece.now }
+    {
+        let end = self.len + piece.len();
+        self.cells[self.len..end].copy_from_slice(piece);
+        self.len = end;
+    }
+
+    /// Adds a space and the code.
+    pub(crate) fn add_code(&mut self, code: &Code)
+        requires { length self.old + CODE_ROOM ≤ ROOM }
+        ensures text { self.new ≡ self.old ++ spaced code.now [] }
+        ensures short { length self.new ≤ length self.old + CODE_ROOM }
+        ensures code { is_code code.now ≡ true }
+    {
+        self.add(b" ");
+        self.add(code.bytes());
+    }
+
+    /// Adds a space and the number.
+    pub(crate) fn add_number(&mut self, number: u64)
+        requires { length self.old + NUMBER_ROOM ≤ ROOM }
+        ensures text { self.new ≡ self.old ++ spaced (decimal number) [] }
+        ensures short { length self.new ≤ length self.old + NUMBER_ROOM }
+    {
+        self.add(b" ");
+        self.add(digits(number).bytes());
+    }
+
+    /// Adds a space and the bit.
+    pub(crate) fn add_bit(&mut self, bit: bool)
+        requires { length self.old + 2 ≤ ROOM }
+        ensures { self.new ≡ self.old ++ spaced (bit_text bit) [] }
+    {
+        self.add(if bit { b" 1" } else { b" 0" });
+    }
+}

@@ -1,0 +1,128 @@
+-- What passed last of an activity, and why it passes again.
+use Rattle.std.proofs.Common.{◌≡◌, ◌≢◌, ℕ, ◌+◌, ◌*◌, ◌^◌, ◌<◌, ◌≤◌, zero, suc, Bool, true, false, not, ◌&&◌, ◌||◌, List, [], length, replicate, set, None, refl, sym, ap, subst, ◌∙◌, arith, ⊎_elim}
+use Rattle.std.specs.Prelude.{◌==◌, nat_lt, slice_index, IsTrue, ◌⊎◌, if◌then◌else◌}
+use Rattle.std.proofs.lemmas.Bool.{cases_eq, eq-eqb, le-leb, le-ltb, ltb-true}
+use Rattle.std.proofs.lemmas.List.{get_or-replicate, get_or-set_same, get_or-set_other, length-replicate, length-set}
+use Rattle.pc_model.specs.declared.Knee.{Knee}
+use Rattle.pc_model.specs.Pieces.{knee_at}
+use Rattle.pc_model.specs.Schedule.{crash_of}
+use Rattle.pc_model.specs.Walk.{from_of, to_of}
+use Rattle.pc_curve_laws.specs.Segment.{span, head_at, tail_at}
+use Rattle.pc_crash.specs.KneeLists.{AreKneesOf}
+use Rattle.pc_crash.specs.Priced.{PricedNetwork, knees_in}
+use Rattle.pc_cert.specs.declared.line.CertLine.TheVariants.{Act}
+use Rattle.pc_check.specs.Conditions.{conditions, has_act_code, has_room, keeps_rises, is_slack, is_slack_in}
+use Rattle.pc_check.specs.Crossings.{IsCrossing}
+use Rattle.pc_check.specs.Failures.{first_failing}
+use Rattle.pc_check.specs.Known.{Known, each_below, frame}
+use Rattle.pc_check.specs.KneeTests.{is_slack_at_knee, is_slack_over}
+use Rattle.pc_check.specs.Passed.{IsWithin, FitsWithin, HasPassed, IsPassed, passed_at, ArePassed, ComesAgain}
+use Rattle.pc_check.specs.Kept.{stretch_of}
+use Rattle.pc_check.specs.Safe.{IsSafe, IsRaised, AddsAct}
+use Rattle.pc_check.specs.declared.gaps.Crossing.{Crossing}
+use Rattle.pc_check.specs.declared.kept.Tally.{Tally}
+use Rattle.pc_check.specs.declared.passed.Passed.{Passed}
+use Rattle.pc_check.proofs.BelowLaws.{and_parts, passes_behind}
+use Rattle.pc_check.proofs.KneeLaws.{is_slack-list}
+use Rattle.pc_check.proofs.StillLaws.{rests, no_stop_in, still_room, still_slack}
+
+-- ---- gaps that flows fit
+
+each_all : (n : ℕ) (test : ℕ → Bool) → ((k : ℕ) → k < n → test k ≡ true) → each_below n test ≡ true
+each_all zero test all = refl
+each_all (suc n) test all = rw (each_all n test (λ k lt. all k (omega (arith, lt))), all n (omega arith)) refl
+
+-- where the gap is above a duration only if nothing flows
+above_fits : (high head tail at flow : ℕ) → head ≤ tail + high → (flow ≢ 0 → high ≤ at) → (not (nat_lt (tail + at) head) || flow == 0) ≡ true
+above_fits high head tail at flow below low =
+    ⊎_elim (λ none. sym (passes_behind _ _ (eq-eqb flow 0 none)))
+    (λ some. rw (le-ltb (tail + at) head (omega (arith, below, low some))) refl) (cases_eq flow 0)
+
+below_fits : (low head tail at rise flow : ℕ) → tail + low ≤ head → (flow ≢ rise → at ≤ low) → (not (nat_lt head (tail + at)) || flow == rise) ≡ true
+below_fits low head tail at rise flow above high =
+    ⊎_elim (λ whole. sym (passes_behind _ _ (eq-eqb flow rise whole)))
+    (λ other. rw (le-ltb head (tail + at) (omega (arith, above, high other))) refl) (cases_eq flow rise)
+
+slack_within : {crash low high : ℕ} (knees : List Knee) (flows : List ℕ) (head tail : ℕ) → FitsWithin crash knees flows (length knees) low high → IsWithin low high head tail → is_slack_over head tail crash knees flows ≡ true
+slack_within {crash} {low} {high} knees flows head tail fits is =
+    let each : each_below (length knees) (λ k. is_slack_at_knee head tail (knee_at knees k).at (knee_at knees k).rise (slice_index flows k)) ≡ true =
+    each_all (length knees) _ (λ k lt. rw (above_fits high head tail (knee_at knees k).at (slice_index flows k) is.below (fits.empty k lt), below_fits low head tail (knee_at knees k).at (knee_at knees k).rise (slice_index flows k) is.above (fits.full k lt)) refl) in
+    rw (each, above_fits high head tail crash (slice_index flows (length knees)) is.below fits.beside) refl
+
+-- the same of the knees of an activity
+pub slack_in_within : {low high : ℕ} (net : PricedNetwork) (a : ℕ) (list : List Knee) (flows : List ℕ) (head tail : ℕ) → AreKneesOf (knees_in net) a list → FitsWithin (crash_of net.terms a) list flows (length list) low high → IsWithin low high head tail → is_slack_in net head tail a flows ≡ true
+slack_in_within net a list flows head tail are fits is =
+    sym (is_slack-list (knees_in net) a list are head tail (crash_of net.terms a) flows) ∙ slack_within list flows head tail fits is
+
+-- ---- nothing has passed
+
+pub nothing_passed : (net : PricedNetwork) (nothing : Passed) → nothing.flows ≡ [] → ArePassed net (replicate (length net.network.arcs) nothing)
+nothing_passed net nothing none = record {
+  one_each = length-replicate (length net.network.arcs) nothing;
+  each = λ a below some.
+      let e = ap (λ row. row.flows) (get_or-replicate (length net.network.arcs) a nothing _ below) ∙ none in
+      absurd (omega (arith, subst (λ flows. 0 < length flows) e some));
+}
+
+-- ---- something has passed
+
+pub passed_with : {net : PricedNetwork} {rows : List Passed} (a : ℕ) (row : Passed) → ArePassed net rows → a < length net.network.arcs → HasPassed net a row → ArePassed net (set rows a row)
+passed_with {net} {rows} a row are known has = record {
+  one_each = length-set rows a row ∙ are.one_each;
+  each = λ b below. ⊎_elim
+      (λ here. subst (λ i. IsPassed net i (passed_at (set rows a row) i)) (sym here) (λ some. subst (HasPassed net a) (sym (get_or-set_same rows a row _ (omega (arith, known, are.one_each)))) has))
+      (λ other. subst (IsPassed net b) (sym (get_or-set_other rows a b row _ other)) (are.each b below)) (cases_eq b a);
+}
+
+-- an activity that has its code is one of the network
+pub has_code-known : (net : PricedNetwork) (a : ℕ) (code flows : List ℕ) (holds : Bool) → holds ≡ has_act_code net a code flows → holds ≡ true → a < length net.network.arcs
+has_code-known net a code flows holds is true_here =
+    ltb-true a (length net.network.arcs) (and_parts _ _ (and_parts _ _ (sym is ∙ true_here)).0).0
+
+-- ---- what an activity adds that does not cross the cut
+
+quiet : (b : Bool) (old x : ℕ) → b ≡ false → old ≡ old + (if b then x else 0)
+quiet true old x none = absurd cc
+quiet false old x none = omega arith
+
+goes_on : (old stops : Bool) → stops ≡ false → old ≡ (old || stops)
+goes_on true stops none = refl
+goes_on false stops none = sym none
+
+pub adds_again : {net : PricedNetwork} {old new : Tally} {crossing : Crossing} {passed : Passed} → IsCrossing net.network.arcs (stretch_of old) old.acts crossing → (crossing.forward || crossing.backward) ≡ false → HasPassed net old.acts passed
+    → new ≡ record old { acts = old.acts + 1; inflow = new.inflow; outflow = new.outflow; spent = new.spent }
+    → IsRaised old.inflow.items new.inflow.items (to_of net.network.arcs old.acts) passed.flow
+    → IsRaised old.outflow.items new.outflow.items (from_of net.network.arcs old.acts) passed.flow
+    → new.spent ≡ old.spent + passed.cost
+    → AddsAct net old passed.duration passed.flows new
+adds_again {net} {old} {new} {crossing} {passed} is still has rest inflow outflow spent =
+    let parts = rests is still in record {
+      rest = rest ∙ rw (ap (λ t. t.forward) rest, ap (λ t. t.backward) rest, ap (λ t. t.stops) rest) refl;
+      inflow = subst (IsRaised old.inflow.items new.inflow.items (to_of net.network.arcs old.acts)) has.flow inflow;
+      outflow = subst (IsRaised old.outflow.items new.outflow.items (from_of net.network.arcs old.acts)) has.flow outflow;
+      spent = spent ∙ ap (λ cost. old.spent + cost) has.cost;
+      forward = ap (λ t. t.forward) rest ∙ quiet _ old.forward _ parts.0;
+      backward = ap (λ t. t.backward) rest ∙ quiet _ old.backward _ parts.1;
+      stops = ap (λ t. t.stops) rest ∙ goes_on old.stops _ (no_stop_in net (stretch_of old) old.acts is still);
+    }
+
+-- sums stay below what one activity more can make them
+pub raised_small : {event by : ℕ} (acts : ℕ) (old new : List ℕ) → IsRaised old new event by → by < 2 ^ 67 → ((e : ℕ) → slice_index old e ≤ acts * 2 ^ 67) → (e : ℕ) → slice_index new e ≤ (acts + 1) * 2 ^ 67
+raised_small {event} acts old new raised small all e =
+    ⊎_elim (λ here. subst (λ i. slice_index new i ≤ (acts + 1) * 2 ^ 67) (sym here) (omega (arith, raised.there, all event, small)))
+    (λ other. omega (arith, raised.elsewhere e other, all e)) (cases_eq e event)
+
+-- ---- it passes again
+
+pub again_passes : {net : PricedNetwork} {known : Known} {crossing : Crossing} {passed : Passed} {duration : ℕ} {flows : List ℕ} (code : List ℕ) → has_act_code net known.acts code flows ≡ true → IsCrossing net.network.arcs (frame known) known.acts crossing → ComesAgain net known crossing passed duration flows → HasPassed net known.acts passed
+    → first_failing (conditions net known (Act code duration flows)) ≡ None
+again_passes {net} {known} {crossing} {passed} {duration} {flows} code has_code is again has =
+    let a = known.acts in
+    let seg = frame known in
+    let arcs = net.network.arcs in
+    let within : IsWithin passed.low passed.high (head_at arcs seg 0 a) (tail_at arcs seg 0 a) =
+    subst (λ h. IsWithin passed.low passed.high h (tail_at arcs seg 0 a)) is.upper_head (subst (λ t. IsWithin passed.low passed.high crossing.upper.head t) is.upper_tail again.within) in
+    let room = still_room net seg a crossing is again.still (le-leb (tail_at arcs seg 0 a + crash_of net.terms a) (head_at arcs seg 0 a) (omega (arith, within.above, has.room))) in
+    let slack = sym (still_slack net seg a flows crossing is again.still) ∙ subst (λ fs. is_slack net seg 0 a fs ≡ true) (sym again.same_flows) (has.slack (head_at arcs seg 0 a) (tail_at arcs seg 0 a) within) in
+    let rises = subst (λ fs. keeps_rises net a fs ≡ true) (sym again.same_flows) has.rises in
+    rw (has_code, room, again.lasts, rises, slack, again.long) refl

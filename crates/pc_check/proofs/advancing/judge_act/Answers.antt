@@ -1,0 +1,8 @@
+use Rattle.pc_check.proofs.PassedLaws.{has_code-known, passed_with}
+use Rattle.pc_check.proofs.advancing.judge_act.Goals as goal
+
+pub returns-in-None-clause-passed : goal.returns-in-None-clause-passed
+returns-in-None-clause-passed c =
+    let a = c.args.kept.now.tally.acts in
+    let known = has_code-known c.args.net.now a c.args.code.now c.args.flows.now c.has_act_code.result c.has_act_code.ensures c.if-not-has_act_code.false in
+    passed_with a c.passed_of.result c.requires.passed known c.passed_of.ensures

@@ -1,0 +1,24 @@
+use Rattle.std.proofs.Common.{ap, subst, ◌∙◌, length}
+use Rattle.pc_crash.specs.Priced.{knees_in}
+use Rattle.pc_check.specs.KneeTests.{flow_sum}
+use Rattle.pc_check.specs.Passed.{FitsWithin}
+use Rattle.pc_check.proofs.PassedLaws.{slack_in_within}
+use Rattle.pc_check.proofs.passed.passed_of.Goals as goal
+
+pub returns : goal.returns
+returns c =
+    let list = c.knees-list.result in
+    let flows = c.args.flows.now in
+    let gaps = c.gaps_of-gaps.result in
+    let of_knees = subst (λ knees. FitsWithin c.term.result.crash knees c.as_slice-2.result.now (length knees) gaps.low gaps.high) c.as_slice.ensures c.gaps_of-gaps.ensures in
+    let of_flows = subst (λ them. FitsWithin c.term.result.crash list them (length list) gaps.low gaps.high) c.as_slice-2.ensures.value of_knees in
+    let fits = subst (λ term. FitsWithin term.crash list flows (length list) gaps.low gaps.high) c.term.ensures of_flows in
+    record {
+      rises = c.requires.rises;
+      room = fits.room;
+      slack = λ head tail is. slack_in_within c.args.net.now c.args.a list flows head tail c.knees-list.ensures fits is;
+      flow = c.flow_sum.ensures.sum ∙ ap flow_sum c.as_slice-3.ensures.value;
+      small = c.flow_sum.ensures.small;
+      cost = c.activity_cost.ensures.cost;
+      cheap = c.activity_cost.ensures.limit;
+    }

@@ -1,0 +1,60 @@
+-- What passed last of each activity, and when a line that says the same passes again.
+use Rattle.std.specs.Prelude.{◌≡◌, ◌≢◌, ℕ, ◌+◌, ◌^◌, ◌<◌, ◌≤◌, ◌||◌, true, false, List, [], length, slice_index, slice_index_or}
+use Rattle.pc_model.specs.declared.Knee.{Knee}
+use Rattle.pc_model.specs.Pieces.{knee_at}
+use Rattle.pc_model.specs.Cost.{activity_cost}
+use Rattle.pc_model.specs.Schedule.{crash_of}
+use Rattle.pc_crash.specs.Priced.{PricedNetwork, knees_in}
+use Rattle.pc_crash.specs.declared.costing.TheConstants.{MAX_ACTIVITY_COST}
+use Rattle.pc_check.specs.declared.gaps.Crossing.{Crossing}
+use Rattle.pc_check.specs.declared.passed.Passed.{Passed}
+use Rattle.pc_check.specs.Conditions.{has_duration, is_one_length, is_slack_in, keeps_rises}
+use Rattle.pc_check.specs.Known.{Known}
+use Rattle.pc_check.specs.KneeTests.{flow_sum}
+
+-- the gap is from `low` to `high`
+pub record IsWithin (low high head tail : ℕ) : Type 0 where
+  pub above : tail + low ≤ head
+  pub below : head ≤ tail + high
+
+-- none of these gaps is below crash, or above it where something flows beside the knees; and at the first so many knees none is
+-- below a knee where the flow is not its rise, or above one where something flows
+pub record FitsWithin (crash : ℕ) (knees : List Knee) (flows : List ℕ) (count low high : ℕ) : Type 0 where
+  pub room : crash ≤ low
+  pub beside : slice_index flows (length knees) ≢ 0 → high ≤ crash
+  pub full : (k : ℕ) → k < count → slice_index flows k ≢ (knee_at knees k).rise → (knee_at knees k).at ≤ low
+  pub empty : (k : ℕ) → k < count → slice_index flows k ≢ 0 → high ≤ (knee_at knees k).at
+
+-- this has passed of activity a: no flow is above its rise, conditions 6 and 11 hold at all gaps from the least to the greatest,
+-- and the flow and the cost are those of the flows and the duration
+pub record HasPassed (net : PricedNetwork) (a : ℕ) (passed : Passed) : Type 0 where
+  pub rises : keeps_rises net a passed.flows ≡ true
+  pub room : crash_of net.terms a ≤ passed.low
+  pub slack : (head tail : ℕ) → IsWithin passed.low passed.high head tail → is_slack_in net head tail a passed.flows ≡ true
+  pub flow : passed.flow ≡ flow_sum passed.flows
+  pub small : passed.flow < 2 ^ 67
+  pub cost : passed.cost ≡ activity_cost net.terms (knees_in net) a passed.duration
+  pub cheap : passed.cost ≤ MAX_ACTIVITY_COST
+
+-- nothing has passed of activity a, or this
+abbrev pub IsPassed : PricedNetwork → ℕ → Passed → Type 0
+IsPassed net a passed = 0 < length passed.flows → HasPassed net a passed
+
+-- what has passed of activity a
+abbrev pub passed_at : List Passed → ℕ → Passed
+passed_at rows a = slice_index_or rows a (record { duration = 0; flows = []; flow = 0; cost = 0; low = 0; high = 0 })
+
+-- what has passed of each activity
+pub record ArePassed (net : PricedNetwork) (rows : List Passed) : Type 0 where
+  pub one_each : length rows ≡ length net.network.arcs
+  pub each : (a : ℕ) → a < length net.network.arcs → IsPassed net a (passed_at rows a)
+
+-- what is said of the next activity is what passed last of it, and asks no more than that did: the segment has two ends, the
+-- activity does not cross the cut, its gap is within those at which it passed, and the duration is that of the gap
+pub record ComesAgain (net : PricedNetwork) (known : Known) (crossing : Crossing) (passed : Passed) (duration : ℕ) (flows : List ℕ) : Type 0 where
+  pub still : (crossing.forward || crossing.backward) ≡ false
+  pub same_duration : duration ≡ passed.duration
+  pub same_flows : flows ≡ passed.flows
+  pub within : IsWithin passed.low passed.high crossing.upper.head crossing.upper.tail
+  pub lasts : has_duration net known known.acts duration ≡ true
+  pub long : is_one_length known ≡ false

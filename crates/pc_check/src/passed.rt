@@ -1,0 +1,142 @@
+//! What passed last of each activity, so that a line that comes again is not asked everything anew.
+ghost use Rattle.std.specs.Prelude.{◌≡◌, ◌≢◌, ◌+◌, ◌^◌, ◌<◌, ◌≤◌, true, IsTrue, IfOk, length};
+ghost use Rattle.pc_crash.specs.Priced.{knees_in};
+ghost use Rattle.pc_check.specs.Conditions.{keeps_rises};
+ghost use Rattle.pc_check.specs.Kept.{known_by};
+ghost use Rattle.pc_check.specs.Passed.{HasPassed, ArePassed, FitsWithin, IsWithin, ComesAgain};
+
+use crate::acts::flow_sum;
+use crate::gaps::{Crossing, Gap};
+use crate::kept::Kept;
+use crate::reasons::has_duration;
+use pc_cert::Flows;
+use pc_crash::CrashNet;
+use pc_model::Knee;
+use std::alloc::{AllocError, Global};
+
+/// What passed last of an activity: its duration and its flows, or no flows where nothing has passed.
+///
+/// It passes again with these wherever the activity does not cross the cut, its gap is from `low` to `high`, and the duration is
+/// that of the gap.
+#[derive(Clone, Copy, Debug)]
+pub struct Passed {
+    pub(crate) duration: u64,
+    pub(crate) flows: Flows,
+    /// the sum of the flows, and what the activity costs at that duration
+    pub(crate) flow: u128,
+    pub(crate) cost: u64,
+    /// the least and the greatest gap at which conditions 6 and 11 hold with these flows
+    pub(crate) low: u64,
+    pub(crate) high: u64,
+}
+
+/// Gaps from a least to a greatest one.
+#[derive(Clone, Copy, Debug)]
+pub struct Gaps {
+    pub(crate) low: u64,
+    pub(crate) high: u64,
+}
+
+/// Nothing has passed of any activity.
+pub(crate) fn none_passed(alloc: Global, net: &CrashNet<'_>) -> Result<Vec<Passed>, AllocError>
+    ensures { IfOk result (λ passed. ArePassed net.now passed.items) }
+{
+    let nothing = Passed {
+        duration: 0,
+        flows: Flows::new(),
+        flow: 0,
+        cost: 0,
+        low: 0,
+        high: 0,
+    };
+    let activities = net.net().activities() as usize;
+    vec![in alloc; nothing; activities]
+}
+
+/// What has passed of an activity with this duration and these flows, of which none is above its rise.
+pub(crate) fn passed_of(net: &CrashNet<'_>, a: u32, duration: u64, flows: &Flows) -> Passed
+    requires known { a < length net.now.network.arcs }
+    requires flows { length flows.now ≡ (knees_in net.now).count a + 1 }
+    requires rises { keeps_rises net.now a flows.now ≡ true }
+    ensures { HasPassed net.now a result }
+{
+    let list = net.knees(a);
+    let gaps = gaps_of(net.term(a).crash, list.as_slice(), flows.as_slice());
+    Passed {
+        duration,
+        flows: *flows,
+        flow: flow_sum(flows.as_slice()),
+        cost: net.activity_cost(a, duration),
+        low: gaps.low,
+        high: gaps.high,
+    }
+}
+
+/// The gaps that are at least crash and that the flows fit.
+fn gaps_of(crash: u64, knees: &[Knee], flows: &[u64]) -> Gaps
+    requires { length flows.now ≡ length knees.now + 1 }
+    ensures { FitsWithin crash knees.now flows.now (length knees.now) result.low result.high }
+{
+    let mut low = crash;
+    let mut high = if flows[knees.len()] == 0 {
+        u64::MAX
+    } else {
+        crash
+    };
+    for k in 0..knees.len() {
+        low = raised(low, knees[k], flows[k]);
+        high = lowered(high, knees[k], flows[k]);
+    }
+    Gaps { low, high }
+}
+
+/// The least gap of those from `low` on that a flow at a knee fits: not below the knee where the flow is not its rise.
+fn raised(low: u64, knee: Knee, flow: u64) -> u64
+    ensures within { low ≤ result }
+    ensures knee { flow ≢ knee.rise → knee.at ≤ result }
+{
+    if flow == knee.rise {
+        low
+    } else {
+        low.max(knee.at)
+    }
+}
+
+/// The greatest gap of those up to `high` that a flow at a knee fits: not above the knee where something flows.
+fn lowered(high: u64, knee: Knee, flow: u64) -> u64
+    ensures within { result ≤ high }
+    ensures knee { flow ≢ 0 → result ≤ knee.at }
+{
+    if flow == 0 { high } else { high.min(knee.at) }
+}
+
+/// Whether what is said of the next activity is what passed last of it, and passes again: the segment has two ends, the activity
+/// does not cross the cut, its gap is one that the flows fit, and the duration is that of the gap.
+#[inline(always)]
+pub(crate) fn passes_again(
+    net: &CrashNet<'_>,
+    kept: &Kept,
+    crossing: &Crossing,
+    passed: &Passed,
+    duration: u64,
+    flows: &Flows,
+) -> bool
+    requires known { kept.now.tally.acts < length net.now.network.arcs }
+    requires small { crossing.now.upper.tail < 2 ^ 65 }
+    ensures { IsTrue result → ComesAgain net.now (known_by kept.now) crossing.now passed.now duration flows.now }
+{
+    !crossing.crosses()
+        && duration == passed.duration
+        && *flows == passed.flows
+        && is_within(crossing.upper, passed)
+        && has_duration(net, kept, kept.tally.acts, duration)
+        && kept.tally.lower != kept.tally.upper
+}
+
+/// Whether the gap is from the least to the greatest.
+fn is_within(gap: Gap, passed: &Passed) -> bool
+    requires { gap.tail < 2 ^ 65 }
+    ensures { IsTrue result → IsWithin passed.now.low passed.now.high gap.head gap.tail }
+{
+    gap.tail + u128::from(passed.low) <= gap.head && gap.head <= gap.tail + u128::from(passed.high)
+}

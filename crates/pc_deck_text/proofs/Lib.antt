@@ -1,0 +1,4 @@
+pub mod SameLaws
+pub mod AgainLaws
+pub mod SettledLaws
+pub mod WrittenLaws

@@ -1,0 +1,5 @@
+pub mod ConvexLaws
+mod LeastLaws
+mod TotalLaws
+mod SignLaws
+mod WayLaws

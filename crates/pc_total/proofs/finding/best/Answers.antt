@@ -1,0 +1,172 @@
+use Rattle.std.proofs.Common.{◌≡◌, ◌+◌, ◌<◌, ◌≤◌, ◌∙◌, true≢false, refl, sym, subst, arith}
+use Rattle.pc_flow.specs.Courses.{HasEnded, IsSameCurve, IsFurther, most_looks, present}
+use Rattle.pc_flow.proofs.LookLaws.{same-joins, further-joins, looks-none, looks-join, looks-most}
+use Rattle.pc_total.specs.Stops.{IsStop, PaysToStop}
+use Rattle.pc_total.proofs.WayLaws.{HasComeDown, way-begins, ends-come, ends-low, ends-stop, next-same, next-further, next-less, next-way, stop-come, stop-pays, best-there, pays-there}
+use Rattle.pc_total.proofs.finding.best.Goals.{then-stop-upper, else-stop-upper}
+use Rattle.pc_total.proofs.finding.best.Goals as goal
+
+pub loop-solver-init : goal.loop-solver-init
+loop-solver-init g c = record {
+  way = way-begins c.args.terms.now c.args.solver.now c.requires.before;
+  counted = omega (arith, looks-none c.args.solver.now);
+}
+
+pub best_at-requires-clause-to_come : goal.best_at-requires-clause-to_come
+best_at-requires-clause-to_come g c =
+    let from = c.args.solver.now in
+    let terms = c.args.terms.now in
+    let stop = c.loop-solver.solver in
+    let next = c.next_segment.new.self in
+    let priced = (rw c.net.ensures at c.net-net.ensures).priced in
+    let going : HasEnded stop → ⊥ = λ ended. true≢false (sym c.loop-solver-test.true ∙ c.next_segment.ensures.ended.1 ended) in
+    let goes = c.next_segment.ensures.next c.loop-solver-test.true in
+    let stops : IsStop terms (present next).lower (present next).upper (present next).slope c.stop_in-stop.result =
+    rw (c.lower.ensures, c.upper.ensures, c.slope-slope.ensures) at c.stop_in-stop.ensures in
+    stop-come terms from stop c.loop-solver.gain c.loop-solver.invariant.way priced next c.next_segment.ensures.same c.next_segment.ensures.further goes going c.stop_in-stop.result stops
+
+pub best_at-requires-clause-stop : goal.best_at-requires-clause-stop
+best_at-requires-clause-stop g c =
+    let from = c.args.solver.now in
+    let terms = c.args.terms.now in
+    let stop = c.loop-solver.solver in
+    let next = c.next_segment.new.self in
+    let priced = (rw c.net.ensures at c.net-net.ensures).priced in
+    let going : HasEnded stop → ⊥ = λ ended. true≢false (sym c.loop-solver-test.true ∙ c.next_segment.ensures.ended.1 ended) in
+    let goes = c.next_segment.ensures.next c.loop-solver-test.true in
+    let stops : IsStop terms (present next).lower (present next).upper (present next).slope c.stop_in-stop.result =
+    rw (c.lower.ensures, c.upper.ensures, c.slope-slope.ensures) at c.stop_in-stop.ensures in
+    let over : (present next).lower < c.stop_in-stop.result = omega (arith, c.if-stop-lower.true, c.lower-in-loop-solver.ensures) in
+    let pays = stop-pays terms from stop c.loop-solver.gain c.loop-solver.invariant.way priced next c.next_segment.ensures.same c.next_segment.ensures.further goes going c.stop_in-stop.result stops over c.if-stop-upper.gain in
+    rw c.slope-slope.ensures
+    (pays-there terms from next c.stop_in-stop.result (present next).slope c.if-stop-upper.gain
+    (same-joins from stop next c.loop-solver.invariant.way.same c.next_segment.ensures.same)
+    (elim c.if-stop-upper.branch [
+      | then-stop-upper w ↦
+          pays (λ inside. w.gain-is ∙ c.slope-slope.ensures) (λ at. absurd (omega (arith, at, w.if-stop-upper.true, c.upper-then-stop-lower.ensures)))
+      | else-stop-upper w ↦
+          pays (λ inside. absurd (omega (arith, inside, w.if-stop-upper.false, c.upper-then-stop-lower.ensures))) (λ at. w.gain-is)
+    ]))
+
+pub returns-then-stop-lower-clause-counted : goal.returns-then-stop-lower-clause-counted
+returns-then-stop-lower-clause-counted g c =
+    let from = c.args.solver.now in
+    let so_far = c.loop-solver.invariant in
+    let next = c.next_segment.new.self in
+    let here = looks-join from c.loop-solver.solver next so_far.way.same so_far.way.further c.next_segment.ensures.further _ _ _ so_far.counted c.next_segment.ensures.counted in
+    looks-join from next c.best_at.new.solver (same-joins from c.loop-solver.solver next so_far.way.same c.next_segment.ensures.same)
+    (further-joins from c.loop-solver.solver next so_far.way.further c.next_segment.ensures.further) c.best_at.ensures.further _ _ _ here c.best_at.ensures.counted
+
+pub returns-then-stop-lower-clause-limit : goal.returns-then-stop-lower-clause-limit
+returns-then-stop-lower-clause-limit g c =
+    let from = c.args.solver.now in
+    let so_far = c.loop-solver.invariant in
+    let next = c.next_segment.new.self in
+    let last = c.best_at.new.solver in
+    let same = same-joins from c.loop-solver.solver next so_far.way.same c.next_segment.ensures.same in
+    let here = looks-join from c.loop-solver.solver next so_far.way.same so_far.way.further c.next_segment.ensures.further _ _ _ so_far.counted c.next_segment.ensures.counted in
+    let all = looks-join from next last same
+    (further-joins from c.loop-solver.solver next so_far.way.further c.next_segment.ensures.further) c.best_at.ensures.further _ _ _ here c.best_at.ensures.counted in
+    omega (
+      arith,
+      all,
+      looks-most from last (c.given-given.ensures.level (c.given-given.ensures.given ∙ c.requires.before)) (same-joins from next last same c.best_at.ensures.same)
+          c.best_at.ensures.gentle c.best_at.ensures.range,
+    )
+
+pub returns-then-stop-lower-clause-best : goal.returns-then-stop-lower-clause-best
+returns-then-stop-lower-clause-best g c =
+    let from = c.args.solver.now in
+    let next = c.next_segment.new.self in
+    best-there c.args.terms.now from next c.best_at.result
+    (same-joins from c.loop-solver.solver next c.loop-solver.invariant.way.same c.next_segment.ensures.same) c.best_at.ensures.best
+
+pub loop-solver-smaller : goal.loop-solver-smaller
+loop-solver-smaller g c =
+    let from = c.args.solver.now in
+    let terms = c.args.terms.now in
+    let stop = c.loop-solver.solver in
+    let next = c.next_segment.new.self in
+    let priced = (rw c.net.ensures at c.net-net.ensures).priced in
+    let going : HasEnded stop → ⊥ = λ ended. true≢false (sym c.loop-solver-test.true ∙ c.next_segment.ensures.ended.1 ended) in
+    let goes = c.next_segment.ensures.next c.loop-solver-test.true in
+    next-less terms from stop c.loop-solver.gain c.loop-solver.invariant.way priced next c.next_segment.ensures.same c.next_segment.ensures.further goes going
+
+pub loop-solver-preserved : goal.loop-solver-preserved
+loop-solver-preserved g c =
+    let from = c.args.solver.now in
+    let terms = c.args.terms.now in
+    let stop = c.loop-solver.solver in
+    let next = c.next_segment.new.self in
+    let priced = (rw c.net.ensures at c.net-net.ensures).priced in
+    let going : HasEnded stop → ⊥ = λ ended. true≢false (sym c.loop-solver-test.true ∙ c.next_segment.ensures.ended.1 ended) in
+    let goes = c.next_segment.ensures.next c.loop-solver-test.true in
+    let stops : IsStop terms (present next).lower (present next).upper (present next).slope c.stop_in-stop.result =
+    rw (c.lower.ensures, c.upper.ensures, c.slope-slope.ensures) at c.stop_in-stop.ensures in
+    let under : c.stop_in-stop.result ≤ (present next).lower = omega (arith, c.if-stop-lower.false, c.lower-in-loop-solver.ensures) in
+    let so_far = c.loop-solver.invariant in
+    record {
+      way = subst (λ n. HasComeDown terms from next n) (sym c.slope-slope.ensures) (next-way terms from stop c.loop-solver.gain c.loop-solver.invariant.way priced next c.next_segment.ensures.same c.next_segment.ensures.further goes going c.stop_in-stop.result stops under);
+      counted = looks-join from stop next so_far.way.same so_far.way.further c.next_segment.ensures.further _ _ _ so_far.counted c.next_segment.ensures.counted;
+    }
+
+pub best_at-requires-2-clause-to_come : goal.best_at-requires-2-clause-to_come
+best_at-requires-2-clause-to_come g c =
+    let from = c.args.solver.now in
+    let terms = c.args.terms.now in
+    let stays : c.next_segment.new.self ≡ c.loop-solver.solver = c.next_segment.ensures.unchanged c.loop-solver-test.false in
+    let last = c.next_segment.new.self in
+    let way = subst (λ d. HasComeDown terms from d c.loop-solver.gain) (sym stays) c.loop-solver.invariant.way in
+    let ended = subst HasEnded (sym stays) (c.next_segment.ensures.ended.0 c.loop-solver-test.false) in
+    rw c.shortest-shortest.ensures.shortest (ends-come terms from last c.loop-solver.gain way ended)
+
+pub best_at-requires-2-clause-stop : goal.best_at-requires-2-clause-stop
+best_at-requires-2-clause-stop g c =
+    let from = c.args.solver.now in
+    let terms = c.args.terms.now in
+    let stays : c.next_segment.new.self ≡ c.loop-solver.solver = c.next_segment.ensures.unchanged c.loop-solver-test.false in
+    let last = c.next_segment.new.self in
+    let way = subst (λ d. HasComeDown terms from d c.loop-solver.gain) (sym stays) c.loop-solver.invariant.way in
+    let ended = subst HasEnded (sym stays) (c.next_segment.ensures.ended.0 c.loop-solver-test.false) in
+    let at = c.shortest-shortest.ensures.shortest ∙ way.same.shortest in
+    rw at (pays-there terms from last from.shortest 0 c.loop-solver.gain way.same (ends-stop terms from last c.loop-solver.gain way ended))
+
+pub returns-clause-counted : goal.returns-clause-counted
+returns-clause-counted g c =
+    let from = c.args.solver.now in
+    let terms = c.args.terms.now in
+    let stays : c.next_segment.new.self ≡ c.loop-solver.solver = c.next_segment.ensures.unchanged c.loop-solver-test.false in
+    let last = c.next_segment.new.self in
+    let way = subst (λ d. HasComeDown terms from d c.loop-solver.gain) (sym stays) c.loop-solver.invariant.way in
+    let ended = subst HasEnded (sym stays) (c.next_segment.ensures.ended.0 c.loop-solver-test.false) in
+    let before = looks-join from c.loop-solver.solver last c.loop-solver.invariant.way.same c.loop-solver.invariant.way.further c.next_segment.ensures.further _ _ _
+    c.loop-solver.invariant.counted c.next_segment.ensures.counted in
+    looks-join from last c.best_at-2.new.solver way.same way.further c.best_at-2.ensures.further _ _ _ before c.best_at-2.ensures.counted
+
+pub returns-clause-limit : goal.returns-clause-limit
+returns-clause-limit g c =
+    let from = c.args.solver.now in
+    let terms = c.args.terms.now in
+    let stays : c.next_segment.new.self ≡ c.loop-solver.solver = c.next_segment.ensures.unchanged c.loop-solver-test.false in
+    let last = c.next_segment.new.self in
+    let way = subst (λ d. HasComeDown terms from d c.loop-solver.gain) (sym stays) c.loop-solver.invariant.way in
+    let ended = subst HasEnded (sym stays) (c.next_segment.ensures.ended.0 c.loop-solver-test.false) in
+    let before = looks-join from c.loop-solver.solver last c.loop-solver.invariant.way.same c.loop-solver.invariant.way.further c.next_segment.ensures.further _ _ _
+    c.loop-solver.invariant.counted c.next_segment.ensures.counted in
+    let all = looks-join from last c.best_at-2.new.solver way.same way.further c.best_at-2.ensures.further _ _ _ before c.best_at-2.ensures.counted in
+    omega (
+      arith,
+      all,
+      looks-most from c.best_at-2.new.solver (c.given-given.ensures.level (c.given-given.ensures.given ∙ c.requires.before))
+          (same-joins from last c.best_at-2.new.solver way.same c.best_at-2.ensures.same) c.best_at-2.ensures.gentle c.best_at-2.ensures.range,
+    )
+
+pub returns-clause-best : goal.returns-clause-best
+returns-clause-best g c =
+    let from = c.args.solver.now in
+    let terms = c.args.terms.now in
+    let stays : c.next_segment.new.self ≡ c.loop-solver.solver = c.next_segment.ensures.unchanged c.loop-solver-test.false in
+    let last = c.next_segment.new.self in
+    let way = subst (λ d. HasComeDown terms from d c.loop-solver.gain) (sym stays) c.loop-solver.invariant.way in
+    let ended = subst HasEnded (sym stays) (c.next_segment.ensures.ended.0 c.loop-solver-test.false) in
+    best-there terms from last c.best_at-2.result way.same c.best_at-2.ensures.best

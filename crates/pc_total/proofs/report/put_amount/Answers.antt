@@ -1,0 +1,7 @@
+use Rattle.std.proofs.Common.{rules}
+use Rattle.std.specs.Fmt.{signed_decimal}
+use Rattle.pc_page.proofs.PageLaws.{◌▸◌, Adds-as}
+use Rattle.pc_total.proofs.report.put_amount.Goals as goal
+
+pub returns : goal.returns
+returns g c = c.put.ensures ▸ Adds-as (signed_decimal c.args.amount) (search rules) c.put_signed.ensures ▸ c.put-2.ensures

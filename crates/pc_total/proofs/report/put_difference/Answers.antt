@@ -1,0 +1,7 @@
+use Rattle.std.proofs.Common.{ap, rules, sym, ◌∙◌}
+use Rattle.pc_page.proofs.PageLaws.{◌▸◌, Adds-as}
+use Rattle.pc_total.specs.BestText.{difference, line}
+use Rattle.pc_total.proofs.report.put_difference.Goals as goal
+
+pub returns-in-None : goal.returns-in-None
+returns-in-None g c = rw c.in-None.is (c.put.ensures ▸ c.put-in-None.ensures)

@@ -1,0 +1,4 @@
+pub mod Totals
+pub mod Bests
+pub mod Stops
+pub mod BestText

@@ -1,0 +1,96 @@
+//! The optimum of a solver's curve.
+ghost use Rattle.std.specs.Prelude.{◌≡◌, ◌+◌, ◌^◌, ◌≤◌, ◌<◌, false};
+ghost use Rattle.pc_model.specs.TimeCost.{AreTimeTerms};
+ghost use Rattle.pc_flow.specs.Courses.{IsFurther, IsSameCurve, all_looks, lower_of, most_looks};
+ghost use Rattle.pc_search.specs.Labelling.{slopes_in};
+ghost use Rattle.pc_curve.specs.Points.{curve_in, IsToCome};
+ghost use Rattle.pc_total.specs.Bests.{IsBest};
+ghost use Rattle.pc_total.specs.Stops.{PaysToStop};
+
+use crate::optimum::Best;
+use crate::signs::{above_at, below_at};
+use crate::stopping::stop_in;
+use crate::time::{time_cost, unit_cost};
+use pc_crash::{SegmentView, Steps};
+use pc_curve::cost_at;
+use pc_flow::Solver;
+use pc_model::TimeTerms;
+use std::sync::ledger::Ledger;
+
+/// The optimum of the curve of a solver's network: the length of its range for which the project costs least in all, and of
+/// several the smallest.
+///
+/// The solver goes down from before its first segment for as long as a unit less costs no more than it saves. A few steps a
+/// segment, and at most four looks at each activity for each unit by which the slope rises or the lower end comes down. It
+/// takes no memory.
+pub fn best<L: Ledger>(
+    solver: &mut Solver<'_>,
+    terms: &TimeTerms,
+    steps: &mut Steps<L>,
+) -> Best
+    requires before { solver.old.given ≡ false }
+    requires terms { AreTimeTerms terms.now }
+    ensures best { IsBest (curve_in solver.old.net) terms.now solver.old.shortest solver.old.longest result }
+    ensures same { IsSameCurve solver.old solver.new }
+    ensures further { IsFurther solver.old solver.new }
+    ensures counted { steps.new ≤ steps.old + most_looks solver.old solver.new }
+    ensures limit { steps.new ≤ steps.old + all_looks solver.old }
+{
+    // What is known of the network says that the least costs are those of a curve, and before the first segment nothing has
+    // fallen.
+    let _net = solver.net().net();
+    let _given = solver.given();
+    // What one unit more saves where the next segment begins.
+    let mut gain = 0;
+    while solver.next_segment(steps) {
+        let slope = solver.slope();
+        let stop = stop_in(terms, solver.lower(), solver.upper(), slope);
+        if stop > solver.lower() {
+            let gain = if stop < solver.upper() { slope } else { gain };
+            return best_at(solver, terms, stop, slope, gain, steps);
+        }
+        gain = slope;
+    }
+    let shortest = solver.shortest();
+    best_at(solver, terms, shortest, 0, gain, steps)
+}
+
+/// The optimum, where it pays to come down to this length and no further: so much a unit less costs, and so much a unit more
+/// saves.
+fn best_at<L: Ledger>(
+    solver: &mut Solver<'_>,
+    terms: &TimeTerms,
+    length: u64,
+    slope: u64,
+    gain: u64,
+    steps: &mut Steps<L>,
+) -> Best
+    requires terms { AreTimeTerms terms.now }
+    requires to_come { IsToCome solver.old length }
+    requires stop { PaysToStop (curve_in solver.old.net) terms.now solver.old.shortest solver.old.longest length slope gain }
+    requires small { slope < 10 ^ 18 }
+    requires small_gain { gain < 10 ^ 18 }
+    ensures best { IsBest (curve_in solver.old.net) terms.now solver.old.shortest solver.old.longest result }
+    ensures same { IsSameCurve solver.old solver.new }
+    ensures further { IsFurther solver.old solver.new }
+    ensures counted { steps.new ≤ steps.old + most_looks solver.old solver.new }
+    ensures gentle { solver.new.slope ≤ slopes_in solver.new.net }
+    ensures range { solver.new.shortest ≤ lower_of solver.new }
+{
+    // What is known of the network says that the least costs are those of a curve.
+    let _net = solver.net().net();
+    let shortest = solver.shortest();
+    let longest = solver.longest();
+    let direct = cost_at(solver, length, steps);
+    // At any time a solver's slope is at most the sum of the last slopes, and its lower end is in the range.
+    let _given = solver.given();
+    let time = time_cost(terms, length);
+    Best {
+        length,
+        direct,
+        time,
+        total: direct as i64 + time,
+        below: below_at(terms, shortest, length, slope),
+        above: above_at(terms, longest, length, gain),
+    }
+}

@@ -1,0 +1,65 @@
+//! What is printed of an optimum.
+ghost use Rattle.std.specs.Prelude.{decimal};
+ghost use Rattle.std.specs.Fmt.{signed_decimal};
+ghost use Rattle.pc_page.specs.Puts.{Puts};
+ghost use Rattle.pc_total.specs.BestText.{best_text, difference, line};
+
+use crate::optimum::Best;
+use pc_edges::Sink;
+use pc_page::Page;
+use pc_text::Code;
+
+/// Puts the lines of the optimum of a project with this code on a page, on which more may follow: its length, the least cost
+/// of a schedule for it, what its time costs, both together, and by how much the total is higher one unit shorter and one
+/// unit longer, with a dash where the range ends.
+pub fn put_best<O: Sink>(page: &mut Page, sink: &mut O, code: &Code, best: &Best)
+    ensures { Puts O.taken O.faults page.old sink.old page.new sink.new (best_text code.now best.now) }
+{
+    put_code(page, sink, b"OPTIMUM ", code);
+    put_number(page, sink, b"LENGTH ", best.length);
+    put_number(page, sink, b"DIRECT ", best.direct);
+    put_amount(page, sink, b"TIME ", best.time);
+    put_amount(page, sink, b"TOTAL ", best.total);
+    put_difference(page, sink, b"BELOW ", best.below);
+    put_difference(page, sink, b"ABOVE ", best.above);
+}
+
+/// Puts the line of a code.
+fn put_code<O: Sink>(page: &mut Page, sink: &mut O, word: &[u8], code: &Code)
+    ensures { Puts O.taken O.faults page.old sink.old page.new sink.new (line word.now code.now) }
+{
+    page.put(sink, word);
+    page.put(sink, code.bytes());
+    page.put(sink, b"\n");
+}
+
+/// Puts the line of a number.
+fn put_number<O: Sink>(page: &mut Page, sink: &mut O, word: &[u8], number: u64)
+    ensures { Puts O.taken O.faults page.old sink.old page.new sink.new (line word.now (decimal number)) }
+{
+    page.put(sink, word);
+    page.put_number(sink, number);
+    page.put(sink, b"\n");
+}
+
+/// Puts the line of an amount, with `-` before a negative one.
+fn put_amount<O: Sink>(page: &mut Page, sink: &mut O, word: &[u8], amount: i64)
+    ensures { Puts O.taken O.faults page.old sink.old page.new sink.new (line word.now (signed_decimal amount)) }
+{
+    page.put(sink, word);
+    page.put_signed(sink, amount);
+    page.put(sink, b"\n");
+}
+
+/// Puts the line of a difference, or of a dash.
+fn put_difference<O: Sink>(page: &mut Page, sink: &mut O, word: &[u8], more: Option<i64>)
+    ensures { Puts O.taken O.faults page.old sink.old page.new sink.new (line word.now (difference more)) }
+{
+    match more {
+        Some(more) => put_amount(page, sink, word, more),
+        None => {
+            page.put(sink, word);
+            page.put(sink, b"-\n");
+        }
+    }
+}

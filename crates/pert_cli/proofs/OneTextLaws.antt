@@ -1,0 +1,49 @@
+-- An accepted deck has one text of each of these forms.
+use Rattle.std.proofs.Common.{◌≡◌, ℕ, List, length, slice_index, refl, sym, ap, ◌∙◌, arith}
+use Rattle.std.proofs.lemmas.List.{ext_get_or}
+use Rattle.pc_model.specs.Cost.{cost_of}
+use Rattle.pc_model.specs.Pieces.{knees_of}
+use Rattle.pc_model.proofs.Walks.WalkLaws.{greatest_unique}
+use Rattle.pc_bench.proofs.OneTextLaws.{one_bench_text}
+use Rattle.pc_curve.proofs.OneTextLaws.{one_curve_text}
+use Rattle.pc_project.specs.Project.{Project}
+use Rattle.pc_project.proofs.SoundLaws.{HasSoundParts, sound_parts}
+use Rattle.pc_reading.specs.Priced.{priced_in}
+use Rattle.pc_reading.specs.Verdict.{IsProjectOf}
+use Rattle.pc_reports.proofs.OneTextLaws.{one_summary_text, one_times_text, one_value_text}
+use Rattle.pert_cli.specs.declared.forms.Form.{Form}
+use Rattle.pert_cli.specs.declared.forms.Form.TheVariants.{Check, Normal, Times, Summary, Value, Curve, Bench}
+use Rattle.pert_cli.specs.Forms.{HasOneText, IsTextOf}
+use Rattle.pert_cli.specs.Normal.{IsNormalSchedule, IsNormalText, Printed, printed_text}
+
+abbrev make_printed : ℕ → ℕ → List ℕ → List ℕ → Printed
+make_printed l c t d = record { length = l; cost = c; times = t; durations = d }
+
+same_printed : {l m c e : ℕ} {t u d f : List ℕ} → l ≡ m → c ≡ e → t ≡ u → d ≡ f → make_printed l c t d ≡ make_printed m e u f
+same_printed p q r s = rw (p, q, r, s) refl
+
+one_schedule : (project : Project) (p q : Printed) → IsNormalSchedule project p → IsNormalSchedule project q → p ≡ q
+one_schedule project p q x y =
+    let durations = x.normal ∙ sym y.normal in
+    same_printed (greatest_unique _ p.length q.length x.length y.length)
+    (sym x.cost ∙ (ap (λ (ds : List ℕ). cost_of project.terms (knees_of project.terms project.pieces) (slice_index ds)) durations ∙ y.cost))
+    (ext_get_or 0 p.times q.times (x.time_each ∙ sym y.time_each)
+    (λ e lt. greatest_unique _ (slice_index p.times e) (slice_index q.times e) (x.early e (omega (arith, lt, x.time_each))) (y.early e (omega (arith, lt, x.time_each)))))
+    durations
+
+one_normal_text : (project : Project) (text other : List ℕ) → IsNormalText project text → IsNormalText project other → text ≡ other
+one_normal_text project text other x y = x.is ∙ (ap (printed_text project) (one_schedule project x.printed y.printed x.right y.right) ∙ sym y.is)
+
+of_parts : (form : Form) (project : Project) (text other : List ℕ) → HasOneText form → HasSoundParts project → IsTextOf form project text → IsTextOf form project other → text ≡ other
+of_parts Check project text other has parts x y = x ∙ sym y
+of_parts Normal project text other has parts x y = one_normal_text project text other x y
+of_parts Times project text other has parts x y = one_times_text project text other parts x y
+of_parts Summary project text other has parts x y = one_summary_text project text other parts x y
+of_parts Value project text other has parts x y = one_value_text project text other parts x y
+of_parts Curve project text other has parts x y = one_curve_text (priced_in project) text other x y
+of_parts (Bench n) project text other has parts x y = one_bench_text n (priced_in project) text other parts.terms x y
+of_parts _ project text other has parts x y = absurd has
+
+-- two texts that answer such a form for the project of a deck are one
+pub one_text : (bytes : List ℕ) (project : Project) (form : Form) (text other : List ℕ) → IsProjectOf bytes project → HasOneText form → IsTextOf form project text → IsTextOf form project other → text ≡ other
+one_text bytes project form text other is has x y = of_parts form project text other has (sound_parts is.deck project is.accepted.makes is.is) x y

@@ -1,0 +1,52 @@
+-- A project's optimum, and a schedule for it.
+use Rattle.std.proofs.Common.{◌≡◌, ℕ, ◌≤◌, true, slice_index, sym, ◌∙◌, subst, arith}
+use Rattle.pc_model.specs.declared.TimeTerms.{TimeTerms}
+use Rattle.pc_model.specs.Schedule.{IsAllCrashLength, IsAllNormalLength}
+use Rattle.pc_model.proofs.Costs.LeastCost.{unique}
+use Rattle.pc_crash.specs.Priced.{PricedNetwork, knees_in}
+use Rattle.pc_flow.specs.Courses.{Course}
+use Rattle.pc_curve.specs.Points.{curve_in, IsToCome}
+use Rattle.pc_total.specs.declared.optimum.Best.{Best}
+use Rattle.pc_total.specs.Bests.{IsBest}
+use Rattle.pc_project.specs.Project.{Project}
+use Rattle.pc_reading.specs.Priced.{priced_in}
+use Rattle.pert_cli.specs.Normal.{Printed}
+use Rattle.pert_cli.specs.Optimum.{IsOptimumWith}
+use Rattle.pert_cli.specs.Point.{IsCheapest, IsRange}
+use Rattle.pert_cli.proofs.PointLaws.{one_range, range_of}
+
+-- a second solver of the network comes down to the length of the optimum
+pub optimum-to_come : (net : PricedNetwork) (c : Course) (terms : TimeTerms) (shortest longest : ℕ) (best : Best) → IsRange net c.shortest c.longest
+    → IsRange net shortest longest → IsBest (curve_in net) terms shortest longest best → (c.given ≡ true → ⊥) → IsToCome c best.length
+optimum-to_come net c terms shortest longest best range also is none =
+    let same = one_range net c.shortest c.longest shortest longest range also in
+    record {
+      above = omega (arith, is.optimum.above, same.0);
+      within = omega (arith, is.optimum.below, same.1);
+      below = λ given. absurd (none given);
+    }
+
+-- a cheapest schedule for its length costs what is said of it
+optimum-cost : (net : PricedNetwork) (printed : Printed) (limit direct : ℕ) → IsCheapest net printed → printed.length ≡ limit → curve_in net limit direct
+    → printed.cost ≡ direct
+optimum-cost net printed limit direct cheapest at least =
+    unique net.network net.terms (knees_in net) limit printed.cost direct
+    (subst (λ n. curve_in net n printed.cost) at
+    (record { reached = (slice_index printed.durations, slice_index printed.times, cheapest.schedule, sym cheapest.cost); least = cheapest.least })) least
+
+pub optimum-with : (project : Project) (net : PricedNetwork) (terms : TimeTerms) (shortest longest : ℕ) (best : Best) (printed : Printed) → net ≡ priced_in project
+    → IsRange net shortest longest → terms ≡ project.time_terms → IsBest (curve_in net) terms shortest longest best → IsCheapest net printed
+    → printed.length ≡ best.length → IsOptimumWith project best printed
+optimum-with project net terms shortest longest best printed same range same_terms is cheapest at =
+    let here = subst (λ (n : PricedNetwork). IsCheapest n printed) same cheapest in
+    let right = subst (λ (n : PricedNetwork). IsBest (curve_in n) project.time_terms shortest longest best) same
+    (subst (λ (t : TimeTerms). IsBest (curve_in net) t shortest longest best) same_terms is) in
+    record {
+      shortest = shortest;
+      longest = longest;
+      range = subst (λ (n : PricedNetwork). IsRange n shortest longest) same range;
+      right = right;
+      cheapest = here;
+      length = at;
+      cost = optimum-cost (priced_in project) printed best.length best.direct here at right.direct;
+    }

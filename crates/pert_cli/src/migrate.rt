@@ -1,0 +1,49 @@
+//! `migrate`: the deck in its one form.
+ghost use Rattle.std.specs.Prelude.{IfOk};
+ghost use Rattle.pc_deck_text.specs.Written.{IsDeckText};
+ghost use Rattle.pc_reading.specs.Sides.{side};
+ghost use Rattle.pert_cli.specs.Handing.{Answers, IsReply};
+ghost use Rattle.pert_cli.specs.declared.forms.Form.TheVariants.{Migrate};
+
+use crate::answer::{Answer, deliver};
+use pc_deck_text::deck_text_of;
+use pc_edges::{Failed, Sink};
+use pc_project::Project;
+use pc_reading::{Status, send};
+use std::alloc::{AllocError, Global};
+
+/// The words of the form.
+pub(crate) const WORDS: &[u8] = b"migrate";
+
+/// Answers the form.
+pub(crate) fn answer<O: Sink>(alloc: Global, project: &Project, out: &mut O) -> Status
+    ensures { Answers (IsReply Migrate project.now) (side O.taken O.faults out.old out.new) result }
+{
+    deliver(MigrateAnswer::build(alloc, project), project, out)
+}
+
+/// The text of a project's deck.
+#[derive(Drop)]
+struct MigrateAnswer {
+    text: Vec<u8>,
+}
+
+impl MigrateAnswer {
+    fn build(alloc: Global, project: &Project) -> Result<MigrateAnswer, AllocError>
+        ensures { IfOk result (λ answer. IsDeckText project.now answer.text.items) }
+    {
+        Ok(MigrateAnswer {
+            text: deck_text_of(alloc, project)?,
+        })
+    }
+}
+
+impl Answer for MigrateAnswer {
+    ghost IsFor = { λ answer project. IsDeckText project answer.text.items };
+
+    ghost text = { λ answer project. answer.text.items };
+
+    fn write_to<O: Sink>(&mut self, project: &Project, out: &mut O) -> Result<(), Failed> {
+        send(out, &self.text)
+    }
+}
