@@ -13,7 +13,13 @@ fn parts_of_a_spread(rt: HostRuntime) {
         length: 36,
         amount: 7,
     };
-    let cases = [(0, 24, 0), (0, 42, 3), (42, 84, 4), (24, 30, 1), (60, 90, 0)];
+    let cases = [
+        (0, 24, 0),
+        (0, 42, 3),
+        (42, 84, 4),
+        (24, 30, 1),
+        (60, 90, 0),
+    ];
     for (from, to, comes) in cases {
         assert_eq!(rt; part(&crew, from, to), comes);
     }
