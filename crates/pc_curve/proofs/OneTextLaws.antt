@@ -21,5 +21,5 @@ one_curve_text net text other p q =
     let short = greatest_unique _ p.shortest q.shortest p.all_crash q.all_crash in
     let long = greatest_unique _ p.longest q.longest p.all_normal q.all_normal in
     let points : AreBreakpoints (curve_in net) q.shortest q.longest p.points =
-        subst (λ (s : ℕ). AreBreakpoints (curve_in net) s q.longest p.points) short (subst (λ (l : ℕ). AreBreakpoints (curve_in net) p.shortest l p.points) long p.breaks) in
+    subst (λ (s : ℕ). AreBreakpoints (curve_in net) s q.longest p.points) short (subst (λ (l : ℕ). AreBreakpoints (curve_in net) p.shortest l p.points) long p.breaks) in
     p.is ∙ (ap curve_text (one_points net q.shortest q.longest p.points q.points points q.breaks) ∙ sym q.is)

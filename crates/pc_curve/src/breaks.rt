@@ -105,10 +105,7 @@ fn break_after<L: Ledger>(
 }
 
 // The breakpoint at the all-normal length.
-fn first_break<L: Ledger>(
-    solver: &mut Solver<'_>,
-    steps: &mut Steps<L>,
-) -> Break
+fn first_break<L: Ledger>(solver: &mut Solver<'_>, steps: &mut Steps<L>) -> Break
     requires { solver.old.given ≡ false }
     ensures next { IsNextBreak solver.old None result }
     ensures place { StandsAt result.length solver.new }
@@ -124,11 +121,7 @@ fn first_break<L: Ledger>(
 }
 
 // The next breakpoint below a length.
-fn break_below<L: Ledger>(
-    solver: &mut Solver<'_>,
-    last: u64,
-    steps: &mut Steps<L>,
-) -> Option<Break>
+fn break_below<L: Ledger>(solver: &mut Solver<'_>, last: u64, steps: &mut Steps<L>) -> Option<Break>
     requires place { StandsAt last solver.old }
     ensures ended { IsNone result ↔ (last ≡ solver.old.shortest) }
     ensures still { IfNone result (solver.new ≡ solver.old) }
@@ -149,11 +142,7 @@ fn break_below<L: Ledger>(
 }
 
 // The next length below one at which the slope changes or the curve ends.
-fn next_turn<L: Ledger>(
-    solver: &mut Solver<'_>,
-    last: u64,
-    steps: &mut Steps<L>,
-) -> Break
+fn next_turn<L: Ledger>(solver: &mut Solver<'_>, last: u64, steps: &mut Steps<L>) -> Break
     requires place { StandsAt last solver.old }
     requires above { last ≢ solver.old.shortest }
     ensures next { IsNextBreak solver.old (Some last) result }

@@ -41,7 +41,7 @@ Any-said : {X : Type 0} (said : X → X) (P Q : X → Type 0) (xs ys : List X) �
 Any-said said P Q xs ys same over (k, x, within, at, holds) =
     let inside : k < length ys = omega (arith, within, length_said said xs ys same) in
     let there : said x ≡ said (get_or ys k x) =
-        ap said (sym at) ∙ sym (get_or-map said xs k x (said x) within) ∙ ap (λ zs. get_or zs k (said x)) same ∙ get_or-map said ys k x (said x) inside in
+    ap said (sym at) ∙ sym (get_or-map said xs k x (said x) within) ∙ ap (λ zs. get_or zs k (said x)) same ∙ get_or-map said ys k x (said x) inside in
     (k, get_or ys k x, inside, get_or_default ys k (get_or ys k x) x inside, over x (get_or ys k x) there holds)
 
 -- some fault of a kind
@@ -89,11 +89,13 @@ module _ (a b : Deck) (same : SayTheSame a b) where
       (_, has.unknown_to (an_event _ _ (ap (λ card. card.from) said) known) (no_event _ _ (ap (λ card. card.to) said) none) refl)
   act_fault x y said (fault, has.HasActFault.unknown_item none is) = (_, has.HasActFault.unknown_item (no_item _ _ (ap (λ card. card.item) said) none) refl)
   act_fault x y said (fault, has.same_events one is) = (_, has.same_events (sym (ap (λ card. card.from) said) ∙ one ∙ ap (λ card. card.to) said) refl)
-  act_fault x y said (fault, has.unordered not is) =
-      (_, has.unordered (λ o. not (record {
-        optimistic = omega (arith, o.optimistic, ap (λ card. card.opt) said, ap (λ card. card.likely) said);
-        pessimistic = omega (arith, o.pessimistic, ap (λ card. card.likely) said, ap (λ card. card.pess) said);
-      })) refl)
+  act_fault x y said (fault, has.unordered not is) = (
+    _,
+    has.unordered (λ o. not (record {
+      optimistic = omega (arith, o.optimistic, ap (λ card. card.opt) said, ap (λ card. card.likely) said);
+      pessimistic = omega (arith, o.pessimistic, ap (λ card. card.likely) said, ap (λ card. card.pess) said);
+    })) refl,
+  )
   act_fault x y said (fault, has.crash_above above is) =
       (_, has.crash_above (omega (arith, above, ap (λ card. card.normal) said, ap (λ card. card.crash) said)) refl)
 
@@ -148,26 +150,39 @@ module _ (a b : Deck) (same : SayTheSame a b) where
 
   -- what stands on an item with items below it
   on_branch : (c d : List ℕ) (row other : ℕ) → c ≡ d → (fault : Fault) → StandsOnBranch a row c fault → Some-fault (StandsOnBranch b other d)
-  on_branch c d row other is fault (branch, told) =
-      (_, (λ leaf. branch (subst (IsLeaf (rows_of a)) (sym ((λ i. same_item_number a b same i c) ∙ ap (item_number b) is))
-      (subst (λ rows. IsLeaf rows (item_number b d)) (sym (same_rows a b same)) leaf)), refl))
+  on_branch c d row other is fault (branch, told) = (
+    _,
+    (
+      λ leaf. branch (subst (IsLeaf (rows_of a)) (sym ((λ i. same_item_number a b same i c) ∙ ap (item_number b) is))
+          (subst (λ rows. IsLeaf rows (item_number b d)) (sym (same_rows a b same)) leaf)),
+      refl,
+    ),
+  )
 
   leaf_fault : (fault : Fault) → HasLeafFault a fault → Some-fault (HasLeafFault b)
   leaf_fault fault (of_act any) =
       let (told, there) = list_fault act_said (λ act. StandsOnBranch a act.row act.item) (λ act. StandsOnBranch b act.row act.item) a.acts b.acts same.acts
-          (λ x y said h. on_branch x.item y.item x.row y.row (ap (λ card. card.item) said) h.0 h.1) fault any in
+      (λ x y said h. on_branch x.item y.item x.row y.row (ap (λ card. card.item) said) h.0 h.1) fault any in
       (told, of_act there)
   leaf_fault fault (of_account any) =
       let (told, there) = list_fault account_said (λ card. StandsOnBranch a card.row card.item) (λ card. StandsOnBranch b card.row card.item) a.accounts b.accounts same.accounts
-          (λ x y said h. on_branch x.item y.item x.row y.row (ap (λ card. card.item) said) h.0 h.1) fault any in
+      (λ x y said h. on_branch x.item y.item x.row y.row (ap (λ card. card.item) said) h.0 h.1) fault any in
       (told, of_account there)
 
   -- a status in disorder
   status_disorder : (k : ℕ) (fault : Fault) → IsDisorderAt a k fault → Some-fault (IsDisorderAt b k)
-  status_disorder k fault (reason, (is, told)) =
-      (_, (reason, (subst (λ start. IsReason start (as_of_in b) (statuses_in b) k reason) (same_start_day a b same)
-      (subst (λ day. IsReason a.project.start_day day (statuses_in b) k reason) same.as_of
-      (subst (λ statuses. IsReason a.project.start_day (as_of_in a) statuses k reason) (same_statuses a b same) is)), refl)))
+  status_disorder k fault (reason, (is, told)) = (
+    _,
+    (
+      reason,
+      (
+        subst (λ start. IsReason start (as_of_in b) (statuses_in b) k reason) (same_start_day a b same)
+            (subst (λ day. IsReason a.project.start_day day (statuses_in b) k reason) same.as_of
+            (subst (λ statuses. IsReason a.project.start_day (as_of_in a) statuses k reason) (same_statuses a b same) is)),
+        refl,
+      ),
+    ),
+  )
 
   -- an as-of before the start
   early : (card : AsOfCard) (day : ℤ) (there : Option AsOfCard) → b.as_of ≡ there → day ≡ as_of_day b.project.start_day there → card.day ≡ day → card.day <ℤ b.project.start_day →

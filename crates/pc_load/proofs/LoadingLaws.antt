@@ -49,9 +49,9 @@ items_have_parts project times entries width periods leaves items planned costs 
         (IsSumOver-same (λ e. (IsLeaf project.tree (row_of entries e) × IsBelow project.tree (row_of entries e) y) × (row_of entries e < length project.tree)) (λ a. IsBelow project.tree (slice_index project.places a) y) (length entries) (λ e. pos (part_in entries width k e)) (amount_in items y k)
         (λ e below p. subst (λ (x : ℕ). IsBelow project.tree x y) ((at e below).0) (p.0.1))
         (λ e below under.
-            let h : e < length project.network.arcs = omega (arith, costs.one_each) in
-            let place = sym ((at e below).0) in
-            subst (λ (x : ℕ). (IsLeaf project.tree x × IsBelow project.tree x y) × (x < length project.tree)) place ((planned.figures.on_leaves e h, under), planned.placed e h))
+        let h : e < length project.network.arcs = omega (arith, costs.one_each) in
+        let place = sym ((at e below).0) in
+        subst (λ (x : ℕ). (IsLeaf project.tree x × IsBelow project.tree x y) × (x < length project.tree)) place ((planned.figures.on_leaves e h, under), planned.placed e h))
         (IsSumOver-nested (λ x. IsLeaf project.tree x × IsBelow project.tree x y) (row_of entries) (length project.tree) (length entries) (λ x. amount_in leaves x k) (λ e. pos (part_in entries width k e)) (amount_in items y k)
         (λ x h. is.each x k h lt) ((are.each k (omega (arith, is.period_count))).each y known)))
 

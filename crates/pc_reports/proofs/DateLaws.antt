@@ -11,7 +11,6 @@ use Rattle.pc_days.specs.Dates.{NamesDay}
 use Rattle.pc_days.proofs.CalendarLaws.{names_its_day}
 use Rattle.pc_reports.specs.Times.{IsDate, AreDates, date_of, day_after, no_date, printed, past}
 
-
 -- the dates of the first times
 pub record AreDatesTo (start : ℤ) (times : List ℕ) (count : ℕ) (dates : List (List ℕ)) : Type 0 where
   pub one_each : length dates ≡ count

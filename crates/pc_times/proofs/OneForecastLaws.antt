@@ -55,8 +55,8 @@ module _ (net : Network) (lengths : List ℕ) (states : List ActState) (as_of : 
   one_forecast =
       let make : List ℕ → List ℕ → Expected = λ ts fs. record { times = ts; finishes = fs } in
       let times : one.times ≡ other.times = ext_get_or 0 one.times other.times (first.one_each ∙ sym second.one_each)
-          (λ e lt. same_time net.events e (omega (arith, lt, first.one_each)) (all_short e)) in
+      (λ e lt. same_time net.events e (omega (arith, lt, first.one_each)) (all_short e)) in
       let finishes : one.finishes ≡ other.finishes = ext_get_or 0 one.finishes other.finishes (first.finish_each ∙ sym second.finish_each)
-          (λ a lt. let in_arcs : a < length net.arcs = omega (arith, lt, first.finish_each) in
-          same_finish a in_arcs (same_time net.events (from_of net.arcs a) (ranged.from_in a in_arcs) (all_short (from_of net.arcs a)))) in
+      (λ a lt. let in_arcs : a < length net.arcs = omega (arith, lt, first.finish_each) in
+      same_finish a in_arcs (same_time net.events (from_of net.arcs a) (ranged.from_in a in_arcs) (all_short (from_of net.arcs a)))) in
       ap (λ (ts : List ℕ). make ts one.finishes) times ∙ ap (λ (fs : List ℕ). make other.times fs) finishes

@@ -21,8 +21,7 @@ module _ (terms : TimeTerms) (curve : ℕ → ℕ → Type 0) (is : IsConvex cur
     below-is shortest slope (Some more) low saved none above differs =
         let gain = saved above in
         let back : limit - 1 + 1 ≡ limit = omega (arith, above) in
-        let same : of.direct ≡ gain.cost = is.unique limit of.direct gain.cost of.least (subst (λ n. curve n gain.cost) back gain.longer) in
-        (
+        let same : of.direct ≡ gain.cost = is.unique limit of.direct gain.cost of.least (subst (λ n. curve n gain.cost) back gain.longer) in (
           above,
           record {
             direct = gain.cost + slope;
@@ -49,8 +48,7 @@ module _ (terms : TimeTerms) (curve : ℕ → ℕ → Type 0) (is : IsConvex cur
     above-is longest gain None high gained none below differs = omega (arith, high, none)
     above-is longest gain (Some more) high gained none below differs =
         let found = gained below in
-        let same : of.direct ≡ found.cost + gain = is.unique limit of.direct (found.cost + gain) of.least found.here in
-        (
+        let same : of.direct ≡ found.cost + gain = is.unique limit of.direct (found.cost + gain) of.least found.here in (
           below,
           record {
             direct = found.cost;

@@ -23,11 +23,7 @@ use std::sync::ledger::Ledger;
 /// The solver goes down from before its first segment for as long as a unit less costs no more than it saves. A few steps a
 /// segment, and at most four looks at each activity for each unit by which the slope rises or the lower end comes down. It
 /// takes no memory.
-pub fn best<L: Ledger>(
-    solver: &mut Solver<'_>,
-    terms: &TimeTerms,
-    steps: &mut Steps<L>,
-) -> Best
+pub fn best<L: Ledger>(solver: &mut Solver<'_>, terms: &TimeTerms, steps: &mut Steps<L>) -> Best
     requires before { solver.old.given ≡ false }
     requires terms { AreTimeTerms terms.now }
     ensures best { IsBest (curve_in solver.old.net) terms.now solver.old.shortest solver.old.longest result }

@@ -43,9 +43,10 @@ module _ (rows : List ItemRow) (tree : IsTree rows) where
       let there : slice_index ys j ≡ p = sym (agree j before) ∙ is in
       let (m, (later, lower, at)) = behind ys xs k (slice_index xs k) b a (λ i lt. sym (agree i lt)) in_xs refl (λ same. other (sym same)) in
       let child : IsBelow rows (slice_index xs k) p = IsBelow-parent rows (slice_index xs k) p p parent (IsBelow-self rows p) in
-      let under : IsBelow rows (slice_index ys m) (slice_index ys j) = subst (λ (n : ℕ). IsBelow rows n (slice_index ys j)) (sym at) (subst (λ (n : ℕ). IsBelow rows (slice_index xs k) n) (sym there) child) in
-      (subst (λ (n : ℕ). IsBelow rows (slice_index ys k) n) there (b.together j k m (omega (arith, before)) (omega (arith, later)) lower under),
-      λ same. b.once j k before in_ys (there ∙ sym same))
+      let under : IsBelow rows (slice_index ys m) (slice_index ys j) = subst (λ (n : ℕ). IsBelow rows n (slice_index ys j)) (sym at) (subst (λ (n : ℕ). IsBelow rows (slice_index xs k) n) (sym there) child) in (
+        subst (λ (n : ℕ). IsBelow rows (slice_index ys k) n) there (b.together j k m (omega (arith, before)) (omega (arith, later)) lower under),
+        λ same. b.once j k before in_ys (there ∙ sym same),
+      )
 
   -- a row without a parent stands first
   first_alone : (xs : List ℕ) (k : ℕ) → IsPreorder rows xs → k < length xs → parent_of rows (slice_index xs k) ≡ None → k ≡ 0

@@ -5,8 +5,8 @@
 //! [`pc_checking::check_run`], whose answer is its status.
 #![tactic(auto)]
 
-use pc_edges::{FileSource, ReadSource, WriteSink};
 use pc_checking::check_run;
+use pc_edges::{FileSource, ReadSource, WriteSink};
 use std::alloc::AllocError;
 use std::env;
 use std::io::ErrorKind;

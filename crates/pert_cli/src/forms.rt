@@ -12,7 +12,8 @@ ghost use Rattle.pert_cli.specs.declared.forms.Form.TheVariants.{Bench};
 ghost use Rattle.pert_cli.specs.Words.{AskFor, AskForNone, usage_text};
 
 use crate::{
-    bench, certify, check, curve, load, migrate, normal, optimum, outlook, point, summary, times, value,
+    bench, certify, check, curve, load, migrate, normal, optimum, outlook, point, summary, times,
+    value,
 };
 use arrayvec::ArrayVec;
 use pc_bench::MOST_ACTIVITIES;

@@ -89,6 +89,7 @@ ACT,C,S,T,1.1,7,7,7,7,5,15,2,Frame\n\
 ACCT,X1,1.1,25,Frame account\n\
 ACCT,X2,1.2,20,Roof account\n\
 END\n";
+
 const LOADED: &[u8] = b"LOAD E1 7\n\
 PERIOD                0 2024-01-01\n\
 PERIOD                1 2024-01-08\n\

@@ -18,10 +18,10 @@ loop-e-preserved g c =
     let shown = g.V.TimesView.shown c.args.view.now in
     let inside : c.loop-e.e < length c.event_codes-code-items.result.now = omega (arith, c.loop-e-test.true) in
     let code : c.code-item.result ≡ slice_index_or project.events c.loop-e.e [] =
-        get_or_read c.event_codes-code-items.result.now c.loop-e.e c.code-item.result inside c.code-item.is [] ∙ ap (λ codes. slice_index_or codes c.loop-e.e []) c.event_codes-code-items.ensures.codes in
+    get_or_read c.event_codes-code-items.result.now c.loop-e.e c.code-item.result inside c.code-item.is [] ∙ ap (λ codes. slice_index_or codes c.loop-e.e []) c.event_codes-code-items.ensures.codes in
     let kept : to_z w64 (of_z w64 c.late-late.result) ≡ c.late-late.result = search rules in
     let date : c.date_text.result ≡ date_of project.heading.start_day (slice_index shown.times.early c.loop-e.e) =
-        c.date_text.ensures.value ∙ ap (λ day. date_of day c.early-early.result) c.start_day-start.ensures ∙ ap (date_of project.heading.start_day) c.early-early.ensures in
+    c.date_text.ensures.value ∙ ap (λ day. date_of day c.early-early.result) c.start_day-start.ensures ∙ ap (date_of project.heading.start_day) c.early-early.ensures in
     Adds-line c.loop-e.e (event_row (as_shown project shown) shown.times) c.loop-e.invariant
     (Adds-as (event_row (as_shown project shown) shown.times c.loop-e.e) (event_cells-same code c.early-early.ensures (kept ∙ c.late-late.ensures) date) c.put_event.ensures)
 

@@ -28,9 +28,9 @@ loop-a-preserved g c =
     let here : c.in-Some.a < length project.network.arcs = omega (arith, is, c.requires.known c.loop-a.k known) in
     let inside : c.in-Some.a < length c.activity_codes-codes.result.now = omega (arith, here, c.activity_codes-codes.ensures.each) in
     let code : c.index-codes-a.result ≡ slice_index_or project.activities (slice_index shown.times.path c.loop-a.k) [] =
-        get_or_read c.activity_codes-codes.result.now c.in-Some.a c.index-codes-a.result inside c.index-codes-a.is []
-        ∙ ap (λ codes. slice_index_or codes c.in-Some.a []) c.activity_codes-codes.ensures.codes
-        ∙ ap (λ a. slice_index_or project.activities a []) is in
+    get_or_read c.activity_codes-codes.result.now c.in-Some.a c.index-codes-a.result inside c.index-codes-a.is []
+    ∙ ap (λ codes. slice_index_or codes c.in-Some.a []) c.activity_codes-codes.ensures.codes
+    ∙ ap (λ a. slice_index_or project.activities a []) is in
     let variance : c.variance-variance.result ≡ slice_index shown.variances (slice_index shown.times.path c.loop-a.k) = c.variance-variance.ensures ∙ ap (slice_index shown.variances) is in
     let small : c.variance-variance.result ≤ MAX_VARIANCE = omega (arith, c.variance-variance.ensures, c.requires.variances c.in-Some.a here) in
     record {

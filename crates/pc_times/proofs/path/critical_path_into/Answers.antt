@@ -47,8 +47,8 @@ loop-a-preserved c =
     let order = c.order-order.ensures in
     let walks = has_bounded_walks c.args.net.now c.order-order.result.now c.args.lengths.now order.in_range order.sound order.order (omega arith) c.requires.lengths in
     let next =
-        put_next c.args.net.now c.args.lengths.now c.args.times.now c.args.tails.now c.loop-a.path c.loop-a.count c.loop-a.event c.in-Some.a c.from.result c.to-event.result walks c.requires.times c.requires.tails
-        c.loop-a.invariant.places c.loop-a.invariant.within c.loop-a.invariant.picked c.in-Some.ensures.found c.from.ensures c.to-event.ensures.event in
+    put_next c.args.net.now c.args.lengths.now c.args.times.now c.args.tails.now c.loop-a.path c.loop-a.count c.loop-a.event c.in-Some.a c.from.result c.to-event.result walks c.requires.times c.requires.tails
+    c.loop-a.invariant.places c.loop-a.invariant.within c.loop-a.invariant.picked c.in-Some.ensures.found c.from.ensures c.to-event.ensures.event in
     record {
       places = omega (arith, length-set c.loop-a.path c.loop-a.count c.from.result, c.loop-a.invariant.places);
       within = omega (arith, length-set c.loop-a.path c.loop-a.count c.from.result, next.0);
