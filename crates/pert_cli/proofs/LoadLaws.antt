@@ -1,6 +1,5 @@
 -- Projects and periods.
 use Rattle.std.proofs.Common.{◌≡◌, ℕ, List, ap, ◌∙◌, sym, arith}
-use Rattle.pc_faults.specs.declared.fault.Fault.{Fault}
 use Rattle.pc_model.proofs.Walks.WalkLaws.{greatest_unique}
 use Rattle.pc_project.specs.Project.{Project}
 use Rattle.pc_load.specs.Loading.{ArePeriods, IsLoading, Loading, periods_for}

@@ -1,5 +1,4 @@
-use Rattle.std.proofs.Common.{◌≡◌, ℕ, List, refl, subst}
-use Rattle.pc_faults.specs.declared.fault.Fault.{Fault}
+use Rattle.std.proofs.Common.{◌≡◌, ℕ, List, refl, ap, ◌∙◌}
 use Rattle.pc_faults.specs.Faults.{too_many_periods}
 use Rattle.pc_load.specs.LoadText.{load_text}
 use Rattle.pert_cli.specs.declared.forms.Form.TheVariants.{Load}
@@ -17,3 +16,10 @@ returns-in-Ok-of g c =
     (Answers-weaker (λ (text : List ℕ). text ≡ load_text project loading) (IsReply (Load c.args.days) project) (side g.O.Sink.taken g.O.Sink.faults c.args.out.now c.hand.new.out) c.hand.result
     (λ text same. load_reply project c.args.days loading text c.in-Ok-of.ensures.loading same) c.hand.ensures)
     refl
+
+pub returns-in-Err-TooMany : goal.returns-in-Err-TooMany
+returns-in-Err-TooMany g c =
+    let why = rw c.in-Err-TooMany.field-0-is at c.in-Err-TooMany.ensures.none in
+    denies c.too_many_periods.result
+    (record { have = c.in-Err-TooMany.have; too_many = why; is = c.too_many_periods.ensures ∙ ap too_many_periods c.in-Err-TooMany.have-is })
+    c.refuse.ensures refl
