@@ -1,5 +1,5 @@
 -- How an entry is added to the periods that it spans.
-use Rattle.std.proofs.Common.{◌^◌, FitsSigned, to_z, of_z, w64, ◌≡◌, ◌≢◌, ℕ, ◌+◌, ◌-◌, ◌*◌, ◌/◌, ◌<◌, ◌≤◌, ⊎_elim, List, length, set, ap, sym, refl, ◌∙◌, subst, length-set, arith}
+use Rattle.std.proofs.Common.{◌^◌, FitsSigned, to_z, of_z, w64, ◌≡◌, ℕ, ◌+◌, ◌-◌, ◌*◌, ◌/◌, ◌<◌, ◌≤◌, ⊎_elim, List, length, set, ap, sym, refl, ◌∙◌, subst, length-set, arith}
 use Rattle.std.specs.Prelude.{ℤ, pos, ◌+ℤ◌, unsigned_abs}
 use Rattle.std.proofs.lemmas.Bool.{cases_eq, cases_lt}
 use Rattle.std.proofs.lemmas.Int.{ints, fits_signed_from_abs, to_z-of_z, to_z_pos}
@@ -12,7 +12,7 @@ use Rattle.pc_load.specs.Adding.{IsAdded, IsGrown}
 use Rattle.pc_load.specs.Share.{share, part}
 use Rattle.pc_load.specs.Table.{column_of}
 use Rattle.pc_load.proofs.ColumnLaws.{read_cell, column-set_same, column-set_other}
-use Rattle.pc_load.proofs.ShareLaws.{share_none, part_before, part_behind, part_more}
+use Rattle.pc_load.proofs.ShareLaws.{share_none, part_before, part_behind}
 
 -- the first n periods have grown by the entry's parts, and the others are as they were
 pub record IsAddedTo (rows periods : ℕ) (entry : LoadRow) (width n : ℕ) (old new : List ℤ) : Type 0 where

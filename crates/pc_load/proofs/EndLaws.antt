@@ -1,5 +1,5 @@
 -- No activity ends behind the project.
-use Rattle.std.proofs.Common.{◌≡◌, ℕ, ◌+◌, ◌<◌, ◌≤◌, List, ◌++◌, length, slice_index, refl, arith}
+use Rattle.std.proofs.Common.{ℕ, ◌+◌, ◌<◌, ◌≤◌, List, ◌++◌, length, slice_index, refl, arith}
 use Rattle.pc_model.specs.Network.{Network, IsEarly, IsInRange, IsSound}
 use Rattle.pc_model.specs.Walk.{from_of, to_of, walk_sum}
 use Rattle.pc_model.proofs.Walks.EarlyLaws.{early_fits}

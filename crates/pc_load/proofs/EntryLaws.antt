@@ -1,20 +1,17 @@
 -- The entries of a project are within the limits of a table, and over at its end.
-use Rattle.std.proofs.Common.{All, ◌≡◌, ℕ, ◌+◌, ◌*◌, ◌<◌, ◌≤◌, List, [], ◌∷◌, ◌++◌, length, slice_index, ap, sym, ◌∙◌, subst, arith}
-use Rattle.std.specs.Prelude.{slice_index_or}
+use Rattle.std.proofs.Common.{◌≡◌, ℕ, ◌+◌, ◌<◌, ◌≤◌, List, [], ◌∷◌, ◌++◌, length, slice_index, ap, sym, ◌∙◌, subst, arith}
 use Rattle.std.proofs.lemmas.List.{length_push}
 use Rattle.std.proofs.lemmas.List.Elements.{All-get_or}
 use Rattle.pc_figures.proofs.PushLaws.{each_more}
-use Rattle.pc_model.specs.declared.limits.TheConstants.{MAX_ACTIVITIES, MAX_COST, MAX_LOADS}
+use Rattle.pc_model.specs.declared.limits.TheConstants.{MAX_COST}
 use Rattle.pc_model.specs.Walk.{from_of}
-use Rattle.pc_project.specs.declared.load.LoadItem.{LoadItem}
 use Rattle.pc_project.specs.Planned.{IsLoad, IsPlanned}
 use Rattle.pc_project.specs.Project.{Project}
-use Rattle.pc_load.specs.declared.spread.Spread.{Spread}
 use Rattle.pc_load.specs.declared.table.LoadRow.{LoadRow}
 use Rattle.pc_load.specs.Entries.{AreCosts, AreLoads, AreTimes}
 use Rattle.pc_load.specs.Loading.{cost_at, load_at, spread_at}
 use Rattle.pc_load.specs.Share.{IsSpread}
-use Rattle.pc_load.specs.Table.{AreEntries, IsOver, entry_at, row_of, spread_of}
+use Rattle.pc_load.specs.Table.{AreEntries, IsOver}
 use Rattle.pc_load.proofs.EndLaws.{ends_within}
 
 -- an entry more

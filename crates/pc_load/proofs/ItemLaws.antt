@@ -1,8 +1,7 @@
 -- Tables of items that are made period by period.
-use Rattle.std.proofs.Common.{◌≡◌, ℕ, ◌+◌, ◌*◌, ◌<◌, ◌≤◌, ⊎_elim, List, [], ◌++◌, length, take, drop, ap, sym, refl, ◌∙◌, subst, length-append, length-drop, suc, arith}
-use Rattle.std.specs.Prelude.{ℤ, pos, ◌≤ℤ◌}
+use Rattle.std.proofs.Common.{◌≡◌, ℕ, ◌+◌, ◌*◌, ◌<◌, ⊎_elim, List, [], ◌++◌, length, take, drop, ap, sym, refl, ◌∙◌, subst, length-append, length-drop, suc, arith}
+use Rattle.std.specs.Prelude.{ℤ}
 use Rattle.std.proofs.lemmas.Bool.{cases_eq}
-use Rattle.std.proofs.lemmas.Int.{ints}
 use Rattle.std.proofs.lemmas.List.{take-append-le, drop-append-le}
 use Rattle.std.proofs.Math.Seq.{drop_at, take_all}
 use Rattle.std.proofs.Math.Nat.{suc-mul, zero-mul}

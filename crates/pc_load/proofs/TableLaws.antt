@@ -1,6 +1,6 @@
 -- Tables that are made entry by entry.
-use Rattle.std.proofs.Common.{◌≡◌, ℕ, ◌+◌, ◌-◌, ◌*◌, ◌<◌, ◌≤◌, ◌^◌, List, length, map, replicate, take, drop, ap, sym, refl, ◌∙◌, subst, arith}
-use Rattle.std.specs.Prelude.{ℤ, pos, ◌+ℤ◌, ◌≤ℤ◌, sum_by, unsigned_abs, slice_index_or}
+use Rattle.std.proofs.Common.{◌≡◌, ℕ, ◌+◌, ◌-◌, ◌*◌, ◌<◌, ◌≤◌, List, length, map, replicate, take, ap, sym, refl, ◌∙◌, subst, arith}
+use Rattle.std.specs.Prelude.{ℤ, pos, sum_by, unsigned_abs}
 use Rattle.std.proofs.lemmas.Int.{ints}
 use Rattle.std.proofs.lemmas.List.{get_or-map, get_or-replicate, length-map, length-replicate, take-replicate, drop-replicate}
 use Rattle.std.proofs.lemmas.List.Elements.{All-from_get_or}
@@ -17,7 +17,7 @@ use Rattle.pc_load.specs.declared.table.LoadRow.{LoadRow}
 use Rattle.pc_load.specs.declared.table.TheConstants.{MAX_PERIODS}
 use Rattle.pc_load.specs.Adding.{CanTake, IsAdded}
 use Rattle.pc_load.specs.Share.{part}
-use Rattle.pc_load.specs.Table.{AreEntries, IsTable, IsTableOf, RowsAddUp, Table, amount_in, column, column_of, entry_at, part_in, row_of, spread_of}
+use Rattle.pc_load.specs.Table.{AreEntries, IsTable, IsTableOf, RowsAddUp, column_of, entry_at, part_in, row_of, spread_of}
 use Rattle.pc_load.proofs.ColumnLaws.{before_next}
 use Rattle.pc_load.proofs.SeriesLaws.{adds_up}
 use Rattle.pc_load.proofs.ShareLaws.{part_most}

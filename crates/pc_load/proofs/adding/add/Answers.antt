@@ -1,7 +1,6 @@
-use Rattle.std.proofs.Common.{◌≡◌, ◌+◌, ◌-◌, ◌*◌, ◌^◌, ◌<◌, ◌≤◌, ℕ, length, refl, subst, sym, ◌∙◌, ap, arith}
-use Rattle.std.specs.Prelude.{unsigned_abs, pos}
+use Rattle.std.proofs.Common.{◌≡◌, ◌+◌, ◌-◌, ◌*◌, ◌^◌, ◌<◌, subst, sym, ◌∙◌, ap, arith}
+use Rattle.std.specs.Prelude.{unsigned_abs}
 use Rattle.pc_rollup.specs.Totals.{amount_at}
-use Rattle.pc_load.specs.Share.{share}
 use Rattle.pc_load.specs.Table.{column_of}
 use Rattle.pc_load.proofs.AddLaws.{added_none, begun_none, added_more, added_all, grown, grown_fits}
 use Rattle.pc_load.proofs.ColumnLaws.{place_within, read_cell}

@@ -1,4 +1,4 @@
-use Rattle.std.proofs.Common.{◌≡◌, ◌*◌, length}
+use Rattle.std.proofs.Common.{◌≡◌, ◌*◌}
 use Rattle.pc_load.specs.Share.{share}
 use Rattle.pc_load.proofs.AddLaws.{IsAddedTo}
 use Rattle.pc_load.proofs.adding.add.Given as goal

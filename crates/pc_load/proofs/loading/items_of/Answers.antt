@@ -1,4 +1,4 @@
-use Rattle.std.proofs.Common.{◌≡◌, List, length, subst, sym}
+use Rattle.std.proofs.Common.{List, length, subst, sym}
 use Rattle.pc_figures.proofs.PushLaws.{if_answered}
 use Rattle.pc_rollup.specs.Totals.{AreAtLeaves}
 use Rattle.pc_wbs.specs.declared.row.ItemRow.{ItemRow}

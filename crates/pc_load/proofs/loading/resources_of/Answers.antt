@@ -1,5 +1,4 @@
 use Rattle.pc_figures.proofs.PushLaws.{if_answered}
-use Rattle.std.proofs.Common.{length}
 use Rattle.pc_load.specs.Loading.{AreResourceParts, ResourcesAddUp}
 use Rattle.pc_load.specs.Table.{IsTableOf}
 use Rattle.pc_load.proofs.LoadingLaws.{resources_have_parts, resources_add_up}

@@ -1,10 +1,9 @@
-use Rattle.std.proofs.Common.{◌≡◌, ◌+◌, ◌*◌, ◌/◌, ◌<◌, ◌≤◌, ℕ, List, length, get_or, slice_index, refl, sym, ap, ◌∙◌, subst, arith}
+use Rattle.std.proofs.Common.{◌≡◌, ◌<◌, ℕ, List, length, get_or, slice_index, refl, ap, ◌∙◌, arith}
 use Rattle.std.proofs.lemmas.List.{get_or_default}
 use Rattle.pc_project.specs.Planned.{IsPlanned}
 use Rattle.pc_project.specs.Project.{Project}
 use Rattle.pc_times.specs.Times.{AreEarly}
-use Rattle.pc_load.specs.Items.{LevelsAddUp}
-use Rattle.pc_load.specs.Loading.{ArePeriods, AreItemParts, AreResourceParts, periods_for}
+use Rattle.pc_load.specs.Loading.{ArePeriods, periods_for}
 use Rattle.pc_load.proofs.loading.Loading.of.Goals as goal
 
 -- so many periods hold the project

@@ -1,7 +1,6 @@
-use Rattle.std.proofs.Common.{◌*◌, ap, ◌∙◌}
-use Rattle.std.specs.Prelude.{pos, ◌+ℤ◌}
+use Rattle.std.proofs.Common.{ap}
 use Rattle.pc_page.proofs.PageLaws.{Adds-as}
-use Rattle.pc_load.specs.LoadText.{date_or_none, period_cells, period_row}
+use Rattle.pc_load.specs.LoadText.{period_cells, period_row}
 use Rattle.pc_load.proofs.rows.PeriodRowsRows.put.Goals as goal
 
 pub returns : goal.returns

@@ -1,10 +1,9 @@
-use Rattle.std.proofs.Common.{◌≡◌, ◌+◌, ◌*◌, ◌<◌, ◌≤◌, length, sym, ◌∙◌, ap, subst, to_z, of_z, w64, rules, arith}
-use Rattle.std.specs.Prelude.{ℤ, pos, ◌≤ℤ◌, unsigned_abs}
+use Rattle.std.proofs.Common.{◌≡◌, ◌+◌, ◌*◌, ◌<◌, sym, ◌∙◌, ap, subst, w64, rules, arith}
+use Rattle.std.specs.Prelude.{pos, unsigned_abs}
 use Rattle.std.proofs.lemmas.Int.{ints, to_z-of_z}
 use Rattle.std.proofs.lemmas.List.{get_or_default}
 use mir.Val.{SFits}
-use Rattle.pc_rollup.specs.Totals.{amount_at}
-use Rattle.pc_load.specs.Table.{Table, IsTable, amount_in}
+use Rattle.pc_load.specs.Table.{Table, amount_in}
 use Rattle.pc_load.specs.TableInside.{table_from}
 use Rattle.pc_load.proofs.ColumnLaws.{place_within, read_cell}
 use Rattle.pc_load.proofs.table.Table.amount.Goals as goal
