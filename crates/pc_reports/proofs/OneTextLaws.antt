@@ -35,7 +35,7 @@ one_early net lengths xs ys a b =
     (λ e lt. greatest_unique _ (slice_index xs e) (slice_index ys e) (a.each e (omega (arith, lt, a.one_each))) (b.each e (omega (arith, lt, a.one_each))))
 
 one_late_time : (net : Network) (lengths : List ℕ) (by : ℤ) (e : ℕ) (s t : ℤ) → IsLate net lengths by e s → IsLate net lengths by e t → s ≡ t
-one_late_time net lengths by e s t (m, (tail, is)) (n, (other, also)) =
+one_late_time net lengths by e s t (m, tail, is) (n, other, also) =
     is ∙ (ap (λ (k : ℕ). by -ℤ pos k) (greatest_unique _ m n tail other) ∙ sym also)
 
 one_late : (net : Network) (lengths : List ℕ) (by : ℤ) (xs ys : List ℤ) → AreLate net lengths by xs → AreLate net lengths by ys → xs ≡ ys
@@ -48,7 +48,7 @@ one_date start sixths s t (printed day after in_print names) (printed other late
     NamesDay-same s t other (subst (NamesDay s) (one_day start (pos sixths) day other after later) names) is
 one_date start sixths s t (printed day after in_print names) (past never is) = absurd (never day after in_print)
 one_date start sixths s t (past never is) (printed day after in_print names) = absurd (never day after in_print)
-one_date start sixths s t (past never is) (past no also) = is ∙ sym also
+one_date start sixths s t (past never is) (past none also) = is ∙ sym also
 
 one_dates : (start : ℤ) (times : List ℕ) (xs ys : List (List ℕ)) → AreDates start times xs → AreDates start times ys → xs ≡ ys
 one_dates start times xs ys a b =
@@ -57,11 +57,11 @@ one_dates start times xs ys a b =
 
 -- ---- the report of event times
 
-abbrev make_times : List ℕ → List ℤ → List ℕ → List (List ℕ) → Times
-make_times e l p d = record { early = e; late = l; path = p; dates = d }
+abbrev make_times : List ℕ → List ℤ → List ℕ → Times
+make_times e l p = record { early = e; late = l; path = p }
 
-same_times : {e f : List ℕ} {l m : List ℤ} {p q : List ℕ} {d g : List (List ℕ)} → e ≡ f → l ≡ m → p ≡ q → d ≡ g → make_times e l p d ≡ make_times f m q g
-same_times a b c d = rw (a, b, c, d) refl
+same_times : {e f : List ℕ} {l m : List ℤ} {p q : List ℕ} → e ≡ f → l ≡ m → p ≡ q → make_times e l p ≡ make_times f m q
+same_times a b c = rw (a, b, c) refl
 
 one_times : (project : Project) (s t : Times) → HasSoundParts project → IsTimes project s → IsTimes project t → s ≡ t
 one_times project s t parts x y =
@@ -70,7 +70,6 @@ one_times project s t parts x y =
     same_times early
     (one_late project.network project.expected (by t.early) s.late t.late (subst (λ (es : List ℕ). AreLate project.network project.expected (by es) s.late) early x.late) y.late)
     (picked_walk_unique project.network project.expected s.path t.path parts.sound x.path y.path)
-    (one_dates project.heading.start_day t.early s.dates t.dates (subst (λ (es : List ℕ). AreDates project.heading.start_day es s.dates) early x.dates) y.dates)
 
 pub one_times_text : (project : Project) (text other : List ℕ) → HasSoundParts project → IsTimesText project text → IsTimesText project other → text ≡ other
 one_times_text project text other parts x y = x.told ∙ (ap (times_text project) (one_times project x.times y.times parts x.are y.are) ∙ sym y.told)
@@ -105,7 +104,7 @@ one_forecasts : (project : Project) (f g : Forecasts) → HasSoundParts project 
 one_forecasts project f g parts x y =
     let as_of = one_sixths project.heading.start_day project.heading.as_of x.as_of y.as_of x.as_of_is y.as_of_is in
     let expected = one_forecast project.network project.expected project.states y.as_of parts.in_range parts.sound x.expected y.expected
-    (subst (λ (n : ℕ). IsForecast project.network project.expected project.states n x.expected) as_of x.forecast) y.forecast in
+        (subst (λ (n : ℕ). IsForecast project.network project.expected project.states n x.expected) as_of x.forecast) y.forecast in
     let times : f.times ≡ g.times = x.times ∙ (ap (λ (e : Expected). e.times) expected ∙ sym y.times) in
     let late = one_late_for project f.late g.late x.late y.late in
     same_forecasts times late

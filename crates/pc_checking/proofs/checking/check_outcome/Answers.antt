@@ -1,4 +1,4 @@
-use Rattle.std.proofs.Common.{◌+◌, refl, subst, arith}
+use Rattle.std.proofs.Common.{◌+◌, [], refl, subst, arith}
 use Rattle.pc_edges.specs.Pulls.{TakesPulls}
 use Rattle.pc_faults.specs.declared.fault.Fault.{Fault}
 use Rattle.pc_check.specs.Auditing.{most_bytes}
@@ -8,6 +8,9 @@ use Rattle.pc_reading.specs.Refusing.{Refusal}
 use Rattle.pc_checking.specs.CheckOutcome.{check_usage, no_memory, read_fault, deck_unread, write_fault, in_check_usage}
 use Rattle.pc_reading.specs.Sides.{side}
 use Rattle.pc_checking.proofs.CheckLaws.{after_check, after_deck, of_each_project, unpulled}
+use Rattle.std.proofs.KnownBytes.{Consumes-nil}
+use Rattle.pc_deck.specs.Limits.{longest_deck}
+use Rattle.pc_edges.proofs.PullLaws.{TakesPulls-none}
 use Rattle.pc_checking.proofs.checking.check_outcome.Goals as goal
 
 pub returns-in-Ok-clause-outcome : goal.returns-in-Ok-clause-outcome
@@ -41,3 +44,15 @@ returns-in-Err-ReadFault-clause-outcome g c =
 
 pub returns-in-Err-OutOfMemory-clause-outcome : goal.returns-in-Err-OutOfMemory-clause-outcome
 returns-in-Err-OutOfMemory-clause-outcome g c = no_memory (omega (arith, c.if-words-ne1.false)) refl refl refl
+
+pub returns-in-Ok-clause-deck_turns : goal.returns-in-Ok-clause-deck_turns
+returns-in-Ok-clause-deck_turns g c = TakesPulls-none (longest_deck + 2) (g.D.Source.pulls c.args.deck.now)
+
+pub returns-in-Ok-clause-deck_near : goal.returns-in-Ok-clause-deck_near
+returns-in-Ok-clause-deck_near g c = ([], Consumes-nil (g.D.Source.left c.args.deck.now), omega arith)
+
+pub returns-in-Err-clause-deck_turns : goal.returns-in-Err-clause-deck_turns
+returns-in-Err-clause-deck_turns g c = TakesPulls-none (longest_deck + 2) (g.D.Source.pulls c.args.deck.now)
+
+pub returns-in-Err-clause-deck_near : goal.returns-in-Err-clause-deck_near
+returns-in-Err-clause-deck_near g c = ([], Consumes-nil (g.D.Source.left c.args.deck.now), omega arith)

@@ -1,10 +1,13 @@
-use Rattle.std.proofs.Common.{refl, sym, subst, ◌∙◌}
+use Rattle.std.proofs.Common.{◌+◌, [], refl, sym, subst, ◌∙◌, arith}
 use Rattle.pc_faults.specs.declared.fault.Fault.{Fault}
 use Rattle.pc_faults.specs.FaultText.{IsTold}
 use Rattle.pc_reading.specs.Refusing.{Refusal}
 use Rattle.pc_reading.specs.Sides.{side, Took, TookFront}
 use Rattle.pert_cli.specs.Outcome.{usage, no_memory, read_fault, write_fault, in_usage}
 use Rattle.pert_cli.proofs.OutcomeLaws.{after_refusal, after_reply}
+use Rattle.std.proofs.KnownBytes.{Consumes-nil}
+use Rattle.pc_deck.specs.Limits.{longest_deck}
+use Rattle.pc_edges.proofs.PullLaws.{TakesPulls-none}
 use Rattle.pert_cli.proofs.top.outcome.Goals as goal
 
 pub refuse-requires : goal.refuse-requires
@@ -41,6 +44,18 @@ returns-in-Err-OutOfMemory-clause-outcome g c =
 
 pub project_for-requires : goal.project_for-requires
 project_for-requires g c = c.in-Some.ensures.form.numbered
+
+pub returns-in-Ok-clause-turns : goal.returns-in-Ok-clause-turns
+returns-in-Ok-clause-turns g c = TakesPulls-none (longest_deck + 2) (g.S.Source.pulls c.args.source.now)
+
+pub returns-in-Ok-clause-near : goal.returns-in-Ok-clause-near
+returns-in-Ok-clause-near g c = ([], Consumes-nil (g.S.Source.left c.args.source.now), omega arith)
+
+pub returns-in-Err-clause-turns : goal.returns-in-Err-clause-turns
+returns-in-Err-clause-turns g c = TakesPulls-none (longest_deck + 2) (g.S.Source.pulls c.args.source.now)
+
+pub returns-in-Err-clause-near : goal.returns-in-Err-clause-near
+returns-in-Err-clause-near g c = ([], Consumes-nil (g.S.Source.left c.args.source.now), omega arith)
 
 pub answer-requires : goal.answer-requires
 answer-requires g c = c.in-Some.ensures.form.numbered

@@ -10,3 +10,10 @@ invariant_of-result c = record {
   late = λ k d within. let up = c.in_ok-late.ensures.limit k d within in grind (arith, ints, up.0, up.1, c.end_to_meet-by.ensures.limit);
   path = omega (arith, c.in_ok-longest.ensures.short, ap (λ n. n.events) c.net.ensures.network, c.net.ensures.planned.few_events);
 }
+
+pub returns-clause-small : goal.returns-clause-small
+returns-clause-small c = record {
+  early = c.in_ok-longest.ensures.limit;
+  late = λ k d within. let up = c.in_ok-late.ensures.limit k d within in grind (arith, ints, up.0, up.1, c.end_to_meet-by.ensures.limit);
+  path = omega (arith, c.in_ok-longest.ensures.short, ap (λ n. n.events) c.net.ensures.network, c.net.ensures.planned.few_events);
+}
