@@ -34,19 +34,21 @@ optimum-cost net printed limit direct cheapest at least =
     (subst (λ n. curve_in net n printed.cost) at
     (record { reached = (slice_index printed.durations, slice_index printed.times, cheapest.schedule, sym cheapest.cost); least = cheapest.least })) least
 
-pub optimum-with : (project : Project) (net : PricedNetwork) (terms : TimeTerms) (shortest longest : ℕ) (best : Best) (printed : Printed) → net ≡ priced_in project
-    → IsRange net shortest longest → terms ≡ project.time_terms → IsBest (curve_in net) terms shortest longest best → IsCheapest net printed
-    → printed.length ≡ best.length → IsOptimumWith project best printed
-optimum-with project net terms shortest longest best printed same range same_terms is cheapest at =
-    let here = subst (λ (n : PricedNetwork). IsCheapest n printed) same cheapest in
-    let right = subst (λ (n : PricedNetwork). IsBest (curve_in n) project.time_terms shortest longest best) same
-    (subst (λ (t : TimeTerms). IsBest (curve_in net) t shortest longest best) same_terms is) in
-    record {
-      shortest = shortest;
-      longest = longest;
-      range = subst (λ (n : PricedNetwork). IsRange n shortest longest) same range;
-      right = right;
-      cheapest = here;
-      length = at;
-      cost = optimum-cost (priced_in project) printed best.length best.direct here at right.direct;
-    }
+pub optimum-with : (net : PricedNetwork) (terms : TimeTerms) (shortest longest : ℕ) (best : Best) (printed : Printed) → IsRange net shortest longest
+    → IsBest (curve_in net) terms shortest longest best → IsCheapest net printed → printed.length ≡ best.length → IsOptimumWith net terms best printed
+optimum-with net terms shortest longest best printed range is cheapest at = record {
+  shortest = shortest;
+  longest = longest;
+  range = range;
+  right = is;
+  cheapest = cheapest;
+  length = at;
+  cost = optimum-cost net printed best.length best.direct cheapest at is.direct;
+}
+
+-- a project's network and terms are those that were solved
+pub optimum-there : (project : Project) (net : PricedNetwork) (terms : TimeTerms) (best : Best) (printed : Printed) → net ≡ priced_in project
+    → terms ≡ project.time_terms → IsOptimumWith net terms best printed → IsOptimumWith (priced_in project) project.time_terms best printed
+optimum-there project net terms best printed same same_terms is =
+    subst (λ (n : PricedNetwork). IsOptimumWith n project.time_terms best printed) same
+    (subst (λ (t : TimeTerms). IsOptimumWith net t best printed) same_terms is)

@@ -1,6 +1,8 @@
 -- The answer to `optimum`: the length for which the project costs least in all, what shows that, and a schedule of least cost for
 -- it.
 use Rattle.std.specs.Prelude.{◌≡◌, ℕ, List, ◌++◌}
+use Rattle.pc_model.specs.declared.TimeTerms.{TimeTerms}
+use Rattle.pc_crash.specs.Priced.{PricedNetwork}
 use Rattle.pc_curve.specs.Points.{curve_in}
 use Rattle.pc_project.specs.Project.{Project}
 use Rattle.pc_reports.specs.Schedule.{plan_text}
@@ -11,13 +13,13 @@ use Rattle.pc_reading.specs.Priced.{priced_in}
 use Rattle.pert_cli.specs.Normal.{Printed}
 use Rattle.pert_cli.specs.Point.{IsCheapest, IsRange}
 
--- the project's optimum, and a schedule for its length that costs what is said of it
-pub record IsOptimumWith (project : Project) (best : Best) (printed : Printed) : Type 0 where
+-- the optimum of a network's curve with these terms of time, and a schedule for its length that costs what is said of it
+pub record IsOptimumWith (net : PricedNetwork) (terms : TimeTerms) (best : Best) (printed : Printed) : Type 0 where
   pub shortest : ℕ
   pub longest : ℕ
-  pub range : IsRange (priced_in project) shortest longest
-  pub right : IsBest (curve_in (priced_in project)) project.time_terms shortest longest best
-  pub cheapest : IsCheapest (priced_in project) printed
+  pub range : IsRange net shortest longest
+  pub right : IsBest (curve_in net) terms shortest longest best
+  pub cheapest : IsCheapest net printed
   pub length : printed.length ≡ best.length
   pub cost : printed.cost ≡ best.direct
 
@@ -30,5 +32,5 @@ optimum_text project best printed =
 pub record IsOptimumText (project : Project) (text : List ℕ) : Type 0 where
   pub best : Best
   pub printed : Printed
-  pub right : IsOptimumWith project best printed
+  pub right : IsOptimumWith (priced_in project) project.time_terms best printed
   pub is : text ≡ optimum_text project best printed

@@ -1,11 +1,13 @@
 //! `optimum`: the length for which the project costs least in all, and a schedule for it.
-ghost use Rattle.std.specs.Prelude.{◌≡◌, false, IfOk};
+ghost use Rattle.std.specs.Prelude.{◌≡◌, ◌+◌, ◌*◌, ◌≤◌, false, length, IfOk};
+ghost use Rattle.pc_cells.specs.Spans.{free_of};
 ghost use Rattle.pc_crash.specs.Steps.{IsBlankOf};
 ghost use Rattle.pc_curve.specs.Points.{curve_in};
 ghost use Rattle.pc_model.specs.TimeCost.{AreTimeTerms};
 ghost use Rattle.pc_page.specs.Page.{fresh};
 ghost use Rattle.pc_total.specs.Bests.{IsBest};
 ghost use Rattle.pc_flow.specs.Courses.{IsSameCurve};
+ghost use Rattle.pc_reading.specs.Priced.{priced_in};
 ghost use Rattle.pert_cli.specs.Handing.{Answers, IsReply};
 ghost use Rattle.pert_cli.specs.Optimum.{IsOptimumWith, optimum_text};
 ghost use Rattle.pc_reading.specs.Sides.{side};
@@ -14,7 +16,8 @@ ghost use Rattle.pert_cli.specs.declared.forms.Form.TheVariants.{Optimum};
 use crate::answer::{Answer, deliver};
 use crate::cheapest::CheapestSchedule;
 use crate::solving::Workplace;
-use pc_crash::Steps;
+use pc_cells::Region;
+use pc_crash::{CrashNet, Steps};
 use pc_edges::{Failed, Sink};
 use pc_flow::Solver;
 use pc_page::Page;
@@ -45,17 +48,15 @@ struct OptimumAnswer {
 }
 
 impl OptimumAnswer {
-    /// The optimum, with all memory that the answer takes. Two solvers work in one region, one after the other: the first goes
-    /// down as far as it pays, and the second to the length that was found.
+    /// The optimum, with all memory that the answer takes.
     fn build(alloc: Global, project: &Project) -> Result<OptimumAnswer, AllocError>
         ensures page { IfOk result (λ answer. answer.page ≡ fresh) }
-        ensures optimum { IfOk result (λ answer. IsOptimumWith project.now answer.best answer.schedule) }
+        ensures optimum { IfOk result (λ answer.
+            IsOptimumWith (priced_in project.now) project.now.time_terms answer.best answer.schedule) }
     {
-        let Workplace { net, region, page } = Workplace::take(alloc, project)?;
-        let mut solver = Solver::begin(region, &net);
-        let best = find::<Brand>(&mut solver, &terms_of(project), Blank::new(1));
-        let mut second = Solver::begin(solver.close(), &net);
-        let schedule = CheapestSchedule::find(alloc, &mut second, best.length)?;
+        let place = Workplace::take(alloc, project)?;
+        let Workplace { net, region, page } = place;
+        let (best, schedule) = solve(alloc, &net, region, &terms_of(project))?;
         Ok(OptimumAnswer {
             page,
             best,
@@ -65,7 +66,7 @@ impl OptimumAnswer {
 }
 
 impl Answer for OptimumAnswer {
-    ghost IsFor = { λ answer project. (answer.page ≡ fresh) × IsOptimumWith project answer.best answer.schedule };
+    ghost IsFor = { λ answer project. (answer.page ≡ fresh) × IsOptimumWith (priced_in project) project.time_terms answer.best answer.schedule };
 
     ghost text = { λ answer project. optimum_text project answer.best answer.schedule };
 
@@ -88,6 +89,25 @@ fn terms_of(project: &Project) -> TimeTerms
         bonus,
         penalty,
     }
+}
+
+/// The optimum of a network's curve, and a schedule for it. Two solvers work in one region, one after the other: the first goes
+/// down as far as it pays, and the second to the length that was found.
+fn solve(
+    alloc: Global,
+    net: &CrashNet<'_>,
+    region: Region,
+    terms: &TimeTerms,
+) -> Result<(Best, CheapestSchedule), AllocError>
+    requires region { 8 * net.now.network.events + 6 * length net.now.network.arcs + 2 * length net.now.pieces + 16 ≤ free_of region }
+    requires terms { AreTimeTerms terms.now }
+    ensures { IfOk result (λ found. IsOptimumWith net.now terms.now found.0 found.1) }
+{
+    let mut solver = Solver::begin(region, net);
+    let best = find::<Brand>(&mut solver, terms, Blank::new(1));
+    let mut second = Solver::begin(solver.close(), net);
+    let schedule = CheapestSchedule::find(alloc, &mut second, best.length)?;
+    Ok((best, schedule))
 }
 
 /// The optimum of a solver's curve. The steps of the solver are counted in a ledger of their own.

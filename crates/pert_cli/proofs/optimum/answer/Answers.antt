@@ -1,4 +1,5 @@
 use Rattle.std.proofs.Common.{refl}
+use Rattle.pc_reading.specs.Priced.{priced_in}
 use Rattle.pert_cli.specs.Handing.{IsReply}
 use Rattle.pert_cli.specs.Optimum.{IsOptimumWith, optimum_text}
 use Rattle.pc_reading.specs.Sides.{side}
@@ -10,7 +11,7 @@ pub returns : goal.returns
 returns g c =
     let o = g.O.Sink in
     let project = c.args.project.now in
-    of_built c.build.result (λ answer. IsOptimumWith project answer.best answer.schedule) (λ answer. optimum_text project answer.best answer.schedule)
+    of_built c.build.result (λ answer. IsOptimumWith (priced_in project) project.time_terms answer.best answer.schedule) (λ answer. optimum_text project answer.best answer.schedule)
     (IsReply Optimum project) (side o.taken o.faults c.args.out.now c.deliver.new.out) c.deliver.result
     (λ answer is. record { right = record { best = answer.best; printed = answer.schedule; right = is; is = refl }; fits = λ fault denied. denied })
     c.build.ensures.optimum c.deliver.ensures.built c.deliver.ensures.none
