@@ -6,8 +6,6 @@ use Rattle.std.proofs.lemmas.Int.{ints}
 use Rattle.std.proofs.lemmas.List.{get_or-map, get_or_default}
 use Rattle.pc_accounts.specs.Packages.{IsUneven}
 use Rattle.pc_accounts.specs.Second.{IsRepeated}
-use Rattle.pc_accounts.specs.declared.rows.AcctRow.{AcctRow}
-use Rattle.pc_accounts.specs.declared.rows.WorkRow.{WorkRow}
 use Rattle.pc_model.specs.Network.{IsSound}
 use Rattle.pc_model.specs.declared.PieceRow.{PieceRow}
 use Rattle.pc_model.specs.declared.Term.{Term}
@@ -24,16 +22,16 @@ use Rattle.pc_deck.specs.declared.kinds.status.StatusCard.{StatusCard}
 use Rattle.pc_deck.specs.declared.kinds.terms.TermsCard.{TermsCard}
 use Rattle.pc_deck.specs.declared.kinds.wbs.ItemCard.{ItemCard}
 use Rattle.pc_deck.specs.Deck.{Deck, account_named, act_named, event_named, item_named, resource_named}
-use Rattle.pc_project.specs.DisorderFaults.{HasDisorder, HasNoDisorder, IsDisorderAt, IsEarlyAsOf, as_of_in, of_as_of, of_status}
+use Rattle.pc_project.specs.DisorderFaults.{HasDisorder, IsDisorderAt, IsEarlyAsOf, as_of_in, of_as_of, of_status}
 use Rattle.pc_project.specs.Misfit.{HasAccountFault, HasActFault, HasFigureFault, HasItemFault, HasLoadFault, HasMisfit, HasMoneyFault, HasNoMisfit, HasPieceCardFault, HasProjectFault, HasStatusFault, IsEvent, IsInOrder}
 use Rattle.pc_project.specs.Misfit as has
-use Rattle.pc_project.specs.PackageFaults.{HasLeafFault, HasNoLeafFault, StandsOnBranch, of_account, of_act}
-use Rattle.pc_project.specs.PieceFaults.{HasFlaw, HasFlawAt, HasNoPieceFault, HasPieceFault, none_left, not_rising, one_too_many}
-use Rattle.pc_project.specs.Project.{accounts_in, as_of_day, item_number, network_of, pieces_in, rows_of, statuses_in, terms_in, time_terms_of, togos_in, work_in}
+use Rattle.pc_project.specs.PackageFaults.{HasLeafFault, StandsOnBranch, of_account, of_act}
+use Rattle.pc_project.specs.PieceFaults.{HasFlaw, HasFlawAt, HasPieceFault, none_left, not_rising, one_too_many}
+use Rattle.pc_project.specs.Project.{accounts_in, as_of_day, item_number, pieces_in, rows_of, statuses_in, terms_in, time_terms_of, work_in}
 use Rattle.pc_project.specs.Refusal.{HasNoSecondToGo, HasSoundFigures, IsEven, MakesProject}
-use Rattle.pc_project.specs.TermsFaults.{HasNoTermsFault, HasTermsFault, bonus_above}
+use Rattle.pc_project.specs.TermsFaults.{HasTermsFault, bonus_above}
 use Rattle.pc_model.specs.declared.TimeTerms.{TimeTerms}
-use Rattle.pc_deck_text.specs.Same.{SayTheSame, account_said, act_said, item_said, load_said, money_said, piece_said, project_said, status_said}
+use Rattle.pc_deck_text.specs.Same.{SayTheSame, account_said, act_said, item_said, load_said, money_said, piece_said, status_said}
 use Rattle.pc_deck_text.proofs.SameLaws.{length_said, same_accounts, same_accounts_in, same_acts, same_events, same_item_number, same_items, same_network, same_pieces, same_resources, same_rows, same_start_day, same_statuses, same_terms, same_togos, same_work}
 
 -- what holds of some element of one list holds of the element at that place of the other, where a function makes them one

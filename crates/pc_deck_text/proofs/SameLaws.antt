@@ -1,5 +1,5 @@
 -- Decks that say the same have the same codes and the same lists, so they make the same project.
-use Rattle.std.proofs.Common.{◌≡◌, ℕ, List, length, map, Option, refl, sym, ap, ◌∙◌}
+use Rattle.std.proofs.Common.{◌≡◌, ℕ, List, length, map, Option, sym, ap, ◌∙◌}
 use Rattle.std.specs.Prelude.{nat_eq, position, unwrap_or, option_and_then, Some}
 use Rattle.std.specs.Cmp.Lexicographic.{pointwise}
 use Rattle.std.proofs.lemmas.List.{length-map}

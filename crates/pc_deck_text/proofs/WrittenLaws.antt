@@ -51,7 +51,7 @@ text_of_deck project text own is = record {
   short = subst (λ t. length t ≤ longest_deck) (sym is) (length-deck_text project.deck own.within);
   cards = subst (λ t. IsDeckOf t (written project.deck)) (sym is) (deck_text-read project.deck own.within);
   makes = makes_again (written project.deck) project.deck (back project.deck (written project.deck) (settled_same project.deck)) own.makes;
-  project = project_written project own;
+  made = project_written project own;
   same = settled_same project.deck;
   again = text-again project.deck ∙ sym is;
 }

@@ -26,6 +26,6 @@ pub record IsDeckText (project : Project) (text : List ℕ) : Type 0 where
   pub short : length text ≤ longest_deck
   pub cards : IsDeckOf text (written project.deck)
   pub makes : MakesProject (written project.deck)
-  pub project : IsProjectOfDeck (written project.deck) (migrated project)
+  pub made : IsProjectOfDeck (written project.deck) (migrated project)
   pub same : SayTheSame project.deck (written project.deck)
   pub again : deck_text (written project.deck) ≡ text

@@ -39,7 +39,7 @@ same_project : (project : Project) (text : List ℕ) → IsDeckText project text
 same_project project text is = record {
   deck = written project.deck;
   accepted = record { short = is.short; cards = is.cards; makes = is.makes };
-  is = is.project;
+  is = is.made;
 }
 
 of_deck : {X : Type 0} (left : Option (List ℕ)) (out : Side X) (project : Project) (text : List ℕ) → Took out text → IsDeckText project text
