@@ -104,7 +104,7 @@ one_forecasts : (project : Project) (f g : Forecasts) → HasSoundParts project 
 one_forecasts project f g parts x y =
     let as_of = one_sixths project.heading.start_day project.heading.as_of x.as_of y.as_of x.as_of_is y.as_of_is in
     let expected = one_forecast project.network project.expected project.states y.as_of parts.in_range parts.sound x.expected y.expected
-        (subst (λ (n : ℕ). IsForecast project.network project.expected project.states n x.expected) as_of x.forecast) y.forecast in
+    (subst (λ (n : ℕ). IsForecast project.network project.expected project.states n x.expected) as_of x.forecast) y.forecast in
     let times : f.times ≡ g.times = x.times ∙ (ap (λ (e : Expected). e.times) expected ∙ sym y.times) in
     let late = one_late_for project f.late g.late x.late y.late in
     same_forecasts times late
