@@ -11,7 +11,7 @@ use Rattle.pc_reading.specs.Sides.{Side, OfDeck, Took}
 use Rattle.pc_reading.specs.Verdict.{IsProjectOf}
 use Rattle.pc_reading.proofs.VerdictLaws.{one_project}
 use Rattle.pert_cli.specs.declared.forms.Form.{Form}
-use Rattle.pert_cli.specs.declared.forms.Form.TheVariants.{Check, Normal, Times, Summary, Value, Curve, Certify, Point, Outlook, Bench, Migrate}
+use Rattle.pert_cli.specs.declared.forms.Form.TheVariants.{Check, Normal, Times, Summary, Value, Curve, Certify, Point, Outlook, Bench, Migrate, Optimum, Load}
 use Rattle.pert_cli.specs.FormDeck.{ReadsSource}
 use Rattle.pert_cli.specs.Forms.{words_of}
 use Rattle.pert_cli.specs.Handing.{IsReply}
@@ -33,6 +33,8 @@ only_migrate (Point limit) same = absurd cc
 only_migrate (Outlook limit) same = absurd cc
 only_migrate (Bench n) same = absurd cc
 only_migrate Migrate same = refl
+only_migrate Optimum same = absurd (omega (arith, ap (λ (words : List (List ℕ)). get_or (get_or words 0 []) 0 0) same))
+only_migrate (Load days) same = absurd cc
 
 -- the text of an accepted deck is a deck of the same project
 same_project : (project : Project) (text : List ℕ) → IsDeckText project text → IsProjectOf text (migrated project)
@@ -71,5 +73,5 @@ module _ {S O E : Type 0} (words : List (String Global)) (source : Side S) (out 
   takes_same_project _ (refused is same) code at_0 asked = absurd (omega (arith, code, at_0))
   takes_same_project _ (usage no_form took same also) code at_0 asked = absurd (omega (arith, code, at_0))
   takes_same_project _ (no_memory form how left same also) code at_0 asked = absurd (omega (arith, code, at_0))
-  takes_same_project _ (read_fault form rose same also) code at_0 asked = absurd (omega (arith, code, at_0))
+  takes_same_project _ (read_fault form rose few same also) code at_0 asked = absurd (omega (arith, code, at_0))
   takes_same_project _ (write_fault is) code at_0 asked = absurd (omega (arith, code, at_0))

@@ -12,7 +12,7 @@ use Rattle.pc_reading.specs.Priced.{priced_in}
 use Rattle.pc_reading.specs.Verdict.{IsProjectOf}
 use Rattle.pc_reports.proofs.OneTextLaws.{one_summary_text, one_times_text, one_value_text}
 use Rattle.pert_cli.specs.declared.forms.Form.{Form}
-use Rattle.pert_cli.specs.declared.forms.Form.TheVariants.{Check, Normal, Times, Summary, Value, Curve, Bench}
+use Rattle.pert_cli.specs.declared.forms.Form.TheVariants.{Check, Normal, Times, Summary, Value, Curve, Bench, Migrate}
 use Rattle.pert_cli.specs.Forms.{HasOneText, IsTextOf}
 use Rattle.pert_cli.specs.Normal.{IsNormalSchedule, IsNormalText, Printed, printed_text}
 
@@ -42,6 +42,7 @@ of_parts Summary project text other has parts x y = one_summary_text project tex
 of_parts Value project text other has parts x y = one_value_text project text other parts x y
 of_parts Curve project text other has parts x y = one_curve_text (priced_in project) text other x y
 of_parts (Bench n) project text other has parts x y = one_bench_text n (priced_in project) text other parts.terms x y
+of_parts Migrate project text other has parts x y = x.is ∙ sym y.is
 of_parts _ project text other has parts x y = absurd has
 
 -- two texts that answer such a form for the project of a deck are one

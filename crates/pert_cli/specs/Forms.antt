@@ -97,6 +97,7 @@ HasOneText Summary = ⊤
 HasOneText Value = ⊤
 HasOneText Curve = ⊤
 HasOneText (Bench n) = ⊤
+HasOneText Migrate = ⊤
 HasOneText _ = ⊥
 
 -- the form refuses the project with the fault: `point` and `outlook` where the length lies outside the range of the project,
