@@ -118,7 +118,7 @@ module _ {S : Type 0} (source : Side S) (form : Form) where
   pub read_lacks : (result : Result Project NoProject) → ReadsSource form → IfErr result (HasNoProject source) → IfErr result (HasNoProjectFor form source)
   read_lacks (Ok project) reads why = tt
   read_lacks (Err (Refused fault)) reads why = (why.0, refusal_read reads why.1)
-  read_lacks (Err ReadFault) reads why = (reads, why)
+  read_lacks (Err ReadFault) reads why = (reads, why.0, why.1)
   read_lacks (Err OutOfMemory) reads why = λ deck own. absurd (reads_not_owned form deck reads own)
 
   -- what is made of a deck of its own is the form's
