@@ -16,7 +16,7 @@ use Rattle.pc_check.specs.Bounds.{IsShaped}
 use Rattle.pc_check.specs.Draft.{Part, Draft, empty_draft, begun_part, with_step, with_line}
 use Rattle.pc_check.specs.Failures.{reason_at, failure_after, failure_of}
 use Rattle.pc_check.specs.Said.{said}
-use Rattle.pc_check.specs.OwnLines.{head_lines, first_upper, most_head_lines, most_segment_lines, AreFew}
+use Rattle.pc_check.specs.OwnLines.{lines_before, first_upper, most_lines_before, most_segment_lines, AreFew}
 use Rattle.pc_check.proofs.BelowLaws.{and_parts}
 use Rattle.pc_check.proofs.BoundLaws.{head_passes, first_ends, later_ends}
 use Rattle.pc_check.proofs.GoodLines.{none_parts, parts_step}
@@ -113,12 +113,12 @@ few_behind net place (line ∷ lines) behind draft number h goes passes =
 -- ---- before it
 
 -- how many lines of the header and the walks may come from a place on
-abbrev head_left : ℕ → Place → ℕ
-head_left n Start = 3 + (n + n)
-head_left n (AfterHead shape) = 2 + (n + n)
-head_left n (NormalWalk shape steps) = 1 + (steps + n)
-head_left n (CrashWalk shape steps) = steps
-head_left n other = 0
+abbrev before_left : ℕ → Place → ℕ
+before_left n Start = 3 + (n + n)
+before_left n (AfterHead shape) = 2 + (n + n)
+before_left n (NormalWalk shape steps) = 1 + (steps + n)
+before_left n (CrashWalk shape steps) = steps
+before_left n other = 0
 
 -- the place stands before the first SEGMENT line
 abbrev IsBefore : ℕ → ℕ → Place → Draft → Type 0
@@ -130,14 +130,14 @@ IsBefore n m other draft = ⊥
 
 -- lines from a place on are few
 record AreFewFrom (n m : ℕ) (place : Place) (lines : List CertLine) : Type 0 where
-  head : head_lines lines ≤ head_left n place
-  all : length lines ≤ head_lines lines + (most_segment_lines n m (first_upper lines) + 1)
+  head : lines_before lines ≤ before_left n place
+  all : length lines ≤ lines_before lines + (most_segment_lines n m (first_upper lines) + 1)
 
 -- one line of the header or of a walk
 record Comes (n m : ℕ) (place behind : Place) (line : CertLine) (new : Draft) : Type 0 where
   at : IsBefore n m behind new
-  fewer : head_left n behind < head_left n place
-  counts : (lines : List CertLine) → head_lines (line ∷ lines) ≡ suc (head_lines lines)
+  fewer : before_left n behind < before_left n place
+  counts : (lines : List CertLine) → lines_before (line ∷ lines) ≡ suc (lines_before lines)
   same : (lines : List CertLine) → first_upper (line ∷ lines) ≡ first_upper lines
 
 arrives : (n m : ℕ) {place reached behind : Place} {line : CertLine} {new : Draft} → Comes n m place reached line new → Some reached ≡ Some behind → Comes n m place behind line new
@@ -154,7 +154,7 @@ record Begins (n m : ℕ) (behind : Place) (line : CertLine) (new : Draft) : Typ
   upper : ℕ
   lower : ℕ
   ordered : lower ≤ upper
-  none : (lines : List CertLine) → head_lines (line ∷ lines) ≡ 0
+  none : (lines : List CertLine) → lines_before (line ∷ lines) ≡ 0
   first : (lines : List CertLine) → first_upper (line ∷ lines) ≡ upper
   at : IsBehind n m behind new
   left : lines_behind (n + m + 2) behind new.part ≡ n + (m + (1 + (segments_behind upper lower * (n + m + 2) + 1)))
