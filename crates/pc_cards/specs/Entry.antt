@@ -1,4 +1,4 @@
--- What a kind of cards is: all that is asked of its cards, and what they say. Each kind's own file gives its entry, over the
+-- What a kind of cards is: all that is asked of its cards, and what they say; and how they are written. Each kind's own file gives its entry, over the
 -- lists in which a deck has its cards.
 use Rattle.std.specs.Prelude.{ℕ, Bool, ◌==◌, List, [], Option, Some, None, if◌then◌else◌}
 use Rattle.pc_cards.specs.Forms.{Slot}
@@ -49,10 +49,6 @@ pub record Entry (Lists : Type 0) : Type 1 where
   pub Card : Type 0
   -- the card that a record spells, of the record's number and its fields
   pub spelled : ℕ → List (List ℕ) → Card
-  -- the fields of a card as they are written, behind the kind itself, each in the one spelling that its form has
-  pub written : Card → List (List ℕ)
-  -- the same card in another record
-  pub at_row : ℕ → Card → Card
   -- what the fields must be in decks of a sort, behind the kind itself
   pub slots : Sort → List Slot
   -- how many fields a card must have, the kind itself among them
@@ -69,3 +65,10 @@ pub record Entry (Lists : Type 0) : Type 1 where
   pub is_coded : Bool
   -- that code
   pub code : Card → List ℕ
+
+-- how the cards of a kind are written
+pub record Written (Card : Type 0) : Type 0 where
+  -- the fields of a card as they are written, behind the kind itself, each in the one spelling that its form has
+  pub written : Card → List (List ℕ)
+  -- the same card in another record
+  pub at_row : ℕ → Card → Card

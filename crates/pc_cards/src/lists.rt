@@ -6,6 +6,7 @@ ghost use Rattle.std.specs.Cmp.Lexicographic.{pointwise};
 ghost use Rattle.pc_faults.specs.First.{Refuses};
 ghost use Rattle.pc_cards.specs.Findings.{fault_of_listed, fault_of_named, not_alone, or_else};
 ghost use Rattle.pc_cards.specs.Named.{count_once, has_code};
+ghost use Rattle.pc_model.specs.Codes.{IsNamedOnce};
 
 use crate::card::{Card, Coded};
 use crate::place::Place;
@@ -37,6 +38,13 @@ impl<C: Card> Once<C> {
         ensures { result ≡ None }
     {
         Once { card: None }
+    }
+
+    /// This card, or none.
+    pub fn of(card: Option<C>) -> Self
+        ensures { result ≡ card }
+    {
+        Once { card }
     }
 
     /// Takes the card that a record spells, or answers its fault.
@@ -122,6 +130,13 @@ impl<C: Card> Listed<C> {
         Ok(())
     }
 
+    /// Adds these cards in their order. After an error the list is of no more use.
+    pub fn add_all(&mut self, cards: &[C]) -> Result<(), AllocError>
+        ensures { OnOk result (self.new ≡ self.old ++ cards.now) }
+    {
+        self.cards.extend_from_slice(cards)
+    }
+
     /// How many cards there are.
     fn count(&self) -> usize
         ensures { result ≡ length self.now }
@@ -185,6 +200,18 @@ impl<C: Coded> Named<C> {
             Some(fault) => Err(DeckError::Fault(fault)),
             None => Ok(()),
         }
+    }
+
+    /// Adds these cards in their order, where no two of the cards have one code then. After an error the list is of no more
+    /// use.
+    pub fn add_all(&mut self, cards: &[C]) -> Result<(), AllocError>
+        requires { IsNamedOnce (map C.own_code (self.old ++ cards.now)) }
+        ensures { OnOk result (self.new ≡ self.old ++ cards.now) }
+    {
+        for card in cards {
+            self.add(*card)?;
+        }
+        Ok(())
     }
 
     /// Adds the card, and says whether its code is a new one.
