@@ -5,7 +5,7 @@ use Rattle.std.specs.Option.{option_map_or}
 use Rattle.circular_buffer.specs.Buffer.{keep_last, last_item}
 use Rattle.pc_model.specs.declared.limits.TheConstants.{MAX_UNIT_DAYS}
 use Rattle.pc_model.specs.Pieces.{ArePieces}
-use Rattle.pc_model.specs.Schedule.{AreTerms}
+use Rattle.pc_model.specs.Schedule.{AreTerms, term_at}
 use Rattle.pc_crash.specs.Priced.{PricedNetwork}
 use Rattle.pc_crash.specs.Terms.{AreWithinLimits}
 use Rattle.pc_project.specs.Project.{Project}
@@ -13,7 +13,7 @@ use Rattle.pc_project.specs.declared.estimates.Estimates.{Estimates}
 use Rattle.pc_edits.specs.declared.ask.Edit.{Edit}
 use Rattle.pc_edits.specs.declared.edits.TheConstants.{MAX_KEPT}
 use Rattle.pc_edits.specs.declared.trying.ActTerm.{ActTerm}
-use Rattle.pc_edits.specs.Plans.{Plan, plan_with, estimates_in, IsFitPlan}
+use Rattle.pc_edits.specs.Plans.{Plan, plan_with, estimates_at, estimates_in, IsFitPlan}
 
 -- the project as it is now: its priced network, the estimates of its activities, and how many days a unit is; and the plans
 -- to which UNDO goes back, the latest last
@@ -100,3 +100,9 @@ pub record IsEditing (editing : Editing) : Type 0 where
   pub kept_fit : All (IsFitPlan editing.net.network editing.net.pieces) editing.kept
   pub few : length editing.kept ≤ MAX_KEPT
   pub unit_days : editing.unit_days ≤ MAX_UNIT_DAYS
+
+-- only the numbers of activity a may differ
+pub record ChangesOnly (old new : Editing) (a : ℕ) : Type 0 where
+  pub activity : a < length old.net.network.arcs
+  pub terms : new.net.terms ≡ slice_set old.net.terms a (term_at new.net.terms a)
+  pub estimates : new.estimates ≡ slice_set old.estimates a (estimates_at new.estimates a)

@@ -5,5 +5,6 @@ pub mod Reasons
 pub mod Plans
 pub mod Editing
 pub mod Refusal
+pub mod Further
 pub mod Standing
 pub mod Inside

@@ -8,6 +8,7 @@ mod beginning;
 mod changing;
 mod edits;
 mod field;
+mod further;
 mod judging;
 mod kept;
 mod reading;

@@ -82,7 +82,11 @@ fn amount_of(fields: &[u8]) -> Option<(Code, u64)>
 {
     let (act, rest) = code_field(fields)?;
     let (n, rest) = number_field(rest)?;
-    if rest.is_empty() { Some((act, n)) } else { None }
+    if rest.is_empty() {
+        Some((act, n))
+    } else {
+        None
+    }
 }
 
 #[tactic(auto, unfolding(crate::specs::Reading::normal_of))]

@@ -7,6 +7,7 @@ ghost use Rattle.pc_edits.specs.Refusal.{trial_refusal};
 
 use crate::ask::Trial;
 use crate::edits::Edits;
+use crate::judging::judge_trial;
 use crate::reason::Reason;
 use pc_model::Term;
 
@@ -36,7 +37,10 @@ impl Edits<'_> {
         requires fits { MayTry self.old.editing.net tried.now }
         ensures { self.new ≡ record self.old { trial = Some tried.now } }
     {
-        self.aside = Some(ActTerm { activity: tried.activity, term: self.net.term(tried.activity) });
+        self.aside = Some(ActTerm {
+            activity: tried.activity,
+            term: self.net.term(tried.activity),
+        });
         self.net.set_term(tried.activity, tried.term);
     }
 
