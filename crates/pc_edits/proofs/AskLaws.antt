@@ -1,5 +1,5 @@
 -- What is read of a line is spelled so, and what is spelled so is read.
-use Rattle.std.proofs.Common.{◌≡◌, ℕ, ◌≤◌, Bool, true, false, cond, ltb, List, [], ◌∷◌, ◌++◌, length, take, drop, Option, Some, None, refl, sym, ap, subst, ◌∙◌, arith}
+use Rattle.std.proofs.Common.{◌≡◌, ℕ, Bool, true, false, cond, ltb, List, [], ◌++◌, length, take, drop, Option, Some, None, refl, sym, ap, subst, ◌∙◌}
 use Rattle.std.proofs.lemmas.Bool.{eqb-true, ltb-false, le-ltb}
 use Rattle.std.proofs.lemmas.Option.{cond_some}
 use Rattle.std.proofs.lemmas.Slice.Eq.{bytes_eq-Decides}
@@ -11,13 +11,12 @@ use Rattle.pc_edits.specs.declared.ask.Ask.{Ask}
 use Rattle.pc_edits.specs.declared.ask.Ask.TheVariants as ask
 use Rattle.pc_edits.specs.declared.ask.Change.{Change}
 use Rattle.pc_edits.specs.declared.ask.Change.TheVariants.{Estimate, Normal, Crash, Slope}
-use Rattle.pc_edits.specs.declared.ask.Edit.{Edit}
 use Rattle.pc_edits.specs.declared.ask.Trial.{Trial}
 use Rattle.pc_edits.specs.declared.ask.TheConstants.{MAX_LINE}
 use Rattle.pc_edits.specs.Fields.{◌>>=◌, run_len, code_field, number_field, alone}
 use Rattle.pc_edits.specs.Lines.{spaced, spelling, Fits, Asks, IsSmall, IsCode}
 use Rattle.pc_edits.specs.Reading.{edit_of, estimate_of, amount_of, normal_of, crash_of, slope_of, try_of, ask_with, ask_of}
-use Rattle.pc_edits.proofs.FieldLemmas.{bind_some, IsBehind, nothing, space, code_field_takes, code_field_again, number_field_takes, number_field_again}
+use Rattle.pc_edits.proofs.FieldLemmas.{bind_some, nothing, space, code_field_takes, code_field_again, number_field_takes, number_field_again}
 
 -- the word and the fields are those of the ask, which can be spelled
 record IsSpelled (word fields : List ℕ) (a : Ask) : Type 0 where

@@ -1,21 +1,26 @@
 -- The numbers of a deck's project fit.
-use Rattle.std.proofs.Common.{◌≡◌, ℕ, ◌<◌, ◌≤◌, List, [], ◌∷◌, length, map, get_or, refl, sym, ◌∙◌, ap, subst, inl, inr, arith}
+use Rattle.std.proofs.Common.{◌≡◌, ℕ, ◌<◌, [], length, get_or, None, refl, sym, ◌∙◌, ap, subst, inl, inr, arith}
 use Rattle.std.proofs.lemmas.Bool.{cases_lt}
 use Rattle.std.proofs.lemmas.List.{length-map, get_or-map, get_or_default}
-use Rattle.std.specs.List.{All, Any}
-use Rattle.pc_crash.specs.Priced.{AreNames}
+use Rattle.std.specs.List.{All}
+use Rattle.circular_buffer.specs.Buffer.{Buffer, buffer}
+use Rattle.pc_crash.specs.Priced.{AreNames, ArePiecesWithinLimits, PricedNetwork}
 use Rattle.pc_deck.specs.Act.{IsActWithin}
 use Rattle.pc_deck.specs.Deck.{Deck}
 use Rattle.pc_deck.specs.declared.kinds.act.ActCard.{ActCard}
 use Rattle.pc_deck.proofs.NumberLemmas.{acts-within}
 use Rattle.pc_faults.specs.declared.fault.Fault.{Fault}
 use Rattle.pc_project.specs.declared.estimates.Estimates.{Estimates}
+use Rattle.pc_project.specs.Misfit as has
 use Rattle.pc_project.specs.Misfit.{HasActFault, HasNoMisfit, act}
-use Rattle.pc_project.specs.Misfit.HasActFault as has
 use Rattle.pc_project.specs.Planned.{IsPlanned}
 use Rattle.pc_project.specs.Project.{Project}
-use Rattle.pc_edits.specs.Plans.{AreEstimates, IsFitPlan, estimates_at, estimates_in}
-use Rattle.pc_edits.specs.Editing.{IsEditing, begun, plan_of}
+use Rattle.pc_edits.specs.Plans.{AreEstimates, estimates_at, estimates_in}
+use Rattle.pc_edits.specs.declared.kept.Kept.{Kept}
+use Rattle.pc_edits.specs.declared.edits.Edits.TheInside.{Inside}
+use Rattle.pc_edits.specs.declared.edits.TheConstants.{MAX_KEPT}
+use Rattle.pc_edits.specs.Editing.{IsEditing, begun, priced_of}
+use Rattle.pc_edits.specs.Inside.{IsWholeInside, editing_in, plans_back}
 
 -- a card to read past the end of the cards, where no one looks
 no_act : ActCard
@@ -63,3 +68,21 @@ module _ (project : Project) (planned : IsPlanned project) where
 
   pub AreNames-begun : AreNames (length project.network.arcs) project.activities
   AreNames-begun = record { one_each = planned.activity_codes; once = planned.activities_differ }
+
+  -- fields that are the deck's are whole
+  module _ (s : Inside) (net_is : s.net ≡ priced_of project) (estimates_are : s.estimates.items ≡ estimates_in project.deck) (unit_is : s.unit_days ≡ project.heading.unit_days)
+      (kept_is : s.kept ≡ buffer [] MAX_KEPT) (aside_is : s.aside ≡ None) where
+    editing_is : editing_in s ≡ begun project
+    editing_is =
+        ap (λ aside. editing_in (record s { aside = aside })) aside_is
+        ∙ (λ i. record { net = net_is i; estimates = estimates_are i; unit_days = unit_is i; kept = plans_back (kept_is i).items (record { terms = (net_is i).terms; estimates = estimates_are i }) })
+
+    pub begun_whole : IsWholeInside s
+    begun_whole = record {
+      editing = subst IsEditing (sym editing_is) IsEditing-begun;
+      names = subst (λ (n : PricedNetwork). AreNames (length n.network.arcs) n.activities) (sym net_is) AreNames-begun;
+      piece_limits = subst (λ (n : PricedNetwork). ArePiecesWithinLimits n.pieces) (sym net_is) planned.piece_limits;
+      room = ap (λ (b : Buffer Kept). b.capacity) kept_is;
+      known = subst (All (λ (k : Kept). k.activity < length s.net.network.arcs)) (sym (ap (λ (b : Buffer Kept). b.items) kept_is)) (λ k d inside. absurd (omega arith));
+      aside_known = λ t is. absurd (let none = aside_is in let some = is in cc);
+    }

@@ -1,6 +1,6 @@
 -- The plans to which kept edits go back.
-use Rattle.std.proofs.Common.{◌≡◌, ℕ, zero, suc, ◌+◌, ◌-◌, ◌<◌, ◌≤◌, List, [], ◌∷◌, ◌++◌, length, take, drop, Some, refl, sym, ◌∙◌, ap, arith}
-use Rattle.circular_buffer.specs.Buffer.{keep_last, last_item}
+use Rattle.std.proofs.Common.{◌≡◌, ℕ, zero, suc, ◌-◌, List, [], ◌∷◌, ◌++◌, length, drop, refl, sym, ◌∙◌, ap}
+use Rattle.circular_buffer.specs.Buffer.{keep_last}
 use Rattle.pc_edits.specs.declared.kept.Kept.{Kept}
 use Rattle.pc_edits.specs.Plans.{Plan, plan_with}
 use Rattle.pc_edits.specs.Inside.{plan_back, plans_back}

@@ -3,7 +3,9 @@ mod AskLaws
 mod NamedLaws
 mod FlawLaws
 mod PlanLaws
+mod JudgeLaws
 mod ListLaws
 mod KeptLaws
+mod InsideLaws
 pub mod StandingLaws
 pub mod BegunLaws

@@ -1,14 +1,15 @@
 -- Numbers that are accepted fit, and those that are taken back are what they were.
-use Rattle.std.proofs.Common.{◌≡◌, ◌≢◌, ℕ, zero, suc, ◌+◌, ◌<◌, ◌≤◌, Bool, true, false, cond, ltb, leb, List, [], ◌∷◌, ◌++◌, length, set, get_or, Option, Some, None, refl, sym, ◌∙◌, ap, subst, ⊎_elim, add-one, arith}
+use Rattle.std.proofs.Common.{◌≡◌, ℕ, zero, suc, ◌+◌, ◌-◌, ◌*◌, ◌^◌, ◌<◌, ◌≤◌, Bool, true, false, ◌||◌, cond, leb, List, [], ◌∷◌, length, set, get_or, Option, Some, None, refl, sym, ◌∙◌, ap, subst, ⊎_elim, add-one, arith}
+use Rattle.std.proofs.Math.Nat.{mul-le-mul, pow-le-pow_left}
 use Rattle.std.proofs.lemmas.Bool.{cases_eq, ltb-false}
 use Rattle.std.proofs.lemmas.Bool.Decides.{nat_tests}
 use Rattle.std.proofs.lemmas.List.{get_or-set_same, get_or-set_other, length-set, set-set, same_lists, get_or_default}
 use Rattle.pc_model.specs.declared.PieceRow.{PieceRow}
 use Rattle.pc_model.specs.declared.Term.{Term}
-use Rattle.pc_model.specs.declared.limits.TheConstants.{MAX_COST, MAX_DURATION, MAX_SLOPE}
+use Rattle.pc_model.specs.declared.limits.TheConstants.{MAX_COST, MAX_DURATION, MAX_SLOPE, MAX_UNIT_DAYS, MAX_VARIANCE}
 use Rattle.pc_model.specs.Network.{Network}
 use Rattle.pc_model.specs.Pieces.{ArePieces, pieces_of, slope_in, units_of}
-use Rattle.pc_model.specs.Schedule.{AreTerms, term_at, crash_of, normal_of, base_cost_of, slope_of}
+use Rattle.pc_model.specs.Schedule.{AreTerms, term_at}
 use Rattle.pc_crash.specs.Terms.{AreWithinLimits}
 use Rattle.pc_project.specs.declared.estimates.Estimates.{Estimates}
 use Rattle.pc_edits.specs.declared.ask.Change.{Change}
@@ -22,17 +23,17 @@ use Rattle.pc_edits.specs.Further.{further_in, is_flawed, refusal_with}
 use Rattle.pc_edits.specs.Inside.{replaced}
 
 -- what is past the ends of the lists
-abbrev no_term : Term
+abbrev pub no_term : Term
 no_term = record { normal = 0; crash = 0; cost = 0; slope = 0 }
 
-abbrev no_estimates : Estimates
+abbrev pub no_estimates : Estimates
 no_estimates = record { optimistic = 0; likely = 0; pessimistic = 0 }
 
 -- ---- one element of a list
 
 -- an element that is set to what it is
 pub set-itself : {A : Type 0} (xs : List A) (a : ℕ) (d : A) → set xs a (get_or xs a d) ≡ xs
-set-itself xs a d = same_lists (set xs a (get_or xs a d)) xs (length-set xs a (get_or xs a d)) same
+set-itself {A = A} xs a d = same_lists (set xs a (get_or xs a d)) xs (length-set xs a (get_or xs a d)) same
   where
     same : (k : ℕ) (e : A) → k < length (set xs a (get_or xs a d)) → get_or (set xs a (get_or xs a d)) k e ≡ get_or xs k e
     same k e inside =
@@ -160,6 +161,21 @@ with_cost (Crash n) term = refl
 with_cost (Slope n) term = refl
 with_cost (Estimate new) term = refl
 
+-- so does a trial
+tried_short : (trial : Trial) → is_trial_over trial ≡ false → trial.normal ≤ MAX_DURATION
+tried_short trial within = grind (arith, nat_tests)
+
+tried_gentle : (trial : Trial) → is_trial_over trial ≡ false → trial.slope ≤ MAX_SLOPE
+tried_gentle trial within = grind (arith, nat_tests)
+
+-- a variance is no greater than that of the widest estimates in the longest unit
+pub variance_small : (opt pess unit_days : ℕ) → pess ≤ MAX_DURATION → unit_days ≤ MAX_UNIT_DAYS → (pess - opt) ^ 2 * unit_days ^ 2 ≤ MAX_VARIANCE
+variance_small opt pess unit_days most few =
+    let range : pess - opt ≤ 100000 = omega arith in
+    let square : (pess - opt) ^ 2 ≤ 100000 ^ 2 = pow-le-pow_left range 2 in
+    let units : unit_days ^ 2 ≤ 7 ^ 2 = pow-le-pow_left few 2 in
+    mul-le-mul square units
+
 -- and estimates within them
 with_estimates : (change : Change) (old : Estimates) → is_over change ≡ false → AreEstimates old → are_disordered (estimates_with change old) ≡ false → AreEstimates (estimates_with change old)
 with_estimates (Normal n) old within was in_order = was
@@ -173,46 +189,7 @@ with_estimates (Estimate new) old within was in_order = record {
 
 -- ---- the plan
 
--- the plan with a change against which nothing stands fits
-pub IsFitPlan-with : (net : Network) (pieces : List PieceRow) (plan : Plan) (change : Change) (a : ℕ) → IsFitPlan net pieces plan → a < length net.arcs →
-    HasNone (is_over change) (term_with change (term_at plan.terms a)) (estimates_with change (estimates_at plan.estimates a)) (pieces_of pieces a) →
-    IsFitPlan net pieces (plan_with change a plan)
-IsFitPlan-with net pieces plan change a fit known none = record {
-  terms = AreTerms-set net plan.terms pieces fit.terms fit.limits fit.pieces a inside new own;
-  limits = AreWithinLimits-set net plan.terms pieces fit.terms fit.limits fit.pieces a inside new own;
-  pieces = ArePieces-set net plan.terms pieces fit.terms fit.limits fit.pieces a inside new own;
-  estimates_each = length-set plan.estimates a estimates ∙ fit.estimates_each;
-  estimates = λ b below. ⊎_elim
-      (λ same. subst (λ c. AreEstimates (estimates_at (set plan.estimates a estimates) c)) (sym same) (subst AreEstimates (sym (get_or-set_same plan.estimates a estimates no_estimates there)) fine))
-      (λ other. subst AreEstimates (sym (get_or-set_other plan.estimates a b estimates no_estimates other)) (fit.estimates b below))
-      (cases_eq b a);
-}
-  where
-    inside : a < length plan.terms
-    inside = omega (arith, known, fit.terms.one_each)
-
-    there : a < length plan.estimates
-    there = omega (arith, known, fit.estimates_each)
-
-    abbrev old : Term
-    old = term_at plan.terms a
-
-    abbrev new : Term
-    new = term_with change (term_at plan.terms a)
-
-    abbrev estimates : Estimates
-    estimates = estimates_with change (estimates_at plan.estimates a)
-
-    own : IsOwnFit new (pieces_of pieces a)
-    own = own_fit new (pieces_of pieces a) none.ordered none.flawless
-        (with_short change old none.within (fit.limits.short a inside))
-        (omega (arith, with_cost change old, fit.limits.cheap a inside))
-        (with_gentle change old none.within (fit.limits.gentle a inside))
-
-    fine : AreEstimates estimates
-    fine = with_estimates change (estimates_at plan.estimates a) none.within (fit.estimates a known) none.in_order
-
--- what a change took the place of brings back what was there
+-- the numbers that were replaced bring back what was there
 term_back : (change : Change) (term : Term) (estimates : Estimates) → term_with (replaced change term estimates) (term_with change term) ≡ term
 term_back (Normal n) term estimates = refl
 term_back (Crash n) term estimates = refl
@@ -225,21 +202,81 @@ estimates_back (Crash n) term estimates = refl
 estimates_back (Slope n) term estimates = refl
 estimates_back (Estimate new) term estimates = refl
 
-pub plan-back : (plan : Plan) (change : Change) (a : ℕ) → a < length plan.terms → a < length plan.estimates →
-    plan_with (replaced change (term_at plan.terms a) (estimates_at plan.estimates a)) a (plan_with change a plan) ≡ plan
-plan-back plan change a inside there = λ i. record { terms = terms i; estimates = estimates i }
-  where
-    abbrev was : Change
-    was = replaced change (term_at plan.terms a) (estimates_at plan.estimates a)
+module _ (net : Network) (pieces : List PieceRow) (plan : Plan) (change : Change) (a : ℕ) (fit : IsFitPlan net pieces plan) (known : a < length net.arcs) where
+  abbrev old : Term
+  old = term_at plan.terms a
 
-    terms : (plan_with was a (plan_with change a plan)).terms ≡ plan.terms
-    terms =
-        ap (λ t. set (set plan.terms a (term_with change (term_at plan.terms a))) a (term_with was t)) (get_or-set_same plan.terms a (term_with change (term_at plan.terms a)) no_term inside)
-        ∙ ap (λ t. set (set plan.terms a (term_with change (term_at plan.terms a))) a t) (term_back change (term_at plan.terms a) (estimates_at plan.estimates a))
-        ∙ set-back plan.terms a (term_with change (term_at plan.terms a)) no_term
+  abbrev new : Term
+  new = term_with change old
 
-    estimates : (plan_with was a (plan_with change a plan)).estimates ≡ plan.estimates
-    estimates =
-        ap (λ t. set (set plan.estimates a (estimates_with change (estimates_at plan.estimates a))) a (estimates_with was t)) (get_or-set_same plan.estimates a (estimates_with change (estimates_at plan.estimates a)) no_estimates there)
-        ∙ ap (λ t. set (set plan.estimates a (estimates_with change (estimates_at plan.estimates a))) a t) (estimates_back change (term_at plan.terms a) (estimates_at plan.estimates a))
-        ∙ set-back plan.estimates a (estimates_with change (estimates_at plan.estimates a)) no_estimates
+  abbrev before : Estimates
+  before = estimates_at plan.estimates a
+
+  abbrev after : Estimates
+  after = estimates_with change before
+
+  inside : a < length plan.terms
+  inside = omega (arith, known, fit.terms.one_each)
+
+  there : a < length plan.estimates
+  there = omega (arith, known, fit.estimates_each)
+
+  -- the plan with a change against which nothing stands fits
+  module _ (none : HasNone (is_over change) new after (pieces_of pieces a)) where
+    own : IsOwnFit new (pieces_of pieces a)
+    own = own_fit new (pieces_of pieces a) none.ordered none.flawless
+        (with_short change old none.within (fit.limits.short a inside))
+        (omega (arith, with_cost change old, fit.limits.cheap a inside))
+        (with_gentle change old none.within (fit.limits.gentle a inside))
+
+    fine : AreEstimates after
+    fine = with_estimates change before none.within (fit.estimates a known) none.in_order
+
+    pub IsFitPlan-with : IsFitPlan net pieces (plan_with change a plan)
+    IsFitPlan-with = record {
+      terms = AreTerms-set net plan.terms pieces fit.terms fit.limits fit.pieces a inside new own;
+      limits = AreWithinLimits-set net plan.terms pieces fit.terms fit.limits fit.pieces a inside new own;
+      pieces = ArePieces-set net plan.terms pieces fit.terms fit.limits fit.pieces a inside new own;
+      estimates_each = length-set plan.estimates a after ∙ fit.estimates_each;
+      estimates = λ b below. ⊎_elim
+          (λ same. subst (λ c. AreEstimates (estimates_at (set plan.estimates a after) c)) (sym same) (subst AreEstimates (sym (get_or-set_same plan.estimates a after no_estimates there)) fine))
+          (λ other. subst AreEstimates (sym (get_or-set_other plan.estimates a b after no_estimates other)) (fit.estimates b below))
+          (cases_eq b a);
+    }
+
+  -- what a change took the place of brings back what was there
+  abbrev was : Change
+  was = replaced change old before
+
+  terms_back : (plan_with was a (plan_with change a plan)).terms ≡ plan.terms
+  terms_back =
+      ap (λ t. set (set plan.terms a new) a (term_with was t)) (get_or-set_same plan.terms a new no_term inside)
+      ∙ ap (λ t. set (set plan.terms a new) a t) (term_back change old before)
+      ∙ set-back plan.terms a new no_term
+
+  estimates_again : (plan_with was a (plan_with change a plan)).estimates ≡ plan.estimates
+  estimates_again =
+      ap (λ t. set (set plan.estimates a after) a (estimates_with was t)) (get_or-set_same plan.estimates a after no_estimates there)
+      ∙ ap (λ t. set (set plan.estimates a after) a t) (estimates_back change old before)
+      ∙ set-back plan.estimates a after no_estimates
+
+  pub plan-back : plan_with was a (plan_with change a plan) ≡ plan
+  plan-back = λ i. record { terms = terms_back i; estimates = estimates_again i }
+
+-- the term of a trial against which nothing stands may be tried
+module _ (net : Network) (pieces : List PieceRow) (plan : Plan) (a : ℕ) (fit : IsFitPlan net pieces plan) (known : a < length net.arcs) (trial : Trial)
+    (none : HasNone (is_trial_over trial) (term_tried trial (term_at plan.terms a)) (estimates_at plan.estimates a) (pieces_of pieces a)) where
+  in_terms : a < length plan.terms
+  in_terms = omega (arith, known, fit.terms.one_each)
+
+  tried_own : IsOwnFit (term_tried trial (term_at plan.terms a)) (pieces_of pieces a)
+  tried_own = own_fit (term_tried trial (term_at plan.terms a)) (pieces_of pieces a) none.ordered none.flawless (tried_short trial none.within) (fit.limits.cheap a in_terms) (tried_gentle trial none.within)
+
+  pub tried_terms : AreTerms net (set plan.terms a (term_tried trial (term_at plan.terms a)))
+  tried_terms = AreTerms-set net plan.terms pieces fit.terms fit.limits fit.pieces a in_terms (term_tried trial (term_at plan.terms a)) tried_own
+
+  pub tried_limits : AreWithinLimits (set plan.terms a (term_tried trial (term_at plan.terms a)))
+  tried_limits = AreWithinLimits-set net plan.terms pieces fit.terms fit.limits fit.pieces a in_terms (term_tried trial (term_at plan.terms a)) tried_own
+
+  pub tried_pieces : ArePieces (set plan.terms a (term_tried trial (term_at plan.terms a))) pieces
+  tried_pieces = ArePieces-set net plan.terms pieces fit.terms fit.limits fit.pieces a in_terms (term_tried trial (term_at plan.terms a)) tried_own

@@ -1,7 +1,7 @@
 -- What stands after an accepted edit, and after one is taken back.
-use Rattle.std.proofs.Common.{◌≡◌, ℕ, zero, suc, ◌+◌, ◌-◌, ◌<◌, ◌≤◌, min, List, [], ◌∷◌, ◌++◌, length, take, get_or, Option, Some, None, unwrap_or, refl, sym, ◌∙◌, ap, subst, arith}
+use Rattle.std.proofs.Common.{◌≡◌, ℕ, suc, ◌+◌, ◌-◌, ◌<◌, ◌≤◌, min, List, [], ◌∷◌, ◌++◌, length, take, Some, unwrap_or, refl, sym, ◌∙◌, ap, arith}
 use Rattle.std.specs.Option.{option_map_or}
-use Rattle.std.proofs.lemmas.List.{take_more, take_all, length-take}
+use Rattle.std.proofs.lemmas.List.{length-take}
 use Rattle.circular_buffer.specs.Buffer.{keep_last, last_item}
 use Rattle.circular_buffer.proofs.Places.{cut_end}
 use Rattle.pc_crash.specs.Priced.{PricedNetwork}
@@ -69,31 +69,31 @@ module _ (project : Project) (journal : Journal) where
   }
 
   -- the edits are those before the latest one and that
-  back_stands : (front : List Edit) (edit : Edit) → journal.standing ≡ front ++ edit ∷ [] → 0 < journal.kept → journal.kept ≤ length journal.standing →
-      undone (standing_of project journal) ≡ standing_of project (taken_back journal)
-  back_stands front edit is some within =
-      ap (λ ps. option_map_or (λ plan. editing_with (standing_of project journal) plan (take (length ps - 1) ps)) (last_item ps) (standing_of project journal)) kept
-      ∙ ap (λ found. option_map_or (λ plan. editing_with (standing_of project journal) plan (take (length (before ++ latest ∷ []) - 1) (before ++ latest ∷ []))) found (standing_of project journal)) (last_item-push before latest)
-      ∙ (λ i. editing_with (begun project) (plan_after net (fronts i) first) (front-push before latest i))
-      ∙ ap (λ edits. editing_with (begun project) (plan_after net (taken_back journal).standing first) (keep_last (journal.kept - 1) (plans_before net edits first))) fronts
-    where
-      latest : Plan
-      latest = plan_after net front first
+  module _ (front : List Edit) (edit : Edit) (is : journal.standing ≡ front ++ edit ∷ []) (some : 0 < journal.kept) where
+    abbrev latest : Plan
+    latest = plan_after net front first
 
-      before : List Plan
-      before = keep_last (journal.kept - 1) (plans_before net front first)
+    abbrev before : List Plan
+    before = keep_last (journal.kept - 1) (plans_before net front first)
 
-      kept : keep_last journal.kept plans ≡ before ++ latest ∷ []
-      kept =
-          ap (λ n. keep_last n plans) one_more
-          ∙ ap (keep_last (journal.kept - 1 + 1)) (ap (λ edits. plans_before net edits first) is ∙ plans_before-push net edit front first)
-          ∙ keep_last-push (journal.kept - 1) (plans_before net front first) latest
-        where
-          one_more : journal.kept ≡ journal.kept - 1 + 1
-          one_more = omega arith
+    one_more : journal.kept ≡ journal.kept - 1 + 1
+    one_more = omega arith
 
-      fronts : front ≡ (taken_back journal).standing
-      fronts = sym (ap (λ edits. take (length edits - 1) edits) is ∙ front-push front edit)
+    kept_are : keep_last journal.kept plans ≡ before ++ latest ∷ []
+    kept_are =
+        ap (λ n. keep_last n plans) one_more
+        ∙ ap (keep_last (journal.kept - 1 + 1)) (ap (λ edits. plans_before net edits first) is ∙ plans_before-push net edit front first)
+        ∙ keep_last-push (journal.kept - 1) (plans_before net front first) latest
+
+    fronts : front ≡ (taken_back journal).standing
+    fronts = sym (ap (λ (edits : List Edit). take (length edits - 1) edits) is ∙ front-push front edit)
+
+    back_stands : undone (standing_of project journal) ≡ standing_of project (taken_back journal)
+    back_stands =
+        ap (λ ps. option_map_or (λ plan. editing_with (standing_of project journal) plan (take (length ps - 1) ps)) (last_item ps) (standing_of project journal)) kept_are
+        ∙ ap (λ found. option_map_or (λ plan. editing_with (standing_of project journal) plan (take (length (before ++ latest ∷ []) - 1) (before ++ latest ∷ []))) found (standing_of project journal)) (last_item-push before latest)
+        ∙ ap (λ ps. editing_with (begun project) latest ps) (front-push before latest)
+        ∙ ap (λ edits. editing_with (begun project) (plan_after net edits first) (keep_last (journal.kept - 1) (plans_before net edits first))) fronts
 
   pub Stands-undone : (editing : Editing) → 0 < length editing.kept → Stands project journal editing → Stands project (taken_back journal) (undone editing)
   Stands-undone editing some stands =
@@ -101,7 +101,7 @@ module _ (project : Project) (journal : Journal) where
       ap (λ (e : Editing). length e.kept) stands.is ∙ length-keep_last journal.kept plans (omega (arith, stands.some, length-plans_before net journal.standing first)) in
       let parts = cut_end journal.standing (omega (arith, stands.some, as_many)) in
       record {
-        is = ap undone stands.is ∙ back_stands parts.0 parts.1 parts.2 (omega (arith, as_many)) stands.some;
+        is = ap undone stands.is ∙ back_stands parts.0 parts.1 parts.2 (omega (arith, as_many));
         some = omega (arith, stands.some, length-take (length journal.standing - 1) journal.standing);
         few = omega (arith, stands.few);
       }

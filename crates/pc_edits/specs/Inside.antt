@@ -1,9 +1,9 @@
 -- What the fields of edits say.
-use Rattle.std.specs.Prelude.{◌≡◌, ℕ, ◌<◌, List, [], ◌∷◌, All, length, slice_set, Option, Some, None}
+use Rattle.std.specs.Prelude.{◌≡◌, ◌<◌, List, [], ◌∷◌, All, length, slice_set, Option, Some, None}
 use Rattle.std.specs.Option.{ForSome}
 use Rattle.pc_model.specs.declared.Term.{Term}
 use Rattle.pc_model.specs.Schedule.{term_at}
-use Rattle.pc_crash.specs.Priced.{AreNames}
+use Rattle.pc_crash.specs.Priced.{AreNames, ArePiecesWithinLimits}
 use Rattle.pc_project.specs.declared.estimates.Estimates.{Estimates}
 use Rattle.pc_edits.specs.declared.ask.Change.{Change}
 use Rattle.pc_edits.specs.declared.ask.Change.TheVariants.{Estimate, Normal, Crash, Slope}
@@ -11,7 +11,7 @@ use Rattle.pc_edits.specs.declared.kept.Kept.{Kept}
 use Rattle.pc_edits.specs.declared.trying.ActTerm.{ActTerm}
 use Rattle.pc_edits.specs.declared.edits.Edits.TheInside.{Inside}
 use Rattle.pc_edits.specs.declared.edits.TheConstants.{MAX_KEPT}
-use Rattle.pc_edits.specs.Plans.{Plan, plan_with, estimates_at}
+use Rattle.pc_edits.specs.Plans.{Plan, plan_with}
 use Rattle.pc_edits.specs.Editing.{Editing, Edits, IsEditing}
 
 -- the numbers that a change of activity a takes the place of
@@ -58,11 +58,12 @@ editing_in edits = record {
 abbrev pub edits_from : Inside → Edits
 edits_from edits = record { editing = editing_in edits; trial = trial_in edits.aside edits.net.terms }
 
--- the numbers fit, now and in each plan that is kept; all activities have names of their own; there is room for as many
+-- the numbers fit, now and in each plan that is kept; pieces are within their limits; all activities have names of their own; there is room for as many
 -- edits as may be kept, and those that are and the term that was put aside are of activities
 pub record IsWholeInside (edits : Inside) : Type 0 where
   pub editing : IsEditing (editing_in edits)
   pub names : AreNames (length edits.net.network.arcs) edits.net.activities
+  pub piece_limits : ArePiecesWithinLimits edits.net.pieces
   pub room : edits.kept.capacity ≡ MAX_KEPT
   pub known : All (λ kept. kept.activity < length edits.net.network.arcs) edits.kept.items
   pub aside_known : ForSome edits.aside (λ aside. aside.activity < length edits.net.network.arcs)

@@ -1,12 +1,10 @@
 -- What a line may ask, and how each ask is spelled.
 use Rattle.std.specs.Prelude.{◌≡◌, ℕ, ◌^◌, ◌<◌, ◌≤◌, true, List, [], ◌∷◌, ◌++◌, length, decimal, codes}
 use Rattle.pc_text.specs.Code.{is_code}
-use Rattle.pc_project.specs.declared.estimates.Estimates.{Estimates}
 use Rattle.pc_edits.specs.declared.ask.Ask.{Ask}
 use Rattle.pc_edits.specs.declared.ask.Ask.TheVariants as ask
 use Rattle.pc_edits.specs.declared.ask.Change.{Change}
 use Rattle.pc_edits.specs.declared.ask.Change.TheVariants.{Estimate, Normal, Crash, Slope}
-use Rattle.pc_edits.specs.declared.ask.Edit.{Edit}
 use Rattle.pc_edits.specs.declared.ask.Trial.{Trial}
 use Rattle.pc_edits.specs.declared.ask.TheConstants.{MAX_LINE}
 

@@ -64,9 +64,9 @@ pub record AreEstimates (e : Estimates) : Type 0 where
   pub short : e.pessimistic ≤ MAX_DURATION
 
 -- the numbers fit the network and the pieces of costs, as those of an accepted deck do
-pub record IsFitPlan (net : Network) (pieces : List PieceRow) (plan : Plan) : Type 0 where
+pub record IsFitPlan (net : Network) (further : List PieceRow) (plan : Plan) : Type 0 where
   pub terms : AreTerms net plan.terms
   pub limits : AreWithinLimits plan.terms
-  pub pieces : ArePieces plan.terms pieces
+  pub pieces : ArePieces plan.terms further
   pub estimates_each : length plan.estimates ≡ length net.arcs
   pub estimates : (a : ℕ) → a < length net.arcs → AreEstimates (estimates_at plan.estimates a)

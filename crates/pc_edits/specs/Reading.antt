@@ -1,13 +1,10 @@
 -- The ask that a line spells, read word by word.
-use Rattle.std.specs.Prelude.{ℕ, nat_lt, List, [], ◌∷◌, length, take, drop, Option, Some, None, bytes_eq, codes, if◌then◌else◌}
-use Rattle.pc_project.specs.declared.estimates.Estimates.{Estimates}
+use Rattle.std.specs.Prelude.{ℕ, nat_lt, List, length, take, drop, Option, Some, None, bytes_eq, codes, if◌then◌else◌}
 use Rattle.pc_edits.specs.Fields.{◌>>=◌, run_len, code_field, number_field, alone}
 use Rattle.pc_edits.specs.declared.ask.Ask.{Ask}
 use Rattle.pc_edits.specs.declared.ask.Ask.TheVariants as ask
 use Rattle.pc_edits.specs.declared.ask.Change.{Change}
 use Rattle.pc_edits.specs.declared.ask.Change.TheVariants.{Estimate, Normal, Crash, Slope}
-use Rattle.pc_edits.specs.declared.ask.Edit.{Edit}
-use Rattle.pc_edits.specs.declared.ask.Trial.{Trial}
 use Rattle.pc_edits.specs.declared.ask.TheConstants.{MAX_LINE}
 
 -- an edit as an ask

@@ -1,5 +1,6 @@
 //! A project before any edit.
-ghost use Rattle.std.specs.Prelude.{◌≡◌, IfOk};
+ghost use Rattle.std.specs.Prelude.{◌≡◌, IfOk, OnOk};
+ghost use Rattle.pc_project.specs.Planned.{IsPlanned};
 ghost use Rattle.pc_edits.specs.Editing.{at_rest, begun};
 ghost use Rattle.pc_edits.specs.Plans.{estimates_in};
 
@@ -27,7 +28,8 @@ impl<'p> Edits<'p> {
 
 /// The estimates of the project's activities.
 fn estimates_of(alloc: Global, project: &Project) -> Result<Vec<Estimates>, AllocError>
-    ensures { IfOk result (λ list. list.items ≡ estimates_in project.now.deck) }
+    ensures estimates { IfOk result (λ list. list.items ≡ estimates_in project.now.deck) }
+    ensures planned { OnOk result (IsPlanned project.now) }
 {
     project
         .cards()

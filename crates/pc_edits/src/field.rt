@@ -1,9 +1,9 @@
 //! The fields of a line: each is a space and the word behind it.
 ghost use Rattle.std.specs.Prelude.{◌≡◌, ◌≤◌, length};
 ghost use Rattle.std.specs.Option.{option_map};
-ghost use Rattle.pc_edits.specs.Fields.{run_len, field, code_field, number_field};
+ghost use Rattle.pc_edits.specs.Fields.{run_len, field, number_field};
 
-use pc_text::{Code, read_number};
+use pc_text::read_number;
 
 /// How many bytes stand before the first space.
 pub(crate) fn run_len(bytes: &[u8]) -> usize
@@ -20,7 +20,7 @@ pub(crate) fn run_len(bytes: &[u8]) -> usize
 
 /// The word behind the space at the front, and the bytes behind the word.
 #[tactic(auto, unfolding(crate::specs::Fields::field))]
-fn field(bytes: &[u8]) -> Option<(&[u8], &[u8])>
+pub(crate) fn field(bytes: &[u8]) -> Option<(&[u8], &[u8])>
     ensures { option_map (λ parts. (parts.0.now, parts.1.now)) result ≡ field bytes.now }
 {
     let (first, rest) = bytes.split_first()?;
@@ -29,16 +29,6 @@ fn field(bytes: &[u8]) -> Option<(&[u8], &[u8])>
     }
     let end = run_len(rest);
     Some((&rest[..end], &rest[end..]))
-}
-
-/// The code behind the space at the front, and the bytes behind it.
-#[tactic(auto, unfolding(crate::specs::Fields::code_field))]
-pub(crate) fn code_field(bytes: &[u8]) -> Option<(Code, &[u8])>
-    ensures { option_map (λ parts. (parts.0, parts.1.now)) result ≡ code_field bytes.now }
-{
-    let (word, rest) = field(bytes)?;
-    let code = Code::read(word)?;
-    Some((code, rest))
 }
 
 /// The number behind the space at the front, and the bytes behind it.

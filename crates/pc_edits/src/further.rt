@@ -1,6 +1,9 @@
 //! What the further pieces of an activity's cost ask of its term.
 ghost use Rattle.std.specs.Prelude.{◌≡◌, ◌<◌, ◌≤◌, length};
-ghost use Rattle.pc_model.specs.Pieces.{pieces_of};
+ghost use Rattle.pc_model.specs.Pieces.{ArePieces, pieces_of};
+ghost use Rattle.pc_model.specs.Schedule.{AreTerms};
+ghost use Rattle.pc_crash.specs.Priced.{ArePiecesWithinLimits};
+ghost use Rattle.pc_crash.specs.Terms.{AreWithinLimits};
 ghost use Rattle.pc_edits.specs.Further.{further_in, is_flawed};
 
 use pc_crash::CrashNet;
@@ -17,7 +20,11 @@ pub(crate) struct Further {
 
 /// What the further pieces of an activity ask, where it has some. It takes one look at its knees.
 pub(crate) fn further_of(net: &CrashNet<'_>, a: u32) -> Option<Further>
-    requires { a < length net.now.network.arcs }
+    requires activity { a < length net.now.network.arcs }
+    requires terms { AreTerms net.now.network net.now.terms }
+    requires limits { AreWithinLimits net.now.terms }
+    requires pieces { ArePieces net.now.terms net.now.pieces }
+    requires piece_limits { ArePiecesWithinLimits net.now.pieces }
     ensures { result ≡ further_in (pieces_of net.now.pieces a) }
 {
     let knees = net.knees(a);

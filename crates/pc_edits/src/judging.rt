@@ -1,7 +1,7 @@
 //! Why numbers of an activity are refused.
 ghost use Rattle.std.specs.Prelude.{◌≡◌, ◌<◌, IfOk, IfErr, IfSome, OnOk, None, Some, length};
 ghost use Rattle.pc_model.specs.Schedule.{term_at};
-ghost use Rattle.pc_crash.specs.Priced.{AreNames};
+ghost use Rattle.pc_crash.specs.Priced.{AreNames, ArePiecesWithinLimits};
 ghost use Rattle.pc_edits.specs.Editing.{MayTry, activity_named};
 ghost use Rattle.pc_edits.specs.Further.{refusal_with};
 ghost use Rattle.pc_edits.specs.Plans.{IsFitPlan, plan_with, term_tried};
@@ -24,6 +24,7 @@ pub(crate) fn judge_edit(
     edit: &Edit,
 ) -> Result<u32, Reason>
     requires names { AreNames (length net.now.network.arcs) net.now.activities }
+    requires piece_limits { ArePiecesWithinLimits net.now.pieces }
     requires fit { IsFitPlan net.now.network net.now.pieces (record { terms = net.now.terms; estimates = estimates.now }) }
     ensures known { IfOk result (λ a. a < length net.now.network.arcs) }
     ensures named { IfOk result (λ a. activity_named net.now edit.now.act ≡ Some a) }
@@ -49,6 +50,7 @@ pub(crate) fn judge_trial(
     trial: &Trial,
 ) -> Result<ActTerm, Reason>
     requires names { AreNames (length net.now.network.arcs) net.now.activities }
+    requires piece_limits { ArePiecesWithinLimits net.now.pieces }
     requires fit { IsFitPlan net.now.network net.now.pieces (record { terms = net.now.terms; estimates = estimates.now }) }
     ensures named { IfOk result (λ tried. activity_named net.now trial.now.act ≡ Some tried.activity) }
     ensures term { IfOk result (λ tried. tried.term ≡ term_tried trial.now (term_at net.now.terms tried.activity)) }

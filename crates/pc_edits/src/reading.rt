@@ -4,7 +4,7 @@ ghost use Rattle.pc_edits.specs.Fields.{alone};
 ghost use Rattle.pc_edits.specs.Reading.{ask_of, ask_with, estimate_of, amount_of, edit_of, normal_of, crash_of, slope_of, try_of};
 
 use crate::ask::{Ask, Change, Edit, MAX_LINE, Trial};
-use crate::field::{code_field, number_field, run_len};
+use crate::field::{field, number_field, run_len};
 use pc_project::Estimates;
 use pc_text::Code;
 
@@ -59,11 +59,12 @@ fn edit_of(act: Code, change: Change) -> Ask
     Ask::Edit(Edit { act, change })
 }
 
-#[tactic(auto, unfolding(crate::specs::Reading::estimate_of))]
+#[tactic(auto, unfolding(crate::specs::Reading::estimate_of, crate::specs::Fields::code_field))]
 fn estimate_of(fields: &[u8]) -> Option<Ask>
     ensures { result ≡ estimate_of fields.now }
 {
-    let (act, rest) = code_field(fields)?;
+    let (word, rest) = field(fields)?;
+    let act = Code::read(word)?;
     let (optimistic, rest) = number_field(rest)?;
     let (likely, rest) = number_field(rest)?;
     let (pessimistic, rest) = number_field(rest)?;
@@ -76,11 +77,12 @@ fn estimate_of(fields: &[u8]) -> Option<Ask>
 }
 
 /// The activity and the one number that the fields are.
-#[tactic(auto, unfolding(crate::specs::Reading::amount_of))]
+#[tactic(auto, unfolding(crate::specs::Reading::amount_of, crate::specs::Fields::code_field))]
 fn amount_of(fields: &[u8]) -> Option<(Code, u64)>
     ensures { result ≡ amount_of fields.now }
 {
-    let (act, rest) = code_field(fields)?;
+    let (word, rest) = field(fields)?;
+    let act = Code::read(word)?;
     let (n, rest) = number_field(rest)?;
     if rest.is_empty() {
         Some((act, n))
@@ -113,11 +115,12 @@ fn slope_of(fields: &[u8]) -> Option<Ask>
     Some(edit_of(act, Change::Slope(n)))
 }
 
-#[tactic(auto, unfolding(crate::specs::Reading::try_of))]
+#[tactic(auto, unfolding(crate::specs::Reading::try_of, crate::specs::Fields::code_field))]
 fn try_of(fields: &[u8]) -> Option<Ask>
     ensures { result ≡ try_of fields.now }
 {
-    let (act, rest) = code_field(fields)?;
+    let (word, rest) = field(fields)?;
+    let act = Code::read(word)?;
     let (normal, rest) = number_field(rest)?;
     let (crash, rest) = number_field(rest)?;
     let (slope, rest) = number_field(rest)?;
