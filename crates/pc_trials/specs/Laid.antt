@@ -11,10 +11,6 @@ use Rattle.pc_trials.specs.declared.reservation.Reservation.TheInside.{Inside}
 use Rattle.pc_trials.specs.declared.spans.Spans.{Spans}
 use Rattle.pc_trials.specs.Reserved.{Reserved}
 
--- the lists in the order of their spans
-abbrev pub five : List ℕ → List ℕ → List ℕ → List ℕ → List ℕ → List (List ℕ)
-five expected variances early tails places = expected ∷ variances ∷ early ∷ tails ∷ places ∷ []
-
 -- the spans are the first five of a region
 pub record AreSpans (lists : List (List ℕ)) (s : Spans) : Type 0 where
   pub expected : IsSpan lists 0 s.expected
@@ -35,7 +31,7 @@ pub record IsTaken (old new : Cells) (len : ℕ) (s : Span) : Type 0 where
 pub record AreSpansTaken (old new : Cells) (events activities : ℕ) (s : Spans) : Type 0 where
   pub region : new ≡ record {
     capacity = old.capacity;
-    spans = five (replicate activities 0) (replicate activities 0) (replicate events 0) (replicate events 0) (replicate events 0);
+    spans = replicate activities 0 ∷ replicate activities 0 ∷ replicate events 0 ∷ replicate events 0 ∷ replicate events 0 ∷ [];
   }
   pub spans : AreSpans new.spans s
 
@@ -67,7 +63,7 @@ reserved_of r = kept_in (region_of r) r.steps
 
 -- no number of the list is greater
 abbrev pub AreAtMost : ℕ → List ℕ → Type 0
-AreAtMost most xs = (i : ℕ) → slice_index xs i ≤ most
+AreAtMost most xs = (i : ℕ) → i < length xs → slice_index xs i ≤ most
 
 -- the lists fit together, and no number is too great
 pub record IsWhole (r : Reserved) : Type 0 where
@@ -80,9 +76,9 @@ pub record IsWhole (r : Reserved) : Type 0 where
   pub small_early : AreAtMost MAX_TIME r.early
   pub small_tails : AreAtMost MAX_TIME r.tails
 
--- a region with five spans, which hold what is kept
+-- a region has these five spans and no other
 pub record IsLaidIn (region : Cells) (spans : Spans) : Type 0 where
-  pub lists : region.spans ≡ five (list_of region 0) (list_of region 1) (list_of region 2) (list_of region 3) (list_of region 4)
+  pub count : length region.spans ≡ 5
   pub spans : AreSpans region.spans spans
 
 -- the region is there, with its spans; and there is a place for each event's number
@@ -94,13 +90,16 @@ pub record IsLaid (r : Inside) : Type 0 where
 
 -- Renewing
 
--- the times in the new region are those of the expected times in the old one, and all else is as it was
-pub record AreRenewed (net : Network) (old new : Cells) (steps : ℕ) : Type 0 where
+-- the times in the new region are those of the expected times, and all else is as it was
+pub record AreRenewed (net : Network) (spans : Spans) (old new : Cells) (steps : ℕ) : Type 0 where
+  pub laid : IsLaidIn new spans
+  pub expected : list_of new 0 ≡ list_of old 0
+  pub variances : list_of new 1 ≡ list_of old 1
   pub early : AreEarly net (list_of old 0) (list_of new 2)
   pub tails : AreTails net (list_of old 0) (list_of new 3)
   pub path : IsPickedWalk net (list_of old 0) (take steps (list_of new 4))
+  pub places : length (list_of new 4) ≡ net.events
   pub short : steps < net.events
+  pub free : free_of new ≡ free_of old
   pub small_early : AreAtMost MAX_TIME (list_of new 2)
   pub small_tails : AreAtMost MAX_TIME (list_of new 3)
-  pub places : length (list_of new 4) ≡ net.events
-  pub rest : new ≡ record { capacity = old.capacity; spans = five (list_of old 0) (list_of old 1) (list_of new 2) (list_of new 3) (list_of new 4) }

@@ -1,5 +1,5 @@
 -- What the report of event times is written from.
-use Rattle.std.specs.Prelude.{◌≡◌, ℕ, ◌^◌, ◌<◌, ◌≤◌, ℤ, pos, ◌-ℤ◌, unsigned_abs, List, map, slice_index}
+use Rattle.std.specs.Prelude.{◌≡◌, ℕ, ◌^◌, ◌<◌, ◌≤◌, ℤ, pos, ◌-ℤ◌, unsigned_abs, List, length, map, slice_index}
 use Rattle.pc_times.specs.declared.TheConstants.{MAX_TIME}
 use Rattle.pc_reports.specs.View.{Shown}
 use Rattle.pc_trials.specs.declared.view.StandingTimes.TheInside.{Inside}
@@ -21,4 +21,4 @@ shown_of v = record {
 pub record IsSmallView (v : Inside) : Type 0 where
   pub by : unsigned_abs v.by < 2 ^ 40
   pub tails : AreAtMost MAX_TIME v.tails
-  pub path : (k : ℕ) → slice_index v.path k < 2 ^ 32
+  pub path : (k : ℕ) → k < length v.path → slice_index v.path k < 2 ^ 32

@@ -1,8 +1,6 @@
 //! The passes over the network, from span to span.
-ghost use Rattle.std.specs.Prelude.{◌≡◌, ◌<◌, ◌≤◌, length, take};
-ghost use Rattle.std.specs.List.{All};
-ghost use Rattle.pc_cells.specs.Spans.{with_span};
-ghost use Rattle.pc_times.specs.Times.{AreLengths, AreEarly, AreTails};
+ghost use Rattle.std.specs.Prelude.{◌≡◌, length};
+ghost use Rattle.pc_times.specs.Times.{AreLengths};
 ghost use Rattle.pc_trials.specs.Laid.{AreRenewed, IsLaidIn, list_of};
 
 use crate::spans::Spans;
@@ -24,7 +22,7 @@ pub(crate) fn renew_times(
     requires tails { length (list_of region.old 3) ≡ net.now.events }
     requires places { length (list_of region.old 4) ≡ net.now.events }
     requires room { length room.old ≡ net.now.events }
-    ensures renewed { AreRenewed net.now region.old region.new result }
+    ensures renewed { AreRenewed net.now spans.now region.old region.new result }
     ensures room { length room.new ≡ length room.old }
 {
     early_into(net, region.list(spans.expected), room);

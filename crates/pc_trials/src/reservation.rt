@@ -1,13 +1,14 @@
 //! The reservation of a session.
-ghost use Rattle.std.specs.Prelude.{◌≡◌, ◌+◌, ◌-◌, ◌*◌, ◌<◌, ◌≤◌, ◌↔◌, ℕ, List, length, IfOk, IfSome, IsSome};
+ghost use Rattle.std.specs.Prelude.{◌≡◌, ◌+◌, ◌-◌, ◌*◌, ◌<◌, ◌≤◌, ◌↔◌, ℕ, List, length, Some, IfOk, IfSome, IsSome};
 ghost use Rattle.pc_curve.specs.CurveText.{IsCurveText};
 ghost use Rattle.pc_curve.specs.Points.{curve_in};
 ghost use Rattle.pc_edges.specs.Writes.{Writes};
-ghost use Rattle.pc_model.specs.declared.limits.TheConstants.{MAX_ACTIVITIES, MAX_DURATION, MAX_EVENTS, MAX_PIECES, MAX_UNIT_DAYS};
+ghost use Rattle.pc_model.specs.declared.limits.TheConstants.{MAX_ACTIVITIES, MAX_DURATION, MAX_EVENTS, MAX_PIECES, MAX_UNIT_DAYS, MAX_VARIANCE};
 ghost use Rattle.pc_page.specs.Page.{fresh};
 ghost use Rattle.pc_project.specs.Project.{Project as Plan};
 ghost use Rattle.pc_reports.specs.TimesText.{IsTimesText};
-ghost use Rattle.pc_trials.specs.Laid.{region_of};
+ghost use Rattle.pc_times.specs.declared.TheConstants.{MAX_LENGTH, MAX_TIME};
+ghost use Rattle.pc_trials.specs.Laid.{AreAtMost};
 ghost use Rattle.pc_trials.specs.Reserved.{IsChangedTo, IsFor, IsStanding, IsStandingOf, path_in, with_estimates, with_times};
 ghost use Rattle.pc_trials.specs.Trials.{HasRoom, IsRange, IsWithin, looks_over, trial_cells};
 
@@ -98,42 +99,47 @@ impl Reservation {
     pub fn cells(&self) -> usize
         ensures { result ≡ self.now.free }
     {
-        self.region().free()
+        present(&self.region).free()
     }
 
     /// The expected time of each activity, in sixths of a day.
     pub fn expected(&self) -> &[u64]
-        ensures { result.now ≡ self.now.expected }
+        ensures list { result.now ≡ self.now.expected }
+        ensures limit { AreAtMost MAX_LENGTH result.now }
     {
-        self.region().list(self.spans.expected)
+        present(&self.region).list(self.spans.expected)
     }
 
     /// The variance of each activity's time, in thirty-sixths of a square day.
     pub fn variances(&self) -> &[u64]
-        ensures { result.now ≡ self.now.variances }
+        ensures list { result.now ≡ self.now.variances }
+        ensures limit { AreAtMost MAX_VARIANCE result.now }
     {
-        self.region().list(self.spans.variances)
+        present(&self.region).list(self.spans.variances)
     }
 
     /// When each event is reached at the earliest, in sixths of a day.
     pub fn early(&self) -> &[u64]
-        ensures { result.now ≡ self.now.early }
+        ensures list { result.now ≡ self.now.early }
+        ensures limit { AreAtMost MAX_TIME result.now }
     {
-        self.region().list(self.spans.early)
+        present(&self.region).list(self.spans.early)
     }
 
     /// For each event the greatest sum of expected times over the walks from it to the end.
     pub fn tails(&self) -> &[u64]
-        ensures { result.now ≡ self.now.tails }
+        ensures list { result.now ≡ self.now.tails }
+        ensures limit { AreAtMost MAX_TIME result.now }
     {
-        self.region().list(self.spans.tails)
+        present(&self.region).list(self.spans.tails)
     }
 
     /// The activities of the critical path, from the start event to the end event.
     pub fn path(&self) -> &[u64]
-        ensures { result.now ≡ path_in self.now }
+        ensures path { result.now ≡ path_in self.now }
+        ensures short { length result.now ≤ length self.now.places }
     {
-        &self.region().list(self.spans.places)[..self.steps]
+        &present(&self.region).list(self.spans.places)[..self.steps]
     }
 
     /// Gives an activity the expected time and the variance of these estimates, in units of so many days. The times of events
@@ -183,8 +189,11 @@ impl Reservation {
             × Writes result (O.taken sink.old) (O.taken sink.new) (O.faults sink.old) (O.faults sink.new) text }
         ensures fresh { page.new ≡ fresh }
     {
+        let net = project.net();
+        // How many activities a project may have, so that each has a small number.
+        let _activities = net.activities();
         let early = self.early();
-        let by = end_to_meet(project.directed(), early[project.net().end() as usize]);
+        let by = end_to_meet(project.directed(), early[net.end() as usize]);
         let view = StandingTimes {
             expected: self.expected(),
             variances: self.variances(),
@@ -240,11 +249,12 @@ impl Reservation {
         self.region = Some(region);
         cost
     }
+}
 
-    /// The region.
-    fn region(&self) -> &Region
-        ensures kept { self.now ≡ self.now }
-    {
-        self.region.as_ref().unwrap()
-    }
+// The region, which is there.
+fn present(region: &Option<Region>) -> &Region
+    requires { IsSome region.now }
+    ensures { region.now ≡ Some result.now }
+{
+    region.as_ref().unwrap()
 }

@@ -1,0 +1,4 @@
+mod LaidLaws
+mod TakenLaws
+mod TrialLaws
+mod TimesLaws
