@@ -8,8 +8,7 @@ use Rattle.pc_cells.specs.declared.span.Span.{Span}
 use Rattle.pc_cells.specs.Spans.{Cells, span_at, with_span, free_of, IsSpan}
 use Rattle.pc_cells.proofs.LiveLaws.{live-set}
 use Rattle.pc_trials.specs.declared.spans.Spans.{Spans}
-use Rattle.pc_trials.specs.Reserved.{Reserved}
-use Rattle.pc_trials.specs.Laid.{AreAtMost, AreSpans, IsLaidIn, list_of}
+use Rattle.pc_trials.specs.Laid.{AreAtMost, IsLaidIn, list_of}
 
 -- another list of its length in a span: all spans are together as long as before
 sum-set : (spans : List (List ℕ)) (k : ℕ) (xs : List ℕ) → length xs ≡ length (span_at spans k) → sum_by length (set spans k xs) ≡ sum_by length spans
@@ -32,12 +31,12 @@ put old new k xs is known size = record {
   free = ap free_of is ∙ ap (λ n. old.capacity - n) (sum-set old.spans k xs size);
   laid = λ s laid. record {
     count = ap length spans ∙ length-set old.spans k xs ∙ laid.count;
-    spans = record {
-      expected = live 0 s.expected laid.spans.expected;
-      variances = live 1 s.variances laid.spans.variances;
-      early = live 2 s.early laid.spans.early;
-      tails = live 3 s.tails laid.spans.tails;
-      places = live 4 s.places laid.spans.places;
+    live = record {
+      expected = live 0 s.expected laid.live.expected;
+      variances = live 1 s.variances laid.live.variances;
+      early = live 2 s.early laid.live.early;
+      tails = live 3 s.tails laid.live.tails;
+      places = live 4 s.places laid.live.places;
     };
   };
 } where
@@ -54,8 +53,3 @@ small-set most xs i v known fits small j below =
       | inl here ↦ omega (arith, ap (slice_index (set xs i v)) here, get_or-set_same xs i v 0 known, fits)
       | inr off ↦ omega (arith, get_or-set_other xs i j v 0 off, small j (omega (arith, below, length-set xs i v)))
     ]
-
--- what is kept, of its parts
-abbrev pub made : List ℕ → List ℕ → List ℕ → List ℕ → List ℕ → ℕ → ℕ → Reserved
-made expected variances early tails places steps free =
-    record { expected = expected; variances = variances; early = early; tails = tails; places = places; steps = steps; free = free }

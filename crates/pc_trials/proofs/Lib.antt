@@ -1,4 +1,5 @@
+mod KeptLaws
 mod LaidLaws
-mod TakenLaws
+mod OpenLaws
+mod RenewLaws
 mod TrialLaws
-mod TimesLaws

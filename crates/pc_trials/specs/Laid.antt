@@ -1,5 +1,5 @@
 -- Where a reservation keeps what it keeps.
-use Rattle.std.specs.Prelude.{◌≡◌, ℕ, ◌+◌, ◌^◌, ◌<◌, ◌≤◌, List, [], ◌∷◌, ◌++◌, length, replicate, take, Option, Some, unwrap_or, slice_index}
+use Rattle.std.specs.Prelude.{◌≡◌, ℕ, ◌<◌, ◌≤◌, List, [], ◌∷◌, ◌++◌, length, replicate, take, Some, unwrap_or, slice_index}
 use Rattle.pc_cells.specs.declared.span.Span.{Span}
 use Rattle.pc_cells.specs.Spans.{Cells, free_of, span_at, IsSpan}
 use Rattle.pc_model.specs.Network.{Network}
@@ -37,9 +37,13 @@ pub record AreSpansTaken (old new : Cells) (events activities : ℕ) (s : Spans)
 
 -- The fields of a reservation
 
+-- a region without cells
+abbrev pub no_region : Cells
+no_region = record { capacity = 0; spans = [] }
+
 -- the region of the fields
 abbrev pub region_of : Inside → Cells
-region_of r = unwrap_or r.region (record { capacity = 0; spans = [] })
+region_of r = unwrap_or r.region no_region
 
 -- what stands in the n-th of its spans
 abbrev pub list_of : Cells → ℕ → List ℕ
@@ -79,7 +83,7 @@ pub record IsWhole (r : Reserved) : Type 0 where
 -- a region has these five spans and no other
 pub record IsLaidIn (region : Cells) (spans : Spans) : Type 0 where
   pub count : length region.spans ≡ 5
-  pub spans : AreSpans region.spans spans
+  pub live : AreSpans region.spans spans
 
 -- the region is there, with its spans; and there is a place for each event's number
 pub record IsLaid (r : Inside) : Type 0 where

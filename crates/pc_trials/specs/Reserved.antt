@@ -1,5 +1,5 @@
 -- What a session keeps: the times of its project, in the spans of one region.
-use Rattle.std.specs.Prelude.{◌≡◌, ℕ, ◌+◌, ◌*◌, ◌≤◌, List, length, take, slice_set}
+use Rattle.std.specs.Prelude.{◌≡◌, ℕ, List, length, take, slice_set}
 use Rattle.pc_model.specs.Network.{Network}
 use Rattle.pc_times.specs.Estimates.{expected_time, variance_of}
 use Rattle.pc_times.specs.Picked.{IsPickedWalk}

@@ -1,5 +1,5 @@
 -- What a trial finds of the curve of a network.
-use Rattle.std.specs.Prelude.{◌≡◌, ℕ, ◌+◌, ◌-◌, ◌*◌, ◌≤◌, length}
+use Rattle.std.specs.Prelude.{ℕ, ◌+◌, ◌*◌, ◌≤◌, length}
 use Rattle.pc_model.specs.Schedule.{IsAllCrashLength, IsAllNormalLength}
 use Rattle.pc_crash.specs.Priced.{PricedNetwork}
 use Rattle.pc_search.specs.Labelling.{slopes_in}

@@ -7,6 +7,5 @@ mod renewing;
 mod reservation;
 mod spans;
 mod trial;
-mod view;
 
 pub use reservation::{Reservation, cells_needed};

@@ -10,12 +10,7 @@ use pc_times::{critical_path_into, early_into, tails_into};
 
 /// Renews the times and the critical path from the expected times, and answers how many activities the path has. The passes
 /// write into the room, which has a place for each event, and from there into the spans. It takes no memory.
-pub(crate) fn renew_times(
-    region: &mut Region,
-    spans: &Spans,
-    net: &Net,
-    room: &mut [u64],
-) -> usize
+pub(crate) fn renew_times(region: &mut Region, spans: &Spans, net: &Net, room: &mut [u64]) -> usize
     requires laid { IsLaidIn region.old spans.now }
     requires lengths { AreLengths net.now (list_of region.old 0) }
     requires early { length (list_of region.old 2) ≡ net.now.events }

@@ -5,24 +5,21 @@ ghost use Rattle.pc_curve.specs.Points.{curve_in};
 ghost use Rattle.pc_edges.specs.Writes.{Writes};
 ghost use Rattle.pc_model.specs.declared.limits.TheConstants.{MAX_ACTIVITIES, MAX_DURATION, MAX_EVENTS, MAX_PIECES, MAX_UNIT_DAYS, MAX_VARIANCE};
 ghost use Rattle.pc_page.specs.Page.{fresh};
-ghost use Rattle.pc_project.specs.Project.{Project as Plan};
-ghost use Rattle.pc_reports.specs.TimesText.{IsTimesText};
+ghost use Rattle.pc_times.specs.Times.{AreLengths};
 ghost use Rattle.pc_times.specs.declared.TheConstants.{MAX_LENGTH, MAX_TIME};
 ghost use Rattle.pc_trials.specs.Laid.{AreAtMost};
-ghost use Rattle.pc_trials.specs.Reserved.{IsChangedTo, IsFor, IsStanding, IsStandingOf, path_in, with_estimates, with_times};
+ghost use Rattle.pc_trials.specs.Reserved.{IsFor, IsStanding, IsStandingOf, path_in, with_estimates, with_times};
 ghost use Rattle.pc_trials.specs.Trials.{HasRoom, IsRange, IsWithin, looks_over, trial_cells};
 
 use crate::renewing::renew_times;
 use crate::spans::{Spans, take_spans};
 use crate::trial::{trial_cost, trial_curve};
-use crate::view::{StandingTimes, end_to_meet};
 use pc_cells::Region;
 use pc_crash::{CrashNet, Steps};
 use pc_edges::{Failed, Sink};
 use pc_net::Net;
 use pc_page::Page;
 use pc_project::{Estimates, Project};
-use pc_reports::write_times;
 use pc_times::{expected_sixths, variance_36};
 use std::alloc::{AllocError, Global};
 use std::marker::Model;
@@ -76,15 +73,41 @@ impl Reservation {
         ensures free { IfOk result (λ r. r.free ≡
             trial_cells project.now.network.events (length project.now.network.arcs) (length project.now.pieces)) }
     {
-        let net = project.net();
+        let pieces = project.pieces().len();
+        Reservation::for_lists(
+            alloc,
+            project.net(),
+            pieces,
+            project.expected(),
+            project.variances(),
+        )
+    }
+
+    // The reservation for a network with so many pieces of costs, with these expected times and variances.
+    fn for_lists(
+        alloc: Global,
+        net: &Net,
+        pieces: usize,
+        expected: &[u64],
+        variances: &[u64],
+    ) -> Result<Reservation, AllocError>
+        requires lengths { AreLengths net.now expected.now }
+        requires variance_each { length variances.now ≡ length net.now.arcs }
+        requires variances { AreAtMost MAX_VARIANCE variances.now }
+        requires pieces { pieces ≤ MAX_PIECES }
+        ensures fits { IfOk result (IsFor net.now) }
+        ensures standing { IfOk result (IsStanding net.now) }
+        ensures expected { IfOk result (λ r. r.expected ≡ expected.now) }
+        ensures variances { IfOk result (λ r. r.variances ≡ variances.now) }
+        ensures free { IfOk result (λ r. r.free ≡ trial_cells net.now.events (length net.now.arcs) pieces) }
+    {
         let events = net.events() as usize;
         let activities = net.activities() as usize;
-        let cells = cells_needed(events, activities, project.pieces().len());
-        let mut region = Region::with_cells(alloc, cells)?;
+        let mut region = Region::with_cells(alloc, cells_needed(events, activities, pieces))?;
         let room = vec![in alloc; 0; events]?;
         let spans = take_spans(&mut region, events, activities);
-        region.write(spans.expected, project.expected());
-        region.write(spans.variances, project.variances());
+        region.write(spans.expected, expected);
+        region.write(spans.variances, variances);
         let mut reservation = Reservation {
             region: Some(region),
             spans,
@@ -174,37 +197,6 @@ impl Reservation {
         self.region = Some(region);
     }
 
-    /// Writes the report of event times of the project as it is now, and flushes the sink: the deck's project with what stands
-    /// here in place of its expected times and variances. Linear in events and activities.
-    pub fn write_times<O: Sink>(
-        &self,
-        page: &mut Page,
-        sink: &mut O,
-        project: &Project,
-    ) -> Result<(), Failed>
-        requires fresh { page.old ≡ fresh }
-        requires fits { IsFor project.now.network self.now }
-        requires standing { IsStanding project.now.network self.now }
-        ensures text { (changed : Plan) → IsChangedTo project.now self.now changed → (text : List ℕ) × IsTimesText changed text
-            × Writes result (O.taken sink.old) (O.taken sink.new) (O.faults sink.old) (O.faults sink.new) text }
-        ensures fresh { page.new ≡ fresh }
-    {
-        let net = project.net();
-        // How many activities a project may have, so that each has a small number.
-        let _activities = net.activities();
-        let early = self.early();
-        let by = end_to_meet(project.directed(), early[net.end() as usize]);
-        let view = StandingTimes {
-            expected: self.expected(),
-            variances: self.variances(),
-            early,
-            tails: self.tails(),
-            path: self.path(),
-            by,
-        };
-        write_times(page, sink, project, &view)
-    }
-
     /// Writes the curve of the network as it is now and flushes the sink. It works in the free cells, which are free again
     /// when it ends.
     pub fn write_curve<O: Sink, L: Ledger>(
@@ -234,18 +226,18 @@ impl Reservation {
     pub fn least_cost<L: Ledger>(
         &mut self,
         net: &CrashNet<'_>,
-        length: u64,
+        limit: u64,
         steps: &mut Steps<L>,
     ) -> Option<u64>
         requires room { HasRoom net.now self.old }
-        ensures least { IfSome result (curve_in net.now length) }
-        ensures within { IsSome result ↔ IsWithin net.now length }
+        ensures least { IfSome result (curve_in net.now limit) }
+        ensures within { IsSome result ↔ IsWithin net.now limit }
         ensures kept { self.new ≡ self.old }
         ensures counted { (shortest longest : ℕ) → IsRange net.now shortest longest →
             steps.new ≤ steps.old + looks_over net.now (longest - shortest) }
     {
         let region = self.region.take().unwrap();
-        let (region, cost) = trial_cost(region, net, length, steps);
+        let (region, cost) = trial_cost(region, net, limit, steps);
         self.region = Some(region);
         cost
     }

@@ -20,39 +20,37 @@ use std::sync::ledger::Ledger;
 pub(crate) fn trial_cost<L: Ledger>(
     region: Region,
     net: &CrashNet<'_>,
-    length: u64,
+    limit: u64,
     steps: &mut Steps<L>,
 ) -> (Region, Option<u64>)
     requires room { trial_cells net.now.network.events (length net.now.network.arcs) (length net.now.pieces) ≤ free_of region }
     ensures region { result.0 ≡ region }
-    ensures least { IfSome result.1 (curve_in net.now length) }
-    ensures within { IsSome result.1 ↔ IsWithin net.now length }
+    ensures least { IfSome result.1 (curve_in net.now limit) }
+    ensures within { IsSome result.1 ↔ IsWithin net.now limit }
     ensures counted { (shortest longest : ℕ) → IsRange net.now shortest longest →
         steps.new ≤ steps.old + looks_over net.now (longest - shortest) }
 {
     let mut solver = Solver::begin(region, net);
-    let cost = cost_within(&mut solver, length, steps);
+    let cost = cost_within(&mut solver, limit, steps);
     (solver.close(), cost)
 }
 
 /// The least cost of a length, where the solver's network has it.
-fn cost_within<L: Ledger>(
-    solver: &mut Solver<'_>,
-    length: u64,
-    steps: &mut Steps<L>,
-) -> Option<u64>
+fn cost_within<L: Ledger>(solver: &mut Solver<'_>, limit: u64, steps: &mut Steps<L>) -> Option<u64>
     requires { solver.old.given ≡ false }
-    ensures least { IfSome result (curve_in solver.old.net length) }
-    ensures within { IsSome result ↔ IsWithin solver.old.net length }
+    ensures least { IfSome result (curve_in solver.old.net limit) }
+    ensures within { IsSome result ↔ IsWithin solver.old.net limit }
     ensures same { IsSameCurve solver.old solver.new }
     ensures counted { steps.new ≤ steps.old + looks_over solver.old.net (solver.old.longest - solver.old.shortest) }
 {
     // Before the first segment nothing has fallen.
     let _given = solver.given();
-    if length < solver.shortest() || solver.longest() < length {
+    let shortest = solver.shortest();
+    let longest = solver.longest();
+    if limit < shortest || longest < limit {
         return None;
     }
-    let cost = cost_at(solver, length, steps);
+    let cost = cost_at(solver, limit, steps);
     // At any time a solver's lower end is in the range.
     let _given = solver.given();
     Some(cost)
