@@ -82,6 +82,25 @@ open_line-is (line ∷ lines) rest p q =
 pub lines_of-are : (lines : List (List ℕ)) (rest : List ℕ) → AreOpen lines → IsOpen rest → lines_of (text_of lines ++ rest) ≡ lines ++ last_line rest
 lines_of-are lines rest p q = rw (whole_lines-are lines rest p q, open_line-is lines rest p q) refl
 
+-- lines at the front of a text are its first lines, however the text goes on
+whole_lines-front : (lines : List (List ℕ)) (rest : List ℕ) → AreOpen lines → whole_lines (text_of lines ++ rest) ≡ lines ++ whole_lines rest
+whole_lines-front [] rest p = refl
+whole_lines-front (line ∷ lines) rest p =
+    ap (lines_behind []) (append_assoc line (10 ∷ text_of lines) rest)
+    ∙ lines_behind-end [] line (text_of lines ++ rest) (p.0)
+    ∙ ap (λ others. line ∷ others) (whole_lines-front lines rest (p.1))
+
+open_line-front : (lines : List (List ℕ)) (rest : List ℕ) → AreOpen lines → open_behind [] (text_of lines ++ rest) ≡ open_behind [] rest
+open_line-front [] rest p = refl
+open_line-front (line ∷ lines) rest p =
+    ap (open_behind []) (append_assoc line (10 ∷ text_of lines) rest)
+    ∙ open_behind-end [] line (text_of lines ++ rest) (p.0)
+    ∙ open_line-front lines rest (p.1)
+
+pub lines_of-front : (lines : List (List ℕ)) (rest : List ℕ) → AreOpen lines → lines_of (text_of lines ++ rest) ≡ lines ++ lines_of rest
+lines_of-front lines rest p =
+    rw (whole_lines-front lines rest p, open_line-front lines rest p) (append_assoc lines (whole_lines rest) (last_line (open_behind [] rest)))
+
 pub last_line-some : (rest : List ℕ) → rest ≢ [] → last_line rest ≡ rest ∷ []
 last_line-some [] p = absurd (p refl)
 last_line-some (b ∷ bytes) p = refl
