@@ -15,7 +15,7 @@ pub trait Answers {
     /// Answers the line on the sink and flushes the sink. It takes no memory.
     ///
     /// Of a line that is too long a front comes that is too long as well.
-    fn answer<O: Sink>(&mut self, line: &[u8], out: &mut O) -> Result<(), Failed>
+    fn reply<O: Sink>(&mut self, line: &[u8], out: &mut O) -> Result<(), Failed>
         ensures { (text : List ℕ) × Says self.old line.now text self.new
             × Writes result (O.taken out.old) (O.taken out.new) (O.faults out.old) (O.faults out.new) text };
 }
@@ -46,12 +46,12 @@ pub fn talk<T: Answers, C: Source, O: Sink>(
     loop {
         match reader.next(source) {
             Ok(Next::Line) => {
-                let Ok(()) = talker.answer(reader.line(), out) else {
+                let Ok(()) = talker.reply(reader.line(), out) else {
                     return Err(TalkError::WriteFault);
                 };
             }
             Ok(Next::Last) => {
-                let Ok(()) = talker.answer(reader.line(), out) else {
+                let Ok(()) = talker.reply(reader.line(), out) else {
                     return Err(TalkError::WriteFault);
                 };
                 return Ok(());

@@ -7,32 +7,32 @@ loop-talker-preserved g c =
     let h = c.loop-talker.invariant in
     let stepped = rw c.in-Ok-Line.field-0-is at c.in-Ok-Line.ensures.stepped in
     let said = c.in-Ok.ensures in
-    goes_on h c.answer.new.self c.next.new.source c.answer.new.out c.next.new.self (said.0) (stepped h.lines h.bytes h.stands) c.in-Ok-Line.ensures.no_fault
-    (subst (λ l. g.T.Answers.Says c.loop-talker.talker l (said.0) c.answer.new.self) c.line.ensures (said.1)) (said.2).ok
+    goes_on h c.reply.new.self c.next.new.source c.reply.new.out c.next.new.self (said.0) (stepped h.lines h.bytes h.stands) c.in-Ok-Line.ensures.no_fault
+    (subst (λ l. g.T.Answers.Says c.loop-talker.talker l (said.0) c.reply.new.self) c.line.ensures (said.1)) (said.2).ok
 
 pub returns-in_default : goal.returns-in_default
 returns-in_default g c =
     let h = c.loop-talker.invariant in
     let stepped = rw c.in-Ok-Line.field-0-is at c.in-Ok-Line.ensures.stepped in
     let said = c.in_default.ensures in
-    cut_in h c.answer.new.self c.next.new.source c.answer.new.out c.next.new.self (said.0) (stepped h.lines h.bytes h.stands)
-    (subst (λ l. g.T.Answers.Says c.loop-talker.talker l (said.0) c.answer.new.self) c.line.ensures (said.1)) (said.2).err
+    cut_in h c.reply.new.self c.next.new.source c.reply.new.out c.next.new.self (said.0) (stepped h.lines h.bytes h.stands)
+    (subst (λ l. g.T.Answers.Says c.loop-talker.talker l (said.0) c.reply.new.self) c.line.ensures (said.1)) (said.2).err
 
-pub returns-in_default-answer : goal.returns-in_default-answer
-returns-in_default-answer g c =
+pub returns-in_default-reply : goal.returns-in_default-reply
+returns-in_default-reply g c =
     let h = c.loop-talker.invariant in
     let stepped = rw c.in-Ok-Last.field-0-is at c.in-Ok-Last.ensures.stepped in
-    let said = c.in_default-answer.ensures in
-    last_cut h c.answer-in-Ok-Last.new.self c.next.new.source c.answer-in-Ok-Last.new.out c.next.new.self (said.0) (stepped h.lines h.bytes h.stands)
-    (subst (λ l. g.T.Answers.Says c.loop-talker.talker l (said.0) c.answer-in-Ok-Last.new.self) c.line-in-Ok-Last.ensures (said.1)) (said.2).err
+    let said = c.in_default-reply.ensures in
+    last_cut h c.reply-in-Ok-Last.new.self c.next.new.source c.reply-in-Ok-Last.new.out c.next.new.self (said.0) (stepped h.lines h.bytes h.stands)
+    (subst (λ l. g.T.Answers.Says c.loop-talker.talker l (said.0) c.reply-in-Ok-Last.new.self) c.line-in-Ok-Last.ensures (said.1)) (said.2).err
 
 pub returns-in-Ok-Last : goal.returns-in-Ok-Last
 returns-in-Ok-Last g c =
     let h = c.loop-talker.invariant in
     let stepped = rw c.in-Ok-Last.field-0-is at c.in-Ok-Last.ensures.stepped in
-    let said = c.in-Ok-answer.ensures in
-    last_answered h c.answer-in-Ok-Last.new.self c.next.new.source c.answer-in-Ok-Last.new.out c.next.new.self (said.0) (stepped h.lines h.bytes h.stands)
-    (subst (λ l. g.T.Answers.Says c.loop-talker.talker l (said.0) c.answer-in-Ok-Last.new.self) c.line-in-Ok-Last.ensures (said.1)) (said.2).ok
+    let said = c.in-Ok-reply.ensures in
+    last_answered h c.reply-in-Ok-Last.new.self c.next.new.source c.reply-in-Ok-Last.new.out c.next.new.self (said.0) (stepped h.lines h.bytes h.stands)
+    (subst (λ l. g.T.Answers.Says c.loop-talker.talker l (said.0) c.reply-in-Ok-Last.new.self) c.line-in-Ok-Last.ensures (said.1)) (said.2).ok
 
 pub returns-in-Ok-End : goal.returns-in-Ok-End
 returns-in-Ok-End g c =
