@@ -1,0 +1,5 @@
+mod KeptLaws
+mod LaidLaws
+mod OpenLaws
+mod RenewLaws
+mod TrialLaws
