@@ -2,4 +2,5 @@ mod KeptLaws
 mod LaidLaws
 mod OpenLaws
 mod RenewLaws
+mod TimesLaws
 mod TrialLaws

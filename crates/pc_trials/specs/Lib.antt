@@ -1,3 +1,4 @@
 pub mod Reserved
 pub mod Trials
 pub mod Laid
+pub mod Shown

@@ -7,5 +7,6 @@ mod renewing;
 mod reservation;
 mod spans;
 mod trial;
+mod view;
 
 pub use reservation::{Reservation, cells_needed};

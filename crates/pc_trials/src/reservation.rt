@@ -5,21 +5,25 @@ ghost use Rattle.pc_curve.specs.Points.{curve_in};
 ghost use Rattle.pc_edges.specs.Writes.{Writes};
 ghost use Rattle.pc_model.specs.declared.limits.TheConstants.{MAX_ACTIVITIES, MAX_DURATION, MAX_EVENTS, MAX_PIECES, MAX_UNIT_DAYS, MAX_VARIANCE};
 ghost use Rattle.pc_page.specs.Page.{fresh};
+ghost use Rattle.pc_project.specs.Project.{Project as Plan};
+ghost use Rattle.pc_reports.specs.TimesText.{IsTimesText};
 ghost use Rattle.pc_times.specs.Times.{AreLengths};
 ghost use Rattle.pc_times.specs.declared.TheConstants.{MAX_LENGTH, MAX_TIME};
 ghost use Rattle.pc_trials.specs.Laid.{AreAtMost};
-ghost use Rattle.pc_trials.specs.Reserved.{IsFor, IsStanding, IsStandingOf, path_in, with_estimates, with_times};
+ghost use Rattle.pc_trials.specs.Reserved.{IsChangedTo, IsFor, IsStanding, IsStandingOf, path_in, with_estimates, with_times};
 ghost use Rattle.pc_trials.specs.Trials.{HasRoom, IsRange, IsWithin, looks_over, trial_cells};
 
 use crate::renewing::renew_times;
 use crate::spans::{Spans, take_spans};
 use crate::trial::{trial_cost, trial_curve};
+use crate::view::{StandingTimes, end_to_meet};
 use pc_cells::Region;
 use pc_crash::{CrashNet, Steps};
 use pc_edges::{Failed, Sink};
 use pc_net::Net;
 use pc_page::Page;
 use pc_project::{Estimates, Project};
+use pc_reports::write_times;
 use pc_times::{expected_sixths, variance_36};
 use std::alloc::{AllocError, Global};
 use std::marker::Model;
@@ -195,6 +199,37 @@ impl Reservation {
         let mut region = self.region.take().unwrap();
         self.steps = renew_times(&mut region, &self.spans, net, &mut self.room);
         self.region = Some(region);
+    }
+
+    /// Writes the report of event times of the project as it is now, and flushes the sink: the deck's project with what stands
+    /// here in place of its expected times and variances. Linear in events and activities.
+    pub fn write_times<O: Sink>(
+        &self,
+        page: &mut Page,
+        sink: &mut O,
+        project: &Project,
+    ) -> Result<(), Failed>
+        requires fresh { page.old ≡ fresh }
+        requires fits { IsFor project.now.network self.now }
+        requires standing { IsStanding project.now.network self.now }
+        ensures text { (changed : Plan) → IsChangedTo project.now self.now changed → (text : List ℕ) × IsTimesText changed text
+            × Writes result (O.taken sink.old) (O.taken sink.new) (O.faults sink.old) (O.faults sink.new) text }
+        ensures fresh { page.new ≡ fresh }
+    {
+        let net = project.net();
+        // How many activities a project may have, so that each has a small number.
+        let _activities = net.activities();
+        let early = self.early();
+        let by = end_to_meet(project.directed(), early[net.end() as usize]);
+        let view = StandingTimes {
+            expected: self.expected(),
+            variances: self.variances(),
+            early,
+            tails: self.tails(),
+            path: self.path(),
+            by,
+        };
+        write_times(page, sink, project, &view)
     }
 
     /// Writes the curve of the network as it is now and flushes the sink. It works in the free cells, which are free again
