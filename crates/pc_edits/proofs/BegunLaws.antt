@@ -72,7 +72,7 @@ module _ (project : Project) (planned : IsPlanned project) where
   -- fields that are the deck's are whole
   module _ (s : Inside) (net_is : s.net ≡ priced_of project) (estimates_are : s.estimates.items ≡ estimates_in project.deck) (unit_is : s.unit_days ≡ project.heading.unit_days)
       (kept_is : s.kept ≡ buffer [] MAX_KEPT) (aside_is : s.aside ≡ None) where
-    editing_is : editing_in s ≡ begun project
+    pub editing_is : editing_in s ≡ begun project
     editing_is =
         ap (λ aside. editing_in (record s { aside = aside })) aside_is
         ∙ (λ i. record { net = net_is i; estimates = estimates_are i; unit_days = unit_is i; kept = plans_back (kept_is i).items (record { terms = (net_is i).terms; estimates = estimates_are i }) })

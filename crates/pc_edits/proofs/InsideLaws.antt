@@ -19,10 +19,10 @@ use Rattle.pc_edits.specs.declared.trying.ActTerm.{ActTerm}
 use Rattle.pc_edits.specs.declared.edits.Edits.TheInside.{Inside}
 use Rattle.pc_edits.specs.declared.edits.TheConstants.{MAX_KEPT}
 use Rattle.pc_edits.specs.Plans.{Plan, plan_with, term_with, estimates_with, estimates_at, IsFitPlan}
-use Rattle.pc_edits.specs.Editing.{ChangesOnly, Editing, Edits, IsEditing, activity_named, at_rest, edited, editing_with, net_in, net_trying, undone}
+use Rattle.pc_edits.specs.Editing.{ChangesOnly, Editing, Edits, IsEditing, activity_named, at_rest, edited, editing_with, net_in, net_trying, plan_of, undone}
 use Rattle.pc_edits.specs.Inside.{edits_from, editing_in, plans_back, replaced, trial_in, IsWholeInside}
 use Rattle.pc_edits.specs.Refusal.{undo_refusal}
-use Rattle.pc_edits.proofs.ListLaws.{length-push, last_item-push, last_item-some, front-push}
+use Rattle.pc_edits.proofs.ListLaws.{length-push, keep_last-push, last_item-push, last_item-some, front-push}
 use Rattle.pc_edits.proofs.KeptLaws.{length-plans_back, plans_back-keep_last, plans_back-push}
 use Rattle.pc_edits.proofs.PlanLaws.{no_term, no_estimates, plan-back, set-back}
 
@@ -66,8 +66,9 @@ module _ (net : PricedNetwork) (estimates : List Estimates) (unit_days : ℕ) (k
       ChangesOnly before (record { net = net_with change a net; estimates = list_with change a estimates; unit_days = unit_days; kept = rest }) a
   changes change a rest known = record {
     activity = known;
-    terms = ap (set net.terms a) (sym (get_or-set_same net.terms a (term_with change (term_at net.terms a)) no_term (omega (arith, known, whole.fit.terms.one_each))));
+    net = ap (λ t. record net { terms = set net.terms a t }) (sym (get_or-set_same net.terms a (term_with change (term_at net.terms a)) no_term (omega (arith, known, whole.fit.terms.one_each))));
     estimates = ap (set estimates a) (sym (get_or-set_same estimates a (estimates_with change (estimates_at estimates a)) no_estimates (omega (arith, known, whole.fit.estimates_each))));
+    unit_days = refl;
   }
 
   -- an accepted edit
@@ -88,6 +89,16 @@ module _ (net : PricedNetwork) (estimates : List Estimates) (unit_days : ℕ) (k
     edited_at =
         ap (editing_with before (plan_with edit.change a plan)) kept_after
         ∙ ap (λ found. option_map_or (λ b. editing_with before (plan_with edit.change b plan) (keep_last MAX_KEPT (plans_back kept plan ++ plan ∷ []))) found before) (sym named)
+
+    abbrev later : List Plan
+    later = keep_last (MAX_KEPT - 1) (plans_back kept plan) ++ plan ∷ []
+
+    -- an UNDO would bring back the plan before
+    pub undone_edited : plan_of (undone (edited before edit)) ≡ plan
+    undone_edited =
+        ap (λ e. plan_of (undone e)) (sym edited_at)
+        ∙ ap (λ ps. plan_of (option_map_or (λ p. editing_with (record after { kept = ps }) p (take (length ps - 1) ps)) (last_item ps) (record after { kept = ps }))) (kept_after ∙ keep_last-push (MAX_KEPT - 1) (plans_back kept plan) plan)
+        ∙ ap (λ found. plan_of (option_map_or (λ p. editing_with (record after { kept = later }) p (take (length later - 1) later)) found (record after { kept = later }))) (last_item-push (keep_last (MAX_KEPT - 1) (plans_back kept plan)) plan)
 
     pub whole_edited : IsEditing after
     whole_edited = record {
@@ -243,6 +254,18 @@ module _ (s : Inside) (v : Edits) (view : edits_from s ≡ v) (inv : IsWholeInsi
       edits_from-at after_edit none_aside (net_with edit.change a s.net) (list_with edit.change a s.estimates.items) (keep_last MAX_KEPT (s.kept.items ++ record { activity = a; was = replaced edit.change (term_at s.net.terms a) (estimates_at s.estimates.items a) } ∷ [])) net_is items_are pushed_are
       ∙ ap at_rest (edited_at s.net s.estimates.items s.unit_days s.kept.items whole_now edit a named known fits_now)
       ∙ ap (λ (e : Edits). at_rest (edited e.editing edit)) at_now
+
+  pub edit_touched : ChangesOnly v.editing (editing_in after_edit) a
+  edit_touched =
+      subst (λ (e : Edits). ChangesOnly e.editing (editing_in after_edit) a) at_now
+      (subst (λ (e : Edits). ChangesOnly (editing_at s.net s.estimates.items s.unit_days s.kept.items) e.editing a)
+      (sym (edits_from-at after_edit none_aside (net_with edit.change a s.net) (list_with edit.change a s.estimates.items) (keep_last MAX_KEPT (s.kept.items ++ record { activity = a; was = replaced edit.change (term_at s.net.terms a) (estimates_at s.estimates.items a) } ∷ [])) net_is items_are pushed_are))
+      (changes_edited s.net s.estimates.items s.unit_days s.kept.items whole_now edit a named known fits_now))
+
+  pub edit_undone : plan_of (undone (edited v.editing edit)) ≡ plan_of v.editing
+  edit_undone =
+      subst (λ (e : Edits). plan_of (undone (edited e.editing edit)) ≡ plan_of e.editing) at_now
+      (undone_edited s.net s.estimates.items s.unit_days s.kept.items whole_now edit a named known fits_now)
 
   pub edit_whole : IsWholeInside after_edit
   edit_whole = record {

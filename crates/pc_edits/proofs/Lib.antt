@@ -9,3 +9,4 @@ mod KeptLaws
 mod InsideLaws
 pub mod StandingLaws
 pub mod BegunLaws
+pub mod EditingLaws

@@ -101,8 +101,9 @@ pub record IsEditing (editing : Editing) : Type 0 where
   pub few : length editing.kept ≤ MAX_KEPT
   pub unit_days : editing.unit_days ≤ MAX_UNIT_DAYS
 
--- only the numbers of activity a may differ
+-- all is as it was but for the numbers of activity a, and what is kept
 pub record ChangesOnly (old new : Editing) (a : ℕ) : Type 0 where
   pub activity : a < length old.net.network.arcs
-  pub terms : new.net.terms ≡ slice_set old.net.terms a (term_at new.net.terms a)
+  pub net : new.net ≡ record old.net { terms = slice_set old.net.terms a (term_at new.net.terms a) }
   pub estimates : new.estimates ≡ slice_set old.estimates a (estimates_at new.estimates a)
+  pub unit_days : new.unit_days ≡ old.unit_days

@@ -1,7 +1,7 @@
 //! Edits that are accepted or refused.
 ghost use Rattle.std.specs.Prelude.{◌≡◌, None, Some, IfErr, IfOk, OnErr, OnOk};
 ghost use Rattle.pc_project.specs.Project.{Project};
-ghost use Rattle.pc_edits.specs.Editing.{ChangesOnly, at_rest, edited};
+ghost use Rattle.pc_edits.specs.Editing.{ChangesOnly, at_rest, edited, plan_of, undone};
 ghost use Rattle.pc_edits.specs.Refusal.{edit_refusal};
 ghost use Rattle.pc_edits.specs.Standing.{Journal, Stands, noted};
 
@@ -13,7 +13,8 @@ use crate::kept::Kept;
 use crate::reason::Reason;
 
 impl Edits<'_> {
-    /// Puts the numbers of an edit in place and keeps what was there, and answers the activity; or tells why the edit is refused.
+    /// Puts the numbers of an edit in place and keeps what was there, so that an UNDO would bring it back, and answers the
+    /// activity; or tells why the edit is refused.
     ///
     /// Where `MAX_KEPT` edits are kept, the oldest of them is no longer kept; it still stands. Linear in the pieces of the
     /// activity.
@@ -23,6 +24,7 @@ impl Edits<'_> {
         ensures refused { IfErr result (λ reason. edit_refusal self.old.editing.net self.old.editing.estimates edit.now ≡ Some reason) }
         ensures changed { OnOk result (self.new ≡ at_rest (edited self.old.editing edit.now)) }
         ensures unchanged { OnErr result (self.new ≡ self.old) }
+        ensures undone { OnOk result (plan_of (undone self.new.editing) ≡ plan_of self.old.editing) }
         ensures touched { IfOk result (ChangesOnly self.old.editing self.new.editing) }
         ensures standing { OnOk result ((project : Project) (journal : Journal) → Stands project journal self.old.editing → Stands project (noted journal edit.now) self.new.editing) }
     {

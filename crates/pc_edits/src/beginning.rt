@@ -3,6 +3,7 @@ ghost use Rattle.std.specs.Prelude.{◌≡◌, IfOk, OnOk};
 ghost use Rattle.pc_project.specs.Planned.{IsPlanned};
 ghost use Rattle.pc_edits.specs.Editing.{at_rest, begun};
 ghost use Rattle.pc_edits.specs.Plans.{estimates_in};
+ghost use Rattle.pc_edits.specs.Standing.{Stands, empty};
 
 use crate::edits::{Edits, MAX_KEPT};
 use circular_buffer::HeapCircularBuffer;
@@ -14,7 +15,8 @@ impl<'p> Edits<'p> {
     ///
     /// Linear in events, activities and pieces.
     pub fn begin(alloc: Global, project: &'p Project) -> Result<Edits<'p>, AllocError>
-        ensures { IfOk result (λ edits. edits ≡ at_rest (begun project.now)) }
+        ensures begun { IfOk result (λ edits. edits ≡ at_rest (begun project.now)) }
+        ensures standing { IfOk result (λ edits. Stands project.now empty edits.editing) }
     {
         Ok(Edits {
             net: project.priced(alloc)?,
