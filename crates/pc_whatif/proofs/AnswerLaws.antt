@@ -34,6 +34,11 @@ use Rattle.pc_whatif.proofs.LineLaws.{ask_of-kept}
 pub stays : (old : Planning) (asked : Option Ask) (text : List ℕ) → IsAnswer old.project old.editing asked text → old.editing ≡ editing_after old.editing asked → IsAnswered old asked text old
 stays old asked text is same = record { answer = is; project = refl; editing = same; lists = λ other. refl; cells = refl }
 
+-- the same, where the session is the one that it was
+pub stays_as : (old new : Planning) (asked : Option Ask) (text : List ℕ) → new ≡ old → IsAnswer new.project new.editing asked text → new.editing ≡ editing_after new.editing asked
+    → IsAnswered old asked text new
+stays_as old new asked text same is kept = subst (λ (p : Planning). IsAnswered p asked text new) same (stays new asked text is kept)
+
 pub edit_refused : (old : Planning) (edit : Edit) (reason : Reason) → edit_refusal old.editing.net old.editing.estimates edit ≡ Some reason
     → IsAnswered old (Some (ask.Edit edit)) (refused_text reason) old
 edit_refused old edit reason why =

@@ -71,8 +71,8 @@ impl Session<'_> {
         ensures { (text : List ℕ) × IsAnswered self.old (Some asks.Times) text self.new
             × Writes result (O.taken out.old) (O.taken out.new) (O.faults out.old) (O.faults out.new) text }
     {
-        let _ = &self.page;
-        accept(out)
+        self.reservation
+            .write_times(&mut self.page, out, self.project)
     }
 
     /// CURVE.
@@ -107,9 +107,9 @@ impl Session<'_> {
             .reservation
             .least_cost(self.edits.net(), trial.length, steps);
         self.edits.end_trial();
-        match cost {
-            Some(cost) => tell_cost(cost, out),
-            None => refuse(Reason::OutsideRange, out),
-        }
+        let Some(cost) = cost else {
+            return refuse(Reason::OutsideRange, out);
+        };
+        tell_cost(cost, out)
     }
 }
