@@ -56,17 +56,18 @@ behind : (text : List ℕ) (lines : List CertLine) (held piece : List ℕ) → t
 behind text lines held piece whole = ap (λ t. t ++ piece) whole ∙ append_assoc (text_of lines) held piece
 
 -- no line ends in the piece
-pub holds : {place : Place} {number : ℕ} {held : List ℕ} {lines : List CertLine} {text : List ℕ} (piece : List ℕ) (end : ℕ) → IsGoing place number held lines text → end ≡ run_len 10 piece → end ≡ length piece → IsGoing place number (held ++ piece) lines (text ++ take end piece)
-holds {held = held} {lines = lines} {text = text} piece end h ends whole = record {
+pub holds : {place : Place} {number : ℕ} {held : List ℕ} {lines : List CertLine} {text : List ℕ} (piece : List ℕ) (end : ℕ) → IsGoing place number held lines text → end ≡ run_len 10 piece → end ≡ length piece → length held + length piece < 192 → IsGoing place number (held ++ piece) lines (text ++ take end piece)
+holds {held = held} {lines = lines} {text = text} piece end h ends whole few = record {
   led = h.led;
   count = h.count;
   whole = ap (λ t. text ++ t) (take_all end piece (omega arith)) ∙ behind text lines held piece h.whole;
   no_end = Lacks-append 10 held piece h.no_end (subst (λ t. Lacks 10 t) (take_all (length piece) piece (omega arith)) (Lacks-run 10 (length piece) piece (omega arith)));
+  short = omega (arith, few, length-append held piece);
 }
 
 -- too many bytes come before a line ends
-pub too_long : {place : Place} {number : ℕ} {held : List ℕ} {lines : List CertLine} {text : List ℕ} (malformed : Malformed) (piece : List ℕ) (end : ℕ) → IsGoing place number held lines text → length held < 192 → end ≡ run_len 10 piece → 192 - length held ≤ end → end ≤ length piece → malformed.line ≡ number + 1 → IsStopped malformed lines (text ++ piece)
-too_long {place} {number} {held} {lines} {text} malformed piece end h few ends far within line = record {
+pub too_long : {place : Place} {number : ℕ} {held : List ℕ} {lines : List CertLine} {text : List ℕ} (malformed : Malformed) (piece : List ℕ) (end : ℕ) → IsGoing place number held lines text → end ≡ run_len 10 piece → 192 - length held ≤ end → end ≤ length piece → malformed.line ≡ number + 1 → IsStopped malformed lines (text ++ piece)
+too_long {place} {number} {held} {lines} {text} malformed piece end h ends far within line = record {
   place = place;
   led = h.led;
   number = omega (arith, line, h.count);
@@ -76,7 +77,7 @@ too_long {place} {number} {held} {lines} {text} malformed piece end h few ends f
       behind text lines held piece h.whole
       ∙ ap (λ t. text_of lines ++ t) (ap (λ t. held ++ t) (sym (take-append-drop (192 - length held) piece)) ∙ sym (append_assoc held (take (192 - length held) piece) (drop (192 - length held) piece)));
   why = inr (
-    omega (arith, length-append held (take (192 - length held) piece), length-take (192 - length held) piece),
+    omega (arith, h.short, length-append held (take (192 - length held) piece), length-take (192 - length held) piece),
     Lacks-append 10 held (take (192 - length held) piece) h.no_end (Lacks-run 10 (192 - length held) piece (omega arith)),
   );
 }
@@ -134,6 +135,7 @@ accepted {place} {number} {held} {lines} {text} piece line after h ends found =
           ∙ sym (text_of-append lines (line ∷ []))
           ∙ sym (append-nil (text_of (lines ++ line ∷ [])));
       no_end = tt;
+      short = omega arith;
     }
 
 -- a line with the place behind it

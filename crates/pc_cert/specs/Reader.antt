@@ -1,5 +1,5 @@
 -- What a reader of a certificate stands for.
-use Rattle.std.specs.Prelude.{◌≡◌, ◌≢◌, ℕ, ◌+◌, List, [], ◌∷◌, ◌++◌, length, Option, Some, None, Result, Ok, Err, ◌⊎◌}
+use Rattle.std.specs.Prelude.{◌≡◌, ◌≢◌, ℕ, ◌+◌, ◌^◌, ◌<◌, ◌≤◌, List, [], ◌∷◌, ◌++◌, length, Option, Some, None, Result, Ok, Err, ◌⊎◌}
 use Rattle.pc_cert.specs.declared.line.CertLine.{CertLine}
 use Rattle.pc_cert.specs.declared.line.TheConstants.{MAX_LINE}
 use Rattle.pc_cert.specs.declared.place.Place.{Place}
@@ -19,16 +19,24 @@ pub record Reading : Type 0 where
   pub held : List ℕ
   pub malformed : Option Malformed
 
+-- the bytes of a line that has not ended have room, and one more than the whole lines can be counted
+pub record KeepsRoom (cells : List ℕ) (held count : ℕ) : Type 0 where
+  pub short : held < MAX_LINE
+  pub room : length cells ≡ MAX_LINE
+  pub few : count ≤ 2 ^ 63
+
 -- the line that bytes spell, where it may stand in this place, and the place behind it
 abbrev pub arrived : Place → List ℕ → Option (CertLine × Place)
 arrived place bytes = line_of bytes >>= (λ line. next place line >>= (λ behind. Some (line, behind)))
 
--- the text is these lines, which may come in this order, and then the beginning of a line
+-- the text is these lines, which may come in this order, and then the beginning of a line, which is not yet as long as a line that
+-- is too long
 pub record IsGoing (place : Place) (number : ℕ) (held : List ℕ) (lines : List CertLine) (text : List ℕ) : Type 0 where
   pub led : LeadTo place lines
   pub count : number ≡ length lines
   pub whole : text ≡ text_of lines ++ held
   pub no_end : Lacks 10 held
+  pub short : length held < MAX_LINE
 
 -- no line that may stand in this place is spelled so
 abbrev pub IsNotAllowed : Place → List ℕ → Type 0

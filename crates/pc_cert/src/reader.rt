@@ -39,14 +39,14 @@ pub struct CertReader {
 }
 
 impl Model for CertReader {
-    ghost use Rattle.std.specs.Prelude.{◌≡◌, ◌<◌, length, take};
-    ghost use Rattle.pc_cert.specs.Reader.{Reading};
+    ghost use Rattle.std.specs.Prelude.{take};
+    ghost use Rattle.pc_cert.specs.Reader.{Reading, KeepsRoom};
 
     ghost Value = { Reading };
 
     ghost view = { λ s. record { place = s.place; lines = s.lines; held = take s.held s.cells; malformed = s.malformed } };
 
-    ghost invariant = { λ s. (s.held < 192) × (length s.cells ≡ 192) };
+    ghost invariant = { λ s. KeepsRoom s.cells s.held s.lines };
 }
 
 impl CertReader {
@@ -167,7 +167,6 @@ impl CertReader {
     ///
     /// Otherwise the line behind the whole ones is missing, or an earlier one was malformed.
     pub fn finish(&self) -> Result<(), Malformed>
-        requires { IfNone self.now.malformed (self.now.lines < 2 ^ 63) }
         ensures { (lines : List CertLine) (text : List ℕ) → StandsFor self.now lines text → EndsAs result lines text }
     {
         if let Some(malformed) = self.malformed {

@@ -87,7 +87,7 @@ nowhere behind e = absurd cc
 carry : (net : PricedNetwork) (draft : Draft) {place behind : Place} → IsGood net place draft → Some place ≡ Some behind → IsGood net behind draft
 carry net draft {place} {behind} h same = let at : place ≡ behind = cc in subst (λ p. IsGood net p draft) at h
 
-parts_step : (draft : Draft) (code : List ℕ) (b : Bool) → (with_step draft code b).parts ≡ draft.parts
+pub parts_step : (draft : Draft) (code : List ℕ) (b : Bool) → (with_step draft code b).parts ≡ draft.parts
 parts_step draft code true = refl
 parts_step draft code false = refl
 
@@ -240,7 +240,7 @@ good_line net place line behind draft known h goes passes = absurd (nowhere behi
 
 -- ---- all lines
 
-none_parts : (number : ℕ) (reason : Option ℕ) (later : Option Fail) → or_later number reason later ≡ None → (reason ≡ None) × (later ≡ None)
+pub none_parts : (number : ℕ) (reason : Option ℕ) (later : Option Fail) → or_later number reason later ≡ None → (reason ≡ None) × (later ≡ None)
 none_parts number None later h = (refl, h)
 none_parts number (Some reason) later h = absurd cc
 

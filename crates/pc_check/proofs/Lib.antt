@@ -22,3 +22,5 @@ pub mod BeginLaws
 pub mod SourceLaws
 pub mod OnceLaws
 pub mod HeadlineLaws
+pub mod OwnLineLaws
+pub mod OwnTurnLaws

@@ -20,3 +20,4 @@ pub mod Texts
 pub mod Auditing
 pub mod Stops
 pub mod Headline
+pub mod OwnLines

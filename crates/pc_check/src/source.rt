@@ -8,6 +8,7 @@ ghost use Rattle.pc_check.specs.Texts.{Finds};
 ghost use Rattle.pc_check.specs.Stops.{IsSettled, IsUnsettled};
 ghost use Rattle.pc_edges.specs.declared.loading.TheConstants.{STREAM_ROOM};
 ghost use Rattle.pc_check.specs.Auditing.{HasRead, IsGoing, bytes_left, most_bytes};
+ghost use Rattle.pc_check.specs.OwnLines.{KeepsToOwnLines};
 
 use crate::audit::Audit;
 use crate::fail::Verdict;
@@ -46,7 +47,9 @@ pub fn audit_source<C: Source>(
         (C.pulls source.old) (C.pulls source.new) }
     ensures no_room { IsErrOf result AuditError.OutOfMemory → source.new ≡ source.old }
     ensures count { C.faults source.old ≤ C.faults source.new }
+    // the pulls are bounded by the network, and by the first upper end of the text's own segments
     ensures turns { TakesPulls (most_bytes net.now + 1) (C.pulls source.old) (C.pulls source.new) }
+    ensures own_turns { IfSome (C.left source.old) (λ text. KeepsToOwnLines net.now text (C.pulls source.old) (C.pulls source.new)) }
 {
     let Ok(audit) = Audit::begin(alloc, net) else {
         return Err(AuditError::OutOfMemory);

@@ -9,6 +9,8 @@ use Rattle.pc_check.specs.declared.fail.Verdict.{Verdict}
 use Rattle.pc_check.specs.declared.fail.Verdict.TheVariants.{Yes, No}
 use Rattle.pc_check.specs.Texts.{IsCertified, IsFailing, Finds}
 use Rattle.pc_check.specs.Auditing.{most_bytes}
+use Rattle.pc_check.specs.OwnLines.{KeepsToOwnLines}
+use Rattle.pc_check.proofs.OwnTurnLaws.{unpulled_keeps}
 use Rattle.pc_check.proofs.TextLaws.{not_both as one_text_verdict, one_number}
 use Rattle.pc_check.proofs.OnceLaws.{one_failure}
 use Rattle.pc_edges.proofs.PullLaws.{TakesPulls-none}
@@ -17,7 +19,7 @@ use Rattle.pc_reading.specs.declared.status.Status.{Status}
 use Rattle.pc_reading.specs.declared.status.Status.TheVariants.{Refused, OutOfMemory, WriteFault}
 use Rattle.pc_reading.specs.Priced.{priced_in}
 use Rattle.pc_reading.specs.Refusing.{Refusal}
-use Rattle.pc_checking.specs.Certificate.{IsOneWord, verdict_text, HasVerdict, Certifies, FailsAsCertificate, ProvesCurve, IsFound, IsSettledFor, IsSettledIn, IsUnsettledFor, IsUnsettledIn, status_for, Told, told, cut, Answered, found, unread, no_room}
+use Rattle.pc_checking.specs.Certificate.{IsOneWord, verdict_text, HasVerdict, Certifies, FailsAsCertificate, ProvesCurve, IsFound, KeepsToOwnLinesFor, IsSettledFor, IsSettledIn, IsUnsettledFor, IsUnsettledIn, status_for, Told, told, cut, Answered, found, unread, no_room}
 use Rattle.pc_checking.specs.CheckOutcome.{IsChecked, CheckOutcome, certified, not_certified, deck_refused, no_memory, read_fault, cert_unread, write_fault, in_verdict, in_refusal}
 use Rattle.pc_reading.specs.Reading.{HasProject, HasRefusal}
 use Rattle.pc_reading.specs.Sides.{Side, IsUntouched, Took}
@@ -89,6 +91,19 @@ of_each_project (Some bytes) project P is holds = λ other also. subst P (one_pr
 pub unpulled : (left : Option (List ℕ)) (pulls : Option ℕ) → IfSome left (λ bytes. (project : Project) → IsProjectOf bytes project → TakesPulls (most_bytes (priced_in project) + 1) pulls pulls)
 unpulled None pulls = tt
 unpulled (Some bytes) pulls = λ project is. TakesPulls-none (most_bytes (priced_in project) + 1) pulls
+
+-- a certificate of a project keeps to its own lines, and so does one from which nothing was pulled
+pub keeps_to_lines : (left right : Option (List ℕ)) (pulls pulls_after : Option ℕ) (project : Project) → IfSome left (λ bytes. IsProjectOf bytes project)
+    → IfSome right (λ text. KeepsToOwnLines (priced_in project) text pulls pulls_after) → IfSome left (λ bytes. IfSome right (KeepsToOwnLinesFor pulls pulls_after bytes))
+keeps_to_lines None right pulls pulls_after project is keeps = tt
+keeps_to_lines (Some bytes) None pulls pulls_after project is keeps = tt
+keeps_to_lines (Some bytes) (Some text) pulls pulls_after project is keeps =
+    λ other also. subst (λ (p : Project). KeepsToOwnLines (priced_in p) text pulls pulls_after) (one_project bytes project other is also) keeps
+
+pub unpulled_keeps_to_lines : (left right : Option (List ℕ)) (pulls : Option ℕ) → IfSome left (λ bytes. IfSome right (KeepsToOwnLinesFor pulls pulls bytes))
+unpulled_keeps_to_lines None right pulls = tt
+unpulled_keeps_to_lines (Some bytes) None pulls = tt
+unpulled_keeps_to_lines (Some bytes) (Some text) pulls = λ project is. unpulled_keeps (priced_in project) (Some text) pulls
 
 -- ---- outcomes
 

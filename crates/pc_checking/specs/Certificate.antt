@@ -1,5 +1,5 @@
 -- Certificates of a deck's project, and what is said of them.
-use Rattle.std.specs.Prelude.{◌≡◌, ℕ, List, [], ◌∷◌, ◌++◌, length, codes, decimal, String}
+use Rattle.std.specs.Prelude.{◌≡◌, ℕ, List, [], ◌∷◌, ◌++◌, length, codes, decimal, Option, String}
 use Rattle.std.specs.declared.alloc.Global.{Global}
 use Rattle.pc_crash.specs.Priced.{PricedNetwork}
 use Rattle.pc_check.specs.Certified.{OnYes}
@@ -9,6 +9,7 @@ use Rattle.pc_edges.specs.declared.loading.TheConstants.{STREAM_ROOM}
 use Rattle.pc_check.specs.Texts.{Finds}
 use Rattle.pc_check.specs.Headline.{PrintsWholeCurve}
 use Rattle.pc_check.specs.Stops.{IsSettled, IsUnsettled}
+use Rattle.pc_check.specs.OwnLines.{KeepsToOwnLines}
 use Rattle.pc_project.specs.Project.{Project}
 use Rattle.pc_reading.specs.declared.status.Status.{Status}
 use Rattle.pc_reading.specs.declared.status.Status.TheVariants.{Done, OutOfMemory, ReadFault, WriteFault, NotCertified}
@@ -92,6 +93,11 @@ pub record IsUnsettledFor {X : Type 0} (deck : List ℕ) (cert : Side X) : Type 
   pub project : Project
   pub accepted : IsProjectOf deck project
   pub unsettled : IsUnsettledIn (priced_in project) cert
+
+-- the pulls are bounded by the first upper end of the certificate's own segments, for the network of the deck's project
+abbrev pub KeepsToOwnLinesFor : Option ℕ → Option ℕ → List ℕ → List ℕ → Type 0
+KeepsToOwnLinesFor pulls pulls_after deck text =
+    (project : Project) → IsProjectOf deck project → KeepsToOwnLines (priced_in project) text pulls pulls_after
 
 -- the status of a verdict that was told
 abbrev pub status_for : Verdict → Status

@@ -1,13 +1,14 @@
 //! The top call of the program that checks a certificate.
-ghost use Rattle.std.specs.Prelude.{◌≡◌, ◌≢◌, ℕ, List, ◌+◌, ◌≤◌, ◌⊎◌, length};
+ghost use Rattle.std.specs.Prelude.{◌≡◌, ◌≢◌, ℕ, List, ◌+◌, ◌≤◌, ◌⊎◌, length, IfSome};
 ghost use Rattle.pc_check.specs.declared.fail.Verdict.{Verdict as TheVerdict};
 ghost use Rattle.pc_check.specs.declared.fail.Verdict.TheVariants.{Yes, No};
 ghost use Rattle.pc_deck.specs.Limits.{longest_deck};
 ghost use Rattle.pc_edges.specs.Pulls.{TakesPulls};
 ghost use Rattle.pc_edges.specs.declared.loading.TheConstants.{STREAM_ROOM};
 ghost use Rattle.pc_check.specs.Auditing.{most_bytes};
+ghost use Rattle.pc_check.specs.OwnLines.{KeepsToOwnLines};
 ghost use Rattle.pc_project.specs.Project.{Project as TheProject};
-ghost use Rattle.pc_checking.specs.Certificate.{Answered, IsOneWord, IsSettledFor, check_usage_text, failing_text, Certifies, FailsAsCertificate, HasVerdict, ProvesCurve};
+ghost use Rattle.pc_checking.specs.Certificate.{Answered, IsOneWord, IsSettledFor, KeepsToOwnLinesFor, check_usage_text, failing_text, Certifies, FailsAsCertificate, HasVerdict, ProvesCurve};
 ghost use Rattle.pc_checking.specs.CheckOutcome.{CheckOutcome, IsChecked, IsDeckRefused, IsCheckCut, IsUnread, OfBoth};
 ghost use Rattle.pc_reading.specs.Priced.{priced_in};
 ghost use Rattle.pc_reading.specs.Sides.{pulled_side, side, HadNoFault, IsReadToEnd, OfDeck, Took, TookAtMost};
@@ -115,9 +116,12 @@ pub fn check_run<D: Source, C: Source, O: Sink, E: Sink>(
     ensures deck_turns { TakesPulls (longest_deck + 2) (D.pulls deck.old) (D.pulls deck.new) }
     ensures deck_near { TookAtMost (longest_deck + STREAM_ROOM) (side D.left D.faults deck.old deck.new) }
 
-    // However long the certificate is, the pulls from it are bounded by the deck's project.
+    // However long the certificate is, the pulls from it are bounded by the deck's project, and by the certificate's own first upper
+    // end: by the lines of the header and the walks, of as many segments as that is long, or of one where it is 0, and two more.
     ensures turns { OfDeck (side D.left D.faults deck.old deck.new) (λ bytes. (project : TheProject) → IsProjectOf bytes project
         → TakesPulls (most_bytes (priced_in project) + 1) (C.pulls cert.old) (C.pulls cert.new)) }
+    ensures own_turns { OfBoth (side D.left D.faults deck.old deck.new) (pulled_side C.left C.faults C.pulls cert.old cert.new)
+        (KeepsToOwnLinesFor (C.pulls cert.old) (C.pulls cert.new)) }
 {
     check_outcome(alloc, words, deck, cert, out, err).code()
 }
@@ -135,6 +139,8 @@ fn check_outcome<D: Source, C: Source, O: Sink, E: Sink>(
         (side O.taken O.faults out.old out.new) (side E.taken E.faults err.old err.new) result }
     ensures turns { OfDeck (side D.left D.faults deck.old deck.new) (λ bytes. (project : TheProject) → IsProjectOf bytes project
         → TakesPulls (most_bytes (priced_in project) + 1) (C.pulls cert.old) (C.pulls cert.new)) }
+    ensures own_turns { OfBoth (side D.left D.faults deck.old deck.new) (pulled_side C.left C.faults C.pulls cert.old cert.new)
+        (KeepsToOwnLinesFor (C.pulls cert.old) (C.pulls cert.new)) }
     ensures deck_turns { TakesPulls (longest_deck + 2) (D.pulls deck.old) (D.pulls deck.new) }
     ensures deck_near { TookAtMost (longest_deck + STREAM_ROOM) (side D.left D.faults deck.old deck.new) }
 {
@@ -156,6 +162,7 @@ fn check_outcome<D: Source, C: Source, O: Sink, E: Sink>(
 fn check<C: Source, O: Sink>(alloc: Global, project: &Project, cert: &mut C, out: &mut O) -> Status
     ensures answered { Answered project.now (pulled_side C.left C.faults C.pulls cert.old cert.new) (side O.taken O.faults out.old out.new) result }
     ensures turns { TakesPulls (most_bytes (priced_in project.now) + 1) (C.pulls cert.old) (C.pulls cert.new) }
+    ensures own_turns { IfSome (C.left cert.old) (λ text. KeepsToOwnLines (priced_in project.now) text (C.pulls cert.old) (C.pulls cert.new)) }
 {
     let Ok(net) = project.priced(alloc) else {
         return Status::OutOfMemory;

@@ -3,7 +3,7 @@ ghost use Rattle.std.specs.Prelude.{◌≡◌, ◌+◌, ◌^◌, ◌≤◌, ◌<
 ghost use Rattle.pc_model.specs.TimeCost.{AreTimeTerms};
 ghost use Rattle.pc_flow.specs.Courses.{IsFurther, IsSameCurve, all_looks, lower_of, most_looks};
 ghost use Rattle.pc_search.specs.Labelling.{slopes_in};
-ghost use Rattle.pc_curve.specs.Points.{curve_in, IsToCome};
+ghost use Rattle.pc_curve.specs.Points.{curve_in, IsThere, IsToCome};
 ghost use Rattle.pc_total.specs.Bests.{IsBest};
 ghost use Rattle.pc_total.specs.Stops.{PaysToStop};
 
@@ -20,13 +20,14 @@ use std::sync::ledger::Ledger;
 /// The optimum of the curve of a solver's network: the length of its range for which the project costs least in all, and of
 /// several the smallest.
 ///
-/// The solver goes down from before its first segment for as long as a unit less costs no more than it saves. A few steps a
-/// segment, and at most four looks at each activity for each unit by which the slope rises or the lower end comes down. It
-/// takes no memory.
+/// The solver goes down from before its first segment for as long as a unit less costs no more than it saves, and stays at the
+/// segment that holds the optimum, so that a schedule for it can be read there. A few steps a segment, and at most four looks at
+/// each activity for each unit by which the slope rises or the lower end comes down. It takes no memory.
 pub fn best<L: Ledger>(solver: &mut Solver<'_>, terms: &TimeTerms, steps: &mut Steps<L>) -> Best
     requires before { solver.old.given ≡ false }
     requires terms { AreTimeTerms terms.now }
     ensures best { IsBest (curve_in solver.old.net) terms.now solver.old.shortest solver.old.longest result }
+    ensures there { IsThere solver.new result.length }
     ensures same { IsSameCurve solver.old solver.new }
     ensures further { IsFurther solver.old solver.new }
     ensures counted { steps.new ≤ steps.old + most_looks solver.old solver.new }
@@ -67,6 +68,7 @@ fn best_at<L: Ledger>(
     requires small { slope < 10 ^ 18 }
     requires small_gain { gain < 10 ^ 18 }
     ensures best { IsBest (curve_in solver.old.net) terms.now solver.old.shortest solver.old.longest result }
+    ensures there { IsThere solver.new result.length }
     ensures same { IsSameCurve solver.old solver.new }
     ensures further { IsFurther solver.old solver.new }
     ensures counted { steps.new ≤ steps.old + most_looks solver.old solver.new }

@@ -1,11 +1,11 @@
 -- A project's optimum, and a schedule for it.
-use Rattle.std.proofs.Common.{◌≡◌, ℕ, ◌≤◌, true, slice_index, sym, ◌∙◌, subst, arith}
+use Rattle.std.proofs.Common.{◌≡◌, ℕ, slice_index, sym, subst, arith}
 use Rattle.pc_model.specs.declared.TimeTerms.{TimeTerms}
 use Rattle.pc_model.specs.Schedule.{IsAllCrashLength, IsAllNormalLength}
 use Rattle.pc_model.proofs.Costs.LeastCost.{unique}
 use Rattle.pc_crash.specs.Priced.{PricedNetwork, knees_in}
-use Rattle.pc_flow.specs.Courses.{Course}
-use Rattle.pc_curve.specs.Points.{curve_in, IsToCome}
+use Rattle.pc_flow.specs.Courses.{Course, IsSameCurve}
+use Rattle.pc_curve.specs.Points.{curve_in, IsThere, IsToCome}
 use Rattle.pc_total.specs.declared.optimum.Best.{Best}
 use Rattle.pc_total.specs.Bests.{IsBest}
 use Rattle.pc_project.specs.Project.{Project}
@@ -13,18 +13,15 @@ use Rattle.pc_reading.specs.Priced.{priced_in}
 use Rattle.pert_cli.specs.Normal.{Printed}
 use Rattle.pert_cli.specs.Optimum.{IsOptimumWith}
 use Rattle.pert_cli.specs.Point.{IsCheapest, IsRange}
-use Rattle.pert_cli.proofs.PointLaws.{one_range, range_of}
 
--- a second solver of the network comes down to the length of the optimum
-pub optimum-to_come : (net : PricedNetwork) (c : Course) (terms : TimeTerms) (shortest longest : ℕ) (best : Best) → IsRange net c.shortest c.longest
-    → IsRange net shortest longest → IsBest (curve_in net) terms shortest longest best → (c.given ≡ true → ⊥) → IsToCome c best.length
-optimum-to_come net c terms shortest longest best range also is none =
-    let same = one_range net c.shortest c.longest shortest longest range also in
-    record {
-      above = omega (arith, is.optimum.above, same.0);
-      within = omega (arith, is.optimum.below, same.1);
-      below = λ given. absurd (none given);
-    }
+-- the solver that found the optimum holds its length
+pub optimum-to_come : (net : PricedNetwork) (from c : Course) (terms : TimeTerms) (best : Best) → IsSameCurve from c
+    → IsBest (curve_in net) terms from.shortest from.longest best → IsThere c best.length → IsToCome c best.length
+optimum-to_come net from c terms best same is there = record {
+  above = omega (arith, is.optimum.above, same.shortest);
+  within = omega (arith, is.optimum.below, same.longest);
+  below = λ given. there.holds.below;
+}
 
 -- a cheapest schedule for its length costs what is said of it
 optimum-cost : (net : PricedNetwork) (printed : Printed) (limit direct : ℕ) → IsCheapest net printed → printed.length ≡ limit → curve_in net limit direct

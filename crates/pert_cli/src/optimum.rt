@@ -2,7 +2,7 @@
 ghost use Rattle.std.specs.Prelude.{◌≡◌, ◌+◌, ◌*◌, ◌≤◌, false, length, IfOk};
 ghost use Rattle.pc_cells.specs.Spans.{free_of};
 ghost use Rattle.pc_crash.specs.Steps.{IsBlankOf};
-ghost use Rattle.pc_curve.specs.Points.{curve_in};
+ghost use Rattle.pc_curve.specs.Points.{curve_in, IsThere};
 ghost use Rattle.pc_model.specs.TimeCost.{AreTimeTerms};
 ghost use Rattle.pc_page.specs.Page.{fresh};
 ghost use Rattle.pc_total.specs.Bests.{IsBest};
@@ -91,8 +91,8 @@ fn terms_of(project: &Project) -> TimeTerms
     }
 }
 
-/// The optimum of a network's curve, and a schedule for it. Two solvers work in one region, one after the other: the first goes
-/// down as far as it pays, and the second to the length that was found.
+/// The optimum of a network's curve, and a schedule for it. The solver goes down as far as it pays, and the schedule is read
+/// where it came to.
 fn solve(
     alloc: Global,
     net: &CrashNet<'_>,
@@ -105,17 +105,18 @@ fn solve(
 {
     let mut solver = Solver::begin(region, net);
     let best = find::<Brand>(&mut solver, terms, Blank::new(1));
-    let mut second = Solver::begin(solver.close(), net);
-    let schedule = CheapestSchedule::find(alloc, &mut second, best.length)?;
+    let schedule = CheapestSchedule::find(alloc, &mut solver, best.length)?;
     Ok((best, schedule))
 }
 
-/// The optimum of a solver's curve. The steps of the solver are counted in a ledger of their own.
+/// The optimum of a solver's curve, at whose length the solver stays. The steps of the solver are counted in a ledger of their
+/// own.
 fn find<L: Ledger>(solver: &mut Solver<'_>, terms: &TimeTerms, blank: Blank) -> Best
     requires before { solver.old.given ≡ false }
     requires terms { AreTimeTerms terms.now }
     requires blank { IsBlankOf L.name L.parts blank.name blank.parts }
     ensures best { IsBest (curve_in solver.old.net) terms.now solver.old.shortest solver.old.longest result }
+    ensures there { IsThere solver.new result.length }
     ensures same { IsSameCurve solver.old solver.new }
 {
     let mut steps = Steps::<L>::new(blank);

@@ -5,6 +5,8 @@ use Rattle.pc_check.specs.Texts.{Finds}
 use Rattle.pc_check.specs.Stops.{IsSettled}
 use Rattle.pc_check.specs.Auditing.{bytes_left, most_bytes}
 use Rattle.pc_edges.proofs.PullLaws.{TakesPulls-one_more}
+use Rattle.pc_check.specs.OwnLines.{KeepsToOwnLines}
+use Rattle.pc_check.proofs.OwnTurnLaws.{keeps_to_lines, unpulled_keeps}
 use Rattle.pc_check.proofs.source.audit_source.Goals as goal
 
 pub returns-clause-finds : goal.returns-clause-finds
@@ -18,3 +20,12 @@ returns-clause-turns g c =
 pub returns-clause-stops : goal.returns-clause-stops
 returns-clause-stops g c =
     subst (λ n. IfOk c.audit_by.result (λ verdict. IsSettled n verdict STREAM_ROOM g.C.Source.left g.C.Source.pulls c.args.source.now c.audit_by.new.source)) c.in-Ok.ensures.net c.audit_by.ensures.stops
+
+pub returns-clause-own_turns : goal.returns-clause-own_turns
+returns-clause-own_turns g c =
+    let s = g.C.Source in
+    subst (λ n. IfSome (s.left c.args.source.now) (λ text. KeepsToOwnLines n text (s.pulls c.args.source.now) (s.pulls c.audit_by.new.source))) c.in-Ok.ensures.net
+    (keeps_to_lines _ STREAM_ROOM s.left s.pulls c.args.source.now c.audit_by.new.source c.audit_by.result c.audit_by.ensures.stops c.audit_by.ensures.unsettled)
+
+pub returns-in_default-clause-own_turns : goal.returns-in_default-clause-own_turns
+returns-in_default-clause-own_turns g c = unpulled_keeps c.args.net.now (g.C.Source.left c.args.source.now) (g.C.Source.pulls c.args.source.now)

@@ -2,8 +2,11 @@ use Rattle.std.proofs.Common.{Err, refl, ap, subst}
 use Rattle.std.specs.Prelude.{IfSome}
 use Rattle.pc_check.specs.Texts.{Finds}
 use Rattle.pc_checking.specs.Certificate.{IsSettledIn, IsUnsettledIn, found, unread, no_room}
+use Rattle.pc_reading.specs.Priced.{priced_in}
 use Rattle.pc_reading.specs.Sides.{pulled_side}
 use Rattle.pc_reading.proofs.PricedLaws.{priced_is}
+use Rattle.pc_check.specs.OwnLines.{KeepsToOwnLines}
+use Rattle.pc_check.proofs.OwnTurnLaws.{unpulled_keeps}
 use Rattle.pc_checking.proofs.checking.check.Goals as goal
 
 pub returns-in_default-clause-answered : goal.returns-in_default-clause-answered
@@ -33,3 +36,27 @@ returns-in-Err-ReadFault-clause-answered g c =
 
 pub returns-clause-answered : goal.returns-clause-answered
 returns-clause-answered g c = no_room (c.in-Err-OutOfMemory.ensures.no_room (ap (λ e. Err e) c.in-Err-OutOfMemory.field-0-is)) refl
+
+pub returns-in_default-clause-own_turns : goal.returns-in_default-clause-own_turns
+returns-in_default-clause-own_turns g c = unpulled_keeps (priced_in c.args.project.now) (g.C.Source.left c.args.cert.now) (g.C.Source.pulls c.args.cert.now)
+
+pub returns-in-Ok-audit_source-clause-own_turns : goal.returns-in-Ok-audit_source-clause-own_turns
+returns-in-Ok-audit_source-clause-own_turns g c =
+    let has = c.in-Ok.ensures in
+    let same = priced_is c.in-Ok.net c.args.project.now has.network has.terms has.pieces has.project has.events has.activities in
+    let s = g.C.Source in
+    subst (λ n. IfSome (s.left c.args.cert.now) (λ text. KeepsToOwnLines n text (s.pulls c.args.cert.now) (s.pulls c.audit_source.new.source))) same c.audit_source.ensures.own_turns
+
+pub returns-in-Err-ReadFault-clause-own_turns : goal.returns-in-Err-ReadFault-clause-own_turns
+returns-in-Err-ReadFault-clause-own_turns g c =
+    let has = c.in-Ok.ensures in
+    let same = priced_is c.in-Ok.net c.args.project.now has.network has.terms has.pieces has.project has.events has.activities in
+    let s = g.C.Source in
+    subst (λ n. IfSome (s.left c.args.cert.now) (λ text. KeepsToOwnLines n text (s.pulls c.args.cert.now) (s.pulls c.audit_source.new.source))) same c.audit_source.ensures.own_turns
+
+pub returns-clause-own_turns : goal.returns-clause-own_turns
+returns-clause-own_turns g c =
+    let has = c.in-Ok.ensures in
+    let same = priced_is c.in-Ok.net c.args.project.now has.network has.terms has.pieces has.project has.events has.activities in
+    let s = g.C.Source in
+    subst (λ n. IfSome (s.left c.args.cert.now) (λ text. KeepsToOwnLines n text (s.pulls c.args.cert.now) (s.pulls c.audit_source.new.source))) same c.audit_source.ensures.own_turns

@@ -7,7 +7,7 @@ use Rattle.pc_reading.specs.Priced.{priced_in}
 use Rattle.pc_reading.specs.Refusing.{Refusal}
 use Rattle.pc_checking.specs.CheckOutcome.{check_usage, no_memory, read_fault, deck_unread, write_fault, in_check_usage}
 use Rattle.pc_reading.specs.Sides.{side}
-use Rattle.pc_checking.proofs.CheckLaws.{after_check, after_deck, of_each_project, unpulled}
+use Rattle.pc_checking.proofs.CheckLaws.{after_check, after_deck, of_each_project, unpulled, keeps_to_lines, unpulled_keeps_to_lines}
 use Rattle.std.proofs.KnownBytes.{Consumes-nil}
 use Rattle.pc_deck.specs.Limits.{longest_deck}
 use Rattle.pc_edges.proofs.PullLaws.{TakesPulls-none}
@@ -56,3 +56,23 @@ returns-in-Err-clause-deck_turns g c = TakesPulls-none (longest_deck + 2) (g.D.S
 
 pub returns-in-Err-clause-deck_near : goal.returns-in-Err-clause-deck_near
 returns-in-Err-clause-deck_near g c = ([], Consumes-nil (g.D.Source.left c.args.deck.now), omega arith)
+
+pub returns-in-Ok-read_project-clause-own_turns : goal.returns-in-Ok-read_project-clause-own_turns
+returns-in-Ok-read_project-clause-own_turns g c =
+    keeps_to_lines (g.D.Source.left c.args.deck.now) (g.C.Source.left c.args.cert.now) (g.C.Source.pulls c.args.cert.now) (g.C.Source.pulls c.check.new.cert) c.in-Ok-read_project.project
+    c.in-Ok-read_project.ensures.project.is c.check.ensures.own_turns
+
+pub returns-in-Ok-clause-own_turns : goal.returns-in-Ok-clause-own_turns
+returns-in-Ok-clause-own_turns g c = unpulled_keeps_to_lines (g.D.Source.left c.args.deck.now) (g.C.Source.left c.args.cert.now) (g.C.Source.pulls c.args.cert.now)
+
+pub returns-in-Err-clause-own_turns : goal.returns-in-Err-clause-own_turns
+returns-in-Err-clause-own_turns g c = unpulled_keeps_to_lines (g.D.Source.left c.args.deck.now) (g.C.Source.left c.args.cert.now) (g.C.Source.pulls c.args.cert.now)
+
+pub returns-in-Err-Refused-clause-own_turns : goal.returns-in-Err-Refused-clause-own_turns
+returns-in-Err-Refused-clause-own_turns g c = unpulled_keeps_to_lines (g.D.Source.left c.args.deck.now) (g.C.Source.left c.args.cert.now) (g.C.Source.pulls c.args.cert.now)
+
+pub returns-in-Err-ReadFault-clause-own_turns : goal.returns-in-Err-ReadFault-clause-own_turns
+returns-in-Err-ReadFault-clause-own_turns g c = unpulled_keeps_to_lines (g.D.Source.left c.args.deck.now) (g.C.Source.left c.args.cert.now) (g.C.Source.pulls c.args.cert.now)
+
+pub returns-in-Err-OutOfMemory-clause-own_turns : goal.returns-in-Err-OutOfMemory-clause-own_turns
+returns-in-Err-OutOfMemory-clause-own_turns g c = unpulled_keeps_to_lines (g.D.Source.left c.args.deck.now) (g.C.Source.left c.args.cert.now) (g.C.Source.pulls c.args.cert.now)

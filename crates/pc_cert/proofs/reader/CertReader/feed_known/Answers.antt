@@ -16,13 +16,15 @@ returns-then-used-gt0-clause-stands c =
 pub returns-then-self-end-clause-stands : goal.returns-then-self-end-clause-stands
 returns-then-self-end-clause-stands c = λ lines text h.
     let none : c.args.self.now.malformed ≡ None = ap (λ r. r.malformed) (sym c.self.view_is) ∙ none_from c.self.inside.malformed c.in_default.not-Some in
-    let held : length c.args.self.now.held ≡ c.self.inside.held = ap (λ r. length r.held) (sym c.self.view_is) ∙ length-take-le _ _ (omega (arith, c.self.invariant.0, c.self.invariant.1)) in
-    rw (c.stop.ensures.kept, append-nil) (too_long c.stop.result c.args.piece.now c.line_len-end.result (going none h) (omega (arith, held, c.self.invariant.0)) c.line_len-end.ensures.value (omega (arith, held, c.if-self-end.true)) c.line_len-end.ensures.within c.stop.ensures.line)
+    let held : length c.args.self.now.held ≡ c.self.inside.held = ap (λ r. length r.held) (sym c.self.view_is) ∙ length-take-le _ _ (omega (arith, c.self.invariant.short, c.self.invariant.room)) in
+    rw (c.stop.ensures.kept, append-nil) (too_long c.stop.result c.args.piece.now c.line_len-end.result (going none h) c.line_len-end.ensures.value (omega (arith, held, c.if-self-end.true)) c.line_len-end.ensures.within c.stop.ensures.line)
 
 pub returns-then-end-piece-clause-stands : goal.returns-then-end-piece-clause-stands
 returns-then-end-piece-clause-stands c = λ lines text h.
     let none : c.args.self.now.malformed ≡ None = ap (λ r. r.malformed) (sym c.self.view_is) ∙ none_from c.self.inside.malformed c.in_default.not-Some in
-    rw (c.hold.ensures, c.forget.ensures, append-nil, none) (holds c.args.piece.now c.line_len-end.result (going none h) c.line_len-end.ensures.value c.if-end-piece.true)
+    let held : length c.args.self.now.held ≡ c.self.inside.held = ap (λ r. length r.held) (sym c.self.view_is) ∙ length-take-le _ _ (omega (arith, c.self.invariant.short, c.self.invariant.room)) in
+    let few : length c.args.self.now.held + length c.args.piece.now < 192 = omega (arith, held, c.self.invariant.short, c.if-self-end.false, c.if-end-piece.true) in
+    rw (c.hold.ensures, c.forget.ensures, append-nil, none) (holds c.args.piece.now c.line_len-end.result (going none h) c.line_len-end.ensures.value c.if-end-piece.true few)
 
 pub returns-clause-stands : goal.returns-clause-stands
 returns-clause-stands c =
