@@ -52,8 +52,10 @@ fn is_written_again_as(alloc: Global, deck: &[u8], text: &[u8]) -> Option<bool>
 {
     let cards = read_cards(alloc, deck).ok()?;
     let project = project_of(alloc, cards).ok()?;
-    let written = deck_text_of(alloc, &project).ok()?;
-    Some(written.as_slice() == text)
+    let written = deck_text_of(alloc, &project).ok();
+    // (let go in one place, as above)
+    drop(project);
+    Some(written?.as_slice() == text)
 }
 
 #[test]

@@ -60,11 +60,13 @@ struct Told {
 fn figures(alloc: Global) -> Option<Told> {
     let cards = read_cards(alloc, DECK).ok()?;
     let project = project_of(alloc, cards).ok()?;
-    Some(Told {
+    let told = Told {
         summary: summary_of(alloc, &project),
         worth: worth_of(alloc, &project),
         outlook: outlook_of(alloc, &project),
-    })
+    };
+    drop(project);
+    Some(told)
 }
 
 #[test]
