@@ -14,8 +14,6 @@ mod curves;
 #[cfg(test)]
 mod decks;
 #[cfg(test)]
-mod figures;
-#[cfg(test)]
 mod loads;
 #[cfg(test)]
 mod optima;
