@@ -1,0 +1,6 @@
+mod KeptLaws
+mod LaidLaws
+mod OpenLaws
+mod RenewLaws
+mod TimesLaws
+mod TrialLaws

@@ -1,0 +1,4 @@
+pub mod Reserved
+pub mod Trials
+pub mod Laid
+pub mod Shown

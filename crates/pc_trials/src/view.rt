@@ -1,0 +1,71 @@
+//! The standing times, as the report of event times is written from them.
+ghost use Rattle.std.specs.Prelude.{◌≡◌, ◌≤◌, ◌≤ℤ◌, pos};
+ghost use Rattle.std.specs.Option.{ForSome};
+ghost use Rattle.pc_model.specs.declared.limits.TheConstants.{MAX_DIRECTED};
+ghost use Rattle.pc_reports.specs.Times.{end_to_meet};
+ghost use Rattle.pc_times.specs.declared.TheConstants.{MAX_TIME};
+
+use pc_reports::TimesView;
+use pc_times::so_long_before;
+use std::marker::Model;
+
+/// The lists of a reservation, and when the end is to be met, in sixths of a day. In contracts it is what it shows.
+#[derive(Drop)]
+pub(crate) struct StandingTimes<'a> {
+    pub(crate) expected: &'a [u64],
+    pub(crate) variances: &'a [u64],
+    pub(crate) early: &'a [u64],
+    pub(crate) tails: &'a [u64],
+    pub(crate) path: &'a [u64],
+    pub(crate) by: i64,
+}
+
+impl<'a> Model for StandingTimes<'a> {
+    ghost use Rattle.pc_reports.specs.View.{Shown};
+
+    ghost Value = { Shown };
+
+    ghost use Rattle.pc_trials.specs.Shown.{shown_of, IsSmallView};
+
+    ghost view = { shown_of };
+
+    ghost invariant = { IsSmallView };
+}
+
+impl<'a> TimesView for StandingTimes<'a> {
+    ghost shown = { λ v. v };
+
+    fn expected(&self, a: u32) -> u64 {
+        self.expected[a as usize]
+    }
+
+    fn variance(&self, a: u32) -> u64 {
+        self.variances[a as usize]
+    }
+
+    fn early(&self, e: u32) -> u64 {
+        self.early[e as usize]
+    }
+
+    fn late(&self, e: u32) -> i64 {
+        so_long_before(self.by, self.tails[e as usize])
+    }
+
+    fn on_path(&self, k: u32) -> Option<u32> {
+        let a = *self.path.get(k as usize)?;
+        Some(a as u32)
+    }
+}
+
+/// When the end is to be met: the directed number of days, or else when it is reached.
+pub(crate) fn end_to_meet(directed: Option<u64>, reached: u64) -> i64
+    requires directed { ForSome directed (λ days. days ≤ MAX_DIRECTED) }
+    requires reached { reached ≤ MAX_TIME }
+    ensures end { result ≡ end_to_meet directed reached }
+    ensures limit { (pos 0 ≤ℤ result) × (result ≤ℤ pos MAX_TIME) }
+{
+    match directed {
+        Some(days) => 6 * days as i64,
+        None => reached as i64,
+    }
+}
