@@ -1,6 +1,6 @@
 -- What reading a deck says of its bytes, where the source tells them.
 use Rattle.std.proofs.Common.{◌≤◌, ℕ, ◌<◌, List, ◌++◌, length, Option, Some, None, Result, Ok, Err, ap, arith, length-append}
-use Rattle.std.specs.Prelude.{IfSome, IfErr}
+use Rattle.std.specs.Prelude.{IfSome, IfOk, IfErr}
 use Rattle.std.specs.Io.KnownBytes.{Consumes}
 use Rattle.pc_deck.specs.Limits.{longest_deck}
 use Rattle.pc_faults.specs.declared.fault.Fault.{Fault}
@@ -8,8 +8,8 @@ use Rattle.pc_project.specs.Project.{Project}
 use Rattle.pc_reading.specs.declared.reading.NoProject.{NoProject}
 use Rattle.pc_reading.specs.declared.reading.NoProject.TheVariants.{Refused, ReadFault, OutOfMemory}
 use Rattle.pc_reading.specs.Sides.{Side, IsReadToEnd, OfDeck}
-use Rattle.pc_reading.specs.Reading.{HasNoProject, HasRefusal, IsNoProjectOf, too_long as took_too_much, faulty}
-use Rattle.pc_reading.specs.Verdict.{IsFault, too_long}
+use Rattle.pc_reading.specs.Reading.{HasNoProject, HasProject, HasRefusal, IsNoProjectOf, too_long as took_too_much, faulty}
+use Rattle.pc_reading.specs.Verdict.{IsFault, IsProjectOf, too_long}
 use Rattle.pc_reading.proofs.SideLaws.{of_one, of_the_deck}
 
 -- ---- what is made of a deck that was read
@@ -23,6 +23,11 @@ module _ {S : Type 0} (source : Side S) (bytes : List ℕ) (short : length bytes
       (why.0, faulty end (of_the_deck (λ deck. (length deck ≤ longest_deck) × IsFault deck fault) _ _ bytes all end (short, why.1)))
   read_lacks (Err ReadFault) never = absurd never
   read_lacks (Err OutOfMemory) why = tt
+
+  -- and the project that they give is that of the deck
+  pub read_has : (result : Result Project NoProject) → IfOk result (IsProjectOf bytes) → IfOk result (HasProject source)
+  read_has (Ok project) is = record { read = end; is = of_the_deck (λ deck. IsProjectOf deck project) _ _ bytes all end is }
+  read_has (Err why) is = tt
 
 -- ---- what a refusal says
 
