@@ -14,6 +14,8 @@ mod curves;
 #[cfg(test)]
 mod decks;
 #[cfg(test)]
+mod figures;
+#[cfg(test)]
 mod loads;
 #[cfg(test)]
 mod optima;
