@@ -10,8 +10,8 @@ PREFIX ?= /usr/local
 # where the pages say that the documents stand, if that is not where they are copied to
 PLACE ?= $(PREFIX)
 MINUTES ?= 30
-PROGRAMS := pert pert_check
-SECTION1 := pert.1 pert_check.1
+PROGRAMS := pert pert_check pert_whatif
+SECTION1 := pert.1 pert_check.1 pert_whatif.1
 PAGES := README.md $(wildcard docs/*.md)
 PICTURES := $(wildcard docs/*.svg)
 EXAMPLES := $(wildcard examples/*)

@@ -6,3 +6,4 @@ _pert() {
 }
 complete -o bashdefault -o default -F _pert pert
 complete -f pert_check
+complete -f pert_whatif

@@ -19,6 +19,8 @@ pub enum Status {
     WriteFault = 5,
     /// The certificate has a failing point.
     NotCertified = 6,
+    /// There was more to answer than an input may have.
+    TooLong = 8,
 }
 
 impl Status {

@@ -1,0 +1,4 @@
+pub mod LineLaws
+mod RunLemmas
+mod HoldLemmas
+mod StepLemmas

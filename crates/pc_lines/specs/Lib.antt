@@ -1,0 +1,4 @@
+pub mod Lines
+pub mod Reading
+pub mod Inside
+pub use Rattle.pc_edges.specs.Faults

@@ -1,0 +1,71 @@
+-- Lines that were heard on a deck's project, and their answers.
+use Rattle.std.specs.Prelude.{◌≡◌, ℕ, ◌<◌, ◌≤◌, List, [], ◌∷◌, ◌++◌, length, take, codes, String}
+use Rattle.std.specs.declared.alloc.Global.{Global}
+use Rattle.std.specs.Io.KnownBytes.{Consumes}
+use Rattle.pc_lines.specs.declared.reader.TheConstants.{INPUT_LIMIT}
+use Rattle.pc_lines.specs.Lines.{lines_of, whole_lines}
+use Rattle.pc_project.specs.Project.{Project}
+use Rattle.pc_reading.specs.Sides.{Side, HadFault, IsReadToEnd, IsUntouched, OfDeck, Took, TookFront}
+use Rattle.pc_reading.specs.Verdict.{AcceptedBy, IsProjectOf}
+
+-- there is one word, the deck's name
+abbrev pub IsOneWord : List (String Global) → Type 0
+IsOneWord words = length words ≡ 1
+
+-- the line that says which words are asked for
+abbrev pub session_usage_text : List ℕ
+session_usage_text = codes "usage: pert_whatif DECK" ++ 10 ∷ []
+
+-- which text answers lines, one after the other, on a project
+abbrev pub Meaning : Type 1
+Meaning = Project → List (List ℕ) → List ℕ → Type 0
+
+-- the deck is accepted, and the text answers the lines on its project
+pub record AnswersOn (means : Meaning) (deck : List ℕ) (lines : List (List ℕ)) (text : List ℕ) : Type 0 where
+  pub project : Project
+  pub accepted : IsProjectOf deck project
+  pub answers : means project lines text
+
+-- the deck was read to its end and is accepted, these bytes of the edits were taken, and the output took the answers to lines of them
+pub record IsHeard {D C O : Type 0} (means : Meaning) (deck : Side D) (edits : Side C) (out : Side O) (lines : List ℕ → List (List ℕ)) : Type 0 where
+  pub read : IsReadToEnd deck
+  pub accepted : OfDeck deck AcceptedBy
+  pub bytes : List ℕ
+  pub taken : Consumes (edits.bytes edits.old) (edits.bytes edits.new) bytes
+  pub text : List ℕ
+  pub answers : OfDeck deck (λ bytes_of_deck. AnswersOn means bytes_of_deck (lines bytes) text)
+  pub took : Took out text
+
+-- the whole lines among the first bytes, as many as edits may have
+abbrev pub first_lines : List ℕ → List (List ℕ)
+first_lines bytes = whole_lines (take INPUT_LIMIT bytes)
+
+-- the edits were read to their end and lie within the limit, and all their lines were answered
+pub record IsHeardOut {D C O : Type 0} (means : Meaning) (deck : Side D) (edits : Side C) (out : Side O) : Type 0 where
+  pub heard : IsHeard means deck edits out lines_of
+  pub end : IsReadToEnd edits
+  pub short : length heard.bytes ≤ INPUT_LIMIT
+
+-- more bytes of the edits were taken than edits may have, and the whole lines among the first of them were answered
+pub record IsHeardTooLong {D C O : Type 0} (means : Meaning) (deck : Side D) (edits : Side C) (out : Side O) : Type 0 where
+  pub heard : IsHeard means deck edits out first_lines
+  pub long : INPUT_LIMIT < length heard.bytes
+
+-- the edits could not be read on, and the whole lines before were answered
+pub record IsHeardUnread {D C O : Type 0} (means : Meaning) (deck : Side D) (edits : Side C) (out : Side O) : Type 0 where
+  pub heard : IsHeard means deck edits out whole_lines
+  pub fault : HadFault edits
+  pub short : length heard.bytes ≤ INPUT_LIMIT
+
+-- a fault of the output came when it had taken a front of the answers to the first lines of the bytes that were taken
+pub record IsHeardCut {D C O : Type 0} (means : Meaning) (deck : Side D) (edits : Side C) (out : Side O) : Type 0 where
+  pub read : IsReadToEnd deck
+  pub accepted : OfDeck deck AcceptedBy
+  pub bytes : List ℕ
+  pub taken : Consumes (edits.bytes edits.old) (edits.bytes edits.new) bytes
+  pub lines : List (List ℕ)
+  pub others : List (List ℕ)
+  pub first : lines_of (take INPUT_LIMIT bytes) ≡ lines ++ others
+  pub text : List ℕ
+  pub answers : OfDeck deck (λ bytes_of_deck. AnswersOn means bytes_of_deck lines text)
+  pub took : TookFront out text

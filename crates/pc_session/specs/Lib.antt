@@ -1,0 +1,7 @@
+pub mod Heard
+pub mod Hearing
+pub mod SessionOutcome
+pub use Rattle.pc_edges.specs.Faults
+pub use Rattle.pc_edges.specs.Writes
+pub use Rattle.pc_deck.specs.Deck
+pub use Rattle.pc_project.specs.Project

@@ -1,0 +1,48 @@
+-- What a session means and leaves behind, by its status.
+use Rattle.std.specs.Prelude.{ℕ, List, String}
+use Rattle.std.specs.declared.alloc.Global.{Global}
+use Rattle.pc_deck.specs.Limits.{longest_deck}
+use Rattle.pc_faults.specs.declared.fault.Fault.{Fault}
+use Rattle.pc_faults.specs.FaultText.{fault_text}
+use Rattle.pc_reading.specs.declared.status.Status.{Status}
+use Rattle.pc_reading.specs.declared.status.Status.TheVariants.{Done, Refused, Usage, OutOfMemory, ReadFault, WriteFault, TooLong}
+use Rattle.pc_reading.specs.Sides.{Side, HadFault, IsUntouched, Took, TookAtMost, TookFront}
+use Rattle.pc_reading.specs.Reading.{HasRefusal}
+use Rattle.pc_session.specs.Heard.{IsOneWord, session_usage_text, Meaning, IsHeardOut, IsHeardTooLong, IsHeardUnread, IsHeardCut}
+
+-- there is one word, the deck is refused, and the error output took the line of its fault
+pub record IsDeckRefused {D E : Type 0} (words : List (String Global)) (deck : Side D) (err : Side E) : Type 0 where
+  pub asked : IsOneWord words
+  pub fault : Fault
+  pub refusal : HasRefusal deck fault
+  pub took : Took err (fault_text fault)
+
+-- the same, but that a fault of the error output came when it had taken a front of the line
+pub record IsRefusalCut {D E : Type 0} (words : List (String Global)) (deck : Side D) (err : Side E) : Type 0 where
+  pub asked : IsOneWord words
+  pub fault : Fault
+  pub refusal : HasRefusal deck fault
+  pub took : TookFront err (fault_text fault)
+
+-- what could not be read: the deck, of which no more was taken than a deck may have, and of the edits nothing; or the edits, whose whole
+-- lines before that were answered
+pub data IsUnread {D C O : Type 0} (means : Meaning) (deck : Side D) (edits : Side C) (out : Side O) : Type 0 where
+  deck_unread : HadFault deck → TookAtMost longest_deck deck → IsUntouched edits → IsUntouched out → IsUnread means deck edits out
+  edits_unread : IsHeardUnread means deck edits out → IsUnread means deck edits out
+
+-- where a write fault came: in the answers, in the line of a fault, or in the usage line. The other output is as it was, and the
+-- edits are unread where no line was answered
+pub data IsSessionCut {D C O E : Type 0} (means : Meaning) (words : List (String Global)) (deck : Side D) (edits : Side C) (out : Side O) (err : Side E) : Type 0 where
+  in_answers : IsOneWord words → IsHeardCut means deck edits out → IsUntouched err → IsSessionCut means words deck edits out err
+  in_refusal : IsRefusalCut words deck err → IsUntouched edits → IsUntouched out → IsSessionCut means words deck edits out err
+  in_usage : (IsOneWord words → ⊥) → TookFront err session_usage_text → IsUntouched deck → IsUntouched edits → IsUntouched out → IsSessionCut means words deck edits out err
+
+-- what a session that ended with the status means and leaves behind
+pub data SessionOutcome {D C O E : Type 0} (means : Meaning) (words : List (String Global)) (deck : Side D) (edits : Side C) (out : Side O) (err : Side E) : Status → Type 0 where
+  heard_out : IsOneWord words → IsHeardOut means deck edits out → IsUntouched err → SessionOutcome means words deck edits out err Done
+  too_long : IsOneWord words → IsHeardTooLong means deck edits out → IsUntouched err → SessionOutcome means words deck edits out err TooLong
+  deck_refused : IsDeckRefused words deck err → IsUntouched edits → IsUntouched out → SessionOutcome means words deck edits out err Refused
+  usage : (IsOneWord words → ⊥) → Took err session_usage_text → IsUntouched deck → IsUntouched edits → IsUntouched out → SessionOutcome means words deck edits out err Usage
+  no_memory : IsOneWord words → IsUntouched edits → IsUntouched out → IsUntouched err → SessionOutcome means words deck edits out err OutOfMemory
+  read_fault : IsOneWord words → IsUnread means deck edits out → IsUntouched err → SessionOutcome means words deck edits out err ReadFault
+  write_fault : IsSessionCut means words deck edits out err → SessionOutcome means words deck edits out err WriteFault

@@ -1,0 +1,117 @@
+-- What a line leaves, and what lines leave together.
+use Rattle.std.proofs.Common.{◌≡◌, ℕ, ◌+◌, ◌-◌, ◌<◌, ◌≤◌, Bool, true, false, List, [], ◌∷◌, ◌++◌, length, take, Option, Some, None, refl, sym, ap, ◌∙◌, subst, arith}
+use Rattle.std.proofs.lemmas.Bool.{eqb-true}
+use Rattle.std.proofs.lemmas.List.{nil_from_length}
+use Rattle.std.specs.Prelude.{◌==◌, if◌then◌else◌}
+use Rattle.std.specs.Option.{option_map_or}
+use Rattle.circular_buffer.specs.Buffer.{last_item}
+use Rattle.pc_crash.specs.Priced.{PricedNetwork}
+use Rattle.pc_curve.specs.Points.{curve_in}
+use Rattle.pc_model.specs.declared.Term.{Term}
+use Rattle.pc_model.specs.Schedule.{term_at}
+use Rattle.pc_project.specs.Project.{Project}
+use Rattle.pc_edits.specs.declared.ask.Ask.{Ask}
+use Rattle.pc_edits.specs.declared.ask.Ask.TheVariants as ask
+use Rattle.pc_edits.specs.declared.ask.Edit.{Edit}
+use Rattle.pc_edits.specs.declared.ask.Trial.{Trial}
+use Rattle.pc_edits.specs.declared.reason.Reason.{Reason}
+use Rattle.pc_edits.specs.declared.reason.Reason.TheVariants.{NothingToUndo, OutsideRange}
+use Rattle.pc_edits.specs.declared.trying.ActTerm.{ActTerm}
+use Rattle.pc_edits.specs.Editing.{Editing, activity_named, edited, undone, editing_with, net_trying}
+use Rattle.pc_edits.specs.Plans.{Plan, term_tried}
+use Rattle.pc_edits.specs.Reading.{ask_of}
+use Rattle.pc_edits.specs.Refusal.{edit_refusal, undo_refusal, trial_refusal}
+use Rattle.pc_talk.specs.Talk.{Answered}
+use Rattle.pc_lines.specs.Reading.{kept}
+use Rattle.pc_trials.specs.Trials.{IsWithin}
+use Rattle.pc_whatif.specs.Planning.{Planning, IsAnswer, IsAnswered, IsTrialText, refused, outside, costs, AreAnswers, Says, editing_after, net_tried}
+use Rattle.pc_whatif.specs.Texts.{ok_text, refused_text, cost_text, verdict_text}
+use Rattle.pc_whatif.proofs.LineLaws.{ask_of-kept}
+
+-- ---- one line
+
+-- the session stays as it is
+pub stays : (old : Planning) (asked : Option Ask) (text : List ℕ) → IsAnswer old.project old.editing asked text → old.editing ≡ editing_after old.editing asked → IsAnswered old asked text old
+stays old asked text is same = record { answer = is; project = refl; editing = same; lists = λ other. refl; cells = refl }
+
+-- the same, where the session is the one that it was
+pub stays_as : (old new : Planning) (asked : Option Ask) (text : List ℕ) → new ≡ old → IsAnswer new.project new.editing asked text → new.editing ≡ editing_after new.editing asked
+    → IsAnswered old asked text new
+stays_as old new asked text same is kept = subst (λ (p : Planning). IsAnswered p asked text new) same (stays new asked text is kept)
+
+pub edit_refused : (old : Planning) (edit : Edit) (reason : Reason) → edit_refusal old.editing.net old.editing.estimates edit ≡ Some reason
+    → IsAnswered old (Some (ask.Edit edit)) (refused_text reason) old
+edit_refused old edit reason why =
+    stays old (Some (ask.Edit edit)) (refused_text reason) (sym (ap verdict_text why))
+    (sym (ap (λ (r : Option Reason). option_map_or (λ (reason : Reason). old.editing) r (edited old.editing edit)) why))
+
+pub edit_accepted : (old new : Planning) (edit : Edit) → edit_refusal old.editing.net old.editing.estimates edit ≡ None → new.project ≡ old.project
+    → new.editing ≡ edited old.editing edit → new.reserved.free ≡ old.reserved.free → IsAnswered old (Some (ask.Edit edit)) ok_text new
+edit_accepted old new edit none project editing cells = record {
+  answer = sym (ap verdict_text none);
+  project = project;
+  editing = editing ∙ sym (ap (λ (r : Option Reason). option_map_or (λ (reason : Reason). old.editing) r (edited old.editing edit)) none);
+  lists = λ other. absurd (other refl);
+  cells = cells;
+}
+
+none_kept : (test : Bool) (reason : Reason) → (if test then Some NothingToUndo else None) ≡ Some reason → test ≡ true
+none_kept true reason e = refl
+none_kept false reason e = absurd cc
+
+nothing_undone : (editing : Editing) → editing.kept ≡ [] → undone editing ≡ editing
+nothing_undone editing none = ap (λ (kept : List Plan). option_map_or (λ (plan : Plan). editing_with editing plan (take (length kept - 1) kept)) (last_item kept) editing) none
+
+pub undo_refused : (old : Planning) (reason : Reason) → undo_refusal old.editing ≡ Some reason → IsAnswered old (Some ask.Undo) (refused_text reason) old
+undo_refused old reason why =
+    stays old (Some ask.Undo) (refused_text reason) (sym (ap verdict_text why))
+    (sym (nothing_undone old.editing (nil_from_length old.editing.kept (eqb-true (length old.editing.kept) 0 (none_kept (length old.editing.kept == 0) reason why)))))
+
+pub undo_accepted : (old new : Planning) → undo_refusal old.editing ≡ None → new.project ≡ old.project → new.editing ≡ undone old.editing
+    → new.reserved.free ≡ old.reserved.free → IsAnswered old (Some ask.Undo) ok_text new
+undo_accepted old new none project editing cells = record {
+  answer = sym (ap verdict_text none);
+  project = project;
+  editing = editing;
+  lists = λ other. absurd (other refl);
+  cells = cells;
+}
+
+-- ---- a trial
+
+module _ (editing : Editing) (trial : Trial) where
+  -- the network with the term on trial
+  pub tried_net : (tried : ActTerm) → tried.term ≡ term_tried trial (term_at editing.net.terms tried.activity) → net_trying editing.net tried ≡ net_tried editing trial tried.activity
+  tried_net tried term = ap (λ (t : Term). net_trying editing.net (record { activity = tried.activity; term = t })) term
+
+  pub trial_costs : (tried : ActTerm) (cost : ℕ) → trial_refusal editing.net editing.estimates trial ≡ None → activity_named editing.net trial.act ≡ Some tried.activity
+      → tried.term ≡ term_tried trial (term_at editing.net.terms tried.activity) → IsWithin (net_trying editing.net tried) trial.length → curve_in (net_trying editing.net tried) trial.length cost
+      → IsTrialText editing trial (cost_text cost)
+  trial_costs tried cost none named term within least =
+      let net = tried_net tried term in
+      costs tried.activity cost none named (subst (λ (n : PricedNetwork). IsWithin n trial.length) net within) (subst (λ (n : PricedNetwork). curve_in n trial.length cost) net least) refl
+
+  pub trial_outside : (tried : ActTerm) → trial_refusal editing.net editing.estimates trial ≡ None → activity_named editing.net trial.act ≡ Some tried.activity
+      → tried.term ≡ term_tried trial (term_at editing.net.terms tried.activity) → (IsWithin (net_trying editing.net tried) trial.length → ⊥)
+      → IsTrialText editing trial (refused_text OutsideRange)
+  trial_outside tried none named term without =
+      let net = tried_net tried term in
+      outside tried.activity none named (λ within. without (subst (λ (n : PricedNetwork). IsWithin n trial.length) (sym net) within)) refl
+
+-- ---- lines
+
+-- what a talk answered are the answers to its lines
+pub answers_of : (start end : Planning) (lines : List (List ℕ)) (text : List ℕ) → Answered Says start lines text end → AreAnswers start.project start.editing lines text
+answers_of start end [] text p = p.0
+answers_of start end (line ∷ lines) text p =
+    let next = p.2 in
+    let said = p.4 in
+    let asked = ask_of-kept line in
+    let rest = answers_of next end lines (p.1) (p.5) in (
+      p.0,
+      p.1,
+      p.3,
+      subst (λ (a : Option Ask). IsAnswer start.project start.editing a (p.0)) asked said.answer,
+      subst (λ (e : Editing). AreAnswers start.project e lines (p.1)) (said.editing ∙ ap (editing_after start.editing) asked)
+      (subst (λ (project : Project). AreAnswers project next.editing lines (p.1)) said.project rest),
+    )

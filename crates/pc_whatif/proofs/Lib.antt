@@ -1,0 +1,3 @@
+pub mod PlanningLaws
+pub mod AnswerLaws
+pub mod LineLaws

@@ -1,0 +1,94 @@
+-- The numbers of a project as it is edited, and the times that stand.
+use Rattle.std.proofs.Common.{◌≡◌, ℕ, ◌+◌, ◌*◌, ◌<◌, ◌≤◌, List, [], ◌∷◌, length, map, Option, Some, None, refl, sym, ap, ◌∙◌, subst, arith}
+use Rattle.std.specs.Prelude.{slice_set}
+use Rattle.std.proofs.lemmas.List.{map-set}
+use Rattle.pc_crash.specs.Priced.{PricedNetwork}
+use Rattle.pc_deck.specs.Deck.{Deck}
+use Rattle.pc_deck.specs.declared.kinds.act.ActCard.{ActCard}
+use Rattle.pc_project.specs.Planned.{IsPlanned}
+use Rattle.pc_project.specs.Project.{Project, expected_of, variance_in}
+use Rattle.pc_edits.specs.Editing.{Editing, ChangesOnly, begun, net_trying}
+use Rattle.pc_edits.specs.declared.trying.ActTerm.{ActTerm}
+use Rattle.pc_edits.specs.Plans.{estimates_at, estimates_in, expected_times, variances}
+use Rattle.pc_trials.specs.Reserved.{Reserved, IsFor, IsStanding, IsStandingOf, IsChangedTo, expected_by, variance_by}
+use Rattle.pc_trials.specs.Trials.{HasRoom, trial_cells}
+use Rattle.pc_whatif.specs.Planning.{Planning, IsChangedAt, IsEditionOf, IsRenewed, project_as}
+
+-- ---- before any line
+
+expected_fused : (deck : Deck) (acts : List ActCard) → map (expected_of deck) acts
+    ≡ expected_times deck.project.unit_days (map (λ (act : ActCard). record { optimistic = act.opt; likely = act.likely; pessimistic = act.pess }) acts)
+expected_fused deck [] = refl
+expected_fused deck (act ∷ acts) = ap (λ (rest : List ℕ). expected_of deck act ∷ rest) (expected_fused deck acts)
+
+variances_fused : (deck : Deck) (acts : List ActCard) → map (variance_in deck) acts
+    ≡ variances deck.project.unit_days (map (λ (act : ActCard). record { optimistic = act.opt; likely = act.likely; pessimistic = act.pess }) acts)
+variances_fused deck [] = refl
+variances_fused deck (act ∷ acts) = ap (λ (rest : List ℕ). variance_in deck act ∷ rest) (variances_fused deck acts)
+
+-- the project of a deck is an edition of itself, and its times are those of it as it is edited before any line
+pub begun_edition : (project : Project) → IsEditionOf project (begun project)
+begun_edition project = record { network = refl; pieces = refl; unit_days = refl }
+
+module _ (project : Project) (planned : IsPlanned project) (reserved : Reserved) where
+  pub begun_renewed : IsFor project.network reserved → IsStandingOf project reserved → IsRenewed project (begun project) reserved
+  begun_renewed fits standing =
+      let lists = planned.own.is.lists in
+      let unit = ap (λ (p : Project). p.heading.unit_days) lists in
+      record {
+        fits = fits;
+        standing = standing.standing;
+        expected = standing.expected ∙ ap (λ (p : Project). p.expected) lists ∙ expected_fused project.deck project.deck.acts
+            ∙ ap (λ u. expected_times u (estimates_in project.deck)) (sym unit);
+        variances_are = standing.variances ∙ ap (λ (p : Project). p.variances) lists ∙ variances_fused project.deck project.deck.acts
+            ∙ ap (λ u. variances u (estimates_in project.deck)) (sym unit);
+      }
+
+-- ---- after a change
+
+module _ (project : Project) (old new : Editing) (a : ℕ) (change : ChangesOnly old new a) where
+  pub edition_kept : IsEditionOf project old → IsEditionOf project new
+  edition_kept is = record {
+    network = ap (λ (n : PricedNetwork). n.network) change.net ∙ is.network;
+    pieces = ap (λ (n : PricedNetwork). n.pieces) change.net ∙ is.pieces;
+    unit_days = change.unit_days ∙ is.unit_days;
+  }
+
+  pub changed_at : (reserved : Reserved) → IsEditionOf project old → IsRenewed project old reserved → IsChangedAt project new a reserved
+  changed_at reserved is renewed =
+      let e = estimates_at new.estimates a in
+      record {
+        fits = renewed.fits;
+        activity = subst (λ n. a < length n.arcs) is.network change.activity;
+        expected =
+            ap (λ u. expected_times u new.estimates) change.unit_days
+            ∙ ap (expected_times old.unit_days) change.estimates
+            ∙ map-set (expected_by old.unit_days) old.estimates a e
+            ∙ ap (λ l. slice_set l a (expected_by old.unit_days e)) (sym renewed.expected)
+            ∙ ap (λ u. slice_set reserved.expected a (expected_by u e)) (sym change.unit_days);
+        variances_are =
+            ap (λ u. variances u new.estimates) change.unit_days
+            ∙ ap (variances old.unit_days) change.estimates
+            ∙ map-set (variance_by old.unit_days) old.estimates a e
+            ∙ ap (λ l. slice_set l a (variance_by old.unit_days e)) (sym renewed.variances_are)
+            ∙ ap (λ u. slice_set reserved.variances a (variance_by u e)) (sym change.unit_days);
+      }
+
+-- ---- what is asked
+
+-- the project as it is edited is the one whose times stand
+pub changed_to : (project : Project) (editing : Editing) (reserved : Reserved) → IsRenewed project editing reserved → IsChangedTo project reserved (project_as project editing)
+changed_to project editing reserved renewed = record {
+  heading = refl;
+  network = refl;
+  events = refl;
+  activities = refl;
+  expected = sym renewed.expected;
+  variances = sym renewed.variances_are;
+}
+
+-- there is room for a trial of a network with the network and the pieces of the project
+pub has_room : (project : Project) (net : PricedNetwork) (reserved : Reserved) → net.network ≡ project.network → net.pieces ≡ project.pieces
+    → trial_cells project.network.events (length project.network.arcs) (length project.pieces) ≤ reserved.free → HasRoom net reserved
+has_room project net reserved network pieces room =
+    omega (arith, room, ap (λ n. n.events) network, ap (λ n. length n.arcs) network, ap length pieces)

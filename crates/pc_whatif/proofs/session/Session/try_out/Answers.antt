@@ -1,0 +1,62 @@
+use Rattle.std.proofs.Common.{◌≡◌, Some, refl, sym, ap, ◌∙◌, subst}
+use Rattle.std.proofs.lemmas.Bool.{false≢true}
+use Rattle.pc_crash.specs.Priced.{PricedNetwork}
+use Rattle.pc_curve.specs.Points.{curve_in}
+use Rattle.pc_edits.specs.declared.ask.Ask.TheVariants as asks
+use Rattle.pc_edits.specs.declared.reason.Reason.TheVariants.{OutsideRange}
+use Rattle.pc_edits.specs.Editing.{Editing, Edits, net_in, net_trying}
+use Rattle.pc_trials.specs.Reserved.{Reserved}
+use Rattle.pc_trials.specs.Trials.{IsWithin}
+use Rattle.pc_whatif.specs.Planning.{Planning, IsTrialText, refused}
+use Rattle.pc_whatif.specs.Texts.{cost_text, refused_text}
+use Rattle.pc_whatif.proofs.AnswerLaws.{stays, stays_as, trial_costs, trial_outside}
+use Rattle.pc_whatif.proofs.session.Session.try_out.Goals as goal
+
+pub returns-in-Err : goal.returns-in-Err
+returns-in-Err g c =
+    let trial = c.args.trial.now in
+    let text = refused_text c.in-Err.reason in (
+      text,
+      stays c.args.self.now (Some (asks.Try trial)) text
+      (subst (λ (p : Planning). IsTrialText p.editing trial text) c.self.view_is (refused c.in-Err.reason c.in-Err.ensures.refused refl)) refl,
+      c.refuse.ensures,
+    )
+
+pub returns-in_default : goal.returns-in_default
+returns-in_default g c =
+    let a = c.self.inside in
+    let trial = c.args.trial.now in
+    let text = refused_text OutsideRange in
+    let editing : c.end_trial.new.self.editing ≡ a.edits.editing = ap (λ (e : Edits). e.editing) c.end_trial.ensures ∙ ap (λ (e : Edits). e.editing) c.begin_trial.ensures in
+    let net : c.net.result.now ≡ net_trying a.edits.editing.net c.in-Ok.tried = c.net.ensures.net ∙ ap net_in c.begin_trial.ensures in
+    let is : IsTrialText a.edits.editing trial text =
+    trial_outside a.edits.editing trial c.in-Ok.tried c.in-Ok.ensures.accepted c.in-Ok.ensures.activity c.in-Ok.ensures.term
+    (λ within. false≢true (c.in_default.ensures.within.1 (subst (λ (n : PricedNetwork). IsWithin n trial.length) (sym net) within))) in
+    let with_editing : Editing → Planning = λ (e : Editing). record { project = a.project.now; editing = e; reserved = c.least_cost-cost.new.self } in
+    let with_reserved : Reserved → Planning = λ (r : Reserved). record { project = a.project.now; editing = a.edits.editing; reserved = r } in (
+      text,
+      stays_as c.args.self.now (with_editing c.end_trial.new.self.editing) (Some (asks.Try trial)) text
+      (ap with_editing editing ∙ ap with_reserved c.least_cost-cost.ensures.kept ∙ c.self.view_is)
+      (subst (λ (e : Editing). IsTrialText e trial text) (sym editing) is) refl,
+      c.refuse-in_default.ensures,
+    )
+
+pub returns : goal.returns
+returns g c =
+    let a = c.self.inside in
+    let trial = c.args.trial.now in
+    let text = cost_text c.in-Some.cost in
+    let editing : c.end_trial.new.self.editing ≡ a.edits.editing = ap (λ (e : Edits). e.editing) c.end_trial.ensures ∙ ap (λ (e : Edits). e.editing) c.begin_trial.ensures in
+    let net : c.net.result.now ≡ net_trying a.edits.editing.net c.in-Ok.tried = c.net.ensures.net ∙ ap net_in c.begin_trial.ensures in
+    let is : IsTrialText a.edits.editing trial text =
+    trial_costs a.edits.editing trial c.in-Ok.tried c.in-Some.cost c.in-Ok.ensures.accepted c.in-Ok.ensures.activity c.in-Ok.ensures.term
+    (subst (λ (n : PricedNetwork). IsWithin n trial.length) net (c.in-Some.ensures.within.0 refl))
+    (subst (λ (n : PricedNetwork). curve_in n trial.length c.in-Some.cost) net c.in-Some.ensures.least) in
+    let with_editing : Editing → Planning = λ (e : Editing). record { project = a.project.now; editing = e; reserved = c.least_cost-cost.new.self } in
+    let with_reserved : Reserved → Planning = λ (r : Reserved). record { project = a.project.now; editing = a.edits.editing; reserved = r } in (
+      text,
+      stays_as c.args.self.now (with_editing c.end_trial.new.self.editing) (Some (asks.Try trial)) text
+      (ap with_editing editing ∙ ap with_reserved c.least_cost-cost.ensures.kept ∙ c.self.view_is)
+      (subst (λ (e : Editing). IsTrialText e trial text) (sym editing) is) refl,
+      c.tell_cost.ensures,
+    )

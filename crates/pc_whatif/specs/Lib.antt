@@ -1,0 +1,5 @@
+pub mod Texts
+pub mod Planning
+pub mod Inside
+pub use Rattle.pc_edges.specs.Faults
+pub use Rattle.pc_edges.specs.Writes

@@ -1,0 +1,116 @@
+-- What the lines of a session mean.
+use Rattle.std.specs.Prelude.{◌≡◌, ℕ, ◌<◌, List, [], ◌∷◌, ◌++◌, length, slice_set, Option, Some, None}
+use Rattle.std.specs.Option.{option_map_or}
+use Rattle.pc_model.specs.Schedule.{term_at}
+use Rattle.pc_crash.specs.Priced.{PricedNetwork}
+use Rattle.pc_curve.specs.CurveText.{IsCurveText}
+use Rattle.pc_curve.specs.Points.{curve_in}
+use Rattle.pc_project.specs.Project.{Project}
+use Rattle.pc_reports.specs.TimesText.{IsTimesText}
+use Rattle.pc_edits.specs.declared.ask.Ask.{Ask}
+use Rattle.pc_edits.specs.declared.ask.Ask.TheVariants as ask
+use Rattle.pc_edits.specs.declared.ask.Trial.{Trial}
+use Rattle.pc_edits.specs.declared.reason.Reason.{Reason}
+use Rattle.pc_edits.specs.declared.reason.Reason.TheVariants.{Form, OutsideRange}
+use Rattle.pc_edits.specs.Editing.{Editing, IsEditing, activity_named, begun, edited, undone, net_trying}
+use Rattle.pc_edits.specs.Plans.{estimates_at, expected_times, variances, term_tried}
+use Rattle.pc_edits.specs.Reading.{ask_of}
+use Rattle.pc_edits.specs.Refusal.{edit_refusal, undo_refusal, trial_refusal}
+use Rattle.pc_trials.specs.Reserved.{Reserved, IsFor, IsStanding, expected_by, variance_by}
+use Rattle.pc_trials.specs.Trials.{IsWithin}
+use Rattle.pc_whatif.specs.Texts.{ok_text, refused_text, cost_text, verdict_text}
+
+-- what contracts see of a session: the deck's project, that project as it is edited, and what stands in the session's spans
+pub record Planning : Type 0 where
+  pub project : Project
+  pub editing : Editing
+  pub reserved : Reserved
+
+-- ---- the answer to a line
+
+-- the deck's project with the numbers as they are edited in place
+abbrev pub project_as : Project → Editing → Project
+project_as project editing = record project {
+  terms = editing.net.terms;
+  expected = expected_times editing.unit_days editing.estimates;
+  variances = variances editing.unit_days editing.estimates;
+}
+
+-- the priced network with the numbers of a trial in place of those of activity a
+abbrev pub net_tried : Editing → Trial → ℕ → PricedNetwork
+net_tried editing trial a = net_trying editing.net (record { activity = a; term = term_tried trial (term_at editing.net.terms a) })
+
+-- the answer to a trial: why it is refused; or else, with its numbers in place, that the length is outside the range, or the least cost
+-- for it
+pub data IsTrialText (editing : Editing) (trial : Trial) (text : List ℕ) : Type 0 where
+  refused : (reason : Reason) → trial_refusal editing.net editing.estimates trial ≡ Some reason → text ≡ refused_text reason → IsTrialText editing trial text
+  outside : (a : ℕ) → trial_refusal editing.net editing.estimates trial ≡ None → activity_named editing.net trial.act ≡ Some a
+      → (IsWithin (net_tried editing trial a) trial.length → ⊥) → text ≡ refused_text OutsideRange → IsTrialText editing trial text
+  costs : (a cost : ℕ) → trial_refusal editing.net editing.estimates trial ≡ None → activity_named editing.net trial.act ≡ Some a
+      → IsWithin (net_tried editing trial a) trial.length → curve_in (net_tried editing trial a) trial.length cost → text ≡ cost_text cost → IsTrialText editing trial text
+
+-- the text answers what a line asks of the project as it is edited; a line that asks nothing has none of the forms
+abbrev pub IsAnswer : Project → Editing → Option Ask → List ℕ → Type 0
+IsAnswer project editing None text = text ≡ refused_text Form
+IsAnswer project editing (Some (ask.Edit edit)) text = text ≡ verdict_text (edit_refusal editing.net editing.estimates edit)
+IsAnswer project editing (Some ask.Undo) text = text ≡ verdict_text (undo_refusal editing)
+IsAnswer project editing (Some ask.Times) text = IsTimesText (project_as project editing) text
+IsAnswer project editing (Some ask.Curve) text = IsCurveText editing.net text
+IsAnswer project editing (Some (ask.Try trial)) text = IsTrialText editing trial text
+
+-- the project as it is edited after a line: an edit that is accepted is in place, an UNDO takes the latest kept edit back, and all else
+-- leaves it as it is
+abbrev pub editing_after : Editing → Option Ask → Editing
+editing_after editing None = editing
+editing_after editing (Some (ask.Edit edit)) = option_map_or (λ reason. editing) (edit_refusal editing.net editing.estimates edit) (edited editing edit)
+editing_after editing (Some ask.Undo) = undone editing
+editing_after editing (Some ask.Times) = editing
+editing_after editing (Some ask.Curve) = editing
+editing_after editing (Some (ask.Try trial)) = editing
+
+-- the text answers the lines, one after the other
+abbrev pub AreAnswers : Project → Editing → List (List ℕ) → List ℕ → Type 0
+AreAnswers project editing [] text = text ≡ []
+AreAnswers project editing (line ∷ lines) text =
+    (first : List ℕ) × (rest : List ℕ) × (text ≡ first ++ rest) × IsAnswer project editing (ask_of line) first
+    × AreAnswers project (editing_after editing (ask_of line)) lines rest
+
+-- and they are those on the project of a deck
+abbrev pub AnswersLines : Project → List (List ℕ) → List ℕ → Type 0
+AnswersLines project lines text = AreAnswers project (begun project) lines text
+
+-- ---- what a line leaves
+
+-- the line was answered with the text, and the session is as after it: of its spans only an accepted edit or UNDO changes the lists, and no
+-- line changes how many cells are free
+pub record IsAnswered (old : Planning) (asked : Option Ask) (text : List ℕ) (new : Planning) : Type 0 where
+  pub answer : IsAnswer old.project old.editing asked text
+  pub project : new.project ≡ old.project
+  pub editing : new.editing ≡ editing_after old.editing asked
+  pub lists : (text ≡ ok_text → ⊥) → new ≡ old
+  pub cells : new.reserved.free ≡ old.reserved.free
+
+abbrev pub Says : Planning → List ℕ → List ℕ → Planning → Type 0
+Says old line text new = IsAnswered old (ask_of line) text new
+
+-- ---- the standing times
+
+-- the project as it is edited is of this project: it has its network and its pieces, and its numbers fit
+pub record IsEditionOf (project : Project) (editing : Editing) : Type 0 where
+  pub network : editing.net.network ≡ project.network
+  pub pieces : editing.net.pieces ≡ project.pieces
+  pub unit_days : editing.unit_days ≡ project.heading.unit_days
+
+-- the expected times and the variances that stand are those of the project as it is edited, but for those of activity a
+pub record IsChangedAt (project : Project) (editing : Editing) (a : ℕ) (reserved : Reserved) : Type 0 where
+  pub fits : IsFor project.network reserved
+  pub activity : a < length project.network.arcs
+  pub expected : expected_times editing.unit_days editing.estimates ≡ slice_set reserved.expected a (expected_by editing.unit_days (estimates_at editing.estimates a))
+  pub variances_are : variances editing.unit_days editing.estimates ≡ slice_set reserved.variances a (variance_by editing.unit_days (estimates_at editing.estimates a))
+
+-- the standing times are those of the project as it is edited
+pub record IsRenewed (project : Project) (editing : Editing) (reserved : Reserved) : Type 0 where
+  pub fits : IsFor project.network reserved
+  pub standing : IsStanding project.network reserved
+  pub expected : reserved.expected ≡ expected_times editing.unit_days editing.estimates
+  pub variances_are : reserved.variances ≡ variances editing.unit_days editing.estimates

@@ -1,0 +1,21 @@
+-- Short answers.
+use Rattle.std.specs.Prelude.{ℕ, List, [], ◌∷◌, ◌++◌, Option, Some, None, codes, decimal}
+use Rattle.pc_edits.specs.declared.reason.Reason.{Reason}
+use Rattle.pc_edits.specs.Reasons.{reason_number}
+
+-- the line was accepted
+abbrev pub ok_text : List ℕ
+ok_text = codes "OK" ++ 10 ∷ []
+
+-- the line was refused, for this reason
+abbrev pub refused_text : Reason → List ℕ
+refused_text reason = codes "NO " ++ (decimal (reason_number reason) ++ 10 ∷ [])
+
+-- what a trial costs at least
+abbrev pub cost_text : ℕ → List ℕ
+cost_text cost = codes "COST " ++ (decimal cost ++ 10 ∷ [])
+
+-- a line that is accepted unless there is a reason against it
+abbrev pub verdict_text : Option Reason → List ℕ
+verdict_text None = ok_text
+verdict_text (Some reason) = refused_text reason

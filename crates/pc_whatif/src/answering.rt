@@ -1,0 +1,115 @@
+//! Answers to lines.
+ghost use Rattle.std.specs.Prelude.{◌≡◌, ℕ, List, None, Some};
+ghost use Rattle.pc_edges.specs.Writes.{Writes};
+ghost use Rattle.pc_edits.specs.Reading.{ask_of};
+ghost use Rattle.pc_edits.specs.declared.ask.Ask.TheVariants as asks;
+ghost use Rattle.pc_whatif.specs.Planning.{IsAnswered};
+
+use crate::renewing::renew;
+use crate::replies::{accept, refuse, tell_cost};
+use crate::session::Session;
+use pc_crash::Steps;
+use pc_edges::{Failed, Sink};
+use pc_edits::{Ask, Edit, Reason, Trial};
+use std::sync::ledger::Ledger;
+
+impl Session<'_> {
+    /// Answers a line, without its end, and flushes the sink. It takes no memory.
+    ///
+    /// The session is as after the line, whether or not the sink took the answer.
+    pub fn answer<O: Sink, L: Ledger>(
+        &mut self,
+        line: &[u8],
+        out: &mut O,
+        steps: &mut Steps<L>,
+    ) -> Result<(), Failed>
+        ensures { (text : List ℕ) × IsAnswered self.old (ask_of line.now) text self.new
+            × Writes result (O.taken out.old) (O.taken out.new) (O.faults out.old) (O.faults out.new) text }
+    {
+        match Ask::read(line) {
+            None => refuse(Reason::Form, out),
+            Some(Ask::Edit(edit)) => self.edit(&edit, out),
+            Some(Ask::Undo) => self.undo(out),
+            Some(Ask::Times) => self.times(out),
+            Some(Ask::Curve) => self.curve(out, steps),
+            Some(Ask::Try(trial)) => self.try_out(&trial, out, steps),
+        }
+    }
+
+    /// An edit.
+    fn edit<O: Sink>(&mut self, edit: &Edit, out: &mut O) -> Result<(), Failed>
+        ensures { (text : List ℕ) × IsAnswered self.old (Some (asks.Edit edit.now)) text self.new
+            × Writes result (O.taken out.old) (O.taken out.new) (O.faults out.old) (O.faults out.new) text }
+    {
+        let _ = &self.page;
+        match self.edits.apply(edit) {
+            Ok(a) => {
+                renew(&mut self.reservation, &self.edits, a, self.project);
+                accept(out)
+            }
+            Err(reason) => refuse(reason, out),
+        }
+    }
+
+    /// An UNDO.
+    fn undo<O: Sink>(&mut self, out: &mut O) -> Result<(), Failed>
+        ensures { (text : List ℕ) × IsAnswered self.old (Some asks.Undo) text self.new
+            × Writes result (O.taken out.old) (O.taken out.new) (O.faults out.old) (O.faults out.new) text }
+    {
+        let _ = &self.page;
+        match self.edits.undo() {
+            Ok(a) => {
+                renew(&mut self.reservation, &self.edits, a, self.project);
+                accept(out)
+            }
+            Err(reason) => refuse(reason, out),
+        }
+    }
+
+    /// TIMES.
+    fn times<O: Sink>(&mut self, out: &mut O) -> Result<(), Failed>
+        ensures { (text : List ℕ) × IsAnswered self.old (Some asks.Times) text self.new
+            × Writes result (O.taken out.old) (O.taken out.new) (O.faults out.old) (O.faults out.new) text }
+    {
+        self.reservation
+            .write_times(&mut self.page, out, self.project)
+    }
+
+    /// CURVE.
+    fn curve<O: Sink, L: Ledger>(
+        &mut self,
+        out: &mut O,
+        steps: &mut Steps<L>,
+    ) -> Result<(), Failed>
+        ensures { (text : List ℕ) × IsAnswered self.old (Some asks.Curve) text self.new
+            × Writes result (O.taken out.old) (O.taken out.new) (O.faults out.old) (O.faults out.new) text }
+    {
+        self.reservation
+            .write_curve(&mut self.page, out, self.edits.net(), steps)
+    }
+
+    /// A trial: its term takes the place of the activity's own for as long as the cost is asked for.
+    fn try_out<O: Sink, L: Ledger>(
+        &mut self,
+        trial: &Trial,
+        out: &mut O,
+        steps: &mut Steps<L>,
+    ) -> Result<(), Failed>
+        ensures { (text : List ℕ) × IsAnswered self.old (Some (asks.Try trial.now)) text self.new
+            × Writes result (O.taken out.old) (O.taken out.new) (O.faults out.old) (O.faults out.new) text }
+    {
+        let tried = match self.edits.tried(trial) {
+            Ok(tried) => tried,
+            Err(reason) => return refuse(reason, out),
+        };
+        self.edits.begin_trial(&tried);
+        let cost = self
+            .reservation
+            .least_cost(self.edits.net(), trial.length, steps);
+        self.edits.end_trial();
+        let Some(cost) = cost else {
+            return refuse(Reason::OutsideRange, out);
+        };
+        tell_cost(cost, out)
+    }
+}

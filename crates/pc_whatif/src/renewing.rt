@@ -1,0 +1,22 @@
+//! The times of a project that was edited.
+ghost use Rattle.std.specs.Prelude.{◌≡◌};
+ghost use Rattle.pc_edits.specs.Editing.{IsEditing};
+ghost use Rattle.pc_whatif.specs.Planning.{IsChangedAt, IsEditionOf, IsRenewed};
+
+use pc_edits::Edits;
+use pc_project::Project;
+use pc_trials::Reservation;
+
+/// Makes the standing times those of the numbers as they are now, where they are already but for the estimates of one activity. A few
+/// passes over the network.
+pub(crate) fn renew(reservation: &mut Reservation, edits: &Edits<'_>, a: u32, project: &Project)
+    requires edition { IsEditionOf project.now edits.now.editing }
+    requires changed { IsChangedAt project.now edits.now.editing a reservation.old }
+    ensures renewed { IsRenewed project.now edits.now.editing reservation.new }
+    ensures free { reservation.new.free ≡ reservation.old.free }
+{
+    // What the numbers keep to.
+    let _net = edits.net();
+    reservation.set_estimates(a, &edits.estimates(a), project.unit_days());
+    reservation.renew(project.net());
+}

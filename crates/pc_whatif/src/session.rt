@@ -1,0 +1,57 @@
+//! A session.
+ghost use Rattle.std.specs.Prelude.{◌≡◌, IfOk};
+ghost use Rattle.pc_edits.specs.Editing.{begun};
+
+use pc_edits::Edits;
+use pc_page::{PAGE_ROOM, Page};
+use pc_project::Project;
+use pc_trials::Reservation;
+use std::alloc::{AllocError, Global};
+use std::marker::Model;
+
+/// A session on a project: its numbers as they are edited, the times that come of them, and the room in which a trial works.
+///
+/// All memory is taken when it begins.
+#[derive(Drop)]
+pub struct Session<'p> {
+    pub(crate) project: &'p Project,
+    pub(crate) edits: Edits<'p>,
+    pub(crate) reservation: Reservation,
+    pub(crate) page: Page,
+}
+
+impl<'p> Model for Session<'p> {
+    ghost use Rattle.pc_whatif.specs.Planning.{Planning};
+
+    ghost Value = { Planning };
+
+    ghost use Rattle.pc_whatif.specs.Inside.{planning_of, IsWholeInside};
+
+    ghost view = { planning_of };
+
+    ghost invariant = { IsWholeInside };
+}
+
+impl<'p> Session<'p> {
+    /// A session on the project as its deck has it. Linear in events and activities.
+    pub fn begin(alloc: Global, project: &'p Project) -> Result<Session<'p>, AllocError>
+        ensures project { IfOk result (λ session. session.project ≡ project.now) }
+        ensures editing { IfOk result (λ session. session.editing ≡ begun project.now) }
+    {
+        // What the project keeps to.
+        let _net = project.net();
+        Ok(Session {
+            project,
+            edits: Edits::begin(alloc, project)?,
+            reservation: Reservation::begin(alloc, project)?,
+            page: Page::with_room(alloc, PAGE_ROOM)?,
+        })
+    }
+
+    /// How many cells of the region are free, between two lines.
+    pub fn cells(&self) -> usize
+        ensures { result ≡ self.now.reserved.free }
+    {
+        self.reservation.cells()
+    }
+}
