@@ -126,12 +126,7 @@ fn session_outcome<D: Source, C: Source, O: Sink, E: Sink>(
 }
 
 /// Answers the lines of edits of the project, with all memory taken before the first is read.
-fn hear<C: Source, O: Sink>(
-    alloc: Global,
-    project: &Project,
-    edits: &mut C,
-    out: &mut O,
-) -> Status
+fn hear<C: Source, O: Sink>(alloc: Global, project: &Project, edits: &mut C, out: &mut O) -> Status
     ensures { Hearing (AnswersLines project.now) (side C.left C.faults edits.old edits.new) (side O.taken O.faults out.old out.new) result }
 {
     let Ok(mut session) = Session::begin(alloc, project) else {

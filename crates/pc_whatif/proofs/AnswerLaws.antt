@@ -113,5 +113,5 @@ answers_of start end (line ∷ lines) text p =
       p.3,
       subst (λ (a : Option Ask). IsAnswer start.project start.editing a (p.0)) asked said.answer,
       subst (λ (e : Editing). AreAnswers start.project e lines (p.1)) (said.editing ∙ ap (editing_after start.editing) asked)
-      (subst (λ (project : Project). AreAnswers project next.editing lines (p.1)) said.project rest),
+          (subst (λ (project : Project). AreAnswers project next.editing lines (p.1)) said.project rest),
     )

@@ -76,11 +76,7 @@ impl Session<'_> {
     }
 
     /// CURVE.
-    fn curve<O: Sink, L: Ledger>(
-        &mut self,
-        out: &mut O,
-        steps: &mut Steps<L>,
-    ) -> Result<(), Failed>
+    fn curve<O: Sink, L: Ledger>(&mut self, out: &mut O, steps: &mut Steps<L>) -> Result<(), Failed>
         ensures { (text : List ℕ) × IsAnswered self.old (Some asks.Curve) text self.new
             × Writes result (O.taken out.old) (O.taken out.new) (O.faults out.old) (O.faults out.new) text }
     {

@@ -18,7 +18,7 @@ returns-in-Err g c =
     let text = refused_text c.in-Err.reason in (
       text,
       stays c.args.self.now (Some (asks.Try trial)) text
-      (subst (λ (p : Planning). IsTrialText p.editing trial text) c.self.view_is (refused c.in-Err.reason c.in-Err.ensures.refused refl)) refl,
+          (subst (λ (p : Planning). IsTrialText p.editing trial text) c.self.view_is (refused c.in-Err.reason c.in-Err.ensures.refused refl)) refl,
       c.refuse.ensures,
     )
 
@@ -36,8 +36,8 @@ returns-in_default g c =
     let with_reserved : Reserved → Planning = λ (r : Reserved). record { project = a.project.now; editing = a.edits.editing; reserved = r } in (
       text,
       stays_as c.args.self.now (with_editing c.end_trial.new.self.editing) (Some (asks.Try trial)) text
-      (ap with_editing editing ∙ ap with_reserved c.least_cost-cost.ensures.kept ∙ c.self.view_is)
-      (subst (λ (e : Editing). IsTrialText e trial text) (sym editing) is) refl,
+          (ap with_editing editing ∙ ap with_reserved c.least_cost-cost.ensures.kept ∙ c.self.view_is)
+          (subst (λ (e : Editing). IsTrialText e trial text) (sym editing) is) refl,
       c.refuse-in_default.ensures,
     )
 
@@ -56,7 +56,7 @@ returns g c =
     let with_reserved : Reserved → Planning = λ (r : Reserved). record { project = a.project.now; editing = a.edits.editing; reserved = r } in (
       text,
       stays_as c.args.self.now (with_editing c.end_trial.new.self.editing) (Some (asks.Try trial)) text
-      (ap with_editing editing ∙ ap with_reserved c.least_cost-cost.ensures.kept ∙ c.self.view_is)
-      (subst (λ (e : Editing). IsTrialText e trial text) (sym editing) is) refl,
+          (ap with_editing editing ∙ ap with_reserved c.least_cost-cost.ensures.kept ∙ c.self.view_is)
+          (subst (λ (e : Editing). IsTrialText e trial text) (sym editing) is) refl,
       c.tell_cost.ensures,
     )
