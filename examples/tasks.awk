@@ -15,7 +15,7 @@
 BEGIN {
     if (day == "") day = "2024-01-01"
     if (name == "") name = "TASKS"
-    if (day !~ /^[0-9][0-9][0-9][0-9]-[0-9][0-9]-[0-9][0-9]$/) wrong("the first day '" day "' is to be written as 2024-03-15")
+    if (day !~ /^[0-9][0-9][0-9][0-9]-[0-9][0-9]-[0-9][0-9]$/) wrong("the first day '" day "' is to be written as year, month and day, like 2024-03-15")
     split("task after opt likely pess normal crash cost slope title", heading, " ")
 }
 

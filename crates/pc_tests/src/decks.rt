@@ -3,6 +3,7 @@
 ghost use Rattle.std.specs.Prelude.{◌≤◌, length};
 
 use pc_deck::read_cards;
+use pc_deck_text::deck_text_of;
 use pc_project::project_of;
 use std::alloc::Global;
 
@@ -13,6 +14,10 @@ const EACH_KIND: &[u8] =
 // A deck of the first version, with even packages.
 const FIRST_VERSION: &[u8] =
     b"PROJECT,P,S,T,2024-01-01,2,9,\nASOF,2024-01-08\nWBS,1,,Whole\nWBS,1.1,1,Frame\nEVENT,S,\nEVENT,T,\nACT,A,S,T,1.1,3,4,11,4,2,10,5,\nACCT,X,1.1,10,\nCHARGE,X,2024-01-02,5\nTOGO,X,2024-01-02,5\nSTATUS,A,S,2024-01-02\nEND\n";
+
+// The same in one form.
+const SECOND_VERSION: &[u8] =
+    b"PROJECT,P,S,T,2024-01-01,2,9,,2\nASOF,2024-01-08\nWBS,1,,Whole\nWBS,1.1,1,Frame\nEVENT,S,\nEVENT,T,\nACT,A,S,T,1.1,3,4,11,4,2,10,5,\nACCT,X,1.1,10,\nCHARGE,X,2024-01-02,5\nTOGO,X,2024-01-02,5\nSTATUS,A,S,2024-01-02\nEND\n";
 
 // Quotes, a TERMS card that says nothing, a number of units to be met, and no ASOF card; and what it is written as.
 const TO_SETTLE: &[u8] =
@@ -39,6 +44,26 @@ fn is_written_as(alloc: Global, deck: &[u8], text: &[u8]) -> Option<bool>
     // (handed on, as above)
     let _ = project_of(alloc, cards).is_ok();
     Some(written?.as_slice() == text)
+}
+
+/// Whether the text of the deck's project is this one; none where the deck is refused.
+fn is_written_again_as(alloc: Global, deck: &[u8], text: &[u8]) -> Option<bool>
+    requires { length deck.now ≤ 1000 }
+{
+    let cards = read_cards(alloc, deck).ok()?;
+    let project = project_of(alloc, cards).ok()?;
+    let written = deck_text_of(alloc, &project).ok();
+    // (let go in one place, as above)
+    drop(project);
+    Some(written?.as_slice() == text)
+}
+
+#[test]
+fn writes_the_text_of_a_project(rt: HostRuntime) {
+    assert_eq!(rt;
+        is_written_again_as(rt.alloc(), FIRST_VERSION, SECOND_VERSION),
+        Some(true)
+    );
 }
 
 #[test]

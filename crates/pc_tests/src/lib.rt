@@ -8,15 +8,25 @@
 #[cfg(test)]
 mod bench;
 #[cfg(test)]
+mod certificates;
+#[cfg(test)]
 mod curves;
 #[cfg(test)]
 mod decks;
 #[cfg(test)]
+mod figures;
+#[cfg(test)]
 mod loads;
+#[cfg(test)]
+mod optima;
+#[cfg(test)]
+mod points;
 #[cfg(test)]
 mod priced;
 #[cfg(test)]
 mod schedules;
+#[cfg(test)]
+mod searches;
 #[cfg(test)]
 mod small;
 #[cfg(test)]

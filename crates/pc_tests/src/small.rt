@@ -14,7 +14,7 @@ const ARCS: [Arc; 3] = [
     Arc { from: 0, to: 2 },
 ];
 
-const TERMS: [Term; 3] = [
+pub(crate) const TERMS: [Term; 3] = [
     Term {
         normal: 4,
         crash: 2,

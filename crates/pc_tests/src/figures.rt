@@ -1,0 +1,99 @@
+//! What the items of a small deck add up to: an activity that has begun in one package, and another package without activities.
+ghost use Rattle.std.specs.Prelude.{◌≤◌, length};
+
+use pc_deck::read_cards;
+use pc_figures::{
+    OutlineRow, Outlook, OutlookAmounts, Summary, SummaryAmounts, Worth, WorthAmounts,
+};
+use pc_project::{Project, project_of};
+use std::alloc::Global;
+use std::test::Fail;
+
+const DECK: &[u8] =
+    b"PROJECT,P,S,T,2024-01-01,1,,\nASOF,2024-01-08\nWBS,1,,\nWBS,1.1,1,\nWBS,1.2,1,\nEVENT,S,\nEVENT,T,\nACT,A,S,T,1.1,3,4,5,4,2,10,7,\nACCT,X,1.1,10,\nACCT,Y,1.2,30,\nCHARGE,X,2024-01-03,6\nCHARGE,Y,2024-01-04,5\nTOGO,X,2024-01-05,9\nSTATUS,A,S,2024-01-02\nEND\n";
+
+/// The second item of the summary with its level, and the amounts of the first item.
+fn summary_of(alloc: Global, project: &Project) -> Option<(OutlineRow, SummaryAmounts)> {
+    let entries = project.book().entries();
+    let tree = project.tree();
+    let summary = Summary::of(alloc, tree, project.accounts(), entries).ok()?;
+    if tree.len() != 3 || summary.items() != 3 || summary.depth() != 2 {
+        return None;
+    }
+    Some((summary.row(1), summary.of_item(0)))
+}
+
+/// What the work of the first item is worth.
+fn worth_of(alloc: Global, project: &Project) -> Option<WorthAmounts> {
+    let entries = project.book().entries();
+    let (tree, places, states) = (project.tree(), project.places(), project.states());
+    let worth = Worth::of(alloc, tree, places, states, project.accounts(), entries).ok()?;
+    if tree.len() != 3 {
+        return None;
+    }
+    Some(worth.of_item(0))
+}
+
+/// The third item of the outlook with its level, and what the first one is going to cost where the activity costs 24.
+fn outlook_of(alloc: Global, project: &Project) -> Option<(OutlineRow, OutlookAmounts)> {
+    let entries = project.book().entries();
+    let (tree, places) = (project.tree(), project.places());
+    if tree.len() != 3 || places.len() != 1 {
+        return None;
+    }
+    let outlook = Outlook::of(alloc, tree, places, &[24], project.accounts(), entries).ok()?;
+    if outlook.items() != 3 {
+        return None;
+    }
+    Some((outlook.row(2), outlook.of_item(0)))
+}
+
+/// What is asked of a project.
+#[derive(Drop)]
+struct Told {
+    summary: Option<(OutlineRow, SummaryAmounts)>,
+    worth: Option<WorthAmounts>,
+    outlook: Option<(OutlineRow, OutlookAmounts)>,
+}
+
+/// These figures of the deck.
+fn figures(alloc: Global) -> Option<Told> {
+    let cards = read_cards(alloc, DECK).ok()?;
+    let project = project_of(alloc, cards).ok()?;
+    let told = Told {
+        summary: summary_of(alloc, &project),
+        worth: worth_of(alloc, &project),
+        outlook: outlook_of(alloc, &project),
+    };
+    drop(project);
+    Some(told)
+}
+
+#[test]
+fn figures_of_items(rt: HostRuntime) -> Result<(), Fail> {
+    let figures = figures(rt.alloc()).ok_or("no figures")?;
+    let whole = SummaryAmounts {
+        budget: 40,
+        actual: 11,
+        to_go: 34,
+        latest: 45,
+        overrun: 5,
+    };
+    let second = OutlineRow { item: 1, level: 2 };
+    assert_eq!(rt; figures.summary, Some((second, whole)));
+    let worth = WorthAmounts {
+        budget: 40,
+        actual: 11,
+        value: 9,
+        overrun: 2,
+    };
+    assert_eq!(rt; figures.worth, Some(worth));
+    let outlook = OutlookAmounts {
+        budget: 40,
+        outlook: 54,
+        change: 14,
+    };
+    let third = OutlineRow { item: 2, level: 2 };
+    assert_eq!(rt; figures.outlook, Some((third, outlook)));
+    Ok(())
+}

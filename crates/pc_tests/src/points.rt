@@ -1,0 +1,114 @@
+//! The breakpoints of the small network's curve, its least costs, and a cheapest schedule.
+ghost use Rattle.std.specs.Prelude.{◌≡◌, ◌≤◌, false, length};
+ghost use Rattle.pc_crash.specs.Steps.{IsBlankOf};
+
+use crate::curves::solver;
+use crate::small::{small_net, small_priced};
+use pc_crash::{CrashNet, SegmentView, Steps};
+use pc_curve::{Break, Breaks, cost_at, point_at, write_curve};
+use pc_edges::MemSink;
+use pc_flow::Solver;
+use pc_page::Page;
+use std::alloc::{AllocError, Global};
+use std::marker::Brand;
+use std::sync::ledger::{Blank, Ledger};
+
+/// The first two breakpoints, and at which length they stand then.
+fn first_breaks<L: Ledger>(
+    solver: &mut Solver<'_>,
+    blank: Blank,
+) -> ([Option<Break>; 2], Option<u64>)
+    requires blank { IsBlankOf L.name L.parts blank.name blank.parts }
+    requires before { solver.old.given ≡ false }
+{
+    let mut steps = Steps::<L>::new(blank);
+    let mut breaks = Breaks::new();
+    let first = breaks.next(solver, &mut steps);
+    let second = breaks.next(solver, &mut steps);
+    ([first, second], breaks.last())
+}
+
+fn small_breaks(alloc: Global) -> Option<([Option<Break>; 2], Option<u64>)> {
+    let net = small_net(alloc)?;
+    let priced = small_priced(alloc, &net)?;
+    let mut solver = solver(alloc, &priced).ok()?;
+    Some(first_breaks::<Brand>(&mut solver, Blank::new(1)))
+}
+
+#[test]
+fn breakpoints_of_pieces(rt: HostRuntime) {
+    let first = Break {
+        length: 9,
+        cost: 45,
+        slope: Some(3),
+    };
+    let second = Break {
+        length: 8,
+        cost: 48,
+        slope: Some(5),
+    };
+    assert_eq!(rt;
+        small_breaks(rt.alloc()),
+        Some(([Some(first), Some(second)], Some(8)))
+    );
+}
+
+/// The least costs of 7 and 6 units; for 6 that of a schedule, and when it ends.
+fn costs<L: Ledger>(alloc: Global, net: &CrashNet<'_>, blank: Blank) -> Result<[u64; 4], AllocError>
+    requires blank { IsBlankOf L.name L.parts blank.name blank.parts }
+    requires pieces { length net.now.pieces ≤ 1 }
+    requires events { net.now.network.events ≡ 3 }
+    requires activities { length net.now.network.arcs ≡ 3 }
+{
+    let mut steps = Steps::<L>::new(blank);
+    let mut solver = solver(alloc, net)?;
+    if solver.shortest() > 6 || solver.longest() < 7 {
+        return Ok([0; 4]);
+    }
+    let (mut times, mut durations) = ([0; 3], [0; 3]);
+    let seven = cost_at(&mut solver, 7, &mut steps);
+    let six = cost_at(&mut solver, 6, &mut steps);
+    let again = point_at(&mut solver, 6, &mut times, &mut durations, &mut steps);
+    Ok([seven, six, again, times[2]])
+}
+
+fn small_costs(alloc: Global) -> Option<[u64; 4]> {
+    let net = small_net(alloc)?;
+    let priced = small_priced(alloc, &net)?;
+    costs::<Brand>(alloc, &priced, Blank::new(1)).ok()
+}
+
+#[test]
+fn least_costs_of_pieces(rt: HostRuntime) {
+    assert_eq!(rt; small_costs(rt.alloc()), Some([53, 60, 60, 6]));
+}
+
+/// Whether just this text is written of the curve.
+fn is_written<L: Ledger>(
+    alloc: Global,
+    net: &CrashNet<'_>,
+    text: &[u8],
+    blank: Blank,
+) -> Result<bool, AllocError>
+    requires blank { IsBlankOf L.name L.parts blank.name blank.parts }
+    requires pieces { length net.now.pieces ≤ 1 }
+{
+    let mut steps = Steps::<L>::new(blank);
+    let mut solver = solver(alloc, net)?;
+    let mut page = Page::with_room(alloc, 200)?;
+    let mut sink = MemSink::new(alloc, 200, 200, &[])?;
+    let written = write_curve(&mut page, &mut sink, &mut solver, &mut steps);
+    Ok(written.is_ok() && sink.bytes() == text)
+}
+
+fn small_is_written(alloc: Global, text: &[u8]) -> Option<bool> {
+    let net = small_net(alloc)?;
+    let priced = small_priced(alloc, &net)?;
+    is_written::<Brand>(alloc, &priced, text, Blank::new(1)).ok()
+}
+
+#[test]
+fn text_of_a_curve(rt: HostRuntime) {
+    let text = b"9 45 3\n8 48 5\n7 53 7\n6 60 8\n5 68 -\n";
+    assert_eq!(rt; small_is_written(rt.alloc(), text), Some(true));
+}
