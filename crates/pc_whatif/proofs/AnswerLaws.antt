@@ -62,10 +62,13 @@ none_kept false reason e = absurd cc
 nothing_undone : (editing : Editing) → editing.kept ≡ [] → undone editing ≡ editing
 nothing_undone editing none = ap (λ (kept : List Plan). option_map_or (λ (plan : Plan). editing_with editing plan (take (length kept - 1) kept)) (last_item kept) editing) none
 
+-- an UNDO that is refused leaves all as it is
+pub undone_same : (editing : Editing) (reason : Reason) → undo_refusal editing ≡ Some reason → undone editing ≡ editing
+undone_same editing reason why =
+    nothing_undone editing (nil_from_length editing.kept (eqb-true (length editing.kept) 0 (none_kept (length editing.kept == 0) reason why)))
+
 pub undo_refused : (old : Planning) (reason : Reason) → undo_refusal old.editing ≡ Some reason → IsAnswered old (Some ask.Undo) (refused_text reason) old
-undo_refused old reason why =
-    stays old (Some ask.Undo) (refused_text reason) (sym (ap verdict_text why))
-    (sym (nothing_undone old.editing (nil_from_length old.editing.kept (eqb-true (length old.editing.kept) 0 (none_kept (length old.editing.kept == 0) reason why)))))
+undo_refused old reason why = stays old (Some ask.Undo) (refused_text reason) (sym (ap verdict_text why)) (sym (undone_same old.editing reason why))
 
 pub undo_accepted : (old new : Planning) → undo_refusal old.editing ≡ None → new.project ≡ old.project → new.editing ≡ undone old.editing
     → new.reserved.free ≡ old.reserved.free → IsAnswered old (Some ask.Undo) ok_text new
