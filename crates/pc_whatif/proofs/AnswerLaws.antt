@@ -1,5 +1,5 @@
 -- What a line leaves, and what lines leave together.
-use Rattle.std.proofs.Common.{◌≡◌, ℕ, ◌+◌, ◌-◌, ◌<◌, ◌≤◌, Bool, true, false, List, [], ◌∷◌, ◌++◌, length, take, Option, Some, None, refl, sym, ap, ◌∙◌, subst, arith}
+use Rattle.std.proofs.Common.{◌≡◌, ℕ, ◌-◌, Bool, true, false, List, [], ◌∷◌, length, take, Option, Some, None, refl, sym, ap, ◌∙◌, subst}
 use Rattle.std.proofs.lemmas.Bool.{eqb-true}
 use Rattle.std.proofs.lemmas.List.{nil_from_length}
 use Rattle.std.specs.Prelude.{◌==◌, if◌then◌else◌}
@@ -19,12 +19,11 @@ use Rattle.pc_edits.specs.declared.reason.Reason.TheVariants.{NothingToUndo, Out
 use Rattle.pc_edits.specs.declared.trying.ActTerm.{ActTerm}
 use Rattle.pc_edits.specs.Editing.{Editing, activity_named, edited, undone, editing_with, net_trying}
 use Rattle.pc_edits.specs.Plans.{Plan, term_tried}
-use Rattle.pc_edits.specs.Reading.{ask_of}
 use Rattle.pc_edits.specs.Refusal.{edit_refusal, undo_refusal, trial_refusal}
 use Rattle.pc_talk.specs.Talk.{Answered}
 use Rattle.pc_lines.specs.Reading.{kept}
 use Rattle.pc_trials.specs.Trials.{IsWithin}
-use Rattle.pc_whatif.specs.Planning.{Planning, IsAnswer, IsAnswered, IsTrialText, refused, outside, costs, AreAnswers, Says, editing_after, net_tried}
+use Rattle.pc_whatif.specs.Planning.{Planning, IsAnswer, IsAnswered, IsTrialText, outside, costs, AreAnswers, Says, editing_after, net_tried}
 use Rattle.pc_whatif.specs.Texts.{ok_text, refused_text, cost_text, verdict_text}
 use Rattle.pc_whatif.proofs.LineLaws.{ask_of-kept}
 

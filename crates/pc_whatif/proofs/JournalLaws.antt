@@ -11,7 +11,7 @@ use Rattle.pc_edits.specs.declared.reason.Reason.TheVariants.{NothingToUndo, Unk
 use Rattle.pc_edits.specs.Editing.{Editing, activity_named, begun, edited, undone}
 use Rattle.pc_edits.specs.Reading.{ask_of}
 use Rattle.pc_edits.specs.Refusal.{edit_refusal, undo_refusal}
-use Rattle.pc_edits.specs.Standing.{Journal, Stands, empty, noted, taken_back, standing_of}
+use Rattle.pc_edits.specs.Standing.{Journal, Stands, empty, noted, taken_back}
 use Rattle.pc_edits.proofs.StandingLaws.{Stands-begun, Stands-edited, Stands-undone}
 use Rattle.pc_whatif.specs.Planning.{IsAnswer, AreAnswers, AnswersLines, editing_after}
 use Rattle.pc_whatif.specs.Standing.{journal_after, journal_of, editing_of, AnswersByJournal}

@@ -1,11 +1,10 @@
 -- The same lines have one text of answers.
-use Rattle.std.proofs.Common.{◌≡◌, ℕ, List, [], ◌∷◌, ◌++◌, Option, Some, None, refl, sym, ap, ◌∙◌, subst}
+use Rattle.std.proofs.Common.{◌≡◌, ℕ, List, [], ◌∷◌, ◌++◌, Option, Some, None, sym, ap, ◌∙◌, subst}
 use Rattle.pc_curve.proofs.OneTextLaws.{one_cost, one_curve_text}
 use Rattle.pc_curve.specs.Points.{curve_in}
 use Rattle.pc_edits.specs.declared.ask.Ask.{Ask}
 use Rattle.pc_edits.specs.declared.ask.Ask.TheVariants as ask
 use Rattle.pc_edits.specs.declared.ask.Trial.{Trial}
-use Rattle.pc_edits.specs.declared.reason.Reason.{Reason}
 use Rattle.pc_edits.specs.Editing.{Editing, begun}
 use Rattle.pc_edits.specs.Reading.{ask_of}
 use Rattle.pc_project.proofs.SoundLaws.{HasSoundParts, sound_parts}
