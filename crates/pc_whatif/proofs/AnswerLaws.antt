@@ -1,5 +1,5 @@
 -- What a line leaves, and what lines leave together.
-use Rattle.std.proofs.Common.{◌≡◌, ℕ, ◌+◌, ◌-◌, ◌<◌, ◌≤◌, Bool, true, false, List, [], ◌∷◌, ◌++◌, length, take, Option, Some, None, refl, sym, ap, ◌∙◌, subst, arith}
+use Rattle.std.proofs.Common.{◌≡◌, ℕ, ◌-◌, Bool, true, false, List, [], ◌∷◌, length, take, Option, Some, None, refl, sym, ap, ◌∙◌, subst}
 use Rattle.std.proofs.lemmas.Bool.{eqb-true}
 use Rattle.std.proofs.lemmas.List.{nil_from_length}
 use Rattle.std.specs.Prelude.{◌==◌, if◌then◌else◌}
@@ -19,12 +19,11 @@ use Rattle.pc_edits.specs.declared.reason.Reason.TheVariants.{NothingToUndo, Out
 use Rattle.pc_edits.specs.declared.trying.ActTerm.{ActTerm}
 use Rattle.pc_edits.specs.Editing.{Editing, activity_named, edited, undone, editing_with, net_trying}
 use Rattle.pc_edits.specs.Plans.{Plan, term_tried}
-use Rattle.pc_edits.specs.Reading.{ask_of}
 use Rattle.pc_edits.specs.Refusal.{edit_refusal, undo_refusal, trial_refusal}
 use Rattle.pc_talk.specs.Talk.{Answered}
 use Rattle.pc_lines.specs.Reading.{kept}
 use Rattle.pc_trials.specs.Trials.{IsWithin}
-use Rattle.pc_whatif.specs.Planning.{Planning, IsAnswer, IsAnswered, IsTrialText, refused, outside, costs, AreAnswers, Says, editing_after, net_tried}
+use Rattle.pc_whatif.specs.Planning.{Planning, IsAnswer, IsAnswered, IsTrialText, outside, costs, AreAnswers, Says, editing_after, net_tried}
 use Rattle.pc_whatif.specs.Texts.{ok_text, refused_text, cost_text, verdict_text}
 use Rattle.pc_whatif.proofs.LineLaws.{ask_of-kept}
 
@@ -62,10 +61,13 @@ none_kept false reason e = absurd cc
 nothing_undone : (editing : Editing) → editing.kept ≡ [] → undone editing ≡ editing
 nothing_undone editing none = ap (λ (kept : List Plan). option_map_or (λ (plan : Plan). editing_with editing plan (take (length kept - 1) kept)) (last_item kept) editing) none
 
+-- an UNDO that is refused leaves all as it is
+pub undone_same : (editing : Editing) (reason : Reason) → undo_refusal editing ≡ Some reason → undone editing ≡ editing
+undone_same editing reason why =
+    nothing_undone editing (nil_from_length editing.kept (eqb-true (length editing.kept) 0 (none_kept (length editing.kept == 0) reason why)))
+
 pub undo_refused : (old : Planning) (reason : Reason) → undo_refusal old.editing ≡ Some reason → IsAnswered old (Some ask.Undo) (refused_text reason) old
-undo_refused old reason why =
-    stays old (Some ask.Undo) (refused_text reason) (sym (ap verdict_text why))
-    (sym (nothing_undone old.editing (nil_from_length old.editing.kept (eqb-true (length old.editing.kept) 0 (none_kept (length old.editing.kept == 0) reason why)))))
+undo_refused old reason why = stays old (Some ask.Undo) (refused_text reason) (sym (ap verdict_text why)) (sym (undone_same old.editing reason why))
 
 pub undo_accepted : (old new : Planning) → undo_refusal old.editing ≡ None → new.project ≡ old.project → new.editing ≡ undone old.editing
     → new.reserved.free ≡ old.reserved.free → IsAnswered old (Some ask.Undo) ok_text new

@@ -1,3 +1,5 @@
 pub mod PlanningLaws
 pub mod AnswerLaws
 pub mod LineLaws
+pub mod JournalLaws
+pub mod OneTextLaws

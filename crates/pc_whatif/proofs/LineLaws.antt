@@ -1,8 +1,7 @@
 -- A line that is longer than a line may be is answered as its front is.
-use Rattle.std.proofs.Common.{◌≡◌, ℕ, ◌<◌, ◌≤◌, List, length, take, None, inl, inr, true, sym, ap, ◌∙◌, arith, refl}
+use Rattle.std.proofs.Common.{◌≡◌, ℕ, ◌<◌, List, length, None, inl, inr, sym, ap, ◌∙◌, arith, refl}
 use Rattle.std.proofs.lemmas.Bool.{cases_lt, lt-ltb}
 use Rattle.std.proofs.lemmas.List.{take_all, length-take-le}
-use Rattle.std.specs.Prelude.{nat_lt}
 use Rattle.pc_edits.specs.declared.ask.TheConstants.{MAX_LINE}
 use Rattle.pc_edits.specs.Reading.{ask_of}
 use Rattle.pc_lines.specs.Reading.{kept}

@@ -1,5 +1,5 @@
 -- The numbers of a project as it is edited, and the times that stand.
-use Rattle.std.proofs.Common.{◌≡◌, ℕ, ◌+◌, ◌*◌, ◌<◌, ◌≤◌, List, [], ◌∷◌, length, map, Option, Some, None, refl, sym, ap, ◌∙◌, subst, arith}
+use Rattle.std.proofs.Common.{◌≡◌, ℕ, ◌<◌, ◌≤◌, List, [], ◌∷◌, length, map, refl, sym, ap, ◌∙◌, subst, arith}
 use Rattle.std.specs.Prelude.{slice_set}
 use Rattle.std.proofs.lemmas.List.{map-set}
 use Rattle.pc_crash.specs.Priced.{PricedNetwork}
@@ -7,12 +7,11 @@ use Rattle.pc_deck.specs.Deck.{Deck}
 use Rattle.pc_deck.specs.declared.kinds.act.ActCard.{ActCard}
 use Rattle.pc_project.specs.Planned.{IsPlanned}
 use Rattle.pc_project.specs.Project.{Project, expected_of, variance_in}
-use Rattle.pc_edits.specs.Editing.{Editing, ChangesOnly, begun, net_trying}
-use Rattle.pc_edits.specs.declared.trying.ActTerm.{ActTerm}
+use Rattle.pc_edits.specs.Editing.{Editing, ChangesOnly, begun}
 use Rattle.pc_edits.specs.Plans.{estimates_at, estimates_in, expected_times, variances}
-use Rattle.pc_trials.specs.Reserved.{Reserved, IsFor, IsStanding, IsStandingOf, IsChangedTo, expected_by, variance_by}
+use Rattle.pc_trials.specs.Reserved.{Reserved, IsFor, IsStandingOf, IsChangedTo, expected_by, variance_by}
 use Rattle.pc_trials.specs.Trials.{HasRoom, trial_cells}
-use Rattle.pc_whatif.specs.Planning.{Planning, IsChangedAt, IsEditionOf, IsRenewed, project_as}
+use Rattle.pc_whatif.specs.Planning.{IsChangedAt, IsEditionOf, IsRenewed, project_as}
 
 -- ---- before any line
 

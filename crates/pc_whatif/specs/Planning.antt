@@ -12,7 +12,7 @@ use Rattle.pc_edits.specs.declared.ask.Ask.TheVariants as ask
 use Rattle.pc_edits.specs.declared.ask.Trial.{Trial}
 use Rattle.pc_edits.specs.declared.reason.Reason.{Reason}
 use Rattle.pc_edits.specs.declared.reason.Reason.TheVariants.{Form, OutsideRange}
-use Rattle.pc_edits.specs.Editing.{Editing, IsEditing, activity_named, begun, edited, undone, net_trying}
+use Rattle.pc_edits.specs.Editing.{Editing, activity_named, begun, edited, undone, net_trying}
 use Rattle.pc_edits.specs.Plans.{estimates_at, expected_times, variances, term_tried}
 use Rattle.pc_edits.specs.Reading.{ask_of}
 use Rattle.pc_edits.specs.Refusal.{edit_refusal, undo_refusal, trial_refusal}

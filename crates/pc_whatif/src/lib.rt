@@ -2,9 +2,11 @@
 #![tactic(auto)]
 
 mod answering;
+mod laws;
 mod renewing;
 mod replies;
 mod session;
 mod talker;
 
+pub use crate::laws::{answers_are_one_text, edits_stand_in_order};
 pub use crate::session::Session;

@@ -1,4 +1,4 @@
-use Rattle.std.proofs.Common.{◌≡◌, ◌≤◌, None, ap, sym, subst, arith}
+use Rattle.std.proofs.Common.{◌≡◌, ap, sym, subst, arith}
 use Rattle.pc_edits.specs.Editing.{Edits, Editing, begun}
 use Rattle.pc_whatif.specs.Planning.{IsEditionOf, IsRenewed}
 use Rattle.pc_whatif.proofs.PlanningLaws.{begun_edition, begun_renewed}
