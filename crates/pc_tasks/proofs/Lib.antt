@@ -1,0 +1,10 @@
+pub mod PlaceLemmas
+pub mod CodeLemmas
+pub mod EventLemmas
+pub mod NetworkLemmas
+pub mod TermLemmas
+pub mod PieceLemmas
+pub mod DrawnLemmas
+pub mod MarkLemmas
+pub mod CircleLemmas
+pub mod PutLemmas

@@ -1,0 +1,5 @@
+pub mod Lists
+pub mod Codes
+pub mod Drawn
+pub mod Known
+pub mod Marks
