@@ -13,7 +13,7 @@ use Rattle.pc_days.specs.Dates.{NamesDay, day_of}
 use Rattle.pc_days.specs.declared.error.DayError.{DayError}
 use Rattle.pc_days.specs.declared.error.DayError.TheVariants.{Shape, Years}
 use Rattle.pc_days.proofs.Reading.{NamesDay-read}
-use Rattle.pc_cards.specs.Forms.{AllFit, Fits, Slot, field_numbered, is_misshapen, is_of_other_years}
+use Rattle.pc_cards.specs.Forms.{AllFit, Fits, Slot, field_numbered, is_misshapen, is_of_other_years, is_reserved}
 use Rattle.pc_cards.specs.declared.form.Form.{Form}
 use Rattle.pc_cards.specs.declared.form.Form.TheVariants as form
 
@@ -21,6 +21,7 @@ use Rattle.pc_cards.specs.declared.form.Form.TheVariants as form
 -- takes each twice and two around them
 abbrev pub room : Form → ℕ
 room form.Code = 16
+room form.GivenCode = 16
 room form.CodeOrNone = 16
 room form.Title = 162
 room form.Date = 22
@@ -93,6 +94,7 @@ letter-room field is = elim (cases_Bool (bytes_eq field (codes "S"))) [
 -- a field that fits its form takes no more
 pub length-fits : (form : Form) (field : List ℕ) → Fits form field → length (written_field field) ≤ room form
 length-fits form.Code field fit = code-room field fit.0
+length-fits form.GivenCode field fit = code-room field (and_parts (is_code field) (not (is_reserved field)) fit.0).0
 length-fits form.CodeOrNone field fit = or_none (is_code field) field 16 fit.0 (code-room field)
 length-fits form.Title field fit = let short = not_over 80 (length field) fit.1 in omega (arith, length-written_field field, short)
 length-fits form.Date field fit = date-room field (day_of field) refl fit.0 fit.1

@@ -19,6 +19,7 @@ use Rattle.pc_cards.specs.declared.form.Form.TheVariants as form
 -- what is written of the value of a field
 abbrev pub respelled : Form → List ℕ → List ℕ
 respelled form.Code field = field
+respelled form.GivenCode field = field
 respelled form.CodeOrNone field = code_text (code_of field)
 respelled form.Title field = field
 respelled form.Date field = text_of_day (day_in field)
@@ -66,6 +67,7 @@ a_letter false field is h = sym ((bytes_decides field (codes "S")).0 (or_first (
 -- the field itself is written
 pub respelled-same : (form : Form) (field : List ℕ) → Fits form field → respelled form field ≡ field
 respelled-same form.Code field fit = refl
+respelled-same form.GivenCode field fit = refl
 respelled-same form.CodeOrNone field fit = no_code (is_code field) field fit.0
 respelled-same form.Title field fit = refl
 respelled-same form.Date field fit = a_day field (day_of field) refl fit.0 fit.1

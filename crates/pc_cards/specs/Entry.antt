@@ -1,8 +1,19 @@
--- What a kind of cards is: all that is asked of its cards, and what they say. Each kind's own file gives its entry, over the
+-- What a kind of cards is: all that is asked of its cards, and what they say; and how they are written. Each kind's own file gives its entry, over the
 -- lists in which a deck has its cards.
 use Rattle.std.specs.Prelude.{ℕ, Bool, ◌==◌, List, [], Option, Some, None, if◌then◌else◌}
 use Rattle.pc_cards.specs.Forms.{Slot}
 use Rattle.pc_cards.specs.Named.{HeldBy}
+use Rattle.pc_cards.specs.declared.sort.Sort.{Sort}
+use Rattle.pc_cards.specs.declared.sort.Sort.TheVariants.{Plan, Tasks}
+
+-- the same in decks of both sorts
+abbrev pub in_both : {A : Type 0} → A → Sort → A
+in_both same sort = same
+
+-- one thing in a plan, and another in a deck of tasks
+abbrev pub by_sort : {A : Type 0} → A → A → Sort → A
+by_sort plan tasks Plan = plan
+by_sort plan tasks Tasks = tasks
 
 -- how many cards of a kind a deck may have: as many as there are, up to a number, or up to a number that is greater in
 -- decks of version 2
@@ -21,6 +32,13 @@ limit_at version unlimited = None
 limit_at version (up_to most) = Some most
 limit_at version (growing small large) = Some (by_version version small large)
 
+-- the limit of a kind that only plans have, and of one that only decks of tasks have
+abbrev pub in_plans : Limit → Sort → Limit
+in_plans limit = by_sort limit (up_to 0)
+
+abbrev pub in_tasks : Limit → Sort → Limit
+in_tasks limit = by_sort (up_to 0) limit
+
 -- no code of its own
 abbrev pub no_code : {C : Type 0} → C → List ℕ
 no_code card = []
@@ -31,12 +49,8 @@ pub record Entry (Lists : Type 0) : Type 1 where
   pub Card : Type 0
   -- the card that a record spells, of the record's number and its fields
   pub spelled : ℕ → List (List ℕ) → Card
-  -- the fields of a card as they are written, behind the kind itself, each in the one spelling that its form has
-  pub written : Card → List (List ℕ)
-  -- the same card in another record
-  pub at_row : ℕ → Card → Card
-  -- what the fields must be, behind the kind itself
-  pub slots : List Slot
+  -- what the fields must be in decks of a sort, behind the kind itself
+  pub slots : Sort → List Slot
   -- how many fields a card must have, the kind itself among them
   pub least : ℕ
   -- how many fields it may have
@@ -45,9 +59,16 @@ pub record Entry (Lists : Type 0) : Type 1 where
   pub once : Bool
   -- the cards that a deck has of the kind: one or none where it stands once, or else a list
   pub held : Lists → HeldBy once Card
-  -- how many cards a deck may have
-  pub limit : Limit
+  -- how many cards a deck of a sort may have; where the sort has not the kind, none
+  pub limit : Sort → Limit
   -- whether the cards have codes of their own, no two of them the same
   pub is_coded : Bool
   -- that code
   pub code : Card → List ℕ
+
+-- how the cards of a kind are written
+pub record Written (Card : Type 0) : Type 0 where
+  -- the fields of a card as they are written, behind the kind itself, each in the one spelling that its form has
+  pub written : Card → List (List ℕ)
+  -- the same card in another record
+  pub at_row : ℕ → Card → Card

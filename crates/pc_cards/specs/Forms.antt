@@ -1,5 +1,6 @@
 -- What one field of a card must be.
-use Rattle.std.specs.Prelude.{◌≡◌, ℕ, ℤ, pos, ◌-◌, Bool, true, false, not, ◌||◌, nat_lt, List, [], ◌∷◌, length, drop, Option, Some, None, is_some, unwrap_or, Result, Ok, Err, find, bytes_eq, codes, decimal, nat_le, ◌&&◌, ◌⊎◌, ◌==◌, if◌then◌else◌}
+use Rattle.std.specs.Prelude.{◌≡◌, ℕ, ℤ, pos, ◌-◌, Bool, true, false, not, ◌||◌, nat_lt, List, [], ◌∷◌, length, drop, Option, Some, None, is_some, unwrap_or, Result, Ok, Err, find, bytes_eq, codes, decimal, nat_le, nat_eq, ◌&&◌, ◌⊎◌, ◌==◌, if◌then◌else◌}
+use Rattle.std.specs.List.{starts_with}
 use Rattle.pc_records.specs.Deck.{field_at, is_blank, is_empty}
 use Rattle.pc_text.specs.Code.{is_code}
 use Rattle.pc_text.specs.Title.{is_title_shape}
@@ -13,6 +14,8 @@ use Rattle.pc_cards.specs.declared.field.Flaw.TheVariants as flaw
 use Rattle.pc_cards.specs.declared.field.Misfit.{Misfit}
 use Rattle.pc_cards.specs.declared.form.Form.{Form}
 use Rattle.pc_cards.specs.declared.form.Form.TheVariants as form
+use Rattle.pc_cards.specs.declared.sort.Sort.{Sort}
+use Rattle.pc_cards.specs.declared.sort.Sort.TheVariants.{Plan, Tasks}
 
 -- the number of a field, the kind being field 1, and what the field must be
 abbrev pub Slot : Type 0
@@ -26,6 +29,11 @@ duration = form.Number 0 MAX_DURATION
 abbrev pub money : Form
 money = form.Number 0 MAX_COST
 
+-- a code that a card gives to what it stands for: in a deck of tasks it is none of those that are added to such a deck
+abbrev pub own_code : Sort → Form
+own_code Plan = form.Code
+own_code Tasks = form.GivenCode
+
 -- whether reading a date gave an error
 abbrev pub is_misshapen : {A : Type 0} → Result A DayError → Bool
 is_misshapen (Ok day) = false
@@ -37,9 +45,14 @@ is_of_other_years (Ok day) = false
 is_of_other_years (Err Shape) = false
 is_of_other_years (Err Years) = true
 
+-- the codes that begin with `_` are for what is added to a deck of tasks
+abbrev pub is_reserved : List ℕ → Bool
+is_reserved field = starts_with nat_eq field (codes "_")
+
 -- the field has the shape of what it must be: a code, a title, a date of the calendar, a number, or `S` or `F`
 abbrev pub has_shape : Form → List ℕ → Bool
 has_shape form.Code field = is_code field
+has_shape form.GivenCode field = is_code field && not (is_reserved field)
 has_shape form.CodeOrNone field = is_empty field || is_code field
 has_shape form.Title field = is_title_shape field
 has_shape form.Date field = not (is_misshapen (day_of field))
@@ -55,6 +68,7 @@ is_outside least most (Some number) = nat_lt number least || nat_lt most number
 -- the field is over its limit: a title of more than 80 bytes, a date outside 1900 to 2199, a number outside its limits
 abbrev pub is_over_limit : Form → List ℕ → Bool
 is_over_limit form.Code field = false
+is_over_limit form.GivenCode field = false
 is_over_limit form.CodeOrNone field = false
 is_over_limit form.Title field = nat_lt 80 (length field)
 is_over_limit form.Date field = is_of_other_years (day_of field)

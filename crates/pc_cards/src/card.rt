@@ -4,15 +4,17 @@ ghost use Rattle.pc_records.specs.Deck.{field_at};
 ghost use Rattle.pc_records.specs.Text.{record_text};
 ghost use Rattle.pc_faults.specs.Kinds.{word_of};
 ghost use Rattle.pc_cards.specs.Forms.{AllFit, IsFirstMisfit, Slot};
+ghost use Rattle.pc_cards.specs.declared.sort.Sort.{Sort};
 
 use crate::field::Misfit;
 use crate::form::Slot;
+use crate::sort::Sort;
 use pc_faults::Kind;
 use pc_records::{Row, RowWriter};
 use pc_text::Code;
 use std::alloc::AllocError;
 
-/// How a card of some kind is laid out.
+/// How a card of some kind is laid out, in decks of a sort.
 #[derive(Drop)]
 pub struct Layout {
     /// What the fields must be, behind the kind itself.
@@ -25,7 +27,7 @@ pub struct Layout {
 
 /// A card of some kind, as plain data.
 pub trait Card: Copy {
-    ghost slots: { List Slot };
+    ghost slots: { Sort → List Slot };
 
     ghost least: { ℕ };
 
@@ -35,17 +37,17 @@ pub trait Card: Copy {
 
     ghost written: { Self → List (List ℕ) };
 
-    /// How a card is laid out.
-    fn layout() -> Layout
-        ensures slots { result.slots.now ≡ slots }
+    /// How a card is laid out in decks of the sort.
+    fn layout(sort: Sort) -> Layout
+        ensures slots { result.slots.now ≡ slots sort }
         ensures least { result.least ≡ least }
         ensures most { result.most ≡ most };
 
-    /// The card that a record spells, or the first of its fields that is not what it must be.
-    fn read(row: u32, fields: &Row) -> Result<Self, Misfit>
+    /// The card that a record spells in a deck of the sort, or the first of its fields that is not what it must be there.
+    fn read(sort: Sort, row: u32, fields: &Row) -> Result<Self, Misfit>
         ensures card { IfOk result (λ card. card ≡ spelled row fields.now) }
-        ensures fit { OnOk result (AllFit slots fields.now) }
-        ensures misfit { IfErr result (IsFirstMisfit slots fields.now) };
+        ensures fit { OnOk result (AllFit (slots sort) fields.now) }
+        ensures misfit { IfErr result (IsFirstMisfit (slots sort) fields.now) };
 
     /// Puts the record of the card, which is of the kind, behind a text. After an error nothing of the text is left.
     fn put(&self, kind: Kind, text: &mut RowWriter) -> Result<(), AllocError>

@@ -2,10 +2,11 @@
 ghost use Rattle.std.specs.Prelude.{◌≡◌, IfOk, OnOk, IfErr};
 ghost use Rattle.pc_text.specs.Code.{code_of};
 ghost use Rattle.pc_text.specs.Number.{number_of};
-ghost use Rattle.pc_cards.specs.Forms.{Fits, IsMisfit, field_numbered, number_in, day_in, is_finish, is_of_shape};
+ghost use Rattle.pc_cards.specs.Forms.{Fits, IsMisfit, field_numbered, number_in, day_in, is_finish, is_of_shape, is_reserved, own_code};
 ghost use Rattle.pc_cards.specs.declared.field.Flaw.TheVariants as flaw;
 ghost use Rattle.pc_cards.specs.declared.form.Form.TheVariants as form;
 
+use crate::sort::Sort;
 use pc_days::{Day, DayError, read_day};
 use pc_records::Row;
 use pc_text::{Code, Title, is_title_shape, read_number};
@@ -54,6 +55,38 @@ pub fn read_code(fields: &Row, number: u8) -> Result<Code, Misfit>
     match Code::read(field_numbered(fields, number)) {
         Some(code) => Ok(code),
         None => Err(misshapen(number)),
+    }
+}
+
+/// The code that a field is, where it must not begin with `_`.
+pub fn read_given_code(fields: &Row, number: u8) -> Result<Code, Misfit>
+    ensures value { IfOk result (λ code. code ≡ field_numbered fields.now number) }
+    ensures fit { OnOk result (Fits form.GivenCode (field_numbered fields.now number)) }
+    ensures misfit { IfErr result (IsMisfit number form.GivenCode (field_numbered fields.now number)) }
+{
+    let field = field_numbered(fields, number);
+    match Code::read(field) {
+        Some(code) if !is_reserved(field) => Ok(code),
+        _ => Err(misshapen(number)),
+    }
+}
+
+/// Whether a code is for what is added to a deck of tasks: whether it begins with `_`.
+fn is_reserved(field: &[u8]) -> bool
+    ensures { result ≡ is_reserved field.now }
+{
+    field.starts_with(b"_")
+}
+
+/// The code that a card of a deck of the sort gives to what it stands for.
+pub fn read_own_code(sort: Sort, fields: &Row, number: u8) -> Result<Code, Misfit>
+    ensures value { IfOk result (λ code. code ≡ field_numbered fields.now number) }
+    ensures fit { OnOk result (Fits (own_code sort) (field_numbered fields.now number)) }
+    ensures misfit { IfErr result (IsMisfit number (own_code sort) (field_numbered fields.now number)) }
+{
+    match sort {
+        Sort::Plan => read_code(fields, number),
+        Sort::Tasks => read_given_code(fields, number),
     }
 }
 

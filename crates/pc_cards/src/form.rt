@@ -3,8 +3,8 @@ ghost use Rattle.std.specs.Prelude.{◌≡◌, not, option_copied, IfSome, IfNon
 ghost use Rattle.pc_cards.specs.Forms.{Fits, IsMisfit, field_numbered, first_misshapen, has_shape, slots_behind};
 
 use crate::field::{
-    Misfit, read_amount, read_amount_or_none, read_code, read_code_or_none, read_date, read_letter,
-    read_title,
+    Misfit, read_amount, read_amount_or_none, read_code, read_code_or_none, read_date,
+    read_given_code, read_letter, read_title,
 };
 use pc_model::{MAX_COST, MAX_DURATION};
 use pc_records::Row;
@@ -25,6 +25,8 @@ pub const MONEY: Form = Form::Number {
 #[derive(Clone, Copy)]
 pub enum Form {
     Code,
+    /// A code that does not begin with `_`.
+    GivenCode,
     CodeOrNone,
     Title,
     Date,
@@ -47,6 +49,7 @@ fn misfit_of(slot: &Slot, fields: &Row) -> Option<Misfit>
     let number = slot.0;
     match slot.1 {
         Form::Code => read_code(fields, number).err(),
+        Form::GivenCode => read_given_code(fields, number).err(),
         Form::CodeOrNone => read_code_or_none(fields, number).err(),
         Form::Title => read_title(fields, number).err(),
         Form::Date => read_date(fields, number).err(),

@@ -1,7 +1,8 @@
 //! The cards of a deck of any sort: how a field is read, and what it must be; what a kind of cards is; where a card stands, and
 //! what is wrong with it; the cards of one kind, and how they are written; and the cards among the records of a deck.
 //!
-//! Nothing here knows which kinds a deck has. So decks of another sort are read by the same parts.
+//! Nothing here knows which kinds a deck has. So decks of both sorts are read by the same parts: what a sort changes comes as an
+//! argument.
 #![tactic(auto)]
 
 pub mod card;
@@ -11,4 +12,5 @@ pub mod lists;
 pub mod place;
 pub mod reading;
 pub mod rows;
+pub mod sort;
 pub mod writing;

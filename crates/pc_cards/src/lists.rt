@@ -6,6 +6,7 @@ ghost use Rattle.std.specs.Cmp.Lexicographic.{pointwise};
 ghost use Rattle.pc_faults.specs.First.{Refuses};
 ghost use Rattle.pc_cards.specs.Findings.{fault_of_listed, fault_of_named, not_alone, or_else};
 ghost use Rattle.pc_cards.specs.Named.{count_once, has_code};
+ghost use Rattle.pc_model.specs.Codes.{IsNamedOnce};
 
 use crate::card::{Card, Coded};
 use crate::place::Place;
@@ -39,11 +40,18 @@ impl<C: Card> Once<C> {
         Once { card: None }
     }
 
+    /// This card, or none.
+    pub fn of(card: Option<C>) -> Self
+        ensures { result ≡ card }
+    {
+        Once { card }
+    }
+
     /// Takes the card that a record spells, or answers its fault.
     pub fn take(&mut self, place: &Place, fields: &Row) -> Result<(), DeckError>
         ensures kept { OnOk result (self.new ≡ Some (C.spelled place.now.row fields.now)) }
-        ensures sound { OnOk result (or_else (not_alone place.now (count_once self.old)) (fault_of_listed place.now (count_once self.old) C.least C.most C.slots fields.now) ≡ None) }
-        ensures fault { IfErr result (Refuses (λ fault. or_else (not_alone place.now (count_once self.old)) (fault_of_listed place.now (count_once self.old) C.least C.most C.slots fields.now) ≡ Some fault)) }
+        ensures sound { OnOk result (or_else (not_alone place.now (count_once self.old)) (fault_of_listed place.now (count_once self.old) C.least C.most (C.slots place.now.sort) fields.now) ≡ None) }
+        ensures fault { IfErr result (Refuses (λ fault. or_else (not_alone place.now (count_once self.old)) (fault_of_listed place.now (count_once self.old) C.least C.most (C.slots place.now.sort) fields.now) ≡ Some fault)) }
     {
         let before = self.count();
         if let Some(fault) = place.second(before) {
@@ -105,8 +113,8 @@ impl<C: Card> Listed<C> {
     /// Takes the card that a record spells, or answers its fault.
     pub fn take(&mut self, place: &Place, fields: &Row) -> Result<(), DeckError>
         ensures kept { OnOk result (self.new ≡ self.old ++ C.spelled place.now.row fields.now ∷ []) }
-        ensures sound { OnOk result (fault_of_listed place.now (length self.old) C.least C.most C.slots fields.now ≡ None) }
-        ensures fault { IfErr result (Refuses (λ fault. fault_of_listed place.now (length self.old) C.least C.most C.slots fields.now ≡ Some fault)) }
+        ensures sound { OnOk result (fault_of_listed place.now (length self.old) C.least C.most (C.slots place.now.sort) fields.now ≡ None) }
+        ensures fault { IfErr result (Refuses (λ fault. fault_of_listed place.now (length self.old) C.least C.most (C.slots place.now.sort) fields.now ≡ Some fault)) }
     {
         let card = match read_card(place, fields) {
             Ok(card) => card,
@@ -120,6 +128,13 @@ impl<C: Card> Listed<C> {
             return Err(DeckError::OutOfMemory);
         }
         Ok(())
+    }
+
+    /// Adds these cards in their order. After an error the list is of no more use.
+    pub fn add_all(&mut self, cards: &[C]) -> Result<(), AllocError>
+        ensures { OnOk result (self.new ≡ self.old ++ cards.now) }
+    {
+        self.cards.extend_from_slice(cards)
     }
 
     /// How many cards there are.
@@ -170,8 +185,8 @@ impl<C: Coded> Named<C> {
     /// Takes the card that a record spells, or answers its fault.
     pub fn take(&mut self, place: &Place, fields: &Row) -> Result<(), DeckError>
         ensures kept { OnOk result (self.new ≡ self.old ++ C.spelled place.now.row fields.now ∷ []) }
-        ensures sound { OnOk result (fault_of_named place.now (map C.own_code self.old) (length self.old) C.least C.most C.slots fields.now ≡ None) }
-        ensures fault { IfErr result (Refuses (λ fault. fault_of_named place.now (map C.own_code self.old) (length self.old) C.least C.most C.slots fields.now ≡ Some fault)) }
+        ensures sound { OnOk result (fault_of_named place.now (map C.own_code self.old) (length self.old) C.least C.most (C.slots place.now.sort) fields.now ≡ None) }
+        ensures fault { IfErr result (Refuses (λ fault. fault_of_named place.now (map C.own_code self.old) (length self.old) C.least C.most (C.slots place.now.sort) fields.now ≡ Some fault)) }
     {
         let card = match read_card(place, fields) {
             Ok(card) => card,
@@ -185,6 +200,18 @@ impl<C: Coded> Named<C> {
             Some(fault) => Err(DeckError::Fault(fault)),
             None => Ok(()),
         }
+    }
+
+    /// Adds these cards in their order, where no two of the cards have one code then. After an error the list is of no more
+    /// use.
+    pub fn add_all(&mut self, cards: &[C]) -> Result<(), AllocError>
+        requires { IsNamedOnce (map C.own_code (self.old ++ cards.now)) }
+        ensures { OnOk result (self.new ≡ self.old ++ cards.now) }
+    {
+        for card in cards {
+            self.add(*card)?;
+        }
+        Ok(())
     }
 
     /// Adds the card, and says whether its code is a new one.

@@ -2,12 +2,14 @@
 ghost use Rattle.std.specs.Prelude.{◌≡◌};
 ghost use Rattle.pc_cards.specs.Findings.{fault_of_place, not_alone};
 
+use crate::sort::Sort;
 use pc_faults::{Fault, Kind};
 
-/// Where a card stands: its kind and record, how many cards of its kind the deck may have, and whether the END card
-/// came before it.
+/// Where a card stands: the sort of its deck, its kind and record, how many cards of its kind the deck may have, and whether
+/// the END card came before it.
 #[derive(Clone, Copy, Debug)]
 pub struct Place {
+    pub sort: Sort,
     pub kind: Kind,
     pub row: u32,
     pub limit: Option<usize>,

@@ -15,14 +15,14 @@ use pc_records::Row;
 pub fn read_card<C: Card>(place: &Place, fields: &Row) -> Result<C, Fault>
     ensures card { IfOk result (λ card. card ≡ C.spelled place.now.row fields.now) }
     ensures whole { OnOk result (wrong_fields place.now C.least C.most fields.now ≡ None) }
-    ensures fit { OnOk result (flaw_of_fields place.now.row C.slots fields.now ≡ None) }
-    ensures fault { IfErr result (λ fault. or_else (wrong_fields place.now C.least C.most fields.now) (flaw_of_fields place.now.row C.slots fields.now) ≡ Some fault) }
+    ensures fit { OnOk result (flaw_of_fields place.now.row (C.slots place.now.sort) fields.now ≡ None) }
+    ensures fault { IfErr result (λ fault. or_else (wrong_fields place.now C.least C.most fields.now) (flaw_of_fields place.now.row (C.slots place.now.sort) fields.now) ≡ Some fault) }
 {
-    let layout = C::layout();
+    let layout = C::layout(place.sort);
     if let Some(fault) = wrong_fields(place, layout.least, layout.most, fields) {
         return Err(fault);
     }
-    match C::read(place.row, fields) {
+    match C::read(place.sort, place.row, fields) {
         Ok(card) => Ok(card),
         Err(misfit) => Err(fault_of_misfit(place.row, misfit, layout.slots, fields)),
     }

@@ -6,17 +6,18 @@ use Rattle.pc_faults.specs.declared.kind.Kind.{Kind}
 use Rattle.pc_faults.specs.declared.kind.Kind.TheVariants.{Project, AsOf, Terms}
 use Rattle.pc_cards.specs.Named.{as_list, numbered_from}
 use Rattle.pc_deck.specs.Deck.{Deck, list_of}
-use Rattle.pc_deck.specs.Kinds.{CardOf, entry_of, kinds}
+use Rattle.pc_deck.specs.WrittenKinds.{written_of}
+use Rattle.pc_deck.specs.Kinds.{CardOf, kinds}
 use Rattle.pc_deck.specs.Terms.{terms_at}
 use Rattle.pc_deck.specs.Text.{deck_text, first_record, record_of, records_of, renumbered, says_nothing, settled, settled_terms}
 use Rattle.pc_deck.specs.declared.kinds.terms.TermsCard.{TermsCard}
 use Rattle.pc_deck.proofs.RowsLemmas.{list-renumbered}
 
-record-at_row : (kind : Kind) (row : ℕ) (card : CardOf kind) → record_of kind ((entry_of kind).at_row row card) ≡ record_of kind card
+record-at_row : (kind : Kind) (row : ℕ) (card : CardOf kind) → record_of kind ((written_of kind).at_row row card) ≡ record_of kind card
 record-at_row Project row card = refl
 record-at_row kind row card = refl
 
-records-numbered : (kind : Kind) (row : ℕ) (cards : List (CardOf kind)) → map (record_of kind) (numbered_from (entry_of kind).at_row row cards) ≡ map (record_of kind) cards
+records-numbered : (kind : Kind) (row : ℕ) (cards : List (CardOf kind)) → map (record_of kind) (numbered_from (written_of kind).at_row row cards) ≡ map (record_of kind) cards
 records-numbered kind row [] = refl
 records-numbered kind row (card ∷ cards) = λ i. record-at_row kind row card i ∷ records-numbered kind (row + 1) cards i
 

@@ -106,7 +106,7 @@ module _ (seen : Seen) (row : ℕ) (fields : List (List ℕ)) (kind : Kind) wher
 
   -- F7 and F8
   abbrev flaws : Option Fault
-  flaws = flaw_of_fields row (slots_of kind) fields
+  flaws = flaw_of_fields row (slots_of seen.sort kind) fields
 
   -- F9
   abbrev again : Option Fault
@@ -114,7 +114,7 @@ module _ (seen : Seen) (row : ℕ) (fields : List (List ℕ)) (kind : Kind) wher
 
   -- F10
   abbrev full : Option Fault
-  full = one_too_many kind row (seen.count kind) (limit_of seen.version kind)
+  full = one_too_many kind row (seen.count kind) (limit_of seen.sort seen.version kind)
 
   -- F10 and F11
   abbrev behind : Option Fault
@@ -129,11 +129,11 @@ module _ (seen : Seen) (row : ℕ) (fields : List (List ℕ)) (kind : Kind) wher
   bounded_6 : (n : ℕ) → 6 ≤ n → Bounded widths row n
   bounded_6 n few = bounded_test _ (faults.wrong_fields row kind (length fields) (width_wanted (least_width_of kind) (width_of kind) fields)) row n refl few
 
-  bounded_7 : (n : ℕ) → 7 ≤ n → Bounded (misshapen_at row (first_misshapen (slots_of kind) fields)) row n
-  bounded_7 n few = bounded_shape row n (first_misshapen (slots_of kind) fields) few
+  bounded_7 : (n : ℕ) → 7 ≤ n → Bounded (misshapen_at row (first_misshapen (slots_of seen.sort kind) fields)) row n
+  bounded_7 n few = bounded_shape row n (first_misshapen (slots_of seen.sort kind) fields) few
 
   bounded_8 : (n : ℕ) → 8 ≤ n → Bounded flaws row n
-  bounded_8 n few = bounded_both _ _ row n (bounded_7 n (omega (arith, few))) (bounded_limit row n (first_over_limit (slots_of kind) fields) few)
+  bounded_8 n few = bounded_both _ _ row n (bounded_7 n (omega (arith, few))) (bounded_limit row n (first_over_limit (slots_of seen.sort kind) fields) few)
 
   bounded_9 : (n : ℕ) → 9 ≤ n → Bounded again row n
   bounded_9 n few = bounded_test _ (faults.repeated_code row (field_at fields 1)) row n refl few
@@ -171,12 +171,12 @@ from_kind kind None row n h = absurd h
 from_kind kind (Some fault) row n h = h
 
 -- the same of the judgement of a card of a known kind
-judged_as : (seen : Seen) (row : ℕ) (fields : List (List ℕ)) (kind : Kind) (n : ℕ) → kind_of (field_at fields 0) ≡ Some kind → Caught (fault_of_kind seen kind row fields) row n → IsCaught (judge seen row fields) row n
+judged_as : (seen : Seen) (row : ℕ) (fields : List (List ℕ)) (kind : Kind) (n : ℕ) → kind_of seen.sort (field_at fields 0) ≡ Some kind → Caught (fault_of_kind seen kind row fields) row n → IsCaught (judge seen row fields) row n
 judged_as seen row fields kind n is h =
     subst (λ (o : Option Kind). IsCaught (judge_of seen row fields o) row n) (sym is) (from_kind kind (fault_of_kind seen kind row fields) row n h)
 
 -- a card of no kind
-judged_unknown : (seen : Seen) (row : ℕ) (fields : List (List ℕ)) (n : ℕ) → (no_kind seen.is_first row).row ≡ row → (no_kind seen.is_first row).number ≤ n → kind_of (field_at fields 0) ≡ None → IsCaught (judge seen row fields) row n
+judged_unknown : (seen : Seen) (row : ℕ) (fields : List (List ℕ)) (n : ℕ) → (no_kind seen.is_first row).row ≡ row → (no_kind seen.is_first row).number ≤ n → kind_of seen.sort (field_at fields 0) ≡ None → IsCaught (judge seen row fields) row n
 judged_unknown seen row fields n same few is =
     subst (λ (o : Option Kind). IsCaught (judge_of seen row fields o) row n) (sym is) (same, few)
 
@@ -193,10 +193,10 @@ up_to_3 true row is = omega arith
 up_to_3 false row is = absurd (let is' = is in cc)
 
 -- the first card, of no kind or of another one
-judged_first : (seen : Seen) (row : ℕ) (fields : List (List ℕ)) → seen.is_first ≡ true → kind_of (field_at fields 0) ≢ Some Project → IsCaught (judge seen row fields) row 3
-judged_first seen row fields first other = by_kind (kind_of (field_at fields 0)) refl
+judged_first : (seen : Seen) (row : ℕ) (fields : List (List ℕ)) → seen.is_first ≡ true → kind_of seen.sort (field_at fields 0) ≢ Some Project → IsCaught (judge seen row fields) row 3
+judged_first seen row fields first other = by_kind (kind_of seen.sort (field_at fields 0)) refl
   where
-    by_kind : (found : Option Kind) → kind_of (field_at fields 0) ≡ found → IsCaught (judge seen row fields) row 3
+    by_kind : (found : Option Kind) → kind_of seen.sort (field_at fields 0) ≡ found → IsCaught (judge seen row fields) row 3
     by_kind None is = judged_unknown seen row fields 3 (row_of-no_kind seen.is_first row) (up_to_3 seen.is_first row first) is
     by_kind (Some kind) is =
         let not_it = other_kind kind (λ same. other (is ∙ ap Some same)) in
@@ -238,7 +238,7 @@ judged_row seen card found (has.wrong_shape kind slot named whole at is) = (
       (judged_as seen card.0 card.1 kind 7 named
       (at_flaws seen card.0 card.1 kind 7 (omega arith)
       (earlier (flaws seen card.0 card.1 kind) _ card.0 7
-      (earlier _ _ card.0 7 (caught_shape card.0 7 (first_misshapen (slots_of kind) card.1) slot at (omega arith)))))),
+      (earlier _ _ card.0 7 (caught_shape card.0 7 (first_misshapen (slots_of seen.sort kind) card.1) slot at (omega arith)))))),
 )
 judged_row seen card found (has.over_limit kind slot named whole shapes at is) = (
   ap (λ (f : Fault). f.row) is,
@@ -246,7 +246,7 @@ judged_row seen card found (has.over_limit kind slot named whole shapes at is) =
       (judged_as seen card.0 card.1 kind 8 named
       (at_flaws seen card.0 card.1 kind 8 (omega arith)
       (earlier (flaws seen card.0 card.1 kind) _ card.0 8
-      (later_one _ _ card.0 8 (bounded_7 seen card.0 card.1 kind 8 (omega arith)) (caught_limit card.0 8 (first_over_limit (slots_of kind) card.1) slot at (omega arith)))))),
+      (later_one _ _ card.0 8 (bounded_7 seen card.0 card.1 kind 8 (omega arith)) (caught_limit card.0 8 (first_over_limit (slots_of seen.sort kind) card.1) slot at (omega arith)))))),
 )
 judged_row seen card found (has.repeated_code kind named whole shapes among is) = (
   ap (λ (f : Fault). f.row) is,
@@ -261,14 +261,14 @@ judged_row seen card found (has.one_too_many kind limit named few full is) = (
   subst (IsCaught (judge seen card.0 card.1) card.0) (sym (ap (λ (f : Fault). f.number) is))
       (judged_as seen card.0 card.1 kind 10 named
       (at_place seen card.0 card.1 kind 10 (omega arith)
-      (earlier _ _ card.0 10 (caught_10 seen card.0 card.1 kind (limit_of seen.version kind) limit few full)))),
+      (earlier _ _ card.0 10 (caught_10 seen card.0 card.1 kind (limit_of seen.sort seen.version kind) limit few full)))),
 )
 judged_row seen card found (has.behind_end kind named ended is) = (
   ap (λ (f : Fault). f.row) is,
   subst (IsCaught (judge seen card.0 card.1) card.0) (sym (ap (λ (f : Fault). f.number) is))
       (judged_as seen card.0 card.1 kind 11 named
       (at_place seen card.0 card.1 kind 11 (omega arith)
-      (later_one _ _ card.0 11 (bounded_10 seen card.0 card.1 kind 11 (limit_of seen.version kind) (omega arith))
+      (later_one _ _ card.0 11 (bounded_10 seen card.0 card.1 kind 11 (limit_of seen.sort seen.version kind) (omega arith))
       (caught_test _ (faults.behind_end card.0) card.0 11 ended refl (omega arith))))),
 )
 
@@ -329,20 +329,20 @@ not_not true h = refl
 not_not false h = sym h
 
 -- what is found of a card of a known kind is a fault of it
-module _ (seen : Seen) (row : ℕ) (fields : List (List ℕ)) (kind : Kind) (named : kind_of (field_at fields 0) ≡ Some kind) where
+module _ (seen : Seen) (row : ℕ) (fields : List (List ℕ)) (kind : Kind) (named : kind_of seen.sort (field_at fields 0) ≡ Some kind) where
   in_flaws : (found : Fault) → is_whole_as kind fields ≡ true → flaws seen row fields kind ≡ Some found → HasCardFault seen (row, fields) found
   in_flaws found whole h =
-      elim (found_in (misshapen_at row (first_misshapen (slots_of kind) fields)) _ found h) [
-        | inl here ↦ let slot = at_shape row (first_misshapen (slots_of kind) fields) found here in has.wrong_shape kind slot.0 named whole slot.1.0 slot.1.1
+      elim (found_in (misshapen_at row (first_misshapen (slots_of seen.sort kind) fields)) _ found h) [
+        | inl here ↦ let slot = at_shape row (first_misshapen (slots_of seen.sort kind) fields) found here in has.wrong_shape kind slot.0 named whole slot.1.0 slot.1.1
         | inr last ↦
-            let slot = at_limit row (first_over_limit (slots_of kind) fields) found last.1 in
-            has.over_limit kind slot.0 named whole (no_shape row (first_misshapen (slots_of kind) fields) last.0) slot.1.0 slot.1.1
+            let slot = at_limit row (first_over_limit (slots_of seen.sort kind) fields) found last.1 in
+            has.over_limit kind slot.0 named whole (no_shape row (first_misshapen (slots_of seen.sort kind) fields) last.0) slot.1.0 slot.1.1
       ]
 
   in_place : (found : Fault) → behind seen row fields kind ≡ Some found → HasCardFault seen (row, fields) found
   in_place found h =
       elim (found_in (full seen row fields kind) _ found h) [
-        | inl here ↦ let limit = some_limit kind row (seen.count kind) (limit_of seen.version kind) found here in has.one_too_many kind limit.0 named limit.1.0 limit.1.1.0 limit.1.1.1
+        | inl here ↦ let limit = some_limit kind row (seen.count kind) (limit_of seen.sort seen.version kind) found here in has.one_too_many kind limit.0 named limit.1.0 limit.1.1.0 limit.1.1.1
         | inr last ↦ let test = tested seen.has_ended _ found last.1 in has.behind_end kind named test.0 test.1
       ]
 
@@ -351,11 +351,11 @@ module _ (seen : Seen) (row : ℕ) (fields : List (List ℕ)) (kind : Kind) (nam
       elim (found_in (flaws seen row fields kind) _ found h) [
         | inl here ↦ in_flaws found whole here
         | inr on ↦
-            let shapes = neither (misshapen_at row (first_misshapen (slots_of kind) fields)) _ on.0 in
+            let shapes = neither (misshapen_at row (first_misshapen (slots_of seen.sort kind) fields)) _ on.0 in
             elim (found_in (again seen row fields kind) _ found on.1) [
               | inl here ↦
                   let test = tested (is_among (field_at fields 1) (seen.codes kind)) _ found here in
-                  has.repeated_code kind named whole (no_shape row (first_misshapen (slots_of kind) fields) shapes.0) test.0 test.1
+                  has.repeated_code kind named whole (no_shape row (first_misshapen (slots_of seen.sort kind) fields) shapes.0) test.0 test.1
               | inr last ↦ in_place found last.1
             ]
       ]
@@ -388,12 +388,12 @@ Err-injective x y h = cc
 
 -- a fault that is found of a card is one that it has
 pub found_of-card : (seen : Seen) (row : ℕ) (fields : List (List ℕ)) (found : Fault) → judge seen row fields ≡ Err found → HasCardFault seen (row, fields) found
-found_of-card seen row fields found h = by_kind (kind_of (field_at fields 0)) refl h
+found_of-card seen row fields found h = by_kind (kind_of seen.sort (field_at fields 0)) refl h
   where
-    unknown : (first : Bool) → seen.is_first ≡ first → kind_of (field_at fields 0) ≡ None → found ≡ no_kind seen.is_first row → HasCardFault seen (row, fields) found
+    unknown : (first : Bool) → seen.is_first ≡ first → kind_of seen.sort (field_at fields 0) ≡ None → found ≡ no_kind seen.is_first row → HasCardFault seen (row, fields) found
     unknown true first none is = has.not_project first (λ project. none_some Project (sym none ∙ project)) (is ∙ ap (λ (b : Bool). no_kind b row) first)
     unknown false first none is = has.unknown_kind none (is ∙ ap (λ (b : Bool). no_kind b row) first)
 
-    by_kind : (kind : Option Kind) → kind_of (field_at fields 0) ≡ kind → judge_of seen row fields kind ≡ Err found → HasCardFault seen (row, fields) found
+    by_kind : (kind : Option Kind) → kind_of seen.sort (field_at fields 0) ≡ kind → judge_of seen row fields kind ≡ Err found → HasCardFault seen (row, fields) found
     by_kind None is h = unknown seen.is_first refl is (sym (Err-injective _ found h))
     by_kind (Some kind) is h = in_kind seen row fields kind is found (unless-Err kind (fault_of_kind seen kind row fields) found h)

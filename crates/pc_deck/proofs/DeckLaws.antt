@@ -5,14 +5,16 @@ use Rattle.std.specs.Str.{is_utf8}
 use Rattle.pc_faults.specs.declared.fault.Fault.{Fault}
 use Rattle.pc_faults.specs.declared.fault.DeckError.{DeckError}
 use Rattle.pc_cards.specs.Cards.{Numbered}
+use Rattle.pc_cards.specs.declared.sort.Sort.{Sort}
+use Rattle.pc_cards.specs.declared.sort.Sort.TheVariants.{Plan}
 use Rattle.pc_faults.specs.declared.kind.Kind.{Kind}
 use Rattle.pc_faults.specs.declared.kind.Kind.TheVariants.{Project, End}
 use Rattle.pc_deck.specs.Kinds.{CardOf, stands_once, held_in, lists_with}
 use Rattle.pc_cards.specs.Named.{as_list, HeldBy, listed_by}
 use Rattle.pc_deck.specs.Deck.{Deck, list_of}
 use Rattle.pc_deck.specs.Reading.{cards_of}
-use Rattle.pc_deck.specs.Read.{IsDeckOf}
-use Rattle.pc_deck.specs.Refusal.{IsCardRefusal}
+use Rattle.pc_deck.specs.Read.{IsDeckOf, IsReadAs}
+use Rattle.pc_deck.specs.Refusal.{IsCardRefusal, IsRefusalAs}
 use Rattle.pc_deck.specs.Says.{Says}
 use Rattle.pc_deck.proofs.RefusalLemmas.{none_of-read}
 use Rattle.pc_deck.proofs.SaysLemmas.{says_of-read}
@@ -56,15 +58,22 @@ said_once cards deck other says also = λ i. record { project = one deck.project
     lists : deck.lists ≡ other.lists
     lists = let all : held_in deck.lists ≡ held_in other.lists = λ i kind. held kind i in ap lists_with all
 
--- bytes are one deck at most
-pub one_deck : (bytes : List ℕ) (deck other : Deck) → IsDeckOf bytes deck → IsDeckOf bytes other → deck ≡ other
-one_deck bytes deck other is also = said_once _ deck other is.says also.says
+-- bytes are one deck of a sort at most
+pub one_deck_as : (sort : Sort) (bytes : List ℕ) (deck other : Deck) → IsReadAs sort bytes deck → IsReadAs sort bytes other → deck ≡ other
+one_deck_as sort bytes deck other is also = said_once _ deck other is.says also.says
 
--- and none where they are refused
+-- and none where they are refused as one
+pub not_both_as : (sort : Sort) (bytes : List ℕ) (deck : Deck) (fault : Fault) → IsReadAs sort bytes deck → IsRefusalAs sort bytes fault → ⊥
+not_both_as sort bytes deck fault is refused = is.faultless fault refused.holds
+
+-- the same of plans
+pub one_deck : (bytes : List ℕ) (deck other : Deck) → IsDeckOf bytes deck → IsDeckOf bytes other → deck ≡ other
+one_deck = one_deck_as Plan
+
 pub not_both : (bytes : List ℕ) (deck : Deck) (fault : Fault) → IsDeckOf bytes deck → IsCardRefusal bytes fault → ⊥
-not_both bytes deck fault is refused = is.faultless fault refused.holds
+not_both = not_both_as Plan
 
 -- what is answered is the deck
-pub answer_is : (result : Result Deck DeckError) (bytes : List ℕ) → is_utf8 bytes ≡ true → IfOk result (λ deck. cards_of bytes ≡ Ok deck) → IfOk result (IsDeckOf bytes)
-answer_is (Ok deck) bytes utf8 h = record { says = says_of-read bytes deck h; faultless = none_of-read bytes deck utf8 h }
-answer_is (Err error) bytes utf8 h = tt
+pub answer_is : (result : Result Deck DeckError) (sort : Sort) (bytes : List ℕ) → is_utf8 bytes ≡ true → IfOk result (λ deck. cards_of sort bytes ≡ Ok deck) → IfOk result (IsReadAs sort bytes)
+answer_is (Ok deck) sort bytes utf8 h = record { says = says_of-read sort bytes deck h; faultless = none_of-read sort bytes deck utf8 h }
+answer_is (Err error) sort bytes utf8 h = tt

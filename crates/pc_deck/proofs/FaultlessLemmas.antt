@@ -12,23 +12,26 @@ use Rattle.pc_faults.specs.declared.kind.Kind.TheVariants.{Project, End}
 use Rattle.pc_faults.specs.declared.fault.Fault.{Fault}
 use Rattle.pc_model.specs.Codes.{IsNamedOnce}
 use Rattle.pc_cards.specs.Cards.{Numbered}
+use Rattle.pc_cards.specs.declared.sort.Sort.TheVariants.{Plan}
 use Rattle.pc_cards.specs.Findings.{one_too_many, where_so}
 use Rattle.pc_cards.specs.Forms.{AllFit}
 use Rattle.pc_cards.specs.Named.{is_among}
 use Rattle.pc_cards.proofs.FindLemmas.{no_flaw, none_then}
+use Rattle.pc_cards.proofs.NameLemmas.{new_code}
 use Rattle.pc_deck.specs.Judged.{fault_of_kind, judge, judge_of, unless}
 use Rattle.pc_deck.specs.Kinds.{has_code_of_its_own, is_project, kind_of, limit_of, slots_of, stands_once}
 use Rattle.pc_deck.specs.Project.{version_in}
 use Rattle.pc_deck.specs.Refusal.{HasFaultFrom, are_none, is_whole_as, of_kind, own_codes, seen_among, version_said}
 use Rattle.pc_deck.specs.Within.{IsUpTo}
 use Rattle.pc_deck.proofs.CardFaultLemmas.{not_faultless}
-use Rattle.pc_deck.proofs.KindLemmas.{kind_of-word, same_is}
+use Rattle.pc_deck.proofs.KindLemmas.{is_planned, kind_of-word, same_is}
 
--- a record is a card of the kind, and its fields are what they must be
+-- a record is a card of the kind, which is one of a plan, and its fields are what they must be
 pub record IsSound (kind : Kind) (fields : List (List ℕ)) : Type 0 where
+  pub planned : is_planned kind ≡ true
   pub named : field_at fields 0 ≡ word_of kind
   pub whole : is_whole_as kind fields ≡ true
-  pub fit : AllFit (slots_of kind) fields
+  pub fit : AllFit (slots_of Plan kind) fields
 
 -- PROJECT comes first, and its deck is of version 2
 abbrev pub Begins : List Numbered → Type 0
@@ -39,27 +42,12 @@ Begins (card ∷ cards) = (field_at card.1 0 ≡ word_of Project) × (version_in
 pub record IsInOrder (cards : List Numbered) : Type 0 where
   pub sound : All (λ (card : Numbered). (kind : Kind) × IsSound kind card.1) cards
   pub once : (kind : Kind) → stands_once kind ≡ true → length (of_kind kind cards) ≤ 1
-  pub few : (kind : Kind) → IsUpTo (limit_of 2 kind) (length (of_kind kind cards))
+  pub few : (kind : Kind) → IsUpTo (limit_of Plan 2 kind) (length (of_kind kind cards))
   pub differ : (kind : Kind) → has_code_of_its_own kind ≡ true → IsNamedOnce (map (λ (card : Numbered). field_at card.1 1) (of_kind kind cards))
   pub begins : Begins cards
   pub ends_once : length (of_kind End cards) ≤ 1
   -- behind each front an END card comes
   pub ends : (front rest : List Numbered) → cards ≡ front ++ rest → 0 < length rest → 0 < length (of_kind End rest)
-
--- a code that stands behind others of its kind is none of them
-named_rest : (code : List ℕ) (codes : List (List ℕ)) → IsNamedOnce (code ∷ codes) → IsNamedOnce codes
-named_rest code codes once = λ j k before within same. once (suc j) (suc k) (omega arith) (omega arith) same
-
-new_code : (front rest : List (List ℕ)) (code : List ℕ) → IsNamedOnce (front ++ code ∷ rest) → is_among code front ≡ false
-new_code [] rest code once = refl
-new_code (other ∷ front) rest code once = by (pointwise nat_eq code other) refl (new_code front rest code (named_rest other (front ++ code ∷ rest) once))
-  where
-    by : (test : Bool) → pointwise nat_eq code other ≡ test → is_among code front ≡ false → (test || is_among code front) ≡ false
-    by true is more =
-        let same : code ≡ other = same_text code other (sym is) in
-        let at : get_or (front ++ code ∷ rest) (length front) [] ≡ code = get_or_at front code rest [] (length front) refl in
-        absurd (once 0 (suc (length front)) (omega arith) (omega (arith, length-append front (code ∷ rest))) (sym same ∙ sym at))
-    by false is more = more
 
 -- the cards of a kind, around one of them
 around : (cards front rest : List Numbered) (card : Numbered) (kind : Kind) → cards ≡ front ++ card ∷ rest → field_at card.1 0 ≡ word_of kind
@@ -107,16 +95,16 @@ room_left kind row count total None few less = refl
 room_left kind row count total (Some most) few less = not_found (count == most) _ (ne_eqb count most (λ same. omega arith))
 
 full : (front rest : List Numbered) (card : Numbered) (kind : Kind) (row total : ℕ) → Begins (front ++ card ∷ rest) → field_at card.1 0 ≡ word_of kind
-    → IsUpTo (limit_of 2 kind) total → length (of_kind kind front) < total
-    → one_too_many kind row (length (of_kind kind front)) (limit_of (version_said (of_kind Project front)) kind) ≡ None
+    → IsUpTo (limit_of Plan 2 kind) total → length (of_kind kind front) < total
+    → one_too_many kind row (length (of_kind kind front)) (limit_of Plan (version_said (of_kind Project front)) kind) ≡ None
 full [] rest card kind row total begins named few less =
-    subst (λ (k : Kind). one_too_many k row 0 (limit_of 1 k) ≡ None) (sym (project_only kind (field_at card.1 0) named begins.0)) refl
+    subst (λ (k : Kind). one_too_many k row 0 (limit_of Plan 1 k) ≡ None) (sym (project_only kind (field_at card.1 0) named begins.0)) refl
 full (p ∷ more) rest card kind row total begins named few less =
     let test : bytes_eq (field_at p.1 0) (word_of Project) ≡ true = (bytes_decides (field_at p.1 0) (word_of Project)).1 begins.0 in
     let version : version_said (of_kind Project (p ∷ more)) ≡ 2 =
     ap (λ (b : Bool). version_said (if b then p ∷ of_kind Project more else of_kind Project more)) test ∙ begins.1 in
-    ap (λ (v : ℕ). one_too_many kind row (length (of_kind kind (p ∷ more))) (limit_of v kind)) version
-    ∙ room_left kind row (length (of_kind kind (p ∷ more))) total (limit_of 2 kind) few less
+    ap (λ (v : ℕ). one_too_many kind row (length (of_kind kind (p ∷ more))) (limit_of Plan v kind)) version
+    ∙ room_left kind row (length (of_kind kind (p ∷ more))) total (limit_of Plan 2 kind) few less
 
 -- F11: no END card came before it
 no_end : (ends : List Numbered) → length ends ≡ 0 → not (are_none ends) ≡ false
@@ -125,9 +113,9 @@ no_end (card ∷ ends) none = absurd (omega arith)
 
 -- each card of cards in order is judged to have no fault
 judged : (cards front rest : List Numbered) (card : Numbered) (kind : Kind) → IsInOrder cards → cards ≡ front ++ card ∷ rest → IsSound kind card.1
-    → judge (seen_among front) card.0 card.1 ≡ Ok kind
+    → judge (seen_among Plan front) card.0 card.1 ≡ Ok kind
 judged cards front rest card kind order is sound =
-    ap (judge_of (seen_among front) card.0 card.1) (ap kind_of sound.named ∙ kind_of-word kind) ∙ ap (unless kind) none
+    ap (judge_of (seen_among Plan front) card.0 card.1) (ap (kind_of Plan) sound.named ∙ kind_of-word kind sound.planned) ∙ ap (unless kind) none
   where
     begins : Begins (front ++ card ∷ rest)
     begins = subst Begins is order.begins
@@ -150,18 +138,18 @@ judged cards front rest card kind order is sound =
         let one = order.ends_once in
         omega (arith, behind, both, one)
 
-    none : fault_of_kind (seen_among front) kind card.0 card.1 ≡ None
+    none : fault_of_kind (seen_among Plan front) kind card.0 card.1 ≡ None
     none =
         none_then _ _ None (not_found (are_none front && not (is_project kind)) _ (first_is front rest card kind begins sound.named))
         (none_then _ _ None (not_found (stands_once kind && nat_lt 0 (length (of_kind kind front))) _ (alone (stands_once kind) (length (of_kind kind front)) (λ once. let most = order.once kind once in omega (arith, most, less))))
         (none_then _ _ None (not_found (not (is_whole_as kind card.1)) _ (ap not sound.whole))
-        (none_then _ _ None (no_flaw card.0 (slots_of kind) card.1 sound.fit)
+        (none_then _ _ None (no_flaw card.0 (slots_of Plan kind) card.1 sound.fit)
         (none_then _ _ None (not_found (is_among (field_at card.1 1) (own_codes kind front)) _ (new_by (has_code_of_its_own kind) _ (field_at card.1 1) code_is_new))
         (none_then _ _ None (full front rest card kind card.0 (length (of_kind kind cards)) begins sound.named (order.few kind) less)
         (not_found (not (are_none (of_kind End front))) _ (no_end (of_kind End front) ended)))))))
 
 -- so no fault stands behind any front of them
-from_here : (cards front rest : List Numbered) (end : ℕ) (found : Fault) → IsInOrder cards → cards ≡ front ++ rest → HasFaultFrom front end rest found → ⊥
+from_here : (cards front rest : List Numbered) (end : ℕ) (found : Fault) → IsInOrder cards → cards ≡ front ++ rest → HasFaultFrom Plan front end rest found → ⊥
 from_here cards front [] end found order is has =
     let same : cards ≡ front = is ∙ append-nil front in
     let behind = order.ends [] cards refl (some cards order.begins) in
@@ -178,10 +166,10 @@ from_here cards front (card ∷ rest) end found order is (inl here) =
     let kind = subst (λ (all : List Numbered). All (λ (c : Numbered). (kind : Kind) × IsSound kind c.1) all) is order.sound (length front) card (omega (arith, length-append front (card ∷ rest))) in
     let at : get_or (front ++ card ∷ rest) (length front) card ≡ card = get_or_at front card rest card (length front) refl in
     let sound = subst (λ (c : Numbered). IsSound kind.0 c.1) at kind.1 in
-    not_faultless (seen_among front) card found kind.0 (judged cards front rest card kind.0 order is sound) here
+    not_faultless (seen_among Plan front) card found kind.0 (judged cards front rest card kind.0 order is sound) here
 from_here cards front (card ∷ rest) end found order is (inr later) =
     from_here cards (front ++ card ∷ []) rest end found order (is ∙ sym (append_assoc front (card ∷ []) rest)) later
 
 -- cards in order have no fault
-pub faultless : (cards : List Numbered) (end : ℕ) (found : Fault) → IsInOrder cards → HasFaultFrom [] end cards found → ⊥
+pub faultless : (cards : List Numbered) (end : ℕ) (found : Fault) → IsInOrder cards → HasFaultFrom Plan [] end cards found → ⊥
 faultless cards end found order has = from_here cards [] cards end found order refl has

@@ -13,29 +13,29 @@ use Rattle.pc_deck.specs.Refusal.{is_whole_as}
 
 -- what is known of a card that has no fault
 pub record IsFaultless (seen : Seen) (row : ℕ) (fields : List (List ℕ)) (kind : Kind) : Type 0 where
-  pub named : kind_of (field_at fields 0) ≡ Some kind
+  pub named : kind_of seen.sort (field_at fields 0) ≡ Some kind
   pub placed : (seen.is_first && not (is_project kind)) ≡ false
   pub once : (stands_once kind && nat_lt 0 (seen.count kind)) ≡ false
   pub whole : is_whole_as kind fields ≡ true
-  pub shapes : first_misshapen (slots_of kind) fields ≡ None
-  pub limits : first_over_limit (slots_of kind) fields ≡ None
+  pub shapes : first_misshapen (slots_of seen.sort kind) fields ≡ None
+  pub limits : first_over_limit (slots_of seen.sort kind) fields ≡ None
   pub differs : is_among (field_at fields 1) (seen.codes kind) ≡ false
-  pub room : one_too_many kind row (seen.count kind) (limit_of seen.version kind) ≡ None
+  pub room : one_too_many kind row (seen.count kind) (limit_of seen.sort seen.version kind) ≡ None
   pub before_end : seen.has_ended ≡ false
 
 Ok-injective : {A E : Type 0} (x y : A) → ◌≡◌ {A = Result A E} (Ok x) (Ok y) → x ≡ y
 Ok-injective x y h = cc
 
-faultless_kind : (seen : Seen) (row : ℕ) (fields : List (List ℕ)) (kind : Kind) → kind_of (field_at fields 0) ≡ Some kind → fault_of_kind seen kind row fields ≡ None → IsFaultless seen row fields kind
+faultless_kind : (seen : Seen) (row : ℕ) (fields : List (List ℕ)) (kind : Kind) → kind_of seen.sort (field_at fields 0) ≡ Some kind → fault_of_kind seen kind row fields ≡ None → IsFaultless seen row fields kind
 faultless_kind seen row fields kind named none =
     let place = place_of seen kind row in
     let first = neither (not_project seen kind row) _ none in
     let once = neither (second place (seen.count kind)) _ first.1 in
     let widths = neither (wrong_fields place (least_width_of kind) (width_of kind) fields) _ once.1 in
-    let flaws = neither (flaw_of_fields row (slots_of kind) fields) _ widths.1 in
-    let each = neither (misshapen_at row (first_misshapen (slots_of kind) fields)) _ flaws.0 in
+    let flaws = neither (flaw_of_fields row (slots_of seen.sort kind) fields) _ widths.1 in
+    let each = neither (misshapen_at row (first_misshapen (slots_of seen.sort kind) fields)) _ flaws.0 in
     let code = neither (repeated row (seen.codes kind) (field_at fields 1)) _ flaws.1 in
-    let room = neither (one_too_many kind row (seen.count kind) (limit_of seen.version kind)) _ code.1 in
+    let room = neither (one_too_many kind row (seen.count kind) (limit_of seen.sort seen.version kind)) _ code.1 in
     record {
       named = named;
       placed = not_so _ _ first.0;
@@ -54,14 +54,14 @@ unless-Ok kind other (Some fault) h = absurd (let h' = h in cc)
 
 -- a card that was judged to be of a kind has no fault
 pub faultless : (seen : Seen) (row : ℕ) (fields : List (List ℕ)) (kind : Kind) → judge seen row fields ≡ Ok kind → IsFaultless seen row fields kind
-faultless seen row fields kind h = by_kind (kind_of (field_at fields 0)) refl h
+faultless seen row fields kind h = by_kind (kind_of seen.sort (field_at fields 0)) refl h
   where
-    by_kind : (named : Option Kind) → kind_of (field_at fields 0) ≡ named → judge_of seen row fields named ≡ Ok kind → IsFaultless seen row fields kind
+    by_kind : (named : Option Kind) → kind_of seen.sort (field_at fields 0) ≡ named → judge_of seen row fields named ≡ Ok kind → IsFaultless seen row fields kind
     by_kind None is h = absurd (let h' = h in cc)
     by_kind (Some other) is h =
         let known = unless-Ok other kind (fault_of_kind seen other row fields) h in
         subst (IsFaultless seen row fields) known.0 (faultless_kind seen row fields other is known.1)
 
 -- the fields of a card without a fault are what its kind wants
-pub fits : (seen : Seen) (row : ℕ) (fields : List (List ℕ)) (kind : Kind) → IsFaultless seen row fields kind → AllFit (slots_of kind) fields
-fits seen row fields kind known = all_fit (slots_of kind) fields known.shapes known.limits
+pub fits : (seen : Seen) (row : ℕ) (fields : List (List ℕ)) (kind : Kind) → IsFaultless seen row fields kind → AllFit (slots_of seen.sort kind) fields
+fits seen row fields kind known = all_fit (slots_of seen.sort kind) fields known.shapes known.limits

@@ -4,9 +4,11 @@ use Rattle.std.specs.Cmp.Lexicographic.{bytes_decides}
 use Rattle.pc_records.specs.Deck.{field_at}
 use Rattle.pc_faults.specs.Kinds.{word_of}
 use Rattle.pc_faults.specs.declared.kind.Kind.{Kind}
-use Rattle.pc_faults.specs.declared.kind.Kind.TheVariants.{Project, End}
+use Rattle.pc_faults.specs.declared.kind.Kind.TheVariants.{Project, Task, After, End}
+use Rattle.pc_cards.specs.declared.sort.Sort.{Sort}
+use Rattle.pc_cards.specs.declared.sort.Sort.TheVariants.{Plan, Tasks}
 use Rattle.pc_cards.specs.Entry.{Limit, unlimited, up_to, growing, limit_at}
-use Rattle.pc_deck.specs.Kinds.{entry_of, kinds, kind_of, card_of, has_code_of_its_own, is_project, is_end, is_same, limit_of}
+use Rattle.pc_deck.specs.Kinds.{entry_of, kinds, kinds_of, kind_of, card_of, has_code_of_its_own, is_project, is_end, is_same, limit_of}
 use Rattle.pc_deck.specs.Within.{IsUpTo}
 
 -- a choice that gave the kind by its test, or behind it
@@ -20,13 +22,28 @@ among (here ∷ rest) field kind h =
     chosen (bytes_eq field (word_of here)) here kind (find (λ (k : Kind). bytes_eq field (word_of k)) rest) field (λ is. (bytes_decides field (word_of here)).0 is) (among rest field kind) h
 
 -- the first field is the word of the kind that it names
-pub word_of-kind : (field : List ℕ) (kind : Kind) → kind_of field ≡ Some kind → field ≡ word_of kind
-word_of-kind field kind h = among kinds field kind h
+pub word_of-kind : (sort : Sort) (field : List ℕ) (kind : Kind) → kind_of sort field ≡ Some kind → field ≡ word_of kind
+word_of-kind sort field kind h = among (kinds_of sort) field kind h
 
--- a kind is the one that its word names
-pub kind_of-word : (kind : Kind) → kind_of (word_of kind) ≡ Some kind
-kind_of-word Project = refl
-kind_of-word other = refl
+-- the kinds that a plan has
+abbrev pub is_planned : Kind → Bool
+is_planned Task = false
+is_planned After = false
+is_planned other = true
+
+-- a kind of a plan is the one that its word names there
+pub kind_of-word : (kind : Kind) → is_planned kind ≡ true → kind_of Plan (word_of kind) ≡ Some kind
+kind_of-word Task planned = absurd (let planned' = planned in cc)
+kind_of-word After planned = absurd (let planned' = planned in cc)
+kind_of-word other planned = refl
+
+-- the kind of either sort that a word names
+abbrev named : List ℕ → Option Kind
+named field = find (λ (k : Kind). bytes_eq field (word_of k)) (Task ∷ After ∷ kinds)
+
+named-word : (kind : Kind) → named (word_of kind) ≡ Some kind
+named-word Project = refl
+named-word other = refl
 
 Some-injective : (x y : Kind) → ◌≡◌ {A = Option Kind} (Some x) (Some y) → x ≡ y
 Some-injective x y h = cc
@@ -34,7 +51,7 @@ Some-injective x y h = cc
 -- kinds of one word are one
 pub same_is : (kind other : Kind) → is_same kind other ≡ true → kind ≡ other
 same_is kind other h =
-    Some-injective kind other (sym (kind_of-word kind) ∙ (ap kind_of ((bytes_decides (word_of kind) (word_of other)).0 h) ∙ kind_of-word other))
+    Some-injective kind other (sym (named-word kind) ∙ (ap named ((bytes_decides (word_of kind) (word_of other)).0 h) ∙ named-word other))
 
 pub same-project : (kind : Kind) → is_project kind ≡ is_same kind Project
 same-project Project = refl
@@ -59,7 +76,7 @@ IsOrdered unlimited = 0 ≤ 0
 IsOrdered (up_to most) = most ≤ most
 IsOrdered (growing small large) = small ≤ large
 
-ordered : (kind : Kind) → IsOrdered (entry_of kind).limit
+ordered : (kind : Kind) → IsOrdered ((entry_of kind).limit Plan)
 ordered Project = omega arith
 ordered other = omega arith
 
@@ -73,5 +90,6 @@ wider_limit (up_to most) version count ordered few = few
 wider_limit (growing small large) version count ordered few = up_to_larger _ small large count ordered few
 
 -- what is within the limit of a kind is within that of version 2
-pub wider : (kind : Kind) (version count : ℕ) → IsUpTo (limit_of version kind) count → IsUpTo (limit_of 2 kind) count
-wider kind version count few = wider_limit (entry_of kind).limit version count (ordered kind) few
+pub wider : (sort : Sort) (kind : Kind) (version count : ℕ) → IsUpTo (limit_of sort version kind) count → IsUpTo (limit_of sort 2 kind) count
+wider Plan kind version count few = wider_limit ((entry_of kind).limit Plan) version count (ordered kind) few
+wider Tasks kind version count few = few

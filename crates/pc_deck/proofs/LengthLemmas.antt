@@ -8,18 +8,20 @@ use Rattle.pc_records.proofs.LengthFacts.{length-record_text, written_field, wri
 use Rattle.pc_faults.specs.Kinds.{word_of}
 use Rattle.pc_faults.specs.declared.kind.Kind.{Kind}
 use Rattle.pc_faults.specs.declared.kind.Kind.TheVariants.{Project, AsOf, Terms, End}
+use Rattle.pc_cards.specs.declared.sort.Sort.TheVariants.{Plan}
 use Rattle.pc_cards.specs.Forms.{Slot, field_numbered}
 use Rattle.pc_cards.specs.Limits.{longest_deck}
 use Rattle.pc_cards.specs.Named.{as_list}
 use Rattle.pc_cards.proofs.RoomLemmas.{length-all_fit, rooms}
 use Rattle.pc_deck.specs.Deck.{Deck, list_of}
-use Rattle.pc_deck.specs.Kinds.{CardOf, entry_of, kinds, limit_of, slots_of, stands_once}
+use Rattle.pc_deck.specs.WrittenKinds.{written_of}
+use Rattle.pc_deck.specs.Kinds.{CardOf, kinds, limit_of, slots_of, stands_once}
 use Rattle.pc_deck.specs.Text.{deck_text, record_of, records_of, settled}
 use Rattle.pc_deck.specs.Within.{IsWithinLimits}
 use Rattle.pc_deck.proofs.WrittenLemmas.{IsWritten, settled-within, written-settled}
 
 -- what is written of a card stands in the fields of its kind
-written-fields : (kind : Kind) (card : CardOf kind) → (entry_of kind).written card ≡ map (λ (slot : Slot). field_numbered (record_of kind card) slot.0) (slots_of kind)
+written-fields : (kind : Kind) (card : CardOf kind) → (written_of kind).written card ≡ map (λ (slot : Slot). field_numbered (record_of kind card) slot.0) (slots_of Plan kind)
 written-fields Project card = refl
 written-fields kind card = refl
 
@@ -30,12 +32,12 @@ length-word kind = refl
 
 -- how many bytes the record of a card of a kind takes at most
 abbrev record_room : Kind → ℕ
-record_room kind = ((length (word_of kind) + 1) + rooms (slots_of kind)) + 2
+record_room kind = ((length (word_of kind) + 1) + rooms (slots_of Plan kind)) + 2
 
 length-record : (kind : Kind) (card : CardOf kind) → IsWritten kind card → length (record_text (record_of kind card)) ≤ record_room kind
 length-record kind card written =
-    let whole = length-record_text (word_of kind) ((entry_of kind).written card) in
-    let fields = length-all_fit (slots_of kind) (record_of kind card) written.fit in
+    let whole = length-record_text (word_of kind) ((written_of kind).written card) in
+    let fields = length-all_fit (slots_of Plan kind) (record_of kind card) written.fit in
     let same = ap written_length (written-fields kind card) in
     omega (arith, whole, fields, same, length-word kind)
 
@@ -60,7 +62,7 @@ length-as_list : {C : Type 0} (card : Option C) → length (as_list card) ≤ 1
 length-as_list None = omega arith
 length-as_list (Some card) = omega arith
 
-few-cards : (deck : Deck) → IsWithinLimits deck → (kind : Kind) → length (list_of deck kind) ≤ most_of (limit_of 2 kind)
+few-cards : (deck : Deck) → IsWithinLimits deck → (kind : Kind) → length (list_of deck kind) ≤ most_of (limit_of Plan 2 kind)
 few-cards deck limits Project = omega arith
 few-cards deck limits AsOf = length-as_list deck.as_of
 few-cards deck limits Terms = length-as_list deck.terms
@@ -77,7 +79,7 @@ one-card deck kind once = absurd (let once' = once in cc)
 -- how many bytes the cards of some kinds take at most
 abbrev most_bytes : List Kind → ℕ
 most_bytes [] = 0
-most_bytes (kind ∷ rest) = most_of (limit_of 2 kind) * record_room kind + most_bytes rest
+most_bytes (kind ∷ rest) = most_of (limit_of Plan 2 kind) * record_room kind + most_bytes rest
 
 length-kinds : (deck : Deck) → IsWithinLimits deck → ((kind : Kind) → All (IsWritten kind) (list_of deck kind)) → (some : List Kind)
     → length (records_text (flat_map (records_of deck) some)) ≤ most_bytes some

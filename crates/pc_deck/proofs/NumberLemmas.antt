@@ -5,19 +5,21 @@ use Rattle.pc_records.specs.Deck.{field_at}
 use Rattle.pc_text.specs.Number.{number_of}
 use Rattle.pc_model.specs.declared.limits.TheConstants.{MAX_COST, MAX_DIRECTED, MAX_DURATION, MAX_SLOPE, MAX_TERMS, MAX_UNIT_DAYS}
 use Rattle.pc_faults.specs.declared.kind.Kind.{Kind}
-use Rattle.pc_faults.specs.declared.kind.Kind.TheVariants.{Project, Terms, Act, Piece, Acct, Charge, ToGo, Load}
+use Rattle.pc_faults.specs.declared.kind.Kind.TheVariants.{Project, Terms, Act, Task, Piece, Acct, Charge, ToGo, Load}
 use Rattle.pc_deck.specs.Deck.{Deck, list_of}
 use Rattle.pc_deck.specs.Kinds.{CardOf, card_of, slots_of}
 use Rattle.pc_cards.specs.Forms.{AllFit, is_outside}
 use Rattle.pc_cards.specs.Named.{as_list}
+use Rattle.pc_cards.specs.declared.sort.Sort.{Sort}
 use Rattle.pc_deck.specs.Project.{project_slots, project_of, IsProjectWithin}
 use Rattle.pc_deck.specs.Terms.{terms_slots, terms_of, AreTermsWithin}
 use Rattle.pc_deck.specs.Act.{act_slots, act_of, IsActWithin}
+use Rattle.pc_deck.specs.Task.{task_slots, task_of, IsTaskWithin}
 use Rattle.pc_deck.specs.Piece.{piece_slots, piece_of, IsPieceWithin}
 use Rattle.pc_deck.specs.Acct.{account_slots, account_of, IsBudgetWithin}
 use Rattle.pc_deck.specs.Money.{money_slots, money_of, IsAmountWithin}
 use Rattle.pc_deck.specs.Load.{load_slots, load_of, IsLoadWithin}
-use Rattle.pc_deck.specs.Within.{IsFit, IsWithinLimits}
+use Rattle.pc_deck.specs.Within.{IsFit, IsWithin}
 use Rattle.pc_deck.specs.declared.kinds.terms.TermsCard.{TermsCard}
 use Rattle.pc_cards.proofs.FitLemmas.{number_fits}
 
@@ -27,8 +29,8 @@ or_fits least most other None low high h = (low, high)
 or_fits least most other (Some n) low high h = number_fits least most (Some n) refl h
 
 -- the numbers of a card of each kind that has some, where its fields are what they must be
-project_within : (row : ℕ) (fields : List (List ℕ)) → AllFit project_slots fields → IsProjectWithin (project_of row fields)
-project_within row fields fit =
+project_within : (sort : Sort) (row : ℕ) (fields : List (List ℕ)) → AllFit (project_slots sort) fields → IsProjectWithin (project_of row fields)
+project_within sort row fields fit =
     let from_6 = fit.1.1.1.1 in
     let version = or_fits 1 2 1 (number_of (field_at fields 8)) (omega arith) (omega arith) from_6.1.1.1.0.1 in
     record {
@@ -61,6 +63,20 @@ act_within row fields fit =
       slope = (number_fits 0 MAX_SLOPE (number_of (field_at fields 11)) from_11.1.0.0 from_11.1.0.1).1;
     }
 
+task_within : (row : ℕ) (fields : List (List ℕ)) → AllFit task_slots fields → IsTaskWithin (task_of row fields)
+task_within row fields fit =
+    let from_4 = fit.1.1 in
+    let from_9 = from_4.1.1.1.1.1 in
+    record {
+      opt = (number_fits 0 MAX_DURATION (number_of (field_at fields 3)) from_4.0.0 from_4.0.1).1;
+      likely = (number_fits 0 MAX_DURATION (number_of (field_at fields 4)) from_4.1.0.0 from_4.1.0.1).1;
+      pess = (number_fits 0 MAX_DURATION (number_of (field_at fields 5)) from_4.1.1.0.0 from_4.1.1.0.1).1;
+      normal = (number_fits 0 MAX_DURATION (number_of (field_at fields 6)) from_4.1.1.1.0.0 from_4.1.1.1.0.1).1;
+      crash = (number_fits 0 MAX_DURATION (number_of (field_at fields 7)) from_4.1.1.1.1.0.0 from_4.1.1.1.1.0.1).1;
+      cost = (number_fits 0 MAX_COST (number_of (field_at fields 8)) from_9.0.0 from_9.0.1).1;
+      slope = (number_fits 0 MAX_SLOPE (number_of (field_at fields 9)) from_9.1.0.0 from_9.1.0.1).1;
+    }
+
 piece_within : (row : ℕ) (fields : List (List ℕ)) → AllFit piece_slots fields → IsPieceWithin (piece_of row fields)
 piece_within row fields fit = record {
   some_units = (number_fits 1 MAX_DURATION (number_of (field_at fields 2)) fit.1.0.0 fit.1.0.1).0;
@@ -78,22 +94,25 @@ load_within : (row : ℕ) (fields : List (List ℕ)) → AllFit load_slots field
 load_within row fields fit = (number_fits 0 MAX_COST (number_of (field_at fields 3)) fit.1.1.0.0 fit.1.1.0.1).1
 
 -- what follows from the fields of a card of a kind holds of each card of the kind in a deck
-all_so : (kind : Kind) (P : CardOf kind → Type 0) (deck : Deck) → IsWithinLimits deck → ((row : ℕ) (fields : List (List ℕ)) → AllFit (slots_of kind) fields → P (card_of kind row fields)) → All P (list_of deck kind)
-all_so kind P deck limits follows = λ k d inside. so (get_or (list_of deck kind) k d) ((limits kind).fit k d inside)
+all_so : {sort : Sort} (kind : Kind) (P : CardOf kind → Type 0) (deck : Deck) → IsWithin sort deck → ((row : ℕ) (fields : List (List ℕ)) → AllFit (slots_of sort kind) fields → P (card_of kind row fields)) → All P (list_of deck kind)
+all_so {sort} kind P deck limits follows = λ k d inside. so (get_or (list_of deck kind) k d) ((limits kind).fit k d inside)
   where
-    so : (card : CardOf kind) → IsFit kind card → P card
+    so : (card : CardOf kind) → IsFit sort kind card → P card
     so card (row, fields, is, fit, text) = subst P (sym is) (follows row fields fit)
 
 for_some : (terms : Option TermsCard) → All AreTermsWithin (as_list terms) → ForSome terms AreTermsWithin
 for_some None all = λ card is. absurd (let is' = is in cc)
 for_some (Some terms) all = λ card is. let same : terms ≡ card = cc in subst AreTermsWithin same (all 0 terms (omega arith))
 
-module _ (deck : Deck) (limits : IsWithinLimits deck) where
+module _ {sort : Sort} (deck : Deck) (limits : IsWithin sort deck) where
   pub project-within : IsProjectWithin deck.project
-  project-within = all_so Project IsProjectWithin deck limits project_within 0 deck.project (omega arith)
+  project-within = all_so Project IsProjectWithin deck limits (project_within sort) 0 deck.project (omega arith)
 
   pub terms-within : ForSome deck.terms AreTermsWithin
   terms-within = for_some deck.terms (all_so Terms AreTermsWithin deck limits terms_within)
+
+  pub tasks-within : All IsTaskWithin deck.tasks
+  tasks-within = all_so Task IsTaskWithin deck limits task_within
 
   pub acts-within : All IsActWithin deck.acts
   acts-within = all_so Act IsActWithin deck limits act_within

@@ -8,15 +8,17 @@ use Rattle.std.proofs.lemmas.List.Elements.{All-append, All-cons, All-head, All-
 use Rattle.pc_records.specs.Deck.{field_at}
 use Rattle.pc_faults.specs.Kinds.{word_of}
 use Rattle.pc_faults.specs.declared.kind.Kind.{Kind}
-use Rattle.pc_faults.specs.declared.kind.Kind.TheVariants.{Project, AsOf, Terms, Wbs, Event, Act, Piece, Acct, Charge, ToGo, Status, Res, Load, End}
+use Rattle.pc_faults.specs.declared.kind.Kind.TheVariants.{Project, AsOf, Terms, Wbs, Event, Act, Task, Piece, Acct, Charge, ToGo, Status, Res, Load, End}
 use Rattle.pc_model.specs.Codes.{IsNamedOnce}
 use Rattle.pc_cards.specs.Cards.{Numbered}
+use Rattle.pc_cards.specs.declared.sort.Sort.TheVariants.{Plan}
 use Rattle.pc_deck.specs.Deck.{Deck, list_of}
 use Rattle.pc_deck.specs.Kinds.{CardOf, entry_of, has_code_of_its_own, kinds, limit_of}
 use Rattle.pc_deck.specs.Refusal.{of_kind}
 use Rattle.pc_deck.specs.Text.{deck_rows, first_record, record_of, records_of, settled}
 use Rattle.pc_deck.specs.Within.{IsUpTo, IsWithinLimits}
 use Rattle.pc_deck.proofs.FaultlessLemmas.{Begins, IsInOrder, IsSound}
+use Rattle.pc_deck.proofs.KindLemmas.{is_planned}
 use Rattle.pc_deck.proofs.LengthLemmas.{one-card}
 use Rattle.pc_deck.proofs.RowsLemmas.{enumerate_from-append, of_kind-all}
 use Rattle.pc_deck.proofs.WrittenLemmas.{IsWritten, settled-within, written-settled}
@@ -25,17 +27,25 @@ use Rattle.pc_deck.proofs.WrittenLemmas.{IsWritten, settled-within, written-sett
 abbrev IsSoundRow : List (List ℕ) → Type 0
 IsSoundRow fields = (kind : Kind) × IsSound kind fields
 
-sound_cards : (kind : Kind) (cards : List (CardOf kind)) → All (IsWritten kind) cards → All IsSoundRow (map (record_of kind) cards)
-sound_cards kind [] all = All-nil IsSoundRow
-sound_cards kind (card ∷ cards) all =
+sound_cards : (kind : Kind) → is_planned kind ≡ true → (cards : List (CardOf kind)) → All (IsWritten kind) cards → All IsSoundRow (map (record_of kind) cards)
+sound_cards kind planned [] all = All-nil IsSoundRow
+sound_cards kind planned (card ∷ cards) all =
     let written = All-head (IsWritten kind) card cards all in
-    All-cons IsSoundRow (record_of kind card) (map (record_of kind) cards) (kind, record { named = refl; whole = written.whole; fit = written.fit })
-    (sound_cards kind cards (All-tail (IsWritten kind) card cards all))
+    All-cons IsSoundRow (record_of kind card) (map (record_of kind) cards) (kind, record { planned = planned; named = refl; whole = written.whole; fit = written.fit })
+    (sound_cards kind planned cards (All-tail (IsWritten kind) card cards all))
 
-sound_rows : (deck : Deck) → ((kind : Kind) → All (IsWritten kind) (list_of deck kind)) → (some : List Kind) → All IsSoundRow (flat_map (records_of deck) some)
-sound_rows deck written [] = All-nil IsSoundRow
-sound_rows deck written (kind ∷ rest) =
-    All-append IsSoundRow (records_of deck kind) (flat_map (records_of deck) rest) (sound_cards kind (list_of deck kind) (written kind)) (sound_rows deck written rest)
+-- these kinds are some of a plan
+abbrev ArePlanned : List Kind → Type 0
+ArePlanned [] = Unit {0}
+ArePlanned (kind ∷ rest) = (is_planned kind ≡ true) × ArePlanned rest
+
+kinds-planned : ArePlanned kinds
+kinds-planned = (refl, (refl, (refl, (refl, (refl, (refl, (refl, (refl, (refl, (refl, (refl, (refl, (refl, (refl, tt))))))))))))))
+
+sound_rows : (deck : Deck) → ((kind : Kind) → All (IsWritten kind) (list_of deck kind)) → (some : List Kind) → ArePlanned some → All IsSoundRow (flat_map (records_of deck) some)
+sound_rows deck written [] planned = All-nil IsSoundRow
+sound_rows deck written (kind ∷ rest) planned =
+    All-append IsSoundRow (records_of deck kind) (flat_map (records_of deck) rest) (sound_cards kind planned.0 (list_of deck kind) (written kind)) (sound_rows deck written rest planned.1)
 
 -- what holds of records holds of them with their numbers
 with_numbers : (P : List (List ℕ) → Type 0) (row : ℕ) (rows : List (List (List ℕ))) → All P rows → All (λ (card : Numbered). P card.1) (enumerate_from row rows)
@@ -52,6 +62,7 @@ code_written : (kind : Kind) → has_code_of_its_own kind ≡ true → (card : C
 code_written Wbs coded card = refl
 code_written Event coded card = refl
 code_written Act coded card = refl
+code_written Task coded card = refl
 code_written Acct coded card = refl
 code_written Res coded card = refl
 code_written kind coded card = absurd (let coded' = coded in cc)
@@ -96,7 +107,7 @@ module _ (deck : Deck) (limits : IsWithinLimits deck) where
 
   counted : (kind : Kind) → length (of_kind kind cards) ≡ length (list_of (settled deck) kind)
   counted kind =
-      ap length (of_kind-all (settled deck) kind)
+      ap length (of_kind-all (settled deck) (settled-within deck limits) kind)
       ∙ (length-enumerate (first_record (settled deck) kind) (records_of (settled deck) kind) ∙ length-map (list_of (settled deck) kind) (record_of kind))
 
   begins : Begins cards
@@ -108,11 +119,11 @@ module _ (deck : Deck) (limits : IsWithinLimits deck) where
   -- they stand in order
   pub rows-in_order : IsInOrder cards
   rows-in_order = record {
-    sound = with_numbers IsSoundRow 1 (deck_rows deck) (sound_rows (settled deck) (written-settled deck limits) kinds);
+    sound = with_numbers IsSoundRow 1 (deck_rows deck) (sound_rows (settled deck) (written-settled deck limits) kinds kinds-planned);
     once = λ kind once. omega (arith, counted kind, one-card (settled deck) kind once);
-    few = λ kind. subst (IsUpTo (limit_of 2 kind)) (sym (counted kind)) (settled-within deck limits kind).few;
+    few = λ kind. subst (IsUpTo (limit_of Plan 2 kind)) (sym (counted kind)) (settled-within deck limits kind).few;
     differ = λ kind coded.
-        let codes = ap (map (λ (card : Numbered). field_at card.1 1)) (of_kind-all (settled deck) kind)
+        let codes = ap (map (λ (card : Numbered). field_at card.1 1)) (of_kind-all (settled deck) (settled-within deck limits) kind)
         ∙ codes_written kind coded (first_record (settled deck) kind) (list_of (settled deck) kind) in
         subst IsNamedOnce (sym codes) ((settled-within deck limits kind).differ coded);
     begins = begins;

@@ -34,6 +34,10 @@ read_from-added draft added kind found row fields old new is follows judged same
 pub read_from-kept : (draft added : Draft) (found : Next) (row : ℕ) (fields : List (List ℕ)) (old new : CardsLeft) → found ≡ Card row → Follows found old new fields → IsKept draft row fields added → read_from added new.end new.cards ≡ read_from draft old.end old.cards
 read_from-kept draft added found row fields old new is follows (kind, (judged, same)) = read_from-added draft added kind found row fields old new is follows judged same
 
+-- a card that was taken leaves the sort of the deck
+pub sort-kept : (draft added : Draft) (row : ℕ) (fields : List (List ℕ)) → IsKept draft row fields added → added.sort ≡ draft.sort
+sort-kept draft added row fields (kind, (judged, same)) = ap (λ (d : Draft). d.sort) same
+
 -- a card that was taken keeps the cards within the limits
 pub within-kept : (draft added : Draft) (row : ℕ) (fields : List (List ℕ)) → IsKept draft row fields added → All IsUtf8 fields → IsDraftWithin draft → IsDraftWithin added
 within-kept draft added row fields (kind, (judged, same)) text old = subst IsDraftWithin (sym same) (next_within draft kind row fields text old judged)

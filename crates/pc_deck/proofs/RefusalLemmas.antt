@@ -3,13 +3,14 @@ use Rattle.std.proofs.Common.{◌≡◌, ℕ, ◌+◌, ◌≤◌, Bool, true, fa
 use Rattle.std.specs.Prelude.{IfErr}
 use Rattle.std.specs.Str.{is_utf8}
 use Rattle.pc_records.specs.Deck.{deck_records}
+use Rattle.pc_cards.specs.declared.sort.Sort.{Sort}
 use Rattle.pc_cards.specs.Cards.{Numbered, is_card, cards_from, deck_cards}
 use Rattle.pc_deck.specs.Deck.{Deck}
 use Rattle.pc_deck.specs.Judged.{Seen, judge}
 use Rattle.pc_faults.specs.Faults as faults
 use Rattle.pc_faults.specs.First.{IsFirst, Refuses}
 use Rattle.pc_deck.specs.Reading.{no_cards, with_card, seen_in, deck_with, closed, closed_with, and_then, read_from, cards_of}
-use Rattle.pc_deck.specs.Refusal.{are_none, seen_among, HasCardFault, HasFaultFrom, HasFaultWhere, HasFault, IsCardRefusal}
+use Rattle.pc_deck.specs.Refusal.{are_none, seen_among, HasCardFault, HasFaultFrom, HasFaultWhere, HasFault, IsRefusalAs}
 use Rattle.pc_deck.specs.declared.kinds.project.ProjectCard.{ProjectCard}
 use Rattle.pc_faults.specs.declared.kind.Kind.{Kind}
 use Rattle.pc_faults.specs.declared.fault.Fault.{Fault as ADeckFault}
@@ -45,11 +46,11 @@ rises n end (record_ ∷ records) is =
     by_card false rest = lower n (n + 1) end (cards_from (n + 1) records) (omega arith) rest
 
 -- a fault of cards is of no earlier record than the first of them
-from_row : (before : List Numbered) (n end : ℕ) (cards : List Numbered) (fault : ADeckFault) → Rises n end cards → HasFaultFrom before end cards fault → n ≤ fault.row
-from_row before n end [] fault rising h = subst (λ (row : ℕ). n ≤ row) (sym (ap (λ (f : ADeckFault). f.row) h.1)) rising
-from_row before n end (card ∷ cards) fault rising (inl here) = subst (λ (row : ℕ). n ≤ row) (sym (row_of-card (seen_among before) card fault here)) rising.0
-from_row before n end (card ∷ cards) fault rising (inr later) =
-    let rest = from_row (before ++ card ∷ []) (card.0 + 1) end cards fault rising.1 later in omega (arith, rest, rising.0)
+from_row : (sort : Sort) (before : List Numbered) (n end : ℕ) (cards : List Numbered) (fault : ADeckFault) → Rises n end cards → HasFaultFrom sort before end cards fault → n ≤ fault.row
+from_row sort before n end [] fault rising h = subst (λ (row : ℕ). n ≤ row) (sym (ap (λ (f : ADeckFault). f.row) h.1)) rising
+from_row sort before n end (card ∷ cards) fault rising (inl here) = subst (λ (row : ℕ). n ≤ row) (sym (row_of-card (seen_among sort before) card fault here)) rising.0
+from_row sort before n end (card ∷ cards) fault rising (inr later) =
+    let rest = from_row sort (before ++ card ∷ []) (card.0 + 1) end cards fault rising.1 later in omega (arith, rest, rising.0)
 
 -- faults that no card has change no verdict
 widened : (read : Result Deck ADeckFault) (Has More : ADeckFault → Type 0) → ((fault : ADeckFault) → More fault → ⊥) → IsVerdict read Has → IsVerdict read (λ fault. More fault ⊎ Has fault)
@@ -72,43 +73,43 @@ only_one Has found holds same = record {
 }
 
 -- at the end of the cards
-at_end : (draft : Draft) (before : List Numbered) (end : ℕ) → IsSoFar before draft → IsVerdict (closed draft end) (HasFaultFrom before end [])
+at_end : (draft : Draft) (before : List Numbered) (end : ℕ) → IsSoFar before draft → IsVerdict (closed draft end) (HasFaultFrom draft.sort before end [])
 at_end draft before end says = by_project draft.project refl
   where
-    same : seen_among before ≡ seen_in draft
+    same : seen_among draft.sort before ≡ seen_in draft
     same = seen before draft says
 
-    missing : (seen_among before).has_ended ≡ false → IsFirst (HasFaultFrom before end []) (faults.no_end end)
-    missing none = only_one (HasFaultFrom before end []) (faults.no_end end) (none, refl) (λ fault has. has.1)
+    missing : (seen_among draft.sort before).has_ended ≡ false → IsFirst (HasFaultFrom draft.sort before end []) (faults.no_end end)
+    missing none = only_one (HasFaultFrom draft.sort before end []) (faults.no_end end) (none, refl) (λ fault has. has.1)
 
-    by_end : (project : ProjectCard) (ended : Bool) → draft.has_ended ≡ ended → IsVerdict (if ended then Ok (deck_with draft project) else Err (faults.no_end end)) (HasFaultFrom before end [])
+    by_end : (project : ProjectCard) (ended : Bool) → draft.has_ended ≡ ended → IsVerdict (if ended then Ok (deck_with draft project) else Err (faults.no_end end)) (HasFaultFrom draft.sort before end [])
     by_end project true is = λ fault has.
-        let yes : (seen_among before).has_ended ≡ true = ap (λ (s : Seen). s.has_ended) same ∙ is in
+        let yes : (seen_among draft.sort before).has_ended ≡ true = ap (λ (s : Seen). s.has_ended) same ∙ is in
         let no = has.0 in
         absurd (let apart : true ≡ false = sym yes ∙ no in cc)
     by_end project false is = missing (ap (λ (s : Seen). s.has_ended) same ∙ is)
 
-    by_project : (project : Option ProjectCard) → draft.project ≡ project → IsVerdict (closed_with draft end project) (HasFaultFrom before end [])
+    by_project : (project : Option ProjectCard) → draft.project ≡ project → IsVerdict (closed_with draft end project) (HasFaultFrom draft.sort before end [])
     by_project None is =
         let nothing = no_cards_before before (ap (λ (s : Seen). s.is_first) same ∙ ap is_none is) in
-        missing (ap (λ (cards : List Numbered). (seen_among cards).has_ended) nothing)
+        missing (ap (λ (cards : List Numbered). (seen_among draft.sort cards).has_ended) nothing)
     by_project (Some project) is = by_end project draft.has_ended refl
 
 -- the reading of cards is a verdict on their faults
-verdict : (cards : List Numbered) (draft : Draft) (before : List Numbered) (n end : ℕ) → IsSoFar before draft → Rises n end cards → IsVerdict (read_from draft end cards) (HasFaultFrom before end cards)
+verdict : (cards : List Numbered) (draft : Draft) (before : List Numbered) (n end : ℕ) → IsSoFar before draft → Rises n end cards → IsVerdict (read_from draft end cards) (HasFaultFrom draft.sort before end cards)
 verdict [] draft before n end says rising = at_end draft before end says
 verdict (card ∷ cards) draft before n end says rising =
     by_judgement (judge (seen_in draft) card.0 card.1) refl
     (λ kind judged. verdict cards (with_card draft kind card.0 card.1) (before ++ card ∷ []) (card.0 + 1) end (so_far-more before draft kind card says judged) rising.1)
   where
-    same : seen_among before ≡ seen_in draft
+    same : seen_among draft.sort before ≡ seen_in draft
     same = seen before draft says
 
     by_judgement : (judged : Result Kind ADeckFault) → judge (seen_in draft) card.0 card.1 ≡ judged
-        → ((kind : Kind) → judge (seen_in draft) card.0 card.1 ≡ Ok kind → IsVerdict (read_from (with_card draft kind card.0 card.1) end cards) (HasFaultFrom (before ++ card ∷ []) end cards))
-        → IsVerdict (and_then judged (λ kind. read_from (with_card draft kind card.0 card.1) end cards)) (HasFaultFrom before end (card ∷ cards))
+        → ((kind : Kind) → judge (seen_in draft) card.0 card.1 ≡ Ok kind → IsVerdict (read_from (with_card draft kind card.0 card.1) end cards) (HasFaultFrom draft.sort (before ++ card ∷ []) end cards))
+        → IsVerdict (and_then judged (λ kind. read_from (with_card draft kind card.0 card.1) end cards)) (HasFaultFrom draft.sort before end (card ∷ cards))
     by_judgement (Ok kind) is more =
-        widened (read_from (with_card draft kind card.0 card.1) end cards) (HasFaultFrom (before ++ card ∷ []) end cards) (HasCardFault (seen_among before) card)
+        widened (read_from (with_card draft kind card.0 card.1) end cards) (HasFaultFrom draft.sort (before ++ card ∷ []) end cards) (HasCardFault (seen_among draft.sort before) card)
         (λ fault has. not_faultless (seen_in draft) card fault kind is (subst (λ (s : Seen). HasCardFault s card fault) same has))
         (more kind is)
     by_judgement (Err found) is more =
@@ -118,29 +119,29 @@ verdict (card ∷ cards) draft before n end says rising =
           holds = inl (subst (λ (s : Seen). HasCardFault s card found) (sym same) here);
           least = λ fault has. elim has [
             | inl own ↦ inr (least_of-card (seen_in draft) card found fault is (subst (λ (s : Seen). HasCardFault s card fault) same own))
-            | inr later ↦ inl (let from = from_row (before ++ card ∷ []) (card.0 + 1) end cards fault rising.1 later in omega (arith, row, from))
+            | inr later ↦ inl (let from = from_row draft.sort (before ++ card ∷ []) (card.0 + 1) end cards fault rising.1 later in omega (arith, row, from))
           ];
         }
 
 -- the reading of a deck's cards is a verdict on their faults
-pub cards_of-verdict : (bytes : List ℕ) → IsVerdict (cards_of bytes) (HasFaultFrom [] (length (deck_records bytes) + 1) (deck_cards bytes))
-cards_of-verdict bytes =
-    verdict (deck_cards bytes) no_cards [] 1 (length (deck_records bytes) + 1) so_far-none (rises 1 (length (deck_records bytes) + 1) (deck_records bytes) (omega arith))
+pub cards_of-verdict : (sort : Sort) (bytes : List ℕ) → IsVerdict (cards_of sort bytes) (HasFaultFrom sort [] (length (deck_records bytes) + 1) (deck_cards bytes))
+cards_of-verdict sort bytes =
+    verdict (deck_cards bytes) (no_cards sort) [] 1 (length (deck_records bytes) + 1) (so_far-none sort) (rises 1 (length (deck_records bytes) + 1) (deck_records bytes) (omega arith))
 
 -- where cards are answered, the deck has no fault
-pub none_of-read : (bytes : List ℕ) (deck : Deck) → is_utf8 bytes ≡ true → cards_of bytes ≡ Ok deck → (fault : ADeckFault) → HasFault bytes fault → ⊥
-none_of-read bytes deck utf8 read = λ fault has.
-    let all = subst (λ (r : Result Deck ADeckFault). IsVerdict r (HasFaultFrom [] (length (deck_records bytes) + 1) (deck_cards bytes))) read (cards_of-verdict bytes) in
-    all fault (subst (λ (b : Bool). HasFaultWhere b bytes fault) utf8 has)
+pub none_of-read : (sort : Sort) (bytes : List ℕ) (deck : Deck) → is_utf8 bytes ≡ true → cards_of sort bytes ≡ Ok deck → (fault : ADeckFault) → HasFault sort bytes fault → ⊥
+none_of-read sort bytes deck utf8 read = λ fault has.
+    let all = subst (λ (r : Result Deck ADeckFault). IsVerdict r (HasFaultFrom sort [] (length (deck_records bytes) + 1) (deck_cards bytes))) read (cards_of-verdict sort bytes) in
+    all fault (subst (λ (b : Bool). HasFaultWhere sort b bytes fault) utf8 has)
 
 -- a fault that is answered is the first
-pub first_of-read : (bytes : List ℕ) (fault : ADeckFault) → is_utf8 bytes ≡ true → cards_of bytes ≡ Err fault → IsCardRefusal bytes fault
-first_of-read bytes fault utf8 read =
-    let first = subst (λ (r : Result Deck ADeckFault). IsVerdict r (HasFaultFrom [] (length (deck_records bytes) + 1) (deck_cards bytes))) read (cards_of-verdict bytes) in
-    subst (λ (b : Bool). IsFirst (HasFaultWhere b bytes) fault) (sym utf8) first
+pub first_of-read : (sort : Sort) (bytes : List ℕ) (fault : ADeckFault) → is_utf8 bytes ≡ true → cards_of sort bytes ≡ Err fault → IsRefusalAs sort bytes fault
+first_of-read sort bytes fault utf8 read =
+    let first = subst (λ (r : Result Deck ADeckFault). IsVerdict r (HasFaultFrom sort [] (length (deck_records bytes) + 1) (deck_cards bytes))) read (cards_of-verdict sort bytes) in
+    subst (λ (b : Bool). IsFirst (HasFaultWhere sort b bytes) fault) (sym utf8) first
 
 -- the same of the answer of a call
-pub refused_first : {A : Type 0} (result : Result A DeckError) (bytes : List ℕ) → is_utf8 bytes ≡ true → IfErr result (Refuses (λ fault. cards_of bytes ≡ Err fault)) → IfErr result (Refuses (IsCardRefusal bytes))
-refused_first (Ok answer) bytes utf8 h = tt
-refused_first (Err (Fault fault)) bytes utf8 h = first_of-read bytes fault utf8 h
-refused_first (Err OutOfMemory) bytes utf8 h = tt
+pub refused_first : {A : Type 0} (result : Result A DeckError) (sort : Sort) (bytes : List ℕ) → is_utf8 bytes ≡ true → IfErr result (Refuses (λ fault. cards_of sort bytes ≡ Err fault)) → IfErr result (Refuses (IsRefusalAs sort bytes))
+refused_first (Ok answer) sort bytes utf8 h = tt
+refused_first (Err (Fault fault)) sort bytes utf8 h = first_of-read sort bytes fault utf8 h
+refused_first (Err OutOfMemory) sort bytes utf8 h = tt

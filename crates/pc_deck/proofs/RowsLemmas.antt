@@ -1,21 +1,22 @@
 -- The records of a deck, kind by kind: those of one kind are its cards' records, one behind the other, and spell its cards.
-use Rattle.std.proofs.Common.{◌≡◌, ℕ, ◌+◌, Bool, true, false, List, [], ◌∷◌, ◌++◌, length, map, flat_map, Some, None, All, refl, sym, ap, ◌∙◌, arith, append-nil, if◌then◌else◌, bytes_eq, suc}
+use Rattle.std.proofs.Common.{◌≡◌, ℕ, ◌+◌, ◌≤◌, Bool, true, false, List, [], ◌∷◌, ◌++◌, length, map, flat_map, Some, None, All, refl, sym, ap, ◌∙◌, arith, append-nil, if◌then◌else◌, bytes_eq, suc}
 use Rattle.std.specs.List.{enumerate_from}
 use Rattle.std.proofs.lemmas.List.{length-map}
 use Rattle.std.proofs.lemmas.List.Elements.{All-append, All-cons, All-nil, filter-append}
 use Rattle.pc_records.specs.Deck.{field_at}
 use Rattle.pc_faults.specs.Kinds.{word_of}
 use Rattle.pc_faults.specs.declared.kind.Kind.{Kind}
-use Rattle.pc_faults.specs.declared.kind.Kind.TheVariants.{Project, End}
+use Rattle.pc_faults.specs.declared.kind.Kind.TheVariants.{Project, Task, After, End}
 use Rattle.pc_cards.specs.Cards.{Numbered, cards_from, is_card}
 use Rattle.pc_cards.specs.Named.{HeldBy, listed_by, numbered_by, numbered_from}
-use Rattle.pc_deck.specs.Kinds.{CardOf, card_of, entry_of, held_in, is_same, kinds, stands_once}
+use Rattle.pc_deck.specs.WrittenKinds.{written_of}
+use Rattle.pc_deck.specs.Kinds.{CardOf, card_of, held_in, is_same, kinds, stands_once}
 use Rattle.pc_deck.specs.Deck.{Deck, list_of}
 use Rattle.pc_deck.specs.Refusal.{of_kind}
 use Rattle.pc_deck.specs.Says.{Says, spelled}
 use Rattle.pc_deck.specs.Text.{deck_rows, first_record, record_of, records_of, renumbered, settled}
 use Rattle.pc_deck.specs.Within.{IsWithinLimits}
-use Rattle.pc_deck.proofs.WrittenLemmas.{IsWritten, written-settled}
+use Rattle.pc_deck.proofs.WrittenLemmas.{IsWritten, settled-within, written-settled}
 
 pub enumerate_from-append : (row : ℕ) (some more : List (List (List ℕ))) → enumerate_from row (some ++ more) ≡ enumerate_from row some ++ enumerate_from (row + length some) more
 enumerate_from-append row [] more = let same : row ≡ row + 0 = omega arith in ap (λ (n : ℕ). enumerate_from n more) same
@@ -50,17 +51,24 @@ of_kind-some deck kind row (other ∷ rest) =
     ∙ (ap (λ (n : ℕ). (if is_same other kind then enumerate_from row (records_of deck other) else []) ++ of_kind kind (enumerate_from (row + n) (flat_map (records_of deck) rest))) (length-map (list_of deck other) (record_of other))
     ∙ ap (λ more. (if is_same other kind then enumerate_from row (records_of deck other) else []) ++ more) (of_kind-some deck kind (row + length (list_of deck other)) rest))))
 
-in_place : (deck : Deck) (kind : Kind) → left_of deck kind 1 kinds ≡ enumerate_from (first_record deck kind) (records_of deck kind)
-in_place deck Project = append-nil (enumerate_from (first_record deck Project) (records_of deck Project))
-in_place deck kind = append-nil (enumerate_from (first_record deck kind) (records_of deck kind))
+-- a plan within the limits has no card of a kind that plans have not
+none_of : {C : Type 0} (cards : List C) → length cards ≤ 0 → cards ≡ []
+none_of [] few = refl
+none_of (card ∷ cards) few = absurd (omega (arith, few))
+
+in_place : (deck : Deck) → IsWithinLimits deck → (kind : Kind) → left_of deck kind 1 kinds ≡ enumerate_from (first_record deck kind) (records_of deck kind)
+in_place deck limits Project = append-nil (enumerate_from (first_record deck Project) (records_of deck Project))
+in_place deck limits Task = ap (λ cards. enumerate_from (first_record deck Task) (map (record_of Task) cards)) (sym (none_of deck.tasks (limits Task).few))
+in_place deck limits After = ap (λ cards. enumerate_from (first_record deck After) (map (record_of After) cards)) (sym (none_of deck.afters (limits After).few))
+in_place deck limits kind = append-nil (enumerate_from (first_record deck kind) (records_of deck kind))
 
 -- among the records of all kinds, those of a kind are its cards' records, from the first record of the kind on
-pub of_kind-all : (deck : Deck) (kind : Kind) → of_kind kind (enumerate_from 1 (flat_map (records_of deck) kinds)) ≡ enumerate_from (first_record deck kind) (records_of deck kind)
-of_kind-all deck kind = of_kind-some deck kind 1 kinds ∙ in_place deck kind
+pub of_kind-all : (deck : Deck) → IsWithinLimits deck → (kind : Kind) → of_kind kind (enumerate_from 1 (flat_map (records_of deck) kinds)) ≡ enumerate_from (first_record deck kind) (records_of deck kind)
+of_kind-all deck limits kind = of_kind-some deck kind 1 kinds ∙ in_place deck limits kind
 
 -- they spell the cards, in other records
 reads : (kind : Kind) (row : ℕ) (cards : List (CardOf kind)) → All (IsWritten kind) cards
-    → map (λ (c : Numbered). card_of kind c.0 c.1) (enumerate_from row (map (record_of kind) cards)) ≡ numbered_from (entry_of kind).at_row row cards
+    → map (λ (c : Numbered). card_of kind c.0 c.1) (enumerate_from row (map (record_of kind) cards)) ≡ numbered_from (written_of kind).at_row row cards
 reads kind row [] all = refl
 reads kind row (card ∷ cards) all =
     let here : IsWritten kind card = all 0 card (omega arith) in
@@ -72,10 +80,10 @@ listed-numbered true C at_row row (Some card) = refl
 listed-numbered false C at_row row held = refl
 
 -- each list in its new records
-pub list-renumbered : (deck : Deck) (kind : Kind) → list_of (renumbered deck) kind ≡ numbered_from (entry_of kind).at_row (first_record deck kind) (list_of deck kind)
+pub list-renumbered : (deck : Deck) (kind : Kind) → list_of (renumbered deck) kind ≡ numbered_from (written_of kind).at_row (first_record deck kind) (list_of deck kind)
 list-renumbered deck Project = refl
 list-renumbered deck End = refl
-list-renumbered deck kind = listed-numbered (stands_once kind) (CardOf kind) (entry_of kind).at_row (first_record deck kind) (held_in deck.lists kind)
+list-renumbered deck kind = listed-numbered (stands_once kind) (CardOf kind) (written_of kind).at_row (first_record deck kind) (held_in deck.lists kind)
 
 -- no record of a card is blank
 all_cards : (row : ℕ) (rows : List (List (List ℕ))) → All (λ (r : List (List ℕ)). is_card (0, r) ≡ true) rows → cards_from row rows ≡ enumerate_from row rows
@@ -106,6 +114,6 @@ rows-cards deck = all_cards 1 (deck_rows deck) (some_cards (settled deck) kinds)
 pub rows-say : (deck : Deck) → IsWithinLimits deck → Says (cards_from 1 (deck_rows deck)) (renumbered (settled deck))
 rows-say deck limits kind =
     ap (λ (cards : List Numbered). spelled kind cards) (rows-cards deck)
-    ∙ (ap (map (λ (c : Numbered). card_of kind c.0 c.1)) (of_kind-all (settled deck) kind)
+    ∙ (ap (map (λ (c : Numbered). card_of kind c.0 c.1)) (of_kind-all (settled deck) (settled-within deck limits) kind)
     ∙ (reads kind (first_record (settled deck) kind) (list_of (settled deck) kind) (written-settled deck limits kind)
     ∙ sym (list-renumbered (settled deck) kind)))

@@ -5,6 +5,7 @@ use Rattle.pc_faults.specs.declared.kind.Kind.{Kind}
 use Rattle.pc_faults.specs.declared.kind.Kind.TheVariants.{Project, End}
 use Rattle.pc_faults.specs.declared.fault.Fault.{Fault}
 use Rattle.pc_cards.specs.Cards.{Numbered, deck_cards}
+use Rattle.pc_cards.specs.declared.sort.Sort.{Sort}
 use Rattle.pc_deck.specs.Deck.{Deck, list_of}
 use Rattle.pc_deck.specs.Judged.{judge}
 use Rattle.pc_cards.specs.Named.{as_list}
@@ -53,5 +54,5 @@ says-read (card ∷ cards) before draft end deck says h =
     by_judgement (Err fault) is go h = absurd (let h' = h in cc)
 
 -- the cards of a deck that is read say what was read
-pub says_of-read : (bytes : List ℕ) (deck : Deck) → cards_of bytes ≡ Ok deck → Says (deck_cards bytes) deck
-says_of-read bytes deck h = says-read (deck_cards bytes) [] no_cards _ deck so_far-none h
+pub says_of-read : (sort : Sort) (bytes : List ℕ) (deck : Deck) → cards_of sort bytes ≡ Ok deck → Says (deck_cards bytes) deck
+says_of-read sort bytes deck h = says-read (deck_cards bytes) [] (no_cards sort) _ deck (so_far-none sort) h

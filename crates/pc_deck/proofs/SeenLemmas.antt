@@ -39,9 +39,9 @@ some_ends (card ∷ cards) true h = refl
 some_ends (card ∷ cards) false h = absurd (let h' = h in cc)
 
 -- the same counts, whether of the cards or of their draft
-pub seen : (cards : List Numbered) (draft : Draft) → IsSoFar cards draft → seen_among cards ≡ seen_in draft
+pub seen : (cards : List Numbered) (draft : Draft) → IsSoFar cards draft → seen_among draft.sort cards ≡ seen_in draft
 seen cards draft says =
-    λ i. record { is_first = says.first i; version = version i; count = λ kind. count kind i; codes = λ kind. codes kind i; has_ended = some_ends (of_kind End cards) draft.has_ended (count End) i }
+    λ i. record { sort = draft.sort; is_first = says.first i; version = version i; count = λ kind. count kind i; codes = λ kind. codes kind i; has_ended = some_ends (of_kind End cards) draft.has_ended (count End) i }
   where
     version : version_said (of_kind Project cards) ≡ version_of draft.project
     version = said_first (of_kind Project cards) ∙ (ap version_first (says.lists Project) ∙ first_of draft.project)

@@ -8,6 +8,7 @@ use Rattle.pc_faults.specs.declared.kind.Kind.{Kind}
 use Rattle.pc_faults.specs.declared.kind.Kind.TheVariants.{Project, End}
 use Rattle.pc_deck.specs.Kinds.{CardOf, card_of, is_end, is_project, is_same, stands_once, held_in}
 use Rattle.pc_cards.specs.Cards.{Numbered}
+use Rattle.pc_cards.specs.declared.sort.Sort.{Sort}
 use Rattle.pc_cards.specs.Named.{as_list, HeldBy, listed_by, more_if}
 use Rattle.pc_deck.specs.Project.{project_of}
 use Rattle.pc_deck.specs.Judged.{judge}
@@ -106,19 +107,19 @@ pub record IsSoFar (cards : List Numbered) (draft : Draft) : Type 0 where
   pub lists : (kind : Kind) → spelled kind cards ≡ list_so_far draft kind
 
 -- there is none of any kind at first
-pub nothing : (kind : Kind) → list_so_far no_cards kind ≡ []
-nothing Project = refl
-nothing other = refl
+pub nothing : (sort : Sort) (kind : Kind) → list_so_far (no_cards sort) kind ≡ []
+nothing sort Project = refl
+nothing sort other = refl
 
 -- no cards say the empty draft
-pub so_far-none : IsSoFar [] no_cards
-so_far-none = record { first = refl; lists = λ kind. sym (nothing kind) }
+pub so_far-none : (sort : Sort) → IsSoFar [] (no_cards sort)
+so_far-none sort = record { first = refl; lists = λ kind. sym (nothing sort kind) }
 
 -- one more card
 pub so_far-more : (before : List Numbered) (draft : Draft) (kind : Kind) (card : Numbered) → IsSoFar before draft → judge (seen_in draft) card.0 card.1 ≡ Ok kind → IsSoFar (before ++ card ∷ []) (with_card draft kind card.0 card.1)
 so_far-more before draft kind card old judged =
     let known = faultless (seen_in draft) card.0 card.1 kind judged in
-    let word = word_of-kind (field_at card.1 0) kind known.named in
+    let word = word_of-kind draft.sort (field_at card.1 0) kind known.named in
     record {
       first = some_more before card ∙ sym (still_first (is_project kind) draft.project (project_of card.0 card.1) known.placed);
       lists = λ other.

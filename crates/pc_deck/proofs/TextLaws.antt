@@ -9,6 +9,7 @@ use Rattle.pc_records.specs.Text.{record_text}
 use Rattle.pc_records.proofs.TextFacts.{HasField, deck_records-records_text}
 use Rattle.pc_records.proofs.Utf8Facts.{records_text-text}
 use Rattle.pc_faults.specs.declared.kind.Kind.{Kind}
+use Rattle.pc_cards.specs.declared.sort.Sort.TheVariants.{Plan}
 use Rattle.pc_cards.specs.Cards.{Numbered, cards_from, deck_cards}
 use Rattle.pc_deck.specs.Deck.{Deck, list_of}
 use Rattle.pc_deck.specs.Kinds.{CardOf, kinds}
@@ -64,7 +65,7 @@ pub deck_text-read : (deck : Deck) → IsWithinLimits deck → IsDeckOf (deck_te
 deck_text-read deck limits = record {
   says = subst (λ (rows : List (List (List ℕ))). Says (cards_from 1 rows) (renumbered (settled deck))) (sym (read-rows deck)) (rows-say deck limits);
   faultless = λ fault has.
-      let plain : HasFaultWhere true (deck_text deck) fault = subst (λ (b : Bool). HasFaultWhere b (deck_text deck) fault) (utf8-text deck limits) has in
+      let plain : HasFaultWhere Plan true (deck_text deck) fault = subst (λ (b : Bool). HasFaultWhere Plan b (deck_text deck) fault) (utf8-text deck limits) has in
       faultless (enumerate_from 1 (deck_rows deck)) _ fault (rows-in_order deck limits)
-      (subst (λ (cards : List Numbered). HasFaultFrom [] (length (deck_records (deck_text deck)) + 1) cards fault) (read-cards deck) plain);
+      (subst (λ (cards : List Numbered). HasFaultFrom Plan [] (length (deck_records (deck_text deck)) + 1) cards fault) (read-cards deck) plain);
 }

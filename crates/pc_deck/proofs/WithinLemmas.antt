@@ -11,6 +11,7 @@ use Rattle.pc_faults.specs.declared.kind.Kind.TheVariants.{Project, End}
 use Rattle.pc_deck.specs.Deck.{list_of}
 use Rattle.pc_deck.specs.Kinds.{CardOf, card_of, entry_of, has_code_of_its_own, is_project, is_same, limit_of}
 use Rattle.pc_cards.specs.Named.{as_list, is_among}
+use Rattle.pc_cards.specs.declared.sort.Sort.{Sort}
 use Rattle.pc_deck.specs.Project.{project_of}
 use Rattle.pc_cards.specs.Findings.{one_too_many}
 use Rattle.pc_deck.specs.Judged.{judge}
@@ -39,27 +40,27 @@ up_to_none None = tt
 up_to_none (Some limit) = omega arith
 
 -- no cards are within the limits of any kind
-nothing_within : (kind : Kind) (version : ℕ) → IsListWithin kind version []
-nothing_within kind version = record {
-  few = up_to_none (limit_of version kind);
-  fit = All-nil (IsFit kind);
+nothing_within : (sort : Sort) (kind : Kind) (version : ℕ) → IsListWithin sort kind version []
+nothing_within sort kind version = record {
+  few = up_to_none (limit_of sort version kind);
+  fit = All-nil (IsFit sort kind);
   differ = λ coded. IsNamedOnce-nil;
 }
 
 -- one more card on a list
-list_more : (kind : Kind) (version : ℕ) (cards : List (CardOf kind)) (card : CardOf kind) → IsListWithin kind version cards → IsUpTo (limit_of version kind) (length cards + 1) → (has_code_of_its_own kind ≡ true → is_among ((entry_of kind).code card) (map (entry_of kind).code cards) ≡ false) → IsFit kind card → IsListWithin kind version (cards ++ card ∷ [])
-list_more kind version cards card old few differs fit = record {
-  few = subst (IsUpTo (limit_of version kind)) (sym (length-append cards (card ∷ []))) few;
-  fit = All-append (IsFit kind) cards (card ∷ []) old.fit (All-one (IsFit kind) card fit);
+list_more : (sort : Sort) (kind : Kind) (version : ℕ) (cards : List (CardOf kind)) (card : CardOf kind) → IsListWithin sort kind version cards → IsUpTo (limit_of sort version kind) (length cards + 1) → (has_code_of_its_own kind ≡ true → is_among ((entry_of kind).code card) (map (entry_of kind).code cards) ≡ false) → IsFit sort kind card → IsListWithin sort kind version (cards ++ card ∷ [])
+list_more sort kind version cards card old few differs fit = record {
+  few = subst (IsUpTo (limit_of sort version kind)) (sym (length-append cards (card ∷ []))) few;
+  fit = All-append (IsFit sort kind) cards (card ∷ []) old.fit (All-one (IsFit sort kind) card fit);
   differ = λ coded.
       subst IsNamedOnce (sym (map-append (entry_of kind).code cards (card ∷ []))) (IsNamedOnce-push (map (entry_of kind).code cards) ((entry_of kind).code card) (old.differ coded) (differs coded));
 }
 
 -- no cards are within the limits
-pub no_cards_within : IsDraftWithin no_cards
-no_cards_within = record {
-  empty = λ none kind. nothing kind;
-  lists = λ kind. subst (IsListWithin kind 1) (sym (nothing kind)) (nothing_within kind 1);
+pub no_cards_within : (sort : Sort) → IsDraftWithin (no_cards sort)
+no_cards_within sort = record {
+  empty = λ none kind. nothing sort kind;
+  lists = λ kind. subst (IsListWithin sort kind 1) (sym (nothing sort kind)) (nothing_within sort kind 1);
 }
 
 among_codes : (coded : Bool) (code : List ℕ) (codes : List (List ℕ)) → coded ≡ true → is_among code (if coded then codes else []) ≡ false → is_among code codes ≡ false
@@ -73,11 +74,11 @@ none_yet (Some project) once = absurd (let once' = once in cc)
 -- what one more card without a fault does to each list
 module _ (draft : Draft) (row : ℕ) (fields : List (List ℕ)) (text : All IsUtf8 fields) (old : IsDraftWithin draft) where
   -- to that of its own kind
-  own_list : (kind : Kind) → IsFaultless (seen_in draft) row fields kind → IsListWithin kind (version_of draft.project) (list_so_far draft kind ++ card_of kind row fields ∷ [])
+  own_list : (kind : Kind) → IsFaultless (seen_in draft) row fields kind → IsListWithin draft.sort kind (version_of draft.project) (list_so_far draft kind ++ card_of kind row fields ∷ [])
   own_list kind known =
-      list_more kind (version_of draft.project) (list_so_far draft kind) (card_of kind row fields) (old.lists kind)
-      (up_to_more kind row (length (list_so_far draft kind)) (limit_of (version_of draft.project) kind) (old.lists kind).few
-      (subst (λ (count : ℕ). one_too_many kind row count (limit_of (version_of draft.project) kind) ≡ None) (count-is draft kind) known.room))
+      list_more draft.sort kind (version_of draft.project) (list_so_far draft kind) (card_of kind row fields) (old.lists kind)
+      (up_to_more kind row (length (list_so_far draft kind)) (limit_of draft.sort (version_of draft.project) kind) (old.lists kind).few
+      (subst (λ (count : ℕ). one_too_many kind row count (limit_of draft.sort (version_of draft.project) kind) ≡ None) (count-is draft kind) known.room))
       (λ coded.
       subst (λ (code : List ℕ). is_among code (map (entry_of kind).code (list_so_far draft kind)) ≡ false) (sym (own_code kind coded row fields))
       (among_codes (has_code_of_its_own kind) (field_at fields 1) (map (entry_of kind).code (list_so_far draft kind)) coded
@@ -85,21 +86,21 @@ module _ (draft : Draft) (row : ℕ) (fields : List (List ℕ)) (text : All IsUt
       (row, fields, refl, fits (seen_in draft) row fields kind known, text)
 
   -- the same where the card may tell the version
-  own_then : (kind : Kind) → IsFaultless (seen_in draft) row fields kind → IsListWithin kind (version_of (with_card draft kind row fields).project) (list_so_far draft kind ++ card_of kind row fields ∷ [])
+  own_then : (kind : Kind) → IsFaultless (seen_in draft) row fields kind → IsListWithin draft.sort kind (version_of (with_card draft kind row fields).project) (list_so_far draft kind ++ card_of kind row fields ∷ [])
   own_then Project known = let own = own_list Project known in record { few = tt; fit = own.fit; differ = own.differ }
   own_then kind known = own_list kind known
 
   -- and to those of the others
-  others_then : (kind other : Kind) → IsFaultless (seen_in draft) row fields kind → IsListWithin other (version_of (with_card draft kind row fields).project) (list_so_far draft other)
+  others_then : (kind other : Kind) → IsFaultless (seen_in draft) row fields kind → IsListWithin draft.sort other (version_of (with_card draft kind row fields).project) (list_so_far draft other)
   others_then Project other known =
-      subst (IsListWithin other (version_of (with_card draft Project row fields).project)) (sym (old.empty (none_yet draft.project known.once) other)) (nothing_within other (version_of (with_card draft Project row fields).project))
+      subst (IsListWithin draft.sort other (version_of (with_card draft Project row fields).project)) (sym (old.empty (none_yet draft.project known.once) other)) (nothing_within draft.sort other (version_of (with_card draft Project row fields).project))
   others_then kind other known = old.lists other
 
-  list_then : (kind other : Kind) (test : Bool) → IsFaultless (seen_in draft) row fields kind → is_same kind other ≡ test → IsListWithin other (version_of (with_card draft kind row fields).project) (list_so_far draft other ++ one_if test (card_of other row fields))
+  list_then : (kind other : Kind) (test : Bool) → IsFaultless (seen_in draft) row fields kind → is_same kind other ≡ test → IsListWithin draft.sort other (version_of (with_card draft kind row fields).project) (list_so_far draft other ++ one_if test (card_of other row fields))
   list_then kind other false known is =
-      subst (IsListWithin other (version_of (with_card draft kind row fields).project)) (unchanged (list_so_far draft other)) (others_then kind other known)
+      subst (IsListWithin draft.sort other (version_of (with_card draft kind row fields).project)) (unchanged (list_so_far draft other)) (others_then kind other known)
   list_then kind other true known is =
-      subst (λ (k : Kind). IsListWithin k (version_of (with_card draft kind row fields).project) (list_so_far draft k ++ card_of k row fields ∷ [])) (same_is kind other is) (own_then kind known)
+      subst (λ (k : Kind). IsListWithin draft.sort k (version_of (with_card draft kind row fields).project) (list_so_far draft k ++ card_of k row fields ∷ [])) (same_is kind other is) (own_then kind known)
 
 -- one more card without a fault keeps the cards within the limits
 pub next_within : (draft : Draft) (kind : Kind) (row : ℕ) (fields : List (List ℕ)) → All IsUtf8 fields → IsDraftWithin draft → judge (seen_in draft) row fields ≡ Ok kind → IsDraftWithin (with_card draft kind row fields)
@@ -108,20 +109,20 @@ next_within draft kind row fields text old h =
     record {
       empty = λ none. absurd (let some = still_first (is_project kind) draft.project (project_of row fields) known.placed in let apart : true ≡ false = sym none ∙ some in cc);
       lists = λ other.
-          subst (IsListWithin other (version_of (with_card draft kind row fields).project)) (sym (list-more draft row fields kind known other))
+          subst (IsListWithin draft.sort other (version_of (with_card draft kind row fields).project)) (sym (list-more draft row fields kind known other))
           (list_then draft row fields text old kind other (is_same kind other) known refl);
     }
 
 -- a list within the limit of its version is within that of version 2
-list_wider : (kind : Kind) (version : ℕ) (cards : List (CardOf kind)) → IsListWithin kind version cards → IsListWithin kind 2 cards
-list_wider kind version cards old = record { few = wider kind version (length cards) old.few; fit = old.fit; differ = old.differ }
+list_wider : (sort : Sort) (kind : Kind) (version : ℕ) (cards : List (CardOf kind)) → IsListWithin sort kind version cards → IsListWithin sort kind 2 cards
+list_wider sort kind version cards old = record { few = wider sort kind version (length cards) old.few; fit = old.fit; differ = old.differ }
 
-end_within : IsListWithin End 2 (tt ∷ [])
-end_within = record { few = tt; fit = All-one (IsFit End) tt (0, [], refl, tt, All-nil IsUtf8); differ = λ coded. absurd (let coded' = coded in cc) }
+end_within : (sort : Sort) → IsListWithin sort End 2 (tt ∷ [])
+end_within sort = record { few = tt; fit = All-one (IsFit sort End) tt (0, [], refl, tt, All-nil IsUtf8); differ = λ coded. absurd (let coded' = coded in cc) }
 
 -- a draft within the limits is a deck within the limits
-pub deck_within : (draft : Draft) (project : ProjectCard) → draft.project ≡ Some project → IsDraftWithin draft → (kind : Kind) → IsListWithin kind 2 (list_of (deck_with draft project) kind)
+pub deck_within : (draft : Draft) (project : ProjectCard) → draft.project ≡ Some project → IsDraftWithin draft → (kind : Kind) → IsListWithin draft.sort kind 2 (list_of (deck_with draft project) kind)
 deck_within draft project is within Project =
-    subst (λ (p : Option ProjectCard). IsListWithin Project 2 (as_list p)) is (list_wider Project (version_of draft.project) (as_list draft.project) (within.lists Project))
-deck_within draft project is within End = end_within
-deck_within draft project is within other = list_wider other (version_of draft.project) (list_so_far draft other) (within.lists other)
+    subst (λ (p : Option ProjectCard). IsListWithin draft.sort Project 2 (as_list p)) is (list_wider draft.sort Project (version_of draft.project) (as_list draft.project) (within.lists Project))
+deck_within draft project is within End = end_within draft.sort
+deck_within draft project is within other = list_wider draft.sort other (version_of draft.project) (list_so_far draft other) (within.lists other)

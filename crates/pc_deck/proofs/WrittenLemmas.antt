@@ -11,11 +11,13 @@ use Rattle.pc_records.specs.Deck.{field_at}
 use Rattle.pc_faults.specs.Kinds.{word_of}
 use Rattle.pc_faults.specs.declared.kind.Kind.{Kind}
 use Rattle.pc_faults.specs.declared.kind.Kind.TheVariants.{Project, AsOf, Terms}
+use Rattle.pc_cards.specs.declared.sort.Sort.TheVariants.{Plan}
 use Rattle.pc_cards.specs.Forms.{AllFit, Slot, field_numbered, is_whole}
 use Rattle.pc_cards.specs.Named.{as_list}
 use Rattle.pc_cards.proofs.SpellingLemmas.{all_respelled, all_respelled-same, fields_of}
 use Rattle.pc_deck.specs.Deck.{Deck, list_of}
-use Rattle.pc_deck.specs.Kinds.{CardOf, card_of, entry_of, is_project, least_width_of, slots_of, width_of}
+use Rattle.pc_deck.specs.WrittenKinds.{written_of}
+use Rattle.pc_deck.specs.Kinds.{CardOf, card_of, is_project, least_width_of, slots_of, width_of}
 use Rattle.pc_deck.specs.Project.{project_of, project_slots, written_project}
 use Rattle.pc_deck.specs.Text.{record_of, says_nothing, settled, settled_as_of, settled_terms}
 use Rattle.pc_deck.specs.Within.{IsFit, IsWithinLimits}
@@ -24,30 +26,30 @@ use Rattle.pc_deck.specs.declared.kinds.project.ProjectCard.{ProjectCard}
 use Rattle.pc_deck.specs.declared.kinds.terms.TermsCard.{TermsCard}
 
 -- what is written of a card is what is written of its fields
-written-is : (kind : Kind) → is_project kind ≡ false → (row : ℕ) (fields : List (List ℕ)) → (entry_of kind).written (card_of kind row fields) ≡ all_respelled (slots_of kind) fields
+written-is : (kind : Kind) → is_project kind ≡ false → (row : ℕ) (fields : List (List ℕ)) → (written_of kind).written (card_of kind row fields) ≡ all_respelled (slots_of Plan kind) fields
 written-is Project h row fields = absurd (let h' = h in cc)
 written-is other h row fields = refl
 
 -- these fields behind a word spell the same card
-again : (kind : Kind) (word : List ℕ) (row other : ℕ) (fields : List (List ℕ)) → card_of kind other (word ∷ fields_of (slots_of kind) fields) ≡ (entry_of kind).at_row other (card_of kind row fields)
+again : (kind : Kind) (word : List ℕ) (row other : ℕ) (fields : List (List ℕ)) → card_of kind other (word ∷ fields_of (slots_of Plan kind) fields) ≡ (written_of kind).at_row other (card_of kind row fields)
 again Project word row other fields = refl
 again kind word row other fields = refl
 
 -- they are what they must be
-fit_again : (kind : Kind) (word : List ℕ) (fields : List (List ℕ)) → AllFit (slots_of kind) fields → AllFit (slots_of kind) (word ∷ fields_of (slots_of kind) fields)
+fit_again : (kind : Kind) (word : List ℕ) (fields : List (List ℕ)) → AllFit (slots_of Plan kind) fields → AllFit (slots_of Plan kind) (word ∷ fields_of (slots_of Plan kind) fields)
 fit_again Project word fields fit = fit
 fit_again kind word fields fit = fit
 
-whole_again : (kind : Kind) (word : List ℕ) (fields : List (List ℕ)) → is_whole (least_width_of kind) (width_of kind) (word ∷ fields_of (slots_of kind) fields) ≡ true
+whole_again : (kind : Kind) (word : List ℕ) (fields : List (List ℕ)) → is_whole (least_width_of kind) (width_of kind) (word ∷ fields_of (slots_of Plan kind) fields) ≡ true
 whole_again Project word fields = refl
 whole_again kind word fields = refl
 
 -- the record of a card has the fields of its kind, is text, and spells the card, whatever its number
 pub record IsWritten (kind : Kind) (card : CardOf kind) : Type 0 where
   pub whole : is_whole (least_width_of kind) (width_of kind) (record_of kind card) ≡ true
-  pub fit : AllFit (slots_of kind) (record_of kind card)
+  pub fit : AllFit (slots_of Plan kind) (record_of kind card)
   pub text : All IsUtf8 (record_of kind card)
-  pub reads : (row : ℕ) → card_of kind row (record_of kind card) ≡ (entry_of kind).at_row row card
+  pub reads : (row : ℕ) → card_of kind row (record_of kind card) ≡ (written_of kind).at_row row card
 
 -- a field of a card of text is text
 pub field-text : (fields : List (List ℕ)) (i : ℕ) → All IsUtf8 fields → IsUtf8 (field_at fields i)
@@ -74,23 +76,23 @@ word-text Project = ascii-text (word_of Project) refl
 word-text kind = ascii-text (word_of kind) refl
 
 -- where the values of fields are written as these
-spelled : (kind : Kind) (card : CardOf kind) (row : ℕ) (fields : List (List ℕ)) → card ≡ card_of kind row fields → (entry_of kind).written card ≡ all_respelled (slots_of kind) fields
-    → AllFit (slots_of kind) fields → All IsUtf8 fields → IsWritten kind card
+spelled : (kind : Kind) (card : CardOf kind) (row : ℕ) (fields : List (List ℕ)) → card ≡ card_of kind row fields → (written_of kind).written card ≡ all_respelled (slots_of Plan kind) fields
+    → AllFit (slots_of Plan kind) fields → All IsUtf8 fields → IsWritten kind card
 spelled kind card row fields is values fit text =
-    let same : record_of kind card ≡ word_of kind ∷ fields_of (slots_of kind) fields = ap (λ rest. word_of kind ∷ rest) (values ∙ all_respelled-same (slots_of kind) fields fit) in
+    let same : record_of kind card ≡ word_of kind ∷ fields_of (slots_of Plan kind) fields = ap (λ rest. word_of kind ∷ rest) (values ∙ all_respelled-same (slots_of Plan kind) fields fit) in
     record {
       whole = subst (λ r. is_whole (least_width_of kind) (width_of kind) r ≡ true) (sym same) (whole_again kind (word_of kind) fields);
-      fit = subst (AllFit (slots_of kind)) (sym same) (fit_again kind (word_of kind) fields fit);
-      text = subst (All IsUtf8) (sym same) (All-cons IsUtf8 (word_of kind) (fields_of (slots_of kind) fields) (word-text kind) (fields-text (slots_of kind) fields text));
-      reads = λ other. ap (card_of kind other) same ∙ (again kind (word_of kind) row other fields ∙ ap ((entry_of kind).at_row other) (sym is));
+      fit = subst (AllFit (slots_of Plan kind)) (sym same) (fit_again kind (word_of kind) fields fit);
+      text = subst (All IsUtf8) (sym same) (All-cons IsUtf8 (word_of kind) (fields_of (slots_of Plan kind) fields) (word-text kind) (fields-text (slots_of Plan kind) fields text));
+      reads = λ other. ap (card_of kind other) same ∙ (again kind (word_of kind) row other fields ∙ ap ((written_of kind).at_row other) (sym is));
     }
 
 -- a card that is fit, but for PROJECT, whose version may be left out
-fit-written : (kind : Kind) → is_project kind ≡ false → (card : CardOf kind) → IsFit kind card → IsWritten kind card
+fit-written : (kind : Kind) → is_project kind ≡ false → (card : CardOf kind) → IsFit Plan kind card → IsWritten kind card
 fit-written kind no_project card (row, fields, is, fit, text) =
-    spelled kind card row fields is (ap (entry_of kind).written is ∙ written-is kind no_project row fields) fit text
+    spelled kind card row fields is (ap (written_of kind).written is ∙ written-is kind no_project row fields) fit text
 
-fit-all : (kind : Kind) → is_project kind ≡ false → (cards : List (CardOf kind)) → All (IsFit kind) cards → All (IsWritten kind) cards
+fit-all : (kind : Kind) → is_project kind ≡ false → (cards : List (CardOf kind)) → All (IsFit Plan kind) cards → All (IsWritten kind) cards
 fit-all kind no_project cards all = λ k d below. fit-written kind no_project (get_or cards k d) (all k d below)
 
 All-one : {C : Type 0} (P : C → Type 0) (card : C) → P card → All P (card ∷ [])
@@ -101,31 +103,31 @@ abbrev second_fields : List (List ℕ) → List (List ℕ)
 second_fields fields =
     [] ∷ field_at fields 1 ∷ field_at fields 2 ∷ field_at fields 3 ∷ field_at fields 4 ∷ field_at fields 5 ∷ field_at fields 6 ∷ field_at fields 7 ∷ codes "2" ∷ []
 
-module _ (project : ProjectCard) (row : ℕ) (fields : List (List ℕ)) (is : project ≡ project_of row fields) (fit : AllFit project_slots fields) (text : All IsUtf8 fields) where
+module _ (project : ProjectCard) (row : ℕ) (fields : List (List ℕ)) (is : project ≡ project_of row fields) (fit : AllFit (project_slots Plan) fields) (text : All IsUtf8 fields) where
   second-is : record project { version = 2 } ≡ project_of row (second_fields fields)
   second-is = ap (λ (p : ProjectCard). record p { version = 2 }) is
 
-  second-fit : AllFit project_slots (second_fields fields)
+  second-fit : AllFit (project_slots Plan) (second_fields fields)
   second-fit = (fit.0, (fit.1.0, (fit.1.1.0, (fit.1.1.1.0, (fit.1.1.1.1.0, (fit.1.1.1.1.1.0, (fit.1.1.1.1.1.1.0, ((refl, refl), tt))))))))
 
   second-text : All IsUtf8 (second_fields fields)
   second-text =
-      let front = fields_of (take 7 project_slots) fields in
+      let front = fields_of (take 7 (project_slots Plan)) fields in
       All-cons IsUtf8 [] (front ++ codes "2" ∷ []) IsUtf8-nil
-      (All-append IsUtf8 front (codes "2" ∷ []) (fields-text (take 7 project_slots) fields text) (All-one IsUtf8 (codes "2") (ascii-text (codes "2") refl)))
+      (All-append IsUtf8 front (codes "2" ∷ []) (fields-text (take 7 (project_slots Plan)) fields text) (All-one IsUtf8 (codes "2") (ascii-text (codes "2") refl)))
 
 -- the PROJECT card of version 2
-project-fit : (project : ProjectCard) → IsFit Project project → IsFit Project (record project { version = 2 })
+project-fit : (project : ProjectCard) → IsFit Plan Project project → IsFit Plan Project (record project { version = 2 })
 project-fit project (row, fields, is, fit, text) =
     (row, second_fields fields, second-is project row fields is fit text, second-fit project row fields is fit text, second-text project row fields is fit text)
 
-project-written : (project : ProjectCard) → IsFit Project project → IsWritten Project (record project { version = 2 })
+project-written : (project : ProjectCard) → IsFit Plan Project project → IsWritten Project (record project { version = 2 })
 project-written project (row, fields, is, fit, text) =
     spelled Project (record project { version = 2 }) row (second_fields fields) (second-is project row fields is fit text) (ap written_project (second-is project row fields is fit text))
     (second-fit project row fields is fit text) (second-text project row fields is fit text)
 
 -- the ASOF card of the first day
-first_day-fit : (project : ProjectCard) → IsFit Project project → IsFit AsOf (record { row = 0; day = project.start_day })
+first_day-fit : (project : ProjectCard) → IsFit Plan Project project → IsFit Plan AsOf (record { row = 0; day = project.start_day })
 first_day-fit project (row, fields, is, fit, text) = (
   0,
   [] ∷ field_at fields 4 ∷ [],
@@ -134,26 +136,26 @@ first_day-fit project (row, fields, is, fit, text) = (
   All-cons IsUtf8 [] (field_at fields 4 ∷ []) IsUtf8-nil (All-one IsUtf8 (field_at fields 4) (field-text fields 4 text)),
 )
 
-settled-as_of : (project : ProjectCard) (card : Option AsOfCard) → IsFit Project project → All (IsFit AsOf) (as_list card) → IsFit AsOf (settled_as_of card project.start_day)
+settled-as_of : (project : ProjectCard) (card : Option AsOfCard) → IsFit Plan Project project → All (IsFit Plan AsOf) (as_list card) → IsFit Plan AsOf (settled_as_of card project.start_day)
 settled-as_of project None fit all = first_day-fit project fit
-settled-as_of project (Some card) fit all = All-head (IsFit AsOf) card [] all
+settled-as_of project (Some card) fit all = All-head (IsFit Plan AsOf) card [] all
 
-settled-terms : (terms : Option TermsCard) → All (IsFit Terms) (as_list terms) → All (IsFit Terms) (as_list (settled_terms terms))
+settled-terms : (terms : Option TermsCard) → All (IsFit Plan Terms) (as_list terms) → All (IsFit Plan Terms) (as_list (settled_terms terms))
 settled-terms None all = all
 settled-terms (Some terms) all = by (says_nothing terms)
   where
-    by : (test : Bool) → All (IsFit Terms) (as_list (if test then None else Some terms))
-    by true = All-nil (IsFit Terms)
+    by : (test : Bool) → All (IsFit Plan Terms) (as_list (if test then None else Some terms))
+    by true = All-nil (IsFit Plan Terms)
     by false = all
 
 module _ (deck : Deck) (limits : IsWithinLimits deck) where
-  project_fit : IsFit Project deck.project
-  project_fit = All-head (IsFit Project) deck.project [] (limits Project).fit
+  project_fit : IsFit Plan Project deck.project
+  project_fit = All-head (IsFit Plan Project) deck.project [] (limits Project).fit
 
   -- the cards of the settled deck are fit
-  fit-settled : (kind : Kind) → All (IsFit kind) (list_of (settled deck) kind)
-  fit-settled Project = All-one (IsFit Project) (settled deck).project (project-fit deck.project project_fit)
-  fit-settled AsOf = All-one (IsFit AsOf) (settled_as_of deck.as_of deck.project.start_day) (settled-as_of deck.project deck.as_of project_fit (limits AsOf).fit)
+  fit-settled : (kind : Kind) → All (IsFit Plan kind) (list_of (settled deck) kind)
+  fit-settled Project = All-one (IsFit Plan Project) (settled deck).project (project-fit deck.project project_fit)
+  fit-settled AsOf = All-one (IsFit Plan AsOf) (settled_as_of deck.as_of deck.project.start_day) (settled-as_of deck.project deck.as_of project_fit (limits AsOf).fit)
   fit-settled Terms = settled-terms deck.terms (limits Terms).fit
   fit-settled kind = (limits kind).fit
 

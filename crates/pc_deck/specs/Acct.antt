@@ -2,7 +2,7 @@
 use Rattle.std.specs.Prelude.{ℕ, ◌≤◌, List, [], ◌∷◌, false, true, decimal}
 use Rattle.pc_records.specs.Deck.{field_at}
 use Rattle.pc_model.specs.declared.limits.TheConstants.{MAX_COST, MAX_ACCOUNTS}
-use Rattle.pc_cards.specs.Entry.{Entry, up_to}
+use Rattle.pc_cards.specs.Entry.{Entry, Written, in_both, up_to}
 use Rattle.pc_cards.specs.Forms.{Slot, money, number_in}
 use Rattle.pc_cards.specs.declared.form.Form.TheVariants as form
 use Rattle.pc_deck.specs.declared.kinds.acct.AcctCard.{AcctCard}
@@ -39,14 +39,16 @@ abbrev pub account_kind : Entry CardLists
 account_kind = record {
   Card = AcctCard;
   spelled = account_of;
-  written = written_account;
-  at_row = account_at;
-  slots = account_slots;
+  slots = in_both account_slots;
   least = 5;
   most = 5;
   once = false;
   held = λ lists. lists.accounts;
-  limit = up_to MAX_ACCOUNTS;
+  limit = in_both (up_to MAX_ACCOUNTS);
   is_coded = true;
   code = λ account. account.code;
 }
+
+-- how its cards are written
+abbrev pub written_account_kind : Written AcctCard
+written_account_kind = record { written = written_account; at_row = account_at }

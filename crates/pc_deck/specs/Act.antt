@@ -2,7 +2,7 @@
 use Rattle.std.specs.Prelude.{ℕ, ◌≤◌, List, [], ◌∷◌, false, true, decimal}
 use Rattle.pc_records.specs.Deck.{field_at}
 use Rattle.pc_model.specs.declared.limits.TheConstants.{MAX_COST, MAX_DURATION, MAX_SLOPE, MAX_ACTIVITIES}
-use Rattle.pc_cards.specs.Entry.{Entry, growing}
+use Rattle.pc_cards.specs.Entry.{Entry, Written, growing, in_both, in_plans}
 use Rattle.pc_deck.specs.declared.limits.TheConstants.{SMALL_ACTIVITIES}
 use Rattle.pc_cards.specs.Forms.{Slot, duration, money, number_in}
 use Rattle.pc_cards.specs.declared.form.Form.TheVariants as form
@@ -60,14 +60,16 @@ abbrev pub act_kind : Entry CardLists
 act_kind = record {
   Card = ActCard;
   spelled = act_of;
-  written = written_act;
-  at_row = act_at;
-  slots = act_slots;
+  slots = in_both act_slots;
   least = 13;
   most = 13;
   once = false;
   held = λ lists. lists.acts;
-  limit = growing SMALL_ACTIVITIES MAX_ACTIVITIES;
+  limit = in_plans (growing SMALL_ACTIVITIES MAX_ACTIVITIES);
   is_coded = true;
   code = λ act. act.code;
 }
+
+-- how its cards are written
+abbrev pub written_act_kind : Written ActCard
+written_act_kind = record { written = written_act; at_row = act_at }

@@ -2,7 +2,7 @@
 use Rattle.std.specs.Prelude.{ℕ, List, [], ◌∷◌, false, true}
 use Rattle.pc_records.specs.Deck.{field_at}
 use Rattle.pc_days.specs.Calendar.{text_of_day}
-use Rattle.pc_cards.specs.Entry.{Entry, unlimited, no_code}
+use Rattle.pc_cards.specs.Entry.{Entry, Written, in_both, no_code, unlimited}
 use Rattle.pc_cards.specs.Forms.{Slot, day_in}
 use Rattle.pc_cards.specs.declared.form.Form.TheVariants as form
 use Rattle.pc_deck.specs.declared.kinds.as_of.AsOfCard.{AsOfCard}
@@ -29,14 +29,16 @@ abbrev pub as_of_kind : Entry CardLists
 as_of_kind = record {
   Card = AsOfCard;
   spelled = as_of_of;
-  written = written_as_of;
-  at_row = as_of_at;
-  slots = as_of_slots;
+  slots = in_both as_of_slots;
   least = 2;
   most = 2;
   once = true;
   held = λ lists. lists.as_of;
-  limit = unlimited;
+  limit = in_both unlimited;
   is_coded = false;
   code = no_code;
 }
+
+-- how its cards are written
+abbrev pub written_as_of_kind : Written AsOfCard
+written_as_of_kind = record { written = written_as_of; at_row = as_of_at }

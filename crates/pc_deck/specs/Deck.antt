@@ -7,7 +7,7 @@ use Rattle.pc_deck.specs.Kinds.{CardOf, cards_in}
 use Rattle.pc_deck.specs.declared.kinds.project.ProjectCard.{ProjectCard}
 use Rattle.pc_deck.specs.declared.kinds.CardLists.{CardLists}
 
--- what the cards of a deck say: `deck.items` are its items, and so on for each of the lists
+-- what the cards of a deck of either sort say: `deck.items` are its items, and so on for each of the lists
 pub record Deck : Type 0 where
   pub project : ProjectCard
   pub lists : CardLists
@@ -31,6 +31,10 @@ event_codes deck = map (λ event. event.code) deck.events
 abbrev pub act_codes : Deck → List (List ℕ)
 act_codes deck = map (λ act. act.code) deck.acts
 
+-- the codes of the tasks, in card order
+abbrev pub task_codes : Deck → List (List ℕ)
+task_codes deck = map (λ task. task.code) deck.tasks
+
 -- the codes of the accounts, in card order
 abbrev pub account_codes : Deck → List (List ℕ)
 account_codes deck = map (λ account. account.code) deck.accounts
@@ -50,6 +54,10 @@ event_named deck code = position (pointwise nat_eq code) (event_codes deck)
 -- the number of the activity with a code, as that of an item
 abbrev pub act_named : Deck → List ℕ → Option ℕ
 act_named deck code = position (pointwise nat_eq code) (act_codes deck)
+
+-- the number of the task with a code, as that of an item
+abbrev pub task_named : Deck → List ℕ → Option ℕ
+task_named deck code = position (pointwise nat_eq code) (task_codes deck)
 
 -- the number of the account with a code, as that of an item
 abbrev pub account_named : Deck → List ℕ → Option ℕ

@@ -1,6 +1,6 @@
 -- END
 use Rattle.std.specs.Prelude.{[], false}
-use Rattle.pc_cards.specs.Entry.{Entry, unlimited, no_code}
+use Rattle.pc_cards.specs.Entry.{Entry, Written, in_both, no_code, unlimited}
 use Rattle.pc_deck.specs.declared.kinds.CardLists.{CardLists}
 
 -- the kind: a card that says nothing but that it is there
@@ -8,14 +8,16 @@ abbrev pub end_kind : Entry CardLists
 end_kind = record {
   Card = Unit {0};
   spelled = λ row fields. tt;
-  written = λ card. [];
-  at_row = λ row card. tt;
-  slots = [];
+  slots = in_both [];
   least = 1;
   most = 1;
   once = false;
   held = λ lists. [];
-  limit = unlimited;
+  limit = in_both unlimited;
   is_coded = false;
   code = no_code;
 }
+
+-- how its cards are written
+abbrev pub written_end_kind : Written (Unit {0})
+written_end_kind = record { written = λ card. []; at_row = λ row card. tt }

@@ -1,7 +1,7 @@
 -- EVENT,code,title
 use Rattle.std.specs.Prelude.{ℕ, List, [], ◌∷◌, false, true}
 use Rattle.pc_records.specs.Deck.{field_at}
-use Rattle.pc_cards.specs.Entry.{Entry, growing}
+use Rattle.pc_cards.specs.Entry.{Entry, Written, growing, in_both, in_plans}
 use Rattle.pc_deck.specs.declared.limits.TheConstants.{SMALL_EVENTS}
 use Rattle.pc_model.specs.declared.limits.TheConstants.{MAX_EVENTS}
 use Rattle.pc_cards.specs.Forms.{Slot}
@@ -30,14 +30,16 @@ abbrev pub event_kind : Entry CardLists
 event_kind = record {
   Card = EventCard;
   spelled = event_of;
-  written = written_event;
-  at_row = event_at;
-  slots = event_slots;
+  slots = in_both event_slots;
   least = 3;
   most = 3;
   once = false;
   held = λ lists. lists.events;
-  limit = growing SMALL_EVENTS MAX_EVENTS;
+  limit = in_plans (growing SMALL_EVENTS MAX_EVENTS);
   is_coded = true;
   code = λ event. event.code;
 }
+
+-- how its cards are written
+abbrev pub written_event_kind : Written EventCard
+written_event_kind = record { written = written_event; at_row = event_at }

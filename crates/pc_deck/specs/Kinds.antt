@@ -1,8 +1,10 @@
--- The kinds of cards in a deck: the table of them, and what it says of a kind.
+-- The kinds of cards in decks of both sorts: the table of them, and what it says of a kind.
 use Rattle.std.specs.Prelude.{ℕ, Bool, true, false, List, [], ◌∷◌, Option, find, bytes_eq}
 use Rattle.pc_faults.specs.Kinds.{word_of}
 use Rattle.pc_faults.specs.declared.kind.Kind.{Kind}
-use Rattle.pc_faults.specs.declared.kind.Kind.TheVariants.{Project, AsOf, Terms, Wbs, Event, Act, Piece, Acct, Charge, ToGo, Status, Res, Load, End}
+use Rattle.pc_faults.specs.declared.kind.Kind.TheVariants.{Project, AsOf, Terms, Wbs, Event, Act, Task, After, Piece, Acct, Charge, ToGo, Status, Res, Load, End}
+use Rattle.pc_cards.specs.declared.sort.Sort.{Sort}
+use Rattle.pc_cards.specs.declared.sort.Sort.TheVariants.{Plan, Tasks}
 use Rattle.pc_cards.specs.Entry.{Entry, limit_at}
 use Rattle.pc_cards.specs.Forms.{Slot}
 use Rattle.pc_cards.specs.Named.{HeldBy, none_by, listed_by, more_if}
@@ -13,6 +15,8 @@ use Rattle.pc_deck.specs.Terms.{terms_kind}
 use Rattle.pc_deck.specs.Wbs.{item_kind}
 use Rattle.pc_deck.specs.Event.{event_kind}
 use Rattle.pc_deck.specs.Act.{act_kind}
+use Rattle.pc_deck.specs.Task.{task_kind}
+use Rattle.pc_deck.specs.After.{after_kind}
 use Rattle.pc_deck.specs.Piece.{piece_kind}
 use Rattle.pc_deck.specs.Acct.{account_kind}
 use Rattle.pc_deck.specs.Money.{charge_kind, togo_kind}
@@ -29,6 +33,8 @@ entry_of Terms = terms_kind
 entry_of Wbs = item_kind
 entry_of Event = event_kind
 entry_of Act = act_kind
+entry_of Task = task_kind
+entry_of After = after_kind
 entry_of Piece = piece_kind
 entry_of Acct = account_kind
 entry_of Charge = charge_kind
@@ -38,9 +44,18 @@ entry_of Res = resource_kind
 entry_of Load = load_kind
 entry_of End = end_kind
 
--- all of them, in the order in which the text of a deck has their cards
+-- those that a plan has, in the order in which its text has their cards
 abbrev pub kinds : List Kind
 kinds = Project ∷ AsOf ∷ Terms ∷ Wbs ∷ Event ∷ Act ∷ Piece ∷ Acct ∷ Charge ∷ ToGo ∷ Status ∷ Res ∷ Load ∷ End ∷ []
+
+-- those that a deck of tasks has
+abbrev pub task_kinds : List Kind
+task_kinds = Project ∷ AsOf ∷ Terms ∷ Wbs ∷ Task ∷ After ∷ Piece ∷ Acct ∷ Charge ∷ ToGo ∷ Status ∷ Res ∷ Load ∷ End ∷ []
+
+-- those that a deck of a sort has
+abbrev pub kinds_of : Sort → List Kind
+kinds_of Plan = kinds
+kinds_of Tasks = task_kinds
 
 -- a card of a kind as plain data
 abbrev pub CardOf : Kind → Type 0
@@ -62,6 +77,8 @@ lists_with held = record {
   items = held Wbs;
   events = held Event;
   acts = held Act;
+  tasks = held Task;
+  afters = held After;
   pieces = held Piece;
   accounts = held Acct;
   charges = held Charge;
@@ -71,9 +88,9 @@ lists_with held = record {
   loads = held Load;
 }
 
--- the kind that a card's first field names
-abbrev pub kind_of : List ℕ → Option Kind
-kind_of field = find (λ kind. bytes_eq field (word_of kind)) kinds
+-- the kind that a card's first field names in a deck of a sort
+abbrev pub kind_of : Sort → List ℕ → Option Kind
+kind_of sort field = find (λ kind. bytes_eq field (word_of kind)) (kinds_of sort)
 
 -- what the lists have of a kind
 abbrev pub held_in : CardLists → (kind : Kind) → Held kind
@@ -83,9 +100,9 @@ held_in lists kind = (entry_of kind).held lists
 abbrev pub card_of : (kind : Kind) → ℕ → List (List ℕ) → CardOf kind
 card_of kind = (entry_of kind).spelled
 
--- what the fields of a kind's cards must be, behind the kind itself
-abbrev pub slots_of : Kind → List Slot
-slots_of kind = (entry_of kind).slots
+-- what the fields of a kind's cards must be in decks of a sort, behind the kind itself
+abbrev pub slots_of : Sort → Kind → List Slot
+slots_of sort kind = (entry_of kind).slots sort
 
 -- how many fields a kind's cards may have, the kind itself among them
 abbrev pub width_of : Kind → ℕ
@@ -99,9 +116,14 @@ least_width_of kind = (entry_of kind).least
 abbrev pub has_code_of_its_own : Kind → Bool
 has_code_of_its_own kind = (entry_of kind).is_coded
 
--- how many cards of the kind a deck of the version may have, where that is a limit of its own
-abbrev pub limit_of : ℕ → Kind → Option ℕ
-limit_of version kind = limit_at version (entry_of kind).limit
+-- the version whose limits a deck has: that of a deck of tasks is 2, whatever its PROJECT card says
+abbrev pub ruling_version : Sort → ℕ → ℕ
+ruling_version Plan version = version
+ruling_version Tasks version = 2
+
+-- how many cards of the kind a deck of the sort and version may have, where that is a limit of its own
+abbrev pub limit_of : Sort → ℕ → Kind → Option ℕ
+limit_of sort version kind = limit_at (ruling_version sort version) ((entry_of kind).limit sort)
 
 -- whether the kind is that of the first card
 abbrev pub is_project : Kind → Bool

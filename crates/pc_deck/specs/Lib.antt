@@ -4,6 +4,8 @@ pub mod Terms
 pub mod Wbs
 pub mod Event
 pub mod Act
+pub mod Task
+pub mod After
 pub mod Piece
 pub mod Acct
 pub mod Money
@@ -12,6 +14,7 @@ pub mod Res
 pub mod Load
 pub mod End
 pub mod Kinds
+pub mod WrittenKinds
 pub mod Deck
 pub mod Text
 pub mod Judged
@@ -21,4 +24,5 @@ pub mod Titles
 pub mod Refusal
 pub mod Says
 pub mod Read
+pub mod Made
 pub use Rattle.pc_cards.specs.Limits

@@ -2,7 +2,7 @@
 use Rattle.std.specs.Prelude.{ℕ, ◌≤◌, List, [], ◌∷◌, false, decimal}
 use Rattle.pc_records.specs.Deck.{field_at}
 use Rattle.pc_model.specs.declared.limits.TheConstants.{MAX_COST, MAX_LOADS}
-use Rattle.pc_cards.specs.Entry.{Entry, up_to, no_code}
+use Rattle.pc_cards.specs.Entry.{Entry, Written, in_both, no_code, up_to}
 use Rattle.pc_cards.specs.Forms.{Slot, money, number_in}
 use Rattle.pc_cards.specs.declared.form.Form.TheVariants as form
 use Rattle.pc_deck.specs.declared.kinds.load.LoadCard.{LoadCard}
@@ -33,14 +33,16 @@ abbrev pub load_kind : Entry CardLists
 load_kind = record {
   Card = LoadCard;
   spelled = load_of;
-  written = written_load;
-  at_row = load_at;
-  slots = load_slots;
+  slots = in_both load_slots;
   least = 4;
   most = 4;
   once = false;
   held = λ lists. lists.loads;
-  limit = up_to MAX_LOADS;
+  limit = in_both (up_to MAX_LOADS);
   is_coded = false;
   code = no_code;
 }
+
+-- how its cards are written
+abbrev pub written_load_kind : Written LoadCard
+written_load_kind = record { written = written_load; at_row = load_at }

@@ -3,7 +3,7 @@ use Rattle.std.specs.Prelude.{ℕ, ◌≤◌, List, [], ◌∷◌, false, decima
 use Rattle.pc_records.specs.Deck.{field_at}
 use Rattle.pc_model.specs.declared.limits.TheConstants.{MAX_COST, MAX_CHARGES, MAX_TOGOS}
 use Rattle.pc_days.specs.Calendar.{text_of_day}
-use Rattle.pc_cards.specs.Entry.{Entry, growing, no_code, up_to}
+use Rattle.pc_cards.specs.Entry.{Entry, Written, growing, in_both, no_code, up_to}
 use Rattle.pc_deck.specs.declared.limits.TheConstants.{SMALL_CHARGES}
 use Rattle.pc_cards.specs.Forms.{Slot, money, number_in, day_in}
 use Rattle.pc_cards.specs.declared.form.Form.TheVariants as form
@@ -35,31 +35,35 @@ abbrev pub charge_kind : Entry CardLists
 charge_kind = record {
   Card = MoneyCard;
   spelled = money_of;
-  written = written_money;
-  at_row = money_at;
-  slots = money_slots;
+  slots = in_both money_slots;
   least = 4;
   most = 4;
   once = false;
   held = λ lists. lists.charges;
-  limit = growing SMALL_CHARGES MAX_CHARGES;
+  limit = in_both (growing SMALL_CHARGES MAX_CHARGES);
   is_coded = false;
   code = no_code;
 }
+
+-- how its cards are written
+abbrev pub written_charge_kind : Written MoneyCard
+written_charge_kind = record { written = written_money; at_row = money_at }
 
 -- the kind TOGO
 abbrev pub togo_kind : Entry CardLists
 togo_kind = record {
   Card = MoneyCard;
   spelled = money_of;
-  written = written_money;
-  at_row = money_at;
-  slots = money_slots;
+  slots = in_both money_slots;
   least = 4;
   most = 4;
   once = false;
   held = λ lists. lists.togos;
-  limit = up_to MAX_TOGOS;
+  limit = in_both (up_to MAX_TOGOS);
   is_coded = false;
   code = no_code;
 }
+
+-- how its cards are written
+abbrev pub written_togo_kind : Written MoneyCard
+written_togo_kind = record { written = written_money; at_row = money_at }

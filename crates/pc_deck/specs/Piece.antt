@@ -2,7 +2,7 @@
 use Rattle.std.specs.Prelude.{ℕ, ◌≤◌, List, [], ◌∷◌, false, decimal}
 use Rattle.pc_records.specs.Deck.{field_at}
 use Rattle.pc_model.specs.declared.limits.TheConstants.{MAX_DURATION, MAX_SLOPE, MAX_PIECES}
-use Rattle.pc_cards.specs.Entry.{Entry, growing, no_code}
+use Rattle.pc_cards.specs.Entry.{Entry, Written, growing, in_both, no_code}
 use Rattle.pc_deck.specs.declared.limits.TheConstants.{SMALL_PIECES}
 use Rattle.pc_cards.specs.Forms.{Slot, number_in}
 use Rattle.pc_cards.specs.declared.form.Form.TheVariants as form
@@ -36,14 +36,16 @@ abbrev pub piece_kind : Entry CardLists
 piece_kind = record {
   Card = PieceCard;
   spelled = piece_of;
-  written = written_piece;
-  at_row = piece_at;
-  slots = piece_slots;
+  slots = in_both piece_slots;
   least = 4;
   most = 4;
   once = false;
   held = λ lists. lists.pieces;
-  limit = growing SMALL_PIECES MAX_PIECES;
+  limit = in_both (growing SMALL_PIECES MAX_PIECES);
   is_coded = false;
   code = no_code;
 }
+
+-- how its cards are written
+abbrev pub written_piece_kind : Written PieceCard
+written_piece_kind = record { written = written_piece; at_row = piece_at }

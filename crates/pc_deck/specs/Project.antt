@@ -5,16 +5,17 @@ use Rattle.std.specs.Option.{ForSome}
 use Rattle.pc_text.specs.Number.{number_of}
 use Rattle.pc_model.specs.declared.limits.TheConstants.{MAX_DIRECTED, MAX_UNIT_DAYS}
 use Rattle.pc_days.specs.Calendar.{text_of_day}
-use Rattle.pc_cards.specs.Entry.{Entry, unlimited, no_code}
-use Rattle.pc_cards.specs.Forms.{Slot, number_in, day_in, number_text}
+use Rattle.pc_cards.specs.Entry.{Entry, Written, in_both, no_code, unlimited}
+use Rattle.pc_cards.specs.Forms.{Slot, number_in, day_in, number_text, own_code}
+use Rattle.pc_cards.specs.declared.sort.Sort.{Sort}
 use Rattle.pc_cards.specs.declared.form.Form.TheVariants as form
 use Rattle.pc_deck.specs.declared.kinds.project.ProjectCard.{ProjectCard}
 use Rattle.pc_deck.specs.declared.kinds.CardLists.{CardLists}
 
--- the fields behind the kind; the last one may be missing
-abbrev pub project_slots : List Slot
-project_slots =
-    (2, form.Code) ∷ (3, form.Code) ∷ (4, form.Code) ∷ (5, form.Date) ∷ (6, form.Number 1 MAX_UNIT_DAYS) ∷ (7, form.NumberOrNone 0 MAX_DIRECTED) ∷ (8, form.Title) ∷ (9, form.NumberOrNone 1 2) ∷ []
+-- the fields behind the kind, in decks of a sort; the last one may be missing
+abbrev pub project_slots : Sort → List Slot
+project_slots sort =
+    (2, form.Code) ∷ (3, own_code sort) ∷ (4, own_code sort) ∷ (5, form.Date) ∷ (6, form.Number 1 MAX_UNIT_DAYS) ∷ (7, form.NumberOrNone 0 MAX_DIRECTED) ∷ (8, form.Title) ∷ (9, form.NumberOrNone 1 2) ∷ []
 
 -- the version that a field spells; where it is empty, 1
 abbrev pub version_in : List ℕ → ℕ
@@ -55,14 +56,16 @@ abbrev pub project_kind : Entry CardLists
 project_kind = record {
   Card = ProjectCard;
   spelled = project_of;
-  written = written_project;
-  at_row = project_at;
   slots = project_slots;
   least = 8;
   most = 9;
   once = true;
   held = λ lists. None;
-  limit = unlimited;
+  limit = in_both unlimited;
   is_coded = false;
   code = no_code;
 }
+
+-- how its cards are written
+abbrev pub written_project_kind : Written ProjectCard
+written_project_kind = record { written = written_project; at_row = project_at }

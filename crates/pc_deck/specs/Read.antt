@@ -2,11 +2,18 @@
 use Rattle.std.specs.Prelude.{ℕ, List}
 use Rattle.pc_faults.specs.declared.fault.Fault.{Fault}
 use Rattle.pc_cards.specs.Cards.{deck_cards}
+use Rattle.pc_cards.specs.declared.sort.Sort.{Sort}
+use Rattle.pc_cards.specs.declared.sort.Sort.TheVariants.{Plan}
 use Rattle.pc_deck.specs.Deck.{Deck}
 use Rattle.pc_deck.specs.Says.{Says}
 use Rattle.pc_deck.specs.Refusal.{HasFault}
 
--- the cards among the records of the bytes say this, kind by kind, and the bytes have none of the faults F2 to F12
-pub record IsDeckOf (bytes : List ℕ) (deck : Deck) : Type 0 where
+-- the cards among the records of the bytes say this, kind by kind, and the bytes have none of the faults F2 to F12 of a deck
+-- of the sort
+pub record IsReadAs (sort : Sort) (bytes : List ℕ) (deck : Deck) : Type 0 where
   pub says : Says (deck_cards bytes) deck
-  pub faultless : (fault : Fault) → HasFault bytes fault → ⊥
+  pub faultless : (fault : Fault) → HasFault sort bytes fault → ⊥
+
+-- the bytes are the plan
+abbrev pub IsDeckOf : List ℕ → Deck → Type 0
+IsDeckOf bytes deck = IsReadAs Plan bytes deck

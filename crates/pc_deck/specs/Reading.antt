@@ -13,14 +13,16 @@ use Rattle.pc_deck.specs.Judged.{Seen, judge}
 use Rattle.pc_deck.specs.Project.{project_of}
 use Rattle.pc_deck.specs.declared.kinds.project.ProjectCard.{ProjectCard}
 use Rattle.pc_deck.specs.declared.draft.Draft.{Draft}
+use Rattle.pc_cards.specs.declared.sort.Sort.{Sort}
 
--- nothing is read yet
-abbrev pub no_cards : Draft
-no_cards = record { project = None; lists = no_lists; has_ended = false }
+-- nothing is read yet, of a deck of a sort
+abbrev pub no_cards : Sort → Draft
+no_cards sort = record { sort = sort; project = None; lists = no_lists; has_ended = false }
 
 -- the cards so far and one more, which has no fault
 abbrev pub with_card : Draft → Kind → ℕ → List (List ℕ) → Draft
 with_card draft kind row fields = record {
+  sort = draft.sort;
   project = if is_project kind then Some (project_of row fields) else draft.project;
   lists = lists_and draft.lists kind row fields;
   has_ended = is_end kind || draft.has_ended;
@@ -54,6 +56,7 @@ version_of (Some project) = project.version
 -- what counts of the cards so far
 abbrev pub seen_in : Draft → Seen
 seen_in draft = record {
+  sort = draft.sort;
   is_first = is_none draft.project;
   version = version_of draft.project;
   count = count_in draft;
@@ -88,6 +91,6 @@ read_from draft end [] = closed draft end
 read_from draft end (card ∷ cards) =
     and_then (judge (seen_in draft) card.0 card.1) (λ kind. read_from (with_card draft kind card.0 card.1) end cards)
 
--- what the cards of a deck say, or the fault of one of them
-abbrev pub cards_of : List ℕ → Result Deck Fault
-cards_of bytes = read_from no_cards (length (deck_records bytes) + 1) (deck_cards bytes)
+-- what the cards of a deck of a sort say, or the fault of one of them
+abbrev pub cards_of : Sort → List ℕ → Result Deck Fault
+cards_of sort bytes = read_from (no_cards sort) (length (deck_records bytes) + 1) (deck_cards bytes)

@@ -1,7 +1,7 @@
 -- RES,code,title
 use Rattle.std.specs.Prelude.{ℕ, List, [], ◌∷◌, false, true}
 use Rattle.pc_records.specs.Deck.{field_at}
-use Rattle.pc_cards.specs.Entry.{Entry, up_to}
+use Rattle.pc_cards.specs.Entry.{Entry, Written, in_both, up_to}
 use Rattle.pc_model.specs.declared.limits.TheConstants.{MAX_RESOURCES}
 use Rattle.pc_cards.specs.Forms.{Slot}
 use Rattle.pc_cards.specs.declared.form.Form.TheVariants as form
@@ -29,14 +29,16 @@ abbrev pub resource_kind : Entry CardLists
 resource_kind = record {
   Card = ResCard;
   spelled = resource_of;
-  written = written_resource;
-  at_row = resource_at;
-  slots = resource_slots;
+  slots = in_both resource_slots;
   least = 3;
   most = 3;
   once = false;
   held = λ lists. lists.resources;
-  limit = up_to MAX_RESOURCES;
+  limit = in_both (up_to MAX_RESOURCES);
   is_coded = true;
   code = λ resource. resource.code;
 }
+
+-- how its cards are written
+abbrev pub written_resource_kind : Written ResCard
+written_resource_kind = record { written = written_resource; at_row = resource_at }

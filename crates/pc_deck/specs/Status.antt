@@ -2,7 +2,7 @@
 use Rattle.std.specs.Prelude.{ℕ, List, [], ◌∷◌, false}
 use Rattle.pc_records.specs.Deck.{field_at}
 use Rattle.pc_days.specs.Calendar.{text_of_day}
-use Rattle.pc_cards.specs.Entry.{Entry, growing, no_code}
+use Rattle.pc_cards.specs.Entry.{Entry, Written, growing, in_both, no_code}
 use Rattle.pc_deck.specs.declared.limits.TheConstants.{SMALL_STATUSES}
 use Rattle.pc_model.specs.declared.limits.TheConstants.{MAX_STATUSES}
 use Rattle.pc_cards.specs.Forms.{Slot, day_in, is_finish, letter_text}
@@ -31,14 +31,16 @@ abbrev pub status_kind : Entry CardLists
 status_kind = record {
   Card = StatusCard;
   spelled = status_of;
-  written = written_status;
-  at_row = status_at;
-  slots = status_slots;
+  slots = in_both status_slots;
   least = 4;
   most = 4;
   once = false;
   held = λ lists. lists.statuses;
-  limit = growing SMALL_STATUSES MAX_STATUSES;
+  limit = in_both (growing SMALL_STATUSES MAX_STATUSES);
   is_coded = false;
   code = no_code;
 }
+
+-- how its cards are written
+abbrev pub written_status_kind : Written StatusCard
+written_status_kind = record { written = written_status; at_row = status_at }

@@ -2,7 +2,7 @@
 use Rattle.std.specs.Prelude.{ℕ, ◌≤◌, List, [], ◌∷◌, false, true, decimal}
 use Rattle.pc_records.specs.Deck.{field_at}
 use Rattle.pc_model.specs.declared.limits.TheConstants.{MAX_TERMS}
-use Rattle.pc_cards.specs.Entry.{Entry, unlimited, no_code}
+use Rattle.pc_cards.specs.Entry.{Entry, Written, in_both, no_code, unlimited}
 use Rattle.pc_cards.specs.Forms.{Slot, number_in}
 use Rattle.pc_cards.specs.declared.form.Form.{Form}
 use Rattle.pc_cards.specs.declared.form.Form.TheVariants as form
@@ -47,14 +47,16 @@ abbrev pub terms_kind : Entry CardLists
 terms_kind = record {
   Card = TermsCard;
   spelled = terms_of;
-  written = written_terms;
-  at_row = terms_at;
-  slots = terms_slots;
+  slots = in_both terms_slots;
   least = 5;
   most = 5;
   once = true;
   held = λ lists. lists.terms;
-  limit = unlimited;
+  limit = in_both unlimited;
   is_coded = false;
   code = no_code;
 }
+
+-- how its cards are written
+abbrev pub written_terms_kind : Written TermsCard
+written_terms_kind = record { written = written_terms; at_row = terms_at }

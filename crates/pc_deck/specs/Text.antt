@@ -5,7 +5,8 @@ use Rattle.pc_faults.specs.Kinds.{word_of}
 use Rattle.pc_faults.specs.declared.kind.Kind.{Kind}
 use Rattle.pc_faults.specs.declared.kind.Kind.TheVariants.{Project, AsOf, Terms, Wbs, Event, Act, Piece, Acct, Charge, ToGo, Status, Res, Load}
 use Rattle.pc_cards.specs.Named.{numbered_by}
-use Rattle.pc_deck.specs.Kinds.{CardOf, entry_of, held_in, is_same, kinds, lists_with, stands_once}
+use Rattle.pc_deck.specs.WrittenKinds.{written_of}
+use Rattle.pc_deck.specs.Kinds.{CardOf, held_in, is_same, kinds, lists_with, stands_once}
 use Rattle.pc_deck.specs.Deck.{Deck, list_of}
 use Rattle.pc_deck.specs.Project.{project_at}
 use Rattle.pc_deck.specs.declared.kinds.as_of.AsOfCard.{AsOfCard}
@@ -33,7 +34,7 @@ settled deck = record {
 
 -- the record that a card is written as: the word of its kind, and its fields
 abbrev pub record_of : (kind : Kind) → CardOf kind → List (List ℕ)
-record_of kind card = word_of kind ∷ (entry_of kind).written card
+record_of kind card = word_of kind ∷ (written_of kind).written card
 
 -- the records of the cards of a kind, in card order
 abbrev pub records_of : Deck → Kind → List (List (List ℕ))
@@ -66,5 +67,5 @@ first_record deck kind = first_from 1 deck kind kinds
 abbrev pub renumbered : Deck → Deck
 renumbered deck = record {
   project = project_at 1 deck.project;
-  lists = lists_with (λ kind. numbered_by (stands_once kind) (CardOf kind) (entry_of kind).at_row (first_record deck kind) (held_in deck.lists kind));
+  lists = lists_with (λ kind. numbered_by (stands_once kind) (CardOf kind) (written_of kind).at_row (first_record deck kind) (held_in deck.lists kind));
 }

@@ -9,5 +9,6 @@ pub record AreTitlesText (deck : Deck) : Type 0 where
   pub items : All (λ item. IsUtf8 item.title) deck.items
   pub events : All (λ event. IsUtf8 event.title) deck.events
   pub acts : All (λ act. IsUtf8 act.title) deck.acts
+  pub tasks : All (λ task. IsUtf8 task.title) deck.tasks
   pub accounts : All (λ account. IsUtf8 account.title) deck.accounts
   pub resources : All (λ resource. IsUtf8 resource.title) deck.resources

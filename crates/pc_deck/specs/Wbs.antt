@@ -2,16 +2,18 @@
 use Rattle.std.specs.Prelude.{ℕ, List, [], ◌∷◌, false, true}
 use Rattle.pc_records.specs.Deck.{field_at}
 use Rattle.pc_text.specs.Code.{code_of}
-use Rattle.pc_cards.specs.Entry.{Entry, up_to}
+use Rattle.pc_cards.specs.Entry.{Entry, Written, by_sort, up_to}
 use Rattle.pc_model.specs.declared.limits.TheConstants.{MAX_ITEMS}
-use Rattle.pc_cards.specs.Forms.{Slot, code_text}
+use Rattle.pc_deck.specs.declared.limits.TheConstants.{MAX_TASK_ITEMS}
+use Rattle.pc_cards.specs.Forms.{Slot, code_text, own_code}
+use Rattle.pc_cards.specs.declared.sort.Sort.{Sort}
 use Rattle.pc_cards.specs.declared.form.Form.TheVariants as form
 use Rattle.pc_deck.specs.declared.kinds.wbs.ItemCard.{ItemCard}
 use Rattle.pc_deck.specs.declared.kinds.CardLists.{CardLists}
 
--- the fields behind the kind
-abbrev pub item_slots : List Slot
-item_slots = (2, form.Code) ∷ (3, form.CodeOrNone) ∷ (4, form.Title) ∷ []
+-- the fields behind the kind, in decks of a sort
+abbrev pub item_slots : Sort → List Slot
+item_slots sort = (2, own_code sort) ∷ (3, form.CodeOrNone) ∷ (4, form.Title) ∷ []
 
 -- the card that a record spells
 abbrev pub item_of : ℕ → List (List ℕ) → ItemCard
@@ -30,14 +32,16 @@ abbrev pub item_kind : Entry CardLists
 item_kind = record {
   Card = ItemCard;
   spelled = item_of;
-  written = written_item;
-  at_row = item_at;
   slots = item_slots;
   least = 4;
   most = 4;
   once = false;
   held = λ lists. lists.items;
-  limit = up_to MAX_ITEMS;
+  limit = by_sort (up_to MAX_ITEMS) (up_to MAX_TASK_ITEMS);
   is_coded = true;
   code = λ item. item.code;
 }
+
+-- how its cards are written
+abbrev pub written_item_kind : Written ItemCard
+written_item_kind = record { written = written_item; at_row = item_at }

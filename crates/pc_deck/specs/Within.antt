@@ -4,6 +4,8 @@ use Rattle.std.specs.Str.{IsUtf8}
 use Rattle.pc_faults.specs.declared.kind.Kind.{Kind}
 use Rattle.pc_model.specs.Codes.{IsNamedOnce}
 use Rattle.pc_cards.specs.Forms.{AllFit}
+use Rattle.pc_cards.specs.declared.sort.Sort.{Sort}
+use Rattle.pc_cards.specs.declared.sort.Sort.TheVariants.{Plan}
 use Rattle.pc_deck.specs.Kinds.{CardOf, card_of, entry_of, has_code_of_its_own, limit_of, slots_of}
 use Rattle.pc_deck.specs.Deck.{Deck, list_of}
 use Rattle.pc_deck.specs.Reading.{list_so_far, version_of}
@@ -14,23 +16,28 @@ abbrev pub IsUpTo : Option ℕ → ℕ → Type 0
 IsUpTo None count = Unit {0}
 IsUpTo (Some most) count = count ≤ most
 
--- the card is one that a record spells, whose fields are text (UTF-8) and are what they must be
-abbrev pub IsFit : (kind : Kind) → CardOf kind → Type 0
-IsFit kind card =
-    (row : ℕ) × (fields : List (List ℕ)) × (card ≡ card_of kind row fields) × AllFit (slots_of kind) fields × All IsUtf8 fields
+-- the card is one that a record of a deck of the sort spells, whose fields are text (UTF-8) and are what they must be
+abbrev pub IsFit : Sort → (kind : Kind) → CardOf kind → Type 0
+IsFit sort kind card =
+    (row : ℕ) × (fields : List (List ℕ)) × (card ≡ card_of kind row fields) × AllFit (slots_of sort kind) fields × All IsUtf8 fields
 
--- the cards of a kind are no more than a deck of the version may have, the fields of each are text and what they must be, and
--- no two of them have one code of their own
-pub record IsListWithin (kind : Kind) (version : ℕ) (cards : List (CardOf kind)) : Type 0 where
-  pub few : IsUpTo (limit_of version kind) (length cards)
-  pub fit : All (IsFit kind) cards
+-- the cards of a kind are no more than a deck of the sort and version may have, the fields of each are text and what they must
+-- be, and no two of them have one code of their own
+pub record IsListWithin (sort : Sort) (kind : Kind) (version : ℕ) (cards : List (CardOf kind)) : Type 0 where
+  pub few : IsUpTo (limit_of sort version kind) (length cards)
+  pub fit : All (IsFit sort kind) cards
   pub differ : has_code_of_its_own kind ≡ true → IsNamedOnce (map (entry_of kind).code cards)
 
--- the list of each kind is within the limits of the version that may have most
+-- the list of each kind is within the limits that a deck of the sort has in the version that may have most; of a kind that
+-- the sort has not, there is no card
+abbrev pub IsWithin : Sort → Deck → Type 0
+IsWithin sort deck = (kind : Kind) → IsListWithin sort kind 2 (list_of deck kind)
+
+-- the same of a plan
 abbrev pub IsWithinLimits : Deck → Type 0
-IsWithinLimits deck = (kind : Kind) → IsListWithin kind 2 (list_of deck kind)
+IsWithinLimits deck = IsWithin Plan deck
 
 -- the same of the cards so far, by the version of the deck; there are none before the PROJECT card
 pub record IsDraftWithin (draft : Draft) : Type 0 where
   pub empty : is_none draft.project ≡ true → (kind : Kind) → list_so_far draft kind ≡ []
-  pub lists : (kind : Kind) → IsListWithin kind (version_of draft.project) (list_so_far draft kind)
+  pub lists : (kind : Kind) → IsListWithin draft.sort kind (version_of draft.project) (list_so_far draft kind)

@@ -1,16 +1,16 @@
-//! The cards of a deck as plain data, and the list of them.
+//! The cards of a plan.
 ghost use Rattle.std.specs.Prelude.{◌≡◌};
 ghost use Rattle.pc_deck.specs.Deck.{item_named, event_named, act_named, account_named, resource_named};
 
-use crate::kinds::{CardLists, ProjectCard};
+use crate::deck_cards::DeckCards;
+use crate::kinds::ProjectCard;
 use pc_text::Code;
 use std::marker::Model;
 
-/// The cards of a deck that was read, each kind in card order.
+/// The cards of a plan that was read, each kind in card order.
 #[derive(Drop)]
 pub struct Cards {
-    pub(crate) project: ProjectCard,
-    pub(crate) lists: CardLists,
+    pub(crate) deck: DeckCards,
 }
 
 impl Model for Cards {
@@ -19,9 +19,9 @@ impl Model for Cards {
 
     ghost Value = { Deck };
 
-    ghost view = { λ s. record { project = s.project; lists = s.lists } };
+    ghost view = { λ s. s.deck };
 
-    ghost invariant = { λ s. IsWithinLimits (record { project = s.project; lists = s.lists }) };
+    ghost invariant = { λ s. IsWithinLimits s.deck };
 }
 
 impl Cards {
@@ -32,14 +32,14 @@ impl Cards {
         ensures card { result.now ≡ self.now.project }
         ensures within { IsWithinLimits self.now }
     {
-        &self.project
+        &self.deck.project
     }
 
     /// The number of the item with a code: its place in card order, from 0.
     pub fn item_named(&self, code: &Code) -> Option<u32>
         ensures { result ≡ item_named self.now code.now }
     {
-        let number = self.lists.items.place_of(code)?;
+        let number = self.deck.lists.items.place_of(code)?;
         Some(number as u32)
     }
 
@@ -47,7 +47,7 @@ impl Cards {
     pub fn event_named(&self, code: &Code) -> Option<u32>
         ensures { result ≡ event_named self.now code.now }
     {
-        let number = self.lists.events.place_of(code)?;
+        let number = self.deck.lists.events.place_of(code)?;
         Some(number as u32)
     }
 
@@ -55,7 +55,7 @@ impl Cards {
     pub fn act_named(&self, code: &Code) -> Option<u32>
         ensures { result ≡ act_named self.now code.now }
     {
-        let number = self.lists.acts.place_of(code)?;
+        let number = self.deck.lists.acts.place_of(code)?;
         Some(number as u32)
     }
 
@@ -63,7 +63,7 @@ impl Cards {
     pub fn account_named(&self, code: &Code) -> Option<u32>
         ensures { result ≡ account_named self.now code.now }
     {
-        let number = self.lists.accounts.place_of(code)?;
+        let number = self.deck.lists.accounts.place_of(code)?;
         Some(number as u32)
     }
 
@@ -71,7 +71,7 @@ impl Cards {
     pub fn resource_named(&self, code: &Code) -> Option<u32>
         ensures { result ≡ resource_named self.now code.now }
     {
-        let number = self.lists.resources.place_of(code)?;
+        let number = self.deck.lists.resources.place_of(code)?;
         Some(number as u32)
     }
 }

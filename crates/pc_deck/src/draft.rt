@@ -5,18 +5,20 @@ ghost use Rattle.pc_deck.specs.Judged.{no_kind};
 ghost use Rattle.pc_faults.specs.declared.kind.Kind.TheVariants as kind;
 ghost use Rattle.pc_faults.specs.First.{Refuses};
 
-use crate::cards::Cards;
+use crate::deck_cards::DeckCards;
 use crate::kinds::{CardLists, ProjectCard, kind_of, limit_of};
 use pc_cards::lists::Once;
 use pc_cards::place::Place;
 use pc_cards::reading::wrong_fields;
+use pc_cards::sort::Sort;
 use pc_faults::{DeckError, Fault, Kind};
 use pc_records::Row;
 use std::alloc::Global;
 
-/// The cards so far, and whether the END card was among them.
+/// The cards so far of a deck of a sort, and whether the END card was among them.
 #[derive(Drop)]
 pub struct Draft {
+    pub sort: Sort,
     pub project: Once<ProjectCard>,
     pub lists: CardLists,
     pub has_ended: bool,
@@ -25,13 +27,14 @@ pub struct Draft {
 impl Draft {
     ghost use Rattle.pc_deck.specs.Judged.{judge, place_of};
     ghost use Rattle.pc_deck.specs.Reading.{IsKept, no_cards, closed, count_in, seen_in, version_of};
-    ghost use Rattle.pc_deck.specs.Within.{IsDraftWithin, IsWithinLimits};
+    ghost use Rattle.pc_deck.specs.Within.{IsDraftWithin, IsWithin};
 
     /// No cards.
-    pub fn new(alloc: Global) -> Draft
-        ensures { result ≡ no_cards }
+    pub fn new(alloc: Global, sort: Sort) -> Draft
+        ensures { result ≡ no_cards sort }
     {
         Draft {
+            sort,
             project: Once::new(),
             lists: CardLists::new(alloc),
             has_ended: false,
@@ -53,9 +56,10 @@ impl Draft {
         ensures { result ≡ place_of (seen_in self.now) kind row }
     {
         Place {
+            sort: self.sort,
             kind,
             row,
-            limit: limit_of(self.version(), kind),
+            limit: limit_of(self.sort, self.version(), kind),
             has_ended: self.has_ended,
         }
     }
@@ -66,7 +70,7 @@ impl Draft {
         ensures fault { IfErr result (Refuses (λ fault. judge (seen_in self.old) row fields.now ≡ Err fault)) }
     {
         let is_first = self.project.get().is_none();
-        let Some(kind) = kind_of(fields.field(0)) else {
+        let Some(kind) = kind_of(self.sort, fields.field(0)) else {
             return Err(DeckError::Fault(no_kind(is_first, row)));
         };
         if is_first && kind != Kind::Project {
@@ -102,24 +106,25 @@ impl Draft {
     }
 
     /// The cards of the deck, if its END card came; `end` is the number behind its last record.
-    pub fn close(self, end: u32) -> Result<Cards, Fault>
+    pub fn close(self, end: u32) -> Result<DeckCards, Fault>
         requires { IsDraftWithin self }
         ensures cards { result ≡ closed self end }
-        ensures within { IfOk result IsWithinLimits }
+        ensures within { IfOk result (IsWithin self.sort) }
     {
         let Draft {
+            sort: _,
             project,
             lists,
             has_ended,
         } = self;
         match project.get() {
-            Some(project) if has_ended => Ok(Cards { project, lists }),
+            Some(project) if has_ended => Ok(DeckCards { project, lists }),
             _ => Err(Fault::no_end(end)),
         }
     }
 }
 
-/// The fault of a card of no kind.
+/// The fault of a card of no kind that its deck has.
 fn no_kind(is_first: bool, row: u32) -> Fault
     ensures { result ≡ no_kind is_first row }
 {

@@ -1,24 +1,30 @@
 //! The cards of a deck, or its first fault.
 //!
-//! A deck is a text of records, and each record that is not blank is a card: its first field is the card's kind.
-//! [`read_cards`] reads the whole deck. Codes are read but not looked up here: what refers to another card is
+//! A deck is a text of records, and each record that is not blank is a card: its first field is the card's kind. There are two
+//! sorts of decks, which differ in the kinds that they have: [`read_cards`] reads a plan, and [`read_tasks`] a deck of tasks.
+//! Codes are read but not looked up here: what refers to another card is
 //! judged where the project is put together.
 //!
 //! What knows no kind by name stands in `pc_cards`: here are the kinds, the table of them, and the reading of a whole deck.
 #![tactic(auto)]
 
 mod cards;
+mod deck_cards;
 mod draft;
 mod kinds;
 pub mod laws;
 mod limits;
+mod made;
 mod read;
+mod task_cards;
 mod text;
 
 pub use crate::cards::Cards;
 pub use crate::kinds::{
-    AcctCard, ActCard, AsOfCard, EventCard, ItemCard, LoadCard, MoneyCard, PieceCard, ProjectCard,
-    ResCard, StatusCard, TermsCard,
+    AcctCard, ActCard, AfterCard, AsOfCard, EventCard, ItemCard, LoadCard, MoneyCard, PieceCard,
+    ProjectCard, ResCard, StatusCard, TaskCard, TermsCard,
 };
 pub use crate::limits::DECK_LIMIT;
-pub use crate::read::read_cards;
+pub use crate::made::PlanLists;
+pub use crate::read::{read_cards, read_tasks};
+pub use crate::task_cards::TaskCards;

@@ -1,9 +1,9 @@
-//! How large a deck may be, and how many cards one of version 1 may have where version 2 may have more. The greater
-//! limits stand beside those of projects.
+//! How large a deck may be, how many cards one of version 1 may have where version 2 may have more, and how many a deck of
+//! tasks may have. The other limits stand beside those of projects.
 ghost use Rattle.std.specs.Prelude.{◌≡◌};
 ghost use Rattle.pc_cards.specs.Entry.{by_version};
 
-/// How many bytes a deck may have, of either version.
+/// How many bytes a deck may have, of either sort and version.
 pub const DECK_LIMIT: usize = 67_108_864;
 
 /// How many EVENT cards a deck of version 1 may have.
@@ -20,6 +20,15 @@ pub const SMALL_CHARGES: u32 = 200_000;
 
 /// How many STATUS cards a deck of version 1 may have.
 pub const SMALL_STATUSES: u32 = 20_000;
+
+/// How many WBS cards a deck of tasks may have: one item is added to them.
+pub const MAX_TASK_ITEMS: u32 = 9_999;
+
+/// How many TASK cards a deck of tasks may have.
+pub const MAX_TASKS: u32 = 4_000;
+
+/// How many AFTER cards a deck of tasks may have.
+pub const MAX_AFTERS: u32 = 8_000;
 
 /// A limit that is greater in decks of version 2.
 pub fn by_version(version: u64, small: u32, large: u32) -> u32

@@ -4,17 +4,21 @@ ghost use Rattle.std.specs.Str.{is_utf8};
 ghost use Rattle.pc_records.specs.Deck.{deck_records};
 ghost use Rattle.pc_faults.specs.First.{Refuses};
 ghost use Rattle.pc_cards.specs.Limits.{longest_deck};
+ghost use Rattle.pc_cards.specs.declared.sort.Sort.TheVariants as sorts;
 ghost use Rattle.pc_deck.specs.Reading.{cards_of, closed, read_from};
 ghost use Rattle.pc_cards.specs.Cards.{deck_cards};
-ghost use Rattle.pc_deck.specs.Read.{IsDeckOf};
-ghost use Rattle.pc_deck.specs.Refusal.{IsCardRefusal};
+ghost use Rattle.pc_deck.specs.Read.{IsDeckOf, IsReadAs};
+ghost use Rattle.pc_deck.specs.Refusal.{IsCardRefusal, IsRefusalAs};
 ghost use Rattle.pc_deck.specs.Titles.{AreTitlesText};
-ghost use Rattle.pc_deck.specs.Within.{IsDraftWithin, IsWithinLimits};
+ghost use Rattle.pc_deck.specs.Within.{IsDraftWithin, IsWithin, IsWithinLimits};
 
 use crate::cards::Cards;
+use crate::deck_cards::DeckCards;
 use crate::draft::Draft;
 use crate::limits::DECK_LIMIT;
+use crate::task_cards::TaskCards;
 use pc_cards::rows::{CardRows, Next};
+use pc_cards::sort::Sort;
 use pc_faults::{DeckError, NOT_UTF8};
 use pc_records::Row;
 use std::alloc::Global;
@@ -26,7 +30,7 @@ const ROW_BYTES: usize = 8192;
 
 const ROW_FIELDS: usize = 64;
 
-/// Reads the cards of a deck, or answers its first fault: not UTF-8, or else the fault of the earliest record, and of
+/// Reads the cards of a plan, or answers its first fault: not UTF-8, or else the fault of the earliest record, and of
 /// that record the fault with the least number. That there is no END card counts as a fault of the record behind the
 /// last.
 ///
@@ -38,10 +42,38 @@ pub fn read_cards(alloc: Global, bytes: &[u8]) -> Result<Cards, DeckError>
     ensures titles { IfOk result AreTitlesText }
     ensures first { IfErr result (Refuses (IsCardRefusal bytes.now)) }
 {
+    match read_deck(alloc, Sort::Plan, bytes) {
+        Ok(deck) => Ok(Cards { deck }),
+        Err(e) => Err(e),
+    }
+}
+
+/// Reads the cards of a deck of tasks, or answers its first fault, as [`read_cards`] does for a plan.
+pub fn read_tasks(alloc: Global, bytes: &[u8]) -> Result<TaskCards, DeckError>
+    requires { length bytes.now ≤ longest_deck }
+    ensures accepted { IfOk result (IsReadAs sorts.Tasks bytes.now) }
+    ensures within { IfOk result (IsWithin sorts.Tasks) }
+    ensures titles { IfOk result AreTitlesText }
+    ensures first { IfErr result (Refuses (IsRefusalAs sorts.Tasks bytes.now)) }
+{
+    match read_deck(alloc, Sort::Tasks, bytes) {
+        Ok(deck) => Ok(TaskCards { deck }),
+        Err(e) => Err(e),
+    }
+}
+
+/// Reads the cards of a deck of the sort, or answers its first fault.
+fn read_deck(alloc: Global, sort: Sort, bytes: &[u8]) -> Result<DeckCards, DeckError>
+    requires { length bytes.now ≤ longest_deck }
+    ensures accepted { IfOk result (IsReadAs sort bytes.now) }
+    ensures within { IfOk result (IsWithin sort) }
+    ensures titles { IfOk result AreTitlesText }
+    ensures first { IfErr result (Refuses (IsRefusalAs sort bytes.now)) }
+{
     if !is_utf8(bytes) {
         return Err(DeckError::Fault(NOT_UTF8));
     }
-    cards_of(alloc, bytes)
+    cards_of(alloc, sort, bytes)
 }
 
 fn is_utf8(bytes: &[u8]) -> bool
@@ -50,15 +82,15 @@ fn is_utf8(bytes: &[u8]) -> bool
     str::from_utf8(bytes).is_ok()
 }
 
-/// The cards of a deck that is UTF-8, or its first fault.
-fn cards_of(alloc: Global, bytes: &[u8]) -> Result<Cards, DeckError>
+/// The cards of a deck of the sort that is UTF-8, or its first fault.
+fn cards_of(alloc: Global, sort: Sort, bytes: &[u8]) -> Result<DeckCards, DeckError>
     requires short { length bytes.now ≤ DECK_LIMIT }
     requires utf8 { is_utf8 bytes.now ≡ true }
-    ensures cards { IfOk result (λ cards. cards_of bytes.now ≡ Ok cards) }
-    ensures within { IfOk result IsWithinLimits }
-    ensures fault { IfErr result (Refuses (λ fault. cards_of bytes.now ≡ Err fault)) }
+    ensures cards { IfOk result (λ cards. cards_of sort bytes.now ≡ Ok cards) }
+    ensures within { IfOk result (IsWithin sort) }
+    ensures fault { IfErr result (Refuses (λ fault. cards_of sort bytes.now ≡ Err fault)) }
 {
-    let mut draft = Draft::new(alloc);
+    let mut draft = Draft::new(alloc, sort);
     let end = match take_all(alloc, bytes, &mut draft) {
         Ok(end) => end,
         Err(e) => return Err(e),
@@ -76,6 +108,7 @@ fn take_all(alloc: Global, bytes: &[u8], draft: &mut Draft) -> Result<u32, DeckE
     requires within { IsDraftWithin draft.old }
     ensures cards { IfOk result (λ end. closed draft.new end ≡ read_from draft.old (length (deck_records bytes.now) + 1) (deck_cards bytes.now)) }
     ensures within { OnOk result (IsDraftWithin draft.new) }
+    ensures sort { OnOk result (draft.new.sort ≡ draft.old.sort) }
     ensures fault { IfErr result (Refuses (λ fault. read_from draft.old (length (deck_records bytes.now) + 1) (deck_cards bytes.now) ≡ Err fault)) }
 {
     let mut rows = CardRows::new(alloc, bytes);

@@ -1,7 +1,7 @@
--- The kinds of cards and their words.
+-- The kinds of cards, of decks of every sort, and their words.
 use Rattle.std.specs.Prelude.{ℕ, List, codes}
 use Rattle.pc_faults.specs.declared.kind.Kind.{Kind}
-use Rattle.pc_faults.specs.declared.kind.Kind.TheVariants.{Project, AsOf, Terms, Wbs, Event, Act, Piece, Acct, Charge, ToGo, Status, Res, Load, End}
+use Rattle.pc_faults.specs.declared.kind.Kind.TheVariants.{Project, AsOf, Terms, Wbs, Event, Act, Task, After, Piece, Acct, Charge, ToGo, Status, Res, Load, End}
 
 -- the word that names a kind
 abbrev pub word_of : Kind → List ℕ
@@ -11,6 +11,8 @@ word_of Terms = codes "TERMS"
 word_of Wbs = codes "WBS"
 word_of Event = codes "EVENT"
 word_of Act = codes "ACT"
+word_of Task = codes "TASK"
+word_of After = codes "AFTER"
 word_of Piece = codes "PIECE"
 word_of Acct = codes "ACCT"
 word_of Charge = codes "CHARGE"

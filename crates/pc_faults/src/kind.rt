@@ -1,4 +1,4 @@
-//! The kinds of cards.
+//! The kinds of cards, of decks of every sort.
 ghost use Rattle.std.specs.Prelude.{◌≡◌, ◌≤◌, length};
 ghost use Rattle.pc_faults.specs.Kinds.{word_of};
 
@@ -11,6 +11,8 @@ pub enum Kind {
     Wbs,
     Event,
     Act,
+    Task,
+    After,
     Piece,
     Acct,
     Charge,
@@ -34,6 +36,8 @@ impl Kind {
             Kind::Wbs => b"WBS",
             Kind::Event => b"EVENT",
             Kind::Act => b"ACT",
+            Kind::Task => b"TASK",
+            Kind::After => b"AFTER",
             Kind::Piece => b"PIECE",
             Kind::Acct => b"ACCT",
             Kind::Charge => b"CHARGE",

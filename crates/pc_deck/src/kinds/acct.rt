@@ -6,6 +6,7 @@ use crate::cards::Cards;
 use pc_cards::card::{Card, Coded, Layout};
 use pc_cards::field::{Misfit, read_amount, read_code, read_title};
 use pc_cards::form::{Form, MONEY, Slot};
+use pc_cards::sort::Sort;
 use pc_faults::Kind;
 use pc_model::MAX_COST;
 use pc_records::{Row, RowWriter};
@@ -30,7 +31,7 @@ const SLOTS: [Slot; 4] = [
 ];
 
 impl Card for AcctCard {
-    ghost slots = { account_slots };
+    ghost slots = { λ sort. account_slots };
 
     ghost least = { 5 };
 
@@ -40,7 +41,7 @@ impl Card for AcctCard {
 
     ghost written = { written_account };
 
-    fn layout() -> Layout {
+    fn layout(_: Sort) -> Layout {
         Layout {
             slots: &SLOTS,
             least: 5,
@@ -48,7 +49,7 @@ impl Card for AcctCard {
         }
     }
 
-    fn read(row: u32, fields: &Row) -> Result<AcctCard, Misfit> {
+    fn read(_: Sort, row: u32, fields: &Row) -> Result<AcctCard, Misfit> {
         Ok(AcctCard {
             row,
             code: read_code(fields, 2)?,
@@ -90,6 +91,6 @@ impl Cards {
         ensures cards { result.now ≡ self.now.accounts }
         ensures within { IsWithinLimits self.now }
     {
-        self.lists.accounts.as_slice()
+        self.deck.lists.accounts.as_slice()
     }
 }

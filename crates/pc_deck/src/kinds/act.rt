@@ -6,6 +6,7 @@ use crate::cards::Cards;
 use pc_cards::card::{Card, Coded, Layout};
 use pc_cards::field::{Misfit, read_amount, read_code, read_title};
 use pc_cards::form::{DURATION, Form, MONEY, Slot};
+use pc_cards::sort::Sort;
 use pc_faults::Kind;
 use pc_model::{MAX_COST, MAX_DURATION, MAX_SLOPE};
 use pc_records::{Row, RowWriter};
@@ -51,7 +52,7 @@ const SLOTS: [Slot; 12] = [
 ];
 
 impl Card for ActCard {
-    ghost slots = { act_slots };
+    ghost slots = { λ sort. act_slots };
 
     ghost least = { 13 };
 
@@ -61,7 +62,7 @@ impl Card for ActCard {
 
     ghost written = { written_act };
 
-    fn layout() -> Layout {
+    fn layout(_: Sort) -> Layout {
         Layout {
             slots: &SLOTS,
             least: 13,
@@ -69,7 +70,7 @@ impl Card for ActCard {
         }
     }
 
-    fn read(row: u32, fields: &Row) -> Result<ActCard, Misfit> {
+    fn read(_: Sort, row: u32, fields: &Row) -> Result<ActCard, Misfit> {
         Ok(ActCard {
             row,
             code: read_code(fields, 2)?,
@@ -129,6 +130,6 @@ impl Cards {
         ensures few { length result.now ≤ MAX_ACTIVITIES }
         ensures within { IsWithinLimits self.now }
     {
-        self.lists.acts.as_slice()
+        self.deck.lists.acts.as_slice()
     }
 }

@@ -5,6 +5,7 @@ use crate::cards::Cards;
 use pc_cards::card::{Card, Layout};
 use pc_cards::field::{Misfit, read_date};
 use pc_cards::form::{Form, Slot};
+use pc_cards::sort::Sort;
 use pc_days::{Day, day_text};
 use pc_faults::Kind;
 use pc_records::{Row, RowWriter};
@@ -20,7 +21,7 @@ pub struct AsOfCard {
 const SLOTS: [Slot; 1] = [(2, Form::Date)];
 
 impl Card for AsOfCard {
-    ghost slots = { as_of_slots };
+    ghost slots = { λ sort. as_of_slots };
 
     ghost least = { 2 };
 
@@ -30,7 +31,7 @@ impl Card for AsOfCard {
 
     ghost written = { written_as_of };
 
-    fn layout() -> Layout {
+    fn layout(_: Sort) -> Layout {
         Layout {
             slots: &SLOTS,
             least: 2,
@@ -38,7 +39,7 @@ impl Card for AsOfCard {
         }
     }
 
-    fn read(row: u32, fields: &Row) -> Result<AsOfCard, Misfit> {
+    fn read(_: Sort, row: u32, fields: &Row) -> Result<AsOfCard, Misfit> {
         Ok(AsOfCard {
             row,
             day: read_date(fields, 2)?,
@@ -62,6 +63,6 @@ impl Cards {
         ensures card { result ≡ self.now.as_of }
         ensures within { IsWithinLimits self.now }
     {
-        self.lists.as_of.get()
+        self.deck.lists.as_of.get()
     }
 }

@@ -6,6 +6,7 @@ use crate::cards::Cards;
 use pc_cards::card::{Card, Coded, Layout};
 use pc_cards::field::{Misfit, read_code, read_title};
 use pc_cards::form::{Form, Slot};
+use pc_cards::sort::Sort;
 use pc_faults::Kind;
 use pc_records::{Row, RowWriter};
 use pc_text::{Code, Title};
@@ -22,7 +23,7 @@ pub struct EventCard {
 const SLOTS: [Slot; 2] = [(2, Form::Code), (3, Form::Title)];
 
 impl Card for EventCard {
-    ghost slots = { event_slots };
+    ghost slots = { λ sort. event_slots };
 
     ghost least = { 3 };
 
@@ -32,7 +33,7 @@ impl Card for EventCard {
 
     ghost written = { written_event };
 
-    fn layout() -> Layout {
+    fn layout(_: Sort) -> Layout {
         Layout {
             slots: &SLOTS,
             least: 3,
@@ -40,7 +41,7 @@ impl Card for EventCard {
         }
     }
 
-    fn read(row: u32, fields: &Row) -> Result<EventCard, Misfit> {
+    fn read(_: Sort, row: u32, fields: &Row) -> Result<EventCard, Misfit> {
         Ok(EventCard {
             row,
             code: read_code(fields, 2)?,
@@ -76,6 +77,6 @@ impl Cards {
         ensures few { length result.now ≤ MAX_EVENTS }
         ensures within { IsWithinLimits self.now }
     {
-        self.lists.events.as_slice()
+        self.deck.lists.events.as_slice()
     }
 }

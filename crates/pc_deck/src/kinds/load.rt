@@ -5,6 +5,7 @@ use crate::cards::Cards;
 use pc_cards::card::{Card, Layout};
 use pc_cards::field::{Misfit, read_amount, read_code};
 use pc_cards::form::{Form, MONEY, Slot};
+use pc_cards::sort::Sort;
 use pc_faults::Kind;
 use pc_model::MAX_COST;
 use pc_records::{Row, RowWriter};
@@ -23,7 +24,7 @@ pub struct LoadCard {
 const SLOTS: [Slot; 3] = [(2, Form::Code), (3, Form::Code), (4, MONEY)];
 
 impl Card for LoadCard {
-    ghost slots = { load_slots };
+    ghost slots = { λ sort. load_slots };
 
     ghost least = { 4 };
 
@@ -33,7 +34,7 @@ impl Card for LoadCard {
 
     ghost written = { written_load };
 
-    fn layout() -> Layout {
+    fn layout(_: Sort) -> Layout {
         Layout {
             slots: &SLOTS,
             least: 4,
@@ -41,7 +42,7 @@ impl Card for LoadCard {
         }
     }
 
-    fn read(row: u32, fields: &Row) -> Result<LoadCard, Misfit> {
+    fn read(_: Sort, row: u32, fields: &Row) -> Result<LoadCard, Misfit> {
         Ok(LoadCard {
             row,
             activity: read_code(fields, 2)?,
@@ -71,6 +72,6 @@ impl Cards {
         ensures cards { result.now ≡ self.now.loads }
         ensures within { IsWithinLimits self.now }
     {
-        self.lists.loads.as_slice()
+        self.deck.lists.loads.as_slice()
     }
 }

@@ -1,14 +1,18 @@
-//! The kinds of cards, a file for each, and the table of them: the word of each kind, its list and its limit.
+//! The kinds of cards, a file for each, and the table of them: the word of each kind, its list, and its limit in decks of each
+//! sort.
 ghost use Rattle.std.specs.Prelude.{◌≡◌, None, Some, OnOk, IfErr};
+ghost use Rattle.pc_cards.specs.declared.sort.Sort.TheVariants as sorts;
 ghost use Rattle.pc_faults.specs.First.{Refuses};
 ghost use Rattle.pc_deck.specs.Kinds.{kind_of, limit_of};
 
 use crate::draft::Draft;
 use crate::limits::{
-    SMALL_ACTIVITIES, SMALL_CHARGES, SMALL_EVENTS, SMALL_PIECES, SMALL_STATUSES, by_version,
+    MAX_AFTERS, MAX_TASK_ITEMS, MAX_TASKS, SMALL_ACTIVITIES, SMALL_CHARGES, SMALL_EVENTS,
+    SMALL_PIECES, SMALL_STATUSES, by_version,
 };
 use pc_cards::lists::{Listed, Named, Once};
 use pc_cards::place::Place;
+use pc_cards::sort::Sort;
 use pc_faults::{DeckError, Kind};
 use pc_model::{
     MAX_ACCOUNTS, MAX_ACTIVITIES, MAX_CHARGES, MAX_EVENTS, MAX_ITEMS, MAX_LOADS, MAX_PIECES,
@@ -19,6 +23,7 @@ use std::alloc::Global;
 
 mod acct;
 mod act;
+mod after;
 mod as_of;
 mod event;
 mod load;
@@ -27,11 +32,13 @@ mod piece;
 mod project;
 mod res;
 mod status;
+mod task;
 mod terms;
 mod wbs;
 
 pub use acct::AcctCard;
 pub use act::ActCard;
+pub use after::AfterCard;
 pub use as_of::AsOfCard;
 pub use event::EventCard;
 pub use load::LoadCard;
@@ -40,10 +47,11 @@ pub use piece::PieceCard;
 pub use project::ProjectCard;
 pub use res::ResCard;
 pub use status::StatusCard;
+pub use task::TaskCard;
 pub use terms::TermsCard;
 pub use wbs::ItemCard;
 
-/// The cards of a deck by kind, but for its PROJECT card.
+/// The cards of a deck by kind, but for its PROJECT card. Those of a kind that the deck's sort has not are none.
 #[derive(Drop)]
 pub struct CardLists {
     pub as_of: Once<AsOfCard>,
@@ -51,6 +59,8 @@ pub struct CardLists {
     pub items: Named<ItemCard>,
     pub events: Named<EventCard>,
     pub acts: Named<ActCard>,
+    pub tasks: Named<TaskCard>,
+    pub afters: Listed<AfterCard>,
     pub pieces: Listed<PieceCard>,
     pub accounts: Named<AcctCard>,
     pub charges: Listed<MoneyCard>,
@@ -73,6 +83,8 @@ impl CardLists {
             items: Named::new(alloc),
             events: Named::new(alloc),
             acts: Named::new(alloc),
+            tasks: Named::new(alloc),
+            afters: Listed::new(alloc),
             pieces: Listed::new(alloc),
             accounts: Named::new(alloc),
             charges: Listed::new(alloc),
@@ -101,6 +113,8 @@ impl Draft {
             Kind::Wbs => self.lists.items.take(place, fields),
             Kind::Event => self.lists.events.take(place, fields),
             Kind::Act => self.lists.acts.take(place, fields),
+            Kind::Task => self.lists.tasks.take(place, fields),
+            Kind::After => self.lists.afters.take(place, fields),
             Kind::Piece => self.lists.pieces.take(place, fields),
             Kind::Acct => self.lists.accounts.take(place, fields),
             Kind::Charge => self.lists.charges.take(place, fields),
@@ -113,9 +127,19 @@ impl Draft {
     }
 }
 
-/// The kind that a card's first field names, in capital letters, or none where it names none.
-pub fn kind_of(field: &[u8]) -> Option<Kind>
-    ensures { result ≡ kind_of field.now }
+/// The kind of cards of the sort that a card's first field names, in capital letters, or none where it names none.
+pub fn kind_of(sort: Sort, field: &[u8]) -> Option<Kind>
+    ensures { result ≡ kind_of sort field.now }
+{
+    match sort {
+        Sort::Plan => plan_kind(field),
+        Sort::Tasks => task_kind(field),
+    }
+}
+
+/// The kind of cards of a plan.
+fn plan_kind(field: &[u8]) -> Option<Kind>
+    ensures { result ≡ kind_of sorts.Plan field.now }
 {
     if field == b"PROJECT".as_slice() {
         Some(Kind::Project)
@@ -150,9 +174,56 @@ pub fn kind_of(field: &[u8]) -> Option<Kind>
     }
 }
 
-/// How many cards of the kind a deck of the version may have, where that is a limit of its own.
-pub fn limit_of(version: u64, kind: Kind) -> Option<usize>
-    ensures { result ≡ limit_of version kind }
+/// The kind of cards of a deck of tasks.
+fn task_kind(field: &[u8]) -> Option<Kind>
+    ensures { result ≡ kind_of sorts.Tasks field.now }
+{
+    if field == b"PROJECT".as_slice() {
+        Some(Kind::Project)
+    } else if field == b"ASOF".as_slice() {
+        Some(Kind::AsOf)
+    } else if field == b"TERMS".as_slice() {
+        Some(Kind::Terms)
+    } else if field == b"WBS".as_slice() {
+        Some(Kind::Wbs)
+    } else if field == b"TASK".as_slice() {
+        Some(Kind::Task)
+    } else if field == b"AFTER".as_slice() {
+        Some(Kind::After)
+    } else if field == b"PIECE".as_slice() {
+        Some(Kind::Piece)
+    } else if field == b"ACCT".as_slice() {
+        Some(Kind::Acct)
+    } else if field == b"CHARGE".as_slice() {
+        Some(Kind::Charge)
+    } else if field == b"TOGO".as_slice() {
+        Some(Kind::ToGo)
+    } else if field == b"STATUS".as_slice() {
+        Some(Kind::Status)
+    } else if field == b"RES".as_slice() {
+        Some(Kind::Res)
+    } else if field == b"LOAD".as_slice() {
+        Some(Kind::Load)
+    } else if field == b"END".as_slice() {
+        Some(Kind::End)
+    } else {
+        None
+    }
+}
+
+/// How many cards of the kind a deck of the sort and version may have, where that is a limit of its own.
+pub fn limit_of(sort: Sort, version: u64, kind: Kind) -> Option<usize>
+    ensures { result ≡ limit_of sort version kind }
+{
+    match sort {
+        Sort::Plan => plan_limit(version, kind),
+        Sort::Tasks => task_limit(kind),
+    }
+}
+
+/// The limit of a plan of the version.
+fn plan_limit(version: u64, kind: Kind) -> Option<usize>
+    ensures { result ≡ limit_of sorts.Plan version kind }
 {
     let limit = match kind {
         Kind::Wbs => MAX_ITEMS,
@@ -165,6 +236,28 @@ pub fn limit_of(version: u64, kind: Kind) -> Option<usize>
         Kind::Status => by_version(version, SMALL_STATUSES, MAX_STATUSES),
         Kind::Res => MAX_RESOURCES,
         Kind::Load => MAX_LOADS,
+        Kind::Task | Kind::After => 0,
+        Kind::Project | Kind::AsOf | Kind::Terms | Kind::End => return None,
+    };
+    Some(limit as usize)
+}
+
+/// The limit of a deck of tasks, whatever version it says it is of.
+fn task_limit(kind: Kind) -> Option<usize>
+    ensures { result ≡ limit_of sorts.Tasks 2 kind }
+{
+    let limit = match kind {
+        Kind::Wbs => MAX_TASK_ITEMS,
+        Kind::Task => MAX_TASKS,
+        Kind::After => MAX_AFTERS,
+        Kind::Piece => MAX_PIECES,
+        Kind::Acct => MAX_ACCOUNTS,
+        Kind::Charge => MAX_CHARGES,
+        Kind::ToGo => MAX_TOGOS,
+        Kind::Status => MAX_STATUSES,
+        Kind::Res => MAX_RESOURCES,
+        Kind::Load => MAX_LOADS,
+        Kind::Event | Kind::Act => 0,
         Kind::Project | Kind::AsOf | Kind::Terms | Kind::End => return None,
     };
     Some(limit as usize)

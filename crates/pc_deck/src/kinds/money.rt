@@ -5,6 +5,7 @@ use crate::cards::Cards;
 use pc_cards::card::{Card, Layout};
 use pc_cards::field::{Misfit, read_amount, read_code, read_date};
 use pc_cards::form::{Form, MONEY, Slot};
+use pc_cards::sort::Sort;
 use pc_days::{Day, day_text};
 use pc_faults::Kind;
 use pc_model::MAX_COST;
@@ -24,7 +25,7 @@ pub struct MoneyCard {
 const SLOTS: [Slot; 3] = [(2, Form::Code), (3, Form::Date), (4, MONEY)];
 
 impl Card for MoneyCard {
-    ghost slots = { money_slots };
+    ghost slots = { λ sort. money_slots };
 
     ghost least = { 4 };
 
@@ -34,7 +35,7 @@ impl Card for MoneyCard {
 
     ghost written = { written_money };
 
-    fn layout() -> Layout {
+    fn layout(_: Sort) -> Layout {
         Layout {
             slots: &SLOTS,
             least: 4,
@@ -42,7 +43,7 @@ impl Card for MoneyCard {
         }
     }
 
-    fn read(row: u32, fields: &Row) -> Result<MoneyCard, Misfit> {
+    fn read(_: Sort, row: u32, fields: &Row) -> Result<MoneyCard, Misfit> {
         Ok(MoneyCard {
             row,
             account: read_code(fields, 2)?,
@@ -73,7 +74,7 @@ impl Cards {
         ensures cards { result.now ≡ self.now.charges }
         ensures within { IsWithinLimits self.now }
     {
-        self.lists.charges.as_slice()
+        self.deck.lists.charges.as_slice()
     }
 
     /// The TOGO cards.
@@ -81,6 +82,6 @@ impl Cards {
         ensures cards { result.now ≡ self.now.togos }
         ensures within { IsWithinLimits self.now }
     {
-        self.lists.togos.as_slice()
+        self.deck.lists.togos.as_slice()
     }
 }

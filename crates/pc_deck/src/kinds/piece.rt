@@ -5,6 +5,7 @@ use crate::cards::Cards;
 use pc_cards::card::{Card, Layout};
 use pc_cards::field::{Misfit, read_amount, read_code};
 use pc_cards::form::{Form, Slot};
+use pc_cards::sort::Sort;
 use pc_faults::Kind;
 use pc_model::{MAX_DURATION, MAX_SLOPE};
 use pc_records::{Row, RowWriter};
@@ -34,7 +35,7 @@ const SLOPE: Form = Form::Number {
 const SLOTS: [Slot; 3] = [(2, Form::Code), (3, UNITS), (4, SLOPE)];
 
 impl Card for PieceCard {
-    ghost slots = { piece_slots };
+    ghost slots = { λ sort. piece_slots };
 
     ghost least = { 4 };
 
@@ -44,7 +45,7 @@ impl Card for PieceCard {
 
     ghost written = { written_piece };
 
-    fn layout() -> Layout {
+    fn layout(_: Sort) -> Layout {
         Layout {
             slots: &SLOTS,
             least: 4,
@@ -52,7 +53,7 @@ impl Card for PieceCard {
         }
     }
 
-    fn read(row: u32, fields: &Row) -> Result<PieceCard, Misfit> {
+    fn read(_: Sort, row: u32, fields: &Row) -> Result<PieceCard, Misfit> {
         Ok(PieceCard {
             row,
             activity: read_code(fields, 2)?,
@@ -82,6 +83,6 @@ impl Cards {
         ensures cards { result.now ≡ self.now.pieces }
         ensures within { IsWithinLimits self.now }
     {
-        self.lists.pieces.as_slice()
+        self.deck.lists.pieces.as_slice()
     }
 }

@@ -3,8 +3,11 @@ ghost use Rattle.std.specs.Prelude.{◌≡◌, [], if◌then◌else◌};
 ghost use Rattle.pc_deck.specs.Project.{project_slots, project_of, written_project};
 
 use pc_cards::card::{Card, Layout};
-use pc_cards::field::{Misfit, read_amount, read_amount_or_none, read_code, read_date, read_title};
+use pc_cards::field::{
+    Misfit, read_amount, read_amount_or_none, read_code, read_date, read_own_code, read_title,
+};
 use pc_cards::form::{Form, Slot};
+use pc_cards::sort::Sort;
 use pc_days::{Day, day_text};
 use pc_faults::Kind;
 use pc_model::{MAX_DIRECTED, MAX_UNIT_DAYS};
@@ -48,10 +51,23 @@ const VERSION: Form = Form::NumberOrNone {
     most: LAST_VERSION,
 };
 
+/// The slots in a plan.
 const SLOTS: [Slot; 8] = [
     (2, Form::Code),
     (3, Form::Code),
     (4, Form::Code),
+    (5, Form::Date),
+    (6, UNIT_DAYS),
+    (7, DIRECTED),
+    (8, Form::Title),
+    (9, VERSION),
+];
+
+/// The slots in a deck of tasks.
+const TASK_SLOTS: [Slot; 8] = [
+    (2, Form::Code),
+    (3, Form::GivenCode),
+    (4, Form::GivenCode),
     (5, Form::Date),
     (6, UNIT_DAYS),
     (7, DIRECTED),
@@ -70,20 +86,23 @@ impl Card for ProjectCard {
 
     ghost written = { written_project };
 
-    fn layout() -> Layout {
+    fn layout(sort: Sort) -> Layout {
         Layout {
-            slots: &SLOTS,
+            slots: match sort {
+                Sort::Plan => &SLOTS,
+                Sort::Tasks => &TASK_SLOTS,
+            },
             least: 8,
             most: 9,
         }
     }
 
-    fn read(row: u32, fields: &Row) -> Result<ProjectCard, Misfit> {
+    fn read(sort: Sort, row: u32, fields: &Row) -> Result<ProjectCard, Misfit> {
         Ok(ProjectCard {
             row,
             code: read_code(fields, 2)?,
-            start: read_code(fields, 3)?,
-            end: read_code(fields, 4)?,
+            start: read_own_code(sort, fields, 3)?,
+            end: read_own_code(sort, fields, 4)?,
             start_day: read_date(fields, 5)?,
             unit_days: read_amount(fields, 6, 1, MAX_UNIT_DAYS)?,
             directed: read_amount_or_none(fields, 7, 0, MAX_DIRECTED)?,

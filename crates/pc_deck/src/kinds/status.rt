@@ -7,6 +7,7 @@ use crate::cards::Cards;
 use pc_cards::card::{Card, Layout};
 use pc_cards::field::{Misfit, read_code, read_date, read_letter};
 use pc_cards::form::{Form, Slot};
+use pc_cards::sort::Sort;
 use pc_days::{Day, day_text};
 use pc_faults::Kind;
 use pc_records::{Row, RowWriter};
@@ -25,7 +26,7 @@ pub struct StatusCard {
 const SLOTS: [Slot; 3] = [(2, Form::Code), (3, Form::Letter), (4, Form::Date)];
 
 impl Card for StatusCard {
-    ghost slots = { status_slots };
+    ghost slots = { λ sort. status_slots };
 
     ghost least = { 4 };
 
@@ -35,7 +36,7 @@ impl Card for StatusCard {
 
     ghost written = { written_status };
 
-    fn layout() -> Layout {
+    fn layout(_: Sort) -> Layout {
         Layout {
             slots: &SLOTS,
             least: 4,
@@ -43,7 +44,7 @@ impl Card for StatusCard {
         }
     }
 
-    fn read(row: u32, fields: &Row) -> Result<StatusCard, Misfit> {
+    fn read(_: Sort, row: u32, fields: &Row) -> Result<StatusCard, Misfit> {
         Ok(StatusCard {
             row,
             activity: read_code(fields, 2)?,
@@ -81,6 +82,6 @@ impl Cards {
         ensures cards { result.now ≡ self.now.statuses }
         ensures within { IsWithinLimits self.now }
     {
-        self.lists.statuses.as_slice()
+        self.deck.lists.statuses.as_slice()
     }
 }

@@ -5,6 +5,7 @@ use crate::cards::Cards;
 use pc_cards::card::{Card, Layout};
 use pc_cards::field::{Misfit, read_amount};
 use pc_cards::form::{Form, Slot};
+use pc_cards::sort::Sort;
 use pc_faults::Kind;
 use pc_model::MAX_TERMS;
 use pc_records::{Row, RowWriter};
@@ -35,7 +36,7 @@ const TERM: Form = Form::Number {
 const SLOTS: [Slot; 4] = [(2, TERM), (3, TERM), (4, TERM), (5, TERM)];
 
 impl Card for TermsCard {
-    ghost slots = { terms_slots };
+    ghost slots = { λ sort. terms_slots };
 
     ghost least = { 5 };
 
@@ -45,7 +46,7 @@ impl Card for TermsCard {
 
     ghost written = { written_terms };
 
-    fn layout() -> Layout {
+    fn layout(_: Sort) -> Layout {
         Layout {
             slots: &SLOTS,
             least: 5,
@@ -53,7 +54,7 @@ impl Card for TermsCard {
         }
     }
 
-    fn read(row: u32, fields: &Row) -> Result<TermsCard, Misfit> {
+    fn read(_: Sort, row: u32, fields: &Row) -> Result<TermsCard, Misfit> {
         Ok(TermsCard {
             row,
             overhead: read_amount(fields, 2, 0, MAX_TERMS)?,
@@ -85,6 +86,6 @@ impl Cards {
         ensures terms { result ≡ self.now.terms }
         ensures within { IsWithinLimits self.now }
     {
-        self.lists.terms.get()
+        self.deck.lists.terms.get()
     }
 }

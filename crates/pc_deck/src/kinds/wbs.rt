@@ -4,8 +4,9 @@ ghost use Rattle.pc_deck.specs.Wbs.{item_slots, item_of, written_item};
 
 use crate::cards::Cards;
 use pc_cards::card::{Card, Coded, Layout};
-use pc_cards::field::{Misfit, read_code, read_code_or_none, read_title};
+use pc_cards::field::{Misfit, read_code_or_none, read_own_code, read_title};
 use pc_cards::form::{Form, Slot};
+use pc_cards::sort::Sort;
 use pc_faults::Kind;
 use pc_records::{Row, RowWriter};
 use pc_text::{Code, Title};
@@ -20,7 +21,15 @@ pub struct ItemCard {
     pub title: Title,
 }
 
+/// The slots in a plan.
 const SLOTS: [Slot; 3] = [(2, Form::Code), (3, Form::CodeOrNone), (4, Form::Title)];
+
+/// The slots in a deck of tasks.
+const TASK_SLOTS: [Slot; 3] = [
+    (2, Form::GivenCode),
+    (3, Form::CodeOrNone),
+    (4, Form::Title),
+];
 
 impl Card for ItemCard {
     ghost slots = { item_slots };
@@ -33,18 +42,21 @@ impl Card for ItemCard {
 
     ghost written = { written_item };
 
-    fn layout() -> Layout {
+    fn layout(sort: Sort) -> Layout {
         Layout {
-            slots: &SLOTS,
+            slots: match sort {
+                Sort::Plan => &SLOTS,
+                Sort::Tasks => &TASK_SLOTS,
+            },
             least: 4,
             most: 4,
         }
     }
 
-    fn read(row: u32, fields: &Row) -> Result<ItemCard, Misfit> {
+    fn read(sort: Sort, row: u32, fields: &Row) -> Result<ItemCard, Misfit> {
         Ok(ItemCard {
             row,
-            code: read_code(fields, 2)?,
+            code: read_own_code(sort, fields, 2)?,
             parent: read_code_or_none(fields, 3)?,
             title: read_title(fields, 4)?,
         })
@@ -80,6 +92,6 @@ impl Cards {
         ensures cards { result.now ≡ self.now.items }
         ensures within { IsWithinLimits self.now }
     {
-        self.lists.items.as_slice()
+        self.deck.lists.items.as_slice()
     }
 }

@@ -1,5 +1,5 @@
 use Rattle.std.proofs.Common.{All, refl, sym, subst, ◌∙◌}
-use Rattle.pc_deck.proofs.ReadLemmas.{IsTextCard, deck_cards-text, next-text, read_from-kept, within-kept}
+use Rattle.pc_deck.proofs.ReadLemmas.{IsTextCard, deck_cards-text, next-text, read_from-kept, sort-kept, within-kept}
 use Rattle.pc_deck.proofs.read.take_all.Goals as goal
 
 pub cards-init : goal.cards-init
@@ -7,6 +7,7 @@ cards-init c = record {
   says = rw (c.new-rows.ensures.cards, c.new-rows.ensures.end) refl;
   within = c.requires.within;
   text = subst (All IsTextCard) (sym c.new-rows.ensures.cards) (deck_cards-text c.args.bytes.now c.requires.utf8);
+  sort = refl;
 }
 
 pub cards-preserved : goal.cards-preserved
@@ -18,4 +19,5 @@ cards-preserved c =
           ∙ c.cards.invariant.says;
       within = within-kept c.cards.draft c.take.new.self c.in-Card.row c.next.new.fields c.in_default.ensures.kept text.0 c.cards.invariant.within;
       text = text.1;
+      sort = sort-kept c.cards.draft c.take.new.self c.in-Card.row c.next.new.fields c.in_default.ensures.kept ∙ c.cards.invariant.sort;
     }

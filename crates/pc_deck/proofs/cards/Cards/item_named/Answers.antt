@@ -5,4 +5,4 @@ use Rattle.pc_faults.specs.declared.kind.Kind.TheVariants.{Wbs}
 use Rattle.pc_deck.proofs.cards.Cards.item_named.Goals as goal
 
 pub overflow_cast-result : goal.overflow_cast-result
-overflow_cast-result c = let few : length c.self.inside.lists.items ≤ MAX_ITEMS = (c.self.invariant Wbs).few in grind (arith, common_steps)
+overflow_cast-result c = let few : length c.self.inside.deck.lists.items ≤ MAX_ITEMS = (c.self.invariant Wbs).few in grind (arith, common_steps)

@@ -5,4 +5,4 @@ use Rattle.pc_faults.specs.declared.kind.Kind.TheVariants.{Res}
 use Rattle.pc_deck.proofs.cards.Cards.resource_named.Goals as goal
 
 pub overflow_cast-result : goal.overflow_cast-result
-overflow_cast-result c = let few : length c.self.inside.lists.resources ≤ MAX_RESOURCES = (c.self.invariant Res).few in grind (arith, common_steps)
+overflow_cast-result c = let few : length c.self.inside.deck.lists.resources ≤ MAX_RESOURCES = (c.self.invariant Res).few in grind (arith, common_steps)

@@ -1,0 +1,55 @@
+//! AFTER: a task that comes after another.
+ghost use Rattle.pc_deck.specs.After.{after_slots, after_of, written_after};
+
+use pc_cards::card::{Card, Layout};
+use pc_cards::field::{Misfit, read_code};
+use pc_cards::form::{Form, Slot};
+use pc_cards::sort::Sort;
+use pc_faults::Kind;
+use pc_records::{Row, RowWriter};
+use pc_text::Code;
+use std::alloc::AllocError;
+
+/// An AFTER card: the task begins only when the one before has ended.
+#[derive(Clone, Copy, Debug)]
+pub struct AfterCard {
+    pub row: u32,
+    pub task: Code,
+    pub before: Code,
+}
+
+const SLOTS: [Slot; 2] = [(2, Form::Code), (3, Form::Code)];
+
+impl Card for AfterCard {
+    ghost slots = { λ sort. after_slots };
+
+    ghost least = { 3 };
+
+    ghost most = { 3 };
+
+    ghost spelled = { after_of };
+
+    ghost written = { written_after };
+
+    fn layout(_: Sort) -> Layout {
+        Layout {
+            slots: &SLOTS,
+            least: 3,
+            most: 3,
+        }
+    }
+
+    fn read(_: Sort, row: u32, fields: &Row) -> Result<AfterCard, Misfit> {
+        Ok(AfterCard {
+            row,
+            task: read_code(fields, 2)?,
+            before: read_code(fields, 3)?,
+        })
+    }
+
+    fn put(&self, kind: Kind, text: &mut RowWriter) -> Result<(), AllocError> {
+        // A copy, so that all that is lent below lives equally long.
+        let card = *self;
+        text.put(&[kind.word(), card.task.bytes(), card.before.bytes()])
+    }
+}

@@ -1,0 +1,111 @@
+//! TASK: a task of a deck of tasks.
+ghost use Rattle.std.specs.Prelude.{refl};
+ghost use Rattle.pc_deck.specs.Task.{task_slots, task_of, written_task};
+
+use pc_cards::card::{Card, Coded, Layout};
+use pc_cards::field::{Misfit, read_amount, read_code, read_given_code, read_title};
+use pc_cards::form::{DURATION, Form, MONEY, Slot};
+use pc_cards::sort::Sort;
+use pc_faults::Kind;
+use pc_model::{MAX_COST, MAX_DURATION, MAX_SLOPE};
+use pc_records::{Row, RowWriter};
+use pc_text::{Code, Title, digits};
+use std::alloc::AllocError;
+
+/// A TASK card: a task, with its estimates and durations in units and its costs. It is what an activity is, but for the events.
+#[derive(Clone, Copy, Debug)]
+pub struct TaskCard {
+    pub row: u32,
+    pub code: Code,
+    pub item: Code,
+    pub opt: u64,
+    pub likely: u64,
+    pub pess: u64,
+    pub normal: u64,
+    pub crash: u64,
+    pub cost: u64,
+    pub slope: u64,
+    pub title: Title,
+}
+
+const SLOPE: Form = Form::Number {
+    least: 0,
+    most: MAX_SLOPE,
+};
+
+const SLOTS: [Slot; 10] = [
+    (2, Form::GivenCode),
+    (3, Form::Code),
+    (4, DURATION),
+    (5, DURATION),
+    (6, DURATION),
+    (7, DURATION),
+    (8, DURATION),
+    (9, MONEY),
+    (10, SLOPE),
+    (11, Form::Title),
+];
+
+impl Card for TaskCard {
+    ghost slots = { λ sort. task_slots };
+
+    ghost least = { 11 };
+
+    ghost most = { 11 };
+
+    ghost spelled = { task_of };
+
+    ghost written = { written_task };
+
+    fn layout(_: Sort) -> Layout {
+        Layout {
+            slots: &SLOTS,
+            least: 11,
+            most: 11,
+        }
+    }
+
+    fn read(_: Sort, row: u32, fields: &Row) -> Result<TaskCard, Misfit> {
+        Ok(TaskCard {
+            row,
+            code: read_given_code(fields, 2)?,
+            item: read_code(fields, 3)?,
+            opt: read_amount(fields, 4, 0, MAX_DURATION)?,
+            likely: read_amount(fields, 5, 0, MAX_DURATION)?,
+            pess: read_amount(fields, 6, 0, MAX_DURATION)?,
+            normal: read_amount(fields, 7, 0, MAX_DURATION)?,
+            crash: read_amount(fields, 8, 0, MAX_DURATION)?,
+            cost: read_amount(fields, 9, 0, MAX_COST)?,
+            slope: read_amount(fields, 10, 0, MAX_SLOPE)?,
+            title: read_title(fields, 11)?,
+        })
+    }
+
+    fn put(&self, kind: Kind, text: &mut RowWriter) -> Result<(), AllocError> {
+        // A copy, so that all that is lent below lives equally long.
+        let card = *self;
+        text.put(&[
+            kind.word(),
+            card.code.bytes(),
+            card.item.bytes(),
+            digits(card.opt).bytes(),
+            digits(card.likely).bytes(),
+            digits(card.pess).bytes(),
+            digits(card.normal).bytes(),
+            digits(card.crash).bytes(),
+            digits(card.cost).bytes(),
+            digits(card.slope).bytes(),
+            card.title.bytes(),
+        ])
+    }
+}
+
+impl Coded for TaskCard {
+    ghost own_code = { λ task. task.code };
+
+    fn code(&self) -> &Code {
+        &self.code
+    }
+
+    ghost second_field = { λ row fields. refl };
+}

@@ -1,0 +1,78 @@
+//! The cards of a plan that is made of lists, and not read.
+ghost use Rattle.std.specs.Prelude.{◌≡◌, IfOk, OnOk};
+ghost use Rattle.pc_deck.specs.Made.{plan_of};
+ghost use Rattle.pc_deck.specs.Within.{IsWithinLimits};
+
+use crate::cards::Cards;
+use crate::deck_cards::DeckCards;
+use crate::kinds::{
+    AcctCard, ActCard, AsOfCard, CardLists, EventCard, ItemCard, LoadCard, MoneyCard, PieceCard,
+    ProjectCard, ResCard, StatusCard, TermsCard,
+};
+use pc_cards::lists::Once;
+use std::alloc::{AllocError, Global};
+
+/// The cards of a plan, but for its PROJECT card, each kind in card order.
+pub struct PlanLists<'a> {
+    pub as_of: Option<AsOfCard>,
+    pub terms: Option<TermsCard>,
+    pub items: &'a [ItemCard],
+    pub events: &'a [EventCard],
+    pub acts: &'a [ActCard],
+    pub pieces: &'a [PieceCard],
+    pub accounts: &'a [AcctCard],
+    pub charges: &'a [MoneyCard],
+    pub togos: &'a [MoneyCard],
+    pub statuses: &'a [StatusCard],
+    pub resources: &'a [ResCard],
+    pub loads: &'a [LoadCard],
+}
+
+impl Cards {
+    /// The plan that has these cards. A card is found by its code as in a plan that was read.
+    pub fn of_lists(
+        alloc: Global,
+        project: &ProjectCard,
+        plan: &PlanLists,
+    ) -> Result<Cards, AllocError>
+        requires { IsWithinLimits (plan_of project.now plan.now) }
+        ensures { IfOk result (λ cards. cards ≡ plan_of project.now plan.now) }
+    {
+        let mut lists = CardLists::new(alloc);
+        match lists.add_plan(plan) {
+            Ok(()) => Ok(Cards {
+                deck: DeckCards {
+                    project: *project,
+                    lists,
+                },
+            }),
+            Err(e) => Err(e),
+        }
+    }
+}
+
+impl CardLists {
+    ghost use Rattle.pc_deck.specs.Kinds.{no_lists};
+    ghost use Rattle.pc_deck.specs.Made.{AreNamedOnce, lists_of};
+
+    /// Adds the cards of a plan to lists that have none. After an error the lists are of no more use.
+    fn add_plan(&mut self, plan: &PlanLists) -> Result<(), AllocError>
+        requires empty { self.old ≡ no_lists }
+        requires differ { AreNamedOnce plan.now }
+        ensures { OnOk result (self.new ≡ lists_of plan.now) }
+    {
+        self.as_of = Once::of(plan.as_of);
+        self.terms = Once::of(plan.terms);
+        self.items.add_all(plan.items)?;
+        self.events.add_all(plan.events)?;
+        self.acts.add_all(plan.acts)?;
+        self.pieces.add_all(plan.pieces)?;
+        self.accounts.add_all(plan.accounts)?;
+        self.charges.add_all(plan.charges)?;
+        self.togos.add_all(plan.togos)?;
+        self.statuses.add_all(plan.statuses)?;
+        self.resources.add_all(plan.resources)?;
+        self.loads.add_all(plan.loads)?;
+        Ok(())
+    }
+}

@@ -1,0 +1,170 @@
+//! The cards of a deck of tasks.
+ghost use Rattle.std.specs.Prelude.{◌≡◌};
+ghost use Rattle.pc_deck.specs.Deck.{item_named, task_named, account_named, resource_named};
+
+use crate::deck_cards::DeckCards;
+use crate::kinds::{
+    AcctCard, AfterCard, AsOfCard, ItemCard, LoadCard, MoneyCard, PieceCard, ProjectCard, ResCard,
+    StatusCard, TaskCard, TermsCard,
+};
+use pc_text::Code;
+use std::marker::Model;
+
+/// The cards of a deck of tasks that was read, each kind in card order.
+#[derive(Drop)]
+pub struct TaskCards {
+    pub(crate) deck: DeckCards,
+}
+
+impl Model for TaskCards {
+    ghost use Rattle.pc_cards.specs.declared.sort.Sort.TheVariants.{Tasks};
+    ghost use Rattle.pc_deck.specs.Deck.{Deck};
+    ghost use Rattle.pc_deck.specs.Within.{IsWithin};
+
+    ghost Value = { Deck };
+
+    ghost view = { λ s. s.deck };
+
+    ghost invariant = { λ s. IsWithin Tasks s.deck };
+}
+
+impl TaskCards {
+    ghost use Rattle.pc_cards.specs.declared.sort.Sort.TheVariants.{Tasks};
+    ghost use Rattle.pc_deck.specs.Within.{IsWithin};
+
+    /// The PROJECT card.
+    pub fn project(&self) -> &ProjectCard
+        ensures card { result.now ≡ self.now.project }
+        ensures within { IsWithin Tasks self.now }
+    {
+        &self.deck.project
+    }
+
+    /// The ASOF card, where there is one.
+    pub fn as_of(&self) -> Option<AsOfCard>
+        ensures card { result ≡ self.now.as_of }
+        ensures within { IsWithin Tasks self.now }
+    {
+        self.deck.lists.as_of.get()
+    }
+
+    /// The TERMS card, where there is one.
+    pub fn terms(&self) -> Option<TermsCard>
+        ensures card { result ≡ self.now.terms }
+        ensures within { IsWithin Tasks self.now }
+    {
+        self.deck.lists.terms.get()
+    }
+
+    /// The WBS cards.
+    pub fn items(&self) -> &[ItemCard]
+        ensures cards { result.now ≡ self.now.items }
+        ensures within { IsWithin Tasks self.now }
+    {
+        self.deck.lists.items.as_slice()
+    }
+
+    /// The TASK cards.
+    pub fn tasks(&self) -> &[TaskCard]
+        ensures cards { result.now ≡ self.now.tasks }
+        ensures within { IsWithin Tasks self.now }
+    {
+        self.deck.lists.tasks.as_slice()
+    }
+
+    /// The AFTER cards.
+    pub fn afters(&self) -> &[AfterCard]
+        ensures cards { result.now ≡ self.now.afters }
+        ensures within { IsWithin Tasks self.now }
+    {
+        self.deck.lists.afters.as_slice()
+    }
+
+    /// The PIECE cards.
+    pub fn pieces(&self) -> &[PieceCard]
+        ensures cards { result.now ≡ self.now.pieces }
+        ensures within { IsWithin Tasks self.now }
+    {
+        self.deck.lists.pieces.as_slice()
+    }
+
+    /// The ACCT cards.
+    pub fn accounts(&self) -> &[AcctCard]
+        ensures cards { result.now ≡ self.now.accounts }
+        ensures within { IsWithin Tasks self.now }
+    {
+        self.deck.lists.accounts.as_slice()
+    }
+
+    /// The CHARGE cards.
+    pub fn charges(&self) -> &[MoneyCard]
+        ensures cards { result.now ≡ self.now.charges }
+        ensures within { IsWithin Tasks self.now }
+    {
+        self.deck.lists.charges.as_slice()
+    }
+
+    /// The TOGO cards.
+    pub fn togos(&self) -> &[MoneyCard]
+        ensures cards { result.now ≡ self.now.togos }
+        ensures within { IsWithin Tasks self.now }
+    {
+        self.deck.lists.togos.as_slice()
+    }
+
+    /// The STATUS cards.
+    pub fn statuses(&self) -> &[StatusCard]
+        ensures cards { result.now ≡ self.now.statuses }
+        ensures within { IsWithin Tasks self.now }
+    {
+        self.deck.lists.statuses.as_slice()
+    }
+
+    /// The RES cards.
+    pub fn resources(&self) -> &[ResCard]
+        ensures cards { result.now ≡ self.now.resources }
+        ensures within { IsWithin Tasks self.now }
+    {
+        self.deck.lists.resources.as_slice()
+    }
+
+    /// The LOAD cards.
+    pub fn loads(&self) -> &[LoadCard]
+        ensures cards { result.now ≡ self.now.loads }
+        ensures within { IsWithin Tasks self.now }
+    {
+        self.deck.lists.loads.as_slice()
+    }
+
+    /// The number of the item with a code: its place in card order, from 0.
+    pub fn item_named(&self, code: &Code) -> Option<u32>
+        ensures { result ≡ item_named self.now code.now }
+    {
+        let number = self.deck.lists.items.place_of(code)?;
+        Some(number as u32)
+    }
+
+    /// The number of the task with a code: its place in card order, from 0.
+    pub fn task_named(&self, code: &Code) -> Option<u32>
+        ensures { result ≡ task_named self.now code.now }
+    {
+        let number = self.deck.lists.tasks.place_of(code)?;
+        Some(number as u32)
+    }
+
+    /// The number of the account with a code: its place in card order, from 0.
+    pub fn account_named(&self, code: &Code) -> Option<u32>
+        ensures { result ≡ account_named self.now code.now }
+    {
+        let number = self.deck.lists.accounts.place_of(code)?;
+        Some(number as u32)
+    }
+
+    /// The number of the resource with a code: its place in card order, from 0.
+    pub fn resource_named(&self, code: &Code) -> Option<u32>
+        ensures { result ≡ resource_named self.now code.now }
+    {
+        let number = self.deck.lists.resources.place_of(code)?;
+        Some(number as u32)
+    }
+}
