@@ -1,7 +1,7 @@
 -- Cards that stand in order have no fault: each is what it must be, there are no more of a kind than there may be, no code
 -- of a kind stands twice, PROJECT comes first, and END comes last.
-use Rattle.std.proofs.Common.{◌≡◌, ℕ, ◌+◌, ◌<◌, ◌≤◌, Bool, true, false, not, ◌&&◌, ◌||◌, ◌==◌, nat_lt, nat_eq, List, [], ◌∷◌, ◌++◌, length, length-append, map, get_or, Option, Some, None, All, Ok, if◌then◌else◌, bytes_eq, inl, inr, refl, sym, ap, ◌∙◌, subst, suc, append_assoc, append-nil, arith}
-use Rattle.std.specs.Cmp.Lexicographic.{bytes_decides, pointwise, same_text}
+use Rattle.std.proofs.Common.{◌≡◌, ℕ, ◌+◌, ◌<◌, ◌≤◌, Bool, true, false, not, ◌&&◌, ◌==◌, nat_lt, List, [], ◌∷◌, ◌++◌, length, length-append, map, get_or, Option, Some, None, All, Ok, if◌then◌else◌, bytes_eq, inl, inr, refl, sym, ap, ◌∙◌, subst, append_assoc, append-nil, arith}
+use Rattle.std.specs.Cmp.Lexicographic.{bytes_decides}
 use Rattle.std.proofs.lemmas.Bool.{false≢true, ne_eqb}
 use Rattle.std.proofs.lemmas.List.{get_or_at, map-append}
 use Rattle.std.proofs.lemmas.List.Elements.{filter-append}

@@ -1,9 +1,12 @@
--- The plan that is made of lists.
-use Rattle.std.specs.Prelude.{[], map}
+-- The plan that is made of lists, or drawn of a deck of tasks.
+use Rattle.std.specs.Prelude.{List, [], map}
 use Rattle.pc_model.specs.Codes.{IsNamedOnce}
 use Rattle.pc_deck.specs.Deck.{Deck}
+use Rattle.pc_deck.specs.declared.kinds.act.ActCard.{ActCard}
 use Rattle.pc_deck.specs.declared.kinds.CardLists.{CardLists}
+use Rattle.pc_deck.specs.declared.kinds.event.EventCard.{EventCard}
 use Rattle.pc_deck.specs.declared.kinds.project.ProjectCard.{ProjectCard}
+use Rattle.pc_deck.specs.declared.kinds.wbs.ItemCard.{ItemCard}
 use Rattle.pc_deck.specs.declared.made.PlanLists.{PlanLists}
 
 -- the lists of a plan that has these
@@ -28,6 +31,13 @@ lists_of plan = record {
 -- the plan that has this PROJECT card and these lists
 abbrev pub plan_of : ProjectCard → PlanLists → Deck
 plan_of project plan = record { project = project; lists = lists_of plan }
+
+-- the plan that has these items, events and activities, and the other cards of a deck of tasks but those of tasks
+abbrev pub drawn_with : Deck → List ItemCard → List EventCard → List ActCard → Deck
+drawn_with deck items events acts = record {
+  project = deck.project;
+  lists = record deck.lists { items = items; events = events; acts = acts; tasks = []; afters = [] };
+}
 
 -- no two cards of a kind have one code of their own
 pub record AreNamedOnce (plan : PlanLists) : Type 0 where

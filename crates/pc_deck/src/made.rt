@@ -1,6 +1,6 @@
-//! The cards of a plan that is made of lists, and not read.
+//! The cards of a plan that is made of lists, or drawn of a deck of tasks, and not read.
 ghost use Rattle.std.specs.Prelude.{◌≡◌, IfOk, OnOk};
-ghost use Rattle.pc_deck.specs.Made.{plan_of};
+ghost use Rattle.pc_deck.specs.Made.{drawn_with, plan_of};
 ghost use Rattle.pc_deck.specs.Within.{IsWithinLimits};
 
 use crate::cards::Cards;
@@ -9,10 +9,12 @@ use crate::kinds::{
     AcctCard, ActCard, AsOfCard, CardLists, EventCard, ItemCard, LoadCard, MoneyCard, PieceCard,
     ProjectCard, ResCard, StatusCard, TermsCard,
 };
+use crate::task_cards::TaskCards;
 use pc_cards::lists::Once;
 use std::alloc::{AllocError, Global};
 
 /// The cards of a plan, but for its PROJECT card, each kind in card order.
+#[derive(Clone, Copy)]
 pub struct PlanLists<'a> {
     pub as_of: Option<AsOfCard>,
     pub terms: Option<TermsCard>,
@@ -48,6 +50,35 @@ impl Cards {
             }),
             Err(e) => Err(e),
         }
+    }
+
+    /// The plan that is drawn of a deck of tasks: with these items, events and activities, and all other cards of the deck but
+    /// those of tasks.
+    pub fn drawn_of(
+        alloc: Global,
+        tasks: &TaskCards,
+        items: &[ItemCard],
+        events: &[EventCard],
+        acts: &[ActCard],
+    ) -> Result<Cards, AllocError>
+        requires { IsWithinLimits (drawn_with tasks.now items.now events.now acts.now) }
+        ensures { IfOk result (λ cards. cards ≡ drawn_with tasks.now items.now events.now acts.now) }
+    {
+        let plan = PlanLists {
+            as_of: tasks.as_of(),
+            terms: tasks.terms(),
+            items,
+            events,
+            acts,
+            pieces: tasks.pieces(),
+            accounts: tasks.accounts(),
+            charges: tasks.charges(),
+            togos: tasks.togos(),
+            statuses: tasks.statuses(),
+            resources: tasks.resources(),
+            loads: tasks.loads(),
+        };
+        Cards::of_lists(alloc, tasks.project(), &plan)
     }
 }
 
