@@ -6,15 +6,16 @@ use Rattle.pc_model.specs.declared.PieceRow.{PieceRow}
 use Rattle.pc_arrows.specs.Arrows.{arrows}
 use Rattle.pc_arrows.specs.Tasks.{AreAmong, after_at}
 use Rattle.pc_project.specs.Project.{network_of}
-use Rattle.pc_tasks.specs.declared.cards.AfterCard.{AfterCard}
+use Rattle.pc_deck.specs.declared.kinds.after.AfterCard.{AfterCard}
+use Rattle.pc_deck.specs.Deck.{Deck}
 use Rattle.pc_tasks.specs.Drawn.{drawn}
 use Rattle.pc_tasks.specs.Known.{CanBeDrawn}
-use Rattle.pc_tasks.specs.Lists.{TaskDeck, after_row, afters_in, task_pieces, task_term, task_terms}
+use Rattle.pc_tasks.specs.Lists.{after_row, afters_in, task_pieces, task_term, task_terms}
 use Rattle.pc_tasks.proofs.NetworkLemmas.{network-is, task_number-within}
 use Rattle.pc_tasks.proofs.PieceLemmas.{pieces-within}
 
-module _ (deck : TaskDeck) (can : CanBeDrawn deck) where
-  tasks-terms : length (task_terms deck) ≡ length deck.tasks
+module _ (deck : Deck) (can : CanBeDrawn deck) where
+  pub tasks-terms : length (task_terms deck) ≡ length deck.tasks
   tasks-terms = length-map deck.tasks task_term
 
   -- the network, by the terms of the tasks

@@ -7,14 +7,13 @@ use Rattle.pc_model.specs.Codes.{code_at, IsNamedOnce}
 use Rattle.pc_arrows.specs.Arrows.{begin_event, end_event, last_event}
 use Rattle.pc_arrows.proofs.Outer.{IsEvent, event_of}
 use Rattle.pc_arrows.proofs.Outer.IsEvent.{at_start, at_begin, at_end, at_last}
-use Rattle.pc_deck.specs.Deck.{event_codes}
+use Rattle.pc_deck.specs.Deck.{Deck, event_codes, event_named}
 use Rattle.pc_deck.specs.declared.kinds.event.EventCard.{EventCard}
 use Rattle.pc_project.specs.Project.{event_number}
-use Rattle.pc_tasks.specs.declared.cards.TaskCard.{TaskCard}
+use Rattle.pc_deck.specs.declared.kinds.task.TaskCard.{TaskCard}
 use Rattle.pc_tasks.specs.Codes.{begin_code, end_code}
 use Rattle.pc_tasks.specs.Drawn.{drawn, drawn_event, events_of, task_events}
 use Rattle.pc_tasks.specs.Known.{CanBeDrawn}
-use Rattle.pc_tasks.specs.Lists.{TaskDeck}
 use Rattle.pc_tasks.proofs.CodeLemmas.{drawn_code-letter, drawn_code-number, given-not_drawn}
 use Rattle.pc_tasks.proofs.PlaceLemmas.{only_place-is}
 
@@ -51,7 +50,7 @@ inner-end i (task ∷ tasks) (suc k) e inside is =
     let number : (i + 1) + k ≡ i + suc k = omega arith in
     ap (code_at (inner i (task ∷ tasks))) place ∙ (inner-end (i + 1) tasks k (2 * k + 1) (omega arith) refl ∙ ap end_code number)
 
-module _ (deck : TaskDeck) (can : CanBeDrawn deck) where
+module _ (deck : Deck) (can : CanBeDrawn deck) where
   abbrev n : ℕ
   n = length deck.tasks
 
@@ -122,13 +121,27 @@ module _ (deck : TaskDeck) (can : CanBeDrawn deck) where
       let within : k < length all = omega (arith, inside, ap length events-are) in
       events-once j k before within (sym (ap (λ codes. code_at codes j) events-are) ∙ (same ∙ ap (λ codes. code_at codes k) events-are))
 
-  -- the number of an event by its code
+  -- the place of an event by its code
+  place : (e : ℕ) (event : IsEvent n e) → e < 2 * n + 2 → event_named (drawn deck) (code_of_event e event) ≡ Some e
+  place e event inside =
+      ap (λ codes. position (pointwise nat_eq (code_of_event e event)) codes) events-are
+      ∙ only_place-is (code_of_event e event) all e events-once (omega (arith, length-all, inside)) (code_is e event)
+
+  pub named-start : event_named (drawn deck) deck.project.start ≡ Some 0
+  named-start = place 0 (at_start refl) (omega arith)
+
+  pub named-begin : (i : ℕ) → i < n → event_named (drawn deck) (begin_code i) ≡ Some (begin_event i)
+  named-begin i known = place (begin_event i) (at_begin i known refl) (omega arith)
+
+  pub named-end : (i : ℕ) → i < n → event_named (drawn deck) (end_code i) ≡ Some (end_event i)
+  named-end i known = place (end_event i) (at_end i known refl) (omega arith)
+
+  pub named-last : event_named (drawn deck) deck.project.end ≡ Some (last_event n)
+  named-last = place (last_event n) (at_last refl) (omega arith)
+
+  -- and its number
   number : (e : ℕ) (event : IsEvent n e) → e < 2 * n + 2 → event_number (drawn deck) (code_of_event e event) ≡ e
-  number e event inside =
-      let code = code_of_event e event in
-      let past = length (drawn deck).events in
-      ap (λ codes. unwrap_or (position (pointwise nat_eq code) codes) past) events-are
-      ∙ ap (λ found. unwrap_or found past) (only_place-is code all e events-once (omega (arith, length-all, inside)) (code_is e event))
+  number e event inside = ap (λ found. unwrap_or found (length (drawn deck).events)) (place e event inside)
 
   pub number-start : event_number (drawn deck) deck.project.start ≡ 0
   number-start = number 0 (at_start refl) (omega arith)

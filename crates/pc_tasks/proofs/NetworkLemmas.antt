@@ -10,12 +10,13 @@ use Rattle.pc_model.specs.Network.{Network}
 use Rattle.pc_arrows.specs.declared.AfterRow.{AfterRow}
 use Rattle.pc_arrows.specs.Arrows.{after_arc, arrows, begin_event, comes_after, comes_before, end_event, first_arc, firsts, last_arc, last_event, lasts, links, task_arc}
 use Rattle.pc_project.specs.Project.{arc_of, event_number, network_of}
-use Rattle.pc_tasks.specs.declared.cards.AfterCard.{AfterCard}
-use Rattle.pc_tasks.specs.declared.cards.TaskCard.{TaskCard}
+use Rattle.pc_deck.specs.declared.kinds.after.AfterCard.{AfterCard}
+use Rattle.pc_deck.specs.declared.kinds.task.TaskCard.{TaskCard}
+use Rattle.pc_deck.specs.Deck.{Deck, task_codes}
 use Rattle.pc_tasks.specs.Codes.{begin_code, end_code}
 use Rattle.pc_tasks.specs.Drawn.{after_links, drawn, first_link, last_link, links_of, task_acts}
 use Rattle.pc_tasks.specs.Known.{CanBeDrawn, IsKnownAfter}
-use Rattle.pc_tasks.specs.Lists.{TaskDeck, after_row, afters_in, task_codes, task_number}
+use Rattle.pc_tasks.specs.Lists.{after_row, afters_in, task_number}
 use Rattle.pc_tasks.proofs.EventLemmas as events
 use Rattle.pc_tasks.proofs.PlaceLemmas.{found-within}
 
@@ -24,7 +25,7 @@ abbrev arc : ℕ → ℕ → Arc
 arc from to = record { from = from; to = to }
 
 -- the number of a task that is known
-pub task_number-within : (deck : TaskDeck) (after : AfterCard) → IsKnownAfter deck after → (task_number deck after.task < length deck.tasks) × (task_number deck after.before < length deck.tasks)
+pub task_number-within : (deck : Deck) (after : AfterCard) → IsKnownAfter deck after → (task_number deck after.task < length deck.tasks) × (task_number deck after.before < length deck.tasks)
 task_number-within deck after known = (
   omega (arith, found-within after.task (task_codes deck) (length deck.tasks) known.task, length-map deck.tasks (λ task. task.code)),
   omega (arith, found-within after.before (task_codes deck) (length deck.tasks) known.before, length-map deck.tasks (λ task. task.code)),
@@ -34,7 +35,7 @@ task_number-within deck after known = (
 abbrev pub IsRow : ℕ → AfterRow → Type 0
 IsRow n row = (row.task < n) × (row.before < n)
 
-pub rows-known : (deck : TaskDeck) → All (IsKnownAfter deck) deck.afters → All (IsRow (length deck.tasks)) (afters_in deck)
+pub rows-known : (deck : Deck) → All (IsKnownAfter deck) deck.afters → All (IsRow (length deck.tasks)) (afters_in deck)
 rows-known deck known =
     All-map (IsRow (length deck.tasks)) (after_row deck) deck.afters (λ k d inside. task_number-within deck (get_or deck.afters k d) (known k d inside))
 
@@ -49,7 +50,7 @@ firsts-below n afters = All-filter (λ i. not (comes_after afters i)) (λ i. i <
 pub lasts-below : (n : ℕ) (afters : List AfterRow) → All (λ i. i < n) (lasts n afters)
 lasts-below n afters = All-filter (λ i. not (comes_before afters i)) (λ i. i < n) (range_with_len 0 n) (all_below n)
 
-module _ (deck : TaskDeck) (can : CanBeDrawn deck) where
+module _ (deck : Deck) (can : CanBeDrawn deck) where
   abbrev n : ℕ
   n = length deck.tasks
 

@@ -6,14 +6,14 @@ use Rattle.std.proofs.lemmas.List.{length-map, map-append}
 use Rattle.std.proofs.lemmas.Bool.{false≢true}
 use Rattle.std.proofs.lemmas.List.Elements.{All-head, All-tail, All-map}
 use Rattle.pc_model.specs.declared.PieceRow.{PieceRow}
-use Rattle.pc_deck.specs.Deck.{act_codes}
+use Rattle.pc_deck.specs.Deck.{Deck, act_codes, task_codes, task_named}
 use Rattle.pc_deck.specs.declared.kinds.act.ActCard.{ActCard}
 use Rattle.pc_deck.specs.declared.kinds.piece.PieceCard.{PieceCard}
 use Rattle.pc_project.specs.Project.{act_number, piece_of, pieces_in}
-use Rattle.pc_tasks.specs.declared.cards.TaskCard.{TaskCard}
+use Rattle.pc_deck.specs.declared.kinds.task.TaskCard.{TaskCard}
 use Rattle.pc_tasks.specs.Drawn.{drawn, links_of, task_acts}
 use Rattle.pc_tasks.specs.Known.{CanBeDrawn, IsKnownPiece}
-use Rattle.pc_tasks.specs.Lists.{TaskDeck, task_codes, task_named, task_number, task_piece, task_pieces}
+use Rattle.pc_tasks.specs.Lists.{task_number, task_piece, task_pieces}
 use Rattle.pc_tasks.proofs.PlaceLemmas.{found-before, found-within}
 
 abbrev code_of : ActCard → List ℕ
@@ -24,13 +24,13 @@ of_tasks i [] = refl
 of_tasks i (task ∷ tasks) = ap (λ rest. task.code ∷ rest) (of_tasks (i + 1) tasks)
 
 -- the codes of the activities: first those of the tasks
-pub acts-are : (deck : TaskDeck) → act_codes (drawn deck) ≡ task_codes deck ++ map code_of (links_of deck)
+pub acts-are : (deck : Deck) → act_codes (drawn deck) ≡ task_codes deck ++ map code_of (links_of deck)
 acts-are deck =
     map-append code_of (task_acts 0 deck.tasks) (links_of deck)
     ∙ ap (λ front. front ++ map code_of (links_of deck)) (of_tasks 0 deck.tasks)
 
 -- a task is found among the activities at its own place
-pub task-named : (deck : TaskDeck) (code : List ℕ) → IsSome (task_named deck code) → position (pointwise nat_eq code) (act_codes (drawn deck)) ≡ task_named deck code
+pub task-named : (deck : Deck) (code : List ℕ) → IsSome (task_named deck code) → position (pointwise nat_eq code) (act_codes (drawn deck)) ≡ task_named deck code
 task-named deck code known =
     ap (λ all. position (pointwise nat_eq code) all) (acts-are deck) ∙ found-before code (task_codes deck) (map code_of (links_of deck)) known
 
@@ -42,7 +42,7 @@ default code codes a b known = some (position (pointwise nat_eq code) codes) kno
     some (Some i) known = refl
     some None known = absurd (false≢true known)
 
-module _ (deck : TaskDeck) where
+module _ (deck : Deck) where
   task-number : (code : List ℕ) → IsSome (task_named deck code) → act_number (drawn deck) code ≡ task_number deck code
   task-number code known =
       ap (λ found. unwrap_or found (length (drawn deck).acts)) (task-named deck code known)

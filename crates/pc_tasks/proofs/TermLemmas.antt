@@ -7,9 +7,10 @@ use Rattle.pc_arrows.specs.declared.AfterRow.{AfterRow}
 use Rattle.pc_arrows.specs.Arrows.{after_arc, arrow_terms, first_arc, firsts, last_arc, lasts, links, no_term}
 use Rattle.pc_deck.specs.declared.kinds.act.ActCard.{ActCard}
 use Rattle.pc_project.specs.Project.{term_of, terms_in}
-use Rattle.pc_tasks.specs.declared.cards.TaskCard.{TaskCard}
+use Rattle.pc_deck.specs.declared.kinds.task.TaskCard.{TaskCard}
+use Rattle.pc_deck.specs.Deck.{Deck}
 use Rattle.pc_tasks.specs.Drawn.{after_links, drawn, first_link, last_link, links_of, task_acts}
-use Rattle.pc_tasks.specs.Lists.{TaskDeck, afters_in, task_term, task_terms}
+use Rattle.pc_tasks.specs.Lists.{afters_in, task_term, task_terms}
 
 of_tasks : (i : ℕ) (tasks : List TaskCard) → map term_of (task_acts i tasks) ≡ map task_term tasks
 of_tasks i [] = refl
@@ -23,7 +24,7 @@ of_afters : (j : ℕ) (rows : List AfterRow) → map term_of (after_links j rows
 of_afters j [] = refl
 of_afters j (row ∷ rows) = ap (λ rest. no_term ∷ rest) (of_afters (j + 1) rows)
 
-module _ (deck : TaskDeck) where
+module _ (deck : Deck) where
   abbrev n : ℕ
   n = length deck.tasks
 

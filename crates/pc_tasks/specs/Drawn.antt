@@ -4,12 +4,13 @@ use Rattle.std.specs.Prelude.{ℕ, ◌+◌, List, [], ◌∷◌, ◌++◌, lengt
 use Rattle.pc_arrows.specs.Arrows.{firsts, lasts}
 use Rattle.pc_arrows.specs.declared.AfterRow.{AfterRow}
 use Rattle.pc_deck.specs.Deck.{Deck}
+use Rattle.pc_deck.specs.Made.{drawn_with}
 use Rattle.pc_deck.specs.declared.kinds.act.ActCard.{ActCard}
 use Rattle.pc_deck.specs.declared.kinds.event.EventCard.{EventCard}
 use Rattle.pc_deck.specs.declared.kinds.wbs.ItemCard.{ItemCard}
-use Rattle.pc_tasks.specs.declared.cards.TaskCard.{TaskCard}
+use Rattle.pc_deck.specs.declared.kinds.task.TaskCard.{TaskCard}
 use Rattle.pc_tasks.specs.Codes.{begin_code, end_code, after_code, first_code, last_code, links_code}
-use Rattle.pc_tasks.specs.Lists.{TaskDeck, afters_in}
+use Rattle.pc_tasks.specs.Lists.{afters_in}
 
 -- an event without a title; it stands on no card
 abbrev pub drawn_event : List ℕ → EventCard
@@ -21,7 +22,7 @@ task_events i [] = []
 task_events i (task ∷ tasks) = drawn_event (begin_code i) ∷ drawn_event (end_code i) ∷ task_events (i + 1) tasks
 
 -- the start, the events of the tasks, and the end
-abbrev pub events_of : TaskDeck → List EventCard
+abbrev pub events_of : Deck → List EventCard
 events_of deck = drawn_event deck.project.start ∷ (task_events 0 deck.tasks ++ drawn_event deck.project.end ∷ [])
 
 -- the activity of a task: it has the task's code, item, numbers and title
@@ -71,15 +72,15 @@ after_links j [] = []
 after_links j (row ∷ rows) = link (after_code j) (end_code row.before) (begin_code row.task) ∷ after_links (j + 1) rows
 
 -- one from the start to where a task begins
-abbrev pub first_link : TaskDeck → ℕ → ActCard
+abbrev pub first_link : Deck → ℕ → ActCard
 first_link deck i = link (first_code i) deck.project.start (begin_code i)
 
 -- one from where a task ends to the end
-abbrev pub last_link : TaskDeck → ℕ → ActCard
+abbrev pub last_link : Deck → ℕ → ActCard
 last_link deck i = link (last_code i) (end_code i) deck.project.end
 
 -- the links: of the AFTER cards, from the start to each task that comes after none, and from each task that none comes after to the end
-abbrev pub links_of : TaskDeck → List ActCard
+abbrev pub links_of : Deck → List ActCard
 links_of deck =
     after_links 0 (afters_in deck)
     ++ (map (first_link deck) (firsts (length deck.tasks) (afters_in deck)) ++ map (last_link deck) (lasts (length deck.tasks) (afters_in deck)))
@@ -89,20 +90,13 @@ abbrev pub code_of_top : Option ItemCard → Option (List ℕ)
 code_of_top None = None
 code_of_top (Some item) = Some item.code
 
-abbrev pub top_code : TaskDeck → Option (List ℕ)
+abbrev pub top_code : Deck → Option (List ℕ)
 top_code deck = code_of_top (find (λ item. is_none item.parent) deck.items)
 
 -- the item of the links, below the top
-abbrev pub links_item : TaskDeck → ItemCard
+abbrev pub links_item : Deck → ItemCard
 links_item deck = record { row = 0; code = links_code; parent = top_code deck; title = [] }
 
 -- the deck of arrows
-abbrev pub drawn : TaskDeck → Deck
-drawn deck = record {
-  project = deck.project;
-  lists = record deck.lists {
-    items = deck.items ++ links_item deck ∷ [];
-    events = events_of deck;
-    acts = task_acts 0 deck.tasks ++ links_of deck;
-  };
-}
+abbrev pub drawn : Deck → Deck
+drawn deck = drawn_with deck (deck.items ++ links_item deck ∷ []) (events_of deck) (task_acts 0 deck.tasks ++ links_of deck)

@@ -4,8 +4,8 @@ ghost use Rattle.std.specs.List.{range_with_len};
 ghost use Rattle.pc_arrows.specs.Arrows.{after_arc, first_arc, last_arc, task_arc, tasks_of, wide_arrows};
 ghost use Rattle.pc_arrows.specs.Cycles.{IsFirstTaskCycle, IsTaskCycle};
 ghost use Rattle.pc_arrows.specs.Tasks.{AreAmong};
+ghost use Rattle.pc_deck.specs.declared.limits.TheConstants.{MAX_AFTERS, MAX_TASKS};
 
-use crate::limits::{MAX_AFTERS, MAX_TASKS};
 use pc_arrows::AfterRow;
 use pc_arrows::arrow_laws::wide_arrows_have_the_cycles;
 use pc_model::Arc;

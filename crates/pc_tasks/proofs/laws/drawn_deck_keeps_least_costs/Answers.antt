@@ -7,16 +7,17 @@ use Rattle.pc_model.specs.declared.PieceRow.{PieceRow}
 use Rattle.pc_model.specs.declared.Term.{Term}
 use Rattle.pc_arrows.specs.Arrows.{arrow_terms, arrows}
 use Rattle.pc_project.specs.Project.{network_of, pieces_in, terms_in}
+use Rattle.pc_deck.specs.Deck.{Deck}
 use Rattle.pc_tasks.specs.Drawn.{drawn}
 use Rattle.pc_tasks.specs.Known.{CanBeDrawn}
-use Rattle.pc_tasks.specs.Lists.{TaskDeck, afters_in, task_pieces, task_terms}
+use Rattle.pc_tasks.specs.Lists.{afters_in, task_pieces, task_terms}
 use Rattle.pc_tasks.proofs.DrawnLemmas.{afters-among, network-arrows, pieces-known}
 use Rattle.pc_tasks.proofs.PieceLemmas.{pieces-are}
 use Rattle.pc_tasks.proofs.TermLemmas.{terms-are}
 use Rattle.pc_tasks.proofs.laws.drawn_deck_keeps_least_costs.Goals as goal
 
 -- what holds of the arrows of the tasks holds of the deck that is drawn, and the other way round
-module _ (deck : TaskDeck) (can : CanBeDrawn deck) where
+module _ (deck : Deck) (can : CanBeDrawn deck) where
   abbrev net : Network
   net = arrows (length (task_terms deck)) (afters_in deck)
 
