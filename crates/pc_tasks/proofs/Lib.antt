@@ -8,3 +8,7 @@ pub mod DrawnLemmas
 pub mod MarkLemmas
 pub mod CircleLemmas
 pub mod PutLemmas
+pub mod SpelledLemmas
+pub mod OnceLemmas
+pub mod FitLemmas
+pub mod WithinLemmas

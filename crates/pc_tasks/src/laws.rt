@@ -11,6 +11,8 @@ ghost use Rattle.pc_arrows.specs.Arrows.{arrow_terms, arrows};
 ghost use Rattle.pc_arrows.specs.Tasks.{HasTaskSchedule, IsLeastTaskCost};
 ghost use Rattle.pc_project.specs.Project.{network_of, pieces_in, terms_in};
 ghost use Rattle.pc_deck.specs.Deck.{Deck};
+ghost use Rattle.pc_cards.specs.declared.sort.Sort.TheVariants.{Tasks};
+ghost use Rattle.pc_deck.specs.Within.{IsWithin, IsWithinLimits};
 ghost use Rattle.pc_tasks.specs.Drawn.{drawn};
 ghost use Rattle.pc_tasks.specs.Known.{CanBeDrawn};
 ghost use Rattle.pc_tasks.specs.Lists.{afters_in, task_pieces, task_terms};
@@ -22,6 +24,11 @@ pub fn drawn_deck_has_the_arrows()
     ensures network { (deck : Deck) → CanBeDrawn deck → network_of (drawn deck) ≡ arrows (length (task_terms deck)) (afters_in deck) }
     ensures terms { (deck : Deck) → terms_in (drawn deck) ≡ arrow_terms (task_terms deck) (afters_in deck) }
     ensures pieces { (deck : Deck) → CanBeDrawn deck → pieces_in (drawn deck) ≡ task_pieces deck }
+{}
+
+/// The deck that is drawn is within the limits of a plan.
+pub fn drawn_deck_is_within_limits()
+    ensures { (deck : Deck) → IsWithin Tasks deck → CanBeDrawn deck → IsWithinLimits (drawn deck) }
 {}
 
 /// For every length there is a schedule of the tasks exactly where there is one of the deck that is drawn, and the least cost of the one is that of
