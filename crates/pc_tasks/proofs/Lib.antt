@@ -12,3 +12,4 @@ pub mod SpelledLemmas
 pub mod OnceLemmas
 pub mod FitLemmas
 pub mod WithinLemmas
+pub mod DrawLemmas

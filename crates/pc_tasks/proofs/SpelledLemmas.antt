@@ -1,15 +1,15 @@
 -- The codes that are drawn are codes, and codes are text.
-use Rattle.std.proofs.Common.{◌≡◌, ℕ, ◌+◌, ◌^◌, ◌<◌, ◌≤◌, ◌&&◌, Bool, true, false, nat_le, nat_lt, List, [], ◌∷◌, length, refl, sym, ◌∙◌, ap, arith}
+use Rattle.std.proofs.Common.{◌≡◌, ℕ, ◌+◌, ◌^◌, ◌<◌, ◌≤◌, ◌&&◌, Bool, true, false, nat_le, nat_lt, List, [], ◌∷◌, length, Option, Some, None, refl, ◌∙◌, ap, arith}
 use Rattle.std.specs.Prelude.{decimal}
 use Rattle.std.specs.Char.{is_ascii_digit}
 use Rattle.std.specs.List.{list_all}
 use Rattle.std.specs.Str.{IsUtf8}
-use Rattle.std.proofs.lemmas.Bool.{and_parts}
+use Rattle.std.proofs.lemmas.Bool.{and_parts, cond-true}
 use Rattle.std.proofs.lemmas.Bool.Decides.{nat_tests}
 use Rattle.std.proofs.lemmas.Fmt.{digits_decimal, length-decimal-le}
 use Rattle.std.proofs.lemmas.Str.{IsUtf8-nil}
 use Rattle.pc_records.proofs.Utf8Facts.{join_ascii}
-use Rattle.pc_text.specs.Code.{is_code, is_code_byte}
+use Rattle.pc_text.specs.Code.{code_of, is_code, is_code_byte}
 use Rattle.pc_text.proofs.NumberLemmas.{own}
 use Rattle.pc_tasks.specs.Codes.{drawn_code}
 
@@ -45,6 +45,14 @@ drawn-code l i letter small =
     (both (nat_le (length (drawn_code l i)) 16) (list_all is_code_byte (drawn_code l i)) (at_most_16 (length (drawn_code l i)) few)
     (both (is_code_byte 95) (list_all is_code_byte (l ∷ decimal (i + 1))) refl
     (both (is_code_byte l) (list_all is_code_byte (decimal (i + 1))) letter (digit_bytes (decimal (i + 1)) bytes))))
+
+-- so that it is read
+pub digits-short : (i : ℕ) → i < 20000 → length (decimal (i + 1)) ≤ 5
+digits-short i small = length-decimal-le 5 (i + 1) (omega arith) (omega arith) (omega arith)
+
+pub read-drawn : (l i : ℕ) (field : List ℕ) (found : Option (List ℕ)) → field ≡ drawn_code l i → is_code_byte l ≡ true → i < 20000 → found ≡ code_of field → found ≡ Some (drawn_code l i)
+read-drawn l i field found is letter small read =
+    read ∙ (ap code_of is ∙ cond-true (is_code (drawn_code l i)) (Some (drawn_code l i)) None (drawn-code l i letter small))
 
 code_byte-ascii : (b : ℕ) → is_code_byte b ≡ true → b < 128
 code_byte-ascii b code = grind (arith, nat_tests)

@@ -2,5 +2,8 @@
 #![tactic(auto)]
 
 mod circle;
+mod codes;
+mod draw;
 pub mod laws;
 mod links;
+mod rows;
