@@ -3,3 +3,4 @@ pub mod Codes
 pub mod Drawn
 pub mod Known
 pub mod Marks
+pub mod Misfit

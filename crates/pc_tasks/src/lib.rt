@@ -1,9 +1,14 @@
 //! Decks of tasks: which of them come after which, and the plan of arrows that is drawn of them.
 #![tactic(auto)]
 
+mod afters;
+mod card_faults;
 mod circle;
 mod codes;
 mod draw;
+mod faulty;
+mod first;
 pub mod laws;
 mod links;
+mod misfits;
 mod rows;
