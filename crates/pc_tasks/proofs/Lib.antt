@@ -18,3 +18,6 @@ mod FirstLaws
 mod LoopLaws
 mod CardLemmas
 mod MisfitLemmas
+pub mod KnownLemmas
+pub mod KeepLemmas
+pub mod PhaseLemmas

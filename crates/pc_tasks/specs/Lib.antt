@@ -4,3 +4,5 @@ pub mod Drawn
 pub mod Known
 pub mod Marks
 pub mod Misfit
+pub mod Refusal
+pub mod Text

@@ -11,4 +11,6 @@ mod first;
 pub mod laws;
 mod links;
 mod misfits;
+mod phases;
 mod rows;
+mod tree;

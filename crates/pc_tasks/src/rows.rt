@@ -1,5 +1,7 @@
 //! What items name, by numbers.
 ghost use Rattle.std.specs.Prelude.{◌≡◌, IfOk};
+ghost use Rattle.pc_cards.specs.declared.sort.Sort.TheVariants.{Tasks};
+ghost use Rattle.pc_deck.specs.Within.{IsWithin};
 ghost use Rattle.pc_project.specs.Project.{row_of, rows_of};
 
 use pc_deck::{ItemCard, TaskCards};
@@ -8,7 +10,8 @@ use std::alloc::{AllocError, Global};
 
 /// The items by the numbers of their parents, in card order.
 pub(crate) fn item_rows(alloc: Global, cards: &TaskCards) -> Result<Vec<ItemRow>, AllocError>
-    ensures { IfOk result (λ rows. rows.items ≡ rows_of cards.now) }
+    ensures rows { IfOk result (λ rows. rows.items ≡ rows_of cards.now) }
+    ensures within { IsWithin Tasks cards.now }
 {
     let mut rows = Vec::with_capacity(alloc, cards.items().len())?;
     for item in cards.items() {
