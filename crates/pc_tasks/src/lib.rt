@@ -2,6 +2,7 @@
 #![tactic(auto)]
 
 mod afters;
+mod arrows;
 mod card_faults;
 mod circle;
 mod codes;
