@@ -15,3 +15,5 @@ mod misfits;
 mod phases;
 mod rows;
 mod tree;
+
+pub use crate::arrows::arrows_of;
