@@ -1,0 +1,75 @@
+-- Marks of tasks, and the numbers without one.
+use Rattle.std.proofs.Common.{◌≡◌, ℕ, ◌+◌, ◌<◌, ◌==◌, ◌||◌, Bool, true, false, cond, List, [], ◌∷◌, ◌++◌, length, get_or, map, set, refl, sym, ◌∙◌, ap, subst, ⊎_elim, arith}
+use Rattle.std.specs.Prelude.{All, filter, not, replicate}
+use Rattle.std.specs.List.{range_with_len}
+use Rattle.std.proofs.lemmas.Bool.{cases_eq}
+use Rattle.std.proofs.lemmas.Bool.Decides.{nat_tests}
+use Rattle.std.proofs.lemmas.List.{append-nil, get_or-replicate, get_or-set_other, get_or-set_same, length-replicate, length-set, map-id}
+use Rattle.std.proofs.lemmas.List.Elements.{All-from_get_or, All-head, All-tail}
+use Rattle.std.proofs.lemmas.List.FromFn.{filter_of_map_range_with_len_more, get_or-range_with_len, length-range_with_len}
+use Rattle.pc_tasks.specs.Marks.{AreMarks}
+
+-- no mark is set at first
+pub no_marks : (n : ℕ) → AreMarks n (λ i. false) (replicate n false)
+no_marks n = record { one_each = length-replicate n false; each = λ i inside. get_or-replicate n i false false inside }
+
+or_true : (b : Bool) → (b || true) ≡ true
+or_true true = refl
+or_true false = refl
+
+or_false : (b : Bool) → (b || false) ≡ b
+or_false true = refl
+or_false false = refl
+
+same_number : (t i : ℕ) → i ≡ t → (t == i) ≡ true
+same_number t i same = grind (arith, nat_tests)
+
+other_number : (t i : ℕ) → (i ≡ t → ⊥) → (t == i) ≡ false
+other_number t i differs = grind (arith, nat_tests)
+
+-- one more is set
+pub one_more : (n : ℕ) (test more : ℕ → Bool) (marks : List Bool) (t : ℕ) → AreMarks n test marks → t < n → ((i : ℕ) → more i ≡ (test i || (t == i))) → AreMarks n more (set marks t true)
+one_more n test more marks t are inside by = record {
+  one_each = length-set marks t true ∙ are.one_each;
+  each = λ i below. ⊎_elim
+      (λ same. ap (λ k. get_or (set marks t true) k false) same
+      ∙ (get_or-set_same marks t true false (omega (arith, are.one_each, inside))
+      ∙ sym (by i ∙ (ap (λ b. test i || b) (same_number t i same) ∙ or_true (test i)))))
+      (λ differs. get_or-set_other marks t i true false differs
+      ∙ (are.each i below
+      ∙ sym (by i ∙ (ap (λ b. test i || b) (other_number t i differs) ∙ or_false (test i)))))
+      (cases_eq i t);
+}
+
+-- tests that agree keep the same
+filter-agree : (p q : ℕ → Bool) (xs : List ℕ) → All (λ x. p x ≡ q x) xs → filter p xs ≡ filter q xs
+filter-agree p q [] agree = refl
+filter-agree p q (x ∷ xs) agree =
+    ap (λ b. cond b (x ∷ filter p xs) (filter p xs)) (All-head (λ x. p x ≡ q x) x xs agree)
+    ∙ ap (λ kept. cond (q x) (x ∷ kept) kept) (filter-agree p q xs (All-tail (λ x. p x ≡ q x) x xs agree))
+
+-- the numbers without a mark are those that fail the test
+pub unmarked-fail : (n : ℕ) (test : ℕ → Bool) (marks : List Bool) → AreMarks n test marks → filter (λ i. not (get_or marks i false)) (range_with_len 0 (length marks)) ≡ filter (λ i. not (test i)) (range_with_len 0 n)
+unmarked-fail n test marks are =
+    ap (λ m. filter (λ i. not (get_or marks i false)) (range_with_len 0 m)) are.one_each
+    ∙ filter-agree (λ i. not (get_or marks i false)) (λ i. not (test i)) (range_with_len 0 n)
+    (All-from_get_or (λ i. not (get_or marks i false) ≡ not (test i)) (range_with_len 0 n) 0 (λ k inside.
+    let below : k < n = omega (arith, length-range_with_len 0 n, inside) in
+    let is : get_or (range_with_len 0 n) k 0 ≡ k = get_or-range_with_len 0 n k 0 below ∙ omega arith in
+    subst (λ i. not (get_or marks i false) ≡ not (test i)) (sym is) (ap not (are.each k below))))
+
+-- one more number
+pub filter-more : (p : ℕ → Bool) (n : ℕ) → filter p (range_with_len 0 (n + 1)) ≡ filter p (range_with_len 0 n) ++ cond (p n) (n ∷ []) []
+filter-more p n =
+    ap (filter p) (sym (map-id (range_with_len 0 (n + 1))))
+    ∙ (filter_of_map_range_with_len_more p (λ i. i) 0 n n (omega arith)
+    ∙ ap (λ xs. filter p xs ++ cond (p n) (n ∷ []) []) (map-id (range_with_len 0 n)))
+
+-- the next number is kept, or left out
+pub kept-more : (p : ℕ → Bool) (n : ℕ) (found : List ℕ) → found ≡ filter p (range_with_len 0 n) → p n ≡ true → found ++ n ∷ [] ≡ filter p (range_with_len 0 (n + 1))
+kept-more p n found is passes =
+    ap (λ xs. xs ++ n ∷ []) is ∙ sym (filter-more p n ∙ ap (λ b. filter p (range_with_len 0 n) ++ cond b (n ∷ []) []) passes)
+
+pub left-more : (p : ℕ → Bool) (n : ℕ) (found : List ℕ) → found ≡ filter p (range_with_len 0 n) → p n ≡ false → found ≡ filter p (range_with_len 0 (n + 1))
+left-more p n found is fails =
+    is ∙ sym (filter-more p n ∙ (ap (λ b. filter p (range_with_len 0 n) ++ cond b (n ∷ []) []) fails ∙ append-nil (filter p (range_with_len 0 n))))

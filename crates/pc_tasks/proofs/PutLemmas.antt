@@ -1,0 +1,22 @@
+-- What one more number or element of a list puts behind others.
+use Rattle.std.proofs.Common.{◌≡◌, ℕ, ◌+◌, ◌<◌, List, [], ◌∷◌, ◌++◌, length, map, take, get_or, sym, ◌∙◌, ap, arith, append_assoc}
+use Rattle.std.specs.List.{range_with_len}
+use Rattle.std.proofs.lemmas.List.{map_push, take_more}
+use Rattle.std.proofs.lemmas.List.FromFn.{map-range_with_len_more}
+
+module _ {X : Type 0} where
+  -- what the next number gives
+  pub put_number : (f : ℕ → X) (front now : List X) (i : ℕ) (x : X) → now ≡ front ++ map f (range_with_len 0 i) → x ≡ f i → now ++ x ∷ [] ≡ front ++ map f (range_with_len 0 (i + 1))
+  put_number f front now i x is here =
+      ap (λ xs. xs ++ x ∷ []) is
+      ∙ (ap (λ y. (front ++ map f (range_with_len 0 i)) ++ y ∷ []) here
+      ∙ (append_assoc front (map f (range_with_len 0 i)) (f i ∷ [])
+      ∙ ap (λ back. front ++ back) (sym (map-range_with_len_more f 0 i i (omega arith)))))
+
+  -- what the next element gives
+  pub put_element : {Y : Type 0} (f : Y → X) (ys : List Y) (front now : List X) (i : ℕ) (x : X) (y : Y) → i < length ys → y ≡ get_or ys i y → now ≡ front ++ map f (take i ys) → x ≡ f y → now ++ x ∷ [] ≡ front ++ map f (take (i + 1) ys)
+  put_element f ys front now i x y inside at is here =
+      ap (λ xs. xs ++ x ∷ []) is
+      ∙ (ap (λ z. (front ++ map f (take i ys)) ++ z ∷ []) (here ∙ ap f at)
+      ∙ (append_assoc front (map f (take i ys)) (f (get_or ys i y) ∷ [])
+      ∙ ap (λ back. front ++ back) (sym (ap (map f) (take_more ys i y inside) ∙ map_push f (take i ys) (get_or ys i y)))))

@@ -1,0 +1,40 @@
+use Rattle.std.proofs.Common.{◌≡◌, ◌+◌, ◌∙◌, sym, ap, subst, None}
+use Rattle.std.specs.Prelude.{Option, Some}
+use Rattle.std.specs.List.{Any}
+use Rattle.pc_faults.specs.declared.fault.Fault.{Fault}
+use Rattle.pc_project.specs.First.{IsFirstIn, earliest}
+use Rattle.pc_tasks.specs.Lists.{after_row}
+use Rattle.pc_tasks.specs.Misfit.{HasAfterFault}
+use Rattle.pc_tasks.proofs.FirstLaws.{earliest-none}
+use Rattle.pc_tasks.proofs.LoopLaws.{IsFirstBefore, first_with, first_without, first_of_all, map_take_more}
+use Rattle.pc_tasks.proofs.afters.find_afters.Goals.{in-Ok+in_ok-push-in-Ok, in-Err}
+use Rattle.pc_tasks.proofs.afters.find_afters.Goals as goal
+
+pub loop-card-preserved : goal.loop-card-preserved
+loop-card-preserved c =
+    let has = HasAfterFault c.args.cards.now in
+    let find = after_row c.args.cards.now in
+    let list = c.afters-list.result.now in
+    let i = c.loop-card.card-index in
+    let before = c.loop-card.invariant in
+    elim c.match-after_row.branch [
+      | in-Ok+in_ok-push-in-Ok w ↦ record {
+        first = subst (IsFirstBefore has list (i + 1)) (sym w.fault-is)
+            (first_without has list i c.card-item.result c.loop-card.fault c.loop-card-test.true c.card-item.is before.first w.in-Ok.ensures.faultless);
+        rows = λ none. ap (λ v. v.items) w.rows-is ∙ (w.in_ok-push-in-Ok.ensures.items
+            ∙ map_take_more find list i c.card-item.result w.in-Ok.row c.loop-card.rows.items c.loop-card-test.true c.card-item.is (before.rows (sym w.fault-is ∙ none)) w.in-Ok.ensures.row);
+      }
+      | in-Err w ↦ record {
+        first = subst (IsFirstBefore has list (i + 1)) (sym (w.fault-is ∙ w.earliest-fault.ensures))
+            (first_with has list i c.card-item.result c.loop-card.fault c.loop-card-test.true c.card-item.is before.first w.in-Err.found w.in-Err.ensures.first);
+        rows = λ none. absurd (some_fault c.loop-card.fault w.in-Err.found (sym (w.fault-is ∙ w.earliest-fault.ensures) ∙ none));
+      }
+    ]
+  where
+    some_fault : (one : Option Fault) (fault : Fault) → earliest one (Some fault) ≡ None → ⊥
+    some_fault one fault h = let never = (earliest-none one (Some fault) h).1 in cc
+
+pub returns-clause-first : goal.returns-clause-first
+returns-clause-first c =
+    subst (λ list. IsFirstIn (λ fault. Any (λ card. HasAfterFault c.args.cards.now card fault) list) c.loop-card.fault) c.afters-list.ensures.cards
+    (first_of_all (HasAfterFault c.args.cards.now) c.afters-list.result.now c.loop-card.card-index c.loop-card.fault c.loop-card-test.false c.loop-card.invariant.first)

@@ -1,0 +1,39 @@
+use Rattle.std.proofs.Common.{◌≡◌, ◌<◌, ◌∙◌, length, ap, sym, subst, arith}
+use Rattle.std.specs.Prelude.{All}
+use Rattle.std.proofs.lemmas.List.{length-map}
+use Rattle.pc_arrows.specs.Cycles.{IsTaskCycle}
+use Rattle.pc_arrows.specs.Tasks.{AreAmong}
+use Rattle.pc_tasks.specs.Lists.{after_row}
+use Rattle.pc_tasks.proofs.KeepLemmas.{rows-among}
+use Rattle.pc_tasks.proofs.KnownLemmas.{can_be_drawn}
+use Rattle.pc_tasks.proofs.PhaseLemmas.{circle-known}
+use Rattle.pc_tasks.proofs.WithinLemmas.{few-afters, few-tasks}
+use Rattle.pc_tasks.proofs.phases.circle_fault.Goals as goal
+
+pub overflow_cast-tasks : goal.overflow_cast-tasks
+overflow_cast-tasks c = omega (arith, ap length c.tasks-tasks.ensures.cards, few-tasks c.args.cards.now c.tasks-tasks.ensures.within)
+
+pub first_circle-requires-clause-few : goal.first_circle-requires-clause-few
+first_circle-requires-clause-few c = omega (arith, ap length c.tasks-tasks.ensures.cards, few-tasks c.args.cards.now c.tasks-tasks.ensures.within)
+
+pub first_circle-requires-clause-few_afters : goal.first_circle-requires-clause-few_afters
+first_circle-requires-clause-few_afters c =
+    let deck = c.args.cards.now in
+    omega (arith, ap length c.requires.afters, length-map deck.afters (after_row deck), few-afters deck c.tasks-tasks.ensures.within)
+
+pub first_circle-requires-clause-among : goal.first_circle-requires-clause-among
+first_circle-requires-clause-among c =
+    let deck = c.args.cards.now in
+    subst (λ n. AreAmong n c.args.afters.now) (sym (ap length c.tasks-tasks.ensures.cards))
+    (rows-among deck c.args.afters.now (can_be_drawn deck c.requires.faultless c.tasks-tasks.ensures.within) c.requires.afters)
+
+pub told-requires-clause-known : goal.told-requires-clause-known
+told-requires-clause-known c =
+    let deck = c.args.cards.now in
+    subst (All (λ task. task < length deck.tasks)) (sym c.deref.ensures.value)
+    (circle-known (length deck.tasks) c.args.afters.now c.in-Some.circle.items (rows-among deck c.args.afters.now (can_be_drawn deck c.requires.faultless c.tasks-tasks.ensures.within) c.requires.afters)
+    (rw c.in-Some.is at c.in_ok-circle.ensures))
+
+pub returns-in-None : goal.returns-in-None
+returns-in-None c = λ tasks round.
+    (rw c.in-None.is at c.in_ok-circle.ensures) tasks (subst (λ rows. IsTaskCycle rows tasks) (sym c.requires.afters) round)

@@ -1,0 +1,28 @@
+-- When arrows can be drawn of a deck of tasks.
+use Rattle.pc_deck.specs.Deck.{Deck, task_named}
+use Rattle.std.specs.Prelude.{◌≢◌, ℕ, ◌≤◌, List, ◌∷◌, length, All, IsSome}
+use Rattle.pc_deck.specs.declared.kinds.piece.PieceCard.{PieceCard}
+use Rattle.pc_deck.specs.declared.kinds.after.AfterCard.{AfterCard}
+use Rattle.pc_deck.specs.declared.limits.TheConstants.{MAX_TASKS}
+
+-- the code does not begin with `_` (95), as those do that are drawn
+abbrev pub IsGiven : List ℕ → Type 0
+IsGiven code = (rest : List ℕ) → code ≢ 95 ∷ rest
+
+-- both codes of an AFTER card are those of tasks
+pub record IsKnownAfter (deck : Deck) (after : AfterCard) : Type 0 where
+  pub task : IsSome (task_named deck after.task)
+  pub before : IsSome (task_named deck after.before)
+
+-- the code of a PIECE card is that of a task
+abbrev pub IsKnownPiece : Deck → PieceCard → Type 0
+IsKnownPiece deck piece = IsSome (task_named deck piece.activity)
+
+-- the start and the end are two codes, neither of them of those that are drawn; and what cards name by the codes of tasks are tasks
+pub record CanBeDrawn (deck : Deck) : Type 0 where
+  pub few : length deck.tasks ≤ MAX_TASKS
+  pub start : IsGiven deck.project.start
+  pub end : IsGiven deck.project.end
+  pub apart : deck.project.start ≢ deck.project.end
+  pub afters : All (IsKnownAfter deck) deck.afters
+  pub pieces : All (IsKnownPiece deck) deck.pieces

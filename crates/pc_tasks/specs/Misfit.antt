@@ -1,0 +1,64 @@
+-- The faults of single cards in a deck of tasks: what they name is not there, or their numbers are out of order (F14 to F19, F41).
+use Rattle.std.specs.Prelude.{◌≡◌, ℕ, ◌<◌, ◌≤◌, List, IsSome, None}
+use Rattle.std.specs.List.{Any}
+use Rattle.pc_deck.specs.declared.kinds.after.AfterCard.{AfterCard}
+use Rattle.pc_deck.specs.declared.kinds.load.LoadCard.{LoadCard}
+use Rattle.pc_deck.specs.declared.kinds.task.TaskCard.{TaskCard}
+use Rattle.pc_deck.specs.Deck.{Deck, item_named, resource_named, task_named}
+use Rattle.pc_faults.specs.Faults as told
+use Rattle.pc_faults.specs.declared.fault.Fault.{Fault}
+use Rattle.pc_project.specs.Misfit.{HasAccountFault, HasItemFault, HasMoneyFault}
+
+-- the fault of the PROJECT card, F17: the start is the end
+abbrev pub HasEndsFault : Deck → Fault → Type 0
+HasEndsFault deck fault = (deck.project.start ≡ deck.project.end) × (fault ≡ told.one_event deck.project.row deck.project.start)
+
+-- the estimates are in order
+pub record IsInOrder (task : TaskCard) : Type 0 where
+  pub optimistic : task.opt ≤ task.likely
+  pub pessimistic : task.likely ≤ task.pess
+
+-- the faults of a TASK card
+pub data HasTaskFault (deck : Deck) (card : TaskCard) (fault : Fault) : Type 0 where
+  -- F14: its item is no item
+  unknown_item : item_named deck card.item ≡ None → fault ≡ told.unknown_item card.row card.item → HasTaskFault deck card fault
+  -- F18: its estimates are out of order
+  unordered : (IsInOrder card → ⊥) → fault ≡ told.estimates_disorder card.row → HasTaskFault deck card fault
+  -- F19: its crash duration is above the normal one
+  crash_above : card.normal < card.crash → fault ≡ told.crash_above_normal card.row → HasTaskFault deck card fault
+
+-- the faults of an AFTER card
+pub data HasAfterFault (deck : Deck) (card : AfterCard) (fault : Fault) : Type 0 where
+  -- F16: the task, or else the one before, is no task
+  unknown_task : task_named deck card.task ≡ None → fault ≡ told.unknown_activity card.row card.task → HasAfterFault deck card fault
+  unknown_before : IsSome (task_named deck card.task) → task_named deck card.before ≡ None → fault ≡ told.unknown_activity card.row card.before → HasAfterFault deck card fault
+  -- F17: the task comes after itself
+  same_task : card.task ≡ card.before → fault ≡ told.one_event card.row card.task → HasAfterFault deck card fault
+
+-- F16, at a record whose card names a task by a code: it is no task
+pub data HasNameFault (deck : Deck) (row : ℕ) (code : List ℕ) (fault : Fault) : Type 0 where
+  unknown_task : task_named deck code ≡ None → fault ≡ told.unknown_activity row code → HasNameFault deck row code fault
+
+-- the faults of a LOAD card
+pub data HasLoadFault (deck : Deck) (card : LoadCard) (fault : Fault) : Type 0 where
+  -- F16: its task is no task
+  unknown_task : task_named deck card.activity ≡ None → fault ≡ told.unknown_activity card.row card.activity → HasLoadFault deck card fault
+  -- F41: its resource is no resource
+  unknown_resource : resource_named deck card.resource ≡ None → fault ≡ told.unknown_resource card.row card.resource → HasLoadFault deck card fault
+
+-- the faults of the cards of a deck of tasks
+pub data HasMisfit (deck : Deck) (fault : Fault) : Type 0 where
+  ends : HasEndsFault deck fault → HasMisfit deck fault
+  item : Any (λ card. HasItemFault deck card fault) deck.items → HasMisfit deck fault
+  task : Any (λ card. HasTaskFault deck card fault) deck.tasks → HasMisfit deck fault
+  after : Any (λ card. HasAfterFault deck card fault) deck.afters → HasMisfit deck fault
+  piece : Any (λ card. HasNameFault deck card.row card.activity fault) deck.pieces → HasMisfit deck fault
+  account : Any (λ card. HasAccountFault deck card fault) deck.accounts → HasMisfit deck fault
+  charge : Any (λ card. HasMoneyFault deck card fault) deck.charges → HasMisfit deck fault
+  togo : Any (λ card. HasMoneyFault deck card fault) deck.togos → HasMisfit deck fault
+  status : Any (λ card. HasNameFault deck card.row card.activity fault) deck.statuses → HasMisfit deck fault
+  load : Any (λ card. HasLoadFault deck card fault) deck.loads → HasMisfit deck fault
+
+-- no card of the deck has a fault
+abbrev pub HasNoMisfit : Deck → Type 0
+HasNoMisfit deck = (fault : Fault) → HasMisfit deck fault → ⊥

@@ -1,0 +1,73 @@
+-- Why a deck of tasks whose cards were read is refused: the first fault, phase by phase. A phase counts only where none before it has a fault:
+-- first the cards one by one (F14 to F19, F41), then the tree of the items (F20 to F23, tried in that order), then whether the top has an item
+-- below it (F37), then whether there is a task (F39), then whether tasks wait for each other in a circle (F38). What is left are the faults of a plan
+-- (F28 to F31, F33 to F36), and they are those of the plan that is drawn, in which each card stands at its own record.
+use Rattle.std.specs.Prelude.{◌≡◌, ℕ, ◌<◌, List, [], All, length, map, slice_index}
+use Rattle.pc_wbs.specs.Climb.{IsTree}
+use Rattle.pc_wbs.specs.Refusal.{IsRefusal as IsTreeRefusal}
+use Rattle.pc_wbs.specs.declared.error.TreeError.{TreeError}
+use Rattle.pc_wbs.specs.declared.error.TreeError.TheVariants as tree
+use Rattle.pc_arrows.specs.Cycles.{IsFirstTaskCycle, IsTaskCycle}
+use Rattle.pc_deck.specs.Deck.{Deck, task_codes}
+use Rattle.pc_faults.specs.Faults.{childless_top, no_task, task_cycle}
+use Rattle.pc_faults.specs.First.{IsFirst}
+use Rattle.pc_faults.specs.declared.fault.Fault.{Fault as ADeckFault}
+use Rattle.pc_faults.specs.declared.fault.DeckError.TheVariants.{Fault}
+use Rattle.pc_project.specs.Project.{rows_of}
+use Rattle.pc_project.specs.Records.{codes_at, item_records}
+use Rattle.pc_project.specs.Refusal.{IsRefusedWith, tree_fault}
+use Rattle.pc_tasks.specs.Drawn.{drawn}
+use Rattle.pc_tasks.specs.Lists.{afters_in}
+use Rattle.pc_tasks.specs.Misfit.{HasMisfit, HasNoMisfit}
+
+-- the records of the tasks, in card order
+abbrev pub task_records : Deck → List ℕ
+task_records deck = map (λ task. task.row) deck.tasks
+
+-- a refusal of the tree names some of n items
+abbrev pub IsAbout : ℕ → TreeError → Type 0
+IsAbout n tree.NoTop = Unit {0}
+IsAbout n (tree.SecondTop item) = item < n
+IsAbout n (tree.Loop loop) = (0 < length loop) × All (λ item. item < n) loop
+IsAbout n (tree.TooDeep item level) = item < n
+IsAbout n tree.OutOfMemory = Unit {0}
+
+-- F37: the top is the only item, so that there is none below it
+abbrev pub HasLoneTop : Deck → ADeckFault → Type 0
+HasLoneTop deck fault = (length deck.items ≡ 1) × (fault ≡ childless_top (slice_index (item_records deck) 0))
+
+-- F39: there is no task
+abbrev pub HasNoTask : Deck → ADeckFault → Type 0
+HasNoTask deck fault = (deck.tasks ≡ []) × (fault ≡ no_task)
+
+-- F38: tasks come after one another in a circle; it comes at the first task on any such circle, from which its list goes round
+abbrev pub IsCycleFault : Deck → ADeckFault → Type 0
+IsCycleFault deck fault =
+    (cycle : List ℕ) × (IsFirstTaskCycle (afters_in deck) cycle × (fault ≡ task_cycle (slice_index (task_records deck) (slice_index cycle 0)) (codes_at (task_codes deck) cycle)))
+
+-- no card by itself is wrong, the items are a tree, and some item is below its top
+pub record HasSoundItems (deck : Deck) : Type 0 where
+  pub cards : HasNoMisfit deck
+  pub tree : IsTree (rows_of deck)
+  pub branch : (fault : ADeckFault) → HasLoneTop deck fault → ⊥
+
+-- beside that there is some task, and no tasks wait for each other in a circle
+pub record HasSoundTasks (deck : Deck) : Type 0 where
+  pub items : HasSoundItems deck
+  pub some : 0 < length deck.tasks
+  pub no_cycle : (tasks : List ℕ) → IsTaskCycle (afters_in deck) tasks → ⊥
+
+-- the fault with which a deck of tasks is refused; a phase counts only where none before it has a fault
+pub data IsTasksRefusedWith (deck : Deck) (fault : ADeckFault) : Type 0 where
+  -- F14 to F19, F41: a card names what is not there, or its numbers are out of order
+  of_cards : IsFirst (HasMisfit deck) fault → IsTasksRefusedWith deck fault
+  -- F20 to F23: the items are no tree
+  of_tree : HasNoMisfit deck → (e : TreeError) → IsTreeRefusal (rows_of deck) e → tree_fault deck e ≡ Fault fault → IsTasksRefusedWith deck fault
+  -- F37: the top has no item below it
+  of_top : HasNoMisfit deck → IsTree (rows_of deck) → HasLoneTop deck fault → IsTasksRefusedWith deck fault
+  -- F39: there is no task
+  of_none : HasSoundItems deck → HasNoTask deck fault → IsTasksRefusedWith deck fault
+  -- F38: tasks wait for each other in a circle
+  of_cycle : HasSoundItems deck → 0 < length deck.tasks → IsCycleFault deck fault → IsTasksRefusedWith deck fault
+  -- F28 to F31, F33 to F36: the plan that is drawn has a fault
+  of_plan : HasSoundTasks deck → IsRefusedWith (drawn deck) fault → IsTasksRefusedWith deck fault

@@ -1,0 +1,25 @@
+-- What the text of the arrows of a deck of tasks is.
+use Rattle.std.specs.Prelude.{◌↔◌, ℕ, List}
+use Rattle.pc_model.specs.Cost.{IsLeastCost}
+use Rattle.pc_model.specs.Pieces.{knees_of}
+use Rattle.pc_model.specs.Schedule.{HasSchedule}
+use Rattle.pc_arrows.specs.Tasks.{HasTaskSchedule, IsLeastTaskCost}
+use Rattle.pc_deck.specs.Deck.{Deck}
+use Rattle.pc_deck_text.specs.Written.{IsDeckText}
+use Rattle.pc_project.specs.Figures.{IsProjectOfDeck}
+use Rattle.pc_project.specs.Project.{Project}
+use Rattle.pc_tasks.specs.Drawn.{drawn}
+use Rattle.pc_tasks.specs.Lists.{afters_in, task_pieces, task_terms}
+use Rattle.pc_tasks.specs.Refusal.{HasSoundTasks}
+
+-- for every length there is a schedule of the tasks exactly where there is one of the project, and the least cost of the one is that of the other
+pub record KeepsTasks (deck : Deck) (project : Project) : Type 0 where
+  pub schedules : (limit : ℕ) → HasTaskSchedule (task_terms deck) (afters_in deck) limit ↔ HasSchedule project.network project.terms limit
+  pub costs : (limit cost : ℕ) →
+      IsLeastTaskCost (task_terms deck) (knees_of (task_terms deck) (task_pieces deck)) (afters_in deck) limit cost
+      ↔ IsLeastCost project.network project.terms (knees_of project.terms project.pieces) limit cost
+
+-- the tasks have no fault; the text is that of the plan that is drawn of them, which is accepted; and the project of this plan keeps the tasks
+pub record IsArrowsText (deck : Deck) (text : List ℕ) : Type 0 where
+  pub sound : HasSoundTasks deck
+  pub project : (project : Project) × IsProjectOfDeck (drawn deck) project × IsDeckText project text × KeepsTasks deck project

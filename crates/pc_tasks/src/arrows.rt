@@ -1,0 +1,98 @@
+//! The arrows of a deck of tasks, or its first fault.
+ghost use Rattle.std.specs.Prelude.{◌≡◌, IfOk, IfErr};
+ghost use Rattle.pc_faults.specs.First.{Refuses};
+ghost use Rattle.pc_tasks.specs.Drawn.{drawn};
+ghost use Rattle.pc_tasks.specs.Lists.{afters_in};
+ghost use Rattle.pc_tasks.specs.Refusal.{HasSoundTasks, IsTasksRefusedWith};
+ghost use Rattle.pc_project.specs.Figures.{IsProjectOfDeck};
+ghost use Rattle.pc_tasks.specs.Text.{IsArrowsText, KeepsTasks};
+ghost use Rattle.pc_cards.specs.declared.sort.Sort.TheVariants.{Tasks};
+ghost use Rattle.pc_deck.specs.Within.{IsWithin};
+
+use crate::draw::{acts_of, events_of, items_of};
+use crate::laws::drawn_deck_keeps_least_costs;
+use crate::phases::sound_rows;
+use pc_arrows::AfterRow;
+use pc_deck::{Cards, TaskCards};
+use pc_deck_text::deck_text_of;
+use pc_faults::DeckError;
+use pc_project::{Project, project_of};
+use std::alloc::{AllocError, Global};
+
+/// The text of the plan that is drawn of the tasks, or the first fault that keeps them from one: of the cards one by one, or else of the tree of their
+/// items, or else that no item is below the top, or else that there is no task, or else of tasks that wait for each other in a circle, or else of the plan.
+pub fn arrows_of(alloc: Global, cards: &TaskCards) -> Result<Vec<u8>, DeckError>
+    ensures text { IfOk result (λ text. IsArrowsText cards.now text.items) }
+    ensures refused { IfErr result (Refuses (IsTasksRefusedWith cards.now)) }
+{
+    match sound_rows(alloc, cards) {
+        Ok(afters) => text_of_tasks(alloc, cards, &afters),
+        Err(error) => Err(error),
+    }
+}
+
+/// The text of the plan that is drawn of tasks without a fault, or the first fault of this plan.
+fn text_of_tasks(
+    alloc: Global,
+    cards: &TaskCards,
+    afters: &[AfterRow],
+) -> Result<Vec<u8>, DeckError>
+    requires sound { HasSoundTasks cards.now }
+    requires afters { afters.now ≡ afters_in cards.now }
+    ensures text { IfOk result (λ text. IsArrowsText cards.now text.items) }
+    ensures refused { IfErr result (Refuses (IsTasksRefusedWith cards.now)) }
+{
+    match project_of_tasks(alloc, cards, afters) {
+        Ok(project) => text_of(alloc, cards, &project),
+        Err(error) => Err(error),
+    }
+}
+
+/// The text of the plan of a project that was drawn of tasks.
+fn text_of(alloc: Global, cards: &TaskCards, project: &Project) -> Result<Vec<u8>, DeckError>
+    requires sound { HasSoundTasks cards.now }
+    requires project { IsProjectOfDeck (drawn cards.now) project.now }
+    requires keeps { KeepsTasks cards.now project.now }
+    ensures text { IfOk result (λ text. IsArrowsText cards.now text.items) }
+    ensures refused { IfErr result (Refuses (IsTasksRefusedWith cards.now)) }
+{
+    match deck_text_of(alloc, project) {
+        Ok(text) => Ok(text),
+        Err(_) => Err(DeckError::OutOfMemory),
+    }
+}
+
+/// The project of the plan that is drawn of tasks without a fault, or the first fault of this plan.
+fn project_of_tasks(
+    alloc: Global,
+    cards: &TaskCards,
+    afters: &[AfterRow],
+) -> Result<Project, DeckError>
+    requires sound { HasSoundTasks cards.now }
+    requires afters { afters.now ≡ afters_in cards.now }
+    ensures project { IfOk result (IsProjectOfDeck (drawn cards.now)) }
+    ensures keeps { IfOk result (KeepsTasks cards.now) }
+    ensures refused { IfErr result (Refuses (IsTasksRefusedWith cards.now)) }
+{
+    drawn_deck_keeps_least_costs();
+    let plan = drawn_of(alloc, cards, afters)?;
+    match project_of(alloc, plan) {
+        Ok(project) => Ok(project),
+        Err(error) => Err(error),
+    }
+}
+
+/// The plan that is drawn of tasks without a fault.
+fn drawn_of(alloc: Global, cards: &TaskCards, afters: &[AfterRow]) -> Result<Cards, AllocError>
+    requires sound { HasSoundTasks cards.now }
+    requires afters { afters.now ≡ afters_in cards.now }
+    ensures drawn { IfOk result (λ plan. plan ≡ drawn cards.now) }
+    ensures within { IsWithin Tasks cards.now }
+{
+    let _project = cards.project();
+    let items = items_of(alloc, cards)?;
+    let events = events_of(alloc, cards)?;
+    let acts = acts_of(alloc, cards, afters)?;
+    let plan = Cards::drawn_of(alloc, cards, &items, &events, &acts)?;
+    Ok(plan)
+}

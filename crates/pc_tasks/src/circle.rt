@@ -1,0 +1,121 @@
+//! Whether tasks wait for each other in a circle.
+ghost use Rattle.std.specs.Prelude.{◌≡◌, ◌++◌, ◌<◌, ◌≤◌, ℕ, List, length, map, IfOk, MatchOption, OnOk};
+ghost use Rattle.std.specs.List.{range_with_len};
+ghost use Rattle.pc_arrows.specs.Arrows.{after_arc, first_arc, last_arc, task_arc, tasks_of, wide_arrows};
+ghost use Rattle.pc_arrows.specs.Cycles.{IsFirstTaskCycle, IsTaskCycle};
+ghost use Rattle.pc_arrows.specs.Tasks.{AreAmong};
+ghost use Rattle.pc_deck.specs.declared.limits.TheConstants.{MAX_AFTERS, MAX_TASKS};
+
+use pc_arrows::AfterRow;
+use pc_arrows::arrow_laws::wide_arrows_have_the_cycles;
+use pc_model::Arc;
+use pc_net::{Net, NetError};
+use std::alloc::{AllocError, Global};
+
+/// The tasks of the first circle, each of which comes after the one before it, and the first after the last; none where there is no circle.
+///
+/// Linear in the tasks and the rows, but for the search for a circle where there is one.
+pub(crate) fn first_circle(
+    alloc: Global,
+    tasks: u32,
+    afters: &[AfterRow],
+) -> Result<Option<Vec<u32>>, AllocError>
+    requires some { 0 < tasks }
+    requires few { tasks ≤ MAX_TASKS }
+    requires few_afters { length afters.now ≤ MAX_AFTERS }
+    requires among { AreAmong tasks afters.now }
+    ensures { IfOk result (λ found. MatchOption found
+        ((cycle : List ℕ) → IsTaskCycle afters.now cycle → ⊥)
+        (λ cycle. IsFirstTaskCycle afters.now cycle.items)) }
+{
+    wide_arrows_have_the_cycles();
+    let arcs = wide_arcs(alloc, tasks, afters)?;
+    match Net::build(alloc, 2 * tasks + 2, 0, 2 * tasks + 1, &arcs) {
+        Ok(_) => Ok(None),
+        Err(NetError::Cycle(walk)) => Ok(Some(tasks_of(alloc, tasks, walk.as_slice())?)),
+        Err(NetError::OutOfMemory) => Err(AllocError),
+        Err(NetError::StartEntered { .. }) => unreachable!(),
+        Err(NetError::EndLeft { .. }) => unreachable!(),
+        Err(NetError::Dangling { .. }) => unreachable!(),
+    }
+}
+
+/// The activities of the wide arrows.
+fn wide_arcs(alloc: Global, tasks: u32, afters: &[AfterRow]) -> Result<Vec<Arc>, AllocError>
+    requires few { tasks ≤ MAX_TASKS }
+    requires few_afters { length afters.now ≤ MAX_AFTERS }
+    requires among { AreAmong tasks afters.now }
+    ensures { IfOk result (λ arcs. arcs.items ≡ (wide_arrows tasks afters.now).arcs) }
+{
+    let room = 3 * tasks as usize + afters.len();
+    let mut arcs = Vec::with_capacity(alloc, room)?;
+    put_tasks(&mut arcs, tasks)?;
+    put_afters(&mut arcs, tasks, afters)?;
+    put_firsts(&mut arcs, tasks)?;
+    put_lasts(&mut arcs, tasks)?;
+    Ok(arcs)
+}
+
+/// Puts each task behind the activities.
+fn put_tasks(arcs: &mut Vec<Arc>, tasks: u32) -> Result<(), AllocError>
+    requires { tasks ≤ MAX_TASKS }
+    ensures { OnOk result (arcs.new.items ≡ arcs.old.items ++ map task_arc (range_with_len 0 tasks)) }
+{
+    for i in 0..tasks {
+        arcs.push(Arc {
+            from: 2 * i + 1,
+            to: 2 * i + 2,
+        })?;
+    }
+    Ok(())
+}
+
+/// Puts a link behind the activities for each row.
+fn put_afters(arcs: &mut Vec<Arc>, tasks: u32, afters: &[AfterRow]) -> Result<(), AllocError>
+    requires few { tasks ≤ MAX_TASKS }
+    requires among { AreAmong tasks afters.now }
+    ensures { OnOk result (arcs.new.items ≡ arcs.old.items ++ map after_arc afters.now) }
+{
+    for after in afters {
+        arcs.push(Arc {
+            from: 2 * after.before + 2,
+            to: 2 * after.task + 1,
+        })?;
+    }
+    Ok(())
+}
+
+/// Puts a link from the start to each task behind the activities.
+fn put_firsts(arcs: &mut Vec<Arc>, tasks: u32) -> Result<(), AllocError>
+    requires { tasks ≤ MAX_TASKS }
+    ensures { OnOk result (arcs.new.items ≡ arcs.old.items ++ map first_arc (range_with_len 0 tasks)) }
+{
+    for i in 0..tasks {
+        arcs.push(Arc {
+            from: 0,
+            to: 2 * i + 1,
+        })?;
+    }
+    Ok(())
+}
+
+/// Puts a link from each task to the end behind the activities.
+fn put_lasts(arcs: &mut Vec<Arc>, tasks: u32) -> Result<(), AllocError>
+    requires { tasks ≤ MAX_TASKS }
+    ensures { OnOk result (arcs.new.items ≡ arcs.old.items ++ map (last_arc tasks) (range_with_len 0 tasks)) }
+{
+    for i in 0..tasks {
+        arcs.push(Arc {
+            from: 2 * i + 2,
+            to: 2 * tasks + 1,
+        })?;
+    }
+    Ok(())
+}
+
+/// The tasks among the activities of a walk.
+fn tasks_of(alloc: Global, tasks: u32, walk: &[u32]) -> Result<Vec<u32>, AllocError>
+    ensures { IfOk result (λ of. of.items ≡ tasks_of tasks walk.now) }
+{
+    walk.iter().copied().filter(|a| *a < tasks).collect(alloc)
+}

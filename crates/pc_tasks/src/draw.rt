@@ -1,0 +1,178 @@
+//! The items, the events and the activities of the plan that is drawn of tasks.
+ghost use Rattle.std.specs.Prelude.{◌≡◌, ◌++◌, ◌<◌, ◌≤◌, [], ◌∷◌, All, length, map, IfOk, OnOk};
+ghost use Rattle.pc_arrows.specs.Tasks.{AreAmong};
+ghost use Rattle.pc_tasks.specs.Drawn.{after_links, drawn_event, events_of, first_link, last_link, link, links_item, links_of, task_act, task_acts, top_code};
+ghost use Rattle.pc_tasks.specs.Lists.{afters_in};
+
+use crate::codes::{after_code, begin_code, end_code, first_code, last_code, links_code, no_title};
+use crate::links::{firsts, lasts};
+use pc_arrows::AfterRow;
+use pc_deck::{ActCard, EventCard, ItemCard, TaskCard, TaskCards};
+use pc_text::Code;
+use std::alloc::{AllocError, Global};
+
+/// The items, and one for the links below the top.
+pub(crate) fn items_of(alloc: Global, cards: &TaskCards) -> Result<Vec<ItemCard>, AllocError>
+    ensures { IfOk result (λ items. items.items ≡ cards.now.items ++ links_item cards.now ∷ []) }
+{
+    let mut items = Vec::from_slice(alloc, cards.items())?;
+    items.push(ItemCard {
+        row: 0,
+        code: links_code(),
+        parent: top_code(cards),
+        title: no_title(),
+    })?;
+    Ok(items)
+}
+
+/// The code of the first item without a parent.
+fn top_code(cards: &TaskCards) -> Option<Code>
+    ensures { result ≡ top_code cards.now }
+{
+    match cards.items().iter().find(|item| item.parent.is_none()) {
+        Some(item) => Some(item.code),
+        None => None,
+    }
+}
+
+/// The start, two events for each task, and the end.
+pub(crate) fn events_of(alloc: Global, cards: &TaskCards) -> Result<Vec<EventCard>, AllocError>
+    ensures { IfOk result (λ events. events.items ≡ events_of cards.now) }
+{
+    let tasks = cards.tasks().len() as u32;
+    let mut events = Vec::with_capacity(alloc, 2 * tasks as usize + 2)?;
+    events.push(drawn_event(cards.project().start))?;
+    for i in 0..tasks {
+        events.push(drawn_event(begin_code(i)))?;
+        events.push(drawn_event(end_code(i)))?;
+    }
+    events.push(drawn_event(cards.project().end))?;
+    Ok(events)
+}
+
+/// An event without a title.
+fn drawn_event(code: Code) -> EventCard
+    ensures { result ≡ drawn_event code }
+{
+    EventCard {
+        row: 0,
+        code,
+        title: no_title(),
+    }
+}
+
+/// The tasks as activities, and the links.
+pub(crate) fn acts_of(
+    alloc: Global,
+    cards: &TaskCards,
+    afters: &[AfterRow],
+) -> Result<Vec<ActCard>, AllocError>
+    requires afters { afters.now ≡ afters_in cards.now }
+    requires among { AreAmong (length cards.now.tasks) afters.now }
+    ensures { IfOk result (λ acts. acts.items ≡ task_acts 0 cards.now.tasks ++ links_of cards.now) }
+{
+    let tasks = cards.tasks().len() as u32;
+    let heads = firsts(alloc, tasks, afters)?;
+    let tails = lasts(alloc, tasks, afters)?;
+    let room = cards.tasks().len() + afters.len() + heads.len() + tails.len();
+    let mut acts = Vec::with_capacity(alloc, room)?;
+    put_tasks(&mut acts, cards.tasks())?;
+    put_afters(&mut acts, afters)?;
+    put_firsts(&mut acts, cards, &heads)?;
+    put_lasts(&mut acts, cards, &tails)?;
+    Ok(acts)
+}
+
+/// The activity of a task.
+fn task_act(i: u32, task: &TaskCard) -> ActCard
+    requires { i < 20_000 }
+    ensures { result ≡ task_act i task.now }
+{
+    ActCard {
+        row: task.row,
+        code: task.code,
+        from: begin_code(i),
+        to: end_code(i),
+        item: task.item,
+        opt: task.opt,
+        likely: task.likely,
+        pess: task.pess,
+        normal: task.normal,
+        crash: task.crash,
+        cost: task.cost,
+        slope: task.slope,
+        title: task.title,
+    }
+}
+
+/// A link from one event to another.
+fn link(code: Code, from: Code, to: Code) -> ActCard
+    ensures { result ≡ link code from to }
+{
+    ActCard {
+        row: 0,
+        code,
+        from,
+        to,
+        item: links_code(),
+        opt: 0,
+        likely: 0,
+        pess: 0,
+        normal: 0,
+        crash: 0,
+        cost: 0,
+        slope: 0,
+        title: no_title(),
+    }
+}
+
+/// Puts the activity of each task behind the activities.
+fn put_tasks(acts: &mut Vec<ActCard>, tasks: &[TaskCard]) -> Result<(), AllocError>
+    requires { length tasks.now ≤ 20_000 }
+    ensures { OnOk result (acts.new.items ≡ acts.old.items ++ task_acts 0 tasks.now) }
+{
+    for (i, task) in tasks.iter().enumerate() {
+        acts.push(task_act(i as u32, task))?;
+    }
+    Ok(())
+}
+
+/// Puts a link behind the activities for each row.
+fn put_afters(acts: &mut Vec<ActCard>, afters: &[AfterRow]) -> Result<(), AllocError>
+    requires few { length afters.now ≤ 20_000 }
+    requires among { AreAmong 4_000 afters.now }
+    ensures { OnOk result (acts.new.items ≡ acts.old.items ++ after_links 0 afters.now) }
+{
+    for (j, after) in afters.iter().enumerate() {
+        acts.push(link(
+            after_code(j as u32),
+            end_code(after.before),
+            begin_code(after.task),
+        ))?;
+    }
+    Ok(())
+}
+
+/// Puts a link from the start to each of the tasks behind the activities.
+fn put_firsts(acts: &mut Vec<ActCard>, cards: &TaskCards, tasks: &[u32]) -> Result<(), AllocError>
+    requires { All (λ i. i < 20_000) tasks.now }
+    ensures { OnOk result (acts.new.items ≡ acts.old.items ++ map (first_link cards.now) tasks.now) }
+{
+    let start = cards.project().start;
+    for i in tasks {
+        acts.push(link(first_code(*i), start, begin_code(*i)))?;
+    }
+    Ok(())
+}
+
+/// Puts a link from each of the tasks to the end behind the activities.
+fn put_lasts(acts: &mut Vec<ActCard>, cards: &TaskCards, tasks: &[u32]) -> Result<(), AllocError>
+    requires { All (λ i. i < 20_000) tasks.now }
+    ensures { OnOk result (acts.new.items ≡ acts.old.items ++ map (last_link cards.now) tasks.now) }
+{
+    let end = cards.project().end;
+    for i in tasks {
+        acts.push(link(last_code(*i), end_code(*i), end))?;
+    }
+    Ok(())
+}

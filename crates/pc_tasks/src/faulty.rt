@@ -1,0 +1,29 @@
+//! The first fault of single cards.
+ghost use Rattle.std.specs.List.{Any};
+ghost use Rattle.pc_deck.specs.Deck.{Deck};
+ghost use Rattle.pc_faults.specs.declared.fault.Fault.{Fault};
+ghost use Rattle.pc_project.specs.First.{IsFirstIn};
+
+use crate::first::earliest;
+use pc_deck::TaskCards;
+use pc_faults::Fault;
+
+/// A card that has faults by what it names or by its numbers.
+pub(crate) trait Faulty: Copy {
+    ghost HasFault: { Deck → Self → Fault → Type 0 };
+
+    /// The card's first fault.
+    fn fault(&self, cards: &TaskCards) -> Option<Fault>
+        ensures { IsFirstIn (HasFault cards.now self.now) result };
+}
+
+/// The first fault of the cards.
+pub(crate) fn first_fault<C: Faulty>(cards: &TaskCards, list: &[C]) -> Option<Fault>
+    ensures { IsFirstIn (λ fault. Any (λ card. C.HasFault cards.now card fault) list.now) result }
+{
+    let mut fault = None;
+    for card in list {
+        fault = earliest(fault, card.fault(cards));
+    }
+    fault
+}

@@ -1,0 +1,45 @@
+//! That the deck of arrows has the schedules of the tasks, at the same costs.
+//!
+//! Each function here does nothing: its contract is the law, proved once, and a caller that calls it has the law as a fact.
+
+ghost use Rattle.std.specs.Prelude.{◌≡◌, ◌↔◌, ℕ, length};
+ghost use Rattle.pc_model.specs.Cost.{IsLeastCost};
+ghost use Rattle.pc_model.specs.Network.{IsSound};
+ghost use Rattle.pc_model.specs.Pieces.{knees_of};
+ghost use Rattle.pc_model.specs.Schedule.{HasSchedule};
+ghost use Rattle.pc_arrows.specs.Arrows.{arrow_terms, arrows};
+ghost use Rattle.pc_arrows.specs.Tasks.{HasTaskSchedule, IsLeastTaskCost};
+ghost use Rattle.pc_project.specs.Project.{network_of, pieces_in, terms_in};
+ghost use Rattle.pc_deck.specs.Deck.{Deck};
+ghost use Rattle.pc_cards.specs.declared.sort.Sort.TheVariants.{Tasks};
+ghost use Rattle.pc_deck.specs.Within.{IsWithin, IsWithinLimits};
+ghost use Rattle.pc_tasks.specs.Drawn.{drawn};
+ghost use Rattle.pc_tasks.specs.Known.{CanBeDrawn};
+ghost use Rattle.pc_tasks.specs.Lists.{afters_in, task_pieces, task_terms};
+
+use pc_arrows::arrow_laws::{arrows_keep_least_costs, arrows_keep_schedules};
+
+/// The deck that is drawn has the arrows of the tasks: their network, what they may last and cost, and the pieces of their costs.
+pub fn drawn_deck_has_the_arrows()
+    ensures network { (deck : Deck) → CanBeDrawn deck → network_of (drawn deck) ≡ arrows (length (task_terms deck)) (afters_in deck) }
+    ensures terms { (deck : Deck) → terms_in (drawn deck) ≡ arrow_terms (task_terms deck) (afters_in deck) }
+    ensures pieces { (deck : Deck) → CanBeDrawn deck → pieces_in (drawn deck) ≡ task_pieces deck }
+{}
+
+/// The deck that is drawn is within the limits of a plan.
+pub fn drawn_deck_is_within_limits()
+    ensures { (deck : Deck) → IsWithin Tasks deck → CanBeDrawn deck → IsWithinLimits (drawn deck) }
+{}
+
+/// For every length there is a schedule of the tasks exactly where there is one of the deck that is drawn, and the least cost of the one is that of
+/// the other.
+pub fn drawn_deck_keeps_least_costs()
+    ensures schedules { (deck : Deck) (limit : ℕ) → CanBeDrawn deck → IsSound (network_of (drawn deck)) →
+        (HasTaskSchedule (task_terms deck) (afters_in deck) limit ↔ HasSchedule (network_of (drawn deck)) (terms_in (drawn deck)) limit) }
+    ensures costs { (deck : Deck) (limit cost : ℕ) → CanBeDrawn deck → IsSound (network_of (drawn deck)) →
+        (IsLeastTaskCost (task_terms deck) (knees_of (task_terms deck) (task_pieces deck)) (afters_in deck) limit cost
+        ↔ IsLeastCost (network_of (drawn deck)) (terms_in (drawn deck)) (knees_of (terms_in (drawn deck)) (pieces_in (drawn deck))) limit cost) }
+{
+    arrows_keep_schedules();
+    arrows_keep_least_costs();
+}

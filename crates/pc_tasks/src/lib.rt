@@ -1,0 +1,19 @@
+//! Decks of tasks: which of them come after which, and the plan of arrows that is drawn of them.
+#![tactic(auto)]
+
+mod afters;
+mod arrows;
+mod card_faults;
+mod circle;
+mod codes;
+mod draw;
+mod faulty;
+mod first;
+pub mod laws;
+mod links;
+mod misfits;
+mod phases;
+mod rows;
+mod tree;
+
+pub use crate::arrows::arrows_of;

@@ -1,0 +1,130 @@
+//! The phases in which a deck of tasks is judged.
+ghost use Rattle.std.specs.Prelude.{◌≡◌, ◌<◌, ℕ, List, All, length, slice_index, IfOk, IfErr, MatchOption, OnOk};
+ghost use Rattle.pc_arrows.specs.Cycles.{IsTaskCycle};
+ghost use Rattle.pc_deck.specs.Deck.{task_codes};
+ghost use Rattle.pc_faults.specs.Faults.{task_cycle};
+ghost use Rattle.pc_faults.specs.declared.fault.Fault.{Fault as ADeckFault};
+ghost use Rattle.pc_project.specs.Records.{codes_at};
+ghost use Rattle.pc_faults.specs.First.{Refuses};
+ghost use Rattle.pc_tasks.specs.Lists.{afters_in};
+ghost use Rattle.pc_tasks.specs.Misfit.{HasNoMisfit};
+ghost use Rattle.pc_tasks.specs.Refusal.{HasLoneTop, HasSoundItems, HasSoundTasks, IsCycleFault, IsTasksRefusedWith, task_records};
+
+use crate::circle::first_circle;
+use crate::misfits::look_up;
+use crate::tree::{codes_at, tree_of};
+use pc_arrows::AfterRow;
+use pc_deck::TaskCards;
+use pc_faults::{DeckError, Fault};
+use pc_text::Code;
+use std::alloc::{AllocError, Global};
+
+/// Which tasks of a deck without a fault come after which, by their numbers, or the first fault of the tasks.
+pub(crate) fn sound_rows(alloc: Global, cards: &TaskCards) -> Result<Vec<AfterRow>, DeckError>
+    ensures rows { IfOk result (λ rows. rows.items ≡ afters_in cards.now) }
+    ensures sound { OnOk result (HasSoundTasks cards.now) }
+    ensures refused { IfErr result (Refuses (IsTasksRefusedWith cards.now)) }
+{
+    let afters = match look_up(alloc, cards) {
+        Ok(afters) => afters,
+        Err(error) => return Err(error),
+    };
+    if let Err(error) = check_items(alloc, cards) {
+        return Err(error);
+    }
+    if let Err(error) = check_tasks(alloc, cards, &afters) {
+        return Err(error);
+    }
+    Ok(afters)
+}
+
+/// Answers the first fault of the tree of the items, or else that no item is below its top (F20 to F23, F37).
+fn check_items(alloc: Global, cards: &TaskCards) -> Result<(), DeckError>
+    requires { HasNoMisfit cards.now }
+    ensures sound { OnOk result (HasSoundItems cards.now) }
+    ensures refused { IfErr result (Refuses (IsTasksRefusedWith cards.now)) }
+{
+    if let Err(error) = tree_of(alloc, cards) {
+        return Err(error);
+    }
+    match lone_top(cards) {
+        Some(fault) => Err(DeckError::Fault(fault)),
+        None => Ok(()),
+    }
+}
+
+/// Answers that there is no task, or else the fault of tasks that wait for each other in a circle (F39, F38).
+fn check_tasks(alloc: Global, cards: &TaskCards, afters: &[AfterRow]) -> Result<(), DeckError>
+    requires items { HasSoundItems cards.now }
+    requires afters { afters.now ≡ afters_in cards.now }
+    ensures sound { OnOk result (HasSoundTasks cards.now) }
+    ensures refused { IfErr result (Refuses (IsTasksRefusedWith cards.now)) }
+{
+    if cards.tasks().is_empty() {
+        return Err(DeckError::Fault(Fault::no_task()));
+    }
+    match circle_fault(alloc, cards, afters)? {
+        Some(fault) => Err(DeckError::Fault(fault)),
+        None => Ok(()),
+    }
+}
+
+/// The fault of a top that is the only item (F37).
+fn lone_top(cards: &TaskCards) -> Option<Fault>
+    ensures { MatchOption result ((fault : ADeckFault) → HasLoneTop cards.now fault → ⊥) (HasLoneTop cards.now) }
+{
+    let items = cards.items();
+    if items.len() == 1 {
+        Some(Fault::childless_top(items[0].row))
+    } else {
+        None
+    }
+}
+
+/// The fault of the first tasks that wait for each other in a circle, where there are any (F38).
+fn circle_fault(
+    alloc: Global,
+    cards: &TaskCards,
+    afters: &[AfterRow],
+) -> Result<Option<Fault>, AllocError>
+    requires faultless { HasNoMisfit cards.now }
+    requires some { 0 < length cards.now.tasks }
+    requires afters { afters.now ≡ afters_in cards.now }
+    ensures { IfOk result (λ found. MatchOption found
+        ((tasks : List ℕ) → IsTaskCycle (afters_in cards.now) tasks → ⊥)
+        (IsCycleFault cards.now)) }
+{
+    let tasks = cards.tasks();
+    match first_circle(alloc, tasks.len() as u32, afters)? {
+        Some(circle) => Ok(Some(told(alloc, cards, &circle)?)),
+        None => Ok(None),
+    }
+}
+
+/// The fault of a circle of tasks.
+fn told(alloc: Global, cards: &TaskCards, circle: &[u32]) -> Result<Fault, AllocError>
+    requires some { 0 < length circle.now }
+    requires known { All (λ task. task < length cards.now.tasks) circle.now }
+    ensures { IfOk result (λ fault. fault ≡ task_cycle (slice_index (task_records cards.now) (slice_index circle.now 0)) (codes_at (task_codes cards.now) circle.now)) }
+{
+    let row = task_row(cards, circle[0]);
+    let codes = codes_of_tasks(alloc, cards)?;
+    let names = codes_at(alloc, &codes, circle)?;
+    Ok(Fault::task_cycle(row, names))
+}
+
+/// The record of a task.
+fn task_row(cards: &TaskCards, task: u32) -> u32
+    requires { task < length cards.now.tasks }
+    ensures { result ≡ slice_index (task_records cards.now) task }
+{
+    let card = &cards.tasks()[task as usize];
+    card.row
+}
+
+/// The codes of the tasks.
+fn codes_of_tasks(alloc: Global, cards: &TaskCards) -> Result<Vec<Code>, AllocError>
+    ensures { IfOk result (λ codes. codes.items ≡ task_codes cards.now) }
+{
+    cards.tasks().iter().map(|task| task.code).collect(alloc)
+}
