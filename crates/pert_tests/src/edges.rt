@@ -68,7 +68,7 @@ fn each_pull_of_a_check_fails(rt: HostRuntime) -> Result<(), Fail> {
         let task = check_of(words, deck, cert);
         let wrong = first_wrong_pull(rt.alloc(), &task, Edge::Deck, of_deck)?;
         assert_eq!(rt; wrong, None, "the deck, {of_deck} pulls");
-        let wrong = first_wrong_pull(rt.alloc(), &task, Edge::Cert, of_cert)?;
+        let wrong = first_wrong_pull(rt.alloc(), &task, Edge::Second, of_cert)?;
         assert_eq!(rt; wrong, None, "the certificate, {of_cert} pulls");
     }
     Ok(())

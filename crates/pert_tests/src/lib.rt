@@ -1,4 +1,4 @@
-//! Tests of the top calls, `run` and `check_run`, on decks and edges in memory. They stand in a crate that has nothing else,
+//! Tests of the top calls, `run`, `check_run` and `session_run`, on decks and edges in memory. They stand in a crate that has nothing else,
 //! since a crate with tests is proved twice.
 #![tactic(auto)]
 
@@ -9,6 +9,10 @@ mod checks;
 #[cfg(test)]
 mod edges;
 #[cfg(test)]
+mod flushes;
+#[cfg(test)]
 mod runs;
+#[cfg(test)]
+mod sessions;
 #[cfg(test)]
 mod testing;

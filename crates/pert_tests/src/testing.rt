@@ -1,6 +1,7 @@
 //! What the tests share: a small deck with its answers, and what a program leaves of edges in memory of which a call fails.
 
 use pc_edges::{MemSink, MemSource};
+use pc_session::session_run;
 use pert_cli::{check_run, run};
 use std::alloc::{AllocError, Global};
 
@@ -67,20 +68,21 @@ END\n";
 pub(crate) const USAGE: &[u8] =
     b"usage: pert check | normal | times | summary | value | curve | certify | point L | outlook L | bench N | migrate | optimum | load P\n";
 
-/// The two top calls.
+/// The top calls.
 #[derive(Clone, Copy)]
 pub(crate) enum Call {
     Run,
     CheckRun,
+    SessionRun,
 }
 
-/// A top call, its words, and what it may read.
+/// A top call, its words, and what it may read: a deck, and second a certificate or lines.
 #[derive(Clone, Copy)]
 pub(crate) struct Task<'a> {
     pub(crate) call: Call,
     pub(crate) words: &'a [&'a str],
     pub(crate) deck: &'a [u8],
-    pub(crate) cert: &'a [u8],
+    pub(crate) second: &'a [u8],
 }
 
 /// A run of these words on a deck.
@@ -89,7 +91,7 @@ pub(crate) fn run_of<'a>(words: &'a [&'a str], deck: &'a [u8]) -> Task<'a> {
         call: Call::Run,
         words,
         deck,
-        cert: b"",
+        second: b"",
     }
 }
 
@@ -99,7 +101,17 @@ pub(crate) fn check_of<'a>(words: &'a [&'a str], deck: &'a [u8], cert: &'a [u8])
         call: Call::CheckRun,
         words,
         deck,
-        cert,
+        second: cert,
+    }
+}
+
+/// A session with these words that answers lines on a deck.
+pub(crate) fn session_of<'a>(words: &'a [&'a str], deck: &'a [u8], lines: &'a [u8]) -> Task<'a> {
+    Task {
+        call: Call::SessionRun,
+        words,
+        deck,
+        second: lines,
     }
 }
 
@@ -111,7 +123,7 @@ pub(crate) struct Edges {
     pub(crate) pushed: usize,
     pub(crate) room: usize,
     pub(crate) failing_deck: u64,
-    pub(crate) failing_cert: u64,
+    pub(crate) failing_second: u64,
     pub(crate) failing_push: u64,
 }
 
@@ -121,7 +133,7 @@ pub(crate) const SMALL: Edges = Edges {
     pushed: 7,
     room: 1000,
     failing_deck: 0,
-    failing_cert: 0,
+    failing_second: 0,
     failing_push: 0,
 };
 
@@ -146,13 +158,18 @@ pub(crate) fn left_by(alloc: Global, task: &Task<'_>, edges: Edges) -> Result<Le
     let pulled = edges.pulled.max(1);
     let pushed = edges.pushed.max(1);
     let mut deck = MemSource::new(alloc, task.deck, pulled, &[edges.failing_deck])?;
-    let mut cert = MemSource::new(alloc, task.cert, pulled, &[edges.failing_cert])?;
+    let mut second = MemSource::new(alloc, task.second, pulled, &[edges.failing_second])?;
     let mut out = MemSink::new(alloc, edges.room, pushed, &[edges.failing_push])?;
     let mut err = MemSink::new(alloc, edges.room, pushed, &[edges.failing_push])?;
-    let status = match task.call {
-        Call::Run => run(alloc, &words, &mut deck, &mut out, &mut err),
-        Call::CheckRun => check_run(alloc, &words, &mut deck, &mut cert, &mut out, &mut err),
-    };
+    let status = status_of(
+        alloc,
+        task.call,
+        &words,
+        &mut deck,
+        &mut second,
+        &mut out,
+        &mut err,
+    );
     Ok(Left {
         status,
         out: out.bytes().to_vec(alloc)?,
@@ -160,7 +177,25 @@ pub(crate) fn left_by(alloc: Global, task: &Task<'_>, edges: Edges) -> Result<Le
     })
 }
 
-fn owned(alloc: Global, words: &[&str]) -> Result<Vec<String>, AllocError> {
+/// The status of a call on its two inputs and its two outputs.
+fn status_of(
+    alloc: Global,
+    call: Call,
+    words: &[String],
+    deck: &mut MemSource,
+    second: &mut MemSource,
+    out: &mut MemSink,
+    err: &mut MemSink,
+) -> u8 {
+    match call {
+        Call::Run => run(alloc, words, deck, out, err),
+        Call::CheckRun => check_run(alloc, words, deck, second, out, err),
+        Call::SessionRun => session_run(alloc, words, deck, second, out, err),
+    }
+}
+
+/// A copy of the words.
+pub(crate) fn owned(alloc: Global, words: &[&str]) -> Result<Vec<String>, AllocError> {
     let mut owned = Vec::new(alloc);
     for word in words {
         owned.push(word.to_string(alloc)?)?;
@@ -172,7 +207,7 @@ fn owned(alloc: Global, words: &[&str]) -> Result<Vec<String>, AllocError> {
 #[derive(Clone, Copy)]
 pub(crate) enum Edge {
     Deck,
-    Cert,
+    Second,
 }
 
 /// The small edges, of which this pull fails.
@@ -182,8 +217,8 @@ fn failing_pull(edge: Edge, pull: u64) -> Edges {
             failing_deck: pull,
             ..SMALL
         },
-        Edge::Cert => Edges {
-            failing_cert: pull,
+        Edge::Second => Edges {
+            failing_second: pull,
             ..SMALL
         },
     }
@@ -238,7 +273,7 @@ pub(crate) fn first_wrong_push(alloc: Global, task: &Task<'_>) -> Result<Option<
 }
 
 /// The number of a call, unless the task leaves at these edges what it leaves at sound ones.
-fn leaves_all(
+pub(crate) fn leaves_all(
     alloc: Global,
     task: &Task<'_>,
     edges: Edges,

@@ -1,0 +1,91 @@
+//! A session flushes each answer before it pulls more lines: who writes a line waits for its answer.
+
+use crate::sessions::{ANSWERS, LINES};
+use crate::testing::{WHOLE, owned};
+use pc_edges::{Failed, Sink, Source, SureSink, SureSource};
+use pc_session::session_run;
+use std::alloc::{AllocError, Global};
+use std::cell::Cell;
+use std::test::Fail;
+
+/// A source that gives the lines of a session, one a pull, as somebody does who writes a line when the answer to the one before is seen.
+///
+/// It counts the pulls that come before all answers to its lines were flushed, or when more was.
+#[derive(Drop)]
+struct Asker<'a> {
+    given: usize,
+    due: u64,
+    flushed: &'a Cell<u64>,
+    untimely: u64,
+}
+
+impl<'a> Source for Asker<'a> {
+    ghost faults = { λ source. 0 };
+
+    fn pull(&mut self, buffer: &mut [u8]) -> Result<usize, Failed> {
+        if self.flushed.get() != self.due {
+            self.untimely = self.untimely.saturating_add(1);
+        }
+        if self.given >= LINES.len() {
+            return Ok(0);
+        }
+        let line = LINES[self.given];
+        self.due = self.due.saturating_add(ANSWERS[self.given].len() as u64);
+        self.given += 1;
+        let n = line.len().min(buffer.len());
+        buffer[..n].copy_from_slice(&line[..n]);
+        Ok(n)
+    }
+}
+
+/// A sink that tells how many bytes it took before its last flush.
+#[derive(Drop)]
+struct Listener<'a> {
+    taken: SureSink,
+    flushed: &'a Cell<u64>,
+}
+
+impl<'a> Sink for Listener<'a> {
+    ghost faults = { λ sink. 0 };
+
+    fn push(&mut self, piece: &[u8]) -> Result<usize, Failed> {
+        self.taken.push(piece)
+    }
+
+    fn flush(&mut self) -> Result<(), Failed> {
+        self.flushed.set(self.taken.count());
+        Ok(())
+    }
+}
+
+/// The status of the session, how many lines it pulled, how many pulls came when they should not, and whether the last answer was
+/// flushed.
+fn waited(alloc: Global) -> Result<(u8, usize, u64, bool), AllocError> {
+    let words = owned(alloc, &["deck"])?;
+    let flushed = Cell::new(0);
+    let mut edits = Asker {
+        given: 0,
+        due: 0,
+        flushed: &flushed,
+        untimely: 0,
+    };
+    let mut out = Listener {
+        taken: SureSink::new(),
+        flushed: &flushed,
+    };
+    let mut deck = SureSource::new(WHOLE);
+    let mut err = SureSink::new();
+    let status = session_run(alloc, &words, &mut deck, &mut edits, &mut out, &mut err);
+    Ok((
+        status,
+        edits.given,
+        edits.untimely,
+        flushed.get() == edits.due,
+    ))
+}
+
+#[test]
+fn each_answer_is_flushed_before_the_next_pull(rt: HostRuntime) -> Result<(), Fail> {
+    assert_eq!(rt; waited(rt.alloc())?, (0, 9, 0, true));
+    Ok(())
+}

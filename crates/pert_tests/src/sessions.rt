@@ -1,0 +1,183 @@
+//! What-if sessions over sources and sinks in memory: what each status leaves behind, and calls of each edge that fail in turn.
+
+use crate::testing::{
+    Edge, Edges, SMALL, Task, WHOLE, first_wrong_pull, first_wrong_push, leaves_all, left_by,
+    session_of,
+};
+use std::alloc::{AllocError, Global};
+use std::test::Fail;
+
+/// The lines of a session on the small deck. Some of them are refused.
+pub(crate) const LINES: [&[u8]; 9] = [
+    b"SLOPE A 9\n",
+    b"CURVE\n",
+    b"TRY A 4 2 3 6\n",
+    b"UNDO\n",
+    b"TRY A 4 2 3 10\n",
+    b"UNDO\n",
+    b"CRASH A 5\n",
+    b"SLOPE Q 1\n",
+    b"CURVE\n",
+];
+
+/// The answer to each of the lines.
+pub(crate) const ANSWERS: [&[u8]; 9] = [
+    b"OK\n",
+    b"9 45 5\n7 55 11\n5 77 -\n",
+    b"COST 58\n",
+    b"OK\n",
+    b"NO 8\n",
+    b"NO 7\n",
+    b"NO 4\n",
+    b"NO 2\n",
+    b"9 45 3\n7 51 7\n5 65 -\n",
+];
+
+#[test]
+fn lines_come_in_pieces(rt: HostRuntime) -> Result<(), Fail> {
+    let lines = LINES.concat(rt.alloc())?;
+    let answers = ANSWERS.concat(rt.alloc())?;
+    for pulled in [1, 2, 7, 4096] {
+        let edges = Edges { pulled, ..SMALL };
+        let left = left_by(rt.alloc(), &session_of(&["deck"], WHOLE, &lines), edges)?;
+        assert!(rt; left.is(0, &answers, b""), "{pulled} bytes a pull");
+    }
+    Ok(())
+}
+
+const USAGE: &[u8] = b"usage: pert_whatif DECK\n";
+
+const NO_PROJECT: &[u8] = b"F3 record 1: first card is not PROJECT\n";
+
+// Words and a deck that give no project, with the status and the error output. The words are refused before the deck is read.
+const REFUSED: [(&[&str], &[u8], u64, u8, &[u8]); 3] = [
+    (&[], WHOLE, 1, 2, USAGE),
+    (&["deck", "lines"], WHOLE, 1, 2, USAGE),
+    (&["deck"], b"END\n", 0, 1, NO_PROJECT),
+];
+
+#[test]
+fn no_line_is_read_without_a_project(rt: HostRuntime) -> Result<(), Fail> {
+    for (words, deck, failing_deck, status, err) in REFUSED {
+        let edges = Edges {
+            failing_deck,
+            failing_second: 1,
+            ..SMALL
+        };
+        let left = left_by(rt.alloc(), &session_of(words, deck, b"CURVE\n"), edges)?;
+        assert!(rt; left.is(status, b"", err), "{words:?}");
+    }
+    Ok(())
+}
+
+#[test]
+fn each_pull_of_the_deck_fails(rt: HostRuntime) -> Result<(), Fail> {
+    for (deck, pulls) in [(WHOLE, 4), (b"END\n", 2)] {
+        let task = session_of(&["deck"], deck, b"CURVE\n");
+        let wrong = first_wrong_pull(rt.alloc(), &task, Edge::Deck, pulls)?;
+        assert_eq!(rt; wrong, None, "{pulls} pulls");
+    }
+    Ok(())
+}
+
+/// How many lines end in the bytes.
+fn lines_in(bytes: &[u8]) -> usize {
+    let mut lines: usize = 0;
+    for byte in bytes {
+        if *byte == b'\n' {
+            lines = lines.saturating_add(1);
+        }
+    }
+    lines
+}
+
+/// The answers to the lines that end in the bytes.
+fn answers_to(alloc: Global, bytes: &[u8]) -> Result<Vec<u8>, AllocError> {
+    let lines = lines_in(bytes).min(ANSWERS.len());
+    ANSWERS[..lines].concat(alloc)
+}
+
+/// Edges at which this pull of the lines fails, and each gives a byte.
+fn failing_at(pull: usize) -> Edges {
+    Edges {
+        pulled: 1,
+        failing_second: pull as u64,
+        ..SMALL
+    }
+}
+
+/// Lets each pull of the lines fail in turn, where each gives a byte, and the one behind them, which the session does not come to.
+/// Answers the first that leaves another thing than it must: status 4 and the answers to the whole lines before.
+fn first_wrong_line(alloc: Global, lines: &[u8]) -> Result<Option<u64>, AllocError> {
+    let task = session_of(&["deck"], WHOLE, lines);
+    for given in 0..=lines.len() {
+        let pull = given.saturating_add(1);
+        let answers = answers_to(alloc, &lines[..given])?;
+        if !left_by(alloc, &task, failing_at(pull))?.is(4, &answers, b"") {
+            return Ok(Some(pull as u64));
+        }
+    }
+    let behind = lines.len().saturating_add(2);
+    leaves_all(alloc, &task, failing_at(behind), behind as u64)
+}
+
+#[test]
+fn each_pull_of_the_lines_fails(rt: HostRuntime) -> Result<(), Fail> {
+    let lines = LINES.concat(rt.alloc())?;
+    assert_eq!(rt; first_wrong_line(rt.alloc(), &lines)?, None);
+    Ok(())
+}
+
+/// How many bytes of the answers were taken before each push and each flush.
+fn taken_before(alloc: Global) -> Result<Vec<usize>, AllocError> {
+    let mut all = Vec::new(alloc);
+    let mut taken: usize = 0;
+    for answer in ANSWERS {
+        for pushed in answer.chunks(SMALL.pushed) {
+            all.push(taken)?;
+            taken = taken.saturating_add(pushed.len());
+        }
+        all.push(taken)?;
+    }
+    Ok(all)
+}
+
+/// Edges at which this push or flush fails.
+fn failing_call(call: u64) -> Edges {
+    Edges {
+        failing_push: call,
+        ..SMALL
+    }
+}
+
+/// Lets each push and each flush of the answers fail in turn, and the call behind them, which the session does not come to.
+/// Answers the first that leaves another thing than it must: status 5 and what the calls before took.
+fn first_wrong_answer(alloc: Global, task: &Task<'_>) -> Result<Option<u64>, AllocError> {
+    let answers = ANSWERS.concat(alloc)?;
+    let mut call: u64 = 1;
+    for taken in taken_before(alloc)? {
+        let front = &answers[..taken.min(answers.len())];
+        if !left_by(alloc, task, failing_call(call))?.is(5, front, b"") {
+            return Ok(Some(call));
+        }
+        call = call.saturating_add(1);
+    }
+    leaves_all(alloc, task, failing_call(call), call)
+}
+
+#[test]
+fn each_push_and_flush_of_the_answers_fails(rt: HostRuntime) -> Result<(), Fail> {
+    let lines = LINES.concat(rt.alloc())?;
+    let task = session_of(&["deck"], WHOLE, &lines);
+    assert_eq!(rt; first_wrong_answer(rt.alloc(), &task)?, None);
+    Ok(())
+}
+
+#[test]
+fn each_push_of_a_refusal_fails(rt: HostRuntime) -> Result<(), Fail> {
+    for (words, deck, _, _, _) in REFUSED {
+        let wrong = first_wrong_push(rt.alloc(), &session_of(words, deck, b"CURVE\n"))?;
+        assert_eq!(rt; wrong, None, "{words:?}");
+    }
+    Ok(())
+}
