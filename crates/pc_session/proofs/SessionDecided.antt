@@ -3,13 +3,14 @@ use Rattle.std.proofs.Common.{◌≡◌, ℕ, ◌+◌, ◌<◌, ◌≤◌, List,
 use Rattle.std.specs.Prelude.{IfSome, String}
 use Rattle.std.specs.declared.alloc.Global.{Global}
 use Rattle.std.specs.Io.KnownBytes.{Consumes}
+use Rattle.pc_deck.specs.Limits.{longest_deck}
 use Rattle.pc_faults.specs.declared.fault.Fault.{Fault}
 use Rattle.pc_lines.specs.declared.reader.TheConstants.{INPUT_LIMIT}
 use Rattle.pc_reading.specs.declared.status.Status.{Status}
 use Rattle.pc_reading.specs.Status.{code_of}
-use Rattle.pc_reading.specs.Sides.{Side, HadNoFault, IsUntouched, OfBytes, OfDeck}
+use Rattle.pc_reading.specs.Sides.{Side, HadNoFault, IsReadToEnd, IsUntouched, OfBytes, OfDeck}
 use Rattle.pc_reading.specs.Verdict.{AcceptedBy, RefusedBy, IsFault}
-use Rattle.pc_reading.proofs.ReadingLaws.{refusal_is_fault}
+use Rattle.pc_reading.proofs.ReadingLaws.{refusal_is_fault, refusal_is_read}
 use Rattle.pc_reading.proofs.SideLaws.{of_any, of_one}
 use Rattle.pc_reading.proofs.VerdictLaws.{not_both}
 use Rattle.pc_session.specs.Heard.{Meaning, IsOneWord, IsHeardOut, IsHeardTooLong}
@@ -73,6 +74,16 @@ module _ {D C O E : Type 0} (means : Meaning) (words : List (String Global)) (de
   session_cut _ (no_memory asked left same also) code five = absurd (omega (arith, code, five))
   session_cut _ (read_fault asked unread same) code five = absurd (omega (arith, code, five))
   session_cut _ (write_fault is) code five = is
+
+  -- a deck that is refused and not too long was read to its end
+  pub refused_is_read : (status : Status) → SessionOutcome means words deck edits out err status → answer ≡ code_of status → answer ≡ 1 → OfDeck deck (λ bytes. length bytes ≤ longest_deck → IsReadToEnd deck)
+  refused_is_read _ (heard_out asked is same) code at_1 = absurd (omega (arith, code, at_1))
+  refused_is_read _ (too_long asked is same) code at_1 = absurd (omega (arith, code, at_1))
+  refused_is_read _ (deck_refused is same also) code at_1 = refusal_is_read deck is.fault is.refusal
+  refused_is_read _ (usage no_word took same also unused) code at_1 = absurd (omega (arith, code, at_1))
+  refused_is_read _ (no_memory asked left same also) code at_1 = absurd (omega (arith, code, at_1))
+  refused_is_read _ (read_fault asked unread same) code at_1 = absurd (omega (arith, code, at_1))
+  refused_is_read _ (write_fault is) code at_1 = absurd (omega (arith, code, at_1))
 
   -- a deck that is not refused is accepted
   pub not_refused_accepts : IsOneWord words → HadNoFault deck → (status : Status) → SessionOutcome means words deck edits out err status → answer ≡ code_of status → OfDeck deck (λ bytes. (RefusedBy bytes → ⊥) → AcceptedBy bytes ⊎ (answer ≡ 3))

@@ -4,7 +4,7 @@ ghost use Rattle.pc_deck.specs.Limits.{longest_deck};
 ghost use Rattle.pc_edges.specs.Pulls.{TakesPulls};
 ghost use Rattle.pc_edges.specs.declared.loading.TheConstants.{STREAM_ROOM};
 ghost use Rattle.pc_lines.specs.declared.reader.TheConstants.{INPUT_LIMIT};
-ghost use Rattle.pc_reading.specs.Sides.{side, HadNoFault, OfBytes, OfDeck, Took, TookAtMost};
+ghost use Rattle.pc_reading.specs.Sides.{side, HadNoFault, IsReadToEnd, OfBytes, OfDeck, Took, TookAtMost};
 ghost use Rattle.pc_reading.specs.Verdict.{AcceptedBy, RefusedBy};
 ghost use Rattle.pc_session.specs.Heard.{IsOneWord, session_usage_text, IsHeardOut, IsHeardTooLong};
 ghost use Rattle.pc_session.specs.Hearing.{Hearing, status_of};
@@ -50,6 +50,8 @@ pub fn session_run<D: Source, C: Source, O: Sink, E: Sink>(
 
     // 1: the deck is refused, and `err` took the line of its fault. Of the edits nothing was read.
     ensures refused { result ≡ 1 → IsDeckRefused words.now (side D.left D.faults deck.old deck.new) (side E.taken E.faults err.old err.new) }
+    ensures refused_read { result ≡ 1 → OfDeck (side D.left D.faults deck.old deck.new)
+        (λ bytes. length bytes ≤ longest_deck → IsReadToEnd (side D.left D.faults deck.old deck.new)) }
     ensures refused_only { result ≡ 1 → (edits.new ≡ edits.old) × (out.new ≡ out.old) }
 
     // 2: there is not one word, and `err` took the usage line. Nothing was read.
@@ -76,6 +78,9 @@ pub fn session_run<D: Source, C: Source, O: Sink, E: Sink>(
     // A deck that is not refused is accepted, as far as it could be read and but for want of memory.
     ensures acceptance { IsOneWord words.now → HadNoFault (side D.left D.faults deck.old deck.new)
         → OfDeck (side D.left D.faults deck.old deck.new) (λ bytes. (RefusedBy bytes → ⊥) → AcceptedBy bytes ⊎ (result ≡ 3)) }
+
+    // No deck is both accepted and refused.
+    ensures one_verdict { (bytes : List ℕ) → AcceptedBy bytes → RefusedBy bytes → ⊥ }
 
     // Where no fault came, the words and the deck decide, but for want of memory and for the length of the edits.
     ensures words_refused { (IsOneWord words.now → ⊥) → HadNoFault (side E.taken E.faults err.old err.new) → result ≡ 2 }
