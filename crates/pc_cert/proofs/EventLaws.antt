@@ -30,7 +30,7 @@ front_of code tail =
     ap (λ n. take n (front ++ tail)) long ∙ take-append_seam front tail
 
 -- a code has at most 16 bytes
-short_code : (code : List ℕ) → IsCode code → length code + 6 ≤ 32
+pub short_code : (code : List ℕ) → IsCode code → length code + 6 ≤ 32
 short_code code is = grind (arith, nat_tests)
 
 -- the bytes that are kept of an event's line begin as each line of the event does
