@@ -6,5 +6,6 @@ pub mod LineLengths
 pub mod TextLaws
 mod RunLemmas
 pub mod ReaderLaws
+pub mod EventLaws
 mod KnownLaws
 mod FrontLaws

@@ -1,5 +1,5 @@
 -- A line that was read before.
-use Rattle.std.specs.Prelude.{◌≡◌, ℕ, ◌+◌, ◌<◌, ◌≤◌, List, [], ◌∷◌, ◌++◌, length, take, Option}
+use Rattle.std.specs.Prelude.{◌≡◌, ℕ, ◌+◌, ◌<◌, ◌≤◌, List, [], ◌∷◌, ◌++◌, length, take, codes, Option}
 use Rattle.pc_cert.specs.declared.line.CertLine.{CertLine}
 use Rattle.pc_cert.specs.Fields.{run_len}
 use Rattle.pc_cert.specs.Lines.{Lacks}
@@ -27,3 +27,9 @@ pub record IsAgain (line : Option CertLine) (piece : List ℕ) (used : ℕ) : Ty
   pub within : used ≤ length piece
   pub ends : used ≡ run_len 10 piece + 1
   pub read : line_of (take (run_len 10 piece) piece) ≡ line
+
+-- the bytes begin as each line of this event does: with its word, a space (32) and the code
+pub record IsEventFront (code bytes : List ℕ) : Type 0 where
+  pub room : 32 ≤ length bytes
+  pub short : length code + 6 ≤ 32
+  pub same : take (length code + 6) bytes ≡ codes "EVENT" ++ 32 ∷ code

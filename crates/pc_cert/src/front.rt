@@ -39,3 +39,17 @@ fn low_bits(count: usize) -> u64
 {
     (1 << count) - 1
 }
+
+/// Whether the piece begins with the first so many of the bytes.
+#[inline(always)]
+pub(crate) fn begins(piece: &[u8], bytes: &[u8], count: usize) -> bool
+    requires room { WIDTH ≤ length bytes.now }
+    requires count { count ≤ length bytes.now }
+    ensures within { IsTrue result → count ≤ length piece.now }
+    ensures same { IsTrue result → take count piece.now ≡ take count bytes.now }
+{
+    if count <= WIDTH && WIDTH <= piece.len() {
+        return begin_same(piece, bytes, count);
+    }
+    count <= piece.len() && piece[..count] == bytes[..count]
+}

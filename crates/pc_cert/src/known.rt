@@ -4,7 +4,8 @@ ghost use Rattle.std.specs.Option.{option_map};
 ghost use Rattle.pc_cert.specs.Reading.{line_of};
 ghost use Rattle.pc_cert.specs.Known.{IsAgain};
 
-use crate::front::{WIDTH, begin_same};
+use crate::event::event_at;
+use crate::front::begins;
 use crate::line::CertLine;
 use std::marker::Model;
 
@@ -14,7 +15,8 @@ const ROOM: usize = 64;
 /// The line that was read last, and the bytes that it and its end are.
 ///
 /// Most lines of a segment are those of the segment before. What stands in one place of a segment is read through one
-/// `KnownLine`, so that a line that comes again is compared with its bytes, and neither searched for its end nor read.
+/// `KnownLine`, so that a line that comes again is compared with its bytes, and neither searched for its end nor read. Of an event
+/// that comes again with another time only that time and the bit behind it are read.
 #[derive(Drop)]
 pub struct KnownLine {
     /// the bytes of the line and its end, and how many these are: 0 where they are not kept
@@ -93,8 +95,45 @@ impl KnownLine {
         self.line = None;
     }
 
+    /// How many bytes at the front of the piece are a line and its end, where the line is the one that is known, or that of the same
+    /// event with another time or bit, and else 0. The line is known from then on.
+    pub(crate) fn meet(&mut self, piece: &[u8]) -> usize
+        ensures { 0 < result → IsAgain self.new.line piece.now result }
+    {
+        let used = self.again(piece);
+        if 0 < used {
+            return used;
+        }
+        self.renew(piece)
+    }
+
+    /// As `meet`, where the line is not the one that is known.
+    fn renew(&mut self, piece: &[u8]) -> usize
+        ensures { 0 < result → IsAgain self.new.line piece.now result }
+    {
+        if self.len == 0 {
+            return 0;
+        }
+        let Some(line) = &mut self.line else {
+            return 0;
+        };
+        let CertLine::Event { code, time, moves } = line else {
+            return 0;
+        };
+        let Some(said) = event_at(code, &self.cells, piece) else {
+            return 0;
+        };
+        *time = said.time;
+        *moves = said.moves;
+        self.len = 0;
+        if said.used <= ROOM {
+            self.keep(&piece[..said.used - 1]);
+        }
+        said.used
+    }
+
     /// How many bytes at the front of the piece are the line and its end, where it comes again there, and else 0.
-    pub(crate) fn again(&self, piece: &[u8]) -> usize
+    fn again(&self, piece: &[u8]) -> usize
         ensures { 0 < result → IsAgain self.now.line piece.now result }
     {
         if begins(piece, &self.cells, self.len) {
@@ -103,16 +142,4 @@ impl KnownLine {
             0
         }
     }
-}
-
-/// Whether the piece begins with the first so many of the bytes.
-fn begins(piece: &[u8], bytes: &[u8; ROOM], count: usize) -> bool
-    requires { count ≤ ROOM }
-    ensures within { IsTrue result → count ≤ length piece.now }
-    ensures same { IsTrue result → take count piece.now ≡ take count bytes.now }
-{
-    if count <= WIDTH && WIDTH <= piece.len() {
-        return begin_same(piece, bytes, count);
-    }
-    count <= piece.len() && piece[..count] == bytes[..count]
 }

@@ -3,6 +3,7 @@
 #![tactic(auto)]
 
 mod act;
+mod event;
 mod field;
 mod flows;
 mod front;
@@ -16,6 +17,7 @@ mod place;
 mod reader;
 mod reading;
 
+pub use event::EVENT_NAMED;
 pub use flows::{Flows, MAX_FLOWS};
 pub use known::KnownLine;
 pub use known_lines::KnownLines;

@@ -1,5 +1,5 @@
 //! The order in which the lines of a certificate come.
-ghost use Rattle.std.specs.Prelude.{◌≡◌};
+ghost use Rattle.std.specs.Prelude.{◌≡◌, IsTrue, None, Some, false};
 ghost use Rattle.pc_cert.specs.Grammar.{next, next_at_start, next_after_head, next_in_normal_walk, next_in_crash_walk, next_in_segment, next_between, opened, takes_flows};
 
 use crate::flows::Flows;
@@ -59,6 +59,50 @@ impl Place {
             } => next_in_segment(shape, events, activities, line),
             Place::Between(shape) => next_between(shape, line),
             Place::Ended => None,
+        }
+    }
+
+    /// Goes on to where the line behind this one stands, where this one may stand here, and answers whether it may.
+    ///
+    /// As `next`, but among the rows of a segment only the number of those that are still to come changes.
+    #[inline(always)]
+    pub(crate) fn go_behind(&mut self, line: &CertLine) -> bool
+        ensures goes { IsTrue result → next self.old line.now ≡ Some self.new }
+        ensures stays { result ≡ false → next self.old line.now ≡ None }
+        ensures same { result ≡ false → self.new ≡ self.old }
+    {
+        match (&mut *self, line) {
+            (Place::InSegment { events, .. }, CertLine::Event { .. }) if 0 < *events => {
+                *events -= 1;
+                true
+            }
+            (
+                Place::InSegment {
+                    shape,
+                    events,
+                    activities,
+                },
+                CertLine::Act { flows, .. },
+            ) if *events == 0 && 0 < *activities && takes_flows(*shape, flows) => {
+                *activities -= 1;
+                true
+            }
+            _ => self.jump_behind(line),
+        }
+    }
+
+    /// As `go_behind`, by `next`.
+    fn jump_behind(&mut self, line: &CertLine) -> bool
+        ensures goes { IsTrue result → next self.old line.now ≡ Some self.new }
+        ensures stays { result ≡ false → next self.old line.now ≡ None }
+        ensures same { result ≡ false → self.new ≡ self.old }
+    {
+        match self.next(line) {
+            None => false,
+            Some(behind) => {
+                *self = behind;
+                true
+            }
         }
     }
 }

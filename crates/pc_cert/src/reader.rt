@@ -138,7 +138,7 @@ impl CertReader {
             return Err(malformed);
         }
         if self.held == 0 {
-            let used = known.again(piece);
+            let used = known.meet(piece);
             if 0 < used {
                 return self.pass(known, used);
             }
@@ -223,32 +223,14 @@ impl CertReader {
         requires { self.old.lines < 2 ^ 63 }
         ensures { HasPassed known.now.line used self.old self.new result }
     {
-        match behind(self.place, known) {
-            None => Err(self.stop()),
-            Some(place) => {
-                self.go_on(place);
-                Ok(used)
-            }
+        let Some(line) = known.line() else {
+            return Err(self.stop());
+        };
+        if !self.place.go_behind(line) {
+            return Err(self.stop());
         }
-    }
-
-    /// Goes on behind a whole line.
-    fn go_on(&mut self, place: Place)
-        requires { self.old.lines < 2 ^ 63 }
-        ensures { self.new ≡ record self.old { place = place; lines = self.old.lines + 1; held = [] } }
-    {
-        self.place = place;
         self.lines += 1;
         self.held = 0;
-    }
-}
-
-/// The place behind the line that is known, where there is one and it may stand in this place.
-fn behind(place: Place, known: &KnownLine) -> Option<Place>
-    ensures { result ≡ place_behind place known.now.line }
-{
-    match known.line() {
-        None => None,
-        Some(line) => place.next(line),
+        Ok(used)
     }
 }

@@ -57,14 +57,21 @@ fn read(text: &[u8], pull: usize, known: &mut KnownLines) -> [u64; 2]
     }
 }
 
+// The second segment with a line of an event that is spelled wrongly, though it begins as that of the first does.
+const PADDED: &[u8] = b"SEGMENT 7 5 51 7\nEVENT S 0 0\nEVENT M 02 0\nEVENT T 7 1\n";
+
+const OPEN: &[u8] = b"SEGMENT 7 5 51 7\nEVENT S 0 0\nEVENT M 2 00\nEVENT T 7 1\n";
+
 // The parts of a text, how many lines it gives, and which one is malformed or missing.
-const TEXTS: [(&[&[u8]], [u64; 2]); 8] = [
+const TEXTS: [(&[&[u8]], [u64; 2]); 10] = [
     (&[HEAD, FIRST, SECOND, b"END\n"], [24, 0]),
     (&[HEAD, FIRST, b"END\n"], [16, 0]),
     (&[HEAD, FIRST, SECOND], [23, 24]),
     (&[HEAD, FIRST, SECOND, b"EN"], [23, 24]),
     (&[HEAD, FIRST, SECOND, b"END\nx"], [24, 25]),
     (&[HEAD, FIRST, SECOND, b"\nEND\n"], [23, 24]),
+    (&[HEAD, FIRST, PADDED], [17, 18]),
+    (&[HEAD, FIRST, OPEN], [17, 18]),
     (&[HEAD, b"EVENT S 0 0\n"], [7, 8]),
     (&[b"CERT 1 E1 03 3\n"], [0, 1]),
 ];

@@ -1,10 +1,14 @@
 -- The lines as they were spelled last.
-use Rattle.std.proofs.Common.{◌≡◌, ℕ, ◌+◌, ◌<◌, List, [], ◌∷◌, ◌++◌, length, take, get_or, set, decimal, sym, ap, subst, ◌∙◌, arith, ⊎_elim}
+use Rattle.std.proofs.Common.{◌≡◌, ℕ, ◌+◌, ◌<◌, ◌≤◌, Bool, List, [], ◌∷◌, ◌++◌, length, take, get_or, set, decimal, sym, ap, subst, ◌∙◌, arith, append_assoc, ⊎_elim}
+use Rattle.std.specs.Prelude.{codes}
 use Rattle.std.proofs.lemmas.Bool.{cases_eq}
 use Rattle.std.proofs.lemmas.List.{get_or_append_left, get_or_push, get_or-set_same, get_or-set_other, length-append, length-set, take_more}
 use Rattle.pc_model.specs.Codes.{code_at}
 use Rattle.pc_crash.specs.Priced.{PricedNetwork}
-use Rattle.pc_cert.specs.Lines.{numbers, spaced}
+use Rattle.pc_cert.specs.declared.line.CertLine.TheVariants.{Event}
+use Rattle.pc_cert.specs.Lines.{bit_text, numbers, spaced}
+use Rattle.pc_cert.specs.Text.{text_of}
+use Rattle.pc_cert.proofs.EventLaws.{front_of}
 use Rattle.pc_certify.specs.Spelled.{SpellsEvent, SpellsAct, event_row, act_row, AreEventsSpelled, AreActsSpelled}
 use Rattle.pc_certify.specs.declared.last_lines.EventRow.{EventRow}
 use Rattle.pc_certify.specs.declared.last_lines.ActRow.{ActRow}
@@ -38,3 +42,22 @@ act_said net rows a row are known spells = record {
   one_each = length-set rows a row ∙ are.one_each;
   each = each_with (λ i r. SpellsAct (code_at net.activities i) r) rows row _ (length net.network.arcs) a are.one_each are.each spells known;
 }
+
+-- ---- the line of an event, cut behind its code
+
+event_split : (code : List ℕ) (time : ℕ) (moves : Bool) → text_of (Event code time moves ∷ []) ≡ (codes "EVENT" ++ 32 ∷ code) ++ spaced (decimal time) (spaced (bit_text moves) (10 ∷ []))
+event_split code time moves = simp append_assoc
+
+pub event_cut : (code : List ℕ) (time : ℕ) (moves : Bool) → take (length code + 6) (text_of (Event code time moves ∷ [])) ≡ codes "EVENT" ++ 32 ∷ code
+event_cut code time moves = ap (take (length code + 6)) (event_split code time moves) ∙ front_of code (spaced (decimal time) (spaced (bit_text moves) (10 ∷ [])))
+
+pub event_long : (code : List ℕ) (time : ℕ) (moves : Bool) → length code + 6 ≤ length (text_of (Event code time moves ∷ []))
+event_long code time moves =
+    omega (arith, ap length (event_split code time moves), length-append (codes "EVENT" ++ 32 ∷ code) (spaced (decimal time) (spaced (bit_text moves) (10 ∷ []))))
+
+-- and spelled anew from there on
+pub event_rest : (code : List ℕ) (time : ℕ) (moves : Bool) → ((codes "EVENT" ++ 32 ∷ code) ++ spaced (decimal time) []) ++ spaced (bit_text moves) (10 ∷ []) ≡ text_of (Event code time moves ∷ [])
+event_rest code time moves =
+    append_assoc (codes "EVENT" ++ 32 ∷ code) (spaced (decimal time) []) (spaced (bit_text moves) (10 ∷ []))
+    ∙ ap (λ t. (codes "EVENT" ++ 32 ∷ code) ++ 32 ∷ t) (append_assoc (decimal time) [] (spaced (bit_text moves) (10 ∷ [])))
+    ∙ sym (event_split code time moves)

@@ -5,7 +5,7 @@ ghost use Rattle.pc_model.specs.Codes.{code_at};
 ghost use Rattle.pc_certify.specs.Spelled.{SpellsEvent, SpellsAct, AreEventsSpelled, AreActsSpelled};
 
 use crate::spelling::Spelling;
-use pc_cert::Flows;
+use pc_cert::{EVENT_NAMED, Flows};
 use pc_crash::CrashNet;
 use pc_text::Code;
 use std::alloc::{AllocError, Global};
@@ -77,16 +77,19 @@ impl EventRow {
     fn of(code: &Code) -> EventRow
         ensures { SpellsEvent code.now result }
     {
-        let mut row = EventRow {
+        let mut spelling = Spelling::new();
+        spelling.add(b"EVENT");
+        spelling.add_code(code);
+        spelling.add_number(0);
+        spelling.add_last_bit(false);
+        EventRow {
             time: 0,
             moves: false,
-            spelling: Spelling::new(),
-        };
-        row.spell(code, 0, false);
-        row
+            spelling,
+        }
     }
 
-    /// Says this of the event. The line is spelled anew only where it said something else.
+    /// Says this of the event. Where it said something else, the line is spelled anew from its time on.
     pub(crate) fn say(&mut self, code: &Code, time: u64, moves: bool)
         requires { SpellsEvent code.now self.old }
         ensures spells { SpellsEvent code.now self.new }
@@ -94,24 +97,22 @@ impl EventRow {
         ensures moves { self.new.moves ≡ moves }
     {
         if time != self.time || moves != self.moves {
-            self.spell(code, time, moves);
+            self.respell(code, time, moves);
         }
     }
 
-    /// Spells the line.
-    fn spell(&mut self, code: &Code, time: u64, moves: bool)
+    /// Spells the line from its time on.
+    fn respell(&mut self, code: &Code, time: u64, moves: bool)
+        requires { SpellsEvent code.now self.old }
         ensures spells { SpellsEvent code.now self.new }
         ensures time { self.new.time ≡ time }
         ensures moves { self.new.moves ≡ moves }
     {
         self.time = time;
         self.moves = moves;
-        self.spelling.clear();
-        self.spelling.add(b"EVENT");
-        self.spelling.add_code(code);
+        self.spelling.cut(code.bytes().len() + EVENT_NAMED);
         self.spelling.add_number(time);
-        self.spelling.add_bit(moves);
-        self.spelling.add(b"\n");
+        self.spelling.add_last_bit(moves);
     }
 }
 

@@ -1,5 +1,5 @@
 //! The bytes of a line with its end, as they were spelled last.
-ghost use Rattle.std.specs.Prelude.{◌≡◌, ◌+◌, ◌≤◌, [], ◌++◌, true, decimal, length};
+ghost use Rattle.std.specs.Prelude.{◌≡◌, ◌+◌, ◌≤◌, [], ◌∷◌, ◌++◌, true, decimal, length, take};
 ghost use Rattle.pc_text.specs.Code.{is_code};
 ghost use Rattle.pc_cert.specs.Lines.{spaced, bit_text};
 
@@ -56,6 +56,14 @@ impl Spelling {
         self.len = 0;
     }
 
+    /// Takes all bytes away but the first so many.
+    pub(crate) fn cut(&mut self, len: usize)
+        requires { len ≤ length self.old }
+        ensures { self.new ≡ take len self.old }
+    {
+        self.len = len;
+    }
+
     /// Adds a piece.
     pub(crate) fn add(&mut self, piece: &[u8])
         requires { length self.old + length piece.now ≤ ROOM }
@@ -87,11 +95,11 @@ impl Spelling {
         self.add(digits(number).bytes());
     }
 
-    /// Adds a space and the bit.
-    pub(crate) fn add_bit(&mut self, bit: bool)
-        requires { length self.old + 2 ≤ ROOM }
-        ensures { self.new ≡ self.old ++ spaced (bit_text bit) [] }
+    /// Adds a space, the bit and the end of the line.
+    pub(crate) fn add_last_bit(&mut self, bit: bool)
+        requires { length self.old + 3 ≤ ROOM }
+        ensures { self.new ≡ self.old ++ spaced (bit_text bit) (10 ∷ []) }
     {
-        self.add(if bit { b" 1" } else { b" 0" });
+        self.add(if bit { b" 1\n" } else { b" 0\n" });
     }
 }

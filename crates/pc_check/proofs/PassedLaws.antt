@@ -12,19 +12,18 @@ use Rattle.pc_crash.specs.KneeLists.{AreKneesOf}
 use Rattle.pc_crash.specs.Priced.{PricedNetwork, knees_in}
 use Rattle.pc_cert.specs.declared.line.CertLine.TheVariants.{Act}
 use Rattle.pc_check.specs.Conditions.{conditions, has_act_code, has_room, keeps_rises, is_slack, is_slack_in}
-use Rattle.pc_check.specs.Crossings.{IsCrossing}
+use Rattle.pc_check.specs.Crossings.{IsStill}
 use Rattle.pc_check.specs.Failures.{first_failing}
 use Rattle.pc_check.specs.Known.{Known, each_below, frame}
 use Rattle.pc_check.specs.KneeTests.{is_slack_at_knee, is_slack_over}
 use Rattle.pc_check.specs.Passed.{IsWithin, FitsWithin, HasPassed, IsPassed, passed_at, ArePassed, ComesAgain}
 use Rattle.pc_check.specs.Kept.{stretch_of}
 use Rattle.pc_check.specs.Safe.{IsSafe, IsRaised, AddsAct}
-use Rattle.pc_check.specs.declared.gaps.Crossing.{Crossing}
 use Rattle.pc_check.specs.declared.kept.Tally.{Tally}
 use Rattle.pc_check.specs.declared.passed.Passed.{Passed}
 use Rattle.pc_check.proofs.BelowLaws.{and_parts, passes_behind}
 use Rattle.pc_check.proofs.KneeLaws.{is_slack-list}
-use Rattle.pc_check.proofs.StillLaws.{rests, no_stop_in, still_room, still_slack}
+use Rattle.pc_check.proofs.StillLaws.{head_before, tail_before, rests, no_stop_in, still_room, still_slack}
 
 -- ---- gaps that flows fit
 
@@ -89,21 +88,21 @@ goes_on : (old stops : Bool) → stops ≡ false → old ≡ (old || stops)
 goes_on true stops none = refl
 goes_on false stops none = sym none
 
-pub adds_again : {net : PricedNetwork} {old new : Tally} {crossing : Crossing} {passed : Passed} → IsCrossing net.network.arcs (stretch_of old) old.acts crossing → (crossing.forward || crossing.backward) ≡ false → HasPassed net old.acts passed
+pub adds_again : {net : PricedNetwork} {old new : Tally} {passed : Passed} → IsStill net.network.arcs (stretch_of old).moves old.acts → HasPassed net old.acts passed
     → new ≡ record old { acts = old.acts + 1; inflow = new.inflow; outflow = new.outflow; spent = new.spent }
     → IsRaised old.inflow.items new.inflow.items (to_of net.network.arcs old.acts) passed.flow
     → IsRaised old.outflow.items new.outflow.items (from_of net.network.arcs old.acts) passed.flow
     → new.spent ≡ old.spent + passed.cost
     → AddsAct net old passed.duration passed.flows new
-adds_again {net} {old} {new} {crossing} {passed} is still has rest inflow outflow spent =
-    let parts = rests is still in record {
+adds_again {net} {old} {new} {passed} still has rest inflow outflow spent =
+    let parts = rests net.network.arcs (stretch_of old) old.acts still in record {
       rest = rest ∙ rw (ap (λ t. t.forward) rest, ap (λ t. t.backward) rest, ap (λ t. t.stops) rest) refl;
       inflow = subst (IsRaised old.inflow.items new.inflow.items (to_of net.network.arcs old.acts)) has.flow inflow;
       outflow = subst (IsRaised old.outflow.items new.outflow.items (from_of net.network.arcs old.acts)) has.flow outflow;
       spent = spent ∙ ap (λ cost. old.spent + cost) has.cost;
       forward = ap (λ t. t.forward) rest ∙ quiet _ old.forward _ parts.0;
       backward = ap (λ t. t.backward) rest ∙ quiet _ old.backward _ parts.1;
-      stops = ap (λ t. t.stops) rest ∙ goes_on old.stops _ (no_stop_in net (stretch_of old) old.acts is still);
+      stops = ap (λ t. t.stops) rest ∙ goes_on old.stops _ (no_stop_in net (stretch_of old) old.acts still);
     }
 
 -- sums stay below what one activity more can make them
@@ -114,15 +113,21 @@ raised_small {event} acts old new raised small all e =
 
 -- ---- it passes again
 
-pub again_passes : {net : PricedNetwork} {known : Known} {crossing : Crossing} {passed : Passed} {duration : ℕ} {flows : List ℕ} (code : List ℕ) → has_act_code net known.acts code flows ≡ true → IsCrossing net.network.arcs (frame known) known.acts crossing → ComesAgain net known crossing passed duration flows → HasPassed net known.acts passed
+pub again_passes : {net : PricedNetwork} {known : Known} {passed : Passed} {duration : ℕ} {flows : List ℕ} (code : List ℕ) → has_act_code net known.acts code flows ≡ true → ComesAgain net known passed duration flows → HasPassed net known.acts passed
     → first_failing (conditions net known (Act code duration flows)) ≡ None
-again_passes {net} {known} {crossing} {passed} {duration} {flows} code has_code is again has =
+again_passes {net} {known} {passed} {duration} {flows} code has_code again has =
     let a = known.acts in
     let seg = frame known in
     let arcs = net.network.arcs in
-    let within : IsWithin passed.low passed.high (head_at arcs seg 0 a) (tail_at arcs seg 0 a) =
-    subst (λ h. IsWithin passed.low passed.high h (tail_at arcs seg 0 a)) is.upper_head (subst (λ t. IsWithin passed.low passed.high crossing.upper.head t) is.upper_tail again.within) in
-    let room = still_room net seg a crossing is again.still (le-leb (tail_at arcs seg 0 a + crash_of net.terms a) (head_at arcs seg 0 a) (omega (arith, within.above, has.room))) in
-    let slack = sym (still_slack net seg a flows crossing is again.still) ∙ subst (λ fs. is_slack net seg 0 a fs ≡ true) (sym again.same_flows) (has.slack (head_at arcs seg 0 a) (tail_at arcs seg 0 a) within) in
+    let head = head_at arcs seg 0 a in
+    let tail = tail_at arcs seg 0 a in
+    let head_is : head ≡ known.time (to_of arcs a) = head_before arcs seg a in
+    let tail_is : tail ≡ known.time (from_of arcs a) = tail_before arcs seg a in
+    let within : IsWithin passed.low passed.high head tail = record {
+      above = omega (arith, again.within.above);
+      below = omega (arith, again.within.below);
+    } in
+    let room = still_room net seg a again.still (le-leb (tail + crash_of net.terms a) head (omega (arith, within.above, has.room))) in
+    let slack = sym (still_slack net seg a flows again.still) ∙ subst (λ fs. is_slack net seg 0 a fs ≡ true) (sym again.same_flows) (has.slack head tail within) in
     let rises = subst (λ fs. keeps_rises net a fs ≡ true) (sym again.same_flows) has.rises in
     rw (has_code, room, again.lasts, rises, slack, again.long) refl

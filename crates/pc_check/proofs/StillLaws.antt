@@ -10,7 +10,7 @@ use Rattle.pc_model.specs.Walk.{from_of, to_of}
 use Rattle.pc_crash.specs.Priced.{PricedNetwork, knees_in}
 use Rattle.pc_curve_laws.specs.Segment.{Segment, span, head_at, tail_at, is_forward, is_backward}
 use Rattle.pc_check.specs.Conditions.{has_room, is_slack, is_slack_in}
-use Rattle.pc_check.specs.Crossings.{IsCrossing}
+use Rattle.pc_check.specs.Crossings.{IsCrossing, IsStill}
 use Rattle.pc_check.specs.declared.gaps.Crossing.{Crossing}
 use Rattle.pc_check.specs.Known.{each_below, some_below}
 use Rattle.pc_check.specs.KneeTests.{is_slack_at_knee, stops_at_knee_over, stops_over}
@@ -57,24 +57,33 @@ record GrowsAlike (head head_then tail tail_then : ℕ) : Type 0 where
   pub head_is : head_then ≡ head + by
   pub tail_is : tail_then ≡ tail + by
 
-alike : (from to : Bool) (x y span : ℕ) → (not from && to) ≡ false → (from && not to) ≡ false → GrowsAlike (y + (if from then 0 else 0)) (y + (if from then span else 0)) (x + (if to then 0 else 0)) (x + (if to then span else 0))
-alike true true x y span p q = record { by = span; head_is = omega arith; tail_is = omega arith }
-alike false false x y span p q = record { by = 0; head_is = omega arith; tail_is = omega arith }
-alike true false x y span p q = absurd cc
-alike false true x y span p q = absurd cc
+alike : (from to : Bool) (x y span : ℕ) → from ≡ to → GrowsAlike (y + (if from then 0 else 0)) (y + (if from then span else 0)) (x + (if to then 0 else 0)) (x + (if to then span else 0))
+alike true true x y span same = record { by = span; head_is = omega arith; tail_is = omega arith }
+alike false false x y span same = record { by = 0; head_is = omega arith; tail_is = omega arith }
+alike true false x y span same = absurd cc
+alike false true x y span same = absurd cc
 
-grows_alike : (arcs : List Arc) (seg : Segment) (a : ℕ) (crossing : Crossing) → IsCrossing arcs seg a crossing → (crossing.forward || crossing.backward) ≡ false → GrowsAlike (head_at arcs seg 0 a) (head_at arcs seg (span seg) a) (tail_at arcs seg 0 a) (tail_at arcs seg (span seg) a)
-grows_alike arcs seg a crossing is still =
-    let parts = both_false crossing.forward crossing.backward still in
-    alike (seg.moves (from_of arcs a)) (seg.moves (to_of arcs a)) (seg.time (from_of arcs a)) (seg.time (to_of arcs a)) (span seg) (sym is.forward ∙ parts.0) (sym is.backward ∙ parts.1)
+grows_alike : (arcs : List Arc) (seg : Segment) (a : ℕ) → IsStill arcs seg.moves a → GrowsAlike (head_at arcs seg 0 a) (head_at arcs seg (span seg) a) (tail_at arcs seg 0 a) (tail_at arcs seg (span seg) a)
+grows_alike arcs seg a still = alike (seg.moves (from_of arcs a)) (seg.moves (to_of arcs a)) (seg.time (from_of arcs a)) (seg.time (to_of arcs a)) (span seg) still
+
+-- where nothing has fallen, the gap is that between the times of the two events
+not_fallen : (moves : Bool) (time : ℕ) → time + (if moves then 0 else 0) ≡ time
+not_fallen true time = omega arith
+not_fallen false time = omega arith
+
+pub head_before : (arcs : List Arc) (seg : Segment) (a : ℕ) → head_at arcs seg 0 a ≡ seg.time (to_of arcs a)
+head_before arcs seg a = not_fallen (seg.moves (from_of arcs a)) (seg.time (to_of arcs a))
+
+pub tail_before : (arcs : List Arc) (seg : Segment) (a : ℕ) → tail_at arcs seg 0 a ≡ seg.time (from_of arcs a)
+tail_before arcs seg a = not_fallen (seg.moves (to_of arcs a)) (seg.time (from_of arcs a))
 
 and_itself : (b other : Bool) → other ≡ b → b ≡ (b && other)
 and_itself true other same = sym same
 and_itself false other same = refl
 
-pub still_slack : (net : PricedNetwork) (seg : Segment) (a : ℕ) (flows : List ℕ) (crossing : Crossing) → IsCrossing net.network.arcs seg a crossing → (crossing.forward || crossing.backward) ≡ false → is_slack net seg 0 a flows ≡ (is_slack net seg 0 a flows && is_slack net seg (span seg) a flows)
-still_slack net seg a flows crossing is still =
-    let grows = grows_alike net.network.arcs seg a crossing is still in
+pub still_slack : (net : PricedNetwork) (seg : Segment) (a : ℕ) (flows : List ℕ) → IsStill net.network.arcs seg.moves a → is_slack net seg 0 a flows ≡ (is_slack net seg 0 a flows && is_slack net seg (span seg) a flows)
+still_slack net seg a flows still =
+    let grows = grows_alike net.network.arcs seg a still in
     let head = head_at net.network.arcs seg 0 a in
     let tail = tail_at net.network.arcs seg 0 a in
     and_itself (is_slack net seg 0 a flows) (is_slack net seg (span seg) a flows)
@@ -82,9 +91,9 @@ still_slack net seg a flows crossing is still =
     ∙ ap (λ t. is_slack_in net (head + grows.by) t a flows) grows.tail_is
     ∙ slack_shift net a head tail grows.by flows)
 
-pub still_room : (net : PricedNetwork) (seg : Segment) (a : ℕ) (crossing : Crossing) → IsCrossing net.network.arcs seg a crossing → (crossing.forward || crossing.backward) ≡ false → has_room net seg 0 a ≡ true → (has_room net seg 0 a && has_room net seg (span seg) a) ≡ true
-still_room net seg a crossing is still room =
-    let grows = grows_alike net.network.arcs seg a crossing is still in
+pub still_room : (net : PricedNetwork) (seg : Segment) (a : ℕ) → IsStill net.network.arcs seg.moves a → has_room net seg 0 a ≡ true → (has_room net seg 0 a && has_room net seg (span seg) a) ≡ true
+still_room net seg a still room =
+    let grows = grows_alike net.network.arcs seg a still in
     let enough = leb-true (tail_at net.network.arcs seg 0 a + crash_of net.terms a) (head_at net.network.arcs seg 0 a) room in
     let below : has_room net seg (span seg) a ≡ true =
     le-leb (tail_at net.network.arcs seg (span seg) a + crash_of net.terms a) (head_at net.network.arcs seg (span seg) a) (omega (arith, grows.head_is, grows.tail_is, enough)) in
@@ -109,14 +118,30 @@ no_stop crossing crash knees still =
 
 -- ---- it leads from a resting to a moving event no more than the other way round
 
-pub rests : {arcs : List Arc} {seg : Segment} {a : ℕ} {crossing : Crossing} → IsCrossing arcs seg a crossing → (crossing.forward || crossing.backward) ≡ false → (is_forward arcs seg.moves a ≡ false) × (is_backward arcs seg.moves a ≡ false)
-rests {arcs} {seg} {a} {crossing} is still =
-    let parts = both_false crossing.forward crossing.backward still in
-    (sym is.forward ∙ parts.0, sym is.backward ∙ parts.1)
+same_bits : (from to : Bool) → (not from && to) ≡ false → (from && not to) ≡ false → from ≡ to
+same_bits true true p q = refl
+same_bits false false p q = refl
+same_bits true false p q = absurd cc
+same_bits false true p q = absurd cc
 
-pub no_stop_in : {crossing : Crossing} (net : PricedNetwork) (seg : Segment) (a : ℕ) → IsCrossing net.network.arcs seg a crossing → (crossing.forward || crossing.backward) ≡ false → stops_in net seg a ≡ false
-no_stop_in net seg a is still =
-    let parts = rests is still in
+-- an activity that crosses neither way
+pub stands_still : (arcs : List Arc) (seg : Segment) (a : ℕ) (crossing : Crossing) → IsCrossing arcs seg a crossing → (crossing.forward || crossing.backward) ≡ false → IsStill arcs seg.moves a
+stands_still arcs seg a crossing is still =
+    let parts = both_false crossing.forward crossing.backward still in
+    same_bits (seg.moves (from_of arcs a)) (seg.moves (to_of arcs a)) (sym is.forward ∙ parts.0) (sym is.backward ∙ parts.1)
+
+neither : (from to : Bool) → from ≡ to → ((not from && to) ≡ false) × ((from && not to) ≡ false)
+neither true true same = (refl, refl)
+neither false false same = (refl, refl)
+neither true false same = absurd cc
+neither false true same = absurd cc
+
+pub rests : (arcs : List Arc) (seg : Segment) (a : ℕ) → IsStill arcs seg.moves a → (is_forward arcs seg.moves a ≡ false) × (is_backward arcs seg.moves a ≡ false)
+rests arcs seg a still = neither (seg.moves (from_of arcs a)) (seg.moves (to_of arcs a)) still
+
+pub no_stop_in : (net : PricedNetwork) (seg : Segment) (a : ℕ) → IsStill net.network.arcs seg.moves a → stops_in net seg a ≡ false
+no_stop_in net seg a still =
+    let parts = rests net.network.arcs seg a still in
     let none : some_below ((knees_in net).count a) (stops_at_knee_in net seg a) ≡ false =
     none_below ((knees_in net).count a) (stops_at_knee_in net seg a) (λ k. rw (parts.0, parts.1) (never _)) in
     rw (none, parts.0) refl

@@ -1,6 +1,7 @@
 -- How an activity crosses the cut between the resting and the moving events.
-use Rattle.std.specs.Prelude.{◌≡◌, ℕ, ◌^◌, ◌<◌, List}
+use Rattle.std.specs.Prelude.{◌≡◌, ℕ, ◌^◌, ◌<◌, Bool, List}
 use Rattle.pc_model.specs.declared.Arc.{Arc}
+use Rattle.pc_model.specs.Walk.{from_of, to_of}
 use Rattle.pc_curve_laws.specs.Segment.{Segment, span, head_at, tail_at, is_forward, is_backward}
 use Rattle.pc_check.specs.declared.gaps.Crossing.{Crossing}
 
@@ -14,3 +15,7 @@ pub record IsCrossing (arcs : List Arc) (seg : Segment) (a : ℕ) (crossing : Cr
   pub backward : crossing.backward ≡ is_backward arcs seg.moves a
   pub small_upper : crossing.upper.tail < 2 ^ 65
   pub small_lower : crossing.lower.tail < 2 ^ 65
+
+-- activity a does not cross the cut: its two events move alike
+abbrev pub IsStill : List Arc → (ℕ → Bool) → ℕ → Type 0
+IsStill arcs moves a = moves (from_of arcs a) ≡ moves (to_of arcs a)

@@ -1,12 +1,13 @@
 -- What passed last of each activity, and when a line that says the same passes again.
-use Rattle.std.specs.Prelude.{◌≡◌, ◌≢◌, ℕ, ◌+◌, ◌^◌, ◌<◌, ◌≤◌, ◌||◌, true, false, List, [], length, slice_index, slice_index_or}
+use Rattle.std.specs.Prelude.{◌≡◌, ◌≢◌, ℕ, ◌+◌, ◌^◌, ◌<◌, ◌≤◌, true, false, List, [], length, slice_index, slice_index_or}
 use Rattle.pc_model.specs.declared.Knee.{Knee}
 use Rattle.pc_model.specs.Pieces.{knee_at}
 use Rattle.pc_model.specs.Cost.{activity_cost}
 use Rattle.pc_model.specs.Schedule.{crash_of}
+use Rattle.pc_model.specs.Walk.{from_of, to_of}
 use Rattle.pc_crash.specs.Priced.{PricedNetwork, knees_in}
 use Rattle.pc_crash.specs.declared.costing.TheConstants.{MAX_ACTIVITY_COST}
-use Rattle.pc_check.specs.declared.gaps.Crossing.{Crossing}
+use Rattle.pc_check.specs.Crossings.{IsStill}
 use Rattle.pc_check.specs.declared.passed.Passed.{Passed}
 use Rattle.pc_check.specs.Conditions.{has_duration, is_one_length, is_slack_in, keeps_rises}
 use Rattle.pc_check.specs.Known.{Known}
@@ -51,10 +52,10 @@ pub record ArePassed (net : PricedNetwork) (rows : List Passed) : Type 0 where
 
 -- what is said of the next activity is what passed last of it, and asks no more than that did: the segment has two ends, the
 -- activity does not cross the cut, its gap is within those at which it passed, and the duration is that of the gap
-pub record ComesAgain (net : PricedNetwork) (known : Known) (crossing : Crossing) (passed : Passed) (duration : ℕ) (flows : List ℕ) : Type 0 where
-  pub still : (crossing.forward || crossing.backward) ≡ false
+pub record ComesAgain (net : PricedNetwork) (known : Known) (passed : Passed) (duration : ℕ) (flows : List ℕ) : Type 0 where
+  pub still : IsStill net.network.arcs known.moves known.acts
   pub same_duration : duration ≡ passed.duration
   pub same_flows : flows ≡ passed.flows
-  pub within : IsWithin passed.low passed.high crossing.upper.head crossing.upper.tail
+  pub within : IsWithin passed.low passed.high (known.time (to_of net.network.arcs known.acts)) (known.time (from_of net.network.arcs known.acts))
   pub lasts : has_duration net known known.acts duration ≡ true
   pub long : is_one_length known ≡ false

@@ -1,10 +1,10 @@
 //! Adding a line to what is kept of a segment.
-ghost use Rattle.std.specs.Prelude.{◌≡◌, ℕ, ◌+◌, ◌^◌, ◌<◌, ◌≤◌, ◌||◌, ◌++◌, ◌∷◌, [], false, length, slice_index, vec_len, if◌then◌else◌};
+ghost use Rattle.std.specs.Prelude.{◌≡◌, ℕ, ◌+◌, ◌^◌, ◌<◌, ◌≤◌, ◌||◌, ◌++◌, ◌∷◌, [], length, slice_index, vec_len, if◌then◌else◌};
 ghost use Rattle.pc_curve_laws.specs.Segment.{is_forward, is_backward, rises_above, span};
 ghost use Rattle.pc_crash.specs.Priced.{knees_in};
 ghost use Rattle.pc_check.specs.Kept.{stretch_of};
 ghost use Rattle.pc_check.specs.KneeTests.{rises_over};
-ghost use Rattle.pc_check.specs.Crossings.{IsCrossing};
+ghost use Rattle.pc_check.specs.Crossings.{IsCrossing, IsStill};
 ghost use Rattle.pc_check.specs.Safe.{IsSafe, IsBegun, IsRaised, AddsAct};
 ghost use Rattle.pc_check.specs.Passed.{HasPassed};
 ghost use Rattle.pc_check.specs.Segments.{stops_in};
@@ -101,11 +101,10 @@ pub(crate) fn add_act(
 }
 
 /// Adds an activity that does not cross the cut, as it passed before.
-pub(crate) fn add_again(net: &CrashNet<'_>, tally: &mut Tally, crossing: &Crossing, passed: &Passed)
+pub(crate) fn add_again(net: &CrashNet<'_>, tally: &mut Tally, passed: &Passed)
     requires safe { IsSafe net.now.network.events (length net.now.network.arcs) tally.old }
     requires known { tally.old.acts < length net.now.network.arcs }
-    requires crossing { IsCrossing net.now.network.arcs (stretch_of tally.old) tally.old.acts crossing.now }
-    requires still { (crossing.now.forward || crossing.now.backward) ≡ false }
+    requires still { IsStill net.now.network.arcs (stretch_of tally.old).moves tally.old.acts }
     requires passed { HasPassed net.now tally.old.acts passed.now }
     ensures added { AddsAct net.now tally.old passed.now.duration passed.now.flows tally.new }
     ensures safe { IsSafe net.now.network.events (length net.now.network.arcs) tally.new }

@@ -87,8 +87,8 @@ fn judge(
     }
 }
 
-/// The same of the line of an activity, whose gaps are looked up once for all that is asked of it and all that it adds. Where it says
-/// what passed last of the activity, little is asked anew.
+/// The same of the line of an activity. Where it says what passed last of the activity, little is asked anew; else its gaps are
+/// looked up once for all that is asked of it and all that it adds.
 fn judge_act(
     net: &CrashNet<'_>,
     kept: &mut Kept,
@@ -109,12 +109,12 @@ fn judge_act(
     if !has_act_code(net, a, code, flows) {
         return Some(4);
     }
-    let crossing = crossing_of(net, &kept.tally, a);
     let last = &passed[a as usize];
-    if passes_again(net, kept, &crossing, last, duration, flows) {
-        add_again(net, &mut kept.tally, &crossing, last);
+    if passes_again(net, kept, last, duration, flows) {
+        add_again(net, &mut kept.tally, last);
         return None;
     }
+    let crossing = crossing_of(net, &kept.tally, a);
     match reason_at_act(net, kept, &crossing, duration, flows) {
         Some(reason) => Some(reason),
         None => {

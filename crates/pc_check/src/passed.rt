@@ -1,13 +1,12 @@
 //! What passed last of each activity, so that a line that comes again is not asked everything anew.
-ghost use Rattle.std.specs.Prelude.{◌≡◌, ◌≢◌, ◌+◌, ◌^◌, ◌<◌, ◌≤◌, true, IsTrue, IfOk, length};
+ghost use Rattle.std.specs.Prelude.{◌≡◌, ◌≢◌, ◌+◌, ◌<◌, ◌≤◌, true, IsTrue, IfOk, length};
 ghost use Rattle.pc_crash.specs.Priced.{knees_in};
 ghost use Rattle.pc_check.specs.Conditions.{keeps_rises};
 ghost use Rattle.pc_check.specs.Kept.{known_by};
 ghost use Rattle.pc_check.specs.Passed.{HasPassed, ArePassed, FitsWithin, IsWithin, ComesAgain};
 
 use crate::acts::flow_sum;
-use crate::gaps::{Crossing, Gap};
-use crate::kept::Kept;
+use crate::kept::{Kept, bit_at, number_at};
 use crate::reasons::has_duration;
 use pc_cert::Flows;
 use pc_crash::CrashNet;
@@ -116,27 +115,27 @@ fn lowered(high: u64, knee: Knee, flow: u64) -> u64
 pub(crate) fn passes_again(
     net: &CrashNet<'_>,
     kept: &Kept,
-    crossing: &Crossing,
     passed: &Passed,
     duration: u64,
     flows: &Flows,
 ) -> bool
-    requires known { kept.now.tally.acts < length net.now.network.arcs }
-    requires small { crossing.now.upper.tail < 2 ^ 65 }
-    ensures { IsTrue result → ComesAgain net.now (known_by kept.now) crossing.now passed.now duration flows.now }
+    requires { kept.now.tally.acts < length net.now.network.arcs }
+    ensures { IsTrue result → ComesAgain net.now (known_by kept.now) passed.now duration flows.now }
 {
-    !crossing.crosses()
+    let tally = &kept.tally;
+    let from = net.net().from(tally.acts);
+    let to = net.net().to(tally.acts);
+    bit_at(&tally.moves, from) == bit_at(&tally.moves, to)
         && duration == passed.duration
         && *flows == passed.flows
-        && is_within(crossing.upper, passed)
-        && has_duration(net, kept, kept.tally.acts, duration)
-        && kept.tally.lower != kept.tally.upper
+        && is_within(number_at(&tally.times, to), number_at(&tally.times, from), passed)
+        && has_duration(net, kept, tally.acts, duration)
+        && tally.lower != tally.upper
 }
 
-/// Whether the gap is from the least to the greatest.
-fn is_within(gap: Gap, passed: &Passed) -> bool
-    requires { gap.tail < 2 ^ 65 }
-    ensures { IsTrue result → IsWithin passed.now.low passed.now.high gap.head gap.tail }
+/// Whether the gap between two times is from the least to the greatest.
+fn is_within(head: u64, tail: u64, passed: &Passed) -> bool
+    ensures { IsTrue result → IsWithin passed.now.low passed.now.high head tail }
 {
-    gap.tail + u128::from(passed.low) <= gap.head && gap.head <= gap.tail + u128::from(passed.high)
+    tail <= head && passed.low <= head - tail && head - tail <= passed.high
 }

@@ -10,7 +10,7 @@ returns-clause-added c =
     let arcs = c.args.net.now.network.arcs in
     let to = c.to-to.ensures.event ∙ ap (λ n. to_of n.arcs old.acts) c.net.ensures.network in
     let from = c.from-from.ensures.event ∙ ap (λ n. from_of n.arcs old.acts) c.net-2.ensures.network in
-    adds_again c.requires.crossing c.requires.still c.requires.passed refl
+    adds_again c.requires.still c.requires.passed refl
     (subst (λ e. IsRaised old.inflow.items c.raise.new.sums.items e c.args.passed.now.flow) to c.raise.ensures)
     (subst (λ e. IsRaised old.outflow.items c.raise-2.new.sums.items e c.args.passed.now.flow) from c.raise-2.ensures)
     refl

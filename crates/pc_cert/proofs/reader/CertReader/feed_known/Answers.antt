@@ -9,8 +9,8 @@ pub returns-then-used-gt0-clause-stands : goal.returns-then-used-gt0-clause-stan
 returns-then-used-gt0-clause-stands c =
     let none : c.args.self.now.malformed ≡ None = ap (λ r. r.malformed) (sym c.self.view_is) ∙ none_from c.self.inside.malformed c.in_default.not-Some in
     let empty : c.args.self.now.held ≡ [] = ap (λ (r : Reading). r.held) (sym c.self.view_is) ∙ ap (λ n. take n c.self.inside.cells) c.if-self-eq0.true in
-    let is = c.again-used.ensures c.if-used-gt0.true in
-    passed c.args.self.now c.pass.new.self c.args.self.now.held c.args.known.now.line c.args.piece.now c.again-used.result c.pass.result none is.ends (omega (arith, is.ends, is.within))
+    let is = c.meet-used.ensures c.if-used-gt0.true in
+    passed c.args.self.now c.pass.new.self c.args.self.now.held c.meet-used.new.self.line c.args.piece.now c.meet-used.result c.pass.result none is.ends (omega (arith, is.ends, is.within))
     (ap (λ held. line_of (held ++ take (run_len 10 c.args.piece.now) c.args.piece.now)) empty ∙ is.read) c.pass.ensures
 
 pub returns-then-self-end-clause-stands : goal.returns-then-self-end-clause-stands

@@ -1,0 +1,86 @@
+-- The line of an event that comes again with another time or another bit.
+use Rattle.std.proofs.Common.{◌≡◌, ℕ, ◌+◌, ◌-◌, ◌<◌, ◌≤◌, Bool, List, [], ◌∷◌, ◌++◌, length, take, drop, Some, sym, ap, ◌∙◌, arith, append_assoc, length-append, length-take-le}
+use Rattle.std.specs.Prelude.{codes}
+use Rattle.std.specs.Fmt.{decimal}
+use Rattle.std.proofs.Math.Seq.{take-append_seam}
+use Rattle.std.proofs.lemmas.Bool.Decides.{nat_tests}
+use Rattle.std.proofs.lemmas.List.{take-append-drop, take-append-le, take_all, length-drop}
+use Rattle.pc_cert.specs.declared.line.CertLine.{CertLine}
+use Rattle.pc_cert.specs.declared.line.CertLine.TheVariants.{Event}
+use Rattle.pc_cert.specs.Fields.{run_len}
+use Rattle.pc_cert.specs.Lines.{Fits, spelling, spaced, bit_text, IsCode, IsSmall}
+use Rattle.pc_cert.specs.Reading.{line_of}
+use Rattle.pc_cert.specs.Known.{AreCells, IsAgain, IsEventFront}
+use Rattle.pc_cert.proofs.FieldLemmas.{run_len-before}
+use Rattle.pc_cert.proofs.LineLaws.{line_takes, line_again}
+use Rattle.pc_cert.proofs.LineLengths.{spelling_lacks_end}
+
+-- what stands behind the code, with the end of the line
+abbrev behind_code : ℕ → Bool → List ℕ → List ℕ
+behind_code time moves more = spaced (decimal time) (spaced (bit_text moves) (10 ∷ more))
+
+spelled_behind : (code more : List ℕ) (time : ℕ) (moves : Bool) → spelling (Event code time moves) ++ 10 ∷ more ≡ (codes "EVENT" ++ 32 ∷ code) ++ behind_code time moves more
+spelled_behind code more time moves = simp append_assoc
+
+-- the bytes up to behind the code
+pub front_of : (code tail : List ℕ) → take (length code + 6) ((codes "EVENT" ++ 32 ∷ code) ++ tail) ≡ codes "EVENT" ++ 32 ∷ code
+front_of code tail =
+    let front = codes "EVENT" ++ 32 ∷ code in
+    let long : length code + 6 ≡ length front = omega arith in
+    ap (λ n. take n (front ++ tail)) long ∙ take-append_seam front tail
+
+-- a code has at most 16 bytes
+pub short_code : (code : List ℕ) → IsCode code → length code + 6 ≤ 32
+short_code code is = grind (arith, nat_tests)
+
+-- the bytes that are kept of an event's line begin as each line of the event does
+pub event_front : (code cells : List ℕ) (time len : ℕ) (moves : Bool) → AreCells cells len (Some (Event code time moves)) → 0 < len → IsEventFront code cells
+event_front code cells time len moves are some =
+    let kept = are.kept some in
+    let read = line_takes kept.text (Event code time moves) kept.read in
+    let front = codes "EVENT" ++ 32 ∷ code in
+    let whole : take len cells ≡ front ++ behind_code time moves [] =
+    kept.whole ∙ ap (λ t. t ++ 10 ∷ []) (read.0) ∙ spelled_behind code [] time moves in
+    let long : length (take len cells) ≡ len = length-take-le len cells (omega (arith, are.within, are.room)) in
+    let within : length code + 6 ≤ length (take len cells) = omega (arith, ap length whole, length-append front (behind_code time moves [])) in
+    record {
+      room = omega (arith, are.room);
+      short = short_code code ((read.1).0);
+      same =
+        ap (take (length code + 6)) (sym (take-append-drop len cells))
+        ∙ take-append-le (length code + 6) (take len cells) (drop len cells) within
+        ∙ ap (take (length code + 6)) whole
+        ∙ front_of code (behind_code time moves []);
+    }
+
+-- a line and its end at the front of a piece
+spelled_again : (line : CertLine) (piece more : List ℕ) (used : ℕ) → Fits line → piece ≡ spelling line ++ 10 ∷ more → used + length more ≡ length piece → IsAgain (Some line) piece used
+spelled_again line piece more used fits whole long =
+    let run : run_len 10 piece ≡ length (spelling line) = ap (run_len 10) whole ∙ run_len-before 10 (spelling line) more (spelling_lacks_end line fits) in
+    let before : take (run_len 10 piece) piece ≡ spelling line =
+    ap (λ n. take n piece) run ∙ ap (take (length (spelling line))) whole ∙ take-append_seam (spelling line) (10 ∷ more) in
+    record {
+      within = omega arith;
+      ends = omega (arith, run, ap length whole, length-append (spelling line) (10 ∷ more));
+      read = ap line_of before ∙ line_again line fits;
+    }
+
+-- behind the front of an event's line stand a time, a bit and the end of the line
+pub event_comes : (code known piece rest more : List ℕ) (time used : ℕ) (moves : Bool) → IsCode code → IsSmall time → IsEventFront code known
+    → take (length code + 6) piece ≡ take (length code + 6) known → drop (length code + 6) piece ≡ spaced (decimal time) rest
+    → rest ≡ spaced (bit_text moves) (10 ∷ more) → used + length more ≡ length piece → IsAgain (Some (Event code time moves)) piece used
+event_comes code known piece rest more time used moves code_is small front same behind last long =
+    let n = length code + 6 in
+    let whole : piece ≡ spelling (Event code time moves) ++ 10 ∷ more =
+    sym (take-append-drop n piece) ∙ ap (λ t. t ++ drop n piece) (same ∙ front.same)
+    ∙ ap (λ t. (codes "EVENT" ++ 32 ∷ code) ++ t) (behind ∙ ap (spaced (decimal time)) last) ∙ sym (spelled_behind code more time moves) in
+    spelled_again (Event code time moves) piece more used (code_is, small) whole long
+
+-- what stands behind that end is a part of the piece
+pub left_within : (n : ℕ) (piece rest more : List ℕ) (time : ℕ) (moves : Bool) → drop n piece ≡ spaced (decimal time) rest → rest ≡ spaced (bit_text moves) (10 ∷ more) → length more ≤ length piece
+left_within n piece rest more time moves behind last =
+    omega (arith, ap length behind, ap length last, length-append (decimal time) rest, length-append (bit_text moves) (10 ∷ more), length-drop n piece)
+
+-- a slice up to the end is all that is left
+pub rest_is : (n : ℕ) (piece : List ℕ) → take (length piece - n) (drop n piece) ≡ drop n piece
+rest_is n piece = take_all (length piece - n) (drop n piece) (omega (arith, length-drop n piece))
