@@ -28,8 +28,12 @@ mod schedules;
 #[cfg(test)]
 mod searches;
 #[cfg(test)]
+mod slacks;
+#[cfg(test)]
 mod small;
 #[cfg(test)]
 mod statuses;
+#[cfg(test)]
+mod tasks;
 #[cfg(test)]
 mod times;
