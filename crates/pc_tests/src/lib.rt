@@ -20,6 +20,8 @@ mod loads;
 #[cfg(test)]
 mod optima;
 #[cfg(test)]
+mod parts;
+#[cfg(test)]
 mod points;
 #[cfg(test)]
 mod priced;
@@ -37,3 +39,5 @@ mod statuses;
 mod tasks;
 #[cfg(test)]
 mod times;
+#[cfg(test)]
+mod titles;
