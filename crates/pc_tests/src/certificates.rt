@@ -11,7 +11,7 @@ use pc_net::Net;
 use pc_text::Code;
 use std::alloc::Global;
 
-const TEXT: &[u8] = b"CERT 1 E1 3 3
+pub(crate) const TEXT: &[u8] = b"CERT 1 E1 3 3
 NORMAL
 STEP A
 STEP B
@@ -38,7 +38,7 @@ END
 ";
 
 /// The small network without pieces.
-fn priced<'n>(alloc: Global, net: &'n Net) -> Option<CrashNet<'n>>
+pub(crate) fn priced<'n>(alloc: Global, net: &'n Net) -> Option<CrashNet<'n>>
     requires events { net.now.events ≡ 3 }
     requires activities { length net.now.arcs ≡ 3 }
     ensures network { IfSome result (λ priced. priced.network ≡ net.now) }

@@ -20,6 +20,8 @@ mod loads;
 #[cfg(test)]
 mod optima;
 #[cfg(test)]
+mod parts;
+#[cfg(test)]
 mod points;
 #[cfg(test)]
 mod priced;
@@ -28,8 +30,14 @@ mod schedules;
 #[cfg(test)]
 mod searches;
 #[cfg(test)]
+mod slacks;
+#[cfg(test)]
 mod small;
 #[cfg(test)]
 mod statuses;
 #[cfg(test)]
+mod tasks;
+#[cfg(test)]
 mod times;
+#[cfg(test)]
+mod titles;
