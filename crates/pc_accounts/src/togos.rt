@@ -9,15 +9,15 @@ use crate::error::BookError;
 use crate::rows::MoneyRow;
 use pc_days::Day;
 use std::alloc::{AllocError, Global};
-use std::collections::HashMap;
+use std::collections::BTreeMap;
 
-/// Refuses two amounts to go of one account and one day.
+/// Refuses two amounts to go of one account and one day. In an ordered map, so that no deck can make a look-up long.
 pub(crate) fn refuse_second(alloc: Global, togos: &[MoneyRow]) -> Result<(), BookError>
     requires { length togos.now ≤ MAX_TOGOS }
     ensures once { OnOk result ((k : ℕ) → IsRepeated togos.now k → ⊥) }
     ensures refused { IfErr result (IsRefusal togos.now) }
 {
-    let mut seen: HashMap<(u32, Day), u32> = HashMap::with_capacity(alloc, togos.len())?;
+    let mut seen: BTreeMap<(u32, Day), u32> = BTreeMap::new(alloc);
     for second in 0..togos.len() as u32 {
         let row = togos[second as usize];
         if let Some(first) = seen.insert((row.account, row.day), second)? {

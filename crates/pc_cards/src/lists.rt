@@ -11,8 +11,8 @@ ghost use Rattle.pc_model.specs.Codes.{IsNamedOnce};
 use crate::card::{Card, Coded};
 use crate::place::Place;
 use crate::reading::read_card;
-use indexmap::IndexSet;
 use pc_faults::{DeckError, Fault};
+use pc_names::Names;
 use pc_records::Row;
 use pc_text::Code;
 use std::alloc::{AllocError, Global};
@@ -158,7 +158,7 @@ impl<C: Card> Listed<C> {
 #[derive(Drop)]
 pub struct Named<C: Coded> {
     cards: Vec<C>,
-    names: IndexSet<Code>,
+    names: Names,
 }
 
 impl<C: Coded> Model for Named<C> {
@@ -168,7 +168,7 @@ impl<C: Coded> Model for Named<C> {
 
     ghost view = { λ named. named.cards.items };
 
-    ghost invariant = { λ named. named.names.keys ≡ map C.own_code named.cards.items };
+    ghost invariant = { λ named. named.names ≡ map C.own_code named.cards.items };
 }
 
 impl<C: Coded> Named<C> {
@@ -178,7 +178,7 @@ impl<C: Coded> Named<C> {
     {
         Named {
             cards: Vec::new(alloc),
-            names: IndexSet::new(alloc),
+            names: Names::new(alloc),
         }
     }
 
@@ -220,9 +220,7 @@ impl<C: Coded> Named<C> {
         ensures kept { IfOk result (λ is_new. is_new ≡ true → self.new ≡ self.old ++ card ∷ []) }
     {
         self.cards.reserve(1)?;
-        let Ok((_, is_new)) = self.names.insert_full(*card.code()) else {
-            return Err(AllocError);
-        };
+        let is_new = self.names.add(card.code())?;
         if is_new {
             self.cards.push(card).unwrap();
         }
@@ -247,6 +245,6 @@ impl<C: Coded> Named<C> {
     pub fn place_of(&self, code: &Code) -> Option<usize>
         ensures { result ≡ position (pointwise nat_eq code.now) (map C.own_code self.now) }
     {
-        self.names.get_index_of(code)
+        self.names.place_of(code)
     }
 }

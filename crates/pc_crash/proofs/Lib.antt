@@ -3,6 +3,5 @@ mod GroupLaws
 mod KneeListLaws
 mod LaidLaws
 mod MoveLaws
-mod NameLaws
 pub mod CostLaws
 mod InsideLaws

@@ -16,7 +16,7 @@ priced_network net = record {
   pieces = net.pieces.items;
   project = net.project;
   events = net.events.items;
-  activities = net.activities.keys;
+  activities = net.activities;
 }
 
 -- what holds of every priced network: it is sound, its terms and pieces fit it and keep their limits, and all its events

@@ -13,9 +13,8 @@ use crate::counting::Steps;
 use crate::knee_list::KneeList;
 use crate::laying::{Layout, laid_out};
 use crate::looking::Look;
-use crate::naming::names_of;
-use indexmap::IndexSet;
 use pc_model::{PieceRow, Term};
+use pc_names::Names;
 use pc_net::Net;
 use pc_text::Code;
 use std::alloc::{AllocError, Global};
@@ -32,7 +31,7 @@ pub struct CrashNet<'n> {
     pieces: Vec<PieceRow>,
     project: Code,
     events: Vec<Code>,
-    activities: IndexSet<Code>,
+    activities: Names,
 }
 
 impl<'n> Model for CrashNet<'n> {
@@ -50,7 +49,7 @@ impl<'n> Model for CrashNet<'n> {
 impl<'n> CrashNet<'n> {
     /// The network with these terms, pieces and codes; the pieces of an activity follow one another in their order.
     ///
-    /// Linear in events, activities and pieces. The codes of the activities are hashed once.
+    /// Linear in events, activities and pieces, but for the names of the activities (`Names`).
     pub fn build(
         alloc: Global,
         net: &'n Net,
@@ -79,7 +78,7 @@ impl<'n> CrashNet<'n> {
             pieces: Vec::from_slice(alloc, pieces)?,
             project,
             events: Vec::from_slice(alloc, events)?,
-            activities: names_of(alloc, activities)?,
+            activities: Names::of(alloc, activities)?,
         })
     }
 
@@ -134,13 +133,13 @@ impl<'n> CrashNet<'n> {
         self.activities.as_slice()[a as usize]
     }
 
-    /// The activity with a code, if one has it. The code is hashed once.
+    /// The activity with a code, if one has it. One look-up.
     pub fn activity_named(&self, code: &Code) -> Option<u32>
         ensures known { IfSome result (λ a. a < length self.now.network.arcs) }
         ensures named { IfSome result (λ a. code_at self.now.activities a ≡ code.now) }
         ensures unknown { IfNone result ((a : ℕ) → a < length self.now.network.arcs → code_at self.now.activities a ≢ code.now) }
     {
-        let a = self.activities.get_index_of(code)?;
+        let a = self.activities.place_of(code)?;
         Some(a as u32)
     }
 

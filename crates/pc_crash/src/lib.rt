@@ -10,7 +10,6 @@ mod grouping;
 mod knee_list;
 mod laying;
 mod looking;
-mod naming;
 mod scheduling;
 mod viewing;
 

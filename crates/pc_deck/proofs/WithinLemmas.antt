@@ -22,7 +22,7 @@ use Rattle.pc_deck.specs.declared.draft.Draft.{Draft}
 use Rattle.pc_cards.proofs.FitLemmas.{room_as}
 use Rattle.pc_deck.proofs.JudgeLemmas.{IsFaultless, faultless, fits}
 use Rattle.pc_deck.proofs.KindLemmas.{own_code, same_is, wider}
-use Rattle.pc_cards.proofs.NameLemmas.{IsNamedOnce-nil, IsNamedOnce-push}
+use Rattle.pc_names.proofs.OnceLaws.{IsNamedOnce-nil, IsNamedOnce-push}
 use Rattle.pc_deck.proofs.SoFarLemmas.{codes-are, count-is, list-more, nothing, one_if, still_first, unchanged}
 
 All-one : {C : Type 0} (P : C → Type 0) (card : C) → P card → All P (card ∷ [])

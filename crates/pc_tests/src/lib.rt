@@ -18,6 +18,8 @@ mod figures;
 #[cfg(test)]
 mod loads;
 #[cfg(test)]
+mod names;
+#[cfg(test)]
 mod optima;
 #[cfg(test)]
 mod parts;

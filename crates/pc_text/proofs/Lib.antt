@@ -1,4 +1,5 @@
 mod CodeLemmas
+mod CodeNumberLemmas
 pub mod NumberLemmas
 pub mod DigitsLemmas
 mod TableLemmas

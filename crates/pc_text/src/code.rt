@@ -6,6 +6,7 @@ ghost use Rattle.std.specs.Cmp.Lexicographic.{pointwise, slice_cmp, nat_list_eq_
 ghost use Rattle.std.specs.List.{list_all};
 ghost use Rattle.pc_text.specs.Code.{is_code_byte, has_code_length, is_code, code_of};
 ghost use Rattle.pc_text.specs.CodeCells.{cells_of, same_cells};
+ghost use Rattle.pc_text.specs.CodeNumber.{number_of, code_in};
 ghost use Rattle.pc_text.specs.Words.{padded};
 
 use std::cmp::Ordering;
@@ -75,6 +76,15 @@ impl Code {
         ensures code { IsTrue (is_code result.now) }
     {
         &self.cells[..self.len as usize]
+    }
+
+    /// The code as one number, which tells it from every other. A map that orders codes by their numbers compares two at a time
+    /// where one of their bytes would go through both.
+    pub fn number(&self) -> u128
+        ensures value { result ≡ number_of self.now }
+        ensures back { code_in result ≡ self.now }
+    {
+        u128::from_le_bytes(self.cells)
     }
 }
 

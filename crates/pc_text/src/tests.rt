@@ -9,6 +9,8 @@ fn codes(rt: HostRuntime) -> Result<(), Fail> {
     assert_eq!(rt; code.bytes(), b"A.9_z-".as_slice());
     let later = Code::read(b"A.9_z-0").ok_or("a code")?;
     assert!(rt; code < later && code != later);
+    // 65 and 66 are the bytes
+    assert_eq!(rt; Code::read(b"AB").ok_or("a code")?.number(), 65 + 66 * 256);
     let cases: [(&[u8], bool); 6] = [
         (b"", false),
         (b"x", true),

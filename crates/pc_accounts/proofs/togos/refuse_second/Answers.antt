@@ -3,7 +3,7 @@ use Rattle.pc_accounts.proofs.SecondLaws.{IsSeen-none, seen_step, seen_twice, no
 use Rattle.pc_accounts.proofs.togos.refuse_second.Goals as goal
 
 pub loop-second-init : goal.loop-second-init
-loop-second-init c = IsSeen-none _ _ c.in_ok-seen.ensures.empty
+loop-second-init c = IsSeen-none _ _ c.new-seen.ensures.empty
 
 pub loop-second-preserved : goal.loop-second-preserved
 loop-second-preserved c =

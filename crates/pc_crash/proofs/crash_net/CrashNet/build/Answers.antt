@@ -16,7 +16,7 @@ invariant_of-result c =
         pieces = rw (terms, pieces) c.requires.pieces;
         piece_limits = rw pieces c.requires.piece_limits;
         events = rw c.in_ok-from_slice-2.ensures.items c.requires.events;
-        activities = rw c.in_ok-names_of.ensures c.requires.activities;
+        activities = rw c.in_ok-of.ensures c.requires.activities;
       };
       laid = rw (terms, pieces, c.in_ok-laid_out.ensures.laid.one_each) c.in_ok-laid_out.ensures.laid;
     }

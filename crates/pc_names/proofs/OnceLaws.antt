@@ -1,0 +1,57 @@
+-- Codes of which none stands twice.
+use Rattle.std.proofs.Common.{◌≡◌, ◌≢◌, ℕ, ◌+◌, ◌<◌, true, false, nat_eq, List, [], ◌∷◌, ◌++◌, length, take, get_or, ◌⊎◌, inl, inr, refl, sym, ap, ◌∙◌, ⊎_elim, arith, length-append}
+use Rattle.std.proofs.lemmas.Bool.{cases_Bool}
+use Rattle.std.proofs.lemmas.List.{get_or_append_left, get_or-take, length-take}
+use Rattle.std.proofs.Math.Seq.{get_or-append_seam}
+use Rattle.std.proofs.lemmas.List.Elements.{All-from_get_or}
+use Rattle.std.proofs.lemmas.List.Folds.{list_any_at, list_any_none}
+use Rattle.std.proofs.lemmas.Cmp.{nat_list_eq_equiv}
+use Rattle.std.specs.Cmp.Lexicographic.{pointwise, same_text}
+use Rattle.std.specs.List.{list_any}
+use Rattle.pc_model.specs.Codes.{code_at, IsNamedOnce}
+
+-- no code stands twice where there is none
+pub IsNamedOnce-nil : IsNamedOnce []
+IsNamedOnce-nil = λ j k before within same. omega arith
+
+-- a code that is not among those stands at none of their places
+pub absent : (codes : List (List ℕ)) (code : List ℕ) (j : ℕ) → list_any (pointwise nat_eq code) codes ≡ false → j < length codes → code_at codes j ≢ code
+absent codes code j new within same =
+    let itself : pointwise nat_eq code (code_at codes j) ≡ true = rw same (nat_list_eq_equiv.refl code) in
+    let found = list_any_at (pointwise nat_eq code) codes j [] within itself in
+    cc
+
+-- a place among the first n, or the one behind them
+pub inner_or_last : (k n : ℕ) → k < n + 1 → (k < n) ⊎ (k ≡ n)
+inner_or_last k n h = grind arith
+
+-- the places of codes with one more at their end
+pub inner-place : (codes : List (List ℕ)) (code : List ℕ) (k : ℕ) → k < length codes → code_at (codes ++ code ∷ []) k ≡ code_at codes k
+inner-place codes code k inside = get_or_append_left codes (code ∷ []) [] k inside
+
+pub last-place : (codes : List (List ℕ)) (code : List ℕ) (k : ℕ) → k ≡ length codes → code_at (codes ++ code ∷ []) k ≡ code
+last-place codes code k last = rw last (get_or-append_seam codes code [] [])
+
+-- a new code at the end
+pub IsNamedOnce-push : (codes : List (List ℕ)) (code : List ℕ) → IsNamedOnce codes → list_any (pointwise nat_eq code) codes ≡ false → IsNamedOnce (codes ++ code ∷ [])
+IsNamedOnce-push codes code once new = λ j k before within same.
+    let longer : length (codes ++ code ∷ []) ≡ length codes + 1 = length-append codes (code ∷ []) in
+    elim (inner_or_last k (length codes) (omega arith)) [
+      | inl inner ↦ once j k before inner (sym (inner-place codes code j (omega arith)) ∙ same ∙ inner-place codes code k inner)
+      | inr last ↦ absent codes code j new (omega arith) (sym (inner-place codes code j (omega arith)) ∙ same ∙ last-place codes code k last)
+    ]
+
+-- each is not among those before it
+pub not_before : (codes : List (List ℕ)) (k : ℕ) → IsNamedOnce codes → k < length codes → list_any (pointwise nat_eq (code_at codes k)) (take k codes) ≡ false
+not_before codes k once inside =
+    list_any_none (pointwise nat_eq (code_at codes k)) (take k codes) (All-from_get_or (λ code. pointwise nat_eq (code_at codes k) code ≡ false) (take k codes) [] (λ j below. other j (omega (arith, length-take k codes))))
+  where
+    other : (j : ℕ) → j < k → pointwise nat_eq (code_at codes k) (get_or (take k codes) j []) ≡ false
+    other j below =
+        rw (get-taken j below) (⊎_elim
+        (λ same. absurd (once j k below inside (sym (same_text (code_at codes k) (code_at codes j) (sym same)))))
+        (λ differs. differs)
+        (cases_Bool (pointwise nat_eq (code_at codes k) (code_at codes j))))
+      where
+        get-taken : (i : ℕ) → i < k → get_or (take k codes) i [] ≡ code_at codes i
+        get-taken i h = get_or-take k codes i [] h

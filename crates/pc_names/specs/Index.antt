@@ -1,0 +1,31 @@
+-- Where codes stand among others, by their slots and by the ordered map.
+use Rattle.std.specs.Prelude.{◌≡◌, ℕ, ◌+◌, ◌-◌, ◌<◌, ◌≤◌, ◌⊎◌, List, length, slice_index, bit_and, Option, Some}
+use Rattle.std.specs.BTreeMap.{get}
+use Rattle.std.specs.Hash.FoldHasher as folding
+use Rattle.std.specs.Ordering.{nat_cmp}
+use Rattle.pc_model.specs.Codes.{code_at}
+use Rattle.pc_names.specs.declared.index.Index.{Index}
+use Rattle.pc_text.specs.CodeNumber.{number_of, code_in}
+use Rattle.pc_text.specs.Words.{padded}
+
+-- the slot of a code among so many
+unfoldable pub slot_of : ℕ → List ℕ → ℕ
+slot_of size code = bit_and (folding.finish (folding.write folding.initial (padded 16 code))) (size - 1)
+
+-- what stands in the slot of a code
+abbrev pub slot_at : Index → List ℕ → ℕ
+slot_at index code = slice_index index.slots.items (slot_of (length index.slots.items) code)
+
+-- the place that the ordered map has for a number
+abbrev pub crowded_at : Index → ℕ → Option ℕ
+crowded_at index number = get nat_cmp index.crowded number
+
+-- a code is found at a place: it stands in its slot, as the place and one more, or where something else does, in the ordered map
+abbrev pub IsFound : Index → List ℕ → ℕ → Type 0
+IsFound index code place = (slot_at index code ≡ place + 1) ⊎ ((0 < slot_at index code) × (crowded_at index (number_of code) ≡ Some place))
+
+-- each of these codes is found at its place, and nothing but them
+pub record IsIndexed (codes : List (List ℕ)) (index : Index) : Type 0 where
+  pub within : (slot : ℕ) → slice_index index.slots.items slot ≤ length codes
+  pub each : (k : ℕ) → k < length codes → IsFound index (code_at codes k) k
+  pub only : (number k : ℕ) → crowded_at index number ≡ Some k → (k < length codes) × (code_at codes k ≡ code_in number)

@@ -1,0 +1,134 @@
+//! Where codes stand among others.
+ghost use Rattle.std.specs.Prelude.{◌≡◌, ◌+◌, ◌*◌, ◌^◌, ◌<◌, ◌≤◌, ◌∷◌, ◌++◌, [], false, nat_eq, length, position, IfOk, OnOk, OnErr};
+ghost use Rattle.std.specs.List.{list_any};
+ghost use Rattle.std.specs.Cmp.Lexicographic.{pointwise};
+ghost use Rattle.pc_model.specs.Codes.{IsNamedOnce};
+ghost use Rattle.pc_names.specs.Index.{IsIndexed, slot_of};
+
+use pc_text::Code;
+use std::alloc::{AllocError, Global};
+use std::collections::BTreeMap;
+use std::hash::{FoldHasher, Hash, Hasher};
+
+/// How many slots there are at least for each code, so that few codes find theirs taken.
+const SLOTS_EACH: usize = 4;
+
+/// The most codes: each has a number of 32 bits in its slot, and 0 stands for none.
+pub(crate) const MOST: usize = 0xFFFF_FFFE;
+
+/// Where codes stand among others: `slots` has the place of a code and one more, or 0, and `crowded` the place of each code
+/// whose slot another one has, by the code's number.
+#[derive(Drop)]
+pub(crate) struct Index {
+    slots: Vec<u32>,
+    crowded: BTreeMap<u128, u32>,
+}
+
+impl Index {
+    /// No codes, and no slots.
+    pub(crate) fn new(alloc: Global) -> Index
+        ensures { IsIndexed [] result }
+    {
+        Index {
+            slots: Vec::new(alloc),
+            crowded: BTreeMap::new(alloc),
+        }
+    }
+
+    /// These codes, with slots for at least so many. Linear in the codes and the slots, where codes have slots of their own.
+    pub(crate) fn of(alloc: Global, codes: &[Code], count: usize) -> Result<Index, AllocError>
+        requires once { IsNamedOnce codes.now }
+        requires within { length codes.now < MOST }
+        requires some { 0 < count }
+        requires few { count ≤ MOST }
+        ensures indexed { IfOk result (λ index. IsIndexed codes.now index) }
+        ensures room { IfOk result (λ index. 0 < length index.slots.items) }
+    {
+        let size = (SLOTS_EACH * count).next_power_of_two();
+        let mut index = Index {
+            slots: vec![in alloc; 0; size]?,
+            crowded: BTreeMap::new(alloc),
+        };
+        for place in 0..codes.len() {
+            index.put(&codes[..place], &codes[place])?;
+        }
+        Ok(index)
+    }
+
+    /// Makes slots for so many codes, where there are too few.
+    pub(crate) fn make_room(
+        &mut self,
+        alloc: Global,
+        codes: &[Code],
+        count: usize,
+    ) -> Result<(), AllocError>
+        requires once { IsNamedOnce codes.now }
+        requires within { length codes.now < MOST }
+        requires some { 0 < count }
+        requires few { count ≤ MOST }
+        requires indexed { IsIndexed codes.now self.old }
+        ensures indexed { IsIndexed codes.now self.new }
+        ensures room { OnOk result (0 < length self.new.slots.items) }
+    {
+        if SLOTS_EACH * count > self.slots.len() {
+            *self = Index::of(alloc, codes, count)?;
+        }
+        Ok(())
+    }
+
+    /// Puts a code behind those before it. After an error it has none but those.
+    pub(crate) fn put(&mut self, before: &[Code], code: &Code) -> Result<(), AllocError>
+        requires room { 0 < length self.old.slots.items }
+        requires within { length before.now < MOST }
+        requires indexed { IsIndexed before.now self.old }
+        requires other { list_any (pointwise nat_eq code.now) before.now ≡ false }
+        ensures indexed { OnOk result (IsIndexed (before.now ++ code.now ∷ []) self.new) }
+        ensures kept { OnErr result (IsIndexed before.now self.new) }
+        ensures size { length self.new.slots.items ≡ length self.old.slots.items }
+    {
+        let slot = slot_of(self.slots.len(), code);
+        let place = before.len() as u32;
+        if self.slots[slot] == 0 {
+            self.slots[slot] = place + 1;
+            return Ok(());
+        }
+        match self.crowded.insert(code.number(), place) {
+            Ok(_) => Ok(()),
+            Err(_) => Err(AllocError),
+        }
+    }
+
+    /// The place of a code among these. One look at its slot, and one walk down the ordered map where the slot has another code.
+    pub(crate) fn place_of(&self, codes: &[Code], code: &Code) -> Option<usize>
+        requires indexed { IsIndexed codes.now self.now }
+        requires once { IsNamedOnce codes.now }
+        ensures { result ≡ position (pointwise nat_eq code.now) codes.now }
+    {
+        let size = self.slots.len();
+        if size == 0 {
+            return None;
+        }
+        let taken = self.slots[slot_of(size, code)] as usize;
+        if taken == 0 {
+            return None;
+        }
+        if codes[taken - 1] == *code {
+            return Some(taken - 1);
+        }
+        match self.crowded.get(&code.number()) {
+            Some(place) => Some(*place as usize),
+            None => None,
+        }
+    }
+}
+
+/// The slot of a code among so many.
+fn slot_of(size: usize, code: &Code) -> usize
+    requires { 0 < size }
+    ensures value { result ≡ slot_of size code.now }
+    ensures within { result < size }
+{
+    let mut hasher = FoldHasher::default();
+    code.hash(&mut hasher);
+    hasher.finish() as usize & (size - 1)
+}
