@@ -18,3 +18,4 @@ mod FigureLaws
 mod StateLaws
 mod OwnPieceLaws
 pub mod SoundLaws
+pub mod OneProjectLaws

@@ -38,7 +38,7 @@ use Rattle.pc_project.specs.Refusal.{tree_fault, net_fault, HasSoundFigures, Has
 no_fault : (fault : ADeckFault) → OutOfMemory ≡ Fault fault → ⊥
 no_fault fault is = cc
 
-tree_has_fault : (deck : Deck) (e : TreeError) (fault : ADeckFault) → tree_fault deck e ≡ Fault fault → e ≢ tree.OutOfMemory
+pub tree_has_fault : (deck : Deck) (e : TreeError) (fault : ADeckFault) → tree_fault deck e ≡ Fault fault → e ≢ tree.OutOfMemory
 tree_has_fault deck e fault is same = no_fault fault (sym (ap (tree_fault deck) same) ∙ is)
 
 net_has_fault : (deck : Deck) (e : NetError) (fault : ADeckFault) → net_fault deck e ≡ Fault fault → e ≢ net.OutOfMemory
@@ -59,7 +59,7 @@ makes_not_refused deck fault makes (of_pieces plan figures first) = makes.pieces
 makes_not_refused deck fault makes (of_terms plan figures pieces first) = makes.terms fault first.holds
 
 -- a fault that is this one can be told where this one can
-told : (fault known : ADeckFault) → fault ≡ known → IsTold known → IsTold fault
+pub told : (fault known : ADeckFault) → fault ≡ known → IsTold known → IsTold fault
 told fault known is can = subst IsTold (sym is) can
 
 told_of-project : (deck : Deck) (card : ProjectCard) (fault : ADeckFault) → HasProjectFault deck card fault → IsTold fault
@@ -67,7 +67,7 @@ told_of-project deck card fault (has.unknown_start none is) = told fault _ is re
 told_of-project deck card fault (has.unknown_end known none is) = told fault _ is refl
 told_of-project deck card fault (has.same_ends same is) = told fault _ is refl
 
-told_of-item : (deck : Deck) (card : ItemCard) (fault : ADeckFault) → HasItemFault deck card fault → IsTold fault
+pub told_of-item : (deck : Deck) (card : ItemCard) (fault : ADeckFault) → HasItemFault deck card fault → IsTold fault
 told_of-item deck card fault (has.unknown_parent code there none is) = told fault _ is refl
 
 told_of-act : (deck : Deck) (card : ActCard) (fault : ADeckFault) → HasActFault deck card fault → IsTold fault
@@ -78,10 +78,10 @@ told_of-act deck card fault (has.same_events same is) = told fault _ is refl
 told_of-act deck card fault (has.unordered not is) = told fault _ is refl
 told_of-act deck card fault (has.crash_above above is) = told fault _ is refl
 
-told_of-account : (deck : Deck) (card : AcctCard) (fault : ADeckFault) → HasAccountFault deck card fault → IsTold fault
+pub told_of-account : (deck : Deck) (card : AcctCard) (fault : ADeckFault) → HasAccountFault deck card fault → IsTold fault
 told_of-account deck card fault (has.HasAccountFault.unknown_item none is) = told fault _ is refl
 
-told_of-money : (deck : Deck) (card : MoneyCard) (fault : ADeckFault) → HasMoneyFault deck card fault → IsTold fault
+pub told_of-money : (deck : Deck) (card : MoneyCard) (fault : ADeckFault) → HasMoneyFault deck card fault → IsTold fault
 told_of-money deck card fault (has.unknown_account none is) = told fault _ is refl
 
 told_of-status : (deck : Deck) (card : StatusCard) (fault : ADeckFault) → HasStatusFault deck card fault → IsTold fault
@@ -134,7 +134,7 @@ told_of-terms deck fault (bonus_above card there above is) = told fault _ is ref
 fault_of : (known fault : ADeckFault) → Fault known ≡ Fault fault → IsTold known → IsTold fault
 fault_of known fault is can = let same : fault ≡ known = cc in subst IsTold (sym same) can
 
-told_of-tree : (deck : Deck) (e : TreeError) (fault : ADeckFault) → tree_fault deck e ≡ Fault fault → IsTold fault
+pub told_of-tree : (deck : Deck) (e : TreeError) (fault : ADeckFault) → tree_fault deck e ≡ Fault fault → IsTold fault
 told_of-tree deck tree.NoTop fault is = fault_of _ fault is refl
 told_of-tree deck (tree.SecondTop item) fault is = fault_of _ fault is refl
 told_of-tree deck (tree.Loop loop) fault is = fault_of _ fault is refl

@@ -1,5 +1,4 @@
 pub mod SideLaws
 pub mod ReadingLaws
 pub mod VerdictLaws
-pub mod OneProjectLaws
 pub mod PricedLaws

@@ -15,7 +15,7 @@ use Rattle.pc_project.specs.Refusal.{IsRefusedWith}
 use Rattle.pc_project.proofs.RefusalLaws.{makes_not_refused, told_of-refused}
 use Rattle.pc_project.specs.Project.{Project}
 use Rattle.pc_project.specs.Figures.{IsProjectOfDeck}
-use Rattle.pc_reading.proofs.OneProjectLaws.{one_project_of}
+use Rattle.pc_project.proofs.OneProjectLaws.{one_project_of}
 use Rattle.pc_reading.specs.Verdict.{IsAccepted, IsFault, IsProjectOf, too_long, card_refusal, project_refusal}
 
 -- the refusal of a project is the fault of its deck

@@ -7,7 +7,7 @@ mod refusing;
 mod sending;
 mod status;
 
-pub use crate::reading::{NoProject, project_in, read_project};
+pub use crate::reading::{NoProject, project_in, read_deck, read_project};
 pub use crate::refusing::refuse;
 pub use crate::sending::send;
 pub use crate::status::Status;

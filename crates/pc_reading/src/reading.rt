@@ -4,7 +4,7 @@ ghost use Rattle.pc_edges.specs.Pulls.{TakesPulls};
 ghost use Rattle.pc_edges.specs.declared.loading.TheConstants.{STREAM_ROOM};
 ghost use Rattle.pc_faults.specs.First.{Refuses};
 ghost use Rattle.pc_deck.specs.Limits.{longest_deck};
-ghost use Rattle.pc_reading.specs.Reading.{HasProject, HasNoProject, IsNoProjectOf};
+ghost use Rattle.pc_reading.specs.Reading.{HasNoDeck, HasNoProject, HasProject, IsNoProjectOf, IsWholeDeck, lacking};
 ghost use Rattle.pc_reading.specs.Sides.{side, TookAtMost};
 ghost use Rattle.pc_reading.specs.Verdict.{IsFault, IsProjectOf};
 
@@ -24,24 +24,37 @@ pub enum NoProject {
     OutOfMemory,
 }
 
-/// Reads a deck to its end, and gives its project.
-pub fn read_project<S: Source>(alloc: Global, source: &mut S) -> Result<Project, NoProject>
-    ensures project { IfOk result (HasProject (side S.left S.faults source.old source.new)) }
-    ensures none { IfErr result (HasNoProject (side S.left S.faults source.old source.new)) }
+/// Reads a whole deck, of whichever sort, to its end: its bytes, if they are not too many.
+pub fn read_deck<S: Source>(alloc: Global, source: &mut S) -> Result<Vec<u8>, NoProject>
+    ensures deck { IfOk result (λ bytes. IsWholeDeck (side S.left S.faults source.old source.new) bytes.items) }
+    ensures none { IfErr result (HasNoDeck (side S.left S.faults source.old source.new)) }
 
     // However long the source is, no more pulls and hardly more bytes than those of the longest deck are taken of it.
     ensures turns { TakesPulls (longest_deck + 2) (S.pulls source.old) (S.pulls source.new) }
     ensures near { TookAtMost (longest_deck + STREAM_ROOM) (side S.left S.faults source.old source.new) }
 {
     match load(alloc, source, DECK_LIMIT) {
-        Ok(bytes) => project_in(alloc, &bytes),
+        Ok(bytes) => Ok(bytes),
         Err(LoadError::ReadFault) => Err(NoProject::ReadFault),
         Err(LoadError::TooLong) => Err(NoProject::Refused(TOO_LONG)),
         Err(LoadError::OutOfMemory) => Err(NoProject::OutOfMemory),
     }
 }
 
-/// The project of these bytes, which are a whole deck.
+/// Reads a plan to its end, and gives its project. It pulls as [`read_deck`] does.
+pub fn read_project<S: Source>(alloc: Global, source: &mut S) -> Result<Project, NoProject>
+    ensures project { IfOk result (HasProject (side S.left S.faults source.old source.new)) }
+    ensures none { IfErr result (HasNoProject (side S.left S.faults source.old source.new)) }
+    ensures turns { TakesPulls (longest_deck + 2) (S.pulls source.old) (S.pulls source.new) }
+    ensures near { TookAtMost (longest_deck + STREAM_ROOM) (side S.left S.faults source.old source.new) }
+{
+    match read_deck(alloc, source) {
+        Ok(bytes) => project_in(alloc, &bytes),
+        Err(why) => Err(why),
+    }
+}
+
+/// The project of these bytes, which are a whole plan.
 pub fn project_in(alloc: Global, bytes: &[u8]) -> Result<Project, NoProject>
     ensures project { IfOk result (IsProjectOf bytes.now) }
     ensures none { IfErr result (IsNoProjectOf bytes.now) }
@@ -51,8 +64,19 @@ pub fn project_in(alloc: Global, bytes: &[u8]) -> Result<Project, NoProject>
     }
     match project_or_fault(alloc, bytes) {
         Ok(project) => Ok(project),
-        Err(DeckError::Fault(fault)) => Err(NoProject::Refused(fault)),
-        Err(DeckError::OutOfMemory) => Err(NoProject::OutOfMemory),
+        Err(error) => Err(NoProject::of(error)),
+    }
+}
+
+impl NoProject {
+    /// Why there is no project of a deck that was read and is refused so.
+    pub fn of(error: DeckError) -> NoProject
+        ensures { result ≡ lacking error }
+    {
+        match error {
+            DeckError::Fault(fault) => NoProject::Refused(fault),
+            DeckError::OutOfMemory => NoProject::OutOfMemory,
+        }
     }
 }
 

@@ -21,4 +21,4 @@ mod MisfitLemmas
 pub mod KnownLemmas
 pub mod KeepLemmas
 pub mod PhaseLemmas
-pub mod TextLemmas
+pub mod VerdictLaws

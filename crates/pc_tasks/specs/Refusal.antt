@@ -15,7 +15,7 @@ use Rattle.pc_faults.specs.declared.fault.Fault.{Fault as ADeckFault}
 use Rattle.pc_faults.specs.declared.fault.DeckError.TheVariants.{Fault}
 use Rattle.pc_project.specs.Project.{rows_of}
 use Rattle.pc_project.specs.Records.{codes_at, item_records}
-use Rattle.pc_project.specs.Refusal.{IsRefusedWith, tree_fault}
+use Rattle.pc_project.specs.Refusal.{IsRefusedWith, MakesProject, tree_fault}
 use Rattle.pc_tasks.specs.Drawn.{drawn}
 use Rattle.pc_tasks.specs.Lists.{afters_in}
 use Rattle.pc_tasks.specs.Misfit.{HasMisfit, HasNoMisfit}
@@ -56,6 +56,11 @@ pub record HasSoundTasks (deck : Deck) : Type 0 where
   pub items : HasSoundItems deck
   pub some : 0 < length deck.tasks
   pub no_cycle : (tasks : List ℕ) → IsTaskCycle (afters_in deck) tasks → ⊥
+
+-- the deck of tasks has no fault: its tasks have none, and the plan that is drawn of them makes a project
+pub record MakesArrows (deck : Deck) : Type 0 where
+  pub sound : HasSoundTasks deck
+  pub plan : MakesProject (drawn deck)
 
 -- the fault with which a deck of tasks is refused; a phase counts only where none before it has a fault
 pub data IsTasksRefusedWith (deck : Deck) (fault : ADeckFault) : Type 0 where

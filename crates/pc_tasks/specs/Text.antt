@@ -1,4 +1,4 @@
--- What the text of the arrows of a deck of tasks is.
+-- What the project and the text of the arrows of a deck of tasks are.
 use Rattle.std.specs.Prelude.{◌↔◌, ℕ, List}
 use Rattle.pc_model.specs.Cost.{IsLeastCost}
 use Rattle.pc_model.specs.Pieces.{knees_of}
@@ -10,7 +10,7 @@ use Rattle.pc_project.specs.Figures.{IsProjectOfDeck}
 use Rattle.pc_project.specs.Project.{Project}
 use Rattle.pc_tasks.specs.Drawn.{drawn}
 use Rattle.pc_tasks.specs.Lists.{afters_in, task_pieces, task_terms}
-use Rattle.pc_tasks.specs.Refusal.{HasSoundTasks}
+use Rattle.pc_tasks.specs.Refusal.{MakesArrows}
 
 -- for every length there is a schedule of the tasks exactly where there is one of the project, and the least cost of the one is that of the other
 pub record KeepsTasks (deck : Deck) (project : Project) : Type 0 where
@@ -19,7 +19,14 @@ pub record KeepsTasks (deck : Deck) (project : Project) : Type 0 where
       IsLeastTaskCost (task_terms deck) (knees_of (task_terms deck) (task_pieces deck)) (afters_in deck) limit cost
       ↔ IsLeastCost project.network project.terms (knees_of project.terms project.pieces) limit cost
 
--- the tasks have no fault; the text is that of the plan that is drawn of them, which is accepted; and the project of this plan keeps the tasks
+-- the deck of tasks has no fault; the project is that of the plan that is drawn of them, and keeps the tasks
+pub record IsDrawnProject (deck : Deck) (project : Project) : Type 0 where
+  pub makes : MakesArrows deck
+  pub is : IsProjectOfDeck (drawn deck) project
+  pub keeps : KeepsTasks deck project
+
+-- the text is that of the plan that is drawn of the tasks
 pub record IsArrowsText (deck : Deck) (text : List ℕ) : Type 0 where
-  pub sound : HasSoundTasks deck
-  pub project : (project : Project) × IsProjectOfDeck (drawn deck) project × IsDeckText project text × KeepsTasks deck project
+  pub project : Project
+  pub drawn : IsDrawnProject deck project
+  pub written : IsDeckText project text

@@ -4,8 +4,7 @@ ghost use Rattle.pc_faults.specs.First.{Refuses};
 ghost use Rattle.pc_tasks.specs.Drawn.{drawn};
 ghost use Rattle.pc_tasks.specs.Lists.{afters_in};
 ghost use Rattle.pc_tasks.specs.Refusal.{HasSoundTasks, IsTasksRefusedWith};
-ghost use Rattle.pc_project.specs.Figures.{IsProjectOfDeck};
-ghost use Rattle.pc_tasks.specs.Text.{IsArrowsText, KeepsTasks};
+ghost use Rattle.pc_tasks.specs.Text.{IsArrowsText, IsDrawnProject};
 ghost use Rattle.pc_cards.specs.declared.sort.Sort.TheVariants.{Tasks};
 ghost use Rattle.pc_deck.specs.Within.{IsWithin};
 
@@ -19,44 +18,29 @@ use pc_faults::DeckError;
 use pc_project::{Project, project_of};
 use std::alloc::{AllocError, Global};
 
-/// The text of the plan that is drawn of the tasks, or the first fault that keeps them from one: of the cards one by one, or else of the tree of their
-/// items, or else that no item is below the top, or else that there is no task, or else of tasks that wait for each other in a circle, or else of the plan.
+/// The project of the plan that is drawn of the tasks, or the first fault that keeps them from one: of the cards one by one, or else of the tree of
+/// their items, or else that no item is below the top, or else that there is no task, or else of tasks that wait for each other in a circle, or else of
+/// the plan.
+pub fn drawn_project(alloc: Global, cards: &TaskCards) -> Result<Project, DeckError>
+    ensures project { IfOk result (IsDrawnProject cards.now) }
+    ensures refused { IfErr result (Refuses (IsTasksRefusedWith cards.now)) }
+{
+    match sound_rows(alloc, cards) {
+        Ok(afters) => project_of_tasks(alloc, cards, &afters),
+        Err(error) => Err(error),
+    }
+}
+
+/// The text of the plan that is drawn of the tasks, or the first fault that keeps them from one, as of its project.
 pub fn arrows_of(alloc: Global, cards: &TaskCards) -> Result<Vec<u8>, DeckError>
     ensures text { IfOk result (λ text. IsArrowsText cards.now text.items) }
     ensures refused { IfErr result (Refuses (IsTasksRefusedWith cards.now)) }
 {
-    match sound_rows(alloc, cards) {
-        Ok(afters) => text_of_tasks(alloc, cards, &afters),
-        Err(error) => Err(error),
-    }
-}
-
-/// The text of the plan that is drawn of tasks without a fault, or the first fault of this plan.
-fn text_of_tasks(
-    alloc: Global,
-    cards: &TaskCards,
-    afters: &[AfterRow],
-) -> Result<Vec<u8>, DeckError>
-    requires sound { HasSoundTasks cards.now }
-    requires afters { afters.now ≡ afters_in cards.now }
-    ensures text { IfOk result (λ text. IsArrowsText cards.now text.items) }
-    ensures refused { IfErr result (Refuses (IsTasksRefusedWith cards.now)) }
-{
-    match project_of_tasks(alloc, cards, afters) {
-        Ok(project) => text_of(alloc, cards, &project),
-        Err(error) => Err(error),
-    }
-}
-
-/// The text of the plan of a project that was drawn of tasks.
-fn text_of(alloc: Global, cards: &TaskCards, project: &Project) -> Result<Vec<u8>, DeckError>
-    requires sound { HasSoundTasks cards.now }
-    requires project { IsProjectOfDeck (drawn cards.now) project.now }
-    requires keeps { KeepsTasks cards.now project.now }
-    ensures text { IfOk result (λ text. IsArrowsText cards.now text.items) }
-    ensures refused { IfErr result (Refuses (IsTasksRefusedWith cards.now)) }
-{
-    match deck_text_of(alloc, project) {
+    let project = match drawn_project(alloc, cards) {
+        Ok(project) => project,
+        Err(error) => return Err(error),
+    };
+    match deck_text_of(alloc, &project) {
         Ok(text) => Ok(text),
         Err(_) => Err(DeckError::OutOfMemory),
     }
@@ -70,8 +54,7 @@ fn project_of_tasks(
 ) -> Result<Project, DeckError>
     requires sound { HasSoundTasks cards.now }
     requires afters { afters.now ≡ afters_in cards.now }
-    ensures project { IfOk result (IsProjectOfDeck (drawn cards.now)) }
-    ensures keeps { IfOk result (KeepsTasks cards.now) }
+    ensures project { IfOk result (IsDrawnProject cards.now) }
     ensures refused { IfErr result (Refuses (IsTasksRefusedWith cards.now)) }
 {
     drawn_deck_keeps_least_costs();

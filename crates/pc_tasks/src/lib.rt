@@ -16,4 +16,4 @@ mod phases;
 mod rows;
 mod tree;
 
-pub use crate::arrows::arrows_of;
+pub use crate::arrows::{arrows_of, drawn_project};

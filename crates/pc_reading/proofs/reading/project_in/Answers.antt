@@ -1,7 +1,11 @@
+use Rattle.std.proofs.Common.{subst, sym}
+use Rattle.pc_reading.specs.Reading.{IsNoProjectOf}
+use Rattle.pc_reading.specs.Verdict.{IsFault}
+use Rattle.pc_reading.proofs.ReadingLaws.{lacks_by}
 use Rattle.pc_reading.proofs.VerdictLaws.{told_of-fault}
 use Rattle.pc_reading.proofs.reading.project_in.Goals as goal
 
-pub returns-in-Err-Fault-clause-none : goal.returns-in-Err-Fault-clause-none
-returns-in-Err-Fault-clause-none c =
-    let is = rw c.in-Err-Fault.field-0-is at c.in-Err-Fault.ensures.refused in
-    (told_of-fault _ c.in-Err-Fault.fault is, is)
+pub returns-in-Err-clause-none : goal.returns-in-Err-clause-none
+returns-in-Err-clause-none c =
+    let deck = c.args.bytes.now in
+    subst (IsNoProjectOf deck) (sym c.of.ensures) (lacks_by IsFault deck c.in-Err.error (told_of-fault deck) c.in-Err.ensures.refused)

@@ -7,16 +7,18 @@ use Rattle.pc_tasks.proofs.PhaseLemmas.{refused_by_plan}
 use Rattle.pc_tasks.proofs.arrows.project_of_tasks.Goals as goal
 
 pub returns-in-Ok-clause-project : goal.returns-in-Ok-clause-project
-returns-in-Ok-clause-project c = subst (λ deck. IsProjectOfDeck deck c.in-Ok.project) c.in_ok-plan.ensures.drawn c.in-Ok.ensures.project
-
-pub returns-in-Ok-clause-keeps : goal.returns-in-Ok-clause-keeps
-returns-in-Ok-clause-keeps c =
+returns-in-Ok-clause-project c =
     let deck = c.args.cards.now in
     let can = can_be_drawn deck c.requires.sound.items.cards c.drawn_of.ensures.within in
     let makes = subst MakesProject c.in_ok-plan.ensures.drawn c.in-Ok.ensures.makes in
-    keeps_tasks deck c.in-Ok.project (subst (λ d. IsProjectOfDeck d c.in-Ok.project) c.in_ok-plan.ensures.drawn c.in-Ok.ensures.project)
-    (λ limit. c.drawn_deck_keeps_least_costs.ensures.schedules deck limit can makes.sound)
-    (λ limit cost. c.drawn_deck_keeps_least_costs.ensures.costs deck limit cost can makes.sound)
+    let is = subst (λ d. IsProjectOfDeck d c.in-Ok.project) c.in_ok-plan.ensures.drawn c.in-Ok.ensures.project in
+    record {
+      makes = record { sound = c.requires.sound; plan = makes };
+      is = is;
+      keeps = keeps_tasks deck c.in-Ok.project is
+          (λ limit. c.drawn_deck_keeps_least_costs.ensures.schedules deck limit can makes.sound)
+          (λ limit cost. c.drawn_deck_keeps_least_costs.ensures.costs deck limit cost can makes.sound);
+    }
 
 pub returns-in-Err-clause-refused : goal.returns-in-Err-clause-refused
 returns-in-Err-clause-refused c = refused_by_plan c.args.cards.now c.in_ok-plan.plan c.in-Err.error c.in_ok-plan.ensures.drawn c.requires.sound c.in-Err.ensures.refused

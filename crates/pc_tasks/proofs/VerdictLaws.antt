@@ -1,0 +1,69 @@
+-- A deck of tasks does not both make arrows and be refused, it makes one project, and each refusal can be told.
+use Rattle.std.proofs.Common.{◌≡◌, ℕ, List, length, refl, ap, arith}
+use Rattle.pc_deck.specs.Deck.{Deck}
+use Rattle.pc_deck.specs.declared.kinds.after.AfterCard.{AfterCard}
+use Rattle.pc_deck.specs.declared.kinds.load.LoadCard.{LoadCard}
+use Rattle.pc_deck.specs.declared.kinds.task.TaskCard.{TaskCard}
+use Rattle.pc_faults.specs.FaultText.{IsTold}
+use Rattle.pc_faults.specs.declared.fault.Fault.{Fault as ADeckFault}
+use Rattle.pc_project.specs.Project.{Project, rows_of}
+use Rattle.pc_project.proofs.OneProjectLaws.{one_project_of}
+use Rattle.pc_project.proofs.RefusalLaws.{makes_not_refused, told, told_of-account, told_of-item, told_of-money, told_of-refused, told_of-tree, tree_has_fault}
+use Rattle.pc_wbs.proofs.ExactLaws.{IsTree-not_refused}
+use Rattle.pc_tasks.specs.Drawn.{drawn}
+use Rattle.pc_tasks.specs.Misfit as has
+use Rattle.pc_tasks.specs.Misfit.{HasAfterFault, HasLoadFault, HasMisfit, HasNameFault, HasTaskFault}
+use Rattle.pc_tasks.specs.Refusal.{IsTasksRefusedWith, MakesArrows, of_cards, of_cycle, of_none, of_plan, of_top, of_tree}
+use Rattle.pc_tasks.specs.Text.{IsDrawnProject}
+
+-- tasks that make arrows are not refused
+pub arrows_not_refused : (deck : Deck) (fault : ADeckFault) → MakesArrows deck → IsTasksRefusedWith deck fault → ⊥
+arrows_not_refused deck fault makes (of_cards first) = makes.sound.items.cards fault first.holds
+arrows_not_refused deck fault makes (of_tree cards e refused is) =
+    tree_has_fault deck e fault is (IsTree-not_refused (rows_of deck) e makes.sound.items.tree refused)
+arrows_not_refused deck fault makes (of_top cards items lone) = makes.sound.items.branch fault lone
+arrows_not_refused deck fault makes (of_none items none) = omega (arith, makes.sound.some, ap length none.0)
+arrows_not_refused deck fault makes (of_cycle items some (cycle, (first, is))) = makes.sound.no_cycle cycle first.cycle
+arrows_not_refused deck fault makes (of_plan sound refused) = makes_not_refused (drawn deck) fault makes.plan refused
+
+-- and they make one project
+pub one_drawn_project : (deck : Deck) (project other : Project) → IsDrawnProject deck project → IsDrawnProject deck other → project ≡ other
+one_drawn_project deck project other is also = one_project_of (drawn deck) is.makes.plan.figures.once project other is.is also.is
+
+told_of-task : (deck : Deck) (card : TaskCard) (fault : ADeckFault) → HasTaskFault deck card fault → IsTold fault
+told_of-task deck card fault (has.unknown_item none is) = told fault _ is refl
+told_of-task deck card fault (has.unordered not is) = told fault _ is refl
+told_of-task deck card fault (has.crash_above above is) = told fault _ is refl
+
+told_of-after : (deck : Deck) (card : AfterCard) (fault : ADeckFault) → HasAfterFault deck card fault → IsTold fault
+told_of-after deck card fault (has.HasAfterFault.unknown_task none is) = told fault _ is refl
+told_of-after deck card fault (has.unknown_before known none is) = told fault _ is refl
+told_of-after deck card fault (has.same_task same is) = told fault _ is refl
+
+told_of-name : (deck : Deck) (row : ℕ) (code : List ℕ) (fault : ADeckFault) → HasNameFault deck row code fault → IsTold fault
+told_of-name deck row code fault (has.HasNameFault.unknown_task none is) = told fault _ is refl
+
+told_of-load : (deck : Deck) (card : LoadCard) (fault : ADeckFault) → HasLoadFault deck card fault → IsTold fault
+told_of-load deck card fault (has.HasLoadFault.unknown_task none is) = told fault _ is refl
+told_of-load deck card fault (has.unknown_resource none is) = told fault _ is refl
+
+told_of-misfit : (deck : Deck) (fault : ADeckFault) → HasMisfit deck fault → IsTold fault
+told_of-misfit deck fault (has.ends here) = told fault _ here.1 refl
+told_of-misfit deck fault (has.item (k, card, within, at, here)) = told_of-item deck card fault here
+told_of-misfit deck fault (has.task (k, card, within, at, here)) = told_of-task deck card fault here
+told_of-misfit deck fault (has.after (k, card, within, at, here)) = told_of-after deck card fault here
+told_of-misfit deck fault (has.piece (k, card, within, at, here)) = told_of-name deck card.row card.activity fault here
+told_of-misfit deck fault (has.account (k, card, within, at, here)) = told_of-account deck card fault here
+told_of-misfit deck fault (has.charge (k, card, within, at, here)) = told_of-money deck card fault here
+told_of-misfit deck fault (has.togo (k, card, within, at, here)) = told_of-money deck card fault here
+told_of-misfit deck fault (has.status (k, card, within, at, here)) = told_of-name deck card.row card.activity fault here
+told_of-misfit deck fault (has.load (k, card, within, at, here)) = told_of-load deck card fault here
+
+-- the fault with which a deck of tasks is refused has a line
+pub told_of-refused_tasks : (deck : Deck) (fault : ADeckFault) → IsTasksRefusedWith deck fault → IsTold fault
+told_of-refused_tasks deck fault (of_cards first) = told_of-misfit deck fault first.holds
+told_of-refused_tasks deck fault (of_tree cards e refused is) = told_of-tree deck e fault is
+told_of-refused_tasks deck fault (of_top cards items lone) = told fault _ lone.1 refl
+told_of-refused_tasks deck fault (of_none items none) = told fault _ none.1 refl
+told_of-refused_tasks deck fault (of_cycle items some (cycle, (first, is))) = told fault _ is refl
+told_of-refused_tasks deck fault (of_plan sound refused) = told_of-refused (drawn deck) fault refused
