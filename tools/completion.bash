@@ -1,7 +1,7 @@
 # Completion for bash: pert's forms as its first word, files behind `<` and for the other programs.
 _pert() {
     if [ "$COMP_CWORD" -eq 1 ]; then
-        mapfile -t COMPREPLY < <(compgen -W 'check normal times summary value curve certify point outlook bench migrate optimum load' -- "$2")
+        mapfile -t COMPREPLY < <(compgen -W 'check normal times summary value curve certify point outlook bench migrate optimum arrows load' -- "$2")
     fi
 }
 complete -o bashdefault -o default -F _pert pert

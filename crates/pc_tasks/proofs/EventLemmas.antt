@@ -1,5 +1,5 @@
 -- The events of the deck that is drawn, by their numbers and their codes.
-use Rattle.std.proofs.Common.{◌≡◌, ◌≢◌, ℕ, zero, suc, ◌+◌, ◌*◌, ◌^◌, ◌<◌, ◌≤◌, List, [], ◌∷◌, ◌++◌, length, map, Some, refl, sym, ◌∙◌, ap, ⊎_elim, arith}
+use Rattle.std.proofs.Common.{◌≡◌, ℕ, zero, suc, ◌+◌, ◌*◌, ◌^◌, ◌<◌, List, [], ◌∷◌, ◌++◌, length, map, Some, refl, sym, ◌∙◌, ap, arith}
 use Rattle.std.specs.Prelude.{unwrap_or, position, nat_eq}
 use Rattle.std.specs.Cmp.Lexicographic.{pointwise}
 use Rattle.std.proofs.lemmas.List.{get_or_append_left, get_or_push, length-append, length-map, map-append}
@@ -12,7 +12,7 @@ use Rattle.pc_deck.specs.declared.kinds.event.EventCard.{EventCard}
 use Rattle.pc_project.specs.Project.{event_number}
 use Rattle.pc_deck.specs.declared.kinds.task.TaskCard.{TaskCard}
 use Rattle.pc_tasks.specs.Codes.{begin_code, end_code}
-use Rattle.pc_tasks.specs.Drawn.{drawn, drawn_event, events_of, task_events}
+use Rattle.pc_tasks.specs.Drawn.{drawn, drawn_event, task_events}
 use Rattle.pc_tasks.specs.Known.{CanBeDrawn}
 use Rattle.pc_tasks.proofs.CodeLemmas.{drawn_code-letter, drawn_code-number, given-not_drawn}
 use Rattle.pc_tasks.proofs.PlaceLemmas.{only_place-is}

@@ -1,6 +1,6 @@
 -- The cards that are drawn are fit.
-use Rattle.std.proofs.Common.{◌≡◌, ℕ, ◌+◌, ◌<◌, ◌≤◌, ◌||◌, Bool, true, false, List, [], ◌∷◌, ◌++◌, length, map, codes, Option, Some, None, All, refl, sym, ◌∙◌, ap, subst, arith, if◌then◌else◌}
-use Rattle.std.specs.Prelude.{not, IsSome}
+use Rattle.std.proofs.Common.{◌≡◌, ℕ, ◌+◌, ◌<◌, ◌≤◌, ◌||◌, Bool, true, false, List, [], ◌∷◌, ◌++◌, length, map, codes, Option, Some, None, All, refl, sym, ◌∙◌, ap, arith}
+use Rattle.std.specs.Prelude.{not}
 use Rattle.std.specs.Str.{IsUtf8}
 use Rattle.std.proofs.lemmas.Bool.{and_parts, cond-true}
 use Rattle.std.proofs.lemmas.List.Elements.{All-append, All-cons, All-head, All-nil, All-tail}
@@ -13,17 +13,15 @@ use Rattle.pc_cards.specs.declared.form.Form.TheVariants as form
 use Rattle.pc_cards.specs.declared.sort.Sort.TheVariants.{Plan, Tasks}
 use Rattle.pc_faults.specs.declared.kind.Kind.TheVariants.{Act, Event, Project, Task, Wbs}
 use Rattle.pc_records.specs.Deck.{field_at, is_empty}
-use Rattle.pc_text.specs.Code.{code_of, is_code}
+use Rattle.pc_text.specs.Code.{is_code}
 use Rattle.pc_deck.specs.Deck.{Deck}
-use Rattle.pc_deck.specs.Within.{IsFit, IsWithin}
-use Rattle.pc_deck.specs.declared.kinds.act.ActCard.{ActCard}
-use Rattle.pc_deck.specs.declared.kinds.event.EventCard.{EventCard}
+use Rattle.pc_deck.specs.Within.{IsFit}
 use Rattle.pc_deck.specs.declared.kinds.project.ProjectCard.{ProjectCard}
 use Rattle.pc_deck.specs.declared.kinds.task.TaskCard.{TaskCard}
 use Rattle.pc_deck.specs.declared.kinds.wbs.ItemCard.{ItemCard}
 use Rattle.pc_deck.proofs.WrittenLemmas.{field-text}
 use Rattle.pc_tasks.specs.Codes.{after_code, begin_code, end_code, first_code, last_code, links_code}
-use Rattle.pc_tasks.specs.Drawn.{after_links, drawn_event, first_link, last_link, link, links_item, links_of, task_act, task_acts, task_events, top_code}
+use Rattle.pc_tasks.specs.Drawn.{after_links, drawn_event, first_link, last_link, link, links_of, task_act, task_acts, task_events}
 use Rattle.pc_tasks.specs.Known.{IsKnownAfter}
 use Rattle.pc_tasks.specs.Lists.{after_row, afters_in}
 use Rattle.pc_tasks.proofs.NetworkLemmas.{IsRow, firsts-below, lasts-below, rows-known}

@@ -1,5 +1,5 @@
 -- The plan that is drawn, made of its lists, and its project.
-use Rattle.std.proofs.Common.{◌≡◌, ℕ, ◌<◌, List, [], ◌∷◌, ◌++◌, length, refl, sym, ap, ◌∙◌, subst, arith}
+use Rattle.std.proofs.Common.{◌≡◌, ℕ, List, [], ◌∷◌, ◌++◌, length, sym, ap, ◌∙◌, subst}
 use Rattle.std.specs.Prelude.{◌↔◌}
 use Rattle.pc_model.specs.Cost.{IsLeastCost}
 use Rattle.pc_model.specs.Pieces.{knees_of}

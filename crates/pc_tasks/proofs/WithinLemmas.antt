@@ -1,6 +1,6 @@
 -- The deck that is drawn is within the limits of a plan.
-use Rattle.std.proofs.Common.{◌≡◌, ◌≢◌, ℕ, ◌+◌, ◌^◌, ◌<◌, ◌≤◌, Bool, true, false, List, [], ◌∷◌, ◌++◌, length, map, get_or, Option, Some, None, All, refl, sym, ◌∙◌, ap, subst, arith, cond}
-use Rattle.std.specs.Prelude.{not, find, is_none, filter, IsSome}
+use Rattle.std.proofs.Common.{◌≡◌, ℕ, ◌+◌, ◌^◌, ◌<◌, ◌≤◌, Bool, true, false, List, [], ◌∷◌, ◌++◌, length, map, get_or, Some, None, All, refl, sym, ◌∙◌, ap, subst, arith, cond}
+use Rattle.std.specs.Prelude.{not, find, is_none, filter}
 use Rattle.std.specs.List.{range_with_len}
 use Rattle.std.proofs.lemmas.Bool.{and_parts}
 use Rattle.std.proofs.lemmas.List.{get_or-map, length-append, length-map, map-append}
@@ -10,7 +10,7 @@ use Rattle.std.proofs.lemmas.List.FromFn.{get_or-range_with_len, length-range_wi
 use Rattle.pc_arrows.specs.Arrows.{comes_after, comes_before, firsts, lasts}
 use Rattle.pc_arrows.specs.declared.AfterRow.{AfterRow}
 use Rattle.pc_arrows.proofs.Kept.{AreOnce-filter}
-use Rattle.pc_cards.specs.Forms.{Fits, is_reserved}
+use Rattle.pc_cards.specs.Forms.{is_reserved}
 use Rattle.pc_cards.specs.declared.sort.Sort.TheVariants.{Plan, Tasks}
 use Rattle.pc_faults.specs.declared.kind.Kind.TheVariants.{Project, AsOf, Terms, Wbs, Event, Act, Task, After, Piece, Acct, Charge, ToGo, Status, Res, Load, End}
 use Rattle.pc_model.specs.Codes.{code_at, IsNamedOnce}

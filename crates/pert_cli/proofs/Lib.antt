@@ -1,3 +1,7 @@
+mod OneFormLaws
+mod VerdictLaws
+mod AnsweredLaws
+mod ArrowsLaws
 mod DecidedLaws
 mod HandingLaws
 mod FormDeckLaws

@@ -6,7 +6,6 @@ use Rattle.pc_load.specs.Loading.{ArePeriods, IsLoading, Loading, periods_for}
 use Rattle.pc_load.specs.LoadText.{load_text}
 use Rattle.pert_cli.specs.declared.forms.Form.TheVariants.{Load}
 use Rattle.pert_cli.specs.Handing.{IsReply}
-use Rattle.pert_cli.specs.Load.{IsTooLong}
 
 -- a project takes one number of periods
 one_count : (project : Project) (days have other : ℕ) → ArePeriods project days have → ArePeriods project days other → have ≡ other

@@ -1,7 +1,6 @@
 -- A project's optimum, and a schedule for it.
 use Rattle.std.proofs.Common.{◌≡◌, ℕ, slice_index, sym, subst, arith}
 use Rattle.pc_model.specs.declared.TimeTerms.{TimeTerms}
-use Rattle.pc_model.specs.Schedule.{IsAllCrashLength, IsAllNormalLength}
 use Rattle.pc_model.proofs.Costs.LeastCost.{unique}
 use Rattle.pc_crash.specs.Priced.{PricedNetwork, knees_in}
 use Rattle.pc_flow.specs.Courses.{Course, IsSameCurve}

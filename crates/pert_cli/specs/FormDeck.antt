@@ -1,18 +1,20 @@
--- Which deck a form speaks of: that of the source, or one of its own, for which nothing is read.
+-- Which deck a form speaks of: that of the source, or one of its own, for which nothing is read; and of which sort it is.
 use Rattle.std.specs.Prelude.{◌≡◌, ℕ, List, Option, Some, None, String}
 use Rattle.std.specs.declared.alloc.Global.{Global}
 use Rattle.pc_bench.specs.Deck.{bench_text}
+use Rattle.pc_cards.specs.declared.sort.Sort.{Sort}
+use Rattle.pc_cards.specs.declared.sort.Sort.TheVariants.{Plan, Tasks}
 use Rattle.pc_deck.specs.Limits.{longest_deck}
 use Rattle.pc_faults.specs.declared.fault.Fault.{Fault}
 use Rattle.pc_faults.specs.FaultText.{IsTold}
 use Rattle.pc_project.specs.Project.{Project}
 use Rattle.pert_cli.specs.declared.forms.Form.{Form}
-use Rattle.pert_cli.specs.declared.forms.Form.TheVariants.{Check, Normal, Times, Summary, Value, Curve, Certify, Point, Outlook, Bench, Migrate, Optimum, Load}
+use Rattle.pert_cli.specs.declared.forms.Form.TheVariants.{Check, Normal, Times, Summary, Value, Curve, Certify, Point, Outlook, Bench, Migrate, Optimum, Arrows, Load}
 use Rattle.pc_reading.specs.declared.reading.NoProject.{NoProject}
 use Rattle.pc_reading.specs.declared.reading.NoProject.TheVariants.{Refused, ReadFault, OutOfMemory}
 use Rattle.pc_reading.specs.Sides.{Side, HadFault, IsUntouched, TookAtMost}
-use Rattle.pc_reading.specs.Reading.{HasProject, HasRefusal}
-use Rattle.pc_reading.specs.Verdict.{IsFault, IsProjectOf}
+use Rattle.pc_reading.specs.Reading.{HasProjectBy, HasRefusalBy}
+use Rattle.pert_cli.specs.Verdicts.{IsFaultAs, IsMadeAs}
 use Rattle.pert_cli.specs.Words.{AskFor}
 
 -- the deck that a form has of its own; the other forms read that of the source
@@ -29,7 +31,25 @@ own_deck (Outlook limit) = None
 own_deck (Bench n) = Some (bench_text n)
 own_deck Migrate = None
 own_deck Optimum = None
+own_deck Arrows = None
 own_deck (Load days) = None
+
+-- the sort of the deck that a form speaks of
+abbrev pub sort_of : Form → Sort
+sort_of Check = Plan
+sort_of Normal = Plan
+sort_of Times = Plan
+sort_of Summary = Plan
+sort_of Value = Plan
+sort_of Curve = Plan
+sort_of Certify = Plan
+sort_of (Point limit) = Plan
+sort_of (Outlook limit) = Plan
+sort_of (Bench n) = Plan
+sort_of Migrate = Plan
+sort_of Optimum = Plan
+sort_of Arrows = Tasks
+sort_of (Load days) = Plan
 
 -- the form reads the source
 abbrev pub ReadsSource : Form → Type 0
@@ -46,13 +66,13 @@ AskToRead words = (form : Form) × AskFor form words × ReadsSource form
 -- the form's deck is accepted, and this is its project: the source's, which was read to its end, or its own, and then nothing
 -- was read
 pub data HasProjectFor {X : Type 0} (form : Form) (source : Side X) (project : Project) : Type 0 where
-  project_read : ReadsSource form → HasProject source project → HasProjectFor form source project
-  project_owned : (deck : List ℕ) → IsOwnDeck form deck → IsUntouched source → IsProjectOf deck project → HasProjectFor form source project
+  project_read : ReadsSource form → HasProjectBy (IsMadeAs (sort_of form)) source project → HasProjectFor form source project
+  project_owned : (deck : List ℕ) → IsOwnDeck form deck → IsUntouched source → IsMadeAs (sort_of form) deck project → HasProjectFor form source project
 
 -- the form's deck is refused with the fault
 pub data HasRefusalFor {X : Type 0} (form : Form) (source : Side X) (fault : Fault) : Type 0 where
-  refusal_read : ReadsSource form → HasRefusal source fault → HasRefusalFor form source fault
-  refusal_owned : (deck : List ℕ) → IsOwnDeck form deck → IsUntouched source → IsFault deck fault → HasRefusalFor form source fault
+  refusal_read : ReadsSource form → HasRefusalBy (IsFaultAs (sort_of form)) source fault → HasRefusalFor form source fault
+  refusal_owned : (deck : List ℕ) → IsOwnDeck form deck → IsUntouched source → IsFaultAs (sort_of form) deck fault → HasRefusalFor form source fault
 
 -- a form that has a deck of its own left the source as it was
 abbrev pub IsLeftBy : {X : Type 0} → Form → Side X → Type 0

@@ -15,7 +15,7 @@ use Rattle.pc_load.specs.declared.loading.TheConstants.{MAX_DAYS}
 use Rattle.pc_project.specs.Project.{Project}
 use Rattle.pc_deck_text.specs.Written.{IsDeckText}
 use Rattle.pert_cli.specs.declared.forms.Form.{Form}
-use Rattle.pert_cli.specs.declared.forms.Form.TheVariants.{Check, Normal, Times, Summary, Value, Curve, Certify, Point, Outlook, Bench, Migrate, Optimum, Load}
+use Rattle.pert_cli.specs.declared.forms.Form.TheVariants.{Check, Normal, Times, Summary, Value, Curve, Certify, Point, Outlook, Bench, Migrate, Optimum, Arrows, Load}
 use Rattle.pc_reading.specs.Priced.{priced_in}
 use Rattle.pert_cli.specs.Load.{IsTooLong}
 use Rattle.pert_cli.specs.Normal.{IsNormalText}
@@ -37,6 +37,7 @@ words_of (Outlook limit) = codes "outlook" ∷ decimal limit ∷ []
 words_of (Bench n) = codes "bench" ∷ decimal n ∷ []
 words_of Migrate = codes "migrate" ∷ []
 words_of Optimum = codes "optimum" ∷ []
+words_of Arrows = codes "arrows" ∷ []
 words_of (Load days) = codes "load" ∷ decimal days ∷ []
 
 -- the number of a form is one that it may have: a length has at most 13 digits, the benchmark's deck 1 to 4,000 activities,
@@ -54,6 +55,7 @@ IsNumbered (Outlook limit) = limit < 10 ^ 13
 IsNumbered (Bench n) = (1 ≤ n) × (n ≤ MOST_ACTIVITIES)
 IsNumbered Migrate = ⊤
 IsNumbered Optimum = ⊤
+IsNumbered Arrows = ⊤
 IsNumbered (Load days) = (1 ≤ days) × (days ≤ MAX_DAYS)
 
 -- the words ask for the form: they are its words, and its number is one that they may have
@@ -63,7 +65,7 @@ pub record IsAskedBy (form : Form) (words : List (List ℕ)) : Type 0 where
 
 -- the names of the forms, in the order of the usage line
 abbrev pub form_names : List (List ℕ)
-form_names = codes "check" ∷ codes "normal" ∷ codes "times" ∷ codes "summary" ∷ codes "value" ∷ codes "curve" ∷ codes "certify" ∷ codes "point L" ∷ codes "outlook L" ∷ codes "bench N" ∷ codes "migrate" ∷ codes "optimum" ∷ codes "load P" ∷ []
+form_names = codes "check" ∷ codes "normal" ∷ codes "times" ∷ codes "summary" ∷ codes "value" ∷ codes "curve" ∷ codes "certify" ∷ codes "point L" ∷ codes "outlook L" ∷ codes "bench N" ∷ codes "migrate" ∷ codes "optimum" ∷ codes "arrows" ∷ codes "load P" ∷ []
 
 -- the text answers the form: `check` with the project's code and the counts of its cards, `normal` with the schedule at
 -- the all-normal length, `times` with the times of the events and the critical path, `summary` with what the accounts add up
@@ -71,8 +73,8 @@ form_names = codes "check" ∷ codes "normal" ∷ codes "times" ∷ codes "summa
 -- time-cost curve, `certify` with a certified text of the whole time-cost curve, whose two walks are the picked ones, `point`
 -- with a schedule of least cost for the length, `outlook` with such a schedule and what each item costs by it, `bench` with
 -- the figures of the curve of its own deck, `migrate` with the text of the deck in its one form,
--- `optimum` with the length for which the project costs least in all and a schedule
--- for it, `load` with what is spent by item and taken by resource in each period
+-- `optimum` with the length for which the project costs least in all and a schedule for it, `arrows` with the text of the plan's
+-- deck in its one form, `load` with what is spent by item and taken by resource in each period
 abbrev pub IsTextOf : Form → Project → List ℕ → Type 0
 IsTextOf Check project text = text ≡ check_text project
 IsTextOf Normal project text = IsNormalText project text
@@ -86,6 +88,7 @@ IsTextOf (Outlook limit) project text = IsOutlookReply project limit text
 IsTextOf (Bench n) project text = IsBenchText n (priced_in project) text
 IsTextOf Migrate project text = IsDeckText project text
 IsTextOf Optimum project text = IsOptimumText project text
+IsTextOf Arrows project text = IsDeckText project text
 IsTextOf (Load days) project text = IsLoadText project days text
 
 -- a project has one text that answers the form; of least schedules, and of certificates, there may be several
@@ -98,6 +101,7 @@ HasOneText Value = ⊤
 HasOneText Curve = ⊤
 HasOneText (Bench n) = ⊤
 HasOneText Migrate = ⊤
+HasOneText Arrows = ⊤
 HasOneText _ = ⊥
 
 -- the form refuses the project with the fault: `point` and `outlook` where the length lies outside the range of the project,
@@ -115,4 +119,5 @@ IsDenial (Outlook limit) project fault = IsOutside (priced_in project) limit fau
 IsDenial (Bench n) project fault = ⊥
 IsDenial Migrate project fault = ⊥
 IsDenial Optimum project fault = ⊥
+IsDenial Arrows project fault = ⊥
 IsDenial (Load days) project fault = IsTooLong project days fault

@@ -6,10 +6,13 @@ pub mod Load
 pub mod Forms
 pub mod Words
 pub mod Handing
+pub mod Tasks
+pub mod Verdicts
 pub mod FormDeck
 pub mod Outcome
 pub mod Headline
 pub mod Migrate
+pub mod Arrows
 pub use Rattle.pc_edges.specs.Faults
 pub use Rattle.pc_edges.specs.Writes
 pub use Rattle.pc_deck.specs.Deck

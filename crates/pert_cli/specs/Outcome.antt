@@ -10,8 +10,8 @@ use Rattle.pc_reading.specs.declared.status.Status.TheVariants.{Done, Refused, U
 use Rattle.pert_cli.specs.declared.forms.Form.{Form}
 use Rattle.pert_cli.specs.Words.{AskFor, AskForNone, usage_text}
 use Rattle.pc_reading.specs.Sides.{Side, HadFault, IsUntouched, Took, TookAtMost, TookFront}
-use Rattle.pc_reading.specs.Verdict.{IsProjectOf, RefusedBy}
-use Rattle.pert_cli.specs.FormDeck.{AskToRead, HasProjectFor, HasRefusalFor, IsLeftBy}
+use Rattle.pert_cli.specs.Verdicts.{IsMadeAs, RefusedAs}
+use Rattle.pert_cli.specs.FormDeck.{AskToRead, HasProjectFor, HasRefusalFor, IsLeftBy, sort_of}
 use Rattle.pert_cli.specs.Forms.{IsDenial}
 use Rattle.pert_cli.specs.Handing.{IsReply}
 
@@ -75,13 +75,13 @@ pub data Outcome {S O E : Type 0} (words : List (String Global)) (source : Side 
   read_fault : AskToRead words → HadFault source → TookAtMost longest_deck source → IsUntouched out → IsUntouched err → Outcome words source out err ReadFault
   write_fault : IsCut words source out err → Outcome words source out err WriteFault
 
--- the deck is accepted, and the form that the words ask for does not refuse its project
-pub record IsAcceptedFor (words : List (String Global)) (bytes : List ℕ) : Type 0 where
+-- the deck is accepted, and the form does not refuse its project
+pub record IsAcceptedFor (form : Form) (bytes : List ℕ) : Type 0 where
   pub project : Project
-  pub accepted : IsProjectOf bytes project
-  pub fits : (form : Form) (fault : Fault) → AskFor form words → IsDenial form project fault → ⊥
+  pub accepted : IsMadeAs (sort_of form) bytes project
+  pub fits : (fault : Fault) → IsDenial form project fault → ⊥
 
--- the deck has a fault; or it is accepted, and the form that the words ask for refuses its project
-pub data IsRefusedFor (words : List (String Global)) (bytes : List ℕ) : Type 0 where
-  deck_refused : RefusedBy bytes → IsRefusedFor words bytes
-  form_refuses : (project : Project) → IsProjectOf bytes project → ((form : Form) → AskFor form words → (fault : Fault) × IsDenial form project fault) → IsRefusedFor words bytes
+-- the deck has a fault; or it is accepted, and the form refuses its project
+pub data IsRefusedFor (form : Form) (bytes : List ℕ) : Type 0 where
+  deck_refused : RefusedAs (sort_of form) bytes → IsRefusedFor form bytes
+  form_refuses : (project : Project) → IsMadeAs (sort_of form) bytes project → (fault : Fault) → IsDenial form project fault → IsRefusedFor form bytes

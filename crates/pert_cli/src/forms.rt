@@ -3,7 +3,7 @@
 //! A form has a variant of `Form`, and a line in `usage`, in `of_one_word` or `of_two_words`, and in `answer`; the rest of it
 //! is in a file of its own.
 ghost use Rattle.std.specs.Prelude.{◌≡◌, ◌+◌, ◌≤◌, [], ◌∷◌, ◌++◌, length, IfNone, IfSome};
-ghost use Rattle.pert_cli.specs.FormDeck.{ReadsSource};
+ghost use Rattle.pert_cli.specs.FormDeck.{ReadsSource, sort_of};
 ghost use Rattle.pert_cli.specs.Forms.{IsAskedBy, IsNumbered};
 ghost use Rattle.pert_cli.specs.Handing.{Replies};
 ghost use Rattle.pc_reading.specs.Sides.{side};
@@ -12,11 +12,12 @@ ghost use Rattle.pert_cli.specs.declared.forms.Form.TheVariants.{Bench};
 ghost use Rattle.pert_cli.specs.Words.{AskFor, AskForNone, usage_text};
 
 use crate::{
-    bench, certify, check, curve, load, migrate, normal, optimum, outlook, point, summary, times,
-    value,
+    arrows, bench, certify, check, curve, load, migrate, normal, optimum, outlook, point, summary,
+    times, value,
 };
 use arrayvec::ArrayVec;
 use pc_bench::MOST_ACTIVITIES;
+use pc_cards::sort::Sort;
 use pc_edges::Sink;
 use pc_load::MAX_DAYS;
 use pc_project::Project;
@@ -44,6 +45,7 @@ pub(crate) fn usage() -> ArrayVec<u8, USAGE_ROOM>
     append(&mut line, b" L | ", bench::WORDS);
     append(&mut line, b" N | ", migrate::WORDS);
     append(&mut line, b" | ", optimum::WORDS);
+    append(&mut line, b" | ", arrows::WORDS);
     append(&mut line, b" | ", load::WORDS);
     append(&mut line, b" P\n", b"");
     line
@@ -85,6 +87,8 @@ pub(crate) enum Form {
     Migrate,
     /// The length for which the project costs least in all, and a schedule for it.
     Optimum,
+    /// The plan of arrows that is drawn of a deck of tasks.
+    Arrows,
     /// What is spent and taken in each period of so many days.
     Load(u64),
 }
@@ -125,6 +129,8 @@ impl Form {
             Some(Form::Migrate)
         } else if word == optimum::WORDS {
             Some(Form::Optimum)
+        } else if word == arrows::WORDS {
+            Some(Form::Arrows)
         } else {
             None
         }
@@ -170,7 +176,30 @@ impl Form {
             | Form::Outlook(_)
             | Form::Migrate
             | Form::Optimum
+            | Form::Arrows
             | Form::Load(_) => None,
+        }
+    }
+
+    /// The sort of the deck that the form speaks of.
+    pub(crate) fn sort(self) -> Sort
+        ensures { result ≡ sort_of self }
+    {
+        match self {
+            Form::Arrows => Sort::Tasks,
+            Form::Check
+            | Form::Normal
+            | Form::Times
+            | Form::Summary
+            | Form::Value
+            | Form::Curve
+            | Form::Certify
+            | Form::Point(_)
+            | Form::Outlook(_)
+            | Form::Bench(_)
+            | Form::Migrate
+            | Form::Optimum
+            | Form::Load(_) => Sort::Plan,
         }
     }
 
@@ -199,6 +228,7 @@ impl Form {
             Form::Bench(n) => bench::answer(alloc, n, project, out),
             Form::Migrate => migrate::answer(alloc, project, out),
             Form::Optimum => optimum::answer(alloc, project, out),
+            Form::Arrows => arrows::answer(alloc, project, out),
             Form::Load(days) => load::answer(alloc, days, project, out, err),
         }
     }

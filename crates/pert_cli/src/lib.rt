@@ -2,6 +2,7 @@
 #![tactic(auto)]
 
 mod answer;
+mod arrows;
 mod bench;
 mod certify;
 mod cheapest;
@@ -18,6 +19,7 @@ mod point;
 mod schedule;
 mod solving;
 mod summary;
+mod tasks;
 mod times;
 mod top;
 mod value;

@@ -19,26 +19,26 @@ pub(crate) const WORDS: &[u8] = b"migrate";
 pub(crate) fn answer<O: Sink>(alloc: Global, project: &Project, out: &mut O) -> Status
     ensures { Answers (IsReply Migrate project.now) (side O.taken O.faults out.old out.new) result }
 {
-    deliver(MigrateAnswer::build(alloc, project), project, out)
+    deliver(DeckText::build(alloc, project), project, out)
 }
 
 /// The text of a project's deck.
 #[derive(Drop)]
-struct MigrateAnswer {
+pub(crate) struct DeckText {
     text: Vec<u8>,
 }
 
-impl MigrateAnswer {
-    fn build(alloc: Global, project: &Project) -> Result<MigrateAnswer, AllocError>
+impl DeckText {
+    pub(crate) fn build(alloc: Global, project: &Project) -> Result<DeckText, AllocError>
         ensures { IfOk result (λ answer. IsDeckText project.now answer.text.items) }
     {
-        Ok(MigrateAnswer {
+        Ok(DeckText {
             text: deck_text_of(alloc, project)?,
         })
     }
 }
 
-impl Answer for MigrateAnswer {
+impl Answer for DeckText {
     ghost IsFor = { λ answer project. IsDeckText project answer.text.items };
 
     ghost text = { λ answer project. answer.text.items };

@@ -1,18 +1,20 @@
 //! The top call.
 ghost use Rattle.std.specs.Prelude.{◌≡◌, ◌≢◌, ℕ, ◌+◌, List, ◌≤◌, ◌⊎◌, length};
+ghost use Rattle.pc_cards.specs.declared.sort.Sort.{Sort as TheSort};
 ghost use Rattle.pc_deck.specs.Limits.{longest_deck};
 ghost use Rattle.pc_edges.specs.Pulls.{TakesPulls};
 ghost use Rattle.pc_edges.specs.declared.loading.TheConstants.{STREAM_ROOM};
 ghost use Rattle.pert_cli.specs.declared.forms.Form.{Form as TheForm};
-ghost use Rattle.pert_cli.specs.declared.forms.Form.TheVariants.{Certify, Migrate};
-ghost use Rattle.pert_cli.specs.FormDeck.{AskToRead, IsOwnDeck};
+ghost use Rattle.pert_cli.specs.declared.forms.Form.TheVariants.{Arrows, Certify, Migrate};
+ghost use Rattle.pert_cli.specs.FormDeck.{AskToRead, IsOwnDeck, ReadsSource, sort_of};
 ghost use Rattle.pc_project.specs.Project.{Project as TheProject};
 ghost use Rattle.pert_cli.specs.Forms.{HasOneText, IsTextOf};
 ghost use Rattle.pert_cli.specs.Headline.{TookWholeCurve};
+ghost use Rattle.pert_cli.specs.Arrows.{TookArrows};
 ghost use Rattle.pert_cli.specs.Migrate.{TookSameProject};
 ghost use Rattle.pert_cli.specs.Words.{AskFor, AskForOne, AskForNone, usage_text};
 ghost use Rattle.pc_reading.specs.Sides.{side, HadFault, HadNoFault, IsReadToEnd, OfDeck, Took, TookAtMost};
-ghost use Rattle.pc_reading.specs.Verdict.{AcceptedBy, IsProjectOf, RefusedBy};
+ghost use Rattle.pert_cli.specs.Verdicts.{AcceptedAs, IsMadeAs, RefusedAs};
 ghost use Rattle.pert_cli.specs.Outcome.{Outcome, IsAcceptedFor, IsCut, IsDone, IsRefused, IsRefusedFor};
 
 use crate::form_deck::project_for;
@@ -28,9 +30,13 @@ use std::alloc::Global;
 /// accounts add up to, `value` for the forecast and what the work is worth, `curve` for the breakpoints of the time-cost
 /// curve, `certify` for its certificate, `point L` for a schedule of least cost for the length L, `outlook L` for that and
 /// what each item costs by it, `load P` for what is spent and taken in each period of P days, `migrate` for the deck in its one
-/// form. `bench N` asks for figures of the curve of a deck of its own, and reads none. The words come first, then the whole deck,
-/// then its faults, then whether the form refuses it and all memory that the answer needs, then the answer and a flush. The
-/// answer of the call is the status with which the program ends.
+/// form, `arrows` for the plan that is drawn of a deck of tasks, as a deck in that form. `bench N` asks for figures of the curve of
+/// a deck of its own, and reads none. The words come first, then the whole deck, then its faults, then whether the form refuses it
+/// and all memory that the answer needs, then the answer and a flush. The answer of the call is the status with which the program
+/// ends.
+///
+/// The deck is a plan, but for `arrows`: what it means that a deck is accepted, of which project it is the deck and with which fault
+/// it is refused depends on the sort of deck that the form speaks of.
 pub fn run<S: Source, O: Sink, E: Sink>(
     alloc: Global,
     words: &[String],
@@ -54,6 +60,11 @@ pub fn run<S: Source, O: Sink, E: Sink>(
     // At 0 for `migrate`, `out` took a deck that is accepted and has the same project, and of which `migrate` writes the same bytes.
     ensures migrated { result ≡ 0 → AskFor Migrate words.now → OfDeck (side S.left S.faults source.old source.new)
         (TookSameProject (side O.taken O.faults out.old out.new)) }
+
+    // At 0 for `arrows`, the deck is an accepted one of tasks, and `out` took a deck that is accepted and has the project of the plan that
+    // is drawn of them: it has a schedule for a length exactly where the tasks have one, and then its least cost is theirs.
+    ensures drawn { result ≡ 0 → AskFor Arrows words.now → OfDeck (side S.left S.faults source.old source.new)
+        (TookArrows (side O.taken O.faults out.old out.new)) }
 
     // 1: the words ask for a form, its deck or the form refuses with a fault, and `err` took the line of the fault.
     ensures refused { result ≡ 1 → IsRefused words.now (side S.left S.faults source.old source.new) (side E.taken E.faults err.old err.new) }
@@ -85,15 +96,16 @@ pub fn run<S: Source, O: Sink, E: Sink>(
     ensures form { result ≢ 2 → result ≢ 5 → AskForOne words.now }
 
     // A deck that is not refused is accepted, as far as it could be read and but for want of memory.
-    ensures acceptance { AskToRead words.now → HadNoFault (side S.left S.faults source.old source.new)
-        → OfDeck (side S.left S.faults source.old source.new) (λ bytes. (RefusedBy bytes → ⊥) → AcceptedBy bytes ⊎ (result ≡ 3)) }
+    ensures acceptance { (form : TheForm) → AskFor form words.now → ReadsSource form → HadNoFault (side S.left S.faults source.old source.new)
+        → OfDeck (side S.left S.faults source.old source.new)
+        (λ bytes. (RefusedAs (sort_of form) bytes → ⊥) → AcceptedAs (sort_of form) bytes ⊎ (result ≡ 3)) }
 
     // An accepted deck has one answer to each form that does not print a schedule of least cost, of which there may be several.
-    ensures one_text { (form : TheForm) (bytes : List ℕ) (project : TheProject) (text other : List ℕ) → HasOneText form → IsProjectOf bytes project
-        → IsTextOf form project text → IsTextOf form project other → text ≡ other }
+    ensures one_text { (form : TheForm) (bytes : List ℕ) (project : TheProject) (text other : List ℕ) → HasOneText form
+        → IsMadeAs (sort_of form) bytes project → IsTextOf form project text → IsTextOf form project other → text ≡ other }
 
     // No deck is both accepted and refused.
-    ensures one_verdict { (bytes : List ℕ) → AcceptedBy bytes → RefusedBy bytes → ⊥ }
+    ensures one_verdict { (sort : TheSort) (bytes : List ℕ) → AcceptedAs sort bytes → RefusedAs sort bytes → ⊥ }
 
     // A form that has a deck of its own reads nothing.
     ensures unread { (form : TheForm) (deck : List ℕ) → AskFor form words.now → IsOwnDeck form deck → source.new ≡ source.old }
@@ -104,15 +116,17 @@ pub fn run<S: Source, O: Sink, E: Sink>(
 
     // Where no fault came, the words and the deck decide, but for want of memory: the deck of the source, or the form's own.
     ensures words_refused { AskForNone words.now → HadNoFault (side E.taken E.faults err.old err.new) → result ≡ 2 }
-    ensures deck_accepted { AskToRead words.now → OfDeck (side S.left S.faults source.old source.new) (λ bytes. IsAcceptedFor words.now bytes
+    ensures deck_accepted { (form : TheForm) → AskFor form words.now → ReadsSource form
+        → OfDeck (side S.left S.faults source.old source.new) (λ bytes. IsAcceptedFor form bytes
         → HadNoFault (side S.left S.faults source.old source.new)
         → HadNoFault (side O.taken O.faults out.old out.new) → (result ≡ 0) ⊎ (result ≡ 3)) }
-    ensures deck_refused { AskToRead words.now → OfDeck (side S.left S.faults source.old source.new) (λ bytes. IsRefusedFor words.now bytes
+    ensures deck_refused { (form : TheForm) → AskFor form words.now → ReadsSource form
+        → OfDeck (side S.left S.faults source.old source.new) (λ bytes. IsRefusedFor form bytes
         → HadNoFault (side S.left S.faults source.old source.new)
         → HadNoFault (side E.taken E.faults err.old err.new) → (result ≡ 1) ⊎ (result ≡ 3)) }
-    ensures own_accepted { (form : TheForm) (deck : List ℕ) → AskFor form words.now → IsOwnDeck form deck → IsAcceptedFor words.now deck
+    ensures own_accepted { (form : TheForm) (deck : List ℕ) → AskFor form words.now → IsOwnDeck form deck → IsAcceptedFor form deck
         → HadNoFault (side O.taken O.faults out.old out.new) → (result ≡ 0) ⊎ (result ≡ 3) }
-    ensures own_refused { (form : TheForm) (deck : List ℕ) → AskFor form words.now → IsOwnDeck form deck → IsRefusedFor words.now deck
+    ensures own_refused { (form : TheForm) (deck : List ℕ) → AskFor form words.now → IsOwnDeck form deck → IsRefusedFor form deck
         → HadNoFault (side E.taken E.faults err.old err.new) → (result ≡ 1) ⊎ (result ≡ 3) }
 {
     outcome(alloc, words, source, out, err).code()

@@ -1,13 +1,13 @@
 //! Each call of an edge fails in turn, in runs of each form and in checks: a pull gives 100 bytes at most, a push takes 7.
 
 use crate::testing::{
-    AT_WORK, CERTIFICATE, Edge, WHOLE, check_of, first_wrong_pull, first_wrong_push, run_of,
+    AT_WORK, CERTIFICATE, Edge, TASKS, WHOLE, check_of, first_wrong_pull, first_wrong_push, run_of,
 };
 use std::test::Fail;
 
 // Words, a deck, and how many pulls read it: the last of them finds its end. The words ask for each form, for lengths that the deck
 // does not have, and for nothing; the last deck is none.
-const RUNS: [(&[&str], &[u8], u64); 25] = [
+const RUNS: [(&[&str], &[u8], u64); 27] = [
     (&["check"], WHOLE, 4),
     (&["normal"], WHOLE, 4),
     (&["times"], WHOLE, 4),
@@ -22,6 +22,7 @@ const RUNS: [(&[&str], &[u8], u64); 25] = [
     (&["bench", "4"], WHOLE, 0),
     (&["migrate"], WHOLE, 4),
     (&["optimum"], WHOLE, 4),
+    (&["arrows"], TASKS, 3),
     (&["load", "7"], WHOLE, 4),
     (&["point", "4"], WHOLE, 4),
     (&["point", "10"], WHOLE, 4),
@@ -33,6 +34,7 @@ const RUNS: [(&[&str], &[u8], u64); 25] = [
     (&["CURVE"], WHOLE, 0),
     (&["bench", "0"], WHOLE, 0),
     (&["certify"], b"END\n", 2),
+    (&["arrows"], b"END\n", 2),
 ];
 
 #[test]

@@ -38,6 +38,16 @@ CHARGE,X1,2024-01-03,10\n\
 TOGO,X1,2024-01-08,30\n\
 END\n";
 
+/// A deck of two tasks, the second after the first.
+pub(crate) const TASKS: &[u8] = b"PROJECT,K1,S,T,2024-01-01,1,,Tasks\n\
+WBS,1,,Whole\n\
+WBS,1.1,1,Work\n\
+TASK,A,1.1,4,4,4,4,2,10,3,\n\
+TASK,B,1.1,5,5,5,5,3,20,5,\n\
+AFTER,B,A\n\
+ACCT,X,1.1,30,\n\
+END\n";
+
 /// The certificate of the deck's time-cost curve.
 pub(crate) const CERTIFICATE: &[u8] = b"CERT 1 E1 3 3\n\
 NORMAL\n\
@@ -66,7 +76,7 @@ END\n";
 
 /// The usage line of `run`.
 pub(crate) const USAGE: &[u8] =
-    b"usage: pert check | normal | times | summary | value | curve | certify | point L | outlook L | bench N | migrate | optimum | load P\n";
+    b"usage: pert check | normal | times | summary | value | curve | certify | point L | outlook L | bench N | migrate | optimum | arrows | load P\n";
 
 /// The top calls.
 #[derive(Clone, Copy)]

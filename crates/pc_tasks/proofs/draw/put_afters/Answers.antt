@@ -1,6 +1,6 @@
 use Rattle.std.proofs.Common.{◌∙◌, ap}
 use Rattle.pc_arrows.specs.Tasks.{after_at}
-use Rattle.pc_tasks.specs.Codes.{after_code, begin_code, end_code}
+use Rattle.pc_tasks.specs.Codes.{after_code, end_code}
 use Rattle.pc_tasks.specs.Drawn.{link}
 use Rattle.pc_tasks.proofs.DrawLemmas.{put_row}
 use Rattle.pc_tasks.proofs.draw.put_afters.Goals as goal

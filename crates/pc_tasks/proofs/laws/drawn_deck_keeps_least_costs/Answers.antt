@@ -1,5 +1,5 @@
-use Rattle.std.proofs.Common.{◌≡◌, ℕ, List, length, sym, ap, ◌∙◌, subst}
-use Rattle.pc_model.specs.Cost.{IsLeastCost, Knees}
+use Rattle.std.proofs.Common.{ℕ, List, length, sym, subst}
+use Rattle.pc_model.specs.Cost.{IsLeastCost}
 use Rattle.pc_model.specs.Network.{IsSound, Network}
 use Rattle.pc_model.specs.Pieces.{knees_of}
 use Rattle.pc_model.specs.Schedule.{HasSchedule}

@@ -1,4 +1,4 @@
-use Rattle.std.proofs.Common.{◌≡◌, false, ap, ◌∙◌}
+use Rattle.std.proofs.Common.{false, ap, ◌∙◌}
 use Rattle.std.specs.Prelude.{not, slice_index_or}
 use Rattle.pc_tasks.proofs.MarkLemmas.{kept-more, left-more}
 use Rattle.pc_tasks.proofs.links.unmarked.Goals.{then-not-marks-i+in_ok-push, else-not-marks-i}

@@ -2,7 +2,7 @@ use Rattle.std.proofs.Common.{length, ap, sym, subst, arith}
 use Rattle.std.proofs.lemmas.List.{length-map}
 use Rattle.pc_faults.specs.declared.kind.Kind.TheVariants.{Wbs}
 use Rattle.pc_project.specs.Project.{row_of, rows_of}
-use Rattle.pc_wbs.specs.Climb.{AreInRange, IsTree}
+use Rattle.pc_wbs.specs.Climb.{AreInRange}
 use Rattle.pc_wbs.specs.Refusal.{IsRefusal}
 use Rattle.pc_tasks.proofs.KnownLemmas.{rows-in_range}
 use Rattle.pc_tasks.proofs.PhaseLemmas.{refusal-about, refused_by_tree}

@@ -1,0 +1,84 @@
+-- The words ask for one form at most.
+use Rattle.std.proofs.Common.{◌≡◌, ℕ, ◌^◌, ◌<◌, List, [], ◌∷◌, Option, Some, None, refl, sym, ap, subst, ◌∙◌, arith, drop, get_or, if◌then◌else◌}
+use Rattle.std.specs.Prelude.{IfSome, String, codes, decimal, nat_eq}
+use Rattle.std.specs.Cmp.Lexicographic.{pointwise}
+use Rattle.std.specs.declared.alloc.Global.{Global}
+use Rattle.std.proofs.lemmas.Fmt.{decimal_injective}
+use Rattle.pert_cli.specs.declared.forms.Form.{Form}
+use Rattle.pert_cli.specs.declared.forms.Form.TheVariants.{Check, Normal, Times, Summary, Value, Curve, Certify, Point, Outlook, Bench, Migrate, Optimum, Arrows, Load}
+use Rattle.pert_cli.specs.Forms.{IsNumbered, words_of}
+use Rattle.pert_cli.specs.Words.{AskFor}
+
+-- the number of a form, where it has one
+abbrev number_of : Form → Option ℕ
+number_of (Point limit) = Some limit
+number_of (Outlook limit) = Some limit
+number_of (Bench n) = Some n
+number_of (Load days) = Some days
+number_of _ = None
+
+abbrev or_0 : Option ℕ → ℕ
+or_0 None = 0
+or_0 (Some n) = n
+
+-- the form with a name, and with a number where it has one
+abbrev form_named : List ℕ → ℕ → Form
+form_named name n =
+    if pointwise nat_eq name (codes "check") then Check
+    else if pointwise nat_eq name (codes "normal") then Normal
+    else if pointwise nat_eq name (codes "times") then Times
+    else if pointwise nat_eq name (codes "summary") then Summary
+    else if pointwise nat_eq name (codes "value") then Value
+    else if pointwise nat_eq name (codes "curve") then Curve
+    else if pointwise nat_eq name (codes "certify") then Certify
+    else if pointwise nat_eq name (codes "point") then Point n
+    else if pointwise nat_eq name (codes "outlook") then Outlook n
+    else if pointwise nat_eq name (codes "bench") then Bench n
+    else if pointwise nat_eq name (codes "migrate") then Migrate
+    else if pointwise nat_eq name (codes "optimum") then Optimum
+    else if pointwise nat_eq name (codes "arrows") then Arrows
+    else Load n
+
+-- a form is the one with its first word
+is_named : (form : Form) → form_named (get_or (words_of form) 0 []) (or_0 (number_of form)) ≡ form
+is_named Check = refl
+is_named _ = refl
+
+-- the words behind the first
+abbrev number_words : Option ℕ → List (List ℕ)
+number_words None = []
+number_words (Some n) = decimal n ∷ []
+
+are_numbers : (form : Form) → drop 1 (words_of form) ≡ number_words (number_of form)
+are_numbers Check = refl
+are_numbers _ = refl
+
+is_small : (form : Form) → IsNumbered form → IfSome (number_of form) (λ n. n < 2 ^ 64)
+is_small (Point limit) numbered = omega (arith, numbered)
+is_small (Outlook limit) numbered = omega (arith, numbered)
+is_small (Bench n) numbered = omega (arith, numbered.1)
+is_small (Load days) numbered = omega (arith, numbered.1)
+is_small _ numbered = tt
+
+one_number : (number other : Option ℕ) → IfSome number (λ n. n < 2 ^ 64) → IfSome other (λ n. n < 2 ^ 64) → number_words number ≡ number_words other → number ≡ other
+one_number None None small also same = refl
+one_number None (Some n) small also same = absurd cc
+one_number (Some m) None small also same = absurd cc
+one_number (Some m) (Some n) small also same = ap Some (decimal_injective m n small also (ap (λ (words : List (List ℕ)). get_or words 0 []) same))
+
+same_words : (form other : Form) → IsNumbered form → IsNumbered other → words_of form ≡ words_of other → form ≡ other
+same_words form other numbered also same =
+    let name : get_or (words_of form) 0 [] ≡ get_or (words_of other) 0 [] = ap (λ (words : List (List ℕ)). get_or words 0 []) same in
+    let behind : number_words (number_of form) ≡ number_words (number_of other) =
+    sym (are_numbers form) ∙ (ap (λ (words : List (List ℕ)). drop 1 words) same ∙ are_numbers other) in
+    let number : number_of form ≡ number_of other = one_number _ _ (is_small form numbered) (is_small other also) behind in
+    sym (is_named form) ∙ (ap (λ n. form_named n (or_0 (number_of form))) name
+    ∙ (ap (λ n. form_named (get_or (words_of other) 0 []) (or_0 n)) number ∙ is_named other))
+
+-- two forms for which the words ask are one
+pub one_form : (words : List (String Global)) (form other : Form) → AskFor form words → AskFor other words → form ≡ other
+one_form words form other asked also = same_words form other asked.numbered also.numbered (sym asked.are ∙ also.are)
+
+-- so what holds of the one holds of the other
+pub of_form : (words : List (String Global)) (P : Form → Type 0) (form other : Form) → AskFor form words → AskFor other words → P other → P form
+of_form words P form other asked also holds = subst P (one_form words other form also asked) holds

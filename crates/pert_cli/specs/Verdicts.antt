@@ -1,0 +1,29 @@
+-- Which decks of a sort are accepted, of which project each is the deck, and with which fault each other one is refused: of plans that
+-- of their cards, of decks of tasks that of the plan that is drawn of them.
+use Rattle.std.specs.Prelude.{ℕ, List}
+use Rattle.pc_cards.specs.declared.sort.Sort.{Sort}
+use Rattle.pc_cards.specs.declared.sort.Sort.TheVariants.{Plan, Tasks}
+use Rattle.pc_deck.specs.Deck.{Deck}
+use Rattle.pc_faults.specs.declared.fault.Fault.{Fault}
+use Rattle.pc_project.specs.Project.{Project}
+use Rattle.pc_reading.specs.Verdict.{AcceptedBy, IsFault, IsProjectOf}
+use Rattle.pert_cli.specs.Tasks.{IsAcceptedTasks, IsDrawnOf, IsTasksFault}
+
+-- the deck is accepted, and this is its project
+abbrev pub IsMadeAs : Sort → List ℕ → Project → Type 0
+IsMadeAs Plan = IsProjectOf
+IsMadeAs Tasks = IsDrawnOf
+
+-- the deck is refused with the fault
+abbrev pub IsFaultAs : Sort → List ℕ → Fault → Type 0
+IsFaultAs Plan = IsFault
+IsFaultAs Tasks = IsTasksFault
+
+-- the deck is accepted
+abbrev pub AcceptedAs : Sort → List ℕ → Type 0
+AcceptedAs Plan bytes = AcceptedBy bytes
+AcceptedAs Tasks bytes = (tasks : Deck) × IsAcceptedTasks bytes tasks
+
+-- the deck is refused
+abbrev pub RefusedAs : Sort → List ℕ → Type 0
+RefusedAs sort bytes = (fault : Fault) × IsFaultAs sort bytes fault

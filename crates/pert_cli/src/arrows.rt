@@ -1,0 +1,21 @@
+//! `arrows`: the plan of arrows that is drawn of a deck of tasks, in its one form.
+ghost use Rattle.pert_cli.specs.Handing.{Answers, IsReply};
+ghost use Rattle.pc_reading.specs.Sides.{side};
+ghost use Rattle.pert_cli.specs.declared.forms.Form.TheVariants.{Arrows};
+
+use crate::answer::deliver;
+use crate::migrate::DeckText;
+use pc_edges::Sink;
+use pc_project::Project;
+use pc_reading::Status;
+use std::alloc::Global;
+
+/// The words of the form.
+pub(crate) const WORDS: &[u8] = b"arrows";
+
+/// Answers the form for the project of the plan that was drawn.
+pub(crate) fn answer<O: Sink>(alloc: Global, project: &Project, out: &mut O) -> Status
+    ensures { Answers (IsReply Arrows project.now) (side O.taken O.faults out.old out.new) result }
+{
+    deliver(DeckText::build(alloc, project), project, out)
+}
