@@ -47,10 +47,10 @@ event_front code cells time len moves are some =
       room = omega (arith, are.room);
       short = short_code code ((read.1).0);
       same =
-        ap (take (length code + 6)) (sym (take-append-drop len cells))
-        ∙ take-append-le (length code + 6) (take len cells) (drop len cells) within
-        ∙ ap (take (length code + 6)) whole
-        ∙ front_of code (behind_code time moves []);
+          ap (take (length code + 6)) (sym (take-append-drop len cells))
+          ∙ take-append-le (length code + 6) (take len cells) (drop len cells) within
+          ∙ ap (take (length code + 6)) whole
+          ∙ front_of code (behind_code time moves []);
     }
 
 -- a line and its end at the front of a piece

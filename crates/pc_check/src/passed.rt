@@ -128,7 +128,11 @@ pub(crate) fn passes_again(
     bit_at(&tally.moves, from) == bit_at(&tally.moves, to)
         && duration == passed.duration
         && *flows == passed.flows
-        && is_within(number_at(&tally.times, to), number_at(&tally.times, from), passed)
+        && is_within(
+            number_at(&tally.times, to),
+            number_at(&tally.times, from),
+            passed,
+        )
         && has_duration(net, kept, tally.acts, duration)
         && tally.lower != tally.upper
 }
