@@ -2,9 +2,7 @@
 //! whole decks.
 ghost use Rattle.std.specs.Prelude.{◌≤◌, length};
 
-use pc_deck::read_cards;
-use pc_deck_text::deck_text_of;
-use pc_project::project_of;
+use crate::projects::asked;
 use std::alloc::Global;
 
 // One card or two of each kind.
@@ -26,36 +24,18 @@ const TO_SETTLE: &[u8] =
 const SETTLED: &[u8] =
     b"PROJECT,E1,S,T,2024-01-01,1,30,\"Example, one\",2\nASOF,2024-01-01\nWBS,1,,Whole\nEVENT,S,Start\nEVENT,T,\"The \"\"end\"\"\"\nACT,A,S,T,1,3,4,5,4,2,10,3,Dig\nACCT,X1,1,10,Account\nSTATUS,A,S,2024-01-02\nRES,R,\nLOAD,A,R,7\nEND\n";
 
-/// Whether the deck's cards make a project; none where the deck is refused before.
-fn makes_a_project(alloc: Global, deck: &[u8]) -> Option<bool>
-    requires { length deck.now ≤ 1000 }
-{
-    // (the cards are handed on, since a function that drops all cards is long to prove)
-    let cards = read_cards(alloc, deck).ok()?;
-    Some(project_of(alloc, cards).is_ok())
-}
-
 /// Whether the text of the deck is this one; none where the deck is refused.
 fn is_written_as(alloc: Global, deck: &[u8], text: &[u8]) -> Option<bool>
     requires { length deck.now ≤ 1000 }
 {
-    let cards = read_cards(alloc, deck).ok()?;
-    let written = cards.text(alloc).ok();
-    // (handed on, as above)
-    let _ = project_of(alloc, cards).is_ok();
-    Some(written?.as_slice() == text)
+    asked(alloc, deck, text, text)?.text
 }
 
 /// Whether the text of the deck's project is this one; none where the deck is refused.
 fn is_written_again_as(alloc: Global, deck: &[u8], text: &[u8]) -> Option<bool>
     requires { length deck.now ≤ 1000 }
 {
-    let cards = read_cards(alloc, deck).ok()?;
-    let project = project_of(alloc, cards).ok()?;
-    let written = deck_text_of(alloc, &project).ok();
-    // (let go in one place, as above)
-    drop(project);
-    Some(written?.as_slice() == text)
+    asked(alloc, deck, text, text)?.text_again
 }
 
 #[test]
@@ -74,17 +54,7 @@ fn writes_the_text_of_a_deck(rt: HostRuntime) {
 }
 
 #[test]
-fn reads_each_kind(rt: HostRuntime) {
-    assert!(rt; makes_a_project(rt.alloc(), EACH_KIND).is_some());
-}
-
-#[test]
 fn refuses_a_deck_without_end(rt: HostRuntime) {
     let deck = b"PROJECT,E,S,T,2024-01-01,2,9,Example,2\n";
-    assert_eq!(rt; makes_a_project(rt.alloc(), deck), None);
-}
-
-#[test]
-fn project_of_a_small_deck(rt: HostRuntime) {
-    assert_eq!(rt; makes_a_project(rt.alloc(), FIRST_VERSION), Some(true));
+    assert_eq!(rt; is_written_as(rt.alloc(), deck, deck), None);
 }

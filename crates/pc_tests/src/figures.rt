@@ -1,11 +1,9 @@
 //! What the items of a small deck add up to: an activity that has begun in one package, and another package without activities.
-ghost use Rattle.std.specs.Prelude.{◌≤◌, length};
-
-use pc_deck::read_cards;
+use crate::projects::asked;
 use pc_figures::{
     OutlineRow, Outlook, OutlookAmounts, Summary, SummaryAmounts, Worth, WorthAmounts,
 };
-use pc_project::{Project, project_of};
+use pc_project::Project;
 use std::alloc::Global;
 use std::test::Fail;
 
@@ -48,30 +46,27 @@ fn outlook_of(alloc: Global, project: &Project) -> Option<(OutlineRow, OutlookAm
     Some((outlook.row(2), outlook.of_item(0)))
 }
 
-/// What is asked of a project.
-#[derive(Drop)]
-struct Told {
+/// The figures of a project.
+#[derive(Clone, Copy)]
+pub(crate) struct Figures {
     summary: Option<(OutlineRow, SummaryAmounts)>,
     worth: Option<WorthAmounts>,
     outlook: Option<(OutlineRow, OutlookAmounts)>,
 }
 
-/// These figures of the deck.
-fn figures(alloc: Global) -> Option<Told> {
-    let cards = read_cards(alloc, DECK).ok()?;
-    let project = project_of(alloc, cards).ok()?;
-    let told = Told {
-        summary: summary_of(alloc, &project),
-        worth: worth_of(alloc, &project),
-        outlook: outlook_of(alloc, &project),
-    };
-    drop(project);
-    Some(told)
+/// These figures of a project.
+pub(crate) fn figures_of(alloc: Global, project: &Project) -> Figures {
+    Figures {
+        summary: summary_of(alloc, project),
+        worth: worth_of(alloc, project),
+        outlook: outlook_of(alloc, project),
+    }
 }
 
 #[test]
 fn figures_of_items(rt: HostRuntime) -> Result<(), Fail> {
-    let figures = figures(rt.alloc()).ok_or("no figures")?;
+    let told = asked(rt.alloc(), DECK, b"", b"").ok_or("no deck")?;
+    let figures = told.figures.ok_or("no project")?;
     let whole = SummaryAmounts {
         budget: 40,
         actual: 11,

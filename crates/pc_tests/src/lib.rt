@@ -28,6 +28,8 @@ mod points;
 #[cfg(test)]
 mod priced;
 #[cfg(test)]
+mod projects;
+#[cfg(test)]
 mod schedules;
 #[cfg(test)]
 mod searches;

@@ -1,0 +1,50 @@
+//! What a small deck and its project answer. A function that lets a project go is long to prove, so they are asked in one place.
+ghost use Rattle.std.specs.Prelude.{◌≤◌, length};
+
+use crate::figures::{Figures, figures_of};
+use pc_deck::read_cards;
+use pc_deck_text::deck_text_of;
+use pc_project::{Project, project_of};
+use std::alloc::{AllocError, Global};
+
+/// What a deck answers that is read, and its project, if it makes one.
+#[derive(Clone, Copy)]
+pub(crate) struct Told {
+    /// Whether the deck's text is the expected one.
+    pub(crate) text: Option<bool>,
+    /// Whether the text of the project's deck is the expected one.
+    pub(crate) text_again: Option<bool>,
+    pub(crate) figures: Option<Figures>,
+}
+
+/// Whether a text is the expected one; none for want of memory.
+fn is_same(text: Result<Vec<u8>, AllocError>, expected: &[u8]) -> Option<bool> {
+    Some(text.ok()?.as_slice() == expected)
+}
+
+/// A project is let go here alone.
+fn let_go(_project: Project) {}
+
+/// What the deck and its project answer, where these texts are expected of the deck and, again, of the project; none where the
+/// deck is refused.
+pub(crate) fn asked(alloc: Global, deck: &[u8], text: &[u8], again: &[u8]) -> Option<Told>
+    requires { length deck.now ≤ 1000 }
+{
+    let cards = read_cards(alloc, deck).ok()?;
+    let of_deck = is_same(cards.text(alloc), text);
+    let Ok(project) = project_of(alloc, cards) else {
+        return Some(Told {
+            text: of_deck,
+            text_again: None,
+            figures: None,
+        });
+    };
+    let of_project = is_same(deck_text_of(alloc, &project), again);
+    let figures = figures_of(alloc, &project);
+    let_go(project);
+    Some(Told {
+        text: of_deck,
+        text_again: of_project,
+        figures: Some(figures),
+    })
+}
