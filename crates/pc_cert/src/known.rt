@@ -1,5 +1,5 @@
 //! A line that was read before, which comes again in most segments.
-ghost use Rattle.std.specs.Prelude.{◌≡◌, ◌<◌, ◌≤◌, IsTrue, IsSome, None, length, take};
+ghost use Rattle.std.specs.Prelude.{◌≡◌, ◌<◌, IsSome, None, length};
 ghost use Rattle.std.specs.Option.{option_map};
 ghost use Rattle.pc_cert.specs.Reading.{line_of};
 ghost use Rattle.pc_cert.specs.Known.{IsAgain};

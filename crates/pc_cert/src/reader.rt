@@ -4,7 +4,7 @@ ghost use Rattle.pc_cert.specs.Lines.{Lacks};
 ghost use Rattle.pc_cert.specs.declared.line.CertLine.{CertLine};
 ghost use Rattle.pc_cert.specs.declared.place.Place.TheVariants.{Start};
 ghost use Rattle.pc_cert.specs.Reading.{line_of};
-ghost use Rattle.pc_cert.specs.Reader.{StandsFor, HasPassed, place_behind, Reading, EndsAs};
+ghost use Rattle.pc_cert.specs.Reader.{StandsFor, HasPassed, Reading, EndsAs};
 ghost use Rattle.pc_cert.specs.Fed.{given, used, left_in, used_of};
 ghost use Rattle.pc_cert.specs.declared.reader.Malformed.{Malformed};
 
