@@ -10,7 +10,7 @@ use Rattle.pc_reading.specs.declared.status.Status.{Status}
 use Rattle.pc_reading.specs.Status.{code_of}
 use Rattle.pc_reading.specs.Sides.{Side, HadNoFault, IsReadToEnd, IsUntouched, OfBytes, OfDeck}
 use Rattle.pc_reading.specs.Verdict.{AcceptedBy, RefusedBy, IsFault}
-use Rattle.pc_reading.proofs.ReadingLaws.{refusal_is_fault, refusal_is_read}
+use Rattle.pc_reading.proofs.ReadingLaws.{refusal_is_fault, refusal_reads}
 use Rattle.pc_reading.proofs.SideLaws.{of_any, of_one}
 use Rattle.pc_reading.proofs.VerdictLaws.{not_both}
 use Rattle.pc_session.specs.Heard.{Meaning, IsOneWord, IsHeardOut, IsHeardTooLong}
@@ -79,7 +79,7 @@ module _ {D C O E : Type 0} (means : Meaning) (words : List (String Global)) (de
   pub refused_is_read : (status : Status) → SessionOutcome means words deck edits out err status → answer ≡ code_of status → answer ≡ 1 → OfDeck deck (λ bytes. length bytes ≤ longest_deck → IsReadToEnd deck)
   refused_is_read _ (heard_out asked is same) code at_1 = absurd (omega (arith, code, at_1))
   refused_is_read _ (too_long asked is same) code at_1 = absurd (omega (arith, code, at_1))
-  refused_is_read _ (deck_refused is same also) code at_1 = refusal_is_read deck is.fault is.refusal
+  refused_is_read _ (deck_refused is same also) code at_1 = refusal_reads IsFault deck is.fault is.refusal
   refused_is_read _ (usage no_word took same also unused) code at_1 = absurd (omega (arith, code, at_1))
   refused_is_read _ (no_memory asked left same also) code at_1 = absurd (omega (arith, code, at_1))
   refused_is_read _ (read_fault asked unread same) code at_1 = absurd (omega (arith, code, at_1))
