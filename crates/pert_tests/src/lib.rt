@@ -15,4 +15,6 @@ mod runs;
 #[cfg(test)]
 mod sessions;
 #[cfg(test)]
+mod task_runs;
+#[cfg(test)]
 mod testing;

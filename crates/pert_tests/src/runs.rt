@@ -1,6 +1,6 @@
 //! Runs over sources and sinks in memory: what each status leaves behind.
 
-use crate::testing::{AT_WORK, CERTIFICATE, Edges, SMALL, TASKS, USAGE, WHOLE, left_by, run_of};
+use crate::testing::{AT_WORK, CERTIFICATE, Edges, SMALL, USAGE, WHOLE, left_by, run_of};
 use std::test::Fail;
 
 // Activities of an item that no card has.
@@ -90,35 +90,6 @@ ACCT,X1,1.1,25,Frame account\n\
 ACCT,X2,1.2,20,Roof account\n\
 END\n";
 
-const DRAWN: &[u8] = b"PROJECT,K1,S,T,2024-01-01,1,,Tasks,2\n\
-ASOF,2024-01-01\n\
-WBS,1,,Whole\n\
-WBS,1.1,1,Work\n\
-WBS,_links,1,\n\
-EVENT,S,\n\
-EVENT,_b1,\n\
-EVENT,_e1,\n\
-EVENT,_b2,\n\
-EVENT,_e2,\n\
-EVENT,T,\n\
-ACT,A,_b1,_e1,1.1,4,4,4,4,2,10,3,\n\
-ACT,B,_b2,_e2,1.1,5,5,5,5,3,20,5,\n\
-ACT,_a1,_e1,_b2,_links,0,0,0,0,0,0,0,\n\
-ACT,_s1,S,_b1,_links,0,0,0,0,0,0,0,\n\
-ACT,_t2,_e2,T,_links,0,0,0,0,0,0,0,\n\
-ACCT,X,1.1,30,\n\
-END\n";
-
-// Tasks that wait for each other.
-const WAITING: &[u8] = b"PROJECT,K1,S,T,2024-01-01,1,,Tasks\n\
-WBS,1,,Whole\n\
-WBS,1.1,1,Work\n\
-TASK,A,1.1,4,4,4,4,2,10,3,\n\
-TASK,B,1.1,5,5,5,5,3,20,5,\n\
-AFTER,B,A\n\
-AFTER,A,B\n\
-END\n";
-
 const LOADED: &[u8] = b"LOAD E1 7\n\
 PERIOD                0 2024-01-01\n\
 PERIOD                1 2024-01-08\n\
@@ -141,7 +112,7 @@ const TOO_LONG: &[u8] = b"F32 record 0: length 10 is outside 5 to 9\n";
 const NO_PROJECT: &[u8] = b"F3 record 1: first card is not PROJECT\n";
 
 // Words that ask for a form and a deck, with the status, the output and the error output that they give.
-const RUNS: [(&[&str], &[u8], u8, &[u8], &[u8]); 24] = [
+const RUNS: [(&[&str], &[u8], u8, &[u8], &[u8]); 19] = [
     (&["check"], WHOLE, 0, COUNTS, b""),
     (&["normal"], WHOLE, 0, SCHEDULE, b""),
     (&["times"], WHOLE, 0, TIMES, b""),
@@ -154,8 +125,6 @@ const RUNS: [(&[&str], &[u8], u8, &[u8], &[u8]); 24] = [
     (&["migrate"], WHOLE, 0, MIGRATED, b""),
     (&["migrate"], MIGRATED, 0, MIGRATED, b""),
     (&["optimum"], WHOLE, 0, OPTIMUM, b""),
-    (&["arrows"], TASKS, 0, DRAWN, b""),
-    (&["migrate"], DRAWN, 0, DRAWN, b""),
     (&["load", "7"], WHOLE, 0, LOADED, b""),
     (&["outlook", "4"], WHOLE, 1, b"", TOO_SHORT),
     (&["point", "4"], WHOLE, 1, b"", TOO_SHORT),
@@ -175,15 +144,6 @@ const RUNS: [(&[&str], &[u8], u8, &[u8], &[u8]); 24] = [
         b"",
         b"F27 record 8: activities in a cycle: B C\n",
     ),
-    (
-        &["arrows"],
-        WAITING,
-        1,
-        b"",
-        b"F38 record 4: tasks in a cycle: A B\n",
-    ),
-    (&["arrows"], WHOLE, 1, b"", b"F4 record 5: unknown kind\n"),
-    (&["migrate"], TASKS, 1, b"", b"F4 record 4: unknown kind\n"),
 ];
 
 #[test]
