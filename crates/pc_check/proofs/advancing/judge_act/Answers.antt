@@ -1,3 +1,4 @@
+use Rattle.std.proofs.Common.{sym, ◌∙◌}
 use Rattle.pc_check.proofs.PassedLaws.{has_code-known, passed_with}
 use Rattle.pc_check.proofs.advancing.judge_act.Goals as goal
 
@@ -6,3 +7,7 @@ returns-in-None-clause-passed c =
     let a = c.args.kept.now.tally.acts in
     let known = has_code-known c.args.net.now a c.args.code.now c.args.flows.now c.has_act_code.result c.has_act_code.ensures c.if-not-has_act_code.false in
     passed_with a c.passed_of.result c.requires.passed known c.passed_of.ensures
+
+pub passed_of-requires-clause-line : goal.passed_of-requires-clause-line
+passed_of-requires-clause-line c =
+    record { code = c.args.code.now; named = sym c.has_act_code.ensures ∙ c.if-not-has_act_code.false; says = c.requires.known }

@@ -14,6 +14,9 @@ returns c =
     let of_flows = subst (λ them. FitsWithin c.term.result.crash list them (length list) gaps.low gaps.high) c.as_slice-2.ensures.value of_knees in
     let fits = subst (λ term. FitsWithin term.crash list flows (length list) gaps.low gaps.high) c.term.ensures of_flows in
     record {
+      line = c.args.line.now.line;
+      own = c.requires.line;
+      text = c.text.ensures;
       rises = c.requires.rises;
       room = fits.room;
       slack = λ head tail is. slack_in_within c.args.net.now c.args.a list flows head tail c.knees-list.ensures fits is;
