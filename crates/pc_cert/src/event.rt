@@ -4,8 +4,8 @@ ghost use Rattle.pc_cert.specs.declared.line.CertLine.TheVariants.{Event};
 ghost use Rattle.pc_cert.specs.Lines.{spaced, bit_text};
 ghost use Rattle.pc_cert.specs.Known.{IsAgain, IsEventFront};
 
-use crate::field::number_field;
 use crate::front::begins;
+use crate::number::number_at;
 use pc_text::Code;
 
 /// How many bytes of the line of an event stand before its code.
@@ -31,7 +31,7 @@ pub(crate) fn event_at(code: &Code, known: &[u8], piece: &[u8]) -> Option<EventS
     if !begins(piece, known, front) {
         return None;
     }
-    let (time, rest) = number_field(&piece[front..])?;
+    let (time, rest) = number_at(&piece[front..])?;
     let (moves, rest) = last_bit(rest)?;
     let used = piece.len() - rest.len();
     Some(EventSaid { time, moves, used })
