@@ -1,18 +1,18 @@
 -- What passed last of an activity, and why it passes again.
 use Rattle.std.proofs.Common.{◌≡◌, ◌≢◌, ℕ, ◌+◌, ◌*◌, ◌^◌, ◌<◌, ◌≤◌, zero, suc, Bool, true, false, not, ◌&&◌, ◌||◌, List, [], length, replicate, set, None, refl, sym, ap, subst, ◌∙◌, arith, ⊎_elim}
 use Rattle.std.specs.Prelude.{◌==◌, nat_lt, slice_index, slice_index_or, IsTrue, ◌⊎◌, if◌then◌else◌}
-use Rattle.std.proofs.lemmas.Bool.{cases_eq, eq-eqb, le-leb, le-ltb, ltb-true}
+use Rattle.std.proofs.lemmas.Bool.{cases_eq, eq-eqb, eqb-true, le-leb, le-ltb, ltb-true}
 use Rattle.std.proofs.lemmas.List.{get_or_default, get_or-replicate, get_or-set_same, get_or-set_other, length-replicate, length-set}
 use Rattle.pc_model.specs.declared.Knee.{Knee}
 use Rattle.pc_model.specs.Pieces.{knee_at}
-use Rattle.pc_model.specs.Schedule.{crash_of}
+use Rattle.pc_model.specs.Schedule.{normal_of, crash_of, lesser_of}
 use Rattle.pc_model.specs.Walk.{from_of, to_of}
 use Rattle.pc_curve_laws.specs.Segment.{span, head_at, tail_at}
 use Rattle.pc_crash.specs.KneeLists.{AreKneesOf}
 use Rattle.pc_crash.specs.Priced.{PricedNetwork, knees_in}
 use Rattle.pc_cert.specs.declared.line.CertLine.TheVariants.{Act}
 use Rattle.pc_cert.specs.Known.{HasText, IsTextOf}
-use Rattle.pc_check.specs.Conditions.{conditions, has_act_code, has_room, keeps_rises, is_slack, is_slack_in}
+use Rattle.pc_check.specs.Conditions.{conditions, has_act_code, has_duration, has_room, keeps_rises, is_slack, is_slack_in}
 use Rattle.pc_check.specs.Crossings.{IsStill}
 use Rattle.pc_check.specs.Failures.{first_failing}
 use Rattle.pc_check.specs.Known.{Known, each_below, frame}
@@ -24,6 +24,7 @@ use Rattle.pc_check.specs.declared.kept.Tally.{Tally}
 use Rattle.pc_check.specs.declared.passed.Passed.{Passed}
 use Rattle.pc_check.proofs.BelowLaws.{and_parts, passes_behind}
 use Rattle.pc_check.proofs.KneeLaws.{is_slack-list}
+use Rattle.pc_check.proofs.ReasonLaws.{holds_first}
 use Rattle.pc_check.proofs.StillLaws.{head_before, tail_before, rests, no_stop_in, still_room, still_slack}
 
 -- ---- gaps that flows fit
@@ -121,6 +122,14 @@ raised_small {event} acts old new raised small all e =
 
 -- ---- it passes again
 
+-- what passes lasts no longer than normal
+pub lasts_at_most : (net : PricedNetwork) (known : Known) (code : List ℕ) (duration : ℕ) (flows : List ℕ) → first_failing (conditions net known (Act code duration flows)) ≡ None → duration ≤ normal_of net.terms known.acts
+lasts_at_most net known code duration flows none =
+    let behind_code = (holds_first _ _ _ none).1 in
+    let behind_room = (holds_first _ _ _ behind_code).1 in
+    let lasts = (and_parts _ _ (holds_first _ _ _ behind_room).0).0 in
+    omega (arith, eqb-true duration (lesser_of net.network net.terms known.time known.acts) lasts)
+
 pub again_passes : {net : PricedNetwork} {known : Known} {passed : Passed} (code : List ℕ) → has_act_code net known.acts code passed.flows ≡ true → ComesAgain net known passed → HasPassed net known.acts passed
     → first_failing (conditions net known (Act code passed.duration passed.flows)) ≡ None
 again_passes {net} {known} {passed} code has_code again has =
@@ -137,4 +146,6 @@ again_passes {net} {known} {passed} code has_code again has =
     } in
     let room = still_room net seg a again.still (le-leb (tail + crash_of net.terms a) head (omega (arith, within.above, has.room))) in
     let slack = sym (still_slack net seg a passed.flows again.still) ∙ has.slack head tail within in
-    rw (has_code, room, again.lasts, has.rises, slack, again.long) refl
+    let e : passed.duration ≡ lesser_of net.network net.terms known.time a = has.lasts (known.time (to_of arcs a)) (known.time (from_of arcs a)) again.within in
+    let lasts : has_duration net known a passed.duration ≡ true = rw (eq-eqb passed.duration (lesser_of net.network net.terms known.time a) e, again.later) refl in
+    rw (has_code, room, lasts, has.rises, slack, again.long) refl

@@ -1,13 +1,13 @@
 //! What passed last of each activity, so that a line that comes again is not asked everything anew.
-ghost use Rattle.std.specs.Prelude.{◌≡◌, ◌≢◌, ◌+◌, ◌<◌, ◌≤◌, true, IsTrue, IfOk, length};
+ghost use Rattle.std.specs.Prelude.{◌≡◌, ◌≢◌, ℕ, ◌+◌, ◌<◌, ◌≤◌, min, true, IsTrue, IfOk, length};
 ghost use Rattle.pc_crash.specs.Priced.{knees_in};
+ghost use Rattle.pc_model.specs.Schedule.{normal_of};
 ghost use Rattle.pc_check.specs.Conditions.{keeps_rises};
 ghost use Rattle.pc_check.specs.Kept.{known_by};
 ghost use Rattle.pc_check.specs.Passed.{IsLineOf, HasPassed, ArePassed, FitsWithin, IsWithin, ComesAgain};
 
 use crate::acts::flow_sum;
 use crate::kept::{Kept, bit_at, number_at};
-use crate::reasons::has_duration;
 use pc_cert::{Flows, KnownLine, LineText};
 use pc_crash::CrashNet;
 use pc_model::Knee;
@@ -15,8 +15,7 @@ use std::alloc::{AllocError, Global};
 
 /// What passed last of an activity: the bytes of its line, which are not kept where nothing has passed, its duration and its flows.
 ///
-/// The line passes again wherever the activity does not cross the cut, its gap is from `low` to `high`, and the duration is
-/// that of the gap.
+/// The line passes again behind the first segment wherever the activity does not cross the cut and its gap is from `low` to `high`.
 #[derive(Clone, Copy, Debug)]
 pub struct Passed {
     pub(crate) text: LineText,
@@ -25,7 +24,7 @@ pub struct Passed {
     /// the sum of the flows, and what the activity costs at that duration
     pub(crate) flow: u128,
     pub(crate) cost: u64,
-    /// the least and the greatest gap at which conditions 6 and 11 hold with these flows
+    /// the least and the greatest gap at which conditions 6 and 11 hold with these flows, and the activity lasts so long
     pub(crate) low: u64,
     pub(crate) high: u64,
 }
@@ -67,10 +66,12 @@ pub(crate) fn passed_of(
     requires line { IsLineOf net.now a duration flows.now line.now.line }
     requires flows { length flows.now ≡ (knees_in net.now).count a + 1 }
     requires rises { keeps_rises net.now a flows.now ≡ true }
+    requires lasts { duration ≤ normal_of net.now.terms a }
     ensures { HasPassed net.now a result }
 {
     let list = net.knees(a);
     let gaps = gaps_of(net.term(a).crash, list.as_slice(), flows.as_slice());
+    let gaps = lasting(gaps, net.term(a).normal, duration);
     Passed {
         text: line.text(),
         duration,
@@ -100,6 +101,26 @@ fn gaps_of(crash: u64, knees: &[Knee], flows: &[u64]) -> Gaps
     Gaps { low, high }
 }
 
+/// Those of the gaps at which an activity lasts so long.
+fn lasting(gaps: Gaps, normal: u64, duration: u64) -> Gaps
+    requires { duration ≤ normal }
+    ensures above { gaps.low ≤ result.low }
+    ensures below { result.high ≤ gaps.high }
+    ensures lasts { (gap : ℕ) → result.low ≤ gap → gap ≤ result.high → duration ≡ min normal gap }
+{
+    let low = gaps.low.max(duration);
+    if duration == normal {
+        return Gaps {
+            low,
+            high: gaps.high,
+        };
+    }
+    Gaps {
+        low,
+        high: gaps.high.min(duration),
+    }
+}
+
 /// The least gap of those from `low` on that a flow at a knee fits: not below the knee where the flow is not its rise.
 fn raised(low: u64, knee: Knee, flow: u64) -> u64
     ensures within { low ≤ result }
@@ -120,8 +141,8 @@ fn lowered(high: u64, knee: Knee, flow: u64) -> u64
     if flow == 0 { high } else { high.min(knee.at) }
 }
 
-/// Whether what passed last of the next activity passes again: the segment has two ends, the activity does not cross the cut, its gap is
-/// one that the flows fit, and the duration is that of the gap.
+/// Whether what passed last of the next activity passes again: the segment is not the first and has two ends, the activity does not cross
+/// the cut, and its gap is one that the flows and the duration fit.
 #[inline(always)]
 pub(crate) fn passes_again(net: &CrashNet<'_>, kept: &Kept, passed: &Passed) -> bool
     requires { kept.now.tally.acts < length net.now.network.arcs }
@@ -136,7 +157,7 @@ pub(crate) fn passes_again(net: &CrashNet<'_>, kept: &Kept, passed: &Passed) -> 
             number_at(&tally.times, from),
             passed,
         )
-        && has_duration(net, kept, tally.acts, passed.duration)
+        && kept.parts != 0
         && tally.lower != tally.upper
 }
 
