@@ -1,5 +1,7 @@
 -- The numbers that words spell, and their decimal forms.
-use Rattle.std.proofs.Common.{◌≡◌, ℕ, ◌^◌, ◌<◌, ◌≤◌, true, List, length, get_or, refl, sym, ap, arith, zero, suc, Some, subst}
+use Rattle.std.proofs.Common.{◌≡◌, ℕ, ◌+◌, ◌-◌, ◌*◌, ◌^◌, ◌<◌, ◌≤◌, true, List, [], ◌∷◌, ◌++◌, length, take, get_or, refl, sym, ap, ◌∙◌, arith, zero, suc, Some, subst}
+use Rattle.std.proofs.lemmas.List.{take_more}
+use Rattle.std.proofs.lemmas.List.Folds.{list_all-append}
 use Rattle.std.proofs.Math.Nat.{pow-le-pow_right}
 use Rattle.std.proofs.lemmas.Bool.Decides.{nat_tests}
 use Rattle.std.proofs.lemmas.Option.{cond_some}
@@ -10,7 +12,7 @@ use Rattle.std.specs.Char.{is_ascii_digit}
 use Rattle.std.specs.Fmt.{decimal}
 use Rattle.pc_text.specs.Number.{value_after}
 use Rattle.pc_text.proofs.NumberLemmas.{own}
-use Rattle.pc_cert.specs.Number.{is_numeral, numeral_of}
+use Rattle.pc_cert.specs.Number.{is_numeral, is_unpadded, numeral_of, AreDigitsAt}
 
 -- a number of fewer than 18 digits is below 10 ^ 17
 pub below_17_digits : (n i : ℕ) → n < 10 ^ i → i < 18 → n < 10 ^ 17
@@ -75,3 +77,41 @@ pub number_again : (n : ℕ) → n < 10 ^ 18 → numeral_of (decimal n) ≡ Some
 number_again n h =
     let test : is_numeral (decimal n) ≡ true = joined (decimal n) (decimal_parts n h) in
     rw test (ap Some (digits_value-decimal own n (omega arith)))
+
+-- ---- digits at the front of bytes
+
+value_after-more : (n : ℕ) (ds : List ℕ) (d : ℕ) → value_after n (ds ++ d ∷ []) ≡ value_after n ds * 10 + (d - 48)
+value_after-more n [] d = refl
+value_after-more n (x ∷ ds) d = value_after-more (n * 10 + (x - 48)) ds d
+
+pub digit_limit : (byte : ℕ) → is_ascii_digit byte ≡ true → byte ≤ 57
+digit_limit byte digit = grind (arith, nat_tests)
+
+-- the digits so far, and a bound of their value
+pub record AreSoFar (bytes : List ℕ) (number count : ℕ) : Type 0 where
+  pub few : count ≤ 18
+  pub small : number < 10 ^ count
+  pub digits : list_all is_ascii_digit (take count bytes) ≡ true
+  pub value : number ≡ value_after 0 (take count bytes)
+
+pub digits_more : (bytes : List ℕ) (number count : ℕ) (byte : ℕ) → AreSoFar bytes number count → count < 18 → count < length bytes → byte ≡ get_or bytes count 0 → is_ascii_digit byte ≡ true → number * 10 + (byte - 48) < 10 ^ (count + 1)
+    → AreSoFar bytes (number * 10 + (byte - 48)) (count + 1)
+digits_more bytes number count byte are few below here digit small =
+    let longer : take (count + 1) bytes ≡ take count bytes ++ byte ∷ [] = take_more bytes count 0 below ∙ ap (λ b. take count bytes ++ b ∷ []) (sym here) in
+    record {
+      few = omega arith;
+      small = small;
+      digits = ap (list_all is_ascii_digit) longer ∙ list_all-append is_ascii_digit (take count bytes) (byte ∷ []) ∙ rw (are.digits, digit) refl;
+      value = ap (λ n. n * 10 + (byte - 48)) are.value ∙ sym (value_after-more 0 (take count bytes) byte) ∙ sym (ap (value_after 0) longer);
+    }
+
+-- digits that are not padded are the decimal form of their value
+pub digits_spell : (bytes : List ℕ) (number count : ℕ) → AreDigitsAt bytes number count → is_unpadded (take count bytes) ≡ true → Spells (take count bytes) number
+digits_spell bytes number count are plain =
+    let digits : list_all is_ascii_digit (take count bytes) ≡ true = are.digits in
+    subst (Spells (take count bytes)) (sym are.value) (spelled (take count bytes) (record {
+      some = grind (arith, nat_tests);
+      short = grind (arith, nat_tests);
+      digits = digits;
+      plain = grind (arith, nat_tests);
+    }))

@@ -14,6 +14,8 @@ use Rattle.pc_cert.proofs.LineLaws.{line_takes, line_again}
 use Rattle.pc_cert.proofs.TextLaws.{text_of-append, LeadTo-more}
 use Rattle.pc_cert.specs.Reader.{arrived, IsGoing, IsNotAllowed, IsStopped, Stands, StandsFor, Reading, HasPassed, place_behind}
 use Rattle.pc_cert.specs.Fed.{line_list, left_in, used_of}
+use Rattle.pc_cert.specs.Known.{IsAgain}
+use Rattle.pc_cert.specs.Passing.{PassesLine}
 use Rattle.pc_cert.specs.declared.reader.Malformed.{Malformed}
 
 -- ---- a piece and the first end of a line in it
@@ -166,3 +168,20 @@ passed old new held line piece used (Err malformed) none ends less read p lines 
 pub none_from : (malformed : Option Malformed) → ((m : Malformed) → malformed ≡ Some m → ⊥) → malformed ≡ None
 none_from None h = refl
 none_from (Some m) h = absurd (h m refl)
+
+-- a line that is the first of the piece was passed
+pub passes_line : (line : CertLine) (piece : List ℕ) (used : ℕ) (old new : Reading) → old.malformed ≡ None → old.held ≡ [] → IsAgain (Some line) piece used → next old.place line ≡ Some new.place
+    → new ≡ record old { place = new.place; lines = old.lines + 1 } → PassesLine line piece used old new
+passes_line line piece used old new none empty is goes moved =
+    let moved_to : List ℕ → Reading = λ held. record { place = new.place; lines = old.lines + 1; held = held; malformed = old.malformed } in
+    record {
+      some = omega (arith, is.ends);
+      within = is.within;
+      goes = goes;
+      going = ap (λ (r : Reading). r.malformed) moved ∙ none;
+      nothing = ap (λ (r : Reading). r.held) moved ∙ empty;
+      counted = ap (λ (r : Reading). r.lines) moved;
+      stands = passed old new old.held (Some line) piece used (Ok used) none is.ends (omega (arith, is.ends, is.within))
+          (ap (λ held. line_of (held ++ take (run_len 10 piece) piece)) empty ∙ is.read)
+          (record { used_is = refl; taken = line; there = refl; goes = goes; moved = moved ∙ ap moved_to empty });
+    }

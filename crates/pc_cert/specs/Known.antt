@@ -1,6 +1,8 @@
 -- A line that was read before.
 use Rattle.std.specs.Prelude.{◌≡◌, ℕ, ◌+◌, ◌<◌, ◌≤◌, List, [], ◌∷◌, ◌++◌, length, take, codes, Option}
 use Rattle.pc_cert.specs.declared.line.CertLine.{CertLine}
+use Rattle.pc_cert.specs.declared.line_text.LineText.{LineText}
+use Rattle.pc_cert.specs.declared.event_front.EventFront.{EventFront}
 use Rattle.pc_cert.specs.Fields.{run_len}
 use Rattle.pc_cert.specs.Lines.{Lacks}
 use Rattle.pc_cert.specs.Reading.{line_of}
@@ -33,3 +35,16 @@ pub record IsEventFront (code bytes : List ℕ) : Type 0 where
   pub room : 32 ≤ length bytes
   pub short : length code + 6 ≤ 32
   pub same : take (length code + 6) bytes ≡ codes "EVENT" ++ 32 ∷ code
+
+-- the bytes of a line and its end are kept
+abbrev pub HasText : LineText → Type 0
+HasText text = 0 < text.len
+
+-- where bytes are kept, they are those of this line and its end
+abbrev pub IsTextOf : Option CertLine → LineText → Type 0
+IsTextOf line text = AreCells text.cells text.len line
+
+-- the lines of the event with this code begin so
+pub record IsFrontOf (code : List ℕ) (front : EventFront) : Type 0 where
+  pub same_code : front.code ≡ code
+  pub front_is : IsEventFront code front.cells

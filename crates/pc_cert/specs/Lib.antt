@@ -7,3 +7,4 @@ pub mod Text
 pub mod Reader
 pub mod Fed
 pub mod Known
+pub mod Passing

@@ -50,6 +50,16 @@ IsCode code = is_code code ≡ true
 abbrev pub IsVersion : ℕ → Type 0
 IsVersion version = (1 ≤ version) × (version ≤ 2)
 
+-- the bytes begin with the decimal form of a number of at most 18 digits, behind which are the rest
+pub record IsNumeralAt (bytes : List ℕ) (n : ℕ) (rest : List ℕ) : Type 0 where
+  pub text : bytes ≡ decimal n ++ rest
+  pub small : IsSmall n
+
+-- the bytes begin with a space and the decimal form of a number of at most 18 digits, behind which are the rest
+pub record IsNumberAt (bytes : List ℕ) (n : ℕ) (rest : List ℕ) : Type 0 where
+  pub text : bytes ≡ spaced (decimal n) rest
+  pub small : IsSmall n
+
 -- each of the numbers is one of at most 18 digits
 abbrev pub AreSmall : List ℕ → Type 0
 AreSmall [] = Unit {0}

@@ -4,8 +4,8 @@ ghost use Rattle.pc_cert.specs.declared.line.CertLine.TheVariants.{Event};
 ghost use Rattle.pc_cert.specs.Lines.{spaced, bit_text};
 ghost use Rattle.pc_cert.specs.Known.{IsAgain, IsEventFront};
 
-use crate::field::number_field;
 use crate::front::begins;
+use crate::number::number_at;
 use pc_text::Code;
 
 /// How many bytes of the line of an event stand before its code.
@@ -13,10 +13,10 @@ pub const EVENT_NAMED: usize = 6;
 
 /// What the line of an event says of it, and how many bytes the line and its end are.
 #[derive(Clone, Copy, Debug)]
-pub(crate) struct EventSaid {
-    pub(crate) time: u64,
-    pub(crate) moves: bool,
-    pub(crate) used: usize,
+pub struct EventSaid {
+    pub time: u64,
+    pub moves: bool,
+    pub used: usize,
 }
 
 /// What the line at the front of the piece says, where it is one of this event.
@@ -31,13 +31,14 @@ pub(crate) fn event_at(code: &Code, known: &[u8], piece: &[u8]) -> Option<EventS
     if !begins(piece, known, front) {
         return None;
     }
-    let (time, rest) = number_field(&piece[front..])?;
+    let (time, rest) = number_at(&piece[front..])?;
     let (moves, rest) = last_bit(rest)?;
     let used = piece.len() - rest.len();
     Some(EventSaid { time, moves, used })
 }
 
 /// The bit behind the space at the front, where the line ends behind it, and the bytes behind that end.
+#[inline(always)]
 fn last_bit(bytes: &[u8]) -> Option<(bool, &[u8])>
     ensures { IfSome result (λ parts. bytes.now ≡ spaced (bit_text parts.0) (10 ∷ parts.1.now)) }
 {

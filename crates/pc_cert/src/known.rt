@@ -1,16 +1,14 @@
 //! A line that was read before, which comes again in most segments.
-ghost use Rattle.std.specs.Prelude.{◌≡◌, ◌<◌, IsSome, None, length};
+ghost use Rattle.std.specs.Prelude.{◌≡◌, ◌<◌, IsSome, None, Some, length};
 ghost use Rattle.std.specs.Option.{option_map};
 ghost use Rattle.pc_cert.specs.Reading.{line_of};
-ghost use Rattle.pc_cert.specs.Known.{IsAgain};
+ghost use Rattle.pc_cert.specs.Known.{IsAgain, IsTextOf};
 
 use crate::event::event_at;
 use crate::front::begins;
 use crate::line::CertLine;
+use crate::line_text::{LineText, ROOM};
 use std::marker::Model;
-
-/// The most bytes of a line and its end that are kept: a longer one is read anew each time.
-const ROOM: usize = 64;
 
 /// The line that was read last, and the bytes that it and its end are.
 ///
@@ -54,9 +52,31 @@ impl KnownLine {
         self.line.as_ref()
     }
 
+    /// A line of which the bytes are not kept.
+    pub fn of(line: CertLine) -> KnownLine
+        ensures { result.line ≡ Some line }
+    {
+        KnownLine {
+            cells: [0; ROOM],
+            len: 0,
+            line: Some(line),
+        }
+    }
+
+    /// The bytes of the line and its end, where they are kept.
+    pub fn text(&self) -> LineText
+        ensures { IsTextOf self.now.line result }
+    {
+        LineText {
+            cells: self.cells,
+            len: self.len,
+        }
+    }
+
     /// The line that the bytes spell, or none where they spell none. It is known from then on.
     pub fn read(&mut self, bytes: &[u8]) -> Option<CertLine>
-        ensures { result ≡ line_of bytes.now }
+        ensures value { result ≡ line_of bytes.now }
+        ensures known { self.new.line ≡ line_of bytes.now }
     {
         self.learn(bytes);
         self.line

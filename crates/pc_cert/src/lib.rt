@@ -4,6 +4,7 @@
 
 mod act;
 mod event;
+mod event_front;
 mod field;
 mod flows;
 mod front;
@@ -12,18 +13,21 @@ mod known_lines;
 mod line;
 mod line_end;
 mod line_laws;
+mod line_text;
 mod number;
 mod place;
 mod reader;
 mod reading;
 
-pub use event::EVENT_NAMED;
+pub use event::{EVENT_NAMED, EventSaid};
+pub use event_front::EventFront;
 pub use flows::{Flows, MAX_FLOWS};
 pub use known::KnownLine;
 pub use known_lines::KnownLines;
 pub use line::{CertLine, MAX_LINE};
 pub use line_end::line_len;
 pub use line_laws::{spelling_is_once, text_is_once};
+pub use line_text::LineText;
 pub use number::MAX_DIGITS;
 pub use place::{Place, Shape};
 pub use reader::{CertReader, Fed, Malformed};

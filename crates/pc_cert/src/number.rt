@@ -1,7 +1,8 @@
 //! The numbers of a certificate, which may be longer than those of a deck.
-ghost use Rattle.std.specs.Prelude.{◌≡◌, ◌≤◌, length};
+ghost use Rattle.std.specs.Prelude.{◌≡◌, ◌≤◌, IfSome, length};
 ghost use Rattle.pc_text.specs.Number.{value_of};
-ghost use Rattle.pc_cert.specs.Number.{is_unpadded, numeral_of};
+ghost use Rattle.pc_cert.specs.Number.{is_unpadded, numeral_of, AreDigitsAt};
+ghost use Rattle.pc_cert.specs.Lines.{IsNumberAt, IsNumeralAt};
 
 /// The most digits that a number of a certificate has.
 pub const MAX_DIGITS: usize = 18;
@@ -39,4 +40,44 @@ fn value_of(word: &[u8]) -> Option<u64>
         number = number * 10 + u64::from(byte - b'0');
     }
     Some(number)
+}
+
+/// The number behind the space at the front, and the bytes behind it.
+///
+/// Its end is found while its digits are read.
+#[inline(always)]
+pub(crate) fn number_at(bytes: &[u8]) -> Option<(u64, &[u8])>
+    ensures { IfSome result (λ parts. IsNumberAt bytes.now parts.0 parts.1.now) }
+{
+    match bytes {
+        [b' ', rest @ ..] => numeral_at(rest),
+        _ => None,
+    }
+}
+
+/// The number at the front, and the bytes behind it.
+#[inline(always)]
+fn numeral_at(bytes: &[u8]) -> Option<(u64, &[u8])>
+    ensures { IfSome result (λ parts. IsNumeralAt bytes.now parts.0 parts.1.now) }
+{
+    let (number, end) = digits_at(bytes);
+    if !is_unpadded(&bytes[..end]) {
+        return None;
+    }
+    Some((number, &bytes[end..]))
+}
+
+/// The digits at the front, of which there are at most 18: their value, and how many they are.
+#[inline(always)]
+fn digits_at(bytes: &[u8]) -> (u64, usize)
+    ensures { AreDigitsAt bytes.now result.0 result.1 }
+{
+    let mut number = 0;
+    for (i, byte) in bytes.iter().enumerate() {
+        if i == MAX_DIGITS || !byte.is_ascii_digit() {
+            return (number, i);
+        }
+        number = number * 10 + u64::from(byte - b'0');
+    }
+    (number, bytes.len())
 }

@@ -1,5 +1,6 @@
 //! The order in which the lines of a certificate come.
-ghost use Rattle.std.specs.Prelude.{◌≡◌, IsTrue, None, Some, false};
+ghost use Rattle.std.specs.Prelude.{◌≡◌, ℕ, IsTrue, List, None, Some, Bool, false};
+ghost use Rattle.pc_cert.specs.declared.line.CertLine.TheVariants.{Event, Act};
 ghost use Rattle.pc_cert.specs.Grammar.{next, next_at_start, next_after_head, next_in_normal_walk, next_in_crash_walk, next_in_segment, next_between, opened, takes_flows};
 
 use crate::flows::Flows;
@@ -88,6 +89,40 @@ impl Place {
                 true
             }
             _ => self.jump_behind(line),
+        }
+    }
+
+    /// Goes on behind the line of an activity with these flows, where one may stand here, and answers whether it may.
+    #[inline(always)]
+    pub(crate) fn go_behind_act(&mut self, flows: &Flows) -> bool
+        ensures goes { (code : List ℕ) (duration : ℕ) → IsTrue result → next self.old (Act code duration flows.now) ≡ Some self.new }
+        ensures same { result ≡ false → self.new ≡ self.old }
+    {
+        match self {
+            Place::InSegment {
+                shape,
+                events,
+                activities,
+            } if *events == 0 && 0 < *activities && takes_flows(*shape, flows) => {
+                *activities -= 1;
+                true
+            }
+            _ => false,
+        }
+    }
+
+    /// Goes on behind the line of an event, where one may stand here, and answers whether it may.
+    #[inline(always)]
+    pub(crate) fn go_behind_event(&mut self) -> bool
+        ensures goes { (code : List ℕ) (time : ℕ) (moves : Bool) → IsTrue result → next self.old (Event code time moves) ≡ Some self.new }
+        ensures same { result ≡ false → self.new ≡ self.old }
+    {
+        match self {
+            Place::InSegment { events: left, .. } if 0 < *left => {
+                *left -= 1;
+                true
+            }
+            _ => false,
         }
     }
 

@@ -103,6 +103,16 @@ fn a_known_line_is_read_again(rt: HostRuntime) {
 }
 
 #[test]
+fn a_line_is_told_by_its_bytes(rt: HostRuntime) {
+    let mut known = KnownLine::new();
+    assert!(rt; known.read(b"ACT A 4 3 0").is_some());
+    let text = known.text();
+    assert_eq!(rt; text.again(b"ACT A 4 3 0\nACT B 5 3 0\n"), 12);
+    assert_eq!(rt; text.again(b"ACT A 4 3 01\nACT B 5 3 0\n"), 0);
+    assert_eq!(rt; LineText::new().again(b"CLOSE\n"), 0);
+}
+
+#[test]
 fn a_reader_is_fed(rt: HostRuntime) {
     let mut reader = CertReader::begin();
     let fed = reader.feed(b"CERT 1 E1 3 3\nNORMAL\n");

@@ -14,6 +14,7 @@ pub mod GoodLines
 pub mod FinishLaws
 pub mod StillLaws
 pub mod PassedLaws
+mod FrontsLaws
 pub mod AuditLaws
 pub mod AuditFinishLaws
 pub mod FeedLaws

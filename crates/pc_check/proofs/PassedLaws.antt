@@ -1,17 +1,18 @@
 -- What passed last of an activity, and why it passes again.
 use Rattle.std.proofs.Common.{◌≡◌, ◌≢◌, ℕ, ◌+◌, ◌*◌, ◌^◌, ◌<◌, ◌≤◌, zero, suc, Bool, true, false, not, ◌&&◌, ◌||◌, List, [], length, replicate, set, None, refl, sym, ap, subst, ◌∙◌, arith, ⊎_elim}
-use Rattle.std.specs.Prelude.{◌==◌, nat_lt, slice_index, IsTrue, ◌⊎◌, if◌then◌else◌}
-use Rattle.std.proofs.lemmas.Bool.{cases_eq, eq-eqb, le-leb, le-ltb, ltb-true}
-use Rattle.std.proofs.lemmas.List.{get_or-replicate, get_or-set_same, get_or-set_other, length-replicate, length-set}
+use Rattle.std.specs.Prelude.{◌==◌, nat_lt, slice_index, slice_index_or, IsTrue, ◌⊎◌, if◌then◌else◌}
+use Rattle.std.proofs.lemmas.Bool.{cases_eq, eq-eqb, eqb-true, le-leb, le-ltb, ltb-true}
+use Rattle.std.proofs.lemmas.List.{get_or_default, get_or-replicate, get_or-set_same, get_or-set_other, length-replicate, length-set}
 use Rattle.pc_model.specs.declared.Knee.{Knee}
 use Rattle.pc_model.specs.Pieces.{knee_at}
-use Rattle.pc_model.specs.Schedule.{crash_of}
+use Rattle.pc_model.specs.Schedule.{normal_of, crash_of, lesser_of}
 use Rattle.pc_model.specs.Walk.{from_of, to_of}
 use Rattle.pc_curve_laws.specs.Segment.{span, head_at, tail_at}
 use Rattle.pc_crash.specs.KneeLists.{AreKneesOf}
 use Rattle.pc_crash.specs.Priced.{PricedNetwork, knees_in}
 use Rattle.pc_cert.specs.declared.line.CertLine.TheVariants.{Act}
-use Rattle.pc_check.specs.Conditions.{conditions, has_act_code, has_room, keeps_rises, is_slack, is_slack_in}
+use Rattle.pc_cert.specs.Known.{HasText, IsTextOf}
+use Rattle.pc_check.specs.Conditions.{conditions, has_act_code, has_duration, has_room, keeps_rises, is_slack, is_slack_in}
 use Rattle.pc_check.specs.Crossings.{IsStill}
 use Rattle.pc_check.specs.Failures.{first_failing}
 use Rattle.pc_check.specs.Known.{Known, each_below, frame}
@@ -23,6 +24,7 @@ use Rattle.pc_check.specs.declared.kept.Tally.{Tally}
 use Rattle.pc_check.specs.declared.passed.Passed.{Passed}
 use Rattle.pc_check.proofs.BelowLaws.{and_parts, passes_behind}
 use Rattle.pc_check.proofs.KneeLaws.{is_slack-list}
+use Rattle.pc_check.proofs.ReasonLaws.{holds_first}
 use Rattle.pc_check.proofs.StillLaws.{head_before, tail_before, rests, no_stop_in, still_room, still_slack}
 
 -- ---- gaps that flows fit
@@ -55,23 +57,30 @@ slack_in_within net a list flows head tail are fits is =
 
 -- ---- nothing has passed
 
-pub nothing_passed : (net : PricedNetwork) (nothing : Passed) → nothing.flows ≡ [] → ArePassed net (replicate (length net.network.arcs) nothing)
-nothing_passed net nothing none = record {
+pub nothing_passed : (net : PricedNetwork) (nothing : Passed) → (HasText nothing.text → ⊥) → IsTextOf None nothing.text → ArePassed net (replicate (length net.network.arcs) nothing)
+nothing_passed net nothing none text = record {
   one_each = length-replicate (length net.network.arcs) nothing;
-  each = λ a below some.
-      let e = ap (λ row. row.flows) (get_or-replicate (length net.network.arcs) a nothing _ below) ∙ none in
-      absurd (omega (arith, subst (λ flows. 0 < length flows) e some));
+  each = λ a below. subst (IsPassed net a) (sym (get_or-replicate (length net.network.arcs) a nothing _ below)) (record { text = (None, text); has = λ some. absurd (none some) });
 }
 
 -- ---- something has passed
+
+passed_so : (net : PricedNetwork) (a : ℕ) (row : Passed) → HasPassed net a row → IsPassed net a row
+passed_so net a row it = record { text = (it.line, it.text); has = λ some. it }
 
 pub passed_with : {net : PricedNetwork} {rows : List Passed} (a : ℕ) (row : Passed) → ArePassed net rows → a < length net.network.arcs → HasPassed net a row → ArePassed net (set rows a row)
 passed_with {net} {rows} a row are known has = record {
   one_each = length-set rows a row ∙ are.one_each;
   each = λ b below. ⊎_elim
-      (λ here. subst (λ i. IsPassed net i (passed_at (set rows a row) i)) (sym here) (λ some. subst (HasPassed net a) (sym (get_or-set_same rows a row _ (omega (arith, known, are.one_each)))) has))
+      (λ here. subst (λ i. IsPassed net i (passed_at (set rows a row) i)) (sym here) (subst (IsPassed net a) (sym (get_or-set_same rows a row _ (omega (arith, known, are.one_each)))) (passed_so net a row has)))
       (λ other. subst (IsPassed net b) (sym (get_or-set_other rows a b row _ other)) (are.each b below)) (cases_eq b a);
 }
+
+-- what is read of the rows
+pub read_passed : {net : PricedNetwork} {rows : List Passed} (a : ℕ) (row : Passed) → ArePassed net rows → a < length net.network.arcs → row ≡ slice_index_or rows a row → IsPassed net a row
+read_passed {net} {rows} a row are known is =
+    let default : Passed = record { text = record { cells = []; len = 0 }; duration = 0; flows = []; flow = 0; cost = 0; low = 0; high = 0 } in
+    subst (IsPassed net a) (sym (is ∙ get_or_default rows a row default (omega (arith, known, are.one_each)))) (are.each a known)
 
 -- an activity that has its code is one of the network
 pub has_code-known : (net : PricedNetwork) (a : ℕ) (code flows : List ℕ) (holds : Bool) → holds ≡ has_act_code net a code flows → holds ≡ true → a < length net.network.arcs
@@ -113,9 +122,17 @@ raised_small {event} acts old new raised small all e =
 
 -- ---- it passes again
 
-pub again_passes : {net : PricedNetwork} {known : Known} {passed : Passed} {duration : ℕ} {flows : List ℕ} (code : List ℕ) → has_act_code net known.acts code flows ≡ true → ComesAgain net known passed duration flows → HasPassed net known.acts passed
-    → first_failing (conditions net known (Act code duration flows)) ≡ None
-again_passes {net} {known} {passed} {duration} {flows} code has_code again has =
+-- what passes lasts no longer than normal
+pub lasts_at_most : (net : PricedNetwork) (known : Known) (code : List ℕ) (duration : ℕ) (flows : List ℕ) → first_failing (conditions net known (Act code duration flows)) ≡ None → duration ≤ normal_of net.terms known.acts
+lasts_at_most net known code duration flows none =
+    let behind_code = (holds_first _ _ _ none).1 in
+    let behind_room = (holds_first _ _ _ behind_code).1 in
+    let lasts = (and_parts _ _ (holds_first _ _ _ behind_room).0).0 in
+    omega (arith, eqb-true duration (lesser_of net.network net.terms known.time known.acts) lasts)
+
+pub again_passes : {net : PricedNetwork} {known : Known} {passed : Passed} (code : List ℕ) → has_act_code net known.acts code passed.flows ≡ true → ComesAgain net known passed → HasPassed net known.acts passed
+    → first_failing (conditions net known (Act code passed.duration passed.flows)) ≡ None
+again_passes {net} {known} {passed} code has_code again has =
     let a = known.acts in
     let seg = frame known in
     let arcs = net.network.arcs in
@@ -128,6 +145,7 @@ again_passes {net} {known} {passed} {duration} {flows} code has_code again has =
       below = omega (arith, again.within.below);
     } in
     let room = still_room net seg a again.still (le-leb (tail + crash_of net.terms a) head (omega (arith, within.above, has.room))) in
-    let slack = sym (still_slack net seg a flows again.still) ∙ subst (λ fs. is_slack net seg 0 a fs ≡ true) (sym again.same_flows) (has.slack head tail within) in
-    let rises = subst (λ fs. keeps_rises net a fs ≡ true) (sym again.same_flows) has.rises in
-    rw (has_code, room, again.lasts, rises, slack, again.long) refl
+    let slack = sym (still_slack net seg a passed.flows again.still) ∙ has.slack head tail within in
+    let e : passed.duration ≡ lesser_of net.network net.terms known.time a = has.lasts (known.time (to_of arcs a)) (known.time (from_of arcs a)) again.within in
+    let lasts : has_duration net known a passed.duration ≡ true = rw (eq-eqb passed.duration (lesser_of net.network net.terms known.time a) e, again.later) refl in
+    rw (has_code, room, lasts, has.rises, slack, again.long) refl

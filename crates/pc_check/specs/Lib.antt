@@ -11,6 +11,9 @@ pub mod Crossings
 pub mod Safe
 pub mod Bounds
 pub mod Passed
+pub mod Fronts
+pub mod Again
+pub mod Along
 pub mod Advances
 pub mod Additions
 pub mod Checking

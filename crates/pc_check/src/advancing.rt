@@ -11,13 +11,13 @@ ghost use Rattle.pc_check.specs.Additions.{IsAct, MayBeAdded};
 ghost use Rattle.pc_check.specs.Passed.{ArePassed};
 ghost use Rattle.pc_check.specs.Safe.{IsSafe};
 
-use crate::adding::{add_act, add_again, add_event, begin_segment};
+use crate::adding::{add_act, add_event, begin_segment};
 use crate::gaps::crossing_of;
 use crate::kept::Kept;
-use crate::passed::{Passed, passed_of, passes_again};
+use crate::passed::{Passed, passed_of};
 use crate::reasons::{has_act_code, reason, reason_at_act};
 use crate::walk::stepped;
-use pc_cert::{CertLine, Flows, Place};
+use pc_cert::{CertLine, Flows, KnownLine, Place};
 use pc_crash::CrashNet;
 use pc_text::Code;
 
@@ -27,12 +27,14 @@ pub(crate) fn advance(
     net: &CrashNet<'_>,
     kept: &mut Kept,
     passed: &mut Vec<Passed>,
+    known: &KnownLine,
     line: &CertLine,
     behind: Place,
 ) -> Option<u8>
     requires safe { IsSafe net.now.network.events (length net.now.network.arcs) kept.old.tally }
     requires passed { ArePassed net.now passed.old.items }
     requires bounded { IsBounded net.now kept.old }
+    requires known { known.now.line ≡ Some line.now }
     requires goes { next kept.old.place line.now ≡ Some behind }
     ensures reason { result ≡ first_failing (conditions net.now (known_by kept.old) line.now) }
     ensures advances { IfNone result (Advances net.now line.now kept.old kept.new) }
@@ -45,7 +47,7 @@ pub(crate) fn advance(
 {
     let _events = net.net().events();
     let _activities = net.net().activities();
-    match judge(net, kept, passed, line) {
+    match judge(net, kept, passed, known, line) {
         Some(reason) => Some(reason),
         None => {
             kept.place = behind;
@@ -60,10 +62,12 @@ fn judge(
     net: &CrashNet<'_>,
     kept: &mut Kept,
     passed: &mut Vec<Passed>,
+    known: &KnownLine,
     line: &CertLine,
 ) -> Option<u8>
     requires safe { IsSafe net.now.network.events (length net.now.network.arcs) kept.old.tally }
     requires passed { ArePassed net.now passed.old.items }
+    requires known { known.now.line ≡ Some line.now }
     requires fits { first_failing (conditions net.now (known_by kept.old) line.now) ≡ None → MayBeAdded net.now line.now kept.old }
     ensures reason { result ≡ first_failing (conditions net.now (known_by kept.old) line.now) }
     ensures added { IfNone result (Adds net.now line.now kept.old kept.new) }
@@ -76,7 +80,7 @@ fn judge(
             code,
             duration,
             flows,
-        } => judge_act(net, kept, passed, code, *duration, flows),
+        } => judge_act(net, kept, passed, known, code, *duration, flows),
         _ => match reason(net, kept, line) {
             Some(reason) => Some(reason),
             None => {
@@ -87,18 +91,20 @@ fn judge(
     }
 }
 
-/// The same of the line of an activity. Where it says what passed last of the activity, little is asked anew; else its gaps are
-/// looked up once for all that is asked of it and all that it adds.
+/// The same of the line of an activity: its gaps are looked up once for all that is asked of it and all that it adds. Its bytes are kept, so
+/// that little is asked where they come again.
 fn judge_act(
     net: &CrashNet<'_>,
     kept: &mut Kept,
     passed: &mut Vec<Passed>,
+    known: &KnownLine,
     code: &Code,
     duration: u64,
     flows: &Flows,
 ) -> Option<u8>
     requires safe { IsSafe net.now.network.events (length net.now.network.arcs) kept.old.tally }
     requires passed { ArePassed net.now passed.old.items }
+    requires known { known.now.line ≡ Some (Act code.now duration flows.now) }
     ensures reason { result ≡ first_failing (conditions net.now (known_by kept.old) (Act code.now duration flows.now)) }
     ensures added { IfNone result (Adds net.now (Act code.now duration flows.now) kept.old kept.new) }
     ensures same { OnSome result (kept.new ≡ kept.old) }
@@ -109,16 +115,11 @@ fn judge_act(
     if !has_act_code(net, a, code, flows) {
         return Some(4);
     }
-    let last = &passed[a as usize];
-    if passes_again(net, kept, last, duration, flows) {
-        add_again(net, &mut kept.tally, last);
-        return None;
-    }
     let crossing = crossing_of(net, &kept.tally, a);
     match reason_at_act(net, kept, &crossing, duration, flows) {
         Some(reason) => Some(reason),
         None => {
-            passed[a as usize] = passed_of(net, a, duration, flows);
+            passed[a as usize] = passed_of(net, a, known, duration, flows);
             add_act(net, &mut kept.tally, &crossing, duration, flows.as_slice());
             None
         }

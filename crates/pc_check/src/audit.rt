@@ -80,6 +80,26 @@ impl<'n> Audit<'n> {
         ensures net { self.new.checker.net ≡ self.old.checker.net }
         ensures left { OnOk result (bytes_left self.new < bytes_left self.old) }
     {
+        let used = self.checker.take_again(&mut self.reader, piece);
+        if 0 < used {
+            return Ok(used);
+        }
+        self.step_anew(piece)
+    }
+
+    /// As `step`, of any line.
+    fn step_anew(&mut self, piece: &[u8]) -> Result<usize, Fail>
+        requires read { (text : List ℕ) × HasRead text self.old }
+        requires going { IsGoing self.old }
+        requires some { 0 < length piece.now }
+        ensures within { IfOk result (λ used. used ≤ length piece.now) }
+        ensures some { IfOk result (λ used. 0 < used) }
+        ensures goes_on { IfOk result (λ used. (text : List ℕ) → HasRead text self.old → HasRead (text ++ take used piece.now) self.new) }
+        ensures going { OnOk result (IsGoing self.new) }
+        ensures fails { IfErr result (λ fail. (text more : List ℕ) → HasRead text self.old → IsFailing self.old.checker.net (text ++ (piece.now ++ more)) fail) }
+        ensures net { self.new.checker.net ≡ self.old.checker.net }
+        ensures left { OnOk result (bytes_left self.new < bytes_left self.old) }
+    {
         let known = self.known.here();
         let used = match self.reader.feed_known(piece, known) {
             Ok(used) => used,
@@ -92,7 +112,7 @@ impl<'n> Audit<'n> {
         };
         match known.line() {
             None => Ok(used),
-            Some(line) => match self.checker.take_before(line, self.reader.place()) {
+            Some(line) => match self.checker.take_known(known, line, self.reader.place()) {
                 None => {
                     self.known.go_on();
                     Ok(used)

@@ -6,13 +6,16 @@ ghost use Rattle.pc_cert.specs.declared.place.Place.TheVariants.{Ended};
 ghost use Rattle.pc_check.specs.Bounds.{lines_left};
 ghost use Rattle.pc_check.specs.Certified.{AreCurve, Finds, OnYes, segments_of};
 ghost use Rattle.pc_check.specs.Checking.{StandsFor};
+ghost use Rattle.pc_check.specs.Along.{TakesAlong};
 ghost use Rattle.pc_check.specs.declared.fail.Fail.{Fail};
 
 use crate::advancing::advance;
+use crate::again::advance_again;
 use crate::fail::{Fail, Verdict};
+use crate::fronts::fronts_of;
 use crate::kept::{Kept, kept_of};
 use crate::passed::{Passed, none_passed};
-use pc_cert::{CertLine, Place};
+use pc_cert::{CertLine, CertReader, EventFront, KnownLine, Place};
 use pc_crash::CrashNet;
 use std::alloc::{AllocError, Global};
 use std::marker::Model;
@@ -25,6 +28,8 @@ pub struct Checker<'n> {
     fail: Option<Fail>,
     /// what passed last of each activity
     passed: Vec<Passed>,
+    /// how the lines of each event begin
+    fronts: Vec<EventFront>,
 }
 
 impl<'n> Model for Checker<'n> {
@@ -53,6 +58,7 @@ impl<'n> Checker<'n> {
             kept: kept_of(alloc, net)?,
             fail: None,
             passed: none_passed(alloc, net)?,
+            fronts: fronts_of(alloc, net)?,
         })
     }
 
@@ -86,10 +92,36 @@ impl<'n> Checker<'n> {
         ensures few { IfNone result (self.new.kept.lines < 2 ^ 63) }
         ensures left { IfNone result (lines_left self.new.net self.new.kept < lines_left self.old.net self.old.kept) }
     {
+        self.take_known(&KnownLine::of(*line), line, behind)
+    }
+
+    /// As `take_before`, of a line that is known: where it is an activity's, its bytes are kept.
+    pub(crate) fn take_known(
+        &mut self,
+        known: &KnownLine,
+        line: &CertLine,
+        behind: Place,
+    ) -> Option<Fail>
+        requires known { known.now.line ≡ Some line.now }
+        requires goes { IfNone self.old.fail (next self.old.kept.place line.now ≡ Some behind) }
+        ensures stands { (lines : List CertLine) → StandsFor self.old lines → StandsFor self.new (lines ++ line.now ∷ []) }
+        ensures fail { result ≡ self.new.fail }
+        ensures again { (fail : Fail) → self.old.fail ≡ Some fail → self.new ≡ self.old }
+        ensures net { self.new.net ≡ self.old.net }
+        ensures few { IfNone result (self.new.kept.lines < 2 ^ 63) }
+        ensures left { IfNone result (lines_left self.new.net self.new.kept < lines_left self.old.net self.old.kept) }
+    {
         if let Some(fail) = self.fail {
             return Some(fail);
         }
-        match advance(self.net, &mut self.kept, &mut self.passed, line, behind) {
+        match advance(
+            self.net,
+            &mut self.kept,
+            &mut self.passed,
+            known,
+            line,
+            behind,
+        ) {
             None => None,
             Some(reason) => {
                 let fail = Fail {
@@ -100,6 +132,28 @@ impl<'n> Checker<'n> {
                 Some(fail)
             }
         }
+    }
+
+    /// Reads the line at the front of the piece and takes it, where it is one of the next event, or that of the next activity as it passed last,
+    /// and is told not to fail: the answer is how many bytes it is with its end. Else nothing changes, and the answer is 0.
+    #[inline(always)]
+    pub(crate) fn take_again(&mut self, reader: &mut CertReader, piece: &[u8]) -> usize
+        requires no_fail { self.old.fail ≡ None }
+        requires place { reader.old.place ≡ self.old.kept.place }
+        requires going { reader.old.malformed ≡ None }
+        requires few { reader.old.lines < 2 ^ 63 }
+        ensures same { result ≡ 0 → self.new ≡ self.old }
+        ensures same_reader { result ≡ 0 → reader.new ≡ reader.old }
+        ensures takes { 0 < result → TakesAlong piece.now result reader.old reader.new self.old self.new }
+    {
+        advance_again(
+            self.net,
+            &mut self.kept,
+            &self.passed,
+            &self.fronts,
+            reader,
+            piece,
+        )
     }
 
     /// What was found: that the lines are certified, with how many segments they have; or the first condition that fails.

@@ -5,10 +5,12 @@
 mod acts;
 mod adding;
 mod advancing;
+mod again;
 mod audit;
 mod checker;
 mod closing;
 mod fail;
+mod fronts;
 mod gaps;
 mod kept;
 mod meaning;

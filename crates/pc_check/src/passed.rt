@@ -1,30 +1,30 @@
 //! What passed last of each activity, so that a line that comes again is not asked everything anew.
-ghost use Rattle.std.specs.Prelude.{◌≡◌, ◌≢◌, ◌+◌, ◌<◌, ◌≤◌, true, IsTrue, IfOk, length};
+ghost use Rattle.std.specs.Prelude.{◌≡◌, ◌≢◌, ℕ, ◌+◌, ◌<◌, ◌≤◌, min, true, IsTrue, IfOk, length};
 ghost use Rattle.pc_crash.specs.Priced.{knees_in};
+ghost use Rattle.pc_model.specs.Schedule.{normal_of};
 ghost use Rattle.pc_check.specs.Conditions.{keeps_rises};
 ghost use Rattle.pc_check.specs.Kept.{known_by};
-ghost use Rattle.pc_check.specs.Passed.{HasPassed, ArePassed, FitsWithin, IsWithin, ComesAgain};
+ghost use Rattle.pc_check.specs.Passed.{IsLineOf, HasPassed, ArePassed, FitsWithin, IsWithin, ComesAgain};
 
 use crate::acts::flow_sum;
 use crate::kept::{Kept, bit_at, number_at};
-use crate::reasons::has_duration;
-use pc_cert::Flows;
+use pc_cert::{Flows, KnownLine, LineText};
 use pc_crash::CrashNet;
 use pc_model::Knee;
 use std::alloc::{AllocError, Global};
 
-/// What passed last of an activity: its duration and its flows, or no flows where nothing has passed.
+/// What passed last of an activity: the bytes of its line, which are not kept where nothing has passed, its duration and its flows.
 ///
-/// It passes again with these wherever the activity does not cross the cut, its gap is from `low` to `high`, and the duration is
-/// that of the gap.
+/// The line passes again behind the first segment wherever the activity does not cross the cut and its gap is from `low` to `high`.
 #[derive(Clone, Copy, Debug)]
 pub struct Passed {
+    pub(crate) text: LineText,
     pub(crate) duration: u64,
     pub(crate) flows: Flows,
     /// the sum of the flows, and what the activity costs at that duration
     pub(crate) flow: u128,
     pub(crate) cost: u64,
-    /// the least and the greatest gap at which conditions 6 and 11 hold with these flows
+    /// the least and the greatest gap at which conditions 6 and 11 hold with these flows, and the activity lasts so long
     pub(crate) low: u64,
     pub(crate) high: u64,
 }
@@ -41,6 +41,7 @@ pub(crate) fn none_passed(alloc: Global, net: &CrashNet<'_>) -> Result<Vec<Passe
     ensures { IfOk result (λ passed. ArePassed net.now passed.items) }
 {
     let nothing = Passed {
+        text: LineText::new(),
         duration: 0,
         flows: Flows::new(),
         flow: 0,
@@ -49,19 +50,30 @@ pub(crate) fn none_passed(alloc: Global, net: &CrashNet<'_>) -> Result<Vec<Passe
         high: 0,
     };
     let activities = net.net().activities() as usize;
-    vec![in alloc; nothing; activities]
+    let rows = vec![in alloc; nothing; activities]?;
+    Ok(rows)
 }
 
-/// What has passed of an activity with this duration and these flows, of which none is above its rise.
-pub(crate) fn passed_of(net: &CrashNet<'_>, a: u32, duration: u64, flows: &Flows) -> Passed
+/// What has passed of an activity by the line that is known, with this duration and these flows, of which none is above its rise.
+pub(crate) fn passed_of(
+    net: &CrashNet<'_>,
+    a: u32,
+    line: &KnownLine,
+    duration: u64,
+    flows: &Flows,
+) -> Passed
     requires known { a < length net.now.network.arcs }
+    requires line { IsLineOf net.now a duration flows.now line.now.line }
     requires flows { length flows.now ≡ (knees_in net.now).count a + 1 }
     requires rises { keeps_rises net.now a flows.now ≡ true }
+    requires lasts { duration ≤ normal_of net.now.terms a }
     ensures { HasPassed net.now a result }
 {
     let list = net.knees(a);
     let gaps = gaps_of(net.term(a).crash, list.as_slice(), flows.as_slice());
+    let gaps = lasting(gaps, net.term(a).normal, duration);
     Passed {
+        text: line.text(),
         duration,
         flows: *flows,
         flow: flow_sum(flows.as_slice()),
@@ -89,6 +101,26 @@ fn gaps_of(crash: u64, knees: &[Knee], flows: &[u64]) -> Gaps
     Gaps { low, high }
 }
 
+/// Those of the gaps at which an activity lasts so long.
+fn lasting(gaps: Gaps, normal: u64, duration: u64) -> Gaps
+    requires { duration ≤ normal }
+    ensures above { gaps.low ≤ result.low }
+    ensures below { result.high ≤ gaps.high }
+    ensures lasts { (gap : ℕ) → result.low ≤ gap → gap ≤ result.high → duration ≡ min normal gap }
+{
+    let low = gaps.low.max(duration);
+    if duration == normal {
+        return Gaps {
+            low,
+            high: gaps.high,
+        };
+    }
+    Gaps {
+        low,
+        high: gaps.high.min(duration),
+    }
+}
+
 /// The least gap of those from `low` on that a flow at a knee fits: not below the knee where the flow is not its rise.
 fn raised(low: u64, knee: Knee, flow: u64) -> u64
     ensures within { low ≤ result }
@@ -109,31 +141,23 @@ fn lowered(high: u64, knee: Knee, flow: u64) -> u64
     if flow == 0 { high } else { high.min(knee.at) }
 }
 
-/// Whether what is said of the next activity is what passed last of it, and passes again: the segment has two ends, the activity
-/// does not cross the cut, its gap is one that the flows fit, and the duration is that of the gap.
+/// Whether what passed last of the next activity passes again: the segment is not the first and has two ends, the activity does not cross
+/// the cut, and its gap is one that the flows and the duration fit.
 #[inline(always)]
-pub(crate) fn passes_again(
-    net: &CrashNet<'_>,
-    kept: &Kept,
-    passed: &Passed,
-    duration: u64,
-    flows: &Flows,
-) -> bool
+pub(crate) fn passes_again(net: &CrashNet<'_>, kept: &Kept, passed: &Passed) -> bool
     requires { kept.now.tally.acts < length net.now.network.arcs }
-    ensures { IsTrue result → ComesAgain net.now (known_by kept.now) passed.now duration flows.now }
+    ensures { IsTrue result → ComesAgain net.now (known_by kept.now) passed.now }
 {
     let tally = &kept.tally;
     let from = net.net().from(tally.acts);
     let to = net.net().to(tally.acts);
     bit_at(&tally.moves, from) == bit_at(&tally.moves, to)
-        && duration == passed.duration
-        && *flows == passed.flows
         && is_within(
             number_at(&tally.times, to),
             number_at(&tally.times, from),
             passed,
         )
-        && has_duration(net, kept, tally.acts, duration)
+        && kept.parts != 0
         && tally.lower != tally.upper
 }
 

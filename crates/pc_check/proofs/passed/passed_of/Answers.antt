@@ -1,7 +1,8 @@
-use Rattle.std.proofs.Common.{ap, subst, ◌∙◌, length}
+use Rattle.std.proofs.Common.{◌≡◌, ℕ, ◌-◌, min, arith, ap, subst, ◌∙◌, length}
+use Rattle.pc_model.specs.declared.Term.{Term}
 use Rattle.pc_crash.specs.Priced.{knees_in}
 use Rattle.pc_check.specs.KneeTests.{flow_sum}
-use Rattle.pc_check.specs.Passed.{FitsWithin}
+use Rattle.pc_check.specs.Passed.{FitsWithin, IsWithin}
 use Rattle.pc_check.proofs.PassedLaws.{slack_in_within}
 use Rattle.pc_check.proofs.passed.passed_of.Goals as goal
 
@@ -13,10 +14,19 @@ returns c =
     let of_knees = subst (λ knees. FitsWithin c.term.result.crash knees c.as_slice-2.result.now (length knees) gaps.low gaps.high) c.as_slice.ensures c.gaps_of-gaps.ensures in
     let of_flows = subst (λ them. FitsWithin c.term.result.crash list them (length list) gaps.low gaps.high) c.as_slice-2.ensures.value of_knees in
     let fits = subst (λ term. FitsWithin term.crash list flows (length list) gaps.low gaps.high) c.term.ensures of_flows in
+    let lasting = c.lasting-gaps.ensures in
+    let within : (head tail : ℕ) → IsWithin c.lasting-gaps.result.low c.lasting-gaps.result.high head tail → IsWithin gaps.low gaps.high head tail = λ head tail is. record {
+      above = omega (arith, is.above, lasting.above);
+      below = omega (arith, is.below, lasting.below);
+    } in
     record {
+      line = c.args.line.now.line;
+      own = c.requires.line;
+      text = c.text.ensures;
       rises = c.requires.rises;
-      room = fits.room;
-      slack = λ head tail is. slack_in_within c.args.net.now c.args.a list flows head tail c.knees-list.ensures fits is;
+      room = omega (arith, fits.room, lasting.above);
+      slack = λ head tail is. slack_in_within c.args.net.now c.args.a list flows head tail c.knees-list.ensures fits (within head tail is);
+      lasts = λ head tail is. subst (λ (t : Term). c.args.duration ≡ min t.normal (head - tail)) c.term-2.ensures (lasting.lasts (head - tail) (omega (arith, is.above)) (omega (arith, is.below)));
       flow = c.flow_sum.ensures.sum ∙ ap flow_sum c.as_slice-3.ensures.value;
       small = c.flow_sum.ensures.small;
       cost = c.activity_cost.ensures.cost;

@@ -1,43 +1,15 @@
-use Rattle.std.specs.Prelude.{IfNone}
-use Rattle.pc_cert.specs.Grammar.{next}
-use Rattle.std.proofs.Common.{◌≡◌, [], ◌∷◌, ◌++◌, take, drop, Some, sym, subst, ◌∙◌}
-use Rattle.std.proofs.lemmas.List.{take-append-drop}
-use Rattle.pc_cert.specs.Reader.{StandsFor}
-use Rattle.pc_cert.specs.Fed.{line_list}
+use Rattle.std.specs.Prelude.{IfErr}
+use Rattle.std.proofs.Common.{◌≡◌, ℕ, List, ◌++◌, ap, subst, ◌∙◌, arith}
+use Rattle.pc_cert.specs.Reader.{Reading}
+use Rattle.pc_check.specs.Checking.{Checking}
 use Rattle.pc_check.specs.Texts.{IsFailing}
-use Rattle.pc_check.specs.Auditing.{Auditing, HasRead, IsGoing}
-use Rattle.pc_check.proofs.AuditLaws.{malformed_fails, may_take, line_fails}
+use Rattle.pc_check.specs.Auditing.{Auditing, HasRead}
 use Rattle.pc_check.proofs.audit.Audit.step.Goals as goal
 
-pub returns-in-Err-clause-fails : goal.returns-in-Err-clause-fails
-returns-in-Err-clause-fails c = λ text more h.
-    let old : Auditing = record { reader = c.self.inside.reader; checker = c.self.inside.checker } in
-    let going : IsGoing old = subst (λ a. IsGoing a) (sym c.self.view_is) c.requires.going in
-    let before : HasRead text old = subst (λ a. HasRead text a) (sym c.self.view_is) h in
-    subst (λ (a : Auditing). IsFailing a.checker.net (text ++ (c.args.piece.now ++ more)) (record { line = c.in-Err.malformed.line; reason = 0 })) c.self.view_is
-    (malformed_fails text more c.args.piece.now old c.feed_known.new.self c.in-Err.malformed going before c.in-Err.ensures.kept (c.in-Err.ensures.stands before.lines text before.read))
-
-pub take_before-requires : goal.take_before-requires
-take_before-requires c =
-    let old : Auditing = record { reader = c.self.inside.reader; checker = c.self.inside.checker } in
-    let going : IsGoing old = subst (λ a. IsGoing a) (sym c.self.view_is) c.requires.going in
-    let text = c.requires.read.0 in
-    let before : HasRead text old = subst (λ a. HasRead text a) (sym c.self.view_is) c.requires.read.1 in
-    let line : c.feed_known.new.known.line ≡ Some c.in-Some.line.now = sym c.in-Some.ensures in
-    subst (λ p. IfNone c.self.inside.checker.fail (next c.self.inside.checker.kept.place c.in-Some.line.now ≡ Some p)) (sym c.place.ensures)
-    (may_take old c.feed_known.new.self before.lines c.in-Some.line.now (text ++ take c.in-Ok.used c.args.piece.now) going before.checked c.in-Ok.ensures.kept
-    (subst (λ l. StandsFor c.feed_known.new.self (before.lines ++ line_list l) (text ++ take c.in-Ok.used c.args.piece.now)) line (c.in-Ok.ensures.stands before.lines text before.read)))
-
-pub returns-in-Some-take_before-clause-fails : goal.returns-in-Some-take_before-clause-fails
-returns-in-Some-take_before-clause-fails c = λ text more h.
-    let old : Auditing = record { reader = c.self.inside.reader; checker = c.self.inside.checker } in
-    let before : HasRead text old = subst (λ a. HasRead text a) (sym c.self.view_is) h in
-    let line : c.feed_known.new.known.line ≡ Some c.in-Some.line.now = sym c.in-Some.ensures in
-    subst (λ (a : Auditing). IsFailing a.checker.net (text ++ (c.args.piece.now ++ more)) c.in-Some-take_before.fail) c.self.view_is
-    (line_fails text more c.args.piece.now (take c.in-Ok.used c.args.piece.now) (drop c.in-Ok.used c.args.piece.now) old c.feed_known.new.self c.take_before.new.self (before.lines ++ c.in-Some.line.now ∷ []) c.in-Some-take_before.fail
-    (take-append-drop c.in-Ok.used c.args.piece.now)
-    c.in-Ok.ensures.kept
-    (subst (λ l. StandsFor c.feed_known.new.self (before.lines ++ line_list l) (text ++ take c.in-Ok.used c.args.piece.now)) line (c.in-Ok.ensures.stands before.lines text before.read))
-    c.take_before.ensures.net
-    (sym c.take_before.ensures.fail ∙ c.in-Some-take_before.is)
-    (c.take_before.ensures.stands before.lines before.checked))
+pub returns-clause-fails : goal.returns-clause-fails
+returns-clause-fails c =
+    let audit_of : Reading → Checking → Auditing = λ r k. record { reader = r; checker = k } in
+    let nothing : c.take_again-used.result ≡ 0 = omega (arith, c.if-used-gt0.false) in
+    let same : audit_of c.take_again-used.new.reader c.take_again-used.new.self ≡ c.args.self.now =
+    ap (λ r. audit_of r c.take_again-used.new.self) (c.take_again-used.ensures.same_reader nothing) ∙ ap (audit_of c.self.inside.reader) (c.take_again-used.ensures.same nothing) ∙ c.self.view_is in
+    subst (λ (a : Auditing). IfErr c.step_anew.result (λ fail. (text more : List ℕ) → HasRead text a → IsFailing a.checker.net (text ++ (c.args.piece.now ++ more)) fail)) same c.step_anew.ensures.fails

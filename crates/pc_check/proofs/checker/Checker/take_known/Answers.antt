@@ -3,7 +3,7 @@ use Rattle.pc_check.specs.Bounds.{lines_left}
 use Rattle.pc_check.specs.Checking.{StandsFor}
 use Rattle.pc_check.proofs.SaidLaws.{AreWhole}
 use Rattle.pc_check.proofs.TakeLaws.{goes_on, fails, stays, is_going, still_going, when_none}
-use Rattle.pc_check.proofs.checker.Checker.take_before.Goals as goal
+use Rattle.pc_check.proofs.checker.Checker.take_known.Goals as goal
 
 pub returns-in-Some-clause-stands : goal.returns-in-Some-clause-stands
 returns-in-Some-clause-stands c = λ lines h.

@@ -1,0 +1,47 @@
+use Rattle.std.specs.Prelude.{IfNone}
+use Rattle.pc_cert.specs.Grammar.{next}
+use Rattle.std.proofs.Common.{◌≡◌, [], ◌∷◌, ◌++◌, take, drop, Some, sym, subst, ◌∙◌}
+use Rattle.std.proofs.lemmas.List.{take-append-drop}
+use Rattle.pc_cert.specs.Reader.{StandsFor}
+use Rattle.pc_cert.specs.Fed.{line_list}
+use Rattle.pc_check.specs.Texts.{IsFailing}
+use Rattle.pc_check.specs.Auditing.{Auditing, HasRead, IsGoing}
+use Rattle.pc_check.proofs.AuditLaws.{malformed_fails, may_take, line_fails}
+use Rattle.pc_check.proofs.audit.Audit.step_anew.Goals as goal
+
+pub returns-in-Err-clause-fails : goal.returns-in-Err-clause-fails
+returns-in-Err-clause-fails c = λ text more h.
+    let old : Auditing = record { reader = c.self.inside.reader; checker = c.self.inside.checker } in
+    let going : IsGoing old = subst (λ a. IsGoing a) (sym c.self.view_is) c.requires.going in
+    let before : HasRead text old = subst (λ a. HasRead text a) (sym c.self.view_is) h in
+    subst (λ (a : Auditing). IsFailing a.checker.net (text ++ (c.args.piece.now ++ more)) (record { line = c.in-Err.malformed.line; reason = 0 })) c.self.view_is
+    (malformed_fails text more c.args.piece.now old c.feed_known.new.self c.in-Err.malformed going before c.in-Err.ensures.kept (c.in-Err.ensures.stands before.lines text before.read))
+
+pub take_known-requires : goal.take_known-requires
+take_known-requires c =
+    let old : Auditing = record { reader = c.self.inside.reader; checker = c.self.inside.checker } in
+    let going : IsGoing old = subst (λ a. IsGoing a) (sym c.self.view_is) c.requires.going in
+    let text = c.requires.read.0 in
+    let before : HasRead text old = subst (λ a. HasRead text a) (sym c.self.view_is) c.requires.read.1 in
+    let line : c.feed_known.new.known.line ≡ Some c.in-Some.line.now = sym c.in-Some.ensures in
+    record {
+      known = line;
+      goes =
+          subst (λ p. IfNone c.self.inside.checker.fail (next c.self.inside.checker.kept.place c.in-Some.line.now ≡ Some p)) (sym c.place.ensures)
+          (may_take old c.feed_known.new.self before.lines c.in-Some.line.now (text ++ take c.in-Ok.used c.args.piece.now) going before.checked c.in-Ok.ensures.kept
+          (subst (λ l. StandsFor c.feed_known.new.self (before.lines ++ line_list l) (text ++ take c.in-Ok.used c.args.piece.now)) line (c.in-Ok.ensures.stands before.lines text before.read)));
+    }
+
+pub returns-in-Some-take_known-clause-fails : goal.returns-in-Some-take_known-clause-fails
+returns-in-Some-take_known-clause-fails c = λ text more h.
+    let old : Auditing = record { reader = c.self.inside.reader; checker = c.self.inside.checker } in
+    let before : HasRead text old = subst (λ a. HasRead text a) (sym c.self.view_is) h in
+    let line : c.feed_known.new.known.line ≡ Some c.in-Some.line.now = sym c.in-Some.ensures in
+    subst (λ (a : Auditing). IsFailing a.checker.net (text ++ (c.args.piece.now ++ more)) c.in-Some-take_known.fail) c.self.view_is
+    (line_fails text more c.args.piece.now (take c.in-Ok.used c.args.piece.now) (drop c.in-Ok.used c.args.piece.now) old c.feed_known.new.self c.take_known.new.self (before.lines ++ c.in-Some.line.now ∷ []) c.in-Some-take_known.fail
+    (take-append-drop c.in-Ok.used c.args.piece.now)
+    c.in-Ok.ensures.kept
+    (subst (λ l. StandsFor c.feed_known.new.self (before.lines ++ line_list l) (text ++ take c.in-Ok.used c.args.piece.now)) line (c.in-Ok.ensures.stands before.lines text before.read))
+    c.take_known.ensures.net
+    (sym c.take_known.ensures.fail ∙ c.in-Some-take_known.is)
+    (c.take_known.ensures.stands before.lines before.checked))
