@@ -2,6 +2,7 @@ pub mod ListedLaws
 pub mod WordLaws
 pub mod SpelledLaws
 pub mod FitLaws
+pub mod GatherLaws
 pub mod PassLaws
 pub mod StepLaws
 pub mod HoldLaws

@@ -1,13 +1,15 @@
 //! The lines of a segment.
 ghost use Rattle.std.specs.Prelude.{◌≡◌, ℕ, ◌<◌, [], ◌∷◌, length};
-ghost use Rattle.pc_page.specs.Puts.{Puts};
+ghost use Rattle.pc_page.specs.Puts.{Puts, desk};
 ghost use Rattle.pc_cert.specs.Lines.{IsCode};
 ghost use Rattle.pc_cert.specs.Text.{text_of, AllFit};
 ghost use Rattle.pc_model.specs.Codes.{code_at};
 ghost use Rattle.pc_certify.specs.Listed.{listed};
 ghost use Rattle.pc_certify.specs.Document.{ends_line, event_line, act_line, flows_along, segment_lines, HasSmallNumbers};
+ghost use Rattle.pc_certify.specs.Gathers.{Gathers};
 ghost use Rattle.pc_certify.specs.Spelled.{AreEventsSpelled, AreActsSpelled};
 
+use crate::gathered::Gathered;
 use crate::last_lines::{ActRow, EventRow, LastLines};
 use crate::words::put_number;
 use pc_cert::Flows;
@@ -37,8 +39,17 @@ pub fn put_segment<O: Sink, V: SegmentView>(
 {
     let _whole = net.net();
     put_ends(page, sink, view);
-    put_events(page, sink, net, view, &mut lines.events);
-    put_acts(page, sink, net, view, &mut lines.acts);
+    lines.gathered.clear();
+    put_events(
+        page,
+        sink,
+        net,
+        view,
+        &mut lines.events,
+        &mut lines.gathered,
+    );
+    put_acts(page, sink, net, view, &mut lines.acts, &mut lines.gathered);
+    lines.gathered.put_all(page, sink);
     page.put(sink, b"CLOSE\n");
 }
 
@@ -62,17 +73,18 @@ fn put_events<O: Sink, V: SegmentView>(
     net: &CrashNet<'_>,
     view: &V,
     rows: &mut Vec<EventRow>,
+    gathered: &mut Gathered,
 )
     requires present { V.IsPresent view.now }
     requires net { V.net view.now ≡ net.now }
     requires rows { AreEventsSpelled net.now rows.old.items }
-    ensures text { Puts O.taken O.faults page.old sink.old page.new sink.new
+    ensures text { Gathers (desk O.taken O.faults page.old sink.old) gathered.old (desk O.taken O.faults page.new sink.new) gathered.new
         (text_of (listed net.now.network.events (event_line net.now (V.segment view.now)))) }
     ensures codes { (e : ℕ) → e < net.now.network.events → IsCode (code_at net.now.events e) }
     ensures rows { AreEventsSpelled net.now rows.new.items }
 {
     for e in 0..net.net().events() {
-        put_event(page, sink, net, view, e, rows);
+        put_event(page, sink, net, view, e, rows, gathered);
     }
 }
 
@@ -83,19 +95,20 @@ fn put_event<O: Sink, V: SegmentView>(
     view: &V,
     e: u32,
     rows: &mut Vec<EventRow>,
+    gathered: &mut Gathered,
 )
     requires present { V.IsPresent view.now }
     requires net { V.net view.now ≡ net.now }
     requires rows { AreEventsSpelled net.now rows.old.items }
     requires event { e < net.now.network.events }
-    ensures text { Puts O.taken O.faults page.old sink.old page.new sink.new
+    ensures text { Gathers (desk O.taken O.faults page.old sink.old) gathered.old (desk O.taken O.faults page.new sink.new) gathered.new
         (text_of (event_line net.now (V.segment view.now) e ∷ [])) }
     ensures code { IsCode (code_at net.now.events e) }
     ensures rows { AreEventsSpelled net.now rows.new.items }
 {
     let row = &mut rows[e as usize];
     row.say(&net.event_code(e), view.time(e), view.moves(e));
-    page.put(sink, row.spelling.bytes());
+    gathered.put(page, sink, &row.spelling);
 }
 
 /// Puts a line for each activity.
@@ -105,17 +118,18 @@ fn put_acts<O: Sink, V: SegmentView>(
     net: &CrashNet<'_>,
     view: &V,
     rows: &mut Vec<ActRow>,
+    gathered: &mut Gathered,
 )
     requires present { V.IsPresent view.now }
     requires net { V.net view.now ≡ net.now }
     requires rows { AreActsSpelled net.now rows.old.items }
-    ensures text { Puts O.taken O.faults page.old sink.old page.new sink.new
+    ensures text { Gathers (desk O.taken O.faults page.old sink.old) gathered.old (desk O.taken O.faults page.new sink.new) gathered.new
         (text_of (listed (length net.now.network.arcs) (act_line net.now (V.segment view.now)))) }
     ensures codes { (a : ℕ) → a < length net.now.network.arcs → IsCode (code_at net.now.activities a) }
     ensures rows { AreActsSpelled net.now rows.new.items }
 {
     for a in 0..net.net().activities() {
-        put_act(page, sink, net, view, a, rows);
+        put_act(page, sink, net, view, a, rows, gathered);
     }
 }
 
@@ -126,12 +140,13 @@ fn put_act<O: Sink, V: SegmentView>(
     view: &V,
     a: u32,
     rows: &mut Vec<ActRow>,
+    gathered: &mut Gathered,
 )
     requires present { V.IsPresent view.now }
     requires net { V.net view.now ≡ net.now }
     requires rows { AreActsSpelled net.now rows.old.items }
     requires activity { a < length net.now.network.arcs }
-    ensures text { Puts O.taken O.faults page.old sink.old page.new sink.new
+    ensures text { Gathers (desk O.taken O.faults page.old sink.old) gathered.old (desk O.taken O.faults page.new sink.new) gathered.new
         (text_of (act_line net.now (V.segment view.now) a ∷ [])) }
     ensures code { IsCode (code_at net.now.activities a) }
     ensures rows { AreActsSpelled net.now rows.new.items }
@@ -142,7 +157,7 @@ fn put_act<O: Sink, V: SegmentView>(
         view.duration(a),
         &flows_along(net, view, a),
     );
-    page.put(sink, row.spelling.bytes());
+    gathered.put(page, sink, &row.spelling);
 }
 
 /// The flow along an activity at each of its knees, and the one beside them.
