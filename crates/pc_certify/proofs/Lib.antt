@@ -8,6 +8,7 @@ pub mod StepLaws
 pub mod HoldLaws
 pub mod SameLaws
 pub mod RowLaws
+pub mod FlowLaws
 pub mod CloseLaws
 pub mod SegmentPass
 pub mod DocumentPass

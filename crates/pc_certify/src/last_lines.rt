@@ -134,20 +134,8 @@ impl ActRow {
         row
     }
 
-    /// Says this of the activity. The line is spelled anew only where it said something else.
-    pub(crate) fn say(&mut self, code: &Code, duration: u64, flows: &Flows)
-        requires { SpellsAct code.now self.old }
-        ensures spells { SpellsAct code.now self.new }
-        ensures duration { self.new.duration ≡ duration }
-        ensures flows { self.new.flows ≡ flows.now }
-    {
-        if duration != self.duration || *flows != self.flows {
-            self.spell(code, duration, flows);
-        }
-    }
-
-    /// Spells the line.
-    fn spell(&mut self, code: &Code, duration: u64, flows: &Flows)
+    /// Says this of the activity, and spells the line.
+    pub(crate) fn spell(&mut self, code: &Code, duration: u64, flows: &Flows)
         ensures spells { SpellsAct code.now self.new }
         ensures duration { self.new.duration ≡ duration }
         ensures flows { self.new.flows ≡ flows.now }
