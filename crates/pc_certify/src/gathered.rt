@@ -50,7 +50,8 @@ impl Gathered {
         self.len = 0;
     }
 
-    /// Puts a line behind the others, which go on to the page where it finds no room.
+    /// Puts a line behind the others, which go on to the page where it finds no room. Inlined, since that is seldom.
+    #[inline(always)]
     pub(crate) fn put<O: Sink>(&mut self, page: &mut Page, sink: &mut O, line: &Spelling)
         ensures { Gathers (desk O.taken O.faults page.old sink.old) self.old (desk O.taken O.faults page.new sink.new) self.new line.now }
     {
@@ -59,6 +60,8 @@ impl Gathered {
     }
 
     /// Puts all lines on the page.
+    #[cold]
+    #[inline(never)]
     pub(crate) fn put_all<O: Sink>(&mut self, page: &mut Page, sink: &mut O)
         ensures text { Puts O.taken O.faults page.old sink.old page.new sink.new self.old }
         ensures none { self.new ≡ [] }
@@ -68,6 +71,7 @@ impl Gathered {
     }
 
     /// Makes room for a line.
+    #[inline(always)]
     fn make_room<O: Sink>(&mut self, page: &mut Page, sink: &mut O)
         ensures same { Gathers (desk O.taken O.faults page.old sink.old) self.old (desk O.taken O.faults page.new sink.new) self.new [] }
         ensures room { length self.new + ROOM ≤ GATHERED_ROOM }
@@ -78,6 +82,7 @@ impl Gathered {
     }
 
     /// Adds a line.
+    #[inline(always)]
     fn add(&mut self, line: &Spelling)
         requires { length self.old + ROOM ≤ GATHERED_ROOM }
         ensures { self.new ≡ self.old ++ line.now }

@@ -55,6 +55,7 @@ impl Spelling {
 
     /// Copies the bytes into the cells from place `at` on. What stands behind them then means nothing: of a short line
     /// always as many bytes are copied, so that it is done by whole words.
+    #[inline(always)]
     pub(crate) fn copy_to(&self, cells: &mut [u8], at: usize)
         requires { at + ROOM ≤ length cells.old }
         ensures { IsPlaced cells.old at self.now cells.new }
