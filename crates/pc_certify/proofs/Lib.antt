@@ -2,11 +2,13 @@ pub mod ListedLaws
 pub mod WordLaws
 pub mod SpelledLaws
 pub mod FitLaws
+pub mod GatherLaws
 pub mod PassLaws
 pub mod StepLaws
 pub mod HoldLaws
 pub mod SameLaws
 pub mod RowLaws
+pub mod FlowLaws
 pub mod CloseLaws
 pub mod SegmentPass
 pub mod DocumentPass

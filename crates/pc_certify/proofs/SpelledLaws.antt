@@ -9,7 +9,7 @@ use Rattle.pc_cert.specs.declared.line.CertLine.TheVariants.{Event}
 use Rattle.pc_cert.specs.Lines.{bit_text, numbers, spaced}
 use Rattle.pc_cert.specs.Text.{text_of}
 use Rattle.pc_cert.proofs.EventLaws.{front_of}
-use Rattle.pc_certify.specs.Spelled.{SpellsEvent, SpellsAct, event_row, act_row, AreEventsSpelled, AreActsSpelled}
+use Rattle.pc_certify.specs.Spelled.{SpellsEvent, SpellsAct, AreEventsSpelled, AreActsSpelled}
 use Rattle.pc_certify.specs.declared.last_lines.EventRow.{EventRow}
 use Rattle.pc_certify.specs.declared.last_lines.ActRow.{ActRow}
 use Rattle.pc_certify.proofs.WordLaws.{numbers-append}

@@ -1,6 +1,7 @@
 pub mod Listed
 pub mod Document
 pub mod Spelled
+pub mod Gathers
 pub mod Rows
 pub mod Complete
 pub mod Worked

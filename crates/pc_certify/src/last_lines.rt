@@ -4,6 +4,7 @@ ghost use Rattle.pc_cert.specs.Lines.{numbers};
 ghost use Rattle.pc_model.specs.Codes.{code_at};
 ghost use Rattle.pc_certify.specs.Spelled.{SpellsEvent, SpellsAct, AreEventsSpelled, AreActsSpelled};
 
+use crate::gathered::Gathered;
 use crate::spelling::Spelling;
 use pc_cert::{EVENT_NAMED, Flows};
 use pc_crash::CrashNet;
@@ -29,10 +30,12 @@ pub struct ActRow {
 /// The lines of events and activities as they were put last, in card order.
 ///
 /// What they say in the next segment is compared with what they say now, so that a line that comes again is put as it stands.
+/// Beside them is the room where they are gathered for the page.
 #[derive(Drop)]
 pub struct LastLines {
     pub(crate) events: Vec<EventRow>,
     pub(crate) acts: Vec<ActRow>,
+    pub(crate) gathered: Gathered,
 }
 
 impl LastLines {
@@ -44,6 +47,7 @@ impl LastLines {
         Ok(LastLines {
             events: event_rows(alloc, net)?,
             acts: act_rows(alloc, net)?,
+            gathered: Gathered::new(alloc)?,
         })
     }
 }
@@ -130,20 +134,8 @@ impl ActRow {
         row
     }
 
-    /// Says this of the activity. The line is spelled anew only where it said something else.
-    pub(crate) fn say(&mut self, code: &Code, duration: u64, flows: &Flows)
-        requires { SpellsAct code.now self.old }
-        ensures spells { SpellsAct code.now self.new }
-        ensures duration { self.new.duration ≡ duration }
-        ensures flows { self.new.flows ≡ flows.now }
-    {
-        if duration != self.duration || *flows != self.flows {
-            self.spell(code, duration, flows);
-        }
-    }
-
-    /// Spells the line.
-    fn spell(&mut self, code: &Code, duration: u64, flows: &Flows)
+    /// Says this of the activity, and spells the line.
+    pub(crate) fn spell(&mut self, code: &Code, duration: u64, flows: &Flows)
         ensures spells { SpellsAct code.now self.new }
         ensures duration { self.new.duration ≡ duration }
         ensures flows { self.new.flows ≡ flows.now }

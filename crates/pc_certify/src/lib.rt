@@ -8,6 +8,7 @@
 mod certified;
 mod certifying;
 mod end;
+mod gathered;
 mod head;
 mod last_lines;
 mod segment;

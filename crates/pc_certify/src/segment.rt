@@ -1,13 +1,16 @@
 //! The lines of a segment.
-ghost use Rattle.std.specs.Prelude.{◌≡◌, ℕ, ◌<◌, [], ◌∷◌, length};
-ghost use Rattle.pc_page.specs.Puts.{Puts};
+ghost use Rattle.std.specs.Prelude.{◌≡◌, ℕ, ◌<◌, ◌≤◌, true, [], ◌∷◌, length, slice_index};
+ghost use Rattle.pc_page.specs.Puts.{Puts, desk};
 ghost use Rattle.pc_cert.specs.Lines.{IsCode};
 ghost use Rattle.pc_cert.specs.Text.{text_of, AllFit};
 ghost use Rattle.pc_model.specs.Codes.{code_at};
+ghost use Rattle.pc_crash.specs.Priced.{knees_in};
 ghost use Rattle.pc_certify.specs.Listed.{listed};
 ghost use Rattle.pc_certify.specs.Document.{ends_line, event_line, act_line, flows_along, segment_lines, HasSmallNumbers};
-ghost use Rattle.pc_certify.specs.Spelled.{AreEventsSpelled, AreActsSpelled};
+ghost use Rattle.pc_certify.specs.Gathers.{Gathers};
+ghost use Rattle.pc_certify.specs.Spelled.{AreEventsSpelled, AreActsSpelled, SpellsAct};
 
+use crate::gathered::Gathered;
 use crate::last_lines::{ActRow, EventRow, LastLines};
 use crate::words::put_number;
 use pc_cert::Flows;
@@ -37,8 +40,17 @@ pub fn put_segment<O: Sink, V: SegmentView>(
 {
     let _whole = net.net();
     put_ends(page, sink, view);
-    put_events(page, sink, net, view, &mut lines.events);
-    put_acts(page, sink, net, view, &mut lines.acts);
+    lines.gathered.clear();
+    put_events(
+        page,
+        sink,
+        net,
+        view,
+        &mut lines.events,
+        &mut lines.gathered,
+    );
+    put_acts(page, sink, net, view, &mut lines.acts, &mut lines.gathered);
+    lines.gathered.put_all(page, sink);
     page.put(sink, b"CLOSE\n");
 }
 
@@ -62,17 +74,18 @@ fn put_events<O: Sink, V: SegmentView>(
     net: &CrashNet<'_>,
     view: &V,
     rows: &mut Vec<EventRow>,
+    gathered: &mut Gathered,
 )
     requires present { V.IsPresent view.now }
     requires net { V.net view.now ≡ net.now }
     requires rows { AreEventsSpelled net.now rows.old.items }
-    ensures text { Puts O.taken O.faults page.old sink.old page.new sink.new
+    ensures text { Gathers (desk O.taken O.faults page.old sink.old) gathered.old (desk O.taken O.faults page.new sink.new) gathered.new
         (text_of (listed net.now.network.events (event_line net.now (V.segment view.now)))) }
     ensures codes { (e : ℕ) → e < net.now.network.events → IsCode (code_at net.now.events e) }
     ensures rows { AreEventsSpelled net.now rows.new.items }
 {
     for e in 0..net.net().events() {
-        put_event(page, sink, net, view, e, rows);
+        put_event(page, sink, net, view, e, rows, gathered);
     }
 }
 
@@ -83,19 +96,20 @@ fn put_event<O: Sink, V: SegmentView>(
     view: &V,
     e: u32,
     rows: &mut Vec<EventRow>,
+    gathered: &mut Gathered,
 )
     requires present { V.IsPresent view.now }
     requires net { V.net view.now ≡ net.now }
     requires rows { AreEventsSpelled net.now rows.old.items }
     requires event { e < net.now.network.events }
-    ensures text { Puts O.taken O.faults page.old sink.old page.new sink.new
+    ensures text { Gathers (desk O.taken O.faults page.old sink.old) gathered.old (desk O.taken O.faults page.new sink.new) gathered.new
         (text_of (event_line net.now (V.segment view.now) e ∷ [])) }
     ensures code { IsCode (code_at net.now.events e) }
     ensures rows { AreEventsSpelled net.now rows.new.items }
 {
     let row = &mut rows[e as usize];
     row.say(&net.event_code(e), view.time(e), view.moves(e));
-    page.put(sink, row.spelling.bytes());
+    gathered.put(page, sink, &row.spelling);
 }
 
 /// Puts a line for each activity.
@@ -105,17 +119,18 @@ fn put_acts<O: Sink, V: SegmentView>(
     net: &CrashNet<'_>,
     view: &V,
     rows: &mut Vec<ActRow>,
+    gathered: &mut Gathered,
 )
     requires present { V.IsPresent view.now }
     requires net { V.net view.now ≡ net.now }
     requires rows { AreActsSpelled net.now rows.old.items }
-    ensures text { Puts O.taken O.faults page.old sink.old page.new sink.new
+    ensures text { Gathers (desk O.taken O.faults page.old sink.old) gathered.old (desk O.taken O.faults page.new sink.new) gathered.new
         (text_of (listed (length net.now.network.arcs) (act_line net.now (V.segment view.now)))) }
     ensures codes { (a : ℕ) → a < length net.now.network.arcs → IsCode (code_at net.now.activities a) }
     ensures rows { AreActsSpelled net.now rows.new.items }
 {
     for a in 0..net.net().activities() {
-        put_act(page, sink, net, view, a, rows);
+        put_act(page, sink, net, view, a, rows, gathered);
     }
 }
 
@@ -126,23 +141,66 @@ fn put_act<O: Sink, V: SegmentView>(
     view: &V,
     a: u32,
     rows: &mut Vec<ActRow>,
+    gathered: &mut Gathered,
 )
     requires present { V.IsPresent view.now }
     requires net { V.net view.now ≡ net.now }
     requires rows { AreActsSpelled net.now rows.old.items }
     requires activity { a < length net.now.network.arcs }
-    ensures text { Puts O.taken O.faults page.old sink.old page.new sink.new
+    ensures text { Gathers (desk O.taken O.faults page.old sink.old) gathered.old (desk O.taken O.faults page.new sink.new) gathered.new
         (text_of (act_line net.now (V.segment view.now) a ∷ [])) }
     ensures code { IsCode (code_at net.now.activities a) }
     ensures rows { AreActsSpelled net.now rows.new.items }
 {
     let row = &mut rows[a as usize];
-    row.say(
-        &net.activity_code(a),
-        view.duration(a),
-        &flows_along(net, view, a),
-    );
-    page.put(sink, row.spelling.bytes());
+    say_act(net, view, a, row);
+    gathered.put(page, sink, &row.spelling);
+}
+
+/// Says of an activity what it is in the segment. The line is spelled anew only where it said something else.
+fn say_act<V: SegmentView>(net: &CrashNet<'_>, view: &V, a: u32, row: &mut ActRow)
+    requires present { V.IsPresent view.now }
+    requires net { V.net view.now ≡ net.now }
+    requires activity { a < length net.now.network.arcs }
+    requires spelled { SpellsAct (code_at net.now.activities a) row.old }
+    ensures spells { SpellsAct (code_at net.now.activities a) row.new }
+    ensures duration { row.new.duration ≡ (V.segment view.now).duration a }
+    ensures flows { row.new.flows ≡ flows_along net.now (V.segment view.now) a }
+{
+    let duration = view.duration(a);
+    if duration != row.duration || !are_flows_along(net, view, a, row.flows.as_slice()) {
+        row.spell(&net.activity_code(a), duration, &flows_along(net, view, a));
+    }
+}
+
+/// Whether these are the flow along an activity at each of its knees and the one beside them.
+fn are_flows_along<V: SegmentView>(net: &CrashNet<'_>, view: &V, a: u32, flows: &[u64]) -> bool
+    requires present { V.IsPresent view.now }
+    requires net { V.net view.now ≡ net.now }
+    requires activity { a < length net.now.network.arcs }
+    ensures { result ≡ true → flows.now ≡ flows_along net.now (V.segment view.now) a }
+{
+    let count = net.knees(a).len() + 1;
+    if flows.len() != count as usize {
+        return false;
+    }
+    for k in 0..count {
+        if !is_flow_along(net, view, a, k, flows[k as usize]) {
+            return false;
+        }
+    }
+    true
+}
+
+/// Whether this is the flow along an activity at one of its knees, or beside them where `k` is the number of its knees.
+fn is_flow_along<V: SegmentView>(net: &CrashNet<'_>, view: &V, a: u32, k: u32, flow: u64) -> bool
+    requires present { V.IsPresent view.now }
+    requires net { V.net view.now ≡ net.now }
+    requires activity { a < length net.now.network.arcs }
+    requires knee { k ≤ (knees_in net.now).count a }
+    ensures { result ≡ true → flow ≡ slice_index (flows_along net.now (V.segment view.now) a) k }
+{
+    view.flow(a, k) == flow
 }
 
 /// The flow along an activity at each of its knees, and the one beside them.

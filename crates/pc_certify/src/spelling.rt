@@ -1,5 +1,6 @@
 //! The bytes of a line with its end, as they were spelled last.
 ghost use Rattle.std.specs.Prelude.{◌≡◌, ◌+◌, ◌≤◌, [], ◌∷◌, ◌++◌, true, decimal, length, take};
+ghost use Rattle.pc_certify.specs.Gathers.{IsPlaced};
 ghost use Rattle.pc_text.specs.Code.{is_code};
 ghost use Rattle.pc_cert.specs.Lines.{spaced, bit_text};
 
@@ -13,6 +14,9 @@ pub(crate) const ROOM: usize = 192;
 pub(crate) const CODE_ROOM: usize = 17;
 
 pub(crate) const NUMBER_ROOM: usize = 21;
+
+/// Most lines have no more bytes.
+const SHORT: usize = 48;
 
 /// A line and its end, word by word.
 #[derive(Debug, Drop)]
@@ -42,11 +46,25 @@ impl Spelling {
         }
     }
 
-    /// The bytes.
-    pub(crate) fn bytes(&self) -> &[u8]
-        ensures { result.now ≡ self.now }
+    /// How many bytes there are.
+    pub(crate) fn len(&self) -> usize
+        ensures { result ≡ length self.now }
     {
-        &self.cells[..self.len]
+        self.len
+    }
+
+    /// Copies the bytes into the cells from place `at` on. What stands behind them then means nothing: of a short line
+    /// always as many bytes are copied, so that it is done by whole words.
+    #[inline(always)]
+    pub(crate) fn copy_to(&self, cells: &mut [u8], at: usize)
+        requires { at + ROOM ≤ length cells.old }
+        ensures { IsPlaced cells.old at self.now cells.new }
+    {
+        if self.len <= SHORT {
+            cells[at..at + SHORT].copy_from_slice(&self.cells[..SHORT]);
+        } else {
+            cells[at..at + self.len].copy_from_slice(&self.cells[..self.len]);
+        }
     }
 
     /// Takes all bytes away.

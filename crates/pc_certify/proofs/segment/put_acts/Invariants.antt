@@ -2,15 +2,16 @@ use Rattle.std.proofs.Common.{ℕ, ◌<◌}
 use Rattle.pc_model.specs.Codes.{code_at}
 use Rattle.pc_cert.specs.Lines.{IsCode}
 use Rattle.pc_cert.specs.Text.{text_of}
-use Rattle.pc_page.specs.Puts.{Puts}
+use Rattle.pc_page.specs.Puts.{desk}
 use Rattle.pc_certify.specs.Listed.{listed}
 use Rattle.pc_certify.specs.Document.{act_line}
+use Rattle.pc_certify.specs.Gathers.{Gathers}
 use Rattle.pc_certify.specs.Spelled.{AreActsSpelled}
 use Rattle.pc_certify.proofs.segment.put_acts.Given as goal
 
 abbrev pub invariant-loop-a : goal.invariant-loop-a
 invariant-loop-a g l = record {
-  text : Puts g.O.Sink.taken g.O.Sink.faults l.fn.page l.fn.sink l.page l.sink (text_of (listed l.a (act_line l.net (g.V.SegmentView.segment l.view))));
+  text : Gathers (desk g.O.Sink.taken g.O.Sink.faults l.fn.page l.fn.sink) l.fn.gathered (desk g.O.Sink.taken g.O.Sink.faults l.page l.sink) l.gathered (text_of (listed l.a (act_line l.net (g.V.SegmentView.segment l.view))));
   codes : (a : ℕ) → a < l.a → IsCode (code_at l.net.activities a);
   rows : AreActsSpelled l.net l.rows.items;
 }

@@ -2,15 +2,16 @@ use Rattle.std.proofs.Common.{ℕ, ◌<◌}
 use Rattle.pc_model.specs.Codes.{code_at}
 use Rattle.pc_cert.specs.Lines.{IsCode}
 use Rattle.pc_cert.specs.Text.{text_of}
-use Rattle.pc_page.specs.Puts.{Puts}
+use Rattle.pc_page.specs.Puts.{desk}
 use Rattle.pc_certify.specs.Listed.{listed}
 use Rattle.pc_certify.specs.Document.{event_line}
+use Rattle.pc_certify.specs.Gathers.{Gathers}
 use Rattle.pc_certify.specs.Spelled.{AreEventsSpelled}
 use Rattle.pc_certify.proofs.segment.put_events.Given as goal
 
 abbrev pub invariant-loop-e : goal.invariant-loop-e
 invariant-loop-e g l = record {
-  text : Puts g.O.Sink.taken g.O.Sink.faults l.fn.page l.fn.sink l.page l.sink (text_of (listed l.e (event_line l.net (g.V.SegmentView.segment l.view))));
+  text : Gathers (desk g.O.Sink.taken g.O.Sink.faults l.fn.page l.fn.sink) l.fn.gathered (desk g.O.Sink.taken g.O.Sink.faults l.page l.sink) l.gathered (text_of (listed l.e (event_line l.net (g.V.SegmentView.segment l.view))));
   codes : (e : ℕ) → e < l.e → IsCode (code_at l.net.events e);
   rows : AreEventsSpelled l.net l.rows.items;
 }

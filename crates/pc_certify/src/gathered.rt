@@ -1,0 +1,93 @@
+//! Lines of a segment on their way to the page.
+ghost use Rattle.std.specs.Prelude.{◌≡◌, ◌+◌, ◌≤◌, [], ◌++◌, IfOk, length};
+ghost use Rattle.pc_page.specs.Puts.{Puts, desk};
+ghost use Rattle.pc_certify.specs.Gathers.{Gathers};
+
+use crate::spelling::{ROOM, Spelling};
+use pc_edges::Sink;
+use pc_page::Page;
+use std::alloc::{AllocError, Global};
+use std::marker::Model;
+
+/// The room of lines that are gathered: some two hundred of them.
+const GATHERED_ROOM: usize = 4096;
+
+/// Lines that were put and are not on the page yet, one behind the other.
+///
+/// A page looks for room at each piece that it takes, and copies as many bytes as the piece has. Here a short line is copied by
+/// whole words, and the page takes many lines as one piece.
+#[derive(Drop)]
+pub struct Gathered {
+    cells: Vec<u8>,
+    len: usize,
+}
+
+impl Model for Gathered {
+    ghost use Rattle.std.specs.Prelude.{◌≡◌, ◌≤◌, ℕ, List, length, take};
+
+    ghost Value = { List ℕ };
+
+    ghost view = { λ s. take s.len s.cells.items };
+
+    ghost invariant = { λ s. (s.len ≤ 4096) × (length s.cells.items ≡ 4096) };
+}
+
+impl Gathered {
+    /// No lines.
+    pub(crate) fn new(alloc: Global) -> Result<Gathered, AllocError>
+        ensures { IfOk result (λ gathered. gathered ≡ []) }
+    {
+        Ok(Gathered {
+            cells: vec![in alloc; 0u8; GATHERED_ROOM]?,
+            len: 0,
+        })
+    }
+
+    /// Forgets all lines.
+    pub(crate) fn clear(&mut self)
+        ensures { self.new ≡ [] }
+    {
+        self.len = 0;
+    }
+
+    /// Puts a line behind the others, which go on to the page where it finds no room. Inlined, since that is seldom.
+    #[inline(always)]
+    pub(crate) fn put<O: Sink>(&mut self, page: &mut Page, sink: &mut O, line: &Spelling)
+        ensures { Gathers (desk O.taken O.faults page.old sink.old) self.old (desk O.taken O.faults page.new sink.new) self.new line.now }
+    {
+        self.make_room(page, sink);
+        self.add(line);
+    }
+
+    /// Puts all lines on the page.
+    #[cold]
+    #[inline(never)]
+    pub(crate) fn put_all<O: Sink>(&mut self, page: &mut Page, sink: &mut O)
+        ensures text { Puts O.taken O.faults page.old sink.old page.new sink.new self.old }
+        ensures none { self.new ≡ [] }
+    {
+        page.put(sink, &self.cells[..self.len]);
+        self.len = 0;
+    }
+
+    /// Makes room for a line.
+    #[inline(always)]
+    fn make_room<O: Sink>(&mut self, page: &mut Page, sink: &mut O)
+        ensures same { Gathers (desk O.taken O.faults page.old sink.old) self.old (desk O.taken O.faults page.new sink.new) self.new [] }
+        ensures room { length self.new + ROOM ≤ GATHERED_ROOM }
+    {
+        if GATHERED_ROOM - self.len < ROOM {
+            self.put_all(page, sink);
+        }
+    }
+
+    /// Adds a line.
+    #[inline(always)]
+    fn add(&mut self, line: &Spelling)
+        requires { length self.old + ROOM ≤ GATHERED_ROOM }
+        ensures { self.new ≡ self.old ++ line.now }
+    {
+        line.copy_to(&mut self.cells, self.len);
+        self.len += line.len();
+    }
+}
