@@ -16,7 +16,7 @@ pub(crate) const CODE_ROOM: usize = 17;
 pub(crate) const NUMBER_ROOM: usize = 21;
 
 /// Most lines have no more bytes.
-const SHORT: usize = 48;
+const SHORT: usize = 32;
 
 /// A line and its end, word by word.
 #[derive(Debug, Drop)]
