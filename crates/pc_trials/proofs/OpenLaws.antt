@@ -28,6 +28,25 @@ zeros-small n most i below =
     let size : length (replicate {A = ℕ} n 0) ≡ n = length-replicate n 0 in
     omega (arith, get_or-replicate {A = ℕ} n i 0 0 (omega (arith, below, size)))
 
+-- these expected times and variances, zeros for each event, and so many free cells
+abbrev pub opened : ℕ → List ℕ → List ℕ → ℕ → Reserved
+opened events times squares cells = record {
+  expected = times;
+  variances = squares;
+  early = replicate events 0;
+  tails = replicate events 0;
+  places = replicate events 0;
+  steps = 0;
+  free = cells;
+}
+
+-- the region r3, where the expected times and the variances are written
+pub record IsOpened (events activities : ℕ) (spans : Spans) (r0 r3 : Cells) (times squares : List ℕ) : Type 0 where
+  pub laid : IsLaidIn r3 spans
+  pub kept : kept_in r3 0 ≡ opened events times squares (r0.capacity - (2 * activities + 3 * events))
+  pub early : length (list_of r3 2) ≡ events
+  pub whole : AreAtMost MAX_LENGTH times → AreAtMost MAX_VARIANCE squares → IsWhole (kept_in r3 0)
+
 module _ (events activities : ℕ) (spans : Spans) (r0 r1 r2 : Cells) (expected : List ℕ) (taken : AreSpansTaken r0 r1 events activities spans)
     (one_each : length expected ≡ activities) (written : r2 ≡ with_span r1 0 expected) where
   abbrev m : List ℕ
@@ -54,7 +73,7 @@ module _ (events activities : ℕ) (spans : Spans) (r0 r1 r2 : Cells) (expected 
         put r2 r3 1 variances also (omega (arith, laid-2.count))
         (also_each ∙ sym (ap length (first.off 1 (λ e. omega (arith, e)) ∙ list 1) ∙ length-replicate activities 0))
 
-    pub laid-3 : IsLaidIn r3 spans
+    laid-3 : IsLaidIn r3 spans
     laid-3 = second.laid spans laid-2
 
     free : free_of r3 ≡ r0.capacity - (2 * activities + 3 * events)
@@ -82,7 +101,7 @@ module _ (events activities : ℕ) (spans : Spans) (r0 r1 r2 : Cells) (expected 
     places-3 = second.off 4 (λ e. omega (arith, e)) ∙ first.off 4 (λ e. omega (arith, e)) ∙ list 4
 
     -- what is kept then
-    pub kept-3 : kept_in r3 0 ≡ made expected variances n n n (r0.capacity - (2 * activities + 3 * events))
+    kept-3 : kept_in r3 0 ≡ opened events expected variances (r0.capacity - (2 * activities + 3 * events))
     kept-3 =
         ap (λ e. made e (list_of r3 1) (list_of r3 2) (list_of r3 3) (list_of r3 4) (free_of r3)) expected-3
         ∙ ap (λ f. made expected f (list_of r3 2) (list_of r3 3) (list_of r3 4) (free_of r3)) second.at
@@ -91,12 +110,12 @@ module _ (events activities : ℕ) (spans : Spans) (r0 r1 r2 : Cells) (expected 
         ∙ ap (λ p. made expected variances n n p (free_of r3)) places-3
         ∙ ap (λ cells. made expected variances n n n cells) free
 
-    pub early-size : length (list_of r3 2) ≡ events
+    early-size : length (list_of r3 2) ≡ events
     early-size = ap length early-3 ∙ length-replicate events 0
 
-    pub whole-3 : AreAtMost MAX_LENGTH expected → AreAtMost MAX_VARIANCE variances → IsWhole (kept_in r3 0)
+    whole-3 : AreAtMost MAX_LENGTH expected → AreAtMost MAX_VARIANCE variances → IsWhole (kept_in r3 0)
     whole-3 small gentle =
-        let whole : IsWhole (made expected variances n n n (r0.capacity - (2 * activities + 3 * events))) = record {
+        let whole : IsWhole (opened events expected variances (r0.capacity - (2 * activities + 3 * events))) = record {
           variances = also_each ∙ sym one_each;
           tails = refl;
           places = refl;
@@ -107,3 +126,6 @@ module _ (events activities : ℕ) (spans : Spans) (r0 r1 r2 : Cells) (expected 
           small_tails = zeros-small events _;
         } in
         subst IsWhole (sym kept-3) whole
+
+    pub is-opened : IsOpened events activities spans r0 r3 expected variances
+    is-opened = record { laid = laid-3; kept = kept-3; early = early-size; whole = whole-3 }
