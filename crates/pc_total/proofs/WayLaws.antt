@@ -29,6 +29,14 @@ pub record HasComeDown (terms : TimeTerms) (from c : Course) (gain : ℕ) : Type
   pub gained : c.given ≡ true → lower_of c < from.longest → IsGain (curve_in from.net) (lower_of c) gain
   pub costs : c.given ≡ true → lower_of c < from.longest → gain ≤ unit_cost terms (lower_of c + 1)
 
+-- course d is one segment further down than course c
+pub record IsNextDown (from c d : Course) : Type 0 where
+  pub priced : IsPriced from.net.network from.net.terms (knees_in from.net)
+  pub same : IsSameCurve c d
+  pub further : IsFurther c d
+  pub next : IsNext c d
+  pub going : HasEnded c → ⊥
+
 pub way-begins : (terms : TimeTerms) (c : Course) → c.given ≡ false → HasComeDown terms c c 0
 way-begins terms c none = record {
   same = same-stays c;
@@ -76,19 +84,21 @@ module _ (terms : TimeTerms) (from c : Course) (gain : ℕ) (way : HasComeDown t
       below = λ given. (let under : lower_of c ≤ upper_of c = omega arith in omega (arith, under, ended.lowest));
     }
 
-  module _ (priced : IsPriced from.net.network from.net.terms (knees_in from.net)) (d : Course) (same : IsSameCurve c d) (further : IsFurther c d)
-      (next : IsNext c d) (going : HasEnded c → ⊥) where
+  module _ (d : Course) (down : IsNextDown from c d) where
+    abbrev next : IsNext c d
+    next = down.next
+
     pub next-same : IsSameCurve from d
-    next-same = same-joins from c d way.same same
+    next-same = same-joins from c d way.same down.same
 
     pub next-further : IsFurther from d
-    next-further = further-joins from c d way.further further
+    next-further = further-joins from c d way.further down.further
 
     on : LiesOn (curve_in from.net) (present d)
     on =
         subst (λ (n : PricedNetwork). LiesOn (curve_in n) (present d)) next-same.net
         (lies_on d.net.network d.net.terms (knees_in d.net)
-        (subst (λ (n : PricedNetwork). IsPriced n.network n.terms (knees_in n)) (sym next-same.net) priced) (present d) next.whole.right)
+        (subst (λ (n : PricedNetwork). IsPriced n.network n.terms (knees_in n)) (sym next-same.net) down.priced) (present d) next.whole.right)
 
     pub next-ordered : (present d).lower ≤ (present d).upper
     next-ordered = next.whole.right.proper.ordered
@@ -119,7 +129,7 @@ module _ (terms : TimeTerms) (from c : Course) (gain : ℕ) (way : HasComeDown t
           | inr at ↦ elim (cases_lt (present d).upper from.longest) [
             | inl under ↦
                 let (given, joined) = above-upper under in
-                absurd (going (record { given = given; lowest = omega (arith, at, joined, way.low given, way.same.shortest) }))
+                absurd (down.going (record { given = given; lowest = omega (arith, at, joined, way.low given, way.same.shortest) }))
             | inr top ↦ omega (arith, short, top)
           ]
         ]
@@ -143,7 +153,7 @@ module _ (terms : TimeTerms) (from c : Course) (gain : ℕ) (way : HasComeDown t
         above_end given =
             elim (cases_lt c.shortest (lower_of c)) [
               | inl above ↦ above
-              | inr at ↦ absurd (going (record { given = given; lowest = omega (arith, at, way.low given, way.same.shortest) }))
+              | inr at ↦ absurd (down.going (record { given = given; lowest = omega (arith, at, way.low given, way.same.shortest) }))
             ]
 
     module _ (stop : ℕ) (stops : IsStop terms (present d).lower (present d).upper (present d).slope stop) where

@@ -2,9 +2,30 @@ use Rattle.std.proofs.Common.{◌≡◌, ◌+◌, ◌<◌, ◌≤◌, ◌∙◌,
 use Rattle.pc_flow.specs.Courses.{HasEnded, IsSameCurve, IsFurther, most_looks, present}
 use Rattle.pc_flow.proofs.LookLaws.{same-joins, further-joins, looks-none, looks-join, looks-most}
 use Rattle.pc_total.specs.Stops.{IsStop, PaysToStop}
-use Rattle.pc_total.proofs.WayLaws.{HasComeDown, way-begins, ends-come, ends-low, ends-stop, next-same, next-further, next-less, next-way, stop-come, stop-pays, best-there, pays-there}
-use Rattle.pc_total.proofs.finding.best.Goals.{then-stop-upper, else-stop-upper}
+use Rattle.pc_total.proofs.WayLaws.{HasComeDown, IsNextDown, way-begins, ends-come, ends-low, ends-stop, next-same, next-further, next-less, next-way, stop-come, stop-pays, best-there, pays-there}
+use Rattle.pc_total.proofs.finding.best.Given.{Over}
+use Rattle.pc_total.proofs.finding.best.Goals.{After-stop_in-stop, After-shortest-shortest, then-stop-upper, else-stop-upper}
 use Rattle.pc_total.proofs.finding.best.Goals as goal
+
+come_down : (g : Over) (c : After-stop_in-stop g) → IsNextDown c.args.solver.now c.loop-solver.solver c.next_segment.new.self
+come_down g c = record {
+  priced = (rw c.net.ensures at c.net-net.ensures).priced;
+  same = c.next_segment.ensures.same;
+  further = c.next_segment.ensures.further;
+  next = c.next_segment.ensures.next c.loop-solver-test.true;
+  going = λ ended. true≢false (sym c.loop-solver-test.true ∙ c.next_segment.ensures.ended.1 ended);
+}
+
+stops_there : (g : Over) (c : After-stop_in-stop g)
+    → IsStop c.args.terms.now (present c.next_segment.new.self).lower (present c.next_segment.new.self).upper (present c.next_segment.new.self).slope c.stop_in-stop.result
+stops_there g c = rw (c.lower.ensures, c.upper.ensures, c.slope-slope.ensures) at c.stop_in-stop.ensures
+
+end_there : (g : Over) (c : After-shortest-shortest g) → HasComeDown c.args.terms.now c.args.solver.now c.next_segment.new.self c.loop-solver.gain × HasEnded c.next_segment.new.self
+end_there g c =
+    let stays : c.next_segment.new.self ≡ c.loop-solver.solver = c.next_segment.ensures.unchanged c.loop-solver-test.false in (
+      subst (λ d. HasComeDown c.args.terms.now c.args.solver.now d c.loop-solver.gain) (sym stays) c.loop-solver.invariant.way,
+      subst HasEnded (sym stays) (c.next_segment.ensures.ended.0 c.loop-solver-test.false),
+    )
 
 pub loop-solver-init : goal.loop-solver-init
 loop-solver-init g c = record {
@@ -18,12 +39,10 @@ best_at-requires-clause-to_come g c =
     let terms = c.args.terms.now in
     let stop = c.loop-solver.solver in
     let next = c.next_segment.new.self in
-    let priced = (rw c.net.ensures at c.net-net.ensures).priced in
-    let going : HasEnded stop → ⊥ = λ ended. true≢false (sym c.loop-solver-test.true ∙ c.next_segment.ensures.ended.1 ended) in
-    let goes = c.next_segment.ensures.next c.loop-solver-test.true in
-    let stops : IsStop terms (present next).lower (present next).upper (present next).slope c.stop_in-stop.result =
-    rw (c.lower.ensures, c.upper.ensures, c.slope-slope.ensures) at c.stop_in-stop.ensures in
-    stop-come terms from stop c.loop-solver.gain c.loop-solver.invariant.way priced next c.next_segment.ensures.same c.next_segment.ensures.further goes going c.stop_in-stop.result stops
+    let at = goal.at.best_at-requires-clause-to_come g c in
+    let down = come_down g at.After-stop_in-stop in
+    let stops = stops_there g at.After-stop_in-stop in
+    stop-come terms from stop c.loop-solver.gain c.loop-solver.invariant.way next down c.stop_in-stop.result stops
 
 pub best_at-requires-clause-stop : goal.best_at-requires-clause-stop
 best_at-requires-clause-stop g c =
@@ -31,13 +50,11 @@ best_at-requires-clause-stop g c =
     let terms = c.args.terms.now in
     let stop = c.loop-solver.solver in
     let next = c.next_segment.new.self in
-    let priced = (rw c.net.ensures at c.net-net.ensures).priced in
-    let going : HasEnded stop → ⊥ = λ ended. true≢false (sym c.loop-solver-test.true ∙ c.next_segment.ensures.ended.1 ended) in
-    let goes = c.next_segment.ensures.next c.loop-solver-test.true in
-    let stops : IsStop terms (present next).lower (present next).upper (present next).slope c.stop_in-stop.result =
-    rw (c.lower.ensures, c.upper.ensures, c.slope-slope.ensures) at c.stop_in-stop.ensures in
+    let at = goal.at.best_at-requires-clause-stop g c in
+    let down = come_down g at.After-stop_in-stop in
+    let stops = stops_there g at.After-stop_in-stop in
     let over : (present next).lower < c.stop_in-stop.result = omega (arith, c.if-stop-lower.true, c.lower-in-loop-solver.ensures) in
-    let pays = stop-pays terms from stop c.loop-solver.gain c.loop-solver.invariant.way priced next c.next_segment.ensures.same c.next_segment.ensures.further goes going c.stop_in-stop.result stops over c.if-stop-upper.gain in
+    let pays = stop-pays terms from stop c.loop-solver.gain c.loop-solver.invariant.way next down c.stop_in-stop.result stops over c.if-stop-upper.gain in
     rw c.slope-slope.ensures
     (pays-there terms from next c.stop_in-stop.result (present next).slope c.if-stop-upper.gain
     (same-joins from stop next c.loop-solver.invariant.way.same c.next_segment.ensures.same)
@@ -87,10 +104,8 @@ loop-solver-smaller g c =
     let terms = c.args.terms.now in
     let stop = c.loop-solver.solver in
     let next = c.next_segment.new.self in
-    let priced = (rw c.net.ensures at c.net-net.ensures).priced in
-    let going : HasEnded stop → ⊥ = λ ended. true≢false (sym c.loop-solver-test.true ∙ c.next_segment.ensures.ended.1 ended) in
-    let goes = c.next_segment.ensures.next c.loop-solver-test.true in
-    next-less terms from stop c.loop-solver.gain c.loop-solver.invariant.way priced next c.next_segment.ensures.same c.next_segment.ensures.further goes going
+    let down = come_down g (goal.at.loop-solver-smaller g c).After-stop_in-stop in
+    next-less terms from stop c.loop-solver.gain c.loop-solver.invariant.way next down
 
 pub loop-solver-preserved : goal.loop-solver-preserved
 loop-solver-preserved g c =
@@ -98,15 +113,13 @@ loop-solver-preserved g c =
     let terms = c.args.terms.now in
     let stop = c.loop-solver.solver in
     let next = c.next_segment.new.self in
-    let priced = (rw c.net.ensures at c.net-net.ensures).priced in
-    let going : HasEnded stop → ⊥ = λ ended. true≢false (sym c.loop-solver-test.true ∙ c.next_segment.ensures.ended.1 ended) in
-    let goes = c.next_segment.ensures.next c.loop-solver-test.true in
-    let stops : IsStop terms (present next).lower (present next).upper (present next).slope c.stop_in-stop.result =
-    rw (c.lower.ensures, c.upper.ensures, c.slope-slope.ensures) at c.stop_in-stop.ensures in
+    let at = goal.at.loop-solver-preserved g c in
+    let down = come_down g at.After-stop_in-stop in
+    let stops = stops_there g at.After-stop_in-stop in
     let under : c.stop_in-stop.result ≤ (present next).lower = omega (arith, c.if-stop-lower.false, c.lower-in-loop-solver.ensures) in
     let so_far = c.loop-solver.invariant in
     record {
-      way = subst (λ n. HasComeDown terms from next n) (sym c.slope-slope.ensures) (next-way terms from stop c.loop-solver.gain c.loop-solver.invariant.way priced next c.next_segment.ensures.same c.next_segment.ensures.further goes going c.stop_in-stop.result stops under);
+      way = subst (λ n. HasComeDown terms from next n) (sym c.slope-slope.ensures) (next-way terms from stop c.loop-solver.gain c.loop-solver.invariant.way next down c.stop_in-stop.result stops under);
       counted = looks-join from stop next so_far.way.same so_far.way.further c.next_segment.ensures.further _ _ _ so_far.counted c.next_segment.ensures.counted;
     }
 
@@ -114,31 +127,24 @@ pub best_at-requires-2-clause-to_come : goal.best_at-requires-2-clause-to_come
 best_at-requires-2-clause-to_come g c =
     let from = c.args.solver.now in
     let terms = c.args.terms.now in
-    let stays : c.next_segment.new.self ≡ c.loop-solver.solver = c.next_segment.ensures.unchanged c.loop-solver-test.false in
     let last = c.next_segment.new.self in
-    let way = subst (λ d. HasComeDown terms from d c.loop-solver.gain) (sym stays) c.loop-solver.invariant.way in
-    let ended = subst HasEnded (sym stays) (c.next_segment.ensures.ended.0 c.loop-solver-test.false) in
+    let (way, ended) = end_there g (goal.at.best_at-requires-2-clause-to_come g c).After-shortest-shortest in
     rw c.shortest-shortest.ensures.shortest (ends-come terms from last c.loop-solver.gain way ended)
 
 pub best_at-requires-2-clause-stop : goal.best_at-requires-2-clause-stop
 best_at-requires-2-clause-stop g c =
     let from = c.args.solver.now in
     let terms = c.args.terms.now in
-    let stays : c.next_segment.new.self ≡ c.loop-solver.solver = c.next_segment.ensures.unchanged c.loop-solver-test.false in
     let last = c.next_segment.new.self in
-    let way = subst (λ d. HasComeDown terms from d c.loop-solver.gain) (sym stays) c.loop-solver.invariant.way in
-    let ended = subst HasEnded (sym stays) (c.next_segment.ensures.ended.0 c.loop-solver-test.false) in
+    let (way, ended) = end_there g (goal.at.best_at-requires-2-clause-stop g c).After-shortest-shortest in
     let at = c.shortest-shortest.ensures.shortest ∙ way.same.shortest in
     rw at (pays-there terms from last from.shortest 0 c.loop-solver.gain way.same (ends-stop terms from last c.loop-solver.gain way ended))
 
 pub returns-clause-counted : goal.returns-clause-counted
 returns-clause-counted g c =
     let from = c.args.solver.now in
-    let terms = c.args.terms.now in
-    let stays : c.next_segment.new.self ≡ c.loop-solver.solver = c.next_segment.ensures.unchanged c.loop-solver-test.false in
     let last = c.next_segment.new.self in
-    let way = subst (λ d. HasComeDown terms from d c.loop-solver.gain) (sym stays) c.loop-solver.invariant.way in
-    let ended = subst HasEnded (sym stays) (c.next_segment.ensures.ended.0 c.loop-solver-test.false) in
+    let way = (end_there g (goal.at.returns-clause-counted g c).After-shortest-shortest).0 in
     let before = looks-join from c.loop-solver.solver last c.loop-solver.invariant.way.same c.loop-solver.invariant.way.further c.next_segment.ensures.further _ _ _
     c.loop-solver.invariant.counted c.next_segment.ensures.counted in
     looks-join from last c.best_at-2.new.solver way.same way.further c.best_at-2.ensures.further _ _ _ before c.best_at-2.ensures.counted
@@ -146,11 +152,8 @@ returns-clause-counted g c =
 pub returns-clause-limit : goal.returns-clause-limit
 returns-clause-limit g c =
     let from = c.args.solver.now in
-    let terms = c.args.terms.now in
-    let stays : c.next_segment.new.self ≡ c.loop-solver.solver = c.next_segment.ensures.unchanged c.loop-solver-test.false in
     let last = c.next_segment.new.self in
-    let way = subst (λ d. HasComeDown terms from d c.loop-solver.gain) (sym stays) c.loop-solver.invariant.way in
-    let ended = subst HasEnded (sym stays) (c.next_segment.ensures.ended.0 c.loop-solver-test.false) in
+    let way = (end_there g (goal.at.returns-clause-limit g c).After-shortest-shortest).0 in
     let before = looks-join from c.loop-solver.solver last c.loop-solver.invariant.way.same c.loop-solver.invariant.way.further c.next_segment.ensures.further _ _ _
     c.loop-solver.invariant.counted c.next_segment.ensures.counted in
     let all = looks-join from last c.best_at-2.new.solver way.same way.further c.best_at-2.ensures.further _ _ _ before c.best_at-2.ensures.counted in
@@ -165,8 +168,6 @@ pub returns-clause-best : goal.returns-clause-best
 returns-clause-best g c =
     let from = c.args.solver.now in
     let terms = c.args.terms.now in
-    let stays : c.next_segment.new.self ≡ c.loop-solver.solver = c.next_segment.ensures.unchanged c.loop-solver-test.false in
     let last = c.next_segment.new.self in
-    let way = subst (λ d. HasComeDown terms from d c.loop-solver.gain) (sym stays) c.loop-solver.invariant.way in
-    let ended = subst HasEnded (sym stays) (c.next_segment.ensures.ended.0 c.loop-solver-test.false) in
+    let way = (end_there g (goal.at.returns-clause-best g c).After-shortest-shortest).0 in
     best-there terms from last c.best_at-2.result way.same c.best_at-2.ensures.best
