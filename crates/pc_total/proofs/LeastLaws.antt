@@ -1,7 +1,7 @@
 -- The least costs of a priced network are convex.
-use Rattle.std.proofs.Common.{◌≡◌, ℕ, zero, suc, ◌+◌, ◌<◌, ◌≤◌, List, length, inl, inr, refl, sym, arith}
+use Rattle.std.proofs.Common.{ℕ, zero, suc, ◌+◌, ◌<◌, ◌≤◌, inl, inr, arith}
 use Rattle.std.proofs.lemmas.Bool.{cases_lt}
-use Rattle.pc_model.specs.Cost.{IsLeastCost, IsPriced, cost_of}
+use Rattle.pc_model.specs.Cost.{IsPriced, cost_of}
 use Rattle.pc_model.specs.Schedule.{HasSchedule, IsSchedule}
 use Rattle.pc_model.proofs.Costs.LeastCost.{unique}
 use Rattle.pc_model.proofs.Costs.Halfway.{convex}

@@ -1,5 +1,5 @@
 -- The totals of a length's neighbours, from what a unit of time costs and what it saves.
-use Rattle.std.proofs.Common.{◌≡◌, ℕ, ◌+◌, ◌-◌, ◌*◌, ◌^◌, ◌<◌, ◌≤◌, Option, Some, None, sym, ap, subst, arith}
+use Rattle.std.proofs.Common.{◌≡◌, ℕ, ◌+◌, ◌-◌, ◌<◌, ◌≤◌, Option, Some, None, ap, subst, arith}
 use Rattle.std.specs.Prelude.{ℤ, pos, ◌+ℤ◌, ◌<ℤ◌, ◌≤ℤ◌, IfNone, IfSome}
 use Rattle.std.proofs.lemmas.Int.{ints}
 use Rattle.pc_model.specs.declared.TimeTerms.{TimeTerms}
@@ -9,7 +9,7 @@ use Rattle.pc_total.specs.Totals.{IsTotal}
 use Rattle.pc_total.specs.Bests.{HaveSigns, IsAbove, IsBelow, IsBest}
 use Rattle.pc_total.specs.Stops.{unit_cost, IsGain, PaysToStop}
 use Rattle.pc_total.proofs.ConvexLaws.{IsConvex}
-use Rattle.pc_total.proofs.TotalLaws.{weight, weight-more, prize, time-weight, signs-show}
+use Rattle.pc_total.proofs.TotalLaws.{weight, weight-more, time-weight, signs-show}
 
 module _ (terms : TimeTerms) (curve : ℕ → ℕ → Type 0) (is : IsConvex curve) where
   module _ (limit : ℕ) (total : ℤ) (of : IsTotal curve terms limit total) where

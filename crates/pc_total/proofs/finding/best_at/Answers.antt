@@ -1,4 +1,4 @@
-use Rattle.std.proofs.Common.{◌≡◌, ◌≤◌, ◌∙◌, sym, subst, arith}
+use Rattle.std.proofs.Common.{◌≤◌, arith}
 use Rattle.std.proofs.lemmas.Int.{ints}
 use Rattle.pc_flow.specs.declared.early.TheConstants.{MAX_LENGTH}
 use Rattle.pc_curve.specs.Points.{curve_in}

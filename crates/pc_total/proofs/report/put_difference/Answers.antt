@@ -1,6 +1,4 @@
-use Rattle.std.proofs.Common.{ap, rules, sym, ◌∙◌}
-use Rattle.pc_page.proofs.PageLaws.{◌▸◌, Adds-as}
-use Rattle.pc_total.specs.BestText.{difference, line}
+use Rattle.pc_page.proofs.PageLaws.{◌▸◌}
 use Rattle.pc_total.proofs.report.put_difference.Goals as goal
 
 pub returns-in-None : goal.returns-in-None
