@@ -1,5 +1,5 @@
 -- What the lines of a session mean.
-use Rattle.std.specs.Prelude.{◌≡◌, ℕ, ◌<◌, List, [], ◌∷◌, ◌++◌, length, slice_set, Option, Some, None}
+use Rattle.std.specs.Prelude.{◌≡◌, ℕ, ◌+◌, ◌-◌, ◌<◌, ◌≤◌, List, [], ◌∷◌, ◌++◌, length, slice_set, Option, Some, None}
 use Rattle.std.specs.Option.{option_map_or}
 use Rattle.pc_model.specs.Schedule.{term_at}
 use Rattle.pc_crash.specs.Priced.{PricedNetwork}
@@ -17,7 +17,7 @@ use Rattle.pc_edits.specs.Plans.{estimates_at, expected_times, variances, term_t
 use Rattle.pc_edits.specs.Reading.{ask_of}
 use Rattle.pc_edits.specs.Refusal.{edit_refusal, undo_refusal, trial_refusal}
 use Rattle.pc_trials.specs.Reserved.{Reserved, IsFor, IsStanding, expected_by, variance_by}
-use Rattle.pc_trials.specs.Trials.{IsWithin}
+use Rattle.pc_trials.specs.Trials.{IsRange, IsWithin, looks_over}
 use Rattle.pc_whatif.specs.Texts.{ok_text, refused_text, cost_text, verdict_text}
 
 -- what contracts see of a session: the deck's project, that project as it is edited, and what stands in the session's spans
@@ -92,6 +92,27 @@ pub record IsAnswered (old : Planning) (asked : Option Ask) (text : List ℕ) (n
 
 abbrev pub Says : Planning → List ℕ → List ℕ → Planning → Type 0
 Says old line text new = IsAnswered old (ask_of line) text new
+
+-- ---- how often a line looks
+
+-- a trial of the network looks at most so often by its range
+abbrev pub LooksOver : PricedNetwork → ℕ → ℕ → Type 0
+LooksOver net before after = (shortest longest : ℕ) → IsRange net shortest longest → after ≤ before + looks_over net (longest - shortest)
+
+-- a TRY looks over the network with its numbers in place, or not at all where it is refused before that
+pub record LooksToTry (editing : Editing) (trial : Trial) (before after : ℕ) : Type 0 where
+  pub refused : (reason : Reason) → trial_refusal editing.net editing.estimates trial ≡ Some reason → after ≡ before
+  pub tried : (a : ℕ) → trial_refusal editing.net editing.estimates trial ≡ None → activity_named editing.net trial.act ≡ Some a
+      → LooksOver (net_tried editing trial a) before after
+
+-- CURVE looks over the network as it is edited, and no line but these two looks at all
+abbrev pub LooksToAnswer : Editing → Option Ask → ℕ → ℕ → Type 0
+LooksToAnswer editing None before after = after ≡ before
+LooksToAnswer editing (Some (ask.Edit edit)) before after = after ≡ before
+LooksToAnswer editing (Some ask.Undo) before after = after ≡ before
+LooksToAnswer editing (Some ask.Times) before after = after ≡ before
+LooksToAnswer editing (Some ask.Curve) before after = LooksOver editing.net before after
+LooksToAnswer editing (Some (ask.Try trial)) before after = LooksToTry editing trial before after
 
 -- ---- the standing times
 

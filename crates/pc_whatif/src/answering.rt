@@ -3,7 +3,7 @@ ghost use Rattle.std.specs.Prelude.{◌≡◌, ℕ, List, None, Some};
 ghost use Rattle.pc_edges.specs.Writes.{Writes};
 ghost use Rattle.pc_edits.specs.Reading.{ask_of};
 ghost use Rattle.pc_edits.specs.declared.ask.Ask.TheVariants as asks;
-ghost use Rattle.pc_whatif.specs.Planning.{IsAnswered};
+ghost use Rattle.pc_whatif.specs.Planning.{IsAnswered, LooksOver, LooksToAnswer, LooksToTry};
 
 use crate::renewing::renew;
 use crate::replies::{accept, refuse, tell_cost};
@@ -23,8 +23,9 @@ impl Session<'_> {
         out: &mut O,
         steps: &mut Steps<L>,
     ) -> Result<(), Failed>
-        ensures { (text : List ℕ) × IsAnswered self.old (ask_of line.now) text self.new
+        ensures answered { (text : List ℕ) × IsAnswered self.old (ask_of line.now) text self.new
             × Writes result (O.taken out.old) (O.taken out.new) (O.faults out.old) (O.faults out.new) text }
+        ensures counted { LooksToAnswer self.old.editing (ask_of line.now) steps.old steps.new }
     {
         match Ask::read(line) {
             None => refuse(Reason::Form, out),
@@ -77,8 +78,9 @@ impl Session<'_> {
 
     /// CURVE.
     fn curve<O: Sink, L: Ledger>(&mut self, out: &mut O, steps: &mut Steps<L>) -> Result<(), Failed>
-        ensures { (text : List ℕ) × IsAnswered self.old (Some asks.Curve) text self.new
+        ensures answered { (text : List ℕ) × IsAnswered self.old (Some asks.Curve) text self.new
             × Writes result (O.taken out.old) (O.taken out.new) (O.faults out.old) (O.faults out.new) text }
+        ensures counted { LooksOver self.old.editing.net steps.old steps.new }
     {
         self.reservation
             .write_curve(&mut self.page, out, self.edits.net(), steps)
@@ -91,8 +93,9 @@ impl Session<'_> {
         out: &mut O,
         steps: &mut Steps<L>,
     ) -> Result<(), Failed>
-        ensures { (text : List ℕ) × IsAnswered self.old (Some (asks.Try trial.now)) text self.new
+        ensures answered { (text : List ℕ) × IsAnswered self.old (Some (asks.Try trial.now)) text self.new
             × Writes result (O.taken out.old) (O.taken out.new) (O.faults out.old) (O.faults out.new) text }
+        ensures counted { LooksToTry self.old.editing trial.now steps.old steps.new }
     {
         let tried = match self.edits.tried(trial) {
             Ok(tried) => tried,

@@ -12,8 +12,8 @@ use Rattle.pc_whatif.specs.Texts.{cost_text, refused_text}
 use Rattle.pc_whatif.proofs.AnswerLaws.{stays, stays_as, trial_costs, trial_outside}
 use Rattle.pc_whatif.proofs.session.Session.try_out.Goals as goal
 
-pub returns-in-Err : goal.returns-in-Err
-returns-in-Err g c =
+pub returns-in-Err-clause-answered : goal.returns-in-Err-clause-answered
+returns-in-Err-clause-answered g c =
     let trial = c.args.trial.now in
     let text = refused_text c.in-Err.reason in (
       text,
@@ -22,8 +22,8 @@ returns-in-Err g c =
       c.refuse.ensures,
     )
 
-pub returns-in_default : goal.returns-in_default
-returns-in_default g c =
+pub returns-in_default-clause-answered : goal.returns-in_default-clause-answered
+returns-in_default-clause-answered g c =
     let a = c.self.inside in
     let trial = c.args.trial.now in
     let text = refused_text OutsideRange in
@@ -41,8 +41,8 @@ returns-in_default g c =
       c.refuse-in_default.ensures,
     )
 
-pub returns : goal.returns
-returns g c =
+pub returns-clause-answered : goal.returns-clause-answered
+returns-clause-answered g c =
     let a = c.self.inside in
     let trial = c.args.trial.now in
     let text = cost_text c.in-Some.cost in
