@@ -1,4 +1,4 @@
-# make              proves all crates and builds the programs into bin/ (22 minutes the first time, see README.md)
+# make              proves all crates and builds the programs into bin/ (half an hour the first time, on four processors, see README.md)
 # make check        runs the gate (every proof, edit, test and program) and the acceptance cases
 # make install      copies programs, manual pages, docs, examples and completion below $(PREFIX)
 # make uninstall    takes them away again
