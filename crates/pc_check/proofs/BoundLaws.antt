@@ -366,6 +366,18 @@ event_first net (CrashWalk shape steps) code time moves behind old h goes = absu
 event_first net (Between shape) code time moves behind old h goes = absurd (nowhere behind goes)
 event_first net Ended code time moves behind old h goes = absurd (nowhere behind goes)
 
+-- a segment ends behind all its activities
+pub all_come : (net : PricedNetwork) (place behind : Place) (old : Kept) → IsAtPlace net.network.events (length net.network.arcs) place old → next place Close ≡ Some behind → old.tally.acts ≡ length net.network.arcs
+all_come net (InSegment shape events activities) behind old h goes =
+    let no_more : activities ≡ 0 = eqb-true _ _ ((and_parts _ _ ((cond_some _ _ _ goes).0)).1) in
+    omega (arith, no_more, h.1.acts_come)
+all_come net Start behind old h goes = absurd (nowhere behind goes)
+all_come net (AfterHead shape) behind old h goes = absurd (nowhere behind goes)
+all_come net (NormalWalk shape steps) behind old h goes = absurd (nowhere behind goes)
+all_come net (CrashWalk shape steps) behind old h goes = absurd (nowhere behind goes)
+all_come net (Between shape) behind old h goes = absurd (nowhere behind goes)
+all_come net Ended behind old h goes = absurd (nowhere behind goes)
+
 -- a line is counted once
 pub lines_kept : (net : PricedNetwork) (line : CertLine) (old new : Kept) → Adds net line old new → new.lines ≡ old.lines
 lines_kept net line old new added = (parts_kept net line old new added).1

@@ -14,6 +14,7 @@ pub mod GoodLines
 pub mod FinishLaws
 pub mod StillLaws
 pub mod PassedLaws
+pub mod SumLaws
 mod FrontsLaws
 pub mod AuditLaws
 pub mod AuditFinishLaws

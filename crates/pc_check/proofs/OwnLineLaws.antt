@@ -1,7 +1,7 @@
 -- The lines of a certificate are bounded by the upper end of its own first segment.
-use Rattle.std.proofs.Common.{◌≡◌, ℕ, suc, ◌+◌, ◌*◌, ◌<◌, ◌≤◌, max, List, [], ◌∷◌, ◌++◌, length, Some, None, refl, sym, ap, subst, ◌∙◌, arith, length-append, ◌⊎◌, inl, inr}
+use Rattle.std.proofs.Common.{◌≡◌, ℕ, suc, ◌+◌, ◌*◌, ◌<◌, ◌≤◌, max, List, [], ◌∷◌, length, Some, None, refl, ap, subst, ◌∙◌, arith, length-append, ◌⊎◌, inl, inr}
 use Rattle.std.proofs.Math.Nat.{mul-le-mul_right, le-max_left, le-max_right}
-use Rattle.std.proofs.lemmas.Bool.{eqb-true, ltb-true, ltb-false, cases_Bool}
+use Rattle.std.proofs.lemmas.Bool.{ltb-true, ltb-false, cases_Bool}
 use Rattle.std.proofs.lemmas.Option.{cond_some}
 use Rattle.std.specs.Prelude.{nat_lt, if◌then◌else◌}
 use Rattle.pc_crash.specs.Priced.{PricedNetwork}
@@ -13,10 +13,10 @@ use Rattle.pc_cert.specs.declared.line.CertLine.{CertLine}
 use Rattle.pc_cert.specs.declared.line.CertLine.TheVariants.{Head, Normal, Step, Crash, Segment, Event, Act, Close, End}
 use Rattle.pc_cert.specs.declared.place.Place.{Place}
 use Rattle.pc_check.specs.Bounds.{IsShaped}
-use Rattle.pc_check.specs.Draft.{Part, Draft, empty_draft, begun_part, with_step, with_line}
+use Rattle.pc_check.specs.Draft.{Part, Draft, empty_draft, with_line}
 use Rattle.pc_check.specs.Failures.{reason_at, failure_after, failure_of}
 use Rattle.pc_check.specs.Said.{said}
-use Rattle.pc_check.specs.OwnLines.{lines_before, first_upper, most_lines_before, most_segment_lines, AreFew}
+use Rattle.pc_check.specs.OwnLines.{lines_before, first_upper, most_segment_lines, AreFew}
 use Rattle.pc_check.proofs.BelowLaws.{and_parts}
 use Rattle.pc_check.proofs.BoundLaws.{head_passes, first_ends, later_ends}
 use Rattle.pc_check.proofs.GoodLines.{none_parts, parts_step}

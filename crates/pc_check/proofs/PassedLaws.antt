@@ -1,25 +1,25 @@
 -- What passed last of an activity, and why it passes again.
-use Rattle.std.proofs.Common.{◌≡◌, ◌≢◌, ℕ, ◌+◌, ◌*◌, ◌^◌, ◌<◌, ◌≤◌, zero, suc, Bool, true, false, not, ◌&&◌, ◌||◌, List, [], length, replicate, set, None, refl, sym, ap, subst, ◌∙◌, arith, ⊎_elim}
-use Rattle.std.specs.Prelude.{◌==◌, nat_lt, slice_index, slice_index_or, IsTrue, ◌⊎◌, if◌then◌else◌}
-use Rattle.std.proofs.lemmas.Bool.{cases_eq, eq-eqb, eqb-true, le-leb, le-ltb, ltb-true}
+use Rattle.std.proofs.Common.{◌≡◌, ◌≢◌, ℕ, ◌+◌, ◌<◌, ◌≤◌, zero, suc, Bool, true, false, not, ◌||◌, List, [], length, replicate, set, None, refl, sym, ap, subst, ◌∙◌, arith, ⊎_elim}
+use Rattle.std.specs.Prelude.{◌==◌, nat_lt, slice_index, slice_index_or, if◌then◌else◌}
+use Rattle.std.proofs.lemmas.Bool.{cases_eq, eq-eqb, eqb-true, le-leb, le-ltb}
 use Rattle.std.proofs.lemmas.List.{get_or_default, get_or-replicate, get_or-set_same, get_or-set_other, length-replicate, length-set}
 use Rattle.pc_model.specs.declared.Knee.{Knee}
 use Rattle.pc_model.specs.Pieces.{knee_at}
 use Rattle.pc_model.specs.Schedule.{normal_of, crash_of, lesser_of}
 use Rattle.pc_model.specs.Walk.{from_of, to_of}
-use Rattle.pc_curve_laws.specs.Segment.{span, head_at, tail_at}
+use Rattle.pc_curve_laws.specs.Segment.{head_at, tail_at}
 use Rattle.pc_crash.specs.KneeLists.{AreKneesOf}
 use Rattle.pc_crash.specs.Priced.{PricedNetwork, knees_in}
 use Rattle.pc_cert.specs.declared.line.CertLine.TheVariants.{Act}
 use Rattle.pc_cert.specs.Known.{HasText, IsTextOf}
-use Rattle.pc_check.specs.Conditions.{conditions, has_act_code, has_duration, has_room, keeps_rises, is_slack, is_slack_in}
+use Rattle.pc_check.specs.Conditions.{conditions, has_act_code, has_duration, is_slack_in}
 use Rattle.pc_check.specs.Crossings.{IsStill}
 use Rattle.pc_check.specs.Failures.{first_failing}
 use Rattle.pc_check.specs.Known.{Known, each_below, frame}
 use Rattle.pc_check.specs.KneeTests.{is_slack_at_knee, is_slack_over}
-use Rattle.pc_check.specs.Passed.{IsWithin, FitsWithin, HasPassed, IsPassed, passed_at, ArePassed, ComesAgain}
+use Rattle.pc_check.specs.Passed.{IsWithin, FitsWithin, HasPassed, IsPassed, passed_at, flow_of, cost_of, ArePassed, IsNothing, ComesAgain}
 use Rattle.pc_check.specs.Kept.{stretch_of}
-use Rattle.pc_check.specs.Safe.{IsSafe, IsRaised, AddsAct}
+use Rattle.pc_check.specs.Safe.{IsRenewed, AddsAct}
 use Rattle.pc_check.specs.declared.kept.Tally.{Tally}
 use Rattle.pc_check.specs.declared.passed.Passed.{Passed}
 use Rattle.pc_check.proofs.BelowLaws.{and_parts, passes_behind}
@@ -57,16 +57,22 @@ slack_in_within net a list flows head tail are fits is =
 
 -- ---- nothing has passed
 
-pub nothing_passed : (net : PricedNetwork) (nothing : Passed) → (HasText nothing.text → ⊥) → IsTextOf None nothing.text → ArePassed net (replicate (length net.network.arcs) nothing)
-nothing_passed net nothing none text = record {
+pub nothing_passed : (net : PricedNetwork) (nothing : Passed) → (HasText nothing.text → ⊥) → IsTextOf None nothing.text → nothing.flow ≡ 0 → nothing.cost ≡ 0 → ArePassed net (replicate (length net.network.arcs) nothing)
+nothing_passed net nothing none text no_flow no_cost = record {
   one_each = length-replicate (length net.network.arcs) nothing;
-  each = λ a below. subst (IsPassed net a) (sym (get_or-replicate (length net.network.arcs) a nothing _ below)) (record { text = (None, text); has = λ some. absurd (none some) });
+  each = λ a below. subst (IsPassed net a) (sym (get_or-replicate (length net.network.arcs) a nothing _ below)) (record { text = (None, text); has = λ some. absurd (none some); small = omega (arith, no_flow); cheap = omega (arith, no_cost) });
+}
+
+pub nothing_flows : (net : PricedNetwork) (nothing : Passed) → nothing.flow ≡ 0 → nothing.cost ≡ 0 → IsNothing net (replicate (length net.network.arcs) nothing)
+nothing_flows net nothing no_flow no_cost = record {
+  flow = λ a below. ap (λ (row : Passed). row.flow) (get_or-replicate (length net.network.arcs) a nothing _ below) ∙ no_flow;
+  cost = λ a below. ap (λ (row : Passed). row.cost) (get_or-replicate (length net.network.arcs) a nothing _ below) ∙ no_cost;
 }
 
 -- ---- something has passed
 
 passed_so : (net : PricedNetwork) (a : ℕ) (row : Passed) → HasPassed net a row → IsPassed net a row
-passed_so net a row it = record { text = (it.line, it.text); has = λ some. it }
+passed_so net a row it = record { text = (it.line, it.text); has = λ some. it; small = it.small; cheap = it.cheap }
 
 pub passed_with : {net : PricedNetwork} {rows : List Passed} (a : ℕ) (row : Passed) → ArePassed net rows → a < length net.network.arcs → HasPassed net a row → ArePassed net (set rows a row)
 passed_with {net} {rows} a row are known has = record {
@@ -77,15 +83,22 @@ passed_with {net} {rows} a row are known has = record {
 }
 
 -- what is read of the rows
-pub read_passed : {net : PricedNetwork} {rows : List Passed} (a : ℕ) (row : Passed) → ArePassed net rows → a < length net.network.arcs → row ≡ slice_index_or rows a row → IsPassed net a row
-read_passed {net} {rows} a row are known is =
+pub row_read : {net : PricedNetwork} {rows : List Passed} (a : ℕ) (row : Passed) → ArePassed net rows → a < length net.network.arcs → row ≡ slice_index_or rows a row → row ≡ passed_at rows a
+row_read {net} {rows} a row are known is =
     let default : Passed = record { text = record { cells = []; len = 0 }; duration = 0; flows = []; flow = 0; cost = 0; low = 0; high = 0 } in
-    subst (IsPassed net a) (sym (is ∙ get_or_default rows a row default (omega (arith, known, are.one_each)))) (are.each a known)
+    is ∙ get_or_default rows a row default (omega (arith, known, are.one_each))
 
--- an activity that has its code is one of the network
-pub has_code-known : (net : PricedNetwork) (a : ℕ) (code flows : List ℕ) (holds : Bool) → holds ≡ has_act_code net a code flows → holds ≡ true → a < length net.network.arcs
-has_code-known net a code flows holds is true_here =
-    ltb-true a (length net.network.arcs) (and_parts _ _ (and_parts _ _ (sym is ∙ true_here)).0).0
+pub read_passed : {net : PricedNetwork} {rows : List Passed} (a : ℕ) (row : Passed) → ArePassed net rows → a < length net.network.arcs → row ≡ slice_index_or rows a row → IsPassed net a row
+read_passed {net} {rows} a row are known is = subst (IsPassed net a) (sym (row_read a row are known is)) (are.each a known)
+
+-- one row is another, and the others are what they were
+pub row_renewed : {net : PricedNetwork} {rows : List Passed} (a : ℕ) (row : Passed) → ArePassed net rows → a < length net.network.arcs → IsRenewed rows (set rows a row) a row.flow row.cost
+row_renewed {net} {rows} a row are known =
+    let here : passed_at (set rows a row) a ≡ row = get_or-set_same rows a row _ (omega (arith, known, are.one_each)) in record {
+      flow = ap (λ (r : Passed). r.flow) here;
+      cost = ap (λ (r : Passed). r.cost) here;
+      others = λ b other. get_or-set_other rows a b row _ other;
+    }
 
 -- ---- what an activity adds that does not cross the cut
 
@@ -97,28 +110,22 @@ goes_on : (old stops : Bool) → stops ≡ false → old ≡ (old || stops)
 goes_on true stops none = refl
 goes_on false stops none = sym none
 
-pub adds_again : {net : PricedNetwork} {old new : Tally} {passed : Passed} → IsStill net.network.arcs (stretch_of old).moves old.acts → HasPassed net old.acts passed
-    → new ≡ record old { acts = old.acts + 1; inflow = new.inflow; outflow = new.outflow; spent = new.spent }
-    → IsRaised old.inflow.items new.inflow.items (to_of net.network.arcs old.acts) passed.flow
-    → IsRaised old.outflow.items new.outflow.items (from_of net.network.arcs old.acts) passed.flow
-    → new.spent ≡ old.spent + passed.cost
-    → AddsAct net old passed.duration passed.flows new
-adds_again {net} {old} {new} {passed} still has rest inflow outflow spent =
-    let parts = rests net.network.arcs (stretch_of old) old.acts still in record {
-      rest = rest ∙ rw (ap (λ t. t.forward) rest, ap (λ t. t.backward) rest, ap (λ t. t.stops) rest) refl;
-      inflow = subst (IsRaised old.inflow.items new.inflow.items (to_of net.network.arcs old.acts)) has.flow inflow;
-      outflow = subst (IsRaised old.outflow.items new.outflow.items (from_of net.network.arcs old.acts)) has.flow outflow;
-      spent = spent ∙ ap (λ cost. old.spent + cost) has.cost;
+pub adds_again : {net : PricedNetwork} {old new : Tally} → IsStill net.network.arcs (stretch_of old).moves old.acts → HasPassed net old.acts (passed_at old.rows.items old.acts)
+    → new ≡ record old { acts = old.acts + 1 }
+    → AddsAct net old (passed_at old.rows.items old.acts).duration (passed_at old.rows.items old.acts).flows new
+adds_again {net} {old} {new} still has rest =
+    let parts = rests net.network.arcs (stretch_of old) old.acts still in
+    let rows : new.rows.items ≡ old.rows.items = ap (λ t. t.rows.items) rest in record {
+      rest = rest ∙ rw (ap (λ t. t.rows) rest, ap (λ t. t.inflow) rest, ap (λ t. t.outflow) rest, ap (λ t. t.spent) rest, ap (λ t. t.forward) rest, ap (λ t. t.backward) rest, ap (λ t. t.stops) rest) refl;
+      row = record {
+        flow = ap (λ r. flow_of r old.acts) rows ∙ has.flow;
+        cost = ap (λ r. cost_of r old.acts) rows ∙ has.cost;
+        others = λ b other. ap (λ r. passed_at r b) rows;
+      };
       forward = ap (λ t. t.forward) rest ∙ quiet _ old.forward _ parts.0;
       backward = ap (λ t. t.backward) rest ∙ quiet _ old.backward _ parts.1;
       stops = ap (λ t. t.stops) rest ∙ goes_on old.stops _ (no_stop_in net (stretch_of old) old.acts still);
     }
-
--- sums stay below what one activity more can make them
-pub raised_small : {event by : ℕ} (acts : ℕ) (old new : List ℕ) → IsRaised old new event by → by < 2 ^ 67 → ((e : ℕ) → slice_index old e ≤ acts * 2 ^ 67) → (e : ℕ) → slice_index new e ≤ (acts + 1) * 2 ^ 67
-raised_small {event} acts old new raised small all e =
-    ⊎_elim (λ here. subst (λ i. slice_index new i ≤ (acts + 1) * 2 ^ 67) (sym here) (omega (arith, raised.there, all event, small)))
-    (λ other. omega (arith, raised.elsewhere e other, all e)) (cases_eq e event)
 
 -- ---- it passes again
 

@@ -1,6 +1,6 @@
 -- What is kept is what the lines say.
-use Rattle.std.proofs.Common.{◌≡◌, ℕ, ◌+◌, ◌<◌, ◌≤◌, suc, Bool, true, false, ◌||◌, cond, ltb, List, [], ◌∷◌, ◌++◌, length, map, inl, inr, Option, refl, sym, ap, subst, ◌∙◌, arith, add-one, length-append}
-use Rattle.std.proofs.lemmas.Bool.{cases_eq, cases_lt, eq-eqb, ne_eqb, lt-ltb, le-ltb}
+use Rattle.std.proofs.Common.{◌≡◌, ℕ, ◌+◌, ◌<◌, ◌≤◌, suc, Bool, true, false, ◌||◌, cond, ltb, List, [], ◌∷◌, ◌++◌, length, map, inl, inr, ⊎_elim, Option, refl, sym, ap, subst, ◌∙◌, arith, add-one, length-append}
+use Rattle.std.proofs.lemmas.Bool.{cases_eq, cases_lt, lt-ltb, le-ltb}
 use Rattle.std.proofs.lemmas.List.{map-append, get_or_past}
 use Rattle.std.proofs.Math.ListN.{get_or-map, get_or-append}
 use Rattle.std.proofs.Math.Seq.{get_or-append_seam}
@@ -17,12 +17,16 @@ use Rattle.pc_check.specs.declared.kept.Kept.{Kept}
 use Rattle.pc_check.specs.declared.kept.Tally.{Tally}
 use Rattle.pc_check.specs.declared.walk.Reached.{Reached}
 use Rattle.pc_check.specs.Draft.{Part, Draft, EventRow, ActRow, event_at, act_at, with_event, with_act, with_line, with_step, begun_part}
-use Rattle.pc_check.specs.Known.{some_below}
+use Rattle.pc_check.specs.Known.{Known, some_below}
 use Rattle.pc_check.specs.Kept.{known_by, stretch_of}
 use Rattle.pc_check.specs.KneeTests.{flow_sum}
 use Rattle.pc_check.specs.Segments.{stops_in}
 use Rattle.pc_check.specs.Said.{segment_in, flow_along, flow_at, spent_in, forward_by, backward_by, said}
-use Rattle.pc_check.specs.Safe.{IsBegun, IsRaised, AddsAct}
+use Rattle.pc_check.specs.declared.passed.Passed.{Passed}
+use Rattle.pc_check.specs.Passed.{flow_of, cost_of}
+use Rattle.pc_check.specs.Conditions.{conditions}
+use Rattle.pc_check.specs.Failures.{first_failing, reason_at}
+use Rattle.pc_check.specs.Safe.{AreSums, IsSafe, IsBegun, AddsAct}
 use Rattle.pc_check.specs.Walks.{length_in, stepped, walked, at_start}
 use Rattle.pc_check.specs.Advances.{AddsStep, AddsEvent, Adds}
 use Rattle.pc_check.specs.Checking.{IsKept, IsTallied}
@@ -49,18 +53,33 @@ length-map_of : {A B : Type 0} (f : A → B) (xs : List A) → length (map f xs)
 length-map_of f [] = refl
 length-map_of f (x ∷ xs) = ap suc (length-map_of f xs)
 
--- so many sums as there are events
-pub record AreWhole (n : ℕ) (tally : Tally) : Type 0 where
-  pub entering : length tally.inflow.items ≡ n
-  pub leaving : length tally.outflow.items ≡ n
+-- the sums of flows are those of the activities that have come, where all have
+flows_come : (net : PricedNetwork) (part : Part) (tally : Tally) (place : ℕ → ℕ) (sums : List ℕ) → length part.acts ≡ length net.network.arcs → IsTallied net part tally → AreSums net tally.rows.items place sums → (e : ℕ) → e < net.network.events → slice_index sums e ≡ flow_at net part place e
+flows_come net part tally place sums all k are e lt =
+    let rows = tally.rows.items in
+    let here : ltb e net.network.events ≡ true = lt-ltb e net.network.events lt in
+    are e lt
+    ∙ ap (λ n. sum_to n (λ a. if place a == e then flow_of rows a else 0)) (sym all)
+    ∙ sum_to-same (length part.acts) (λ a. if place a == e then flow_of rows a else 0) (λ a. if place a == e then flow_along net part a else 0) (λ a below. ap (λ x. if place a == e then x else 0) (k.flows a below))
+    ∙ ap (λ b. cond b (sum_to (length part.acts) (λ a. if place a == e then flow_along net part a else 0)) 0) (sym here)
 
-pub known_is_said : (net : PricedNetwork) (draft : Draft) (kept : Kept) → AreWhole net.network.events kept.tally → IsKept net draft kept → known_by kept ≡ said net draft
-known_is_said net draft kept whole k =
+-- and so is the cost
+spent_come : (net : PricedNetwork) (part : Part) (tally : Tally) → length part.acts ≡ length net.network.arcs → IsTallied net part tally → tally.spent ≡ sum_to (length net.network.arcs) (cost_of tally.rows.items) → tally.spent ≡ spent_in net part
+spent_come net part tally all k is =
+    is
+    ∙ ap (λ n. sum_to n (cost_of tally.rows.items)) (sym all)
+    ∙ sum_to-same (length part.acts) (cost_of tally.rows.items) (λ a. activity_cost net.terms (knees_in net) a ((segment_in net part).duration a)) k.costs
+
+-- what is kept, with these sums of flows and of the cost
+abbrev known_with : Kept → (ℕ → ℕ) → (ℕ → ℕ) → ℕ → Known
+known_with kept inflow outflow spent = record (known_by kept) { inflow = inflow; outflow = outflow; spent = spent }
+
+-- what is kept is what is said, with sums that are said
+known_is_said : (net : PricedNetwork) (draft : Draft) (kept : Kept) (inflow outflow : ℕ → ℕ) (spent : ℕ) → ((e : ℕ) → inflow e ≡ (said net draft).inflow e) → ((e : ℕ) → outflow e ≡ (said net draft).outflow e) → spent ≡ (said net draft).spent → IsKept net draft kept → known_with kept inflow outflow spent ≡ said net draft
+known_is_said net draft kept inflow outflow spent inflow_is outflow_is spent_is k =
     let time : (e : ℕ) → slice_index kept.tally.times.items e ≡ (event_at draft.part.events e).time = λ e. ap (λ xs. slice_index xs e) k.tally.times ∙ times_at draft.part.events e in
     let moves : (e : ℕ) → slice_index_or kept.tally.moves.items e false ≡ (event_at draft.part.events e).moves = λ e. ap (λ xs. slice_index_or xs e false) k.tally.moves ∙ moves_at draft.part.events e in
     let events : length kept.tally.times.items ≡ length draft.part.events = ap length k.tally.times ∙ length-map_of (λ row. row.time) draft.part.events in
-    let inflow : (e : ℕ) → slice_index kept.tally.inflow.items e ≡ (said net draft).inflow e = sums_at net.network.events kept.tally.inflow.items (said net draft).inflow whole.entering k.tally.inflow (flow_past net draft.part (to_of net.network.arcs)) in
-    let outflow : (e : ℕ) → slice_index kept.tally.outflow.items e ≡ (said net draft).outflow e = sums_at net.network.events kept.tally.outflow.items (said net draft).outflow whole.leaving k.tally.outflow (flow_past net draft.part (from_of net.network.arcs)) in
     λ i. record {
       normal = k.normal i;
       crash = k.crash i;
@@ -74,13 +93,40 @@ known_is_said net draft kept whole k =
       time = λ e. time e i;
       moves = λ e. moves e i;
       acts = k.tally.acts i;
-      inflow = λ e. inflow e i;
-      outflow = λ e. outflow e i;
-      spent = k.tally.spent i;
+      inflow = λ e. inflow_is e i;
+      outflow = λ e. outflow_is e i;
+      spent = spent_is i;
       forward = k.tally.forward i;
       backward = k.tally.backward i;
       stops = k.tally.stops i;
     }
+
+-- of the sums of flows and of the cost nothing is asked before the end of a segment
+almost_said : (net : PricedNetwork) (draft : Draft) (kept : Kept) → IsKept net draft kept → known_with kept (said net draft).inflow (said net draft).outflow (said net draft).spent ≡ said net draft
+almost_said net draft kept k = known_is_said net draft kept (said net draft).inflow (said net draft).outflow (said net draft).spent (λ e. refl) (λ e. refl) refl k
+
+-- where all activities have come
+wholly_said : (net : PricedNetwork) (draft : Draft) (kept : Kept) → IsSafe net kept.tally → kept.tally.acts ≡ length net.network.arcs → IsKept net draft kept → known_by kept ≡ said net draft
+wholly_said net draft kept safe all k =
+    let come : length draft.part.acts ≡ length net.network.arcs = sym k.tally.acts ∙ all in
+    let tally = kept.tally in
+    known_is_said net draft kept (slice_index tally.inflow.items) (slice_index tally.outflow.items) tally.spent
+    (sums_at net.network.events tally.inflow.items (said net draft).inflow safe.entering (flows_come net draft.part tally (to_of net.network.arcs) tally.inflow.items come k.tally safe.inflow) (flow_past net draft.part (to_of net.network.arcs)))
+    (sums_at net.network.events tally.outflow.items (said net draft).outflow safe.leaving (flows_come net draft.part tally (from_of net.network.arcs) tally.outflow.items come k.tally safe.outflow) (flow_past net draft.part (from_of net.network.arcs)))
+    (spent_come net draft.part tally come k.tally safe.spent)
+    k
+
+-- the reason for which a line fails is told by what is kept, at the end of a segment where all its activities have come
+pub reason_told : (net : PricedNetwork) (draft : Draft) (line : CertLine) (kept : Kept) → IsSafe net kept.tally → (line ≡ Close → kept.tally.acts ≡ length net.network.arcs) → IsKept net draft kept → first_failing (conditions net (known_by kept) line) ≡ reason_at net draft line
+reason_told net draft (Head version project events activities) kept safe all k = ap (λ known. first_failing (conditions net known (Head version project events activities))) (almost_said net draft kept k)
+reason_told net draft Normal kept safe all k = refl
+reason_told net draft (Step code) kept safe all k = refl
+reason_told net draft Crash kept safe all k = refl
+reason_told net draft (SegmentLine upper lower cost slope) kept safe all k = ap (λ known. first_failing (conditions net known (SegmentLine upper lower cost slope))) (almost_said net draft kept k)
+reason_told net draft (Event code time moves) kept safe all k = ap (λ known. first_failing (conditions net known (Event code time moves))) (almost_said net draft kept k)
+reason_told net draft (Act code duration flows) kept safe all k = ap (λ known. first_failing (conditions net known (Act code duration flows))) (almost_said net draft kept k)
+reason_told net draft Close kept safe all k = ap (λ known. first_failing (conditions net known Close)) (wholly_said net draft kept safe (all refl) k)
+reason_told net draft End kept safe all k = ap (λ known. first_failing (conditions net known End)) (almost_said net draft kept k)
 
 -- ---- one more line
 
@@ -109,13 +155,6 @@ kept_step net draft code true old new is k added =
       tally = subst (λ t. IsTallied net draft.part t) (ap (λ k. k.tally) (sym rest)) k.tally;
     }
 
-either_same : (b : Bool) (x : ℕ) → cond b x x ≡ x
-either_same true x = refl
-either_same false x = refl
-
-nothing_flows : (net : PricedNetwork) (part : Part) (place : ℕ → ℕ) (e : ℕ) → length part.acts ≡ 0 → flow_at net part place e ≡ 0
-nothing_flows net part place e none = rw none (either_same (ltb e net.network.events) 0)
-
 -- a segment that begins
 tallied_begun : (net : PricedNetwork) (upper lower cost slope : ℕ) (tally : Tally) → IsBegun upper lower cost slope tally → IsTallied net (begun_part upper lower cost slope) tally
 tallied_begun net upper lower cost slope tally b = record {
@@ -126,9 +165,8 @@ tallied_begun net upper lower cost slope tally b = record {
   times = b.times;
   moves = b.moves;
   acts = b.acts;
-  inflow = λ e lt. b.inflow e ∙ sym (nothing_flows net (begun_part upper lower cost slope) (to_of net.network.arcs) e refl);
-  outflow = λ e lt. b.outflow e ∙ sym (nothing_flows net (begun_part upper lower cost slope) (from_of net.network.arcs) e refl);
-  spent = b.spent;
+  flows = λ a below. absurd (omega (arith, below));
+  costs = λ a below. absurd (omega (arith, below));
   forward = b.forward;
   backward = b.backward;
   stops = b.stops;
@@ -153,9 +191,8 @@ tallied_event net part row old new none k added =
       times = added.times ∙ ap (λ xs. xs ++ row.time ∷ []) k.times ∙ sym (map-append (λ (r : EventRow). r.time) part.events (row ∷ []));
       moves = added.moves_too ∙ ap (λ xs. xs ++ row.moves ∷ []) k.moves ∙ sym (map-append (λ (r : EventRow). r.moves) part.events (row ∷ []));
       acts = ap (λ t. t.acts) rest ∙ k.acts;
-      inflow = λ e lt. ap (λ t. slice_index t.inflow.items e) rest ∙ k.inflow e lt ∙ nothing_flows net part (to_of net.network.arcs) e none ∙ sym (nothing_flows net (with_event part row) (to_of net.network.arcs) e none);
-      outflow = λ e lt. ap (λ t. slice_index t.outflow.items e) rest ∙ k.outflow e lt ∙ nothing_flows net part (from_of net.network.arcs) e none ∙ sym (nothing_flows net (with_event part row) (from_of net.network.arcs) e none);
-      spent = ap (λ t. t.spent) rest ∙ k.spent;
+      flows = λ a below. absurd (omega (arith, below, none));
+      costs = λ a below. absurd (omega (arith, below, none));
       forward = ap (λ t. t.forward) rest ∙ k.forward ∙ sum_none (length part.acts) (forward_by net (segment_in net part)) (forward_by net (segment_in net (with_event part row))) none;
       backward = ap (λ t. t.backward) rest ∙ k.backward ∙ sum_none (length part.acts) (backward_by net (segment_in net part)) (backward_by net (segment_in net (with_event part row))) none;
       stops = ap (λ t. t.stops) rest ∙ k.stops ∙ some_none (length part.acts) (stops_in net (segment_in net part)) (stops_in net (segment_in net (with_event part row))) none;
@@ -192,9 +229,6 @@ stretch_is_bare net part tally k =
       beside = λ a. 0;
     }
 
-no_more : (x : ℕ) → x + 0 ≡ x
-no_more x = omega arith
-
 module _ (net : PricedNetwork) (part : Part) (row : ActRow) where
   grown : length (part.acts ++ row ∷ []) ≡ suc (length part.acts)
   grown = length-append part.acts (row ∷ []) ∙ add-one (length part.acts)
@@ -213,39 +247,27 @@ module _ (net : PricedNetwork) (part : Part) (row : ActRow) where
       ap (λ (r : ActRow). sum_to ((knees_in net).count (length part.acts)) (slice_index r.flows) + slice_index r.flows ((knees_in net).count (length part.acts))) at_last
       ∙ ap (λ n. sum_to n (slice_index row.flows)) (sym (long ∙ add-one ((knees_in net).count (length part.acts))))
 
-  flow_at-grown : (place : ℕ → ℕ) (e : ℕ) → length row.flows ≡ (knees_in net).count (length part.acts) + 1 → e < net.network.events
-      → flow_at net (with_act part row) place e ≡ flow_at net part place e + (if place (length part.acts) == e then flow_sum row.flows else 0)
-  flow_at-grown place e long lt =
-      let here : ltb e net.network.events ≡ true = lt-ltb e net.network.events lt in
-      let earlier : sum_to (length part.acts) (λ a. if place a == e then flow_along net (with_act part row) a else 0) ≡ sum_to (length part.acts) (λ a. if place a == e then flow_along net part a else 0) =
-      sum_to-same (length part.acts) (λ a. if place a == e then flow_along net (with_act part row) a else 0) (λ a. if place a == e then flow_along net part a else 0) (λ a l. ap (λ x. if place a == e then x else 0) (flow_along-earlier a l)) in
-      let whole : sum_to (length (part.acts ++ row ∷ [])) (λ a. if place a == e then flow_along net (with_act part row) a else 0) ≡ sum_to (length part.acts) (λ a. if place a == e then flow_along net part a else 0) + (if place (length part.acts) == e then flow_sum row.flows else 0) =
-      ap (λ n. sum_to n (λ a. if place a == e then flow_along net (with_act part row) a else 0)) grown
-      ∙ ap (λ x. x + (if place (length part.acts) == e then flow_along net (with_act part row) (length part.acts) else 0)) earlier
-      ∙ ap (λ x. sum_to (length part.acts) (λ a. if place a == e then flow_along net part a else 0) + (if place (length part.acts) == e then x else 0)) (flow_along-last long) in
-      ap (λ b. cond b (sum_to (length (part.acts ++ row ∷ [])) (λ a. if place a == e then flow_along net (with_act part row) a else 0)) 0) here
-      ∙ whole
-      ∙ ap (λ x. x + (if place (length part.acts) == e then flow_sum row.flows else 0)) (ap (λ b. cond b (sum_to (length part.acts) (λ a. if place a == e then flow_along net part a else 0)) 0) (sym here))
+  -- a row is the new one or one that was there
+  grown_cases : {A : Type 0} (a : ℕ) → a < length (part.acts ++ row ∷ []) → (a ≡ length part.acts → A) → (a < length part.acts → (a ≡ length part.acts → ⊥) → A) → A
+  grown_cases a below last earlier = ⊎_elim last (λ other. earlier (omega (arith, below, grown, other)) other) (cases_eq a (length part.acts))
 
-  flows_raised : (place : ℕ → ℕ) (old new : List ℕ) (e : ℕ) → length row.flows ≡ (knees_in net).count (length part.acts) + 1 → e < net.network.events
-      → slice_index old e ≡ flow_at net part place e → IsRaised old new (place (length part.acts)) (flow_sum row.flows) → slice_index new e ≡ flow_at net (with_act part row) place e
-  flows_raised place old new e long lt before raised =
-      elim (cases_eq e (place (length part.acts))) [
-        | inl same ↦
-            let here : (place (length part.acts) == e) ≡ true = eq-eqb (place (length part.acts)) e (sym same) in
-            ap (λ x. slice_index new x) same ∙ raised.there ∙ ap (λ x. slice_index old x + flow_sum row.flows) (sym same) ∙ ap (λ x. x + flow_sum row.flows) before
-            ∙ sym (flow_at-grown place e long lt ∙ ap (λ b. flow_at net part place e + cond b (flow_sum row.flows) 0) here)
-        | inr other ↦
-            let elsewhere : (place (length part.acts) == e) ≡ false = ne_eqb (place (length part.acts)) e (λ q. other (sym q)) in
-            raised.elsewhere e other ∙ before ∙ sym (flow_at-grown place e long lt ∙ ap (λ b. flow_at net part place e + cond b (flow_sum row.flows) 0) elsewhere ∙ no_more (flow_at net part place e))
-      ]
+  flows_grown : (old new : Tally) (a : ℕ) → length row.flows ≡ (knees_in net).count (length part.acts) + 1 → old.acts ≡ length part.acts → ((b : ℕ) → b < length part.acts → flow_of old.rows.items b ≡ flow_along net part b) → AddsAct net old row.duration row.flows new → a < length (part.acts ++ row ∷ []) → flow_of new.rows.items a ≡ flow_along net (with_act part row) a
+  flows_grown old new a long acts before added below =
+      grown_cases a below
+      (λ last. ap (flow_of new.rows.items) (last ∙ sym acts) ∙ added.row.flow ∙ sym (flow_along-last long) ∙ ap (flow_along net (with_act part row)) (sym last))
+      (λ earlier other. ap (λ (r : Passed). r.flow) (added.row.others a (λ q. other (q ∙ acts))) ∙ before a earlier ∙ sym (flow_along-earlier a earlier))
 
-  spent_grown : spent_in net (with_act part row) ≡ spent_in net part + activity_cost net.terms (knees_in net) (length part.acts) row.duration
-  spent_grown =
-      ap (λ n. sum_to n (λ a. activity_cost net.terms (knees_in net) a (act_at (part.acts ++ row ∷ []) a).duration)) grown
-      ∙ ap (λ x. x + activity_cost net.terms (knees_in net) (length part.acts) (act_at (part.acts ++ row ∷ []) (length part.acts)).duration)
-      (sum_to-same (length part.acts) (λ a. activity_cost net.terms (knees_in net) a (act_at (part.acts ++ row ∷ []) a).duration) (λ a. activity_cost net.terms (knees_in net) a (act_at part.acts a).duration) (λ a lt. ap (λ (r : ActRow). activity_cost net.terms (knees_in net) a r.duration) (at_earlier a lt)))
-      ∙ ap (λ (r : ActRow). spent_in net part + activity_cost net.terms (knees_in net) (length part.acts) r.duration) at_last
+  costs_grown : (old new : Tally) (a : ℕ) → old.acts ≡ length part.acts → ((b : ℕ) → b < length part.acts → cost_of old.rows.items b ≡ activity_cost net.terms (knees_in net) b (act_at part.acts b).duration) → AddsAct net old row.duration row.flows new → a < length (part.acts ++ row ∷ [])
+      → cost_of new.rows.items a ≡ activity_cost net.terms (knees_in net) a (act_at (part.acts ++ row ∷ []) a).duration
+  costs_grown old new a acts before added below =
+      grown_cases a below
+      (λ last.
+      ap (cost_of new.rows.items) (last ∙ sym acts) ∙ added.row.cost ∙ ap (λ b. activity_cost net.terms (knees_in net) b row.duration) acts
+      ∙ ap (λ (r : ActRow). activity_cost net.terms (knees_in net) (length part.acts) r.duration) (sym at_last)
+      ∙ ap (λ b. activity_cost net.terms (knees_in net) b (act_at (part.acts ++ row ∷ []) b).duration) (sym last))
+      (λ earlier other.
+      ap (λ (r : Passed). r.cost) (added.row.others a (λ q. other (q ∙ acts))) ∙ before a earlier
+      ∙ ap (λ (r : ActRow). activity_cost net.terms (knees_in net) a r.duration) (sym (at_earlier a earlier)))
 
   forward_there : (old : Tally) → stretch_of old ≡ bare part → old.forward + forward_by net (stretch_of old) (length part.acts) ≡ old.forward + forward_by net (segment_in net part) (length part.acts)
   unfolding bare
@@ -272,9 +294,8 @@ module _ (net : PricedNetwork) (part : Part) (row : ActRow) where
         times = ap (λ t. t.times.items) rest ∙ k.times;
         moves = ap (λ t. t.moves.items) rest ∙ k.moves;
         acts = ap (λ t. t.acts) rest ∙ ap (λ n. n + 1) k.acts ∙ add-one (length part.acts) ∙ sym grown;
-        inflow = λ e lt. flows_raised (to_of net.network.arcs) old.inflow.items new.inflow.items e long lt (k.inflow e lt) (subst (λ a. IsRaised old.inflow.items new.inflow.items (to_of net.network.arcs a) (flow_sum row.flows)) k.acts added.inflow);
-        outflow = λ e lt. flows_raised (from_of net.network.arcs) old.outflow.items new.outflow.items e long lt (k.outflow e lt) (subst (λ a. IsRaised old.outflow.items new.outflow.items (from_of net.network.arcs a) (flow_sum row.flows)) k.acts added.outflow);
-        spent = added.spent ∙ ap (λ a. old.spent + activity_cost net.terms (knees_in net) a row.duration) k.acts ∙ ap (λ x. x + activity_cost net.terms (knees_in net) (length part.acts) row.duration) k.spent ∙ sym spent_grown;
+        flows = λ a below. flows_grown old new a long k.acts k.flows added below;
+        costs = λ a below. costs_grown old new a k.acts k.costs added below;
         forward = added.forward ∙ ap (λ a. old.forward + forward_by net (stretch_of old) a) k.acts ∙ forward_there old seg ∙ ap (λ x. x + forward_by net (segment_in net part) (length part.acts)) k.forward ∙ sym (ap (λ n. sum_to n (forward_by net (segment_in net part))) grown);
         backward = added.backward ∙ ap (λ a. old.backward + backward_by net (stretch_of old) a) k.acts ∙ backward_there old seg ∙ ap (λ x. x + backward_by net (segment_in net part) (length part.acts)) k.backward ∙ sym (ap (λ n. sum_to n (backward_by net (segment_in net part))) grown);
         stops = added.stops ∙ ap (λ a. old.stops || stops_in net (stretch_of old) a) k.acts ∙ stops_there old seg ∙ ap (λ b. b || stops_in net (segment_in net part) (length part.acts)) k.stops ∙ sym (ap (λ n. some_below n (stops_in net (segment_in net part))) grown);

@@ -20,11 +20,12 @@ use Rattle.pc_check.specs.Kept.{known_by}
 use Rattle.pc_check.specs.Bounds.{IsBounded}
 use Rattle.pc_check.specs.Advances.{Advances, moved_on}
 use Rattle.pc_check.specs.Checking.{IsKept, IsGoing, Stands}
+use Rattle.pc_check.specs.Safe.{IsSafe}
 use Rattle.pc_check.proofs.BelowLaws.{and_parts}
 use Rattle.pc_check.proofs.ReasonLaws.{holds_first}
-use Rattle.pc_check.proofs.BoundLaws.{Passes, event_first, lines_kept}
+use Rattle.pc_check.proofs.BoundLaws.{Passes, event_first, all_come, lines_kept}
 use Rattle.pc_check.proofs.FailureLaws.{draft_after-append, failure_of-more, failure_of-next}
-use Rattle.pc_check.proofs.SaidLaws.{AreWhole, known_is_said, IsReady, kept_more}
+use Rattle.pc_check.proofs.SaidLaws.{reason_told, IsReady, kept_more}
 
 -- the draft of the lines fits the line
 ready : (net : PricedNetwork) (draft : Draft) (line : CertLine) (kept : Kept) (behind : Place) → IsBounded net kept → IsKept net draft kept → Passes net line kept behind → IsReady net line draft
@@ -46,27 +47,28 @@ ran_more : (line : CertLine) (place behind : Place) → next place line ≡ Some
 ran_more line place behind goes = ap (λ found. found >>= (λ b. ran b [])) goes
 
 -- the reason for which a line fails is told by what is kept
-reason_is : (net : PricedNetwork) (lines : List CertLine) (line : CertLine) (kept : Kept) → AreWhole net.network.events kept.tally → IsKept net (draft_of lines) kept → reason_at net (draft_of lines) line ≡ first_failing (conditions net (known_by kept) line)
-reason_is net lines line kept whole k = ap (λ known. first_failing (conditions net known line)) (sym (known_is_said net (draft_of lines) kept whole k))
+reason_is : (net : PricedNetwork) (lines : List CertLine) (line : CertLine) (kept : Kept) (behind : Place) → IsSafe net kept.tally → IsBounded net kept → next kept.place line ≡ Some behind → IsKept net (draft_of lines) kept → reason_at net (draft_of lines) line ≡ first_failing (conditions net (known_by kept) line)
+reason_is net lines line kept behind safe bounded goes k =
+    sym (reason_told net (draft_of lines) line kept safe (λ is. all_come net kept.place behind kept bounded.place (subst (λ l. next kept.place l ≡ Some behind) is goes)) k)
 
 -- a line that does not fail
-pub goes_on : {net : PricedNetwork} {lines : List CertLine} {old new : Kept} (line : CertLine) → AreWhole net.network.events old.tally → IsBounded net old → None ≡ first_failing (conditions net (known_by old) line) → Advances net line old new → IsGoing net old lines → IsGoing net new (lines ++ line ∷ [])
-goes_on {net} {lines} {old} {new} line whole bounded reason a h =
+pub goes_on : {net : PricedNetwork} {lines : List CertLine} {old new : Kept} (line : CertLine) → IsSafe net old.tally → IsBounded net old → None ≡ first_failing (conditions net (known_by old) line) → Advances net line old new → IsGoing net old lines → IsGoing net new (lines ++ line ∷ [])
+goes_on {net} {lines} {old} {new} line safe bounded reason a h =
     let passes : Passes net line old new.place = record { goes = a.goes; passes = sym reason } in
     let before = kept_more net (draft_of lines) line old a.between (ready net (draft_of lines) line old new.place bounded h.keeps passes) h.keeps a.added in
     let kept = subst (λ k. IsKept net (with_line (draft_of lines) line) k) (sym a.moved) (kept_moved net (with_line (draft_of lines) line) a.between new.place before) in
     record {
       order = ran-append Start lines (line ∷ []) ∙ ap (λ found. found >>= (λ b. ran b (line ∷ []))) h.order ∙ ran_more line old.place new.place a.goes;
       count = omega (arith, ap (λ k. k.lines) a.moved, lines_kept net line old a.between a.added, h.count, length-append lines (line ∷ []));
-      none = failure_of-next net lines line h.none ∙ ap (λ r. or_later (1 + length lines) r None) (reason_is net lines line old whole h.keeps ∙ sym reason);
+      none = failure_of-next net lines line h.none ∙ ap (λ r. or_later (1 + length lines) r None) (reason_is net lines line old new.place safe bounded a.goes h.keeps ∙ sym reason);
       keeps = subst (λ d. IsKept net d new) (sym (draft_after-append empty_draft lines (line ∷ []))) kept;
     }
 
 -- a line that fails
-pub fails : {net : PricedNetwork} {lines : List CertLine} {kept : Kept} (line : CertLine) (reason number : ℕ) → AreWhole net.network.events kept.tally → Some reason ≡ first_failing (conditions net (known_by kept) line) → number ≡ kept.lines + 1 → IsGoing net kept lines → failure_of net (lines ++ line ∷ []) ≡ Some (record { line = number; reason = reason })
-fails {net} {lines} {kept} line reason number whole found is h =
+pub fails : {net : PricedNetwork} {lines : List CertLine} {kept : Kept} (line : CertLine) (behind : Place) (reason number : ℕ) → IsSafe net kept.tally → IsBounded net kept → next kept.place line ≡ Some behind → Some reason ≡ first_failing (conditions net (known_by kept) line) → number ≡ kept.lines + 1 → IsGoing net kept lines → failure_of net (lines ++ line ∷ []) ≡ Some (record { line = number; reason = reason })
+fails {net} {lines} {kept} line behind reason number safe bounded goes found is h =
     failure_of-next net lines line h.none
-    ∙ ap (λ r. or_later (1 + length lines) r None) (reason_is net lines line kept whole h.keeps ∙ sym found)
+    ∙ ap (λ r. or_later (1 + length lines) r None) (reason_is net lines line kept behind safe bounded goes h.keeps ∙ sym found)
     ∙ ap (λ n. Some (record { line = n; reason = reason })) (omega (arith, is, h.count))
 
 -- a failure that is kept

@@ -1,17 +1,18 @@
 -- What a checker stands for.
-use Rattle.std.specs.Prelude.{◌≡◌, ℕ, ◌<◌, List, length, map, slice_index, Option, Some, None}
+use Rattle.std.specs.Prelude.{◌≡◌, ℕ, ◌<◌, List, length, map, Option, Some, None}
 use Rattle.pc_cert.specs.declared.line.CertLine.{CertLine}
 use Rattle.pc_cert.specs.declared.place.Place.TheVariants.{Start}
 use Rattle.pc_cert.specs.Text.{ran}
 use Rattle.pc_model.specs.Sums.{sum_to}
-use Rattle.pc_model.specs.Walk.{from_of, to_of}
-use Rattle.pc_crash.specs.Priced.{PricedNetwork}
+use Rattle.pc_model.specs.Cost.{activity_cost}
+use Rattle.pc_crash.specs.Priced.{PricedNetwork, knees_in}
 use Rattle.pc_check.specs.declared.fail.Fail.{Fail}
 use Rattle.pc_check.specs.declared.kept.Kept.{Kept}
 use Rattle.pc_check.specs.declared.kept.Tally.{Tally}
 use Rattle.pc_check.specs.Draft.{Part, Draft, draft_of}
 use Rattle.pc_check.specs.Known.{some_below}
-use Rattle.pc_check.specs.Said.{segment_in, flow_at, spent_in, forward_by, backward_by, said}
+use Rattle.pc_check.specs.Passed.{flow_of, cost_of}
+use Rattle.pc_check.specs.Said.{segment_in, flow_along, forward_by, backward_by, said}
 use Rattle.pc_check.specs.Segments.{stops_in}
 use Rattle.pc_check.specs.Failures.{failure_of}
 
@@ -30,9 +31,8 @@ pub record IsTallied (net : PricedNetwork) (part : Part) (tally : Tally) : Type 
   pub times : tally.times.items ≡ map (λ row. row.time) part.events
   pub moves : tally.moves.items ≡ map (λ row. row.moves) part.events
   pub acts : tally.acts ≡ length part.acts
-  pub inflow : (e : ℕ) → e < net.network.events → slice_index tally.inflow.items e ≡ flow_at net part (to_of net.network.arcs) e
-  pub outflow : (e : ℕ) → e < net.network.events → slice_index tally.outflow.items e ≡ flow_at net part (from_of net.network.arcs) e
-  pub spent : tally.spent ≡ spent_in net part
+  pub flows : (a : ℕ) → a < length part.acts → flow_of tally.rows.items a ≡ flow_along net part a
+  pub costs : (a : ℕ) → a < length part.acts → cost_of tally.rows.items a ≡ activity_cost net.terms (knees_in net) a ((segment_in net part).duration a)
   pub forward : tally.forward ≡ sum_to (length part.acts) (forward_by net (segment_in net part))
   pub backward : tally.backward ≡ sum_to (length part.acts) (backward_by net (segment_in net part))
   pub stops : tally.stops ≡ some_below (length part.acts) (stops_in net (segment_in net part))

@@ -55,15 +55,29 @@ pub record HasPassed (net : PricedNetwork) (a : ℕ) (passed : Passed) : Type 0 
 pub record IsPassed (net : PricedNetwork) (a : ℕ) (passed : Passed) : Type 0 where
   pub text : (line : Option CertLine) × IsTextOf line passed.text
   pub has : HasText passed.text → HasPassed net a passed
+  pub small : passed.flow < 2 ^ 67
+  pub cheap : passed.cost ≤ MAX_ACTIVITY_COST
 
 -- what has passed of activity a
 abbrev pub passed_at : List Passed → ℕ → Passed
 passed_at rows a = slice_index_or rows a (record { text = record { cells = []; len = 0 }; duration = 0; flows = []; flow = 0; cost = 0; low = 0; high = 0 })
 
+-- what flows along activity a, and what it costs, as its line said that passed last
+abbrev pub flow_of : List Passed → ℕ → ℕ
+flow_of rows a = (passed_at rows a).flow
+
+abbrev pub cost_of : List Passed → ℕ → ℕ
+cost_of rows a = (passed_at rows a).cost
+
 -- what has passed of each activity
 pub record ArePassed (net : PricedNetwork) (rows : List Passed) : Type 0 where
   pub one_each : length rows ≡ length net.network.arcs
   pub each : (a : ℕ) → a < length net.network.arcs → IsPassed net a (passed_at rows a)
+
+-- nothing flows and nothing is spent
+pub record IsNothing (net : PricedNetwork) (rows : List Passed) : Type 0 where
+  pub flow : (a : ℕ) → a < length net.network.arcs → flow_of rows a ≡ 0
+  pub cost : (a : ℕ) → a < length net.network.arcs → cost_of rows a ≡ 0
 
 -- what passed last of the next activity passes again: the segment is not the first and has two ends, the activity does not cross the cut,
 -- and its gap is within those at which it passed

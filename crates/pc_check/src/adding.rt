@@ -1,22 +1,22 @@
 //! Adding a line to what is kept of a segment.
-ghost use Rattle.std.specs.Prelude.{◌≡◌, ℕ, ◌+◌, ◌^◌, ◌<◌, ◌≤◌, ◌||◌, ◌++◌, ◌∷◌, [], length, slice_index, vec_len, if◌then◌else◌};
+ghost use Rattle.std.specs.Prelude.{◌≡◌, ◌+◌, ◌^◌, ◌<◌, ◌≤◌, ◌++◌, ◌∷◌, [], length, slice_index, vec_len, if◌then◌else◌};
 ghost use Rattle.pc_curve_laws.specs.Segment.{is_forward, is_backward, rises_above, span};
 ghost use Rattle.pc_crash.specs.Priced.{knees_in};
 ghost use Rattle.pc_check.specs.Kept.{stretch_of};
 ghost use Rattle.pc_check.specs.KneeTests.{rises_over};
 ghost use Rattle.pc_check.specs.Crossings.{IsCrossing, IsStill};
-ghost use Rattle.pc_check.specs.Safe.{IsSafe, IsBegun, IsRaised, AddsAct};
-ghost use Rattle.pc_check.specs.Passed.{HasPassed};
+ghost use Rattle.pc_check.specs.Safe.{IsSafe, IsBegun, IsExchanged, IsRenewed, AddsAct};
+ghost use Rattle.pc_check.specs.Passed.{HasPassed, passed_at};
 ghost use Rattle.pc_check.specs.Segments.{stops_in};
 
-use crate::acts::{flow_sum, rises_over, stops};
+use crate::acts::{rises_over, stops};
 use crate::gaps::{Crossing, Gap};
 use crate::kept::Tally;
 use crate::passed::Passed;
 use pc_crash::CrashNet;
 use pc_model::Knee;
 
-/// Begins a segment.
+/// Begins a segment. What is kept of the activities, and the sums over all of them, stay until their lines come.
 pub(crate) fn begin_segment(
     net: &CrashNet<'_>,
     tally: &mut Tally,
@@ -25,11 +25,10 @@ pub(crate) fn begin_segment(
     cost: u64,
     slope: u64,
 )
-    requires { IsSafe net.now.network.events (length net.now.network.arcs) tally.old }
+    requires { IsSafe net.now tally.old }
     ensures begun { IsBegun upper lower cost slope tally.new }
-    ensures safe { IsSafe net.now.network.events (length net.now.network.arcs) tally.new }
+    ensures safe { IsSafe net.now tally.new }
 {
-    let _events = net.net().events();
     tally.upper = upper;
     tally.lower = lower;
     tally.cost = cost;
@@ -37,86 +36,76 @@ pub(crate) fn begin_segment(
     tally.times.clear();
     tally.moves.clear();
     tally.acts = 0;
-    clear(&mut tally.inflow);
-    clear(&mut tally.outflow);
-    tally.spent = 0;
     tally.forward = 0;
     tally.backward = 0;
     tally.stops = false;
 }
 
-/// Makes all sums 0.
-fn clear(sums: &mut [u128])
-    ensures zero { (e : ℕ) → slice_index sums.new e ≡ 0 }
-    ensures same_length { length sums.new ≡ length sums.old }
-{
-    for sum in sums.iter_mut() {
-        *sum = 0;
-    }
-}
-
 /// Adds an event, with its time and whether it moves.
 pub(crate) fn add_event(net: &CrashNet<'_>, tally: &mut Tally, time: u64, moves: bool)
-    requires safe { IsSafe net.now.network.events (length net.now.network.arcs) tally.old }
+    requires safe { IsSafe net.now tally.old }
     requires times { vec_len tally.old.times < net.now.network.events }
     requires moves { vec_len tally.old.moves < net.now.network.events }
     ensures times { tally.new.times.items ≡ tally.old.times.items ++ time ∷ [] }
     ensures moves { tally.new.moves.items ≡ tally.old.moves.items ++ moves ∷ [] }
     ensures rest { tally.new ≡ record tally.old { times = tally.new.times; moves = tally.new.moves } }
-    ensures safe { IsSafe net.now.network.events (length net.now.network.arcs) tally.new }
+    ensures safe { IsSafe net.now tally.new }
 {
     tally.times.push(time).unwrap();
     tally.moves.push(moves).unwrap();
 }
 
-/// Adds an activity with these gaps, with its duration and its flows.
-pub(crate) fn add_act(
-    net: &CrashNet<'_>,
-    tally: &mut Tally,
-    crossing: &Crossing,
-    duration: u64,
-    flows: &[u64],
-)
-    requires safe { IsSafe net.now.network.events (length net.now.network.arcs) tally.old }
+/// Adds an activity with these gaps, of which this has passed.
+pub(crate) fn add_act(net: &CrashNet<'_>, tally: &mut Tally, crossing: &Crossing, passed: Passed)
+    requires safe { IsSafe net.now tally.old }
     requires known { tally.old.acts < length net.now.network.arcs }
     requires crossing { IsCrossing net.now.network.arcs (stretch_of tally.old) tally.old.acts crossing.now }
-    requires few { length flows.now ≤ 6 }
-    ensures added { AddsAct net.now tally.old duration flows.now tally.new }
-    ensures safe { IsSafe net.now.network.events (length net.now.network.arcs) tally.new }
+    requires passed { HasPassed net.now tally.old.acts passed }
+    ensures added { AddsAct net.now tally.old passed.duration passed.flows tally.new }
+    ensures safe { IsSafe net.now tally.new }
 {
-    let a = tally.acts;
-    let cut = cut_of(net, tally, a, crossing);
-    let cost = net.activity_cost(a, duration);
-    let flow = flow_sum(flows);
-    let to = net.net().to(a);
-    let from = net.net().from(a);
+    let cut = cut_of(net, tally, tally.acts, crossing);
+    renew(net, tally, passed);
     let _few = net.net().activities();
-    raise(&mut tally.inflow, to, flow);
-    raise(&mut tally.outflow, from, flow);
-    tally.spent += cost;
     tally.forward += cut.forward;
     tally.backward += cut.backward;
     tally.stops = tally.stops || cut.stops;
     tally.acts += 1;
 }
 
-/// Adds an activity that does not cross the cut, as it passed before.
-pub(crate) fn add_again(net: &CrashNet<'_>, tally: &mut Tally, passed: &Passed)
-    requires safe { IsSafe net.now.network.events (length net.now.network.arcs) tally.old }
+/// Adds an activity that does not cross the cut, as it passed last: its flow and its cost are in the sums.
+#[inline(always)]
+pub(crate) fn add_again(net: &CrashNet<'_>, tally: &mut Tally)
+    requires safe { IsSafe net.now tally.old }
     requires known { tally.old.acts < length net.now.network.arcs }
     requires still { IsStill net.now.network.arcs (stretch_of tally.old).moves tally.old.acts }
-    requires passed { HasPassed net.now tally.old.acts passed.now }
-    ensures added { AddsAct net.now tally.old passed.now.duration passed.now.flows tally.new }
-    ensures safe { IsSafe net.now.network.events (length net.now.network.arcs) tally.new }
+    requires passed { HasPassed net.now tally.old.acts (passed_at tally.old.rows.items tally.old.acts) }
+    ensures added { AddsAct net.now tally.old (passed_at tally.old.rows.items tally.old.acts).duration (passed_at tally.old.rows.items tally.old.acts).flows tally.new }
+    ensures safe { IsSafe net.now tally.new }
+{
+    let _few = net.net().activities();
+    tally.acts += 1;
+}
+
+/// Keeps what has passed of the next activity, in place of what passed of it before, and so do the sums.
+fn renew(net: &CrashNet<'_>, tally: &mut Tally, passed: Passed)
+    requires safe { IsSafe net.now tally.old }
+    requires known { tally.old.acts < length net.now.network.arcs }
+    requires passed { HasPassed net.now tally.old.acts passed }
+    ensures row { IsRenewed tally.old.rows.items tally.new.rows.items tally.old.acts passed.flow passed.cost }
+    ensures rest { tally.new ≡ record tally.old { rows = tally.new.rows; inflow = tally.new.inflow; outflow = tally.new.outflow; spent = tally.new.spent } }
+    ensures safe { IsSafe net.now tally.new }
 {
     let a = tally.acts;
     let to = net.net().to(a);
     let from = net.net().from(a);
     let _few = net.net().activities();
-    raise(&mut tally.inflow, to, passed.flow);
-    raise(&mut tally.outflow, from, passed.flow);
-    tally.spent += passed.cost;
-    tally.acts += 1;
+    let flow = tally.rows[a as usize].flow;
+    let cost = tally.rows[a as usize].cost;
+    exchange(&mut tally.inflow, to, flow, passed.flow);
+    exchange(&mut tally.outflow, from, flow, passed.flow);
+    tally.spent = tally.spent - cost + passed.cost;
+    tally.rows[a as usize] = passed;
 }
 
 /// What an activity adds to the cut.
@@ -159,11 +148,12 @@ fn rises_if(counts: bool, gap: Gap, knees: &[Knee]) -> u128
     if counts { rises_over(gap, knees) } else { 0 }
 }
 
-/// Adds to the sum of an event.
-fn raise(sums: &mut Vec<u128>, event: u32, by: u128)
+/// Takes a number out of the sum of an event, and another into it.
+fn exchange(sums: &mut Vec<u128>, event: u32, before: u128, now: u128)
     requires known { event < vec_len sums.old }
-    requires small { slice_index sums.old.items event + by < 2 ^ 128 }
-    ensures { IsRaised sums.old.items sums.new.items event by }
+    requires there { before ≤ slice_index sums.old.items event }
+    requires small { slice_index sums.old.items event + now < 2 ^ 128 }
+    ensures { IsExchanged sums.old.items sums.new.items event before now }
 {
-    sums[event as usize] += by;
+    sums[event as usize] = sums[event as usize] - before + now;
 }

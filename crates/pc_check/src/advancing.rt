@@ -8,13 +8,12 @@ ghost use Rattle.pc_check.specs.Conditions.{conditions};
 ghost use Rattle.pc_check.specs.Failures.{first_failing};
 ghost use Rattle.pc_check.specs.Kept.{known_by};
 ghost use Rattle.pc_check.specs.Additions.{IsAct, MayBeAdded};
-ghost use Rattle.pc_check.specs.Passed.{ArePassed};
 ghost use Rattle.pc_check.specs.Safe.{IsSafe};
 
 use crate::adding::{add_act, add_event, begin_segment};
 use crate::gaps::crossing_of;
 use crate::kept::Kept;
-use crate::passed::{Passed, passed_of};
+use crate::passed::passed_of;
 use crate::reasons::{has_act_code, reason, reason_at_act};
 use crate::walk::stepped;
 use pc_cert::{CertLine, Flows, KnownLine, Place};
@@ -26,13 +25,11 @@ use pc_text::Code;
 pub(crate) fn advance(
     net: &CrashNet<'_>,
     kept: &mut Kept,
-    passed: &mut Vec<Passed>,
     known: &KnownLine,
     line: &CertLine,
     behind: Place,
 ) -> Option<u8>
-    requires safe { IsSafe net.now.network.events (length net.now.network.arcs) kept.old.tally }
-    requires passed { ArePassed net.now passed.old.items }
+    requires safe { IsSafe net.now kept.old.tally }
     requires bounded { IsBounded net.now kept.old }
     requires known { known.now.line ≡ Some line.now }
     requires goes { next kept.old.place line.now ≡ Some behind }
@@ -41,13 +38,12 @@ pub(crate) fn advance(
     ensures same { OnSome result (kept.new ≡ kept.old) }
     ensures bounded { IsBounded net.now kept.new }
     ensures few { kept.new.lines < 2 ^ 63 }
-    ensures safe { IsSafe net.now.network.events (length net.now.network.arcs) kept.new.tally }
-    ensures passed { ArePassed net.now passed.new.items }
+    ensures safe { IsSafe net.now kept.new.tally }
     ensures left { IfNone result (lines_left net.now kept.new < lines_left net.now kept.old) }
 {
     let _events = net.net().events();
     let _activities = net.net().activities();
-    match judge(net, kept, passed, known, line) {
+    match judge(net, kept, known, line) {
         Some(reason) => Some(reason),
         None => {
             kept.place = behind;
@@ -58,29 +54,21 @@ pub(crate) fn advance(
 }
 
 /// Adds a line to what is kept, or answers the first condition that is reported there and does not hold.
-fn judge(
-    net: &CrashNet<'_>,
-    kept: &mut Kept,
-    passed: &mut Vec<Passed>,
-    known: &KnownLine,
-    line: &CertLine,
-) -> Option<u8>
-    requires safe { IsSafe net.now.network.events (length net.now.network.arcs) kept.old.tally }
-    requires passed { ArePassed net.now passed.old.items }
+fn judge(net: &CrashNet<'_>, kept: &mut Kept, known: &KnownLine, line: &CertLine) -> Option<u8>
+    requires safe { IsSafe net.now kept.old.tally }
     requires known { known.now.line ≡ Some line.now }
     requires fits { first_failing (conditions net.now (known_by kept.old) line.now) ≡ None → MayBeAdded net.now line.now kept.old }
     ensures reason { result ≡ first_failing (conditions net.now (known_by kept.old) line.now) }
     ensures added { IfNone result (Adds net.now line.now kept.old kept.new) }
     ensures same { OnSome result (kept.new ≡ kept.old) }
-    ensures safe { IsSafe net.now.network.events (length net.now.network.arcs) kept.new.tally }
-    ensures passed { ArePassed net.now passed.new.items }
+    ensures safe { IsSafe net.now kept.new.tally }
 {
     match line {
         CertLine::Act {
             code,
             duration,
             flows,
-        } => judge_act(net, kept, passed, known, code, *duration, flows),
+        } => judge_act(net, kept, known, code, *duration, flows),
         _ => match reason(net, kept, line) {
             Some(reason) => Some(reason),
             None => {
@@ -96,20 +84,17 @@ fn judge(
 fn judge_act(
     net: &CrashNet<'_>,
     kept: &mut Kept,
-    passed: &mut Vec<Passed>,
     known: &KnownLine,
     code: &Code,
     duration: u64,
     flows: &Flows,
 ) -> Option<u8>
-    requires safe { IsSafe net.now.network.events (length net.now.network.arcs) kept.old.tally }
-    requires passed { ArePassed net.now passed.old.items }
+    requires safe { IsSafe net.now kept.old.tally }
     requires known { known.now.line ≡ Some (Act code.now duration flows.now) }
     ensures reason { result ≡ first_failing (conditions net.now (known_by kept.old) (Act code.now duration flows.now)) }
     ensures added { IfNone result (Adds net.now (Act code.now duration flows.now) kept.old kept.new) }
     ensures same { OnSome result (kept.new ≡ kept.old) }
-    ensures safe { IsSafe net.now.network.events (length net.now.network.arcs) kept.new.tally }
-    ensures passed { ArePassed net.now passed.new.items }
+    ensures safe { IsSafe net.now kept.new.tally }
 {
     let a = kept.tally.acts;
     if !has_act_code(net, a, code, flows) {
@@ -119,8 +104,8 @@ fn judge_act(
     match reason_at_act(net, kept, &crossing, duration, flows) {
         Some(reason) => Some(reason),
         None => {
-            passed[a as usize] = passed_of(net, a, known, duration, flows);
-            add_act(net, &mut kept.tally, &crossing, duration, flows.as_slice());
+            let passed = passed_of(net, a, known, duration, flows);
+            add_act(net, &mut kept.tally, &crossing, passed);
             None
         }
     }
@@ -128,11 +113,11 @@ fn judge_act(
 
 /// Adds a line of another kind to what is kept.
 fn add(net: &CrashNet<'_>, kept: &mut Kept, line: &CertLine)
-    requires safe { IsSafe net.now.network.events (length net.now.network.arcs) kept.old.tally }
+    requires safe { IsSafe net.now kept.old.tally }
     requires other { IsAct line.now → ⊥ }
     requires fits { MayBeAdded net.now line.now kept.old }
     ensures added { Adds net.now line.now kept.old kept.new }
-    ensures safe { IsSafe net.now.network.events (length net.now.network.arcs) kept.new.tally }
+    ensures safe { IsSafe net.now kept.new.tally }
 {
     match line {
         CertLine::Step(code) => add_step(net, kept, code),

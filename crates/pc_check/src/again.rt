@@ -1,14 +1,13 @@
 //! Going on by a line that comes again, or that is told by how it begins.
-ghost use Rattle.std.specs.Prelude.{◌≡◌, ◌^◌, ◌<◌, None, length};
+ghost use Rattle.std.specs.Prelude.{◌≡◌, ◌^◌, ◌<◌, ◌≤◌, None, length};
 ghost use Rattle.pc_check.specs.Again.{AddsLine, TakesLine};
 ghost use Rattle.pc_check.specs.Bounds.{IsBounded};
 ghost use Rattle.pc_check.specs.Fronts.{AreFronts};
-ghost use Rattle.pc_check.specs.Passed.{ArePassed};
 ghost use Rattle.pc_check.specs.Safe.{IsSafe};
 
 use crate::adding::{add_again, add_event};
 use crate::kept::Kept;
-use crate::passed::{Passed, passes_again};
+use crate::passed::passes_again;
 use pc_cert::{CertReader, EventFront};
 use pc_crash::CrashNet;
 
@@ -18,13 +17,11 @@ use pc_crash::CrashNet;
 pub(crate) fn advance_again(
     net: &CrashNet<'_>,
     kept: &mut Kept,
-    passed: &[Passed],
     fronts: &[EventFront],
     reader: &mut CertReader,
     piece: &[u8],
 ) -> usize
-    requires safe { IsSafe net.now.network.events (length net.now.network.arcs) kept.old.tally }
-    requires passed { ArePassed net.now passed.now }
+    requires safe { IsSafe net.now kept.old.tally }
     requires fronts { AreFronts net.now fronts.now }
     requires bounded { IsBounded net.now kept.old }
     requires place { reader.old.place ≡ kept.old.place }
@@ -34,11 +31,11 @@ pub(crate) fn advance_again(
     ensures same_reader { result ≡ 0 → reader.new ≡ reader.old }
     ensures takes { 0 < result → TakesLine net.now piece.now result reader.old reader.new kept.old kept.new }
     ensures bounded { IsBounded net.now kept.new }
-    ensures safe { IsSafe net.now.network.events (length net.now.network.arcs) kept.new.tally }
+    ensures safe { IsSafe net.now kept.new.tally }
 {
     let _events = net.net().events();
     let _activities = net.net().activities();
-    let used = add_line(net, kept, passed, fronts, reader, piece);
+    let used = add_line(net, kept, fronts, reader, piece);
     if used == 0 {
         return 0;
     }
@@ -52,13 +49,11 @@ pub(crate) fn advance_again(
 fn add_line(
     net: &CrashNet<'_>,
     kept: &mut Kept,
-    passed: &[Passed],
     fronts: &[EventFront],
     reader: &mut CertReader,
     piece: &[u8],
 ) -> usize
-    requires safe { IsSafe net.now.network.events (length net.now.network.arcs) kept.old.tally }
-    requires passed { ArePassed net.now passed.now }
+    requires safe { IsSafe net.now kept.old.tally }
     requires fronts { AreFronts net.now fronts.now }
     requires bounded { IsBounded net.now kept.old }
     requires place { reader.old.place ≡ kept.old.place }
@@ -67,12 +62,12 @@ fn add_line(
     ensures same_kept { result ≡ 0 → kept.new ≡ kept.old }
     ensures same_reader { result ≡ 0 → reader.new ≡ reader.old }
     ensures adds { 0 < result → AddsLine net.now piece.now result reader.old reader.new kept.old kept.new }
-    ensures safe { IsSafe net.now.network.events (length net.now.network.arcs) kept.new.tally }
+    ensures safe { IsSafe net.now kept.new.tally }
 {
     if kept.tally.times.len() < fronts.len() {
         return add_told(net, kept, fronts, reader, piece);
     }
-    add_same(net, kept, passed, reader, piece)
+    add_same(net, kept, reader, piece)
 }
 
 /// Reads the line at the front of the piece and adds it to what is kept, where it is one of the next event, of which nothing is asked but its
@@ -85,7 +80,7 @@ fn add_told(
     reader: &mut CertReader,
     piece: &[u8],
 ) -> usize
-    requires safe { IsSafe net.now.network.events (length net.now.network.arcs) kept.old.tally }
+    requires safe { IsSafe net.now kept.old.tally }
     requires fronts { AreFronts net.now fronts.now }
     requires bounded { IsBounded net.now kept.old }
     requires place { reader.old.place ≡ kept.old.place }
@@ -94,7 +89,7 @@ fn add_told(
     ensures same_kept { result ≡ 0 → kept.new ≡ kept.old }
     ensures same_reader { result ≡ 0 → reader.new ≡ reader.old }
     ensures adds { 0 < result → AddsLine net.now piece.now result reader.old reader.new kept.old kept.new }
-    ensures safe { IsSafe net.now.network.events (length net.now.network.arcs) kept.new.tally }
+    ensures safe { IsSafe net.now kept.new.tally }
 {
     let e = kept.tally.times.len();
     if fronts.len() <= e
@@ -116,28 +111,23 @@ fn add_told(
 /// Reads the line at the front of the piece and adds it to what is kept, where it is that of the next activity as it passed last, and passes
 /// again.
 #[inline(always)]
-fn add_same(
-    net: &CrashNet<'_>,
-    kept: &mut Kept,
-    passed: &[Passed],
-    reader: &mut CertReader,
-    piece: &[u8],
-) -> usize
-    requires safe { IsSafe net.now.network.events (length net.now.network.arcs) kept.old.tally }
-    requires passed { ArePassed net.now passed.now }
+fn add_same(net: &CrashNet<'_>, kept: &mut Kept, reader: &mut CertReader, piece: &[u8]) -> usize
+    requires safe { IsSafe net.now kept.old.tally }
+    requires times { net.now.network.events ≤ length kept.old.tally.times.items }
+    requires moves { net.now.network.events ≤ length kept.old.tally.moves.items }
     requires place { reader.old.place ≡ kept.old.place }
     requires going { reader.old.malformed ≡ None }
     requires few { reader.old.lines < 2 ^ 63 }
     ensures same_kept { result ≡ 0 → kept.new ≡ kept.old }
     ensures same_reader { result ≡ 0 → reader.new ≡ reader.old }
     ensures adds { 0 < result → AddsLine net.now piece.now result reader.old reader.new kept.old kept.new }
-    ensures safe { IsSafe net.now.network.events (length net.now.network.arcs) kept.new.tally }
+    ensures safe { IsSafe net.now kept.new.tally }
 {
     let a = kept.tally.acts;
     if net.net().activities() <= a {
         return 0;
     }
-    let last = &passed[a as usize];
+    let last = &kept.tally.rows[a as usize];
     if !passes_again(net, kept, last) {
         return 0;
     }
@@ -145,6 +135,6 @@ fn add_same(
     if used == 0 {
         return 0;
     }
-    add_again(net, &mut kept.tally, last);
+    add_again(net, &mut kept.tally);
     used
 }

@@ -14,7 +14,6 @@ use crate::again::advance_again;
 use crate::fail::{Fail, Verdict};
 use crate::fronts::fronts_of;
 use crate::kept::{Kept, kept_of};
-use crate::passed::{Passed, none_passed};
 use pc_cert::{CertLine, CertReader, EventFront, KnownLine, Place};
 use pc_crash::CrashNet;
 use std::alloc::{AllocError, Global};
@@ -26,8 +25,6 @@ pub struct Checker<'n> {
     net: &'n CrashNet<'n>,
     kept: Kept,
     fail: Option<Fail>,
-    /// what passed last of each activity
-    passed: Vec<Passed>,
     /// how the lines of each event begin
     fronts: Vec<EventFront>,
 }
@@ -57,7 +54,6 @@ impl<'n> Checker<'n> {
             net,
             kept: kept_of(alloc, net)?,
             fail: None,
-            passed: none_passed(alloc, net)?,
             fronts: fronts_of(alloc, net)?,
         })
     }
@@ -114,14 +110,7 @@ impl<'n> Checker<'n> {
         if let Some(fail) = self.fail {
             return Some(fail);
         }
-        match advance(
-            self.net,
-            &mut self.kept,
-            &mut self.passed,
-            known,
-            line,
-            behind,
-        ) {
+        match advance(self.net, &mut self.kept, known, line, behind) {
             None => None,
             Some(reason) => {
                 let fail = Fail {
@@ -146,14 +135,7 @@ impl<'n> Checker<'n> {
         ensures same_reader { result ≡ 0 → reader.new ≡ reader.old }
         ensures takes { 0 < result → TakesAlong piece.now result reader.old reader.new self.old self.new }
     {
-        advance_again(
-            self.net,
-            &mut self.kept,
-            &self.passed,
-            &self.fronts,
-            reader,
-            piece,
-        )
+        advance_again(self.net, &mut self.kept, &self.fronts, reader, piece)
     }
 
     /// What was found: that the lines are certified, with how many segments they have; or the first condition that fails.

@@ -11,7 +11,7 @@ use pc_crash::CrashNet;
 
 /// The first condition that is reported at the end of a segment and does not hold.
 pub(crate) fn reason_at_close(net: &CrashNet<'_>, kept: &Kept) -> Option<u8>
-    requires { IsSafe net.now.network.events (length net.now.network.arcs) kept.now.tally }
+    requires { IsSafe net.now kept.now.tally }
     ensures { result ≡ first_failing (conditions net.now (known_by kept.now) Close) }
 {
     if !is_conserved(net, kept) {
@@ -34,7 +34,7 @@ pub(crate) fn reason_at_close(net: &CrashNet<'_>, kept: &Kept) -> Option<u8>
 
 /// Whether the slope leaves the start.
 fn leaves_start(net: &CrashNet<'_>, kept: &Kept) -> bool
-    requires { IsSafe net.now.network.events (length net.now.network.arcs) kept.now.tally }
+    requires { IsSafe net.now kept.now.tally }
     ensures { result ≡ ((known_by kept.now).outflow net.now.network.start == (known_by kept.now).slope) }
 {
     kept.tally.outflow[net.net().start() as usize] == u128::from(kept.tally.slope)
@@ -42,7 +42,7 @@ fn leaves_start(net: &CrashNet<'_>, kept: &Kept) -> bool
 
 /// Whether the cut gain is the slope, unless the segment has one length.
 fn has_cut_gain(net: &CrashNet<'_>, kept: &Kept) -> bool
-    requires { IsSafe net.now.network.events (length net.now.network.arcs) kept.now.tally }
+    requires { IsSafe net.now kept.now.tally }
     ensures { result ≡ has_cut_gain (known_by kept.now) }
 {
     let _few = net.net().activities();
@@ -59,7 +59,7 @@ fn has_stop(kept: &Kept) -> bool
 
 /// Whether what enters each event but the start and the end leaves it.
 fn is_conserved(net: &CrashNet<'_>, kept: &Kept) -> bool
-    requires { IsSafe net.now.network.events (length net.now.network.arcs) kept.now.tally }
+    requires { IsSafe net.now kept.now.tally }
     ensures { result ≡ is_conserved net.now.network (known_by kept.now) }
 {
     for e in 0..net.net().events() {
@@ -72,7 +72,7 @@ fn is_conserved(net: &CrashNet<'_>, kept: &Kept) -> bool
 
 /// Whether an event is the start or the end, or what enters it leaves it.
 fn is_conserved_at(net: &CrashNet<'_>, kept: &Kept, e: u32) -> bool
-    requires safe { IsSafe net.now.network.events (length net.now.network.arcs) kept.now.tally }
+    requires safe { IsSafe net.now kept.now.tally }
     requires known { e < net.now.network.events }
     ensures { result ≡ (e == net.now.network.start || (e == net.now.network.end || (known_by kept.now).inflow e == (known_by kept.now).outflow e)) }
 {

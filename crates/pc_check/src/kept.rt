@@ -1,11 +1,12 @@
 //! What a checker keeps of the lines that have come.
-ghost use Rattle.std.specs.Prelude.{◌≡◌, length, slice_index, slice_index_or, false, IfOk};
+ghost use Rattle.std.specs.Prelude.{◌≡◌, ◌<◌, slice_index, slice_index_or, length, false, IfOk};
 ghost use Rattle.pc_cert.specs.declared.place.Place.TheVariants.{Start};
 ghost use Rattle.pc_check.specs.Bounds.{IsBounded};
 ghost use Rattle.pc_check.specs.Checking.{IsKept};
 ghost use Rattle.pc_check.specs.Draft.{empty_draft};
 ghost use Rattle.pc_check.specs.Safe.{IsBegun, IsSafe};
 
+use crate::passed::{Passed, none_passed};
 use crate::walk::Reached;
 use pc_cert::Place;
 use pc_crash::CrashNet;
@@ -27,6 +28,9 @@ pub struct Kept {
 }
 
 /// What is kept of the last segment that has begun.
+///
+/// The sums of flows and of the cost stay from one segment to the next, since most activities do: an activity changes them where its
+/// line does. So they are those of the segment once all its activities have come.
 #[derive(Drop)]
 pub struct Tally {
     pub(crate) upper: u64,
@@ -36,12 +40,14 @@ pub struct Tally {
     /// the times of the events that have come, and whether they move
     pub(crate) times: Vec<u64>,
     pub(crate) moves: Vec<bool>,
-    /// how many activities have come, and what flows into each event and out of it along them
+    /// how many activities have come, and what passed last of each, in this segment or in the one before
     pub(crate) acts: u32,
+    pub(crate) rows: Vec<Passed>,
+    /// by what passed last of each activity: what flows into each event and out of it, and what all cost
     pub(crate) inflow: Vec<u128>,
     pub(crate) outflow: Vec<u128>,
-    /// what they cost, and the sums and the stop of the cut
     pub(crate) spent: u64,
+    /// the sums and the stop of the cut
     pub(crate) forward: u128,
     pub(crate) backward: u128,
     pub(crate) stops: bool,
@@ -53,7 +59,7 @@ pub(crate) fn kept_of(alloc: Global, net: &CrashNet<'_>) -> Result<Kept, AllocEr
     ensures place { IfOk result (λ kept. kept.place ≡ Start) }
     ensures lines { IfOk result (λ kept. kept.lines ≡ 0) }
     ensures bounded { IfOk result (λ kept. IsBounded net.now kept) }
-    ensures safe { IfOk result (λ kept. IsSafe net.now.network.events (length net.now.network.arcs) kept.tally) }
+    ensures safe { IfOk result (λ kept. IsSafe net.now kept.tally) }
 {
     let begin = Reached {
         event: net.net().start(),
@@ -73,7 +79,7 @@ pub(crate) fn kept_of(alloc: Global, net: &CrashNet<'_>) -> Result<Kept, AllocEr
 /// What is kept before a segment has begun.
 fn tally_of(alloc: Global, net: &CrashNet<'_>) -> Result<Tally, AllocError>
     ensures begun { IfOk result (λ tally. IsBegun 0 0 0 0 tally) }
-    ensures safe { IfOk result (λ tally. IsSafe net.now.network.events (length net.now.network.arcs) tally) }
+    ensures safe { IfOk result (λ tally. IsSafe net.now tally) }
 {
     let events = net.net().events() as usize;
     Ok(Tally {
@@ -84,6 +90,7 @@ fn tally_of(alloc: Global, net: &CrashNet<'_>) -> Result<Tally, AllocError>
         times: Vec::with_capacity(alloc, events)?,
         moves: Vec::with_capacity(alloc, events)?,
         acts: 0,
+        rows: none_passed(alloc, net)?,
         inflow: vec![in alloc; 0u128; events]?,
         outflow: vec![in alloc; 0u128; events]?,
         spent: 0,
@@ -111,4 +118,20 @@ pub(crate) fn bit_at(bits: &[bool], i: u32) -> bool
         Some(bit) => *bit,
         None => false,
     }
+}
+
+/// The number in a list at a place that it has.
+pub(crate) fn known_number(numbers: &[u64], i: u32) -> u64
+    requires { i < length numbers.now }
+    ensures { result ≡ slice_index numbers.now i }
+{
+    numbers[i as usize]
+}
+
+/// The bit in a list at a place that it has.
+pub(crate) fn known_bit(bits: &[bool], i: u32) -> bool
+    requires { i < length bits.now }
+    ensures { result ≡ slice_index_or bits.now i false }
+{
+    bits[i as usize]
 }

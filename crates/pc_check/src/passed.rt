@@ -4,10 +4,10 @@ ghost use Rattle.pc_crash.specs.Priced.{knees_in};
 ghost use Rattle.pc_model.specs.Schedule.{normal_of};
 ghost use Rattle.pc_check.specs.Conditions.{keeps_rises};
 ghost use Rattle.pc_check.specs.Kept.{known_by};
-ghost use Rattle.pc_check.specs.Passed.{IsLineOf, HasPassed, ArePassed, FitsWithin, IsWithin, ComesAgain};
+ghost use Rattle.pc_check.specs.Passed.{IsLineOf, HasPassed, ArePassed, IsNothing, FitsWithin, IsWithin, ComesAgain};
 
 use crate::acts::flow_sum;
-use crate::kept::{Kept, bit_at, number_at};
+use crate::kept::{Kept, known_bit, known_number};
 use pc_cert::{Flows, KnownLine, LineText};
 use pc_crash::CrashNet;
 use pc_model::Knee;
@@ -38,7 +38,8 @@ pub struct Gaps {
 
 /// Nothing has passed of any activity.
 pub(crate) fn none_passed(alloc: Global, net: &CrashNet<'_>) -> Result<Vec<Passed>, AllocError>
-    ensures { IfOk result (λ passed. ArePassed net.now passed.items) }
+    ensures passed { IfOk result (λ passed. ArePassed net.now passed.items) }
+    ensures nothing { IfOk result (λ passed. IsNothing net.now passed.items) }
 {
     let nothing = Passed {
         text: LineText::new(),
@@ -67,7 +68,9 @@ pub(crate) fn passed_of(
     requires flows { length flows.now ≡ (knees_in net.now).count a + 1 }
     requires rises { keeps_rises net.now a flows.now ≡ true }
     requires lasts { duration ≤ normal_of net.now.terms a }
-    ensures { HasPassed net.now a result }
+    ensures passed { HasPassed net.now a result }
+    ensures duration { result.duration ≡ duration }
+    ensures flows { result.flows ≡ flows.now }
 {
     let list = net.knees(a);
     let gaps = gaps_of(net.term(a).crash, list.as_slice(), flows.as_slice());
@@ -145,16 +148,18 @@ fn lowered(high: u64, knee: Knee, flow: u64) -> u64
 /// the cut, and its gap is one that the flows and the duration fit.
 #[inline(always)]
 pub(crate) fn passes_again(net: &CrashNet<'_>, kept: &Kept, passed: &Passed) -> bool
-    requires { kept.now.tally.acts < length net.now.network.arcs }
+    requires known { kept.now.tally.acts < length net.now.network.arcs }
+    requires times { net.now.network.events ≤ length kept.now.tally.times.items }
+    requires moves { net.now.network.events ≤ length kept.now.tally.moves.items }
     ensures { IsTrue result → ComesAgain net.now (known_by kept.now) passed.now }
 {
     let tally = &kept.tally;
     let from = net.net().from(tally.acts);
     let to = net.net().to(tally.acts);
-    bit_at(&tally.moves, from) == bit_at(&tally.moves, to)
+    known_bit(&tally.moves, from) == known_bit(&tally.moves, to)
         && is_within(
-            number_at(&tally.times, to),
-            number_at(&tally.times, from),
+            known_number(&tally.times, to),
+            known_number(&tally.times, from),
             passed,
         )
         && kept.parts != 0

@@ -21,7 +21,7 @@ use pc_text::Code;
 
 /// The first condition that is reported at the line and does not hold, where it is not the line of an activity.
 pub(crate) fn reason(net: &CrashNet<'_>, kept: &Kept, line: &CertLine) -> Option<u8>
-    requires safe { IsSafe net.now.network.events (length net.now.network.arcs) kept.now.tally }
+    requires safe { IsSafe net.now kept.now.tally }
     requires other { IsAct line.now → ⊥ }
     ensures { result ≡ first_failing (conditions net.now (known_by kept.now) line.now) }
 {

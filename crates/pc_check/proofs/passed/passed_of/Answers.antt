@@ -1,13 +1,12 @@
 use Rattle.std.proofs.Common.{◌≡◌, ℕ, ◌-◌, min, arith, ap, subst, ◌∙◌, length}
 use Rattle.pc_model.specs.declared.Term.{Term}
-use Rattle.pc_crash.specs.Priced.{knees_in}
 use Rattle.pc_check.specs.KneeTests.{flow_sum}
 use Rattle.pc_check.specs.Passed.{FitsWithin, IsWithin}
 use Rattle.pc_check.proofs.PassedLaws.{slack_in_within}
 use Rattle.pc_check.proofs.passed.passed_of.Goals as goal
 
-pub returns : goal.returns
-returns c =
+pub returns-clause-passed : goal.returns-clause-passed
+returns-clause-passed c =
     let list = c.knees-list.result in
     let flows = c.args.flows.now in
     let gaps = c.gaps_of-gaps.result in

@@ -1,7 +1,6 @@
 use Rattle.std.proofs.Common.{◌≡◌, ◌<◌, None, sym, ap, subst, ◌∙◌}
 use Rattle.pc_check.specs.Bounds.{lines_left}
 use Rattle.pc_check.specs.Checking.{Checking, StandsFor}
-use Rattle.pc_check.proofs.SaidLaws.{AreWhole}
 use Rattle.pc_check.proofs.TakeLaws.{goes_on, is_going, still_going, when_none}
 use Rattle.pc_check.proofs.checker.Checker.take_again.Goals as goal
 
@@ -10,13 +9,12 @@ returns-clause-takes c = λ some.
     let net = c.self.inside.net.now in
     let none : c.self.inside.fail ≡ None = ap (λ (s : Checking). s.fail) c.self.view_is ∙ c.requires.no_fail in
     let it = c.advance_again.ensures.takes some in
-    let whole : AreWhole net.network.events c.self.inside.kept.tally = record { entering = c.self.invariant.safe.entering; leaving = c.self.invariant.safe.leaving } in
     record {
       line = it.line;
       reads = it.reads;
       stands = λ lines h.
           let before = is_going net c.self.inside.kept c.self.inside.fail lines none (subst (λ s. StandsFor s lines) (sym c.self.view_is) h) in
-          still_going net c.advance_again.new.kept c.self.inside.fail _ none (goes_on it.line whole (when_none c.self.inside.fail none c.self.invariant.bounded) (sym it.none) it.advances before);
+          still_going net c.advance_again.new.kept c.self.inside.fail _ none (goes_on it.line c.self.invariant.safe (when_none c.self.inside.fail none c.self.invariant.bounded) (sym it.none) it.advances before);
       none = none;
       net = ap (λ (s : Checking). s.net) c.self.view_is;
       few = it.few;

@@ -1,7 +1,8 @@
-use Rattle.std.proofs.Common.{◌+◌, ◌<◌, sym, ap, subst, ◌∙◌}
+use Rattle.std.proofs.Common.{◌≡◌, ◌+◌, ◌<◌, Some, sym, ap, subst, ◌∙◌}
 use Rattle.pc_check.specs.Bounds.{lines_left}
-use Rattle.pc_check.specs.Checking.{StandsFor}
-use Rattle.pc_check.proofs.SaidLaws.{AreWhole}
+use Rattle.std.specs.Prelude.{IfNone}
+use Rattle.pc_cert.specs.Grammar.{next}
+use Rattle.pc_check.specs.Checking.{Checking, StandsFor}
 use Rattle.pc_check.proofs.TakeLaws.{goes_on, fails, stays, is_going, still_going, when_none}
 use Rattle.pc_check.proofs.checker.Checker.take_known.Goals as goal
 
@@ -13,8 +14,7 @@ pub returns-in-None-clause-stands : goal.returns-in-None-clause-stands
 returns-in-None-clause-stands c = λ lines h.
     let none = c.in_default.is in
     let before = is_going c.self.inside.net.now c.self.inside.kept c.self.inside.fail lines none (subst (λ s. StandsFor s lines) (sym c.self.view_is) h) in
-    let whole : AreWhole c.self.inside.net.now.network.events c.self.inside.kept.tally = record { entering = c.self.invariant.safe.entering; leaving = c.self.invariant.safe.leaving } in
-    still_going c.self.inside.net.now c.advance.new.kept c.self.inside.fail _ none (goes_on c.args.line.now whole (when_none c.self.inside.fail none c.self.invariant.bounded) c.in-None.ensures.reason c.in-None.ensures.advances before)
+    still_going c.self.inside.net.now c.advance.new.kept c.self.inside.fail _ none (goes_on c.args.line.now c.self.invariant.safe (when_none c.self.inside.fail none c.self.invariant.bounded) c.in-None.ensures.reason c.in-None.ensures.advances before)
 
 pub returns-in-None-clause-left : goal.returns-in-None-clause-left
 returns-in-None-clause-left c =
@@ -24,5 +24,6 @@ pub returns-in-Some-advance-clause-stands : goal.returns-in-Some-advance-clause-
 returns-in-Some-advance-clause-stands c = λ lines h.
     let none = c.in_default.is in
     let before = is_going c.self.inside.net.now c.self.inside.kept c.self.inside.fail lines none (subst (λ s. StandsFor s lines) (sym c.self.view_is) h) in
-    let whole : AreWhole c.self.inside.net.now.network.events c.self.inside.kept.tally = record { entering = c.self.invariant.safe.entering; leaving = c.self.invariant.safe.leaving } in
-    fails c.args.line.now c.in-Some-advance.reason (c.advance.new.kept.lines + 1) whole c.in-Some-advance.ensures.reason (ap (λ k. k.lines + 1) c.in-Some-advance.ensures.same) before
+    let bounded = when_none c.self.inside.fail none c.self.invariant.bounded in
+    let goes = when_none c.self.inside.fail none (subst (λ (s : Checking). IfNone s.fail (next s.kept.place c.args.line.now ≡ Some c.args.behind)) (sym c.self.view_is) c.requires.goes) in
+    fails c.args.line.now c.args.behind c.in-Some-advance.reason (c.advance.new.kept.lines + 1) c.self.invariant.safe bounded goes c.in-Some-advance.ensures.reason (ap (λ k. k.lines + 1) c.in-Some-advance.ensures.same) before

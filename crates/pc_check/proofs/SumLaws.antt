@@ -1,0 +1,77 @@
+-- Sums over what passed last of all activities, where what is kept of one of them is renewed.
+use Rattle.std.proofs.Common.{◌≡◌, ℕ, ◌+◌, ◌*◌, ◌^◌, ◌<◌, ◌≤◌, zero, Bool, true, false, cond, List, length, inl, inr, refl, sym, ap, subst, ◌∙◌, arith}
+use Rattle.std.specs.Prelude.{◌==◌, slice_index, if◌then◌else◌}
+use Rattle.std.proofs.lemmas.Bool.{cases_eq, eq-eqb, ne_eqb}
+use Rattle.pc_model.specs.Sums.{sum_to}
+use Rattle.pc_model.proofs.Sums.{sum_to-zero, sum_to-bound, sum_to-change, sum_to-most}
+use Rattle.pc_crash.specs.Priced.{PricedNetwork}
+use Rattle.pc_crash.specs.declared.costing.TheConstants.{MAX_ACTIVITY_COST}
+use Rattle.pc_check.specs.declared.passed.Passed.{Passed}
+use Rattle.pc_check.specs.Passed.{flow_of, cost_of, ArePassed, IsNothing}
+use Rattle.pc_check.specs.Safe.{AreSums, IsExchanged, IsRenewed}
+
+-- ---- the flows
+
+-- what flows along an activity that `place` puts at an event, and else 0
+abbrev put_at : List Passed → (ℕ → ℕ) → ℕ → ℕ → ℕ
+put_at rows place e a = if place a == e then flow_of rows a else 0
+
+pub sums_exchanged : (net : PricedNetwork) (rows more : List Passed) {flow cost : ℕ} (place : ℕ → ℕ) (a : ℕ) (old new : List ℕ) → a < length net.network.arcs → IsRenewed rows more a flow cost → IsExchanged old new (place a) (flow_of rows a) flow
+    → AreSums net rows place old → AreSums net more place new
+sums_exchanged net rows more {flow} {cost} place a old new known renewed exchanged are = λ e lt.
+    let m = length net.network.arcs in
+    let change : sum_to m (put_at more place e) + put_at rows place e a ≡ sum_to m (put_at rows place e) + put_at more place e a =
+    sum_to-change m (put_at more place e) (put_at rows place e) a known (λ b below other. ap (λ (row : Passed). if place b == e then row.flow else 0) (renewed.others b other)) in
+    let was : slice_index old e ≡ sum_to m (put_at rows place e) = are e lt in
+    elim (cases_eq e (place a)) [
+      | inl here ↦
+          let at : (place a == e) ≡ true = eq-eqb (place a) e (sym here) in
+          let before : put_at rows place e a ≡ flow_of rows a = ap (λ b. cond b (flow_of rows a) 0) at in
+          let now : put_at more place e a ≡ flow = ap (λ b. cond b (flow_of more a) 0) at ∙ renewed.flow in
+          let there : slice_index new e + flow_of rows a ≡ slice_index old e + flow = subst (λ i. slice_index new i + flow_of rows a ≡ slice_index old i + flow) (sym here) exchanged.there in
+          omega (arith, change, before, now, there, was)
+      | inr elsewhere ↦
+          let off : (place a == e) ≡ false = ne_eqb (place a) e (λ q. elsewhere (sym q)) in
+          let before : put_at rows place e a ≡ 0 = ap (λ b. cond b (flow_of rows a) 0) off in
+          let now : put_at more place e a ≡ 0 = ap (λ b. cond b (flow_of more a) 0) off in
+          omega (arith, change, before, now, exchanged.elsewhere e elsewhere, was)
+    ]
+
+-- the flow of an activity is in the sum of the event where it is put
+pub is_in_sum : (net : PricedNetwork) (rows : List Passed) (place : ℕ → ℕ) (a : ℕ) (sums : List ℕ) → a < length net.network.arcs → place a < net.network.events → AreSums net rows place sums → flow_of rows a ≤ slice_index sums (place a)
+is_in_sum net rows place a sums known there are =
+    let own : put_at rows place (place a) a ≡ flow_of rows a = ap (λ b. cond b (flow_of rows a) 0) (eq-eqb (place a) (place a) refl) in
+    omega (arith, own, sum_to-bound (length net.network.arcs) (put_at rows place (place a)) a known, are (place a) there)
+
+at_most : (b : Bool) (x most : ℕ) → x ≤ most → (if b then x else 0) ≤ most
+at_most true x most h = h
+at_most false x most h = omega arith
+
+either_zero : (b : Bool) → cond b 0 zero ≡ zero
+either_zero true = refl
+either_zero false = refl
+
+-- no sum is larger than all activities can make it
+pub sum_small : {net : PricedNetwork} {rows : List Passed} (place : ℕ → ℕ) (sums : List ℕ) (e : ℕ) → ArePassed net rows → AreSums net rows place sums → e < net.network.events → slice_index sums e ≤ length net.network.arcs * 2 ^ 67
+sum_small {net} {rows} place sums e passed are lt =
+    omega (arith, are e lt, sum_to-most (length net.network.arcs) (2 ^ 67) (put_at rows place e) (λ a below. at_most (place a == e) (flow_of rows a) (2 ^ 67) (omega (arith, (passed.each a below).small))))
+
+-- nothing flows where nothing has passed
+pub no_sums : {net : PricedNetwork} {rows : List Passed} (place : ℕ → ℕ) (sums : List ℕ) → IsNothing net rows → ((e : ℕ) → e < net.network.events → slice_index sums e ≡ 0) → AreSums net rows place sums
+no_sums {net} {rows} place sums nothing none = λ e lt.
+    none e lt ∙ sym (sum_to-zero (length net.network.arcs) (put_at rows place e) (λ a below. ap (λ x. if place a == e then x else 0) (nothing.flow a below) ∙ either_zero (place a == e)))
+
+-- ---- the cost
+
+pub cost_exchanged : {rows more : List Passed} {flow cost : ℕ} (m a : ℕ) → a < m → IsRenewed rows more a flow cost → sum_to m (cost_of more) + cost_of rows a ≡ sum_to m (cost_of rows) + cost
+cost_exchanged {rows} {more} {flow} {cost} m a known renewed =
+    omega (arith, sum_to-change m (cost_of more) (cost_of rows) a known (λ b below other. ap (λ (row : Passed). row.cost) (renewed.others b other)), renewed.cost)
+
+pub cost_in_sum : (rows : List Passed) (m a : ℕ) → a < m → cost_of rows a ≤ sum_to m (cost_of rows)
+cost_in_sum rows m a known = sum_to-bound m (cost_of rows) a known
+
+pub cost_small : {net : PricedNetwork} {rows : List Passed} → ArePassed net rows → sum_to (length net.network.arcs) (cost_of rows) ≤ length net.network.arcs * MAX_ACTIVITY_COST
+cost_small {net} {rows} passed = sum_to-most (length net.network.arcs) MAX_ACTIVITY_COST (cost_of rows) (λ a below. (passed.each a below).cheap)
+
+pub no_cost : {net : PricedNetwork} {rows : List Passed} → IsNothing net rows → 0 ≡ sum_to (length net.network.arcs) (cost_of rows)
+no_cost {net} {rows} nothing = sym (sum_to-zero (length net.network.arcs) (cost_of rows) nothing.cost)
