@@ -1,5 +1,5 @@
 -- What an index has, and what it has after one more code.
-use Rattle.std.proofs.Common.{◌≡◌, ◌≢◌, ℕ, ◌+◌, ◌<◌, ◌≤◌, Bool, true, false, nat_eq, List, [], ◌∷◌, ◌++◌, length, set, get_or, Option, Some, None, ◌⊎◌, inl, inr, refl, sym, ◌∙◌, ap, cond, subst, ⊎_elim, arith, length-append}
+use Rattle.std.proofs.Common.{◌≡◌, ◌≢◌, ℕ, ◌+◌, ◌-◌, ◌<◌, ◌≤◌, false, nat_eq, List, [], ◌∷◌, ◌++◌, length, set, get_or, Some, None, ◌⊎◌, inl, inr, refl, sym, ◌∙◌, ap, subst, ⊎_elim, arith}
 use Rattle.std.proofs.lemmas.Bool.{cases_Bool, cases_eq}
 use Rattle.std.proofs.lemmas.List.{get_or-set_same, get_or-set_other, get_or_read, length-set}
 use Rattle.std.proofs.lemmas.Map.Lookups.{exact_unsigned}
@@ -10,7 +10,7 @@ use Rattle.std.specs.List.{list_any, position}
 use Rattle.std.specs.Map.{lookup}
 use Rattle.std.specs.Ordering.{nat_cmp}
 use Rattle.pc_model.specs.Codes.{code_at, IsNamedOnce}
-use Rattle.pc_names.specs.Index.{IsIndexed, IsFound, slot_of, slot_at, crowded_at}
+use Rattle.pc_names.specs.Index.{IsIndexed, IsFound, own, beside, crowded, slot_of, slot_at, beside_at, crowded_at}
 use Rattle.pc_names.specs.declared.index.Index.{Index}
 use Rattle.pc_names.proofs.OnceLaws.{absent, inner_or_last, inner-place, last-place}
 use Rattle.pc_names.proofs.PlaceLaws.{position-named, position-unknown}
@@ -19,6 +19,7 @@ use Rattle.pc_text.specs.CodeNumber.{number_of, code_in}
 -- no codes
 pub IsIndexed-none : (index : Index) → ((slot : ℕ) → get_or index.slots.items slot 0 ≡ 0) → index.crowded.entries ≡ [] → IsIndexed [] index
 IsIndexed-none index free empty = record {
+  alone = λ few slot. free slot;
   within = λ slot. omega (arith, free slot);
   each = λ k inside. absurd (omega arith);
   only = λ number k is. let none : crowded_at index number ≡ None = ap (λ (es : List (ℕ × ℕ)). lookup (is_at (nat_cmp number)) es) empty in absurd cc;
@@ -27,7 +28,8 @@ IsIndexed-none index free empty = record {
 -- an ordered map that was left with its entries
 pub IsIndexed-same : (codes : List (List ℕ)) (old new : Index) → IsIndexed codes old → new.slots.items ≡ old.slots.items → new.crowded.entries ≡ old.crowded.entries → IsIndexed codes new
 IsIndexed-same codes old new indexed slots entries = record {
-  within = λ slot. let same = ap (λ (xs : List ℕ). get_or xs slot 0) slots in omega (arith, same, indexed.within slot);
+  alone = λ few slot. at slot ∙ indexed.alone (let long = ap length slots in omega (arith, long)) slot;
+  within = λ slot. omega (arith, at slot, indexed.within slot);
   each = λ k below. still (code_at codes k) k (indexed.each k below);
   only = λ number k is. indexed.only number k (sym (map_kept number) ∙ is);
 }
@@ -35,23 +37,30 @@ IsIndexed-same codes old new indexed slots entries = record {
     map_kept : (number : ℕ) → crowded_at new number ≡ crowded_at old number
     map_kept number = ap (λ (es : List (ℕ × ℕ)). lookup (is_at (nat_cmp number)) es) entries
 
+    at : (slot : ℕ) → get_or new.slots.items slot 0 ≡ get_or old.slots.items slot 0
+    at slot = ap (λ (xs : List ℕ). get_or xs slot 0) slots
+
     slot_kept : (c : List ℕ) → slot_at new c ≡ slot_at old c
-    slot_kept c = ap (λ (xs : List ℕ). get_or xs (slot_of (length xs) c) 0) slots
+    slot_kept c = ap (λ (xs : List ℕ). get_or xs (slot_of (length xs - 1) c) 0) slots
+
+    beside_kept : (c : List ℕ) → beside_at new c ≡ beside_at old c
+    beside_kept c = ap (λ (xs : List ℕ). get_or xs (slot_of (length xs - 1) c + 1) 0) slots
 
     still : (c : List ℕ) (k : ℕ) → IsFound old c k → IsFound new c k
-    still c k (inl taken) = inl (slot_kept c ∙ taken)
-    still c k (inr (there, found)) = inr (omega (arith, slot_kept c), map_kept (number_of c) ∙ found)
+    still c k (own taken) = own (slot_kept c ∙ taken)
+    still c k (beside some taken) = beside (omega (arith, slot_kept c)) (beside_kept c ∙ taken)
+    still c k (crowded some more found) = crowded (omega (arith, slot_kept c)) (omega (arith, beside_kept c)) (map_kept (number_of c) ∙ found)
 
--- nothing stands in a slot of none
-pub no-slots : (slots : List ℕ) → length slots ≡ 0 → (slot : ℕ) → get_or slots slot 0 ≡ 0
-no-slots [] none slot = refl
-no-slots (x ∷ xs) none slot = absurd (omega arith)
-
--- what was read of a slot
-pub slot-read : (index : Index) (code : List ℕ) (size slot x : ℕ) → size ≡ length index.slots.items → slot ≡ slot_of size code → x ≡ get_or index.slots.items slot x → slot < size → slot_at index code ≡ x
-slot-read index code size slot x full is read below =
-    ap (λ i. get_or index.slots.items i 0) (ap (λ n. slot_of n code) (sym full) ∙ sym is)
+-- what was read of a slot of a code, and of the slot beside it
+pub slot-read : (index : Index) (code : List ℕ) (count slot x : ℕ) → count ≡ length index.slots.items → slot ≡ slot_of (count - 1) code → x ≡ get_or index.slots.items slot x → slot < count → slot_at index code ≡ x
+slot-read index code count slot x full is read below =
+    ap (λ i. get_or index.slots.items i 0) (ap (λ n. slot_of (n - 1) code) (sym full) ∙ sym is)
     ∙ sym (get_or_read index.slots.items slot x (omega arith) read 0)
+
+pub beside-read : (index : Index) (code : List ℕ) (count slot x : ℕ) → count ≡ length index.slots.items → slot ≡ slot_of (count - 1) code → x ≡ get_or index.slots.items (slot + 1) x → slot + 1 < count → beside_at index code ≡ x
+beside-read index code count slot x full is read below =
+    ap (λ i. get_or index.slots.items (i + 1) 0) (ap (λ n. slot_of (n - 1) code) (sym full) ∙ sym is)
+    ∙ sym (get_or_read index.slots.items (slot + 1) x (omega arith) read 0)
 
 -- numbers that differ do not compare equal
 apart : (a b : ℕ) → a ≢ b → is_at (nat_cmp a) b ≡ false
@@ -70,18 +79,18 @@ module _ (codes : List (List ℕ)) (code : List ℕ) (old new : Index) (indexed 
   only_more : (number k : ℕ) → (k < length codes) × (code_at codes k ≡ code_in number) → (k < length (codes ++ code ∷ [])) × (code_at (codes ++ code ∷ []) k ≡ code_in number)
   only_more number k (inside, at) = (omega arith, inner-place codes code k inside ∙ at)
 
-  -- a code whose slot is free takes it
-  pub IsIndexed-slot : slot_at old code ≡ 0 → slot_of (length old.slots.items) code < length old.slots.items
-      → new.slots.items ≡ set old.slots.items (slot_of (length old.slots.items) code) (length codes + 1) → new.crowded ≡ old.crowded → IsIndexed (codes ++ code ∷ []) new
-  IsIndexed-slot free inside made kept = record {
+  -- a code takes a free slot, its own, or the one beside it where another has its own
+  pub IsIndexed-slot : (slot : ℕ) → get_or old.slots.items slot 0 ≡ 0 → 1 < length old.slots.items → slot < length old.slots.items
+      → new.slots.items ≡ set old.slots.items slot (length codes + 1) → new.crowded ≡ old.crowded
+      → (slot ≡ slot_of (length old.slots.items - 1) code) ⊎ ((slot ≡ slot_of (length old.slots.items - 1) code + 1) × (0 < slot_at old code))
+      → IsIndexed (codes ++ code ∷ []) new
+  IsIndexed-slot slot free room inside made kept which = record {
+    alone = λ few s. absurd (omega (arith, long));
     within = λ s. within s (cases_eq s slot);
-    each = each_more (IsFound new) earlier (inl here);
+    each = each_more (IsFound new) earlier (here which);
     only = λ number k is. only_more number k (indexed.only number k (sym (ap (λ (m : BTreeMap ℕ ℕ). get nat_cmp m number) kept) ∙ is));
   }
     where
-      slot : ℕ
-      slot = slot_of (length old.slots.items) code
-
       long : length new.slots.items ≡ length old.slots.items
       long = ap length made ∙ length-set old.slots.items slot (length codes + 1)
 
@@ -95,37 +104,49 @@ module _ (codes : List (List ℕ)) (code : List ℕ) (old new : Index) (indexed 
       within s (inl same) = let at = ap (λ i. get_or new.slots.items i 0) same in omega (arith, at, there)
       within s (inr differs) = omega (arith, other s differs, indexed.within s)
 
-      here : slot_at new code ≡ length codes + 1
-      here = ap (λ n. get_or new.slots.items (slot_of n code) 0) long ∙ there
+      -- a slot that was taken is another, since this one was free
+      taken_kept : (s : ℕ) → 0 < get_or old.slots.items s 0 → get_or new.slots.items s 0 ≡ get_or old.slots.items s 0
+      taken_kept s some = other s (λ same. let at = ap (λ i. get_or old.slots.items i 0) same in omega (arith, at))
 
-      -- the others have other slots, since this one was free
-      same_slot : (c : List ℕ) (k : ℕ) → IsFound old c k → slot_of (length old.slots.items) c ≢ slot
-      same_slot c k found same = let at : slot_at old c ≡ 0 = ap (λ i. get_or old.slots.items i 0) same ∙ free in elim found [
-        | inl taken ↦ omega arith
-        | inr crowded ↦ let (some, there') = crowded in omega arith
-      ]
+      slot_kept : (c : List ℕ) → 0 < slot_at old c → slot_at new c ≡ slot_at old c
+      slot_kept c some = ap (λ n. get_or new.slots.items (slot_of (n - 1) c) 0) long ∙ taken_kept (slot_of (length old.slots.items - 1) c) some
 
-      slot_kept : (c : List ℕ) → slot_of (length old.slots.items) c ≢ slot → slot_at new c ≡ slot_at old c
-      slot_kept c differs = ap (λ n. get_or new.slots.items (slot_of n c) 0) long ∙ other (slot_of (length old.slots.items) c) differs
+      beside_kept : (c : List ℕ) → 0 < beside_at old c → beside_at new c ≡ beside_at old c
+      beside_kept c some = ap (λ n. get_or new.slots.items (slot_of (n - 1) c + 1) 0) long ∙ taken_kept (slot_of (length old.slots.items - 1) c + 1) some
 
-      still : (c : List ℕ) (k : ℕ) → IsFound old c k → slot_at new c ≡ slot_at old c → IsFound new c k
-      still c k (inl taken) at = inl (at ∙ taken)
-      still c k (inr (some, found)) at = inr (omega arith, ap (λ (m : BTreeMap ℕ ℕ). get nat_cmp m (number_of c)) kept ∙ found)
+      here : (slot ≡ slot_of (length old.slots.items - 1) code) ⊎ ((slot ≡ slot_of (length old.slots.items - 1) code + 1) × (0 < slot_at old code)) → IsFound new code (length codes)
+      here (inl its) = own (ap (λ n. get_or new.slots.items (slot_of (n - 1) code) 0) long ∙ (ap (λ i. get_or new.slots.items i 0) (sym its) ∙ there))
+      here (inr (next, some)) =
+          beside (omega (arith, slot_kept code some))
+          (ap (λ n. get_or new.slots.items (slot_of (n - 1) code + 1) 0) long ∙ (ap (λ i. get_or new.slots.items i 0) (sym next) ∙ there))
+
+      still : (c : List ℕ) (k : ℕ) → IsFound old c k → IsFound new c k
+      still c k (own at) = own (slot_kept c (omega arith) ∙ at)
+      still c k (beside some at) = beside (omega (arith, slot_kept c some)) (beside_kept c (omega arith) ∙ at)
+      still c k (crowded some more found) =
+          crowded (omega (arith, slot_kept c some)) (omega (arith, beside_kept c more)) (ap (λ (m : BTreeMap ℕ ℕ). get nat_cmp m (number_of c)) kept ∙ found)
 
       earlier : (k : ℕ) → k < length codes → IsFound new (code_at codes k) k
-      earlier k below = let found = indexed.each k below in still (code_at codes k) k found (slot_kept (code_at codes k) (same_slot (code_at codes k) k found))
+      earlier k below = still (code_at codes k) k (indexed.each k below)
 
-  -- a code whose slot another one has goes into the ordered map
-  pub IsIndexed-crowded : 0 < slot_at old code → new.slots.items ≡ old.slots.items → Updates nat_cmp old.crowded new.crowded (number_of code) (Some (length codes))
+  -- a code whose slot and the one beside it others have goes into the ordered map
+  pub IsIndexed-crowded : 0 < slot_at old code → 0 < beside_at old code → new.slots.items ≡ old.slots.items → Updates nat_cmp old.crowded new.crowded (number_of code) (Some (length codes))
       → code_in (number_of code) ≡ code → list_any (pointwise nat_eq code) codes ≡ false → IsIndexed (codes ++ code ∷ []) new
-  IsIndexed-crowded some kept puts back fresh = record {
-    within = λ s. let same = ap (λ (xs : List ℕ). get_or xs s 0) kept in omega (arith, same, indexed.within s);
-    each = each_more (IsFound new) earlier (inr (omega (arith, slot_kept code), puts.1));
+  IsIndexed-crowded some more kept puts back fresh = record {
+    alone = λ few s. at s ∙ indexed.alone (let long = ap length kept in omega (arith, long)) s;
+    within = λ s. omega (arith, at s, indexed.within s);
+    each = each_more (IsFound new) earlier (crowded (omega (arith, slot_kept code)) (omega (arith, beside_kept code)) puts.1);
     only = λ number k is. only number k is (cases_eq (number_of code) number);
   }
     where
+      at : (s : ℕ) → get_or new.slots.items s 0 ≡ get_or old.slots.items s 0
+      at s = ap (λ (xs : List ℕ). get_or xs s 0) kept
+
       slot_kept : (c : List ℕ) → slot_at new c ≡ slot_at old c
-      slot_kept c = ap (λ (xs : List ℕ). get_or xs (slot_of (length xs) c) 0) kept
+      slot_kept c = ap (λ (xs : List ℕ). get_or xs (slot_of (length xs - 1) c) 0) kept
+
+      beside_kept : (c : List ℕ) → beside_at new c ≡ beside_at old c
+      beside_kept c = ap (λ (xs : List ℕ). get_or xs (slot_of (length xs - 1) c + 1) 0) kept
 
       -- the others have other numbers
       other_number : (c : List ℕ) (k : ℕ) → k < length codes → code_at codes k ≡ c → crowded_at old (number_of c) ≡ Some k → number_of code ≢ number_of c
@@ -134,9 +155,11 @@ module _ (codes : List (List ℕ)) (code : List ℕ) (old new : Index) (indexed 
           absent codes code k fresh below (at ∙ (ap code_in (sym same) ∙ back))
 
       still : (c : List ℕ) (k : ℕ) → k < length codes → code_at codes k ≡ c → IsFound old c k → IsFound new c k
-      still c k below is (inl taken) = inl (slot_kept c ∙ taken)
-      still c k below is (inr (there, found)) =
-          inr (omega (arith, slot_kept c), puts.2 (number_of c) (apart (number_of code) (number_of c) (other_number c k below is found)) ∙ found)
+      still c k below is (own taken) = own (slot_kept c ∙ taken)
+      still c k below is (beside there taken) = beside (omega (arith, slot_kept c)) (beside_kept c ∙ taken)
+      still c k below is (crowded there near found) =
+          crowded (omega (arith, slot_kept c)) (omega (arith, beside_kept c))
+          (puts.2 (number_of c) (apart (number_of code) (number_of c) (other_number c k below is found)) ∙ found)
 
       earlier : (k : ℕ) → k < length codes → IsFound new (code_at codes k) k
       earlier k below = still (code_at codes k) k below refl (indexed.each k below)
@@ -150,21 +173,41 @@ module _ (codes : List (List ℕ)) (code : List ℕ) (old new : Index) (indexed 
           only_more number k (indexed.only number k (sym (puts.2 number (apart (number_of code) number differ)) ∙ is))
 
 module _ (codes : List (List ℕ)) (code : List ℕ) (index : Index) (indexed : IsIndexed codes index) where
+  -- a code that is found at no place is none of them
+  nowhere : ((a : ℕ) → code_at codes a ≡ code → IsFound index code a → ⊥) → position (pointwise nat_eq code) codes ≡ None
+  nowhere found = position-unknown codes code (λ a inside same. found a same (subst (λ c. IsFound index c a) same (indexed.each a inside)))
+
   -- a code whose slot is free is none of them
   pub nowhere-free : slot_at index code ≡ 0 → position (pointwise nat_eq code) codes ≡ None
-  nowhere-free free = position-unknown codes code (λ a inside same. taken a (subst (λ c. IsFound index c a) same (indexed.each a inside)))
+  nowhere-free free = nowhere taken
     where
-      taken : (a : ℕ) → IsFound index code a → ⊥
-      taken a (inl at) = omega arith
-      taken a (inr (some, found)) = omega arith
+      taken : (a : ℕ) → code_at codes a ≡ code → IsFound index code a → ⊥
+      taken a same (own at) = omega arith
+      taken a same (beside some at) = omega arith
+      taken a same (crowded some more found) = omega arith
 
-  -- one whose slot another has, and which the ordered map has not, is none of them
-  pub nowhere-crowded : (other : ℕ) → slot_at index code ≡ other + 1 → code_at codes other ≢ code → crowded_at index (number_of code) ≡ None → position (pointwise nat_eq code) codes ≡ None
-  nowhere-crowded other at differs none = position-unknown codes code (λ a inside same. found a same (subst (λ c. IsFound index c a) same (indexed.each a inside)))
+  -- what another has is not the code's
+  not_another : (a other x : ℕ) → x ≡ other + 1 → code_at codes other ≢ code → code_at codes a ≡ code → x ≡ a + 1 → ⊥
+  not_another a other x at differs same here = let place : a ≡ other = omega arith in differs (ap (code_at codes) (sym place) ∙ same)
+
+  -- one whose slot another has, where the slot beside it is free, is none of them
+  pub nowhere-beside : (other : ℕ) → slot_at index code ≡ other + 1 → code_at codes other ≢ code → beside_at index code ≡ 0 → position (pointwise nat_eq code) codes ≡ None
+  nowhere-beside other at differs free = nowhere taken
     where
-      found : (a : ℕ) → code_at codes a ≡ code → IsFound index code a → ⊥
-      found a same (inl here) = let place : a ≡ other = omega arith in differs (ap (code_at codes) (sym place) ∙ same)
-      found a same (inr (some, there)) = let clash : Some a ≡ None = sym there ∙ none in absurd cc
+      taken : (a : ℕ) → code_at codes a ≡ code → IsFound index code a → ⊥
+      taken a same (own here) = not_another a other (slot_at index code) at differs same here
+      taken a same (beside some here) = omega arith
+      taken a same (crowded some more found) = omega arith
+
+  -- one whose slot and the one beside it others have, and which the ordered map has not, is none of them
+  pub nowhere-crowded : (other next : ℕ) → slot_at index code ≡ other + 1 → code_at codes other ≢ code → beside_at index code ≡ next + 1 → code_at codes next ≢ code
+      → crowded_at index (number_of code) ≡ None → position (pointwise nat_eq code) codes ≡ None
+  nowhere-crowded other next at differs near differs_too none = nowhere taken
+    where
+      taken : (a : ℕ) → code_at codes a ≡ code → IsFound index code a → ⊥
+      taken a same (own here) = not_another a other (slot_at index code) at differs same here
+      taken a same (beside some here) = not_another a next (beside_at index code) near differs_too same here
+      taken a same (crowded some more found) = let clash : Some a ≡ None = sym found ∙ none in absurd cc
 
   -- what the ordered map has is the place
   pub found-crowded : (place : ℕ) → IsNamedOnce codes → code_in (number_of code) ≡ code → crowded_at index (number_of code) ≡ Some place → position (pointwise nat_eq code) codes ≡ Some place

@@ -1,5 +1,5 @@
 -- Where codes stand among others, by their slots and by the ordered map.
-use Rattle.std.specs.Prelude.{◌≡◌, ℕ, ◌+◌, ◌-◌, ◌<◌, ◌≤◌, ◌⊎◌, List, length, slice_index, bit_and, Option, Some}
+use Rattle.std.specs.Prelude.{◌≡◌, ℕ, ◌+◌, ◌-◌, ◌<◌, ◌≤◌, List, length, slice_index, bit_and, Option, Some}
 use Rattle.std.specs.BTreeMap.{get}
 use Rattle.std.specs.Hash.FoldHasher as folding
 use Rattle.std.specs.Ordering.{nat_cmp}
@@ -12,20 +12,28 @@ use Rattle.pc_text.specs.Words.{padded}
 unfoldable pub slot_of : ℕ → List ℕ → ℕ
 slot_of size code = bit_and (folding.finish (folding.write folding.initial (padded 16 code))) (size - 1)
 
--- what stands in the slot of a code
+-- what stands in the slot of a code; behind the last slot of a code there is one more
 abbrev pub slot_at : Index → List ℕ → ℕ
-slot_at index code = slice_index index.slots.items (slot_of (length index.slots.items) code)
+slot_at index code = slice_index index.slots.items (slot_of (length index.slots.items - 1) code)
+
+-- what stands in the slot beside it
+abbrev pub beside_at : Index → List ℕ → ℕ
+beside_at index code = slice_index index.slots.items (slot_of (length index.slots.items - 1) code + 1)
 
 -- the place that the ordered map has for a number
 abbrev pub crowded_at : Index → ℕ → Option ℕ
 crowded_at index number = get nat_cmp index.crowded number
 
--- a code is found at a place: it stands in its slot, as the place and one more, or where something else does, in the ordered map
-abbrev pub IsFound : Index → List ℕ → ℕ → Type 0
-IsFound index code place = (slot_at index code ≡ place + 1) ⊎ ((0 < slot_at index code) × (crowded_at index (number_of code) ≡ Some place))
+-- a code is found at a place: it stands in its slot, as the place and one more, or where something else does, in the slot beside it,
+-- or where something else does there too, in the ordered map
+pub data IsFound (index : Index) (code : List ℕ) (place : ℕ) : Type 0 where
+  own : slot_at index code ≡ place + 1 → IsFound index code place
+  beside : 0 < slot_at index code → beside_at index code ≡ place + 1 → IsFound index code place
+  crowded : 0 < slot_at index code → 0 < beside_at index code → crowded_at index (number_of code) ≡ Some place → IsFound index code place
 
--- each of these codes is found at its place, and nothing but them
+-- each of these codes is found at its place, and nothing but them; a single slot, beside which there is none, has nothing
 pub record IsIndexed (codes : List (List ℕ)) (index : Index) : Type 0 where
+  pub alone : length index.slots.items < 2 → (slot : ℕ) → slice_index index.slots.items slot ≡ 0
   pub within : (slot : ℕ) → slice_index index.slots.items slot ≤ length codes
   pub each : (k : ℕ) → k < length codes → IsFound index (code_at codes k) k
   pub only : (number k : ℕ) → crowded_at index number ≡ Some k → (k < length codes) × (code_at codes k ≡ code_in number)

@@ -10,14 +10,14 @@ use std::alloc::{AllocError, Global};
 use std::collections::BTreeMap;
 use std::hash::{FoldHasher, Hash, Hasher};
 
-/// How many slots there are at least for each code, so that few codes find theirs taken.
+/// How many slots there are at least for each code, so that few codes find theirs and the one beside it taken.
 const SLOTS_EACH: usize = 4;
 
 /// The most codes: each has a number of 32 bits in its slot, and 0 stands for none.
 pub(crate) const MOST: usize = 0xFFFF_FFFE;
 
 /// Where codes stand among others: `slots` has the place of a code and one more, or 0, and `crowded` the place of each code
-/// whose slot another one has, by the code's number.
+/// whose slot and the slot beside it others have, by the code's number.
 #[derive(Drop)]
 pub(crate) struct Index {
     slots: Vec<u32>,
@@ -42,11 +42,12 @@ impl Index {
         requires some { 0 < count }
         requires few { count ≤ MOST }
         ensures indexed { IfOk result (λ index. IsIndexed codes.now index) }
-        ensures room { IfOk result (λ index. 0 < length index.slots.items) }
+        ensures room { IfOk result (λ index. 1 < length index.slots.items) }
     {
         let size = (SLOTS_EACH * count).next_power_of_two();
         let mut index = Index {
-            slots: vec![in alloc; 0; size]?,
+            // One more, so that there is a slot beside the last.
+            slots: vec![in alloc; 0; size + 1]?,
             crowded: BTreeMap::new(alloc),
         };
         for place in 0..codes.len() {
@@ -68,9 +69,9 @@ impl Index {
         requires few { count ≤ MOST }
         requires indexed { IsIndexed codes.now self.old }
         ensures indexed { IsIndexed codes.now self.new }
-        ensures room { OnOk result (0 < length self.new.slots.items) }
+        ensures room { OnOk result (1 < length self.new.slots.items) }
     {
-        if SLOTS_EACH * count > self.slots.len() {
+        if SLOTS_EACH * count >= self.slots.len() {
             *self = Index::of(alloc, codes, count)?;
         }
         Ok(())
@@ -78,7 +79,7 @@ impl Index {
 
     /// Puts a code behind those before it. After an error it has none but those.
     pub(crate) fn put(&mut self, before: &[Code], code: &Code) -> Result<(), AllocError>
-        requires room { 0 < length self.old.slots.items }
+        requires room { 1 < length self.old.slots.items }
         requires within { length before.now < MOST }
         requires indexed { IsIndexed before.now self.old }
         requires other { list_any (pointwise nat_eq code.now) before.now ≡ false }
@@ -86,10 +87,14 @@ impl Index {
         ensures kept { OnErr result (IsIndexed before.now self.new) }
         ensures size { length self.new.slots.items ≡ length self.old.slots.items }
     {
-        let slot = slot_of(self.slots.len(), code);
+        let slot = slot_of(self.slots.len() - 1, code);
         let place = before.len() as u32;
         if self.slots[slot] == 0 {
             self.slots[slot] = place + 1;
+            return Ok(());
+        }
+        if self.slots[slot + 1] == 0 {
+            self.slots[slot + 1] = place + 1;
             return Ok(());
         }
         match self.crowded.insert(code.number(), place) {
@@ -98,22 +103,31 @@ impl Index {
         }
     }
 
-    /// The place of a code among these. One look at its slot, and one walk down the ordered map where the slot has another code.
+    /// The place of a code among these. One look at its slot, another at the slot beside it where its own has another code, and one
+    /// walk down the ordered map where that has another code too.
     pub(crate) fn place_of(&self, codes: &[Code], code: &Code) -> Option<usize>
         requires indexed { IsIndexed codes.now self.now }
         requires once { IsNamedOnce codes.now }
         ensures { result ≡ position (pointwise nat_eq code.now) codes.now }
     {
-        let size = self.slots.len();
-        if size == 0 {
+        let count = self.slots.len();
+        if count < 2 {
             return None;
         }
-        let taken = self.slots[slot_of(size, code)] as usize;
+        let slot = slot_of(count - 1, code);
+        let taken = self.slots[slot] as usize;
         if taken == 0 {
             return None;
         }
         if codes[taken - 1] == *code {
             return Some(taken - 1);
+        }
+        let beside = self.slots[slot + 1] as usize;
+        if beside == 0 {
+            return None;
+        }
+        if codes[beside - 1] == *code {
+            return Some(beside - 1);
         }
         match self.crowded.get(&code.number()) {
             Some(place) => Some(*place as usize),

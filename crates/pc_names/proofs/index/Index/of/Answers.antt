@@ -1,7 +1,5 @@
-use Rattle.std.proofs.Common.{[], nat_eq, subst, sym}
+use Rattle.std.proofs.Common.{[]}
 use Rattle.std.proofs.lemmas.List.{get_or_read}
-use Rattle.std.specs.Cmp.Lexicographic.{pointwise}
-use Rattle.std.specs.List.{list_any}
 use Rattle.pc_names.proofs.OnceLaws.{not_before}
 use Rattle.pc_names.proofs.index.Index.of.Goals as goal
 
