@@ -56,7 +56,7 @@ impl Index {
         Ok(index)
     }
 
-    /// Makes slots for so many codes, where there are too few.
+    /// Makes slots for so many codes, where there are too few: twice as many as are wanted, so that codes seldom move.
     pub(crate) fn make_room(
         &mut self,
         alloc: Global,
@@ -72,7 +72,7 @@ impl Index {
         ensures room { OnOk result (1 < length self.new.slots.items) }
     {
         if SLOTS_EACH * count >= self.slots.len() {
-            *self = Index::of(alloc, codes, count)?;
+            *self = Index::of(alloc, codes, count.saturating_mul(2).min(MOST))?;
         }
         Ok(())
     }
