@@ -11,7 +11,7 @@ use std::collections::BTreeMap;
 use std::hash::{FoldHasher, Hash, Hasher};
 
 /// How many slots there are at least for each code, so that few codes find theirs and the one beside it taken.
-const SLOTS_EACH: usize = 4;
+const SLOTS_EACH: usize = 3;
 
 /// The most codes: each has a number of 32 bits in its slot, and 0 stands for none.
 pub(crate) const MOST: usize = 0xFFFF_FFFE;
