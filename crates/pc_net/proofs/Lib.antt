@@ -1,6 +1,7 @@
 mod ChainLaws
 mod CountLaws
 mod DegreeLaws
+mod LabelLaws
 mod ListingLaws
 mod QueueLaws
 pub mod RefusalLaws

@@ -7,5 +7,7 @@ pub mod Graphs
 pub mod Queue
 pub mod Firmness
 pub mod Cycles
+pub mod Turns
+pub mod Labels
 pub mod Refusals
 pub mod Nets

@@ -4,20 +4,26 @@ ghost use Rattle.pc_model.specs.Walk.{to_of};
 ghost use Rattle.pc_net.specs.Cycles.{LiesOnCycle, IsFirstCycle, IsRound, IsSearch};
 
 use crate::graph::Graph;
+use crate::labels::labels_of;
 use pc_model::MAX_EVENTS;
 use std::alloc::{AllocError, Global};
 
 /// A cycle through no event twice that begins with the first activity on any cycle; none where there is no cycle.
 ///
-/// Each activity up to that one costs a search of the network.
+/// Linear in events and activities: only an activity between events of the same label is searched from, and with the
+/// labels of strongly connected components the first such search finds a cycle.
 pub(crate) fn first_cycle(alloc: Global, graph: &Graph) -> Result<Option<Vec<u32>>, AllocError>
     ensures { IfOk result (λ found. MatchOption found
         ((a : ℕ) → LiesOnCycle graph.now.arcs a → ⊥)
         (λ cycle. IsFirstCycle graph.now.arcs cycle.items)) }
 {
+    let labels = labels_of(alloc, graph)?;
     let mut ranks = vec![in alloc; 0; graph.events() as usize]?;
     let mut steps = Vec::with_capacity(alloc, graph.events() as usize)?;
     for a in 0..graph.activities() {
+        if labels[graph.from(a) as usize] != labels[graph.to(a) as usize] {
+            continue;
+        }
         search(graph, a, &mut steps, &mut ranks)?;
         if ranks[graph.to(a) as usize] != 0 {
             let cycle = round(alloc, graph, a, &steps, &ranks)?;

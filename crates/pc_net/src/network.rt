@@ -37,7 +37,7 @@ impl Model for Net {
 impl Net {
     /// The network of these activities between the events 0, 1, .. below `events`.
     ///
-    /// Linear in events and activities, but for the search for a cycle where there is one.
+    /// Linear in events and activities.
     pub fn build(
         alloc: Global,
         events: u32,

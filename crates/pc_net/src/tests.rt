@@ -3,6 +3,8 @@ ghost use Rattle.std.specs.Bool.{OnTrue};
 ghost use Rattle.pc_model.specs.Network.{IsInRange};
 ghost use Rattle.pc_net.specs.Networks.{network};
 
+use crate::graph::Graph;
+use crate::labels::labels_of;
 use crate::{Arc, Net, NetError};
 use pc_model::{MAX_ACTIVITIES, MAX_EVENTS};
 use std::alloc::Global;
@@ -96,13 +98,46 @@ fn names_the_first_cause(rt: HostRuntime) -> Result<(), Fail> {
     Ok(())
 }
 
+/// 2 to 3 to 2 and 4 to 5 to 4; the first activity leads from the one cycle to the other, and lies on none.
+const fn two_cycles() -> [Arc; 7] {
+    [
+        arc(3, 4),
+        arc(0, 2),
+        arc(5, 4),
+        arc(2, 3),
+        arc(3, 2),
+        arc(4, 5),
+        arc(5, 1),
+    ]
+}
+
+/// Whether the network is refused for that cycle.
+fn has_cycle(alloc: Global, events: u32, arcs: &[Arc], cycle: &[u32]) -> bool {
+    match refusal(alloc, events, arcs) {
+        Some(NetError::Cycle(found)) => found.as_slice() == cycle,
+        _ => false,
+    }
+}
+
 #[test]
 fn names_a_cycle(rt: HostRuntime) -> Result<(), Fail> {
+    let alloc = rt.alloc();
     // 2 to 3 to 4 to 2, entered at 2 and left at 4; the first activity on it is 1
     let round = [arc(0, 2), arc(2, 3), arc(4, 1), arc(3, 4), arc(4, 2)];
-    match refusal(rt.alloc(), 5, &round) {
-        Some(NetError::Cycle(cycle)) => assert_eq!(rt; cycle.as_slice(), [1, 3, 4].as_slice()),
-        _ => return Err(Fail::from("no cycle")),
+    assert!(rt; has_cycle(alloc, 5, &round, &[1, 3, 4]));
+    assert!(rt; has_cycle(alloc, 6, &two_cycles(), &[2, 5]));
+    Ok(())
+}
+
+#[test]
+fn labels_components_apart(rt: HostRuntime) -> Result<(), Fail> {
+    let arcs = two_cycles();
+    if !is_in_range(6, 0, 1, &arcs) {
+        return Err(Fail::from("out of range"));
     }
+    let graph = Graph::new(rt.alloc(), 6, 0, 1, &arcs)?;
+    // against the activities 0, 2, 3, 4, 5, 1 are finished in this order, from 5 and then from 1
+    let labels = labels_of(rt.alloc(), &graph)?;
+    assert_eq!(rt; labels.as_slice(), [1, 6, 3, 3, 5, 5].as_slice());
     Ok(())
 }

@@ -1,0 +1,13 @@
+use Rattle.std.proofs.Common.{◌≡◌, vec_len}
+use Rattle.pc_net.specs.Turns.{AreEvents, AreTurns}
+use Rattle.pc_net.proofs.finishing.finished.Given as goal
+
+abbrev pub invariant-loop-root : goal.invariant-loop-root
+invariant-loop-root l = AreTurns l.graph.events l.stack.items
+
+abbrev pub invariant-loop : goal.invariant-loop
+invariant-loop l = record {
+  turns : AreTurns l.graph.events l.stack.items;
+  order : AreEvents l.graph.events l.order.items;
+  sized : vec_len l.entered ≡ l.graph.events;
+}

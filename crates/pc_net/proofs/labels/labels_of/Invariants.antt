@@ -1,0 +1,10 @@
+use Rattle.std.proofs.Common.{◌+◌, length}
+use Rattle.pc_net.specs.Labels.{IsSpread}
+use Rattle.pc_net.specs.Turns.{AreEvents}
+use Rattle.pc_net.proofs.labels.labels_of.Given as goal
+
+abbrev pub invariant-loop-round : goal.invariant-loop-round
+invariant-loop-round l = record {
+  roots : AreEvents l.graph.events l.roots.items;
+  spread : IsSpread l.graph (l.round + 1) l.reached.items l.labels.items (length l.reached.items);
+}

@@ -1,0 +1,17 @@
+-- The turns of the search that finishes the events.
+use Rattle.std.specs.Prelude.{ℕ, ◌<◌, List, All}
+use Rattle.pc_net.specs.declared.finishing.Turn.{Turn}
+use Rattle.pc_net.specs.declared.finishing.Turn.TheVariants.{Enter, Finish}
+
+-- each is an event
+abbrev pub AreEvents : ℕ → List ℕ → Type 0
+AreEvents events listed = All (λ event. event < events) listed
+
+-- the event that is entered or finished
+abbrev pub event_at : Turn → ℕ
+event_at (Enter event) = event
+event_at (Finish event) = event
+
+-- each turn is one of an event
+abbrev pub AreTurns : ℕ → List Turn → Type 0
+AreTurns events stack = All (λ turn. event_at turn < events) stack
