@@ -14,7 +14,7 @@ use std::alloc::{AllocError, Global};
 
 /// The tasks of the first circle, each of which comes after the one before it, and the first after the last; none where there is no circle.
 ///
-/// Linear in the tasks and the rows, but for the search for a circle where there is one.
+/// Linear in the tasks and the rows.
 pub(crate) fn first_circle(
     alloc: Global,
     tasks: u32,
