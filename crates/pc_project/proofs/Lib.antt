@@ -1,9 +1,9 @@
 pub mod RefusalLaws
-mod AnyLaws
+pub mod AnyLaws
 mod CardLaws
-mod FirstLaws
+pub mod FirstLaws
 mod FitLaws
-mod LoopLaws
+pub mod LoopLaws
 mod MisfitLaws
 mod NumberLaws
 mod PlannedLaws

@@ -26,6 +26,10 @@ module _ {C : Type 0} (Has : C → Fault → Type 0) (cards : List C) where
         (λ f k. Any-before (λ c. Has c f) cards i card within is k)
         found here h first
 
+    -- the same, where the earlier of the two has a name
+    pub first_more : (here next : Option Fault) → next ≡ earliest found here → IsFirstIn (Has card) here → IsFirstBefore (i + 1) next
+    first_more here next is first = subst (IsFirstBefore (i + 1)) (sym is) (first_step here first)
+
     -- a card with a fault
     pub first_with : (fault : Fault) → IsFirst (Has card) fault → IsFirstBefore (i + 1) (earliest found (Some fault))
     first_with fault first = first_step (Some fault) first

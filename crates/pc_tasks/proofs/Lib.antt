@@ -13,9 +13,6 @@ pub mod OnceLemmas
 pub mod FitLemmas
 pub mod WithinLemmas
 pub mod DrawLemmas
-mod AnyLaws
-mod FirstLaws
-mod LoopLaws
 mod CardLemmas
 mod MisfitLemmas
 pub mod KnownLemmas

@@ -5,7 +5,7 @@ use Rattle.pc_deck.specs.Deck.{Deck}
 use Rattle.pc_faults.specs.declared.fault.Fault.{Fault}
 use Rattle.pc_project.specs.First.{IsFirstIn, earliest}
 use Rattle.pc_project.specs.Misfit.{HasAccountFault, HasItemFault, HasMoneyFault}
-use Rattle.pc_tasks.proofs.FirstLaws.{earliest-first}
+use Rattle.pc_project.proofs.FirstLaws.{earliest-first}
 use Rattle.pc_tasks.specs.Misfit.{HasAfterFault, HasEndsFault, HasLoadFault, HasMisfit, HasNoMisfit, HasNameFault, HasTaskFault, account, after, charge, ends, item, load, piece, status, task, togo}
 
 -- the first fault of two kinds of cards

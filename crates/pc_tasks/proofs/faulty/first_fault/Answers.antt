@@ -1,4 +1,4 @@
-use Rattle.pc_tasks.proofs.LoopLaws.{first_of_all, first_more}
+use Rattle.pc_project.proofs.LoopLaws.{first_of_all, first_more}
 use Rattle.pc_tasks.proofs.faulty.first_fault.Goals as goal
 
 pub loop-card-preserved : goal.loop-card-preserved

@@ -1,4 +1,4 @@
-use Rattle.pc_tasks.proofs.LoopLaws.{IsFirstBefore}
+use Rattle.pc_project.proofs.LoopLaws.{IsFirstBefore}
 use Rattle.pc_tasks.proofs.faulty.first_fault.Given as goal
 
 abbrev pub invariant-loop-card : goal.invariant-loop-card
