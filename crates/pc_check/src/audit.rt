@@ -68,6 +68,7 @@ impl<'n> Audit<'n> {
     }
 
     /// Uses the piece up to the end of one line.
+    #[inline(always)]
     fn step(&mut self, piece: &[u8]) -> Result<usize, Fail>
         requires read { (text : List ℕ) × HasRead text self.old }
         requires going { IsGoing self.old }
@@ -87,7 +88,8 @@ impl<'n> Audit<'n> {
         self.step_anew(piece)
     }
 
-    /// As `step`, of any line.
+    /// As `step`, of any line. It stands apart, so that the loop over the lines that come again stays small.
+    #[inline(never)]
     fn step_anew(&mut self, piece: &[u8]) -> Result<usize, Fail>
         requires read { (text : List ℕ) × HasRead text self.old }
         requires going { IsGoing self.old }
