@@ -1,5 +1,5 @@
 //! The numbers of a certificate, which may be longer than those of a deck.
-ghost use Rattle.std.specs.Prelude.{◌≡◌, ◌≤◌, IfSome, length};
+ghost use Rattle.std.specs.Prelude.{◌≡◌, ◌<◌, ◌≤◌, IfSome, length};
 ghost use Rattle.pc_text.specs.Number.{value_of};
 ghost use Rattle.pc_cert.specs.Number.{is_unpadded, numeral_of, AreDigitsAt};
 ghost use Rattle.pc_cert.specs.Lines.{IsNumberAt, IsNumeralAt};
@@ -72,9 +72,38 @@ fn numeral_at(bytes: &[u8]) -> Option<(u64, &[u8])>
 fn digits_at(bytes: &[u8]) -> (u64, usize)
     ensures { AreDigitsAt bytes.now result.0 result.1 }
 {
+    if bytes.len() < MAX_DIGITS {
+        return digits_to_end(bytes);
+    }
+    digits_within(bytes)
+}
+
+/// The same where at least so many bytes stand there: their end is not looked for.
+#[inline(always)]
+fn digits_within(bytes: &[u8]) -> (u64, usize)
+    requires { MAX_DIGITS ≤ length bytes.now }
+    ensures { AreDigitsAt bytes.now result.0 result.1 }
+{
+    let mut number = 0;
+    for i in 0..MAX_DIGITS {
+        let byte = bytes[i];
+        if !byte.is_ascii_digit() {
+            return (number, i);
+        }
+        number = number * 10 + u64::from(byte - b'0');
+    }
+    (number, MAX_DIGITS)
+}
+
+/// The same where fewer bytes stand there.
+#[inline(never)]
+fn digits_to_end(bytes: &[u8]) -> (u64, usize)
+    requires { length bytes.now < MAX_DIGITS }
+    ensures { AreDigitsAt bytes.now result.0 result.1 }
+{
     let mut number = 0;
     for (i, byte) in bytes.iter().enumerate() {
-        if i == MAX_DIGITS || !byte.is_ascii_digit() {
+        if !byte.is_ascii_digit() {
             return (number, i);
         }
         number = number * 10 + u64::from(byte - b'0');

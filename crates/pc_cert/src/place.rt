@@ -1,5 +1,6 @@
 //! The order in which the lines of a certificate come.
 ghost use Rattle.std.specs.Prelude.{◌≡◌, ℕ, IsTrue, List, None, Some, Bool, false};
+ghost use Rattle.pc_cert.specs.declared.line.CertLine.{CertLine};
 ghost use Rattle.pc_cert.specs.declared.line.CertLine.TheVariants.{Event, Act};
 ghost use Rattle.pc_cert.specs.Grammar.{next, next_at_start, next_after_head, next_in_normal_walk, next_in_crash_walk, next_in_segment, next_between, opened, takes_flows};
 
@@ -123,6 +124,33 @@ impl Place {
                 true
             }
             _ => false,
+        }
+    }
+
+    /// Goes on to the place behind a line that stands here. Among the rows of a segment only the numbers of those that are still to come are
+    /// copied.
+    #[inline(always)]
+    pub fn go_on_to(&mut self, behind: &Place)
+        requires { (line : CertLine) × (next self.old line ≡ Some behind.now) }
+        ensures { self.new ≡ behind.now }
+    {
+        match (&mut *self, behind) {
+            (
+                Place::InSegment {
+                    events,
+                    activities,
+                    ..
+                },
+                Place::InSegment {
+                    events: events_left,
+                    activities: activities_left,
+                    ..
+                },
+            ) => {
+                *events = *events_left;
+                *activities = *activities_left;
+            }
+            _ => *self = *behind,
         }
     }
 

@@ -11,8 +11,15 @@ use crate::passed::passes_again;
 use pc_cert::{CertReader, EventFront};
 use pc_crash::CrashNet;
 
-/// Takes the line at the front of the piece, where it is one of the next event, or that of the next activity as it passed last, and is told
-/// not to fail: the answer is how many bytes it is with its end. Else nothing changes, and the answer is 0: the line may be anything.
+/// The rows of a segment: those of its events, and behind them those of its activities.
+#[derive(Clone, Copy, Debug)]
+pub(crate) enum Rows {
+    Events,
+    Acts,
+}
+
+/// Takes the line at the front of the piece, where it is such a row, one of the next event, or that of the next activity as it passed last, and
+/// is told not to fail: the answer is how many bytes it is with its end. Else nothing changes, and the answer is 0: the line may be anything.
 #[inline(always)]
 pub(crate) fn advance_again(
     net: &CrashNet<'_>,
@@ -20,6 +27,7 @@ pub(crate) fn advance_again(
     fronts: &[EventFront],
     reader: &mut CertReader,
     piece: &[u8],
+    rows: Rows,
 ) -> usize
     requires safe { IsSafe net.now kept.old.tally }
     requires fronts { AreFronts net.now fronts.now }
@@ -35,11 +43,12 @@ pub(crate) fn advance_again(
 {
     let _events = net.net().events();
     let _activities = net.net().activities();
-    let used = add_line(net, kept, fronts, reader, piece);
+    let used = add_line(net, kept, fronts, reader, piece, rows);
     if used == 0 {
         return 0;
     }
-    kept.place = reader.place();
+    let behind = reader.place();
+    kept.place.go_on_to(&behind);
     kept.lines += 1;
     used
 }
@@ -47,6 +56,33 @@ pub(crate) fn advance_again(
 /// The same, but what is kept does not go on to the next line.
 #[inline(always)]
 fn add_line(
+    net: &CrashNet<'_>,
+    kept: &mut Kept,
+    fronts: &[EventFront],
+    reader: &mut CertReader,
+    piece: &[u8],
+    rows: Rows,
+) -> usize
+    requires safe { IsSafe net.now kept.old.tally }
+    requires fronts { AreFronts net.now fronts.now }
+    requires bounded { IsBounded net.now kept.old }
+    requires place { reader.old.place ≡ kept.old.place }
+    requires going { reader.old.malformed ≡ None }
+    requires few { reader.old.lines < 2 ^ 63 }
+    ensures same_kept { result ≡ 0 → kept.new ≡ kept.old }
+    ensures same_reader { result ≡ 0 → reader.new ≡ reader.old }
+    ensures adds { 0 < result → AddsLine net.now piece.now result reader.old reader.new kept.old kept.new }
+    ensures safe { IsSafe net.now kept.new.tally }
+{
+    match rows {
+        Rows::Events => add_told(net, kept, fronts, reader, piece),
+        Rows::Acts => add_behind(net, kept, fronts, reader, piece),
+    }
+}
+
+/// Adds the line at the front of the piece, where all events have come and it is that of the next activity as it passed last, and passes again.
+#[inline(always)]
+fn add_behind(
     net: &CrashNet<'_>,
     kept: &mut Kept,
     fronts: &[EventFront],
@@ -65,7 +101,7 @@ fn add_line(
     ensures safe { IsSafe net.now kept.new.tally }
 {
     if kept.tally.times.len() < fronts.len() {
-        return add_told(net, kept, fronts, reader, piece);
+        return 0;
     }
     add_same(net, kept, reader, piece)
 }
