@@ -67,6 +67,31 @@ fn numeral_at(bytes: &[u8]) -> Option<(u64, &[u8])>
     Some((number, &bytes[end..]))
 }
 
+/// As `number_at`, where at least so many bytes stand there as are looked at.
+#[inline(always)]
+pub(crate) fn number_within(bytes: &[u8]) -> Option<(u64, &[u8])>
+    requires { MAX_DIGITS < length bytes.now }
+    ensures { IfSome result (λ parts. IsNumberAt bytes.now parts.0 parts.1.now) }
+{
+    match bytes {
+        [b' ', rest @ ..] => numeral_within(rest),
+        _ => None,
+    }
+}
+
+/// As `numeral_at`, where at least so many bytes stand there as are looked at.
+#[inline(always)]
+fn numeral_within(bytes: &[u8]) -> Option<(u64, &[u8])>
+    requires { MAX_DIGITS ≤ length bytes.now }
+    ensures { IfSome result (λ parts. IsNumeralAt bytes.now parts.0 parts.1.now) }
+{
+    let (number, end) = digits_within(bytes);
+    if !is_unpadded(&bytes[..end]) {
+        return None;
+    }
+    Some((number, &bytes[end..]))
+}
+
 /// The digits at the front, of which there are at most 18: their value, and how many they are.
 #[inline(always)]
 fn digits_at(bytes: &[u8]) -> (u64, usize)

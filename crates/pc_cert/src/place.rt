@@ -2,7 +2,7 @@
 ghost use Rattle.std.specs.Prelude.{◌≡◌, ℕ, IsTrue, List, None, Some, Bool, false};
 ghost use Rattle.pc_cert.specs.declared.line.CertLine.{CertLine};
 ghost use Rattle.pc_cert.specs.declared.line.CertLine.TheVariants.{Event, Act};
-ghost use Rattle.pc_cert.specs.Grammar.{next, next_at_start, next_after_head, next_in_normal_walk, next_in_crash_walk, next_in_segment, next_between, opened, takes_flows};
+ghost use Rattle.pc_cert.specs.Grammar.{IsRow, next, next_at_start, next_after_head, next_in_normal_walk, next_in_crash_walk, next_in_segment, next_between, opened, takes_flows};
 
 use crate::flows::Flows;
 use crate::line::CertLine;
@@ -127,11 +127,10 @@ impl Place {
         }
     }
 
-    /// Goes on to the place behind a line that stands here. Among the rows of a segment only the numbers of those that are still to come are
-    /// copied.
+    /// Goes on to the place behind a row that stands here: of this only the numbers of rows that are still to come are copied.
     #[inline(always)]
     pub fn go_on_to(&mut self, behind: &Place)
-        requires { (line : CertLine) × (next self.old line ≡ Some behind.now) }
+        requires { (line : CertLine) × IsRow line × (next self.old line ≡ Some behind.now) }
         ensures { self.new ≡ behind.now }
     {
         match (&mut *self, behind) {
@@ -150,7 +149,7 @@ impl Place {
                 *events = *events_left;
                 *activities = *activities_left;
             }
-            _ => *self = *behind,
+            _ => unreachable!(),
         }
     }
 
@@ -276,5 +275,5 @@ fn next_in_segment(shape: Shape, events: u64, activities: u64, line: &CertLine) 
 fn takes_flows(shape: Shape, flows: &Flows) -> bool
     ensures { result ≡ takes_flows shape flows.now }
 {
-    shape.version == 2 || flows.as_slice().len() == 2
+    flows.as_slice().len() == 2 || shape.version == 2
 }

@@ -1,7 +1,7 @@
 -- Lines of one piece that are taken one behind the other.
-use Rattle.std.proofs.Common.{◌≡◌, ℕ, ◌+◌, ◌^◌, ◌<◌, ◌≤◌, zero, suc, List, ◌++◌, length, take, drop, None, refl, sym, ap, subst, ◌∙◌, arith, append_assoc}
+use Rattle.std.proofs.Common.{◌≡◌, ℕ, ◌+◌, ◌-◌, ◌^◌, ◌<◌, ◌≤◌, zero, suc, List, ◌++◌, length, take, drop, None, refl, sym, ap, subst, ◌∙◌, arith, append_assoc}
 use Rattle.std.proofs.Math.Seq.{take-add}
-use Rattle.std.proofs.lemmas.List.{length-drop}
+use Rattle.std.proofs.lemmas.List.{length-drop, drop-drop}
 use Rattle.pc_cert.specs.Reader.{Reading, StandsFor as ReadsAs}
 use Rattle.pc_cert.specs.declared.line.CertLine.{CertLine}
 use Rattle.pc_cert.specs.declared.line.CertLine.TheVariants.{Head, Normal, Step, Crash, Segment, Event, Act, Close, End}
@@ -89,3 +89,25 @@ further {piece} {used} {before} {between} {after} {old} {mid} {new} more h some 
   alike = it.alike;
   few = it.few;
 }
+
+-- of the piece this is left behind such lines
+pub record IsRest (piece rest : List ℕ) (before after : Reading) (old new : Checking) : Type 0 where
+  pub used : ℕ
+  pub left : rest ≡ drop used piece
+  pub long : used + length rest ≡ length piece
+  pub run : IsRun piece used before after old new
+
+pub all_left : (piece : List ℕ) (reader : Reading) (checker : Checking) → IsRun piece 0 reader reader checker checker → IsRest piece piece reader reader checker checker
+all_left piece reader checker h = record { used = 0; left = refl; long = omega arith; run = h }
+
+pub less_left : {piece rest : List ℕ} {before between after : Reading} {old mid new : Checking} (more : ℕ) → IsRest piece rest before between old mid → 0 < more → TakesAlong rest more between after mid new → IsRest piece (drop more rest) before after old new
+less_left {piece} {rest} {before} {between} {after} {old} {mid} {new} more h some it = record {
+  used = h.used + more;
+  left = ap (drop more) h.left ∙ drop-drop more h.used piece;
+  long = omega (arith, h.long, it.within, length-drop more rest);
+  run = further more h.run some (subst (λ t. TakesAlong t more between after mid new) h.left it);
+}
+
+-- so many bytes were used
+pub used_is : {piece rest : List ℕ} {before after : Reading} {old new : Checking} → (h : IsRest piece rest before after old new) → h.used ≡ length piece - length rest
+used_is {piece} {rest} h = omega (arith, h.long)

@@ -1,6 +1,7 @@
 -- A line that is taken as it is read.
 use Rattle.std.specs.Prelude.{◌≡◌, ℕ, ◌^◌, ◌<◌, List, None}
 use Rattle.pc_cert.specs.declared.line.CertLine.{CertLine}
+use Rattle.pc_cert.specs.Grammar.{IsRow}
 use Rattle.pc_cert.specs.Passing.{PassesLine}
 use Rattle.pc_cert.specs.Reader.{Reading}
 use Rattle.pc_crash.specs.Priced.{PricedNetwork}
@@ -11,9 +12,10 @@ use Rattle.pc_check.specs.Conditions.{conditions}
 use Rattle.pc_check.specs.Failures.{first_failing}
 use Rattle.pc_check.specs.Kept.{known_by}
 
--- a line at the front of the piece, of so many bytes with its end, was read, does not fail, and was added to what is kept
+-- a row at the front of the piece, of so many bytes with its end, was read, does not fail, and was added to what is kept
 pub record AddsLine (net : PricedNetwork) (piece : List ℕ) (count : ℕ) (before after : Reading) (old new : Kept) : Type 0 where
   pub line : CertLine
+  pub row : IsRow line
   pub reads : PassesLine line piece count before after
   pub none : first_failing (conditions net (known_by old) line) ≡ None
   pub adds : Adds net line old new

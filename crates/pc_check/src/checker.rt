@@ -156,13 +156,13 @@ impl<'n> Checker<'n> {
         ensures same_reader { result ≡ 0 → reader.new ≡ reader.old }
         ensures takes { 0 < result → TakesAlong piece.now result reader.old reader.new self.old self.new }
     {
-        let mut used = 0;
+        let mut rest = piece;
         loop {
-            let more = self.take_again(reader, &piece[used..], rows);
-            if more == 0 {
-                return used;
+            let used = self.take_again(reader, rest, rows);
+            if used == 0 {
+                return piece.len() - rest.len();
             }
-            used += more;
+            rest = &rest[used..];
         }
     }
 

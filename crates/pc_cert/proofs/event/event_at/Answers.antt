@@ -1,4 +1,4 @@
-use Rattle.std.proofs.Common.{◌≡◌, ◌+◌, ◌-◌, ◌≤◌, length, take, drop, decimal, sym, subst, ap, ◌∙◌, arith}
+use Rattle.std.proofs.Common.{◌≡◌, ◌+◌, ◌-◌, ◌≤◌, length, take, drop, decimal, sym, subst, ◌∙◌, arith}
 use Rattle.pc_cert.specs.Lines.{spaced, IsCode}
 use Rattle.pc_cert.proofs.EventLaws.{event_comes, left_within, rest_is}
 use Rattle.pc_cert.proofs.event.event_at.Goals as goal
@@ -24,7 +24,7 @@ returns c =
     (subst IsCode c.bytes.ensures.value c.bytes.ensures.code)
     c.in_ok-time.ensures.small
     c.requires
-    (subst (λ code. take (length code + 6) piece ≡ take (length code + 6) known) c.bytes.ensures.value (c.begins.ensures.same c.if-not-begins.false))
+    (subst (λ code. take (length code + 6) piece ≡ take (length code + 6) known) c.bytes.ensures.value (c.begin_same.ensures c.if-not-begin_same.false))
     (subst (λ code. drop (length code + 6) piece ≡ spaced (decimal c.in_ok-time.time) rest) c.bytes.ensures.value text)
     c.in_ok-moves.ensures
     (omega (arith, within))

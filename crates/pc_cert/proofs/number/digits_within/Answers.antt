@@ -1,5 +1,4 @@
-use Rattle.std.proofs.Common.{◌+◌, ◌-◌, ◌*◌, ◌<◌, ◌≤◌, ◌≡◌, true, length, get_or, refl, sym, subst, ◌∙◌, arith}
-use Rattle.std.proofs.lemmas.Bool.Decides.{nat_tests}
+use Rattle.std.proofs.Common.{◌+◌, ◌*◌, ◌<◌, ◌≡◌, true, get_or, refl, sym, subst, ◌∙◌, arith}
 use Rattle.std.specs.Char.{is_ascii_digit}
 use Rattle.pc_text.proofs.NumberLemmas.{longer}
 use Rattle.pc_cert.proofs.NumberLemmas.{AreSoFar, below_17_digits, digits_more, digit_limit}

@@ -36,6 +36,7 @@ returns-clause-adds c = λ some.
     let own = has.own in
     record {
       line = Act own.code row.duration row.flows;
+      row = tt;
       reads = c.pass_act-used.ensures.passes own.code row.duration some (subst (λ line. IsTextOf line row.text) own.says has.text);
       none = again_passes own.code own.named (c.passes_again.ensures c.if-not-passes_again.false) has;
       adds = (refl, subst (λ (r : Passed). AddsAct net c.args.kept.now.tally r.duration r.flows c.add_again.new.tally) (sym (row_read a row c.requires.safe.rows known c.index-last.ensures)) c.add_again.ensures.added);

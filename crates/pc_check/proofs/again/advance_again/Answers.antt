@@ -10,7 +10,7 @@ pub go_on_to-requires : goal.go_on_to-requires
 go_on_to-requires c =
     let it = c.add_line-used.ensures.adds (omega (arith, c.if-used-eq0.false)) in
     let here = c.requires.place ∙ sym (place_kept c.args.net.now it.line c.args.kept.now c.add_line-used.new.kept it.adds) in
-    (it.line, subst (λ p. next p it.line ≡ Some c.place-behind.result) here (it.reads.goes ∙ ap Some (sym c.place-behind.ensures)))
+    (it.line, it.row, subst (λ p. next p it.line ≡ Some c.place-behind.result) here (it.reads.goes ∙ ap Some (sym c.place-behind.ensures)))
 
 pub returns-clause-takes : goal.returns-clause-takes
 returns-clause-takes c = λ some.
