@@ -1,5 +1,5 @@
 //! The line of an event that comes again with another time or another bit.
-ghost use Rattle.std.specs.Prelude.{◌≡◌, ◌∷◌, IfSome, Some};
+ghost use Rattle.std.specs.Prelude.{◌≡◌, ◌≤◌, ◌∷◌, IfSome, Some, length};
 ghost use Rattle.pc_cert.specs.declared.line.CertLine.TheVariants.{Event};
 ghost use Rattle.pc_cert.specs.Lines.{spaced, bit_text};
 ghost use Rattle.pc_cert.specs.Known.{IsAgain, IsEventFront};
@@ -38,7 +38,7 @@ pub(crate) fn event_at(code: &Code, known: &[u8], piece: &[u8]) -> Option<EventS
         return None;
     }
     let (time, rest) = number_within(&piece[front..])?;
-    let (moves, rest) = last_bit(rest)?;
+    let (moves, rest) = bit_within(rest)?;
     let used = piece.len() - rest.len();
     Some(EventSaid { time, moves, used })
 }
@@ -67,6 +67,25 @@ fn last_bit(bytes: &[u8]) -> Option<(bool, &[u8])>
     match bytes {
         [b' ', b'0', b'\n', rest @ ..] => Some((false, rest)),
         [b' ', b'1', b'\n', rest @ ..] => Some((true, rest)),
+        _ => None,
+    }
+}
+
+/// As `last_bit`, where at least so many bytes stand there as are looked at.
+#[inline(always)]
+fn bit_within(bytes: &[u8]) -> Option<(bool, &[u8])>
+    requires { 3 ≤ length bytes.now }
+    ensures { IfSome result (λ parts. bytes.now ≡ spaced (bit_text parts.0) (10 ∷ parts.1.now)) }
+{
+    if bytes[0] != b' ' {
+        return None;
+    }
+    if bytes[2] != b'\n' {
+        return None;
+    }
+    match bytes[1] {
+        b'0' => Some((false, &bytes[3..])),
+        b'1' => Some((true, &bytes[3..])),
         _ => None,
     }
 }

@@ -1,11 +1,16 @@
 //! The numbers of a certificate, which may be longer than those of a deck.
-ghost use Rattle.std.specs.Prelude.{◌≡◌, ◌<◌, ◌≤◌, IfSome, length};
+ghost use Rattle.std.specs.Prelude.{◌≡◌, ◌+◌, ◌<◌, ◌≤◌, IfSome, length};
 ghost use Rattle.pc_text.specs.Number.{value_of};
 ghost use Rattle.pc_cert.specs.Number.{is_unpadded, numeral_of, AreDigitsAt};
 ghost use Rattle.pc_cert.specs.Lines.{IsNumberAt, IsNumeralAt};
 
 /// The most digits that a number of a certificate has.
 pub const MAX_DIGITS: usize = 18;
+
+/// The digits 0 and 9.
+const FIRST_DIGIT: u64 = 48;
+
+const LAST_DIGIT: u64 = 57;
 
 /// The number whose decimal form the word is, without a sign or a leading zero and with at most 18 digits.
 ///
@@ -71,19 +76,21 @@ fn numeral_at(bytes: &[u8]) -> Option<(u64, &[u8])>
 #[inline(always)]
 pub(crate) fn number_within(bytes: &[u8]) -> Option<(u64, &[u8])>
     requires { MAX_DIGITS < length bytes.now }
-    ensures { IfSome result (λ parts. IsNumberAt bytes.now parts.0 parts.1.now) }
+    ensures number { IfSome result (λ parts. IsNumberAt bytes.now parts.0 parts.1.now) }
+    ensures left { IfSome result (λ parts. length bytes.now ≤ length parts.1.now + (MAX_DIGITS + 1)) }
 {
-    match bytes {
-        [b' ', rest @ ..] => numeral_within(rest),
-        _ => None,
+    if bytes[0] != b' ' {
+        return None;
     }
+    numeral_within(&bytes[1..])
 }
 
 /// As `numeral_at`, where at least so many bytes stand there as are looked at.
 #[inline(always)]
 fn numeral_within(bytes: &[u8]) -> Option<(u64, &[u8])>
     requires { MAX_DIGITS ≤ length bytes.now }
-    ensures { IfSome result (λ parts. IsNumeralAt bytes.now parts.0 parts.1.now) }
+    ensures number { IfSome result (λ parts. IsNumeralAt bytes.now parts.0 parts.1.now) }
+    ensures left { IfSome result (λ parts. length bytes.now ≤ length parts.1.now + MAX_DIGITS) }
 {
     let (number, end) = digits_within(bytes);
     if !is_unpadded(&bytes[..end]) {
@@ -111,11 +118,11 @@ fn digits_within(bytes: &[u8]) -> (u64, usize)
 {
     let mut number = 0;
     for i in 0..MAX_DIGITS {
-        let byte = bytes[i];
-        if !byte.is_ascii_digit() {
+        let byte = u64::from(bytes[i]);
+        if byte < FIRST_DIGIT || LAST_DIGIT < byte {
             return (number, i);
         }
-        number = number * 10 + u64::from(byte - b'0');
+        number = number * 10 + (byte - FIRST_DIGIT);
     }
     (number, MAX_DIGITS)
 }

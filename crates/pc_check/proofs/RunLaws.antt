@@ -29,6 +29,7 @@ pub record IsRun (piece : List ℕ) (used : ℕ) (before after : Reading) (old n
   pub same : used ≡ 0 → new ≡ old
   pub same_reader : used ≡ 0 → after ≡ before
   pub takes : 0 < used → TakesAlong piece used before after old new
+  pub net : new.net ≡ old.net
   pub none : new.fail ≡ None
   pub place : after.place ≡ new.kept.place
   pub going : after.malformed ≡ None
@@ -42,6 +43,7 @@ begun piece reader checker none place going alike few = record {
   same = λ _. refl;
   same_reader = λ _. refl;
   takes = λ some. absurd (omega arith);
+  net = refl;
   none = none;
   place = place;
   going = going;
@@ -83,6 +85,7 @@ further {piece} {used} {before} {between} {after} {old} {mid} {new} more h some 
   same = λ nothing. absurd (omega (arith, nothing, some));
   same_reader = λ nothing. absurd (omega (arith, nothing, some));
   takes = λ _. takes_more used more h.takes h.same h.same_reader it;
+  net = it.net ∙ h.net;
   none = it.none;
   place = it.place;
   going = it.going;

@@ -1,6 +1,6 @@
 //! Going on by a line that comes again, or that is told by how it begins.
 ghost use Rattle.std.specs.Prelude.{◌≡◌, ◌^◌, ◌<◌, ◌≤◌, None, length};
-ghost use Rattle.pc_check.specs.Again.{AddsLine, TakesLine};
+ghost use Rattle.pc_check.specs.Again.{AddsLine, AreEnds, TakesLine};
 ghost use Rattle.pc_check.specs.Bounds.{IsBounded};
 ghost use Rattle.pc_check.specs.Fronts.{AreFronts};
 ghost use Rattle.pc_check.specs.Safe.{IsSafe};
@@ -18,6 +18,25 @@ pub(crate) enum Rows {
     Acts,
 }
 
+/// What is asked of the network at each row: its start, its end, and how many activities it has.
+#[derive(Clone, Copy, Debug)]
+pub(crate) struct Ends {
+    pub(crate) start: usize,
+    pub(crate) end: usize,
+    pub(crate) acts: u32,
+}
+
+/// What is asked of the network at each row.
+pub(crate) fn ends_of(net: &CrashNet<'_>) -> Ends
+    ensures { AreEnds net.now result }
+{
+    Ends {
+        start: net.net().start() as usize,
+        end: net.net().end() as usize,
+        acts: net.net().activities(),
+    }
+}
+
 /// Takes the line at the front of the piece, where it is such a row, one of the next event, or that of the next activity as it passed last, and
 /// is told not to fail: the answer is how many bytes it is with its end. Else nothing changes, and the answer is 0: the line may be anything.
 #[inline(always)]
@@ -28,7 +47,9 @@ pub(crate) fn advance_again(
     reader: &mut CertReader,
     piece: &[u8],
     rows: Rows,
+    ends: Ends,
 ) -> usize
+    requires ends { AreEnds net.now ends }
     requires safe { IsSafe net.now kept.old.tally }
     requires fronts { AreFronts net.now fronts.now }
     requires bounded { IsBounded net.now kept.old }
@@ -43,7 +64,7 @@ pub(crate) fn advance_again(
 {
     let _events = net.net().events();
     let _activities = net.net().activities();
-    let used = add_line(net, kept, fronts, reader, piece, rows);
+    let used = add_line(net, kept, fronts, reader, piece, rows, ends);
     if used == 0 {
         return 0;
     }
@@ -62,7 +83,9 @@ fn add_line(
     reader: &mut CertReader,
     piece: &[u8],
     rows: Rows,
+    ends: Ends,
 ) -> usize
+    requires ends { AreEnds net.now ends }
     requires safe { IsSafe net.now kept.old.tally }
     requires fronts { AreFronts net.now fronts.now }
     requires bounded { IsBounded net.now kept.old }
@@ -75,8 +98,8 @@ fn add_line(
     ensures safe { IsSafe net.now kept.new.tally }
 {
     match rows {
-        Rows::Events => add_told(net, kept, fronts, reader, piece),
-        Rows::Acts => add_behind(net, kept, fronts, reader, piece),
+        Rows::Events => add_told(net, kept, fronts, reader, piece, ends),
+        Rows::Acts => add_behind(net, kept, fronts, reader, piece, ends),
     }
 }
 
@@ -88,7 +111,9 @@ fn add_behind(
     fronts: &[EventFront],
     reader: &mut CertReader,
     piece: &[u8],
+    ends: Ends,
 ) -> usize
+    requires ends { AreEnds net.now ends }
     requires safe { IsSafe net.now kept.old.tally }
     requires fronts { AreFronts net.now fronts.now }
     requires bounded { IsBounded net.now kept.old }
@@ -103,7 +128,7 @@ fn add_behind(
     if kept.tally.times.len() < fronts.len() {
         return 0;
     }
-    add_same(net, kept, reader, piece)
+    add_same(net, kept, reader, piece, ends)
 }
 
 /// Reads the line at the front of the piece and adds it to what is kept, where it is one of the next event, of which nothing is asked but its
@@ -115,7 +140,9 @@ fn add_told(
     fronts: &[EventFront],
     reader: &mut CertReader,
     piece: &[u8],
+    ends: Ends,
 ) -> usize
+    requires ends { AreEnds net.now ends }
     requires safe { IsSafe net.now kept.old.tally }
     requires fronts { AreFronts net.now fronts.now }
     requires bounded { IsBounded net.now kept.old }
@@ -129,8 +156,8 @@ fn add_told(
 {
     let e = kept.tally.times.len();
     if fronts.len() <= e
-        || e == net.net().start() as usize
-        || e == net.net().end() as usize
+        || e == ends.start
+        || e == ends.end
         || kept.tally.upper == kept.tally.lower
     {
         return 0;
@@ -147,7 +174,14 @@ fn add_told(
 /// Reads the line at the front of the piece and adds it to what is kept, where it is that of the next activity as it passed last, and passes
 /// again.
 #[inline(always)]
-fn add_same(net: &CrashNet<'_>, kept: &mut Kept, reader: &mut CertReader, piece: &[u8]) -> usize
+fn add_same(
+    net: &CrashNet<'_>,
+    kept: &mut Kept,
+    reader: &mut CertReader,
+    piece: &[u8],
+    ends: Ends,
+) -> usize
+    requires ends { AreEnds net.now ends }
     requires safe { IsSafe net.now kept.old.tally }
     requires times { net.now.network.events ≤ length kept.old.tally.times.items }
     requires moves { net.now.network.events ≤ length kept.old.tally.moves.items }
@@ -160,7 +194,7 @@ fn add_same(net: &CrashNet<'_>, kept: &mut Kept, reader: &mut CertReader, piece:
     ensures safe { IsSafe net.now kept.new.tally }
 {
     let a = kept.tally.acts;
-    if net.net().activities() <= a {
+    if ends.acts <= a {
         return 0;
     }
     let last = &kept.tally.rows[a as usize];

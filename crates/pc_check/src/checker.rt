@@ -6,11 +6,12 @@ ghost use Rattle.pc_cert.specs.declared.place.Place.TheVariants.{Ended};
 ghost use Rattle.pc_check.specs.Bounds.{lines_left};
 ghost use Rattle.pc_check.specs.Certified.{AreCurve, Finds, OnYes, segments_of};
 ghost use Rattle.pc_check.specs.Checking.{StandsFor};
+ghost use Rattle.pc_check.specs.Again.{AreEnds};
 ghost use Rattle.pc_check.specs.Along.{TakesAlong};
 ghost use Rattle.pc_check.specs.declared.fail.Fail.{Fail};
 
 use crate::advancing::advance;
-use crate::again::{Rows, advance_again};
+use crate::again::{Ends, Rows, advance_again, ends_of};
 use crate::fail::{Fail, Verdict};
 use crate::fronts::fronts_of;
 use crate::kept::{Kept, kept_of};
@@ -156,9 +157,10 @@ impl<'n> Checker<'n> {
         ensures same_reader { result ≡ 0 → reader.new ≡ reader.old }
         ensures takes { 0 < result → TakesAlong piece.now result reader.old reader.new self.old self.new }
     {
+        let ends = ends_of(self.net);
         let mut rest = piece;
         loop {
-            let used = self.take_again(reader, rest, rows);
+            let used = self.take_again(reader, rest, rows, ends);
             if used == 0 {
                 return piece.len() - rest.len();
             }
@@ -168,7 +170,8 @@ impl<'n> Checker<'n> {
 
     /// The same of one row.
     #[inline(always)]
-    fn take_again(&mut self, reader: &mut CertReader, piece: &[u8], rows: Rows) -> usize
+    fn take_again(&mut self, reader: &mut CertReader, piece: &[u8], rows: Rows, ends: Ends) -> usize
+        requires ends { AreEnds self.old.net ends }
         requires no_fail { self.old.fail ≡ None }
         requires place { reader.old.place ≡ self.old.kept.place }
         requires going { reader.old.malformed ≡ None }
@@ -178,7 +181,15 @@ impl<'n> Checker<'n> {
         ensures same_reader { result ≡ 0 → reader.new ≡ reader.old }
         ensures takes { 0 < result → TakesAlong piece.now result reader.old reader.new self.old self.new }
     {
-        advance_again(self.net, &mut self.kept, &self.fronts, reader, piece, rows)
+        advance_again(
+            self.net,
+            &mut self.kept,
+            &self.fronts,
+            reader,
+            piece,
+            rows,
+            ends,
+        )
     }
 
     /// What was found: that the lines are certified, with how many segments they have; or the first condition that fails.

@@ -4,8 +4,8 @@ use Rattle.pc_cert.proofs.EventLaws.{rest_is}
 use Rattle.pc_cert.proofs.NumberLemmas.{digits_spell}
 use Rattle.pc_cert.proofs.number.numeral_within.Goals as goal
 
-pub returns : goal.returns
-returns c =
+pub returns-clause-number : goal.returns-clause-number
+returns-clause-number c =
     let bytes = c.args.bytes.now in
     let end = c.digits_within-number.result.1 in
     let spells = digits_spell bytes c.digits_within-number.result.0 end c.digits_within-number.ensures (sym c.is_unpadded.ensures ∙ c.if-not-is_unpadded.false) in
