@@ -88,8 +88,7 @@ impl<'n> Audit<'n> {
         self.step_anew(piece)
     }
 
-    /// As `step`, of any line. It stands apart, so that the loop over the lines that come again stays small.
-    #[inline(never)]
+    /// As `step`, of any line.
     fn step_anew(&mut self, piece: &[u8]) -> Result<usize, Fail>
         requires read { (text : List ℕ) × HasRead text self.old }
         requires going { IsGoing self.old }
