@@ -87,6 +87,9 @@ value_after-more n (x ∷ ds) d = value_after-more (n * 10 + (x - 48)) ds d
 pub digit_limit : (byte : ℕ) → is_ascii_digit byte ≡ true → byte ≤ 57
 digit_limit byte digit = grind (arith, nat_tests)
 
+pub is_digit : (byte : ℕ) → 48 ≤ byte → byte ≤ 57 → is_ascii_digit byte ≡ true
+is_digit byte low high = grind (arith, nat_tests)
+
 -- the digits so far, and a bound of their value
 pub record AreSoFar (bytes : List ℕ) (number count : ℕ) : Type 0 where
   pub few : count ≤ 18

@@ -1,11 +1,11 @@
 //! The line of an event that comes again with another time or another bit.
-ghost use Rattle.std.specs.Prelude.{◌≡◌, ◌∷◌, IfSome, Some};
+ghost use Rattle.std.specs.Prelude.{◌≡◌, ◌≤◌, ◌∷◌, IfSome, Some, length};
 ghost use Rattle.pc_cert.specs.declared.line.CertLine.TheVariants.{Event};
 ghost use Rattle.pc_cert.specs.Lines.{spaced, bit_text};
 ghost use Rattle.pc_cert.specs.Known.{IsAgain, IsEventFront};
 
-use crate::front::begins;
-use crate::number::number_at;
+use crate::front::{WIDTH, begin_same, begins};
+use crate::number::{MAX_DIGITS, number_at, number_within};
 use pc_text::Code;
 
 /// How many bytes of the line of an event stand before its code.
@@ -19,11 +19,33 @@ pub struct EventSaid {
     pub used: usize,
 }
 
+/// The most bytes that are looked at: those of the front, a space and a number, and three more.
+const LOOKED_AT: usize = WIDTH + MAX_DIGITS + 4;
+
 /// What the line at the front of the piece says, where it is one of this event.
 ///
 /// The bytes that are known begin as each line of the event does, so that its word and its code are compared and not read.
 #[inline(always)]
 pub(crate) fn event_at(code: &Code, known: &[u8], piece: &[u8]) -> Option<EventSaid>
+    requires { IsEventFront code.now known.now }
+    ensures { IfSome result (λ said. IsAgain (Some (Event code.now said.time said.moves)) piece.now said.used) }
+{
+    if piece.len() < LOOKED_AT {
+        return event_to_end(code, known, piece);
+    }
+    let front = code.bytes().len() + EVENT_NAMED;
+    if !begin_same(piece, known, front) {
+        return None;
+    }
+    let (time, rest) = number_within(&piece[front..])?;
+    let (moves, rest) = bit_within(rest)?;
+    let used = piece.len() - rest.len();
+    Some(EventSaid { time, moves, used })
+}
+
+/// The same where the piece is short.
+#[inline(never)]
+fn event_to_end(code: &Code, known: &[u8], piece: &[u8]) -> Option<EventSaid>
     requires { IsEventFront code.now known.now }
     ensures { IfSome result (λ said. IsAgain (Some (Event code.now said.time said.moves)) piece.now said.used) }
 {
@@ -45,6 +67,25 @@ fn last_bit(bytes: &[u8]) -> Option<(bool, &[u8])>
     match bytes {
         [b' ', b'0', b'\n', rest @ ..] => Some((false, rest)),
         [b' ', b'1', b'\n', rest @ ..] => Some((true, rest)),
+        _ => None,
+    }
+}
+
+/// As `last_bit`, where at least so many bytes stand there as are looked at.
+#[inline(always)]
+fn bit_within(bytes: &[u8]) -> Option<(bool, &[u8])>
+    requires { 3 ≤ length bytes.now }
+    ensures { IfSome result (λ parts. bytes.now ≡ spaced (bit_text parts.0) (10 ∷ parts.1.now)) }
+{
+    if bytes[0] != b' ' {
+        return None;
+    }
+    if bytes[2] != b'\n' {
+        return None;
+    }
+    match bytes[1] {
+        b'0' => Some((false, &bytes[3..])),
+        b'1' => Some((true, &bytes[3..])),
         _ => None,
     }
 }

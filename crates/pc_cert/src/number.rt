@@ -1,11 +1,16 @@
 //! The numbers of a certificate, which may be longer than those of a deck.
-ghost use Rattle.std.specs.Prelude.{◌≡◌, ◌≤◌, IfSome, length};
+ghost use Rattle.std.specs.Prelude.{◌≡◌, ◌+◌, ◌<◌, ◌≤◌, IfSome, length};
 ghost use Rattle.pc_text.specs.Number.{value_of};
 ghost use Rattle.pc_cert.specs.Number.{is_unpadded, numeral_of, AreDigitsAt};
 ghost use Rattle.pc_cert.specs.Lines.{IsNumberAt, IsNumeralAt};
 
 /// The most digits that a number of a certificate has.
 pub const MAX_DIGITS: usize = 18;
+
+/// The digits 0 and 9.
+const FIRST_DIGIT: u64 = 48;
+
+const LAST_DIGIT: u64 = 57;
 
 /// The number whose decimal form the word is, without a sign or a leading zero and with at most 18 digits.
 ///
@@ -67,14 +72,70 @@ fn numeral_at(bytes: &[u8]) -> Option<(u64, &[u8])>
     Some((number, &bytes[end..]))
 }
 
+/// As `number_at`, where at least so many bytes stand there as are looked at.
+#[inline(always)]
+pub(crate) fn number_within(bytes: &[u8]) -> Option<(u64, &[u8])>
+    requires { MAX_DIGITS < length bytes.now }
+    ensures number { IfSome result (λ parts. IsNumberAt bytes.now parts.0 parts.1.now) }
+    ensures left { IfSome result (λ parts. length bytes.now ≤ length parts.1.now + (MAX_DIGITS + 1)) }
+{
+    if bytes[0] != b' ' {
+        return None;
+    }
+    numeral_within(&bytes[1..])
+}
+
+/// As `numeral_at`, where at least so many bytes stand there as are looked at.
+#[inline(always)]
+fn numeral_within(bytes: &[u8]) -> Option<(u64, &[u8])>
+    requires { MAX_DIGITS ≤ length bytes.now }
+    ensures number { IfSome result (λ parts. IsNumeralAt bytes.now parts.0 parts.1.now) }
+    ensures left { IfSome result (λ parts. length bytes.now ≤ length parts.1.now + MAX_DIGITS) }
+{
+    let (number, end) = digits_within(bytes);
+    if !is_unpadded(&bytes[..end]) {
+        return None;
+    }
+    Some((number, &bytes[end..]))
+}
+
 /// The digits at the front, of which there are at most 18: their value, and how many they are.
 #[inline(always)]
 fn digits_at(bytes: &[u8]) -> (u64, usize)
     ensures { AreDigitsAt bytes.now result.0 result.1 }
 {
+    if bytes.len() < MAX_DIGITS {
+        return digits_to_end(bytes);
+    }
+    digits_within(bytes)
+}
+
+/// The same where at least so many bytes stand there: their end is not looked for.
+#[inline(always)]
+fn digits_within(bytes: &[u8]) -> (u64, usize)
+    requires { MAX_DIGITS ≤ length bytes.now }
+    ensures { AreDigitsAt bytes.now result.0 result.1 }
+{
+    let mut number = 0;
+    for i in 0..MAX_DIGITS {
+        let byte = u64::from(bytes[i]);
+        if byte < FIRST_DIGIT || LAST_DIGIT < byte {
+            return (number, i);
+        }
+        number = number * 10 + (byte - FIRST_DIGIT);
+    }
+    (number, MAX_DIGITS)
+}
+
+/// The same where fewer bytes stand there.
+#[inline(never)]
+fn digits_to_end(bytes: &[u8]) -> (u64, usize)
+    requires { length bytes.now < MAX_DIGITS }
+    ensures { AreDigitsAt bytes.now result.0 result.1 }
+{
     let mut number = 0;
     for (i, byte) in bytes.iter().enumerate() {
-        if i == MAX_DIGITS || !byte.is_ascii_digit() {
+        if !byte.is_ascii_digit() {
             return (number, i);
         }
         number = number * 10 + u64::from(byte - b'0');

@@ -1,7 +1,8 @@
 //! The order in which the lines of a certificate come.
 ghost use Rattle.std.specs.Prelude.{◌≡◌, ℕ, IsTrue, List, None, Some, Bool, false};
+ghost use Rattle.pc_cert.specs.declared.line.CertLine.{CertLine};
 ghost use Rattle.pc_cert.specs.declared.line.CertLine.TheVariants.{Event, Act};
-ghost use Rattle.pc_cert.specs.Grammar.{next, next_at_start, next_after_head, next_in_normal_walk, next_in_crash_walk, next_in_segment, next_between, opened, takes_flows};
+ghost use Rattle.pc_cert.specs.Grammar.{IsRow, next, next_at_start, next_after_head, next_in_normal_walk, next_in_crash_walk, next_in_segment, next_between, opened, takes_flows};
 
 use crate::flows::Flows;
 use crate::line::CertLine;
@@ -123,6 +124,32 @@ impl Place {
                 true
             }
             _ => false,
+        }
+    }
+
+    /// Goes on to the place behind a row that stands here: of this only the numbers of rows that are still to come are copied.
+    #[inline(always)]
+    pub fn go_on_to(&mut self, behind: &Place)
+        requires { (line : CertLine) × IsRow line × (next self.old line ≡ Some behind.now) }
+        ensures { self.new ≡ behind.now }
+    {
+        match (&mut *self, behind) {
+            (
+                Place::InSegment {
+                    events,
+                    activities,
+                    ..
+                },
+                Place::InSegment {
+                    events: events_left,
+                    activities: activities_left,
+                    ..
+                },
+            ) => {
+                *events = *events_left;
+                *activities = *activities_left;
+            }
+            _ => unreachable!(),
         }
     }
 
@@ -248,5 +275,5 @@ fn next_in_segment(shape: Shape, events: u64, activities: u64, line: &CertLine) 
 fn takes_flows(shape: Shape, flows: &Flows) -> bool
     ensures { result ≡ takes_flows shape flows.now }
 {
-    shape.version == 2 || flows.as_slice().len() == 2
+    flows.as_slice().len() == 2 || shape.version == 2
 }

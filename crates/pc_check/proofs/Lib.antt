@@ -7,6 +7,7 @@ pub mod BoundLaws
 pub mod FailureLaws
 pub mod SaidLaws
 pub mod TakeLaws
+mod RunLaws
 pub mod WalkLaws
 pub mod GoodRows
 pub mod GoodSegments

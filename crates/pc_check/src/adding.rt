@@ -42,6 +42,7 @@ pub(crate) fn begin_segment(
 }
 
 /// Adds an event, with its time and whether it moves.
+#[inline(always)]
 pub(crate) fn add_event(net: &CrashNet<'_>, tally: &mut Tally, time: u64, moves: bool)
     requires safe { IsSafe net.now tally.old }
     requires times { vec_len tally.old.times < net.now.network.events }
@@ -51,8 +52,8 @@ pub(crate) fn add_event(net: &CrashNet<'_>, tally: &mut Tally, time: u64, moves:
     ensures rest { tally.new ≡ record tally.old { times = tally.new.times; moves = tally.new.moves } }
     ensures safe { IsSafe net.now tally.new }
 {
-    tally.times.push(time).unwrap();
-    tally.moves.push(moves).unwrap();
+    tally.times.push_reserved(time);
+    tally.moves.push_reserved(moves);
 }
 
 /// Adds an activity with these gaps, of which this has passed.

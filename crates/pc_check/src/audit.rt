@@ -67,7 +67,8 @@ impl<'n> Audit<'n> {
         None
     }
 
-    /// Uses the piece up to the end of one line.
+    /// Uses the piece up to the end of one line, or of some that come again.
+    #[inline(always)]
     fn step(&mut self, piece: &[u8]) -> Result<usize, Fail>
         requires read { (text : List ℕ) × HasRead text self.old }
         requires going { IsGoing self.old }
@@ -80,7 +81,7 @@ impl<'n> Audit<'n> {
         ensures net { self.new.checker.net ≡ self.old.checker.net }
         ensures left { OnOk result (bytes_left self.new < bytes_left self.old) }
     {
-        let used = self.checker.take_again(&mut self.reader, piece);
+        let used = self.checker.take_rows(&mut self.reader, piece);
         if 0 < used {
             return Ok(used);
         }

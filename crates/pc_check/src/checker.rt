@@ -6,11 +6,12 @@ ghost use Rattle.pc_cert.specs.declared.place.Place.TheVariants.{Ended};
 ghost use Rattle.pc_check.specs.Bounds.{lines_left};
 ghost use Rattle.pc_check.specs.Certified.{AreCurve, Finds, OnYes, segments_of};
 ghost use Rattle.pc_check.specs.Checking.{StandsFor};
+ghost use Rattle.pc_check.specs.Again.{AreEnds};
 ghost use Rattle.pc_check.specs.Along.{TakesAlong};
 ghost use Rattle.pc_check.specs.declared.fail.Fail.{Fail};
 
 use crate::advancing::advance;
-use crate::again::advance_again;
+use crate::again::{Ends, Rows, advance_again, ends_of};
 use crate::fail::{Fail, Verdict};
 use crate::fronts::fronts_of;
 use crate::kept::{Kept, kept_of};
@@ -123,19 +124,72 @@ impl<'n> Checker<'n> {
         }
     }
 
-    /// Reads the line at the front of the piece and takes it, where it is one of the next event, or that of the next activity as it passed last,
-    /// and is told not to fail: the answer is how many bytes it is with its end. Else nothing changes, and the answer is 0.
+    /// Reads lines at the front of the piece and takes them, where each is one of the next event, or that of the next activity as it passed
+    /// last, and is told not to fail: the answer is how many bytes they are with their ends. Where there is none, nothing changes, and the
+    /// answer is 0.
     #[inline(always)]
-    pub(crate) fn take_again(&mut self, reader: &mut CertReader, piece: &[u8]) -> usize
+    pub(crate) fn take_rows(&mut self, reader: &mut CertReader, piece: &[u8]) -> usize
         requires no_fail { self.old.fail ≡ None }
         requires place { reader.old.place ≡ self.old.kept.place }
         requires going { reader.old.malformed ≡ None }
-        requires few { reader.old.lines < 2 ^ 63 }
+        requires alike { reader.old.lines ≡ self.old.kept.lines }
+        requires few { self.old.kept.lines < 2 ^ 63 }
         ensures same { result ≡ 0 → self.new ≡ self.old }
         ensures same_reader { result ≡ 0 → reader.new ≡ reader.old }
         ensures takes { 0 < result → TakesAlong piece.now result reader.old reader.new self.old self.new }
     {
-        advance_again(self.net, &mut self.kept, &self.fronts, reader, piece)
+        let used = self.take_run(reader, piece, Rows::Acts);
+        if 0 < used {
+            return used;
+        }
+        self.take_run(reader, piece, Rows::Events)
+    }
+
+    /// The same of rows of one kind: each kind has a loop of its own, which keeps what it needs in registers.
+    #[inline(always)]
+    fn take_run(&mut self, reader: &mut CertReader, piece: &[u8], rows: Rows) -> usize
+        requires no_fail { self.old.fail ≡ None }
+        requires place { reader.old.place ≡ self.old.kept.place }
+        requires going { reader.old.malformed ≡ None }
+        requires alike { reader.old.lines ≡ self.old.kept.lines }
+        requires few { self.old.kept.lines < 2 ^ 63 }
+        ensures same { result ≡ 0 → self.new ≡ self.old }
+        ensures same_reader { result ≡ 0 → reader.new ≡ reader.old }
+        ensures takes { 0 < result → TakesAlong piece.now result reader.old reader.new self.old self.new }
+    {
+        let ends = ends_of(self.net);
+        let mut rest = piece;
+        loop {
+            let used = self.take_again(reader, rest, rows, ends);
+            if used == 0 {
+                return piece.len() - rest.len();
+            }
+            rest = &rest[used..];
+        }
+    }
+
+    /// The same of one row.
+    #[inline(always)]
+    fn take_again(&mut self, reader: &mut CertReader, piece: &[u8], rows: Rows, ends: Ends) -> usize
+        requires ends { AreEnds self.old.net ends }
+        requires no_fail { self.old.fail ≡ None }
+        requires place { reader.old.place ≡ self.old.kept.place }
+        requires going { reader.old.malformed ≡ None }
+        requires alike { reader.old.lines ≡ self.old.kept.lines }
+        requires few { self.old.kept.lines < 2 ^ 63 }
+        ensures same { result ≡ 0 → self.new ≡ self.old }
+        ensures same_reader { result ≡ 0 → reader.new ≡ reader.old }
+        ensures takes { 0 < result → TakesAlong piece.now result reader.old reader.new self.old self.new }
+    {
+        advance_again(
+            self.net,
+            &mut self.kept,
+            &self.fronts,
+            reader,
+            piece,
+            rows,
+            ends,
+        )
     }
 
     /// What was found: that the lines are certified, with how many segments they have; or the first condition that fails.

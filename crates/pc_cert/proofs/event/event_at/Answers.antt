@@ -1,4 +1,4 @@
-use Rattle.std.proofs.Common.{◌≡◌, ◌+◌, ◌-◌, ◌≤◌, length, take, drop, decimal, sym, subst, ap, ◌∙◌, arith}
+use Rattle.std.proofs.Common.{◌≡◌, ◌+◌, ◌-◌, ◌≤◌, length, take, drop, decimal, sym, subst, ◌∙◌, arith}
 use Rattle.pc_cert.specs.Lines.{spaced, IsCode}
 use Rattle.pc_cert.proofs.EventLaws.{event_comes, left_within, rest_is}
 use Rattle.pc_cert.proofs.event.event_at.Goals as goal
@@ -8,7 +8,7 @@ overflow_sub-used c =
     let n = length c.bytes.result.now + 6 in
     let piece = c.args.piece.now in
     let rest = c.in_ok-time.rest.now in
-    let text : drop n piece ≡ spaced (decimal c.in_ok-time.time) rest = sym (rest_is n piece) ∙ c.in_ok-time.ensures.text in
+    let text : drop n piece ≡ spaced (decimal c.in_ok-time.time) rest = sym (rest_is n piece) ∙ c.in_ok-time.ensures.number.text in
     left_within n piece rest c.in_ok-moves.rest.now c.in_ok-time.time c.in_ok-moves.moves text c.in_ok-moves.ensures
 
 pub returns : goal.returns
@@ -18,13 +18,13 @@ returns c =
     let known = c.args.known.now in
     let rest = c.in_ok-time.rest.now in
     let more = c.in_ok-moves.rest.now in
-    let text : drop n piece ≡ spaced (decimal c.in_ok-time.time) rest = sym (rest_is n piece) ∙ c.in_ok-time.ensures.text in
+    let text : drop n piece ≡ spaced (decimal c.in_ok-time.time) rest = sym (rest_is n piece) ∙ c.in_ok-time.ensures.number.text in
     let within : length more ≤ length piece = left_within n piece rest more c.in_ok-time.time c.in_ok-moves.moves text c.in_ok-moves.ensures in
     event_comes c.args.code.now known piece rest more c.in_ok-time.time (length piece - length more) c.in_ok-moves.moves
     (subst IsCode c.bytes.ensures.value c.bytes.ensures.code)
-    c.in_ok-time.ensures.small
+    c.in_ok-time.ensures.number.small
     c.requires
-    (subst (λ code. take (length code + 6) piece ≡ take (length code + 6) known) c.bytes.ensures.value (c.begins.ensures.same c.if-not-begins.false))
+    (subst (λ code. take (length code + 6) piece ≡ take (length code + 6) known) c.bytes.ensures.value (c.begin_same.ensures c.if-not-begin_same.false))
     (subst (λ code. drop (length code + 6) piece ≡ spaced (decimal c.in_ok-time.time) rest) c.bytes.ensures.value text)
     c.in_ok-moves.ensures
     (omega (arith, within))

@@ -1,4 +1,4 @@
-use Rattle.std.proofs.Common.{◌++◌, take, drop, decimal, sym, ap, ◌∙◌}
+use Rattle.std.proofs.Common.{◌++◌, drop, decimal, sym, ap, ◌∙◌}
 use Rattle.std.proofs.lemmas.List.{take-append-drop}
 use Rattle.pc_cert.proofs.EventLaws.{rest_is}
 use Rattle.pc_cert.proofs.NumberLemmas.{digits_spell}

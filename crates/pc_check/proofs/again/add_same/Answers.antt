@@ -1,4 +1,4 @@
-use Rattle.std.proofs.Common.{◌<◌, length, refl, sym, ap, subst, arith}
+use Rattle.std.proofs.Common.{◌<◌, length, refl, sym, subst, arith}
 use Rattle.pc_cert.specs.declared.line.CertLine.TheVariants.{Act}
 use Rattle.pc_cert.specs.Known.{IsTextOf}
 use Rattle.pc_check.specs.declared.passed.Passed.{Passed}
@@ -12,7 +12,7 @@ pass_act-used-requires-clause-text c =
     let net = c.args.net.now in
     let a = c.args.kept.now.tally.acts in
     let row = c.index-last.result.now in
-    let known : a < length net.network.arcs = omega (arith, c.if-activities-a.false, c.activities.ensures.activities, ap (λ n. length n.arcs) c.net.ensures.network) in
+    let known : a < length net.network.arcs = omega (arith, c.if-ends-a.false, c.requires.ends.acts) in
     let it : IsPassed net a row = read_passed a row c.requires.safe.rows known c.index-last.ensures in
     it.text
 
@@ -21,7 +21,7 @@ add_again-requires-clause-passed c =
     let net = c.args.net.now in
     let a = c.args.kept.now.tally.acts in
     let row = c.index-last.result.now in
-    let known : a < length net.network.arcs = omega (arith, c.if-activities-a.false, c.activities.ensures.activities, ap (λ n. length n.arcs) c.net.ensures.network) in
+    let known : a < length net.network.arcs = omega (arith, c.if-ends-a.false, c.requires.ends.acts) in
     let same = row_read a row c.requires.safe.rows known c.index-last.ensures in
     subst (HasPassed net a) same ((read_passed a row c.requires.safe.rows known c.index-last.ensures).has (c.pass_act-used.ensures.kept (omega (arith, c.if-used-eq0.false))))
 
@@ -30,12 +30,13 @@ returns-clause-adds c = λ some.
     let net = c.args.net.now in
     let a = c.args.kept.now.tally.acts in
     let row = c.index-last.result.now in
-    let known : a < length net.network.arcs = omega (arith, c.if-activities-a.false, c.activities.ensures.activities, ap (λ n. length n.arcs) c.net.ensures.network) in
+    let known : a < length net.network.arcs = omega (arith, c.if-ends-a.false, c.requires.ends.acts) in
     let it : IsPassed net a row = read_passed a row c.requires.safe.rows known c.index-last.ensures in
     let has = it.has (c.pass_act-used.ensures.kept some) in
     let own = has.own in
     record {
       line = Act own.code row.duration row.flows;
+      row = tt;
       reads = c.pass_act-used.ensures.passes own.code row.duration some (subst (λ line. IsTextOf line row.text) own.says has.text);
       none = again_passes own.code own.named (c.passes_again.ensures c.if-not-passes_again.false) has;
       adds = (refl, subst (λ (r : Passed). AddsAct net c.args.kept.now.tally r.duration r.flows c.add_again.new.tally) (sym (row_read a row c.requires.safe.rows known c.index-last.ensures)) c.add_again.ensures.added);

@@ -1,4 +1,4 @@
-use Rattle.std.proofs.Common.{◌≡◌, ◌+◌, [], Some, sym, ap, ◌∙◌, take, arith}
+use Rattle.std.proofs.Common.{◌≡◌, ◌+◌, sym, ap, ◌∙◌, take, arith}
 use Rattle.pc_cert.specs.declared.line.CertLine.TheVariants.{Event}
 use Rattle.pc_cert.specs.Grammar.{next}
 use Rattle.pc_cert.specs.Reader.{Reading}
