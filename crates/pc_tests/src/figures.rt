@@ -10,15 +10,20 @@ use std::test::Fail;
 const DECK: &[u8] =
     b"PROJECT,P,S,T,2024-01-01,1,,\nASOF,2024-01-08\nWBS,1,,\nWBS,1.1,1,\nWBS,1.2,1,\nEVENT,S,\nEVENT,T,\nACT,A,S,T,1.1,3,4,5,4,2,10,7,\nACCT,X,1.1,10,\nACCT,Y,1.2,30,\nCHARGE,X,2024-01-03,6\nCHARGE,Y,2024-01-04,5\nTOGO,X,2024-01-05,9\nSTATUS,A,S,2024-01-02\nEND\n";
 
-/// The second item of the summary with its level, and the amounts of the first item.
-fn summary_of(alloc: Global, project: &Project) -> Option<(OutlineRow, SummaryAmounts)> {
+/// The second item of the summary with its level, the amounts of the first item, and those of the second level.
+fn summary_of(
+    alloc: Global,
+    project: &Project,
+) -> Option<(OutlineRow, SummaryAmounts, SummaryAmounts)> {
     let entries = project.book().entries();
     let tree = project.tree();
-    let summary = Summary::of(alloc, tree, project.accounts(), entries).ok()?;
+    let Ok(summary) = Summary::of(alloc, tree, project.accounts(), entries) else {
+        return None;
+    };
     if tree.len() != 3 || summary.items() != 3 || summary.depth() != 2 {
         return None;
     }
-    Some((summary.row(1), summary.of_item(0)))
+    Some((summary.row(1), summary.of_item(0), summary.of_level(1)))
 }
 
 /// What the work of the first item is worth.
@@ -49,7 +54,7 @@ fn outlook_of(alloc: Global, project: &Project) -> Option<(OutlineRow, OutlookAm
 /// The figures of a project.
 #[derive(Clone, Copy)]
 pub(crate) struct Figures {
-    summary: Option<(OutlineRow, SummaryAmounts)>,
+    summary: Option<(OutlineRow, SummaryAmounts, SummaryAmounts)>,
     worth: Option<WorthAmounts>,
     outlook: Option<(OutlineRow, OutlookAmounts)>,
 }
@@ -75,7 +80,7 @@ fn figures_of_items(rt: HostRuntime) -> Result<(), Fail> {
         overrun: 5,
     };
     let second = OutlineRow { item: 1, level: 2 };
-    assert_eq!(rt; figures.summary, Some((second, whole)));
+    assert_eq!(rt; figures.summary, Some((second, whole, whole)));
     let worth = WorthAmounts {
         budget: 40,
         actual: 11,

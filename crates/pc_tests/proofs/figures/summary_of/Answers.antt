@@ -1,3 +1,5 @@
+use Rattle.std.proofs.Common.{arith}
+use Rattle.pc_figures.proofs.DepthLaws.{levels_same}
 use Rattle.pc_tests.proofs.figures.summary_of.Goals as goal
 
 pub of-requires : goal.of-requires
@@ -8,3 +10,23 @@ of-requires c =
       one_each = rw (c.entries-entries.ensures.entries, c.book.ensures.entries, c.accounts.ensures.accounts) figures.entries.one_each;
       small = rw (c.entries-entries.ensures.entries, c.book.ensures.entries) figures.small_entries;
     }
+
+pub of_level-requires-clause-actual : goal.of_level-requires-clause-actual
+of_level-requires-clause-actual c =
+    let is = c.in-Ok.ensures.summary in
+    omega (arith, c.depth.ensures, c.if-depth-ne2.false, levels_same _ _ _ _ _ _ is.budget is.actual)
+
+pub of_level-requires-clause-to_go : goal.of_level-requires-clause-to_go
+of_level-requires-clause-to_go c =
+    let is = c.in-Ok.ensures.summary in
+    omega (arith, c.depth.ensures, c.if-depth-ne2.false, levels_same _ _ _ _ _ _ is.budget is.to_go)
+
+pub of_level-requires-clause-latest : goal.of_level-requires-clause-latest
+of_level-requires-clause-latest c =
+    let is = c.in-Ok.ensures.summary in
+    omega (arith, c.depth.ensures, c.if-depth-ne2.false, levels_same _ _ _ _ _ _ is.budget is.latest)
+
+pub of_level-requires-clause-overrun : goal.of_level-requires-clause-overrun
+of_level-requires-clause-overrun c =
+    let is = c.in-Ok.ensures.summary in
+    omega (arith, c.depth.ensures, c.if-depth-ne2.false, levels_same _ _ _ _ _ _ is.budget is.overrun)
