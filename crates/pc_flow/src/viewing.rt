@@ -53,4 +53,8 @@ impl<'n> SegmentView for Solver<'n> {
             beside(knees.as_slice(), flow)
         }
     }
+
+    fn whole(&self, a: u32) -> u64 {
+        self.search.board.flow(a)
+    }
 }
