@@ -34,3 +34,11 @@ listed-before n each i last d lt =
 -- one more of them
 pub listed-more : {A : Type 0} (n : ℕ) (each : ℕ → A) → listed (n + 1) each ≡ listed n each ++ each n ∷ []
 listed-more n each = ap (λ m. listed m each) (add-one n)
+
+-- the same numbers, where each is the same
+pub listed-same : {A : Type 0} (n : ℕ) (one other : ℕ → A) → ((i : ℕ) → i < n → one i ≡ other i) → listed n one ≡ listed n other
+listed-same zero one other same = refl
+listed-same (suc n) one other same =
+    let before = listed-same n one other (λ i below. same i (omega arith)) in
+    let last = same n (omega arith) in
+    λ i. before i ++ last i ∷ []

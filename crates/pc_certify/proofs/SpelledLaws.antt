@@ -2,22 +2,16 @@
 use Rattle.std.proofs.Common.{◌≡◌, ℕ, ◌+◌, ◌<◌, ◌≤◌, Bool, List, [], ◌∷◌, ◌++◌, length, take, get_or, set, decimal, sym, ap, subst, ◌∙◌, arith, append_assoc, ⊎_elim}
 use Rattle.std.specs.Prelude.{codes}
 use Rattle.std.proofs.lemmas.Bool.{cases_eq}
-use Rattle.std.proofs.lemmas.List.{get_or_append_left, get_or_push, get_or-set_same, get_or-set_other, length-append, length-set, take_more}
+use Rattle.std.proofs.lemmas.List.{get_or_append_left, get_or_push, get_or-set_same, get_or-set_other, length-append, length-set}
 use Rattle.pc_model.specs.Codes.{code_at}
 use Rattle.pc_crash.specs.Priced.{PricedNetwork}
 use Rattle.pc_cert.specs.declared.line.CertLine.TheVariants.{Event}
-use Rattle.pc_cert.specs.Lines.{bit_text, numbers, spaced}
+use Rattle.pc_cert.specs.Lines.{bit_text, spaced}
 use Rattle.pc_cert.specs.Text.{text_of}
 use Rattle.pc_cert.proofs.EventLaws.{front_of}
 use Rattle.pc_certify.specs.Spelled.{SpellsEvent, SpellsAct, AreEventsSpelled, AreActsSpelled}
 use Rattle.pc_certify.specs.declared.last_lines.EventRow.{EventRow}
 use Rattle.pc_certify.specs.declared.last_lines.ActRow.{ActRow}
-use Rattle.pc_certify.proofs.WordLaws.{numbers-append}
-
--- one more of the numbers of a list
-pub numbers-next : (list : List ℕ) (i : ℕ) → i < length list → numbers (take i list) ++ spaced (decimal (get_or list i 0)) [] ≡ numbers (take (i + 1) list)
-numbers-next list i below =
-    sym (ap numbers (take_more list i 0 below) ∙ numbers-append (take i list) (get_or list i 0 ∷ []))
 
 -- what holds of each row of a list holds of one more
 pub each_more : {X : Type 0} (P : ℕ → X → Type 0) (rows : List X) (row d : X) (n : ℕ) → length rows ≡ n → ((i : ℕ) → i < n → P i (get_or rows i d)) → P n row → (i : ℕ) → i < n + 1 → P i (get_or (rows ++ row ∷ []) i d)
@@ -37,10 +31,10 @@ event_said net rows e row are known spells = record {
   each = each_with (λ i r. SpellsEvent (code_at net.events i) r) rows row _ net.network.events e are.one_each are.each spells known;
 }
 
-pub act_said : (net : PricedNetwork) (rows : List ActRow) (a : ℕ) (row : ActRow) → AreActsSpelled net rows → a < length net.network.arcs → SpellsAct (code_at net.activities a) row → AreActsSpelled net (set rows a row)
+pub act_said : (net : PricedNetwork) (rows : List ActRow) (a : ℕ) (row : ActRow) → AreActsSpelled net rows → a < length net.network.arcs → SpellsAct net a row → AreActsSpelled net (set rows a row)
 act_said net rows a row are known spells = record {
   one_each = length-set rows a row ∙ are.one_each;
-  each = each_with (λ i r. SpellsAct (code_at net.activities i) r) rows row _ (length net.network.arcs) a are.one_each are.each spells known;
+  each = each_with (λ i r. SpellsAct net i r) rows row _ (length net.network.arcs) a are.one_each are.each spells known;
 }
 
 -- ---- the line of an event, cut behind its code

@@ -1,10 +1,12 @@
 -- The lines of a segment as they were spelled last.
-use Rattle.std.specs.Prelude.{◌≡◌, ℕ, ◌<◌, false, List, [], ◌∷◌, length, slice_index_or}
+use Rattle.std.specs.Prelude.{◌≡◌, ℕ, ◌<◌, false, List, [], ◌∷◌, ◌++◌, length, slice_index_or}
 use Rattle.pc_model.specs.Codes.{code_at}
-use Rattle.pc_crash.specs.Priced.{PricedNetwork}
+use Rattle.pc_curve_laws.specs.Stair.{stair_of, knee_flow, crash_flow}
+use Rattle.pc_crash.specs.Priced.{PricedNetwork, knees_in}
 use Rattle.pc_cert.specs.declared.line.CertLine.TheVariants.{Event, Act}
 use Rattle.pc_cert.specs.Lines.{IsCode}
 use Rattle.pc_cert.specs.Text.{text_of}
+use Rattle.pc_certify.specs.Listed.{listed}
 use Rattle.pc_certify.specs.declared.last_lines.EventRow.{EventRow}
 use Rattle.pc_certify.specs.declared.last_lines.ActRow.{ActRow}
 
@@ -13,17 +15,23 @@ pub record SpellsEvent (code : List ℕ) (row : EventRow) : Type 0 where
   pub code_is : IsCode code
   pub text : row.spelling ≡ text_of (Event code row.time row.moves ∷ [])
 
--- the row spells what it says of the activity with this code
-pub record SpellsAct (code : List ℕ) (row : ActRow) : Type 0 where
-  pub code_is : IsCode code
-  pub text : row.spelling ≡ text_of (Act code row.duration row.flows ∷ [])
+-- a whole flow along activity a as it fills the knees in their order: what runs at each of them, and what is left beside them
+abbrev pub filled_along : PricedNetwork → ℕ → ℕ → List ℕ
+filled_along net a whole =
+    let stair = stair_of net.terms (knees_in net) a in
+    listed stair.count (knee_flow stair whole) ++ crash_flow stair whole ∷ []
+
+-- the row spells what it says of activity a: its duration, and the flows that its whole flow makes
+pub record SpellsAct (net : PricedNetwork) (a : ℕ) (row : ActRow) : Type 0 where
+  pub code_is : IsCode (code_at net.activities a)
+  pub text : row.spelling ≡ text_of (Act (code_at net.activities a) row.duration (filled_along net a row.whole) ∷ [])
 
 -- the row of event e, and that of activity a
 abbrev pub event_row : List EventRow → ℕ → EventRow
 event_row rows e = slice_index_or rows e (record { time = 0; moves = false; spelling = [] })
 
 abbrev pub act_row : List ActRow → ℕ → ActRow
-act_row rows a = slice_index_or rows a (record { duration = 0; flows = []; spelling = [] })
+act_row rows a = slice_index_or rows a (record { duration = 0; whole = 0; spelling = [] })
 
 -- each event has a row, which spells what it says of it
 pub record AreEventsSpelled (net : PricedNetwork) (rows : List EventRow) : Type 0 where
@@ -33,4 +41,4 @@ pub record AreEventsSpelled (net : PricedNetwork) (rows : List EventRow) : Type 
 -- so has each activity
 pub record AreActsSpelled (net : PricedNetwork) (rows : List ActRow) : Type 0 where
   pub one_each : length rows ≡ length net.network.arcs
-  pub each : (a : ℕ) → a < length net.network.arcs → SpellsAct (code_at net.activities a) (act_row rows a)
+  pub each : (a : ℕ) → a < length net.network.arcs → SpellsAct net a (act_row rows a)

@@ -1,15 +1,17 @@
 //! The lines of the segment that was put last, of which most are those of the next.
-ghost use Rattle.std.specs.Prelude.{◌≡◌, ℕ, ◌+◌, ◌*◌, ◌<◌, ◌≤◌, List, [], ◌++◌, length, IfOk};
+ghost use Rattle.std.specs.Prelude.{◌≡◌, ◌+◌, ◌<◌, ◌≤◌, ◌++◌, length, IfOk};
 ghost use Rattle.pc_cert.specs.Lines.{numbers};
-ghost use Rattle.pc_model.specs.Codes.{code_at};
-ghost use Rattle.pc_certify.specs.Spelled.{SpellsEvent, SpellsAct, AreEventsSpelled, AreActsSpelled};
+ghost use Rattle.pc_certify.specs.Spelled.{SpellsEvent, SpellsAct, AreEventsSpelled, AreActsSpelled, filled_along};
 
 use crate::gathered::Gathered;
-use crate::spelling::Spelling;
-use pc_cert::{EVENT_NAMED, Flows};
+use crate::spelling::{NUMBER_ROOM, ROOM, Spelling};
+use pc_cert::{EVENT_NAMED, MAX_FLOWS};
 use pc_crash::CrashNet;
 use pc_text::Code;
 use std::alloc::{AllocError, Global};
+
+/// The most bytes of the flows of an activity, each behind a space.
+const FLOWS_ROOM: usize = MAX_FLOWS * NUMBER_ROOM;
 
 /// The line of an event: what it says, and how it is spelled.
 #[derive(Debug, Drop)]
@@ -19,11 +21,11 @@ pub struct EventRow {
     pub(crate) spelling: Spelling,
 }
 
-/// The line of an activity: what it says, and how it is spelled.
+/// The line of an activity: its duration and its whole flow, which makes the flows that the line says, and how it is spelled.
 #[derive(Debug, Drop)]
 pub struct ActRow {
     pub(crate) duration: u64,
-    pub(crate) flows: Flows,
+    pub(crate) whole: u64,
     pub(crate) spelling: Spelling,
 }
 
@@ -71,7 +73,7 @@ fn act_rows(alloc: Global, net: &CrashNet<'_>) -> Result<Vec<ActRow>, AllocError
     let activities = net.net().activities();
     let mut rows = Vec::with_capacity(alloc, activities as usize)?;
     for a in 0..activities {
-        rows.push(ActRow::of(&net.activity_code(a)))?;
+        rows.push(ActRow::of(net, a))?;
     }
     Ok(rows)
 }
@@ -121,43 +123,50 @@ impl EventRow {
 }
 
 impl ActRow {
-    /// The line of an activity without flows.
-    fn of(code: &Code) -> ActRow
-        ensures { SpellsAct code.now result }
+    /// The line of an activity that takes no time and along which nothing flows.
+    fn of(net: &CrashNet<'_>, a: u32) -> ActRow
+        requires { a < length net.now.network.arcs }
+        ensures { SpellsAct net.now a result }
     {
         let mut row = ActRow {
             duration: 0,
-            flows: Flows::new(),
+            whole: 0,
             spelling: Spelling::new(),
         };
-        row.spell(code, 0, &Flows::new());
+        row.spell(net, a, 0, 0);
         row
     }
 
     /// Says this of the activity, and spells the line.
-    pub(crate) fn spell(&mut self, code: &Code, duration: u64, flows: &Flows)
-        ensures spells { SpellsAct code.now self.new }
+    pub(crate) fn spell(&mut self, net: &CrashNet<'_>, a: u32, duration: u64, whole: u64)
+        requires { a < length net.now.network.arcs }
+        ensures spells { SpellsAct net.now a self.new }
         ensures duration { self.new.duration ≡ duration }
-        ensures flows { self.new.flows ≡ flows.now }
+        ensures whole { self.new.whole ≡ whole }
     {
         self.duration = duration;
-        self.flows = *flows;
+        self.whole = whole;
         self.spelling.clear();
         self.spelling.add(b"ACT");
-        self.spelling.add_code(code);
+        self.spelling.add_code(&net.activity_code(a));
         self.spelling.add_number(duration);
-        add_numbers(&mut self.spelling, flows.as_slice());
+        add_flows(&mut self.spelling, net, a, whole);
         self.spelling.add(b"\n");
     }
 }
 
-/// Adds each of the numbers behind a space.
-fn add_numbers(spelling: &mut Spelling, list: &[u64])
-    requires { length spelling.old + 21 * length list.now ≤ 192 }
-    ensures text { spelling.new ≡ spelling.old ++ numbers list.now }
-    ensures short { length spelling.new ≤ length spelling.old + 21 * length list.now }
+/// Adds behind a space each what of a whole flow runs at each knee of an activity, and then what is left beside them. One
+/// pass over the knees.
+fn add_flows(spelling: &mut Spelling, net: &CrashNet<'_>, a: u32, whole: u64)
+    requires activity { a < length net.now.network.arcs }
+    requires room { length spelling.old + FLOWS_ROOM ≤ ROOM }
+    ensures text { spelling.new ≡ spelling.old ++ numbers (filled_along net.now a whole) }
+    ensures short { length spelling.new ≤ length spelling.old + FLOWS_ROOM }
 {
-    for &number in list {
-        spelling.add_number(number);
+    let mut rest = whole;
+    for knee in net.knees(a).as_slice() {
+        spelling.add_number(rest.min(knee.rise));
+        rest = rest.saturating_sub(knee.rise);
     }
+    spelling.add_number(rest);
 }

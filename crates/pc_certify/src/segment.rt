@@ -1,19 +1,17 @@
 //! The lines of a segment.
-ghost use Rattle.std.specs.Prelude.{◌≡◌, ℕ, ◌<◌, ◌≤◌, true, [], ◌∷◌, length, slice_index};
+ghost use Rattle.std.specs.Prelude.{◌≡◌, ℕ, ◌<◌, [], ◌∷◌, length};
 ghost use Rattle.pc_page.specs.Puts.{Puts, desk};
 ghost use Rattle.pc_cert.specs.Lines.{IsCode};
 ghost use Rattle.pc_cert.specs.Text.{text_of, AllFit};
 ghost use Rattle.pc_model.specs.Codes.{code_at};
-ghost use Rattle.pc_crash.specs.Priced.{knees_in};
 ghost use Rattle.pc_certify.specs.Listed.{listed};
 ghost use Rattle.pc_certify.specs.Document.{ends_line, event_line, act_line, flows_along, segment_lines, HasSmallNumbers};
 ghost use Rattle.pc_certify.specs.Gathers.{Gathers};
-ghost use Rattle.pc_certify.specs.Spelled.{AreEventsSpelled, AreActsSpelled, SpellsAct};
+ghost use Rattle.pc_certify.specs.Spelled.{AreEventsSpelled, AreActsSpelled, SpellsAct, filled_along};
 
 use crate::gathered::Gathered;
 use crate::last_lines::{ActRow, EventRow, LastLines};
 use crate::words::put_number;
-use pc_cert::Flows;
 use pc_crash::{CrashNet, SegmentView};
 use pc_edges::Sink;
 use pc_page::Page;
@@ -157,64 +155,30 @@ fn put_act<O: Sink, V: SegmentView>(
     gathered.put(page, sink, &row.spelling);
 }
 
-/// Says of an activity what it is in the segment. The line is spelled anew only where it said something else.
+/// Says of an activity what it is in the segment. The line is spelled anew only where its duration or its whole flow was
+/// another.
 fn say_act<V: SegmentView>(net: &CrashNet<'_>, view: &V, a: u32, row: &mut ActRow)
     requires present { V.IsPresent view.now }
     requires net { V.net view.now ≡ net.now }
     requires activity { a < length net.now.network.arcs }
-    requires spelled { SpellsAct (code_at net.now.activities a) row.old }
-    ensures spells { SpellsAct (code_at net.now.activities a) row.new }
+    requires spelled { SpellsAct net.now a row.old }
+    ensures spells { SpellsAct net.now a row.new }
     ensures duration { row.new.duration ≡ (V.segment view.now).duration a }
-    ensures flows { row.new.flows ≡ flows_along net.now (V.segment view.now) a }
+    ensures flows { filled_along net.now a row.new.whole ≡ flows_along net.now (V.segment view.now) a }
 {
     let duration = view.duration(a);
-    if duration != row.duration || !are_flows_along(net, view, a, row.flows.as_slice()) {
-        row.spell(&net.activity_code(a), duration, &flows_along(net, view, a));
+    let whole = whole_along(net, view, a);
+    if duration != row.duration || whole != row.whole {
+        row.spell(net, a, duration, whole);
     }
 }
 
-/// Whether these are the flow along an activity at each of its knees and the one beside them.
-fn are_flows_along<V: SegmentView>(net: &CrashNet<'_>, view: &V, a: u32, flows: &[u64]) -> bool
+/// The whole flow along an activity, which makes all its flows.
+fn whole_along<V: SegmentView>(net: &CrashNet<'_>, view: &V, a: u32) -> u64
     requires present { V.IsPresent view.now }
     requires net { V.net view.now ≡ net.now }
     requires activity { a < length net.now.network.arcs }
-    ensures { result ≡ true → flows.now ≡ flows_along net.now (V.segment view.now) a }
+    ensures { filled_along net.now a result ≡ flows_along net.now (V.segment view.now) a }
 {
-    let count = net.knees(a).len() + 1;
-    if flows.len() != count as usize {
-        return false;
-    }
-    for k in 0..count {
-        if !is_flow_along(net, view, a, k, flows[k as usize]) {
-            return false;
-        }
-    }
-    true
-}
-
-/// Whether this is the flow along an activity at one of its knees, or beside them where `k` is the number of its knees.
-fn is_flow_along<V: SegmentView>(net: &CrashNet<'_>, view: &V, a: u32, k: u32, flow: u64) -> bool
-    requires present { V.IsPresent view.now }
-    requires net { V.net view.now ≡ net.now }
-    requires activity { a < length net.now.network.arcs }
-    requires knee { k ≤ (knees_in net.now).count a }
-    ensures { result ≡ true → flow ≡ slice_index (flows_along net.now (V.segment view.now) a) k }
-{
-    view.flow(a, k) == flow
-}
-
-/// The flow along an activity at each of its knees, and the one beside them.
-fn flows_along<V: SegmentView>(net: &CrashNet<'_>, view: &V, a: u32) -> Flows
-    requires present { V.IsPresent view.now }
-    requires net { V.net view.now ≡ net.now }
-    requires activity { a < length net.now.network.arcs }
-    ensures { result ≡ flows_along net.now (V.segment view.now) a }
-{
-    let knees = net.knees(a).len();
-    let mut flows = Flows::new();
-    for k in 0..knees {
-        flows.push(view.flow(a, k));
-    }
-    flows.push(view.flow(a, knees));
-    flows
+    view.whole(a)
 }
