@@ -69,9 +69,9 @@ fn segments_of_pieces(rt: HostRuntime) {
     assert_eq!(rt; small_curve(rt.alloc()), Some(rows));
 }
 
-/// The range of a curve; of its first segment the time and moving bit of event 1, the duration of activity 0, and its flows
-/// at the first knee and beside the knees; and how many cells are free at last.
-fn first<L: Ledger>(alloc: Global, net: &CrashNet<'_>, blank: Blank) -> Result<[u64; 8], AllocError>
+/// The range of a curve; of its first segment the time and moving bit of event 1, the duration of activity 0, its flows at
+/// the first knee and beside the knees, and its whole flow; and how many cells are free at last.
+fn first<L: Ledger>(alloc: Global, net: &CrashNet<'_>, blank: Blank) -> Result<[u64; 9], AllocError>
     requires blank { IsBlankOf L.name L.parts blank.name blank.parts }
     requires pieces { length net.now.pieces ≤ 1 }
     requires event { 1 < net.now.network.events }
@@ -80,7 +80,7 @@ fn first<L: Ledger>(alloc: Global, net: &CrashNet<'_>, blank: Blank) -> Result<[
     let mut steps = Steps::<L>::new(blank);
     let mut solver = solver(alloc, net)?;
     if !solver.next_segment(&mut steps) {
-        return Ok([0; 8]);
+        return Ok([0; 9]);
     }
     Ok([
         solver.longest(),
@@ -90,11 +90,12 @@ fn first<L: Ledger>(alloc: Global, net: &CrashNet<'_>, blank: Blank) -> Result<[
         solver.duration(0),
         solver.flow(0, 0),
         solver.flow(0, net.knees(0).len()),
+        solver.whole(0),
         solver.close().free() as u64,
     ])
 }
 
-fn small_first(alloc: Global) -> Option<[u64; 8]> {
+fn small_first(alloc: Global) -> Option<[u64; 9]> {
     let net = small_net(alloc)?;
     let priced = small_priced(alloc, &net)?;
     first::<Brand>(alloc, &priced, Blank::new(1)).ok()
@@ -102,7 +103,7 @@ fn small_first(alloc: Global) -> Option<[u64; 8]> {
 
 #[test]
 fn first_segment_of_pieces(rt: HostRuntime) {
-    assert_eq!(rt; small_first(rt.alloc()), Some([9, 5, 4, 1, 4, 3, 0, 60]));
+    assert_eq!(rt; small_first(rt.alloc()), Some([9, 5, 4, 1, 4, 3, 0, 3, 60]));
 }
 
 /// Two activities run to event 1, of which the first is shortened for nothing, and from there one that cannot be shortened
