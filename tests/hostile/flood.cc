@@ -2,8 +2,9 @@
 //
 //     flood COUNT BITS     so many codes of 16 bytes, a line each, whose hashes all end in BITS zeros
 //
-// The hash is that of the library (`FoldHasher`) for the 16 cells of a code: both words of 8 bytes, each changed by a fixed number, are
-// multiplied to 128 bits, and the two halves joined by xor. Codes are tried one after the other.
+// The hash is that of `pc_names` for the 16 cells of a code: of two words of 8 bytes the second is multiplied by a fixed number and joined
+// to the first by xor, this multiplied by the same number to 128 bits, and the two halves joined by xor. Codes are tried one after the
+// other.
 #include <cstdint>
 #include <cstdio>
 #include <cstdlib>
@@ -20,7 +21,8 @@ static uint64_t word_of(const char *bytes) {
 }
 
 static uint64_t hash(uint64_t low, uint64_t high) {
-    unsigned __int128 product = (unsigned __int128)(low ^ (0x243f6a8885a308d3 + 16)) * (high ^ 0x9e3779b97f4a7c15);
+    const uint64_t MULTIPLIER = 0x9e3779b97f4a7c15;
+    unsigned __int128 product = (unsigned __int128)(low ^ high * MULTIPLIER) * MULTIPLIER;
     return (uint64_t)product ^ (uint64_t)(product >> 64);
 }
 

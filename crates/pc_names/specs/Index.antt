@@ -1,16 +1,23 @@
 -- Where codes stand among others, by their slots and by the ordered map.
-use Rattle.std.specs.Prelude.{◌≡◌, ℕ, ◌+◌, ◌-◌, ◌<◌, ◌≤◌, List, length, slice_index, bit_and, Option, Some}
+use Rattle.std.specs.Prelude.{◌≡◌, ℕ, ◌+◌, ◌-◌, ◌*◌, ◌/◌, ◌%◌, ◌^◌, ◌<◌, ◌≤◌, List, length, slice_index, bit_and, bit_xor, Option, Some}
 use Rattle.std.specs.BTreeMap.{get}
-use Rattle.std.specs.Hash.FoldHasher as folding
+use Rattle.std.specs.Hash.FoldHasher.{folded_multiply}
 use Rattle.std.specs.Ordering.{nat_cmp}
 use Rattle.pc_model.specs.Codes.{code_at}
 use Rattle.pc_names.specs.declared.index.Index.{Index}
 use Rattle.pc_text.specs.CodeNumber.{number_of, code_in}
-use Rattle.pc_text.specs.Words.{padded}
+
+-- 2 to the 64th, divided by the golden ratio
+abbrev multiplier : ℕ
+multiplier = 0x9e37_79b9_7f4a_7c15
+
+-- the bits of a number, mixed: its two halves are made one, and the two halves of a product of that
+unfoldable pub mixed : ℕ → ℕ
+mixed number = folded_multiply (bit_xor (bit_and number (2 ^ 64 - 1)) ((number / 2 ^ 64 * multiplier) % 2 ^ 64)) multiplier
 
 -- the slot of a code among so many
 unfoldable pub slot_of : ℕ → List ℕ → ℕ
-slot_of size code = bit_and (folding.finish (folding.write folding.initial (padded 16 code))) (size - 1)
+slot_of size code = bit_and (mixed (number_of code)) (size - 1)
 
 -- what stands in the slot of a code; behind the last slot of a code there is one more
 abbrev pub slot_at : Index → List ℕ → ℕ

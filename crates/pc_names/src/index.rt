@@ -2,16 +2,19 @@
 ghost use Rattle.std.specs.Prelude.{◌≡◌, ◌+◌, ◌*◌, ◌^◌, ◌<◌, ◌≤◌, ◌∷◌, ◌++◌, [], false, nat_eq, length, position, IfOk, OnOk, OnErr};
 ghost use Rattle.std.specs.List.{list_any};
 ghost use Rattle.std.specs.Cmp.Lexicographic.{pointwise};
+ghost use Rattle.std.specs.Hash.FoldHasher.{folded_multiply};
 ghost use Rattle.pc_model.specs.Codes.{IsNamedOnce};
-ghost use Rattle.pc_names.specs.Index.{IsIndexed, slot_of};
+ghost use Rattle.pc_names.specs.Index.{IsIndexed, mixed, slot_of};
 
 use pc_text::Code;
 use std::alloc::{AllocError, Global};
 use std::collections::BTreeMap;
-use std::hash::{FoldHasher, Hash, Hasher};
 
 /// How many slots there are at least for each code, so that few codes find theirs and the one beside it taken.
 const SLOTS_EACH: usize = 3;
+
+/// An odd number whose bits show no pattern: 2 to the 64th, divided by the golden ratio.
+const MULTIPLIER: u64 = 0x9e37_79b9_7f4a_7c15;
 
 /// The most codes: each has a number of 32 bits in its slot, and 0 stands for none.
 pub(crate) const MOST: usize = 0xFFFF_FFFE;
@@ -119,14 +122,14 @@ impl Index {
         if taken == 0 {
             return None;
         }
-        if codes[taken - 1] == *code {
+        if are_same(&codes[taken - 1], code) {
             return Some(taken - 1);
         }
         let beside = self.slots[slot + 1] as usize;
         if beside == 0 {
             return None;
         }
-        if codes[beside - 1] == *code {
+        if are_same(&codes[beside - 1], code) {
             return Some(beside - 1);
         }
         match self.crowded.get(&code.number()) {
@@ -136,13 +139,35 @@ impl Index {
     }
 }
 
+/// Whether two codes are the same, by their numbers: a comparison of two words, where one of the cells takes them apart.
+fn are_same(one: &Code, other: &Code) -> bool
+    ensures { result ≡ pointwise nat_eq one.now other.now }
+{
+    one.number() == other.number()
+}
+
 /// The slot of a code among so many.
 fn slot_of(size: usize, code: &Code) -> usize
     requires { 0 < size }
     ensures value { result ≡ slot_of size code.now }
     ensures within { result < size }
 {
-    let mut hasher = FoldHasher::default();
-    code.hash(&mut hasher);
-    hasher.finish() as usize & (size - 1)
+    mixed(code.number()) as usize & (size - 1)
+}
+
+/// The bits of a number, mixed: its two halves are made one, and the two halves of a product of that.
+fn mixed(number: u128) -> u64
+    ensures { result ≡ mixed number }
+{
+    let low = (number & 0xFFFF_FFFF_FFFF_FFFF) as u64;
+    let high = (number >> 64) as u64;
+    folded_multiply(low ^ high.wrapping_mul(MULTIPLIER), MULTIPLIER)
+}
+
+/// The two halves of the 128 bits of a product, joined by xor.
+fn folded_multiply(a: u64, b: u64) -> u64
+    ensures { result ≡ folded_multiply a b }
+{
+    let product = a as u128 * b as u128;
+    (product & 0xFFFF_FFFF_FFFF_FFFF) as u64 ^ (product >> 64) as u64
 }

@@ -37,8 +37,8 @@ returns-then-taken-eq0 c =
     let at = slot-read index c.args.code.now c.len-count.result c.slot_of-slot.result c.index.result.now (c.len-count.ensures ∙ index.slots.ok.0) c.slot_of-slot.ensures.value c.index.ensures (omega (arith, c.slot_of-slot.ensures.within)) in
     sym (nowhere-free _ c.args.code.now index c.requires.indexed (at ∙ c.if-taken-eq0.true))
 
-pub returns-then-eq : goal.returns-then-eq
-returns-then-eq c =
+pub returns-then-are_same : goal.returns-then-are_same
+returns-then-are_same c =
     let index = c.args.self.now in
     let codes = c.args.codes.now in
     let place = c.index.result.now - 1 in
@@ -46,7 +46,7 @@ returns-then-eq c =
     let at = get_or_read index.slots.items c.slot_of-slot.result c.index.result.now (omega (arith, full, c.slot_of-slot.ensures.within)) c.index.ensures 0 in
     let inside = place_inside (length codes) c.index.result.now _ at (c.requires.indexed.within c.slot_of-slot.result) c.if-taken-eq0.false in
     sym (position-named codes c.args.code.now place c.requires.once inside
-    (same codes c.args.code.now _ place _ (get_or_read codes place c.index-codes-taken.result inside c.index-codes-taken.is []) c.eq.ensures c.if-eq.true))
+    (same codes c.args.code.now _ place _ (get_or_read codes place c.index-codes-taken.result inside c.index-codes-taken.is []) c.are_same.ensures c.if-are_same.true))
 
 pub returns-then-beside-eq0 : goal.returns-then-beside-eq0
 returns-then-beside-eq0 c =
@@ -59,12 +59,12 @@ returns-then-beside-eq0 c =
     let inside = place_inside (length codes) c.index.result.now _ read (c.requires.indexed.within c.slot_of-slot.result) c.if-taken-eq0.false in
     let at = slot-read index code c.len-count.result c.slot_of-slot.result c.index.result.now full c.slot_of-slot.ensures.value c.index.ensures (omega (arith, c.slot_of-slot.ensures.within)) in
     let more : c.index.result.now ≡ place + 1 = omega (arith, c.if-taken-eq0.false) in
-    let other = differs codes code _ place _ (get_or_read codes place c.index-codes-taken.result inside c.index-codes-taken.is []) c.eq.ensures c.if-eq.false in
+    let other = differs codes code _ place _ (get_or_read codes place c.index-codes-taken.result inside c.index-codes-taken.is []) c.are_same.ensures c.if-are_same.false in
     let near = beside-read index code c.len-count.result c.slot_of-slot.result c.index-2.result.now full c.slot_of-slot.ensures.value c.index-2.ensures (omega (arith, c.slot_of-slot.ensures.within)) in
     sym (nowhere-beside codes code index c.requires.indexed place (at ∙ more) other (near ∙ c.if-beside-eq0.true))
 
-pub returns-then-eq-2 : goal.returns-then-eq-2
-returns-then-eq-2 c =
+pub returns-then-are_same-2 : goal.returns-then-are_same-2
+returns-then-are_same-2 c =
     let index = c.args.self.now in
     let codes = c.args.codes.now in
     let place = c.index-2.result.now - 1 in
@@ -72,7 +72,7 @@ returns-then-eq-2 c =
     let at = get_or_read index.slots.items (c.slot_of-slot.result + 1) c.index-2.result.now (omega (arith, full, c.slot_of-slot.ensures.within)) c.index-2.ensures 0 in
     let inside = place_inside (length codes) c.index-2.result.now _ at (c.requires.indexed.within (c.slot_of-slot.result + 1)) c.if-beside-eq0.false in
     sym (position-named codes c.args.code.now place c.requires.once inside
-    (same codes c.args.code.now _ place _ (get_or_read codes place c.index-codes-beside.result inside c.index-codes-beside.is []) c.eq-2.ensures c.if-eq-2.true))
+    (same codes c.args.code.now _ place _ (get_or_read codes place c.index-codes-beside.result inside c.index-codes-beside.is []) c.are_same-2.ensures c.if-are_same-2.true))
 
 pub returns-in-Some : goal.returns-in-Some
 returns-in-Some c =
@@ -93,11 +93,11 @@ returns-in-None c =
     let inside = place_inside (length codes) c.index.result.now _ read (c.requires.indexed.within c.slot_of-slot.result) c.if-taken-eq0.false in
     let at = slot-read index code c.len-count.result c.slot_of-slot.result c.index.result.now full c.slot_of-slot.ensures.value c.index.ensures (omega (arith, c.slot_of-slot.ensures.within)) in
     let more : c.index.result.now ≡ place + 1 = omega (arith, c.if-taken-eq0.false) in
-    let other = differs codes code _ place _ (get_or_read codes place c.index-codes-taken.result inside c.index-codes-taken.is []) c.eq.ensures c.if-eq.false in
+    let other = differs codes code _ place _ (get_or_read codes place c.index-codes-taken.result inside c.index-codes-taken.is []) c.are_same.ensures c.if-are_same.false in
     let read_too = get_or_read index.slots.items (c.slot_of-slot.result + 1) c.index-2.result.now (omega (arith, full, c.slot_of-slot.ensures.within)) c.index-2.ensures 0 in
     let inside_too = place_inside (length codes) c.index-2.result.now _ read_too (c.requires.indexed.within (c.slot_of-slot.result + 1)) c.if-beside-eq0.false in
     let near = beside-read index code c.len-count.result c.slot_of-slot.result c.index-2.result.now full c.slot_of-slot.ensures.value c.index-2.ensures (omega (arith, c.slot_of-slot.ensures.within)) in
     let more_too : c.index-2.result.now ≡ next + 1 = omega (arith, c.if-beside-eq0.false) in
-    let other_too = differs codes code _ next _ (get_or_read codes next c.index-codes-beside.result inside_too c.index-codes-beside.is []) c.eq-2.ensures c.if-eq-2.false in
+    let other_too = differs codes code _ next _ (get_or_read codes next c.index-codes-beside.result inside_too c.index-codes-beside.is []) c.are_same-2.ensures c.if-are_same-2.false in
     sym (nowhere-crowded codes code index c.requires.indexed place next (at ∙ more) other (near ∙ more_too) other_too
     (ap (crowded_at index) (sym c.number.ensures.value) ∙ (sym c.get.ensures.value ∙ ap option_copied c.in-None.is)))
