@@ -39,10 +39,12 @@ fn value_of(field: &[u8]) -> Option<u64>
 {
     let mut number = 0;
     for byte in field {
-        if !byte.is_ascii_digit() {
+        // One subtraction tells a digit and takes its value: what is no digit comes out above 9.
+        let digit = u64::from(*byte).wrapping_sub(u64::from(b'0'));
+        if digit > 9 {
             return None;
         }
-        number = number * 10 + u64::from(byte - b'0');
+        number = number * 10 + digit;
     }
     Some(number)
 }
