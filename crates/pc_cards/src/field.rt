@@ -118,7 +118,8 @@ pub fn read_title(fields: &Row, number: u8) -> Result<Title, Misfit>
     }
 }
 
-/// The day whose date a field is.
+/// The day whose date a field is. Inlined, since most cards of a large deck have one.
+#[inline(always)]
 pub fn read_date(fields: &Row, number: u8) -> Result<Day, Misfit>
     ensures value { IfOk result (λ day. day ≡ day_in (field_numbered fields.now number)) }
     ensures fit { OnOk result (Fits form.Date (field_numbered fields.now number)) }
