@@ -81,11 +81,14 @@ impl Row {
     pub fn is_blank_from(&self, start: usize) -> bool
         ensures { result ≡ is_blank (drop start self.now) }
     {
+        if self.len() <= start {
+            return true;
+        }
         if !self.field(start).is_empty() {
             return false;
         }
         // Those behind another are told by where two fields end: none of them is the first.
-        for i in start..self.len().saturating_sub(1) {
+        for i in start..self.len() - 1 {
             if !self.field(i + 1).is_empty() {
                 return false;
             }
