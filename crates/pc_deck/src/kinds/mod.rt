@@ -106,23 +106,24 @@ impl Draft {
         ensures sound { OnOk result (fault_at place.now (count_in self.old place.now.kind) (codes_in self.old place.now.kind) fields.now ≡ None) }
         ensures fault { IfErr result (Refuses (λ fault. fault_at place.now (count_in self.old place.now.kind) (codes_in self.old place.now.kind) fields.now ≡ Some fault)) }
     {
+        // By `return`, so that each answer is made where the caller wants it, and none is copied there.
         match place.kind {
-            Kind::Project => self.project.take(place, fields),
-            Kind::AsOf => self.lists.as_of.take(place, fields),
-            Kind::Terms => self.lists.terms.take(place, fields),
-            Kind::Wbs => self.lists.items.take(place, fields),
-            Kind::Event => self.lists.events.take(place, fields),
-            Kind::Act => self.lists.acts.take(place, fields),
-            Kind::Task => self.lists.tasks.take(place, fields),
-            Kind::After => self.lists.afters.take(place, fields),
-            Kind::Piece => self.lists.pieces.take(place, fields),
-            Kind::Acct => self.lists.accounts.take(place, fields),
-            Kind::Charge => self.lists.charges.take(place, fields),
-            Kind::ToGo => self.lists.togos.take(place, fields),
-            Kind::Status => self.lists.statuses.take(place, fields),
-            Kind::Res => self.lists.resources.take(place, fields),
-            Kind::Load => self.lists.loads.take(place, fields),
-            Kind::End => self.end(place, fields),
+            Kind::Project => return self.project.take(place, fields),
+            Kind::AsOf => return self.lists.as_of.take(place, fields),
+            Kind::Terms => return self.lists.terms.take(place, fields),
+            Kind::Wbs => return self.lists.items.take(place, fields),
+            Kind::Event => return self.lists.events.take(place, fields),
+            Kind::Act => return self.lists.acts.take(place, fields),
+            Kind::Task => return self.lists.tasks.take(place, fields),
+            Kind::After => return self.lists.afters.take(place, fields),
+            Kind::Piece => return self.lists.pieces.take(place, fields),
+            Kind::Acct => return self.lists.accounts.take(place, fields),
+            Kind::Charge => return self.lists.charges.take(place, fields),
+            Kind::ToGo => return self.lists.togos.take(place, fields),
+            Kind::Status => return self.lists.statuses.take(place, fields),
+            Kind::Res => return self.lists.resources.take(place, fields),
+            Kind::Load => return self.lists.loads.take(place, fields),
+            Kind::End => return self.end(place, fields),
         }
     }
 }
