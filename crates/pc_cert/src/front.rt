@@ -5,7 +5,7 @@ ghost use Rattle.std.specs.Int.{bit_at};
 use std::simd::prelude::*;
 
 /// How many bytes are compared at once.
-pub(crate) const WIDTH: usize = 32;
+pub const WIDTH: usize = 32;
 
 /// Whether the first so many bytes of the two slices are the same, of which each has at least 32.
 #[inline(always)]
@@ -51,5 +51,16 @@ pub(crate) fn begins(piece: &[u8], bytes: &[u8], count: usize) -> bool
     if count <= WIDTH && WIDTH <= piece.len() {
         return begin_same(piece, bytes, count);
     }
+    begins_far(piece, bytes, count)
+}
+
+/// The same where more than 32 bytes are compared, or fewer stand there. It stands apart, so that loops that compare keep what they need in
+/// registers.
+#[inline(never)]
+fn begins_far(piece: &[u8], bytes: &[u8], count: usize) -> bool
+    requires count { count ≤ length bytes.now }
+    ensures within { IsTrue result → count ≤ length piece.now }
+    ensures same { IsTrue result → take count piece.now ≡ take count bytes.now }
+{
     count <= piece.len() && piece[..count] == bytes[..count]
 }

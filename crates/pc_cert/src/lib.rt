@@ -22,6 +22,7 @@ mod reading;
 pub use event::{EVENT_NAMED, EventSaid};
 pub use event_front::EventFront;
 pub use flows::{Flows, MAX_FLOWS};
+pub use front::WIDTH;
 pub use known::KnownLine;
 pub use known_lines::KnownLines;
 pub use line::{CertLine, MAX_LINE};

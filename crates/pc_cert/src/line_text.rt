@@ -37,7 +37,7 @@ impl LineText {
         ensures kept { 0 < result → HasText self.now }
         ensures again { (line : Option CertLine) → IsTextOf line self.now → 0 < result → IsAgain line piece.now result }
     {
-        if begins(piece, &self.cells, self.len) {
+        if 0 < self.len && begins(piece, &self.cells, self.len) {
             self.len
         } else {
             0

@@ -10,7 +10,7 @@ pub const MAX_DIGITS: usize = 18;
 /// The digits 0 and 9.
 const FIRST_DIGIT: u64 = 48;
 
-const LAST_DIGIT: u64 = 57;
+const LAST_DIGIT: u64 = 9;
 
 /// The number whose decimal form the word is, without a sign or a leading zero and with at most 18 digits.
 ///
@@ -118,11 +118,11 @@ fn digits_within(bytes: &[u8]) -> (u64, usize)
 {
     let mut number = 0;
     for i in 0..MAX_DIGITS {
-        let byte = u64::from(bytes[i]);
-        if byte < FIRST_DIGIT || LAST_DIGIT < byte {
+        let digit = u64::from(bytes[i]).wrapping_sub(FIRST_DIGIT);
+        if LAST_DIGIT < digit {
             return (number, i);
         }
-        number = number * 10 + (byte - FIRST_DIGIT);
+        number = number * 10 + digit;
     }
     (number, MAX_DIGITS)
 }

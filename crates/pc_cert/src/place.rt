@@ -1,11 +1,15 @@
 //! The order in which the lines of a certificate come.
-ghost use Rattle.std.specs.Prelude.{◌≡◌, ℕ, IsTrue, List, None, Some, Bool, false};
+ghost use Rattle.std.specs.Prelude.{◌≡◌, ℕ, ◌<◌, IsTrue, List, Option, None, Some, IfNone, IfSome, Bool, false};
 ghost use Rattle.pc_cert.specs.declared.line.CertLine.{CertLine};
 ghost use Rattle.pc_cert.specs.declared.line.CertLine.TheVariants.{Event, Act};
-ghost use Rattle.pc_cert.specs.Grammar.{IsRow, next, next_at_start, next_after_head, next_in_normal_walk, next_in_crash_walk, next_in_segment, next_between, opened, takes_flows};
+ghost use Rattle.pc_cert.specs.Known.{HasText, IsAgain, IsFrontOf, IsTextOf};
+ghost use Rattle.pc_cert.specs.Grammar.{next, next_at_start, next_after_head, next_in_normal_walk, next_in_crash_walk, next_in_segment, next_between, opened, takes_flows};
 
+use crate::event::EventSaid;
+use crate::event_front::EventFront;
 use crate::flows::Flows;
 use crate::line::CertLine;
+use crate::line_text::LineText;
 
 /// What the first line says of the lines that follow: the version, and the numbers of events and of activities.
 #[derive(Clone, Copy, Debug)]
@@ -127,30 +131,39 @@ impl Place {
         }
     }
 
-    /// Goes on to the place behind a row that stands here: of this only the numbers of rows that are still to come are copied.
+    /// Goes on behind the line at the front of the piece, where it is the one of this text, which is an activity's with these flows, and may
+    /// stand here: the answer is how many bytes it is with its end. Else nothing changes, and the answer is 0.
     #[inline(always)]
-    pub fn go_on_to(&mut self, behind: &Place)
-        requires { (line : CertLine) × IsRow line × (next self.old line ≡ Some behind.now) }
-        ensures { self.new ≡ behind.now }
+    pub fn pass_act(&mut self, piece: &[u8], text: &LineText, flows: &Flows) -> usize
+        requires text { (line : Option CertLine) × IsTextOf line text.now }
+        ensures kept { 0 < result → HasText text.now }
+        ensures same { result ≡ 0 → self.new ≡ self.old }
+        ensures again { (line : Option CertLine) → 0 < result → IsTextOf line text.now → IsAgain line piece.now result }
+        ensures goes { (code : List ℕ) (duration : ℕ) → 0 < result → next self.old (Act code duration flows.now) ≡ Some self.new }
     {
-        match (&mut *self, behind) {
-            (
-                Place::InSegment {
-                    events,
-                    activities,
-                    ..
-                },
-                Place::InSegment {
-                    events: events_left,
-                    activities: activities_left,
-                    ..
-                },
-            ) => {
-                *events = *events_left;
-                *activities = *activities_left;
-            }
-            _ => unreachable!(),
+        let used = text.again(piece);
+        if used == 0 {
+            return 0;
         }
+        if !self.go_behind_act(flows) {
+            return 0;
+        }
+        used
+    }
+
+    /// Goes on behind the line at the front of the piece, where it is one of this event and may stand here. Else nothing changes.
+    #[inline(always)]
+    pub fn pass_event(&mut self, piece: &[u8], front: &EventFront) -> Option<EventSaid>
+        requires front { IsFrontOf front.now.code front.now }
+        ensures same { IfNone result (self.new ≡ self.old) }
+        ensures again { IfSome result (λ said. IsAgain (Some (Event front.now.code said.time said.moves)) piece.now said.used) }
+        ensures goes { IfSome result (λ said. next self.old (Event front.now.code said.time said.moves) ≡ Some self.new) }
+    {
+        let said = front.said(piece)?;
+        if !self.go_behind_event() {
+            return None;
+        }
+        Some(said)
     }
 
     /// As `go_behind`, by `next`.

@@ -1,11 +1,8 @@
 //! The reader of a certificate, which takes its lines off bytes that come in pieces, however they are cut.
-ghost use Rattle.std.specs.Prelude.{◌≡◌, ℕ, ◌+◌, ◌^◌, ◌<◌, ◌≤◌, List, [], ◌++◌, length, take, drop, Option, Some, None, Ok, Err, IfOk, IfSome, IfNone, IsNone, IsSome, MatchResult};
+ghost use Rattle.std.specs.Prelude.{IsTrue, ◌≡◌, ℕ, ◌+◌, ◌^◌, ◌<◌, ◌≤◌, List, [], ◌++◌, length, take, drop, Option, Some, None, Ok, Err, IfOk, IfNone, IsNone, IsSome, MatchResult};
 ghost use Rattle.pc_cert.specs.Lines.{Lacks};
 ghost use Rattle.pc_cert.specs.declared.line.CertLine.{CertLine};
-ghost use Rattle.pc_cert.specs.declared.line.CertLine.TheVariants.{Event, Act};
 ghost use Rattle.pc_cert.specs.declared.place.Place.TheVariants.{Start};
-ghost use Rattle.pc_cert.specs.Known.{HasText, IsTextOf, IsFrontOf};
-ghost use Rattle.pc_cert.specs.Passing.{PassesLine};
 ghost use Rattle.pc_cert.specs.Reading.{line_of};
 ghost use Rattle.pc_cert.specs.Reader.{StandsFor, HasPassed, Reading, EndsAs};
 ghost use Rattle.pc_cert.specs.Fed.{given, used, left_in, used_of};
@@ -163,57 +160,27 @@ impl CertReader {
         self.pass(known, end + 1)
     }
 
-    /// Uses the line at the front of the piece, where it is the one of this text, which is an activity's with these flows, and may stand
-    /// there: the answer is how many bytes it is with its end. Else nothing changes, and the answer is 0.
-    #[inline(always)]
-    pub fn pass_act(&mut self, piece: &[u8], text: &LineText, flows: &Flows) -> usize
-        requires text { (line : Option CertLine) × IsTextOf line text.now }
-        requires going { self.old.malformed ≡ None }
-        requires few { self.old.lines < 2 ^ 63 }
-        ensures kept { 0 < result → HasText text.now }
-        ensures same { result ≡ 0 → self.new ≡ self.old }
-        ensures passes { (code : List ℕ) (duration : ℕ) → 0 < result → IsTextOf (Some (Act code duration flows.now)) text.now
-            → PassesLine (Act code duration flows.now) piece.now result self.old self.new }
-    {
-        if self.held != 0 {
-            return 0;
-        }
-        let used = text.again(piece);
-        if used == 0 {
-            return 0;
-        }
-        if !self.place.go_behind_act(flows) {
-            return 0;
-        }
-        self.lines += 1;
-        used
-    }
-
-    /// Uses the line at the front of the piece, where it is one of this event and may stand there. Else nothing changes.
-    #[inline(always)]
-    pub fn pass_event(&mut self, piece: &[u8], front: &EventFront) -> Option<EventSaid>
-        requires front { IsFrontOf front.now.code front.now }
-        requires going { self.old.malformed ≡ None }
-        requires few { self.old.lines < 2 ^ 63 }
-        ensures same { IfNone result (self.new ≡ self.old) }
-        ensures passes { IfSome result (λ said. PassesLine (Event front.now.code said.time said.moves) piece.now said.used self.old self.new) }
-    {
-        if self.held != 0 {
-            return None;
-        }
-        let said = front.said(piece)?;
-        if !self.place.go_behind_event() {
-            return None;
-        }
-        self.lines += 1;
-        Some(said)
-    }
-
     /// Where the next line stands.
     pub fn place(&self) -> Place
         ensures { result ≡ self.now.place }
     {
         self.place
+    }
+
+    /// Whether no bytes are kept of a line that has not ended.
+    pub fn is_between(&self) -> bool
+        ensures { IsTrue result → self.now.held ≡ [] }
+    {
+        self.held == 0
+    }
+
+    /// Goes on behind so many lines that were read by one who kept the place, where the next line stands here.
+    pub fn go_on(&mut self, place: Place, count: u64)
+        requires { self.old.lines + count ≤ 2 ^ 63 }
+        ensures { self.new ≡ record self.old { place = place; lines = self.old.lines + count } }
+    {
+        self.place = place;
+        self.lines += count;
     }
 
     /// Whether the text that was fed is a whole one: its last line was the last of a certificate, and no byte followed.

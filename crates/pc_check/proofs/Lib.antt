@@ -18,6 +18,7 @@ pub mod PassedLaws
 pub mod SumLaws
 mod FrontsLaws
 pub mod AuditLaws
+pub mod AlongLaws
 pub mod AuditFinishLaws
 pub mod FeedLaws
 pub mod TextLaws

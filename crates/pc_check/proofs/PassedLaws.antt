@@ -19,7 +19,7 @@ use Rattle.pc_check.specs.Known.{Known, each_below, frame}
 use Rattle.pc_check.specs.KneeTests.{is_slack_at_knee, is_slack_over}
 use Rattle.pc_check.specs.Passed.{IsWithin, FitsWithin, HasPassed, IsPassed, passed_at, flow_of, cost_of, ArePassed, IsNothing, ComesAgain}
 use Rattle.pc_check.specs.Kept.{stretch_of}
-use Rattle.pc_check.specs.Safe.{IsRenewed, AddsAct}
+use Rattle.pc_check.specs.Safe.{IsRenewed, IsSafe, AddsAct}
 use Rattle.pc_check.specs.declared.kept.Tally.{Tally}
 use Rattle.pc_check.specs.declared.passed.Passed.{Passed}
 use Rattle.pc_check.proofs.BelowLaws.{and_parts, passes_behind}
@@ -126,6 +126,22 @@ adds_again {net} {old} {new} still has rest =
       backward = ap (λ t. t.backward) rest ∙ quiet _ old.backward _ parts.1;
       stops = ap (λ t. t.stops) rest ∙ goes_on old.stops _ (no_stop_in net (stretch_of old) old.acts still);
     }
+
+-- the sums stay, and one more has come
+pub safe_again : {net : PricedNetwork} {old : Tally} → IsSafe net old → old.acts < length net.network.arcs → IsSafe net (record old { acts = old.acts + 1 })
+safe_again {net} {old} safe known = record {
+  times = safe.times;
+  moves = safe.moves;
+  entering = safe.entering;
+  leaving = safe.leaving;
+  acts = omega (arith, known);
+  rows = safe.rows;
+  inflow = safe.inflow;
+  outflow = safe.outflow;
+  spent = safe.spent;
+  forward = omega (arith, safe.forward);
+  backward = omega (arith, safe.backward);
+}
 
 -- ---- it passes again
 

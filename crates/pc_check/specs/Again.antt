@@ -1,38 +1,37 @@
 -- A line that is taken as it is read.
-use Rattle.std.specs.Prelude.{◌≡◌, ℕ, ◌^◌, ◌<◌, List, length, None}
+use Rattle.std.specs.Prelude.{◌≡◌, ℕ, List, Some, None}
 use Rattle.pc_cert.specs.declared.line.CertLine.{CertLine}
-use Rattle.pc_cert.specs.Grammar.{IsRow}
-use Rattle.pc_cert.specs.Passing.{PassesLine}
-use Rattle.pc_cert.specs.Reader.{Reading}
+use Rattle.pc_cert.specs.declared.place.Place.{Place}
+use Rattle.pc_cert.specs.Grammar.{IsRow, next}
+use Rattle.pc_cert.specs.Known.{IsAgain}
 use Rattle.pc_crash.specs.Priced.{PricedNetwork}
 use Rattle.pc_check.specs.declared.again.Ends.{Ends}
 use Rattle.pc_check.specs.declared.kept.Kept.{Kept}
-use Rattle.pc_check.specs.Advances.{Adds, Advances}
-use Rattle.pc_check.specs.Bounds.{lines_left}
+use Rattle.pc_check.specs.Advances.{Adds}
+use Rattle.pc_check.specs.Checking.{Checking}
 use Rattle.pc_check.specs.Conditions.{conditions}
 use Rattle.pc_check.specs.Failures.{first_failing}
 use Rattle.pc_check.specs.Kept.{known_by}
 
--- a row at the front of the piece, of so many bytes with its end, was read, does not fail, and was added to what is kept
-pub record AddsLine (net : PricedNetwork) (piece : List ℕ) (count : ℕ) (before after : Reading) (old new : Kept) : Type 0 where
+-- a row is at the front of the piece, of so many bytes with its end, which may stand in this place and does not fail, and was added to what
+-- is kept
+pub record AddsLine (net : PricedNetwork) (piece : List ℕ) (count : ℕ) (before after : Place) (old new : Kept) : Type 0 where
   pub line : CertLine
   pub row : IsRow line
-  pub reads : PassesLine line piece count before after
+  pub again : IsAgain (Some line) piece count
+  pub goes : next before line ≡ Some after
   pub none : first_failing (conditions net (known_by old) line) ≡ None
   pub adds : Adds net line old new
 
--- the same, and the next line stands behind it
-pub record TakesLine (net : PricedNetwork) (piece : List ℕ) (count : ℕ) (before after : Reading) (old new : Kept) : Type 0 where
-  pub line : CertLine
-  pub reads : PassesLine line piece count before after
-  pub none : first_failing (conditions net (known_by old) line) ≡ None
-  pub advances : Advances net line old new
-  pub few : new.lines < 2 ^ 63
-  pub left : lines_left net new < lines_left net old
-  pub place : after.place ≡ new.place
+-- what is kept where so many activities have come
+abbrev pub acts_at : Kept → ℕ → Kept
+acts_at kept a = record kept { tally = record kept.tally { acts = a } }
 
--- the start, the end and the number of activities are those of the network
+-- a checker that keeps this and has found no failure
+abbrev pub going : PricedNetwork → Kept → Checking
+going net kept = record { net = net; kept = kept; fail = None }
+
+-- the start and the end are those of the network
 pub record AreEnds (net : PricedNetwork) (ends : Ends) : Type 0 where
   pub start : ends.start ≡ net.network.start
   pub last : ends.end ≡ net.network.end
-  pub acts : ends.acts ≡ length net.network.arcs

@@ -4,9 +4,9 @@ ghost use Rattle.pc_curve_laws.specs.Segment.{is_forward, is_backward, rises_abo
 ghost use Rattle.pc_crash.specs.Priced.{knees_in};
 ghost use Rattle.pc_check.specs.Kept.{stretch_of};
 ghost use Rattle.pc_check.specs.KneeTests.{rises_over};
-ghost use Rattle.pc_check.specs.Crossings.{IsCrossing, IsStill};
+ghost use Rattle.pc_check.specs.Crossings.{IsCrossing};
 ghost use Rattle.pc_check.specs.Safe.{IsSafe, IsBegun, IsExchanged, IsRenewed, AddsAct};
-ghost use Rattle.pc_check.specs.Passed.{HasPassed, passed_at};
+ghost use Rattle.pc_check.specs.Passed.{HasPassed};
 ghost use Rattle.pc_check.specs.Segments.{stops_in};
 
 use crate::acts::{rises_over, stops};
@@ -71,20 +71,6 @@ pub(crate) fn add_act(net: &CrashNet<'_>, tally: &mut Tally, crossing: &Crossing
     tally.forward += cut.forward;
     tally.backward += cut.backward;
     tally.stops = tally.stops || cut.stops;
-    tally.acts += 1;
-}
-
-/// Adds an activity that does not cross the cut, as it passed last: its flow and its cost are in the sums.
-#[inline(always)]
-pub(crate) fn add_again(net: &CrashNet<'_>, tally: &mut Tally)
-    requires safe { IsSafe net.now tally.old }
-    requires known { tally.old.acts < length net.now.network.arcs }
-    requires still { IsStill net.now.network.arcs (stretch_of tally.old).moves tally.old.acts }
-    requires passed { HasPassed net.now tally.old.acts (passed_at tally.old.rows.items tally.old.acts) }
-    ensures added { AddsAct net.now tally.old (passed_at tally.old.rows.items tally.old.acts).duration (passed_at tally.old.rows.items tally.old.acts).flows tally.new }
-    ensures safe { IsSafe net.now tally.new }
-{
-    let _few = net.net().activities();
     tally.acts += 1;
 }
 

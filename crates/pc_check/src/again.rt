@@ -1,134 +1,84 @@
 //! Going on by a line that comes again, or that is told by how it begins.
-ghost use Rattle.std.specs.Prelude.{◌≡◌, ◌^◌, ◌<◌, ◌≤◌, None, length};
-ghost use Rattle.pc_check.specs.Again.{AddsLine, AreEnds, TakesLine};
+ghost use Rattle.std.specs.Prelude.{◌≡◌, ◌≢◌, ◌+◌, ◌^◌, ◌<◌, ◌≤◌, None, length};
+ghost use Rattle.pc_check.specs.Again.{AddsLine, AreEnds, acts_at, going};
+ghost use Rattle.pc_check.specs.Along.{TakesAlong};
 ghost use Rattle.pc_check.specs.Bounds.{IsBounded};
 ghost use Rattle.pc_check.specs.Fronts.{AreFronts};
+ghost use Rattle.pc_check.specs.Passed.{ArePassed};
 ghost use Rattle.pc_check.specs.Safe.{IsSafe};
 
-use crate::adding::{add_again, add_event};
+use crate::adding::add_event;
 use crate::kept::Kept;
 use crate::passed::passes_again;
-use pc_cert::{CertReader, EventFront};
+use pc_cert::{CertReader, EventFront, Place, WIDTH};
 use pc_crash::CrashNet;
 
-/// The rows of a segment: those of its events, and behind them those of its activities.
-#[derive(Clone, Copy, Debug)]
-pub(crate) enum Rows {
-    Events,
-    Acts,
-}
-
-/// What is asked of the network at each row: its start, its end, and how many activities it has.
+/// What is asked of the network at each event: its start and its end.
 #[derive(Clone, Copy, Debug)]
 pub(crate) struct Ends {
     pub(crate) start: usize,
     pub(crate) end: usize,
-    pub(crate) acts: u32,
 }
 
-/// What is asked of the network at each row.
+/// What is asked of the network at each event.
 pub(crate) fn ends_of(net: &CrashNet<'_>) -> Ends
     ensures { AreEnds net.now result }
 {
     Ends {
         start: net.net().start() as usize,
         end: net.net().end() as usize,
-        acts: net.net().activities(),
     }
 }
 
-/// Takes the line at the front of the piece, where it is such a row, one of the next event, or that of the next activity as it passed last, and
-/// is told not to fail: the answer is how many bytes it is with its end. Else nothing changes, and the answer is 0: the line may be anything.
+/// Takes lines at the front of the piece, where each is one of the next event and is told not to fail: the answer is how many bytes they are
+/// with their ends. Where there is none, nothing changes, and the answer is 0.
+///
+/// The place and the number of lines are counted beside the loop, and kept once behind it.
 #[inline(always)]
-pub(crate) fn advance_again(
+pub(crate) fn advance_events(
     net: &CrashNet<'_>,
     kept: &mut Kept,
     fronts: &[EventFront],
     reader: &mut CertReader,
     piece: &[u8],
-    rows: Rows,
-    ends: Ends,
 ) -> usize
-    requires ends { AreEnds net.now ends }
     requires safe { IsSafe net.now kept.old.tally }
     requires fronts { AreFronts net.now fronts.now }
     requires bounded { IsBounded net.now kept.old }
     requires place { reader.old.place ≡ kept.old.place }
     requires going { reader.old.malformed ≡ None }
-    requires few { reader.old.lines < 2 ^ 63 }
+    requires alike { reader.old.lines ≡ kept.old.lines }
+    requires few { kept.old.lines < 2 ^ 63 }
     ensures same_kept { result ≡ 0 → kept.new ≡ kept.old }
     ensures same_reader { result ≡ 0 → reader.new ≡ reader.old }
-    ensures takes { 0 < result → TakesLine net.now piece.now result reader.old reader.new kept.old kept.new }
+    ensures takes { 0 < result → TakesAlong piece.now result reader.old reader.new (going net.now kept.old) (going net.now kept.new) }
     ensures bounded { IsBounded net.now kept.new }
     ensures safe { IsSafe net.now kept.new.tally }
 {
     let _events = net.net().events();
     let _activities = net.net().activities();
-    let used = add_line(net, kept, fronts, reader, piece, rows, ends);
-    if used == 0 {
+    let ends = ends_of(net);
+    let mut place = reader.place();
+    if !reader.is_between()
+        || !matches!(place, Place::InSegment { .. })
+        || kept.tally.upper == kept.tally.lower
+    {
         return 0;
     }
-    let behind = reader.place();
-    kept.place.go_on_to(&behind);
-    kept.lines += 1;
-    used
-}
-
-/// The same, but what is kept does not go on to the next line.
-#[inline(always)]
-fn add_line(
-    net: &CrashNet<'_>,
-    kept: &mut Kept,
-    fronts: &[EventFront],
-    reader: &mut CertReader,
-    piece: &[u8],
-    rows: Rows,
-    ends: Ends,
-) -> usize
-    requires ends { AreEnds net.now ends }
-    requires safe { IsSafe net.now kept.old.tally }
-    requires fronts { AreFronts net.now fronts.now }
-    requires bounded { IsBounded net.now kept.old }
-    requires place { reader.old.place ≡ kept.old.place }
-    requires going { reader.old.malformed ≡ None }
-    requires few { reader.old.lines < 2 ^ 63 }
-    ensures same_kept { result ≡ 0 → kept.new ≡ kept.old }
-    ensures same_reader { result ≡ 0 → reader.new ≡ reader.old }
-    ensures adds { 0 < result → AddsLine net.now piece.now result reader.old reader.new kept.old kept.new }
-    ensures safe { IsSafe net.now kept.new.tally }
-{
-    match rows {
-        Rows::Events => add_told(net, kept, fronts, reader, piece, ends),
-        Rows::Acts => add_behind(net, kept, fronts, reader, piece, ends),
+    let mut count = 0;
+    let mut rest = piece;
+    loop {
+        let used = add_told(net, kept, fronts, &mut place, rest, ends);
+        if used == 0 {
+            break;
+        }
+        rest = &rest[used..];
+        count += 1;
     }
-}
-
-/// Adds the line at the front of the piece, where all events have come and it is that of the next activity as it passed last, and passes again.
-#[inline(always)]
-fn add_behind(
-    net: &CrashNet<'_>,
-    kept: &mut Kept,
-    fronts: &[EventFront],
-    reader: &mut CertReader,
-    piece: &[u8],
-    ends: Ends,
-) -> usize
-    requires ends { AreEnds net.now ends }
-    requires safe { IsSafe net.now kept.old.tally }
-    requires fronts { AreFronts net.now fronts.now }
-    requires bounded { IsBounded net.now kept.old }
-    requires place { reader.old.place ≡ kept.old.place }
-    requires going { reader.old.malformed ≡ None }
-    requires few { reader.old.lines < 2 ^ 63 }
-    ensures same_kept { result ≡ 0 → kept.new ≡ kept.old }
-    ensures same_reader { result ≡ 0 → reader.new ≡ reader.old }
-    ensures adds { 0 < result → AddsLine net.now piece.now result reader.old reader.new kept.old kept.new }
-    ensures safe { IsSafe net.now kept.new.tally }
-{
-    if kept.tally.times.len() < fronts.len() {
-        return 0;
-    }
-    add_same(net, kept, reader, piece, ends)
+    reader.go_on(place, count);
+    kept.place = place;
+    kept.lines += count;
+    piece.len() - rest.len()
 }
 
 /// Reads the line at the front of the piece and adds it to what is kept, where it is one of the next event, of which nothing is asked but its
@@ -138,31 +88,25 @@ fn add_told(
     net: &CrashNet<'_>,
     kept: &mut Kept,
     fronts: &[EventFront],
-    reader: &mut CertReader,
+    place: &mut Place,
     piece: &[u8],
     ends: Ends,
 ) -> usize
     requires ends { AreEnds net.now ends }
     requires safe { IsSafe net.now kept.old.tally }
     requires fronts { AreFronts net.now fronts.now }
-    requires bounded { IsBounded net.now kept.old }
-    requires place { reader.old.place ≡ kept.old.place }
-    requires going { reader.old.malformed ≡ None }
-    requires few { reader.old.lines < 2 ^ 63 }
+    requires moves { length kept.old.tally.moves.items ≡ length kept.old.tally.times.items }
+    requires long { kept.old.tally.upper ≢ kept.old.tally.lower }
     ensures same_kept { result ≡ 0 → kept.new ≡ kept.old }
-    ensures same_reader { result ≡ 0 → reader.new ≡ reader.old }
-    ensures adds { 0 < result → AddsLine net.now piece.now result reader.old reader.new kept.old kept.new }
+    ensures same_place { result ≡ 0 → place.new ≡ place.old }
+    ensures adds { 0 < result → AddsLine net.now piece.now result place.old place.new kept.old kept.new }
     ensures safe { IsSafe net.now kept.new.tally }
 {
     let e = kept.tally.times.len();
-    if fronts.len() <= e
-        || e == ends.start
-        || e == ends.end
-        || kept.tally.upper == kept.tally.lower
-    {
+    if fronts.len() <= e || e == ends.start || e == ends.end {
         return 0;
     }
-    match reader.pass_event(piece, &fronts[e]) {
+    match place.pass_event(piece, &fronts[e]) {
         None => 0,
         Some(said) => {
             add_event(net, &mut kept.tally, said.time, said.moves);
@@ -171,40 +115,92 @@ fn add_told(
     }
 }
 
-/// Reads the line at the front of the piece and adds it to what is kept, where it is that of the next activity as it passed last, and passes
-/// again.
-#[inline(always)]
-fn add_same(
+/// Takes lines at the front of the piece, where all events have come and each line is that of the next activity as it passed last, and passes
+/// again: the answer is how many bytes they are with their ends. Where there is none, nothing changes, and the answer is 0.
+///
+/// The loop writes nothing, so that it keeps what it needs in registers: how many activities have come is counted beside it too.
+#[inline(never)]
+pub(crate) fn advance_acts(
     net: &CrashNet<'_>,
     kept: &mut Kept,
+    fronts: &[EventFront],
     reader: &mut CertReader,
     piece: &[u8],
-    ends: Ends,
 ) -> usize
-    requires ends { AreEnds net.now ends }
     requires safe { IsSafe net.now kept.old.tally }
-    requires times { net.now.network.events ≤ length kept.old.tally.times.items }
-    requires moves { net.now.network.events ≤ length kept.old.tally.moves.items }
+    requires fronts { AreFronts net.now fronts.now }
+    requires bounded { IsBounded net.now kept.old }
     requires place { reader.old.place ≡ kept.old.place }
     requires going { reader.old.malformed ≡ None }
-    requires few { reader.old.lines < 2 ^ 63 }
+    requires alike { reader.old.lines ≡ kept.old.lines }
+    requires few { kept.old.lines < 2 ^ 63 }
     ensures same_kept { result ≡ 0 → kept.new ≡ kept.old }
     ensures same_reader { result ≡ 0 → reader.new ≡ reader.old }
-    ensures adds { 0 < result → AddsLine net.now piece.now result reader.old reader.new kept.old kept.new }
+    ensures takes { 0 < result → TakesAlong piece.now result reader.old reader.new (going net.now kept.old) (going net.now kept.new) }
+    ensures bounded { IsBounded net.now kept.new }
     ensures safe { IsSafe net.now kept.new.tally }
 {
-    let a = kept.tally.acts;
-    if ends.acts <= a {
+    let _events = net.net().events();
+    let activities = net.net().activities();
+    let mut place = reader.place();
+    if !reader.is_between()
+        || !matches!(place, Place::InSegment { events: 0, .. })
+        || kept.tally.times.len() < fronts.len()
+        || kept.parts == 0
+        || kept.tally.upper == kept.tally.lower
+    {
+        return 0;
+    }
+    let mut count = 0;
+    let mut a = kept.tally.acts;
+    let mut rest = piece;
+    loop {
+        let used = pass_same(net, kept, a, activities, &mut place, rest);
+        if used == 0 {
+            break;
+        }
+        rest = &rest[used..];
+        count += 1;
+        a += 1;
+    }
+    reader.go_on(place, count);
+    kept.place = place;
+    kept.lines += count;
+    kept.tally.acts = a;
+    piece.len() - rest.len()
+}
+
+/// Goes on behind the line at the front of the piece, where it is that of this activity as it passed last, and passes again: the answer is how
+/// many bytes it is with its end. Else nothing changes, and the answer is 0.
+#[inline(always)]
+fn pass_same(
+    net: &CrashNet<'_>,
+    kept: &Kept,
+    a: u32,
+    activities: u32,
+    place: &mut Place,
+    piece: &[u8],
+) -> usize
+    requires count { activities ≡ length net.now.network.arcs }
+    requires rows { ArePassed net.now kept.now.tally.rows.items }
+    requires times { net.now.network.events ≤ length kept.now.tally.times.items }
+    requires moves { net.now.network.events ≤ length kept.now.tally.moves.items }
+    requires later { kept.now.parts ≢ 0 }
+    requires long { kept.now.tally.lower ≢ kept.now.tally.upper }
+    ensures known { 0 < result → a < length net.now.network.arcs }
+    ensures same_place { result ≡ 0 → place.new ≡ place.old }
+    ensures adds { 0 < result → AddsLine net.now piece.now result place.old place.new (acts_at kept.now a) (acts_at kept.now (a + 1)) }
+{
+    if activities <= a {
+        return 0;
+    }
+    // So no comparison in the loop asks for room: the last bytes of a piece are read one line at a time.
+    if piece.len() < WIDTH {
         return 0;
     }
     let last = &kept.tally.rows[a as usize];
-    if !passes_again(net, kept, last) {
+    if !passes_again(net, kept, a, last) {
         return 0;
     }
-    let used = reader.pass_act(piece, &last.text, &last.flows);
-    if used == 0 {
-        return 0;
-    }
-    add_again(net, &mut kept.tally);
-    used
+    place.pass_act(piece, &last.text, &last.flows)
 }

@@ -6,12 +6,11 @@ ghost use Rattle.pc_cert.specs.declared.place.Place.TheVariants.{Ended};
 ghost use Rattle.pc_check.specs.Bounds.{lines_left};
 ghost use Rattle.pc_check.specs.Certified.{AreCurve, Finds, OnYes, segments_of};
 ghost use Rattle.pc_check.specs.Checking.{StandsFor};
-ghost use Rattle.pc_check.specs.Again.{AreEnds};
 ghost use Rattle.pc_check.specs.Along.{TakesAlong};
 ghost use Rattle.pc_check.specs.declared.fail.Fail.{Fail};
 
 use crate::advancing::advance;
-use crate::again::{Ends, Rows, advance_again, ends_of};
+use crate::again::{advance_acts, advance_events};
 use crate::fail::{Fail, Verdict};
 use crate::fronts::fronts_of;
 use crate::kept::{Kept, kept_of};
@@ -138,16 +137,16 @@ impl<'n> Checker<'n> {
         ensures same_reader { result ≡ 0 → reader.new ≡ reader.old }
         ensures takes { 0 < result → TakesAlong piece.now result reader.old reader.new self.old self.new }
     {
-        let used = self.take_run(reader, piece, Rows::Acts);
+        let used = self.take_acts(reader, piece);
         if 0 < used {
             return used;
         }
-        self.take_run(reader, piece, Rows::Events)
+        self.take_events(reader, piece)
     }
 
-    /// The same of rows of one kind: each kind has a loop of its own, which keeps what it needs in registers.
+    /// The same of the lines of activities.
     #[inline(always)]
-    fn take_run(&mut self, reader: &mut CertReader, piece: &[u8], rows: Rows) -> usize
+    fn take_acts(&mut self, reader: &mut CertReader, piece: &[u8]) -> usize
         requires no_fail { self.old.fail ≡ None }
         requires place { reader.old.place ≡ self.old.kept.place }
         requires going { reader.old.malformed ≡ None }
@@ -157,21 +156,12 @@ impl<'n> Checker<'n> {
         ensures same_reader { result ≡ 0 → reader.new ≡ reader.old }
         ensures takes { 0 < result → TakesAlong piece.now result reader.old reader.new self.old self.new }
     {
-        let ends = ends_of(self.net);
-        let mut rest = piece;
-        loop {
-            let used = self.take_again(reader, rest, rows, ends);
-            if used == 0 {
-                return piece.len() - rest.len();
-            }
-            rest = &rest[used..];
-        }
+        advance_acts(self.net, &mut self.kept, &self.fronts, reader, piece)
     }
 
-    /// The same of one row.
+    /// The same of the lines of events.
     #[inline(always)]
-    fn take_again(&mut self, reader: &mut CertReader, piece: &[u8], rows: Rows, ends: Ends) -> usize
-        requires ends { AreEnds self.old.net ends }
+    fn take_events(&mut self, reader: &mut CertReader, piece: &[u8]) -> usize
         requires no_fail { self.old.fail ≡ None }
         requires place { reader.old.place ≡ self.old.kept.place }
         requires going { reader.old.malformed ≡ None }
@@ -181,15 +171,7 @@ impl<'n> Checker<'n> {
         ensures same_reader { result ≡ 0 → reader.new ≡ reader.old }
         ensures takes { 0 < result → TakesAlong piece.now result reader.old reader.new self.old self.new }
     {
-        advance_again(
-            self.net,
-            &mut self.kept,
-            &self.fronts,
-            reader,
-            piece,
-            rows,
-            ends,
-        )
+        advance_events(self.net, &mut self.kept, &self.fronts, reader, piece)
     }
 
     /// What was found: that the lines are certified, with how many segments they have; or the first condition that fails.

@@ -3,6 +3,7 @@ ghost use Rattle.std.specs.Prelude.{◌≡◌, ◌≢◌, ℕ, ◌+◌, ◌<◌,
 ghost use Rattle.pc_crash.specs.Priced.{knees_in};
 ghost use Rattle.pc_model.specs.Schedule.{normal_of};
 ghost use Rattle.pc_check.specs.Conditions.{keeps_rises};
+ghost use Rattle.pc_check.specs.Again.{acts_at};
 ghost use Rattle.pc_check.specs.Kept.{known_by};
 ghost use Rattle.pc_check.specs.Passed.{IsLineOf, HasPassed, ArePassed, IsNothing, FitsWithin, IsWithin, ComesAgain};
 
@@ -144,26 +145,26 @@ fn lowered(high: u64, knee: Knee, flow: u64) -> u64
     if flow == 0 { high } else { high.min(knee.at) }
 }
 
-/// Whether what passed last of the next activity passes again: the segment is not the first and has two ends, the activity does not cross
-/// the cut, and its gap is one that the flows and the duration fit.
+/// Whether what passed last of an activity passes again behind the first segment, in one with two ends: the activity does not cross the cut,
+/// and its gap is one that the flows and the duration fit.
 #[inline(always)]
-pub(crate) fn passes_again(net: &CrashNet<'_>, kept: &Kept, passed: &Passed) -> bool
-    requires known { kept.now.tally.acts < length net.now.network.arcs }
+pub(crate) fn passes_again(net: &CrashNet<'_>, kept: &Kept, a: u32, passed: &Passed) -> bool
+    requires known { a < length net.now.network.arcs }
     requires times { net.now.network.events ≤ length kept.now.tally.times.items }
     requires moves { net.now.network.events ≤ length kept.now.tally.moves.items }
-    ensures { IsTrue result → ComesAgain net.now (known_by kept.now) passed.now }
+    requires later { kept.now.parts ≢ 0 }
+    requires long { kept.now.tally.lower ≢ kept.now.tally.upper }
+    ensures { IsTrue result → ComesAgain net.now (known_by (acts_at kept.now a)) passed.now }
 {
     let tally = &kept.tally;
-    let from = net.net().from(tally.acts);
-    let to = net.net().to(tally.acts);
+    let from = net.net().from(a);
+    let to = net.net().to(a);
     known_bit(&tally.moves, from) == known_bit(&tally.moves, to)
         && is_within(
             known_number(&tally.times, to),
             known_number(&tally.times, from),
             passed,
         )
-        && kept.parts != 0
-        && tally.lower != tally.upper
 }
 
 /// Whether the gap between two times is from the least to the greatest.

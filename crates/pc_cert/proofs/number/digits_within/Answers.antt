@@ -1,4 +1,4 @@
-use Rattle.std.proofs.Common.{◌+◌, ◌-◌, ◌*◌, ◌<◌, ◌≤◌, ◌≡◌, get_or, refl, sym, subst, arith}
+use Rattle.std.proofs.Common.{◌+◌, ◌-◌, ◌*◌, ◌^◌, ◌%◌, ◌<◌, ◌≤◌, ◌≡◌, get_or, refl, sym, subst, arith}
 use Rattle.pc_text.proofs.NumberLemmas.{longer}
 use Rattle.pc_cert.proofs.NumberLemmas.{AreSoFar, below_17_digits, digits_more, is_digit}
 use Rattle.pc_cert.specs.Number.{AreDigitsAt}
@@ -13,7 +13,7 @@ pub overflow_add-number : goal.overflow_add-number
 overflow_add-number c =
     let few : c.loop-i.i < 18 = omega (arith, c.loop-i-test.true) in
     let small = below_17_digits c.loop-i.number c.loop-i.i c.loop-i.invariant.small few in
-    omega (arith, small, c.if-byte-gt-LAST_DIGIT.false)
+    omega (arith, small, c.if-digit-gt-LAST_DIGIT.false)
 
 pub loop-i-preserved : goal.loop-i-preserved
 loop-i-preserved c =
@@ -21,10 +21,12 @@ loop-i-preserved c =
     let i = c.loop-i.i in
     let byte = get_or bytes i 0 in
     let few : i < 18 = omega (arith, c.loop-i-test.true) in
-    let same = c.from-byte.ensures in
-    let low : 48 ≤ byte = omega (arith, same, c.if-byte-lt-FIRST_DIGIT.false) in
-    let high : byte ≤ 57 = omega (arith, same, c.if-byte-gt-LAST_DIGIT.false) in
-    subst (λ b. AreSoFar bytes (c.loop-i.number * 10 + (b - 48)) (i + 1)) (sym same)
+    let same = c.from-digit.ensures in
+    let read = c.if-digit-gt-LAST_DIGIT.false in
+    let low : 48 ≤ byte = omega (arith, same, read) in
+    let high : byte ≤ 57 = omega (arith, same, read) in
+    let digit : (c.from-digit.result + (2 ^ 64 - 48)) % 2 ^ 64 ≡ byte - 48 = omega (arith, same, read) in
+    subst (λ d. AreSoFar bytes (c.loop-i.number * 10 + d) (i + 1)) (sym digit)
     (digits_more bytes c.loop-i.number i byte c.loop-i.invariant few (omega (arith, few, c.requires)) refl (is_digit byte low high) (longer c.loop-i.number byte i c.loop-i.invariant.small high))
 
 pub returns : goal.returns

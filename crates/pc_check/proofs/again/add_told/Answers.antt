@@ -6,12 +6,12 @@ use Rattle.pc_check.specs.Fronts.{front_at}
 use Rattle.pc_check.proofs.FrontsLaws.{own_front}
 use Rattle.pc_check.proofs.again.add_told.Goals as goal
 
-pub pass_event-requires-clause-front : goal.pass_event-requires-clause-front
-pass_event-requires-clause-front c =
+pub pass_event-requires : goal.pass_event-requires
+pass_event-requires c =
     let e = c.len-e.result in
     let fronts = c.args.fronts.now in
     let front = c.index-fronts-e.result in
     let events = c.args.net.now.events in
     let within : e < length fronts = omega (arith, c.if-fronts-e.false) in
     let is : front_at fronts e ≡ front = sym (c.index-fronts-e.is ∙ get_or_default fronts e front (record { code = []; cells = [] }) within) in
-    own_front (code_at events e) front (subst (IsFrontOf (code_at events e)) is (c.requires.fronts.each e (omega (arith, within, c.requires.fronts.one_each))))
+    record { front = own_front (code_at events e) front (subst (IsFrontOf (code_at events e)) is (c.requires.fronts.each e (omega (arith, within, c.requires.fronts.one_each)))) }

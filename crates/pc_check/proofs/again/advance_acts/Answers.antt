@@ -1,0 +1,62 @@
+use Rattle.std.proofs.Common.{◌+◌, ◌<◌, ◌≤◌, drop, length, refl, sym, ap, subst, arith}
+use Rattle.std.proofs.lemmas.List.{take_all, length-drop}
+use Rattle.pc_model.specs.declared.limits.TheConstants.{MAX_EVENTS, MAX_ACTIVITIES}
+use Rattle.pc_check.specs.Again.{acts_at}
+use Rattle.pc_check.proofs.AlongLaws.{IsAlong, along_begins, along_ends, along_more}
+use Rattle.pc_check.proofs.PassedLaws.{safe_again}
+use Rattle.pc_check.proofs.again.advance_acts.Goals as goal
+
+pub loop-used-init : goal.loop-used-init
+loop-used-init c =
+    let kept = c.args.kept.now in
+    let reader = c.args.reader.now in
+    subst (λ p. IsAlong c.args.net.now c.args.piece.now c.args.piece.now reader kept kept p 0) (sym c.place-place.ensures)
+    (along_begins c.args.piece.now reader kept c.requires.place c.requires.going c.requires.alike c.requires.few (c.is_between.ensures c.if-not-is_between.false) c.requires.safe c.requires.bounded (λ e. absurd (omega (arith, e, c.if-kept.false))))
+
+pub overflow_add-count : goal.overflow_add-count
+overflow_add-count c = omega (arith, c.loop-used.invariant.left.run.few)
+
+pub loop-used-preserved : goal.loop-used-preserved
+loop-used-preserved c =
+    let net = c.args.net.now in
+    let rest = c.loop-used.rest.now in
+    let used = c.pass_same-used.result in
+    let some : 0 < used = omega (arith, c.if-used-eq0.false) in
+    let events : net.network.events ≤ MAX_EVENTS = omega (arith, c.events-events.ensures.limit, c.events-events.ensures.events, ap (λ n. n.events) c.net.ensures.network) in
+    let activities : length net.network.arcs ≤ MAX_ACTIVITIES = omega (arith, c.activities-activities.ensures.limit, c.activities-activities.ensures.activities, ap (λ n. length n.arcs) c.net-2.ensures.network) in
+    subst (λ t. IsAlong net c.args.piece.now t c.args.reader.now c.args.kept.now (acts_at c.args.kept.now (c.loop-used.a + 1)) c.pass_same-used.new.place (c.loop-used.count + 1)) (sym (take_all _ (drop used rest) (omega (arith, length-drop used rest))))
+    (along_more used events activities c.loop-used.invariant (c.pass_same-used.ensures.adds some) (safe_again c.loop-used.invariant.safe (c.pass_same-used.ensures.known some)))
+
+pub go_on-requires : goal.go_on-requires
+go_on-requires c = omega (arith, c.requires.alike, c.loop-used.invariant.left.run.alike, c.loop-used.invariant.left.run.few)
+
+pub overflow_add-kept : goal.overflow_add-kept
+overflow_add-kept c = omega (arith, c.loop-used.invariant.left.run.few)
+
+pub overflow_sub-result : goal.overflow_sub-result
+overflow_sub-result c = omega (arith, c.loop-used.invariant.left.long)
+
+pub returns-clause-same_kept : goal.returns-clause-same_kept
+returns-clause-same_kept c =
+    let it = along_ends c.go_on.new.self c.pass_same-used.new.place (acts_at c.args.kept.now c.loop-used.a) c.loop-used.invariant (c.pass_same-used.ensures.same_place (omega (arith, c.if-used-eq0.true))) refl c.go_on.ensures in
+    it.same_kept
+
+pub returns-clause-same_reader : goal.returns-clause-same_reader
+returns-clause-same_reader c =
+    let it = along_ends c.go_on.new.self c.pass_same-used.new.place (acts_at c.args.kept.now c.loop-used.a) c.loop-used.invariant (c.pass_same-used.ensures.same_place (omega (arith, c.if-used-eq0.true))) refl c.go_on.ensures in
+    it.same_reader
+
+pub returns-clause-takes : goal.returns-clause-takes
+returns-clause-takes c =
+    let it = along_ends c.go_on.new.self c.pass_same-used.new.place (acts_at c.args.kept.now c.loop-used.a) c.loop-used.invariant (c.pass_same-used.ensures.same_place (omega (arith, c.if-used-eq0.true))) refl c.go_on.ensures in
+    it.takes
+
+pub returns-clause-bounded : goal.returns-clause-bounded
+returns-clause-bounded c =
+    let it = along_ends c.go_on.new.self c.pass_same-used.new.place (acts_at c.args.kept.now c.loop-used.a) c.loop-used.invariant (c.pass_same-used.ensures.same_place (omega (arith, c.if-used-eq0.true))) refl c.go_on.ensures in
+    it.bounded
+
+pub returns-clause-safe : goal.returns-clause-safe
+returns-clause-safe c =
+    let it = along_ends c.go_on.new.self c.pass_same-used.new.place (acts_at c.args.kept.now c.loop-used.a) c.loop-used.invariant (c.pass_same-used.ensures.same_place (omega (arith, c.if-used-eq0.true))) refl c.go_on.ensures in
+    it.safe
