@@ -3,25 +3,8 @@ use Rattle.std.proofs.Common.{◌≡◌, ℕ, ◌+◌, ◌-◌, ◌^◌, ◌<◌
 use Rattle.std.proofs.Math.Seq.{take-add}
 use Rattle.std.proofs.lemmas.List.{length-drop, drop-drop}
 use Rattle.pc_cert.specs.Reader.{Reading, StandsFor as ReadsAs}
-use Rattle.pc_cert.specs.declared.line.CertLine.{CertLine}
-use Rattle.pc_cert.specs.declared.line.CertLine.TheVariants.{Head, Normal, Step, Crash, Segment, Event, Act, Close, End}
-use Rattle.pc_crash.specs.Priced.{PricedNetwork}
-use Rattle.pc_check.specs.declared.kept.Kept.{Kept}
-use Rattle.pc_check.specs.Advances.{Adds}
 use Rattle.pc_check.specs.Along.{TakesAlong}
 use Rattle.pc_check.specs.Checking.{Checking, StandsFor}
-
--- what a line adds leaves the place where it is
-pub place_kept : (net : PricedNetwork) (line : CertLine) (old new : Kept) → Adds net line old new → new.place ≡ old.place
-place_kept net (Head version project events activities) old new added = ap (λ k. k.place) added
-place_kept net Normal old new added = ap (λ k. k.place) added
-place_kept net (Step code) old new added = ap (λ k. k.place) added.rest
-place_kept net Crash old new added = ap (λ k. k.place) added
-place_kept net (Segment upper lower cost slope) old new added = ap (λ k. k.place) (added.0)
-place_kept net (Event code time moves) old new added = ap (λ k. k.place) (added.0)
-place_kept net (Act code duration flows) old new added = ap (λ k. k.place) (added.0)
-place_kept net Close old new added = ap (λ k. k.place) added
-place_kept net End old new added = ap (λ k. k.place) added
 
 -- lines that are so many bytes of the piece were taken, or nothing has changed, and more may be taken
 pub record IsRun (piece : List ℕ) (used : ℕ) (before after : Reading) (old new : Checking) : Type 0 where
