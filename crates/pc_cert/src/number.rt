@@ -7,7 +7,7 @@ ghost use Rattle.pc_cert.specs.Lines.{IsNumberAt, IsNumeralAt};
 /// The most digits that a number of a certificate has.
 pub const MAX_DIGITS: usize = 18;
 
-/// The digits 0 and 9.
+/// The byte of the digit 0, and the last digit. A byte less the first is above the last where it is no digit: one that is smaller wraps round.
 const FIRST_DIGIT: u64 = 48;
 
 const LAST_DIGIT: u64 = 9;
