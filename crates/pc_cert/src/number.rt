@@ -7,10 +7,11 @@ ghost use Rattle.pc_cert.specs.Lines.{IsNumberAt, IsNumeralAt};
 /// The most digits that a number of a certificate has.
 pub const MAX_DIGITS: usize = 18;
 
-/// The byte of the digit 0, and the last digit. A byte less the first is above the last where it is no digit: one that is smaller wraps round.
-const FIRST_DIGIT: u64 = 48;
+/// The byte of the digit 0, and the greatest value of a digit. A byte less the first is above the second where it is no digit: one that is
+/// smaller wraps round.
+const ZERO: u64 = 48;
 
-const LAST_DIGIT: u64 = 9;
+const GREATEST_DIGIT: u64 = 9;
 
 /// The number whose decimal form the word is, without a sign or a leading zero and with at most 18 digits.
 ///
@@ -118,8 +119,8 @@ fn digits_within(bytes: &[u8]) -> (u64, usize)
 {
     let mut number = 0;
     for i in 0..MAX_DIGITS {
-        let digit = u64::from(bytes[i]).wrapping_sub(FIRST_DIGIT);
-        if LAST_DIGIT < digit {
+        let digit = u64::from(bytes[i]).wrapping_sub(ZERO);
+        if GREATEST_DIGIT < digit {
             return (number, i);
         }
         number = number * 10 + digit;

@@ -13,7 +13,7 @@ pub overflow_add-number : goal.overflow_add-number
 overflow_add-number c =
     let few : c.loop-i.i < 18 = omega (arith, c.loop-i-test.true) in
     let small = below_17_digits c.loop-i.number c.loop-i.i c.loop-i.invariant.small few in
-    omega (arith, small, c.if-digit-gt-LAST_DIGIT.false)
+    omega (arith, small, c.if-digit-gt-GREATEST_DIGIT.false)
 
 pub loop-i-preserved : goal.loop-i-preserved
 loop-i-preserved c =
@@ -22,7 +22,7 @@ loop-i-preserved c =
     let byte = get_or bytes i 0 in
     let few : i < 18 = omega (arith, c.loop-i-test.true) in
     let same = c.from-digit.ensures in
-    let read = c.if-digit-gt-LAST_DIGIT.false in
+    let read = c.if-digit-gt-GREATEST_DIGIT.false in
     let low : 48 ≤ byte = omega (arith, same, read) in
     let high : byte ≤ 57 = omega (arith, same, read) in
     let digit : (c.from-digit.result + (2 ^ 64 - 48)) % 2 ^ 64 ≡ byte - 48 = omega (arith, same, read) in
