@@ -1,6 +1,5 @@
 //! The reader of a certificate, which takes its lines off bytes that come in pieces, however they are cut.
-ghost use Rattle.std.specs.Prelude.{IsTrue, ◌≡◌, ℕ, ◌+◌, ◌^◌, ◌<◌, ◌≤◌, List, [], ◌++◌, length, take, drop, Option, Some, None, Ok, Err, IfOk, IfNone, IsNone, IsSome, MatchResult};
-ghost use Rattle.pc_cert.specs.Lines.{Lacks};
+ghost use Rattle.std.specs.Prelude.{◌≡◌, ℕ, ◌+◌, ◌^◌, ◌<◌, ◌≤◌, List, [], ◌++◌, length, take, Option, Some, None, Ok, Err, IfOk, IfNone, IsNone, IsSome, IsTrue, MatchResult};
 ghost use Rattle.pc_cert.specs.declared.line.CertLine.{CertLine};
 ghost use Rattle.pc_cert.specs.declared.place.Place.TheVariants.{Start};
 ghost use Rattle.pc_cert.specs.Reading.{line_of};
@@ -8,13 +7,9 @@ ghost use Rattle.pc_cert.specs.Reader.{StandsFor, HasPassed, Reading, EndsAs};
 ghost use Rattle.pc_cert.specs.Fed.{given, used, left_in, used_of};
 ghost use Rattle.pc_cert.specs.declared.reader.Malformed.{Malformed};
 
-use crate::event::EventSaid;
-use crate::event_front::EventFront;
-use crate::flows::Flows;
 use crate::known::KnownLine;
 use crate::line::{CertLine, MAX_LINE};
 use crate::line_end::line_len;
-use crate::line_text::LineText;
 use crate::place::Place;
 use std::marker::Model;
 
