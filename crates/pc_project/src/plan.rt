@@ -12,7 +12,6 @@ use pc_wbs::Tree;
 /// What the cards of a project come to, with numbers for codes: events, activities, items, accounts and resources are counted
 /// in card order from 0. The lists have one for each card of their kind, in card order; the codes stand apart from their cards
 /// for those who want them in a row.
-#[derive(Drop)]
 pub(crate) struct Plan {
     pub net: Net,
     pub tree: Tree,
@@ -35,4 +34,28 @@ pub(crate) struct Plan {
     pub statuses: Vec<StatusRow>,
     /// How far each activity is.
     pub states: Vec<ActState>,
+}
+
+impl Drop for Plan {
+    // Written out, so that who lets a plan go cites this proof, and none goes through all its lists again.
+    fn drop(self) {
+        let Plan {
+            net: _,
+            tree: _,
+            events: _,
+            activities: _,
+            places: _,
+            terms: _,
+            expected: _,
+            variances: _,
+            pieces: _,
+            loads: _,
+            accounts: _,
+            charges: _,
+            togos: _,
+            book: _,
+            statuses: _,
+            states: _,
+        } = self;
+    }
 }

@@ -25,10 +25,16 @@ use std::marker::Model;
 /// What a deck says, with numbers for codes: events, activities and items are counted in card order from 0.
 ///
 /// It keeps the cards themselves, so that nothing that they say is lost.
-#[derive(Drop)]
 pub struct Project {
     pub(crate) cards: Cards,
     pub(crate) plan: Plan,
+}
+
+impl Drop for Project {
+    // Written out, so that who lets a project go cites this proof.
+    fn drop(self) {
+        let Project { cards: _, plan: _ } = self;
+    }
 }
 
 impl Model for Project {

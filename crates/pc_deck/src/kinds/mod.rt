@@ -52,7 +52,6 @@ pub use terms::TermsCard;
 pub use wbs::ItemCard;
 
 /// The cards of a deck by kind, but for its PROJECT card. Those of a kind that the deck's sort has not are none.
-#[derive(Drop)]
 pub struct CardLists {
     pub as_of: Once<AsOfCard>,
     pub terms: Once<TermsCard>,
@@ -68,6 +67,28 @@ pub struct CardLists {
     pub statuses: Listed<StatusCard>,
     pub resources: Named<ResCard>,
     pub loads: Listed<LoadCard>,
+}
+
+impl Drop for CardLists {
+    // Written out, so that who lets the lists go cites this proof, and none goes through all of them again.
+    fn drop(self) {
+        let CardLists {
+            as_of: _as_of,
+            terms: _terms,
+            items: _items,
+            events: _events,
+            acts: _acts,
+            tasks: _tasks,
+            afters: _afters,
+            pieces: _pieces,
+            accounts: _accounts,
+            charges: _charges,
+            togos: _togos,
+            statuses: _statuses,
+            resources: _resources,
+            loads: _loads,
+        } = self;
+    }
 }
 
 impl CardLists {
