@@ -127,22 +127,22 @@ module _ (net : Network) (s t : Sheet) (e a : ℕ) (against : Bool) (near room :
   pub entered-back : IsRanked s → IsRankedBack s → IsRankedBack t
   entered-back ranked back = record {
     known = λ f known has. elim (cases_eq f e) [
-      | inl same ↦ omega (arith, ap (near_of t) same, entered.near_at, new.near_known, events-same)
-      | inr apart ↦ omega (arith, entered.near_off f apart, back.known f (omega (arith, known, events-same)) (had-step f apart has), events-same)
+      | inl same ↦ omega (arith, ap (near_of t) same, entered.step.near_at, new.near_known, events-same)
+      | inr apart ↦ omega (arith, entered.step.near_off f apart, back.known f (omega (arith, known, events-same)) (had-step f apart has), events-same)
     ];
     labelled = λ f known has. elim (cases_eq f e) [
-      | inl same ↦ omega (arith, ap (λ g. rank_of t (near_of t g)) same, ap (rank_of t) entered.near_at, entered-kept near new.near_labelled, new.near_labelled)
+      | inl same ↦ omega (arith, ap (λ g. rank_of t (near_of t g)) same, ap (rank_of t) entered.step.near_at, entered-kept near new.near_labelled, new.near_labelled)
       | inr apart ↦
           let kf : f < s.events = omega (arith, known, events-same) in
           let was : 0 < rank_of s (near_of s f) = back.labelled f kf (had-step f apart has) in
-          omega (arith, ap (rank_of t) (entered.near_off f apart), entered-kept (near_of s f) was, was)
+          omega (arith, ap (rank_of t) (entered.step.near_off f apart), entered-kept (near_of s f) was, was)
     ];
     before = λ f known has. elim (cases_eq f e) [
       | inl same ↦
           omega (
             arith,
             ap (λ g. rank_of t (near_of t g)) same,
-            ap (rank_of t) entered.near_at,
+            ap (rank_of t) entered.step.near_at,
             entered-kept near new.near_labelled,
             ranked.within near new.near_known,
             ap (rank_of t) same,
@@ -153,7 +153,7 @@ module _ (net : Network) (s t : Sheet) (e a : ℕ) (against : Bool) (near room :
           let had : HasStep s f = had-step f apart has in
           omega (
             arith,
-            ap (rank_of t) (entered.near_off f apart),
+            ap (rank_of t) (entered.step.near_off f apart),
             entered-kept (near_of s f) (back.labelled f kf had),
             back.before f kf had,
             entered.rank_off f apart,
@@ -195,7 +195,7 @@ module _ (net : Network) (s t : Sheet) (e a : ℕ) (against : Bool) (near room :
           ]
 
   way-at : (w : Bool) → against ≡ w → against_of t e ≡ way_number w
-  way-at w at = entered.against_at ∙ ap way_number at
+  way-at w at = entered.step.against_at ∙ ap way_number at
 
   along-new : against_of t e ≡ 0 → against ≡ false
   along-new none = by against refl where
@@ -212,74 +212,54 @@ module _ (net : Network) (s t : Sheet) (e a : ℕ) (against : Bool) (near room :
   pub entered-steps : IsRankedBack s → AreJoined net s → HaveSteps s → HaveSteps t
   entered-steps back joined steps = record {
     known = λ f known has. elim (cases_eq f e) [
-      | inl same ↦ omega (arith, ap (step_of t) same, entered.step_at, new.activity, ap (λ (v : Sheet). v.activities) entered.rest)
-      | inr apart ↦ omega (arith, entered.step_off f apart, steps.known f (was f known) (had-step f apart has), ap (λ (v : Sheet). v.activities) entered.rest)
+      | inl same ↦ omega (arith, ap (step_of t) same, entered.step.step_at, new.activity, ap (λ (v : Sheet). v.activities) entered.rest)
+      | inr apart ↦ omega (arith, entered.step.step_off f apart, steps.known f (was f known) (had-step f apart has), ap (λ (v : Sheet). v.activities) entered.rest)
     ];
     apart = λ f g kf kg has_f has_g apart same. elim (cases_eq f e) [
       | inl at ↦ elim (cases_eq g e) [
         | inl too ↦ apart (at ∙ sym too)
         | inr off ↦
             new-activity back joined g (was g kg) (had-step g off has_g)
-            (sym (entered.step_off g off) ∙ sym same ∙ ap (step_of t) at ∙ entered.step_at)
+            (sym (entered.step.step_off g off) ∙ sym same ∙ ap (step_of t) at ∙ entered.step.step_at)
       ]
       | inr off_f ↦ elim (cases_eq g e) [
         | inl at ↦
             new-activity back joined f (was f kf) (had-step f off_f has_f)
-            (sym (entered.step_off f off_f) ∙ same ∙ ap (step_of t) at ∙ entered.step_at)
+            (sym (entered.step.step_off f off_f) ∙ same ∙ ap (step_of t) at ∙ entered.step.step_at)
         | inr off ↦
             steps.apart f g (was f kf) (was g kg) (had-step f off_f has_f) (had-step g off has_g) apart
-            (sym (entered.step_off f off_f) ∙ same ∙ entered.step_off g off)
+            (sym (entered.step.step_off f off_f) ∙ same ∙ entered.step.step_off g off)
       ]
     ];
     along = λ f known has none. elim (cases_eq f e) [
-      | inl at ↦
-          omega (
-            arith,
-            (new.along (along-new (ap (against_of t) (sym at) ∙ none))).2,
-            ap (λ g. flow_of t (step_of t g)) at,
-            ap (flow_of t) entered.step_at,
-            entered-flow a,
-            ap (room_of t) at,
-            entered.room_at,
-          )
+      | inl at ↦ omega (arith, (new.along (along-new (ap (against_of t) (sym at) ∙ none))).2, flow-at f at, room-at f at)
       | inr off ↦
-          omega (
-            arith,
-            steps.along f (was f known) (had-step f off has) (sym (entered.against_off f off) ∙ none),
-            ap (flow_of t) (entered.step_off f off),
-            entered-flow (step_of s f),
-            entered.room_off f off,
-          )
+          omega (arith, steps.along f (was f known) (had-step f off has) (sym (entered.step.against_off f off) ∙ none), flow-off f off, entered.step.room_off f off)
     ];
     against = λ f known has some. elim (cases_eq f e) [
-      | inl at ↦
-          omega (
-            arith,
-            (new.back (against-new (omega (arith, some, ap (against_of t) at)))).2,
-            ap (λ g. flow_of t (step_of t g)) at,
-            ap (flow_of t) entered.step_at,
-            entered-flow a,
-            ap (room_of t) at,
-            entered.room_at,
-          )
+      | inl at ↦ omega (arith, (new.back (against-new (omega (arith, some, ap (against_of t) at)))).2, flow-at f at, room-at f at)
       | inr off ↦
-          omega (
-            arith,
-            steps.against f (was f known) (had-step f off has) (omega (arith, some, entered.against_off f off)),
-            ap (flow_of t) (entered.step_off f off),
-            entered-flow (step_of s f),
-            entered.room_off f off,
-          )
+          omega (arith, steps.against f (was f known) (had-step f off has) (omega (arith, some, entered.step.against_off f off)), flow-off f off, entered.step.room_off f off)
     ];
   } where
     was : (f : ℕ) → f < t.events → f < s.events
     was f known = omega (arith, known, events-same)
 
+    -- the flow along the activity of the new step, and of another one
+    flow-at : (f : ℕ) → f ≡ e → flow_of t (step_of t f) ≡ flow_of s a
+    flow-at f at = ap (λ g. flow_of t (step_of t g)) at ∙ ap (flow_of t) entered.step.step_at ∙ entered-flow a
+
+    flow-off : (f : ℕ) → f ≢ e → flow_of t (step_of t f) ≡ flow_of s (step_of s f)
+    flow-off f off = ap (flow_of t) (entered.step.step_off f off) ∙ entered-flow (step_of s f)
+
+    room-at : (f : ℕ) → f ≡ e → room_of t f ≡ room
+    room-at f at = ap (room_of t) at ∙ entered.step.room_at
+
   pub entered-room : HaveRoom s → HaveRoom t
   entered-room had = record {
     some = λ f known has. elim (cases_eq f e) [
-      | inl at ↦ omega (arith, ap (room_of t) at, entered.room_at, new.some)
-      | inr off ↦ omega (arith, entered.room_off f off, had.some f (omega (arith, known, events-same)) (had-step f off has))
+      | inl at ↦ omega (arith, ap (room_of t) at, entered.step.room_at, new.some)
+      | inr off ↦ omega (arith, entered.step.room_off f off, had.some f (omega (arith, known, events-same)) (had-step f off has))
     ];
   }
 
@@ -287,35 +267,35 @@ module _ (net : Network) (s t : Sheet) (e a : ℕ) (against : Bool) (near room :
   entered-joined joined = record {
     along_from = λ f known has none. elim (cases_eq f e) [
       | inl at ↦
-          ap (λ g. from_of net.arcs (step_of t g)) at ∙ ap (from_of net.arcs) entered.step_at
-          ∙ (new.along (along-new (ap (against_of t) (sym at) ∙ none))).0 ∙ sym (ap (near_of t) at ∙ entered.near_at)
+          ap (λ g. from_of net.arcs (step_of t g)) at ∙ ap (from_of net.arcs) entered.step.step_at
+          ∙ (new.along (along-new (ap (against_of t) (sym at) ∙ none))).0 ∙ sym (ap (near_of t) at ∙ entered.step.near_at)
       | inr off ↦
-          ap (from_of net.arcs) (entered.step_off f off)
-          ∙ joined.along_from f (was f known) (had-step f off has) (sym (entered.against_off f off) ∙ none)
-          ∙ sym (entered.near_off f off)
+          ap (from_of net.arcs) (entered.step.step_off f off)
+          ∙ joined.along_from f (was f known) (had-step f off has) (sym (entered.step.against_off f off) ∙ none)
+          ∙ sym (entered.step.near_off f off)
     ];
     along_to = λ f known has none. elim (cases_eq f e) [
-      | inl at ↦ ap (λ g. to_of net.arcs (step_of t g)) at ∙ ap (to_of net.arcs) entered.step_at ∙ (new.along (along-new (ap (against_of t) (sym at) ∙ none))).1 ∙ sym at
+      | inl at ↦ ap (λ g. to_of net.arcs (step_of t g)) at ∙ ap (to_of net.arcs) entered.step.step_at ∙ (new.along (along-new (ap (against_of t) (sym at) ∙ none))).1 ∙ sym at
       | inr off ↦
-          ap (to_of net.arcs) (entered.step_off f off)
-          ∙ joined.along_to f (was f known) (had-step f off has) (sym (entered.against_off f off) ∙ none)
+          ap (to_of net.arcs) (entered.step.step_off f off)
+          ∙ joined.along_to f (was f known) (had-step f off has) (sym (entered.step.against_off f off) ∙ none)
     ];
     against_from = λ f known has some. elim (cases_eq f e) [
       | inl at ↦
-          ap (λ g. from_of net.arcs (step_of t g)) at ∙ ap (from_of net.arcs) entered.step_at
+          ap (λ g. from_of net.arcs (step_of t g)) at ∙ ap (from_of net.arcs) entered.step.step_at
           ∙ (new.back (against-new (omega (arith, some, ap (against_of t) at)))).0 ∙ sym at
       | inr off ↦
-          ap (from_of net.arcs) (entered.step_off f off)
-          ∙ joined.against_from f (was f known) (had-step f off has) (omega (arith, some, entered.against_off f off))
+          ap (from_of net.arcs) (entered.step.step_off f off)
+          ∙ joined.against_from f (was f known) (had-step f off has) (omega (arith, some, entered.step.against_off f off))
     ];
     against_to = λ f known has some. elim (cases_eq f e) [
       | inl at ↦
-          ap (λ g. to_of net.arcs (step_of t g)) at ∙ ap (to_of net.arcs) entered.step_at
-          ∙ (new.back (against-new (omega (arith, some, ap (against_of t) at)))).1 ∙ sym (ap (near_of t) at ∙ entered.near_at)
+          ap (λ g. to_of net.arcs (step_of t g)) at ∙ ap (to_of net.arcs) entered.step.step_at
+          ∙ (new.back (against-new (omega (arith, some, ap (against_of t) at)))).1 ∙ sym (ap (near_of t) at ∙ entered.step.near_at)
       | inr off ↦
-          ap (to_of net.arcs) (entered.step_off f off)
-          ∙ joined.against_to f (was f known) (had-step f off has) (omega (arith, some, entered.against_off f off))
-          ∙ sym (entered.near_off f off)
+          ap (to_of net.arcs) (entered.step.step_off f off)
+          ∙ joined.against_to f (was f known) (had-step f off has) (omega (arith, some, entered.step.against_off f off))
+          ∙ sym (entered.step.near_off f off)
     ];
   } where
     was : (f : ℕ) → f < t.events → f < s.events

@@ -33,9 +33,8 @@ pub record StepsBack (s t : Sheet) (by e : ℕ) : Type 0 where
 abbrev pub way_number : Bool → ℕ
 way_number against = if against then 1 else 0
 
--- event e has a step of activity a from event `near`
-pub record SetsStep (s t : Sheet) (e a : ℕ) (against : Bool) (near room : ℕ) : Type 0 where
-  pub rest : t ≡ record s { step = t.step; against = t.against; near = t.near; room = t.room }
+-- event e has a step of activity a from event `near`, and the others have the steps that they had
+pub record IsStepSet (s t : Sheet) (e a : ℕ) (against : Bool) (near room : ℕ) : Type 0 where
   pub step_at : step_of t e ≡ a
   pub step_off : (f : ℕ) → f ≢ e → step_of t f ≡ step_of s f
   pub against_at : against_of t e ≡ way_number against
@@ -44,6 +43,11 @@ pub record SetsStep (s t : Sheet) (e a : ℕ) (against : Bool) (near room : ℕ)
   pub near_off : (f : ℕ) → f ≢ e → near_of t f ≡ near_of s f
   pub room_at : room_of t e ≡ room
   pub room_off : (f : ℕ) → f ≢ e → room_of t f ≡ room_of s f
+
+-- that is all that changes
+pub record SetsStep (s t : Sheet) (e a : ℕ) (against : Bool) (near room : ℕ) : Type 0 where
+  pub rest : t ≡ record s { step = t.step; against = t.against; near = t.near; room = t.room }
+  pub step : IsStepSet s t e a against near room
 
 -- this is kept of the time of event e
 pub record SetsTime (s t : Sheet) (e time : ℕ) : Type 0 where
@@ -58,18 +62,22 @@ pub record StartsAt (s t : Sheet) (e : ℕ) : Type 0 where
   pub rank_at : rank_of t e ≡ 1
   pub rank_off : (f : ℕ) → f ≢ e → rank_of t f ≡ rank_of s f
 
+-- board s with the labels of board t
+abbrev pub with_labels : Sheet → Sheet → Sheet
+with_labels s t = record s {
+  time = t.time;
+  rank = t.rank;
+  queue = t.queue;
+  step = t.step;
+  against = t.against;
+  near = t.near;
+  room = t.room;
+  count = t.count;
+}
+
 -- event e is the last in the queue, by a step of activity a from event `near`
 pub record EntersAt (s t : Sheet) (e a : ℕ) (against : Bool) (near room : ℕ) : Type 0 where
-  pub rest : t ≡ record s {
-    time = t.time;
-    rank = t.rank;
-    queue = t.queue;
-    step = t.step;
-    against = t.against;
-    near = t.near;
-    room = t.room;
-    count = t.count;
-  }
+  pub rest : t ≡ with_labels s t
   pub count : t.count ≡ s.count + 1
   pub time_at : kept_time t e + s.fallen ≡ kept_time s e
   pub time_off : (f : ℕ) → f ≢ e → kept_time t f ≡ kept_time s f
@@ -77,14 +85,7 @@ pub record EntersAt (s t : Sheet) (e a : ℕ) (against : Bool) (near room : ℕ)
   pub queue_off : (k : ℕ) → k ≢ s.count → queue_of t k ≡ queue_of s k
   pub rank_at : rank_of t e ≡ s.count + 1
   pub rank_off : (f : ℕ) → f ≢ e → rank_of t f ≡ rank_of s f
-  pub step_at : step_of t e ≡ a
-  pub step_off : (f : ℕ) → f ≢ e → step_of t f ≡ step_of s f
-  pub against_at : against_of t e ≡ way_number against
-  pub against_off : (f : ℕ) → f ≢ e → against_of t f ≡ against_of s f
-  pub near_at : near_of t e ≡ near
-  pub near_off : (f : ℕ) → f ≢ e → near_of t f ≡ near_of s f
-  pub room_at : room_of t e ≡ room
-  pub room_off : (f : ℕ) → f ≢ e → room_of t f ≡ room_of s f
+  pub step : IsStepSet s t e a against near room
 
 -- activity a has the place `place` on the list of those that wait
 pub record WaitsAt (s t : Sheet) (a place : ℕ) : Type 0 where

@@ -1,16 +1,9 @@
 -- Spans that are taken one after another.
 use Rattle.std.specs.Prelude.{◌≡◌, ℕ, ◌+◌, List, [], ◌∷◌, ◌++◌, length, replicate}
-use Rattle.pc_cells.specs.declared.span.Span.{Span}
 use Rattle.pc_cells.specs.Spans.{Cells, IsSpan}
 use Rattle.pc_board.specs.declared.columns.Column.{Column}
 use Rattle.pc_board.specs.declared.columns.Columns.{Columns}
 use Rattle.pc_board.specs.Places.{place_of, span_of}
-
--- the region has one more span, of so many zeros, behind the others
-pub record IsTaken (old new : Cells) (len : ℕ) (s : Span) : Type 0 where
-  pub region : new ≡ record { capacity = old.capacity; spans = old.spans ++ replicate len 0 ∷ [] }
-  pub span : IsSpan new.spans (length old.spans) s
-  pub size : s.len ≡ len
 
 -- eight spans with a zero for each event, and behind them three with one for each activity
 abbrev pub zeros : ℕ → ℕ → List (List ℕ)

@@ -2,11 +2,11 @@
 ghost use Rattle.std.specs.Prelude.{◌≡◌, ◌+◌, ◌*◌, ◌<◌, ◌≤◌, ◌^◌, ℕ, IsTrue, slice_index, length};
 ghost use Rattle.pc_cells.specs.Spans.{Cells, free_of};
 ghost use Rattle.pc_board.specs.Sheets.{Sheet, clear_sheet};
-ghost use Rattle.pc_board.specs.Taken.{IsTaken, AreColumnsTaken};
+ghost use Rattle.pc_board.specs.Taken.{AreColumnsTaken};
 ghost use Rattle.pc_board.specs.Places.{column_of, size_of, is_small, IsSetAt};
 
 use crate::columns::{Column, Columns};
-use pc_cells::{Mark, Region, Span};
+use pc_cells::{Mark, Region};
 use std::marker::Model;
 
 /// What is known of the events and the activities of a network, by number.
@@ -105,28 +105,16 @@ fn columns_of(region: &mut Region, events: usize, activities: usize) -> Columns
     ensures { AreColumnsTaken region.old region.new events activities result }
 {
     Columns {
-        time: taken(region, events),
-        rank: taken(region, events),
-        queue: taken(region, events),
-        step: taken(region, events),
-        against: taken(region, events),
-        near: taken(region, events),
-        room: taken(region, events),
-        lost: taken(region, events),
-        flow: taken(region, activities),
-        waiting: taken(region, activities),
-        slot: taken(region, activities),
-    }
-}
-
-// A span for which there is room.
-fn taken(region: &mut Region, len: usize) -> Span
-    requires some { 0 < len }
-    requires room { len ≤ free_of region.old }
-    ensures { IsTaken region.old region.new len result }
-{
-    match region.take(len) {
-        Ok(span) => span,
-        Err(_) => unreachable!(),
+        time: region.take_free(events),
+        rank: region.take_free(events),
+        queue: region.take_free(events),
+        step: region.take_free(events),
+        against: region.take_free(events),
+        near: region.take_free(events),
+        room: region.take_free(events),
+        lost: region.take_free(events),
+        flow: region.take_free(activities),
+        waiting: region.take_free(activities),
+        slot: region.take_free(activities),
     }
 }

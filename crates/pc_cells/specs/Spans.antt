@@ -1,5 +1,5 @@
 -- Regions: a number of cells, and live spans of them, one after the other.
-use Rattle.std.specs.Prelude.{◌≡◌, ℕ, ◌-◌, ◌<◌, ◌≤◌, List, [], length, take, sum_by, slice_index_or, slice_set}
+use Rattle.std.specs.Prelude.{◌≡◌, ℕ, ◌-◌, ◌<◌, ◌≤◌, List, [], ◌∷◌, ◌++◌, length, take, replicate, sum_by, slice_index_or, slice_set}
 use Rattle.pc_cells.specs.declared.span.Span.{Span}
 use Rattle.pc_cells.specs.declared.span.Mark.{Mark}
 
@@ -33,6 +33,12 @@ pub record IsSpan (spans : List (List ℕ)) (k : ℕ) (s : Span) : Type 0 where
 -- s is some live span
 abbrev pub IsLive : List (List ℕ) → Span → Type 0
 IsLive spans s = (k : ℕ) × IsSpan spans k s
+
+-- the region has one more span, of so many zeros, behind the others
+pub record IsTaken (old new : Cells) (len : ℕ) (s : Span) : Type 0 where
+  pub region : new ≡ record { capacity = old.capacity; spans = old.spans ++ replicate len 0 ∷ [] }
+  pub span : IsSpan new.spans (length old.spans) s
+  pub size : s.len ≡ len
 
 -- the mark counts the spans and the cells of the first live spans, up to some of them
 pub record IsMark (spans : List (List ℕ)) (m : Mark) : Type 0 where

@@ -1,6 +1,6 @@
 //! A region and the spans that are live in it.
 ghost use Rattle.std.specs.Prelude.{◌≡◌, ◌+◌, ◌<◌, ◌≤◌, ◌↔◌, ℕ, [], ◌∷◌, ◌++◌, IfOk, IfErr, OnOk, OnErr, IsOk, IsTrue, length, take, replicate, slice_index, slice_set, sum_by};
-ghost use Rattle.pc_cells.specs.Spans.{free_of, span_at, with_span, IsSpan, IsLive, IsMark};
+ghost use Rattle.pc_cells.specs.Spans.{free_of, span_at, with_span, IsSpan, IsLive, IsTaken, IsMark};
 ghost use Rattle.pc_cells.specs.Layout.{IsRangeFilled, IsRangeWritten};
 
 use crate::span::{Mark, RegionFull, Span};
@@ -76,6 +76,18 @@ impl Region {
         self.count += 1;
         self.starts[self.count] = place + len;
         Ok(Span { place, len })
+    }
+
+    /// The same where so many cells are free.
+    pub fn take_free(&mut self, len: usize) -> Span
+        requires some { 0 < len }
+        requires room { len ≤ free_of self.old }
+        ensures { IsTaken self.old self.new len result }
+    {
+        match self.take(len) {
+            Ok(span) => span,
+            Err(_) => unreachable!(),
+        }
     }
 
     /// What stands in the span's cell `i`.

@@ -11,10 +11,7 @@ fn spans_are_taken_and_given_back(rt: HostRuntime) -> Result<(), AllocError> {
         Err(_) => panic!(rt; "no room for 4"),
     };
     region.fill(first, 7);
-    let second = match region.take(5) {
-        Ok(span) => span,
-        Err(_) => panic!(rt; "no room for 5"),
-    };
+    let second = region.take_free(5);
     region.set(second, 4, 9);
     assert_eq!(rt; region.get(first, 3), 7);
     assert_eq!(rt; (region.get(second, 3), region.get(second, 4)), (0, 9));

@@ -29,6 +29,17 @@ row-read s a row is inside read =
 pub knees-read : (s : Inside) (a : ℕ) (row : Row) → IsRowOf s.net.now.arcs (priced_network s).terms s.pieces.items s.layout.knees.items a row → AreKneesOf (knees_in (priced_network s)) a (part_of s.layout.knees.items row)
 knees-read s a row is = subst (AreKneesOf (knees_in (priced_network s)) a) (sym is.part) (AreKneesOf-knee_list (priced_network s).terms s.pieces.items a)
 
+-- what is known once an activity's row was read
+pub record IsRead (s : Inside) (a : ℕ) (row : Row) : Type 0 where
+  pub known : a < length (priced_network s).terms
+  pub is : IsRowOf s.net.now.arcs (priced_network s).terms s.pieces.items s.layout.knees.items a row
+  pub knees : AreKneesOf (knees_in (priced_network s)) a (part_of s.layout.knees.items row)
+
+pub activity-read : (s : Inside) (a : ℕ) (row : Row) → IsWholeInside s → a < length s.net.now.arcs → row ≡ get_or s.layout.rows.items a row → IsRead s a row
+activity-read s a row is known read =
+    let found = row-read s a row is known read in
+    record { known = omega (arith, known, is.whole.terms.one_each); is = found; knees = knees-read s a row found }
+
 -- the terms that are laid out are those given
 pub terms-laid : (arcs : List Arc) (terms : List Term) (pieces : List PieceRow) (rows : List Row) (knees : List Knee) → AreLaid arcs terms pieces (length terms) rows knees → map (λ row. row.term) rows ≡ terms
 terms-laid arcs terms pieces rows knees laid = laid.same_terms ∙ take_all (length terms) terms (omega arith)

@@ -46,23 +46,24 @@ module _ (c d : Course) (limit : ℕ) (to_come : IsToCome c limit) (level : c.gi
         | inr none ↦ begins none
       ]
 
+  -- a segment that does not come down to the length ends above it
+  not_low : (c.given ≡ true → lower_of c ≤ limit → ⊥) → c.given ≡ true → limit < lower_of c
+  not_low high had =
+      elim (cases_lt limit (lower_of c)) [
+        | inl above ↦ above
+        | inr low ↦ absurd (high had low)
+      ]
+
   -- one that does not come down to it leaves it to come
   pub still-to_come : (c.given ≡ true → lower_of c ≤ limit → ⊥) → IsToCome d limit
   still-to_come high = record {
     above = omega (arith, to_come.above, same.shortest);
     within = omega (arith, to_come.within, same.longest);
     below = λ given. elim (cases_Bool c.given) [
-      | inl had ↦ omega (arith, joined, not_low had)
+      | inl had ↦ omega (arith, joined, not_low high had)
       | inr none ↦ omega (arith, next.first none, to_come.within)
     ];
   }
-    where
-      not_low : c.given ≡ true → limit < lower_of c
-      not_low had =
-          elim (cases_lt limit (lower_of c)) [
-            | inl above ↦ above
-            | inr low ↦ absurd (high had low)
-          ]
 
   pub less-left : (c.given ≡ true → lower_of c ≤ limit → ⊥) → left d < left c
   less-left high =
@@ -70,17 +71,10 @@ module _ (c d : Course) (limit : ℕ) (to_come : IsToCome c limit) (level : c.gi
       elim (cases_Bool c.given) [
         | inl had ↦
             let before : step_before c.given ≡ 0 = ap step_before had in
-            let long : lower_of d < upper_of d = next.long (omega (arith, joined, not_low had, to_come.above)) in
+            let long : lower_of d < upper_of d = next.long (omega (arith, joined, not_low high had, to_come.above)) in
             omega (arith, after, before, long, joined)
         | inr none ↦
             let before : step_before c.given ≡ 1 = ap step_before none in
             let lower : lower_of d ≤ upper_of d = ordered in
             omega (arith, after, before, lower, joined)
       ]
-    where
-      not_low : c.given ≡ true → limit < lower_of c
-      not_low had =
-          elim (cases_lt limit (lower_of c)) [
-            | inl above ↦ above
-            | inr low ↦ absurd (high had low)
-          ]

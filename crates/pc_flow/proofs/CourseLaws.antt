@@ -3,6 +3,7 @@ use Rattle.std.proofs.Common.{◌≡◌, ℕ, ◌+◌, ◌-◌, ◌*◌, ◌^◌
 use Rattle.std.specs.Prelude.{◌&&◌}
 use Rattle.std.proofs.lemmas.Bool.{cases_Bool, cases_lt, lt-ltb}
 use Rattle.pc_model.specs.Schedule.{lesser_of}
+use Rattle.pc_model.specs.Cost.{cost_of}
 use Rattle.pc_curve_laws.specs.Segment.{fall_of, IsSegment}
 use Rattle.pc_curve_laws.specs.State.{segment_of}
 use Rattle.pc_curve_laws.specs.Steps.{filled_state}
@@ -86,29 +87,33 @@ module _ (c : Course) (on : IsOnCourse c) where
             (moves_at c.board 0) (λ e inside. refl) (λ a inside. level.empty a) (sym on.slope ∙ level.slope))
       ]
 
+  -- the times at the lower end of a segment with more than one length
+  abbrev pub fallen_times : ℕ → ℕ
+  fallen_times e = time_of c.board e - fall_of (moving c.board) c.fall e
+
   -- what the durations at the lower end cost
+  pub cost-fallen : 0 < c.fall → c.cost + c.slope * c.fall ≡ cost_of c.net.terms (knees_in c.net) (lesser_of c.net.network c.net.terms fallen_times)
+  cost-fallen some =
+      omega (
+        arith,
+        on.cost,
+        ap (λ n. n * c.fall) on.slope,
+        stair-cost c.net.network c.net.terms (knees_in c.net) on.priced (upper_of c) (time_of c.board) (flow_of c.board) (slope_at c.net c.board) state
+            (moving c.board) c.fall (falls some),
+      )
+
+  pub cost-still : c.fall ≡ 0 → c.cost + c.slope * c.fall ≡ cost_of c.net.terms (knees_in c.net) (lesser_of c.net.network c.net.terms (time_of c.board))
+  cost-still none = omega (arith, on.cost, ap (λ n. c.slope * n) none)
+
   pub cost-lower : c.cost + c.slope * c.fall ≤ 220000000000000000
   cost-lower =
       elim (cases_lt 0 c.fall) [
-        | inl some ↦
-            omega (
-              arith,
-              on.cost,
-              ap (λ n. n * c.fall) on.slope,
-              stair-cost c.net.network c.net.terms (knees_in c.net) on.priced (upper_of c) (time_of c.board) (flow_of c.board) (slope_at c.net c.board) state
-                  (moving c.board) c.fall (falls some),
-              cost_of-most c.net on.priced.terms_fit on.limits on.pieces on.piece_limits
-                  (lesser_of c.net.network c.net.terms (λ e. time_of c.board e - fall_of (moving c.board) c.fall e)),
-            )
-        | inr none ↦
-            let zero_is : c.fall ≡ 0 = omega arith in
-            omega (
-              arith,
-              on.cost,
-              ap (λ n. c.slope * n) zero_is,
-              cost_of-most c.net on.priced.terms_fit on.limits on.pieces on.piece_limits (lesser_of c.net.network c.net.terms (time_of c.board)),
-            )
+        | inl some ↦ omega (arith, cost-fallen some, most fallen_times)
+        | inr none ↦ omega (arith, cost-still (omega arith), most (time_of c.board))
       ]
+    where
+      most : (times : ℕ → ℕ) → cost_of c.net.terms (knees_in c.net) (lesser_of c.net.network c.net.terms times) ≤ 220000000000000000
+      most times = cost_of-most c.net on.priced.terms_fit on.limits on.pieces on.piece_limits (lesser_of c.net.network c.net.terms times)
 
   -- the slope is at most the sum of the last slopes
   pub slope-most : c.slope ≤ slopes_in c.net

@@ -8,7 +8,6 @@ use Rattle.pc_model.specs.Schedule.{normal_of, lesser_of}
 use Rattle.pc_model.specs.Cost.{cost_of}
 use Rattle.pc_model.proofs.Costs.NormalCost.{cost_of-same}
 use Rattle.pc_curve_laws.specs.Segment.{fall_of}
-use Rattle.pc_curve_laws.proofs.Stairs.StairStates.{stair-cost}
 use Rattle.pc_crash.specs.Priced.{PricedNetwork, knees_in}
 use Rattle.pc_board.specs.Sheets.{Sheet, time_of, rank_of, flow_of}
 use Rattle.pc_search.specs.Growing.{AreListed}
@@ -16,7 +15,7 @@ use Rattle.pc_search.specs.Choosing.{moving}
 use Rattle.pc_search.specs.Labelling.{length_at, slope_at, IsBetween, HasFallen}
 use Rattle.pc_flow.specs.Courses.{Course, upper_of, lower_of, IsLevel, IsOnCourse, HasEnded, IsSameCurve, IsNext, IsFurther, most_looks}
 use Rattle.pc_flow.specs.Descents.{HasDescended, HasSearched}
-use Rattle.pc_flow.proofs.CourseLaws.{state, falls, fall-within, lower-above, fall-some, whole, slope-small, small}
+use Rattle.pc_flow.proofs.CourseLaws.{state, fall-within, lower-above, fall-some, whole, fallen_times, cost-fallen, cost-still, slope-small, small}
 
 -- where the test for the end says no, it is not there
 pub not_ended : (r : Bool) (c : Course) → IsTrue r ↔ HasEnded c → r ≡ false → HasEnded c → ⊥
@@ -89,27 +88,19 @@ module _ (c : Course) (on : IsOnCourse c) (s : Sheet) (descended : HasDescended 
       elim (cases_lt 0 c.fall) [
         | inl some ↦
             let fallen = descended.fallen some in
-            omega (
-              arith,
-              on.cost,
-              ap (λ n. n * c.fall) on.slope,
-              stair-cost c.net.network c.net.terms (knees_in c.net) on.priced (upper_of c) (time_of c.board) (flow_of c.board) (slope_at c.net c.board) (state c on)
-                  (moving c.board) c.fall (falls c on some),
-              cost_of-same c.net.terms (knees_in c.net) (lesser_of c.net.network c.net.terms (time_of s))
-                  (lesser_of c.net.network c.net.terms (λ e. time_of c.board e - fall_of (moving c.board) c.fall e))
-                  (λ a inside. let known : a < length c.net.network.arcs = omega (arith, inside, on.priced.terms_fit.one_each) in
-                  lesser-alike c.net (time_of s) (λ e. time_of c.board e - fall_of (moving c.board) c.fall e) a
-                  (time-mid fallen (from_of c.net.network.arcs a) (on.priced.range.from_in a known))
-                  (time-mid fallen (to_of c.net.network.arcs a) (on.priced.range.to_in a known))),
-            )
+            cost-fallen c on some
+            ∙ cost_of-same c.net.terms (knees_in c.net) (lesser_of c.net.network c.net.terms (fallen_times c on))
+            (lesser_of c.net.network c.net.terms (time_of s))
+            (λ a inside. let known : a < length c.net.network.arcs = omega (arith, inside, on.priced.terms_fit.one_each) in
+            sym (
+            lesser-alike c.net (time_of s) (fallen_times c on) a
+            (time-mid fallen (from_of c.net.network.arcs a) (on.priced.range.from_in a known))
+            (time-mid fallen (to_of c.net.network.arcs a) (on.priced.range.to_in a known))
+            ))
         | inr none ↦
-            let zero_is : c.fall ≡ 0 = omega arith in
-            omega (
-              arith,
-              on.cost,
-              ap (λ n. c.slope * n) zero_is,
-              ap (λ (v : Sheet). cost_of c.net.terms (knees_in c.net) (lesser_of c.net.network c.net.terms (time_of v))) (descended.still zero_is),
-            )
+            let still : c.fall ≡ 0 = omega arith in
+            cost-still c on still
+            ∙ sym (ap (λ (v : Sheet). cost_of c.net.terms (knees_in c.net) (lesser_of c.net.network c.net.terms (time_of v))) (descended.still still))
       ]
 
   module _ (t : Sheet) (rise fall : ℕ) (searched : HasSearched c.net s t c.shortest rise fall) where

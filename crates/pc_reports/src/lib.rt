@@ -23,6 +23,7 @@ pub use check::write_check;
 pub use outlook_report::OutlookReport;
 pub use schedule::{Schedule, put_plan, put_schedule, write_schedule};
 pub use summary_report::SummaryReport;
+pub use times::end_to_meet;
 pub use times_report::{TimesReport, write_times};
 pub use value_report::ValueReport;
 pub use view::TimesView;

@@ -72,7 +72,7 @@ impl Times {
 }
 
 /// When the end is to be met: the directed number of days, or else when it is reached.
-pub(crate) fn end_to_meet(directed: Option<u64>, reached: u64) -> i64
+pub fn end_to_meet(directed: Option<u64>, reached: u64) -> i64
     requires directed { ForSome directed (λ days. days ≤ MAX_DIRECTED) }
     requires reached { reached ≤ MAX_TIME }
     ensures end { result ≡ end_to_meet directed reached }

@@ -23,8 +23,9 @@ use Rattle.pc_board.proofs.AfterPruning.{
   pruned-joined,
   pruned-for,
 }
-use Rattle.pc_search.specs.Searches.{stair_at, gap_at, next_at, last_at, IsSearch, IsWaiting, IsOnStairs, AreLed, IsSettled}
-use Rattle.pc_search.specs.Growing.{IsAt, IsAtLost, degree, IsReached, IsScanned, IsMet, AreSettled, GoesOn, HasLookedAgain}
+use Rattle.pc_search.specs.Searches.{stair_at, gap_at, next_at, last_at, IsSearch, IsOnStairs, AreLed, IsSettled, grown_as}
+use Rattle.pc_search.specs.Growing.{IsAt, IsAtLost, degree, IsReached, IsScanned, IsMet, AreSettled, GoesOn, relabelled, HasLookedAgain}
+use Rattle.pc_search.proofs.KeptLaws.{with_list, waiting-kept}
 use Rattle.pc_search.proofs.GrowingLaws.{goes_on-joins, met-was, met-reached, settled-grows}
 use Rattle.pc_search.proofs.GrowLaws.{headed, search-headed, room-headed}
 use Rattle.pc_search.proofs.DegreeLaws.{degrees-few}
@@ -127,15 +128,6 @@ module _ (net : PricedNetwork) (s u : Sheet) (gone : ℕ) (search : IsSearch net
         (subst (λ x. IsOnStair (stair_at net (step_of s e)) (gap_at net u (step_of s e)) x) total on);
   }
 
-  waiting : IsWaiting u
-  waiting = subst (λ v. IsWaiting v) (sym pruned.rest) (record {
-    few = search.waiting.few;
-    range = search.waiting.range;
-    placed = search.waiting.placed;
-    within = search.waiting.within;
-    listed = search.waiting.listed;
-  })
-
   pub search-pruned : IsSearch net u
   search-pruned = record {
     in_range = search.in_range;
@@ -147,7 +139,7 @@ module _ (net : PricedNetwork) (s u : Sheet) (gone : ℕ) (search : IsSearch net
     steps = pruned-steps s u gone search.ranked pruned search.steps;
     times = pruned-times s u gone search.ranked pruned search.times;
     joined = pruned-joined s u gone search.ranked pruned net.network search.joined;
-    waiting = waiting;
+    waiting = waiting-kept s u (pruned.rest ∙ ap (λ (v : Sheet). with_list v s) (sym pruned.rest)) search.waiting;
     stairs = stairs;
     led = led;
   }
@@ -215,23 +207,7 @@ module _ (net : PricedNetwork) (s u : Sheet) (gone : ℕ) (search : IsSearch net
   -- all are scanned anew
   pub again-anew : HasLookedAgain net s (headed u 0)
   again-anew = record {
-    rest =
-        ap (λ (v : Sheet). headed v 0) pruned.rest
-        ∙ ap (λ (v : Sheet). record s {
-          time = u.time;
-          rank = u.rank;
-          queue = u.queue;
-          step = v.step;
-          against = v.against;
-          near = v.near;
-          room = v.room;
-          lost = u.lost;
-          waiting = v.waiting;
-          slot = v.slot;
-          count = u.count;
-          head = 0;
-          len = v.len;
-        }) (sym pruned.rest);
+    rest = ap (λ (v : Sheet). headed v 0) pruned.rest ∙ ap (λ (v : Sheet). relabelled s (headed v 0)) (sym pruned.rest);
     time = time;
     search = search-headed net u 0 (omega arith) search-pruned;
     room = room-headed u 0 room-pruned;
@@ -260,35 +236,7 @@ module _ (net : PricedNetwork) (s u : Sheet) (gone : ℕ) (search : IsSearch net
     pub again-lost : HasLookedAgain net s t
     again-lost = record {
       rest =
-          on.grows.rest
-          ∙ ap (λ (v : Sheet). record v {
-            time = t.time;
-            rank = t.rank;
-            queue = t.queue;
-            step = t.step;
-            against = t.against;
-            near = t.near;
-            room = t.room;
-            waiting = t.waiting;
-            slot = t.slot;
-            count = t.count;
-            len = t.len;
-          }) pruned.rest
-          ∙ ap (λ (v : Sheet). record s {
-            time = t.time;
-            rank = t.rank;
-            queue = t.queue;
-            step = t.step;
-            against = t.against;
-            near = t.near;
-            room = t.room;
-            lost = v.lost;
-            waiting = t.waiting;
-            slot = t.slot;
-            count = t.count;
-            head = v.head;
-            len = t.len;
-          }) (sym on.grows.rest);
+          on.grows.rest ∙ ap (λ (v : Sheet). grown_as v t) pruned.rest ∙ ap (λ (v : Sheet). relabelled s v) (sym on.grows.rest);
       time = λ e known. on.grows.time e (omega (arith, known, events-same)) ∙ time e known;
       search = on.search;
       room = on.room;

@@ -4,8 +4,9 @@ use Rattle.std.proofs.lemmas.Bool.{cases_eq, cases_lt}
 use Rattle.pc_crash.specs.Priced.{PricedNetwork}
 use Rattle.pc_board.specs.Sheets.{Sheet, waiting_of, slot_of}
 use Rattle.pc_board.specs.Moves.{WaitsAt, GoesAt}
-use Rattle.pc_search.specs.Searches.{gap_at, next_at, last_at, IsWaiting, MayGoAlong, MayGoAgainst, IsQuiet}
+use Rattle.pc_search.specs.Searches.{gap_at, next_at, last_at, IsWaiting, IsPricedBoard, IsSearch, MayGoAlong, MayGoAgainst, IsQuiet}
 use Rattle.pc_search.specs.Choosing.{StopsAt}
+use Rattle.pc_search.proofs.KeptLaws.{board-relisted}
 
 -- activity a, which labels may cross, stops no sooner than this
 pub record StopsNotBefore (net : PricedNetwork) (s : Sheet) (a least : ℕ) : Type 0 where
@@ -67,6 +68,9 @@ module _ (net : PricedNetwork) (s t : Sheet) (rest : t ≡ relisted s t) where
         against = λ may. q.against (record { from = may.from; to = may.to; some = may.some });
       }
 
+  pub priced-relisted : IsSearch net s → IsPricedBoard net t
+  priced-relisted search = subst (λ v. IsPricedBoard net v) (sym rest) (board-relisted net s (relisted s t) search)
+
   stops-back : (a n : ℕ) → StopsAt net (relisted s t) a n → StopsAt net s a n
   stops-back a n (inl along) = inl (record { from = along.0.from; to = along.0.to }, along.1)
   stops-back a n (inr against) = inr (record { from = against.0.from; to = against.0.to; some = against.0.some }, against.1)
@@ -96,6 +100,23 @@ module _ (net : PricedNetwork) (s t u : Sheet) (i kept least a : ℕ) (waiting :
             let same : slot_of s b - 1 ≡ i = omega arith in
             absurd (apart (sym (waiting.listed b kb some) ∙ ap (waiting_of s) same ∙ sym at-first))
         | inr is ↦ is
+      ]
+
+  -- and fare as before, if their slots and the kept places are the same
+  fates-apart : (first now : ℕ) → kept ≤ first → now ≤ least → (b : ℕ) → b < s.activities → b ≢ a → 0 < slot_of s b → slot_of s b ≤ i + 1
+      → slot_of u b ≡ slot_of t b → ((k : ℕ) → k < kept → waiting_of u k ≡ waiting_of t k) → StillWaits net s u first now b ⊎ HasGone net s u b
+  fates-apart first now more fewer b kb apart some early slot places =
+      elim (on.fates b kb some (before b kb apart some early)) [
+        | inl still ↦ inl (record {
+          some = omega (arith, slot, still.some);
+          within = omega (arith, slot, still.within, more);
+          listed = ap (λ x. waiting_of u (x - 1)) slot ∙ places (slot_of t b - 1) (omega (arith, still.some, still.within)) ∙ still.listed;
+          stops = record {
+            along = λ may. omega (arith, still.stops.along may, fewer);
+            against = λ may. omega (arith, still.stops.against may, fewer);
+          };
+        })
+        | inr gone ↦ inr (record { none = slot ∙ gone.none; quiet = gone.quiet })
       ]
 
   -- it waits on
@@ -132,20 +153,7 @@ module _ (net : PricedNetwork) (s t u : Sheet) (i kept least a : ℕ) (waiting :
                 ap (waiting_of u) here ∙ moved.waiting_at ∙ sym same);
             stops = subst (λ x. StopsNotBefore net s x (min least n)) (sym same) not-before;
           })
-          | inr apart ↦ elim (on.fates b kb some (before b kb apart some early)) [
-            | inl still ↦
-                let slot : slot_of u b ≡ slot_of t b = moved.slot_off b apart in
-                inl (record {
-                  some = omega (arith, slot, still.some);
-                  within = omega (arith, slot, still.within);
-                  listed = ap (λ x. waiting_of u (x - 1)) slot ∙ kept-place (slot_of t b - 1) (omega (arith, still.some, still.within)) ∙ still.listed;
-                  stops = record {
-                    along = λ may. omega (arith, still.stops.along may, fewer);
-                    against = λ may. omega (arith, still.stops.against may, fewer);
-                  };
-                })
-            | inr gone ↦ inr (record { none = moved.slot_off b apart ∙ gone.none; quiet = gone.quiet })
-          ]
+          | inr apart ↦ fates-apart (kept + 1) (min least n) (omega arith) fewer b kb apart some early (moved.slot_off b apart) kept-place
         ]
 
     met-kept : a < length net.network.arcs → (min least n ≡ 2 ^ 64 - 1) ⊎ SomeStopsAt net s (min least n)
@@ -190,17 +198,8 @@ module _ (net : PricedNetwork) (s t u : Sheet) (i kept least a : ℕ) (waiting :
             none = ap (slot_of u) same ∙ moved.slot_at;
             quiet = subst (λ x. IsQuiet net s x) (sym same) quiet;
           })
-          | inr apart ↦ elim (on.fates b kb some (before b kb apart some early)) [
-            | inl still ↦
-                let slot : slot_of u b ≡ slot_of t b = moved.slot_off b apart in
-                inl (record {
-                  some = omega (arith, slot, still.some);
-                  within = omega (arith, slot, still.within);
-                  listed = ap (λ x. waiting_of u (x - 1)) slot ∙ same-place (slot_of t b - 1) ∙ still.listed;
-                  stops = still.stops;
-                })
-            | inr gone ↦ inr (record { none = moved.slot_off b apart ∙ gone.none; quiet = gone.quiet })
-          ]
+          | inr apart ↦
+              fates-apart kept least (omega arith) (omega arith) b kb apart some early (moved.slot_off b apart) (λ k below. same-place k)
         ]
 
     pub choosing-goes : IsChoosing net s u (i + 1) kept least

@@ -10,7 +10,7 @@ use Rattle.pc_board.specs.Labelling.{HaveRoom}
 use Rattle.pc_board.proofs.AfterEntering.{IsNewStep, queue-room}
 use Rattle.pc_search.specs.declared.way.Way.{Way}
 use Rattle.pc_search.specs.declared.way.Way.TheVariants.{Along, Against}
-use Rattle.pc_search.specs.Searches.{gap_at, next_at, last_at, IsSearch, IsSeen, MayGoAlong, MayGoAgainst, IsWay, StopsAlong, StopsAgainst, StopsAfter, IsVisited}
+use Rattle.pc_search.specs.Searches.{IsSearch, IsSeen, MayGoAlong, MayGoAgainst, IsWay, StopsAlong, StopsAgainst, StopsAfter, StopsLater, IsVisited}
 use Rattle.pc_search.proofs.VisitLaws.{visited-still, visited-waits}
 use Rattle.pc_search.proofs.EnterLaws.{visited-enters}
 
@@ -18,29 +18,27 @@ module _ (net : PricedNetwork) (s : Sheet) (a : ℕ) (search : IsSearch net s) (
   activity : a < s.activities
   activity = omega (arith, known, search.fits.activities)
 
-  -- where it stops only after a fall, labels may cross it only the one way
-  later : (way : Way) (stop : Stop) → IsWay net s a (Some way) → StopsAfter net s a way stop → 0 < stop.after
-      → (MayGoAlong net s a → next_at net s a < gap_at net s a) × (MayGoAgainst net s a → gap_at net s a < last_at net s a)
-  later Along stop may stops some = (
-    (λ along. omega (arith, stops.after, some)),
-    (λ against. absurd (omega (arith, may.to, against.to))),
-  )
-  later Against stop may stops some = (
-    (λ along. absurd (omega (arith, may.from, along.from))),
-    (λ against. omega (arith, stops.after, some)),
-  )
+  -- labels may cross it only the one way
+  pub stops-later : (way : Way) (stop : Stop) → IsWay net s a (Some way) → StopsAfter net s a way stop → 0 < stop.after → StopsLater net s a
+  stops-later Along stop may stops some = record {
+    along = λ along. omega (arith, stops.after, some);
+    against = λ against. absurd (omega (arith, may.to, against.to));
+  }
+  stops-later Against stop may stops some = record {
+    along = λ along. absurd (omega (arith, may.from, along.from));
+    against = λ against. omega (arith, stops.after, some);
+  }
 
   -- it waits, or did so before
-  pub crossed-waits : (t : Sheet) (way : Way) (stop : Stop) → IsWay net s a (Some way) → StopsAfter net s a way stop → 0 < stop.after
-      → (slot_of s a ≢ 0 → t ≡ s) → (slot_of s a ≡ 0 → WaitsOnce s t a) → IsVisited net s t a
-  crossed-waits t way stop may stops some stays waits =
+  pub crossed-waits : (t : Sheet) → StopsLater net s a → (slot_of s a ≢ 0 → t ≡ s) → (slot_of s a ≡ 0 → WaitsOnce s t a) → IsVisited net s t a
+  crossed-waits t later stays waits =
       elim (cases_eq (slot_of s a) 0) [
-        | inl none ↦ visited-waits net s t a search activity none (waits none) room (later way stop may stops some)
+        | inl none ↦ visited-waits net s t a search activity none (waits none) room later
         | inr had ↦
             let slot : 0 < slot_of s a = omega (arith, had) in
             subst (λ u. IsVisited net s u a) (sym (stays had)) (visited-still net s a search room (record {
-              along = λ along. (slot, (later way stop may stops some).0 along);
-              against = λ against. (slot, (later way stop may stops some).1 against);
+              along = λ along. (slot, later.along along);
+              against = λ against. (slot, later.against against);
             }))
       ]
 

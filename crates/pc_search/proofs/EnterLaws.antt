@@ -19,7 +19,8 @@ use Rattle.pc_board.proofs.AfterEntering.{
   entered-room,
   entered-joined,
 }
-use Rattle.pc_search.specs.Searches.{stair_at, gap_at, IsWaiting, IsOnStairs, IsSearch, IsSettled, Grows, IsVisited}
+use Rattle.pc_search.specs.Searches.{stair_at, gap_at, IsOnStairs, IsSearch, IsSettled, grown_as, Grows, IsVisited}
+use Rattle.pc_search.proofs.KeptLaws.{with_list, waiting-kept}
 
 module _ (net : PricedNetwork) (s t : Sheet) (e a : ℕ) (against : Bool) (near room : ℕ) (search : IsSearch net s) (known : a < length net.network.arcs)
     (new : IsNewStep net.network s e a against near room) (entered : EntersAt s t e a against near room)
@@ -52,15 +53,6 @@ module _ (net : PricedNetwork) (s t : Sheet) (e a : ℕ) (against : Bool) (near 
   events-same : t.events ≡ s.events
   events-same = ap (λ (v : Sheet). v.events) entered.rest
 
-  waiting : IsWaiting t
-  waiting = subst IsWaiting (sym entered.rest) (record {
-    few = search.waiting.few;
-    range = search.waiting.range;
-    placed = search.waiting.placed;
-    within = search.waiting.within;
-    listed = search.waiting.listed;
-  })
-
   was : (f : ℕ) → f < t.events → f < s.events
   was f kf = omega (arith, kf, events-same)
 
@@ -72,7 +64,7 @@ module _ (net : PricedNetwork) (s t : Sheet) (e a : ℕ) (against : Bool) (near 
   moved b x kb on = subst (λ g. IsOnStair (stair_at net b) g x) (sym (gap b kb)) on
 
   way : (w : Bool) → against ≡ w → against_of t e ≡ way_number w
-  way w at = entered.against_at ∙ ap way_number at
+  way w at = entered.step.against_at ∙ ap way_number at
 
   led-along : (f : ℕ) → f < t.events → HasStep t f → against_of t f ≡ 0
       → IsOnStair (stair_at net (step_of t f)) (gap_at net t (step_of t f)) (flow_of t (step_of t f) + room_of t f)
@@ -80,11 +72,11 @@ module _ (net : PricedNetwork) (s t : Sheet) (e a : ℕ) (against : Bool) (near 
       elim (cases_eq f e) [
         | inl at ↦ here at
         | inr off ↦
-            let b : step_of t f ≡ step_of s f = entered.step_off f off in
+            let b : step_of t f ≡ step_of s f = entered.step.step_off f off in
             let kb : step_of s f < length net.network.arcs = omega (arith, search.steps.known f (was f kf) (had f off has), search.fits.activities) in
             let on : IsOnStair (stair_at net (step_of s f)) (gap_at net t (step_of s f)) (flow_of s (step_of s f) + room_of s f) =
-            moved (step_of s f) (flow_of s (step_of s f) + room_of s f) kb (search.led.along f (was f kf) (had f off has) (sym (entered.against_off f off) ∙ none)) in
-            let total : flow_of s (step_of s f) + room_of s f ≡ flow_of t (step_of s f) + room_of t f = omega (arith, flow (step_of s f), entered.room_off f off) in
+            moved (step_of s f) (flow_of s (step_of s f) + room_of s f) kb (search.led.along f (was f kf) (had f off has) (sym (entered.step.against_off f off) ∙ none)) in
+            let total : flow_of s (step_of s f) + room_of s f ≡ flow_of t (step_of s f) + room_of t f = omega (arith, flow (step_of s f), entered.step.room_off f off) in
             subst (λ g. IsOnStair (stair_at net g) (gap_at net t g) (flow_of t g + room_of t f)) (sym b)
             (subst (λ n. IsOnStair (stair_at net (step_of s f)) (gap_at net t (step_of s f)) n) total on)
       ]
@@ -97,8 +89,8 @@ module _ (net : PricedNetwork) (s t : Sheet) (e a : ℕ) (against : Bool) (near 
 
       here : f ≡ e → IsOnStair (stair_at net (step_of t f)) (gap_at net t (step_of t f)) (flow_of t (step_of t f) + room_of t f)
       here at =
-          let b : step_of t f ≡ a = ap (step_of t) at ∙ entered.step_at in
-          let total : flow_of s a + room ≡ flow_of t a + room_of t f = omega (arith, flow a, ap (room_of t) at, entered.room_at) in
+          let b : step_of t f ≡ a = ap (step_of t) at ∙ entered.step.step_at in
+          let total : flow_of s a + room ≡ flow_of t a + room_of t f = omega (arith, flow a, ap (room_of t) at, entered.step.room_at) in
           subst (λ g. IsOnStair (stair_at net g) (gap_at net t g) (flow_of t g + room_of t f)) (sym b)
           (subst (λ n. IsOnStair (stair_at net a) (gap_at net t a) n) total (moved a (flow_of s a + room) known (along_on (straight at))))
 
@@ -108,11 +100,11 @@ module _ (net : PricedNetwork) (s t : Sheet) (e a : ℕ) (against : Bool) (near 
       elim (cases_eq f e) [
         | inl at ↦ here at
         | inr off ↦
-            let b : step_of t f ≡ step_of s f = entered.step_off f off in
+            let b : step_of t f ≡ step_of s f = entered.step.step_off f off in
             let kb : step_of s f < length net.network.arcs = omega (arith, search.steps.known f (was f kf) (had f off has), search.fits.activities) in
             let on : IsOnStair (stair_at net (step_of s f)) (gap_at net t (step_of s f)) (flow_of s (step_of s f) - room_of s f) =
-            moved (step_of s f) (flow_of s (step_of s f) - room_of s f) kb (search.led.against f (was f kf) (had f off has) (omega (arith, some, entered.against_off f off))) in
-            let total : flow_of s (step_of s f) - room_of s f ≡ flow_of t (step_of s f) - room_of t f = omega (arith, flow (step_of s f), entered.room_off f off) in
+            moved (step_of s f) (flow_of s (step_of s f) - room_of s f) kb (search.led.against f (was f kf) (had f off has) (omega (arith, some, entered.step.against_off f off))) in
+            let total : flow_of s (step_of s f) - room_of s f ≡ flow_of t (step_of s f) - room_of t f = omega (arith, flow (step_of s f), entered.step.room_off f off) in
             subst (λ g. IsOnStair (stair_at net g) (gap_at net t g) (flow_of t g - room_of t f)) (sym b)
             (subst (λ n. IsOnStair (stair_at net (step_of s f)) (gap_at net t (step_of s f)) n) total on)
       ]
@@ -125,8 +117,8 @@ module _ (net : PricedNetwork) (s t : Sheet) (e a : ℕ) (against : Bool) (near 
 
       here : f ≡ e → IsOnStair (stair_at net (step_of t f)) (gap_at net t (step_of t f)) (flow_of t (step_of t f) - room_of t f)
       here at =
-          let b : step_of t f ≡ a = ap (step_of t) at ∙ entered.step_at in
-          let total : flow_of s a - room ≡ flow_of t a - room_of t f = omega (arith, flow a, ap (room_of t) at, entered.room_at) in
+          let b : step_of t f ≡ a = ap (step_of t) at ∙ entered.step.step_at in
+          let total : flow_of s a - room ≡ flow_of t a - room_of t f = omega (arith, flow a, ap (room_of t) at, entered.step.room_at) in
           subst (λ g. IsOnStair (stair_at net g) (gap_at net t g) (flow_of t g - room_of t f)) (sym b)
           (subst (λ n. IsOnStair (stair_at net a) (gap_at net t a) n) total (moved a (flow_of s a - room) known (against_on (turned at))))
 
@@ -141,14 +133,14 @@ module _ (net : PricedNetwork) (s t : Sheet) (e a : ℕ) (against : Bool) (near 
     steps = entered-steps net.network s t e a against near room new entered search.back search.joined search.steps;
     times = entered-times net.network s t e a against near room new entered search.times;
     joined = entered-joined net.network s t e a against near room new entered search.joined;
-    waiting = waiting;
+    waiting = waiting-kept s t (entered.rest ∙ ap (λ (v : Sheet). with_list v s) (sym entered.rest)) search.waiting;
     stairs = stairs;
     led = record { along = led-along; against = led-against };
   }
 
   grown : Grows s t
   grown = record {
-    rest = entered.rest ∙ whole;
+    rest = entered.rest ∙ ap (λ (v : Sheet). grown_as s v) (sym entered.rest);
     labelled = λ f labelled. entered-kept net.network s t e a against near room new entered f labelled;
     time = time;
     waits = λ b had_slot. ap (λ (v : Sheet). slot_of v b) entered.rest;
@@ -156,26 +148,7 @@ module _ (net : PricedNetwork) (s t : Sheet) (e a : ℕ) (against : Bool) (near 
     waiting = λ k below. ap (λ (v : Sheet). waiting_of v k) entered.rest;
     count = omega (arith, entered.count);
     len = omega (arith, ap (λ (v : Sheet). v.len) entered.rest);
-  } where
-    whole : record s { time = t.time; rank = t.rank; queue = t.queue; step = t.step; against = t.against; near = t.near; room = t.room; count = t.count } ≡ record s {
-      time = t.time;
-      rank = t.rank;
-      queue = t.queue;
-      step = t.step;
-      against = t.against;
-      near = t.near;
-      room = t.room;
-      waiting = t.waiting;
-      slot = t.slot;
-      count = t.count;
-      len = t.len;
-    }
-    whole =
-        sym (
-        ap (λ xs. record s { time = t.time; rank = t.rank; queue = t.queue; step = t.step; against = t.against; near = t.near; room = t.room; waiting = xs; slot = t.slot; count = t.count; len = t.len }) (ap (λ (v : Sheet). v.waiting) entered.rest)
-        ∙ ap (λ xs. record s { time = t.time; rank = t.rank; queue = t.queue; step = t.step; against = t.against; near = t.near; room = t.room; slot = xs; count = t.count; len = t.len }) (ap (λ (v : Sheet). v.slot) entered.rest)
-        ∙ ap (λ n. record s { time = t.time; rank = t.rank; queue = t.queue; step = t.step; against = t.against; near = t.near; room = t.room; count = t.count; len = n }) (ap (λ (v : Sheet). v.len) entered.rest)
-        )
+  }
 
   -- both ends of the activity have labels now
   near-now : 0 < rank_of t near

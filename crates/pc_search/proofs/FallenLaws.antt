@@ -16,6 +16,7 @@ use Rattle.pc_search.specs.Searches.{stair_at, gap_at, IsSearch, IsOnStairs, Are
 use Rattle.pc_search.specs.Growing.{IsMet, AreListed}
 use Rattle.pc_search.specs.Choosing.{moving}
 use Rattle.pc_search.specs.Labelling.{length_at, slope_at, IsStateWith, IsBetween, MayFall, HasFallen}
+use Rattle.pc_search.proofs.KeptLaws.{waiting-kept, search-recounted}
 use Rattle.pc_search.proofs.StateLaws.{times-alike, state-own}
 use Rattle.pc_search.proofs.StepLaws.{step-from_labelled, step-to_labelled}
 
@@ -140,41 +141,6 @@ module _ (net : PricedNetwork) (priced : IsPriced net.network net.terms (knees_i
         subst (λ n. IsOnStair (stair_at net (step_of s e)) n (flow_of s (step_of s e) - room_of s e)) (gap e known has) (search.led.against e known has some);
   }
 
-  search-there : IsSearch net there
-  search-there = record {
-    in_range = search.in_range;
-    few = search.few;
-    fits = record { events = search.fits.events; activities = search.fits.activities };
-    ranked = record {
-      some = search.ranked.some;
-      few = search.ranked.few;
-      scanned = search.ranked.scanned;
-      range = search.ranked.range;
-      placed = search.ranked.placed;
-      within = search.ranked.within;
-      queued = search.ranked.queued;
-    };
-    start = search.start;
-    back = record { known = search.back.known; labelled = search.back.labelled; before = search.back.before };
-    steps = record { known = search.steps.known; apart = search.steps.apart; along = search.steps.along; against = search.steps.against };
-    times = times-there;
-    joined = record {
-      along_from = search.joined.along_from;
-      along_to = search.joined.along_to;
-      against_from = search.joined.against_from;
-      against_to = search.joined.against_to;
-    };
-    waiting = record {
-      few = search.waiting.few;
-      range = search.waiting.range;
-      placed = search.waiting.placed;
-      within = search.waiting.within;
-      listed = search.waiting.listed;
-    };
-    stairs = stairs;
-    led = led;
-  }
-
   met-before : (a : ℕ) → IsMet net there a → IsMet net s a
   met-before a (inl from) = inl (record { labelled = from.labelled; within = from.within })
   met-before a (inr to) = inr (record { labelled = to.labelled; within = to.within })
@@ -192,7 +158,8 @@ module _ (net : PricedNetwork) (priced : IsPriced net.network net.terms (knees_i
     rested = rested;
     shorter = shorter;
     between = record {
-      search = search-there;
+      search =
+          search-recounted net s there search search.ranked.scanned times-there (waiting-kept s there refl search.waiting) stairs led;
       room = record { some = between.room.some };
       state = state;
       fits = omega (arith, shorter, between.fits);

@@ -1,5 +1,5 @@
 -- A search that scans one event after another.
-use Rattle.std.proofs.Common.{◌≡◌, ◌≢◌, ℕ, suc, ◌+◌, ◌-◌, ◌*◌, ◌<◌, ◌≤◌, ◌⊎◌, List, length, sym, ◌∙◌, ap, subst, inl, inr, arith}
+use Rattle.std.proofs.Common.{◌≡◌, ◌≢◌, ℕ, suc, ◌+◌, ◌-◌, ◌*◌, ◌<◌, ◌≤◌, ◌⊎◌, List, length, refl, sym, ◌∙◌, ap, subst, inl, inr, arith}
 use Rattle.std.proofs.lemmas.Bool.{cases_lt}
 use Rattle.pc_model.specs.Walk.{from_of, to_of}
 use Rattle.pc_model.specs.Sums.{sum_to}
@@ -11,6 +11,7 @@ use Rattle.pc_board.specs.Sheets.{Sheet, rank_of, queue_of}
 use Rattle.pc_board.specs.Labelling.{HaveRoom}
 use Rattle.pc_search.specs.Searches.{IsSearch, IsSettled, Grows}
 use Rattle.pc_search.specs.Growing.{IsAt, degree, IsReached, IsScanned, IsMet, AreSettled, GoesOn, HasGrown}
+use Rattle.pc_search.proofs.KeptLaws.{waiting-kept, search-relisted}
 use Rattle.pc_search.proofs.VisitLaws.{grows-none}
 use Rattle.pc_search.proofs.GrowingLaws.{grows-head, grows-joins, grows-early, settled-grows}
 use Rattle.pc_search.proofs.DegreeLaws.{degrees-few}
@@ -52,45 +53,7 @@ grows-headed s t h grows = record {
 }
 
 pub search-headed : (net : PricedNetwork) (t : Sheet) (h : ℕ) → h ≤ t.count → IsSearch net t → IsSearch net (headed t h)
-search-headed net t h within search = record {
-  in_range = search.in_range;
-  few = search.few;
-  fits = record { events = search.fits.events; activities = search.fits.activities };
-  ranked = record {
-    some = search.ranked.some;
-    few = search.ranked.few;
-    scanned = within;
-    range = search.ranked.range;
-    placed = search.ranked.placed;
-    within = search.ranked.within;
-    queued = search.ranked.queued;
-  };
-  start = search.start;
-  back = record { known = search.back.known; labelled = search.back.labelled; before = search.back.before };
-  steps = record { known = search.steps.known; apart = search.steps.apart; along = search.steps.along; against = search.steps.against };
-  times = record { deep = search.times.deep; fits = search.times.fits };
-  joined = record {
-    along_from = search.joined.along_from;
-    along_to = search.joined.along_to;
-    against_from = search.joined.against_from;
-    against_to = search.joined.against_to;
-  };
-  waiting = record {
-    few = search.waiting.few;
-    range = search.waiting.range;
-    placed = search.waiting.placed;
-    within = search.waiting.within;
-    listed = search.waiting.listed;
-  };
-  stairs = record {
-    falling = search.stairs.falling;
-    reach = search.stairs.reach;
-    ahead = search.stairs.ahead;
-    on = search.stairs.on;
-    small = search.stairs.small;
-  };
-  led = record { along = search.led.along; against = search.led.against };
-}
+search-headed net t h within search = search-relisted net t (headed t h) search within (waiting-kept t (headed t h) refl search.waiting)
 
 pub room-headed : (t : Sheet) (h : ℕ) → HaveRoom t → HaveRoom (headed t h)
 room-headed t h room = record { some = room.some }

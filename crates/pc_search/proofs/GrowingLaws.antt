@@ -9,7 +9,7 @@ use Rattle.pc_curve_laws.specs.Stair.{unit_length}
 use Rattle.pc_crash.specs.Priced.{PricedNetwork}
 use Rattle.pc_board.specs.Sheets.{Sheet, time_of, rank_of, queue_of, flow_of, slot_of}
 use Rattle.pc_board.specs.Labelling.{HaveRoom, IsRanked}
-use Rattle.pc_search.specs.Searches.{stair_at, next_at, last_at, gap_at, IsSearch, MayGoAlong, MayGoAgainst, IsSettled, Grows, IsVisited}
+use Rattle.pc_search.specs.Searches.{stair_at, next_at, last_at, gap_at, IsSearch, MayGoAlong, MayGoAgainst, IsSettled, grown_as, Grows, IsVisited}
 use Rattle.pc_search.proofs.VisitLaws.{grows-none}
 use Rattle.pc_search.specs.Growing.{IsReached, IsScanned, IsMet, AreListed, GoesOn, HasSettled}
 
@@ -48,19 +48,7 @@ module _ (s t : Sheet) (grows : Grows s t) where
 
   pub grows-joins : (u : Sheet) → Grows t u → Grows s u
   grows-joins u next = record {
-    rest = next.rest ∙ ap (λ (v : Sheet). record v {
-      time = u.time;
-      rank = u.rank;
-      queue = u.queue;
-      step = u.step;
-      against = u.against;
-      near = u.near;
-      room = u.room;
-      waiting = u.waiting;
-      slot = u.slot;
-      count = u.count;
-      len = u.len;
-    }) grows.rest;
+    rest = next.rest ∙ ap (λ (v : Sheet). grown_as v u) grows.rest;
     labelled = λ e some. next.labelled e (grows-labelled e some) ∙ grows.labelled e some;
     time = λ e known. next.time e (omega (arith, known, grows-events)) ∙ grows.time e known;
     waits = λ a some. next.waits a (omega (arith, grows.waits a some, some)) ∙ grows.waits a some;

@@ -7,47 +7,10 @@ use Rattle.pc_curve_laws.proofs.Stairs.StairStates.{stair-chosen}
 use Rattle.pc_crash.specs.Priced.{PricedNetwork, knees_in}
 use Rattle.pc_board.specs.Sheets.{Sheet, time_of, flow_of}
 use Rattle.pc_search.specs.Searches.{IsSearch}
-use Rattle.pc_search.specs.Growing.{HasSettled, HasGrown, HasLookedAgain}
+use Rattle.pc_search.specs.Growing.{HasSettled, HasGrown, relabelled, HasLookedAgain}
 use Rattle.pc_search.specs.Choosing.{moving, HasChosen}
-use Rattle.pc_search.specs.Labelling.{length_at, slope_at, IsStateWith, IsAboveAllCrash, IsBetween, HasRaised, Rises, IsUnderWay, HasLabelled}
+use Rattle.pc_search.specs.Labelling.{length_at, slope_at, IsStateWith, IsAboveAllCrash, IsBetween, HasRaised, risen, Rises, IsUnderWay, HasLabelled}
 use Rattle.pc_search.proofs.StateLaws.{times-alike, state-own}
-
--- board s with the labels and lists of board t
-abbrev relabelled : Sheet → Sheet → Sheet
-relabelled s t = record s {
-  time = t.time;
-  rank = t.rank;
-  queue = t.queue;
-  step = t.step;
-  against = t.against;
-  near = t.near;
-  room = t.room;
-  lost = t.lost;
-  waiting = t.waiting;
-  slot = t.slot;
-  count = t.count;
-  head = t.head;
-  len = t.len;
-}
-
--- and with its flows
-abbrev risen : Sheet → Sheet → Sheet
-risen s t = record s {
-  time = t.time;
-  rank = t.rank;
-  queue = t.queue;
-  step = t.step;
-  against = t.against;
-  near = t.near;
-  room = t.room;
-  lost = t.lost;
-  flow = t.flow;
-  waiting = t.waiting;
-  slot = t.slot;
-  count = t.count;
-  head = t.head;
-  len = t.len;
-}
 
 -- labels and lists have changed, times and flows are as they were
 pub record IsRelabelled (s t : Sheet) : Type 0 where

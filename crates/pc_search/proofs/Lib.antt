@@ -6,6 +6,7 @@ mod EnterLaws
 mod FallenLaws
 mod GrowLaws
 mod GrowingLaws
+mod KeptLaws
 mod LabelLaws
 pub mod RaiseLaws
 mod RaisedLaws

@@ -11,6 +11,7 @@ use Rattle.pc_board.specs.Labelling.{HaveRoom}
 use Rattle.pc_search.specs.Searches.{gap_at, next_at, last_at, IsSearch, IsWaiting, MayGoAlong, MayGoAgainst}
 use Rattle.pc_search.specs.Growing.{AreSettled}
 use Rattle.pc_search.specs.Choosing.{moving, HasChosen}
+use Rattle.pc_search.proofs.KeptLaws.{search-relisted}
 use Rattle.pc_search.proofs.ChoosingLaws.{IsChoosing, StillWaits, HasGone, SomeStopsAt}
 
 -- labels may cross an activity along it where it leads from a resting to a moving event, and against it where it leads back
@@ -122,41 +123,6 @@ module _ (net : PricedNetwork) (s t : Sheet) (kept least : ℕ) (search : IsSear
     ];
   }
 
-  search-chosen : IsSearch net there
-  search-chosen = record {
-    in_range = search.in_range;
-    few = search.few;
-    fits = record { events = search.fits.events; activities = search.fits.activities };
-    ranked = record {
-      some = search.ranked.some;
-      few = search.ranked.few;
-      scanned = search.ranked.scanned;
-      range = search.ranked.range;
-      placed = search.ranked.placed;
-      within = search.ranked.within;
-      queued = search.ranked.queued;
-    };
-    start = search.start;
-    back = record { known = search.back.known; labelled = search.back.labelled; before = search.back.before };
-    steps = record { known = search.steps.known; apart = search.steps.apart; along = search.steps.along; against = search.steps.against };
-    times = record { deep = search.times.deep; fits = search.times.fits };
-    joined = record {
-      along_from = search.joined.along_from;
-      along_to = search.joined.along_to;
-      against_from = search.joined.against_from;
-      against_to = search.joined.against_to;
-    };
-    waiting = waiting-there;
-    stairs = record {
-      falling = search.stairs.falling;
-      reach = search.stairs.reach;
-      ahead = search.stairs.ahead;
-      on = search.stairs.on;
-      small = search.stairs.small;
-    };
-    led = record { along = search.led.along; against = search.led.against };
-  }
-
   start-labelled : rank_of s net.network.start ≡ 1
   start-labelled = ap (rank_of s) (sym search.start) ∙ search.ranked.placed 0 search.ranked.some
 
@@ -183,7 +149,7 @@ module _ (net : PricedNetwork) (s t : Sheet) (kept least : ℕ) (search : IsSear
   chosen-there : HasChosen net s there least
   chosen-there = record {
     rest = refl;
-    search = search-chosen;
+    search = search-relisted net s there search search.ranked.scanned waiting-there;
     room = record { some = room.some };
     listed = record {
       along = λ a known met may. (along-waits a known (record { from = may.from; to = may.to })).some;

@@ -6,7 +6,8 @@ use Rattle.pc_board.specs.Sheets.{Sheet, waiting_of, slot_of}
 use Rattle.pc_board.specs.Moves.{WaitsOnce}
 use Rattle.pc_board.specs.Labelling.{HaveRoom}
 use Rattle.pc_board.proofs.RoomLaws.{room-left}
-use Rattle.pc_search.specs.Searches.{gap_at, next_at, last_at, IsWaiting, IsSearch, MayGoAlong, MayGoAgainst, IsQuiet, IsSettled, Grows, IsVisited}
+use Rattle.pc_search.specs.Searches.{IsWaiting, IsSearch, IsQuiet, StopsLater, IsSettled, Grows, IsVisited}
+use Rattle.pc_search.proofs.KeptLaws.{search-relisted}
 
 pub grows-none : (s : Sheet) → Grows s s
 grows-none s = record {
@@ -76,45 +77,7 @@ module _ (net : PricedNetwork) (s t : Sheet) (a : ℕ) (search : IsSearch net s)
     ];
   }
 
-  search-there : IsSearch net there
-  search-there = record {
-    in_range = search.in_range;
-    few = search.few;
-    fits = record { events = search.fits.events; activities = search.fits.activities };
-    ranked = record {
-      some = search.ranked.some;
-      few = search.ranked.few;
-      scanned = search.ranked.scanned;
-      range = search.ranked.range;
-      placed = search.ranked.placed;
-      within = search.ranked.within;
-      queued = search.ranked.queued;
-    };
-    start = search.start;
-    back = record { known = search.back.known; labelled = search.back.labelled; before = search.back.before };
-    steps = record { known = search.steps.known; apart = search.steps.apart; along = search.steps.along; against = search.steps.against };
-    times = record { deep = search.times.deep; fits = search.times.fits };
-    joined = record {
-      along_from = search.joined.along_from;
-      along_to = search.joined.along_to;
-      against_from = search.joined.against_from;
-      against_to = search.joined.against_to;
-    };
-    waiting = waiting-more;
-    stairs = record {
-      falling = search.stairs.falling;
-      reach = search.stairs.reach;
-      ahead = search.stairs.ahead;
-      on = search.stairs.on;
-      small = search.stairs.small;
-    };
-    led = record { along = search.led.along; against = search.led.against };
-  }
-
-  abbrev may_t : Type 0
-  may_t = (MayGoAlong net s a → next_at net s a < gap_at net s a) × (MayGoAgainst net s a → gap_at net s a < last_at net s a)
-
-  pub visited-waits : HaveRoom s → may_t → IsVisited net s t a
+  pub visited-waits : HaveRoom s → StopsLater net s a → IsVisited net s t a
   visited-waits room later = subst (λ u. IsVisited net s u a) (sym moved.rest) (record {
     grows = record {
       rest = refl;
@@ -126,10 +89,10 @@ module _ (net : PricedNetwork) (s t : Sheet) (a : ℕ) (search : IsSearch net s)
       count = omega arith;
       len = omega arith;
     };
-    search = search-there;
+    search = search-relisted net s there search search.ranked.scanned waiting-more;
     room = record { some = room.some };
     settled = record {
-      along = λ may. (omega (arith, moved.slot_at), later.0 (record { from = may.from; to = may.to }));
-      against = λ may. (omega (arith, moved.slot_at), later.1 (record { from = may.from; to = may.to; some = may.some }));
+      along = λ may. (omega (arith, moved.slot_at), later.along (record { from = may.from; to = may.to }));
+      against = λ may. (omega (arith, moved.slot_at), later.against (record { from = may.from; to = may.to; some = may.some }));
     };
   })

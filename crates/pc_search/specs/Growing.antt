@@ -6,7 +6,7 @@ use Rattle.pc_net.specs.Networks.{events_from, events_to}
 use Rattle.pc_crash.specs.Priced.{PricedNetwork}
 use Rattle.pc_board.specs.Sheets.{Sheet, time_of, rank_of, lost_of, slot_of}
 use Rattle.pc_board.specs.Labelling.{HaveRoom}
-use Rattle.pc_search.specs.Searches.{IsSearch, MayGoAlong, MayGoAgainst, IsSettled, Grows}
+use Rattle.pc_search.specs.Searches.{IsSearch, MayGoAlong, MayGoAgainst, IsSettled, grown_as, Grows}
 
 -- activity a begins or ends at event e
 abbrev pub IsAt : PricedNetwork → ℕ → ℕ → Type 0
@@ -61,24 +61,14 @@ pub record HasGrown (net : PricedNetwork) (s t : Sheet) : Type 0 where
   pub settled : AreSettled net t
   pub ended : (0 < rank_of t net.network.end) ⊎ (t.head ≡ t.count)
 
+-- board s with the labels of board t, with those that it lost, and with its waiting activities
+abbrev pub relabelled : Sheet → Sheet → Sheet
+relabelled s t = record (grown_as s t) { lost = t.lost; head = t.head }
+
 -- after a raising the labels without room were taken off, and the search went on from the others; times and flows are as
 -- they were
 pub record HasLookedAgain (net : PricedNetwork) (s t : Sheet) : Type 0 where
-  pub rest : t ≡ record s {
-    time = t.time;
-    rank = t.rank;
-    queue = t.queue;
-    step = t.step;
-    against = t.against;
-    near = t.near;
-    room = t.room;
-    lost = t.lost;
-    waiting = t.waiting;
-    slot = t.slot;
-    count = t.count;
-    head = t.head;
-    len = t.len;
-  }
+  pub rest : t ≡ relabelled s t
   pub time : (e : ℕ) → e < s.events → time_of t e ≡ time_of s e
   pub search : IsSearch net t
   pub room : HaveRoom t

@@ -10,7 +10,7 @@ use Rattle.pc_board.specs.Sheets.{Sheet, time_of, rank_of, flow_of}
 use Rattle.pc_board.specs.Labelling.{HaveRoom}
 use Rattle.pc_board.specs.Raising.{IsRaised}
 use Rattle.pc_search.specs.Searches.{IsSearch}
-use Rattle.pc_search.specs.Growing.{AreListed, AreSettled}
+use Rattle.pc_search.specs.Growing.{AreListed, AreSettled, relabelled}
 use Rattle.pc_search.specs.Choosing.{moving}
 
 -- the present length
@@ -65,24 +65,13 @@ pub record HasFallen (net : PricedNetwork) (s t : Sheet) (by : ℕ) : Type 0 whe
   pub between : IsBetween net t
   pub listed : AreListed net t
 
+-- board s relabelled as board t, and with its flows
+abbrev pub risen : Sheet → Sheet → Sheet
+risen s t = record (relabelled s t) { flow = t.flow }
+
 -- the flow was raised by so much in all, and events were labelled again; times and falls are as they were
 pub record Rises (net : PricedNetwork) (s t : Sheet) (rise : ℕ) : Type 0 where
-  pub rest : t ≡ record s {
-    time = t.time;
-    rank = t.rank;
-    queue = t.queue;
-    step = t.step;
-    against = t.against;
-    near = t.near;
-    room = t.room;
-    lost = t.lost;
-    flow = t.flow;
-    waiting = t.waiting;
-    slot = t.slot;
-    count = t.count;
-    head = t.head;
-    len = t.len;
-  }
+  pub rest : t ≡ risen s t
   pub time : (e : ℕ) → e < s.events → time_of t e ≡ time_of s e
   pub slope : slope_at net t ≡ slope_at net s + rise
 

@@ -10,6 +10,7 @@ use Rattle.pc_stair.specs.declared.stop.Stop.{Stop}
 use Rattle.pc_crash.specs.KneeLists.{AreKneesOf}
 use Rattle.pc_crash.specs.Priced.{PricedNetwork, knees_in}
 use Rattle.pc_board.specs.Sheets.{Sheet, time_of, rank_of, queue_of, step_of, against_of, room_of, flow_of, waiting_of, slot_of}
+use Rattle.pc_board.specs.Moves.{with_labels}
 use Rattle.pc_board.specs.Labelling.{HasStep, IsRanked, IsRankedBack, HaveSteps, HaveRoom, AreTimes, IsFor, AreJoined}
 use Rattle.pc_search.specs.declared.way.Way.{Way}
 use Rattle.pc_search.specs.declared.way.Way.TheVariants.{Along, Against}
@@ -45,6 +46,13 @@ pub record IsOnStairs (net : PricedNetwork) (s : Sheet) : Type 0 where
   pub ahead : (a : ℕ) → a < length net.network.arcs → time_of s (from_of net.network.arcs a) ≤ time_of s (to_of net.network.arcs a)
   pub on : (a : ℕ) → a < length net.network.arcs → IsOnStair (stair_at net a) (gap_at net s a) (flow_of s a)
   pub small : (a : ℕ) → a < length net.network.arcs → flow_of s a + 1 < 2 ^ 64
+
+-- the board is for the network, and on it the flows stand on the staircases at times that fit
+pub record IsPricedBoard (net : PricedNetwork) (s : Sheet) : Type 0 where
+  pub in_range : IsInRange net.network
+  pub fits : IsFor net.network s
+  pub times : AreTimes s
+  pub stairs : IsOnStairs net s
 
 -- what the room of each step leads to stands on the staircase too
 pub record AreLed (net : PricedNetwork) (s : Sheet) : Type 0 where
@@ -113,26 +121,23 @@ abbrev pub StopsAfter : PricedNetwork → Sheet → ℕ → Way → Stop → Typ
 StopsAfter net s a Along stop = StopsAlong net s a stop
 StopsAfter net s a Against stop = StopsAgainst net s a stop
 
+-- where labels may cross activity a, it stops only after a fall
+pub record StopsLater (net : PricedNetwork) (s : Sheet) (a : ℕ) : Type 0 where
+  pub along : MayGoAlong net s a → next_at net s a < gap_at net s a
+  pub against : MayGoAgainst net s a → gap_at net s a < last_at net s a
+
 -- where labels may cross activity a it waits, and it stops only after a fall
 pub record IsSettled (net : PricedNetwork) (s : Sheet) (a : ℕ) : Type 0 where
   pub along : MayGoAlong net s a → (0 < slot_of s a) × (next_at net s a < gap_at net s a)
   pub against : MayGoAgainst net s a → (0 < slot_of s a) × (gap_at net s a < last_at net s a)
 
+-- board s with the labels and the waiting activities of board t
+abbrev pub grown_as : Sheet → Sheet → Sheet
+grown_as s t = record (with_labels s t) { waiting = t.waiting; slot = t.slot; len = t.len }
+
 -- labels were given and activities have begun to wait; times and flows are as they were
 pub record Grows (s t : Sheet) : Type 0 where
-  pub rest : t ≡ record s {
-    time = t.time;
-    rank = t.rank;
-    queue = t.queue;
-    step = t.step;
-    against = t.against;
-    near = t.near;
-    room = t.room;
-    waiting = t.waiting;
-    slot = t.slot;
-    count = t.count;
-    len = t.len;
-  }
+  pub rest : t ≡ grown_as s t
   pub labelled : (e : ℕ) → 0 < rank_of s e → rank_of t e ≡ rank_of s e
   pub time : (e : ℕ) → e < s.events → time_of t e ≡ time_of s e
   pub waits : (a : ℕ) → 0 < slot_of s a → slot_of t a ≡ slot_of s a

@@ -1,9 +1,8 @@
 //! How far the events without a label may fall.
 ghost use Rattle.std.specs.Prelude.{◌≡◌, ◌+◌, ◌<◌, length};
-ghost use Rattle.pc_model.specs.Network.{IsInRange};
 ghost use Rattle.pc_board.specs.Sheets.{Sheet, rank_of};
-ghost use Rattle.pc_board.specs.Labelling.{HaveRoom, AreTimes, IsFor};
-ghost use Rattle.pc_search.specs.Searches.{IsSearch, IsOnStairs};
+ghost use Rattle.pc_board.specs.Labelling.{HaveRoom};
+ghost use Rattle.pc_search.specs.Searches.{IsSearch, IsPricedBoard};
 ghost use Rattle.pc_search.specs.Growing.{AreSettled};
 ghost use Rattle.pc_search.specs.Choosing.{IsStopOf, HasChosen};
 
@@ -44,10 +43,7 @@ impl<'n> Search<'n> {
     // After how much of a fall an activity stops, if labels may cross it. One look.
     fn stop_of<L: Ledger>(&self, a: u32, steps: &mut Steps<L>) -> Option<u64>
         requires known { a < length self.now.net.now.network.arcs }
-        requires in_range { IsInRange self.now.net.now.network }
-        requires fits { IsFor self.now.net.now.network self.now.board }
-        requires times { AreTimes self.now.board }
-        requires stairs { IsOnStairs self.now.net.now self.now.board }
+        requires board { IsPricedBoard self.now.net.now self.now.board }
         ensures counted { steps.new ≡ steps.old + 1 }
         ensures stop { IsStopOf self.now.net.now self.now.board a result }
     {

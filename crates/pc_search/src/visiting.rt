@@ -3,8 +3,8 @@ ghost use Rattle.std.specs.Prelude.{◌≡◌, ◌+◌, ◌<◌, ◌≤◌, ◌^
 ghost use Rattle.pc_model.specs.Walk.{from_of, to_of};
 ghost use Rattle.pc_crash.specs.Looks.{IsLookAt};
 ghost use Rattle.pc_model.specs.Network.{IsInRange};
-ghost use Rattle.pc_board.specs.Labelling.{HaveRoom, AreTimes, IsFor};
-ghost use Rattle.pc_search.specs.Searches.{IsSearch, IsSeen, IsOnStairs, IsWay, MayGoAlong, MayGoAgainst, StopsAlong, StopsAgainst, StopsAfter, IsVisited};
+ghost use Rattle.pc_board.specs.Labelling.{HaveRoom, IsFor};
+ghost use Rattle.pc_search.specs.Searches.{IsSearch, IsSeen, IsPricedBoard, IsWay, MayGoAlong, MayGoAgainst, StopsAlong, StopsAgainst, StopsAfter, StopsLater, IsVisited};
 
 use crate::search::Search;
 use crate::way::Way;
@@ -39,10 +39,7 @@ impl<'n> Search<'n> {
     pub fn stop(&self, a: u32, look: &Look, way: Way) -> Stop
         requires known { a < length self.now.net.now.network.arcs }
         requires look { IsLookAt self.now.net.now a look.now }
-        requires in_range { IsInRange self.now.net.now.network }
-        requires fits { IsFor self.now.net.now.network self.now.board }
-        requires times { AreTimes self.now.board }
-        requires stairs { IsOnStairs self.now.net.now self.now.board }
+        requires board { IsPricedBoard self.now.net.now self.now.board }
         requires way { IsWay self.now.net.now self.now.board a (Some way) }
         ensures { StopsAfter self.now.net.now self.now.board a way result }
     {
@@ -58,10 +55,7 @@ impl<'n> Search<'n> {
     fn stops_along(&self, a: u32, from: u32, to: u32, crash: u64, knees: &[Knee]) -> Stop
         requires known { a < length self.now.net.now.network.arcs }
         requires seen { IsSeen self.now.net.now a from to crash knees.now }
-        requires in_range { IsInRange self.now.net.now.network }
-        requires fits { IsFor self.now.net.now.network self.now.board }
-        requires times { AreTimes self.now.board }
-        requires stairs { IsOnStairs self.now.net.now self.now.board }
+        requires board { IsPricedBoard self.now.net.now self.now.board }
         requires way { MayGoAlong self.now.net.now self.now.board a }
         ensures { StopsAlong self.now.net.now self.now.board a result }
     {
@@ -74,10 +68,7 @@ impl<'n> Search<'n> {
     fn stops_against(&self, a: u32, from: u32, to: u32, crash: u64, knees: &[Knee]) -> Stop
         requires known { a < length self.now.net.now.network.arcs }
         requires seen { IsSeen self.now.net.now a from to crash knees.now }
-        requires in_range { IsInRange self.now.net.now.network }
-        requires fits { IsFor self.now.net.now.network self.now.board }
-        requires times { AreTimes self.now.board }
-        requires stairs { IsOnStairs self.now.net.now self.now.board }
+        requires board { IsPricedBoard self.now.net.now self.now.board }
         requires way { MayGoAgainst self.now.net.now self.now.board a }
         ensures { StopsAgainst self.now.net.now self.now.board a result }
     {
@@ -123,7 +114,7 @@ impl<'n> Search<'n> {
     {
         let stop = self.stops_along(a, from, to, crash, knees);
         if stop.after > 0 {
-            self.board.wait(a);
+            self.wait(a);
             return;
         }
         self.board.enter(to, a, false, from, stop.room);
@@ -142,9 +133,22 @@ impl<'n> Search<'n> {
     {
         let stop = self.stops_against(a, from, to, crash, knees);
         if stop.after > 0 {
-            self.board.wait(a);
+            self.wait(a);
             return;
         }
         self.board.enter(from, a, true, to, stop.room);
+    }
+
+    // Has an activity wait that stops only after a fall.
+    #[inline(always)]
+    fn wait(&mut self, a: u32)
+        requires known { a < length self.old.net.now.network.arcs }
+        requires search { IsSearch self.old.net.now self.old.board }
+        requires room { HaveRoom self.old.board }
+        requires later { StopsLater self.old.net.now self.old.board a }
+        ensures net { self.new.net.now ≡ self.old.net.now }
+        ensures visited { IsVisited self.old.net.now self.old.board self.new.board a }
+    {
+        self.board.wait(a);
     }
 }

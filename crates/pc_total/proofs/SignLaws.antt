@@ -29,9 +29,6 @@ module _ (terms : TimeTerms) (curve : ℕ → ℕ → Type 0) (is : IsConvex cur
             adds = omega (
               arith,
               ints,
-              of.adds,
-              same,
-              differs,
               time-weight terms limit,
               time-weight terms (limit - 1),
               weight-more terms (limit - 1),
@@ -53,16 +50,7 @@ module _ (terms : TimeTerms) (curve : ℕ → ℕ → Type 0) (is : IsConvex cur
           record {
             direct = found.cost;
             least = found.longer;
-            adds = omega (
-              arith,
-              ints,
-              of.adds,
-              same,
-              differs,
-              time-weight terms limit,
-              time-weight terms (limit + 1),
-              weight-more terms limit,
-            );
+            adds = omega (arith, ints, time-weight terms limit, time-weight terms (limit + 1), weight-more terms limit);
           },
         )
 

@@ -35,7 +35,13 @@ renewed-whole net spans old new before steps whole renewed = record {
   small_tails = renewed.small_tails;
 }
 
--- an expected time is set
+-- an expected time and a variance of activity a are set, one after the other
+pub record AreSet (spans : Spans) (r0 r1 r2 : Cells) (a x v : ℕ) : Type 0 where
+  pub laid : IsLaidIn r0 spans
+  pub expected : r1 ≡ with_span r0 0 (set (list_of r0 0) a x)
+  pub variance : r2 ≡ with_span r1 1 (set (list_of r1 1) a v)
+
+-- the first
 module _ (spans : Spans) (r0 r1 : Cells) (a x : ℕ) (laid : IsLaidIn r0 spans) (written : r1 ≡ with_span r0 0 (set (list_of r0 0) a x)) where
   first : IsPut r0 r1 0 (set (list_of r0 0) a x)
   first = put r0 r1 0 (set (list_of r0 0) a x) written (omega (arith, laid.count)) (length-set (list_of r0 0) a x)
@@ -43,59 +49,65 @@ module _ (spans : Spans) (r0 r1 : Cells) (a x : ℕ) (laid : IsLaidIn r0 spans) 
   pub laid-set : IsLaidIn r1 spans
   laid-set = first.laid spans laid
 
-  -- and then a variance
-  module _ (r2 : Cells) (v : ℕ) (also : r2 ≡ with_span r1 1 (set (list_of r1 1) a v)) where
-    second : IsPut r1 r2 1 (set (list_of r1 1) a v)
-    second = put r1 r2 1 (set (list_of r1 1) a v) also (omega (arith, laid-set.count)) (length-set (list_of r1 1) a v)
+-- and the other
+module _ (spans : Spans) (r0 r1 r2 : Cells) (a x v : ℕ) (are : AreSet spans r0 r1 r2 a x v) where
+  begun : IsPut r0 r1 0 (set (list_of r0 0) a x)
+  begun = first spans r0 r1 a x are.laid are.expected
 
-    pub laid-both : IsLaidIn r2 spans
-    laid-both = second.laid spans laid-set
+  laid-begun : IsLaidIn r1 spans
+  laid-begun = laid-set spans r0 r1 a x are.laid are.expected
 
-    expected : list_of r2 0 ≡ set (list_of r0 0) a x
-    expected = second.off 0 (λ e. omega (arith, e)) ∙ first.at
+  second : IsPut r1 r2 1 (set (list_of r1 1) a v)
+  second = put r1 r2 1 (set (list_of r1 1) a v) are.variance (omega (arith, laid-begun.count)) (length-set (list_of r1 1) a v)
 
-    variances : list_of r2 1 ≡ set (list_of r0 1) a v
-    variances = second.at ∙ ap (λ ys. set ys a v) (first.off 1 (λ e. omega (arith, e)))
+  pub laid-both : IsLaidIn r2 spans
+  laid-both = second.laid spans laid-begun
 
-    early : list_of r2 2 ≡ list_of r0 2
-    early = second.off 2 (λ e. omega (arith, e)) ∙ first.off 2 (λ e. omega (arith, e))
+  expected : list_of r2 0 ≡ set (list_of r0 0) a x
+  expected = second.off 0 (λ e. omega (arith, e)) ∙ begun.at
 
-    tails : list_of r2 3 ≡ list_of r0 3
-    tails = second.off 3 (λ e. omega (arith, e)) ∙ first.off 3 (λ e. omega (arith, e))
+  variances : list_of r2 1 ≡ set (list_of r0 1) a v
+  variances = second.at ∙ ap (λ ys. set ys a v) (begun.off 1 (λ e. omega (arith, e)))
 
-    places : list_of r2 4 ≡ list_of r0 4
-    places = second.off 4 (λ e. omega (arith, e)) ∙ first.off 4 (λ e. omega (arith, e))
+  early : list_of r2 2 ≡ list_of r0 2
+  early = second.off 2 (λ e. omega (arith, e)) ∙ begun.off 2 (λ e. omega (arith, e))
 
-    abbrev made : List ℕ → List ℕ → List ℕ → List ℕ → List ℕ → ℕ → ℕ → Reserved
-    made e f t u p n free = record { expected = e; variances = f; early = t; tails = u; places = p; steps = n; free = free }
+  tails : list_of r2 3 ≡ list_of r0 3
+  tails = second.off 3 (λ e. omega (arith, e)) ∙ begun.off 3 (λ e. omega (arith, e))
 
-    -- nothing else changes
-    pub kept-both : (steps : ℕ) → kept_in r2 steps ≡ with_numbers (kept_in r0 steps) a x v
-    kept-both steps =
-        ap (λ e. made e (list_of r2 1) (list_of r2 2) (list_of r2 3) (list_of r2 4) steps (free_of r2)) expected
-        ∙ ap (λ f. made (set (list_of r0 0) a x) f (list_of r2 2) (list_of r2 3) (list_of r2 4) steps (free_of r2)) variances
-        ∙ ap (λ t. made (set (list_of r0 0) a x) (set (list_of r0 1) a v) t (list_of r2 3) (list_of r2 4) steps (free_of r2)) early
-        ∙ ap (λ u. made (set (list_of r0 0) a x) (set (list_of r0 1) a v) (list_of r0 2) u (list_of r2 4) steps (free_of r2)) tails
-        ∙ ap (λ p. made (set (list_of r0 0) a x) (set (list_of r0 1) a v) (list_of r0 2) (list_of r0 3) p steps (free_of r2)) places
-        ∙ ap (λ free. made (set (list_of r0 0) a x) (set (list_of r0 1) a v) (list_of r0 2) (list_of r0 3) (list_of r0 4) steps free) (second.free ∙ first.free)
+  places : list_of r2 4 ≡ list_of r0 4
+  places = second.off 4 (λ e. omega (arith, e)) ∙ begun.off 4 (λ e. omega (arith, e))
 
-    pub early-both : length (list_of r2 2) ≡ length (list_of r0 2)
-    early-both = ap length early
+  abbrev made : List ℕ → List ℕ → List ℕ → List ℕ → List ℕ → ℕ → ℕ → Reserved
+  made e f t u p n free = record { expected = e; variances = f; early = t; tails = u; places = p; steps = n; free = free }
 
-    -- it is whole, where neither number is too great
-    pub whole-both : (steps : ℕ) → IsWhole (kept_in r0 steps) → a < length (list_of r0 0) → x ≤ MAX_LENGTH → v ≤ MAX_VARIANCE → IsWhole (kept_in r2 steps)
-    whole-both steps whole known small gentle =
-        let same : IsWhole (with_numbers (kept_in r0 steps) a x v) = record {
-          variances = length-set (list_of r0 1) a v ∙ whole.variances ∙ sym (length-set (list_of r0 0) a x);
-          tails = whole.tails;
-          places = whole.places;
-          steps = whole.steps;
-          small_expected = small-set MAX_LENGTH (list_of r0 0) a x known small whole.small_expected;
-          small_variances = small-set MAX_VARIANCE (list_of r0 1) a v (omega (arith, known, whole.variances)) gentle whole.small_variances;
-          small_early = whole.small_early;
-          small_tails = whole.small_tails;
-        } in
-        subst IsWhole (sym (kept-both steps)) same
+  -- nothing else changes
+  pub kept-both : (steps : ℕ) → kept_in r2 steps ≡ with_numbers (kept_in r0 steps) a x v
+  kept-both steps =
+      ap (λ e. made e (list_of r2 1) (list_of r2 2) (list_of r2 3) (list_of r2 4) steps (free_of r2)) expected
+      ∙ ap (λ f. made (set (list_of r0 0) a x) f (list_of r2 2) (list_of r2 3) (list_of r2 4) steps (free_of r2)) variances
+      ∙ ap (λ t. made (set (list_of r0 0) a x) (set (list_of r0 1) a v) t (list_of r2 3) (list_of r2 4) steps (free_of r2)) early
+      ∙ ap (λ u. made (set (list_of r0 0) a x) (set (list_of r0 1) a v) (list_of r0 2) u (list_of r2 4) steps (free_of r2)) tails
+      ∙ ap (λ p. made (set (list_of r0 0) a x) (set (list_of r0 1) a v) (list_of r0 2) (list_of r0 3) p steps (free_of r2)) places
+      ∙ ap (λ free. made (set (list_of r0 0) a x) (set (list_of r0 1) a v) (list_of r0 2) (list_of r0 3) (list_of r0 4) steps free) (second.free ∙ begun.free)
+
+  pub early-both : length (list_of r2 2) ≡ length (list_of r0 2)
+  early-both = ap length early
+
+  -- it is whole, where neither number is too great
+  pub whole-both : (steps : ℕ) → IsWhole (kept_in r0 steps) → a < length (list_of r0 0) → x ≤ MAX_LENGTH → v ≤ MAX_VARIANCE → IsWhole (kept_in r2 steps)
+  whole-both steps whole known small gentle =
+      let same : IsWhole (with_numbers (kept_in r0 steps) a x v) = record {
+        variances = length-set (list_of r0 1) a v ∙ whole.variances ∙ sym (length-set (list_of r0 0) a x);
+        tails = whole.tails;
+        places = whole.places;
+        steps = whole.steps;
+        small_expected = small-set MAX_LENGTH (list_of r0 0) a x known small whole.small_expected;
+        small_variances = small-set MAX_VARIANCE (list_of r0 1) a v (omega (arith, known, whole.variances)) gentle whole.small_variances;
+        small_early = whole.small_early;
+        small_tails = whole.small_tails;
+      } in
+      subst IsWhole (sym (kept-both steps)) same
 
 -- a variance is no greater than that of the widest estimates in the longest unit
 pub variance-small : (opt pess unit : ℕ) → pess ≤ MAX_DURATION → unit ≤ MAX_UNIT_DAYS → (pess - opt) ^ 2 * unit ^ 2 ≤ MAX_VARIANCE

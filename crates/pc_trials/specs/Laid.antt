@@ -1,6 +1,5 @@
 -- Where a reservation keeps what it keeps.
-use Rattle.std.specs.Prelude.{◌≡◌, ℕ, ◌<◌, ◌≤◌, List, [], ◌∷◌, ◌++◌, length, replicate, take, Some, unwrap_or, slice_index}
-use Rattle.pc_cells.specs.declared.span.Span.{Span}
+use Rattle.std.specs.Prelude.{◌≡◌, ℕ, ◌<◌, ◌≤◌, List, [], ◌∷◌, length, replicate, take, Some, unwrap_or, slice_index}
 use Rattle.pc_cells.specs.Spans.{Cells, free_of, span_at, IsSpan}
 use Rattle.pc_model.specs.Network.{Network}
 use Rattle.pc_model.specs.declared.limits.TheConstants.{MAX_VARIANCE}
@@ -20,12 +19,6 @@ pub record AreSpans (lists : List (List ℕ)) (s : Spans) : Type 0 where
   pub places : IsSpan lists 4 s.places
 
 -- Taking them
-
--- the region has one more span, of so many zeros, behind the others
-pub record IsTaken (old new : Cells) (len : ℕ) (s : Span) : Type 0 where
-  pub region : new ≡ record { capacity = old.capacity; spans = old.spans ++ replicate len 0 ∷ [] }
-  pub span : IsSpan new.spans (length old.spans) s
-  pub size : s.len ≡ len
 
 -- the region has five spans with zeros
 pub record AreSpansTaken (old new : Cells) (events activities : ℕ) (s : Spans) : Type 0 where

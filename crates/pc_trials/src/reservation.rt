@@ -16,14 +16,14 @@ ghost use Rattle.pc_trials.specs.Trials.{HasRoom, IsRange, IsWithin, looks_over,
 use crate::renewing::renew_times;
 use crate::spans::{Spans, take_spans};
 use crate::trial::{trial_cost, trial_curve};
-use crate::view::{StandingTimes, end_to_meet};
+use crate::view::StandingTimes;
 use pc_cells::Region;
 use pc_crash::{CrashNet, Steps};
 use pc_edges::{Failed, Sink};
 use pc_net::Net;
 use pc_page::Page;
 use pc_project::{Estimates, Project};
-use pc_reports::write_times;
+use pc_reports::{end_to_meet, write_times};
 use pc_times::{expected_sixths, variance_36};
 use std::alloc::{AllocError, Global};
 use std::marker::Model;

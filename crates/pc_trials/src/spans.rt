@@ -1,7 +1,6 @@
 //! The spans that are taken at the opening.
 ghost use Rattle.std.specs.Prelude.{◌≡◌, ◌+◌, ◌*◌, ◌<◌, ◌≤◌, [], replicate};
-ghost use Rattle.pc_cells.specs.Spans.{free_of};
-ghost use Rattle.pc_trials.specs.Laid.{IsTaken, AreSpansTaken};
+ghost use Rattle.pc_trials.specs.Laid.{AreSpansTaken};
 
 use pc_cells::{Region, Span};
 
@@ -24,22 +23,10 @@ pub(crate) fn take_spans(region: &mut Region, events: usize, activities: usize) 
     ensures { AreSpansTaken region.old region.new events activities result }
 {
     Spans {
-        expected: taken(region, activities),
-        variances: taken(region, activities),
-        early: taken(region, events),
-        tails: taken(region, events),
-        places: taken(region, events),
-    }
-}
-
-/// A span for which there is room.
-fn taken(region: &mut Region, len: usize) -> Span
-    requires some { 0 < len }
-    requires room { len ≤ free_of region.old }
-    ensures { IsTaken region.old region.new len result }
-{
-    match region.take(len) {
-        Ok(span) => span,
-        Err(_) => unreachable!(),
+        expected: region.take_free(activities),
+        variances: region.take_free(activities),
+        early: region.take_free(events),
+        tails: region.take_free(events),
+        places: region.take_free(events),
     }
 }

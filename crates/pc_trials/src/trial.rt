@@ -74,28 +74,9 @@ pub(crate) fn trial_curve<O: Sink, L: Ledger>(
         steps.new ≤ steps.old + looks_over net.now (longest - shortest) }
 {
     let mut solver = Solver::begin(region, net);
-    let written = curve_of(page, sink, &mut solver, steps);
-    (solver.close(), written)
-}
-
-/// Writes the curve of a solver before its first segment.
-fn curve_of<O: Sink, L: Ledger>(
-    page: &mut Page,
-    sink: &mut O,
-    solver: &mut Solver<'_>,
-    steps: &mut Steps<L>,
-) -> Result<(), Failed>
-    requires fresh { page.old ≡ fresh }
-    requires before { solver.old.given ≡ false }
-    ensures text { (text : List ℕ) × IsCurveText solver.old.net text
-        × Writes result (O.taken sink.old) (O.taken sink.new) (O.faults sink.old) (O.faults sink.new) text }
-    ensures fresh { page.new ≡ fresh }
-    ensures same { IsSameCurve solver.old solver.new }
-    ensures counted { steps.new ≤ steps.old + looks_over solver.old.net (solver.old.longest - solver.old.shortest) }
-{
     // Before the first segment nothing has fallen, and at the end the lower end is in the range.
     let _given = solver.given();
-    let written = write_curve(page, sink, solver, steps);
+    let written = write_curve(page, sink, &mut solver, steps);
     let _given = solver.given();
-    written
+    (solver.close(), written)
 }

@@ -1,9 +1,4 @@
 //! The standing times, as the report of event times is written from them.
-ghost use Rattle.std.specs.Prelude.{◌≡◌, ◌≤◌, ◌≤ℤ◌, pos};
-ghost use Rattle.std.specs.Option.{ForSome};
-ghost use Rattle.pc_model.specs.declared.limits.TheConstants.{MAX_DIRECTED};
-ghost use Rattle.pc_reports.specs.Times.{end_to_meet};
-ghost use Rattle.pc_times.specs.declared.TheConstants.{MAX_TIME};
 
 use pc_reports::TimesView;
 use pc_times::so_long_before;
@@ -54,18 +49,5 @@ impl<'a> TimesView for StandingTimes<'a> {
     fn on_path(&self, k: u32) -> Option<u32> {
         let a = *self.path.get(k as usize)?;
         Some(a as u32)
-    }
-}
-
-/// When the end is to be met: the directed number of days, or else when it is reached.
-pub(crate) fn end_to_meet(directed: Option<u64>, reached: u64) -> i64
-    requires directed { ForSome directed (λ days. days ≤ MAX_DIRECTED) }
-    requires reached { reached ≤ MAX_TIME }
-    ensures end { result ≡ end_to_meet directed reached }
-    ensures limit { (pos 0 ≤ℤ result) × (result ≤ℤ pos MAX_TIME) }
-{
-    match directed {
-        Some(days) => 6 * days as i64,
-        None => reached as i64,
     }
 }

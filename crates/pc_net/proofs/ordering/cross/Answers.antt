@@ -15,19 +15,16 @@ leaving net order at event xs queued read listed =
 pub overflow_sub-index_mut : goal.overflow_sub-index_mut
 overflow_sub-index_mut c =
     let net = c.args.graph.now in
-    let order = c.args.order.now.items in
-    let listed = leaving net order c.args.at _ _ (omega (arith, c.args.order.now.ok.0)) c.index.ensures c.out_arcs-a-items.ensures.listed in
+    let listed = leaving net c.args.order.now.items c.args.at _ _ (omega (arith, c.args.order.now.ok.0)) c.index.ensures c.out_arcs-a-items.ensures.listed in
     let missing = c.loop-a.missing.items in
-    let a = slice_index c.out_arcs-a-items.result.now c.loop-a.a-index in
     let next = c.to-next.result in
     let read : c.index_mut.result.now ≡ slice_index missing next = get_or_read missing next _ (omega (arith, c.to-next.ensures.known, c.loop-a.invariant.waiting.missing_len)) c.index_mut.ensures.value 0 in
-    omega (arith, read, IsCrossing-entered net c.loop-a.order.items missing c.args.at _ _ c.loop-a.a-index listed c.loop-a.invariant c.loop-a-test.true a next refl (sym c.to-next.ensures.event) c.to-next.ensures.known)
+    omega (arith, read, IsCrossing-entered net c.loop-a.order.items missing c.args.at _ _ c.loop-a.a-index listed c.loop-a.invariant c.loop-a-test.true _ next refl (sym c.to-next.ensures.event) c.to-next.ensures.known)
 
 pub loop-a-preserved : goal.loop-a-preserved
 loop-a-preserved c =
     let net = c.args.graph.now in
-    let order = c.args.order.now.items in
-    let listed = leaving net order c.args.at _ _ (omega (arith, c.args.order.now.ok.0)) c.index.ensures c.out_arcs-a-items.ensures.listed in
+    let listed = leaving net c.args.order.now.items c.args.at _ _ (omega (arith, c.args.order.now.ok.0)) c.index.ensures c.out_arcs-a-items.ensures.listed in
     let missing = c.loop-a.missing.items in
     let a = slice_index c.out_arcs-a-items.result.now c.loop-a.a-index in
     let next = c.to-next.result in
@@ -44,6 +41,5 @@ loop-a-preserved c =
 pub returns : goal.returns
 returns c =
     let net = c.args.graph.now in
-    let order = c.args.order.now.items in
-    let listed = leaving net order c.args.at _ _ (omega (arith, c.args.order.now.ok.0)) c.index.ensures c.out_arcs-a-items.ensures.listed in
+    let listed = leaving net c.args.order.now.items c.args.at _ _ (omega (arith, c.args.order.now.ok.0)) c.index.ensures c.out_arcs-a-items.ensures.listed in
     record { queue = IsQueue-next net c.loop-a.order.items c.loop-a.missing.items c.args.at _ _ c.loop-a.a-index listed c.loop-a.invariant (omega (arith, c.loop-a-test.false)) }

@@ -29,14 +29,4 @@ invariant_of-result c =
     record { in_range = ranged; sound = IsSound-from_order net items ranged order firm.none_dangles firm.not_entered firm.not_left; order = order }
 
 pub returns-clause-sound : goal.returns-clause-sound
-returns-clause-sound c =
-    let net = c.in_ok-graph.graph in
-    let is = c.in_ok-graph.ensures in
-    let items = c.in_ok-order.order.items in
-    let part = c.in_ok-order.ensures.part in
-    let ranged : IsInRange net = subst IsInRange (sym is) c.requires.in_range in
-    let known : net.events ≡ c.args.events = ap (λ (n : Network). n.events) is in
-    let whole : length items ≡ net.events = omega (arith, known, c.in_ok-order.order.ok.0, c.len.ensures, room_below items net.events part.range part.once) in
-    let order : IsOrder net items = record { part = part; whole = whole } in
-    let firm = c.in_ok-check.ensures.firm in
-    subst IsSound is (IsSound-from_order net items ranged order firm.none_dangles firm.not_entered firm.not_left)
+returns-clause-sound c = subst IsSound c.in_ok-graph.ensures (invariant_of-result c).sound

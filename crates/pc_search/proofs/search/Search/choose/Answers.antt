@@ -1,13 +1,20 @@
-use Rattle.std.proofs.Common.{◌≡◌, ◌<◌, ◌+◌, length, refl, subst, arith}
-use Rattle.pc_search.specs.Searches.{IsQuiet}
+use Rattle.std.proofs.Common.{◌≡◌, ◌<◌, ◌+◌, length, refl, sym, subst, arith}
+use Rattle.pc_search.specs.Searches.{IsPricedBoard, IsQuiet}
 use Rattle.pc_search.specs.Choosing.{StopsAt, IsStopOf}
-use Rattle.pc_search.proofs.ChoosingLaws.{IsChoosing, choosing-begins, choosing-keeps, choosing-goes, stops-relisted, quiet-relisted}
+use Rattle.pc_search.proofs.ChoosingLaws.{IsChoosing, choosing-begins, choosing-keeps, choosing-goes, stops-relisted, quiet-relisted, priced-relisted}
 use Rattle.pc_search.proofs.StandLaws.{choosing-ends}
 use Rattle.pc_search.proofs.search.Search.choose.Goals as goal
 use Rattle.pc_search.proofs.search.Search.choose.Goals.{in-Some, in-None}
 
 pub loop-i-init : goal.loop-i-init
 loop-i-init g c = record { net = refl; counted = omega arith; choosing = choosing-begins c.args.self.now.net.now c.args.self.now.board }
+
+pub stop_of-requires-clause-board : goal.stop_of-requires-clause-board
+stop_of-requires-clause-board g c =
+    let on = c.loop-i.invariant in
+    let t = c.loop-i.self.board in
+    subst (λ n. IsPricedBoard n t) (sym on.net)
+    (priced-relisted c.args.self.now.net.now c.args.self.now.board t on.choosing.rest c.requires.search)
 
 pub loop-i-preserved : goal.loop-i-preserved
 loop-i-preserved g c =
