@@ -1,5 +1,5 @@
 use Rattle.std.proofs.Common.{◌≡◌, ◌+◌, ◌-◌, ◌≤◌, length, take, drop, decimal, sym, subst, ◌∙◌, arith}
-use Rattle.pc_cert.specs.Lines.{spaced, IsCode}
+use Rattle.pc_text.specs.Fields.{spaced, IsCode}
 use Rattle.pc_cert.proofs.EventLaws.{event_comes, left_within, rest_is}
 use Rattle.pc_cert.proofs.event.event_to_end.Goals as goal
 
