@@ -1,5 +1,5 @@
 -- The line of an event that comes again with another time or another bit.
-use Rattle.std.proofs.Common.{◌≡◌, ℕ, ◌+◌, ◌-◌, ◌<◌, ◌≤◌, Bool, List, [], ◌∷◌, ◌++◌, length, take, drop, Some, sym, ap, ◌∙◌, arith, append_assoc, length-append, length-take-le}
+use Rattle.std.proofs.Common.{◌≡◌, ℕ, ◌+◌, ◌-◌, ◌<◌, ◌≤◌, Bool, List, [], ◌∷◌, ◌++◌, length, take, drop, Some, sym, ap, subst, ◌∙◌, arith, append_assoc, length-append, length-take-le}
 use Rattle.std.specs.Prelude.{codes}
 use Rattle.std.specs.Fmt.{decimal}
 use Rattle.std.proofs.Math.Seq.{take-append_seam}
@@ -7,11 +7,11 @@ use Rattle.std.proofs.lemmas.Bool.Decides.{nat_tests}
 use Rattle.std.proofs.lemmas.List.{take-append-drop, take-append-le, take_all, length-drop}
 use Rattle.pc_cert.specs.declared.line.CertLine.{CertLine}
 use Rattle.pc_cert.specs.declared.line.CertLine.TheVariants.{Event}
-use Rattle.pc_cert.specs.Fields.{run_len}
-use Rattle.pc_cert.specs.Lines.{Fits, spelling, spaced, bit_text, IsCode, IsSmall}
+use Rattle.pc_text.specs.Fields.{run_len, spaced, IsCode}
+use Rattle.pc_cert.specs.Lines.{Fits, spelling, bit_text, IsSmall}
 use Rattle.pc_cert.specs.Reading.{line_of}
 use Rattle.pc_cert.specs.Known.{AreCells, IsAgain, IsEventFront}
-use Rattle.pc_cert.proofs.FieldLemmas.{run_len-before}
+use Rattle.pc_text.proofs.FieldLemmas.{run_len-before}
 use Rattle.pc_cert.proofs.LineLaws.{line_takes, line_again}
 use Rattle.pc_cert.proofs.LineLengths.{spelling_lacks_end}
 
@@ -65,22 +65,33 @@ spelled_again line piece more used fits whole long =
       read = ap line_of before ∙ line_again line fits;
     }
 
--- behind the front of an event's line stand a time, a bit and the end of the line
-pub event_comes : (code known piece rest more : List ℕ) (time used : ℕ) (moves : Bool) → IsCode code → IsSmall time → IsEventFront code known
-    → take (length code + 6) piece ≡ take (length code + 6) known → drop (length code + 6) piece ≡ spaced (decimal time) rest
-    → rest ≡ spaced (bit_text moves) (10 ∷ more) → used + length more ≡ length piece → IsAgain (Some (Event code time moves)) piece used
-event_comes code known piece rest more time used moves code_is small front same behind last long =
-    let n = length code + 6 in
-    let whole : piece ≡ spelling (Event code time moves) ++ 10 ∷ more =
-    sym (take-append-drop n piece) ∙ ap (λ t. t ++ drop n piece) (same ∙ front.same)
-    ∙ ap (λ t. (codes "EVENT" ++ 32 ∷ code) ++ t) (behind ∙ ap (spaced (decimal time)) last) ∙ sym (spelled_behind code more time moves) in
-    spelled_again (Event code time moves) piece more used (code_is, small) whole long
-
--- what stands behind that end is a part of the piece
-pub left_within : (n : ℕ) (piece rest more : List ℕ) (time : ℕ) (moves : Bool) → drop n piece ≡ spaced (decimal time) rest → rest ≡ spaced (bit_text moves) (10 ∷ more) → length more ≤ length piece
-left_within n piece rest more time moves behind last =
-    omega (arith, ap length behind, ap length last, length-append (decimal time) rest, length-append (bit_text moves) (10 ∷ more), length-drop n piece)
-
 -- a slice up to the end is all that is left
 pub rest_is : (n : ℕ) (piece : List ℕ) → take (length piece - n) (drop n piece) ≡ drop n piece
 rest_is n piece = take_all (length piece - n) (drop n piece) (omega (arith, length-drop n piece))
+
+-- behind the front of an event's line stands a time, and what stands behind the line is a part of the piece
+pub record IsReadBehind (n : ℕ) (piece rest more : List ℕ) (time : ℕ) : Type 0 where
+  pub behind : drop n piece ≡ spaced (decimal time) rest
+  pub within : length more ≤ length piece
+
+pub read_behind : (n : ℕ) (piece rest more : List ℕ) (time : ℕ) (moves : Bool) → take (length piece - n) (drop n piece) ≡ spaced (decimal time) rest
+    → rest ≡ spaced (bit_text moves) (10 ∷ more) → IsReadBehind n piece rest more time
+read_behind n piece rest more time moves text last =
+    let behind : drop n piece ≡ spaced (decimal time) rest = sym (rest_is n piece) ∙ text in
+    record {
+      behind = behind;
+      within = omega (arith, ap length behind, ap length last, length-append (decimal time) rest, length-append (bit_text moves) (10 ∷ more), length-drop n piece);
+    }
+
+-- behind the front of an event's line stand a time, a bit and the end of the line; the name that is read of the event is its code
+pub event_comes : (code name known piece rest more : List ℕ) (time : ℕ) (moves : Bool) → name ≡ code → IsCode name → IsEventFront code known
+    → take (length name + 6) piece ≡ take (length name + 6) known → IsReadBehind (length name + 6) piece rest more time → IsSmall time
+    → rest ≡ spaced (bit_text moves) (10 ∷ more) → IsAgain (Some (Event code time moves)) piece (length piece - length more)
+event_comes code name known piece rest more time moves named code_is front same read small last =
+    let n = length name + 6 in
+    let begins : take n known ≡ codes "EVENT" ++ 32 ∷ name = (subst (λ c. IsEventFront c known) (sym named) front).same in
+    let whole : piece ≡ spelling (Event name time moves) ++ 10 ∷ more =
+    sym (take-append-drop n piece) ∙ ap (λ t. t ++ drop n piece) (same ∙ begins)
+    ∙ ap (λ t. (codes "EVENT" ++ 32 ∷ name) ++ t) (read.behind ∙ ap (spaced (decimal time)) last) ∙ sym (spelled_behind name more time moves) in
+    subst (λ c. IsAgain (Some (Event c time moves)) piece (length piece - length more)) named
+    (spelled_again (Event name time moves) piece more (length piece - length more) (code_is, small) whole (omega (arith, read.within)))

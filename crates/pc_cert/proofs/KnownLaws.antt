@@ -3,10 +3,9 @@ use Rattle.std.proofs.Common.{◌≡◌, ℕ, ◌+◌, ◌<◌, ◌≤◌, List,
 use Rattle.std.specs.Prelude.{IsSome}
 use Rattle.std.proofs.lemmas.List.{take-append-drop, take-append-le, take_all, length-drop, length-set, take_more_set}
 use Rattle.pc_cert.specs.declared.line.CertLine.{CertLine}
-use Rattle.pc_cert.specs.Fields.{run_len}
-use Rattle.pc_cert.specs.Lines.{Lacks}
+use Rattle.pc_text.specs.Fields.{run_len, Lacks}
 use Rattle.pc_cert.specs.Reading.{line_of}
-use Rattle.pc_cert.proofs.FieldLemmas.{run_len-before}
+use Rattle.pc_text.proofs.FieldLemmas.{run_len-before}
 use Rattle.pc_cert.proofs.LineLaws.{line_takes}
 use Rattle.pc_cert.proofs.LineLengths.{spelling_lacks_end}
 use Rattle.pc_cert.specs.Known.{AreCells, IsAgain}

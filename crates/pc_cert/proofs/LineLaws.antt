@@ -1,48 +1,35 @@
 -- What is read of a line is spelled so, and what is spelled so is read: no line has two spellings, and no bytes spell two
 -- lines.
-use Rattle.std.proofs.Common.{◌≡◌, ℕ, ◌≤◌, zero, suc, Bool, true, false, ◌||◌, cond, ltb, List, [], ◌∷◌, ◌++◌, length, take, drop, Option, Some, None, refl, sym, ap, subst, ◌∙◌, arith}
-use Rattle.std.proofs.lemmas.Bool.{eqb-true, ltb-false, le-ltb}
+use Rattle.std.proofs.Common.{◌≡◌, ℕ, ◌≤◌, zero, suc, Bool, false, ◌||◌, cond, ltb, List, [], ◌∷◌, ◌++◌, length, take, drop, Option, Some, None, refl, sym, ap, subst, ◌∙◌, arith}
+use Rattle.std.proofs.lemmas.Bool.{ltb-false, le-ltb}
 use Rattle.std.proofs.lemmas.Bool.Decides.{nat_tests}
-use Rattle.std.proofs.lemmas.Option.{cond_some}
-use Rattle.std.proofs.lemmas.Slice.Eq.{bytes_eq-Decides}
-use Rattle.std.proofs.lemmas.List.{take-append-drop, append-nil, nil_from_length}
-use Rattle.std.specs.Prelude.{codes, bytes_eq, IfSome}
+use Rattle.std.proofs.lemmas.List.{take-append-drop}
+use Rattle.std.specs.Prelude.{codes, IfSome}
 use Rattle.std.specs.Fmt.{decimal}
 use Rattle.pc_cert.specs.declared.line.CertLine.{CertLine}
 use Rattle.pc_cert.specs.declared.line.CertLine.TheVariants.{Head, Normal, Step, Crash, Segment, Event, Act, Close, End}
-use Rattle.pc_cert.specs.Fields.{◌>>=◌, run_len, code_field, number_field, bit_field}
-use Rattle.pc_cert.specs.Lines.{spaced, numbers, bit_text, spelling, IsSmall, IsCode, AreSmall, Fits}
-use Rattle.pc_cert.specs.Reading.{alone, head_of, step_of, segment_of, event_of, numbers_in, flows_of, act_of, line_with, line_of}
+use Rattle.pc_text.specs.Fields.{◌>>=◌, run_len, code_field, spaced, IsCode, alone}
+use Rattle.pc_cert.specs.Fields.{number_field, bit_field}
+use Rattle.pc_cert.specs.Lines.{numbers, bit_text, spelling, IsSmall, AreSmall, Fits}
+use Rattle.pc_cert.specs.Reading.{head_of, step_of, segment_of, event_of, numbers_in, flows_of, act_of, line_with, line_of}
 use Rattle.pc_cert.specs.declared.flows.TheConstants.{MAX_FLOWS}
-use Rattle.pc_cert.proofs.FieldLemmas.{bind_some, IsBehind, nothing, space, code_field_takes, code_field_again, number_field_takes, number_field_again, bit_field_takes, bit_field_again}
+use Rattle.pc_text.proofs.SpellingLemmas.{IsSpelled, either, no_name, one_word}
+use Rattle.pc_text.proofs.FieldLemmas.{bind_some, alone_takes, unless_takes, unless_again, IsBehind, nothing, space, code_field_takes, code_field_again}
+use Rattle.pc_cert.proofs.FieldLemmas.{number_field_takes, number_field_again, bit_field_takes, bit_field_again}
 
 -- the word and the fields are those of the line, which can be spelled
-record IsSpelled (word fields : List ℕ) (line : CertLine) : Type 0 where
-  text : word ++ fields ≡ spelling line
-  fits : Fits line
-
-alone_takes : (rest : List ℕ) (line found : CertLine) → alone rest line ≡ Some found → (rest ≡ []) × (line ≡ found)
-alone_takes rest line found e =
-    let read = cond_some _ line found e in
-    (nil_from_length rest (eqb-true _ _ (read.0)), read.1)
-
--- a test that nothing came of
-unless_takes : (test : Bool) (found : Option CertLine) (line : CertLine) → cond test None found ≡ Some line → (test ≡ false) × (found ≡ Some line)
-unless_takes true found line e = absurd cc
-unless_takes false found line e = (refl, e)
-
-unless_again : (test : Bool) (found : Option CertLine) → test ≡ false → cond test None found ≡ found
-unless_again test found h = rw h refl
+abbrev IsLine : List ℕ → List ℕ → CertLine → Type 0
+IsLine word fields line = IsSpelled spelling Fits word fields line
 
 -- ---- a walk's step
 
-step_takes : (fields : List ℕ) (line : CertLine) → step_of fields ≡ Some line → IsSpelled (codes "STEP") fields line
+step_takes : (fields : List ℕ) (line : CertLine) → step_of fields ≡ Some line → IsLine (codes "STEP") fields line
 unfolding step_of
 step_takes fields line e =
     let code = bind_some (code_field fields) (λ code. alone (code.1) (Step (code.0))) line e in
     let end = alone_takes (code.0.1) (Step (code.0.0)) line (code.2) in
     let code_is = code_field_takes fields (code.0) (code.1) in
-    subst (λ l. IsSpelled (codes "STEP") fields l) (end.1) (record {
+    subst (λ l. IsLine (codes "STEP") fields l) (end.1) (record {
       text = ap (λ x. codes "STEP" ++ x) (code_is.text ∙ ap (λ x. spaced (code.0.0) x) (end.0));
       fits = code_is.code_is;
     })
@@ -59,7 +46,7 @@ version_known version h = (grind (arith, nat_tests), grind (arith, nat_tests))
 version_passes : (version : ℕ) → 1 ≤ version → version ≤ 2 → (ltb version 1 || ltb 2 version) ≡ false
 version_passes version some few = grind (arith, nat_tests)
 
-head_takes : (fields : List ℕ) (line : CertLine) → head_of fields ≡ Some line → IsSpelled (codes "CERT") fields line
+head_takes : (fields : List ℕ) (line : CertLine) → head_of fields ≡ Some line → IsLine (codes "CERT") fields line
 unfolding head_of
 head_takes fields line e =
     let made = λ (version : ℕ) (project : List ℕ) (events : ℕ) (activities : ℕ) (rest : List ℕ). cond (ltb version 1 || ltb 2 version) None (alone rest (Head version project events activities)) in
@@ -73,7 +60,7 @@ head_takes fields line e =
     let project_is = code_field_takes (version.0.1) (project.0) (project.1) in
     let events_is = number_field_takes (project.0.1) (events.0) (events.1) in
     let activities_is = number_field_takes (events.0.1) (activities.0) (activities.1) in
-    subst (λ l. IsSpelled (codes "CERT") fields l) (end.1) (record {
+    subst (λ l. IsLine (codes "CERT") fields l) (end.1) (record {
       text = ap (λ x. codes "CERT" ++ x) (
           version_is.text ∙ ap (λ x. spaced (decimal (version.0.0)) x) (
           project_is.text ∙ ap (λ x. spaced (project.0.0) x) (
@@ -95,7 +82,7 @@ head_again version project events activities h =
 
 -- ---- a segment's first line
 
-segment_takes : (fields : List ℕ) (line : CertLine) → segment_of fields ≡ Some line → IsSpelled (codes "SEGMENT") fields line
+segment_takes : (fields : List ℕ) (line : CertLine) → segment_of fields ≡ Some line → IsLine (codes "SEGMENT") fields line
 unfolding segment_of
 segment_takes fields line e =
     let upper = bind_some (number_field fields) (λ upper. number_field (upper.1) >>= (λ lower. number_field (lower.1) >>= (λ cost. number_field (cost.1) >>= (λ slope. alone (slope.1) (Segment (upper.0) (lower.0) (cost.0) (slope.0)))))) line e in
@@ -107,7 +94,7 @@ segment_takes fields line e =
     let lower_is = number_field_takes (upper.0.1) (lower.0) (lower.1) in
     let cost_is = number_field_takes (lower.0.1) (cost.0) (cost.1) in
     let slope_is = number_field_takes (cost.0.1) (slope.0) (slope.1) in
-    subst (λ l. IsSpelled (codes "SEGMENT") fields l) (end.1) (record {
+    subst (λ l. IsLine (codes "SEGMENT") fields l) (end.1) (record {
       text = ap (λ x. codes "SEGMENT" ++ x) (
           upper_is.text ∙ ap (λ x. spaced (decimal (upper.0.0)) x) (
           lower_is.text ∙ ap (λ x. spaced (decimal (lower.0.0)) x) (
@@ -128,7 +115,7 @@ segment_again upper lower cost slope h =
 
 -- ---- an event
 
-event_takes : (fields : List ℕ) (line : CertLine) → event_of fields ≡ Some line → IsSpelled (codes "EVENT") fields line
+event_takes : (fields : List ℕ) (line : CertLine) → event_of fields ≡ Some line → IsLine (codes "EVENT") fields line
 unfolding event_of
 event_takes fields line e =
     let code = bind_some (code_field fields) (λ code. number_field (code.1) >>= (λ time. bit_field (time.1) >>= (λ moves. alone (moves.1) (Event (code.0) (time.0) (moves.0))))) line e in
@@ -138,7 +125,7 @@ event_takes fields line e =
     let code_is = code_field_takes fields (code.0) (code.1) in
     let time_is = number_field_takes (code.0.1) (time.0) (time.1) in
     let moves_is = bit_field_takes (time.0.1) (moves.0) (moves.1) in
-    subst (λ l. IsSpelled (codes "EVENT") fields l) (end.1) (record {
+    subst (λ l. IsLine (codes "EVENT") fields l) (end.1) (record {
       text = ap (λ x. codes "EVENT" ++ x) (
           code_is.text ∙ ap (λ x. spaced (code.0.0) x) (
           time_is.text ∙ ap (λ x. spaced (decimal (time.0.0)) x) (
@@ -156,9 +143,6 @@ event_again code time moves h =
     ) refl
 
 -- ---- an activity
-
-none_is_some : (line : CertLine) → None ≡ Some line → ⊥
-none_is_some line e = absurd cc
 
 line_same : (line found : CertLine) → Some line ≡ Some found → line ≡ found
 line_same line found e = cc
@@ -205,7 +189,7 @@ flows_again : (flows : List ℕ) → AreSmall flows → length flows ≤ MAX_FLO
 unfolding flows_of
 flows_again flows small few = numbers_again MAX_FLOWS flows small few
 
-act_takes : (fields : List ℕ) (line : CertLine) → act_of fields ≡ Some line → IsSpelled (codes "ACT") fields line
+act_takes : (fields : List ℕ) (line : CertLine) → act_of fields ≡ Some line → IsLine (codes "ACT") fields line
 unfolding act_of
 act_takes fields line e =
     let made = λ (code : List ℕ) (duration : ℕ) (flows : List ℕ). cond (ltb (length flows) 2) None (Some (Act code duration flows)) in
@@ -217,7 +201,7 @@ act_takes fields line e =
     let code_is = code_field_takes fields (code.0) (code.1) in
     let duration_is = number_field_takes (code.0.1) (duration.0) (duration.1) in
     let flows_are = flows_take (duration.0.1) (flows.0) (flows.1) in
-    subst (λ l. IsSpelled (codes "ACT") fields l) same (record {
+    subst (λ l. IsLine (codes "ACT") fields l) same (record {
       text = ap (λ x. codes "ACT" ++ x) (
           code_is.text ∙ ap (λ x. spaced (code.0.0) x) (
           duration_is.text ∙ ap (λ x. spaced (decimal (duration.0.0)) x) (flows_are.text)));
@@ -235,37 +219,20 @@ act_again code duration flows h =
 
 -- ---- the whole line
 
-by_test : (word name fields : List ℕ) (found other : Option CertLine) (line : CertLine) (test : Bool) → bytes_eq word name ≡ test
-    → (found ≡ Some line → IsSpelled name fields line) → (other ≡ Some line → IsSpelled word fields line)
-    → cond test found other ≡ Some line → IsSpelled word fields line
-by_test word name fields found other line true is here later e =
-    subst (λ w. IsSpelled w fields line) (sym ((bytes_eq-Decides word name).0 is)) (here e)
-by_test word name fields found other line false is here later e = later e
-
--- the word is this name and the line comes of it, or it comes of the names that are tried later
-either : (word name fields : List ℕ) (found other : Option CertLine) (line : CertLine)
-    → (found ≡ Some line → IsSpelled name fields line) → (other ≡ Some line → IsSpelled word fields line)
-    → cond (bytes_eq word name) found other ≡ Some line → IsSpelled word fields line
-either word name fields found other line here later e = by_test word name fields found other line (bytes_eq word name) refl here later e
-
--- a line of one word
-one_word : (word fields : List ℕ) (known line : CertLine) → word ≡ spelling known → Fits known → alone fields known ≡ Some line → IsSpelled word fields line
-one_word word fields known line is fits e =
-    let end = alone_takes fields known line e in
-    subst (λ l. IsSpelled word fields l) (end.1) (record { text = ap (λ x. word ++ x) (end.0) ∙ append-nil word ∙ is; fits = fits })
-
-line_with_takes : (word fields : List ℕ) (line : CertLine) → line_with word fields ≡ Some line → IsSpelled word fields line
+line_with_takes : (word fields : List ℕ) (line : CertLine) → line_with word fields ≡ Some line → IsLine word fields line
 line_with_takes word fields line =
-    either word (codes "ACT") fields _ _ line (act_takes fields line)
-    (either word (codes "EVENT") fields _ _ line (event_takes fields line)
-    (either word (codes "SEGMENT") fields _ _ line (segment_takes fields line)
-    (either word (codes "CLOSE") fields _ _ line (one_word (codes "CLOSE") fields Close line refl tt)
-    (either word (codes "STEP") fields _ _ line (step_takes fields line)
-    (either word (codes "CERT") fields _ _ line (head_takes fields line)
-    (either word (codes "NORMAL") fields _ _ line (one_word (codes "NORMAL") fields Normal line refl tt)
-    (either word (codes "CRASH") fields _ _ line (one_word (codes "CRASH") fields Crash line refl tt)
-    (either word (codes "END") fields _ _ line (one_word (codes "END") fields End line refl tt)
-    (λ e. absurd (none_is_some line e))))))))))
+    let reads = λ (name : List ℕ). IsLine name fields line in
+    let by = one_word spelling Fits in
+    either reads word (codes "ACT") _ _ line (act_takes fields line)
+    (either reads word (codes "EVENT") _ _ line (event_takes fields line)
+    (either reads word (codes "SEGMENT") _ _ line (segment_takes fields line)
+    (either reads word (codes "CLOSE") _ _ line (by (codes "CLOSE") fields Close line refl tt)
+    (either reads word (codes "STEP") _ _ line (step_takes fields line)
+    (either reads word (codes "CERT") _ _ line (head_takes fields line)
+    (either reads word (codes "NORMAL") _ _ line (by (codes "NORMAL") fields Normal line refl tt)
+    (either reads word (codes "CRASH") _ _ line (by (codes "CRASH") fields Crash line refl tt)
+    (either reads word (codes "END") _ _ line (by (codes "END") fields End line refl tt)
+    (no_name reads word line)))))))))
 
 -- what is read is spelled so
 pub line_takes : (bytes : List ℕ) (line : CertLine) → line_of bytes ≡ Some line → (bytes ≡ spelling line) × Fits line

@@ -7,8 +7,10 @@ use Rattle.std.specs.List.{list_all}
 use Rattle.std.specs.Fmt.{decimal}
 use Rattle.pc_cert.specs.declared.line.CertLine.{CertLine}
 use Rattle.pc_cert.specs.declared.line.CertLine.TheVariants.{Head, Normal, Step, Crash, Segment, Event, Act, Close, End}
-use Rattle.pc_cert.specs.Lines.{Lacks, spaced, numbers, bit_text, spelling, IsSmall, IsCode, AreSmall, Fits}
-use Rattle.pc_cert.proofs.FieldLemmas.{lacks, code_lacks_end, decimal_lacks_end}
+use Rattle.pc_text.specs.Fields.{Lacks, spaced, IsCode}
+use Rattle.pc_cert.specs.Lines.{numbers, bit_text, spelling, IsSmall, AreSmall, Fits}
+use Rattle.pc_text.proofs.FieldLemmas.{lacks, code_lacks}
+use Rattle.pc_cert.proofs.FieldLemmas.{decimal_lacks}
 
 Lacks-append : (byte : ℕ) (xs ys : List ℕ) → Lacks byte xs → Lacks byte ys → Lacks byte (xs ++ ys)
 Lacks-append byte [] ys p q = q
@@ -36,10 +38,10 @@ behind {text = text} {rest = rest} p q = record {
 }
 
 number : (n : ℕ) → IsSmall n → IsShort 18 (decimal n)
-number n h = record { open_text = decimal_lacks_end n h; within = length-decimal-le 18 n (omega arith) h (omega arith) }
+number n h = record { open_text = decimal_lacks 10 refl n h; within = length-decimal-le 18 n (omega arith) h (omega arith) }
 
 code : (text : List ℕ) → IsCode text → IsShort 16 text
-code text h = record { open_text = code_lacks_end text h; within = grind (arith, nat_tests) }
+code text h = record { open_text = code_lacks 10 refl text h; within = grind (arith, nat_tests) }
 
 bit : (b : Bool) → IsShort 1 (bit_text b)
 bit true = word (codes "1") 1 refl (omega arith)

@@ -4,12 +4,12 @@ use Rattle.std.proofs.lemmas.Bool.Decides.{eqb_tells}
 use Rattle.std.proofs.lemmas.List.{take-append-drop, length-take, take_all}
 use Rattle.pc_cert.specs.declared.line.CertLine.{CertLine}
 use Rattle.pc_cert.specs.declared.place.Place.{Place}
-use Rattle.pc_cert.specs.Fields.{◌>>=◌, run_len}
-use Rattle.pc_cert.specs.Lines.{Lacks, spelling, Fits}
+use Rattle.pc_text.specs.Fields.{◌>>=◌, run_len, Lacks}
+use Rattle.pc_cert.specs.Lines.{spelling, Fits}
 use Rattle.pc_cert.specs.Reading.{line_of}
 use Rattle.pc_cert.specs.Grammar.{next}
 use Rattle.pc_cert.specs.Text.{text_of}
-use Rattle.pc_cert.proofs.FieldLemmas.{bind_some}
+use Rattle.pc_text.proofs.FieldLemmas.{bind_some}
 use Rattle.pc_cert.proofs.LineLaws.{line_takes, line_again}
 use Rattle.pc_cert.proofs.TextLaws.{text_of-append, LeadTo-more}
 use Rattle.pc_cert.specs.Reader.{arrived, IsGoing, IsNotAllowed, IsStopped, Stands, StandsFor, Reading, HasPassed, place_behind}

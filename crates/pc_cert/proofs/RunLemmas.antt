@@ -2,7 +2,7 @@
 use Rattle.std.proofs.Common.{◌≡◌, ◌≢◌, ℕ, ◌<◌, zero, suc, List, [], ◌∷◌, length, get_or, Some, None, refl, ap, arith}
 use Rattle.std.proofs.lemmas.Bool.{eqb-true, eq-eqb, ne_eqb}
 use Rattle.memchr.specs.Find.{IsFirstByte, is_byte}
-use Rattle.pc_cert.specs.Fields.{run_len}
+use Rattle.pc_text.specs.Fields.{run_len}
 
 -- a `stop` before which there is none
 run_len-first : (stop k : ℕ) (bytes : List ℕ) → k < length bytes → get_or bytes k 0 ≡ stop → ((i : ℕ) → i < k → get_or bytes i 0 ≢ stop) → k ≡ run_len stop bytes

@@ -3,8 +3,8 @@ use Rattle.std.proofs.Common.{◌≡◌, ℕ, List, [], ◌∷◌, ◌++◌, Opt
 use Rattle.pc_cert.specs.declared.line.CertLine.{CertLine}
 use Rattle.pc_cert.specs.declared.place.Place.{Place}
 use Rattle.pc_cert.specs.declared.place.Place.TheVariants.{Start}
-use Rattle.pc_cert.specs.Fields.{◌>>=◌}
-use Rattle.pc_cert.specs.Lines.{Lacks, spelling, Fits}
+use Rattle.pc_text.specs.Fields.{◌>>=◌, Lacks}
+use Rattle.pc_cert.specs.Lines.{spelling, Fits}
 use Rattle.pc_cert.specs.Reading.{line_of}
 use Rattle.pc_cert.specs.Grammar.{next}
 use Rattle.pc_cert.specs.Text.{text_of, AllFit, ran, LeadTo}

@@ -3,8 +3,7 @@ use Rattle.std.specs.Prelude.{◌≡◌, ℕ, ◌+◌, ◌<◌, ◌≤◌, List,
 use Rattle.pc_cert.specs.declared.line.CertLine.{CertLine}
 use Rattle.pc_cert.specs.declared.line_text.LineText.{LineText}
 use Rattle.pc_cert.specs.declared.event_front.EventFront.{EventFront}
-use Rattle.pc_cert.specs.Fields.{run_len}
-use Rattle.pc_cert.specs.Lines.{Lacks}
+use Rattle.pc_text.specs.Fields.{run_len, Lacks}
 use Rattle.pc_cert.specs.Reading.{line_of}
 
 -- the line that was read last, if the bytes spelled one

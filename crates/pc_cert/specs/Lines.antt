@@ -1,14 +1,10 @@
 -- The lines of a certificate, and how each is spelled.
-use Rattle.std.specs.Prelude.{◌≡◌, ◌≢◌, ℕ, ◌^◌, ◌<◌, ◌≤◌, Bool, true, List, [], ◌∷◌, ◌++◌, length, decimal, codes, if◌then◌else◌}
-use Rattle.pc_text.specs.Code.{is_code}
+use Rattle.std.specs.Prelude.{◌≡◌, ℕ, ◌^◌, ◌<◌, ◌≤◌, Bool, List, [], ◌∷◌, ◌++◌, length, decimal, codes, if◌then◌else◌}
+use Rattle.pc_text.specs.Fields.{spaced, IsCode}
 use Rattle.pc_cert.specs.declared.line.CertLine.{CertLine}
 use Rattle.pc_cert.specs.declared.line.CertLine.TheVariants.{Head, Normal, Step, Crash, Segment, Event, Act, Close, End}
 use Rattle.pc_cert.specs.declared.number.TheConstants.{MAX_DIGITS}
 use Rattle.pc_cert.specs.declared.flows.TheConstants.{MAX_FLOWS}
-
--- a space, the word, and what follows
-abbrev pub spaced : List ℕ → List ℕ → List ℕ
-spaced word rest = 32 ∷ (word ++ rest)
 
 -- each of the numbers behind a space
 abbrev pub numbers : List ℕ → List ℕ
@@ -33,18 +29,9 @@ spelling (Act code duration flows) = codes "ACT" ++ spaced code (spaced (decimal
 spelling Close = codes "CLOSE"
 spelling End = codes "END"
 
--- the byte does not stand in the text
-abbrev pub Lacks : ℕ → List ℕ → Type 0
-Lacks byte [] = Unit {0}
-Lacks byte (b ∷ bs) = (b ≢ byte) × Lacks byte bs
-
 -- a number of at most 18 digits
 abbrev pub IsSmall : ℕ → Type 0
 IsSmall n = n < 10 ^ MAX_DIGITS
-
--- a code
-abbrev pub IsCode : List ℕ → Type 0
-IsCode code = is_code code ≡ true
 
 -- version 1 or 2
 abbrev pub IsVersion : ℕ → Type 0

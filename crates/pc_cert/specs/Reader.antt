@@ -4,8 +4,8 @@ use Rattle.pc_cert.specs.declared.line.CertLine.{CertLine}
 use Rattle.pc_cert.specs.declared.line.TheConstants.{MAX_LINE}
 use Rattle.pc_cert.specs.declared.place.Place.{Place}
 use Rattle.pc_cert.specs.declared.place.Place.TheVariants.{Ended}
-use Rattle.pc_cert.specs.Fields.{◌>>=◌}
-use Rattle.pc_cert.specs.Lines.{Lacks, spelling, Fits}
+use Rattle.pc_text.specs.Fields.{◌>>=◌, Lacks}
+use Rattle.pc_cert.specs.Lines.{spelling, Fits}
 use Rattle.pc_cert.specs.Reading.{line_of}
 use Rattle.pc_cert.specs.Grammar.{next}
 use Rattle.pc_cert.specs.Text.{text_of, LeadTo}

@@ -1,12 +1,9 @@
 -- The line that bytes spell, read word by word.
-use Rattle.std.specs.Prelude.{ℕ, zero, suc, ◌==◌, ◌||◌, nat_lt, List, [], ◌∷◌, length, take, drop, Option, Some, None, bytes_eq, codes, if◌then◌else◌}
-use Rattle.pc_cert.specs.Fields.{◌>>=◌, run_len, code_field, number_field, bit_field}
+use Rattle.std.specs.Prelude.{ℕ, zero, suc, ◌||◌, nat_lt, List, [], ◌∷◌, length, take, drop, Option, Some, None, bytes_eq, codes, if◌then◌else◌}
+use Rattle.pc_text.specs.Fields.{◌>>=◌, run_len, code_field, alone}
+use Rattle.pc_cert.specs.Fields.{number_field, bit_field}
 use Rattle.pc_cert.specs.declared.line.CertLine.{CertLine}
 use Rattle.pc_cert.specs.declared.line.CertLine.TheVariants.{Head, Normal, Step, Crash, Segment, Event, Act, Close, End}
-
--- the line, where nothing is left behind it
-abbrev pub alone : List ℕ → CertLine → Option CertLine
-alone rest line = if length rest == 0 then Some line else None
 
 unfoldable pub head_of : List ℕ → Option CertLine
 head_of fields = do

@@ -3,7 +3,7 @@ use Rattle.std.specs.Prelude.{◌≡◌, ℕ, List, [], ◌∷◌, ◌++◌, Opt
 use Rattle.pc_cert.specs.declared.line.CertLine.{CertLine}
 use Rattle.pc_cert.specs.declared.place.Place.{Place}
 use Rattle.pc_cert.specs.declared.place.Place.TheVariants.{Start}
-use Rattle.pc_cert.specs.Fields.{◌>>=◌}
+use Rattle.pc_text.specs.Fields.{◌>>=◌}
 use Rattle.pc_cert.specs.Lines.{spelling, Fits}
 use Rattle.pc_cert.specs.Grammar.{next}
 

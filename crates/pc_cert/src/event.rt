@@ -1,7 +1,8 @@
 //! The line of an event that comes again with another time or another bit.
 ghost use Rattle.std.specs.Prelude.{◌≡◌, ◌≤◌, ◌∷◌, IfSome, Some, length};
 ghost use Rattle.pc_cert.specs.declared.line.CertLine.TheVariants.{Event};
-ghost use Rattle.pc_cert.specs.Lines.{spaced, bit_text};
+ghost use Rattle.pc_text.specs.Fields.{spaced};
+ghost use Rattle.pc_cert.specs.Lines.{bit_text};
 ghost use Rattle.pc_cert.specs.Known.{IsAgain, IsEventFront};
 
 use crate::front::{WIDTH, begin_same, begins};

@@ -1,38 +1,13 @@
-//! The fields of a line: each is a space and the word behind it.
-ghost use Rattle.std.specs.Prelude.{◌≡◌, ◌≤◌, length};
+//! The fields of a line that are numbers or bits: each is a space and the word behind it.
+ghost use Rattle.std.specs.Prelude.{◌≡◌};
 ghost use Rattle.std.specs.Option.{option_map};
-ghost use Rattle.pc_cert.specs.Fields.{run_len, field, number_field, bit_field, bit_of};
+ghost use Rattle.pc_cert.specs.Fields.{number_field, bit_field, bit_of};
 
 use crate::number::numeral_of;
-
-/// How many bytes stand before the first `stop`.
-pub(crate) fn run_len(bytes: &[u8], stop: u8) -> usize
-    ensures value { result ≡ run_len stop bytes.now }
-    ensures within { result ≤ length bytes.now }
-{
-    for (i, byte) in bytes.iter().enumerate() {
-        if *byte == stop {
-            return i;
-        }
-    }
-    bytes.len()
-}
-
-/// The word behind the space at the front, and the bytes behind the word.
-#[tactic(auto, unfolding(crate::specs::Fields::field))]
-pub(crate) fn field(bytes: &[u8]) -> Option<(&[u8], &[u8])>
-    ensures { option_map (λ parts. (parts.0.now, parts.1.now)) result ≡ field bytes.now }
-{
-    let (first, rest) = bytes.split_first()?;
-    if *first != b' ' {
-        return None;
-    }
-    let end = run_len(rest, b' ');
-    Some((&rest[..end], &rest[end..]))
-}
+use pc_text::field;
 
 /// The number behind the space at the front, and the bytes behind it.
-#[tactic(auto, unfolding(crate::specs::Fields::number_field))]
+#[tactic(auto, unfolding(crate::specs::Fields::number_field, pc_text::specs::Fields::field_by))]
 pub(crate) fn number_field(bytes: &[u8]) -> Option<(u64, &[u8])>
     ensures { option_map (λ parts. (parts.0, parts.1.now)) result ≡ number_field bytes.now }
 {
@@ -42,7 +17,7 @@ pub(crate) fn number_field(bytes: &[u8]) -> Option<(u64, &[u8])>
 }
 
 /// The bit behind the space at the front, `0` or `1`, and the bytes behind it.
-#[tactic(auto, unfolding(crate::specs::Fields::bit_field))]
+#[tactic(auto, unfolding(crate::specs::Fields::bit_field, pc_text::specs::Fields::field_by))]
 pub(crate) fn bit_field(bytes: &[u8]) -> Option<(bool, &[u8])>
     ensures { option_map (λ parts. (parts.0, parts.1.now)) result ≡ bit_field bytes.now }
 {

@@ -1,6 +1,6 @@
 //! The end of a line.
 ghost use Rattle.std.specs.Prelude.{◌≡◌, ◌≤◌, length};
-ghost use Rattle.pc_cert.specs.Fields.{run_len};
+ghost use Rattle.pc_text.specs.Fields.{run_len};
 
 use memchr::memchr;
 

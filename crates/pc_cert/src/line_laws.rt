@@ -2,7 +2,8 @@
 ghost use Rattle.std.specs.Prelude.{◌≡◌, ◌<◌, List, length};
 ghost use Rattle.pc_cert.specs.declared.line.CertLine.{CertLine};
 ghost use Rattle.pc_cert.specs.declared.line.TheConstants.{MAX_LINE};
-ghost use Rattle.pc_cert.specs.Lines.{Lacks, spelling, Fits};
+ghost use Rattle.pc_text.specs.Fields.{Lacks};
+ghost use Rattle.pc_cert.specs.Lines.{spelling, Fits};
 ghost use Rattle.pc_cert.specs.Text.{text_of, AllFit};
 
 /// A line has one spelling, which is that of no other line, has no end of a line in it, and is short.

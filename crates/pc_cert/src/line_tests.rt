@@ -7,9 +7,9 @@ fn numbers(line: &CertLine) -> [u64; 6] {
     match line {
         CertLine::Head {
             version,
-            project: _,
             events,
             activities,
+            ..
         } => [*version, *events, *activities, 0, 0, 0],
         CertLine::Segment {
             upper,
@@ -17,15 +17,11 @@ fn numbers(line: &CertLine) -> [u64; 6] {
             cost,
             slope,
         } => [*upper, *lower, *cost, *slope, 0, 0],
-        CertLine::Event {
-            code: _,
-            time,
-            moves,
-        } => [*time, *moves as u64, 0, 0, 0, 0],
+        CertLine::Event { time, moves, .. } => [*time, *moves as u64, 0, 0, 0, 0],
         CertLine::Act {
-            code: _,
             duration,
             flows,
+            ..
         } => match flows.as_slice() {
             [first, second] => [*duration, *first, *second, 0, 0, 0],
             [first, second, third] => [*duration, *first, *second, *third, 0, 0],

@@ -86,28 +86,7 @@ impl CertReader {
         ensures count { IfOk result (λ fed. self.new.lines ≤ self.old.lines + 1) }
     {
         let mut known = KnownLine::new();
-        self.feed_again(piece, &mut known)
-    }
-
-    /// As `feed`, where the line may be one that is known: it is read through `known`.
-    pub fn feed_again(&mut self, piece: &[u8], known: &mut KnownLine) -> Result<Fed, Malformed>
-        requires { IfNone self.old.malformed (self.old.lines < 2 ^ 63) }
-        // a reader that stood for these lines of this text stands for them with what was given and used
-        ensures stands { (lines : List CertLine) (text : List ℕ) → StandsFor self.old lines text
-            → StandsFor self.new (lines ++ given result) (text ++ used result piece.now) }
-        ensures within { IfOk result (λ fed. fed.used ≤ length piece.now) }
-        ensures no_line { IfOk result (λ fed. IsNone fed.line → fed.used ≡ length piece.now) }
-        ensures held { IfOk result (λ fed. IsNone fed.line → self.new.held ≡ self.old.held ++ piece.now) }
-        ensures one_line { IfOk result (λ fed. IsSome fed.line → (0 < fed.used) × (self.new.held ≡ [])) }
-
-        // a line that is malformed is kept, and answered again
-        ensures kept { MatchResult result (λ _. self.new.malformed ≡ None) (λ malformed. self.new.malformed ≡ Some malformed) }
-        ensures again { (malformed : Malformed) → self.old.malformed ≡ Some malformed
-            → (result ≡ Err malformed) × (self.new ≡ self.old) }
-        ensures short { length self.new.held < MAX_LINE }
-        ensures count { IfOk result (λ fed. self.new.lines ≤ self.old.lines + 1) }
-    {
-        match self.feed_known(piece, known) {
+        match self.feed_known(piece, &mut known) {
             Ok(used) => Ok(Fed {
                 used,
                 line: known.line().copied(),
@@ -116,7 +95,7 @@ impl CertReader {
         }
     }
 
-    /// As `feed_again`, where the line is not given but left in `known`: it has the line that ended, or none where no line ended.
+    /// As `feed`, where the line may be one that is known, and is not given but left in `known`: it has the line that ended, or none where no line ended.
     ///
     /// A line that comes again is not copied, and its end is not searched for.
     pub fn feed_known(&mut self, piece: &[u8], known: &mut KnownLine) -> Result<usize, Malformed>

@@ -1,11 +1,12 @@
 //! Reading a line: its first word says which it is, and its fields are read one after the other.
 ghost use Rattle.std.specs.Prelude.{◌≡◌};
-ghost use Rattle.pc_cert.specs.Reading.{line_of, line_with, head_of, step_of, segment_of, event_of, alone};
+ghost use Rattle.pc_text.specs.Fields.{alone};
+ghost use Rattle.pc_cert.specs.Reading.{line_of, line_with, head_of, step_of, segment_of, event_of};
 
 use crate::act::act_of;
-use crate::field::{bit_field, field, number_field, run_len};
+use crate::field::{bit_field, number_field};
 use crate::line::CertLine;
-use pc_text::Code;
+use pc_text::{Code, field, run_len};
 
 /// The line that the bytes spell.
 #[tactic(auto, unfolding(crate::specs::Reading::line_of))]
@@ -50,7 +51,7 @@ fn alone(rest: &[u8], line: CertLine) -> Option<CertLine>
     if rest.is_empty() { Some(line) } else { None }
 }
 
-#[tactic(auto, unfolding(crate::specs::Reading::head_of, crate::specs::Fields::code_field))]
+#[tactic(auto, unfolding(crate::specs::Reading::head_of, pc_text::specs::Fields::field_by))]
 fn head_of(fields: &[u8]) -> Option<CertLine>
     ensures { result ≡ head_of fields.now }
 {
@@ -73,7 +74,7 @@ fn head_of(fields: &[u8]) -> Option<CertLine>
     )
 }
 
-#[tactic(auto, unfolding(crate::specs::Reading::step_of, crate::specs::Fields::code_field))]
+#[tactic(auto, unfolding(crate::specs::Reading::step_of, pc_text::specs::Fields::field_by))]
 fn step_of(fields: &[u8]) -> Option<CertLine>
     ensures { result ≡ step_of fields.now }
 {
@@ -101,7 +102,7 @@ fn segment_of(fields: &[u8]) -> Option<CertLine>
     )
 }
 
-#[tactic(auto, unfolding(crate::specs::Reading::event_of, crate::specs::Fields::code_field))]
+#[tactic(auto, unfolding(crate::specs::Reading::event_of, pc_text::specs::Fields::field_by))]
 fn event_of(fields: &[u8]) -> Option<CertLine>
     ensures { result ≡ event_of fields.now }
 {

@@ -3,11 +3,11 @@ use Rattle.std.proofs.Common.{◌≡◌, ℕ, ◌≤◌, List, [], ◌∷◌, �
 use Rattle.pc_cert.specs.declared.line.CertLine.{CertLine}
 use Rattle.pc_cert.specs.declared.place.Place.{Place}
 use Rattle.pc_cert.specs.declared.place.Place.TheVariants.{Start, Ended}
-use Rattle.pc_cert.specs.Fields.{◌>>=◌}
+use Rattle.pc_text.specs.Fields.{◌>>=◌, Lacks}
 use Rattle.pc_cert.specs.Grammar.{next}
-use Rattle.pc_cert.specs.Lines.{Lacks, spelling, Fits}
+use Rattle.pc_cert.specs.Lines.{spelling, Fits}
 use Rattle.pc_cert.specs.Text.{text_of, AllFit, ran}
-use Rattle.pc_cert.proofs.FieldLemmas.{bind_some}
+use Rattle.pc_text.proofs.FieldLemmas.{bind_some}
 use Rattle.pc_cert.proofs.LineLengths.{spelling_lacks_end, length-spelling}
 use Rattle.pc_cert.proofs.TextLaws.{spelling_once, split_once, ran-append, text_once}
 use Rattle.pc_cert.specs.Reader.{IsBadLine, IsTooLong}

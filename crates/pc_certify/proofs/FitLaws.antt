@@ -9,7 +9,8 @@ use Rattle.pc_curve_laws.specs.Segment.{Segment as Stretch}
 use Rattle.pc_crash.specs.Priced.{PricedNetwork, knees_in}
 use Rattle.pc_cert.specs.declared.line.CertLine.{CertLine}
 use Rattle.pc_cert.specs.declared.line.CertLine.TheVariants.{Close}
-use Rattle.pc_cert.specs.Lines.{IsVersion, IsCode, IsSmall, AreSmall, Fits}
+use Rattle.pc_text.specs.Fields.{IsCode}
+use Rattle.pc_cert.specs.Lines.{IsVersion, IsSmall, AreSmall, Fits}
 use Rattle.pc_cert.specs.Text.{AllFit}
 use Rattle.pc_cert.proofs.TextLaws.{AllFit-append}
 use Rattle.pc_certify.specs.Listed.{listed}

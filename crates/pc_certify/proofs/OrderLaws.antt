@@ -12,7 +12,7 @@ use Rattle.pc_cert.specs.declared.line.CertLine.TheVariants.{Normal, Step, Crash
 use Rattle.pc_cert.specs.declared.place.Shape.{Shape}
 use Rattle.pc_cert.specs.declared.place.Place.{Place}
 use Rattle.pc_cert.specs.declared.place.Place.TheVariants.{Start, AfterHead, NormalWalk, CrashWalk, InSegment, Between, Ended}
-use Rattle.pc_cert.specs.Fields.{◌>>=◌}
+use Rattle.pc_text.specs.Fields.{◌>>=◌}
 use Rattle.pc_cert.specs.Grammar.{next, opened, takes_flows}
 use Rattle.pc_cert.specs.Text.{ran}
 use Rattle.pc_cert.proofs.TextLaws.{ran-append}

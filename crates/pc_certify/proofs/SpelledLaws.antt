@@ -6,7 +6,8 @@ use Rattle.std.proofs.lemmas.List.{get_or_append_left, get_or_push, get_or-set_s
 use Rattle.pc_model.specs.Codes.{code_at}
 use Rattle.pc_crash.specs.Priced.{PricedNetwork}
 use Rattle.pc_cert.specs.declared.line.CertLine.TheVariants.{Event}
-use Rattle.pc_cert.specs.Lines.{bit_text, spaced}
+use Rattle.pc_text.specs.Fields.{spaced}
+use Rattle.pc_cert.specs.Lines.{bit_text}
 use Rattle.pc_cert.specs.Text.{text_of}
 use Rattle.pc_cert.proofs.EventLaws.{front_of}
 use Rattle.pc_certify.specs.Spelled.{SpellsEvent, SpellsAct, AreEventsSpelled, AreActsSpelled}

@@ -4,7 +4,7 @@ use Rattle.std.proofs.lemmas.Bool.{eq-eqb, cond-true}
 use Rattle.std.specs.Prelude.{map, slice_index, ◌==◌}
 use Rattle.pc_model.specs.Codes.{code_at}
 use Rattle.pc_model.specs.Walk.{from_of, to_of, IsWalk, walk_sum}
-use Rattle.pc_cert.specs.Fields.{◌>>=◌}
+use Rattle.pc_text.specs.Fields.{◌>>=◌}
 use Rattle.pc_cert.specs.declared.line.CertLine.TheVariants.{Step}
 use Rattle.pc_crash.specs.Priced.{PricedNetwork, AreNames}
 use Rattle.pc_check.specs.declared.walk.Reached.{Reached}

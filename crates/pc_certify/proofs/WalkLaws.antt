@@ -1,28 +1,30 @@
 -- The durations along which the walks of a certificate are longest.
-use Rattle.std.proofs.Common.{◌≡◌, ℕ, suc, ◌+◌, ◌<◌, ◌≤◌, List, [], ◌∷◌, ◌++◌, length, take, slice_index, sym, ap, ◌∙◌, arith}
+use Rattle.std.proofs.Common.{◌≡◌, ℕ, suc, ◌+◌, ◌<◌, ◌≤◌, List, [], ◌∷◌, ◌++◌, length, take, map, get_or, sym, ap, ◌∙◌, arith}
 use Rattle.std.proofs.Math.Seq.{take-suc}
-use Rattle.std.proofs.lemmas.List.{length-map, take_all}
+use Rattle.std.proofs.lemmas.List.{get_or-map, length-map, take_all}
 use Rattle.pc_model.specs.declared.Term.{Term}
 use Rattle.pc_model.specs.Network.{Network}
-use Rattle.pc_model.specs.Schedule.{normals, crashes, AreTerms}
+use Rattle.pc_model.specs.Schedule.{normals, crashes, term_at, AreTerms}
 use Rattle.pc_model.proofs.Schedules.Durations.{normals-at, crashes-at}
 use Rattle.pc_times.specs.Times.{AreLengths}
 use Rattle.pc_crash.specs.Terms.{AreWithinLimits}
 
--- one more of the numbers of a list
-pub take-more : (xs : List ℕ) (a x : ℕ) (items later : List ℕ) → items ≡ take a xs → later ≡ items ++ x ∷ [] → a < length xs → slice_index xs a ≡ x → later ≡ take (a + 1) xs
-take-more xs a x items later was pushed within is =
+-- one more of the numbers of the terms, each of which has one
+pub number-more : (number : Term → ℕ) (terms : List Term) (a x : ℕ) (items later : List ℕ) → items ≡ take a (map number terms) → later ≡ items ++ x ∷ [] → a < length terms → x ≡ number (term_at terms a) → later ≡ take (a + 1) (map number terms)
+number-more number terms a x items later was pushed within is =
     let next : suc a ≡ a + 1 = omega arith in
-    pushed ∙ ap (λ (l : List ℕ). l ++ x ∷ []) was ∙ ap (λ (n : ℕ). take a xs ++ n ∷ []) (sym is) ∙ sym (take-suc xs a 0 within) ∙ ap (λ n. take n xs) next
+    let inside : a < length (map number terms) = omega (arith, within, length-map terms number) in
+    let here : x ≡ get_or (map number terms) a 0 = is ∙ sym (get_or-map number terms a _ 0 within) in
+    pushed ∙ ap (λ (l : List ℕ). l ++ x ∷ []) was ∙ ap (λ (n : ℕ). take a (map number terms) ++ n ∷ []) here ∙ sym (take-suc (map number terms) a 0 inside) ∙ ap (λ n. take n (map number terms)) next
 
 -- all of them
-pub take-whole : (xs items : List ℕ) (a : ℕ) → items ≡ take a xs → length xs ≤ a → items ≡ xs
-take-whole xs items a is all = is ∙ take_all a xs all
+pub number-whole : (number : Term → ℕ) (terms : List Term) (items : List ℕ) (a : ℕ) → items ≡ take a (map number terms) → length terms ≤ a → items ≡ map number terms
+number-whole number terms items a is all = is ∙ take_all a (map number terms) (omega (arith, all, length-map terms number))
 
-pub normals-each : (net : Network) (terms : List Term) → AreTerms net terms → length (normals terms) ≡ length net.arcs
+normals-each : (net : Network) (terms : List Term) → AreTerms net terms → length (normals terms) ≡ length net.arcs
 normals-each net terms are = length-map terms (λ (t : Term). t.normal) ∙ are.one_each
 
-pub crashes-each : (net : Network) (terms : List Term) → AreTerms net terms → length (crashes terms) ≡ length net.arcs
+crashes-each : (net : Network) (terms : List Term) → AreTerms net terms → length (crashes terms) ≡ length net.arcs
 crashes-each net terms are = length-map terms (λ (t : Term). t.crash) ∙ are.one_each
 
 -- none is above the greatest length

@@ -1,7 +1,7 @@
 //! The lines of a segment.
 ghost use Rattle.std.specs.Prelude.{◌≡◌, ℕ, ◌<◌, [], ◌∷◌, length};
 ghost use Rattle.pc_page.specs.Puts.{Puts, desk};
-ghost use Rattle.pc_cert.specs.Lines.{IsCode};
+ghost use Rattle.pc_text.specs.Fields.{IsCode};
 ghost use Rattle.pc_cert.specs.Text.{text_of, AllFit};
 ghost use Rattle.pc_model.specs.Codes.{code_at};
 ghost use Rattle.pc_certify.specs.Listed.{listed};

@@ -2,7 +2,8 @@
 ghost use Rattle.std.specs.Prelude.{◌≡◌, ◌+◌, ◌≤◌, [], ◌∷◌, ◌++◌, true, decimal, length, take};
 ghost use Rattle.pc_certify.specs.Gathers.{IsPlaced};
 ghost use Rattle.pc_text.specs.Code.{is_code};
-ghost use Rattle.pc_cert.specs.Lines.{spaced, bit_text};
+ghost use Rattle.pc_text.specs.Fields.{spaced};
+ghost use Rattle.pc_cert.specs.Lines.{bit_text};
 
 use pc_text::{Code, digits};
 use std::marker::Model;

@@ -2,7 +2,7 @@
 ghost use Rattle.std.specs.Prelude.{◌≡◌, [], decimal, true};
 ghost use Rattle.pc_text.specs.Code.{is_code};
 ghost use Rattle.pc_page.specs.Puts.{Puts};
-ghost use Rattle.pc_cert.specs.Lines.{spaced};
+ghost use Rattle.pc_text.specs.Fields.{spaced};
 
 use pc_edges::Sink;
 use pc_page::Page;

@@ -5,10 +5,10 @@ use Rattle.std.specs.Prelude.{IfNone}
 use Rattle.pc_cert.specs.declared.line.CertLine.{CertLine}
 use Rattle.pc_cert.specs.declared.place.Place.{Place}
 use Rattle.pc_cert.specs.declared.place.Place.TheVariants.{Start}
-use Rattle.pc_cert.specs.Fields.{◌>>=◌}
+use Rattle.pc_text.specs.Fields.{◌>>=◌}
 use Rattle.pc_cert.specs.Grammar.{next}
 use Rattle.pc_cert.specs.Text.{text_of, ran}
-use Rattle.pc_cert.proofs.FieldLemmas.{bind_some}
+use Rattle.pc_text.proofs.FieldLemmas.{bind_some}
 use Rattle.pc_cert.proofs.TextLaws.{ran-append}
 use Rattle.pc_cert.specs.Reader.{Reading, IsStopped, Stands as ReadStands, StandsFor as ReadsAs, IsGoing as IsReading}
 use Rattle.pc_cert.specs.declared.reader.Malformed.{Malformed}

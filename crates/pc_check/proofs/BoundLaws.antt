@@ -129,6 +129,21 @@ moved n m kept to count (InSegment shape events activities) h = (h.0, record { l
 moved n m kept to count (Between shape) h = (h.0, record { low = h.1.low; events_come = h.1.events_come; acts_come = h.1.acts_come; events_first = h.1.events_first }, h.2)
 moved n m kept to count Ended h = h
 
+-- a walk has gone one step on, before any segment: its sum is at most one duration more, and that of the other walk is not more
+record HasStepped (is_crash : Bool) (old new : Kept) : Type 0 where
+  normal : new.has_normal ≡ is_crash
+  none : new.parts ≡ 0
+  short_normal : sum_of new.normal ≤ sum_of old.normal + cond is_crash 0 MAX_DURATION
+  short_crash : sum_of new.crash ≤ sum_of old.crash + cond is_crash MAX_DURATION 0
+
+has_stepped : (is_crash : Bool) (net : PricedNetwork) (code : List ℕ) (old new : Kept) → Adds net (Step code) old new → old.has_normal ≡ is_crash → old.parts ≡ 0 → HasStepped is_crash old new
+has_stepped is_crash net code old new added is none = record {
+  normal = ap (λ k. k.has_normal) added.rest ∙ is;
+  none = ap (λ k. k.parts) added.rest ∙ none;
+  short_normal = subst (λ b. sum_of new.normal ≤ sum_of old.normal + cond b 0 MAX_DURATION) is added.short_normal;
+  short_crash = subst (λ b. sum_of new.crash ≤ sum_of old.crash + cond b MAX_DURATION 0) is added.short_crash;
+}
+
 -- what is kept at each place fits the place behind the line
 at_place : (net : PricedNetwork) (place : Place) (line : CertLine) (behind : Place) (old new : Kept)
     → IsAtPlace net.network.events (length net.network.arcs) place old → next place line ≡ Some behind
@@ -142,37 +157,17 @@ at_place net (AfterHead shape) Normal behind old new h goes passes added =
 at_place net (NormalWalk shape steps) (Step code) behind old new h goes passes added =
     let step = cond_some _ _ _ goes in
     let some : 0 < steps = ltb-true _ _ (step.0) in
-    let is_normal = h.1.normal in
-    let short : sum_of new.normal ≤ sum_of old.normal + MAX_DURATION = subst (λ b. sum_of new.normal ≤ sum_of old.normal + cond b 0 MAX_DURATION) is_normal added.short_normal in
-    let still : sum_of new.crash ≤ sum_of old.crash + 0 = subst (λ b. sum_of new.crash ≤ sum_of old.crash + cond b MAX_DURATION 0) is_normal added.short_crash in
-    let rest = added.rest in
-    subst (λ p. IsAtPlace net.network.events (length net.network.arcs) p new) (step.1) (
-      h.0,
-      record {
-        normal = ap (λ k. k.has_normal) rest ∙ is_normal;
-        none = ap (λ k. k.parts) rest ∙ h.1.none;
-        short = omega (arith, short, h.1.short);
-        nothing = omega (arith, still, h.1.nothing);
-      },
-    )
+    let is = has_stepped false net code old new added h.1.normal h.1.none in
+    subst (λ p. IsAtPlace net.network.events (length net.network.arcs) p new) (step.1)
+    (h.0, record { normal = is.normal; none = is.none; short = omega (arith, is.short_normal, h.1.short); nothing = omega (arith, is.short_crash, h.1.nothing) })
 at_place net (NormalWalk shape steps) Crash behind old new h goes passes added =
     carry net.network.events (length net.network.arcs) (h.0, record { normal = refl; none = h.1.none; whole = omega (arith, h.1.short); short = omega (arith, h.1.nothing, h.0.events) }) goes added
 at_place net (CrashWalk shape steps) (Step code) behind old new h goes passes added =
     let step = cond_some _ _ _ goes in
     let some : 0 < steps = ltb-true _ _ (step.0) in
-    let is_normal = h.1.normal in
-    let still : sum_of new.normal ≤ sum_of old.normal + 0 = subst (λ b. sum_of new.normal ≤ sum_of old.normal + cond b 0 MAX_DURATION) is_normal added.short_normal in
-    let short : sum_of new.crash ≤ sum_of old.crash + MAX_DURATION = subst (λ b. sum_of new.crash ≤ sum_of old.crash + cond b MAX_DURATION 0) is_normal added.short_crash in
-    let rest = added.rest in
-    subst (λ p. IsAtPlace net.network.events (length net.network.arcs) p new) (step.1) (
-      h.0,
-      record {
-        normal = ap (λ k. k.has_normal) rest ∙ is_normal;
-        none = ap (λ k. k.parts) rest ∙ h.1.none;
-        whole = omega (arith, still, h.1.whole);
-        short = omega (arith, short, h.1.short);
-      },
-    )
+    let is = has_stepped true net code old new added h.1.normal h.1.none in
+    subst (λ p. IsAtPlace net.network.events (length net.network.arcs) p new) (step.1)
+    (h.0, record { normal = is.normal; none = is.none; whole = omega (arith, is.short_normal, h.1.whole); short = omega (arith, is.short_crash, h.1.short) })
 at_place net (CrashWalk shape steps) (Segment upper lower cost slope) behind old new h goes passes added =
     let ends = first_passes net (known_by old) upper lower cost slope h.1.none passes in
     carry net.network.events (length net.network.arcs) (h.0, begun_part net shape upper lower cost slope new (h.0) (omega (arith, ends.0, ends.1, h.1.whole)) (added.1)) goes refl

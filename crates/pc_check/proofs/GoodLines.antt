@@ -15,7 +15,7 @@ use Rattle.pc_curve_laws.proofs.Segments.Covering.{front_begins, front_grows, be
 use Rattle.pc_crash.specs.Priced.{PricedNetwork, knees_in}
 use Rattle.pc_cert.specs.Grammar.{next}
 use Rattle.pc_cert.specs.Text.{ran}
-use Rattle.pc_cert.proofs.FieldLemmas.{bind_some}
+use Rattle.pc_text.proofs.FieldLemmas.{bind_some}
 use Rattle.pc_cert.specs.declared.line.CertLine.{CertLine}
 use Rattle.pc_cert.specs.declared.line.CertLine.TheVariants.{Head, Normal, Step, Crash, Segment as SegmentLine, Event, Act, Close, End}
 use Rattle.pc_cert.specs.declared.place.Shape.{Shape}
@@ -31,7 +31,8 @@ use Rattle.pc_check.proofs.BelowLaws.{and_parts}
 use Rattle.pc_check.proofs.ReasonLaws.{holds_first}
 use Rattle.pc_check.proofs.BoundLaws.{head_passes, first_walk, first_ends, later_ends}
 use Rattle.pc_check.proofs.WalkLaws.{normal_walk, crash_walk}
-use Rattle.pc_check.proofs.GoodRows.{outline, IsRightEvent, IsRightAct, right_event, right_act}
+use Rattle.pc_check.specs.Segments.{outline}
+use Rattle.pc_check.proofs.GoodRows.{IsRightEvent, IsRightAct, right_event, right_act}
 use Rattle.pc_check.proofs.GoodSegments.{HasOrderedEnds, HasRightRows, IsWhole, whole_segment}
 
 -- the segments before the present one: there are none, and the normal walk has its upper end as its sum, or they come down

@@ -8,27 +8,13 @@ use Rattle.pc_curve_laws.specs.Tight.{IsSlackAtKnee, IsSlack}
 use Rattle.pc_curve_laws.specs.Segment.{Segment, span, head_at, tail_at, HasRoomAt}
 use Rattle.pc_crash.specs.Priced.{PricedNetwork, knees_in}
 use Rattle.pc_cert.specs.declared.line.CertLine.TheVariants.{Event, Act}
-use Rattle.pc_check.specs.Draft.{Part, EventRow, ActRow, event_at}
+use Rattle.pc_check.specs.Draft.{EventRow, ActRow}
 use Rattle.pc_check.specs.Known.{Known, frame}
 use Rattle.pc_check.specs.KneeTests.{is_slack_at_knee}
 use Rattle.pc_check.specs.Conditions.{conditions, is_one_length, is_slack_in}
 use Rattle.pc_check.specs.Failures.{first_failing}
 use Rattle.pc_check.proofs.BelowLaws.{and_parts, each_below-at}
 use Rattle.pc_check.proofs.ReasonLaws.{holds_first}
-
--- the segment that a part begins to be, without what its activities do
-abbrev pub outline : Part → Segment
-outline part = record {
-  upper = part.upper;
-  lower = part.lower;
-  cost = part.cost;
-  slope = part.slope;
-  time = λ e. (event_at part.events e).time;
-  moves = λ e. (event_at part.events e).moves;
-  duration = λ a. 0;
-  flow = λ a k. 0;
-  beside = λ a. 0;
-}
 
 -- an event's row is right
 pub record IsRightEvent (net : Network) (u l e : ℕ) (row : EventRow) : Type 0 where

@@ -8,7 +8,7 @@ use Rattle.pc_crash.specs.Priced.{PricedNetwork}
 use Rattle.pc_cert.specs.Grammar.{next}
 use Rattle.pc_cert.specs.Text.{ran}
 use Rattle.pc_cert.specs.declared.place.Place.TheVariants.{Start, AfterHead, NormalWalk, CrashWalk, InSegment, Between, Ended}
-use Rattle.pc_cert.proofs.FieldLemmas.{bind_some}
+use Rattle.pc_text.proofs.FieldLemmas.{bind_some}
 use Rattle.pc_cert.specs.declared.line.CertLine.{CertLine}
 use Rattle.pc_cert.specs.declared.line.CertLine.TheVariants.{Head, Normal, Step, Crash, Segment, Event, Act, Close, End}
 use Rattle.pc_cert.specs.declared.place.Place.{Place}

@@ -9,7 +9,6 @@ use Rattle.pc_model.specs.Sums.{sum_to}
 use Rattle.pc_model.specs.Walk.{from_of, to_of}
 use Rattle.pc_model.specs.Cost.{activity_cost}
 use Rattle.pc_model.proofs.Sums.{sum_to-same}
-use Rattle.pc_curve_laws.specs.Segment.{Segment}
 use Rattle.pc_crash.specs.Priced.{PricedNetwork, knees_in}
 use Rattle.pc_cert.specs.declared.line.CertLine.{CertLine}
 use Rattle.pc_cert.specs.declared.line.CertLine.TheVariants.{Head, Normal, Step, Crash, Segment as SegmentLine, Event, Act, Close, End}
@@ -20,7 +19,7 @@ use Rattle.pc_check.specs.Draft.{Part, Draft, EventRow, ActRow, event_at, act_at
 use Rattle.pc_check.specs.Known.{Known, some_below}
 use Rattle.pc_check.specs.Kept.{known_by, stretch_of}
 use Rattle.pc_check.specs.KneeTests.{flow_sum}
-use Rattle.pc_check.specs.Segments.{stops_in}
+use Rattle.pc_check.specs.Segments.{outline, stops_in}
 use Rattle.pc_check.specs.Said.{segment_in, flow_along, flow_at, spent_in, forward_by, backward_by, said}
 use Rattle.pc_check.specs.declared.passed.Passed.{Passed}
 use Rattle.pc_check.specs.Passed.{flow_of, cost_of}
@@ -198,23 +197,9 @@ tallied_event net part row old new none k added =
       stops = ap (λ t. t.stops) rest ∙ k.stops ∙ some_none (length part.acts) (stops_in net (segment_in net part)) (stops_in net (segment_in net (with_event part row))) none;
     }
 
--- the segment that a part begins to be, without what its activities do
-bare : Part → Segment
-bare part = record {
-  upper = part.upper;
-  lower = part.lower;
-  cost = part.cost;
-  slope = part.slope;
-  time = λ e. (event_at part.events e).time;
-  moves = λ e. (event_at part.events e).moves;
-  duration = λ a. 0;
-  flow = λ a k. 0;
-  beside = λ a. 0;
-}
-
-stretch_is_bare : (net : PricedNetwork) (part : Part) (tally : Tally) → IsTallied net part tally → stretch_of tally ≡ bare part
-unfolding bare
-stretch_is_bare net part tally k =
+-- what is kept of a part is what it begins to be
+stretch_is_outline : (net : PricedNetwork) (part : Part) (tally : Tally) → IsTallied net part tally → stretch_of tally ≡ outline part
+stretch_is_outline net part tally k =
     let time : (e : ℕ) → slice_index tally.times.items e ≡ (event_at part.events e).time = λ e. ap (λ xs. slice_index xs e) k.times ∙ times_at part.events e in
     let moves : (e : ℕ) → slice_index_or tally.moves.items e false ≡ (event_at part.events e).moves = λ e. ap (λ xs. slice_index_or xs e false) k.moves ∙ moves_at part.events e in
     λ i. record {
@@ -269,23 +254,20 @@ module _ (net : PricedNetwork) (part : Part) (row : ActRow) where
       ap (λ (r : Passed). r.cost) (added.row.others a (λ q. other (q ∙ acts))) ∙ before a earlier
       ∙ ap (λ (r : ActRow). activity_cost net.terms (knees_in net) a r.duration) (sym (at_earlier a earlier)))
 
-  forward_there : (old : Tally) → stretch_of old ≡ bare part → old.forward + forward_by net (stretch_of old) (length part.acts) ≡ old.forward + forward_by net (segment_in net part) (length part.acts)
-  unfolding bare
+  forward_there : (old : Tally) → stretch_of old ≡ outline part → old.forward + forward_by net (stretch_of old) (length part.acts) ≡ old.forward + forward_by net (segment_in net part) (length part.acts)
   forward_there old seg = ap (λ s. old.forward + forward_by net s (length part.acts)) seg
 
-  backward_there : (old : Tally) → stretch_of old ≡ bare part → old.backward + backward_by net (stretch_of old) (length part.acts) ≡ old.backward + backward_by net (segment_in net part) (length part.acts)
-  unfolding bare
+  backward_there : (old : Tally) → stretch_of old ≡ outline part → old.backward + backward_by net (stretch_of old) (length part.acts) ≡ old.backward + backward_by net (segment_in net part) (length part.acts)
   backward_there old seg = ap (λ s. old.backward + backward_by net s (length part.acts)) seg
 
-  stops_there : (old : Tally) → stretch_of old ≡ bare part → (old.stops || stops_in net (stretch_of old) (length part.acts)) ≡ (old.stops || stops_in net (segment_in net part) (length part.acts))
-  unfolding bare
+  stops_there : (old : Tally) → stretch_of old ≡ outline part → (old.stops || stops_in net (stretch_of old) (length part.acts)) ≡ (old.stops || stops_in net (segment_in net part) (length part.acts))
   stops_there old seg = ap (λ s. old.stops || stops_in net s (length part.acts)) seg
 
   -- an activity
   tallied_act : (old new : Tally) → length row.flows ≡ (knees_in net).count (length part.acts) + 1 → IsTallied net part old → AddsAct net old row.duration row.flows new → IsTallied net (with_act part row) new
   tallied_act old new long k added =
       let rest = added.rest in
-      let seg = stretch_is_bare net part old k in
+      let seg = stretch_is_outline net part old k in
       record {
         upper = ap (λ t. t.upper) rest ∙ k.upper;
         lower = ap (λ t. t.lower) rest ∙ k.lower;

@@ -8,7 +8,7 @@ use Rattle.pc_model.specs.declared.Term.{Term}
 use Rattle.pc_model.specs.Network.{Network}
 use Rattle.pc_model.specs.Walk.{from_of, to_of, IsWalk, walk_sum, IsSumOfWalk}
 use Rattle.pc_model.specs.Schedule.{normals, crashes}
-use Rattle.pc_cert.proofs.FieldLemmas.{bind_some}
+use Rattle.pc_text.proofs.FieldLemmas.{bind_some}
 use Rattle.pc_crash.specs.Priced.{PricedNetwork}
 use Rattle.pc_check.specs.declared.walk.Reached.{Reached}
 use Rattle.pc_check.specs.Walks.{length_in, place_of, further, stepped, walked, at_start, is_through}

@@ -11,15 +11,23 @@ use Rattle.pc_check.specs.Draft.{Part, event_at, act_at}
 abbrev pub flow_in : Part → ℕ → ℕ → ℕ
 flow_in part a k = slice_index (act_at part.acts a).flows k
 
--- the segment of a part: the k-th flow of an activity is that of its k-th knee, and the last one the flow beside them
-abbrev pub segment_of : Knees → Part → Segment
-segment_of knees part = record {
+-- the segment that a part begins to be, without what its activities do
+abbrev pub outline : Part → Segment
+outline part = record {
   upper = part.upper;
   lower = part.lower;
   cost = part.cost;
   slope = part.slope;
   time = λ e. (event_at part.events e).time;
   moves = λ e. (event_at part.events e).moves;
+  duration = λ a. 0;
+  flow = λ a k. 0;
+  beside = λ a. 0;
+}
+
+-- the segment of a part: the k-th flow of an activity is that of its k-th knee, and the last one the flow beside them
+abbrev pub segment_of : Knees → Part → Segment
+segment_of knees part = record (outline part) {
   duration = λ a. (act_at part.acts a).duration;
   flow = flow_in part;
   beside = λ a. flow_in part a (knees.count a);

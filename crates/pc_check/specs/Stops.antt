@@ -5,7 +5,7 @@ use Rattle.pc_edges.specs.Pulls.{TakesPulls}
 use Rattle.pc_cert.specs.declared.line.CertLine.{CertLine}
 use Rattle.pc_cert.specs.declared.line.TheConstants.{MAX_LINE}
 use Rattle.pc_cert.specs.declared.place.Place.{Place}
-use Rattle.pc_cert.specs.Lines.{Lacks}
+use Rattle.pc_text.specs.Fields.{Lacks}
 use Rattle.pc_cert.specs.Text.{text_of, LeadTo}
 use Rattle.pc_crash.specs.Priced.{PricedNetwork}
 use Rattle.pc_check.specs.declared.fail.Verdict.{Verdict}

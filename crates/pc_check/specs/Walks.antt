@@ -3,7 +3,7 @@ use Rattle.std.specs.Prelude.{ℕ, ◌+◌, ◌==◌, ◌&&◌, Bool, true, fals
 use Rattle.pc_model.specs.Network.{Network}
 use Rattle.pc_model.specs.Walk.{from_of, to_of}
 use Rattle.pc_model.specs.Schedule.{normal_of, crash_of}
-use Rattle.pc_cert.specs.Fields.{◌>>=◌}
+use Rattle.pc_text.specs.Fields.{◌>>=◌}
 use Rattle.pc_crash.specs.Priced.{PricedNetwork}
 use Rattle.pc_check.specs.declared.walk.Reached.{Reached}
 

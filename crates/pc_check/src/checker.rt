@@ -137,40 +137,10 @@ impl<'n> Checker<'n> {
         ensures same_reader { result ≡ 0 → reader.new ≡ reader.old }
         ensures takes { 0 < result → TakesAlong piece.now result reader.old reader.new self.old self.new }
     {
-        let used = self.take_acts(reader, piece);
+        let used = advance_acts(self.net, &mut self.kept, &self.fronts, reader, piece);
         if 0 < used {
             return used;
         }
-        self.take_events(reader, piece)
-    }
-
-    /// The same of the lines of activities.
-    #[inline(always)]
-    fn take_acts(&mut self, reader: &mut CertReader, piece: &[u8]) -> usize
-        requires no_fail { self.old.fail ≡ None }
-        requires place { reader.old.place ≡ self.old.kept.place }
-        requires going { reader.old.malformed ≡ None }
-        requires alike { reader.old.lines ≡ self.old.kept.lines }
-        requires few { self.old.kept.lines < 2 ^ 63 }
-        ensures same { result ≡ 0 → self.new ≡ self.old }
-        ensures same_reader { result ≡ 0 → reader.new ≡ reader.old }
-        ensures takes { 0 < result → TakesAlong piece.now result reader.old reader.new self.old self.new }
-    {
-        advance_acts(self.net, &mut self.kept, &self.fronts, reader, piece)
-    }
-
-    /// The same of the lines of events.
-    #[inline(always)]
-    fn take_events(&mut self, reader: &mut CertReader, piece: &[u8]) -> usize
-        requires no_fail { self.old.fail ≡ None }
-        requires place { reader.old.place ≡ self.old.kept.place }
-        requires going { reader.old.malformed ≡ None }
-        requires alike { reader.old.lines ≡ self.old.kept.lines }
-        requires few { self.old.kept.lines < 2 ^ 63 }
-        ensures same { result ≡ 0 → self.new ≡ self.old }
-        ensures same_reader { result ≡ 0 → reader.new ≡ reader.old }
-        ensures takes { 0 < result → TakesAlong piece.now result reader.old reader.new self.old self.new }
-    {
         advance_events(self.net, &mut self.kept, &self.fronts, reader, piece)
     }
 

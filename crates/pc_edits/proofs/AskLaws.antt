@@ -1,10 +1,8 @@
 -- What is read of a line is spelled so, and what is spelled so is read.
-use Rattle.std.proofs.Common.{◌≡◌, ℕ, Bool, true, false, cond, ltb, List, [], ◌++◌, length, take, drop, Option, Some, None, refl, sym, ap, subst, ◌∙◌}
-use Rattle.std.proofs.lemmas.Bool.{eqb-true, ltb-false, le-ltb}
-use Rattle.std.proofs.lemmas.Option.{cond_some}
-use Rattle.std.proofs.lemmas.Slice.Eq.{bytes_eq-Decides}
-use Rattle.std.proofs.lemmas.List.{take-append-drop, append-nil, nil_from_length}
-use Rattle.std.specs.Prelude.{codes, bytes_eq, IfSome}
+use Rattle.std.proofs.Common.{◌≡◌, ℕ, ltb, List, [], ◌++◌, length, take, drop, Option, Some, None, refl, sym, ap, subst, ◌∙◌}
+use Rattle.std.proofs.lemmas.Bool.{ltb-false, le-ltb}
+use Rattle.std.proofs.lemmas.List.{take-append-drop}
+use Rattle.std.specs.Prelude.{codes, IfSome}
 use Rattle.std.specs.Fmt.{decimal}
 use Rattle.pc_project.specs.declared.estimates.Estimates.{Estimates}
 use Rattle.pc_edits.specs.declared.ask.Ask.{Ask}
@@ -13,32 +11,21 @@ use Rattle.pc_edits.specs.declared.ask.Change.{Change}
 use Rattle.pc_edits.specs.declared.ask.Change.TheVariants.{Estimate, Normal, Crash, Slope}
 use Rattle.pc_edits.specs.declared.ask.Trial.{Trial}
 use Rattle.pc_edits.specs.declared.ask.TheConstants.{MAX_LINE}
-use Rattle.pc_edits.specs.Fields.{◌>>=◌, run_len, code_field, number_field, alone}
-use Rattle.pc_edits.specs.Lines.{spaced, spelling, Fits, Asks, IsSmall, IsCode}
+use Rattle.pc_text.specs.Fields.{◌>>=◌, run_len, code_field, alone, spaced, IsCode}
+use Rattle.pc_edits.specs.Fields.{number_field}
+use Rattle.pc_edits.specs.Lines.{spelling, Fits, Asks, IsSmall}
 use Rattle.pc_edits.specs.Reading.{edit_of, estimate_of, amount_of, normal_of, crash_of, slope_of, try_of, ask_with, ask_of}
-use Rattle.pc_edits.proofs.FieldLemmas.{bind_some, nothing, space, code_field_takes, code_field_again, number_field_takes, number_field_again}
+use Rattle.pc_text.proofs.SpellingLemmas.{IsSpelled, either, no_name, one_word}
+use Rattle.pc_text.proofs.FieldLemmas.{bind_some, alone_takes, unless_takes, unless_again, nothing, space, code_field_takes, code_field_again}
+use Rattle.pc_edits.proofs.FieldLemmas.{number_field_takes, number_field_again}
 
 -- the word and the fields are those of the ask, which can be spelled
-record IsSpelled (word fields : List ℕ) (a : Ask) : Type 0 where
-  text : word ++ fields ≡ spelling a
-  fits : Fits a
-
-alone_takes : {A : Type 0} (rest : List ℕ) (value found : A) → alone rest value ≡ Some found → (rest ≡ []) × (value ≡ found)
-alone_takes rest value found e =
-    let read = cond_some _ value found e in
-    (nil_from_length rest (eqb-true _ _ (read.0)), read.1)
-
--- a test that nothing came of
-unless_takes : (test : Bool) (found : Option Ask) (a : Ask) → cond test None found ≡ Some a → (test ≡ false) × (found ≡ Some a)
-unless_takes true found a e = absurd cc
-unless_takes false found a e = (refl, e)
-
-unless_again : (test : Bool) (found : Option Ask) → test ≡ false → cond test None found ≡ found
-unless_again test found h = rw h refl
+abbrev IsAsk : List ℕ → List ℕ → Ask → Type 0
+IsAsk word fields a = IsSpelled spelling Fits word fields a
 
 -- ---- estimates
 
-estimate_takes : (fields : List ℕ) (a : Ask) → estimate_of fields ≡ Some a → IsSpelled (codes "ESTIMATE") fields a
+estimate_takes : (fields : List ℕ) (a : Ask) → estimate_of fields ≡ Some a → IsAsk (codes "ESTIMATE") fields a
 unfolding estimate_of
 estimate_takes fields a e =
     let made = λ (code : List ℕ) (opt likely pess : ℕ). edit_of code (Estimate (record { optimistic = opt; likely = likely; pessimistic = pess })) in
@@ -51,7 +38,7 @@ estimate_takes fields a e =
     let opt_is = number_field_takes (code.0.1) (opt.0) (opt.1) in
     let likely_is = number_field_takes (opt.0.1) (likely.0) (likely.1) in
     let pess_is = number_field_takes (likely.0.1) (pess.0) (pess.1) in
-    subst (λ l. IsSpelled (codes "ESTIMATE") fields l) (end.1) (record {
+    subst (λ l. IsAsk (codes "ESTIMATE") fields l) (end.1) (record {
       text = ap (λ x. codes "ESTIMATE" ++ x) (
           code_is.text ∙ ap (λ x. spaced (code.0.0) x) (
           opt_is.text ∙ ap (λ x. spaced (decimal (opt.0.0)) x) (
@@ -100,26 +87,26 @@ amount_again act n code small =
 some_same : (x y : Ask) → Some x ≡ Some y → x ≡ y
 some_same x y e = cc
 
-normal_takes : (fields : List ℕ) (a : Ask) → normal_of fields ≡ Some a → IsSpelled (codes "NORMAL") fields a
+normal_takes : (fields : List ℕ) (a : Ask) → normal_of fields ≡ Some a → IsAsk (codes "NORMAL") fields a
 unfolding normal_of
 normal_takes fields a e =
     let amount = bind_some (amount_of fields) (λ amount. Some (edit_of (amount.0) (Normal (amount.1)))) a e in
     let is = amount_takes fields (amount.0) (amount.1) in
-    subst (λ l. IsSpelled (codes "NORMAL") fields l) (some_same _ _ (amount.2)) (record { text = ap (λ x. codes "NORMAL" ++ x) is.text; fits = (is.code_is, is.small) })
+    subst (λ l. IsAsk (codes "NORMAL") fields l) (some_same _ _ (amount.2)) (record { text = ap (λ x. codes "NORMAL" ++ x) is.text; fits = (is.code_is, is.small) })
 
-crash_takes : (fields : List ℕ) (a : Ask) → crash_of fields ≡ Some a → IsSpelled (codes "CRASH") fields a
+crash_takes : (fields : List ℕ) (a : Ask) → crash_of fields ≡ Some a → IsAsk (codes "CRASH") fields a
 unfolding crash_of
 crash_takes fields a e =
     let amount = bind_some (amount_of fields) (λ amount. Some (edit_of (amount.0) (Crash (amount.1)))) a e in
     let is = amount_takes fields (amount.0) (amount.1) in
-    subst (λ l. IsSpelled (codes "CRASH") fields l) (some_same _ _ (amount.2)) (record { text = ap (λ x. codes "CRASH" ++ x) is.text; fits = (is.code_is, is.small) })
+    subst (λ l. IsAsk (codes "CRASH") fields l) (some_same _ _ (amount.2)) (record { text = ap (λ x. codes "CRASH" ++ x) is.text; fits = (is.code_is, is.small) })
 
-slope_takes : (fields : List ℕ) (a : Ask) → slope_of fields ≡ Some a → IsSpelled (codes "SLOPE") fields a
+slope_takes : (fields : List ℕ) (a : Ask) → slope_of fields ≡ Some a → IsAsk (codes "SLOPE") fields a
 unfolding slope_of
 slope_takes fields a e =
     let amount = bind_some (amount_of fields) (λ amount. Some (edit_of (amount.0) (Slope (amount.1)))) a e in
     let is = amount_takes fields (amount.0) (amount.1) in
-    subst (λ l. IsSpelled (codes "SLOPE") fields l) (some_same _ _ (amount.2)) (record { text = ap (λ x. codes "SLOPE" ++ x) is.text; fits = (is.code_is, is.small) })
+    subst (λ l. IsAsk (codes "SLOPE") fields l) (some_same _ _ (amount.2)) (record { text = ap (λ x. codes "SLOPE" ++ x) is.text; fits = (is.code_is, is.small) })
 
 normal_again : (act : List ℕ) (n : ℕ) → IsCode act → IsSmall n → normal_of (spaced act (spaced (decimal n) [])) ≡ Some (edit_of act (Normal n))
 unfolding normal_of
@@ -135,7 +122,7 @@ slope_again act n code small = rw (amount_again act n code small) refl
 
 -- ---- a trial
 
-try_takes : (fields : List ℕ) (a : Ask) → try_of fields ≡ Some a → IsSpelled (codes "TRY") fields a
+try_takes : (fields : List ℕ) (a : Ask) → try_of fields ≡ Some a → IsAsk (codes "TRY") fields a
 unfolding try_of
 try_takes fields a e =
     let made = λ (code : List ℕ) (normal crash slope limit : ℕ). ask.Try (record { act = code; normal = normal; crash = crash; slope = slope; length = limit }) in
@@ -150,7 +137,7 @@ try_takes fields a e =
     let crash_is = number_field_takes (normal.0.1) (crash.0) (crash.1) in
     let slope_is = number_field_takes (crash.0.1) (slope.0) (slope.1) in
     let limit_is = number_field_takes (slope.0.1) (limit.0) (limit.1) in
-    subst (λ l. IsSpelled (codes "TRY") fields l) (end.1) (record {
+    subst (λ l. IsAsk (codes "TRY") fields l) (end.1) (record {
       text = ap (λ x. codes "TRY" ++ x) (
           code_is.text ∙ ap (λ x. spaced (code.0.0) x) (
           normal_is.text ∙ ap (λ x. spaced (decimal (normal.0.0)) x) (
@@ -174,52 +161,32 @@ try_again trial h =
 
 -- ---- the whole line
 
-none_is_some : (a : Ask) → None ≡ Some a → ⊥
-none_is_some a e = absurd cc
-
-by_test : (word name fields : List ℕ) (found other : Option Ask) (a : Ask) (test : Bool) → bytes_eq word name ≡ test
-    → (found ≡ Some a → IsSpelled name fields a) → (other ≡ Some a → IsSpelled word fields a)
-    → cond test found other ≡ Some a → IsSpelled word fields a
-by_test word name fields found other a true is here later e =
-    subst (λ w. IsSpelled w fields a) (sym ((bytes_eq-Decides word name).0 is)) (here e)
-by_test word name fields found other a false is here later e = later e
-
--- the word is this name and the ask comes of it, or it comes of the names that are tried later
-either : (word name fields : List ℕ) (found other : Option Ask) (a : Ask)
-    → (found ≡ Some a → IsSpelled name fields a) → (other ≡ Some a → IsSpelled word fields a)
-    → cond (bytes_eq word name) found other ≡ Some a → IsSpelled word fields a
-either word name fields found other a here later e = by_test word name fields found other a (bytes_eq word name) refl here later e
-
--- an ask of one word
-one_word : (word fields : List ℕ) (known a : Ask) → word ≡ spelling known → Fits known → alone fields known ≡ Some a → IsSpelled word fields a
-one_word word fields known a is fits e =
-    let end = alone_takes fields known a e in
-    subst (λ l. IsSpelled word fields l) (end.1) (record { text = ap (λ x. word ++ x) (end.0) ∙ append-nil word ∙ is; fits = fits })
-
-ask_with_takes : (word fields : List ℕ) (a : Ask) → ask_with word fields ≡ Some a → IsSpelled word fields a
+ask_with_takes : (word fields : List ℕ) (a : Ask) → ask_with word fields ≡ Some a → IsAsk word fields a
 ask_with_takes word fields a =
-    either word (codes "TRY") fields _ _ a (try_takes fields a)
-    (either word (codes "ESTIMATE") fields _ _ a (estimate_takes fields a)
-    (either word (codes "NORMAL") fields _ _ a (normal_takes fields a)
-    (either word (codes "CRASH") fields _ _ a (crash_takes fields a)
-    (either word (codes "SLOPE") fields _ _ a (slope_takes fields a)
-    (either word (codes "UNDO") fields _ _ a (one_word (codes "UNDO") fields ask.Undo a refl tt)
-    (either word (codes "TIMES") fields _ _ a (one_word (codes "TIMES") fields ask.Times a refl tt)
-    (either word (codes "CURVE") fields _ _ a (one_word (codes "CURVE") fields ask.Curve a refl tt)
-    (λ e. absurd (none_is_some a e)))))))))
+    let reads = λ (name : List ℕ). IsAsk name fields a in
+    let by = one_word spelling Fits in
+    either reads word (codes "TRY") _ _ a (try_takes fields a)
+    (either reads word (codes "ESTIMATE") _ _ a (estimate_takes fields a)
+    (either reads word (codes "NORMAL") _ _ a (normal_takes fields a)
+    (either reads word (codes "CRASH") _ _ a (crash_takes fields a)
+    (either reads word (codes "SLOPE") _ _ a (slope_takes fields a)
+    (either reads word (codes "UNDO") _ _ a (by (codes "UNDO") fields ask.Undo a refl tt)
+    (either reads word (codes "TIMES") _ _ a (by (codes "TIMES") fields ask.Times a refl tt)
+    (either reads word (codes "CURVE") _ _ a (by (codes "CURVE") fields ask.Curve a refl tt)
+    (no_name reads word a))))))))
 
 -- what is read is asked
 ask_takes : (line : List ℕ) (a : Ask) → ask_of line ≡ Some a → Asks line a
 unfolding ask_of
 ask_takes line a e =
-    let short = unless_takes (ltb MAX_LINE (length line)) (ask_with (take (run_len line) line) (drop (run_len line) line)) a e in
-    let is = ask_with_takes (take (run_len line) line) (drop (run_len line) line) a (short.1) in
-    record { fits = is.fits; spelled = sym (take-append-drop (run_len line) line) ∙ is.text; short = ltb-false _ _ (short.0) }
+    let short = unless_takes (ltb MAX_LINE (length line)) (ask_with (take (run_len 32 line) line) (drop (run_len 32 line) line)) a e in
+    let is = ask_with_takes (take (run_len 32 line) line) (drop (run_len 32 line) line) a (short.1) in
+    record { fits = is.fits; spelled = sym (take-append-drop (run_len 32 line) line) ∙ is.text; short = ltb-false _ _ (short.0) }
 
-ask_again : (a : Ask) → Fits a → ask_with (take (run_len (spelling a)) (spelling a)) (drop (run_len (spelling a)) (spelling a)) ≡ Some a
+ask_again : (a : Ask) → Fits a → ask_with (take (run_len 32 (spelling a)) (spelling a)) (drop (run_len 32 (spelling a)) (spelling a)) ≡ Some a
 ask_again (ask.Edit edit) h = change_again edit.act edit.change h
   where
-    change_again : (act : List ℕ) (change : Change) → Fits (edit_of act change) → ask_with (take (run_len (spelling (edit_of act change))) (spelling (edit_of act change))) (drop (run_len (spelling (edit_of act change))) (spelling (edit_of act change))) ≡ Some (edit_of act change)
+    change_again : (act : List ℕ) (change : Change) → Fits (edit_of act change) → ask_with (take (run_len 32 (spelling (edit_of act change))) (spelling (edit_of act change))) (drop (run_len 32 (spelling (edit_of act change))) (spelling (edit_of act change))) ≡ Some (edit_of act change)
     change_again act (Estimate new) h = estimate_again act new h
     change_again act (Normal n) h = normal_again act n (h.0) (h.1)
     change_again act (Crash n) h = crash_again act n (h.0) (h.1)
@@ -233,7 +200,7 @@ asked_again : (line : List ℕ) (a : Ask) → Asks line a → ask_of line ≡ So
 unfolding ask_of
 asked_again line a asks =
     unless_again (ltb MAX_LINE (length line)) _ (le-ltb _ _ asks.short)
-    ∙ ap (λ l. ask_with (take (run_len l) l) (drop (run_len l) l)) asks.spelled
+    ∙ ap (λ l. ask_with (take (run_len 32 l) l) (drop (run_len 32 l) l)) asks.spelled
     ∙ ask_again a asks.fits
 
 -- what a call that reads gave

@@ -1,16 +1,12 @@
 -- What a line may ask, and how each ask is spelled.
-use Rattle.std.specs.Prelude.{◌≡◌, ℕ, ◌^◌, ◌<◌, ◌≤◌, true, List, [], ◌∷◌, ◌++◌, length, decimal, codes}
-use Rattle.pc_text.specs.Code.{is_code}
+use Rattle.std.specs.Prelude.{◌≡◌, ℕ, ◌^◌, ◌<◌, ◌≤◌, List, [], ◌++◌, length, decimal, codes}
+use Rattle.pc_text.specs.Fields.{spaced, IsCode}
 use Rattle.pc_edits.specs.declared.ask.Ask.{Ask}
 use Rattle.pc_edits.specs.declared.ask.Ask.TheVariants as ask
 use Rattle.pc_edits.specs.declared.ask.Change.{Change}
 use Rattle.pc_edits.specs.declared.ask.Change.TheVariants.{Estimate, Normal, Crash, Slope}
 use Rattle.pc_edits.specs.declared.ask.Trial.{Trial}
 use Rattle.pc_edits.specs.declared.ask.TheConstants.{MAX_LINE}
-
--- a space, the word, and what follows
-abbrev pub spaced : List ℕ → List ℕ → List ℕ
-spaced word rest = 32 ∷ (word ++ rest)
 
 -- a change of numbers of the activity with a code
 abbrev pub change_text : List ℕ → Change → List ℕ
@@ -36,10 +32,6 @@ spelling (ask.Try trial) = trial_text trial
 -- a number of at most 13 digits, as a deck has them
 abbrev pub IsSmall : ℕ → Type 0
 IsSmall n = n < 10 ^ 13
-
--- a code
-abbrev pub IsCode : List ℕ → Type 0
-IsCode code = is_code code ≡ true
 
 -- the numbers of a change can be spelled
 abbrev pub FitsChange : Change → Type 0

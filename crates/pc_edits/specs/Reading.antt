@@ -1,6 +1,7 @@
 -- The ask that a line spells, read word by word.
 use Rattle.std.specs.Prelude.{ℕ, nat_lt, List, length, take, drop, Option, Some, None, bytes_eq, codes, if◌then◌else◌}
-use Rattle.pc_edits.specs.Fields.{◌>>=◌, run_len, code_field, number_field, alone}
+use Rattle.pc_text.specs.Fields.{◌>>=◌, run_len, code_field, alone}
+use Rattle.pc_edits.specs.Fields.{number_field}
 use Rattle.pc_edits.specs.declared.ask.Ask.{Ask}
 use Rattle.pc_edits.specs.declared.ask.Ask.TheVariants as ask
 use Rattle.pc_edits.specs.declared.ask.Change.{Change}
@@ -65,4 +66,4 @@ ask_with word fields =
 
 -- the ask that a line spells: its first word goes up to the first space
 unfoldable pub ask_of : List ℕ → Option Ask
-ask_of line = if nat_lt MAX_LINE (length line) then None else ask_with (take (run_len line) line) (drop (run_len line) line)
+ask_of line = if nat_lt MAX_LINE (length line) then None else ask_with (take (run_len 32 line) line) (drop (run_len 32 line) line)

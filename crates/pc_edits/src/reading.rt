@@ -1,12 +1,12 @@
 //! Reading a line: its first word says what it asks, and its fields are read one after the other.
 ghost use Rattle.std.specs.Prelude.{◌≡◌};
-ghost use Rattle.pc_edits.specs.Fields.{alone};
+ghost use Rattle.pc_text.specs.Fields.{alone};
 ghost use Rattle.pc_edits.specs.Reading.{ask_of, ask_with, estimate_of, amount_of, edit_of, normal_of, crash_of, slope_of, try_of};
 
 use crate::ask::{Ask, Change, Edit, MAX_LINE, Trial};
-use crate::field::{field, number_field, run_len};
+use crate::field::number_field;
 use pc_project::Estimates;
-use pc_text::Code;
+use pc_text::{Code, field, run_len};
 
 /// What a line asks.
 #[tactic(auto, unfolding(crate::specs::Reading::ask_of))]
@@ -16,7 +16,7 @@ pub(crate) fn ask_of(line: &[u8]) -> Option<Ask>
     if line.len() > MAX_LINE {
         return None;
     }
-    let end = run_len(line);
+    let end = run_len(line, b' ');
     ask_with(&line[..end], &line[end..])
 }
 
@@ -59,7 +59,7 @@ fn edit_of(act: Code, change: Change) -> Ask
     Ask::Edit(Edit { act, change })
 }
 
-#[tactic(auto, unfolding(crate::specs::Reading::estimate_of, crate::specs::Fields::code_field))]
+#[tactic(auto, unfolding(crate::specs::Reading::estimate_of, pc_text::specs::Fields::field_by))]
 fn estimate_of(fields: &[u8]) -> Option<Ask>
     ensures { result ≡ estimate_of fields.now }
 {
@@ -77,7 +77,7 @@ fn estimate_of(fields: &[u8]) -> Option<Ask>
 }
 
 /// The activity and the one number that the fields are.
-#[tactic(auto, unfolding(crate::specs::Reading::amount_of, crate::specs::Fields::code_field))]
+#[tactic(auto, unfolding(crate::specs::Reading::amount_of, pc_text::specs::Fields::field_by))]
 fn amount_of(fields: &[u8]) -> Option<(Code, u64)>
     ensures { result ≡ amount_of fields.now }
 {
@@ -115,7 +115,7 @@ fn slope_of(fields: &[u8]) -> Option<Ask>
     Some(edit_of(act, Change::Slope(n)))
 }
 
-#[tactic(auto, unfolding(crate::specs::Reading::try_of, crate::specs::Fields::code_field))]
+#[tactic(auto, unfolding(crate::specs::Reading::try_of, pc_text::specs::Fields::field_by))]
 fn try_of(fields: &[u8]) -> Option<Ask>
     ensures { result ≡ try_of fields.now }
 {

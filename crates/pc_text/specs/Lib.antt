@@ -5,3 +5,4 @@ pub mod CodeNumber
 pub mod Title
 pub mod Number
 pub mod Line
+pub mod Fields

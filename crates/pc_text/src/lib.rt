@@ -4,6 +4,7 @@
 mod code;
 mod codes;
 mod decimal;
+mod fields;
 mod line;
 mod number;
 mod title;
@@ -13,6 +14,7 @@ mod words;
 pub use code::{Code, is_code};
 pub use codes::Codes;
 pub use decimal::{Digits, Signed};
+pub use fields::{field, run_len};
 pub use line::Line;
 pub use number::{digits, read_number, signed, wide};
 pub use title::{Title, is_title_shape};

@@ -1,7 +1,8 @@
 use Rattle.std.proofs.Common.{◌≡◌, ◌+◌, [], ◌∷◌, ◌++◌, length, decimal, ap, ◌∙◌, append_assoc, add-one, arith}
 use Rattle.pc_curve_laws.specs.Stair.{Stair, stair_of, reach, knee_flow, crash_flow}
 use Rattle.pc_crash.specs.Priced.{knees_in}
-use Rattle.pc_cert.specs.Lines.{numbers, spaced}
+use Rattle.pc_text.specs.Fields.{spaced}
+use Rattle.pc_cert.specs.Lines.{numbers}
 use Rattle.pc_certify.specs.Listed.{listed}
 use Rattle.pc_certify.proofs.WordLaws.{numbers-more, numbers-with_last}
 use Rattle.pc_certify.proofs.last_lines.add_flows.Goals as goal

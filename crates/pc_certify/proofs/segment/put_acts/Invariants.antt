@@ -1,6 +1,6 @@
 use Rattle.std.proofs.Common.{ℕ, ◌<◌}
 use Rattle.pc_model.specs.Codes.{code_at}
-use Rattle.pc_cert.specs.Lines.{IsCode}
+use Rattle.pc_text.specs.Fields.{IsCode}
 use Rattle.pc_cert.specs.Text.{text_of}
 use Rattle.pc_page.specs.Puts.{desk}
 use Rattle.pc_certify.specs.Listed.{listed}
