@@ -3,22 +3,20 @@
 
 mod code;
 mod codes;
-mod decimal;
+mod decimals;
 mod fields;
 mod line;
 mod number;
 mod title;
-mod wide_decimal;
 mod words;
 
 pub use code::{Code, is_code};
 pub use codes::Codes;
-pub use decimal::{Digits, Signed};
+pub use decimals::Decimal;
 pub use fields::{field, run_len};
 pub use line::Line;
 pub use number::{digits, read_number, signed, wide};
 pub use title::{Title, is_title_shape};
-pub use wide_decimal::Wide;
 
 #[cfg(test)]
 mod tests;

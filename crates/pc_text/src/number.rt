@@ -3,8 +3,7 @@ ghost use Rattle.std.specs.Prelude.{◌≡◌, ◌≤◌, ℕ, IfSome, Some, dec
 ghost use Rattle.std.specs.Fmt.{signed_decimal};
 ghost use Rattle.pc_text.specs.Number.{is_plain, value_of, number_of, IsDecimal};
 
-use crate::decimal::{Digits, Signed};
-use crate::wide_decimal::Wide;
+use crate::decimals::{Decimal, of_signed, of_unsigned, of_wide};
 
 /// The most digits that a number has.
 const LIMIT: usize = 13;
@@ -50,25 +49,25 @@ fn value_of(field: &[u8]) -> Option<u64>
 }
 
 /// The decimal form of a number.
-pub fn digits(n: u64) -> Digits
+pub fn digits(n: u64) -> Decimal<20>
     ensures value { result ≡ decimal n }
     ensures short { length result ≤ 20 }
 {
-    Digits::of(n)
+    of_unsigned(n)
 }
 
 /// The decimal form of a number, with `-` before a negative one.
-pub fn signed(n: i64) -> Signed
+pub fn signed(n: i64) -> Decimal<20>
     ensures value { result ≡ signed_decimal n }
     ensures short { length result ≤ 20 }
 {
-    Signed::of(n)
+    of_signed(n)
 }
 
 /// The decimal form of a number that may be too great for 64 bits.
-pub fn wide(n: u128) -> Wide
+pub fn wide(n: u128) -> Decimal<39>
     ensures value { result ≡ decimal n }
     ensures short { length result ≤ 39 }
 {
-    Wide::of(n)
+    of_wide(n)
 }
