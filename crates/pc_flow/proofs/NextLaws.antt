@@ -15,7 +15,7 @@ use Rattle.pc_search.specs.Choosing.{moving}
 use Rattle.pc_search.specs.Labelling.{length_at, slope_at, IsBetween, HasFallen}
 use Rattle.pc_flow.specs.Courses.{Course, upper_of, lower_of, IsLevel, IsOnCourse, HasEnded, IsSameCurve, IsNext, IsFurther, most_looks}
 use Rattle.pc_flow.specs.Descents.{HasDescended, HasSearched}
-use Rattle.pc_flow.proofs.CourseLaws.{state, fall-within, lower-above, fall-some, whole, fallen_times, cost-fallen, cost-still, slope-small, small}
+use Rattle.pc_flow.proofs.CourseLaws.{fall-within, lower-above, fall-some, whole, fallen_times, cost-fallen, cost-still, slope-small, small}
 
 -- where the test for the end says no, it is not there
 pub not_ended : (r : Bool) (c : Course) → IsTrue r ↔ HasEnded c → r ≡ false → HasEnded c → ⊥

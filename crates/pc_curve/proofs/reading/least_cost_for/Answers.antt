@@ -1,4 +1,4 @@
-use Rattle.std.proofs.Common.{◌≡◌, ◌+◌, ◌-◌, ◌*◌, ◌≤◌, ◌∙◌, refl, sym, ap, subst, arith}
+use Rattle.std.proofs.Common.{◌≡◌, ◌+◌, ◌-◌, ◌*◌, ◌≤◌, refl, sym, ap, subst, arith}
 use Rattle.pc_curve_laws.specs.Segment.{cost_for}
 use Rattle.pc_flow.specs.Courses.{present}
 use Rattle.pc_curve.specs.Points.{curve_in}
