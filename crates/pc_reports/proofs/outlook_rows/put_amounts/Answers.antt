@@ -6,9 +6,8 @@ use Rattle.pc_reports.proofs.outlook_rows.put_amounts.Goals as goal
 
 pub returns : goal.returns
 returns g c =
-    let amounts = c.args.amounts.now in
     Adds-as _ (ap (left 16) c.bytes.ensures.value) c.put_left.ensures ▸ c.put_level_cell.ensures
-    ▸ Adds-as (amount_cell amounts.budget) (search rules) c.put_amount_cell.ensures
-    ▸ Adds-as (amount_cell amounts.outlook) (search rules) c.put_amount_cell-2.ensures
-    ▸ Adds-as (amount_cell amounts.change) (search rules) c.put_amount_cell-3.ensures
+    ▸ Adds-as (amount_cell c.args.amounts.now.budget) (search rules) c.put_amount_cell.ensures
+    ▸ Adds-as (amount_cell c.args.amounts.now.outlook) (search rules) c.put_amount_cell-2.ensures
+    ▸ Adds-as (amount_cell c.args.amounts.now.change) (search rules) c.put_amount_cell-3.ensures
     ▸ c.put_title_cell.ensures

@@ -6,11 +6,10 @@ use Rattle.pc_reports.proofs.summary_rows.put_item.Goals as goal
 
 pub returns : goal.returns
 returns g c =
-    let amounts = c.args.amounts.now in
     Adds-as _ (ap (left 16) c.bytes.ensures.value) c.put_left.ensures ▸ c.put_level_cell.ensures
-    ▸ Adds-as (amount_cell amounts.budget) (search rules) c.put_amount_cell.ensures
-    ▸ Adds-as (amount_cell amounts.actual) (search rules) c.put_amount_cell-2.ensures
-    ▸ Adds-as (amount_cell amounts.to_go) (search rules) c.put_amount_cell-3.ensures
-    ▸ Adds-as (amount_cell amounts.latest) (search rules) c.put_amount_cell-4.ensures
-    ▸ Adds-as (amount_cell amounts.overrun) (search rules) c.put_amount_cell-5.ensures
+    ▸ Adds-as (amount_cell c.args.amounts.now.budget) (search rules) c.put_amount_cell.ensures
+    ▸ Adds-as (amount_cell c.args.amounts.now.actual) (search rules) c.put_amount_cell-2.ensures
+    ▸ Adds-as (amount_cell c.args.amounts.now.to_go) (search rules) c.put_amount_cell-3.ensures
+    ▸ Adds-as (amount_cell c.args.amounts.now.latest) (search rules) c.put_amount_cell-4.ensures
+    ▸ Adds-as (amount_cell c.args.amounts.now.overrun) (search rules) c.put_amount_cell-5.ensures
     ▸ c.put_title_cell.ensures
