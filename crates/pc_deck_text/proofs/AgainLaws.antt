@@ -23,7 +23,7 @@ use Rattle.pc_deck.specs.declared.kinds.terms.TermsCard.{TermsCard}
 use Rattle.pc_deck.specs.declared.kinds.wbs.ItemCard.{ItemCard}
 use Rattle.pc_deck.specs.Deck.{Deck, account_named, act_named, event_named, item_named, resource_named}
 use Rattle.pc_project.specs.DisorderFaults.{HasDisorder, IsDisorderAt, IsEarlyAsOf, as_of_in, of_as_of, of_status}
-use Rattle.pc_project.specs.Misfit.{HasAccountFault, HasActFault, HasFigureFault, HasItemFault, HasLoadFault, HasMisfit, HasMoneyFault, HasNoMisfit, HasPieceCardFault, HasProjectFault, HasStatusFault, IsEvent, IsInOrder}
+use Rattle.pc_project.specs.Misfit.{HasAccountFault, HasActFault, HasFigureFault, HasItemFault, HasListedFault, HasLoadFault, HasMisfit, HasMoneyFault, HasNoMisfit, HasPieceCardFault, HasProjectFault, HasStatusFault, IsEvent, IsInOrder}
 use Rattle.pc_project.specs.Misfit as has
 use Rattle.pc_project.specs.PackageFaults.{HasLeafFault, StandsOnBranch, of_account, of_act}
 use Rattle.pc_project.specs.PieceFaults.{HasFlaw, HasFlawAt, HasPieceFault, none_left, not_rising, one_too_many}
@@ -134,17 +134,20 @@ module _ (a b : Deck) (same : SayTheSame a b) where
   figure_fault fault (has.status any) =
       let (told, there) = list_fault status_said (HasStatusFault a) (HasStatusFault b) a.statuses b.statuses same.statuses status_fault fault any in (told, has.status there)
 
+  listed_fault : (fault : Fault) → HasListedFault a fault → Some-fault (HasListedFault b)
+  listed_fault fault (has.item any) =
+      let (told, there) = list_fault item_said (HasItemFault a) (HasItemFault b) a.items b.items same.items item_fault fault any in (told, has.item there)
+  listed_fault fault (has.act any) =
+      let (told, there) = list_fault act_said (HasActFault a) (HasActFault b) a.acts b.acts same.acts act_fault fault any in (told, has.act there)
+  listed_fault fault (has.piece any) =
+      let (told, there) = list_fault piece_said (HasPieceCardFault a) (HasPieceCardFault b) a.pieces b.pieces same.pieces piece_fault fault any in (told, has.piece there)
+  listed_fault fault (has.load any) =
+      let (told, there) = list_fault load_said (HasLoadFault a) (HasLoadFault b) a.loads b.loads same.loads load_fault fault any in (told, has.load there)
+  listed_fault fault (has.figure h) = let (told, there) = figure_fault fault h in (told, has.figure there)
+
   misfit : (fault : Fault) → HasMisfit a fault → Some-fault (HasMisfit b)
   misfit fault (has.project h) = let (told, there) = project_fault fault h in (told, has.project there)
-  misfit fault (has.item any) =
-      let (told, there) = list_fault item_said (HasItemFault a) (HasItemFault b) a.items b.items same.items item_fault fault any in (told, has.item there)
-  misfit fault (has.act any) =
-      let (told, there) = list_fault act_said (HasActFault a) (HasActFault b) a.acts b.acts same.acts act_fault fault any in (told, has.act there)
-  misfit fault (has.piece any) =
-      let (told, there) = list_fault piece_said (HasPieceCardFault a) (HasPieceCardFault b) a.pieces b.pieces same.pieces piece_fault fault any in (told, has.piece there)
-  misfit fault (has.load any) =
-      let (told, there) = list_fault load_said (HasLoadFault a) (HasLoadFault b) a.loads b.loads same.loads load_fault fault any in (told, has.load there)
-  misfit fault (has.figure h) = let (told, there) = figure_fault fault h in (told, has.figure there)
+  misfit fault (has.listed h) = let (told, there) = listed_fault fault h in (told, has.listed there)
 
   -- what stands on an item with items below it
   on_branch : (c d : List ℕ) (row other : ℕ) → c ≡ d → (fault : Fault) → StandsOnBranch a row c fault → Some-fault (StandsOnBranch b other d)

@@ -12,7 +12,7 @@ use Rattle.pc_deck.proofs.NumberLemmas.{acts-within}
 use Rattle.pc_faults.specs.declared.fault.Fault.{Fault}
 use Rattle.pc_project.specs.declared.estimates.Estimates.{Estimates}
 use Rattle.pc_project.specs.Misfit as has
-use Rattle.pc_project.specs.Misfit.{HasActFault, HasNoMisfit, act}
+use Rattle.pc_project.specs.Misfit.{HasActFault, HasNoMisfit, act, listed}
 use Rattle.pc_project.specs.Planned.{IsPlanned}
 use Rattle.pc_project.specs.Project.{Project}
 use Rattle.pc_edits.specs.Plans.{AreEstimates, estimates_at, estimates_in}
@@ -49,7 +49,7 @@ module _ (project : Project) (planned : IsPlanned project) where
       let card : ActCard = get_or project.deck.acts a no_act in
       subst AreEstimates (sym (get_or-map estimates_of project.deck.acts a no_act (record { optimistic = 0; likely = 0; pessimistic = 0 }) inside))
       (in_order project.deck (get_or project.deck.acts a no_act)
-      (λ fault h. planned.own.makes.cards fault (act (a, get_or project.deck.acts a no_act, inside, get_or_default project.deck.acts a (get_or project.deck.acts a no_act) no_act inside, h)))
+      (λ fault h. planned.own.makes.cards fault (listed (act (a, get_or project.deck.acts a no_act, inside, get_or_default project.deck.acts a (get_or project.deck.acts a no_act) no_act inside, h))))
       (acts-within project.deck planned.own.within a no_act inside))
 
   pub IsEditing-begun : IsEditing (begun project)

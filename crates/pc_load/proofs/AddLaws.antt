@@ -8,7 +8,7 @@ use Rattle.std.proofs.Math.Nat.{lt-mul-div-succ, mul-div-le, mul-le-mul_left}
 use Rattle.pc_rollup.specs.Totals.{amount_at}
 use Rattle.pc_load.specs.declared.spread.Spread.{Spread}
 use Rattle.pc_load.specs.declared.table.LoadRow.{LoadRow}
-use Rattle.pc_load.specs.Adding.{IsAdded, IsGrown}
+use Rattle.pc_load.specs.Adding.{CanTake, IsAdded, IsGrown}
 use Rattle.pc_load.specs.Share.{share, part}
 use Rattle.pc_load.specs.Table.{column_of}
 use Rattle.pc_load.proofs.ColumnLaws.{read_cell, column-set_same, column-set_other}
@@ -42,6 +42,13 @@ added_none rows periods entry width old = record {
 -- by the period of the beginning nothing has come
 pub begun_none : (s : Spread) (width : ℕ) → share s (width * (s.begin / width)) ≡ 0
 begun_none s width = share_none s (width * (s.begin / width)) (mul-div-le s.begin width)
+
+-- a cell that is still to come holds what it held, which is small
+pub still_small : (rows periods : ℕ) (entry : LoadRow) (width n : ℕ) (old new : List ℤ) → IsAddedTo rows periods entry width n old new → entry.row < rows → CanTake rows periods entry.row old → n < periods → unsigned_abs (amount_at new (n * rows + entry.row)) < 2 ^ 62
+still_small rows periods entry width n old new are known room within =
+    let same : amount_at (column_of rows old n) entry.row ≡ amount_at new (n * rows + entry.row) =
+    sym (ap (λ (l : List ℤ). amount_at l entry.row) (are.rest n (omega arith))) ∙ read_cell rows new n entry.row known in
+    subst (λ (z : ℤ). unsigned_abs z < 2 ^ 62) same (room n within)
 
 -- one period more
 pub added_more : (rows periods : ℕ) (entry : LoadRow) (width n : ℕ) (old new : List ℤ) (by so_far : ℕ) (v : ℤ) → IsAddedTo rows periods entry width n old new → entry.row < rows → so_far ≡ share entry.spread (width * n) → by ≡ share entry.spread (width * (n + 1)) → v ≡ amount_at new (n * rows + entry.row) +ℤ pos (by - so_far) → IsAddedTo rows periods entry width (n + 1) old (set new (n * rows + entry.row) v)

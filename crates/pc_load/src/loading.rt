@@ -2,7 +2,7 @@
 ghost use Rattle.std.specs.Prelude.{◌≡◌, ℕ, ◌*◌, ◌<◌, ◌≤◌, length, slice_index, IfOk, IfErr};
 ghost use Rattle.pc_load.specs.Entries.{AreTimes};
 ghost use Rattle.pc_load.specs.Items.{LevelsAddUp};
-ghost use Rattle.pc_load.specs.Loading.{AreItemParts, AreResourceParts, HasNoLoad, IsLoading, IsReadyFor, ItemsAddUp, ResourcesAddUp, periods_for, width_of};
+ghost use Rattle.pc_load.specs.Loading.{AreItemParts, HasNoLoad, IsLoading, IsReadyFor, ItemsAddUp, periods_for};
 
 use crate::entries::{costs, loads};
 use crate::table::{MAX_PERIODS, Table, item_table};
@@ -70,12 +70,13 @@ impl Loading {
         if have > u64::from(MAX_PERIODS) {
             return Err(NoLoad::TooMany(have));
         }
-        let periods = have as u32;
+        let (periods, width) = (have as u32, 6 * days);
+        let taken = loads(alloc, project, &times)?;
         Ok(Loading {
             days,
             order: Vec::from_slice(alloc, project.tree().preorder())?,
-            items: items_of(alloc, project, &times, 6 * days, periods)?,
-            resources: resources_of(alloc, project, &times, 6 * days, periods)?,
+            items: items_of(alloc, project, &times, width, periods)?,
+            resources: Table::build(alloc, project.resource_count(), &taken, width, periods)?,
         })
     }
 
@@ -139,25 +140,4 @@ fn items_of(
     let entries = costs(alloc, project, times)?;
     let leaves = Table::build(alloc, tree.len(), &entries, width, periods)?;
     item_table(alloc, tree, &leaves)
-}
-
-/// What is taken in each period by resource.
-fn resources_of(
-    alloc: Global,
-    project: &Project,
-    times: &[u64],
-    width: u64,
-    periods: u32,
-) -> Result<Table, AllocError>
-    requires times { AreTimes project.now times.now }
-    requires least_width { 6 ≤ width }
-    requires most_width { width ≤ 21_960 }
-    requires some_periods { 1 ≤ periods }
-    requires few_periods { periods ≤ MAX_PERIODS }
-    requires whole { slice_index times.now project.now.network.end < width * periods }
-    ensures parts { IfOk result (AreResourceParts project.now times.now width periods) }
-    ensures add_up { IfOk result (ResourcesAddUp project.now) }
-{
-    let entries = loads(alloc, project, times)?;
-    Table::build(alloc, project.resource_count(), &entries, width, periods)
 }

@@ -1,7 +1,7 @@
 -- Activities and accounts that stand on leaves, and those that do not.
-use Rattle.std.proofs.Common.{◌≡◌, ◌<◌, ℕ, List, length, map, get_or, Option, refl, sym, ap, ◌∙◌, subst, inl, inr, ◌⊎◌}
+use Rattle.std.proofs.Common.{◌≡◌, ◌+◌, ◌<◌, ◌≤◌, ℕ, List, length, map, get_or, Option, refl, sym, ap, ◌∙◌, subst, inl, inr, ◌⊎◌, arith}
 use Rattle.std.specs.List.{Any}
-use Rattle.std.proofs.lemmas.List.{get_or-map}
+use Rattle.std.proofs.lemmas.List.{get_or-map, length-map}
 use Rattle.pc_accounts.specs.Amounts.{account_at}
 use Rattle.pc_accounts.specs.declared.rows.AcctRow.{AcctRow}
 use Rattle.pc_accounts.specs.declared.rows.WorkRow.{WorkRow}
@@ -13,11 +13,13 @@ use Rattle.pc_faults.specs.declared.fault.Fault.{Fault}
 use Rattle.pc_wbs.specs.Climb.{IsLeaf}
 use Rattle.pc_wbs.specs.declared.row.ItemRow.{ItemRow}
 use Rattle.pc_project.specs.First.{IsFirstIn, earliest}
+use Rattle.pc_project.specs.Misfit.{HasNoMisfit}
 use Rattle.pc_project.specs.PackageFaults.{HasLeafFault, HasNoLeafFault, StandsOnBranch, of_act, of_account}
-use Rattle.pc_project.specs.Project.{account_of, accounts_in, item_number, placement_of, rows_of, work_of}
+use Rattle.pc_project.specs.Project.{account_of, accounts_in, item_number, placement_of, row_of, rows_of, work_of}
 use Rattle.pc_project.specs.declared.placed.Placement.{Placement}
 use Rattle.pc_project.proofs.FirstLaws.{earliest-first}
-use Rattle.pc_project.proofs.FitLaws.{Any-at}
+use Rattle.pc_project.proofs.FitLaws.{Any-at, account_item-read, act_item-within}
+use Rattle.pc_project.proofs.LoopLaws.{IsFirstBefore, first_more, first_of_all}
 
 -- an item that is not said to be no leaf is one
 leaf_unless : (rows : List ItemRow) (x : ℕ) → ((IsLeaf rows x → ⊥) → ⊥) → IsLeaf rows x
@@ -44,6 +46,19 @@ branch-is deck rows item row code found same_rows same_item first =
     subst (λ rs. IsFirstIn (λ fault. (IsLeaf rs (item_number deck code) → ⊥) × (fault ≡ not_a_leaf row code)) found) same_rows
     (subst (λ x. IsFirstIn (λ fault. (IsLeaf rows x → ⊥) × (fault ≡ not_a_leaf row code)) found) same_item first)
 
+-- the first of these faults among cards that stand on items, of which a loop has passed some
+module _ {C : Type 0} (deck : Deck) (row : C → ℕ) (item : C → List ℕ) (cards : List C) where
+  abbrev pub IsFirstBranchBefore : ℕ → Option Fault → Type 0
+  IsFirstBranchBefore i found = IsFirstBefore (λ card fault. StandsOnBranch deck (row card) (item card) fault) cards i found
+
+  pub branch_more : (rows : List ItemRow) (number i : ℕ) (card : C) (found here next : Option Fault) → rows ≡ rows_of deck → i < length cards → card ≡ get_or cards i card → number ≡ item_number deck (item card) → IsFirstBranchBefore i found →
+      IsFirstIn (λ fault. (IsLeaf rows number → ⊥) × (fault ≡ not_a_leaf (row card) (item card))) here → next ≡ earliest found here → IsFirstBranchBefore (i + 1) next
+  branch_more rows number i card found here next same within is place so_far first later =
+      first_more (λ c fault. StandsOnBranch deck (row c) (item c) fault) cards i card found within is so_far here next later (branch-is deck rows number (row card) (item card) here same place first)
+
+  pub branch_all : (i : ℕ) (found : Option Fault) → length cards ≤ i → IsFirstBranchBefore i found → IsFirstIn (λ fault. Any (λ card. StandsOnBranch deck (row card) (item card) fault) cards) found
+  branch_all i found all so_far = first_of_all (λ c fault. StandsOnBranch deck (row c) (item c) fault) cards i found all so_far
+
 module _ (deck : Deck) where
   into : (fault : Fault) → HasLeafFault deck fault → Any (λ (act : ActCard). StandsOnBranch deck act.row act.item fault) deck.acts ⊎ Any (λ (account : AcctCard). StandsOnBranch deck account.row account.item fault) deck.accounts
   into fault (of_act h) = inl h
@@ -62,6 +77,10 @@ act_item deck placements a card same inside read =
     ∙ ap (λ (p : Placement). p.item) (get_or-map (placement_of deck) deck.acts a card (record { arc = record { from = 0; to = 0 }; item = 0 }) inside)
     ∙ ap (λ (c : ActCard). item_number deck c.item) (sym read)
 
+pub act_item-in_tree : (deck : Deck) (rows : List ItemRow) (placements : List Placement) (a : ℕ) (card : ActCard) → HasNoMisfit deck → rows ≡ rows_of deck → placements ≡ map (placement_of deck) deck.acts → a < length deck.acts → card ≡ get_or deck.acts a card → (get_or placements a (record { arc = record { from = 0; to = 0 }; item = 0 })).item < length rows
+act_item-in_tree deck rows placements a card none tree same inside read =
+    omega (arith, act_item deck placements a card same inside read, act_item-within deck none a card inside read, ap length tree, length-map deck.items (row_of deck))
+
 -- the item and the cost of an activity
 pub act_work : (deck : Deck) (placements : List Placement) (a : ℕ) (card : ActCard) → placements ≡ map (placement_of deck) deck.acts → a < length deck.acts → card ≡ get_or deck.acts a card →
     let row : WorkRow = record { item = (get_or placements a (record { arc = record { from = 0; to = 0 }; item = 0 })).item; cost = card.cost } in row ≡ work_of deck card
@@ -73,3 +92,7 @@ account_item deck accounts a card same inside read =
     ap (λ (rows : List AcctRow). (account_at rows a).item) same
     ∙ ap (λ (r : AcctRow). r.item) (get_or-map (account_of deck) deck.accounts a card (record { item = 0; budget = 0 }) inside)
     ∙ ap (λ (c : AcctCard). item_number deck c.item) (sym read)
+
+pub account_item-in_tree : (deck : Deck) (rows : List ItemRow) (accounts : List AcctRow) (a : ℕ) (card : AcctCard) → HasNoMisfit deck → rows ≡ rows_of deck → accounts ≡ accounts_in deck → a < length deck.accounts → card ≡ get_or deck.accounts a card → (account_at accounts a).item < length rows
+account_item-in_tree deck rows accounts a card none tree same inside read =
+    omega (arith, account_item deck accounts a card same inside read, account_item-read deck none a card inside read, ap length tree, length-map deck.items (row_of deck))

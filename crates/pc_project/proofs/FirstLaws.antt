@@ -1,5 +1,5 @@
 -- The first of the faults of two lists is the earlier of their first faults.
-use Rattle.std.proofs.Common.{◌≡◌, ℕ, ◌<◌, ◌≤◌, Bool, true, false, ◌&&◌, ◌||◌, ◌==◌, nat_lt, nat_le, Option, Some, None, refl, sym, ◌∙◌, inl, inr, ⊎_elim, ◌⊎◌, arith, if◌then◌else◌}
+use Rattle.std.proofs.Common.{◌≡◌, ℕ, ◌<◌, ◌≤◌, Bool, true, false, ◌&&◌, ◌||◌, ◌==◌, nat_lt, nat_le, Option, Some, None, refl, sym, subst, ◌∙◌, inl, inr, ⊎_elim, ◌⊎◌, arith, if◌then◌else◌}
 use Rattle.std.proofs.lemmas.Bool.{cases_order}
 use Rattle.std.proofs.lemmas.Bool.Decides.{nat_tests}
 use Rattle.pc_faults.specs.First.{IsFirst, IsNoLater}
@@ -61,6 +61,16 @@ module _ (P Q R : Fault → Type 0) (from_P : (f : Fault) → P f → R f) (from
     least = λ other h. ⊎_elim (λ is. p.least other is) (λ is. absurd (q other is)) (into other h);
   }
   earliest-first (Some f) (Some g) p q = by_test f g p q (is_no_later f g) refl
+
+-- the first fault of one kind or another
+pub first_of_either : (P Q : Fault → Type 0) (one other found : Option Fault) → found ≡ earliest one other → IsFirstIn P one → IsFirstIn Q other → IsFirstIn (λ f. P f ⊎ Q f) found
+first_of_either P Q one other found is p q =
+    subst (IsFirstIn (λ f. P f ⊎ Q f)) (sym is) (earliest-first P Q (λ f. P f ⊎ Q f) (λ f h. inl h) (λ f h. inr h) (λ f h. h) one other p q)
+
+-- the same of faults that are the same
+pub first_of_same : (P Q : Fault → Type 0) → ((f : Fault) → P f → Q f) → ((f : Fault) → Q f → P f) → (found : Option Fault) → IsFirstIn P found → IsFirstIn Q found
+first_of_same P Q to from None none = λ f h. none f (from f h)
+first_of_same P Q to from (Some fault) first = record { holds = to fault first.holds; least = λ other h. first.least other (from other h) }
 
 -- where the earlier of two is none, both are none
 pub earliest-none : (one other : Option Fault) → earliest one other ≡ None → (one ≡ None) × (other ≡ None)

@@ -19,12 +19,12 @@ use Rattle.pc_deck.specs.declared.kinds.load.LoadCard.{LoadCard}
 use Rattle.pc_deck.specs.declared.kinds.piece.PieceCard.{PieceCard}
 use Rattle.pc_deck.specs.Deck.{Deck, account_named, act_named, event_named, item_named, resource_named}
 use Rattle.pc_project.specs.Project.{account_number, act_number, arc_of, event_number, item_number, network_of, place_of, resource_number, row_of, rows_of}
-use Rattle.pc_project.specs.Misfit.{HasAccountFault, HasActFault, HasItemFault, HasLoadFault, HasMoneyFault, HasPieceCardFault, HasStatusFault, HasNoMisfit, IsEvent, IsInOrder, account, act, charge, figure, item, project, status, togo}
+use Rattle.pc_project.specs.Misfit.{HasAccountFault, HasActFault, HasItemFault, HasLoadFault, HasMoneyFault, HasPieceCardFault, HasStatusFault, HasNoMisfit, IsEvent, IsInOrder, account, act, charge, figure, item, listed, project, status, togo}
 use Rattle.pc_project.specs.Misfit as has
 use Rattle.pc_project.proofs.NumberLaws.{account_number-within, act_number-within, event_number-within, event_number-apart, item_number-within, resource_number-within}
 
 -- what is not missing is there
-known_unless : (o : Option ℕ) → (o ≡ None → ⊥) → IsSome o
+pub known_unless : (o : Option ℕ) → (o ≡ None → ⊥) → IsSome o
 known_unless None never = absurd (never refl)
 known_unless (Some i) never = refl
 
@@ -72,14 +72,7 @@ module _ (deck : Deck) (none : HasNoMisfit deck) where
 
   pub all_fit : All (Fits deck) deck.acts
   all_fit i d within =
-      fits_at (get_or deck.acts i d) (λ fault h. none fault (act (Any-at (λ card. HasActFault deck card fault) deck.acts i d within h)))
-
-  -- the parent of an item is an item
-  parent_known : (i : ℕ) (d : ItemCard) → i < length deck.items → (code : List ℕ) → (get_or deck.items i d).parent ≡ Some code → IsSome (item_named deck code)
-  parent_known i d within code there =
-      known_unless (item_named deck code)
-      (λ n. let fault : Fault = told.unknown_item (get_or deck.items i d).row code in
-      none fault (item (Any-at (λ card. HasItemFault deck card fault) deck.items i d within (has.unknown_parent code there n refl))))
+      fits_at (get_or deck.acts i d) (λ fault h. none fault (listed (act (Any-at (λ card. HasActFault deck card fault) deck.acts i d within h))))
 
 -- a card to read past the end of the cards, where no one looks
 pub no_act : ActCard
@@ -121,14 +114,22 @@ parent_within deck (Some code) p known is =
     let same : item_number deck code ≡ p = cc in
     omega (arith, same, item_number-within deck code (known code refl))
 
--- its items have items for parents
-pub rows_of-in_range : (deck : Deck) → HasNoMisfit deck → AreInRange (rows_of deck)
-rows_of-in_range deck none x p within is =
+-- items without faults have items for parents
+pub items-in_range : (deck : Deck) → ((fault : Fault) → Any (λ card. HasItemFault deck card fault) deck.items → ⊥) → AreInRange (rows_of deck)
+items-in_range deck none x p within is =
     let count = length-map deck.items (row_of deck) in
     let inside : x < length deck.items = omega (arith, within, count) in
+    let card = get_or deck.items x no_item in
     let row = get_or-map (row_of deck) deck.items x no_item (record { parent = None }) inside in
-    let parent : option_and_then (λ code. Some (item_number deck code)) (get_or deck.items x no_item).parent ≡ Some p = sym (ap (λ r. r.parent) row) ∙ is in
-    omega (arith, count, parent_within deck (get_or deck.items x no_item).parent p (parent_known deck none x no_item inside) parent)
+    let parent : option_and_then (λ code. Some (item_number deck code)) card.parent ≡ Some p = sym (ap (λ r. r.parent) row) ∙ is in
+    let known = λ (code : List ℕ) (there : card.parent ≡ Some code).
+    known_unless (item_named deck code)
+    (λ n. let fault : Fault = told.unknown_item card.row code in
+    none fault (Any-at (λ card. HasItemFault deck card fault) deck.items x no_item inside (has.unknown_parent code there n refl))) in
+    omega (arith, count, parent_within deck card.parent p known parent)
+
+pub rows_of-in_range : (deck : Deck) → HasNoMisfit deck → AreInRange (rows_of deck)
+rows_of-in_range deck none = items-in_range deck (λ fault h. none fault (listed (item h)))
 
 -- the item of an activity is an item
 pub place_of-within : (deck : Deck) → HasNoMisfit deck → (a : ℕ) → a < length deck.acts → place_of deck (get_or deck.acts a no_act) < length deck.items
@@ -142,7 +143,7 @@ account_item-within deck none a d within =
     let fault : Fault = told.unknown_item card.row card.item in
     item_number-within deck card.item
     (known_unless (item_named deck card.item)
-    (λ n. none fault (figure (account (Any-at (λ c. HasAccountFault deck c fault) deck.accounts a d within (has.HasAccountFault.unknown_item n refl))))))
+    (λ n. none fault (listed (figure (account (Any-at (λ c. HasAccountFault deck c fault) deck.accounts a d within (has.HasAccountFault.unknown_item n refl)))))))
 
 -- the same of a card that was read
 pub act_item-within : (deck : Deck) → HasNoMisfit deck → (a : ℕ) (card : ActCard) → a < length deck.acts → card ≡ get_or deck.acts a card → item_number deck card.item < length deck.items
@@ -160,7 +161,7 @@ charge_account-within deck none k d within =
     let fault : Fault = told.unknown_account card.row card.account in
     account_number-within deck card.account
     (known_unless (account_named deck card.account)
-    (λ n. none fault (figure (charge (Any-at (λ c. HasMoneyFault deck c fault) deck.charges k d within (has.HasMoneyFault.unknown_account n refl))))))
+    (λ n. none fault (listed (figure (charge (Any-at (λ c. HasMoneyFault deck c fault) deck.charges k d within (has.HasMoneyFault.unknown_account n refl)))))))
 
 pub togo_account-within : (deck : Deck) → HasNoMisfit deck → (k : ℕ) (d : MoneyCard) → k < length deck.togos → account_number deck (get_or deck.togos k d).account < length deck.accounts
 togo_account-within deck none k d within =
@@ -168,7 +169,7 @@ togo_account-within deck none k d within =
     let fault : Fault = told.unknown_account card.row card.account in
     account_number-within deck card.account
     (known_unless (account_named deck card.account)
-    (λ n. none fault (figure (togo (Any-at (λ c. HasMoneyFault deck c fault) deck.togos k d within (has.HasMoneyFault.unknown_account n refl))))))
+    (λ n. none fault (listed (figure (togo (Any-at (λ c. HasMoneyFault deck c fault) deck.togos k d within (has.HasMoneyFault.unknown_account n refl)))))))
 
 -- the activity of a status is an activity
 pub status_activity-within : (deck : Deck) → HasNoMisfit deck → (k : ℕ) (d : StatusCard) → k < length deck.statuses → act_number deck (get_or deck.statuses k d).activity < length deck.acts
@@ -177,7 +178,7 @@ status_activity-within deck none k d within =
     let fault : Fault = told.unknown_activity card.row card.activity in
     act_number-within deck card.activity
     (known_unless (act_named deck card.activity)
-    (λ n. none fault (figure (status (Any-at (λ c. HasStatusFault deck c fault) deck.statuses k d within (has.HasStatusFault.unknown_activity n refl))))))
+    (λ n. none fault (listed (figure (status (Any-at (λ c. HasStatusFault deck c fault) deck.statuses k d within (has.HasStatusFault.unknown_activity n refl)))))))
 
 -- the network of a deck, from its parts
 pub network_of-is : (deck : Deck) (events start end : ℕ) (arcs : List Arc) → events ≡ length deck.events → start ≡ (network_of deck).start → end ≡ (network_of deck).end → arcs ≡ (network_of deck).arcs → let net : Network = record { events = events; start = start; end = end; arcs = arcs } in net ≡ network_of deck
@@ -189,7 +190,7 @@ pub piece_activity-within : (deck : Deck) → HasNoMisfit deck → (i : ℕ) (d 
 piece_activity-within deck none i d within =
     act_number-within deck (get_or deck.pieces i d).activity
     (known_unless (act_named deck (get_or deck.pieces i d).activity)
-    (λ n. none (told.unknown_activity (get_or deck.pieces i d).row (get_or deck.pieces i d).activity) (has.piece (Any-at (λ card. HasPieceCardFault deck card (told.unknown_activity (get_or deck.pieces i d).row (get_or deck.pieces i d).activity)) deck.pieces i d within (has.HasPieceCardFault.unknown_activity n refl)))))
+    (λ n. none (told.unknown_activity (get_or deck.pieces i d).row (get_or deck.pieces i d).activity) (listed (has.piece (Any-at (λ card. HasPieceCardFault deck card (told.unknown_activity (get_or deck.pieces i d).row (get_or deck.pieces i d).activity)) deck.pieces i d within (has.HasPieceCardFault.unknown_activity n refl))))))
 
 -- the activity and the resource of a load are known
 pub load_known : (deck : Deck) → HasNoMisfit deck → (i : ℕ) (d : LoadCard) → i < length deck.loads → (act_number deck (get_or deck.loads i d).activity < length deck.acts) × (resource_number deck (get_or deck.loads i d).resource < length deck.resources)
@@ -197,8 +198,8 @@ load_known deck none i d within =
     let card = get_or deck.loads i d in (
       act_number-within deck card.activity
           (known_unless (act_named deck card.activity)
-          (λ n. none (told.unknown_activity card.row card.activity) (has.load (Any-at (λ c. HasLoadFault deck c (told.unknown_activity card.row card.activity)) deck.loads i d within (has.HasLoadFault.unknown_activity n refl))))),
+          (λ n. none (told.unknown_activity card.row card.activity) (listed (has.load (Any-at (λ c. HasLoadFault deck c (told.unknown_activity card.row card.activity)) deck.loads i d within (has.HasLoadFault.unknown_activity n refl)))))),
       resource_number-within deck card.resource
           (known_unless (resource_named deck card.resource)
-          (λ n. none (told.unknown_resource card.row card.resource) (has.load (Any-at (λ c. HasLoadFault deck c (told.unknown_resource card.row card.resource)) deck.loads i d within (has.HasLoadFault.unknown_resource n refl))))),
+          (λ n. none (told.unknown_resource card.row card.resource) (listed (has.load (Any-at (λ c. HasLoadFault deck c (told.unknown_resource card.row card.resource)) deck.loads i d within (has.HasLoadFault.unknown_resource n refl)))))),
     )

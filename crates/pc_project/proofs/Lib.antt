@@ -1,10 +1,10 @@
 pub mod RefusalLaws
 pub mod AnyLaws
-mod CardLaws
+pub mod CardLaws
 pub mod FirstLaws
-mod FitLaws
+pub mod FitLaws
 pub mod LoopLaws
-mod MisfitLaws
+pub mod MisfitLaws
 mod NumberLaws
 mod PlannedLaws
 mod RangeLaws

@@ -1,5 +1,5 @@
 -- The items of a loop and the activities of a cycle are among those that there are.
-use Rattle.std.proofs.Common.{ℕ, zero, suc, ◌+◌, ◌<◌, List, [], ◌∷◌, length, refl, add-one, arith}
+use Rattle.std.proofs.Common.{◌≡◌, ℕ, zero, suc, ◌+◌, ◌<◌, List, [], ◌∷◌, length, refl, add-one, arith}
 use Rattle.std.specs.Prelude.{All, slice_index}
 use Rattle.std.proofs.lemmas.List.{length-map}
 use Rattle.std.proofs.lemmas.List.Elements.{All-from_get_or}
@@ -7,11 +7,12 @@ use Rattle.pc_model.specs.declared.Arc.{Arc}
 use Rattle.pc_model.specs.Walk.{IsWalk, IsCycle, to_of}
 use Rattle.pc_wbs.specs.declared.row.ItemRow.{ItemRow}
 use Rattle.pc_wbs.specs.Climb.{AreInRange}
-use Rattle.pc_wbs.specs.Refusal.{IsLoopFrom}
+use Rattle.pc_wbs.specs.Refusal.{IsLoopFrom, IsRefusal}
+use Rattle.pc_wbs.specs.declared.error.TreeError.{TreeError}
+use Rattle.pc_wbs.specs.declared.error.TreeError.TheVariants as tree
 use Rattle.pc_deck.specs.Deck.{Deck}
-use Rattle.pc_project.specs.Project.{arc_of, network_of, row_of, rows_of}
-use Rattle.pc_project.specs.Misfit.{HasNoMisfit}
-use Rattle.pc_project.proofs.FitLaws.{rows_of-in_range}
+use Rattle.pc_project.specs.Project.{arc_of, network_of}
+use Rattle.pc_project.specs.Refusal.{IsAbout}
 
 -- from one row of a loop on, each is a row
 loop_known : (rows : List ItemRow) (x : ℕ) (loop : List ℕ) → AreInRange rows → x < length rows → IsLoopFrom rows x loop → (k : ℕ) → k < length loop → slice_index loop k < length rows
@@ -21,11 +22,16 @@ loop_known rows x loop in_range within is (suc k) below =
     let next = in_range (slice_index loop k) (slice_index loop (k + 1)) before (is.steps k (omega arith)) in
     rw add-one at next
 
--- the items of a loop of a deck
-pub loop_of-known : (deck : Deck) (x : ℕ) (loop : List ℕ) → HasNoMisfit deck → x < length (rows_of deck) → IsLoopFrom (rows_of deck) x loop → All (λ item. item < length deck.items) loop
-loop_of-known deck x loop none within is =
-    All-from_get_or (λ item. item < length deck.items) loop 0
-    (λ k below. omega (arith, length-map deck.items (row_of deck), loop_known (rows_of deck) x loop (rows_of-in_range deck none) within is k below))
+-- what a refusal of the tree names are items
+pub refusal-about : (rows : List ItemRow) (n : ℕ) (e : TreeError) → AreInRange rows → length rows ≡ n → IsRefusal rows e → IsAbout n e
+refusal-about rows n tree.NoTop in_range many refused = tt
+refusal-about rows n (tree.SecondTop item) in_range many refused = omega (arith, refused.is_top.0, many)
+refusal-about rows n (tree.Loop loop) in_range many (top, (x, (first, is))) = (
+  is.some,
+  All-from_get_or (λ item. item < n) loop 0 (λ k below. omega (arith, many, loop_known rows x loop in_range first.holds.0 is k below)),
+)
+refusal-about rows n (tree.TooDeep item level) in_range many (top, none, first, deep) = omega (arith, first.holds.0, many)
+refusal-about rows n tree.OutOfMemory in_range many refused = tt
 
 -- the activities of a walk
 walk_known : (arcs : List Arc) (e f : ℕ) (walk : List ℕ) → IsWalk arcs e walk f → (k : ℕ) → k < length walk → slice_index walk k < length arcs

@@ -1,9 +1,9 @@
 -- A deck is not both a project and refused, and each refusal can be told.
-use Rattle.std.proofs.Common.{◌≡◌, ◌≢◌, refl, sym, ◌∙◌, subst, ap}
+use Rattle.std.proofs.Common.{◌≡◌, ◌≢◌, List, refl, sym, ◌∙◌, subst, ap}
 use Rattle.pc_wbs.specs.declared.error.TreeError.{TreeError}
 use Rattle.pc_wbs.specs.declared.error.TreeError.TheVariants as tree
 use Rattle.pc_wbs.specs.Climb.{IsTree}
-use Rattle.pc_wbs.specs.Refusal.{IsRefusal as IsTreeRefusal}
+use Rattle.pc_wbs.specs.declared.row.ItemRow.{ItemRow}
 use Rattle.pc_wbs.proofs.ExactLaws.{IsTree-not_refused}
 use Rattle.pc_net.specs.declared.refusal.NetError.{NetError}
 use Rattle.pc_net.specs.declared.refusal.NetError.TheVariants as net
@@ -24,7 +24,7 @@ use Rattle.pc_faults.specs.declared.fault.Fault.{Fault as ADeckFault}
 use Rattle.pc_faults.specs.declared.fault.DeckError.{DeckError}
 use Rattle.pc_faults.specs.declared.fault.DeckError.TheVariants.{Fault, OutOfMemory}
 use Rattle.pc_project.specs.Project.{network_of, rows_of}
-use Rattle.pc_project.specs.Misfit.{HasProjectFault, HasItemFault, HasActFault, HasAccountFault, HasMoneyFault, HasStatusFault, HasPieceCardFault, HasLoadFault, HasFigureFault, HasMisfit, HasNoMisfit}
+use Rattle.pc_project.specs.Misfit.{HasProjectFault, HasItemFault, HasActFault, HasAccountFault, HasMoneyFault, HasStatusFault, HasPieceCardFault, HasLoadFault, HasFigureFault, HasListedFault, HasMisfit, HasNoMisfit}
 use Rattle.pc_project.specs.Misfit as has
 use Rattle.pc_project.specs.DisorderFaults.{HasDisorder, HasNoDisorder, of_as_of, of_status}
 use Rattle.pc_project.specs.PackageFaults.{HasLeafFault, HasNoLeafFault, IsFirstUnevenFault, of_account, of_act}
@@ -32,14 +32,17 @@ use Rattle.pc_project.specs.ToGoFaults.{IsFirstSecondToGo}
 use Rattle.pc_project.specs.PieceFaults as piece
 use Rattle.pc_project.specs.PieceFaults.{HasPieceFault}
 use Rattle.pc_project.specs.TermsFaults.{HasTermsFault, bonus_above}
-use Rattle.pc_project.specs.Refusal.{tree_fault, net_fault, HasSoundFigures, HasSoundPlan, IsEven, MakesProject, IsRefusedWith, of_cards, of_tree, of_network, of_leaves, of_packages, of_statuses, of_togos, of_pieces, of_terms}
+use Rattle.pc_project.specs.Refusal.{IsTreeFault, tree_fault, net_fault, HasSoundFigures, HasSoundPlan, IsEven, MakesProject, IsRefusedWith, of_cards, of_tree, of_network, of_leaves, of_packages, of_statuses, of_togos, of_pieces, of_terms}
 
 -- want of memory is no fault
 no_fault : (fault : ADeckFault) → OutOfMemory ≡ Fault fault → ⊥
 no_fault fault is = cc
 
-pub tree_has_fault : (deck : Deck) (e : TreeError) (fault : ADeckFault) → tree_fault deck e ≡ Fault fault → e ≢ tree.OutOfMemory
-tree_has_fault deck e fault is same = no_fault fault (sym (ap (tree_fault deck) same) ∙ is)
+-- a fault of the tree says that the items are none
+pub no_tree : (items : List ItemCard) (rows : List ItemRow) (fault : ADeckFault) → IsTree rows → IsTreeFault items rows fault → ⊥
+no_tree items rows fault sound at =
+    let apart : at.error ≢ tree.OutOfMemory = λ same. no_fault fault (sym (ap (tree_fault items) same) ∙ at.told) in
+    apart (IsTree-not_refused rows at.error sound at.refused)
 
 net_has_fault : (deck : Deck) (e : NetError) (fault : ADeckFault) → net_fault deck e ≡ Fault fault → e ≢ net.OutOfMemory
 net_has_fault deck e fault is same = no_fault fault (sym (ap (net_fault deck) same) ∙ is)
@@ -47,8 +50,7 @@ net_has_fault deck e fault is same = no_fault fault (sym (ap (net_fault deck) sa
 -- cards that make a project are not refused
 pub makes_not_refused : (deck : Deck) (fault : ADeckFault) → MakesProject deck → IsRefusedWith deck fault → ⊥
 makes_not_refused deck fault makes (of_cards first) = makes.cards fault first.holds
-makes_not_refused deck fault makes (of_tree cards e refused is) =
-    tree_has_fault deck e fault is (IsTree-not_refused (rows_of deck) e makes.tree refused)
+makes_not_refused deck fault makes (of_tree cards at) = no_tree deck.items (rows_of deck) fault makes.tree at
 makes_not_refused deck fault makes (of_network cards items e refused is) =
     refused_is_not_sound (network_of deck) e refused (net_has_fault deck e fault is) makes.sound
 makes_not_refused deck fault makes (of_leaves plan first) = makes.figures.leaves fault first.holds
@@ -100,13 +102,16 @@ told_of-figure deck fault (has.charge (k, card, within, at, here)) = told_of-mon
 told_of-figure deck fault (has.togo (k, card, within, at, here)) = told_of-money deck card fault here
 told_of-figure deck fault (has.status (k, card, within, at, here)) = told_of-status deck card fault here
 
+told_of-listed : (deck : Deck) (fault : ADeckFault) → HasListedFault deck fault → IsTold fault
+told_of-listed deck fault (has.item (k, card, within, at, here)) = told_of-item deck card fault here
+told_of-listed deck fault (has.act (k, card, within, at, here)) = told_of-act deck card fault here
+told_of-listed deck fault (has.piece (k, card, within, at, here)) = told_of-piece_card deck card fault here
+told_of-listed deck fault (has.load (k, card, within, at, here)) = told_of-load deck card fault here
+told_of-listed deck fault (has.figure here) = told_of-figure deck fault here
+
 told_of-misfit : (deck : Deck) (fault : ADeckFault) → HasMisfit deck fault → IsTold fault
 told_of-misfit deck fault (has.project here) = told_of-project deck deck.project fault here
-told_of-misfit deck fault (has.item (k, card, within, at, here)) = told_of-item deck card fault here
-told_of-misfit deck fault (has.act (k, card, within, at, here)) = told_of-act deck card fault here
-told_of-misfit deck fault (has.piece (k, card, within, at, here)) = told_of-piece_card deck card fault here
-told_of-misfit deck fault (has.load (k, card, within, at, here)) = told_of-load deck card fault here
-told_of-misfit deck fault (has.figure here) = told_of-figure deck fault here
+told_of-misfit deck fault (has.listed here) = told_of-listed deck fault here
 
 told_of-leaf : (deck : Deck) (fault : ADeckFault) → HasLeafFault deck fault → IsTold fault
 told_of-leaf deck fault (of_act (k, card, within, at, (branch, is))) = told fault _ is refl
@@ -134,12 +139,15 @@ told_of-terms deck fault (bonus_above card there above is) = told fault _ is ref
 fault_of : (known fault : ADeckFault) → Fault known ≡ Fault fault → IsTold known → IsTold fault
 fault_of known fault is can = let same : fault ≡ known = cc in subst IsTold (sym same) can
 
-pub told_of-tree : (deck : Deck) (e : TreeError) (fault : ADeckFault) → tree_fault deck e ≡ Fault fault → IsTold fault
-told_of-tree deck tree.NoTop fault is = fault_of _ fault is refl
-told_of-tree deck (tree.SecondTop item) fault is = fault_of _ fault is refl
-told_of-tree deck (tree.Loop loop) fault is = fault_of _ fault is refl
-told_of-tree deck (tree.TooDeep item level) fault is = fault_of _ fault is refl
-told_of-tree deck tree.OutOfMemory fault is = absurd (no_fault fault is)
+told_of-error : (items : List ItemCard) (e : TreeError) (fault : ADeckFault) → tree_fault items e ≡ Fault fault → IsTold fault
+told_of-error items tree.NoTop fault is = fault_of _ fault is refl
+told_of-error items (tree.SecondTop item) fault is = fault_of _ fault is refl
+told_of-error items (tree.Loop loop) fault is = fault_of _ fault is refl
+told_of-error items (tree.TooDeep item level) fault is = fault_of _ fault is refl
+told_of-error items tree.OutOfMemory fault is = absurd (no_fault fault is)
+
+pub told_of-tree : (items : List ItemCard) (rows : List ItemRow) (fault : ADeckFault) → IsTreeFault items rows fault → IsTold fault
+told_of-tree items rows fault at = told_of-error items at.error fault at.told
 
 told_of-net : (deck : Deck) (e : NetError) (fault : ADeckFault) → net_fault deck e ≡ Fault fault → IsTold fault
 told_of-net deck (net.StartEntered arc) fault is = fault_of _ fault is refl
@@ -151,7 +159,7 @@ told_of-net deck net.OutOfMemory fault is = absurd (no_fault fault is)
 -- the fault with which a deck is refused has a line
 pub told_of-refused : (deck : Deck) (fault : ADeckFault) → IsRefusedWith deck fault → IsTold fault
 told_of-refused deck fault (of_cards first) = told_of-misfit deck fault first.holds
-told_of-refused deck fault (of_tree cards e refused is) = told_of-tree deck e fault is
+told_of-refused deck fault (of_tree cards at) = told_of-tree deck.items (rows_of deck) fault at
 told_of-refused deck fault (of_network cards items e refused is) = told_of-net deck e fault is
 told_of-refused deck fault (of_leaves plan first) = told_of-leaf deck fault first.holds
 told_of-refused deck fault (of_packages plan leaves uneven) = told_of-uneven deck fault uneven
@@ -161,9 +169,9 @@ told_of-refused deck fault (of_pieces plan figures first) = told_of-piece deck f
 told_of-refused deck fault (of_terms plan figures pieces first) = told_of-terms deck fault first.holds
 
 -- what a refusal that is told as one of the tree, or of the network, says
-pub refused_by_tree : (deck : Deck) (e : TreeError) (result : DeckError) → HasNoMisfit deck → IsTreeRefusal (rows_of deck) e → Refuses (λ fault. tree_fault deck e ≡ Fault fault) result → Refuses (IsRefusedWith deck) result
-refused_by_tree deck e (Fault fault) cards refused is = of_tree cards e refused is
-refused_by_tree deck e OutOfMemory cards refused is = tt
+pub refused_by_tree : (deck : Deck) (result : DeckError) → HasNoMisfit deck → Refuses (IsTreeFault deck.items (rows_of deck)) result → Refuses (IsRefusedWith deck) result
+refused_by_tree deck (Fault fault) cards at = of_tree cards at
+refused_by_tree deck OutOfMemory cards at = tt
 
 pub refused_by_net : (deck : Deck) (e : NetError) (result : DeckError) → HasNoMisfit deck → IsTree (rows_of deck) → IsNetRefusal (network_of deck) e → Refuses (λ fault. net_fault deck e ≡ Fault fault) result → Refuses (IsRefusedWith deck) result
 refused_by_net deck e (Fault fault) cards items refused is = of_network cards items e refused is

@@ -1,5 +1,5 @@
 -- What holds of the project of each accepted deck, whatever its limits.
-use Rattle.std.proofs.Common.{◌≡◌, ℕ, ◌<◌, List, length, map, get_or, sym, ap, ◌∙◌, subst, arith}
+use Rattle.std.proofs.Common.{◌≡◌, ℕ, ◌<◌, length, map, get_or, sym, ap, ◌∙◌, subst, arith}
 use Rattle.std.proofs.lemmas.List.{length-map, get_or-map}
 use Rattle.pc_accounts.specs.declared.rows.AcctRow.{AcctRow}
 use Rattle.pc_accounts.specs.Amounts.{item_of}
@@ -9,7 +9,7 @@ use Rattle.pc_model.specs.Pieces.{ArePieces}
 use Rattle.pc_model.specs.Schedule.{AreTerms, term_at}
 use Rattle.pc_wbs.specs.Climb.{AreInRange, IsLeaf, IsTree}
 use Rattle.pc_project.specs.Figures.{IsProjectOfDeck}
-use Rattle.pc_project.specs.Project.{Project, account_of, arc_of, network_of, project_in, row_of, rows_of, term_of}
+use Rattle.pc_project.specs.Project.{Project, account_of, arc_of, row_of, rows_of, term_of}
 use Rattle.pc_project.specs.Refusal.{MakesProject}
 use Rattle.pc_project.proofs.BranchLaws.{account_on_leaf}
 use Rattle.pc_project.proofs.FigureLaws.{account_there, no_account}

@@ -78,14 +78,18 @@ pub data HasFigureFault (deck : Deck) (fault : Fault) : Type 0 where
   togo : Any (λ card. HasMoneyFault deck card fault) deck.togos → HasFigureFault deck fault
   status : Any (λ card. HasStatusFault deck card fault) deck.statuses → HasFigureFault deck fault
 
+-- the faults of the cards that stand in lists: all but the PROJECT card
+pub data HasListedFault (deck : Deck) (fault : Fault) : Type 0 where
+  item : Any (λ card. HasItemFault deck card fault) deck.items → HasListedFault deck fault
+  act : Any (λ card. HasActFault deck card fault) deck.acts → HasListedFault deck fault
+  piece : Any (λ card. HasPieceCardFault deck card fault) deck.pieces → HasListedFault deck fault
+  load : Any (λ card. HasLoadFault deck card fault) deck.loads → HasListedFault deck fault
+  figure : HasFigureFault deck fault → HasListedFault deck fault
+
 -- the faults of the cards of a deck
 pub data HasMisfit (deck : Deck) (fault : Fault) : Type 0 where
   project : HasProjectFault deck deck.project fault → HasMisfit deck fault
-  item : Any (λ card. HasItemFault deck card fault) deck.items → HasMisfit deck fault
-  act : Any (λ card. HasActFault deck card fault) deck.acts → HasMisfit deck fault
-  piece : Any (λ card. HasPieceCardFault deck card fault) deck.pieces → HasMisfit deck fault
-  load : Any (λ card. HasLoadFault deck card fault) deck.loads → HasMisfit deck fault
-  figure : HasFigureFault deck fault → HasMisfit deck fault
+  listed : HasListedFault deck fault → HasMisfit deck fault
 
 -- no card of the deck has a fault
 abbrev pub HasNoMisfit : Deck → Type 0

@@ -3,6 +3,7 @@ use Rattle.std.specs.Prelude.{◌≡◌, ◌≤◌, length, map}
 use Rattle.pc_model.specs.declared.limits.TheConstants.{MAX_ITEMS}
 use Rattle.pc_deck.specs.Deck.{Deck}
 use Rattle.pc_deck.specs.Within.{IsWithinLimits}
+use Rattle.pc_project.specs.declared.numbers.FoundLists.{FoundLists}
 use Rattle.pc_project.specs.declared.numbers.Numbers.{Numbers}
 use Rattle.pc_project.specs.Misfit.{HasNoMisfit}
 use Rattle.pc_project.specs.Project.{accounts_in, charges_in, load_of, network_of, pieces_in, placement_of, rows_of, statuses_in, togos_in}
@@ -14,6 +15,14 @@ pub record AreFiguresOf (deck : Deck) (figures : Figures) : Type 0 where
   pub charges : figures.charges.items ≡ charges_in deck
   pub togos : figures.togos.items ≡ togos_in deck
   pub statuses : figures.statuses.items ≡ statuses_in deck
+
+-- what was found of the lists is what their cards name
+pub record AreListsOf (deck : Deck) (found : FoundLists) : Type 0 where
+  pub rows : found.rows.items ≡ rows_of deck
+  pub placements : found.placements.items ≡ map (placement_of deck) deck.acts
+  pub pieces : found.pieces.items ≡ pieces_in deck
+  pub loads : found.loads.items ≡ map (load_of deck) deck.loads
+  pub figures : AreFiguresOf deck found.figures
 
 -- the numbers are those of the deck, of which no card has a fault
 pub record AreNumbersOf (deck : Deck) (numbers : Numbers) : Type 0 where

@@ -2,14 +2,22 @@
 use Rattle.std.specs.Prelude.{ℕ, List, map}
 use Rattle.pc_model.specs.Codes.{code_at}
 use Rattle.pc_deck.specs.Deck.{Deck}
+use Rattle.pc_deck.specs.declared.kinds.wbs.ItemCard.{ItemCard}
 
 -- the codes with these numbers
 abbrev pub codes_at : List (List ℕ) → List ℕ → List (List ℕ)
 codes_at codes numbers = map (code_at codes) numbers
 
--- the records of the items, the events and the activities, in card order
+-- the records and the codes of items, in their order
+abbrev pub records_among : List ItemCard → List ℕ
+records_among items = map (λ item. item.row) items
+
+abbrev pub codes_among : List ItemCard → List (List ℕ)
+codes_among items = map (λ item. item.code) items
+
+-- the records of the items, the events and the activities of a deck, in card order
 abbrev pub item_records : Deck → List ℕ
-item_records deck = map (λ item. item.row) deck.items
+item_records deck = records_among deck.items
 
 abbrev pub event_records : Deck → List ℕ
 event_records deck = map (λ event. event.row) deck.events

@@ -3,19 +3,21 @@
 -- order), then the network of the activities (F24 to F27, tried in that order), then the items that activities and
 -- accounts stand on (F28), then the budgets of packages (F29), then statuses and as-of (F30), then second amounts to go
 -- (F31), then the pieces of the activities' costs (F33 to F35), and last the terms of time (F36).
-use Rattle.std.specs.Prelude.{◌≡◌, ℕ, slice_index}
+use Rattle.std.specs.Prelude.{◌≡◌, ℕ, ◌<◌, List, All, length, slice_index}
 use Rattle.pc_model.specs.Codes.{code_at}
 use Rattle.pc_accounts.specs.Packages.{IsUneven}
 use Rattle.pc_accounts.specs.Second.{IsRepeated}
 use Rattle.pc_model.specs.Network.{IsSound}
 use Rattle.pc_wbs.specs.Climb.{IsTree}
 use Rattle.pc_wbs.specs.Refusal.{IsRefusal as IsTreeRefusal}
+use Rattle.pc_wbs.specs.declared.row.ItemRow.{ItemRow}
 use Rattle.pc_wbs.specs.declared.error.TreeError.{TreeError}
 use Rattle.pc_wbs.specs.declared.error.TreeError.TheVariants as tree
 use Rattle.pc_net.specs.Refusals.{IsRefusal as IsNetRefusal}
 use Rattle.pc_net.specs.declared.refusal.NetError.{NetError}
 use Rattle.pc_net.specs.declared.refusal.NetError.TheVariants as net
-use Rattle.pc_deck.specs.Deck.{Deck, act_codes, event_codes, item_codes}
+use Rattle.pc_deck.specs.Deck.{Deck, act_codes, event_codes}
+use Rattle.pc_deck.specs.declared.kinds.wbs.ItemCard.{ItemCard}
 use Rattle.pc_faults.specs.First.{IsFirst}
 use Rattle.pc_faults.specs.Faults.{no_top, second_top, item_loop, too_deep, enters_start, leaves_end, dangling, cycle}
 use Rattle.pc_faults.specs.declared.fault.Fault.{Fault as ADeckFault}
@@ -25,18 +27,32 @@ use Rattle.pc_project.specs.DisorderFaults.{HasDisorder, HasNoDisorder}
 use Rattle.pc_project.specs.PackageFaults.{HasLeafFault, HasNoLeafFault, IsFirstUnevenFault}
 use Rattle.pc_project.specs.PieceFaults.{HasPieceFault, HasNoPieceFault}
 use Rattle.pc_project.specs.Project.{accounts_in, network_of, rows_of, togos_in, work_in}
-use Rattle.pc_project.specs.Records.{act_records, codes_at, event_records, item_records}
+use Rattle.pc_project.specs.Records.{act_records, codes_among, codes_at, event_records, records_among}
 use Rattle.pc_project.specs.TermsFaults.{HasTermsFault, HasNoTermsFault}
 use Rattle.pc_project.specs.ToGoFaults.{IsFirstSecondToGo}
 use Rattle.pc_project.specs.Misfit.{HasMisfit, HasNoMisfit}
 
--- the fault by which a refusal of the tree is told; it comes at the card of the item that is named first
-abbrev pub tree_fault : Deck → TreeError → DeckError
-tree_fault deck tree.NoTop = Fault no_top
-tree_fault deck (tree.SecondTop item) = Fault (second_top (slice_index (item_records deck) item) (code_at (item_codes deck) item))
-tree_fault deck (tree.Loop loop) = Fault (item_loop (slice_index (item_records deck) (slice_index loop 0)) (codes_at (item_codes deck) loop))
-tree_fault deck (tree.TooDeep item level) = Fault (too_deep (slice_index (item_records deck) item) (code_at (item_codes deck) item) level)
-tree_fault deck tree.OutOfMemory = OutOfMemory
+-- a refusal of the tree names some of n items
+abbrev pub IsAbout : ℕ → TreeError → Type 0
+IsAbout n tree.NoTop = Unit {0}
+IsAbout n (tree.SecondTop item) = item < n
+IsAbout n (tree.Loop loop) = (0 < length loop) × All (λ item. item < n) loop
+IsAbout n (tree.TooDeep item level) = item < n
+IsAbout n tree.OutOfMemory = Unit {0}
+
+-- the fault by which a refusal of the tree of these items is told; it comes at the card of the item that is named first
+abbrev pub tree_fault : List ItemCard → TreeError → DeckError
+tree_fault items tree.NoTop = Fault no_top
+tree_fault items (tree.SecondTop item) = Fault (second_top (slice_index (records_among items) item) (code_at (codes_among items) item))
+tree_fault items (tree.Loop loop) = Fault (item_loop (slice_index (records_among items) (slice_index loop 0)) (codes_at (codes_among items) loop))
+tree_fault items (tree.TooDeep item level) = Fault (too_deep (slice_index (records_among items) item) (code_at (codes_among items) item) level)
+tree_fault items tree.OutOfMemory = OutOfMemory
+
+-- these items, with these parents, are no tree, and that is told by the fault
+pub record IsTreeFault (items : List ItemCard) (rows : List ItemRow) (fault : ADeckFault) : Type 0 where
+  pub error : TreeError
+  pub refused : IsTreeRefusal rows error
+  pub told : tree_fault items error ≡ Fault fault
 
 -- the fault by which a refusal of the network is told; it comes at the card of the activity or event that is named first
 abbrev pub net_fault : Deck → NetError → DeckError
@@ -84,7 +100,7 @@ pub data IsRefusedWith (deck : Deck) (fault : ADeckFault) : Type 0 where
   -- F13 to F19, F41: a card names what is not there, or its numbers are out of order
   of_cards : IsFirst (HasMisfit deck) fault → IsRefusedWith deck fault
   -- F20 to F23: the items are no tree
-  of_tree : HasNoMisfit deck → (e : TreeError) → IsTreeRefusal (rows_of deck) e → tree_fault deck e ≡ Fault fault → IsRefusedWith deck fault
+  of_tree : HasNoMisfit deck → IsTreeFault deck.items (rows_of deck) fault → IsRefusedWith deck fault
   -- F24 to F27: the network is not sound
   of_network : HasNoMisfit deck → IsTree (rows_of deck) → (e : NetError) → IsNetRefusal (network_of deck) e → net_fault deck e ≡ Fault fault → IsRefusedWith deck fault
   -- F28: an activity or an account stands on an item that has items below it

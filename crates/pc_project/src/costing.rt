@@ -19,7 +19,7 @@ impl Project {
         ensures limit { result ≤ MAX_ACTIVITY_COST }
     {
         let own = pieces_of(&self.plan.pieces, a);
-        cost_with(self.plan.terms[a as usize], own.as_slice(), duration)
+        cost_with(self.plan.lists.terms[a as usize], own.as_slice(), duration)
     }
 }
 

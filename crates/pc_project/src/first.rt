@@ -5,7 +5,7 @@ ghost use Rattle.pc_project.specs.First.{earliest, is_no_later};
 use pc_faults::Fault;
 
 /// The earlier of two faults, where there are any.
-pub(crate) fn earliest(one: Option<Fault>, other: Option<Fault>) -> Option<Fault>
+pub fn earliest(one: Option<Fault>, other: Option<Fault>) -> Option<Fault>
     ensures { result ≡ earliest one other }
 {
     match (one, other) {

@@ -32,8 +32,11 @@ mod tree;
 
 pub use crate::activity::Activity;
 pub use crate::estimates::Estimates;
+pub use crate::first::earliest;
 pub use crate::heading::Counts;
 pub use crate::load::LoadItem;
+pub use crate::named::codes_at;
 pub use crate::phases::project_of;
 pub use crate::project::Project;
+pub use crate::tree::tree_between;
 pub use pc_model::PieceRow as Piece;

@@ -2,14 +2,15 @@
 ghost use Rattle.std.specs.Prelude.{◌≡◌, ◌≤◌, All, map, IfOk};
 ghost use Rattle.pc_model.specs.declared.limits.TheConstants.{MAX_UNIT_DAYS};
 ghost use Rattle.pc_times.specs.Estimates.{expected_time, variance_of};
-ghost use Rattle.pc_deck.specs.Deck.{act_codes, event_codes, item_codes};
+ghost use Rattle.pc_deck.specs.Deck.{act_codes, event_codes};
 ghost use Rattle.pc_deck.specs.Act.{IsActWithin};
 ghost use Rattle.pc_deck.specs.Within.{IsWithinLimits};
 ghost use Rattle.pc_project.specs.Misfit.{IsInOrder};
 ghost use Rattle.pc_project.specs.Project.{expected_of, place_of, placement_of, term_of, variance_in};
+ghost use Rattle.pc_project.specs.Records.{codes_among};
 
 use crate::placed::Placement;
-use pc_deck::{ActCard, Cards};
+use pc_deck::{ActCard, Cards, ItemCard};
 use pc_model::{Arc, Term};
 use pc_text::Code;
 use pc_times::{expected_sixths, variance_36};
@@ -20,9 +21,12 @@ use std::alloc::{AllocError, Global};
 pub(crate) struct Lists {
     pub events: Vec<Code>,
     pub activities: Vec<Code>,
+    /// The items of the activities.
     pub places: Vec<u32>,
     pub terms: Vec<Term>,
+    /// The expected times of the activities, in sixths of a day.
     pub expected: Vec<u64>,
+    /// The variances of these times, in thirty-sixths of a square day.
     pub variances: Vec<u64>,
 }
 
@@ -68,11 +72,11 @@ pub(crate) fn codes_of_acts(alloc: Global, cards: &Cards) -> Result<Vec<Code>, A
     cards.acts().iter().map(|act| act.code).collect(alloc)
 }
 
-/// The codes of the items.
-pub(crate) fn codes_of_items(alloc: Global, cards: &Cards) -> Result<Vec<Code>, AllocError>
-    ensures { IfOk result (λ codes. codes.items ≡ item_codes cards.now) }
+/// The codes of items.
+pub(crate) fn codes_of_items(alloc: Global, items: &[ItemCard]) -> Result<Vec<Code>, AllocError>
+    ensures { IfOk result (λ codes. codes.items ≡ codes_among items.now) }
 {
-    cards.items().iter().map(|item| item.code).collect(alloc)
+    items.iter().map(|item| item.code).collect(alloc)
 }
 
 /// The items of the activities.

@@ -1,27 +1,27 @@
 //! The cards that a refusal names by their numbers.
 ghost use Rattle.std.specs.Prelude.{◌≡◌, ◌<◌, All, length, map, slice_index, IfOk};
 ghost use Rattle.pc_model.specs.Codes.{code_at};
-ghost use Rattle.pc_deck.specs.Deck.{act_codes, event_codes, item_codes};
-ghost use Rattle.pc_project.specs.Records.{act_records, codes_at, event_records, item_records};
+ghost use Rattle.pc_deck.specs.Deck.{act_codes, event_codes};
+ghost use Rattle.pc_project.specs.Records.{act_records, codes_among, codes_at, event_records, records_among};
 
-use pc_deck::Cards;
+use pc_deck::{Cards, ItemCard};
 use pc_text::{Code, Codes};
 use std::alloc::{AllocError, Global};
 
 /// A card that is named: its record and its code.
-#[derive(Clone, Copy, Debug)]
+#[derive(Clone, Copy)]
 pub(crate) struct NamedCard {
     pub row: u32,
     pub code: Code,
 }
 
-/// The card of an item.
-pub(crate) fn item_card(cards: &Cards, item: u32) -> NamedCard
-    requires { item < length cards.now.items }
-    ensures row { result.row ≡ slice_index (item_records cards.now) item }
-    ensures code { result.code ≡ code_at (item_codes cards.now) item }
+/// The card of an item, among those of all items.
+pub(crate) fn item_card(items: &[ItemCard], item: u32) -> NamedCard
+    requires { item < length items.now }
+    ensures row { result.row ≡ slice_index (records_among items.now) item }
+    ensures code { result.code ≡ code_at (codes_among items.now) item }
 {
-    let card = cards.items()[item as usize];
+    let card = items[item as usize];
     NamedCard {
         row: card.row,
         code: card.code,
@@ -55,7 +55,7 @@ pub(crate) fn act_card(cards: &Cards, act: u32) -> NamedCard
 }
 
 /// The codes with these numbers.
-pub(crate) fn codes_at(alloc: Global, codes: &[Code], numbers: &[u32]) -> Result<Codes, AllocError>
+pub fn codes_at(alloc: Global, codes: &[Code], numbers: &[u32]) -> Result<Codes, AllocError>
     requires { All (λ number. number < length codes.now) numbers.now }
     ensures { IfOk result (λ picked. picked ≡ codes_at codes.now numbers.now) }
 {

@@ -49,7 +49,7 @@ fn fault_of(cards: &Cards, uneven: Uneven) -> DeckError
             budgets,
             costs,
         } => {
-            let card = item_card(cards, item);
+            let card = item_card(cards.items(), item);
             DeckError::Fault(Fault::uneven(card.row, card.code, budgets, costs))
         }
         Uneven::OutOfMemory => DeckError::OutOfMemory,

@@ -118,19 +118,11 @@ fn planned(
     Ok(Plan {
         net,
         tree,
-        events: lists.events,
-        activities: lists.activities,
-        places: lists.places,
-        terms: lists.terms,
-        expected: lists.expected,
-        variances: lists.variances,
+        lists,
         pieces: numbers.pieces,
         loads: numbers.loads,
-        accounts: numbers.figures.accounts,
-        charges: numbers.figures.charges,
-        togos: numbers.figures.togos,
+        figures: numbers.figures,
         book,
-        statuses: numbers.figures.statuses,
         states,
     })
 }

@@ -1,11 +1,12 @@
 //! The pieces of the activities' costs, or why they are none.
-ghost use Rattle.std.specs.Prelude.{◌≡◌, ◌+◌, ◌^◌, ◌<◌, OnOk, IfOk, IfErr, map};
+ghost use Rattle.std.specs.Prelude.{◌≡◌, ◌+◌, ◌^◌, ◌<◌, OnOk, IfOk, IfErr, map, slice_set};
 ghost use Rattle.pc_faults.specs.First.{Refuses, IsFirst};
 ghost use Rattle.pc_project.specs.First.{IsFirstIn};
 ghost use Rattle.pc_project.specs.Misfit.{HasNoMisfit};
 ghost use Rattle.pc_project.specs.Numbered.{AreNumbersOf};
 ghost use Rattle.pc_project.specs.PieceFaults.{HasFlaw, HasNoPieceFault, HasPieceFault};
 ghost use Rattle.pc_project.specs.Project.{pieces_in, term_of};
+ghost use Rattle.pc_project.specs.Runs.{HasFlawBehind, IsNext, run_at, run_with};
 
 use crate::first::earliest;
 use crate::numbers::Numbers;
@@ -16,7 +17,7 @@ use std::alloc::{AllocError, Global};
 
 /// What the pieces of one activity come to, as far as they were read: how many there are, what the last of them costs
 /// for each unit, or else the activity itself, and how many units they have.
-#[derive(Clone, Copy, Debug)]
+#[derive(Clone, Copy)]
 pub(crate) struct Run {
     pub count: usize,
     pub slope: u64,
@@ -50,17 +51,31 @@ fn first_piece_fault(
     let mut runs = first_runs(alloc, acts)?;
     let mut fault = None;
     for (i, card) in cards.pieces().iter().enumerate() {
-        let piece = pieces[i];
-        let activity = piece.activity as usize;
-        let run = runs[activity];
-        fault = earliest(fault, flaw(&acts[activity], run, piece, card));
-        runs[activity] = Run {
-            count: run.count + 1,
-            slope: piece.slope,
-            units: run.units + piece.units,
-        };
+        fault = earliest(fault, take_in(&mut runs, acts, pieces[i], card));
     }
     Ok(fault)
+}
+
+/// The first fault of a piece, which a card gives, behind those of its activity that were read; from then on it is one of them.
+fn take_in(
+    runs: &mut Vec<Run>,
+    acts: &[ActCard],
+    piece: PieceRow,
+    card: &PieceCard,
+) -> Option<Fault>
+    requires { IsNext (map term_of acts.now) runs.old.items piece }
+    ensures fault { IsFirstIn (HasFlawBehind (map term_of acts.now) runs.old.items piece card.now.row card.now.activity) result }
+    ensures runs { runs.new.items ≡ slice_set runs.old.items piece.activity (run_with (run_at runs.old.items piece.activity) piece) }
+{
+    let activity = piece.activity as usize;
+    let run = runs[activity];
+    let fault = flaw(&acts[activity], run, piece, card);
+    runs[activity] = Run {
+        count: run.count + 1,
+        slope: piece.slope,
+        units: run.units + piece.units,
+    };
+    fault
 }
 
 /// What the activities come to before any piece.

@@ -15,14 +15,14 @@ use pc_status::StatusRow;
 use pc_wbs::ItemRow;
 
 /// Where an activity stands: between which events, and at which item.
-#[derive(Clone, Copy, Debug)]
+#[derive(Clone, Copy)]
 pub(crate) struct Placement {
     pub arc: Arc,
     pub item: u32,
 }
 
 /// The events where a project starts and ends.
-#[derive(Clone, Copy, Debug)]
+#[derive(Clone, Copy)]
 pub(crate) struct Ends {
     pub start: u32,
     pub end: u32,

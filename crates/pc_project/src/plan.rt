@@ -1,11 +1,11 @@
 //! What is worked out of the cards of a deck.
 
+use crate::figures::Figures;
+use crate::lists::Lists;
 use crate::load::LoadItem;
-use pc_accounts::{AcctRow, Book, MoneyRow};
-use pc_model::{PieceRow, Term};
+use pc_accounts::Book;
+use pc_model::PieceRow;
 use pc_net::Net;
-use pc_status::StatusRow;
-use pc_text::Code;
 use pc_times::ActState;
 use pc_wbs::Tree;
 
@@ -15,23 +15,12 @@ use pc_wbs::Tree;
 pub(crate) struct Plan {
     pub net: Net,
     pub tree: Tree,
-    pub events: Vec<Code>,
-    pub activities: Vec<Code>,
-    /// The items of the activities.
-    pub places: Vec<u32>,
-    pub terms: Vec<Term>,
-    /// The expected times of the activities, in sixths of a day.
-    pub expected: Vec<u64>,
-    /// The variances of these times, in thirty-sixths of a square day.
-    pub variances: Vec<u64>,
+    pub lists: Lists,
     pub pieces: Vec<PieceRow>,
     pub loads: Vec<LoadItem>,
-    pub accounts: Vec<AcctRow>,
-    pub charges: Vec<MoneyRow>,
-    pub togos: Vec<MoneyRow>,
+    pub figures: Figures,
     /// What each account has come to.
     pub book: Book,
-    pub statuses: Vec<StatusRow>,
     /// How far each activity is.
     pub states: Vec<ActState>,
 }

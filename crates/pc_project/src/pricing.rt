@@ -20,11 +20,11 @@ impl Project {
         CrashNet::build(
             alloc,
             &self.plan.net,
-            &self.plan.terms,
+            &self.plan.lists.terms,
             &self.plan.pieces,
             self.cards.project().code,
-            &self.plan.events,
-            &self.plan.activities,
+            &self.plan.lists.events,
+            &self.plan.lists.activities,
         )
     }
 }

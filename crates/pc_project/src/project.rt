@@ -115,7 +115,7 @@ impl Project {
         requires { e < self.now.network.events }
         ensures { result ≡ slice_index_or self.now.events e [] }
     {
-        self.plan.events[e as usize]
+        self.plan.lists.events[e as usize]
     }
 
     /// What is known of an activity.
@@ -123,14 +123,14 @@ impl Project {
         requires { a < length self.now.network.arcs }
         ensures { result ≡ activity_at self.now a }
     {
-        let term = self.plan.terms[a as usize];
+        let term = self.plan.lists.terms[a as usize];
         Activity {
-            code: self.plan.activities[a as usize],
+            code: self.plan.lists.activities[a as usize],
             from: self.plan.net.from(a),
             to: self.plan.net.to(a),
-            item: self.plan.places[a as usize],
-            expected: self.plan.expected[a as usize],
-            variance: self.plan.variances[a as usize],
+            item: self.plan.lists.places[a as usize],
+            expected: self.plan.lists.expected[a as usize],
+            variance: self.plan.lists.variances[a as usize],
             normal: term.normal,
             crash: term.crash,
             cost: term.cost,
@@ -160,7 +160,7 @@ impl Project {
         ensures each { length result.now ≡ self.now.network.events }
         ensures planned { IsPlanned self.now }
     {
-        &self.plan.events
+        &self.plan.lists.events
     }
 
     /// The codes of the activities.
@@ -169,7 +169,7 @@ impl Project {
         ensures each { length result.now ≡ length self.now.network.arcs }
         ensures planned { IsPlanned self.now }
     {
-        &self.plan.activities
+        &self.plan.lists.activities
     }
 
     /// What each activity may last, in units, and costs.
@@ -177,7 +177,7 @@ impl Project {
         ensures terms { result.now ≡ self.now.terms }
         ensures planned { IsPlanned self.now }
     {
-        &self.plan.terms
+        &self.plan.lists.terms
     }
 
     /// The expected time of each activity, in sixths of a day.
@@ -185,7 +185,7 @@ impl Project {
         ensures expected { result.now ≡ self.now.expected }
         ensures planned { IsPlanned self.now }
     {
-        &self.plan.expected
+        &self.plan.lists.expected
     }
 
     /// The variance of each activity's time, in thirty-sixths of a square day.
@@ -194,7 +194,7 @@ impl Project {
         ensures each { length result.now ≡ length self.now.network.arcs }
         ensures planned { IsPlanned self.now }
     {
-        &self.plan.variances
+        &self.plan.lists.variances
     }
 
     /// The item on which each activity stands.
@@ -202,7 +202,7 @@ impl Project {
         ensures places { result.now ≡ self.now.places }
         ensures planned { IsPlanned self.now }
     {
-        &self.plan.places
+        &self.plan.lists.places
     }
 
     /// The further pieces of the activities' costs.
@@ -255,7 +255,7 @@ impl Project {
         ensures accounts { result.now ≡ self.now.accounts }
         ensures planned { IsPlanned self.now }
     {
-        &self.plan.accounts
+        &self.plan.figures.accounts
     }
 
     /// What the accounts were charged, whenever.
@@ -263,7 +263,7 @@ impl Project {
         ensures charges { result.now ≡ self.now.charges }
         ensures planned { IsPlanned self.now }
     {
-        &self.plan.charges
+        &self.plan.figures.charges
     }
 
     /// What was to go of the accounts, on each day of which a card says it.
@@ -271,7 +271,7 @@ impl Project {
         ensures togos { result.now ≡ self.now.togos }
         ensures planned { IsPlanned self.now }
     {
-        &self.plan.togos
+        &self.plan.figures.togos
     }
 
     /// What each account has spent up to as-of, and what is to go.
@@ -287,7 +287,7 @@ impl Project {
         ensures statuses { result.now ≡ self.now.statuses }
         ensures planned { IsPlanned self.now }
     {
-        &self.plan.statuses
+        &self.plan.figures.statuses
     }
 
     /// How far each activity is, in sixths of a day from the start.

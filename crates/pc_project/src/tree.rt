@@ -1,20 +1,19 @@
 //! The tree of the items, or why they are none.
-ghost use Rattle.std.specs.Prelude.{◌≡◌, ◌<◌, All, length, slice_index, IfOk, IfErr, OnOk};
-ghost use Rattle.pc_wbs.specs.Climb.{IsTree};
-ghost use Rattle.pc_wbs.specs.Refusal.{IsRefusal};
+ghost use Rattle.std.specs.Prelude.{◌≡◌, ◌<◌, ◌≤◌, All, length, IfOk, IfErr, OnOk};
+ghost use Rattle.pc_model.specs.declared.limits.TheConstants.{MAX_ITEMS};
+ghost use Rattle.pc_wbs.specs.Climb.{AreInRange, IsTree};
 ghost use Rattle.pc_wbs.specs.declared.error.TreeError.TheVariants as tree;
 ghost use Rattle.pc_faults.specs.First.{Refuses};
-ghost use Rattle.pc_project.specs.Misfit.{HasNoMisfit};
 ghost use Rattle.pc_project.specs.Numbered.{AreNumbersOf};
 ghost use Rattle.pc_project.specs.Project.{rows_of};
-ghost use Rattle.pc_project.specs.Refusal.{IsRefusedWith, tree_fault};
+ghost use Rattle.pc_project.specs.Refusal.{IsAbout, IsRefusedWith, IsTreeFault, tree_fault};
 
 use crate::lists::codes_of_items;
 use crate::named::{codes_at, item_card};
 use crate::numbers::Numbers;
-use pc_deck::Cards;
+use pc_deck::{Cards, ItemCard};
 use pc_faults::{DeckError, Fault};
-use pc_wbs::{Tree, TreeError};
+use pc_wbs::{ItemRow, Tree, TreeError};
 use std::alloc::{AllocError, Global};
 
 /// The tree of the items, or the fault that keeps them from being one (F20 to F23).
@@ -24,30 +23,44 @@ pub(crate) fn tree_of(alloc: Global, cards: &Cards, numbers: &Numbers) -> Result
     ensures tree { OnOk result (IsTree (rows_of cards.now)) }
     ensures refused { IfErr result (Refuses (IsRefusedWith cards.now)) }
 {
-    match Tree::build(alloc, &numbers.rows) {
+    match tree_between(alloc, cards.items(), &numbers.rows) {
         Ok(tree) => Ok(tree),
-        Err(error) => Err(fault_of(alloc, cards, error)),
+        Err(error) => Err(error),
+    }
+}
+
+/// The tree of items with these parents, or the fault that keeps them from being one. A deck of any sort has its tree by it.
+pub fn tree_between(alloc: Global, items: &[ItemCard], rows: &[ItemRow]) -> Result<Tree, DeckError>
+    requires each { length rows.now ≡ length items.now }
+    requires few { length rows.now ≤ MAX_ITEMS }
+    requires in_range { AreInRange rows.now }
+    ensures rows { IfOk result (λ tree. tree ≡ rows.now) }
+    ensures tree { OnOk result (IsTree rows.now) }
+    ensures refused { IfErr result (Refuses (IsTreeFault items.now rows.now)) }
+{
+    match Tree::build(alloc, rows) {
+        Ok(tree) => Ok(tree),
+        Err(error) => Err(fault_of(alloc, items, error)),
     }
 }
 
 /// The fault by which a refusal of the tree is told.
-fn fault_of(alloc: Global, cards: &Cards, error: TreeError) -> DeckError
-    requires faultless { HasNoMisfit cards.now }
-    requires refused { IsRefusal (rows_of cards.now) error }
-    ensures { Refuses (λ fault. tree_fault cards.now error ≡ DeckError.Fault fault) result }
+fn fault_of(alloc: Global, items: &[ItemCard], error: TreeError) -> DeckError
+    requires { IsAbout (length items.now) error }
+    ensures { Refuses (λ fault. tree_fault items.now error ≡ DeckError.Fault fault) result }
 {
     match error {
         TreeError::NoTop => DeckError::Fault(Fault::no_top()),
         TreeError::SecondTop { item } => {
-            let card = item_card(cards, item);
+            let card = item_card(items, item);
             DeckError::Fault(Fault::second_top(card.row, card.code))
         }
-        TreeError::Loop(items) => match fault_of_loop(alloc, cards, items.as_slice()) {
+        TreeError::Loop(round) => match fault_of_loop(alloc, items, round.as_slice()) {
             Ok(fault) => DeckError::Fault(fault),
             Err(_) => DeckError::OutOfMemory,
         },
         TreeError::TooDeep { item, level } => {
-            let card = item_card(cards, item);
+            let card = item_card(items, item);
             DeckError::Fault(Fault::too_deep(card.row, card.code, level))
         }
         TreeError::OutOfMemory => DeckError::OutOfMemory,
@@ -55,12 +68,12 @@ fn fault_of(alloc: Global, cards: &Cards, error: TreeError) -> DeckError
 }
 
 /// The fault by which a loop of items is told.
-fn fault_of_loop(alloc: Global, cards: &Cards, items: &[u32]) -> Result<Fault, AllocError>
-    requires some { 0 < length items.now }
-    requires known { All (λ item. item < length cards.now.items) items.now }
-    ensures { IfOk result (λ fault. tree_fault cards.now (tree.Loop items.now) ≡ DeckError.Fault fault) }
+fn fault_of_loop(alloc: Global, items: &[ItemCard], round: &[u32]) -> Result<Fault, AllocError>
+    requires some { 0 < length round.now }
+    requires known { All (λ item. item < length items.now) round.now }
+    ensures { IfOk result (λ fault. tree_fault items.now (tree.Loop round.now) ≡ DeckError.Fault fault) }
 {
-    let codes = codes_of_items(alloc, cards)?;
-    let names = codes_at(alloc, &codes, items)?;
-    Ok(Fault::item_loop(item_card(cards, items[0]).row, names))
+    let codes = codes_of_items(alloc, items)?;
+    let names = codes_at(alloc, &codes, round)?;
+    Ok(Fault::item_loop(item_card(items, round[0]).row, names))
 }

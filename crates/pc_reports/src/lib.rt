@@ -1,6 +1,7 @@
 //! The texts of the reports, line by line, as they are put on a page.
 #![tactic(auto)]
 
+mod cells;
 mod check;
 mod dates;
 mod earned;

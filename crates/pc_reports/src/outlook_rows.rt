@@ -3,6 +3,7 @@ ghost use Rattle.std.specs.Prelude.{length};
 ghost use Rattle.pc_page.specs.Puts.{Puts};
 ghost use Rattle.pc_reports.specs.OutlookText.{IsOutlookFor, outlook_cells, outlook_row};
 
+use crate::cells::{put_amount_cell, put_level_cell, put_title_cell};
 use pc_edges::Sink;
 use pc_figures::{Outlook, OutlookAmounts};
 use pc_page::{Page, Rows};
@@ -48,15 +49,9 @@ fn put_amounts<O: Sink>(
     ensures { Puts O.taken O.faults page.old sink.old page.new sink.new (outlook_cells code.now level amounts.now title.now) }
 {
     page.put_left(sink, 16, code.bytes());
-    page.put(sink, b" ");
-    page.put_number_right(sink, 2, level as u64);
-    page.put(sink, b" ");
-    page.put_signed_right(sink, 14, amounts.budget);
-    page.put(sink, b" ");
-    page.put_signed_right(sink, 14, amounts.outlook);
-    page.put(sink, b" ");
-    page.put_signed_right(sink, 14, amounts.change);
-    page.put(sink, b" ");
-    page.put(sink, title.bytes());
-    page.put(sink, b"\n");
+    put_level_cell(page, sink, level as u64);
+    put_amount_cell(page, sink, amounts.budget);
+    put_amount_cell(page, sink, amounts.outlook);
+    put_amount_cell(page, sink, amounts.change);
+    put_title_cell(page, sink, title);
 }

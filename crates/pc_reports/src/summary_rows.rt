@@ -3,6 +3,7 @@ ghost use Rattle.std.specs.Prelude.{◌≡◌, length};
 ghost use Rattle.pc_page.specs.Puts.{Puts};
 ghost use Rattle.pc_reports.specs.SummaryText.{IsSummary, item_cells, item_row, level_cells, level_row};
 
+use crate::cells::{put_amount_cell, put_level_cell, put_title_cell};
 use pc_edges::Sink;
 use pc_figures::{Summary, SummaryAmounts};
 use pc_page::{Page, Rows};
@@ -72,38 +73,25 @@ fn put_item<O: Sink>(
     ensures { Puts O.taken O.faults page.old sink.old page.new sink.new (item_cells code.now level amounts.now title.now) }
 {
     page.put_left(sink, 16, code.bytes());
-    page.put(sink, b" ");
-    page.put_number_right(sink, 2, level as u64);
-    page.put(sink, b" ");
-    page.put_signed_right(sink, 14, amounts.budget);
-    page.put(sink, b" ");
-    page.put_signed_right(sink, 14, amounts.actual);
-    page.put(sink, b" ");
-    page.put_signed_right(sink, 14, amounts.to_go);
-    page.put(sink, b" ");
-    page.put_signed_right(sink, 14, amounts.latest);
-    page.put(sink, b" ");
-    page.put_signed_right(sink, 14, amounts.overrun);
-    page.put(sink, b" ");
-    page.put(sink, title.bytes());
-    page.put(sink, b"\n");
+    put_level_cell(page, sink, level as u64);
+    put_amount_cell(page, sink, amounts.budget);
+    put_amount_cell(page, sink, amounts.actual);
+    put_amount_cell(page, sink, amounts.to_go);
+    put_amount_cell(page, sink, amounts.latest);
+    put_amount_cell(page, sink, amounts.overrun);
+    put_title_cell(page, sink, title);
 }
 
 /// Puts the row of a level.
 fn put_level<O: Sink>(page: &mut Page, sink: &mut O, level: u64, amounts: &SummaryAmounts)
     ensures { Puts O.taken O.faults page.old sink.old page.new sink.new (level_cells level amounts.now) }
 {
-    page.put(sink, b"LEVEL            ");
-    page.put_number_right(sink, 2, level);
-    page.put(sink, b" ");
-    page.put_signed_right(sink, 14, amounts.budget);
-    page.put(sink, b" ");
-    page.put_signed_right(sink, 14, amounts.actual);
-    page.put(sink, b" ");
-    page.put_signed_right(sink, 14, amounts.to_go);
-    page.put(sink, b" ");
-    page.put_signed_right(sink, 14, amounts.latest);
-    page.put(sink, b" ");
-    page.put_signed_right(sink, 14, amounts.overrun);
+    page.put(sink, b"LEVEL           ");
+    put_level_cell(page, sink, level);
+    put_amount_cell(page, sink, amounts.budget);
+    put_amount_cell(page, sink, amounts.actual);
+    put_amount_cell(page, sink, amounts.to_go);
+    put_amount_cell(page, sink, amounts.latest);
+    put_amount_cell(page, sink, amounts.overrun);
     page.put(sink, b"\n");
 }

@@ -6,6 +6,7 @@ ghost use Rattle.pc_times.specs.declared.TheConstants.{MAX_TIME};
 ghost use Rattle.pc_reports.specs.Earned.{AreForecasts, IsEarned};
 ghost use Rattle.pc_reports.specs.ValueText.{forecast_cells, forecast_row, slack_text, worth_cells, worth_row};
 
+use crate::cells::{put_amount_cell, put_level_cell, put_title_cell};
 use crate::earned::Earned;
 use crate::forecasts::Forecasts;
 use pc_edges::Sink;
@@ -106,21 +107,14 @@ fn put_worth<O: Sink>(
         (worth_cells code.now level amounts.now slack title.now) }
 {
     page.put_left(sink, 16, code.bytes());
-    page.put(sink, b" ");
-    page.put_number_right(sink, 2, level as u64);
-    page.put(sink, b" ");
-    page.put_signed_right(sink, 14, amounts.budget);
-    page.put(sink, b" ");
-    page.put_signed_right(sink, 14, amounts.actual);
-    page.put(sink, b" ");
-    page.put_signed_right(sink, 14, amounts.value);
-    page.put(sink, b" ");
-    page.put_signed_right(sink, 14, amounts.overrun);
+    put_level_cell(page, sink, level as u64);
+    put_amount_cell(page, sink, amounts.budget);
+    put_amount_cell(page, sink, amounts.actual);
+    put_amount_cell(page, sink, amounts.value);
+    put_amount_cell(page, sink, amounts.overrun);
     page.put(sink, b" ");
     put_slack(page, sink, slack);
-    page.put(sink, b" ");
-    page.put(sink, title.bytes());
-    page.put(sink, b"\n");
+    put_title_cell(page, sink, title);
 }
 
 /// Puts the slack of an item, or a hyphen where there is none.

@@ -1,6 +1,7 @@
 pub mod SumLaws
 pub mod RollLaws
 mod LeastLaws
+mod BackLaws
 pub mod PlacedLaws
 mod LineLaws
 pub mod WholeLaws

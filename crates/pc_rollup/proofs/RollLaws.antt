@@ -228,14 +228,30 @@ total_fits : (rows : List ItemRow) (order : List ℕ) (j y : ℕ) (amounts total
 total_fits rows order j y amounts totals one_each so_far lt =
     omega (arith, IsSumOver-bound (IsGathered rows order j y) (length rows) (amount_at amounts) (amount_at totals y) (so_far.each y lt), magnitude amounts, ap (λ (n : ℕ). sum_to n (λ x. unsigned_abs (amount_at amounts x))) one_each)
 
--- what a turn needs: an item at place i, its parent, and the two totals as they are read
-pub record IsTurn (rows : List ItemRow) (order : List ℕ) (j p : ℕ) (amounts totals : List ℤ) (v : ℕ) (a b : ℤ) : Type 0 where
+-- what stays true of totals on their way up: the loop goes back over the preorder of a tree, the amounts are small, and the last j of the order
+-- passed their totals on
+pub record AreRolling (rows : List ItemRow) (order : List ℕ) (j : ℕ) (amounts totals : List ℤ) : Type 0 where
   pub ranged : AreInRange rows
   pub tree : IsTree rows
   pub preorder : IsPreorder rows order
   pub one_each : length amounts ≡ length rows
   pub small : sum_by unsigned_abs amounts < 2 ^ 63
-  pub so_far : AreGathered rows order j amounts totals
+  pub gathered : AreGathered rows order j amounts totals
+
+-- the same with totals of which more are gathered
+rolling_on : (rows : List ItemRow) (order : List ℕ) (j k : ℕ) (amounts totals others : List ℤ) → AreRolling rows order j amounts totals → AreGathered rows order k amounts others → AreRolling rows order k amounts others
+rolling_on rows order j k amounts totals others r gathered = record {
+  ranged = r.ranged;
+  tree = r.tree;
+  preorder = r.preorder;
+  one_each = r.one_each;
+  small = r.small;
+  gathered = gathered;
+}
+
+-- what a turn needs: an item at place i, its parent, and the two totals as they are read
+pub record IsTurn (rows : List ItemRow) (order : List ℕ) (j p : ℕ) (amounts totals : List ℤ) (v : ℕ) (a b : ℤ) : Type 0 where
+  pub so_far : AreRolling rows order j amounts totals
   pub place : (i : ℕ) × (i < length order) × (i + j + 1 ≡ length order) × (slice_index order i ≡ v)
   pub up : parent_of rows v ≡ Some p
   pub parent_read : a ≡ get_or totals p a
@@ -245,17 +261,17 @@ turn_sums : (rows : List ItemRow) (order : List ℕ) (j p : ℕ) (amounts totals
 turn_sums rows order j p amounts totals v a b t =
     let (i, lt, place, at) = t.place in
     let in_v : v < length rows = parent-inside rows v p t.up in
-    let in_p : p < length rows = t.ranged v p in_v t.up in
-    let read_a : amount_at totals p ≡ a = get_or_default totals p (pos 0) a (omega (arith, t.so_far.one_each)) ∙ sym t.parent_read in
-    let read_b : amount_at totals v ≡ b = get_or_default totals v (pos 0) b (omega (arith, t.so_far.one_each)) ∙ sym t.item_read in
+    let in_p : p < length rows = t.so_far.ranged v p in_v t.up in
+    let read_a : amount_at totals p ≡ a = get_or_default totals p (pos 0) a (omega (arith, t.so_far.gathered.one_each)) ∙ sym t.parent_read in
+    let read_b : amount_at totals v ≡ b = get_or_default totals v (pos 0) b (omega (arith, t.so_far.gathered.one_each)) ∙ sym t.item_read in
     let up : parent_of rows (slice_index order i) ≡ Some p = ap (parent_of rows) at ∙ t.up in
-    let both = parent_fits rows order i j p amounts totals t.ranged t.tree t.preorder t.one_each t.so_far lt place up in
+    let both = parent_fits rows order i j p amounts totals t.so_far.ranged t.so_far.tree t.so_far.preorder t.so_far.one_each t.so_far.gathered lt place up in
     let sum : amount_at totals p +ℤ amount_at totals (slice_index order i) ≡ a +ℤ b = ap (λ (n : ℕ). amount_at totals p +ℤ amount_at totals n) at ∙ (ap (λ (z : ℤ). z +ℤ amount_at totals v) read_a ∙ ap (λ (z : ℤ). a +ℤ z) read_b) in (
       read_a,
       read_b,
-      omega (arith, t.small, ap unsigned_abs read_a, total_fits rows order j p amounts totals t.one_each t.so_far in_p),
-      omega (arith, t.small, ap unsigned_abs read_b, total_fits rows order j v amounts totals t.one_each t.so_far in_v),
-      omega (arith, t.small, ap unsigned_abs sum, both),
+      omega (arith, t.so_far.small, ap unsigned_abs read_a, total_fits rows order j p amounts totals t.so_far.one_each t.so_far.gathered in_p),
+      omega (arith, t.so_far.small, ap unsigned_abs read_b, total_fits rows order j v amounts totals t.so_far.one_each t.so_far.gathered in_v),
+      omega (arith, t.so_far.small, ap unsigned_abs sum, both),
     )
 
 pub turn_fits : (rows : List ItemRow) (order : List ℕ) (j p : ℕ) (amounts totals : List ℤ) (v : ℕ) (a b : ℤ) → IsTurn rows order j p amounts totals v a b → FitsSigned w64 (to_z w64 (of_z w64 a) +ℤ to_z w64 (of_z w64 b))
@@ -263,18 +279,19 @@ turn_fits rows order j p amounts totals v a b t =
     let (read_a, read_b, small, less, sum) = turn_sums rows order j p amounts totals v a b t in
     added_fits a b small less sum
 
-pub turn_taken : (rows : List ItemRow) (order : List ℕ) (j p : ℕ) (amounts totals : List ℤ) (v : ℕ) (a b : ℤ) → IsTurn rows order j p amounts totals v a b → AreGathered rows order (j + 1) amounts (set totals p (to_z w64 (of_z w64 (to_z w64 (of_z w64 a) +ℤ to_z w64 (of_z w64 b)))))
+pub turn_taken : (rows : List ItemRow) (order : List ℕ) (j p : ℕ) (amounts totals : List ℤ) (v : ℕ) (a b : ℤ) → IsTurn rows order j p amounts totals v a b → AreRolling rows order (j + 1) amounts (set totals p (to_z w64 (of_z w64 (to_z w64 (of_z w64 a) +ℤ to_z w64 (of_z w64 b)))))
 turn_taken rows order j p amounts totals v a b t =
     let (i, lt, place, at) = t.place in
     let (read_a, read_b, small, less, sum) = turn_sums rows order j p amounts totals v a b t in
     let up : parent_of rows (slice_index order i) ≡ Some p = ap (parent_of rows) at ∙ t.up in
     let value : amount_at totals p +ℤ amount_at totals (slice_index order i) ≡ to_z w64 (of_z w64 (to_z w64 (of_z w64 a) +ℤ to_z w64 (of_z w64 b))) =
     ap (λ (n : ℕ). amount_at totals p +ℤ amount_at totals n) at ∙ (ap (λ (z : ℤ). z +ℤ amount_at totals v) read_a ∙ (ap (λ (z : ℤ). a +ℤ z) read_b ∙ sym (added a b small less sum))) in
-    subst (λ (z : ℤ). AreGathered rows order (j + 1) amounts (set totals p z)) value (gathered_child rows order i j p amounts totals t.ranged t.tree t.preorder t.so_far lt place up)
+    rolling_on rows order j (j + 1) amounts totals _ t.so_far
+    (subst (λ (z : ℤ). AreGathered rows order (j + 1) amounts (set totals p z)) value (gathered_child rows order i j p amounts totals t.so_far.ranged t.so_far.tree t.so_far.preorder t.so_far.gathered lt place up))
 
-pub top_taken : (rows : List ItemRow) (order : List ℕ) (j : ℕ) (amounts totals : List ℤ) (v : ℕ) → AreGathered rows order j amounts totals → (i : ℕ) × (i < length order) × (i + j + 1 ≡ length order) × (slice_index order i ≡ v) → parent_of rows v ≡ None → AreGathered rows order (j + 1) amounts totals
+pub top_taken : (rows : List ItemRow) (order : List ℕ) (j : ℕ) (amounts totals : List ℤ) (v : ℕ) → AreRolling rows order j amounts totals → (i : ℕ) × (i < length order) × (i + j + 1 ≡ length order) × (slice_index order i ≡ v) → parent_of rows v ≡ None → AreRolling rows order (j + 1) amounts totals
 top_taken rows order j amounts totals v so_far (i, lt, place, at) up =
-    gathered_top rows order i j amounts totals so_far place (ap (parent_of rows) at ∙ up)
+    rolling_on rows order j (j + 1) amounts totals totals so_far (gathered_top rows order i j amounts totals so_far.gathered place (ap (parent_of rows) at ∙ up))
 
 -- whether an item is a leaf
 child_below : (rows : List ItemRow) (x n : ℕ) → ((y : ℕ) × ((y < n) × (parent_of rows y ≡ Some x))) ⊎ ((y : ℕ) → y < n → parent_of rows y ≢ Some x)
@@ -307,13 +324,13 @@ all_gathered rows order j y x preorder all below = of_child (below_child rows x 
         inr (c, (e, b, (k, (omega arith, lt, at))))
 
 -- all passed their totals on
-pub gathered_all : (rows : List ItemRow) (order : List ℕ) (j : ℕ) (amounts totals : List ℤ) → IsPreorder rows order → AreAtLeaves rows amounts → length order ≤ j → AreGathered rows order j amounts totals → AreRolledUp rows amounts totals
-gathered_all rows order j amounts totals preorder at_leaves all so_far = record {
-  one_each = so_far.one_each;
+pub gathered_all : (rows : List ItemRow) (order : List ℕ) (j : ℕ) (amounts totals : List ℤ) → AreAtLeaves rows amounts → length order ≤ j → AreRolling rows order j amounts totals → AreRolledUp rows amounts totals
+gathered_all rows order j amounts totals at_leaves all so_far = record {
+  one_each = so_far.gathered.one_each;
   each = λ y lt. IsSumOver-part (λ x. IsBelow rows x y) (IsLeaf rows) (length rows) (amount_at amounts) (amount_at totals y)
       (λ x h. ⊎_elim (λ leaf. inl leaf) (λ none. inr (none, at_leaves x h none)) (leaf_or_not rows x))
       (IsSumOver-same (IsGathered rows order j y) (λ x. IsBelow rows x y) (length rows) (amount_at amounts) (amount_at totals y)
       (λ x h g. gathered-below rows order j y x g)
-      (λ x h b. all_gathered rows order j y x preorder all b)
-      (so_far.each y lt));
+      (λ x h b. all_gathered rows order j y x so_far.preorder all b)
+      (so_far.gathered.each y lt));
 }

@@ -1,27 +1,14 @@
 -- The first fault of a deck's cards, from those of the cards of each kind.
-use Rattle.std.proofs.Common.{◌≡◌, Option, Some, None, inl, inr, ◌⊎◌, refl, sym, subst}
+use Rattle.std.proofs.Common.{◌≡◌, Option, Some, None, inl, inr, ◌⊎◌, refl}
 use Rattle.std.specs.List.{Any}
 use Rattle.pc_deck.specs.Deck.{Deck}
 use Rattle.pc_faults.specs.declared.fault.Fault.{Fault}
-use Rattle.pc_project.specs.First.{IsFirstIn, earliest}
-use Rattle.pc_project.specs.Misfit.{HasAccountFault, HasItemFault, HasMoneyFault}
-use Rattle.pc_project.proofs.FirstLaws.{earliest-first}
+use Rattle.pc_project.specs.First.{IsFirstIn}
+use Rattle.pc_project.proofs.FirstLaws.{first_of_same}
+use Rattle.pc_project.proofs.MisfitLaws.{OfAccounts, OfCharges, OfItems, OfTogos}
 use Rattle.pc_tasks.specs.Misfit.{HasAfterFault, HasEndsFault, HasLoadFault, HasMisfit, HasNoMisfit, HasNameFault, HasTaskFault, account, after, charge, ends, item, load, piece, status, task, togo}
 
--- the first fault of two kinds of cards
-pub of_two : (P Q : Fault → Type 0) (one other found : Option Fault) → found ≡ earliest one other → IsFirstIn P one → IsFirstIn Q other → IsFirstIn (λ f. P f ⊎ Q f) found
-of_two P Q one other found is p q =
-    subst (IsFirstIn (λ f. P f ⊎ Q f)) (sym is) (earliest-first P Q (λ f. P f ⊎ Q f) (λ f h. inl h) (λ f h. inr h) (λ f h. h) one other p q)
-
--- the same of faults that are the same
-same_first : (P Q : Fault → Type 0) → ((f : Fault) → P f → Q f) → ((f : Fault) → Q f → P f) → (found : Option Fault) → IsFirstIn P found → IsFirstIn Q found
-same_first P Q to from None none = λ f h. none f (from f h)
-same_first P Q to from (Some fault) first = record { holds = to fault first.holds; least = λ other h. first.least other (from other h) }
-
 module _ (deck : Deck) where
-  abbrev pub OfItems : Fault → Type 0
-  OfItems fault = Any (λ card. HasItemFault deck card fault) deck.items
-
   abbrev pub OfTasks : Fault → Type 0
   OfTasks fault = Any (λ card. HasTaskFault deck card fault) deck.tasks
 
@@ -34,23 +21,14 @@ module _ (deck : Deck) where
   abbrev pub OfLoads : Fault → Type 0
   OfLoads fault = Any (λ card. HasLoadFault deck card fault) deck.loads
 
-  abbrev pub OfAccounts : Fault → Type 0
-  OfAccounts fault = Any (λ card. HasAccountFault deck card fault) deck.accounts
-
-  abbrev pub OfCharges : Fault → Type 0
-  OfCharges fault = Any (λ card. HasMoneyFault deck card fault) deck.charges
-
-  abbrev pub OfTogos : Fault → Type 0
-  OfTogos fault = Any (λ card. HasMoneyFault deck card fault) deck.togos
-
   abbrev pub OfStatuses : Fault → Type 0
   OfStatuses fault = Any (λ card. HasNameFault deck card.row card.activity fault) deck.statuses
 
   abbrev pub Plan : Fault → Type 0
-  Plan f = (HasEndsFault deck f ⊎ OfItems f) ⊎ (OfTasks f ⊎ OfAfters f)
+  Plan f = (HasEndsFault deck f ⊎ OfItems deck f) ⊎ (OfTasks f ⊎ OfAfters f)
 
   abbrev pub Figures : Fault → Type 0
-  Figures f = (OfPieces f ⊎ OfLoads f) ⊎ ((OfAccounts f ⊎ OfCharges f) ⊎ (OfTogos f ⊎ OfStatuses f))
+  Figures f = (OfPieces f ⊎ OfLoads f) ⊎ ((OfAccounts deck f ⊎ OfCharges deck f) ⊎ (OfTogos deck f ⊎ OfStatuses f))
 
   from_all : (f : Fault) → Plan f ⊎ Figures f → HasMisfit deck f
   from_all f (inl (inl (inl h))) = ends h
@@ -78,7 +56,7 @@ module _ (deck : Deck) where
 
   -- the first fault of all cards
   pub first_of_all_cards : (found : Option Fault) → IsFirstIn (λ f. Plan f ⊎ Figures f) found → IsFirstIn (HasMisfit deck) found
-  first_of_all_cards found first = same_first (λ f. Plan f ⊎ Figures f) (HasMisfit deck) from_all into_all found first
+  first_of_all_cards found first = first_of_same (λ f. Plan f ⊎ Figures f) (HasMisfit deck) from_all into_all found first
 
   -- where no card has a fault, no AFTER card has one
   pub no_fault_of_afters : (found : Option Fault) → IsFirstIn OfAfters found → HasNoMisfit deck → found ≡ None

@@ -8,8 +8,7 @@ use Rattle.pc_faults.specs.FaultText.{IsTold}
 use Rattle.pc_faults.specs.declared.fault.Fault.{Fault as ADeckFault}
 use Rattle.pc_project.specs.Project.{Project, rows_of}
 use Rattle.pc_project.proofs.OneProjectLaws.{one_project_of}
-use Rattle.pc_project.proofs.RefusalLaws.{makes_not_refused, told, told_of-account, told_of-item, told_of-money, told_of-refused, told_of-tree, tree_has_fault}
-use Rattle.pc_wbs.proofs.ExactLaws.{IsTree-not_refused}
+use Rattle.pc_project.proofs.RefusalLaws.{makes_not_refused, no_tree, told, told_of-account, told_of-item, told_of-money, told_of-refused, told_of-tree}
 use Rattle.pc_tasks.specs.Drawn.{drawn}
 use Rattle.pc_tasks.specs.Misfit as has
 use Rattle.pc_tasks.specs.Misfit.{HasAfterFault, HasLoadFault, HasMisfit, HasNameFault, HasTaskFault}
@@ -19,8 +18,7 @@ use Rattle.pc_tasks.specs.Text.{IsDrawnProject}
 -- tasks that make arrows are not refused
 pub arrows_not_refused : (deck : Deck) (fault : ADeckFault) → MakesArrows deck → IsTasksRefusedWith deck fault → ⊥
 arrows_not_refused deck fault makes (of_cards first) = makes.sound.items.cards fault first.holds
-arrows_not_refused deck fault makes (of_tree cards e refused is) =
-    tree_has_fault deck e fault is (IsTree-not_refused (rows_of deck) e makes.sound.items.tree refused)
+arrows_not_refused deck fault makes (of_tree cards at) = no_tree deck.items (rows_of deck) fault makes.sound.items.tree at
 arrows_not_refused deck fault makes (of_top cards items lone) = makes.sound.items.branch fault lone
 arrows_not_refused deck fault makes (of_none items none) = omega (arith, makes.sound.some, ap length none.0)
 arrows_not_refused deck fault makes (of_cycle items some (cycle, (first, is))) = makes.sound.no_cycle cycle first.cycle
@@ -62,7 +60,7 @@ told_of-misfit deck fault (has.load (k, card, within, at, here)) = told_of-load 
 -- the fault with which a deck of tasks is refused has a line
 pub told_of-refused_tasks : (deck : Deck) (fault : ADeckFault) → IsTasksRefusedWith deck fault → IsTold fault
 told_of-refused_tasks deck fault (of_cards first) = told_of-misfit deck fault first.holds
-told_of-refused_tasks deck fault (of_tree cards e refused is) = told_of-tree deck e fault is
+told_of-refused_tasks deck fault (of_tree cards at) = told_of-tree deck.items (rows_of deck) fault at
 told_of-refused_tasks deck fault (of_top cards items lone) = told fault _ lone.1 refl
 told_of-refused_tasks deck fault (of_none items none) = told fault _ none.1 refl
 told_of-refused_tasks deck fault (of_cycle items some (cycle, (first, is))) = told fault _ is refl

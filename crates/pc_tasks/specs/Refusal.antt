@@ -2,20 +2,16 @@
 -- first the cards one by one (F14 to F19, F41), then the tree of the items (F20 to F23, tried in that order), then whether the top has an item
 -- below it (F37), then whether there is a task (F39), then whether tasks wait for each other in a circle (F38). What is left are the faults of a plan
 -- (F28 to F31, F33 to F36), and they are those of the plan that is drawn, in which each card stands at its own record.
-use Rattle.std.specs.Prelude.{◌≡◌, ℕ, ◌<◌, List, [], All, length, map, slice_index}
+use Rattle.std.specs.Prelude.{◌≡◌, ℕ, ◌<◌, List, [], length, map, slice_index}
 use Rattle.pc_wbs.specs.Climb.{IsTree}
-use Rattle.pc_wbs.specs.Refusal.{IsRefusal as IsTreeRefusal}
-use Rattle.pc_wbs.specs.declared.error.TreeError.{TreeError}
-use Rattle.pc_wbs.specs.declared.error.TreeError.TheVariants as tree
 use Rattle.pc_arrows.specs.Cycles.{IsFirstTaskCycle, IsTaskCycle}
 use Rattle.pc_deck.specs.Deck.{Deck, task_codes}
 use Rattle.pc_faults.specs.Faults.{childless_top, no_task, task_cycle}
 use Rattle.pc_faults.specs.First.{IsFirst}
 use Rattle.pc_faults.specs.declared.fault.Fault.{Fault as ADeckFault}
-use Rattle.pc_faults.specs.declared.fault.DeckError.TheVariants.{Fault}
 use Rattle.pc_project.specs.Project.{rows_of}
 use Rattle.pc_project.specs.Records.{codes_at, item_records}
-use Rattle.pc_project.specs.Refusal.{IsRefusedWith, MakesProject, tree_fault}
+use Rattle.pc_project.specs.Refusal.{IsRefusedWith, IsTreeFault, MakesProject}
 use Rattle.pc_tasks.specs.Drawn.{drawn}
 use Rattle.pc_tasks.specs.Lists.{afters_in}
 use Rattle.pc_tasks.specs.Misfit.{HasMisfit, HasNoMisfit}
@@ -23,14 +19,6 @@ use Rattle.pc_tasks.specs.Misfit.{HasMisfit, HasNoMisfit}
 -- the records of the tasks, in card order
 abbrev pub task_records : Deck → List ℕ
 task_records deck = map (λ task. task.row) deck.tasks
-
--- a refusal of the tree names some of n items
-abbrev pub IsAbout : ℕ → TreeError → Type 0
-IsAbout n tree.NoTop = Unit {0}
-IsAbout n (tree.SecondTop item) = item < n
-IsAbout n (tree.Loop loop) = (0 < length loop) × All (λ item. item < n) loop
-IsAbout n (tree.TooDeep item level) = item < n
-IsAbout n tree.OutOfMemory = Unit {0}
 
 -- F37: the top is the only item, so that there is none below it
 abbrev pub HasLoneTop : Deck → ADeckFault → Type 0
@@ -67,7 +55,7 @@ pub data IsTasksRefusedWith (deck : Deck) (fault : ADeckFault) : Type 0 where
   -- F14 to F19, F41: a card names what is not there, or its numbers are out of order
   of_cards : IsFirst (HasMisfit deck) fault → IsTasksRefusedWith deck fault
   -- F20 to F23: the items are no tree
-  of_tree : HasNoMisfit deck → (e : TreeError) → IsTreeRefusal (rows_of deck) e → tree_fault deck e ≡ Fault fault → IsTasksRefusedWith deck fault
+  of_tree : HasNoMisfit deck → IsTreeFault deck.items (rows_of deck) fault → IsTasksRefusedWith deck fault
   -- F37: the top has no item below it
   of_top : HasNoMisfit deck → IsTree (rows_of deck) → HasLoneTop deck fault → IsTasksRefusedWith deck fault
   -- F39: there is no task

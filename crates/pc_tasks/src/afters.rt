@@ -7,10 +7,10 @@ ghost use Rattle.pc_project.specs.First.{IsFirstIn};
 ghost use Rattle.pc_tasks.specs.Lists.{after_row, afters_in};
 ghost use Rattle.pc_tasks.specs.Misfit.{HasAfterFault};
 
-use crate::first::earliest;
 use pc_arrows::AfterRow;
 use pc_deck::{AfterCard, TaskCards};
 use pc_faults::Fault;
+use pc_project::earliest;
 use std::alloc::{AllocError, Global};
 
 /// Which task comes after which, one row for each card that has no fault, in card order, and the first fault of any card.

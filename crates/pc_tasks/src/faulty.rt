@@ -4,9 +4,9 @@ ghost use Rattle.pc_deck.specs.Deck.{Deck};
 ghost use Rattle.pc_faults.specs.declared.fault.Fault.{Fault};
 ghost use Rattle.pc_project.specs.First.{IsFirstIn};
 
-use crate::first::earliest;
 use pc_deck::TaskCards;
 use pc_faults::Fault;
+use pc_project::earliest;
 
 /// A card that has faults by what it names or by its numbers.
 pub(crate) trait Faulty: Copy {

@@ -8,7 +8,6 @@ mod circle;
 mod codes;
 mod draw;
 mod faulty;
-mod first;
 pub mod laws;
 mod links;
 mod misfits;

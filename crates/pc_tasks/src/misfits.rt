@@ -9,10 +9,10 @@ ghost use Rattle.pc_tasks.specs.Misfit.{HasAfterFault, HasMisfit, HasNoMisfit};
 use crate::afters::find_afters;
 use crate::card_faults::ends_fault;
 use crate::faulty::first_fault;
-use crate::first::earliest;
 use pc_arrows::AfterRow;
 use pc_deck::TaskCards;
 use pc_faults::{DeckError, Fault};
+use pc_project::earliest;
 use std::alloc::Global;
 
 /// Looks up once what each card names: which task comes after which, or the first fault of any card (F14 to F19, F41).

@@ -12,10 +12,11 @@ ghost use Rattle.pc_tasks.specs.Refusal.{HasLoneTop, HasSoundItems, HasSoundTask
 
 use crate::circle::first_circle;
 use crate::misfits::look_up;
-use crate::tree::{codes_at, tree_of};
+use crate::tree::tree_of;
 use pc_arrows::AfterRow;
 use pc_deck::TaskCards;
 use pc_faults::{DeckError, Fault};
+use pc_project::codes_at;
 use pc_text::Code;
 use std::alloc::{AllocError, Global};
 

@@ -1,9 +1,7 @@
-use Rattle.std.proofs.Common.{◌≡◌, ◌+◌, ◌-◌, ◌*◌, ◌^◌, ◌<◌, subst, sym, ◌∙◌, ap, arith}
-use Rattle.std.specs.Prelude.{unsigned_abs}
+use Rattle.std.proofs.Common.{◌+◌, ◌-◌, ◌*◌, ◌<◌, sym, arith}
 use Rattle.pc_rollup.specs.Totals.{amount_at}
-use Rattle.pc_load.specs.Table.{column_of}
-use Rattle.pc_load.proofs.AddLaws.{added_none, begun_none, added_more, added_all, grown, grown_fits}
-use Rattle.pc_load.proofs.ColumnLaws.{place_within, read_cell}
+use Rattle.pc_load.proofs.AddLaws.{added_none, begun_none, added_more, added_all, grown, grown_fits, still_small}
+use Rattle.pc_load.proofs.ColumnLaws.{place_within}
 use Rattle.pc_load.proofs.ShareLaws.{share_grows}
 use Rattle.pc_load.proofs.adding.add.Goals as goal
 
@@ -37,24 +35,17 @@ bounds-cells-k c =
 pub overflow_add-cells-in-loop-k : goal.overflow_add-cells-in-loop-k
 overflow_add-cells-in-loop-k c =
     let within : c.loop-k.k < c.args.periods = omega (arith, c.min-end.ensures, c.from.ensures) in
-    let row = c.args.entry.now.row in
-    let at = c.loop-k.k * c.args.rows + row in
-    let was = ap (λ l. amount_at l row) (c.loop-k.invariant.cells.rest c.loop-k.k (omega arith)) in
-    let same : amount_at c.loop-k.cells at ≡ amount_at (column_of c.args.rows c.args.cells.now c.loop-k.k) row = sym (read_cell c.args.rows c.loop-k.cells c.loop-k.k row c.requires.known) ∙ was in
-    let small : unsigned_abs (amount_at c.loop-k.cells at) < 2 ^ 62 = subst (λ z. unsigned_abs z < 2 ^ 62) (sym same) (c.requires.room c.loop-k.k within) in
-    grown_fits (amount_at c.loop-k.cells at) (c.share-by.result - c.loop-k.so_far) small (omega (arith, c.share-by.ensures.most, c.requires.spread.amount))
+    grown_fits (amount_at c.loop-k.cells (c.loop-k.k * c.args.rows + c.args.entry.now.row)) (c.share-by.result - c.loop-k.so_far)
+    (still_small c.args.rows c.args.periods c.args.entry.now c.args.width c.loop-k.k c.args.cells.now c.loop-k.cells c.loop-k.invariant.cells c.requires.known c.requires.room within)
+    (omega (arith, c.share-by.ensures.most, c.requires.spread.amount))
 
 pub loop-k-preserved : goal.loop-k-preserved
 loop-k-preserved c =
     let within : c.loop-k.k < c.args.periods = omega (arith, c.min-end.ensures, c.from.ensures) in
-    let row = c.args.entry.now.row in
-    let at = c.loop-k.k * c.args.rows + row in
-    let was = ap (λ l. amount_at l row) (c.loop-k.invariant.cells.rest c.loop-k.k (omega arith)) in
-    let same : amount_at c.loop-k.cells at ≡ amount_at (column_of c.args.rows c.args.cells.now c.loop-k.k) row = sym (read_cell c.args.rows c.loop-k.cells c.loop-k.k row c.requires.known) ∙ was in
-    let small : unsigned_abs (amount_at c.loop-k.cells at) < 2 ^ 62 = subst (λ z. unsigned_abs z < 2 ^ 62) (sym same) (c.requires.room c.loop-k.k within) in
+    let small = still_small c.args.rows c.args.periods c.args.entry.now c.args.width c.loop-k.k c.args.cells.now c.loop-k.cells c.loop-k.invariant.cells c.requires.known c.requires.room within in
     record {
       cells = added_more c.args.rows c.args.periods c.args.entry.now c.args.width c.loop-k.k c.args.cells.now c.loop-k.cells c.share-by.result c.loop-k.so_far _ c.loop-k.invariant.cells c.requires.known c.loop-k.invariant.so_far c.share-by.ensures.share
-          (grown (amount_at c.loop-k.cells at) (c.share-by.result - c.loop-k.so_far) small (omega (arith, c.share-by.ensures.most, c.requires.spread.amount)));
+          (grown (amount_at c.loop-k.cells (c.loop-k.k * c.args.rows + c.args.entry.now.row)) (c.share-by.result - c.loop-k.so_far) small (omega (arith, c.share-by.ensures.most, c.requires.spread.amount)));
       so_far = c.share-by.ensures.share;
     }
 

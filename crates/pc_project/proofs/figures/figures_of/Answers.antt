@@ -1,7 +1,7 @@
 use Rattle.std.proofs.Common.{◌∙◌, ap, map, sym, subst}
 use Rattle.std.specs.List.{Any}
-use Rattle.pc_project.specs.First.{IsFirstIn, earliest}
-use Rattle.pc_project.specs.Misfit.{HasAccountFault, HasMoneyFault, HasStatusFault, HasFigureFault}
+use Rattle.pc_project.specs.First.{IsFirstIn}
+use Rattle.pc_project.specs.Misfit.{HasAccountFault, HasMoneyFault, HasStatusFault}
 use Rattle.pc_project.specs.Project.{account_of, money_of, status_of}
 use Rattle.pc_project.proofs.FirstLaws.{earliest-none}
 use Rattle.pc_project.proofs.MisfitLaws.{first_of_figures}
@@ -14,11 +14,9 @@ returns-clause-first c =
     let charges = subst (λ cards. IsFirstIn (λ fault. Any (λ card. HasMoneyFault deck card fault) cards) c.in_ok-charges.charges.fault) c.charges.ensures.cards c.in_ok-charges.ensures.first in
     let togos = subst (λ cards. IsFirstIn (λ fault. Any (λ card. HasMoneyFault deck card fault) cards) c.in_ok-togos.togos.fault) c.togos.ensures.cards c.in_ok-togos.ensures.first in
     let statuses = subst (λ cards. IsFirstIn (λ fault. Any (λ card. HasStatusFault deck card fault) cards) c.in_ok-statuses.statuses.fault) c.statuses.ensures.cards c.in_ok-statuses.ensures.first in
-    let found = c.earliest-fault.ensures
-    ∙ (ap (λ one. earliest one c.earliest-of_rest.result) c.earliest-of_spent.ensures
-    ∙ ap (earliest (earliest c.in_ok-accounts.accounts.fault c.in_ok-charges.charges.fault)) c.earliest-of_rest.ensures) in
-    subst (IsFirstIn (HasFigureFault deck)) (sym found)
-    (first_of_figures deck c.in_ok-accounts.accounts.fault c.in_ok-charges.charges.fault c.in_ok-togos.togos.fault c.in_ok-statuses.statuses.fault accounts charges togos statuses)
+    first_of_figures deck c.in_ok-accounts.accounts.fault c.in_ok-charges.charges.fault c.in_ok-togos.togos.fault c.in_ok-statuses.statuses.fault
+    c.earliest-of_spent.result c.earliest-of_rest.result c.earliest-fault.result c.earliest-of_spent.ensures c.earliest-of_rest.ensures c.earliest-fault.ensures
+    accounts charges togos statuses
 
 pub returns-clause-figures : goal.returns-clause-figures
 returns-clause-figures c = λ none.

@@ -1,15 +1,24 @@
-use Rattle.std.proofs.Common.{sym, ◌∙◌, subst}
+use Rattle.std.proofs.Common.{length, sym, ◌∙◌, ap, subst}
+use Rattle.std.proofs.lemmas.List.{length-map}
 use Rattle.pc_wbs.specs.Climb.{AreInRange}
-use Rattle.pc_wbs.specs.Refusal.{IsRefusal}
+use Rattle.pc_project.specs.Project.{row_of, rows_of}
+use Rattle.pc_project.specs.Refusal.{IsTreeFault}
+use Rattle.pc_faults.specs.First.{Refuses}
 use Rattle.pc_project.proofs.FitLaws.{rows_of-in_range}
 use Rattle.pc_project.proofs.RefusalLaws.{refused_by_tree}
 use Rattle.pc_project.proofs.tree.tree_of.Goals as goal
 
-pub build-requires-clause-in_range : goal.build-requires-clause-in_range
-build-requires-clause-in_range c =
+pub tree_between-requires-clause-each : goal.tree_between-requires-clause-each
+tree_between-requires-clause-each c =
+    let deck = c.args.cards.now in
+    ap length (c.deref.ensures.value ∙ c.requires.rows) ∙ (length-map deck.items (row_of deck) ∙ sym (ap length c.items.ensures.cards))
+
+pub tree_between-requires-clause-in_range : goal.tree_between-requires-clause-in_range
+tree_between-requires-clause-in_range c =
     subst AreInRange (sym (c.deref.ensures.value ∙ c.requires.rows)) (rows_of-in_range c.args.cards.now c.requires.faultless)
 
 pub returns-in-Err-clause-refused : goal.returns-in-Err-clause-refused
 returns-in-Err-clause-refused c =
-    refused_by_tree c.args.cards.now c.in-Err.error c.fault_of.result c.requires.faultless
-    (subst (λ rows. IsRefusal rows c.in-Err.error) (c.deref.ensures.value ∙ c.requires.rows) c.in-Err.ensures.refusal) c.fault_of.ensures
+    refused_by_tree c.args.cards.now c.in-Err.error c.requires.faultless
+    (subst (λ items. Refuses (IsTreeFault items (rows_of c.args.cards.now)) c.in-Err.error) c.items.ensures.cards
+    (subst (λ rows. Refuses (IsTreeFault c.items.result.now rows) c.in-Err.error) (c.deref.ensures.value ∙ c.requires.rows) c.in-Err.ensures.refused))

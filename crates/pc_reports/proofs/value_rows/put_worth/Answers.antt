@@ -1,17 +1,14 @@
 use Rattle.std.proofs.Common.{ap, rules}
-use Rattle.std.specs.Fmt.{signed_decimal}
-use Rattle.pc_page.specs.Cells.{left, right}
+use Rattle.pc_page.specs.Cells.{left}
 use Rattle.pc_page.proofs.PageLaws.{◌▸◌, Adds-as}
+use Rattle.pc_reports.specs.Cells.{amount_cell}
 use Rattle.pc_reports.proofs.value_rows.put_worth.Goals as goal
 
 pub returns : goal.returns
 returns g c =
-    let amounts = c.args.amounts.now in
-    Adds-as _ (ap (left 16) c.bytes.ensures.value) c.put_left.ensures ▸ c.put.ensures
-    ▸ c.put_number_right.ensures ▸ c.put-2.ensures
-    ▸ Adds-as (right 14 (signed_decimal amounts.budget)) (search rules) c.put_signed_right.ensures ▸ c.put-3.ensures
-    ▸ Adds-as (right 14 (signed_decimal amounts.actual)) (search rules) c.put_signed_right-2.ensures ▸ c.put-4.ensures
-    ▸ Adds-as (right 14 (signed_decimal amounts.value)) (search rules) c.put_signed_right-3.ensures ▸ c.put-5.ensures
-    ▸ Adds-as (right 14 (signed_decimal amounts.overrun)) (search rules) c.put_signed_right-4.ensures ▸ c.put-6.ensures
-    ▸ c.put_slack.ensures ▸ c.put-7.ensures
-    ▸ Adds-as _ c.bytes-2.ensures c.put-8.ensures ▸ c.put-9.ensures
+    Adds-as _ (ap (left 16) c.bytes.ensures.value) c.put_left.ensures ▸ c.put_level_cell.ensures
+    ▸ Adds-as (amount_cell c.args.amounts.now.budget) (search rules) c.put_amount_cell.ensures
+    ▸ Adds-as (amount_cell c.args.amounts.now.actual) (search rules) c.put_amount_cell-2.ensures
+    ▸ Adds-as (amount_cell c.args.amounts.now.value) (search rules) c.put_amount_cell-3.ensures
+    ▸ Adds-as (amount_cell c.args.amounts.now.overrun) (search rules) c.put_amount_cell-4.ensures
+    ▸ c.put.ensures ▸ c.put_slack.ensures ▸ c.put_title_cell.ensures

@@ -1,9 +1,12 @@
-use Rattle.std.proofs.Common.{◌≡◌, ◌<◌, ℕ, List, length, get_or, slice_index, refl, ap, ◌∙◌, arith}
+use Rattle.std.proofs.Common.{◌≡◌, ◌+◌, ◌*◌, ◌/◌, ◌<◌, ◌≤◌, ℕ, List, length, get_or, slice_index, refl, ap, ◌∙◌, arith}
+use Rattle.std.proofs.Math.Nat.{lt-mul-div-succ}
 use Rattle.std.proofs.lemmas.List.{get_or_default}
 use Rattle.pc_project.specs.Planned.{IsPlanned}
 use Rattle.pc_project.specs.Project.{Project}
 use Rattle.pc_times.specs.Times.{AreEarly}
 use Rattle.pc_load.specs.Loading.{ArePeriods, periods_for}
+use Rattle.pc_load.specs.Entries.{AreTimes}
+use Rattle.pc_load.proofs.LoadingLaws.{resources_add_up, resources_have_parts}
 use Rattle.pc_load.proofs.loading.Loading.of.Goals as goal
 
 -- so many periods hold the project
@@ -16,6 +19,15 @@ periods_are project days have end times planned early read is =
       early = early.each project.network.end planned.in_range.end_in;
       are = is ∙ ap (periods_for days) at;
     }
+
+-- and the last of them ends behind its end
+ends_before : (project : Project) (days have end : ℕ) (times : List ℕ) → 1 ≤ days → IsPlanned project → AreEarly project.network project.expected times → end ≡ get_or times project.network.end end → have ≡ periods_for days end → slice_index times project.network.end < 6 * days * have
+ends_before project days have end times some planned early read is =
+    let inside : project.network.end < length times = omega (arith, early.one_each, planned.in_range.end_in) in
+    let at : end ≡ slice_index times project.network.end = read ∙ get_or_default times project.network.end end 0 inside in
+    let most = lt-mul-div-succ end {b = 6 * days} (omega arith) in
+    let periods : 6 * days * have ≡ 6 * days * (end / (6 * days) + 1) = ap (λ n. 6 * days * n) is in
+    omega arith
 
 pub returns-then-have-from-clause-none : goal.returns-then-have-from-clause-none
 returns-then-have-from-clause-none c =
@@ -34,17 +46,21 @@ returns-clause-loading c =
     let have = c.periods_for-have.result in
     let early : AreEarly project.network project.expected times = rw (← c.net.ensures.network, ← c.expected.ensures.expected) c.in_ok-times.ensures.times in
     let read : c.index.result.now ≡ get_or times project.network.end c.index.result.now = rw (← c.net-2.ensures.network, ← c.end.ensures.end) c.index.ensures in
+    let are = periods_are project c.args.days have c.index.result.now times c.net.ensures.planned early read c.periods_for-have.ensures in
+    let reached : AreTimes project times = record { early = early; small = λ e lt. c.in_ok-times.ensures.limit e 0 lt } in
+    let whole = ends_before project c.args.days have c.index.result.now times c.requires.least c.net.ensures.planned early read c.periods_for-have.ensures in
+    let taken = resources_have_parts project times c.in_ok-taken.taken.items (6 * c.args.days) have _ (rw (← c.deref.ensures.value) c.in_ok-taken.ensures.loads) (rw (← c.resource_count.ensures.count, ← c.deref-3.ensures.value) c.in_ok-build.ensures.table) in
     record {
       of_days = refl;
       preorder = rw (c.in_ok-from_slice.ensures.items, ← c.tree.ensures.tree) c.preorder.ensures.order;
       times = times;
       early = early;
       periods = have;
-      are = periods_are project c.args.days have c.index.result.now times c.net.ensures.planned early read c.periods_for-have.ensures;
+      are = are;
       few = omega arith;
-      items = rw (← c.deref.ensures.value) c.in_ok-items_of.ensures.parts;
-      resources = rw (← c.deref-2.ensures.value) c.in_ok-resources_of.ensures.parts;
+      items = rw (← c.deref-2.ensures.value) c.in_ok-items_of.ensures.parts;
+      resources = taken;
       items_add_up = c.in_ok-items_of.ensures.add_up;
-      resources_add_up = c.in_ok-resources_of.ensures.add_up;
+      resources_add_up = resources_add_up project times (6 * c.args.days) have _ c.net.ensures.planned reached (omega arith) whole taken;
       levels_add_up = c.in_ok-items_of.ensures.levels;
     }

@@ -12,10 +12,10 @@ use Rattle.pc_project.proofs.OwnPieceLaws.{added-most, own_pieces}
 use Rattle.pc_project.proofs.project.Project.cost_at.Goals as goal
 
 -- the term and the pieces that were read are those of the activity
-own : (s : Inside) → IsPlanned (project_from s) → (a : ℕ) → a < length s.plan.net.arcs → (term : Term) (found pieces : List PieceRow) → term ≡ get_or s.plan.terms.items a term → found ≡ pieces_of pieces a → pieces ≡ s.plan.pieces.items → AreOwnPieces term found
+own : (s : Inside) → IsPlanned (project_from s) → (a : ℕ) → a < length s.plan.net.arcs → (term : Term) (found pieces : List PieceRow) → term ≡ get_or s.plan.lists.terms.items a term → found ≡ pieces_of pieces a → pieces ≡ s.plan.pieces.items → AreOwnPieces term found
 own s planned a inside term found pieces read picked same =
-    let known : a < length s.plan.terms.items = omega (arith, planned.terms.one_each) in
-    let is : term ≡ term_at s.plan.terms.items a = get_or_read s.plan.terms.items a term known read (record { normal = 0; crash = 0; cost = 0; slope = 0 }) in
+    let known : a < length s.plan.lists.terms.items = omega (arith, planned.terms.one_each) in
+    let is : term ≡ term_at s.plan.lists.terms.items a = get_or_read s.plan.lists.terms.items a term known read (record { normal = 0; crash = 0; cost = 0; slope = 0 }) in
     rw (is, picked, same) (own_pieces (project_from s) planned a known)
 
 pub cost_with-requires : goal.cost_with-requires

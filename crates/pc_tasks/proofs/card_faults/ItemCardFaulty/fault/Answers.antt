@@ -1,7 +1,7 @@
 use Rattle.std.proofs.Common.{sym, ◌∙◌, subst}
 use Rattle.pc_faults.specs.First.{IsFirst}
 use Rattle.pc_project.specs.Misfit.{HasItemFault}
-use Rattle.pc_tasks.proofs.CardLemmas.{first_unknown_parent}
+use Rattle.pc_project.proofs.CardLaws.{first_unknown_parent}
 use Rattle.pc_tasks.proofs.card_faults.ItemCardFaulty.fault.Goals as goal
 
 pub returns-in-None : goal.returns-in-None

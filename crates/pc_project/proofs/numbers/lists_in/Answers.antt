@@ -1,0 +1,35 @@
+use Rattle.std.proofs.Common.{◌∙◌, ap, map, sym, subst}
+use Rattle.std.specs.List.{Any}
+use Rattle.pc_project.specs.First.{IsFirstIn}
+use Rattle.pc_project.specs.Misfit.{HasItemFault, HasActFault, HasPieceCardFault, HasLoadFault}
+use Rattle.pc_project.specs.Project.{load_of, piece_of, placement_of, row_of}
+use Rattle.pc_project.proofs.FirstLaws.{earliest-none}
+use Rattle.pc_project.proofs.MisfitLaws.{first_of_listed}
+use Rattle.pc_project.proofs.numbers.lists_in.Goals as goal
+
+pub returns-clause-first : goal.returns-clause-first
+returns-clause-first c =
+    let deck = c.args.cards.now in
+    first_of_listed deck c.in_ok-rows.rows.fault c.in_ok-acts.acts.fault c.in_ok-pieces.pieces.fault c.in_ok-loads.loads.fault c.in_ok-figures.figures.fault
+    c.earliest-of_acts.result c.earliest-of_parts.result c.earliest-of_both.result c.earliest-fault.result
+    c.earliest-of_acts.ensures c.earliest-of_parts.ensures c.earliest-of_both.ensures c.earliest-fault.ensures
+    (subst (λ cards. IsFirstIn (λ fault. Any (λ card. HasItemFault deck card fault) cards) c.in_ok-rows.rows.fault) c.items.ensures.cards c.in_ok-rows.ensures.first)
+    (subst (λ cards. IsFirstIn (λ fault. Any (λ card. HasActFault deck card fault) cards) c.in_ok-acts.acts.fault) c.acts.ensures.cards c.in_ok-acts.ensures.first)
+    (subst (λ cards. IsFirstIn (λ fault. Any (λ card. HasPieceCardFault deck card fault) cards) c.in_ok-pieces.pieces.fault) c.pieces.ensures.cards c.in_ok-pieces.ensures.first)
+    (subst (λ cards. IsFirstIn (λ fault. Any (λ card. HasLoadFault deck card fault) cards) c.in_ok-loads.loads.fault) c.loads.ensures.cards c.in_ok-loads.ensures.first)
+    c.in_ok-figures.ensures.first
+
+pub returns-clause-lists : goal.returns-clause-lists
+returns-clause-lists c = λ none.
+    let deck = c.args.cards.now in
+    let both = earliest-none c.earliest-of_both.result c.in_ok-figures.figures.fault (sym c.earliest-fault.ensures ∙ none) in
+    let parts = earliest-none c.earliest-of_acts.result c.earliest-of_parts.result (sym c.earliest-of_both.ensures ∙ both.0) in
+    let of_acts = earliest-none c.in_ok-rows.rows.fault c.in_ok-acts.acts.fault (sym c.earliest-of_acts.ensures ∙ parts.0) in
+    let of_parts = earliest-none c.in_ok-pieces.pieces.fault c.in_ok-loads.loads.fault (sym c.earliest-of_parts.ensures ∙ parts.1) in
+    record {
+      rows = c.in_ok-rows.ensures.numbers of_acts.0 ∙ ap (map (row_of deck)) c.items.ensures.cards;
+      placements = c.in_ok-acts.ensures.numbers of_acts.1 ∙ ap (map (placement_of deck)) c.acts.ensures.cards;
+      pieces = c.in_ok-pieces.ensures.numbers of_parts.0 ∙ ap (map (piece_of deck)) c.pieces.ensures.cards;
+      loads = c.in_ok-loads.ensures.numbers of_parts.1 ∙ ap (map (load_of deck)) c.loads.ensures.cards;
+      figures = c.in_ok-figures.ensures.figures both.1;
+    }

@@ -1,0 +1,8 @@
+use Rattle.std.proofs.Common.{rules}
+use Rattle.std.specs.Fmt.{signed_decimal}
+use Rattle.pc_page.specs.Cells.{right}
+use Rattle.pc_page.proofs.PageLaws.{◌▸◌, Adds-as}
+use Rattle.pc_reports.proofs.cells.put_amount_cell.Goals as goal
+
+pub returns : goal.returns
+returns g c = c.put.ensures ▸ Adds-as (right 14 (signed_decimal c.args.amount)) (search rules) c.put_signed_right.ensures

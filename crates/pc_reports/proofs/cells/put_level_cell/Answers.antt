@@ -1,0 +1,5 @@
+use Rattle.pc_page.proofs.PageLaws.{◌▸◌}
+use Rattle.pc_reports.proofs.cells.put_level_cell.Goals as goal
+
+pub returns : goal.returns
+returns g c = c.put.ensures ▸ c.put_number_right.ensures
