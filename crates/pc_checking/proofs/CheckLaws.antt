@@ -1,9 +1,8 @@
 -- How the parts of a check make its outcome, and what its outcome says.
-use Rattle.std.proofs.Common.{◌≡◌, ℕ, ◌+◌, List, Option, Some, None, refl, sym, ap, subst}
+use Rattle.std.proofs.Common.{◌≡◌, ℕ, ◌+◌, List, Option, Some, None, sym, ap, subst}
 use Rattle.std.specs.Prelude.{IfSome, String}
 use Rattle.std.specs.declared.alloc.Global.{Global}
 use Rattle.pc_edges.specs.Pulls.{TakesPulls}
-use Rattle.pc_faults.specs.declared.fault.Fault.{Fault}
 use Rattle.pc_check.specs.declared.fail.Fail.{Fail}
 use Rattle.pc_check.specs.declared.fail.Verdict.{Verdict}
 use Rattle.pc_check.specs.declared.fail.Verdict.TheVariants.{Yes, No}
@@ -16,12 +15,12 @@ use Rattle.pc_check.proofs.OnceLaws.{one_failure}
 use Rattle.pc_edges.proofs.PullLaws.{TakesPulls-none}
 use Rattle.pc_project.specs.Project.{Project}
 use Rattle.pc_reading.specs.declared.status.Status.{Status}
-use Rattle.pc_reading.specs.declared.status.Status.TheVariants.{Refused, OutOfMemory, WriteFault}
 use Rattle.pc_reading.specs.Priced.{priced_in}
-use Rattle.pc_reading.specs.Refusing.{Refusal}
-use Rattle.pc_checking.specs.Certificate.{IsOneWord, verdict_text, HasVerdict, Certifies, FailsAsCertificate, ProvesCurve, IsFound, KeepsToOwnLinesFor, IsSettledFor, IsSettledIn, IsUnsettledFor, IsUnsettledIn, status_for, Told, told, cut, Answered, found, unread, no_room}
-use Rattle.pc_checking.specs.CheckOutcome.{IsChecked, CheckOutcome, certified, not_certified, deck_refused, no_memory, read_fault, cert_unread, write_fault, in_verdict, in_refusal}
-use Rattle.pc_reading.specs.Reading.{HasProject, HasRefusal}
+use Rattle.pc_reading.specs.OneWord.{IsOneWord, EndsWithout}
+use Rattle.pc_reading.specs.OneWord as ends
+use Rattle.pc_checking.specs.Certificate.{check_usage_text, verdict_text, HasVerdict, Certifies, FailsAsCertificate, ProvesCurve, IsFound, KeepsToOwnLinesFor, IsSettledFor, IsSettledIn, IsUnsettledFor, IsUnsettledIn, status_for, Told, told, cut, Answered, found, unread, no_room}
+use Rattle.pc_checking.specs.CheckOutcome.{IsChecked, CheckOutcome, certified, not_certified, deck_refused, check_usage, no_memory, read_fault, deck_unread, cert_unread, write_fault, in_verdict, in_refusal, in_check_usage}
+use Rattle.pc_reading.specs.Reading.{HasProject}
 use Rattle.pc_reading.specs.Sides.{Side, IsUntouched, Took}
 use Rattle.pc_reading.specs.Verdict.{IsProjectOf, AcceptedBy}
 use Rattle.pc_check.proofs.HeadlineLaws.{prints_whole_curve}
@@ -141,9 +140,11 @@ module _ {D C O E : Type 0} (words : List (String Global)) (deck : Side D) (cert
       read_fault asked (cert_unread has.read (accepted_of (deck.bytes deck.old) project has.is) rose (unsettled_for (deck.bytes deck.old) cert project has.is unsettled)) unused same
   after_check project _ asked has same (no_room unread_cert unused) = no_memory asked unread_cert unused same
 
-  -- the deck is refused, and the line of its fault was handed to the error output
-  pub after_deck : (fault : Fault) (status : Status) → IsOneWord words → HasRefusal deck fault → IsUntouched cert → IsUntouched out → Refusal fault err status → CheckOutcome words deck cert out err status
-  after_deck fault Refused asked refusal unread_cert unused took = deck_refused (record { asked = asked; fault = fault; refusal = refusal; took = took }) unread_cert unused
-  after_deck fault WriteFault asked refusal unread_cert unused took = write_fault (in_refusal (record { asked = asked; fault = fault; refusal = refusal; took = took }) unread_cert unused)
-  after_deck fault OutOfMemory asked refusal unread_cert unused same = no_memory asked unread_cert unused same
-  after_deck fault _ asked refusal unread_cert unused never = absurd never
+  -- there is no project, and the certificate and the output were left alone
+  pub after_no_project : (status : Status) → EndsWithout words check_usage_text deck err status → IsUntouched cert → IsUntouched out → CheckOutcome words deck cert out err status
+  after_no_project _ (ends.deck_refused is) unread_cert unused = deck_refused is unread_cert unused
+  after_no_project _ (ends.not_one_word no_word took same) unread_cert unused = check_usage no_word took same unread_cert unused
+  after_no_project _ (ends.no_memory asked same) unread_cert unused = no_memory asked unread_cert unused same
+  after_no_project _ (ends.deck_unread asked rose few same) unread_cert unused = read_fault asked (deck_unread rose few unread_cert) unused same
+  after_no_project _ (ends.refusal_cut is) unread_cert unused = write_fault (in_refusal is unread_cert unused)
+  after_no_project _ (ends.usage_cut no_word took same) unread_cert unused = write_fault (in_check_usage no_word took same unread_cert unused)

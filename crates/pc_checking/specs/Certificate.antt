@@ -1,6 +1,5 @@
 -- Certificates of a deck's project, and what is said of them.
-use Rattle.std.specs.Prelude.{◌≡◌, ℕ, List, [], ◌∷◌, ◌++◌, length, codes, decimal, Option, String}
-use Rattle.std.specs.declared.alloc.Global.{Global}
+use Rattle.std.specs.Prelude.{◌≡◌, ℕ, List, [], ◌∷◌, ◌++◌, codes, decimal, Option}
 use Rattle.pc_crash.specs.Priced.{PricedNetwork}
 use Rattle.pc_check.specs.Certified.{OnYes}
 use Rattle.pc_check.specs.declared.fail.Verdict.{Verdict}
@@ -17,11 +16,7 @@ use Rattle.pc_reading.specs.Priced.{priced_in}
 use Rattle.pc_reading.specs.Sides.{Side, HadFault, IsReadToEnd, IsUntouched, OfBytes, Took, TookFront}
 use Rattle.pc_reading.specs.Verdict.{IsProjectOf}
 
--- ---- words and lines
-
--- there is one word, the deck's name
-abbrev pub IsOneWord : List (String Global) → Type 0
-IsOneWord words = length words ≡ 1
+-- ---- lines
 
 -- the line that says which words are asked for
 abbrev pub check_usage_text : List ℕ

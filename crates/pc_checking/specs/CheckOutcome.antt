@@ -4,13 +4,11 @@ use Rattle.std.specs.declared.alloc.Global.{Global}
 use Rattle.pc_check.specs.declared.fail.Verdict.{Verdict}
 use Rattle.pc_check.specs.declared.fail.Verdict.TheVariants.{Yes, No}
 use Rattle.pc_deck.specs.Limits.{longest_deck}
-use Rattle.pc_faults.specs.declared.fault.Fault.{Fault}
-use Rattle.pc_faults.specs.FaultText.{fault_text}
 use Rattle.pc_reading.specs.declared.status.Status.{Status}
 use Rattle.pc_reading.specs.declared.status.Status.TheVariants.{Done, Refused, Usage, OutOfMemory, ReadFault, WriteFault, NotCertified}
-use Rattle.pc_checking.specs.Certificate.{IsOneWord, check_usage_text, verdict_text, HasVerdict, IsSettledFor, IsUnsettledFor}
+use Rattle.pc_checking.specs.Certificate.{check_usage_text, verdict_text, HasVerdict, IsSettledFor, IsUnsettledFor}
 use Rattle.pc_reading.specs.Sides.{Side, HadFault, IsReadToEnd, IsUntouched, OfBytes, OfDeck, Took, TookAtMost, TookFront}
-use Rattle.pc_reading.specs.Reading.{HasRefusal}
+use Rattle.pc_reading.specs.OneWord.{IsDeckRefused, IsOneWord, IsRefusalCut}
 use Rattle.pc_reading.specs.Verdict.{AcceptedBy}
 
 -- the bytes that the two sources had left have P, where they tell them
@@ -36,20 +34,6 @@ pub record IsVerdictCut {D C O : Type 0} (words : List (String Global)) (deck : 
   pub has : OfBoth deck cert (λ bytes text. HasVerdict bytes text verdict)
   pub settled : OfDeck deck (λ bytes. IsSettledFor bytes cert verdict)
   pub took : TookFront out (verdict_text verdict)
-
--- there is one word, the deck is refused, and the error output took the line of its fault
-pub record IsDeckRefused {D E : Type 0} (words : List (String Global)) (deck : Side D) (err : Side E) : Type 0 where
-  pub asked : IsOneWord words
-  pub fault : Fault
-  pub refusal : HasRefusal deck fault
-  pub took : Took err (fault_text fault)
-
--- the same, but that a fault of the error output came when it had taken a front of the line
-pub record IsRefusalCut {D E : Type 0} (words : List (String Global)) (deck : Side D) (err : Side E) : Type 0 where
-  pub asked : IsOneWord words
-  pub fault : Fault
-  pub refusal : HasRefusal deck fault
-  pub took : TookFront err (fault_text fault)
 
 -- where a write fault came: in the verdict, in the line of a fault, or in the usage line. The other output is as it was, and
 -- the certificate is unread where no verdict was found

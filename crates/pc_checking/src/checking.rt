@@ -8,17 +8,18 @@ ghost use Rattle.pc_edges.specs.declared.loading.TheConstants.{STREAM_ROOM};
 ghost use Rattle.pc_check.specs.Auditing.{most_bytes};
 ghost use Rattle.pc_check.specs.OwnLines.{KeepsToOwnLines};
 ghost use Rattle.pc_project.specs.Project.{Project as TheProject};
-ghost use Rattle.pc_checking.specs.Certificate.{Answered, IsOneWord, IsSettledFor, KeepsToOwnLinesFor, check_usage_text, failing_text, Certifies, FailsAsCertificate, HasVerdict, ProvesCurve};
-ghost use Rattle.pc_checking.specs.CheckOutcome.{CheckOutcome, IsChecked, IsDeckRefused, IsCheckCut, IsUnread, OfBoth};
+ghost use Rattle.pc_checking.specs.Certificate.{Answered, IsSettledFor, KeepsToOwnLinesFor, check_usage_text, failing_text, Certifies, FailsAsCertificate, HasVerdict, ProvesCurve};
+ghost use Rattle.pc_checking.specs.CheckOutcome.{CheckOutcome, IsChecked, IsCheckCut, IsUnread, OfBoth};
+ghost use Rattle.pc_reading.specs.OneWord.{IsDeckRefused, IsOneWord};
 ghost use Rattle.pc_reading.specs.Priced.{priced_in};
 ghost use Rattle.pc_reading.specs.Sides.{pulled_side, side, HadNoFault, IsReadToEnd, OfDeck, Took, TookAtMost};
 ghost use Rattle.pc_reading.specs.Verdict.{AcceptedBy, IsProjectOf, RefusedBy};
 
 use crate::telling::tell;
 use pc_check::{AuditError, audit_source};
-use pc_edges::{Failed, Sink, Source};
+use pc_edges::{Sink, Source};
 use pc_project::Project;
-use pc_reading::{NoProject, Status, read_project, refuse, send};
+use pc_reading::{Status, project_named};
 use std::alloc::Global;
 
 /// The line that says which words are asked for.
@@ -144,17 +145,9 @@ fn check_outcome<D: Source, C: Source, O: Sink, E: Sink>(
     ensures deck_turns { TakesPulls (longest_deck + 2) (D.pulls deck.old) (D.pulls deck.new) }
     ensures deck_near { TookAtMost (longest_deck + STREAM_ROOM) (side D.left D.faults deck.old deck.new) }
 {
-    if words.len() != 1 {
-        return match send(err, USAGE) {
-            Ok(()) => Status::Usage,
-            Err(Failed) => Status::WriteFault,
-        };
-    }
-    match read_project(alloc, deck) {
+    match project_named(alloc, words, USAGE, deck, err) {
         Ok(project) => check(alloc, &project, cert, out),
-        Err(NoProject::Refused(fault)) => refuse(alloc, &fault, err),
-        Err(NoProject::ReadFault) => Status::ReadFault,
-        Err(NoProject::OutOfMemory) => Status::OutOfMemory,
+        Err(status) => status,
     }
 }
 

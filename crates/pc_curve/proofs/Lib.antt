@@ -5,3 +5,4 @@ mod ComeLaws
 mod ReadLaws
 mod TextLaws
 pub mod OneTextLaws
+pub mod RangeLaws

@@ -1,3 +1,4 @@
 pub mod Points
 pub mod Breaks
 pub mod CurveText
+pub mod Range

@@ -2,3 +2,4 @@ pub mod SideLaws
 pub mod ReadingLaws
 pub mod VerdictLaws
 pub mod PricedLaws
+pub mod OneWordLaws

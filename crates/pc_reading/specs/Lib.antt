@@ -3,6 +3,7 @@ pub mod Status
 pub mod Verdict
 pub mod Reading
 pub mod Refusing
+pub mod OneWord
 pub mod Priced
 pub use Rattle.pc_edges.specs.Faults
 pub use Rattle.pc_edges.specs.Writes

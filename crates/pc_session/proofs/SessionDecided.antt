@@ -1,5 +1,5 @@
 -- What the status of a session says, and what decides it where no fault came, but for want of memory.
-use Rattle.std.proofs.Common.{◌≡◌, ℕ, ◌+◌, ◌<◌, ◌≤◌, List, ◌++◌, length, Option, Some, None, ◌⊎◌, inl, inr, arith, sym, ap, subst, length-append}
+use Rattle.std.proofs.Common.{◌≡◌, ℕ, ◌+◌, ◌<◌, ◌≤◌, List, length, Option, Some, None, ◌⊎◌, inl, inr, arith, sym, ap, subst, length-append}
 use Rattle.std.specs.Prelude.{IfSome, String}
 use Rattle.std.specs.declared.alloc.Global.{Global}
 use Rattle.std.specs.Io.KnownBytes.{Consumes}
@@ -8,13 +8,14 @@ use Rattle.pc_faults.specs.declared.fault.Fault.{Fault}
 use Rattle.pc_lines.specs.declared.reader.TheConstants.{INPUT_LIMIT}
 use Rattle.pc_reading.specs.declared.status.Status.{Status}
 use Rattle.pc_reading.specs.Status.{code_of}
+use Rattle.pc_reading.specs.OneWord.{IsOneWord}
 use Rattle.pc_reading.specs.Sides.{Side, HadNoFault, IsReadToEnd, IsUntouched, OfBytes, OfDeck}
 use Rattle.pc_reading.specs.Verdict.{AcceptedBy, RefusedBy, IsFault}
 use Rattle.pc_reading.proofs.ReadingLaws.{refusal_is_fault, refusal_reads}
 use Rattle.pc_reading.proofs.SideLaws.{of_any, of_one}
 use Rattle.pc_reading.proofs.VerdictLaws.{not_both}
-use Rattle.pc_session.specs.Heard.{Meaning, IsOneWord, IsHeardOut, IsHeardTooLong}
-use Rattle.pc_session.specs.SessionOutcome.{SessionOutcome, IsDeckRefused, IsUnread, IsSessionCut, heard_out, too_long, deck_refused, usage, no_memory, read_fault, write_fault, deck_unread, edits_unread, in_answers, in_refusal, in_usage}
+use Rattle.pc_session.specs.Heard.{Meaning, IsHeardOut, IsHeardTooLong}
+use Rattle.pc_session.specs.SessionOutcome.{SessionOutcome, IsUnread, IsSessionCut, heard_out, too_long, deck_refused, usage, no_memory, read_fault, write_fault, deck_unread, edits_unread, in_answers, in_refusal, in_usage}
 
 -- ---- how much was taken
 
@@ -128,7 +129,7 @@ module _ {D C O E : Type 0} (means : Meaning) (words : List (String Global)) (de
   accepted_deck_ends asked _ (no_memory one left same other) code = of_any (deck.bytes deck.old) _ (λ bytes accepted reads also takes. inr (inl code))
   accepted_deck_ends asked _ (read_fault one (deck_unread rose few unread unused) same) code = of_any (deck.bytes deck.old) _ (λ bytes accepted reads also takes. absurd (reads rose))
   accepted_deck_ends asked _ (read_fault one (edits_unread is) same) code = of_any (deck.bytes deck.old) _ (λ bytes accepted reads also takes. absurd (also is.fault))
-  accepted_deck_ends asked _ (write_fault (in_answers one is same)) code = of_any (deck.bytes deck.old) _ (λ bytes accepted reads also takes. absurd (takes is.took.fault))
+  accepted_deck_ends asked _ (write_fault (in_answers one is same)) code = of_any (deck.bytes deck.old) _ (λ bytes accepted reads also takes. absurd (takes is.answered.took.fault))
   accepted_deck_ends asked _ (write_fault (in_refusal is same other)) code =
       of_one (deck.bytes deck.old) (λ bytes. IsFault bytes is.fault) _ (λ bytes faulty accepted reads also takes. absurd (refusal_denied bytes is.fault accepted faulty)) (refusal_is_fault deck is.fault is.refusal)
   accepted_deck_ends asked _ (write_fault (in_usage no_word took same also unused)) code = absurd (no_word asked)
@@ -142,13 +143,13 @@ module _ {D C O E : Type 0} (means : Meaning) (words : List (String Global)) (de
   -- where more is taken of the edits than they may have, that is the answer
   pub long_edits_end : HadNoFault out → (status : Status) → SessionOutcome means words deck edits out err status → answer ≡ code_of status
       → OfBytes edits (λ before. IfSome (edits.bytes edits.new) (λ after. INPUT_LIMIT + length after < length before → answer ≡ 8))
-  long_edits_end takes _ (heard_out one is same) code = few_taken INPUT_LIMIT (edits.bytes edits.old) (edits.bytes edits.new) is.heard.bytes (answer ≡ 8) is.heard.taken is.short
+  long_edits_end takes _ (heard_out one is same) code = few_taken INPUT_LIMIT (edits.bytes edits.old) (edits.bytes edits.new) is.heard.answered.bytes (answer ≡ 8) is.heard.answered.taken is.short
   long_edits_end takes _ (too_long one is same) code = any_taken INPUT_LIMIT (edits.bytes edits.old) (edits.bytes edits.new) (answer ≡ 8) code
   long_edits_end takes _ (deck_refused is same other) code = untouched_taken (answer ≡ 8) same
   long_edits_end takes _ (usage no_word took same also unused) code = untouched_taken (answer ≡ 8) also
   long_edits_end takes _ (no_memory one left same other) code = untouched_taken (answer ≡ 8) left
   long_edits_end takes _ (read_fault one (deck_unread rose few unread unused) same) code = untouched_taken (answer ≡ 8) unread
-  long_edits_end takes _ (read_fault one (edits_unread is) same) code = few_taken INPUT_LIMIT (edits.bytes edits.old) (edits.bytes edits.new) is.heard.bytes (answer ≡ 8) is.heard.taken is.short
-  long_edits_end takes _ (write_fault (in_answers one is same)) code = absurd (takes is.took.fault)
+  long_edits_end takes _ (read_fault one (edits_unread is) same) code = few_taken INPUT_LIMIT (edits.bytes edits.old) (edits.bytes edits.new) is.heard.answered.bytes (answer ≡ 8) is.heard.answered.taken is.short
+  long_edits_end takes _ (write_fault (in_answers one is same)) code = absurd (takes is.answered.took.fault)
   long_edits_end takes _ (write_fault (in_refusal is same other)) code = untouched_taken (answer ≡ 8) same
   long_edits_end takes _ (write_fault (in_usage no_word took same also unused)) code = untouched_taken (answer ≡ 8) also

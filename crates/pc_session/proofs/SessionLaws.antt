@@ -1,22 +1,21 @@
 -- How the parts of a session make its outcome.
-use Rattle.std.proofs.Common.{◌≡◌, ℕ, List, Option, Some, None, Result, Ok, Err, refl}
+use Rattle.std.proofs.Common.{ℕ, List, Option, Result, Ok, Err}
 use Rattle.std.specs.Prelude.{IfSome, String}
 use Rattle.std.specs.declared.alloc.Global.{Global}
-use Rattle.pc_faults.specs.declared.fault.Fault.{Fault}
 use Rattle.pc_project.specs.Project.{Project}
 use Rattle.pc_talk.specs.declared.talking.TalkError.{TalkError}
 use Rattle.pc_talk.specs.declared.talking.TalkError.TheVariants as talk
 use Rattle.pc_talk.specs.Talk.{Answered, Ends}
 use Rattle.pc_reading.specs.declared.status.Status.{Status}
-use Rattle.pc_reading.specs.declared.status.Status.TheVariants.{Refused, OutOfMemory, WriteFault}
-use Rattle.pc_reading.specs.Reading.{HasProject, HasRefusal}
-use Rattle.pc_reading.specs.Refusing.{Refusal}
-use Rattle.pc_reading.specs.Sides.{Side, side, IsUntouched, OfDeck}
+use Rattle.pc_reading.specs.OneWord.{IsOneWord, EndsWithout}
+use Rattle.pc_reading.specs.OneWord as ends
+use Rattle.pc_reading.specs.Reading.{HasProject}
+use Rattle.pc_reading.specs.Sides.{Side, side, IsUntouched}
 use Rattle.pc_reading.specs.Verdict.{AcceptedBy, IsProjectOf}
 use Rattle.pc_reading.proofs.SideLaws.{of_one}
-use Rattle.pc_session.specs.Heard.{Meaning, AnswersOn, IsHeard, IsHeardOut, IsHeardTooLong, IsHeardUnread, IsHeardCut, IsOneWord}
-use Rattle.pc_session.specs.Hearing.{HasAnswered, HasAnsweredSome, Hearing, all, passed, unread, cut, no_room, status_of}
-use Rattle.pc_session.specs.SessionOutcome.{SessionOutcome, heard_out, too_long, deck_refused, no_memory, read_fault, write_fault, edits_unread, in_answers, in_refusal}
+use Rattle.pc_session.specs.Heard.{Meaning, AnswersOn, HasAnswered, IsHeard, session_usage_text}
+use Rattle.pc_session.specs.Hearing.{Hearing, all, passed, unread, cut, no_room, status_of}
+use Rattle.pc_session.specs.SessionOutcome.{SessionOutcome, heard_out, too_long, deck_refused, usage, no_memory, read_fault, write_fault, deck_unread, edits_unread, in_answers, in_refusal, in_usage}
 
 -- ---- what a talk comes to
 
@@ -56,11 +55,13 @@ module _ {D C O E : Type 0} (means : Meaning) (words : List (String Global)) (de
   heard_on project lines has h = record {
     read = has.read;
     accepted = accepted_of (deck.bytes deck.old) project has.is;
-    bytes = h.bytes;
-    taken = h.taken;
-    text = h.text;
-    answers = answers_on means (deck.bytes deck.old) project (lines h.bytes) h.text has.is h.answers_are;
-    took = h.took;
+    answered = record {
+      bytes = h.bytes;
+      taken = h.taken;
+      text = h.text;
+      answers_are = answers_on means (deck.bytes deck.old) project (lines h.bytes) h.text has.is h.answers_are;
+      took = h.took;
+    };
   }
 
   -- the deck is accepted, and lines were answered on its project
@@ -72,21 +73,24 @@ module _ {D C O E : Type 0} (means : Meaning) (words : List (String Global)) (de
   after_hearing project _ asked has same (cut h) = write_fault (in_answers asked (record {
     read = has.read;
     accepted = accepted_of (deck.bytes deck.old) project has.is;
-    bytes = h.bytes;
-    taken = h.taken;
-    lines = h.lines;
-    others = h.others;
-    first = h.first;
-    text = h.text;
-    answers = answers_on means (deck.bytes deck.old) project h.lines h.text has.is h.answers_are;
-    took = h.took;
+    answered = record {
+      bytes = h.bytes;
+      taken = h.taken;
+      lines = h.lines;
+      others = h.others;
+      first = h.first;
+      text = h.text;
+      answers_are = answers_on means (deck.bytes deck.old) project h.lines h.text has.is h.answers_are;
+      took = h.took;
+    };
   }) same)
   after_hearing project _ asked has same (no_room unread_edits unused) = no_memory asked unread_edits unused same
 
-  -- the deck is refused, and the line of its fault was handed to the error output
-  pub after_deck : (fault : Fault) (status : Status) → IsOneWord words → HasRefusal deck fault → IsUntouched edits → IsUntouched out → Refusal fault err status
-      → SessionOutcome means words deck edits out err status
-  after_deck fault Refused asked refusal unread_edits unused took = deck_refused (record { asked = asked; fault = fault; refusal = refusal; took = took }) unread_edits unused
-  after_deck fault WriteFault asked refusal unread_edits unused took = write_fault (in_refusal (record { asked = asked; fault = fault; refusal = refusal; took = took }) unread_edits unused)
-  after_deck fault OutOfMemory asked refusal unread_edits unused same = no_memory asked unread_edits unused same
-  after_deck fault _ asked refusal unread_edits unused never = absurd never
+  -- there is no project, and the edits and the output were left alone
+  pub after_no_project : (status : Status) → EndsWithout words session_usage_text deck err status → IsUntouched edits → IsUntouched out → SessionOutcome means words deck edits out err status
+  after_no_project _ (ends.deck_refused is) unread_edits unused = deck_refused is unread_edits unused
+  after_no_project _ (ends.not_one_word no_word took same) unread_edits unused = usage no_word took same unread_edits unused
+  after_no_project _ (ends.no_memory asked same) unread_edits unused = no_memory asked unread_edits unused same
+  after_no_project _ (ends.deck_unread asked rose few same) unread_edits unused = read_fault asked (deck_unread rose few unread_edits unused) same
+  after_no_project _ (ends.refusal_cut is) unread_edits unused = write_fault (in_refusal is unread_edits unused)
+  after_no_project _ (ends.usage_cut no_word took same) unread_edits unused = write_fault (in_usage no_word took same unread_edits unused)

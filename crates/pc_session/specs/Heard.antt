@@ -1,16 +1,11 @@
 -- Lines that were heard on a deck's project, and their answers.
-use Rattle.std.specs.Prelude.{◌≡◌, ℕ, ◌<◌, ◌≤◌, List, [], ◌∷◌, ◌++◌, length, take, codes, String}
-use Rattle.std.specs.declared.alloc.Global.{Global}
+use Rattle.std.specs.Prelude.{◌≡◌, ℕ, ◌<◌, ◌≤◌, List, [], ◌∷◌, ◌++◌, length, take, codes}
 use Rattle.std.specs.Io.KnownBytes.{Consumes}
 use Rattle.pc_lines.specs.declared.reader.TheConstants.{INPUT_LIMIT}
 use Rattle.pc_lines.specs.Lines.{lines_of, whole_lines}
 use Rattle.pc_project.specs.Project.{Project}
-use Rattle.pc_reading.specs.Sides.{Side, HadFault, IsReadToEnd, IsUntouched, OfDeck, Took, TookFront}
+use Rattle.pc_reading.specs.Sides.{Side, HadFault, IsReadToEnd, OfDeck, Took, TookFront}
 use Rattle.pc_reading.specs.Verdict.{AcceptedBy, IsProjectOf}
-
--- there is one word, the deck's name
-abbrev pub IsOneWord : List (String Global) → Type 0
-IsOneWord words = length words ≡ 1
 
 -- the line that says which words are asked for
 abbrev pub session_usage_text : List ℕ
@@ -26,15 +21,34 @@ pub record AnswersOn (means : Meaning) (deck : List ℕ) (lines : List (List ℕ
   pub accepted : IsProjectOf deck project
   pub answers : means project lines text
 
--- the deck was read to its end and is accepted, these bytes of the edits were taken, and the output took the answers to lines of them
-pub record IsHeard {D C O : Type 0} (means : Meaning) (deck : Side D) (edits : Side C) (out : Side O) (lines : List ℕ → List (List ℕ)) : Type 0 where
-  pub read : IsReadToEnd deck
-  pub accepted : OfDeck deck AcceptedBy
+-- these bytes of the edits were taken, and the output took the answers to lines of them
+pub record HasAnswered {C O : Type 0} (answers : List (List ℕ) → List ℕ → Type 0) (edits : Side C) (out : Side O) (lines : List ℕ → List (List ℕ)) : Type 0 where
   pub bytes : List ℕ
   pub taken : Consumes (edits.bytes edits.old) (edits.bytes edits.new) bytes
   pub text : List ℕ
-  pub answers : OfDeck deck (λ bytes_of_deck. AnswersOn means bytes_of_deck (lines bytes) text)
+  pub answers_are : answers (lines bytes) text
   pub took : Took out text
+
+-- a fault of the output came when it had taken a front of the answers to the first lines of the bytes that were taken
+pub record HasAnsweredSome {C O : Type 0} (answers : List (List ℕ) → List ℕ → Type 0) (edits : Side C) (out : Side O) : Type 0 where
+  pub bytes : List ℕ
+  pub taken : Consumes (edits.bytes edits.old) (edits.bytes edits.new) bytes
+  pub lines : List (List ℕ)
+  pub others : List (List ℕ)
+  pub first : lines_of (take INPUT_LIMIT bytes) ≡ lines ++ others
+  pub text : List ℕ
+  pub answers_are : answers lines text
+  pub took : TookFront out text
+
+-- the text answers the lines on the deck, where its source tells its bytes
+abbrev pub AnswersDeck : {D : Type 0} → Meaning → Side D → List (List ℕ) → List ℕ → Type 0
+AnswersDeck means deck lines text = OfDeck deck (λ bytes. AnswersOn means bytes lines text)
+
+-- the deck was read to its end and is accepted, and lines of the edits were answered on it
+pub record IsHeard {D C O : Type 0} (means : Meaning) (deck : Side D) (edits : Side C) (out : Side O) (lines : List ℕ → List (List ℕ)) : Type 0 where
+  pub read : IsReadToEnd deck
+  pub accepted : OfDeck deck AcceptedBy
+  pub answered : HasAnswered (AnswersDeck means deck) edits out lines
 
 -- the whole lines among the first bytes, as many as edits may have
 abbrev pub first_lines : List ℕ → List (List ℕ)
@@ -44,28 +58,21 @@ first_lines bytes = whole_lines (take INPUT_LIMIT bytes)
 pub record IsHeardOut {D C O : Type 0} (means : Meaning) (deck : Side D) (edits : Side C) (out : Side O) : Type 0 where
   pub heard : IsHeard means deck edits out lines_of
   pub end : IsReadToEnd edits
-  pub short : length heard.bytes ≤ INPUT_LIMIT
+  pub short : length heard.answered.bytes ≤ INPUT_LIMIT
 
 -- more bytes of the edits were taken than edits may have, and the whole lines among the first of them were answered
 pub record IsHeardTooLong {D C O : Type 0} (means : Meaning) (deck : Side D) (edits : Side C) (out : Side O) : Type 0 where
   pub heard : IsHeard means deck edits out first_lines
-  pub long : INPUT_LIMIT < length heard.bytes
+  pub long : INPUT_LIMIT < length heard.answered.bytes
 
 -- the edits could not be read on, and the whole lines before were answered
 pub record IsHeardUnread {D C O : Type 0} (means : Meaning) (deck : Side D) (edits : Side C) (out : Side O) : Type 0 where
   pub heard : IsHeard means deck edits out whole_lines
   pub fault : HadFault edits
-  pub short : length heard.bytes ≤ INPUT_LIMIT
+  pub short : length heard.answered.bytes ≤ INPUT_LIMIT
 
 -- a fault of the output came when it had taken a front of the answers to the first lines of the bytes that were taken
 pub record IsHeardCut {D C O : Type 0} (means : Meaning) (deck : Side D) (edits : Side C) (out : Side O) : Type 0 where
   pub read : IsReadToEnd deck
   pub accepted : OfDeck deck AcceptedBy
-  pub bytes : List ℕ
-  pub taken : Consumes (edits.bytes edits.old) (edits.bytes edits.new) bytes
-  pub lines : List (List ℕ)
-  pub others : List (List ℕ)
-  pub first : lines_of (take INPUT_LIMIT bytes) ≡ lines ++ others
-  pub text : List ℕ
-  pub answers : OfDeck deck (λ bytes_of_deck. AnswersOn means bytes_of_deck lines text)
-  pub took : TookFront out text
+  pub answered : HasAnsweredSome (AnswersDeck means deck) edits out

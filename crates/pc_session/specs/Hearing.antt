@@ -1,33 +1,13 @@
 -- How the answering of lines on a project ends.
-use Rattle.std.specs.Prelude.{◌≡◌, ℕ, ◌<◌, ◌≤◌, List, ◌++◌, length, take, Result, Ok, Err}
-use Rattle.std.specs.Io.KnownBytes.{Consumes}
+use Rattle.std.specs.Prelude.{ℕ, ◌<◌, ◌≤◌, List, length, Result, Ok, Err}
 use Rattle.pc_lines.specs.declared.reader.TheConstants.{INPUT_LIMIT}
 use Rattle.pc_lines.specs.Lines.{lines_of, whole_lines}
 use Rattle.pc_talk.specs.declared.talking.TalkError.{TalkError}
 use Rattle.pc_talk.specs.declared.talking.TalkError.TheVariants as talk
 use Rattle.pc_reading.specs.declared.status.Status.{Status}
 use Rattle.pc_reading.specs.declared.status.Status.TheVariants.{Done, OutOfMemory, ReadFault, WriteFault, TooLong}
-use Rattle.pc_reading.specs.Sides.{Side, HadFault, IsReadToEnd, IsUntouched, Took, TookFront}
-use Rattle.pc_session.specs.Heard.{first_lines}
-
--- these bytes of the edits were taken, and the output took the answers to lines of them
-pub record HasAnswered {C O : Type 0} (answers : List (List ℕ) → List ℕ → Type 0) (edits : Side C) (out : Side O) (lines : List ℕ → List (List ℕ)) : Type 0 where
-  pub bytes : List ℕ
-  pub taken : Consumes (edits.bytes edits.old) (edits.bytes edits.new) bytes
-  pub text : List ℕ
-  pub answers_are : answers (lines bytes) text
-  pub took : Took out text
-
--- a fault of the output came when it had taken a front of the answers to the first lines of the bytes that were taken
-pub record HasAnsweredSome {C O : Type 0} (answers : List (List ℕ) → List ℕ → Type 0) (edits : Side C) (out : Side O) : Type 0 where
-  pub bytes : List ℕ
-  pub taken : Consumes (edits.bytes edits.old) (edits.bytes edits.new) bytes
-  pub lines : List (List ℕ)
-  pub others : List (List ℕ)
-  pub first : lines_of (take INPUT_LIMIT bytes) ≡ lines ++ others
-  pub text : List ℕ
-  pub answers_are : answers lines text
-  pub took : TookFront out text
+use Rattle.pc_reading.specs.Sides.{Side, HadFault, IsReadToEnd, IsUntouched}
+use Rattle.pc_session.specs.Heard.{HasAnswered, HasAnsweredSome, first_lines}
 
 -- how it ends
 pub data Hearing {C O : Type 0} (answers : List (List ℕ) → List ℕ → Type 0) (edits : Side C) (out : Side O) : Status → Type 0 where

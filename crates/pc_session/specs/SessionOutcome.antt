@@ -1,28 +1,12 @@
 -- What a session means and leaves behind, by its status.
-use Rattle.std.specs.Prelude.{ℕ, List, String}
+use Rattle.std.specs.Prelude.{List, String}
 use Rattle.std.specs.declared.alloc.Global.{Global}
 use Rattle.pc_deck.specs.Limits.{longest_deck}
-use Rattle.pc_faults.specs.declared.fault.Fault.{Fault}
-use Rattle.pc_faults.specs.FaultText.{fault_text}
 use Rattle.pc_reading.specs.declared.status.Status.{Status}
 use Rattle.pc_reading.specs.declared.status.Status.TheVariants.{Done, Refused, Usage, OutOfMemory, ReadFault, WriteFault, TooLong}
 use Rattle.pc_reading.specs.Sides.{Side, HadFault, IsUntouched, Took, TookAtMost, TookFront}
-use Rattle.pc_reading.specs.Reading.{HasRefusal}
-use Rattle.pc_session.specs.Heard.{IsOneWord, session_usage_text, Meaning, IsHeardOut, IsHeardTooLong, IsHeardUnread, IsHeardCut}
-
--- there is one word, the deck is refused, and the error output took the line of its fault
-pub record IsDeckRefused {D E : Type 0} (words : List (String Global)) (deck : Side D) (err : Side E) : Type 0 where
-  pub asked : IsOneWord words
-  pub fault : Fault
-  pub refusal : HasRefusal deck fault
-  pub took : Took err (fault_text fault)
-
--- the same, but that a fault of the error output came when it had taken a front of the line
-pub record IsRefusalCut {D E : Type 0} (words : List (String Global)) (deck : Side D) (err : Side E) : Type 0 where
-  pub asked : IsOneWord words
-  pub fault : Fault
-  pub refusal : HasRefusal deck fault
-  pub took : TookFront err (fault_text fault)
+use Rattle.pc_reading.specs.OneWord.{IsDeckRefused, IsOneWord, IsRefusalCut}
+use Rattle.pc_session.specs.Heard.{session_usage_text, Meaning, IsHeardOut, IsHeardTooLong, IsHeardUnread, IsHeardCut}
 
 -- what could not be read: the deck, of which no more was taken than a deck may have, and of the edits nothing; or the edits, whose whole
 -- lines before that were answered

@@ -4,17 +4,18 @@ ghost use Rattle.pc_deck.specs.Limits.{longest_deck};
 ghost use Rattle.pc_edges.specs.Pulls.{TakesPulls};
 ghost use Rattle.pc_edges.specs.declared.loading.TheConstants.{STREAM_ROOM};
 ghost use Rattle.pc_lines.specs.declared.reader.TheConstants.{INPUT_LIMIT};
+ghost use Rattle.pc_reading.specs.OneWord.{IsDeckRefused, IsOneWord};
 ghost use Rattle.pc_reading.specs.Sides.{side, HadNoFault, IsReadToEnd, OfBytes, OfDeck, Took, TookAtMost};
 ghost use Rattle.pc_reading.specs.Verdict.{AcceptedBy, RefusedBy};
-ghost use Rattle.pc_session.specs.Heard.{IsOneWord, session_usage_text, IsHeardOut, IsHeardTooLong};
+ghost use Rattle.pc_session.specs.Heard.{session_usage_text, IsHeardOut, IsHeardTooLong};
 ghost use Rattle.pc_session.specs.Hearing.{Hearing, status_of};
-ghost use Rattle.pc_session.specs.SessionOutcome.{SessionOutcome, IsDeckRefused, IsSessionCut, IsUnread};
+ghost use Rattle.pc_session.specs.SessionOutcome.{SessionOutcome, IsSessionCut, IsUnread};
 ghost use Rattle.pc_whatif.specs.Planning.{AnswersLines};
 
-use pc_edges::{Failed, Sink, Source};
+use pc_edges::{Sink, Source};
 use pc_lines::LineReader;
 use pc_project::Project;
-use pc_reading::{NoProject, Status, read_project, refuse, send};
+use pc_reading::{Status, project_named};
 use pc_talk::{TalkError, talk};
 use pc_whatif::Session;
 use std::alloc::Global;
@@ -116,17 +117,9 @@ fn session_outcome<D: Source, C: Source, O: Sink, E: Sink>(
     ensures deck_turns { TakesPulls (longest_deck + 2) (D.pulls deck.old) (D.pulls deck.new) }
     ensures deck_near { TookAtMost (longest_deck + STREAM_ROOM) (side D.left D.faults deck.old deck.new) }
 {
-    if words.len() != 1 {
-        return match send(err, USAGE) {
-            Ok(()) => Status::Usage,
-            Err(Failed) => Status::WriteFault,
-        };
-    }
-    match read_project(alloc, deck) {
+    match project_named(alloc, words, USAGE, deck, err) {
         Ok(project) => hear(alloc, &project, edits, out),
-        Err(NoProject::Refused(fault)) => refuse(alloc, &fault, err),
-        Err(NoProject::ReadFault) => Status::ReadFault,
-        Err(NoProject::OutOfMemory) => Status::OutOfMemory,
+        Err(status) => status,
     }
 }
 

@@ -11,7 +11,8 @@ ghost use Rattle.pc_times.specs.Times.{AreLengths};
 ghost use Rattle.pc_times.specs.declared.TheConstants.{MAX_LENGTH, MAX_TIME};
 ghost use Rattle.pc_trials.specs.Laid.{AreAtMost};
 ghost use Rattle.pc_trials.specs.Reserved.{IsChangedTo, IsFor, IsStanding, IsStandingOf, path_in, with_estimates, with_times};
-ghost use Rattle.pc_trials.specs.Trials.{HasRoom, IsRange, IsWithin, looks_over, trial_cells};
+ghost use Rattle.pc_curve.specs.Range.{IsRange, IsWithin};
+ghost use Rattle.pc_trials.specs.Trials.{HasRoom, looks_over, trial_cells};
 
 use crate::renewing::renew_times;
 use crate::spans::{Spans, take_spans};

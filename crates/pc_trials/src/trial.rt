@@ -6,7 +6,8 @@ ghost use Rattle.pc_curve.specs.Points.{curve_in};
 ghost use Rattle.pc_edges.specs.Writes.{Writes};
 ghost use Rattle.pc_flow.specs.Courses.{IsSameCurve};
 ghost use Rattle.pc_page.specs.Page.{fresh};
-ghost use Rattle.pc_trials.specs.Trials.{IsRange, IsWithin, looks_over, trial_cells};
+ghost use Rattle.pc_curve.specs.Range.{IsRange, IsWithin};
+ghost use Rattle.pc_trials.specs.Trials.{looks_over, trial_cells};
 
 use pc_cells::Region;
 use pc_crash::{CrashNet, Steps};

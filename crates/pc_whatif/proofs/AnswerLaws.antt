@@ -22,12 +22,17 @@ use Rattle.pc_edits.specs.Plans.{Plan, term_tried}
 use Rattle.pc_edits.specs.Refusal.{edit_refusal, undo_refusal, trial_refusal}
 use Rattle.pc_talk.specs.Talk.{Answered}
 use Rattle.pc_lines.specs.Reading.{kept}
-use Rattle.pc_trials.specs.Trials.{IsWithin}
+use Rattle.pc_curve.specs.Range.{IsWithin}
+use Rattle.pc_trials.specs.Reserved.{Reserved}
 use Rattle.pc_whatif.specs.Planning.{Planning, IsAnswer, IsAnswered, IsTrialText, outside, costs, AreAnswers, Says, editing_after, net_tried}
 use Rattle.pc_whatif.specs.Texts.{ok_text, refused_text, cost_text, verdict_text}
 use Rattle.pc_whatif.proofs.LineLaws.{ask_of-kept}
 
 -- ---- one line
+
+-- a session of these parts
+abbrev planning_of : Project → Editing → Reserved → Planning
+planning_of project editing reserved = record { project = project; editing = editing; reserved = reserved }
 
 -- the session stays as it is
 pub stays : (old : Planning) (asked : Option Ask) (text : List ℕ) → IsAnswer old.project old.editing asked text → old.editing ≡ editing_after old.editing asked → IsAnswered old asked text old
@@ -37,6 +42,15 @@ stays old asked text is same = record { answer = is; project = refl; editing = s
 pub stays_as : (old new : Planning) (asked : Option Ask) (text : List ℕ) → new ≡ old → IsAnswer new.project new.editing asked text → new.editing ≡ editing_after new.editing asked
     → IsAnswered old asked text new
 stays_as old new asked text same is kept = subst (λ (p : Planning). IsAnswered p asked text new) same (stays new asked text is kept)
+
+-- a trial that is answered, and after which the session is the one that it was
+pub tried_out : (old : Planning) (project : Project) (editing editing_left : Editing) (reserved reserved_left : Reserved) (trial : Trial) (text : List ℕ)
+    → editing_left ≡ editing → reserved_left ≡ reserved → planning_of project editing reserved ≡ old → IsTrialText editing trial text
+    → IsAnswered old (Some (ask.Try trial)) text (planning_of project editing_left reserved_left)
+tried_out old project editing editing_left reserved reserved_left trial text edits kept same answers =
+    stays_as old (planning_of project editing_left reserved_left) (Some (ask.Try trial)) text
+    (ap (λ (e : Editing). planning_of project e reserved_left) edits ∙ ap (planning_of project editing) kept ∙ same)
+    (subst (λ (e : Editing). IsTrialText e trial text) (sym edits) answers) refl
 
 pub edit_refused : (old : Planning) (edit : Edit) (reason : Reason) → edit_refusal old.editing.net old.editing.estimates edit ≡ Some reason
     → IsAnswered old (Some (ask.Edit edit)) (refused_text reason) old

@@ -12,7 +12,7 @@ use Rattle.pc_project.specs.Planned.{IsPlanned}
 use Rattle.pc_project.specs.Project.{Project}
 use Rattle.pc_reports.proofs.OneTextLaws.{one_times_text}
 use Rattle.pc_reports.specs.TimesText.{IsTimesText, times_text}
-use Rattle.pc_trials.specs.Trials.{IsWithin}
+use Rattle.pc_curve.specs.Range.{IsWithin}
 use Rattle.pc_whatif.specs.Planning.{IsAnswer, IsTrialText, refused, outside, costs, AreAnswers, AnswersLines, editing_after, net_tried, project_as}
 use Rattle.pc_whatif.specs.Texts.{cost_text, refused_text}
 

@@ -17,7 +17,8 @@ use Rattle.pc_edits.specs.Plans.{estimates_at, expected_times, variances, term_t
 use Rattle.pc_edits.specs.Reading.{ask_of}
 use Rattle.pc_edits.specs.Refusal.{edit_refusal, undo_refusal, trial_refusal}
 use Rattle.pc_trials.specs.Reserved.{Reserved, IsFor, IsStanding, expected_by, variance_by}
-use Rattle.pc_trials.specs.Trials.{IsRange, IsWithin, looks_over}
+use Rattle.pc_curve.specs.Range.{IsRange, IsWithin}
+use Rattle.pc_trials.specs.Trials.{looks_over}
 use Rattle.pc_whatif.specs.Texts.{ok_text, refused_text, cost_text, verdict_text}
 
 -- what contracts see of a session: the deck's project, that project as it is edited, and what stands in the session's spans

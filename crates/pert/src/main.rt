@@ -5,27 +5,13 @@
 #![tactic(auto)]
 
 use pc_edges::{ReadSource, WriteSink};
+use pc_reading::{Status, words_of};
 use pert_cli::run;
-use std::alloc::AllocError;
-use std::env;
-use std::io::ErrorKind;
 use std::process::ExitCode;
 
-/// The status where there is no memory for the words.
-const OUT_OF_MEMORY: u8 = 3;
-
-/// The words after the program's name; none where one of them is not UTF-8, since no form has such a word.
-fn words(rt: &HostRuntime) -> Result<Vec<String>, AllocError> {
-    match env::args(rt) {
-        Ok(args) => args.skip(1).collect(rt.alloc()),
-        Err(e) if e.kind() == ErrorKind::OutOfMemory => Err(AllocError),
-        Err(_) => Ok(Vec::new(rt.alloc())),
-    }
-}
-
 fn main(rt: HostRuntime) -> ExitCode {
-    let Ok(words) = words(&rt) else {
-        return ExitCode::from(OUT_OF_MEMORY);
+    let Ok(words) = words_of(&rt) else {
+        return ExitCode::from(Status::OutOfMemory.code());
     };
     let mut deck = ReadSource::new(rt.stdin());
     let mut out = WriteSink::new(rt.stdout());

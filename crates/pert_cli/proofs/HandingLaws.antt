@@ -1,10 +1,15 @@
 -- What an answer that was put together is written as.
 use Rattle.std.proofs.Common.{◌≡◌, ℕ, List, Result, Ok, Err, subst, sym}
 use Rattle.std.specs.Prelude.{IfOk, OnErr}
+use Rattle.pc_faults.specs.declared.fault.Fault.{Fault}
+use Rattle.pc_project.specs.Project.{Project}
 use Rattle.pc_reading.specs.declared.status.Status.{Status}
 use Rattle.pc_reading.specs.declared.status.Status.TheVariants.{Done, OutOfMemory, WriteFault}
-use Rattle.pc_reading.specs.Sides.{Side}
-use Rattle.pert_cli.specs.Handing.{Answers}
+use Rattle.pc_reading.specs.Refusing.{Refusal}
+use Rattle.pc_reading.specs.Sides.{Side, IsUntouched}
+use Rattle.pert_cli.specs.Forms.{IsDenial}
+use Rattle.pert_cli.specs.Handing.{Answers, Replies, denies}
+use Rattle.pert_cli.specs.declared.forms.Form.{Form}
 
 -- a text that was written answers what follows from it
 pub Answers-weaker : {X : Type 0} (P Q : List ℕ → Type 0) (out : Side X) (status : Status) → ((text : List ℕ) → P text → Q text) → Answers P out status → Answers Q out status
@@ -12,6 +17,11 @@ Answers-weaker P Q out Done follows a = (a.0, follows a.0 a.1, a.2)
 Answers-weaker P Q out OutOfMemory follows a = a
 Answers-weaker P Q out WriteFault follows a = (a.0, follows a.0 a.1, a.2)
 Answers-weaker P Q out _ follows a = absurd a
+
+-- the form refuses the project with the fault of which the line was handed to the error output
+pub Replies-denial : {O E : Type 0} (form : Form) (project : Project) (out : Side O) (err : Side E) (status : Status) (told fault : Fault)
+    → told ≡ fault → IsDenial form project fault → Refusal told err status → IsUntouched out → Replies form project out err status
+Replies-denial form project out err status told fault same denial said unused = denies fault denial (subst (λ (f : Fault). Refusal f err status) same said) unused
 
 -- an answer that was put together, if there was memory, is a text that is asked for
 pub of_built : {A E X : Type 0} (built : Result A E) (IsFor : A → Type 0) (text_of : A → List ℕ) (IsText : List ℕ → Type 0) (out : Side X) (status : Status)

@@ -11,7 +11,8 @@ use Rattle.pc_project.specs.Project.{Project}
 use Rattle.pc_reading.specs.Priced.{priced_in}
 use Rattle.pert_cli.specs.Normal.{Printed}
 use Rattle.pert_cli.specs.Optimum.{IsOptimumWith}
-use Rattle.pert_cli.specs.Point.{IsCheapest, IsRange}
+use Rattle.pc_curve.specs.Range.{IsRange}
+use Rattle.pert_cli.specs.Point.{IsCheapest}
 
 -- the solver that found the optimum holds its length
 pub optimum-to_come : (net : PricedNetwork) (from c : Course) (terms : TimeTerms) (best : Best) → IsSameCurve from c

@@ -1,8 +1,7 @@
 -- Lengths of a network's range and their schedules.
-use Rattle.std.proofs.Common.{◌≡◌, ℕ, List, ◌++◌, inl, inr, refl, sym, subst, arith}
+use Rattle.std.proofs.Common.{◌≡◌, ℕ, List, ◌++◌, refl, sym, subst}
 use Rattle.pc_faults.specs.declared.fault.Fault.{Fault}
 use Rattle.pc_faults.specs.FaultText.{IsTold}
-use Rattle.pc_model.proofs.Walks.WalkLaws.{greatest_unique}
 use Rattle.pc_crash.specs.Priced.{PricedNetwork}
 use Rattle.pc_model.specs.Schedule.{IsAllCrashLength, IsAllNormalLength}
 use Rattle.pc_project.specs.Project.{Project}
@@ -12,21 +11,13 @@ use Rattle.pert_cli.specs.declared.forms.Form.TheVariants.{Point, Outlook}
 use Rattle.pc_reading.specs.Priced.{priced_in}
 use Rattle.pert_cli.specs.Handing.{IsReply}
 use Rattle.pert_cli.specs.Normal.{Printed, printed_text}
-use Rattle.pert_cli.specs.Point.{IsCheapestFor, IsRange, IsWithin, IsOutside}
-
--- the ends of a range are two numbers
-pub one_range : (net : PricedNetwork) (low high short long : ℕ) → IsRange net low high → IsRange net short long → (low ≡ short) × (high ≡ long)
-one_range net low high short long is also =
-    (greatest_unique _ low short is.all_crash also.all_crash, greatest_unique _ high long is.all_normal also.all_normal)
+use Rattle.pc_curve.specs.Range.{IsRange, IsWithin}
+use Rattle.pc_curve.proofs.RangeLaws.{outside_range}
+use Rattle.pert_cli.specs.Point.{IsCheapestFor, IsOutside}
 
 -- no length is both one of the network and none
 pub within_not_outside : (net : PricedNetwork) (limit : ℕ) (fault : Fault) → IsWithin net limit → IsOutside net limit fault → ⊥
-within_not_outside net limit fault inside out =
-    let same = one_range net inside.shortest inside.longest out.shortest out.longest inside.range out.range in
-    elim out.outside [
-      | inl below ↦ omega (arith, below, inside.above, same.0)
-      | inr above ↦ omega (arith, above, inside.below, same.1)
-    ]
+within_not_outside net limit fault inside out = outside_range net out.shortest out.longest limit out.range out.outside inside
 
 -- the fault of a length that is none can be told
 pub told_of-outside : (net : PricedNetwork) (limit : ℕ) (fault : Fault) → IsOutside net limit fault → IsTold fault

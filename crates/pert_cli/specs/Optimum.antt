@@ -11,7 +11,8 @@ use Rattle.pc_total.specs.Bests.{IsBest}
 use Rattle.pc_total.specs.BestText.{best_text}
 use Rattle.pc_reading.specs.Priced.{priced_in}
 use Rattle.pert_cli.specs.Normal.{Printed}
-use Rattle.pert_cli.specs.Point.{IsCheapest, IsRange}
+use Rattle.pc_curve.specs.Range.{IsRange}
+use Rattle.pert_cli.specs.Point.{IsCheapest}
 
 -- the optimum of a network's curve with these terms of time, and a schedule for its length that costs what is said of it
 pub record IsOptimumWith (net : PricedNetwork) (terms : TimeTerms) (best : Best) (printed : Printed) : Type 0 where

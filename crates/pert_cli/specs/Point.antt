@@ -3,9 +3,10 @@ use Rattle.std.specs.Prelude.{◌≡◌, ℕ, ◌<◌, ◌≤◌, ◌⊎◌, ⊤
 use Rattle.pc_faults.specs.declared.fault.Fault.{Fault}
 use Rattle.pc_faults.specs.Faults.{outside_range}
 use Rattle.pc_faults.specs.FaultText.{IsTold}
-use Rattle.pc_model.specs.Schedule.{IsAllCrashLength, IsAllNormalLength, IsSchedule}
+use Rattle.pc_model.specs.Schedule.{IsSchedule}
 use Rattle.pc_model.specs.Cost.{cost_of}
 use Rattle.pc_crash.specs.Priced.{PricedNetwork, knees_in}
+use Rattle.pc_curve.specs.Range.{IsRange, IsWithin}
 use Rattle.pc_project.specs.Project.{Project}
 use Rattle.pc_reading.specs.Priced.{priced_in}
 use Rattle.pert_cli.specs.Normal.{Printed, printed_text}
@@ -13,19 +14,6 @@ use Rattle.pert_cli.specs.declared.cheapest.NoSchedule.{NoSchedule}
 use Rattle.pert_cli.specs.declared.cheapest.NoSchedule.TheVariants.{Outside, OutOfMemory}
 
 -- ---- the range
-
--- the lengths of a network: from its all-crash to its all-normal length
-pub record IsRange (net : PricedNetwork) (shortest longest : ℕ) : Type 0 where
-  pub all_crash : IsAllCrashLength net.network net.terms shortest
-  pub all_normal : IsAllNormalLength net.network net.terms longest
-
--- the length is one of the network
-pub record IsWithin (net : PricedNetwork) (limit : ℕ) : Type 0 where
-  pub shortest : ℕ
-  pub longest : ℕ
-  pub range : IsRange net shortest longest
-  pub above : shortest ≤ limit
-  pub below : limit ≤ longest
 
 -- the length is none of the network, and the fault names it and the two ends of the range
 pub record IsOutside (net : PricedNetwork) (limit : ℕ) (fault : Fault) : Type 0 where

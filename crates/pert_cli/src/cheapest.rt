@@ -6,7 +6,8 @@ ghost use Rattle.pc_faults.specs.FaultText.{IsTold};
 ghost use Rattle.pc_reports.specs.Schedule.{plan_of, plan_text, text_of, IsWhole};
 ghost use Rattle.pc_reading.specs.Priced.{priced_in};
 ghost use Rattle.pert_cli.specs.Normal.{printed_text};
-ghost use Rattle.pert_cli.specs.Point.{HasNoSchedule, IsCheapest, IsCheapestFor, IsOutside, IsWithin};
+ghost use Rattle.pc_curve.specs.Range.{IsWithin};
+ghost use Rattle.pert_cli.specs.Point.{HasNoSchedule, IsCheapest, IsCheapestFor, IsOutside};
 
 use crate::solving::solver_region;
 use pc_crash::Steps;

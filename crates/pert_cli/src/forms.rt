@@ -165,19 +165,7 @@ impl Form {
     {
         match self {
             Form::Bench(n) => Some(n),
-            Form::Check
-            | Form::Normal
-            | Form::Times
-            | Form::Summary
-            | Form::Value
-            | Form::Curve
-            | Form::Certify
-            | Form::Point(_)
-            | Form::Outlook(_)
-            | Form::Migrate
-            | Form::Optimum
-            | Form::Arrows
-            | Form::Load(_) => None,
+            _ => None,
         }
     }
 
@@ -187,19 +175,7 @@ impl Form {
     {
         match self {
             Form::Arrows => Sort::Tasks,
-            Form::Check
-            | Form::Normal
-            | Form::Times
-            | Form::Summary
-            | Form::Value
-            | Form::Curve
-            | Form::Certify
-            | Form::Point(_)
-            | Form::Outlook(_)
-            | Form::Bench(_)
-            | Form::Migrate
-            | Form::Optimum
-            | Form::Load(_) => Sort::Plan,
+            _ => Sort::Plan,
         }
     }
 

@@ -1,7 +1,7 @@
 use Rattle.std.proofs.Common.{true≢false, sym, inl, inr, ◌∙◌, arith}
 use Rattle.pc_flow.proofs.LookLaws.{looks-most}
-use Rattle.pc_trials.specs.Trials.{IsRange}
-use Rattle.pc_trials.proofs.TrialLaws.{outside-range}
+use Rattle.pc_curve.specs.Range.{IsRange}
+use Rattle.pc_curve.proofs.RangeLaws.{outside_range}
 use Rattle.pc_trials.proofs.trial.cost_within.Goals.{then-limit-shortest-via-then-limit-shortest, then-limit-shortest-via-else-limit-shortest+then-longest-limit}
 use Rattle.pc_trials.proofs.trial.cost_within.Goals as goal
 
@@ -9,7 +9,7 @@ pub returns-then-limit-shortest-clause-within : goal.returns-then-limit-shortest
 returns-then-limit-shortest-clause-within g c =
     let net = c.args.solver.now.net in
     let range : IsRange net c.shortest-shortest.result c.longest-longest.result = record { all_crash = c.shortest-shortest.ensures.all_crash; all_normal = c.longest-longest.ensures.all_normal } in
-    let none = outside-range net c.shortest-shortest.result c.longest-longest.result c.args.limit range
+    let none = outside_range net c.shortest-shortest.result c.longest-longest.result c.args.limit range
     (elim c.then-limit-shortest.branch [
       | then-limit-shortest-via-then-limit-shortest w ↦ inl w.if-limit-shortest.true
       | then-limit-shortest-via-else-limit-shortest+then-longest-limit w ↦ inr w.if-longest-limit.true

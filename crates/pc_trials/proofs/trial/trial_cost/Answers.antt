@@ -1,6 +1,6 @@
 use Rattle.std.proofs.Common.{subst}
 use Rattle.std.specs.Prelude.{◌↔◌, IsSome}
-use Rattle.pc_trials.specs.Trials.{IsWithin}
+use Rattle.pc_curve.specs.Range.{IsWithin}
 use Rattle.pc_trials.proofs.TrialLaws.{looks-of-range}
 use Rattle.pc_trials.proofs.trial.trial_cost.Goals as goal
 

@@ -1,12 +1,10 @@
 use Rattle.std.proofs.Common.{◌≡◌, ℕ, List, ◌++◌, refl, subst}
-use Rattle.pc_faults.specs.declared.fault.Fault.{Fault}
 use Rattle.pc_reports.specs.OutlookText.{IsOutlook, TellsTop, outlook_text}
 use Rattle.pert_cli.specs.declared.forms.Form.TheVariants.{Outlook}
-use Rattle.pc_reading.specs.Refusing.{Refusal}
-use Rattle.pert_cli.specs.Handing.{IsReply, answers, denies}
+use Rattle.pert_cli.specs.Handing.{IsReply, answers}
 use Rattle.pert_cli.specs.Normal.{printed_text}
 use Rattle.pc_reading.specs.Sides.{side}
-use Rattle.pert_cli.proofs.HandingLaws.{Answers-weaker}
+use Rattle.pert_cli.proofs.HandingLaws.{Answers-weaker, Replies-denial}
 use Rattle.pert_cli.proofs.PointLaws.{outlook_reply}
 use Rattle.pert_cli.proofs.outlook.answer.Goals as goal
 
@@ -25,6 +23,4 @@ returns g c =
 pub returns-in-Err-Outside : goal.returns-in-Err-Outside
 returns-in-Err-Outside g c =
     let why = rw c.in-Err-Outside.field-0-is at c.in-Err-Outside.ensures.none in
-    denies c.in-Err-Outside.fault why.1
-    (subst (λ (fault : Fault). Refusal fault (side g.E.Sink.taken g.E.Sink.faults c.args.err.now c.refuse.new.err) c.refuse.result) c.in-Err-Outside.fault-is c.refuse.ensures)
-    refl
+    Replies-denial (Outlook c.args.limit) c.args.project.now _ _ _ _ _ c.in-Err-Outside.fault-is why.1 c.refuse.ensures refl

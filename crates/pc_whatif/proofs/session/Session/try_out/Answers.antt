@@ -4,12 +4,11 @@ use Rattle.pc_crash.specs.Priced.{PricedNetwork}
 use Rattle.pc_curve.specs.Points.{curve_in}
 use Rattle.pc_edits.specs.declared.ask.Ask.TheVariants as asks
 use Rattle.pc_edits.specs.declared.reason.Reason.TheVariants.{OutsideRange}
-use Rattle.pc_edits.specs.Editing.{Editing, Edits, net_in, net_trying}
-use Rattle.pc_trials.specs.Reserved.{Reserved}
-use Rattle.pc_trials.specs.Trials.{IsWithin}
+use Rattle.pc_edits.specs.Editing.{Edits, net_in, net_trying}
+use Rattle.pc_curve.specs.Range.{IsWithin}
 use Rattle.pc_whatif.specs.Planning.{Planning, IsTrialText, refused}
 use Rattle.pc_whatif.specs.Texts.{cost_text, refused_text}
-use Rattle.pc_whatif.proofs.AnswerLaws.{stays, stays_as, trial_costs, trial_outside}
+use Rattle.pc_whatif.proofs.AnswerLaws.{stays, tried_out, trial_costs, trial_outside}
 use Rattle.pc_whatif.proofs.session.Session.try_out.Goals as goal
 
 pub returns-in-Err-clause-answered : goal.returns-in-Err-clause-answered
@@ -32,14 +31,7 @@ returns-in_default-clause-answered g c =
     let is : IsTrialText a.edits.editing trial text =
     trial_outside a.edits.editing trial c.in-Ok.tried c.in-Ok.ensures.accepted c.in-Ok.ensures.activity c.in-Ok.ensures.term
     (λ within. false≢true (c.in_default.ensures.within.1 (subst (λ (n : PricedNetwork). IsWithin n trial.length) (sym net) within))) in
-    let with_editing : Editing → Planning = λ (e : Editing). record { project = a.project.now; editing = e; reserved = c.least_cost-cost.new.self } in
-    let with_reserved : Reserved → Planning = λ (r : Reserved). record { project = a.project.now; editing = a.edits.editing; reserved = r } in (
-      text,
-      stays_as c.args.self.now (with_editing c.end_trial.new.self.editing) (Some (asks.Try trial)) text
-          (ap with_editing editing ∙ ap with_reserved c.least_cost-cost.ensures.kept ∙ c.self.view_is)
-          (subst (λ (e : Editing). IsTrialText e trial text) (sym editing) is) refl,
-      c.refuse-in_default.ensures,
-    )
+    (text, tried_out c.args.self.now a.project.now a.edits.editing c.end_trial.new.self.editing _ _ trial text editing c.least_cost-cost.ensures.kept c.self.view_is is, c.refuse-in_default.ensures)
 
 pub returns-clause-answered : goal.returns-clause-answered
 returns-clause-answered g c =
@@ -52,11 +44,4 @@ returns-clause-answered g c =
     trial_costs a.edits.editing trial c.in-Ok.tried c.in-Some.cost c.in-Ok.ensures.accepted c.in-Ok.ensures.activity c.in-Ok.ensures.term
     (subst (λ (n : PricedNetwork). IsWithin n trial.length) net (c.in-Some.ensures.within.0 refl))
     (subst (λ (n : PricedNetwork). curve_in n trial.length c.in-Some.cost) net c.in-Some.ensures.least) in
-    let with_editing : Editing → Planning = λ (e : Editing). record { project = a.project.now; editing = e; reserved = c.least_cost-cost.new.self } in
-    let with_reserved : Reserved → Planning = λ (r : Reserved). record { project = a.project.now; editing = a.edits.editing; reserved = r } in (
-      text,
-      stays_as c.args.self.now (with_editing c.end_trial.new.self.editing) (Some (asks.Try trial)) text
-          (ap with_editing editing ∙ ap with_reserved c.least_cost-cost.ensures.kept ∙ c.self.view_is)
-          (subst (λ (e : Editing). IsTrialText e trial text) (sym editing) is) refl,
-      c.tell_cost.ensures,
-    )
+    (text, tried_out c.args.self.now a.project.now a.edits.editing c.end_trial.new.self.editing _ _ trial text editing c.least_cost-cost.ensures.kept c.self.view_is is, c.tell_cost.ensures)
