@@ -13,7 +13,7 @@ use Rattle.pc_deck.specs.Task.{written_task_kind}
 use Rattle.pc_deck.specs.After.{written_after_kind}
 use Rattle.pc_deck.specs.Piece.{written_piece_kind}
 use Rattle.pc_deck.specs.Acct.{written_account_kind}
-use Rattle.pc_deck.specs.Money.{written_charge_kind, written_togo_kind}
+use Rattle.pc_deck.specs.Money.{written_money_kind}
 use Rattle.pc_deck.specs.Status.{written_status_kind}
 use Rattle.pc_deck.specs.Res.{written_resource_kind}
 use Rattle.pc_deck.specs.Load.{written_load_kind}
@@ -30,8 +30,8 @@ written_of Task = written_task_kind
 written_of After = written_after_kind
 written_of Piece = written_piece_kind
 written_of Acct = written_account_kind
-written_of Charge = written_charge_kind
-written_of ToGo = written_togo_kind
+written_of Charge = written_money_kind
+written_of ToGo = written_money_kind
 written_of Status = written_status_kind
 written_of Res = written_resource_kind
 written_of Load = written_load_kind

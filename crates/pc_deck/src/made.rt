@@ -3,13 +3,12 @@ ghost use Rattle.std.specs.Prelude.{◌≡◌, IfOk, OnOk};
 ghost use Rattle.pc_deck.specs.Made.{drawn_with, plan_of};
 ghost use Rattle.pc_deck.specs.Within.{IsWithinLimits};
 
-use crate::cards::Cards;
+use crate::cards::{Cards, TaskCards};
 use crate::deck_cards::DeckCards;
 use crate::kinds::{
     AcctCard, ActCard, AsOfCard, CardLists, EventCard, ItemCard, LoadCard, MoneyCard, PieceCard,
     ProjectCard, ResCard, StatusCard, TermsCard,
 };
-use crate::task_cards::TaskCards;
 use pc_cards::lists::Once;
 use std::alloc::{AllocError, Global};
 
@@ -42,12 +41,10 @@ impl Cards {
     {
         let mut lists = CardLists::new(alloc);
         match lists.add_plan(plan) {
-            Ok(()) => Ok(Cards {
-                deck: DeckCards {
-                    project: *project,
-                    lists,
-                },
-            }),
+            Ok(()) => Ok(Cards::of(DeckCards {
+                project: *project,
+                lists,
+            })),
             Err(e) => Err(e),
         }
     }

@@ -2,7 +2,6 @@
 ghost use Rattle.std.specs.Prelude.{refl};
 ghost use Rattle.pc_deck.specs.Event.{event_slots, event_of, written_event};
 
-use crate::cards::Cards;
 use pc_cards::card::{Card, Coded, Layout};
 use pc_cards::field::{Misfit, read_code, read_title};
 use pc_cards::form::{Form, Slot};
@@ -13,7 +12,7 @@ use pc_text::{Code, Title};
 use std::alloc::AllocError;
 
 /// An EVENT card.
-#[derive(Clone, Copy, Debug)]
+#[derive(Clone, Copy)]
 pub struct EventCard {
     pub row: u32,
     pub code: Code,
@@ -49,10 +48,8 @@ impl Card for EventCard {
         })
     }
 
-    fn put(&self, kind: Kind, text: &mut RowWriter) -> Result<(), AllocError> {
-        // A copy, so that all that is lent below lives equally long.
-        let card = *self;
-        text.put(&[kind.word(), card.code.bytes(), card.title.bytes()])
+    fn put(self, kind: Kind, text: &mut RowWriter) -> Result<(), AllocError> {
+        text.put(&[kind.word(), self.code.bytes(), self.title.bytes()])
     }
 }
 
@@ -64,19 +61,4 @@ impl Coded for EventCard {
     }
 
     ghost second_field = { λ row fields. refl };
-}
-
-impl Cards {
-    ghost use Rattle.std.specs.Prelude.{◌≡◌, ◌≤◌, length};
-    ghost use Rattle.pc_model.specs.declared.limits.TheConstants.{MAX_EVENTS};
-    ghost use Rattle.pc_deck.specs.Within.{IsWithinLimits};
-
-    /// The EVENT cards.
-    pub fn events(&self) -> &[EventCard]
-        ensures cards { result.now ≡ self.now.events }
-        ensures few { length result.now ≤ MAX_EVENTS }
-        ensures within { IsWithinLimits self.now }
-    {
-        self.deck.lists.events.as_slice()
-    }
 }

@@ -3,7 +3,7 @@
 ghost use Rattle.std.specs.Prelude.{◌≡◌, None, Some, OnOk, IfErr};
 ghost use Rattle.pc_cards.specs.declared.sort.Sort.TheVariants as sorts;
 ghost use Rattle.pc_faults.specs.First.{Refuses};
-ghost use Rattle.pc_deck.specs.Kinds.{kind_of, limit_of};
+ghost use Rattle.pc_deck.specs.Kinds.{kind_of, kind_among, first_kinds, work_kinds, further_kinds, limit_of};
 
 use crate::draft::Draft;
 use crate::limits::{
@@ -132,15 +132,18 @@ impl Draft {
 pub fn kind_of(sort: Sort, field: &[u8]) -> Option<Kind>
     ensures { result ≡ kind_of sort field.now }
 {
-    match sort {
-        Sort::Plan => plan_kind(field),
-        Sort::Tasks => task_kind(field),
+    if let Some(kind) = first_kind(field) {
+        return Some(kind);
     }
+    if let Some(kind) = work_kind(sort, field) {
+        return Some(kind);
+    }
+    further_kind(field)
 }
 
-/// The kind of cards of a plan.
-fn plan_kind(field: &[u8]) -> Option<Kind>
-    ensures { result ≡ kind_of sorts.Plan field.now }
+/// The kind that a field names, of those that come first in decks of both sorts.
+fn first_kind(field: &[u8]) -> Option<Kind>
+    ensures { result ≡ kind_among first_kinds field.now }
 {
     if field == b"PROJECT".as_slice() {
         Some(Kind::Project)
@@ -150,48 +153,29 @@ fn plan_kind(field: &[u8]) -> Option<Kind>
         Some(Kind::Terms)
     } else if field == b"WBS".as_slice() {
         Some(Kind::Wbs)
-    } else if field == b"EVENT".as_slice() {
-        Some(Kind::Event)
-    } else if field == b"ACT".as_slice() {
-        Some(Kind::Act)
-    } else if field == b"PIECE".as_slice() {
-        Some(Kind::Piece)
-    } else if field == b"ACCT".as_slice() {
-        Some(Kind::Acct)
-    } else if field == b"CHARGE".as_slice() {
-        Some(Kind::Charge)
-    } else if field == b"TOGO".as_slice() {
-        Some(Kind::ToGo)
-    } else if field == b"STATUS".as_slice() {
-        Some(Kind::Status)
-    } else if field == b"RES".as_slice() {
-        Some(Kind::Res)
-    } else if field == b"LOAD".as_slice() {
-        Some(Kind::Load)
-    } else if field == b"END".as_slice() {
-        Some(Kind::End)
     } else {
         None
     }
 }
 
-/// The kind of cards of a deck of tasks.
-fn task_kind(field: &[u8]) -> Option<Kind>
-    ensures { result ≡ kind_of sorts.Tasks field.now }
+/// The kind that a field names, of those that only decks of the sort have.
+fn work_kind(sort: Sort, field: &[u8]) -> Option<Kind>
+    ensures { result ≡ kind_among (work_kinds sort) field.now }
 {
-    if field == b"PROJECT".as_slice() {
-        Some(Kind::Project)
-    } else if field == b"ASOF".as_slice() {
-        Some(Kind::AsOf)
-    } else if field == b"TERMS".as_slice() {
-        Some(Kind::Terms)
-    } else if field == b"WBS".as_slice() {
-        Some(Kind::Wbs)
-    } else if field == b"TASK".as_slice() {
-        Some(Kind::Task)
-    } else if field == b"AFTER".as_slice() {
-        Some(Kind::After)
-    } else if field == b"PIECE".as_slice() {
+    match sort {
+        Sort::Plan if field == b"EVENT".as_slice() => Some(Kind::Event),
+        Sort::Plan if field == b"ACT".as_slice() => Some(Kind::Act),
+        Sort::Tasks if field == b"TASK".as_slice() => Some(Kind::Task),
+        Sort::Tasks if field == b"AFTER".as_slice() => Some(Kind::After),
+        _ => None,
+    }
+}
+
+/// The kind that a field names, of those that come behind these in decks of both sorts.
+fn further_kind(field: &[u8]) -> Option<Kind>
+    ensures { result ≡ kind_among further_kinds field.now }
+{
+    if field == b"PIECE".as_slice() {
         Some(Kind::Piece)
     } else if field == b"ACCT".as_slice() {
         Some(Kind::Acct)

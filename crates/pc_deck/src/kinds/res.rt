@@ -2,7 +2,6 @@
 ghost use Rattle.std.specs.Prelude.{refl};
 ghost use Rattle.pc_deck.specs.Res.{resource_slots, resource_of, written_resource};
 
-use crate::cards::Cards;
 use pc_cards::card::{Card, Coded, Layout};
 use pc_cards::field::{Misfit, read_code, read_title};
 use pc_cards::form::{Form, Slot};
@@ -13,7 +12,7 @@ use pc_text::{Code, Title};
 use std::alloc::AllocError;
 
 /// A RES card: a resource that activities use.
-#[derive(Clone, Copy, Debug)]
+#[derive(Clone, Copy)]
 pub struct ResCard {
     pub row: u32,
     pub code: Code,
@@ -49,10 +48,8 @@ impl Card for ResCard {
         })
     }
 
-    fn put(&self, kind: Kind, text: &mut RowWriter) -> Result<(), AllocError> {
-        // A copy, so that all that is lent below lives equally long.
-        let card = *self;
-        text.put(&[kind.word(), card.code.bytes(), card.title.bytes()])
+    fn put(self, kind: Kind, text: &mut RowWriter) -> Result<(), AllocError> {
+        text.put(&[kind.word(), self.code.bytes(), self.title.bytes()])
     }
 }
 
@@ -64,17 +61,4 @@ impl Coded for ResCard {
     }
 
     ghost second_field = { λ row fields. refl };
-}
-
-impl Cards {
-    ghost use Rattle.std.specs.Prelude.{◌≡◌};
-    ghost use Rattle.pc_deck.specs.Within.{IsWithinLimits};
-
-    /// The RES cards.
-    pub fn resources(&self) -> &[ResCard]
-        ensures cards { result.now ≡ self.now.resources }
-        ensures within { IsWithinLimits self.now }
-    {
-        self.deck.lists.resources.as_slice()
-    }
 }
