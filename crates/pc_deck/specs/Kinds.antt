@@ -13,7 +13,6 @@ use Rattle.pc_deck.specs.Project.{project_kind}
 use Rattle.pc_deck.specs.AsOf.{as_of_kind}
 use Rattle.pc_deck.specs.Terms.{terms_kind}
 use Rattle.pc_deck.specs.Wbs.{item_kind}
-use Rattle.pc_deck.specs.Event.{event_kind}
 use Rattle.pc_deck.specs.Act.{act_kind}
 use Rattle.pc_deck.specs.Task.{task_kind}
 use Rattle.pc_deck.specs.After.{after_kind}
@@ -21,7 +20,7 @@ use Rattle.pc_deck.specs.Piece.{piece_kind}
 use Rattle.pc_deck.specs.Acct.{account_kind}
 use Rattle.pc_deck.specs.Money.{charge_kind, togo_kind}
 use Rattle.pc_deck.specs.Status.{status_kind}
-use Rattle.pc_deck.specs.Res.{resource_kind}
+use Rattle.pc_deck.specs.Titled.{event_kind, resource_kind}
 use Rattle.pc_deck.specs.Load.{load_kind}
 use Rattle.pc_deck.specs.End.{end_kind}
 

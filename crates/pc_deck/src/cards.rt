@@ -8,8 +8,8 @@ ghost use Rattle.pc_deck.specs.Within.{IsWithin};
 
 use crate::deck_cards::DeckCards;
 use crate::kinds::{
-    AcctCard, ActCard, AfterCard, AsOfCard, EventCard, ItemCard, LoadCard, MoneyCard, PieceCard,
-    ProjectCard, ResCard, StatusCard, TaskCard, TermsCard,
+    AcctCard, ActCard, AfterCard, AsOfCard, ItemCard, LoadCard, MoneyCard, PieceCard, ProjectCard,
+    StatusCard, TaskCard, TermsCard, TitledCard,
 };
 use pc_text::Code;
 use std::marker::{Model, PhantomData};
@@ -142,7 +142,7 @@ impl<S: DeckSort> CardsOf<S> {
     }
 
     /// The RES cards.
-    pub fn resources(&self) -> &[ResCard]
+    pub fn resources(&self) -> &[TitledCard]
         ensures cards { result.now ≡ self.now.resources }
         ensures within { IsWithin S.sort self.now }
     {
@@ -185,7 +185,7 @@ impl<S: DeckSort> CardsOf<S> {
 /// What only plans have.
 impl Cards {
     /// The EVENT cards.
-    pub fn events(&self) -> &[EventCard]
+    pub fn events(&self) -> &[TitledCard]
         ensures cards { result.now ≡ self.now.events }
         ensures few { length result.now ≤ MAX_EVENTS }
         ensures within { IsWithin Plan self.now }

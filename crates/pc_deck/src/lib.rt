@@ -20,8 +20,8 @@ mod text;
 
 pub use crate::cards::{Cards, CardsOf, DeckSort, Plans, TaskCards, TaskDecks};
 pub use crate::kinds::{
-    AcctCard, ActCard, AfterCard, AsOfCard, EventCard, ItemCard, LoadCard, MoneyCard, PieceCard,
-    ProjectCard, ResCard, StatusCard, TaskCard, TermsCard,
+    AcctCard, ActCard, AfterCard, AsOfCard, ItemCard, LoadCard, MoneyCard, PieceCard, ProjectCard,
+    StatusCard, TaskCard, TermsCard, TitledCard,
 };
 pub use crate::limits::DECK_LIMIT;
 pub use crate::made::PlanLists;

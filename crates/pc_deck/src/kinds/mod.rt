@@ -1,15 +1,15 @@
-//! The kinds of cards, a file for each, and the table of them: the word of each kind, its list, and its limit in decks of each
-//! sort.
+//! The kinds of cards, a file for each or for two whose cards have the same fields, and the table of them: the word of each kind,
+//! its list, and its limit in decks of each sort.
 ghost use Rattle.std.specs.Prelude.{◌≡◌, None, Some, OnOk, IfErr};
-ghost use Rattle.pc_cards.specs.declared.sort.Sort.TheVariants as sorts;
 ghost use Rattle.pc_faults.specs.First.{Refuses};
 ghost use Rattle.pc_deck.specs.Kinds.{kind_of, kind_among, first_kinds, work_kinds, further_kinds, limit_of};
 
 use crate::draft::Draft;
 use crate::limits::{
     MAX_AFTERS, MAX_TASK_ITEMS, MAX_TASKS, SMALL_ACTIVITIES, SMALL_CHARGES, SMALL_EVENTS,
-    SMALL_PIECES, SMALL_STATUSES, by_version,
+    SMALL_PIECES, SMALL_STATUSES,
 };
+use pc_cards::entry::{by_sort, by_version};
 use pc_cards::lists::{Listed, Named, Once};
 use pc_cards::place::Place;
 use pc_cards::sort::Sort;
@@ -25,30 +25,28 @@ mod acct;
 mod act;
 mod after;
 mod as_of;
-mod event;
 mod load;
 mod money;
 mod piece;
 mod project;
-mod res;
 mod status;
 mod task;
 mod terms;
+mod titled;
 mod wbs;
 
 pub use acct::AcctCard;
 pub use act::ActCard;
 pub use after::AfterCard;
 pub use as_of::AsOfCard;
-pub use event::EventCard;
 pub use load::LoadCard;
 pub use money::MoneyCard;
 pub use piece::PieceCard;
 pub use project::ProjectCard;
-pub use res::ResCard;
 pub use status::StatusCard;
 pub use task::TaskCard;
 pub use terms::TermsCard;
+pub use titled::TitledCard;
 pub use wbs::ItemCard;
 
 /// The cards of a deck by kind, but for its PROJECT card. Those of a kind that the deck's sort has not are none.
@@ -57,7 +55,7 @@ pub struct CardLists {
     pub as_of: Once<AsOfCard>,
     pub terms: Once<TermsCard>,
     pub items: Named<ItemCard>,
-    pub events: Named<EventCard>,
+    pub events: Named<TitledCard>,
     pub acts: Named<ActCard>,
     pub tasks: Named<TaskCard>,
     pub afters: Listed<AfterCard>,
@@ -66,7 +64,7 @@ pub struct CardLists {
     pub charges: Listed<MoneyCard>,
     pub togos: Listed<MoneyCard>,
     pub statuses: Listed<StatusCard>,
-    pub resources: Named<ResCard>,
+    pub resources: Named<TitledCard>,
     pub loads: Listed<LoadCard>,
 }
 
@@ -196,24 +194,25 @@ fn further_kind(field: &[u8]) -> Option<Kind>
     }
 }
 
-/// How many cards of the kind a deck of the sort and version may have, where that is a limit of its own.
+/// How many cards of the kind a deck of the sort and version may have, where that is a limit of its own. Of a kind that the
+/// sort has not, it may have none; and a deck of tasks is of version 2, whatever it says.
 pub fn limit_of(sort: Sort, version: u64, kind: Kind) -> Option<usize>
     ensures { result ≡ limit_of sort version kind }
 {
-    match sort {
-        Sort::Plan => plan_limit(version, kind),
-        Sort::Tasks => task_limit(kind),
-    }
-}
-
-/// The limit of a plan of the version.
-fn plan_limit(version: u64, kind: Kind) -> Option<usize>
-    ensures { result ≡ limit_of sorts.Plan version kind }
-{
+    let version = match sort {
+        Sort::Plan => version,
+        Sort::Tasks => 2,
+    };
     let limit = match kind {
-        Kind::Wbs => MAX_ITEMS,
-        Kind::Event => by_version(version, SMALL_EVENTS, MAX_EVENTS),
-        Kind::Act => by_version(version, SMALL_ACTIVITIES, MAX_ACTIVITIES),
+        Kind::Wbs => by_sort(sort, MAX_ITEMS, MAX_TASK_ITEMS),
+        Kind::Event => by_sort(sort, by_version(version, SMALL_EVENTS, MAX_EVENTS), 0),
+        Kind::Act => by_sort(
+            sort,
+            by_version(version, SMALL_ACTIVITIES, MAX_ACTIVITIES),
+            0,
+        ),
+        Kind::Task => by_sort(sort, 0, MAX_TASKS),
+        Kind::After => by_sort(sort, 0, MAX_AFTERS),
         Kind::Piece => by_version(version, SMALL_PIECES, MAX_PIECES),
         Kind::Acct => MAX_ACCOUNTS,
         Kind::Charge => by_version(version, SMALL_CHARGES, MAX_CHARGES),
@@ -221,28 +220,6 @@ fn plan_limit(version: u64, kind: Kind) -> Option<usize>
         Kind::Status => by_version(version, SMALL_STATUSES, MAX_STATUSES),
         Kind::Res => MAX_RESOURCES,
         Kind::Load => MAX_LOADS,
-        Kind::Task | Kind::After => 0,
-        Kind::Project | Kind::AsOf | Kind::Terms | Kind::End => return None,
-    };
-    Some(limit as usize)
-}
-
-/// The limit of a deck of tasks, whatever version it says it is of.
-fn task_limit(kind: Kind) -> Option<usize>
-    ensures { result ≡ limit_of sorts.Tasks 2 kind }
-{
-    let limit = match kind {
-        Kind::Wbs => MAX_TASK_ITEMS,
-        Kind::Task => MAX_TASKS,
-        Kind::After => MAX_AFTERS,
-        Kind::Piece => MAX_PIECES,
-        Kind::Acct => MAX_ACCOUNTS,
-        Kind::Charge => MAX_CHARGES,
-        Kind::ToGo => MAX_TOGOS,
-        Kind::Status => MAX_STATUSES,
-        Kind::Res => MAX_RESOURCES,
-        Kind::Load => MAX_LOADS,
-        Kind::Event | Kind::Act => 0,
         Kind::Project | Kind::AsOf | Kind::Terms | Kind::End => return None,
     };
     Some(limit as usize)

@@ -1,6 +1,6 @@
-//! EVENT: an event of the network.
+//! EVENT and RES: what has a code and a title, an event of the network or a resource.
 ghost use Rattle.std.specs.Prelude.{refl};
-ghost use Rattle.pc_deck.specs.Event.{event_slots, event_of, written_event};
+ghost use Rattle.pc_deck.specs.Titled.{titled_slots, titled_of, written_titled};
 
 use pc_cards::card::{Card, Coded, Layout};
 use pc_cards::field::{Misfit, read_code, read_title};
@@ -11,9 +11,9 @@ use pc_records::{Row, RowWriter};
 use pc_text::{Code, Title};
 use std::alloc::AllocError;
 
-/// An EVENT card.
+/// An EVENT or a RES card: an event of the network, or a resource that activities use.
 #[derive(Clone, Copy)]
-pub struct EventCard {
+pub struct TitledCard {
     pub row: u32,
     pub code: Code,
     pub title: Title,
@@ -21,16 +21,16 @@ pub struct EventCard {
 
 const SLOTS: [Slot; 2] = [(2, Form::Code), (3, Form::Title)];
 
-impl Card for EventCard {
-    ghost slots = { λ sort. event_slots };
+impl Card for TitledCard {
+    ghost slots = { λ sort. titled_slots };
 
     ghost least = { 3 };
 
     ghost most = { 3 };
 
-    ghost spelled = { event_of };
+    ghost spelled = { titled_of };
 
-    ghost written = { written_event };
+    ghost written = { written_titled };
 
     fn layout(_: Sort) -> Layout {
         Layout {
@@ -40,8 +40,8 @@ impl Card for EventCard {
         }
     }
 
-    fn read(_: Sort, row: u32, fields: &Row) -> Result<EventCard, Misfit> {
-        Ok(EventCard {
+    fn read(_: Sort, row: u32, fields: &Row) -> Result<TitledCard, Misfit> {
+        Ok(TitledCard {
             row,
             code: read_code(fields, 2)?,
             title: read_title(fields, 3)?,
@@ -53,8 +53,8 @@ impl Card for EventCard {
     }
 }
 
-impl Coded for EventCard {
-    ghost own_code = { λ event. event.code };
+impl Coded for TitledCard {
+    ghost own_code = { λ card. card.code };
 
     fn code(&self) -> &Code {
         &self.code
