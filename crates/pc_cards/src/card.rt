@@ -50,8 +50,8 @@ pub trait Card: Copy {
         ensures misfit { IfErr result (IsFirstMisfit (slots sort) fields.now) };
 
     /// Puts the record of the card, which is of the kind, behind a text. After an error nothing of the text is left.
-    fn put(&self, kind: Kind, text: &mut RowWriter) -> Result<(), AllocError>
-        ensures put { OnOk result (text.new ≡ text.old ++ record_text (word_of kind ∷ written self.now)) }
+    fn put(self, kind: Kind, text: &mut RowWriter) -> Result<(), AllocError>
+        ensures put { OnOk result (text.new ≡ text.old ++ record_text (word_of kind ∷ written self)) }
         ensures stopped { OnErr result (text.new ≡ []) };
 }
 

@@ -6,7 +6,7 @@ use crate::field::{
     Misfit, read_amount, read_amount_or_none, read_code, read_code_or_none, read_date,
     read_given_code, read_letter, read_title,
 };
-use pc_model::{MAX_COST, MAX_DURATION};
+use pc_model::{MAX_COST, MAX_DURATION, MAX_SLOPE};
 use pc_records::Row;
 
 /// An estimate or a duration, in units.
@@ -19,6 +19,12 @@ pub const DURATION: Form = Form::Number {
 pub const MONEY: Form = Form::Number {
     least: 0,
     most: MAX_COST,
+};
+
+/// What it costs to take a unit off a duration.
+pub const SLOPE: Form = Form::Number {
+    least: 0,
+    most: MAX_SLOPE,
 };
 
 /// What a field must be.

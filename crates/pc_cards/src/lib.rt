@@ -6,6 +6,7 @@
 #![tactic(auto)]
 
 pub mod card;
+pub mod entry;
 pub mod field;
 pub mod form;
 pub mod lists;

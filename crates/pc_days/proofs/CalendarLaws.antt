@@ -1,12 +1,12 @@
 -- Counting the days of the calendar one by one gives each day its date.
-use Rattle.std.proofs.Common.{◌≡◌, ◌≢◌, ℕ, zero, suc, ◌+◌, ◌<◌, ◌≤◌, Bool, true, false, nat_lt, if◌then◌else◌, List, refl, sym, ◌∙◌, ap, subst, arith, Ok, ℤ, pos, negsuc, ◌+ℤ◌, ◌≤ℤ◌, unsigned_abs}
+use Rattle.std.proofs.Common.{◌≡◌, ◌≢◌, ℕ, zero, suc, ◌+◌, ◌<◌, ◌≤◌, Bool, true, false, nat_lt, if◌then◌else◌, List, refl, sym, ap, subst, arith, Ok, ℤ, pos, negsuc, ◌+ℤ◌, ◌≤ℤ◌, unsigned_abs}
 use Rattle.std.proofs.lemmas.Bool.Decides.{nat_tests}
 use Rattle.jiff_core.proofs.CalendarLemmas.{days_from_civil-day_count, days_in_month_bounds}
 use Rattle.jiff_core.proofs.DateLemmas.{days_from_civil-day, days_from_civil-next_month, days_from_civil-next_year, days_from_civil-max}
 use Rattle.jiff_core.proofs.SignedLemmas.{signed_arith}
 use Rattle.jiff_core.specs.Calendar.{IsCivilDate, days_from_civil, days_in_month}
 use Rattle.pc_days.specs.Calendar.{CalendarDay, calendar_day, first_day, next_day, text_of_day}
-use Rattle.pc_days.specs.Dates.{IsPrintedDay, NamesDay, NamesDeckDay, date_text, day_of}
+use Rattle.pc_days.specs.Dates.{IsPrintedDay, NamesDay, NamesDeckDay, day_of}
 use Rattle.pc_days.proofs.Form.{day_count-1900, day_number_range}
 use Rattle.pc_days.proofs.Reading.{NamesDay-same, day_clause}
 

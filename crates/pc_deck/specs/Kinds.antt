@@ -1,5 +1,5 @@
 -- The kinds of cards in decks of both sorts: the table of them, and what it says of a kind.
-use Rattle.std.specs.Prelude.{ℕ, Bool, true, false, List, [], ◌∷◌, Option, find, bytes_eq}
+use Rattle.std.specs.Prelude.{ℕ, Bool, true, false, List, [], ◌∷◌, ◌++◌, Option, find, bytes_eq}
 use Rattle.pc_faults.specs.Kinds.{word_of}
 use Rattle.pc_faults.specs.declared.kind.Kind.{Kind}
 use Rattle.pc_faults.specs.declared.kind.Kind.TheVariants.{Project, AsOf, Terms, Wbs, Event, Act, Task, After, Piece, Acct, Charge, ToGo, Status, Res, Load, End}
@@ -13,7 +13,6 @@ use Rattle.pc_deck.specs.Project.{project_kind}
 use Rattle.pc_deck.specs.AsOf.{as_of_kind}
 use Rattle.pc_deck.specs.Terms.{terms_kind}
 use Rattle.pc_deck.specs.Wbs.{item_kind}
-use Rattle.pc_deck.specs.Event.{event_kind}
 use Rattle.pc_deck.specs.Act.{act_kind}
 use Rattle.pc_deck.specs.Task.{task_kind}
 use Rattle.pc_deck.specs.After.{after_kind}
@@ -21,7 +20,7 @@ use Rattle.pc_deck.specs.Piece.{piece_kind}
 use Rattle.pc_deck.specs.Acct.{account_kind}
 use Rattle.pc_deck.specs.Money.{charge_kind, togo_kind}
 use Rattle.pc_deck.specs.Status.{status_kind}
-use Rattle.pc_deck.specs.Res.{resource_kind}
+use Rattle.pc_deck.specs.Titled.{event_kind, resource_kind}
 use Rattle.pc_deck.specs.Load.{load_kind}
 use Rattle.pc_deck.specs.End.{end_kind}
 
@@ -44,18 +43,26 @@ entry_of Res = resource_kind
 entry_of Load = load_kind
 entry_of End = end_kind
 
--- those that a plan has, in the order in which its text has their cards
-abbrev pub kinds : List Kind
-kinds = Project ∷ AsOf ∷ Terms ∷ Wbs ∷ Event ∷ Act ∷ Piece ∷ Acct ∷ Charge ∷ ToGo ∷ Status ∷ Res ∷ Load ∷ End ∷ []
+-- those that come first in decks of both sorts
+abbrev pub first_kinds : List Kind
+first_kinds = Project ∷ AsOf ∷ Terms ∷ Wbs ∷ []
 
--- those that a deck of tasks has
-abbrev pub task_kinds : List Kind
-task_kinds = Project ∷ AsOf ∷ Terms ∷ Wbs ∷ Task ∷ After ∷ Piece ∷ Acct ∷ Charge ∷ ToGo ∷ Status ∷ Res ∷ Load ∷ End ∷ []
+-- those that only decks of a sort have
+abbrev pub work_kinds : Sort → List Kind
+work_kinds Plan = Event ∷ Act ∷ []
+work_kinds Tasks = Task ∷ After ∷ []
+
+-- those that come behind these in decks of both sorts
+abbrev pub further_kinds : List Kind
+further_kinds = Piece ∷ Acct ∷ Charge ∷ ToGo ∷ Status ∷ Res ∷ Load ∷ End ∷ []
 
 -- those that a deck of a sort has
 abbrev pub kinds_of : Sort → List Kind
-kinds_of Plan = kinds
-kinds_of Tasks = task_kinds
+kinds_of sort = first_kinds ++ work_kinds sort ++ further_kinds
+
+-- those that a plan has, in the order in which its text has their cards
+abbrev pub kinds : List Kind
+kinds = kinds_of Plan
 
 -- a card of a kind as plain data
 abbrev pub CardOf : Kind → Type 0
@@ -88,9 +95,13 @@ lists_with held = record {
   loads = held Load;
 }
 
+-- the kind that a field names among some
+abbrev pub kind_among : List Kind → List ℕ → Option Kind
+kind_among some field = find (λ kind. bytes_eq field (word_of kind)) some
+
 -- the kind that a card's first field names in a deck of a sort
 abbrev pub kind_of : Sort → List ℕ → Option Kind
-kind_of sort field = find (λ kind. bytes_eq field (word_of kind)) (kinds_of sort)
+kind_of sort field = kind_among (kinds_of sort) field
 
 -- what the lists have of a kind
 abbrev pub held_in : CardLists → (kind : Kind) → Held kind

@@ -2,7 +2,6 @@ pub mod Project
 pub mod AsOf
 pub mod Terms
 pub mod Wbs
-pub mod Event
 pub mod Act
 pub mod Task
 pub mod After
@@ -10,7 +9,7 @@ pub mod Piece
 pub mod Acct
 pub mod Money
 pub mod Status
-pub mod Res
+pub mod Titled
 pub mod Load
 pub mod End
 pub mod Kinds

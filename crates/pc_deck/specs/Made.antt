@@ -4,7 +4,7 @@ use Rattle.pc_model.specs.Codes.{IsNamedOnce}
 use Rattle.pc_deck.specs.Deck.{Deck}
 use Rattle.pc_deck.specs.declared.kinds.act.ActCard.{ActCard}
 use Rattle.pc_deck.specs.declared.kinds.CardLists.{CardLists}
-use Rattle.pc_deck.specs.declared.kinds.event.EventCard.{EventCard}
+use Rattle.pc_deck.specs.declared.kinds.titled.TitledCard.{TitledCard}
 use Rattle.pc_deck.specs.declared.kinds.project.ProjectCard.{ProjectCard}
 use Rattle.pc_deck.specs.declared.kinds.wbs.ItemCard.{ItemCard}
 use Rattle.pc_deck.specs.declared.made.PlanLists.{PlanLists}
@@ -33,7 +33,7 @@ abbrev pub plan_of : ProjectCard → PlanLists → Deck
 plan_of project plan = record { project = project; lists = lists_of plan }
 
 -- the plan that has these items, events and activities, and the other cards of a deck of tasks but those of tasks
-abbrev pub drawn_with : Deck → List ItemCard → List EventCard → List ActCard → Deck
+abbrev pub drawn_with : Deck → List ItemCard → List TitledCard → List ActCard → Deck
 drawn_with deck items events acts = record {
   project = deck.project;
   lists = record deck.lists { items = items; events = events; acts = acts; tasks = []; afters = [] };

@@ -3,7 +3,7 @@ use Rattle.std.specs.Prelude.{ℕ, ◌≤◌, List, [], ◌∷◌, false, decima
 use Rattle.pc_records.specs.Deck.{field_at}
 use Rattle.pc_model.specs.declared.limits.TheConstants.{MAX_COST, MAX_CHARGES, MAX_TOGOS}
 use Rattle.pc_days.specs.Calendar.{text_of_day}
-use Rattle.pc_cards.specs.Entry.{Entry, Written, growing, in_both, no_code, up_to}
+use Rattle.pc_cards.specs.Entry.{Entry, Limit, Written, growing, in_both, no_code, up_to}
 use Rattle.pc_deck.specs.declared.limits.TheConstants.{SMALL_CHARGES}
 use Rattle.pc_cards.specs.Forms.{Slot, money, number_in, day_in}
 use Rattle.pc_cards.specs.declared.form.Form.TheVariants as form
@@ -30,40 +30,29 @@ written_money card = card.account ∷ text_of_day card.day ∷ decimal card.amou
 abbrev pub money_at : ℕ → MoneyCard → MoneyCard
 money_at row card = record card { row = row }
 
--- the kind CHARGE
-abbrev pub charge_kind : Entry CardLists
-charge_kind = record {
+-- a kind of such cards, by where the lists have them and how many there may be
+abbrev money_kind : (CardLists → List MoneyCard) → Limit → Entry CardLists
+money_kind held limit = record {
   Card = MoneyCard;
   spelled = money_of;
   slots = in_both money_slots;
   least = 4;
   most = 4;
   once = false;
-  held = λ lists. lists.charges;
-  limit = in_both (growing SMALL_CHARGES MAX_CHARGES);
+  held = held;
+  limit = in_both limit;
   is_coded = false;
   code = no_code;
 }
 
--- how its cards are written
-abbrev pub written_charge_kind : Written MoneyCard
-written_charge_kind = record { written = written_money; at_row = money_at }
+-- the kind CHARGE
+abbrev pub charge_kind : Entry CardLists
+charge_kind = money_kind (λ lists. lists.charges) (growing SMALL_CHARGES MAX_CHARGES)
 
 -- the kind TOGO
 abbrev pub togo_kind : Entry CardLists
-togo_kind = record {
-  Card = MoneyCard;
-  spelled = money_of;
-  slots = in_both money_slots;
-  least = 4;
-  most = 4;
-  once = false;
-  held = λ lists. lists.togos;
-  limit = in_both (up_to MAX_TOGOS);
-  is_coded = false;
-  code = no_code;
-}
+togo_kind = money_kind (λ lists. lists.togos) (up_to MAX_TOGOS)
 
--- how its cards are written
-abbrev pub written_togo_kind : Written MoneyCard
-written_togo_kind = record { written = written_money; at_row = money_at }
+-- how the cards of both are written
+abbrev pub written_money_kind : Written MoneyCard
+written_money_kind = record { written = written_money; at_row = money_at }

@@ -1,38 +1,160 @@
-//! The cards of a plan.
-ghost use Rattle.std.specs.Prelude.{◌≡◌};
-ghost use Rattle.pc_deck.specs.Deck.{item_named, event_named, act_named, account_named, resource_named};
+//! The cards of a deck that was read, of either sort.
+ghost use Rattle.std.specs.Prelude.{◌≡◌, ◌≤◌, length};
+ghost use Rattle.pc_model.specs.declared.limits.TheConstants.{MAX_ACTIVITIES, MAX_EVENTS};
+ghost use Rattle.pc_cards.specs.declared.sort.Sort.{Sort};
+ghost use Rattle.pc_cards.specs.declared.sort.Sort.TheVariants.{Plan, Tasks};
+ghost use Rattle.pc_deck.specs.Deck.{item_named, event_named, act_named, task_named, account_named, resource_named};
+ghost use Rattle.pc_deck.specs.Within.{IsWithin};
 
 use crate::deck_cards::DeckCards;
-use crate::kinds::ProjectCard;
+use crate::kinds::{
+    AcctCard, ActCard, AfterCard, AsOfCard, ItemCard, LoadCard, MoneyCard, PieceCard, ProjectCard,
+    StatusCard, TaskCard, TermsCard, TitledCard,
+};
 use pc_text::Code;
-use std::marker::Model;
+use std::marker::{Model, PhantomData};
 
-/// The cards of a plan that was read, each kind in card order.
-#[derive(Drop)]
-pub struct Cards {
-    pub(crate) deck: DeckCards,
+/// A sort of decks, as a type.
+pub trait DeckSort {
+    ghost sort: { Sort };
 }
 
-impl Model for Cards {
+/// Plans.
+pub struct Plans;
+
+impl DeckSort for Plans {
+    ghost sort = { Plan };
+}
+
+/// Decks of tasks.
+pub struct TaskDecks;
+
+impl DeckSort for TaskDecks {
+    ghost sort = { Tasks };
+}
+
+/// The cards of a deck of a sort that was read, each kind in card order.
+#[derive(Drop)]
+pub struct CardsOf<S: DeckSort> {
+    deck: DeckCards,
+    sort: PhantomData<S>,
+}
+
+/// The cards of a plan.
+pub type Cards = CardsOf<Plans>;
+
+/// The cards of a deck of tasks.
+pub type TaskCards = CardsOf<TaskDecks>;
+
+impl<S: DeckSort> Model for CardsOf<S> {
     ghost use Rattle.pc_deck.specs.Deck.{Deck};
-    ghost use Rattle.pc_deck.specs.Within.{IsWithinLimits};
+    ghost use Rattle.pc_deck.specs.Within.{IsWithin};
 
     ghost Value = { Deck };
 
     ghost view = { λ s. s.deck };
 
-    ghost invariant = { λ s. IsWithinLimits s.deck };
+    ghost invariant = { λ s. IsWithin S.sort s.deck };
 }
 
-impl Cards {
-    ghost use Rattle.pc_deck.specs.Within.{IsWithinLimits};
+impl<S: DeckSort> CardsOf<S> {
+    /// The cards of a deck that is within the limits of its sort.
+    pub(crate) fn of(deck: DeckCards) -> Self
+        requires { IsWithin S.sort deck }
+        ensures { result ≡ deck }
+    {
+        CardsOf {
+            deck,
+            sort: PhantomData,
+        }
+    }
 
     /// The PROJECT card.
     pub fn project(&self) -> &ProjectCard
         ensures card { result.now ≡ self.now.project }
-        ensures within { IsWithinLimits self.now }
+        ensures within { IsWithin S.sort self.now }
     {
         &self.deck.project
+    }
+
+    /// The ASOF card, where there is one.
+    pub fn as_of(&self) -> Option<AsOfCard>
+        ensures card { result ≡ self.now.as_of }
+        ensures within { IsWithin S.sort self.now }
+    {
+        self.deck.lists.as_of.get()
+    }
+
+    /// The TERMS card, where there is one.
+    pub fn terms(&self) -> Option<TermsCard>
+        ensures terms { result ≡ self.now.terms }
+        ensures within { IsWithin S.sort self.now }
+    {
+        self.deck.lists.terms.get()
+    }
+
+    /// The WBS cards.
+    pub fn items(&self) -> &[ItemCard]
+        ensures cards { result.now ≡ self.now.items }
+        ensures within { IsWithin S.sort self.now }
+    {
+        self.deck.lists.items.as_slice()
+    }
+
+    /// The PIECE cards.
+    pub fn pieces(&self) -> &[PieceCard]
+        ensures cards { result.now ≡ self.now.pieces }
+        ensures within { IsWithin S.sort self.now }
+    {
+        self.deck.lists.pieces.as_slice()
+    }
+
+    /// The ACCT cards.
+    pub fn accounts(&self) -> &[AcctCard]
+        ensures cards { result.now ≡ self.now.accounts }
+        ensures within { IsWithin S.sort self.now }
+    {
+        self.deck.lists.accounts.as_slice()
+    }
+
+    /// The CHARGE cards.
+    pub fn charges(&self) -> &[MoneyCard]
+        ensures cards { result.now ≡ self.now.charges }
+        ensures within { IsWithin S.sort self.now }
+    {
+        self.deck.lists.charges.as_slice()
+    }
+
+    /// The TOGO cards.
+    pub fn togos(&self) -> &[MoneyCard]
+        ensures cards { result.now ≡ self.now.togos }
+        ensures within { IsWithin S.sort self.now }
+    {
+        self.deck.lists.togos.as_slice()
+    }
+
+    /// The STATUS cards.
+    pub fn statuses(&self) -> &[StatusCard]
+        ensures cards { result.now ≡ self.now.statuses }
+        ensures within { IsWithin S.sort self.now }
+    {
+        self.deck.lists.statuses.as_slice()
+    }
+
+    /// The RES cards.
+    pub fn resources(&self) -> &[TitledCard]
+        ensures cards { result.now ≡ self.now.resources }
+        ensures within { IsWithin S.sort self.now }
+    {
+        self.deck.lists.resources.as_slice()
+    }
+
+    /// The LOAD cards.
+    pub fn loads(&self) -> &[LoadCard]
+        ensures cards { result.now ≡ self.now.loads }
+        ensures within { IsWithin S.sort self.now }
+    {
+        self.deck.lists.loads.as_slice()
     }
 
     /// The number of the item with a code: its place in card order, from 0.
@@ -41,6 +163,43 @@ impl Cards {
     {
         let number = self.deck.lists.items.place_of(code)?;
         Some(number as u32)
+    }
+
+    /// The number of the account with a code: its place in card order, from 0.
+    pub fn account_named(&self, code: &Code) -> Option<u32>
+        ensures { result ≡ account_named self.now code.now }
+    {
+        let number = self.deck.lists.accounts.place_of(code)?;
+        Some(number as u32)
+    }
+
+    /// The number of the resource with a code: its place in card order, from 0.
+    pub fn resource_named(&self, code: &Code) -> Option<u32>
+        ensures { result ≡ resource_named self.now code.now }
+    {
+        let number = self.deck.lists.resources.place_of(code)?;
+        Some(number as u32)
+    }
+}
+
+/// What only plans have.
+impl Cards {
+    /// The EVENT cards.
+    pub fn events(&self) -> &[TitledCard]
+        ensures cards { result.now ≡ self.now.events }
+        ensures few { length result.now ≤ MAX_EVENTS }
+        ensures within { IsWithin Plan self.now }
+    {
+        self.deck.lists.events.as_slice()
+    }
+
+    /// The ACT cards.
+    pub fn acts(&self) -> &[ActCard]
+        ensures cards { result.now ≡ self.now.acts }
+        ensures few { length result.now ≤ MAX_ACTIVITIES }
+        ensures within { IsWithin Plan self.now }
+    {
+        self.deck.lists.acts.as_slice()
     }
 
     /// The number of the event with a code: its place in card order, from 0.
@@ -58,20 +217,31 @@ impl Cards {
         let number = self.deck.lists.acts.place_of(code)?;
         Some(number as u32)
     }
+}
 
-    /// The number of the account with a code: its place in card order, from 0.
-    pub fn account_named(&self, code: &Code) -> Option<u32>
-        ensures { result ≡ account_named self.now code.now }
+/// What only decks of tasks have.
+impl TaskCards {
+    /// The TASK cards.
+    pub fn tasks(&self) -> &[TaskCard]
+        ensures cards { result.now ≡ self.now.tasks }
+        ensures within { IsWithin Tasks self.now }
     {
-        let number = self.deck.lists.accounts.place_of(code)?;
-        Some(number as u32)
+        self.deck.lists.tasks.as_slice()
     }
 
-    /// The number of the resource with a code: its place in card order, from 0.
-    pub fn resource_named(&self, code: &Code) -> Option<u32>
-        ensures { result ≡ resource_named self.now code.now }
+    /// The AFTER cards.
+    pub fn afters(&self) -> &[AfterCard]
+        ensures cards { result.now ≡ self.now.afters }
+        ensures within { IsWithin Tasks self.now }
     {
-        let number = self.deck.lists.resources.place_of(code)?;
+        self.deck.lists.afters.as_slice()
+    }
+
+    /// The number of the task with a code: its place in card order, from 0.
+    pub fn task_named(&self, code: &Code) -> Option<u32>
+        ensures { result ≡ task_named self.now code.now }
+    {
+        let number = self.deck.lists.tasks.place_of(code)?;
         Some(number as u32)
     }
 }

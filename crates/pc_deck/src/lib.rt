@@ -16,15 +16,13 @@ pub mod laws;
 mod limits;
 mod made;
 mod read;
-mod task_cards;
 mod text;
 
-pub use crate::cards::Cards;
+pub use crate::cards::{Cards, CardsOf, DeckSort, Plans, TaskCards, TaskDecks};
 pub use crate::kinds::{
-    AcctCard, ActCard, AfterCard, AsOfCard, EventCard, ItemCard, LoadCard, MoneyCard, PieceCard,
-    ProjectCard, ResCard, StatusCard, TaskCard, TermsCard,
+    AcctCard, ActCard, AfterCard, AsOfCard, ItemCard, LoadCard, MoneyCard, PieceCard, ProjectCard,
+    StatusCard, TaskCard, TermsCard, TitledCard,
 };
 pub use crate::limits::DECK_LIMIT;
 pub use crate::made::PlanLists;
 pub use crate::read::{read_cards, read_tasks};
-pub use crate::task_cards::TaskCards;

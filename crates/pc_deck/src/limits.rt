@@ -1,7 +1,5 @@
 //! How large a deck may be, how many cards one of version 1 may have where version 2 may have more, and how many a deck of
 //! tasks may have. The other limits stand beside those of projects.
-ghost use Rattle.std.specs.Prelude.{◌≡◌};
-ghost use Rattle.pc_cards.specs.Entry.{by_version};
 
 /// How many bytes a deck may have, of either sort and version.
 pub const DECK_LIMIT: usize = 67_108_864;
@@ -29,10 +27,3 @@ pub const MAX_TASKS: u32 = 4_000;
 
 /// How many AFTER cards a deck of tasks may have.
 pub const MAX_AFTERS: u32 = 8_000;
-
-/// A limit that is greater in decks of version 2.
-pub fn by_version(version: u64, small: u32, large: u32) -> u32
-    ensures { result ≡ by_version version small large }
-{
-    if version == 2 { large } else { small }
-}

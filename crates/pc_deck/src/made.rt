@@ -3,13 +3,12 @@ ghost use Rattle.std.specs.Prelude.{◌≡◌, IfOk, OnOk};
 ghost use Rattle.pc_deck.specs.Made.{drawn_with, plan_of};
 ghost use Rattle.pc_deck.specs.Within.{IsWithinLimits};
 
-use crate::cards::Cards;
+use crate::cards::{Cards, TaskCards};
 use crate::deck_cards::DeckCards;
 use crate::kinds::{
-    AcctCard, ActCard, AsOfCard, CardLists, EventCard, ItemCard, LoadCard, MoneyCard, PieceCard,
-    ProjectCard, ResCard, StatusCard, TermsCard,
+    AcctCard, ActCard, AsOfCard, CardLists, ItemCard, LoadCard, MoneyCard, PieceCard, ProjectCard,
+    StatusCard, TermsCard, TitledCard,
 };
-use crate::task_cards::TaskCards;
 use pc_cards::lists::Once;
 use std::alloc::{AllocError, Global};
 
@@ -19,14 +18,14 @@ pub struct PlanLists<'a> {
     pub as_of: Option<AsOfCard>,
     pub terms: Option<TermsCard>,
     pub items: &'a [ItemCard],
-    pub events: &'a [EventCard],
+    pub events: &'a [TitledCard],
     pub acts: &'a [ActCard],
     pub pieces: &'a [PieceCard],
     pub accounts: &'a [AcctCard],
     pub charges: &'a [MoneyCard],
     pub togos: &'a [MoneyCard],
     pub statuses: &'a [StatusCard],
-    pub resources: &'a [ResCard],
+    pub resources: &'a [TitledCard],
     pub loads: &'a [LoadCard],
 }
 
@@ -42,12 +41,10 @@ impl Cards {
     {
         let mut lists = CardLists::new(alloc);
         match lists.add_plan(plan) {
-            Ok(()) => Ok(Cards {
-                deck: DeckCards {
-                    project: *project,
-                    lists,
-                },
-            }),
+            Ok(()) => Ok(Cards::of(DeckCards {
+                project: *project,
+                lists,
+            })),
             Err(e) => Err(e),
         }
     }
@@ -58,7 +55,7 @@ impl Cards {
         alloc: Global,
         tasks: &TaskCards,
         items: &[ItemCard],
-        events: &[EventCard],
+        events: &[TitledCard],
         acts: &[ActCard],
     ) -> Result<Cards, AllocError>
         requires { IsWithinLimits (drawn_with tasks.now items.now events.now acts.now) }

@@ -12,11 +12,10 @@ ghost use Rattle.pc_deck.specs.Refusal.{IsCardRefusal, IsRefusalAs};
 ghost use Rattle.pc_deck.specs.Titles.{AreTitlesText};
 ghost use Rattle.pc_deck.specs.Within.{IsDraftWithin, IsWithin, IsWithinLimits};
 
-use crate::cards::Cards;
+use crate::cards::{Cards, TaskCards};
 use crate::deck_cards::DeckCards;
 use crate::draft::Draft;
 use crate::limits::DECK_LIMIT;
-use crate::task_cards::TaskCards;
 use pc_cards::rows::{CardRows, Next};
 use pc_cards::sort::Sort;
 use pc_faults::{DeckError, NOT_UTF8};
@@ -43,7 +42,7 @@ pub fn read_cards(alloc: Global, bytes: &[u8]) -> Result<Cards, DeckError>
     ensures first { IfErr result (Refuses (IsCardRefusal bytes.now)) }
 {
     match read_deck(alloc, Sort::Plan, bytes) {
-        Ok(deck) => Ok(Cards { deck }),
+        Ok(deck) => Ok(Cards::of(deck)),
         Err(e) => Err(e),
     }
 }
@@ -57,7 +56,7 @@ pub fn read_tasks(alloc: Global, bytes: &[u8]) -> Result<TaskCards, DeckError>
     ensures first { IfErr result (Refuses (IsRefusalAs sorts.Tasks bytes.now)) }
 {
     match read_deck(alloc, Sort::Tasks, bytes) {
-        Ok(deck) => Ok(TaskCards { deck }),
+        Ok(deck) => Ok(TaskCards::of(deck)),
         Err(e) => Err(e),
     }
 }

@@ -10,7 +10,7 @@ use Rattle.pc_times.specs.declared.state.ActState.{ActState}
 use Rattle.pc_deck.specs.declared.kinds.act.ActCard.{ActCard}
 use Rattle.pc_deck.specs.Deck.{Deck, account_codes, account_named, act_codes, act_named, event_codes, event_named, item_codes, item_named, resource_codes, resource_named}
 use Rattle.pc_project.specs.Project.{account_number, account_of, accounts_in, act_number, arc_of, charges_in, counts_of, event_number, expected_of, heading_of, item_number, load_of, money_of, network_of, piece_codes, piece_of, pieces_in, place_of, project_in, resource_number, row_of, rows_of, status_of, statuses_in, term_of, terms_in, togos_in, variance_in, work_in, work_of}
-use Rattle.pc_deck_text.specs.Same.{SayTheSame, account_said, act_said, event_said, item_said, load_said, money_said, piece_said, resource_said, status_said}
+use Rattle.pc_deck_text.specs.Same.{SayTheSame, account_said, act_said, item_said, load_said, money_said, piece_said, status_said, titled_said}
 
 -- what is read of each element alike before and behind a function is the same of two lists that the function makes one
 pub of_said : {X Y : Type 0} (said : X → X) (read : X → Y) (xs ys : List X) → map said xs ≡ map said ys → map (λ x. read (said x)) xs ≡ map (λ x. read (said x)) ys
@@ -36,7 +36,7 @@ module _ (a b : Deck) (same : SayTheSame a b) where
   same_item_codes = of_said item_said (λ item. item.code) a.items b.items same.items
 
   pub same_event_codes : event_codes a ≡ event_codes b
-  same_event_codes = of_said event_said (λ event. event.code) a.events b.events same.events
+  same_event_codes = of_said titled_said (λ event. event.code) a.events b.events same.events
 
   pub same_act_codes : act_codes a ≡ act_codes b
   same_act_codes = of_said act_said (λ act. act.code) a.acts b.acts same.acts
@@ -45,7 +45,7 @@ module _ (a b : Deck) (same : SayTheSame a b) where
   same_account_codes = of_said account_said (λ account. account.code) a.accounts b.accounts same.accounts
 
   pub same_resource_codes : resource_codes a ≡ resource_codes b
-  same_resource_codes = of_said resource_said (λ resource. resource.code) a.resources b.resources same.resources
+  same_resource_codes = of_said titled_said (λ resource. resource.code) a.resources b.resources same.resources
 
   pub same_items : item_named a ≡ item_named b
   same_items = ap named_among same_item_codes
@@ -66,7 +66,7 @@ module _ (a b : Deck) (same : SayTheSame a b) where
   item_numbers = λ i code. unwrap_or (same_items i code) (length_said item_said a.items b.items same.items i)
 
   event_numbers : event_number a ≡ event_number b
-  event_numbers = λ i code. unwrap_or (same_events i code) (length_said event_said a.events b.events same.events i)
+  event_numbers = λ i code. unwrap_or (same_events i code) (length_said titled_said a.events b.events same.events i)
 
   act_numbers : act_number a ≡ act_number b
   act_numbers = λ i code. unwrap_or (same_acts i code) (length_said act_said a.acts b.acts same.acts i)
@@ -75,7 +75,7 @@ module _ (a b : Deck) (same : SayTheSame a b) where
   account_numbers = λ i code. unwrap_or (same_accounts i code) (length_said account_said a.accounts b.accounts same.accounts i)
 
   resource_numbers : resource_number a ≡ resource_number b
-  resource_numbers = λ i code. unwrap_or (same_resources i code) (length_said resource_said a.resources b.resources same.resources i)
+  resource_numbers = λ i code. unwrap_or (same_resources i code) (length_said titled_said a.resources b.resources same.resources i)
 
   pub same_item_number : item_number a ≡ item_number b
   same_item_number = item_numbers
@@ -98,7 +98,7 @@ module _ (a b : Deck) (same : SayTheSame a b) where
 
   pub same_network : network_of a ≡ network_of b
   same_network = λ i. record {
-    events = length_said event_said a.events b.events same.events i;
+    events = length_said titled_said a.events b.events same.events i;
     start = event_numbers i (start_of i);
     end = event_numbers i (end_of i);
     arcs = arcs i;
@@ -177,7 +177,7 @@ module _ (a b : Deck) (same : SayTheSame a b) where
 
   counts : counts_of a ≡ counts_of b
   counts = λ i. record {
-    events = length_said event_said a.events b.events same.events i;
+    events = length_said titled_said a.events b.events same.events i;
     activities = length_said act_said a.acts b.acts same.acts i;
     items = length_said item_said a.items b.items same.items i;
     accounts = length_said account_said a.accounts b.accounts same.accounts i;

@@ -12,7 +12,7 @@ use Rattle.pc_deck.specs.Text.{first_record, renumbered, says_nothing, settled, 
 use Rattle.pc_deck.specs.declared.kinds.as_of.AsOfCard.{AsOfCard}
 use Rattle.pc_deck.specs.declared.kinds.terms.TermsCard.{TermsCard}
 use Rattle.pc_project.specs.Project.{as_of_day, time_terms_of}
-use Rattle.pc_deck_text.specs.Same.{SayTheSame, account_said, act_said, event_said, item_said, load_said, money_said, piece_said, resource_said, status_said}
+use Rattle.pc_deck_text.specs.Same.{SayTheSame, account_said, act_said, item_said, load_said, money_said, piece_said, status_said, titled_said}
 
 -- what a card says is the same in another record
 said-numbered : {C : Type 0} (said : C → C) (at_row : ℕ → C → C) (row : ℕ) (cards : List C) → ((n : ℕ) (card : C) → said card ≡ said (at_row n card))
@@ -52,13 +52,13 @@ settled_same deck = record {
   as_of = same_as_of deck.as_of deck.project.start_day (first_record (settled deck) AsOf);
   terms = same_terms deck.terms (first_record (settled deck) Terms);
   items = said-numbered item_said _ _ deck.items (λ n card. refl);
-  events = said-numbered event_said _ _ deck.events (λ n card. refl);
+  events = said-numbered titled_said _ _ deck.events (λ n card. refl);
   acts = said-numbered act_said _ _ deck.acts (λ n card. refl);
   pieces = said-numbered piece_said _ _ deck.pieces (λ n card. refl);
   accounts = said-numbered account_said _ _ deck.accounts (λ n card. refl);
   charges = said-numbered money_said _ _ deck.charges (λ n card. refl);
   togos = said-numbered money_said _ _ deck.togos (λ n card. refl);
   statuses = said-numbered status_said _ _ deck.statuses (λ n card. refl);
-  resources = said-numbered resource_said _ _ deck.resources (λ n card. refl);
+  resources = said-numbered titled_said _ _ deck.resources (λ n card. refl);
   loads = said-numbered load_said _ _ deck.loads (λ n card. refl);
 }

@@ -4,13 +4,12 @@ use Rattle.std.specs.Prelude.{◌≡◌, map}
 use Rattle.pc_deck.specs.Deck.{Deck}
 use Rattle.pc_deck.specs.declared.kinds.acct.AcctCard.{AcctCard}
 use Rattle.pc_deck.specs.declared.kinds.act.ActCard.{ActCard}
-use Rattle.pc_deck.specs.declared.kinds.event.EventCard.{EventCard}
 use Rattle.pc_deck.specs.declared.kinds.load.LoadCard.{LoadCard}
 use Rattle.pc_deck.specs.declared.kinds.money.MoneyCard.{MoneyCard}
 use Rattle.pc_deck.specs.declared.kinds.piece.PieceCard.{PieceCard}
 use Rattle.pc_deck.specs.declared.kinds.project.ProjectCard.{ProjectCard}
-use Rattle.pc_deck.specs.declared.kinds.res.ResCard.{ResCard}
 use Rattle.pc_deck.specs.declared.kinds.status.StatusCard.{StatusCard}
+use Rattle.pc_deck.specs.declared.kinds.titled.TitledCard.{TitledCard}
 use Rattle.pc_deck.specs.declared.kinds.wbs.ItemCard.{ItemCard}
 use Rattle.pc_project.specs.DisorderFaults.{as_of_in}
 use Rattle.pc_project.specs.Project.{time_terms_of}
@@ -22,8 +21,8 @@ project_said card = record card { row = 0; version = 0 }
 abbrev pub item_said : ItemCard → ItemCard
 item_said card = record card { row = 0 }
 
-abbrev pub event_said : EventCard → EventCard
-event_said card = record card { row = 0 }
+abbrev pub titled_said : TitledCard → TitledCard
+titled_said card = record card { row = 0 }
 
 abbrev pub act_said : ActCard → ActCard
 act_said card = record card { row = 0 }
@@ -40,9 +39,6 @@ money_said card = record card { row = 0 }
 abbrev pub status_said : StatusCard → StatusCard
 status_said card = record card { row = 0 }
 
-abbrev pub resource_said : ResCard → ResCard
-resource_said card = record card { row = 0 }
-
 abbrev pub load_said : LoadCard → LoadCard
 load_said card = record card { row = 0 }
 
@@ -53,12 +49,12 @@ pub record SayTheSame (deck other : Deck) : Type 0 where
   pub as_of : as_of_in deck ≡ as_of_in other
   pub terms : time_terms_of deck.terms ≡ time_terms_of other.terms
   pub items : map item_said deck.items ≡ map item_said other.items
-  pub events : map event_said deck.events ≡ map event_said other.events
+  pub events : map titled_said deck.events ≡ map titled_said other.events
   pub acts : map act_said deck.acts ≡ map act_said other.acts
   pub pieces : map piece_said deck.pieces ≡ map piece_said other.pieces
   pub accounts : map account_said deck.accounts ≡ map account_said other.accounts
   pub charges : map money_said deck.charges ≡ map money_said other.charges
   pub togos : map money_said deck.togos ≡ map money_said other.togos
   pub statuses : map status_said deck.statuses ≡ map status_said other.statuses
-  pub resources : map resource_said deck.resources ≡ map resource_said other.resources
+  pub resources : map titled_said deck.resources ≡ map titled_said other.resources
   pub loads : map load_said deck.loads ≡ map load_said other.loads

@@ -5,7 +5,7 @@ use Rattle.pc_arrows.specs.Arrows.{firsts, lasts}
 use Rattle.pc_arrows.specs.Tasks.{AreAmong}
 use Rattle.pc_arrows.specs.declared.AfterRow.{AfterRow}
 use Rattle.pc_deck.specs.declared.kinds.act.ActCard.{ActCard}
-use Rattle.pc_deck.specs.declared.kinds.event.EventCard.{EventCard}
+use Rattle.pc_deck.specs.declared.kinds.titled.TitledCard.{TitledCard}
 use Rattle.pc_deck.specs.declared.kinds.task.TaskCard.{TaskCard}
 use Rattle.pc_tasks.specs.Codes.{after_code, begin_code, end_code}
 use Rattle.pc_tasks.specs.Drawn.{after_links, drawn_event, link, task_act, task_acts, task_events}
@@ -63,7 +63,7 @@ abbrev no_task : TaskCard
 no_task = record { row = 0; code = []; item = []; opt = 0; likely = 0; pess = 0; normal = 0; crash = 0; cost = 0; slope = 0; title = [] }
 
 -- the two events of the next task
-pub put_events : (tasks : List TaskCard) (front now : List EventCard) (i : ℕ) (begin end : EventCard) → i < length tasks → now ≡ front ++ task_events 0 (take i tasks) → begin ≡ drawn_event (begin_code i) → end ≡ drawn_event (end_code i) → (now ++ begin ∷ []) ++ end ∷ [] ≡ front ++ task_events 0 (take (i + 1) tasks)
+pub put_events : (tasks : List TaskCard) (front now : List TitledCard) (i : ℕ) (begin end : TitledCard) → i < length tasks → now ≡ front ++ task_events 0 (take i tasks) → begin ≡ drawn_event (begin_code i) → end ≡ drawn_event (end_code i) → (now ++ begin ∷ []) ++ end ∷ [] ≡ front ++ task_events 0 (take (i + 1) tasks)
 put_events tasks front now i begin end inside is begins ends =
     let n : 0 + length (take i tasks) ≡ i = omega (arith, length-take-le i tasks (omega arith)) in
     append_assoc now (begin ∷ []) (end ∷ [])

@@ -8,7 +8,7 @@ use Rattle.pc_arrows.specs.Arrows.{begin_event, end_event, last_event}
 use Rattle.pc_arrows.proofs.Outer.{IsEvent, event_of}
 use Rattle.pc_arrows.proofs.Outer.IsEvent.{at_start, at_begin, at_end, at_last}
 use Rattle.pc_deck.specs.Deck.{Deck, event_codes, event_named}
-use Rattle.pc_deck.specs.declared.kinds.event.EventCard.{EventCard}
+use Rattle.pc_deck.specs.declared.kinds.titled.TitledCard.{TitledCard}
 use Rattle.pc_project.specs.Project.{event_number}
 use Rattle.pc_deck.specs.declared.kinds.task.TaskCard.{TaskCard}
 use Rattle.pc_tasks.specs.Codes.{begin_code, end_code}
@@ -17,7 +17,7 @@ use Rattle.pc_tasks.specs.Known.{CanBeDrawn}
 use Rattle.pc_tasks.proofs.CodeLemmas.{drawn_code-letter, drawn_code-number, given-not_drawn}
 use Rattle.pc_tasks.proofs.PlaceLemmas.{only_place-is}
 
-abbrev code_of : EventCard → List ℕ
+abbrev code_of : TitledCard → List ℕ
 code_of event = event.code
 
 -- the codes of the events of tasks

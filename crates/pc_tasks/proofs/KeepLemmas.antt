@@ -11,7 +11,7 @@ use Rattle.pc_deck.specs.Deck.{Deck}
 use Rattle.pc_deck.specs.Made.{drawn_with}
 use Rattle.pc_deck.specs.Within.{IsWithin, IsWithinLimits}
 use Rattle.pc_deck.specs.declared.kinds.act.ActCard.{ActCard}
-use Rattle.pc_deck.specs.declared.kinds.event.EventCard.{EventCard}
+use Rattle.pc_deck.specs.declared.kinds.titled.TitledCard.{TitledCard}
 use Rattle.pc_deck.specs.declared.kinds.wbs.ItemCard.{ItemCard}
 use Rattle.pc_project.specs.Figures.{IsProjectOfDeck}
 use Rattle.pc_project.specs.Project.{Project, network_of, pieces_in, terms_in}
@@ -25,13 +25,13 @@ use Rattle.pc_tasks.proofs.KnownLemmas.{can_be_drawn}
 use Rattle.pc_tasks.proofs.WithinLemmas.{drawn-within}
 
 -- the plan of these lists
-pub made-drawn : (deck : Deck) (items : List ItemCard) (events : List EventCard) (acts : List ActCard) → items ≡ deck.items ++ links_item deck ∷ [] → events ≡ events_of deck → acts ≡ task_acts 0 deck.tasks ++ links_of deck → drawn_with deck items events acts ≡ drawn deck
+pub made-drawn : (deck : Deck) (items : List ItemCard) (events : List TitledCard) (acts : List ActCard) → items ≡ deck.items ++ links_item deck ∷ [] → events ≡ events_of deck → acts ≡ task_acts 0 deck.tasks ++ links_of deck → drawn_with deck items events acts ≡ drawn deck
 made-drawn deck items events acts same_items same_events same_acts =
     ap (λ i. drawn_with deck i events acts) same_items
     ∙ (ap (λ e. drawn_with deck (deck.items ++ links_item deck ∷ []) e acts) same_events
     ∙ ap (drawn_with deck (deck.items ++ links_item deck ∷ []) (events_of deck)) same_acts)
 
-pub made-within : (deck : Deck) (items : List ItemCard) (events : List EventCard) (acts : List ActCard) → IsWithin Tasks deck → HasNoMisfit deck → items ≡ deck.items ++ links_item deck ∷ [] → events ≡ events_of deck → acts ≡ task_acts 0 deck.tasks ++ links_of deck → IsWithinLimits (drawn_with deck items events acts)
+pub made-within : (deck : Deck) (items : List ItemCard) (events : List TitledCard) (acts : List ActCard) → IsWithin Tasks deck → HasNoMisfit deck → items ≡ deck.items ++ links_item deck ∷ [] → events ≡ events_of deck → acts ≡ task_acts 0 deck.tasks ++ links_of deck → IsWithinLimits (drawn_with deck items events acts)
 made-within deck items events acts within none same_items same_events same_acts =
     subst IsWithinLimits (sym (made-drawn deck items events acts same_items same_events same_acts)) (drawn-within deck within (can_be_drawn deck none within))
 

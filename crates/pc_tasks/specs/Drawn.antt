@@ -6,23 +6,23 @@ use Rattle.pc_arrows.specs.declared.AfterRow.{AfterRow}
 use Rattle.pc_deck.specs.Deck.{Deck}
 use Rattle.pc_deck.specs.Made.{drawn_with}
 use Rattle.pc_deck.specs.declared.kinds.act.ActCard.{ActCard}
-use Rattle.pc_deck.specs.declared.kinds.event.EventCard.{EventCard}
+use Rattle.pc_deck.specs.declared.kinds.titled.TitledCard.{TitledCard}
 use Rattle.pc_deck.specs.declared.kinds.wbs.ItemCard.{ItemCard}
 use Rattle.pc_deck.specs.declared.kinds.task.TaskCard.{TaskCard}
 use Rattle.pc_tasks.specs.Codes.{begin_code, end_code, after_code, first_code, last_code, links_code}
 use Rattle.pc_tasks.specs.Lists.{afters_in}
 
 -- an event without a title; it stands on no card
-abbrev pub drawn_event : List ℕ → EventCard
+abbrev pub drawn_event : List ℕ → TitledCard
 drawn_event code = record { row = 0; code = code; title = [] }
 
 -- two events for each task, the first of which has number i: where it begins and where it ends
-abbrev pub task_events : ℕ → List TaskCard → List EventCard
+abbrev pub task_events : ℕ → List TaskCard → List TitledCard
 task_events i [] = []
 task_events i (task ∷ tasks) = drawn_event (begin_code i) ∷ drawn_event (end_code i) ∷ task_events (i + 1) tasks
 
 -- the start, the events of the tasks, and the end
-abbrev pub events_of : Deck → List EventCard
+abbrev pub events_of : Deck → List TitledCard
 events_of deck = drawn_event deck.project.start ∷ (task_events 0 deck.tasks ++ drawn_event deck.project.end ∷ [])
 
 -- the activity of a task: it has the task's code, item, numbers and title

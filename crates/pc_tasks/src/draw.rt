@@ -7,7 +7,7 @@ ghost use Rattle.pc_tasks.specs.Lists.{afters_in};
 use crate::codes::{after_code, begin_code, end_code, first_code, last_code, links_code, no_title};
 use crate::links::{firsts, lasts};
 use pc_arrows::AfterRow;
-use pc_deck::{ActCard, EventCard, ItemCard, TaskCard, TaskCards};
+use pc_deck::{ActCard, ItemCard, TaskCard, TaskCards, TitledCard};
 use pc_text::Code;
 use std::alloc::{AllocError, Global};
 
@@ -36,7 +36,7 @@ fn top_code(cards: &TaskCards) -> Option<Code>
 }
 
 /// The start, two events for each task, and the end.
-pub(crate) fn events_of(alloc: Global, cards: &TaskCards) -> Result<Vec<EventCard>, AllocError>
+pub(crate) fn events_of(alloc: Global, cards: &TaskCards) -> Result<Vec<TitledCard>, AllocError>
     ensures { IfOk result (λ events. events.items ≡ events_of cards.now) }
 {
     let tasks = cards.tasks().len() as u32;
@@ -51,10 +51,10 @@ pub(crate) fn events_of(alloc: Global, cards: &TaskCards) -> Result<Vec<EventCar
 }
 
 /// An event without a title.
-fn drawn_event(code: Code) -> EventCard
+fn drawn_event(code: Code) -> TitledCard
     ensures { result ≡ drawn_event code }
 {
-    EventCard {
+    TitledCard {
         row: 0,
         code,
         title: no_title(),

@@ -2,7 +2,6 @@
 ghost use Rattle.std.specs.Prelude.{refl};
 ghost use Rattle.pc_deck.specs.Acct.{account_slots, account_of, written_account};
 
-use crate::cards::Cards;
 use pc_cards::card::{Card, Coded, Layout};
 use pc_cards::field::{Misfit, read_amount, read_code, read_title};
 use pc_cards::form::{Form, MONEY, Slot};
@@ -14,7 +13,7 @@ use pc_text::{Code, Title, digits};
 use std::alloc::AllocError;
 
 /// An ACCT card: a cost account of an item, with its budget.
-#[derive(Clone, Copy, Debug)]
+#[derive(Clone, Copy)]
 pub struct AcctCard {
     pub row: u32,
     pub code: Code,
@@ -59,15 +58,13 @@ impl Card for AcctCard {
         })
     }
 
-    fn put(&self, kind: Kind, text: &mut RowWriter) -> Result<(), AllocError> {
-        // A copy, so that all that is lent below lives equally long.
-        let card = *self;
+    fn put(self, kind: Kind, text: &mut RowWriter) -> Result<(), AllocError> {
         text.put(&[
             kind.word(),
-            card.code.bytes(),
-            card.item.bytes(),
-            digits(card.budget).bytes(),
-            card.title.bytes(),
+            self.code.bytes(),
+            self.item.bytes(),
+            digits(self.budget).bytes(),
+            self.title.bytes(),
         ])
     }
 }
@@ -80,17 +77,4 @@ impl Coded for AcctCard {
     }
 
     ghost second_field = { λ row fields. refl };
-}
-
-impl Cards {
-    ghost use Rattle.std.specs.Prelude.{◌≡◌};
-    ghost use Rattle.pc_deck.specs.Within.{IsWithinLimits};
-
-    /// The ACCT cards.
-    pub fn accounts(&self) -> &[AcctCard]
-        ensures cards { result.now ≡ self.now.accounts }
-        ensures within { IsWithinLimits self.now }
-    {
-        self.deck.lists.accounts.as_slice()
-    }
 }

@@ -2,10 +2,9 @@
 ghost use Rattle.std.specs.Prelude.{refl};
 ghost use Rattle.pc_deck.specs.Act.{act_slots, act_of, written_act};
 
-use crate::cards::Cards;
 use pc_cards::card::{Card, Coded, Layout};
 use pc_cards::field::{Misfit, read_amount, read_code, read_title};
-use pc_cards::form::{DURATION, Form, MONEY, Slot};
+use pc_cards::form::{DURATION, Form, MONEY, SLOPE, Slot};
 use pc_cards::sort::Sort;
 use pc_faults::Kind;
 use pc_model::{MAX_COST, MAX_DURATION, MAX_SLOPE};
@@ -14,7 +13,7 @@ use pc_text::{Code, Title, digits};
 use std::alloc::AllocError;
 
 /// An ACT card: an activity, with its estimates and durations in units and its costs.
-#[derive(Clone, Copy, Debug)]
+#[derive(Clone, Copy)]
 pub struct ActCard {
     pub row: u32,
     pub code: Code,
@@ -30,11 +29,6 @@ pub struct ActCard {
     pub slope: u64,
     pub title: Title,
 }
-
-const SLOPE: Form = Form::Number {
-    least: 0,
-    most: MAX_SLOPE,
-};
 
 const SLOTS: [Slot; 12] = [
     (2, Form::Code),
@@ -88,23 +82,21 @@ impl Card for ActCard {
         })
     }
 
-    fn put(&self, kind: Kind, text: &mut RowWriter) -> Result<(), AllocError> {
-        // A copy, so that all that is lent below lives equally long.
-        let card = *self;
+    fn put(self, kind: Kind, text: &mut RowWriter) -> Result<(), AllocError> {
         text.put(&[
             kind.word(),
-            card.code.bytes(),
-            card.from.bytes(),
-            card.to.bytes(),
-            card.item.bytes(),
-            digits(card.opt).bytes(),
-            digits(card.likely).bytes(),
-            digits(card.pess).bytes(),
-            digits(card.normal).bytes(),
-            digits(card.crash).bytes(),
-            digits(card.cost).bytes(),
-            digits(card.slope).bytes(),
-            card.title.bytes(),
+            self.code.bytes(),
+            self.from.bytes(),
+            self.to.bytes(),
+            self.item.bytes(),
+            digits(self.opt).bytes(),
+            digits(self.likely).bytes(),
+            digits(self.pess).bytes(),
+            digits(self.normal).bytes(),
+            digits(self.crash).bytes(),
+            digits(self.cost).bytes(),
+            digits(self.slope).bytes(),
+            self.title.bytes(),
         ])
     }
 }
@@ -117,19 +109,4 @@ impl Coded for ActCard {
     }
 
     ghost second_field = { λ row fields. refl };
-}
-
-impl Cards {
-    ghost use Rattle.std.specs.Prelude.{◌≡◌, ◌≤◌, length};
-    ghost use Rattle.pc_model.specs.declared.limits.TheConstants.{MAX_ACTIVITIES};
-    ghost use Rattle.pc_deck.specs.Within.{IsWithinLimits};
-
-    /// The ACT cards.
-    pub fn acts(&self) -> &[ActCard]
-        ensures cards { result.now ≡ self.now.acts }
-        ensures few { length result.now ≤ MAX_ACTIVITIES }
-        ensures within { IsWithinLimits self.now }
-    {
-        self.deck.lists.acts.as_slice()
-    }
 }

@@ -11,7 +11,7 @@ use pc_text::Code;
 use std::alloc::AllocError;
 
 /// An AFTER card: the task begins only when the one before has ended.
-#[derive(Clone, Copy, Debug)]
+#[derive(Clone, Copy)]
 pub struct AfterCard {
     pub row: u32,
     pub task: Code,
@@ -47,9 +47,7 @@ impl Card for AfterCard {
         })
     }
 
-    fn put(&self, kind: Kind, text: &mut RowWriter) -> Result<(), AllocError> {
-        // A copy, so that all that is lent below lives equally long.
-        let card = *self;
-        text.put(&[kind.word(), card.task.bytes(), card.before.bytes()])
+    fn put(self, kind: Kind, text: &mut RowWriter) -> Result<(), AllocError> {
+        text.put(&[kind.word(), self.task.bytes(), self.before.bytes()])
     }
 }

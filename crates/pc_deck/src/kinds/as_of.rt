@@ -1,7 +1,6 @@
 //! ASOF: the day that the figures are of.
 ghost use Rattle.pc_deck.specs.AsOf.{as_of_slots, as_of_of, written_as_of};
 
-use crate::cards::Cards;
 use pc_cards::card::{Card, Layout};
 use pc_cards::field::{Misfit, read_date};
 use pc_cards::form::{Form, Slot};
@@ -12,7 +11,7 @@ use pc_records::{Row, RowWriter};
 use std::alloc::AllocError;
 
 /// The ASOF card: the day that the figures are of.
-#[derive(Clone, Copy, Debug)]
+#[derive(Clone, Copy)]
 pub struct AsOfCard {
     pub row: u32,
     pub day: Day,
@@ -46,23 +45,8 @@ impl Card for AsOfCard {
         })
     }
 
-    fn put(&self, kind: Kind, text: &mut RowWriter) -> Result<(), AllocError> {
-        // A copy, so that all that is lent below lives equally long.
-        let card = *self;
-        let day = day_text(card.day);
+    fn put(self, kind: Kind, text: &mut RowWriter) -> Result<(), AllocError> {
+        let day = day_text(self.day);
         text.put(&[kind.word(), day.as_slice()])
-    }
-}
-
-impl Cards {
-    ghost use Rattle.std.specs.Prelude.{◌≡◌};
-    ghost use Rattle.pc_deck.specs.Within.{IsWithinLimits};
-
-    /// The ASOF card, where there is one.
-    pub fn as_of(&self) -> Option<AsOfCard>
-        ensures card { result ≡ self.now.as_of }
-        ensures within { IsWithinLimits self.now }
-    {
-        self.deck.lists.as_of.get()
     }
 }

@@ -1,7 +1,6 @@
 //! LOAD: what an activity uses of a resource.
 ghost use Rattle.pc_deck.specs.Load.{load_slots, load_of, written_load};
 
-use crate::cards::Cards;
 use pc_cards::card::{Card, Layout};
 use pc_cards::field::{Misfit, read_amount, read_code};
 use pc_cards::form::{Form, MONEY, Slot};
@@ -13,7 +12,7 @@ use pc_text::{Code, digits};
 use std::alloc::AllocError;
 
 /// A LOAD card: how much of a resource an activity uses.
-#[derive(Clone, Copy, Debug)]
+#[derive(Clone, Copy)]
 pub struct LoadCard {
     pub row: u32,
     pub activity: Code,
@@ -51,27 +50,12 @@ impl Card for LoadCard {
         })
     }
 
-    fn put(&self, kind: Kind, text: &mut RowWriter) -> Result<(), AllocError> {
-        // A copy, so that all that is lent below lives equally long.
-        let card = *self;
+    fn put(self, kind: Kind, text: &mut RowWriter) -> Result<(), AllocError> {
         text.put(&[
             kind.word(),
-            card.activity.bytes(),
-            card.resource.bytes(),
-            digits(card.quantity).bytes(),
+            self.activity.bytes(),
+            self.resource.bytes(),
+            digits(self.quantity).bytes(),
         ])
-    }
-}
-
-impl Cards {
-    ghost use Rattle.std.specs.Prelude.{◌≡◌};
-    ghost use Rattle.pc_deck.specs.Within.{IsWithinLimits};
-
-    /// The LOAD cards.
-    pub fn loads(&self) -> &[LoadCard]
-        ensures cards { result.now ≡ self.now.loads }
-        ensures within { IsWithinLimits self.now }
-    {
-        self.deck.lists.loads.as_slice()
     }
 }

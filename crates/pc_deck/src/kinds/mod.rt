@@ -1,15 +1,15 @@
-//! The kinds of cards, a file for each, and the table of them: the word of each kind, its list, and its limit in decks of each
-//! sort.
+//! The kinds of cards, a file for each or for two whose cards have the same fields, and the table of them: the word of each kind,
+//! its list, and its limit in decks of each sort.
 ghost use Rattle.std.specs.Prelude.{◌≡◌, None, Some, OnOk, IfErr};
-ghost use Rattle.pc_cards.specs.declared.sort.Sort.TheVariants as sorts;
 ghost use Rattle.pc_faults.specs.First.{Refuses};
-ghost use Rattle.pc_deck.specs.Kinds.{kind_of, limit_of};
+ghost use Rattle.pc_deck.specs.Kinds.{kind_of, kind_among, first_kinds, work_kinds, further_kinds, limit_of};
 
 use crate::draft::Draft;
 use crate::limits::{
     MAX_AFTERS, MAX_TASK_ITEMS, MAX_TASKS, SMALL_ACTIVITIES, SMALL_CHARGES, SMALL_EVENTS,
-    SMALL_PIECES, SMALL_STATUSES, by_version,
+    SMALL_PIECES, SMALL_STATUSES,
 };
+use pc_cards::entry::{by_sort, by_version};
 use pc_cards::lists::{Listed, Named, Once};
 use pc_cards::place::Place;
 use pc_cards::sort::Sort;
@@ -25,30 +25,28 @@ mod acct;
 mod act;
 mod after;
 mod as_of;
-mod event;
 mod load;
 mod money;
 mod piece;
 mod project;
-mod res;
 mod status;
 mod task;
 mod terms;
+mod titled;
 mod wbs;
 
 pub use acct::AcctCard;
 pub use act::ActCard;
 pub use after::AfterCard;
 pub use as_of::AsOfCard;
-pub use event::EventCard;
 pub use load::LoadCard;
 pub use money::MoneyCard;
 pub use piece::PieceCard;
 pub use project::ProjectCard;
-pub use res::ResCard;
 pub use status::StatusCard;
 pub use task::TaskCard;
 pub use terms::TermsCard;
+pub use titled::TitledCard;
 pub use wbs::ItemCard;
 
 /// The cards of a deck by kind, but for its PROJECT card. Those of a kind that the deck's sort has not are none.
@@ -56,7 +54,7 @@ pub struct CardLists {
     pub as_of: Once<AsOfCard>,
     pub terms: Once<TermsCard>,
     pub items: Named<ItemCard>,
-    pub events: Named<EventCard>,
+    pub events: Named<TitledCard>,
     pub acts: Named<ActCard>,
     pub tasks: Named<TaskCard>,
     pub afters: Listed<AfterCard>,
@@ -65,7 +63,7 @@ pub struct CardLists {
     pub charges: Listed<MoneyCard>,
     pub togos: Listed<MoneyCard>,
     pub statuses: Listed<StatusCard>,
-    pub resources: Named<ResCard>,
+    pub resources: Named<TitledCard>,
     pub loads: Listed<LoadCard>,
 }
 
@@ -153,29 +151,50 @@ impl Draft {
 pub fn kind_of(sort: Sort, field: &[u8]) -> Option<Kind>
     ensures { result ≡ kind_of sort field.now }
 {
+    if let Some(kind) = first_kind(field) {
+        return Some(kind);
+    }
+    if let Some(kind) = work_kind(sort, field) {
+        return Some(kind);
+    }
+    further_kind(field)
+}
+
+/// The kind that a field names, of those that come first in decks of both sorts.
+fn first_kind(field: &[u8]) -> Option<Kind>
+    ensures { result ≡ kind_among first_kinds field.now }
+{
+    if field == b"PROJECT".as_slice() {
+        Some(Kind::Project)
+    } else if field == b"ASOF".as_slice() {
+        Some(Kind::AsOf)
+    } else if field == b"TERMS".as_slice() {
+        Some(Kind::Terms)
+    } else if field == b"WBS".as_slice() {
+        Some(Kind::Wbs)
+    } else {
+        None
+    }
+}
+
+/// The kind that a field names, of those that only decks of the sort have.
+fn work_kind(sort: Sort, field: &[u8]) -> Option<Kind>
+    ensures { result ≡ kind_among (work_kinds sort) field.now }
+{
     match sort {
-        Sort::Plan => plan_kind(field),
-        Sort::Tasks => task_kind(field),
+        Sort::Plan if field == b"EVENT".as_slice() => Some(Kind::Event),
+        Sort::Plan if field == b"ACT".as_slice() => Some(Kind::Act),
+        Sort::Tasks if field == b"TASK".as_slice() => Some(Kind::Task),
+        Sort::Tasks if field == b"AFTER".as_slice() => Some(Kind::After),
+        _ => None,
     }
 }
 
-/// The kind of cards of a plan.
-fn plan_kind(field: &[u8]) -> Option<Kind>
-    ensures { result ≡ kind_of sorts.Plan field.now }
+/// The kind that a field names, of those that come behind these in decks of both sorts.
+fn further_kind(field: &[u8]) -> Option<Kind>
+    ensures { result ≡ kind_among further_kinds field.now }
 {
-    if field == b"PROJECT".as_slice() {
-        Some(Kind::Project)
-    } else if field == b"ASOF".as_slice() {
-        Some(Kind::AsOf)
-    } else if field == b"TERMS".as_slice() {
-        Some(Kind::Terms)
-    } else if field == b"WBS".as_slice() {
-        Some(Kind::Wbs)
-    } else if field == b"EVENT".as_slice() {
-        Some(Kind::Event)
-    } else if field == b"ACT".as_slice() {
-        Some(Kind::Act)
-    } else if field == b"PIECE".as_slice() {
+    if field == b"PIECE".as_slice() {
         Some(Kind::Piece)
     } else if field == b"ACCT".as_slice() {
         Some(Kind::Acct)
@@ -196,61 +215,25 @@ fn plan_kind(field: &[u8]) -> Option<Kind>
     }
 }
 
-/// The kind of cards of a deck of tasks.
-fn task_kind(field: &[u8]) -> Option<Kind>
-    ensures { result ≡ kind_of sorts.Tasks field.now }
-{
-    if field == b"PROJECT".as_slice() {
-        Some(Kind::Project)
-    } else if field == b"ASOF".as_slice() {
-        Some(Kind::AsOf)
-    } else if field == b"TERMS".as_slice() {
-        Some(Kind::Terms)
-    } else if field == b"WBS".as_slice() {
-        Some(Kind::Wbs)
-    } else if field == b"TASK".as_slice() {
-        Some(Kind::Task)
-    } else if field == b"AFTER".as_slice() {
-        Some(Kind::After)
-    } else if field == b"PIECE".as_slice() {
-        Some(Kind::Piece)
-    } else if field == b"ACCT".as_slice() {
-        Some(Kind::Acct)
-    } else if field == b"CHARGE".as_slice() {
-        Some(Kind::Charge)
-    } else if field == b"TOGO".as_slice() {
-        Some(Kind::ToGo)
-    } else if field == b"STATUS".as_slice() {
-        Some(Kind::Status)
-    } else if field == b"RES".as_slice() {
-        Some(Kind::Res)
-    } else if field == b"LOAD".as_slice() {
-        Some(Kind::Load)
-    } else if field == b"END".as_slice() {
-        Some(Kind::End)
-    } else {
-        None
-    }
-}
-
-/// How many cards of the kind a deck of the sort and version may have, where that is a limit of its own.
+/// How many cards of the kind a deck of the sort and version may have, where that is a limit of its own. Of a kind that the
+/// sort has not, it may have none; and a deck of tasks is of version 2, whatever it says.
 pub fn limit_of(sort: Sort, version: u64, kind: Kind) -> Option<usize>
     ensures { result ≡ limit_of sort version kind }
 {
-    match sort {
-        Sort::Plan => plan_limit(version, kind),
-        Sort::Tasks => task_limit(kind),
-    }
-}
-
-/// The limit of a plan of the version.
-fn plan_limit(version: u64, kind: Kind) -> Option<usize>
-    ensures { result ≡ limit_of sorts.Plan version kind }
-{
+    let version = match sort {
+        Sort::Plan => version,
+        Sort::Tasks => 2,
+    };
     let limit = match kind {
-        Kind::Wbs => MAX_ITEMS,
-        Kind::Event => by_version(version, SMALL_EVENTS, MAX_EVENTS),
-        Kind::Act => by_version(version, SMALL_ACTIVITIES, MAX_ACTIVITIES),
+        Kind::Wbs => by_sort(sort, MAX_ITEMS, MAX_TASK_ITEMS),
+        Kind::Event => by_sort(sort, by_version(version, SMALL_EVENTS, MAX_EVENTS), 0),
+        Kind::Act => by_sort(
+            sort,
+            by_version(version, SMALL_ACTIVITIES, MAX_ACTIVITIES),
+            0,
+        ),
+        Kind::Task => by_sort(sort, 0, MAX_TASKS),
+        Kind::After => by_sort(sort, 0, MAX_AFTERS),
         Kind::Piece => by_version(version, SMALL_PIECES, MAX_PIECES),
         Kind::Acct => MAX_ACCOUNTS,
         Kind::Charge => by_version(version, SMALL_CHARGES, MAX_CHARGES),
@@ -258,28 +241,6 @@ fn plan_limit(version: u64, kind: Kind) -> Option<usize>
         Kind::Status => by_version(version, SMALL_STATUSES, MAX_STATUSES),
         Kind::Res => MAX_RESOURCES,
         Kind::Load => MAX_LOADS,
-        Kind::Task | Kind::After => 0,
-        Kind::Project | Kind::AsOf | Kind::Terms | Kind::End => return None,
-    };
-    Some(limit as usize)
-}
-
-/// The limit of a deck of tasks, whatever version it says it is of.
-fn task_limit(kind: Kind) -> Option<usize>
-    ensures { result ≡ limit_of sorts.Tasks 2 kind }
-{
-    let limit = match kind {
-        Kind::Wbs => MAX_TASK_ITEMS,
-        Kind::Task => MAX_TASKS,
-        Kind::After => MAX_AFTERS,
-        Kind::Piece => MAX_PIECES,
-        Kind::Acct => MAX_ACCOUNTS,
-        Kind::Charge => MAX_CHARGES,
-        Kind::ToGo => MAX_TOGOS,
-        Kind::Status => MAX_STATUSES,
-        Kind::Res => MAX_RESOURCES,
-        Kind::Load => MAX_LOADS,
-        Kind::Event | Kind::Act => 0,
         Kind::Project | Kind::AsOf | Kind::Terms | Kind::End => return None,
     };
     Some(limit as usize)

@@ -1,7 +1,6 @@
 //! CHARGE and TOGO: amounts of money, spent or still to be spent.
 ghost use Rattle.pc_deck.specs.Money.{money_slots, money_of, written_money};
 
-use crate::cards::Cards;
 use pc_cards::card::{Card, Layout};
 use pc_cards::field::{Misfit, read_amount, read_code, read_date};
 use pc_cards::form::{Form, MONEY, Slot};
@@ -14,7 +13,7 @@ use pc_text::{Code, digits};
 use std::alloc::AllocError;
 
 /// A CHARGE or a TOGO card: an amount of money, spent or still to be spent.
-#[derive(Clone, Copy, Debug)]
+#[derive(Clone, Copy)]
 pub struct MoneyCard {
     pub row: u32,
     pub account: Code,
@@ -52,36 +51,13 @@ impl Card for MoneyCard {
         })
     }
 
-    fn put(&self, kind: Kind, text: &mut RowWriter) -> Result<(), AllocError> {
-        // A copy, so that all that is lent below lives equally long.
-        let card = *self;
-        let day = day_text(card.day);
+    fn put(self, kind: Kind, text: &mut RowWriter) -> Result<(), AllocError> {
+        let day = day_text(self.day);
         text.put(&[
             kind.word(),
-            card.account.bytes(),
+            self.account.bytes(),
             day.as_slice(),
-            digits(card.amount).bytes(),
+            digits(self.amount).bytes(),
         ])
-    }
-}
-
-impl Cards {
-    ghost use Rattle.std.specs.Prelude.{◌≡◌};
-    ghost use Rattle.pc_deck.specs.Within.{IsWithinLimits};
-
-    /// The CHARGE cards.
-    pub fn charges(&self) -> &[MoneyCard]
-        ensures cards { result.now ≡ self.now.charges }
-        ensures within { IsWithinLimits self.now }
-    {
-        self.deck.lists.charges.as_slice()
-    }
-
-    /// The TOGO cards.
-    pub fn togos(&self) -> &[MoneyCard]
-        ensures cards { result.now ≡ self.now.togos }
-        ensures within { IsWithinLimits self.now }
-    {
-        self.deck.lists.togos.as_slice()
     }
 }

@@ -1,10 +1,9 @@
 //! PIECE: a further piece of an activity's cost.
 ghost use Rattle.pc_deck.specs.Piece.{piece_slots, piece_of, written_piece};
 
-use crate::cards::Cards;
 use pc_cards::card::{Card, Layout};
 use pc_cards::field::{Misfit, read_amount, read_code};
-use pc_cards::form::{Form, Slot};
+use pc_cards::form::{Form, SLOPE, Slot};
 use pc_cards::sort::Sort;
 use pc_faults::Kind;
 use pc_model::{MAX_DURATION, MAX_SLOPE};
@@ -14,7 +13,7 @@ use std::alloc::AllocError;
 
 /// A PIECE card: a further piece of an activity's cost. Behind the slope of the ACT card, so many units cost this much
 /// each to be taken off.
-#[derive(Clone, Copy, Debug)]
+#[derive(Clone, Copy)]
 pub struct PieceCard {
     pub row: u32,
     pub activity: Code,
@@ -25,11 +24,6 @@ pub struct PieceCard {
 const UNITS: Form = Form::Number {
     least: 1,
     most: MAX_DURATION,
-};
-
-const SLOPE: Form = Form::Number {
-    least: 0,
-    most: MAX_SLOPE,
 };
 
 const SLOTS: [Slot; 3] = [(2, Form::Code), (3, UNITS), (4, SLOPE)];
@@ -62,27 +56,12 @@ impl Card for PieceCard {
         })
     }
 
-    fn put(&self, kind: Kind, text: &mut RowWriter) -> Result<(), AllocError> {
-        // A copy, so that all that is lent below lives equally long.
-        let card = *self;
+    fn put(self, kind: Kind, text: &mut RowWriter) -> Result<(), AllocError> {
         text.put(&[
             kind.word(),
-            card.activity.bytes(),
-            digits(card.units).bytes(),
-            digits(card.slope).bytes(),
+            self.activity.bytes(),
+            digits(self.units).bytes(),
+            digits(self.slope).bytes(),
         ])
-    }
-}
-
-impl Cards {
-    ghost use Rattle.std.specs.Prelude.{◌≡◌};
-    ghost use Rattle.pc_deck.specs.Within.{IsWithinLimits};
-
-    /// The PIECE cards.
-    pub fn pieces(&self) -> &[PieceCard]
-        ensures cards { result.now ≡ self.now.pieces }
-        ensures within { IsWithinLimits self.now }
-    {
-        self.deck.lists.pieces.as_slice()
     }
 }

@@ -16,7 +16,7 @@ use pc_text::{Code, Title, digits};
 use std::alloc::AllocError;
 
 /// The PROJECT card: what the project is called, where it starts and ends, and when.
-#[derive(Clone, Copy, Debug)]
+#[derive(Clone, Copy)]
 pub struct ProjectCard {
     /// The record's number, from 1.
     pub row: u32,
@@ -111,21 +111,19 @@ impl Card for ProjectCard {
         })
     }
 
-    fn put(&self, kind: Kind, text: &mut RowWriter) -> Result<(), AllocError> {
-        // A copy, so that all that is lent below lives equally long.
-        let card = *self;
-        let start_day = day_text(card.start_day);
-        let days = digits(card.directed.unwrap_or(0));
+    fn put(self, kind: Kind, text: &mut RowWriter) -> Result<(), AllocError> {
+        let start_day = day_text(self.start_day);
+        let days = digits(self.directed.unwrap_or(0));
         text.put(&[
             kind.word(),
-            card.code.bytes(),
-            card.start.bytes(),
-            card.end.bytes(),
+            self.code.bytes(),
+            self.start.bytes(),
+            self.end.bytes(),
             start_day.as_slice(),
-            digits(card.unit_days).bytes(),
-            where_so(card.directed.is_some(), days.bytes()),
-            card.title.bytes(),
-            digits(card.version).bytes(),
+            digits(self.unit_days).bytes(),
+            where_so(self.directed.is_some(), days.bytes()),
+            self.title.bytes(),
+            digits(self.version).bytes(),
         ])
     }
 }

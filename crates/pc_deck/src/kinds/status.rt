@@ -3,7 +3,6 @@ ghost use Rattle.std.specs.Prelude.{◌≡◌};
 ghost use Rattle.pc_cards.specs.Forms.{letter_text};
 ghost use Rattle.pc_deck.specs.Status.{status_slots, status_of, written_status};
 
-use crate::cards::Cards;
 use pc_cards::card::{Card, Layout};
 use pc_cards::field::{Misfit, read_code, read_date, read_letter};
 use pc_cards::form::{Form, Slot};
@@ -15,7 +14,7 @@ use pc_text::Code;
 use std::alloc::AllocError;
 
 /// A STATUS card: when an activity was begun or, where `finished`, ended.
-#[derive(Clone, Copy, Debug)]
+#[derive(Clone, Copy)]
 pub struct StatusCard {
     pub row: u32,
     pub activity: Code,
@@ -53,14 +52,12 @@ impl Card for StatusCard {
         })
     }
 
-    fn put(&self, kind: Kind, text: &mut RowWriter) -> Result<(), AllocError> {
-        // A copy, so that all that is lent below lives equally long.
-        let card = *self;
-        let day = day_text(card.day);
+    fn put(self, kind: Kind, text: &mut RowWriter) -> Result<(), AllocError> {
+        let day = day_text(self.day);
         text.put(&[
             kind.word(),
-            card.activity.bytes(),
-            letter(card.finished),
+            self.activity.bytes(),
+            letter(self.finished),
             day.as_slice(),
         ])
     }
@@ -71,17 +68,4 @@ fn letter(finished: bool) -> &'static [u8]
     ensures { result.now ≡ letter_text finished }
 {
     if finished { b"F" } else { b"S" }
-}
-
-impl Cards {
-    ghost use Rattle.std.specs.Prelude.{◌≡◌};
-    ghost use Rattle.pc_deck.specs.Within.{IsWithinLimits};
-
-    /// The STATUS cards.
-    pub fn statuses(&self) -> &[StatusCard]
-        ensures cards { result.now ≡ self.now.statuses }
-        ensures within { IsWithinLimits self.now }
-    {
-        self.deck.lists.statuses.as_slice()
-    }
 }

@@ -4,7 +4,7 @@ ghost use Rattle.pc_deck.specs.Task.{task_slots, task_of, written_task};
 
 use pc_cards::card::{Card, Coded, Layout};
 use pc_cards::field::{Misfit, read_amount, read_code, read_given_code, read_title};
-use pc_cards::form::{DURATION, Form, MONEY, Slot};
+use pc_cards::form::{DURATION, Form, MONEY, SLOPE, Slot};
 use pc_cards::sort::Sort;
 use pc_faults::Kind;
 use pc_model::{MAX_COST, MAX_DURATION, MAX_SLOPE};
@@ -13,7 +13,7 @@ use pc_text::{Code, Title, digits};
 use std::alloc::AllocError;
 
 /// A TASK card: a task, with its estimates and durations in units and its costs. It is what an activity is, but for the events.
-#[derive(Clone, Copy, Debug)]
+#[derive(Clone, Copy)]
 pub struct TaskCard {
     pub row: u32,
     pub code: Code,
@@ -27,11 +27,6 @@ pub struct TaskCard {
     pub slope: u64,
     pub title: Title,
 }
-
-const SLOPE: Form = Form::Number {
-    least: 0,
-    most: MAX_SLOPE,
-};
 
 const SLOTS: [Slot; 10] = [
     (2, Form::GivenCode),
@@ -81,21 +76,19 @@ impl Card for TaskCard {
         })
     }
 
-    fn put(&self, kind: Kind, text: &mut RowWriter) -> Result<(), AllocError> {
-        // A copy, so that all that is lent below lives equally long.
-        let card = *self;
+    fn put(self, kind: Kind, text: &mut RowWriter) -> Result<(), AllocError> {
         text.put(&[
             kind.word(),
-            card.code.bytes(),
-            card.item.bytes(),
-            digits(card.opt).bytes(),
-            digits(card.likely).bytes(),
-            digits(card.pess).bytes(),
-            digits(card.normal).bytes(),
-            digits(card.crash).bytes(),
-            digits(card.cost).bytes(),
-            digits(card.slope).bytes(),
-            card.title.bytes(),
+            self.code.bytes(),
+            self.item.bytes(),
+            digits(self.opt).bytes(),
+            digits(self.likely).bytes(),
+            digits(self.pess).bytes(),
+            digits(self.normal).bytes(),
+            digits(self.crash).bytes(),
+            digits(self.cost).bytes(),
+            digits(self.slope).bytes(),
+            self.title.bytes(),
         ])
     }
 }

@@ -1,7 +1,6 @@
 //! TERMS: what time costs.
 ghost use Rattle.pc_deck.specs.Terms.{terms_slots, terms_of, written_terms};
 
-use crate::cards::Cards;
 use pc_cards::card::{Card, Layout};
 use pc_cards::field::{Misfit, read_amount};
 use pc_cards::form::{Form, Slot};
@@ -14,7 +13,7 @@ use std::alloc::AllocError;
 
 /// The TERMS card: what a unit of time costs, and what is paid for an early end or for a late one, in amounts of money
 /// for each unit.
-#[derive(Clone, Copy, Debug)]
+#[derive(Clone, Copy)]
 pub struct TermsCard {
     pub row: u32,
     /// What each unit of the project's length costs.
@@ -64,28 +63,13 @@ impl Card for TermsCard {
         })
     }
 
-    fn put(&self, kind: Kind, text: &mut RowWriter) -> Result<(), AllocError> {
-        // A copy, so that all that is lent below lives equally long.
-        let card = *self;
+    fn put(self, kind: Kind, text: &mut RowWriter) -> Result<(), AllocError> {
         text.put(&[
             kind.word(),
-            digits(card.overhead).bytes(),
-            digits(card.target).bytes(),
-            digits(card.bonus).bytes(),
-            digits(card.penalty).bytes(),
+            digits(self.overhead).bytes(),
+            digits(self.target).bytes(),
+            digits(self.bonus).bytes(),
+            digits(self.penalty).bytes(),
         ])
-    }
-}
-
-impl Cards {
-    ghost use Rattle.std.specs.Prelude.{◌≡◌};
-    ghost use Rattle.pc_deck.specs.Within.{IsWithinLimits};
-
-    /// The TERMS card, where there is one.
-    pub fn terms(&self) -> Option<TermsCard>
-        ensures terms { result ≡ self.now.terms }
-        ensures within { IsWithinLimits self.now }
-    {
-        self.deck.lists.terms.get()
     }
 }

@@ -2,7 +2,6 @@
 ghost use Rattle.std.specs.Prelude.{refl};
 ghost use Rattle.pc_deck.specs.Wbs.{item_slots, item_of, written_item};
 
-use crate::cards::Cards;
 use pc_cards::card::{Card, Coded, Layout};
 use pc_cards::field::{Misfit, read_code_or_none, read_own_code, read_title};
 use pc_cards::form::{Form, Slot};
@@ -13,7 +12,7 @@ use pc_text::{Code, Title};
 use std::alloc::AllocError;
 
 /// A WBS card: an item of the work breakdown structure. The top item has no parent.
-#[derive(Clone, Copy, Debug)]
+#[derive(Clone, Copy)]
 pub struct ItemCard {
     pub row: u32,
     pub code: Code,
@@ -62,14 +61,12 @@ impl Card for ItemCard {
         })
     }
 
-    fn put(&self, kind: Kind, text: &mut RowWriter) -> Result<(), AllocError> {
-        // A copy, so that all that is lent below lives equally long.
-        let card = *self;
-        let parent = match &card.parent {
+    fn put(self, kind: Kind, text: &mut RowWriter) -> Result<(), AllocError> {
+        let parent = match &self.parent {
             Some(code) => code.bytes(),
             None => b"".as_slice(),
         };
-        text.put(&[kind.word(), card.code.bytes(), parent, card.title.bytes()])
+        text.put(&[kind.word(), self.code.bytes(), parent, self.title.bytes()])
     }
 }
 
@@ -81,17 +78,4 @@ impl Coded for ItemCard {
     }
 
     ghost second_field = { λ row fields. refl };
-}
-
-impl Cards {
-    ghost use Rattle.std.specs.Prelude.{◌≡◌};
-    ghost use Rattle.pc_deck.specs.Within.{IsWithinLimits};
-
-    /// The WBS cards.
-    pub fn items(&self) -> &[ItemCard]
-        ensures cards { result.now ≡ self.now.items }
-        ensures within { IsWithinLimits self.now }
-    {
-        self.deck.lists.items.as_slice()
-    }
 }

@@ -3,7 +3,7 @@ use Rattle.std.specs.Prelude.{IfOk}
 use Rattle.pc_records.specs.Text.{record_text}
 use Rattle.pc_deck.specs.Text.{deck_text, lead_text, lists_text}
 use Rattle.pc_deck.proofs.PutLemmas.{whole_text}
-use Rattle.pc_deck.proofs.cards.Cards.text.Goals as goal
+use Rattle.pc_deck.proofs.text.Cards.text.Goals as goal
 
 pub returns : goal.returns
 returns c =

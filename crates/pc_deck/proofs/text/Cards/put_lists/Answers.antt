@@ -1,7 +1,7 @@
 use Rattle.pc_faults.specs.declared.kind.Kind.TheVariants.{Wbs, Event, Act, Piece, Acct, Charge, ToGo, Status, Res, Load}
 use Rattle.pc_deck.specs.Text.{record_of}
 use Rattle.pc_deck.proofs.PutLemmas.{put-none, put-some}
-use Rattle.pc_deck.proofs.cards.Cards.put_lists.Goals as goal
+use Rattle.pc_deck.proofs.text.Cards.put_lists.Goals as goal
 
 pub returns : goal.returns
 returns c =

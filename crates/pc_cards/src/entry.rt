@@ -1,0 +1,22 @@
+//! What holds of a kind by the sort and the version of its deck.
+ghost use Rattle.std.specs.Prelude.{◌≡◌};
+ghost use Rattle.pc_cards.specs.Entry.{by_sort, by_version};
+
+use crate::sort::Sort;
+
+/// One number in a plan, and another in a deck of tasks.
+pub fn by_sort(sort: Sort, plan: u32, tasks: u32) -> u32
+    ensures { result ≡ by_sort plan tasks sort }
+{
+    match sort {
+        Sort::Plan => plan,
+        Sort::Tasks => tasks,
+    }
+}
+
+/// A limit that is greater in decks of version 2.
+pub fn by_version(version: u64, small: u32, large: u32) -> u32
+    ensures { result ≡ by_version version small large }
+{
+    if version == 2 { large } else { small }
+}

@@ -1,0 +1,64 @@
+//! EVENT and RES: what has a code and a title, an event of the network or a resource.
+ghost use Rattle.std.specs.Prelude.{refl};
+ghost use Rattle.pc_deck.specs.Titled.{titled_slots, titled_of, written_titled};
+
+use pc_cards::card::{Card, Coded, Layout};
+use pc_cards::field::{Misfit, read_code, read_title};
+use pc_cards::form::{Form, Slot};
+use pc_cards::sort::Sort;
+use pc_faults::Kind;
+use pc_records::{Row, RowWriter};
+use pc_text::{Code, Title};
+use std::alloc::AllocError;
+
+/// An EVENT or a RES card: an event of the network, or a resource that activities use.
+#[derive(Clone, Copy)]
+pub struct TitledCard {
+    pub row: u32,
+    pub code: Code,
+    pub title: Title,
+}
+
+const SLOTS: [Slot; 2] = [(2, Form::Code), (3, Form::Title)];
+
+impl Card for TitledCard {
+    ghost slots = { λ sort. titled_slots };
+
+    ghost least = { 3 };
+
+    ghost most = { 3 };
+
+    ghost spelled = { titled_of };
+
+    ghost written = { written_titled };
+
+    fn layout(_: Sort) -> Layout {
+        Layout {
+            slots: &SLOTS,
+            least: 3,
+            most: 3,
+        }
+    }
+
+    fn read(_: Sort, row: u32, fields: &Row) -> Result<TitledCard, Misfit> {
+        Ok(TitledCard {
+            row,
+            code: read_code(fields, 2)?,
+            title: read_title(fields, 3)?,
+        })
+    }
+
+    fn put(self, kind: Kind, text: &mut RowWriter) -> Result<(), AllocError> {
+        text.put(&[kind.word(), self.code.bytes(), self.title.bytes()])
+    }
+}
+
+impl Coded for TitledCard {
+    ghost own_code = { λ card. card.code };
+
+    fn code(&self) -> &Code {
+        &self.code
+    }
+
+    ghost second_field = { λ row fields. refl };
+}
