@@ -31,19 +31,11 @@ impl Drop for Plan {
         let Plan {
             net: _,
             tree: _,
-            events: _,
-            activities: _,
-            places: _,
-            terms: _,
-            expected: _,
-            variances: _,
+            lists: _,
             pieces: _,
             loads: _,
-            accounts: _,
-            charges: _,
-            togos: _,
+            figures: _,
             book: _,
-            statuses: _,
             states: _,
         } = self;
     }
