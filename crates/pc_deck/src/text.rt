@@ -8,7 +8,7 @@ use pc_cards::card::Card;
 use pc_cards::writing::{put_card, put_cards};
 use pc_faults::Kind;
 use pc_records::RowWriter;
-use std::alloc::{AllocError, Global};
+use std::alloc::AllocError;
 
 /// About as many bytes as the record of an activity has.
 const LONG: usize = 96;
@@ -20,11 +20,12 @@ const SHORT: usize = 48;
 const WRITTEN_VERSION: u64 = 2;
 
 impl Cards {
-    /// The text of the deck in its one form: version 2, the day that the deck is of, and the cards kind by kind.
-    pub fn text(&self, alloc: Global) -> Result<Vec<u8>, AllocError>
+    /// The text of the deck in its one form: version 2, the day that the deck is of, and the cards kind by kind. It takes the room
+    /// of what is let go, and further memory where that is too little.
+    pub fn text(&self, room: Vec<u8>) -> Result<Vec<u8>, AllocError>
         ensures { IfOk result (λ text. text.items ≡ deck_text self.now) }
     {
-        let mut text = RowWriter::with_room(alloc, self.usual_length())?;
+        let mut text = RowWriter::with_room(room, self.usual_length())?;
         self.put_lead(&mut text)?;
         self.put_lists(&mut text)?;
         text.put(&[Kind::End.word()])?;

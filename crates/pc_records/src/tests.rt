@@ -84,7 +84,7 @@ fn tells_fields(rt: HostRuntime) -> Result<(), Fail> {
 // Quotes where a field has a comma, a quote or a line's end, or where a record has nothing but one empty field.
 #[test]
 fn writes_records(rt: HostRuntime) -> Result<(), Fail> {
-    let mut writer = RowWriter::with_room(rt.alloc(), 16)?;
+    let mut writer = RowWriter::with_room(Vec::new(rt.alloc()), 16)?;
     writer.put(&[b"ACT", b"", b" a b "])?;
     writer.put(&[b"x,y", b"say \"so\"", b"l\nm", b"n\ro"])?;
     writer.put(&[b""])?;

@@ -4,7 +4,7 @@ ghost use Rattle.std.specs.Prelude.{◌≡◌, ◌++◌, [], map, IfOk, OnOk, On
 ghost use Rattle.pc_records.specs.Text.{record_text};
 
 use csv::{Writer, WriterBuilder};
-use std::alloc::{AllocError, Global};
+use std::alloc::AllocError;
 use std::marker::Model;
 
 /// The text of records, written one after the other by `csv`.
@@ -28,13 +28,15 @@ impl Model for RowWriter {
 }
 
 impl RowWriter {
-    /// No text yet, and room for so many bytes. It takes further memory for what is longer.
-    pub fn with_room(alloc: Global, bytes: usize) -> Result<RowWriter, AllocError>
+    /// No text yet, and room for so many bytes: the room of what is let go, and more where that is less. It takes further memory
+    /// for what is longer.
+    pub fn with_room(mut room: Vec<u8>, bytes: usize) -> Result<RowWriter, AllocError>
         ensures { IfOk result (λ writer. writer ≡ []) }
     {
-        let text = Vec::with_capacity(alloc, bytes)?;
+        room.clear();
+        room.reserve(bytes)?;
         Ok(RowWriter {
-            writer: WriterBuilder::new().flexible(true).from_writer(text),
+            writer: WriterBuilder::new().flexible(true).from_writer(room),
             has_failed: false,
         })
     }

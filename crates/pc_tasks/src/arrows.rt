@@ -40,7 +40,7 @@ pub fn arrows_of(alloc: Global, cards: &TaskCards) -> Result<Vec<u8>, DeckError>
         Ok(project) => project,
         Err(error) => return Err(error),
     };
-    match deck_text_of(alloc, &project) {
+    match deck_text_of(&project, Vec::new(alloc)) {
         Ok(text) => Ok(text),
         Err(_) => Err(DeckError::OutOfMemory),
     }

@@ -31,7 +31,7 @@ pub(crate) fn asked(alloc: Global, deck: &[u8], text: &[u8], again: &[u8]) -> Op
     requires { length deck.now ≤ 1000 }
 {
     let cards = read_cards(alloc, deck).ok()?;
-    let of_deck = is_same(cards.text(alloc), text);
+    let of_deck = is_same(cards.text(Vec::new(alloc)), text);
     let Ok(project) = project_of(alloc, cards) else {
         return Some(Told {
             text: of_deck,
@@ -39,7 +39,7 @@ pub(crate) fn asked(alloc: Global, deck: &[u8], text: &[u8], again: &[u8]) -> Op
             figures: None,
         });
     };
-    let of_project = is_same(deck_text_of(alloc, &project), again);
+    let of_project = is_same(deck_text_of(&project, Vec::new(alloc)), again);
     let figures = figures_of(alloc, &project);
     let_go(project);
     Some(Told {

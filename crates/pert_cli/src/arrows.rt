@@ -8,14 +8,13 @@ use crate::migrate::DeckText;
 use pc_edges::Sink;
 use pc_project::Project;
 use pc_reading::Status;
-use std::alloc::Global;
 
 /// The words of the form.
 pub(crate) const WORDS: &[u8] = b"arrows";
 
 /// Answers the form for the project of the plan that was drawn.
-pub(crate) fn answer<O: Sink>(alloc: Global, project: &Project, out: &mut O) -> Status
+pub(crate) fn answer<O: Sink>(project: &Project, room: Vec<u8>, out: &mut O) -> Status
     ensures { Answers (IsReply Arrows project.now) (side O.taken O.faults out.old out.new) result }
 {
-    deliver(DeckText::build(alloc, project), project, out)
+    deliver(DeckText::build(project, room), project, out)
 }

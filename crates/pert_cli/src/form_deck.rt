@@ -1,10 +1,10 @@
 //! From the deck that a form speaks of to its project, or to why there is none.
-ghost use Rattle.std.specs.Prelude.{◌+◌, ◌≤◌, IfOk, IfErr};
+ghost use Rattle.std.specs.Prelude.{◌+◌, ◌≤◌, length, IfOk, IfErr};
 ghost use Rattle.pc_bench.specs.Deck.{bench_text};
 ghost use Rattle.pc_deck.specs.Limits.{longest_deck};
 ghost use Rattle.pc_edges.specs.Pulls.{TakesPulls};
 ghost use Rattle.pc_edges.specs.declared.loading.TheConstants.{STREAM_ROOM};
-ghost use Rattle.pc_reading.specs.Reading.{HasNoProjectBy, HasProjectBy, IsNoProjectOf};
+ghost use Rattle.pc_reading.specs.Reading.{HasNoProjectBy, HasProjectBy, IsNoProjectBy, IsNoProjectOf};
 ghost use Rattle.pc_reading.specs.Sides.{side, TookAtMost};
 ghost use Rattle.pc_reading.specs.Verdict.{IsProjectOf};
 ghost use Rattle.pert_cli.specs.Tasks.{IsDrawnOf, IsTasksFault};
@@ -18,14 +18,16 @@ use pc_bench::{MOST_ACTIVITIES, bench_deck};
 use pc_cards::sort::Sort;
 use pc_edges::Source;
 use pc_project::Project;
-use pc_reading::{NoProject, project_in, read_deck, read_project};
+use pc_reading::{NoProject, project_in, read_deck};
 use std::alloc::Global;
 
-/// The project of the deck that a form speaks of: its own, and then nothing is read, or that of the source.
+/// The project of the deck that a form speaks of: its own, and then nothing is read, or that of the source, whose bytes are left in
+/// `deck`, since their room may serve the answer.
 pub(crate) fn project_for<S: Source>(
     alloc: Global,
     form: Form,
     source: &mut S,
+    deck: &mut Vec<u8>,
 ) -> Result<Project, NoProject>
     requires { IsNumbered form }
     ensures project { IfOk result (HasProjectFor form (side S.left S.faults source.old source.new)) }
@@ -35,35 +37,51 @@ pub(crate) fn project_for<S: Source>(
 {
     match form.bench() {
         Some(n) => bench_project(alloc, n),
-        None => read_as(alloc, form.sort(), source),
+        None => read_as(alloc, form.sort(), source, deck),
     }
 }
 
-/// The project of the source's deck, which is read as one of the sort.
-fn read_as<S: Source>(alloc: Global, sort: Sort, source: &mut S) -> Result<Project, NoProject>
+/// The project of the source's deck, which is read as one of the sort. Its bytes are left in `deck`.
+fn read_as<S: Source>(
+    alloc: Global,
+    sort: Sort,
+    source: &mut S,
+    deck: &mut Vec<u8>,
+) -> Result<Project, NoProject>
     ensures project { IfOk result (HasProjectBy (IsMadeAs sort) (side S.left S.faults source.old source.new)) }
     ensures none { IfErr result (HasNoProjectBy (IsFaultAs sort) (side S.left S.faults source.old source.new)) }
     ensures turns { TakesPulls (longest_deck + 2) (S.pulls source.old) (S.pulls source.new) }
     ensures near { TookAtMost (longest_deck + STREAM_ROOM) (side S.left S.faults source.old source.new) }
 {
-    match sort {
-        Sort::Plan => read_project(alloc, source),
-        Sort::Tasks => read_drawn(alloc, source),
+    match read_deck(alloc, source) {
+        Ok(bytes) => {
+            let project = project_as(alloc, sort, &bytes);
+            *deck = bytes;
+            project
+        }
+        Err(why) => Err(why),
     }
 }
 
-/// The project of the plan that is drawn of the tasks that the source's deck has.
-fn read_drawn<S: Source>(alloc: Global, source: &mut S) -> Result<Project, NoProject>
-    ensures project { IfOk result (HasProjectBy IsDrawnOf (side S.left S.faults source.old source.new)) }
-    ensures none { IfErr result (HasNoProjectBy IsTasksFault (side S.left S.faults source.old source.new)) }
-    ensures turns { TakesPulls (longest_deck + 2) (S.pulls source.old) (S.pulls source.new) }
-    ensures near { TookAtMost (longest_deck + STREAM_ROOM) (side S.left S.faults source.old source.new) }
+/// The project of a deck of the sort that is not too long.
+fn project_as(alloc: Global, sort: Sort, bytes: &[u8]) -> Result<Project, NoProject>
+    requires { length bytes.now ≤ longest_deck }
+    ensures project { IfOk result (IsMadeAs sort bytes.now) }
+    ensures none { IfErr result (IsNoProjectBy (IsFaultAs sort) bytes.now) }
 {
-    let deck = match read_deck(alloc, source) {
-        Ok(deck) => deck,
-        Err(why) => return Err(why),
-    };
-    match drawn_or_fault(alloc, &deck) {
+    match sort {
+        Sort::Plan => project_in(alloc, bytes),
+        Sort::Tasks => drawn_in(alloc, bytes),
+    }
+}
+
+/// The project of the plan that is drawn of the tasks of a deck that is not too long.
+fn drawn_in(alloc: Global, bytes: &[u8]) -> Result<Project, NoProject>
+    requires { length bytes.now ≤ longest_deck }
+    ensures project { IfOk result (IsDrawnOf bytes.now) }
+    ensures none { IfErr result (IsNoProjectBy IsTasksFault bytes.now) }
+{
+    match drawn_or_fault(alloc, bytes) {
         Ok(project) => Ok(project),
         Err(error) => Err(NoProject::of(error)),
     }

@@ -179,18 +179,28 @@ impl Form {
         }
     }
 
+    /// What is kept of the room of the deck that was read: all of it for an answer that is a deck too, and nothing for any other.
+    fn room_of(self, alloc: Global, deck: Vec<u8>) -> Vec<u8> {
+        match self {
+            Form::Migrate | Form::Arrows => deck,
+            _ => Vec::new(alloc),
+        }
+    }
+
     /// Writes on `out` what the form asks for of a project, or on `err` the fault with which it refuses the project. All memory
-    /// is taken before the first byte is written.
+    /// is taken before the first byte is written. The bytes of the deck that the project was read from are let go.
     pub(crate) fn answer<O: Sink, E: Sink>(
         self,
         alloc: Global,
         project: &Project,
+        deck: Vec<u8>,
         out: &mut O,
         err: &mut E,
     ) -> Status
         requires { IsNumbered self }
         ensures { Replies self project.now (side O.taken O.faults out.old out.new) (side E.taken E.faults err.old err.new) result }
     {
+        let room = self.room_of(alloc, deck);
         match self {
             Form::Check => check::answer(alloc, project, out),
             Form::Normal => normal::answer(alloc, project, out),
@@ -202,9 +212,9 @@ impl Form {
             Form::Point(limit) => point::answer(alloc, limit, project, out, err),
             Form::Outlook(limit) => outlook::answer(alloc, limit, project, out, err),
             Form::Bench(n) => bench::answer(alloc, n, project, out),
-            Form::Migrate => migrate::answer(alloc, project, out),
+            Form::Migrate => migrate::answer(project, room, out),
             Form::Optimum => optimum::answer(alloc, project, out),
-            Form::Arrows => arrows::answer(alloc, project, out),
+            Form::Arrows => arrows::answer(project, room, out),
             Form::Load(days) => load::answer(alloc, days, project, out, err),
         }
     }

@@ -10,16 +10,16 @@ use pc_deck_text::deck_text_of;
 use pc_edges::{Failed, Sink};
 use pc_project::Project;
 use pc_reading::{Status, send};
-use std::alloc::{AllocError, Global};
+use std::alloc::AllocError;
 
 /// The words of the form.
 pub(crate) const WORDS: &[u8] = b"migrate";
 
 /// Answers the form.
-pub(crate) fn answer<O: Sink>(alloc: Global, project: &Project, out: &mut O) -> Status
+pub(crate) fn answer<O: Sink>(project: &Project, room: Vec<u8>, out: &mut O) -> Status
     ensures { Answers (IsReply Migrate project.now) (side O.taken O.faults out.old out.new) result }
 {
-    deliver(DeckText::build(alloc, project), project, out)
+    deliver(DeckText::build(project, room), project, out)
 }
 
 /// The text of a project's deck.
@@ -29,11 +29,12 @@ pub(crate) struct DeckText {
 }
 
 impl DeckText {
-    pub(crate) fn build(alloc: Global, project: &Project) -> Result<DeckText, AllocError>
+    /// Puts the text together in the room of what is let go.
+    pub(crate) fn build(project: &Project, room: Vec<u8>) -> Result<DeckText, AllocError>
         ensures { IfOk result (λ answer. IsDeckText project.now answer.text.items) }
     {
         Ok(DeckText {
-            text: deck_text_of(alloc, project)?,
+            text: deck_text_of(project, room)?,
         })
     }
 }

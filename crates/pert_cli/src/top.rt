@@ -151,8 +151,9 @@ fn outcome<S: Source, O: Sink, E: Sink>(
             Err(Failed) => Status::WriteFault,
         };
     };
-    match project_for(alloc, form, source) {
-        Ok(project) => form.answer(alloc, &project, out, err),
+    let mut deck = Vec::new(alloc);
+    match project_for(alloc, form, source, &mut deck) {
+        Ok(project) => form.answer(alloc, &project, deck, out, err),
         Err(NoProject::Refused(fault)) => refuse(alloc, &fault, err),
         Err(NoProject::ReadFault) => Status::ReadFault,
         Err(NoProject::OutOfMemory) => Status::OutOfMemory,

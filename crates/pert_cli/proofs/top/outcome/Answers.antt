@@ -38,8 +38,8 @@ returns-in-Err-ReadFault-clause-outcome g c =
     let why = rw c.in-Err-ReadFault.field-0-is at c.in-Err-ReadFault.ensures.none in
     read_fault (c.in-Some.form, c.in-Some.ensures.form, why.0) why.1 why.2 refl refl
 
-pub returns-in-Err-OutOfMemory-clause-outcome : goal.returns-in-Err-OutOfMemory-clause-outcome
-returns-in-Err-OutOfMemory-clause-outcome g c =
+pub returns-clause-outcome : goal.returns-clause-outcome
+returns-clause-outcome g c =
     no_memory c.in-Some.form c.in-Some.ensures.form (rw c.in-Err-OutOfMemory.field-0-is at c.in-Err-OutOfMemory.ensures.none) refl refl
 
 pub project_for-requires : goal.project_for-requires
