@@ -11,7 +11,7 @@ use Rattle.pc_accounts.specs.declared.rows.AcctRow.{AcctRow}
 use Rattle.pc_accounts.specs.declared.rows.MoneyRow.{MoneyRow}
 use Rattle.pc_accounts.specs.declared.entry.Entry.{Entry}
 use Rattle.pc_accounts.specs.Amounts.{money_at, budget_of, is_due, actual_of, IsDue, IsToGo, AreEntriesOf, AreMoney}
-use Rattle.pc_accounts.specs.Parts.{AreActuals, LatestBelow, AreLatest, AreMade, option_at, later_row, entry_from}
+use Rattle.pc_accounts.specs.inside.Parts.{AreActuals, LatestBelow, AreLatest, AreMade, option_at, later_row, entry_from}
 use Rattle.pc_accounts.proofs.PartLaws.{part_more}
 use Rattle.pc_accounts.proofs.DayLaws.{le-from_test, test-from_le, lt-from_test, le-from_no_test}
 

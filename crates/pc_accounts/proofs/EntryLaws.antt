@@ -2,7 +2,8 @@
 use Rattle.std.proofs.Common.{◌≡◌, ℕ, ◌*◌, ◌/◌, ◌<◌, refl, ap, arith}
 use Rattle.std.proofs.lemmas.Nat.{div-add-mod'}
 use Rattle.pc_accounts.specs.declared.entry.Entry.{Entry}
-use Rattle.pc_accounts.specs.Entries.{latest_of, IsShare}
+use Rattle.pc_accounts.specs.Entries.{latest_of}
+use Rattle.pc_accounts.specs.inside.Entries.{IsShare}
 
 -- a quotient that is rounded down is a share
 pub IsShare-rounded : (entry : Entry) (v : ℕ) → 0 < latest_of entry → v ≡ entry.budget * entry.actual / latest_of entry → IsShare entry v

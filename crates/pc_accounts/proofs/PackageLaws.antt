@@ -8,8 +8,9 @@ use Rattle.pc_model.specs.declared.limits.TheConstants.{MAX_COST, MAX_ACTIVITIES
 use Rattle.pc_accounts.specs.declared.rows.AcctRow.{AcctRow}
 use Rattle.pc_accounts.specs.declared.rows.WorkRow.{WorkRow}
 use Rattle.pc_accounts.specs.Amounts.{AreBudgets}
-use Rattle.pc_accounts.specs.Packages.{budgets_of, costs_of, work_at, IsUneven, AreWork}
-use Rattle.pc_accounts.specs.Parts.{option_at, AreBudgetSums, CostBelow, AreCostSums}
+use Rattle.pc_accounts.specs.Packages.{budgets_of, costs_of, work_at, IsUneven}
+use Rattle.pc_accounts.specs.inside.Packages.{AreWork}
+use Rattle.pc_accounts.specs.inside.Parts.{option_at, AreBudgetSums, CostBelow, AreCostSums}
 use Rattle.pc_accounts.proofs.PartLaws.{part_more, part_le}
 
 -- no item's budgets are more than so many accounts can have

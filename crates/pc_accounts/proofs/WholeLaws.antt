@@ -7,7 +7,8 @@ use Rattle.pc_model.proofs.Sums.{sum_to-add, sum_to-same, sum_to-zero, sum_to-pi
 use Rattle.pc_accounts.specs.declared.rows.AcctRow.{AcctRow}
 use Rattle.pc_accounts.specs.declared.rows.MoneyRow.{MoneyRow}
 use Rattle.pc_accounts.specs.declared.entry.Entry.{Entry}
-use Rattle.pc_accounts.specs.Entries.{entry_at, entry_of_all}
+use Rattle.pc_accounts.specs.Entries.{entry_at}
+use Rattle.pc_accounts.specs.inside.Entries.{entry_of_all}
 use Rattle.pc_accounts.specs.Amounts.{money_at, budget_of, is_due, actual_of, all_charged, AreEntriesOf, AreMoney, entry_of_project}
 use Rattle.pc_accounts.proofs.EntryLaws.{same_entry}
 use Rattle.pc_accounts.proofs.PartLaws.{part_more, part_sum}

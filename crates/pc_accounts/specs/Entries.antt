@@ -7,14 +7,6 @@ use Rattle.pc_accounts.specs.declared.entry.Entry.{Entry}
 abbrev pub entry_at : List Entry → ℕ → Entry
 entry_at entries a = slice_index_or entries a (record { budget = 0; actual = 0; to_go = 0 })
 
--- what all entries come to: their budgets, what they have spent, and what is to go
-abbrev pub entry_of_all : List Entry → Entry
-entry_of_all entries = record {
-  budget = sum_by (λ entry. entry.budget) entries;
-  actual = sum_by (λ entry. entry.actual) entries;
-  to_go = sum_by (λ entry. entry.to_go) entries;
-}
-
 -- what the account will have cost
 abbrev pub latest_of : Entry → ℕ
 latest_of entry = entry.actual + entry.to_go
@@ -25,11 +17,6 @@ abbrev pub value_of : Bool → Entry → ℕ
 value_of finished entry =
     if finished then entry.budget
     else (if latest_of entry == 0 then 0 else (entry.budget * entry.actual / latest_of entry))
-
--- v is the greatest number that is to the budget at most as actual is to latest
-pub record IsShare (entry : Entry) (v : ℕ) : Type 0 where
-  pub enough : v * latest_of entry ≤ entry.budget * entry.actual
-  pub most : entry.budget * entry.actual < (v + 1) * latest_of entry
 
 -- no amount is greater than cards within the limits make it
 pub record IsSmall (entry : Entry) : Type 0 where

@@ -2,4 +2,4 @@ pub mod Entries
 pub mod Amounts
 pub mod Second
 pub mod Packages
-pub mod Parts
+pub mod inside

@@ -1,11 +1,7 @@
 -- The budgets and the costs of a package, and which packages are uneven.
-use Rattle.std.specs.Prelude.{◌≡◌, ◌≢◌, ℕ, ◌<◌, ◌≤◌, ◌==◌, List, length, slice_index_or, filter, sum_by}
-use Rattle.pc_model.specs.Greatest.{IsFirst}
-use Rattle.pc_model.specs.declared.limits.TheConstants.{MAX_COST}
+use Rattle.std.specs.Prelude.{◌≡◌, ◌≢◌, ℕ, ◌<◌, ◌==◌, List, length, slice_index_or, filter, sum_by}
 use Rattle.pc_accounts.specs.declared.rows.AcctRow.{AcctRow}
 use Rattle.pc_accounts.specs.declared.rows.WorkRow.{WorkRow}
-use Rattle.pc_accounts.specs.declared.error.Uneven.{Uneven}
-use Rattle.pc_accounts.specs.declared.error.Uneven.TheVariants.{Item, OutOfMemory}
 
 -- the sum of the budgets of the accounts on an item
 abbrev pub budgets_of : List AcctRow → ℕ → ℕ
@@ -26,14 +22,3 @@ HasWork work item = (k : ℕ) × (k < length work) × ((work_at work k).item ≡
 -- the item has work, and what its accounts may spend is not what its activities cost
 abbrev pub IsUneven : List AcctRow → List WorkRow → ℕ → Type 0
 IsUneven accounts work item = HasWork work item × (budgets_of accounts item ≢ costs_of work item)
-
--- the first uneven item, with its two sums; memory may run out at any time
-abbrev pub IsFirstUneven : List AcctRow → List WorkRow → Uneven → Type 0
-IsFirstUneven accounts work (Item item budgets costs) =
-    IsFirst (IsUneven accounts work) item × (budgets ≡ budgets_of accounts item) × (costs ≡ costs_of work item)
-IsFirstUneven accounts work OutOfMemory = Unit {0}
-
--- each activity belongs to one of so many items, and its cost is at most the limit
-pub record AreWork (items : ℕ) (work : List WorkRow) : Type 0 where
-  pub known : (k : ℕ) → k < length work → (work_at work k).item < items
-  pub small : (k : ℕ) → k < length work → (work_at work k).cost ≤ MAX_COST

@@ -1,9 +1,6 @@
 -- Amounts to go of one account and one day.
 use Rattle.std.specs.Prelude.{◌≡◌, ℕ, ◌<◌, List, length}
-use Rattle.pc_model.specs.Greatest.{IsFirst}
 use Rattle.pc_accounts.specs.declared.rows.MoneyRow.{MoneyRow}
-use Rattle.pc_accounts.specs.declared.error.BookError.{BookError}
-use Rattle.pc_accounts.specs.declared.error.BookError.TheVariants.{SecondToGo, OutOfMemory}
 use Rattle.pc_accounts.specs.Amounts.{money_at}
 
 -- row k comes after row j and has its account and its day
@@ -15,9 +12,3 @@ pub record Repeats (togos : List MoneyRow) (k j : ℕ) : Type 0 where
 -- row k repeats an earlier row
 abbrev pub IsRepeated : List MoneyRow → ℕ → Type 0
 IsRepeated togos k = (k < length togos) × ((j : ℕ) × Repeats togos k j)
-
--- `second` is the first row that repeats an earlier one, and `first` is the earliest that it repeats; memory may run
--- out at any time
-abbrev pub IsRefusal : List MoneyRow → BookError → Type 0
-IsRefusal togos (SecondToGo first second) = IsFirst (IsRepeated togos) second × IsFirst (Repeats togos second) first
-IsRefusal togos OutOfMemory = Unit {0}

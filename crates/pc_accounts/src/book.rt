@@ -1,10 +1,12 @@
 //! The book of all accounts.
 ghost use Rattle.std.specs.Prelude.{◌≡◌, ℕ, ◌+◌, ◌*◌, ◌<◌, ◌≤◌, length, slice_index, sum, sum_by, IsTrue, IsFalse, IfOk, IfErr, IfSome, OnOk};
 ghost use Rattle.pc_model.specs.declared.limits.TheConstants.{MAX_ACCOUNTS, MAX_CHARGES, MAX_TOGOS, MAX_COST};
-ghost use Rattle.pc_accounts.specs.Entries.{entry_at, entry_of_all, latest_of, value_of, AreSmall, IsShare};
+ghost use Rattle.pc_accounts.specs.Entries.{entry_at, latest_of, value_of, AreSmall};
+ghost use Rattle.pc_accounts.specs.inside.Entries.{entry_of_all, IsShare};
 ghost use Rattle.pc_accounts.specs.Amounts.{AreBudgets, AreMoney, AreEntriesOf, entry_of_project};
-ghost use Rattle.pc_accounts.specs.Parts.{AreActuals, AreKnown, AreMade, entry_from};
-ghost use Rattle.pc_accounts.specs.Second.{IsRepeated, IsRefusal};
+ghost use Rattle.pc_accounts.specs.inside.Parts.{AreActuals, AreKnown, AreMade, entry_from};
+ghost use Rattle.pc_accounts.specs.Second.{IsRepeated};
+ghost use Rattle.pc_accounts.specs.inside.Second.{IsRefusal};
 
 use crate::entry::Entry;
 use crate::error::BookError;

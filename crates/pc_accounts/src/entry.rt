@@ -1,7 +1,8 @@
 //! What a book says of one account.
 ghost use Rattle.std.specs.Prelude.{◌≡◌, ◌+◌, ◌*◌, ◌/◌, ◌≤◌, ◌<◌, IsTrue, IsFalse};
 ghost use Rattle.pc_model.specs.declared.limits.TheConstants.{MAX_COST, MAX_CHARGES};
-ghost use Rattle.pc_accounts.specs.Entries.{latest_of, value_of, IsSmall, IsShare};
+ghost use Rattle.pc_accounts.specs.Entries.{latest_of, value_of, IsSmall};
+ghost use Rattle.pc_accounts.specs.inside.Entries.{IsShare};
 
 /// An account's budget, the sum of its charges up to as-of, and what is still to go.
 #[derive(Clone, Copy, Debug, PartialEq, Eq)]

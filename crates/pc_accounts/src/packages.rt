@@ -2,8 +2,9 @@
 ghost use Rattle.std.specs.Prelude.{◌≡◌, ℕ, ◌<◌, ◌≤◌, length, IfOk, IfErr, OnOk};
 ghost use Rattle.pc_model.specs.declared.limits.TheConstants.{MAX_ACCOUNTS, MAX_ACTIVITIES};
 ghost use Rattle.pc_accounts.specs.Amounts.{AreBudgets, item_of};
-ghost use Rattle.pc_accounts.specs.Packages.{AreWork, IsUneven, IsFirstUneven};
-ghost use Rattle.pc_accounts.specs.Parts.{AreBudgetSums, AreCostSums};
+ghost use Rattle.pc_accounts.specs.Packages.{IsUneven};
+ghost use Rattle.pc_accounts.specs.inside.Packages.{AreWork, IsFirstUneven};
+ghost use Rattle.pc_accounts.specs.inside.Parts.{AreBudgetSums, AreCostSums};
 
 use crate::error::Uneven;
 use crate::rows::{AcctRow, WorkRow};

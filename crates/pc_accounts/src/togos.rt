@@ -2,8 +2,9 @@
 ghost use Rattle.std.specs.Prelude.{◌≡◌, ℕ, ◌<◌, ◌≤◌, length, IfOk, IfErr, IfSome, OnOk};
 ghost use Rattle.pc_model.specs.declared.limits.TheConstants.{MAX_TOGOS};
 ghost use Rattle.pc_accounts.specs.Amounts.{AreMoney};
-ghost use Rattle.pc_accounts.specs.Parts.{AreLatest, later_row};
-ghost use Rattle.pc_accounts.specs.Second.{IsRepeated, IsRefusal};
+ghost use Rattle.pc_accounts.specs.inside.Parts.{AreLatest, later_row};
+ghost use Rattle.pc_accounts.specs.Second.{IsRepeated};
+ghost use Rattle.pc_accounts.specs.inside.Second.{IsRefusal};
 
 use crate::error::BookError;
 use crate::rows::MoneyRow;

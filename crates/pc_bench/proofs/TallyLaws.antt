@@ -14,12 +14,13 @@ use Rattle.pc_curve_laws.proofs.Segments.Covering.{front_begins, front_grows}
 use Rattle.pc_curve_laws.proofs.Curves.Turns.{LiesOn, lies_on}
 use Rattle.pc_curve_laws.proofs.Curves.Points.{covering_points}
 use Rattle.pc_crash.specs.Priced.{PricedNetwork, knees_in}
-use Rattle.pc_flow.specs.Courses.{Course, upper_of, lower_of, present, HasEnded, IsSameCurve, IsNext}
+use Rattle.pc_flow.specs.Courses.{Course, upper_of, lower_of, IsSameCurve}
+use Rattle.pc_flow.specs.inside.Courses.{present, HasEnded, IsNext}
 use Rattle.pc_flow.specs.declared.early.TheConstants.{MAX_LENGTH}
 use Rattle.pc_curve.specs.Points.{curve_in}
 use Rattle.pc_bench.specs.declared.figures.Tally.{Tally}
 use Rattle.pc_bench.specs.Figures.{HasBreaks, IsSumOfCosts}
-use Rattle.pc_bench.specs.Tallies.{IsSmall, costs_below, first_tally, most_cost, next_tally}
+use Rattle.pc_bench.specs.inside.Tallies.{IsSmall, costs_below, first_tally, most_cost, next_tally}
 use Rattle.pc_bench.proofs.SumLaws.{sum_to-most, costs-on, least-on, total-on}
 use Rattle.pc_bench.proofs.CountLaws.{last-slope, corners-push, slope-push, all-points, one-point}
 

@@ -2,5 +2,5 @@ pub mod Draws
 pub mod Recipe
 pub mod Deck
 pub mod Figures
-pub mod Tallies
 pub mod Report
+pub mod inside

@@ -2,10 +2,11 @@
 ghost use Rattle.std.specs.Prelude.{◌≡◌, ◌+◌, ◌*◌, ◌^◌, ◌<◌, ◌≤◌, ◌==◌, if◌then◌else◌, true, false};
 ghost use Rattle.pc_model.specs.Sums.{sum_to};
 ghost use Rattle.pc_curve_laws.specs.Segment.{cost_for};
-ghost use Rattle.pc_flow.specs.Courses.{IsFurther, IsNext, IsSameCurve, most_looks, present};
+ghost use Rattle.pc_flow.specs.Courses.{IsFurther, IsSameCurve, most_looks};
+ghost use Rattle.pc_flow.specs.inside.Courses.{IsNext, present};
 ghost use Rattle.pc_flow.specs.declared.early.TheConstants.{MAX_LENGTH};
 ghost use Rattle.pc_bench.specs.Figures.{IsFiguresOf};
-ghost use Rattle.pc_bench.specs.Tallies.{HasRoomFor, IsSmall, costs_below, first_tally, next_tally};
+ghost use Rattle.pc_bench.specs.inside.Tallies.{HasRoomFor, IsSmall, costs_below, first_tally, next_tally};
 
 use pc_crash::{SegmentView, Steps};
 use pc_flow::{MAX_LENGTH, Solver};

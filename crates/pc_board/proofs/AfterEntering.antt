@@ -3,9 +3,10 @@ use Rattle.std.proofs.Common.{◌≡◌, ◌≢◌, ℕ, ◌+◌, ◌-◌, ◌^�
 use Rattle.std.proofs.lemmas.Bool.{cases_eq, cases_lt}
 use Rattle.pc_model.specs.Walk.{from_of, to_of}
 use Rattle.pc_model.specs.Network.{Network}
-use Rattle.pc_board.specs.Sheets.{Sheet, kept_time, time_of, rank_of, queue_of, step_of, against_of, near_of, room_of, flow_of}
-use Rattle.pc_board.specs.Moves.{EntersAt, way_number}
-use Rattle.pc_board.specs.Labelling.{HasStep, IsRanked, IsRankedBack, HaveSteps, HaveRoom, AreTimes, AreJoined}
+use Rattle.pc_board.specs.Sheets.{Sheet, kept_time, time_of, rank_of, flow_of}
+use Rattle.pc_board.specs.inside.Sheets.{queue_of, step_of, against_of, near_of, room_of}
+use Rattle.pc_board.specs.inside.Moves.{EntersAt, way_number}
+use Rattle.pc_board.specs.inside.Labelling.{HasStep, IsRanked, IsRankedBack, HaveSteps, HaveRoom, AreTimes, AreJoined}
 use Rattle.pc_board.proofs.AfterPruning.{time-labelled, time-unlabelled}
 use Rattle.pc_board.proofs.RoomLaws.{room-left}
 

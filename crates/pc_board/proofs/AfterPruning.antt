@@ -3,9 +3,10 @@ use Rattle.std.proofs.Common.{◌≡◌, ℕ, ◌-◌, ◌<◌, ◌≤◌, sym, 
 use Rattle.std.proofs.lemmas.Bool.{cases_lt, lt-ltb, le-ltb, cond-true, cond-false}
 use Rattle.std.specs.Prelude.{nat_lt}
 use Rattle.pc_model.specs.Network.{Network}
-use Rattle.pc_board.specs.Sheets.{Sheet, kept_time, time_of, rank_of, queue_of, step_of, against_of, near_of, room_of, flow_of}
-use Rattle.pc_board.specs.Labelling.{HasStep, IsRanked, IsRankedBack, HaveSteps, HaveRoom, AreTimes, IsFor, AreJoined}
-use Rattle.pc_board.specs.Pruning.{IsKept, IsSorted, IsPruned}
+use Rattle.pc_board.specs.Sheets.{Sheet, kept_time, time_of, rank_of, flow_of}
+use Rattle.pc_board.specs.inside.Sheets.{queue_of, step_of, against_of, near_of, room_of}
+use Rattle.pc_board.specs.inside.Labelling.{HasStep, IsRanked, IsRankedBack, HaveSteps, HaveRoom, AreTimes, IsFor, AreJoined}
+use Rattle.pc_board.specs.inside.Pruning.{IsKept, IsSorted, IsPruned}
 
 -- the time of an event with a label, and of one without
 pub time-labelled : (s : Sheet) (e : ℕ) → 0 < rank_of s e → time_of s e ≡ kept_time s e

@@ -2,9 +2,10 @@
 use Rattle.std.proofs.Common.{◌≡◌, ◌≢◌, ℕ, zero, suc, ◌+◌, ◌<◌, ◌≤◌, ◌⊎◌, sym, ◌∙◌, ap, subst, inl, inr, arith}
 use Rattle.std.proofs.lemmas.Bool.{cases_eq, cases_lt}
 use Rattle.pc_model.specs.Network.{Network}
-use Rattle.pc_board.specs.Sheets.{Sheet, time_of, rank_of, queue_of, step_of, against_of, room_of, flow_of}
-use Rattle.pc_board.specs.Labelling.{HasStep, IsRanked, IsRankedBack, HaveSteps, AreTimes, IsFor, AreJoined}
-use Rattle.pc_board.specs.Raising.{event_back, IsOffWay, IsStepTaken, IsRaising, IsRaisedBy}
+use Rattle.pc_board.specs.Sheets.{Sheet, time_of, rank_of, flow_of}
+use Rattle.pc_board.specs.inside.Sheets.{queue_of, step_of, against_of, room_of}
+use Rattle.pc_board.specs.inside.Labelling.{HasStep, IsRanked, IsRankedBack, HaveSteps, AreTimes, IsFor, AreJoined}
+use Rattle.pc_board.specs.inside.Raising.{event_back, IsOffWay, IsStepTaken, IsRaising, IsRaisedBy}
 
 -- an event is on the way, or it is not
 find_below : (f : ℕ) (back : ℕ → ℕ) (k : ℕ) → ((j : ℕ) × (j < k) × (f ≡ back j)) ⊎ ((j : ℕ) → j < k → f ≢ back j)

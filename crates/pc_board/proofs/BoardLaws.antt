@@ -3,14 +3,15 @@ use Rattle.std.proofs.Common.{◌≡◌, ℕ, ◌+◌, ◌^◌, ◌<◌, List, l
 use Rattle.std.specs.Prelude.{slice_index, IsTrue, ◌==◌, if◌then◌else◌}
 use Rattle.std.proofs.lemmas.List.{take-set-le, length-set, get_or-set_same, get_or-set_other}
 use Rattle.std.proofs.lemmas.Bool.{cases_eq, eq-eqb, ne_eqb, cond-true, cond-false}
-use Rattle.pc_cells.specs.Spans.{Cells, with_span, cells_before, IsSpan}
+use Rattle.pc_cells.specs.Spans.{Cells}
+use Rattle.pc_cells.specs.inside.Spans.{with_span, cells_before, IsSpan}
 use Rattle.pc_cells.proofs.LiveLaws.{live-set, cells_before-set}
 use Rattle.pc_board.specs.declared.columns.Column.{Column}
 use Rattle.pc_board.specs.declared.columns.Column.TheVariants.{Time, Rank, Queue, Step, Against, Near, Room, Lost, Flow, Waiting, Slot}
 use Rattle.pc_board.specs.declared.board.Board.TheInside.{Inside}
 use Rattle.pc_board.specs.Sheets.{Sheet}
-use Rattle.pc_board.specs.Places.{place_of, span_of, column_of, with_column, size_of, small_at, is_small, IsSetAt}
-use Rattle.pc_board.specs.Layout.{laid_sheet, list_behind, home_of, sheet_of, IsBoard}
+use Rattle.pc_board.specs.inside.Places.{place_of, span_of, column_of, with_column, size_of, small_at, is_small, IsSetAt}
+use Rattle.pc_board.specs.inside.Layout.{laid_sheet, list_behind, home_of, sheet_of, IsBoard}
 
 -- the column of a sheet is the list at its place
 laid-column : (events activities : ℕ) (home : Cells) (f : ℕ → List ℕ) (fallen count head len : ℕ) (column : Column)

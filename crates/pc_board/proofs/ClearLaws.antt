@@ -4,15 +4,16 @@ use Rattle.std.specs.Prelude.{slice_index, sum_by}
 use Rattle.std.proofs.lemmas.List.{length-append, get_or-append-add, take-append-le, take_at, length-replicate}
 use Rattle.pc_model.proofs.Walks.PlaceLaws.{zero-at}
 use Rattle.pc_cells.specs.declared.span.Mark.{Mark}
-use Rattle.pc_cells.specs.Spans.{Cells, cells_before, IsSpan, IsMark}
+use Rattle.pc_cells.specs.Spans.{Cells}
+use Rattle.pc_cells.specs.inside.Spans.{cells_before, IsSpan, IsMark}
 use Rattle.pc_board.specs.declared.columns.Column.{Column}
 use Rattle.pc_board.specs.declared.columns.Column.TheVariants.{Time, Rank, Queue, Step, Against, Near, Room, Lost, Flow, Waiting, Slot}
 use Rattle.pc_board.specs.declared.columns.Columns.{Columns}
 use Rattle.pc_board.specs.declared.board.Board.TheInside.{Inside}
-use Rattle.pc_board.specs.Sheets.{clear_sheet}
-use Rattle.pc_board.specs.Places.{place_of, span_of, size_of}
-use Rattle.pc_board.specs.Taken.{AreColumnsTaken, zeros}
-use Rattle.pc_board.specs.Layout.{laid_sheet, list_behind, home_of, sheet_of, IsBoard}
+use Rattle.pc_board.specs.inside.Sheets.{clear_sheet}
+use Rattle.pc_board.specs.inside.Places.{place_of, span_of, size_of}
+use Rattle.pc_board.specs.inside.Taken.{AreColumnsTaken, zeros}
+use Rattle.pc_board.specs.inside.Layout.{laid_sheet, list_behind, home_of, sheet_of, IsBoard}
 use Rattle.pc_board.proofs.BoardLaws.{laid-same, home_made}
 
 zeros-at : (events activities : ℕ) (column : Column) (i : ℕ) → slice_index (get_or (zeros events activities) (place_of column) []) i ≡ 0

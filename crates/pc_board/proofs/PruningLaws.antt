@@ -3,10 +3,11 @@ use Rattle.std.proofs.Common.{◌≡◌, ◌≢◌, ℕ, suc, ◌+◌, ◌-◌, 
 use Rattle.std.proofs.lemmas.Bool.{cases_lt}
 use Rattle.pc_model.specs.Sums.{sum_to}
 use Rattle.pc_model.proofs.Sums.{sum_to-same}
-use Rattle.pc_board.specs.Sheets.{Sheet, kept_time, rank_of, queue_of, near_of, room_of, lost_of}
-use Rattle.pc_board.specs.Moves.{KeepsAt, LosesAt}
-use Rattle.pc_board.specs.Labelling.{HasStep, IsRanked, IsRankedBack}
-use Rattle.pc_board.specs.Pruning.{IsKept, IsLost, IsSorted, IsPruned}
+use Rattle.pc_board.specs.Sheets.{Sheet, kept_time, rank_of}
+use Rattle.pc_board.specs.inside.Sheets.{queue_of, near_of, room_of, lost_of}
+use Rattle.pc_board.specs.inside.Moves.{KeepsAt, LosesAt}
+use Rattle.pc_board.specs.inside.Labelling.{HasStep, IsRanked, IsRankedBack}
+use Rattle.pc_board.specs.inside.Pruning.{IsKept, IsLost, IsSorted, IsPruned}
 
 -- what is true of a board while its queue is looked at
 pub record IsPruning (s t : Sheet) (i kept gone seen : ℕ) : Type 0 where

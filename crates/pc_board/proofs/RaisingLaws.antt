@@ -4,10 +4,11 @@ use Rattle.std.proofs.lemmas.Bool.{cases_lt}
 use Rattle.pc_model.specs.Network.{Network}
 use Rattle.pc_curve_laws.specs.State.{IsPart}
 use Rattle.pc_curve_laws.proofs.States.WalkedBack.{part_begins, part_forward, part_backward}
-use Rattle.pc_board.specs.Sheets.{Sheet, rank_of, queue_of, step_of, against_of, near_of, room_of, flow_of}
-use Rattle.pc_board.specs.Moves.{StepsBack}
-use Rattle.pc_board.specs.Labelling.{HasStep, IsRanked, IsRankedBack, HaveSteps, HaveRoom, IsFor, AreJoined}
-use Rattle.pc_board.specs.Raising.{event_back, IsWayBack, IsOffWay, IsStepTaken, IsRaising, IsLeastRoom, IsRaisedBy}
+use Rattle.pc_board.specs.Sheets.{Sheet, rank_of, flow_of}
+use Rattle.pc_board.specs.inside.Sheets.{queue_of, step_of, against_of, near_of, room_of}
+use Rattle.pc_board.specs.inside.Moves.{StepsBack}
+use Rattle.pc_board.specs.inside.Labelling.{HasStep, IsRanked, IsRankedBack, HaveSteps, HaveRoom, IsFor, AreJoined}
+use Rattle.pc_board.specs.inside.Raising.{event_back, IsWayBack, IsOffWay, IsStepTaken, IsRaising, IsLeastRoom, IsRaisedBy}
 
 -- no step leads back yet
 pub way-none : (s : Sheet) (e : ℕ) → e < s.events → IsWayBack s e 0 e

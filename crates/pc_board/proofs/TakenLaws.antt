@@ -2,12 +2,13 @@
 use Rattle.std.proofs.Common.{◌≡◌, ℕ, ◌+◌, List, [], ◌∷◌, ◌++◌, length, replicate, refl, sym, ◌∙◌, ap, subst, append_assoc}
 use Rattle.std.proofs.lemmas.List.{length-append, append-nil}
 use Rattle.pc_cells.specs.declared.span.Span.{Span}
-use Rattle.pc_cells.specs.Spans.{Cells, IsSpan, IsTaken}
+use Rattle.pc_cells.specs.Spans.{Cells}
+use Rattle.pc_cells.specs.inside.Spans.{IsSpan, IsTaken}
 use Rattle.pc_cells.proofs.LiveLaws.{live-append}
 use Rattle.pc_board.specs.declared.columns.Column.{Column}
 use Rattle.pc_board.specs.declared.columns.Column.TheVariants.{Time, Rank, Queue, Step, Against, Near, Room, Lost, Flow, Waiting, Slot}
-use Rattle.pc_board.specs.Taken.{AreColumnsTaken}
-use Rattle.pc_board.specs.Places.{place_of, span_of}
+use Rattle.pc_board.specs.inside.Taken.{AreColumnsTaken}
+use Rattle.pc_board.specs.inside.Places.{place_of, span_of}
 
 -- the region with more spans
 abbrev with_more : Cells → List (List ℕ) → Cells

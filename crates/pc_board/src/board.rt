@@ -1,9 +1,11 @@
 //! A board, and the numbers on it.
 ghost use Rattle.std.specs.Prelude.{◌≡◌, ◌+◌, ◌*◌, ◌<◌, ◌≤◌, ◌^◌, ℕ, IsTrue, slice_index, length};
-ghost use Rattle.pc_cells.specs.Spans.{Cells, free_of};
-ghost use Rattle.pc_board.specs.Sheets.{Sheet, clear_sheet};
-ghost use Rattle.pc_board.specs.Taken.{AreColumnsTaken};
-ghost use Rattle.pc_board.specs.Places.{column_of, size_of, is_small, IsSetAt};
+ghost use Rattle.pc_cells.specs.Spans.{Cells};
+ghost use Rattle.pc_cells.specs.inside.Spans.{free_of};
+ghost use Rattle.pc_board.specs.Sheets.{Sheet};
+ghost use Rattle.pc_board.specs.inside.Sheets.{clear_sheet};
+ghost use Rattle.pc_board.specs.inside.Taken.{AreColumnsTaken};
+ghost use Rattle.pc_board.specs.inside.Places.{column_of, size_of, is_small, IsSetAt};
 
 use crate::columns::{Column, Columns};
 use pc_cells::{Mark, Region};
@@ -31,7 +33,7 @@ impl Model for Board {
 
     ghost Value = { Sheet };
 
-    ghost use Rattle.pc_board.specs.Layout.{sheet_of, IsBoard};
+    ghost use Rattle.pc_board.specs.inside.Layout.{sheet_of, IsBoard};
 
     ghost view = { sheet_of };
 

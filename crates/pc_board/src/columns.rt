@@ -36,7 +36,7 @@ pub(crate) struct Columns {
 
 impl Columns {
     ghost use Rattle.std.specs.Prelude.{◌≡◌};
-    ghost use Rattle.pc_board.specs.Places.{span_of};
+    ghost use Rattle.pc_board.specs.inside.Places.{span_of};
 
     /// Where one of them stands.
     pub(crate) fn span(&self, column: Column) -> Span

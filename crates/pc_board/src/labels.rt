@@ -1,8 +1,9 @@
 //! The events with a label, and the steps that gave it to them.
 
 ghost use Rattle.std.specs.Prelude.{◌≡◌, ◌+◌, ◌<◌, ◌≤◌, ◌^◌};
-ghost use Rattle.pc_board.specs.Sheets.{Sheet, rank_of, queue_of, step_of, against_of, near_of, room_of, lost_of, flow_of, kept_time, time_of};
-ghost use Rattle.pc_board.specs.Moves.{KeepsAt, LosesAt, StepsBack, SetsStep, SetsTime, StartsAt, EntersAt};
+ghost use Rattle.pc_board.specs.Sheets.{Sheet, rank_of, flow_of, kept_time, time_of};
+ghost use Rattle.pc_board.specs.inside.Sheets.{queue_of, step_of, against_of, near_of, room_of, lost_of};
+ghost use Rattle.pc_board.specs.inside.Moves.{KeepsAt, LosesAt, StepsBack, SetsStep, SetsTime, StartsAt, EntersAt};
 
 use crate::board::Board;
 use crate::columns::Column;

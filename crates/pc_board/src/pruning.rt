@@ -1,8 +1,9 @@
 //! Labels that fall when a step has no room left.
 ghost use Rattle.std.specs.Prelude.{◌≡◌, ◌+◌, ◌<◌, ◌≤◌, ◌↔◌, IsTrue};
-ghost use Rattle.pc_board.specs.Sheets.{Sheet, rank_of, room_of, near_of};
-ghost use Rattle.pc_board.specs.Labelling.{HasStep, IsRanked, IsRankedBack, AreTimes};
-ghost use Rattle.pc_board.specs.Pruning.{IsPruned};
+ghost use Rattle.pc_board.specs.Sheets.{Sheet, rank_of};
+ghost use Rattle.pc_board.specs.inside.Sheets.{room_of, near_of};
+ghost use Rattle.pc_board.specs.inside.Labelling.{HasStep, IsRanked, IsRankedBack, AreTimes};
+ghost use Rattle.pc_board.specs.inside.Pruning.{IsPruned};
 
 use crate::board::Board;
 

@@ -1,8 +1,8 @@
 //! The flow raised along the steps that led to the end.
 ghost use Rattle.std.specs.Prelude.{◌≡◌, ◌<◌, ◌≤◌, ℕ};
 ghost use Rattle.pc_board.specs.Sheets.{Sheet, rank_of};
-ghost use Rattle.pc_board.specs.Labelling.{HasStep, IsRanked, IsRankedBack, HaveSteps, HaveRoom};
-ghost use Rattle.pc_board.specs.Raising.{IsLeastRoom, IsRaised};
+ghost use Rattle.pc_board.specs.inside.Labelling.{HasStep, IsRanked, IsRankedBack, HaveSteps, HaveRoom};
+ghost use Rattle.pc_board.specs.inside.Raising.{IsLeastRoom, IsRaised};
 
 use crate::board::Board;
 

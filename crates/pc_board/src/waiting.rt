@@ -1,8 +1,9 @@
 //! The list of the activities that wait for a fall.
 
 ghost use Rattle.std.specs.Prelude.{◌≡◌, ◌≢◌, ◌+◌, ◌<◌, ◌≤◌, ◌^◌};
-ghost use Rattle.pc_board.specs.Sheets.{Sheet, waiting_of, slot_of};
-ghost use Rattle.pc_board.specs.Moves.{WaitsAt, GoesAt, WaitsOnce};
+ghost use Rattle.pc_board.specs.Sheets.{Sheet};
+ghost use Rattle.pc_board.specs.inside.Sheets.{waiting_of, slot_of};
+ghost use Rattle.pc_board.specs.inside.Moves.{WaitsAt, GoesAt, WaitsOnce};
 
 use crate::board::Board;
 use crate::columns::Column;

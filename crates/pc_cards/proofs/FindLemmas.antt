@@ -1,7 +1,7 @@
 -- What is found, and what is not, by one test behind another.
 use Rattle.std.proofs.Common.{◌≡◌, ℕ, Bool, true, false, not, List, [], ◌∷◌, Option, Some, None, if◌then◌else◌, ap, refl}
 use Rattle.pc_cards.specs.Forms.{AllFit, Slot, field_numbered, first_misshapen, first_over_limit, has_shape, is_over_limit}
-use Rattle.pc_cards.specs.Findings.{flaw_of_fields, misshapen_at, or_else, over_limit_at}
+use Rattle.pc_cards.specs.inside.Findings.{flaw_of_fields, misshapen_at, or_else, over_limit_at}
 
 -- what is found later, where nothing is found before
 pub none_then : {A : Type 0} (first later found : Option A) → first ≡ None → later ≡ found → or_else first later ≡ found

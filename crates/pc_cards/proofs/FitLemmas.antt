@@ -3,7 +3,7 @@ use Rattle.std.proofs.Common.{◌≡◌, ℕ, ◌≤◌, Bool, true, false, not,
 use Rattle.std.proofs.lemmas.Bool.Decides.{nat_tests}
 use Rattle.pc_faults.specs.declared.kind.Kind.{Kind}
 use Rattle.pc_cards.specs.Forms.{Slot, AllFit, field_numbered, has_shape, is_over_limit, is_outside}
-use Rattle.pc_cards.specs.Findings.{or_else, where_so, misshapen_at, over_limit_at, one_too_many}
+use Rattle.pc_cards.specs.inside.Findings.{or_else, where_so, misshapen_at, over_limit_at, one_too_many}
 
 -- where nothing was found, neither place had anything
 pub neither : {A : Type 0} (first later : Option A) → or_else first later ≡ None → (first ≡ None) × (later ≡ None)

@@ -2,8 +2,9 @@
 use Rattle.std.proofs.Common.{◌≡◌, ℕ, Bool, true, false, not, List, [], ◌∷◌, Option, Some, None, ◌==◌, if◌then◌else◌, refl, ap, sym, ◌∙◌, inl, inr}
 use Rattle.std.proofs.lemmas.Bool.{eq-eqb}
 use Rattle.pc_faults.specs.Faults as fault
-use Rattle.pc_cards.specs.Forms.{IsMisfit, IsFirstMisfit, Slot, field_numbered, first_misshapen, first_over_limit, has_shape, is_over_limit, is_of_shape, slots_behind}
-use Rattle.pc_cards.specs.Findings.{flaw_of_fields, misshapen_at, over_limit_at}
+use Rattle.pc_cards.specs.Forms.{Slot, field_numbered, first_misshapen, first_over_limit, has_shape, is_over_limit}
+use Rattle.pc_cards.specs.inside.Forms.{IsMisfit, IsFirstMisfit, is_of_shape, slots_behind}
+use Rattle.pc_cards.specs.inside.Findings.{flaw_of_fields, misshapen_at, over_limit_at}
 use Rattle.pc_cards.specs.declared.field.Flaw.{Flaw}
 use Rattle.pc_cards.specs.declared.field.Flaw.TheVariants as flaw
 use Rattle.pc_cards.specs.declared.field.Misfit.{Misfit}

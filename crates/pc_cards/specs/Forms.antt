@@ -1,5 +1,5 @@
 -- What one field of a card must be.
-use Rattle.std.specs.Prelude.{◌≡◌, ℕ, ℤ, pos, ◌-◌, Bool, true, false, not, ◌||◌, nat_lt, List, [], ◌∷◌, length, drop, Option, Some, None, is_some, unwrap_or, Result, Ok, Err, find, bytes_eq, codes, decimal, nat_le, nat_eq, ◌&&◌, ◌⊎◌, ◌==◌, if◌then◌else◌}
+use Rattle.std.specs.Prelude.{◌≡◌, ℕ, ℤ, pos, ◌-◌, Bool, true, false, not, ◌||◌, nat_lt, List, [], ◌∷◌, length, drop, Option, Some, None, is_some, unwrap_or, Result, Ok, Err, find, bytes_eq, codes, decimal, nat_le, nat_eq, ◌&&◌, if◌then◌else◌}
 use Rattle.std.specs.List.{starts_with}
 use Rattle.pc_records.specs.Deck.{field_at, is_blank, is_empty}
 use Rattle.pc_text.specs.Code.{is_code}
@@ -9,9 +9,6 @@ use Rattle.pc_days.specs.Dates.{day_of}
 use Rattle.pc_days.specs.declared.error.DayError.{DayError}
 use Rattle.pc_days.specs.declared.error.DayError.TheVariants.{Shape, Years}
 use Rattle.pc_model.specs.declared.limits.TheConstants.{MAX_COST, MAX_DURATION}
-use Rattle.pc_cards.specs.declared.field.Flaw.{Flaw}
-use Rattle.pc_cards.specs.declared.field.Flaw.TheVariants as flaw
-use Rattle.pc_cards.specs.declared.field.Misfit.{Misfit}
 use Rattle.pc_cards.specs.declared.form.Form.{Form}
 use Rattle.pc_cards.specs.declared.form.Form.TheVariants as form
 use Rattle.pc_cards.specs.declared.sort.Sort.{Sort}
@@ -76,19 +73,6 @@ is_over_limit (form.Number least most) field = is_outside least most (number_of 
 is_over_limit (form.NumberOrNone least most) field = is_outside least most (number_of field)
 is_over_limit form.Letter field = false
 
--- whether it is the shape that is wrong
-abbrev pub is_of_shape : Flaw → Bool
-is_of_shape flaw.Shape = true
-is_of_shape flaw.Limit = false
-
--- what is wrong with a field that must be this, if anything is
-abbrev pub flaw_of : Form → List ℕ → Option Flaw
-flaw_of form field = if has_shape form field then (if is_over_limit form field then Some flaw.Limit else None) else Some flaw.Shape
-
--- this is what is wrong with the field that has the number and must be this
-abbrev pub IsMisfit : ℕ → Form → List ℕ → Misfit → Type 0
-IsMisfit number form field misfit = (number ≡ misfit.number) × (flaw_of form field ≡ Some misfit.flaw)
-
 -- the field with a number, counted from 1
 abbrev pub field_numbered : List (List ℕ) → ℕ → List ℕ
 field_numbered fields number = field_at fields (number - 1)
@@ -102,13 +86,6 @@ abbrev pub AllFit : List Slot → List (List ℕ) → Type 0
 AllFit [] fields = Unit {0}
 AllFit (slot ∷ slots) fields = Fits slot.1 (field_numbered fields slot.0) × AllFit slots fields
 
--- this is the first of the fields that is not what it must be
-abbrev pub IsFirstMisfit : List Slot → List (List ℕ) → Misfit → Type 0
-IsFirstMisfit [] fields misfit = ⊥
-IsFirstMisfit (slot ∷ slots) fields misfit =
-    IsMisfit slot.0 slot.1 (field_numbered fields slot.0) misfit
-    ⊎ (Fits slot.1 (field_numbered fields slot.0) × IsFirstMisfit slots fields misfit)
-
 -- the record has enough fields, and those past the most that it may have are empty
 abbrev pub is_whole : ℕ → ℕ → List (List ℕ) → Bool
 is_whole least most fields = nat_le least (length fields) && is_blank (drop most fields)
@@ -120,11 +97,6 @@ first_misshapen slots fields = find (λ slot. not (has_shape slot.1 (field_numbe
 -- the first field that is over its limit
 abbrev pub first_over_limit : List Slot → List (List ℕ) → Option Slot
 first_over_limit slots fields = find (λ slot. is_over_limit slot.1 (field_numbered fields slot.0)) slots
-
--- the slots behind the first with a number
-abbrev pub slots_behind : ℕ → List Slot → List Slot
-slots_behind number [] = []
-slots_behind number (slot ∷ slots) = if slot.0 == number then slots else slots_behind number slots
 
 -- the number that a field spells
 abbrev pub number_in : List ℕ → ℕ

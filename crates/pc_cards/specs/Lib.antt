@@ -4,3 +4,4 @@ pub mod Named
 pub mod Entry
 pub mod Cards
 pub mod Findings
+pub mod inside

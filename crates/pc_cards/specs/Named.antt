@@ -1,5 +1,5 @@
 -- Cards of one kind: how many, and which of them other cards name by their codes.
-use Rattle.std.specs.Prelude.{ℕ, ◌+◌, Bool, true, false, List, [], ◌∷◌, ◌++◌, length, map, nat_eq, Option, Some, None, option_map}
+use Rattle.std.specs.Prelude.{ℕ, ◌+◌, Bool, true, false, List, [], ◌∷◌, nat_eq, Option, Some, None, option_map}
 use Rattle.std.specs.List.{list_any}
 use Rattle.std.specs.Cmp.Lexicographic.{pointwise}
 
@@ -7,39 +7,20 @@ use Rattle.std.specs.Cmp.Lexicographic.{pointwise}
 abbrev pub is_among : List ℕ → List (List ℕ) → Bool
 is_among code codes = list_any (pointwise nat_eq code) codes
 
--- whether one of the cards has the code
-abbrev pub has_code : {C : Type 0} → (C → List ℕ) → List C → List ℕ → Bool
-has_code code_of cards code = is_among code (map code_of cards)
-
 -- one element, or none
 abbrev pub as_list : {X : Type 0} → Option X → List X
 as_list None = []
 as_list (Some x) = x ∷ []
-
--- how many cards there are of a kind that stands once
-abbrev pub count_once : {C : Type 0} → Option C → ℕ
-count_once card = length (as_list card)
 
 -- the cards of a kind: one or none where the kind stands once, or else a list
 abbrev pub HeldBy : Bool → Type 0 → Type 0
 HeldBy true C = Option C
 HeldBy false C = List C
 
--- none
-abbrev pub none_by : (once : Bool) (C : Type 0) → HeldBy once C
-none_by true C = None
-none_by false C = []
-
 -- the same as a list
 abbrev pub listed_by : (once : Bool) (C : Type 0) → HeldBy once C → List C
 listed_by true C held = as_list held
 listed_by false C held = held
-
--- with one more card, where the test holds
-abbrev pub more_if : (test once : Bool) (C : Type 0) → HeldBy once C → C → HeldBy once C
-more_if false once C held card = held
-more_if true true C held card = Some card
-more_if true false C held card = held ++ card ∷ []
 
 -- the cards in other records, one behind the other: each by how it looks in another record
 abbrev pub numbered_from : {C : Type 0} → (ℕ → C → C) → ℕ → List C → List C

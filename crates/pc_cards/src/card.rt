@@ -3,7 +3,8 @@ ghost use Rattle.std.specs.Prelude.{◌≡◌, ◌++◌, ◌∷◌, [], ℕ, Lis
 ghost use Rattle.pc_records.specs.Deck.{field_at};
 ghost use Rattle.pc_records.specs.Text.{record_text};
 ghost use Rattle.pc_faults.specs.Kinds.{word_of};
-ghost use Rattle.pc_cards.specs.Forms.{AllFit, IsFirstMisfit, Slot};
+ghost use Rattle.pc_cards.specs.Forms.{AllFit, Slot};
+ghost use Rattle.pc_cards.specs.inside.Forms.{IsFirstMisfit};
 ghost use Rattle.pc_cards.specs.declared.sort.Sort.{Sort};
 
 use crate::field::Misfit;

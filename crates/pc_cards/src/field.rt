@@ -2,7 +2,8 @@
 ghost use Rattle.std.specs.Prelude.{◌≡◌, IfOk, OnOk, IfErr};
 ghost use Rattle.pc_text.specs.Code.{code_of};
 ghost use Rattle.pc_text.specs.Number.{number_of};
-ghost use Rattle.pc_cards.specs.Forms.{Fits, IsMisfit, field_numbered, number_in, day_in, is_finish, is_of_shape, is_reserved, own_code};
+ghost use Rattle.pc_cards.specs.Forms.{Fits, field_numbered, number_in, day_in, is_finish, is_reserved, own_code};
+ghost use Rattle.pc_cards.specs.inside.Forms.{IsMisfit, is_of_shape};
 ghost use Rattle.pc_cards.specs.declared.field.Flaw.TheVariants as flaw;
 ghost use Rattle.pc_cards.specs.declared.form.Form.TheVariants as form;
 

@@ -1,6 +1,7 @@
 //! What one field of a card must be, and what is wrong with fields that are not.
 ghost use Rattle.std.specs.Prelude.{◌≡◌, not, option_copied, IfSome, IfNone};
-ghost use Rattle.pc_cards.specs.Forms.{Fits, IsMisfit, field_numbered, first_misshapen, has_shape, slots_behind};
+ghost use Rattle.pc_cards.specs.Forms.{Fits, field_numbered, first_misshapen, has_shape};
+ghost use Rattle.pc_cards.specs.inside.Forms.{IsMisfit, slots_behind};
 
 use crate::field::{
     Misfit, read_amount, read_amount_or_none, read_code, read_code_or_none, read_date,

@@ -3,9 +3,9 @@
 //! Each takes the next card of its kind, or answers the fault of that card. After a fault the list is of no more use.
 ghost use Rattle.std.specs.Prelude.{◌≡◌, [], ◌∷◌, ◌++◌, None, Some, true, not, nat_eq, length, map, position, IfOk, OnOk, IfErr};
 ghost use Rattle.std.specs.Cmp.Lexicographic.{pointwise};
-ghost use Rattle.pc_faults.specs.First.{Refuses};
-ghost use Rattle.pc_cards.specs.Findings.{fault_of_listed, fault_of_named, not_alone, or_else};
-ghost use Rattle.pc_cards.specs.Named.{count_once, has_code};
+ghost use Rattle.pc_faults.specs.inside.First.{Refuses};
+ghost use Rattle.pc_cards.specs.inside.Findings.{fault_of_listed, fault_of_named, not_alone, or_else};
+ghost use Rattle.pc_cards.specs.inside.Named.{count_once, has_code};
 ghost use Rattle.pc_model.specs.Codes.{IsNamedOnce};
 
 use crate::card::{Card, Coded};

@@ -1,6 +1,6 @@
 //! Where a card stands among those before it, and what may be wrong with that.
 ghost use Rattle.std.specs.Prelude.{◌≡◌};
-ghost use Rattle.pc_cards.specs.Findings.{fault_of_place, not_alone};
+ghost use Rattle.pc_cards.specs.inside.Findings.{fault_of_place, not_alone};
 
 use crate::sort::Sort;
 use pc_faults::{Fault, Kind};

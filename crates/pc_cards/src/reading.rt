@@ -1,7 +1,8 @@
 //! Reading the card of a record, or the fault of its fields.
 ghost use Rattle.std.specs.Prelude.{◌≡◌, ℕ, List, None, Some, IfOk, OnOk, IfErr};
-ghost use Rattle.pc_cards.specs.Forms.{AllFit, IsFirstMisfit, Slot};
-ghost use Rattle.pc_cards.specs.Findings.{flaw_of_fields, or_else, wrong_fields};
+ghost use Rattle.pc_cards.specs.Forms.{AllFit, Slot};
+ghost use Rattle.pc_cards.specs.inside.Forms.{IsFirstMisfit};
+ghost use Rattle.pc_cards.specs.inside.Findings.{flaw_of_fields, or_else, wrong_fields};
 
 use crate::card::Card;
 use crate::field::{Flaw, Misfit};

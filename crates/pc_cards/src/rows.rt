@@ -1,7 +1,8 @@
 //! The cards of a deck among its records.
 ghost use Rattle.std.specs.Prelude.{◌≡◌, ◌≤◌, ◌+◌, length, IfOk};
 ghost use Rattle.pc_records.specs.Deck.{deck_records};
-ghost use Rattle.pc_cards.specs.Cards.{deck_cards, Follows};
+ghost use Rattle.pc_cards.specs.Cards.{deck_cards};
+ghost use Rattle.pc_cards.specs.inside.Cards.{Follows};
 ghost use Rattle.pc_cards.specs.Limits.{longest_deck};
 
 use pc_records::{Row, Rows};
@@ -18,7 +19,8 @@ pub struct CardRows<'a> {
 
 impl<'a> Model for CardRows<'a> {
     ghost use Rattle.std.specs.Prelude.{ℕ, ◌+◌, ◌<◌, ◌^◌, List, length};
-    ghost use Rattle.pc_cards.specs.Cards.{cards_from, CardsLeft};
+    ghost use Rattle.pc_cards.specs.Cards.{cards_from};
+    ghost use Rattle.pc_cards.specs.inside.Cards.{CardsLeft};
 
     ghost Value = { CardsLeft };
 

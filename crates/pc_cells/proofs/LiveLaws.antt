@@ -6,7 +6,7 @@ use Rattle.std.proofs.lemmas.List.Sums.{sum_by-cons}
 use Rattle.std.proofs.lemmas.Bool.{cases_eq}
 use Rattle.std.proofs.Common.{inl, inr}
 use Rattle.pc_cells.specs.declared.span.Span.{Span}
-use Rattle.pc_cells.specs.Spans.{span_at, cells_before, IsSpan}
+use Rattle.pc_cells.specs.inside.Spans.{span_at, cells_before, IsSpan}
 
 -- what is written into a span moves no other
 pub cells_before-set : (spans : List (List ℕ)) (k j : ℕ) (xs : List ℕ) → length xs ≡ length (span_at spans k)

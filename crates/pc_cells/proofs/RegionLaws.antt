@@ -7,8 +7,9 @@ use Rattle.std.proofs.lemmas.List.{with_items_is, length_push, get_or_read, take
 use Rattle.pc_cells.specs.declared.span.Span.{Span}
 use Rattle.pc_cells.specs.declared.span.Mark.{Mark}
 use Rattle.pc_cells.specs.declared.region.Region.TheInside.{Inside}
-use Rattle.pc_cells.specs.Spans.{Cells, span_at, cells_before, with_span, free_of, IsSpan, IsLive, IsMark}
-use Rattle.pc_cells.specs.Layout.{between_starts, spans_of, cells_of, AreStarts, IsLaidOut, IsRangeFilled, IsRangeWritten}
+use Rattle.pc_cells.specs.Spans.{Cells}
+use Rattle.pc_cells.specs.inside.Spans.{span_at, cells_before, with_span, free_of, IsSpan, IsLive, IsMark}
+use Rattle.pc_cells.specs.inside.Layout.{between_starts, spans_of, cells_of, AreStarts, IsLaidOut, IsRangeFilled, IsRangeWritten}
 use Rattle.pc_cells.proofs.SpanLaws.{length-spans, sum-spans, span-within, spans-get, spans-set, spans-written, span-begins, span-ends, spans-at, spans-released, starts-released, spans-grown, mark-at, start-rises, start-above}
 
 -- what a call that writes a range of a vector's slice leaves in the vector

@@ -10,8 +10,8 @@ use Rattle.std.proofs.Math.Seq.{take-set-lt}
 use Rattle.std.proofs.lemmas.Bool.{cases_eq, cases_lt}
 use borrow.Rule.Slice.PartMut.{put_mid}
 use Rattle.pc_cells.specs.declared.span.Span.{Span}
-use Rattle.pc_cells.specs.Spans.{span_at, cells_before, IsSpan}
-use Rattle.pc_cells.specs.Layout.{between_starts, spans_of, AreStarts, IsRangeFilled, IsRangeWritten}
+use Rattle.pc_cells.specs.inside.Spans.{span_at, cells_before, IsSpan}
+use Rattle.pc_cells.specs.inside.Layout.{between_starts, spans_of, AreStarts, IsRangeFilled, IsRangeWritten}
 
 module _ (starts : List ℕ) (n size : ℕ) (good : AreStarts starts n size) where
   rises_by : (j d : ℕ) → j + d ≤ n → slice_index starts j ≤ slice_index starts (j + d)

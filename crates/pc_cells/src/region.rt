@@ -1,7 +1,7 @@
 //! A region and the spans that are live in it.
 ghost use Rattle.std.specs.Prelude.{◌≡◌, ◌+◌, ◌<◌, ◌≤◌, ◌↔◌, ℕ, [], ◌∷◌, ◌++◌, IfOk, IfErr, OnOk, OnErr, IsOk, IsTrue, length, take, replicate, slice_index, slice_set, sum_by};
-ghost use Rattle.pc_cells.specs.Spans.{free_of, span_at, with_span, IsSpan, IsLive, IsTaken, IsMark};
-ghost use Rattle.pc_cells.specs.Layout.{IsRangeFilled, IsRangeWritten};
+ghost use Rattle.pc_cells.specs.inside.Spans.{free_of, span_at, with_span, IsSpan, IsLive, IsTaken, IsMark};
+ghost use Rattle.pc_cells.specs.inside.Layout.{IsRangeFilled, IsRangeWritten};
 
 use crate::span::{Mark, RegionFull, Span};
 use std::alloc::{AllocError, Global};
@@ -22,7 +22,7 @@ impl Model for Region {
 
     ghost Value = { Cells };
 
-    ghost use Rattle.pc_cells.specs.Layout.{cells_of, IsLaidOut};
+    ghost use Rattle.pc_cells.specs.inside.Layout.{cells_of, IsLaidOut};
 
     ghost view = { cells_of };
 

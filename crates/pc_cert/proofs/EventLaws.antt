@@ -9,8 +9,8 @@ use Rattle.pc_cert.specs.declared.line.CertLine.{CertLine}
 use Rattle.pc_cert.specs.declared.line.CertLine.TheVariants.{Event}
 use Rattle.pc_text.specs.Fields.{run_len, spaced, IsCode}
 use Rattle.pc_cert.specs.Lines.{Fits, spelling, bit_text, IsSmall}
-use Rattle.pc_cert.specs.Reading.{line_of}
-use Rattle.pc_cert.specs.Known.{AreCells, IsAgain, IsEventFront}
+use Rattle.pc_cert.specs.inside.Reading.{line_of}
+use Rattle.pc_cert.specs.inside.Known.{AreCells, IsAgain, IsEventFront}
 use Rattle.pc_text.proofs.FieldLemmas.{run_len-before}
 use Rattle.pc_cert.proofs.LineLaws.{line_takes, line_again}
 use Rattle.pc_cert.proofs.LineLengths.{spelling_lacks_end}

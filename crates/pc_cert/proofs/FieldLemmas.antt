@@ -6,8 +6,8 @@ use Rattle.std.specs.Char.{is_ascii_digit}
 use Rattle.std.specs.Fmt.{decimal}
 use Rattle.pc_text.specs.Fields.{spaced, Lacks}
 use Rattle.pc_text.proofs.FieldLemmas.{lacks, IsBehind, field_by_takes, field_by_again}
-use Rattle.pc_cert.specs.Number.{numeral_of}
-use Rattle.pc_cert.specs.Fields.{number_field, bit_of, bit_field}
+use Rattle.pc_cert.specs.inside.Number.{numeral_of}
+use Rattle.pc_cert.specs.inside.Fields.{number_field, bit_of, bit_field}
 use Rattle.pc_cert.specs.Lines.{bit_text, IsSmall}
 use Rattle.pc_cert.proofs.NumberLemmas.{number_takes, number_again, decimal_parts}
 

@@ -1,8 +1,8 @@
 -- Reading the flows of an activity one by one.
 use Rattle.std.proofs.Common.{◌≡◌, ◌≢◌, ℕ, ◌+◌, ◌-◌, ◌<◌, ◌≤◌, zero, suc, List, [], ◌∷◌, ◌++◌, length, Option, Some, None, refl, sym, ap, ◌∙◌, arith, append_assoc, append-nil, length-append}
 use Rattle.pc_text.specs.Fields.{◌>>=◌}
-use Rattle.pc_cert.specs.Fields.{number_field}
-use Rattle.pc_cert.specs.Reading.{numbers_in, flows_of}
+use Rattle.pc_cert.specs.inside.Fields.{number_field}
+use Rattle.pc_cert.specs.inside.Reading.{numbers_in, flows_of}
 
 -- the numbers that came before, and those that follow
 abbrev with_front : List ℕ → Option (List ℕ) → Option (List ℕ)

@@ -4,11 +4,11 @@ use Rattle.std.specs.Prelude.{IsSome}
 use Rattle.std.proofs.lemmas.List.{take-append-drop, take-append-le, take_all, length-drop, length-set, take_more_set}
 use Rattle.pc_cert.specs.declared.line.CertLine.{CertLine}
 use Rattle.pc_text.specs.Fields.{run_len, Lacks}
-use Rattle.pc_cert.specs.Reading.{line_of}
+use Rattle.pc_cert.specs.inside.Reading.{line_of}
 use Rattle.pc_text.proofs.FieldLemmas.{run_len-before}
 use Rattle.pc_cert.proofs.LineLaws.{line_takes}
 use Rattle.pc_cert.proofs.LineLengths.{spelling_lacks_end}
-use Rattle.pc_cert.specs.Known.{AreCells, IsAgain}
+use Rattle.pc_cert.specs.inside.Known.{AreCells, IsAgain}
 
 -- the piece begins with the bytes that are kept of the line
 pub comes_again : (line : Option CertLine) (cells piece : List ℕ) (len : ℕ) → AreCells cells len line → len ≤ length piece → take len piece ≡ take len cells → 0 < len → IsAgain line piece len

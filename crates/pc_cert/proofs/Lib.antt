@@ -1,3 +1,4 @@
+pub mod Passing
 pub mod NumberLemmas
 pub mod FieldLemmas
 pub mod FlowsLemmas

@@ -12,7 +12,7 @@ use Rattle.std.specs.Char.{is_ascii_digit}
 use Rattle.std.specs.Fmt.{decimal}
 use Rattle.pc_text.specs.Number.{value_after}
 use Rattle.pc_text.proofs.NumberLemmas.{own}
-use Rattle.pc_cert.specs.Number.{is_numeral, is_unpadded, numeral_of, AreDigitsAt}
+use Rattle.pc_cert.specs.inside.Number.{is_numeral, is_unpadded, numeral_of, AreDigitsAt}
 
 -- a number of fewer than 18 digits is below 10 ^ 17
 pub below_17_digits : (n i : ℕ) → n < 10 ^ i → i < 18 → n < 10 ^ 17

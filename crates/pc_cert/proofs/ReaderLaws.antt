@@ -6,17 +6,22 @@ use Rattle.pc_cert.specs.declared.line.CertLine.{CertLine}
 use Rattle.pc_cert.specs.declared.place.Place.{Place}
 use Rattle.pc_text.specs.Fields.{◌>>=◌, run_len, Lacks}
 use Rattle.pc_cert.specs.Lines.{spelling, Fits}
-use Rattle.pc_cert.specs.Reading.{line_of}
+use Rattle.pc_cert.specs.inside.Reading.{line_of}
 use Rattle.pc_cert.specs.Grammar.{next}
 use Rattle.pc_cert.specs.Text.{text_of}
 use Rattle.pc_text.proofs.FieldLemmas.{bind_some}
 use Rattle.pc_cert.proofs.LineLaws.{line_takes, line_again}
 use Rattle.pc_cert.proofs.TextLaws.{text_of-append, LeadTo-more}
-use Rattle.pc_cert.specs.Reader.{arrived, IsGoing, IsNotAllowed, IsStopped, Stands, StandsFor, Reading, HasPassed, place_behind}
-use Rattle.pc_cert.specs.Fed.{line_list, left_in, used_of}
-use Rattle.pc_cert.specs.Known.{IsAgain}
-use Rattle.pc_cert.specs.Passing.{PassesLine}
+use Rattle.pc_cert.specs.Reader.{IsGoing, IsNotAllowed, IsStopped}
+use Rattle.pc_cert.specs.inside.Reader.{Stands, StandsFor, Reading, HasPassed, place_behind}
+use Rattle.pc_cert.specs.inside.Fed.{line_list, left_in, used_of}
+use Rattle.pc_cert.specs.inside.Known.{IsAgain}
+use Rattle.pc_cert.proofs.Passing.{PassesLine}
 use Rattle.pc_cert.specs.declared.reader.Malformed.{Malformed}
+
+-- the line that bytes spell, where it may stand in this place, and the place behind it
+abbrev pub arrived : Place → List ℕ → Option (CertLine × Place)
+arrived place bytes = line_of bytes >>= (λ line. next place line >>= (λ behind. Some (line, behind)))
 
 -- ---- a piece and the first end of a line in it
 

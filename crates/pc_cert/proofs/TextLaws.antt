@@ -5,7 +5,7 @@ use Rattle.pc_cert.specs.declared.place.Place.{Place}
 use Rattle.pc_cert.specs.declared.place.Place.TheVariants.{Start}
 use Rattle.pc_text.specs.Fields.{◌>>=◌, Lacks}
 use Rattle.pc_cert.specs.Lines.{spelling, Fits}
-use Rattle.pc_cert.specs.Reading.{line_of}
+use Rattle.pc_cert.specs.inside.Reading.{line_of}
 use Rattle.pc_cert.specs.Grammar.{next}
 use Rattle.pc_cert.specs.Text.{text_of, AllFit, ran, LeadTo}
 use Rattle.pc_cert.proofs.LineLaws.{line_again}

@@ -61,9 +61,3 @@ next (CrashWalk shape steps) line = next_in_crash_walk shape steps line
 next (InSegment shape events activities) line = next_in_segment shape events activities line
 next (Between shape) line = next_between shape line
 next Ended line = None
-
--- a row of a segment: the line of an event or of an activity
-abbrev pub IsRow : CertLine → Type 0
-IsRow (Event code time moves) = Unit {0}
-IsRow (Act code duration flows) = Unit {0}
-IsRow other = ⊥

@@ -1,10 +1,5 @@
-pub mod Number
-pub mod Fields
 pub mod Lines
-pub mod Reading
 pub mod Grammar
 pub mod Text
 pub mod Reader
-pub mod Fed
-pub mod Known
-pub mod Passing
+pub mod inside

@@ -1,5 +1,5 @@
 -- The lines of a certificate, and how each is spelled.
-use Rattle.std.specs.Prelude.{◌≡◌, ℕ, ◌^◌, ◌<◌, ◌≤◌, Bool, List, [], ◌∷◌, ◌++◌, length, decimal, codes, if◌then◌else◌}
+use Rattle.std.specs.Prelude.{ℕ, ◌^◌, ◌<◌, ◌≤◌, Bool, List, [], ◌∷◌, ◌++◌, length, decimal, codes, if◌then◌else◌}
 use Rattle.pc_text.specs.Fields.{spaced, IsCode}
 use Rattle.pc_cert.specs.declared.line.CertLine.{CertLine}
 use Rattle.pc_cert.specs.declared.line.CertLine.TheVariants.{Head, Normal, Step, Crash, Segment, Event, Act, Close, End}
@@ -36,16 +36,6 @@ IsSmall n = n < 10 ^ MAX_DIGITS
 -- version 1 or 2
 abbrev pub IsVersion : ℕ → Type 0
 IsVersion version = (1 ≤ version) × (version ≤ 2)
-
--- the bytes begin with the decimal form of a number of at most 18 digits, behind which are the rest
-pub record IsNumeralAt (bytes : List ℕ) (n : ℕ) (rest : List ℕ) : Type 0 where
-  pub text : bytes ≡ decimal n ++ rest
-  pub small : IsSmall n
-
--- the bytes begin with a space and the decimal form of a number of at most 18 digits, behind which are the rest
-pub record IsNumberAt (bytes : List ℕ) (n : ℕ) (rest : List ℕ) : Type 0 where
-  pub text : bytes ≡ spaced (decimal n) rest
-  pub small : IsSmall n
 
 -- each of the numbers is one of at most 18 digits
 abbrev pub AreSmall : List ℕ → Type 0

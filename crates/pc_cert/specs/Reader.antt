@@ -1,33 +1,14 @@
 -- What a reader of a certificate stands for.
-use Rattle.std.specs.Prelude.{◌≡◌, ◌≢◌, ℕ, ◌+◌, ◌^◌, ◌<◌, ◌≤◌, List, [], ◌∷◌, ◌++◌, length, Option, Some, None, Result, Ok, Err, ◌⊎◌}
+use Rattle.std.specs.Prelude.{◌≡◌, ◌≢◌, ℕ, ◌+◌, ◌<◌, List, [], ◌∷◌, ◌++◌, length, Some, ◌⊎◌}
 use Rattle.pc_cert.specs.declared.line.CertLine.{CertLine}
 use Rattle.pc_cert.specs.declared.line.TheConstants.{MAX_LINE}
 use Rattle.pc_cert.specs.declared.place.Place.{Place}
 use Rattle.pc_cert.specs.declared.place.Place.TheVariants.{Ended}
-use Rattle.pc_text.specs.Fields.{◌>>=◌, Lacks}
+use Rattle.pc_text.specs.Fields.{Lacks}
 use Rattle.pc_cert.specs.Lines.{spelling, Fits}
-use Rattle.pc_cert.specs.Reading.{line_of}
 use Rattle.pc_cert.specs.Grammar.{next}
 use Rattle.pc_cert.specs.Text.{text_of, LeadTo}
 use Rattle.pc_cert.specs.declared.reader.Malformed.{Malformed}
-
--- what a reader keeps: its place in the order of lines, how many whole lines there were, the bytes of the line that has
--- not ended, and the first line that is malformed
-pub record Reading : Type 0 where
-  pub place : Place
-  pub lines : ℕ
-  pub held : List ℕ
-  pub malformed : Option Malformed
-
--- the bytes of a line that has not ended have room, and one more than the whole lines can be counted
-pub record KeepsRoom (cells : List ℕ) (held count : ℕ) : Type 0 where
-  pub short : held < MAX_LINE
-  pub room : length cells ≡ MAX_LINE
-  pub few : count ≤ 2 ^ 63
-
--- the line that bytes spell, where it may stand in this place, and the place behind it
-abbrev pub arrived : Place → List ℕ → Option (CertLine × Place)
-arrived place bytes = line_of bytes >>= (λ line. next place line >>= (λ behind. Some (line, behind)))
 
 -- the text is these lines, which may come in this order, and then the beginning of a line, which is not yet as long as a line that
 -- is too long
@@ -61,14 +42,6 @@ pub record IsStopped (malformed : Malformed) (lines : List CertLine) (text : Lis
   pub whole : text ≡ text_of lines ++ (bad ++ more)
   pub why : IsBadLine place bad ⊎ IsTooLong bad
 
-abbrev pub Stands : Option Malformed → Place → ℕ → List ℕ → List CertLine → List ℕ → Type 0
-Stands None place count held lines text = IsGoing place count held lines text
-Stands (Some malformed) place count held lines text = IsStopped malformed lines text
-
--- the reader stands for a text with these whole lines: for one that goes on, or for every one with its first malformed line
-abbrev pub StandsFor : Reading → List CertLine → List ℕ → Type 0
-StandsFor reading lines text = Stands reading.malformed reading.place reading.lines reading.held lines text
-
 -- the text is these lines, which are those of a whole certificate
 pub record IsWhole (lines : List CertLine) (text : List ℕ) : Type 0 where
   pub led : LeadTo Ended lines
@@ -81,31 +54,3 @@ pub record IsMissing (malformed : Malformed) (lines : List CertLine) (text : Lis
   pub going : IsGoing place (length lines) held lines text
   pub number : malformed.line ≡ length lines + 1
   pub why : (place ≢ Ended) ⊎ (held ≢ [])
-
--- how a text ends: whole, or with a line that is malformed or missing
-abbrev pub EndsAs : {A : Type 0} → Result A Malformed → List CertLine → List ℕ → Type 0
-EndsAs (Ok done) lines text = IsWhole lines text
-EndsAs (Err malformed) lines text = IsStopped malformed lines text ⊎ IsMissing malformed lines text
-
--- the place behind a line, where there is one and it may stand in this place
-abbrev pub place_behind : Place → Option CertLine → Option Place
-place_behind place line = line >>= next place
-
--- a reader has gone on behind a line that may stand in its place
-pub record GoesBehind (line : Option CertLine) (used count : ℕ) (old new : Reading) : Type 0 where
-  pub used_is : count ≡ used
-  pub taken : CertLine
-  pub there : line ≡ Some taken
-  pub goes : next old.place taken ≡ Some new.place
-  pub moved : new ≡ record old { place = new.place; lines = old.lines + 1; held = [] }
-
--- a reader has stopped at a line that may not stand in its place, or at bytes that spell none
-pub record StopsAt (line : Option CertLine) (malformed : Malformed) (old new : Reading) : Type 0 where
-  pub number : malformed.line ≡ old.lines + 1
-  pub kept : new ≡ record old { malformed = Some malformed }
-  pub none : place_behind old.place line ≡ None
-
--- what comes of the line that ends in a piece, of which so many bytes are used with it
-abbrev pub HasPassed : Option CertLine → ℕ → Reading → Reading → Result ℕ Malformed → Type 0
-HasPassed line used old new (Ok count) = GoesBehind line used count old new
-HasPassed line used old new (Err malformed) = StopsAt line malformed old new

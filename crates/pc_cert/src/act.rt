@@ -1,13 +1,13 @@
 //! Reading the line of an activity, which has two to six flows.
 ghost use Rattle.std.specs.Prelude.{◌≡◌};
-ghost use Rattle.pc_cert.specs.Reading.{act_of, flows_of};
+ghost use Rattle.pc_cert.specs.inside.Reading.{act_of, flows_of};
 
 use crate::field::number_field;
 use crate::flows::{Flows, MAX_FLOWS};
 use crate::line::CertLine;
 use pc_text::{Code, field};
 
-#[tactic(auto, unfolding(crate::specs::Reading::act_of, pc_text::specs::Fields::field_by))]
+#[tactic(auto, unfolding(crate::specs::inside::Reading::act_of, pc_text::specs::Fields::field_by))]
 pub(crate) fn act_of(fields: &[u8]) -> Option<CertLine>
     ensures { result ≡ act_of fields.now }
 {

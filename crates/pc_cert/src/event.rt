@@ -3,7 +3,7 @@ ghost use Rattle.std.specs.Prelude.{◌≡◌, ◌≤◌, ◌∷◌, IfSome, Som
 ghost use Rattle.pc_cert.specs.declared.line.CertLine.TheVariants.{Event};
 ghost use Rattle.pc_text.specs.Fields.{spaced};
 ghost use Rattle.pc_cert.specs.Lines.{bit_text};
-ghost use Rattle.pc_cert.specs.Known.{IsAgain, IsEventFront};
+ghost use Rattle.pc_cert.specs.inside.Known.{IsAgain, IsEventFront};
 
 use crate::front::{WIDTH, begin_same, begins};
 use crate::number::{MAX_DIGITS, number_at, number_within};

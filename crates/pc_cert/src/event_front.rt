@@ -1,7 +1,7 @@
 //! How each line of one event begins.
 ghost use Rattle.std.specs.Prelude.{◌≡◌, IfSome, Some};
 ghost use Rattle.pc_cert.specs.declared.line.CertLine.TheVariants.{Event};
-ghost use Rattle.pc_cert.specs.Known.{IsAgain, IsFrontOf};
+ghost use Rattle.pc_cert.specs.inside.Known.{IsAgain, IsFrontOf};
 
 use crate::event::{EVENT_NAMED, EventSaid, event_at};
 use crate::front::WIDTH;

@@ -18,7 +18,7 @@ pub struct Flows {
 impl Model for Flows {
     ghost use Rattle.std.specs.Prelude.{◌≡◌, ℕ, List, length, take};
     ghost use Rattle.std.proofs.Common.{sym};
-    ghost use Rattle.pc_text.specs.Words.{padded, IsPadded, length-IsPadded};
+    ghost use Rattle.pc_text.specs.inside.Words.{padded, IsPadded, length-IsPadded};
 
     ghost Value = { List ℕ };
 

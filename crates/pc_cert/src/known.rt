@@ -1,8 +1,8 @@
 //! A line that was read before, which comes again in most segments.
 ghost use Rattle.std.specs.Prelude.{◌≡◌, ◌<◌, IsSome, None, Some, length};
 ghost use Rattle.std.specs.Option.{option_map};
-ghost use Rattle.pc_cert.specs.Reading.{line_of};
-ghost use Rattle.pc_cert.specs.Known.{IsAgain, IsTextOf};
+ghost use Rattle.pc_cert.specs.inside.Reading.{line_of};
+ghost use Rattle.pc_cert.specs.inside.Known.{IsAgain, IsTextOf};
 
 use crate::event::event_at;
 use crate::front::begins;
@@ -24,7 +24,7 @@ pub struct KnownLine {
 }
 
 impl Model for KnownLine {
-    ghost use Rattle.pc_cert.specs.Known.{Known, AreCells};
+    ghost use Rattle.pc_cert.specs.inside.Known.{Known, AreCells};
 
     ghost Value = { Known };
 

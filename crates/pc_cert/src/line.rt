@@ -1,7 +1,7 @@
 //! A line of a certificate.
 ghost use Rattle.std.specs.Prelude.{◌≡◌, IfSome, Some};
 ghost use Rattle.pc_cert.specs.Lines.{spelling, Fits};
-ghost use Rattle.pc_cert.specs.Reading.{line_of};
+ghost use Rattle.pc_cert.specs.inside.Reading.{line_of};
 ghost use Rattle.pc_cert.specs.declared.line.CertLine.{CertLine};
 
 use crate::flows::Flows;

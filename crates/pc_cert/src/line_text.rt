@@ -1,7 +1,7 @@
 //! The bytes of a line that was read.
 ghost use Rattle.std.specs.Prelude.{ℕ, ◌<◌, Option};
 ghost use Rattle.pc_cert.specs.declared.line.CertLine.{CertLine};
-ghost use Rattle.pc_cert.specs.Known.{HasText, IsAgain, IsTextOf};
+ghost use Rattle.pc_cert.specs.inside.Known.{HasText, IsAgain, IsTextOf};
 
 use crate::front::begins;
 

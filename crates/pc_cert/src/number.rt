@@ -1,8 +1,8 @@
 //! The numbers of a certificate, which may be longer than those of a deck.
 ghost use Rattle.std.specs.Prelude.{◌≡◌, ◌+◌, ◌<◌, ◌≤◌, IfSome, length};
-ghost use Rattle.pc_text.specs.Number.{value_of};
-ghost use Rattle.pc_cert.specs.Number.{is_unpadded, numeral_of, AreDigitsAt};
-ghost use Rattle.pc_cert.specs.Lines.{IsNumberAt, IsNumeralAt};
+ghost use Rattle.pc_text.specs.inside.Number.{value_of};
+ghost use Rattle.pc_cert.specs.inside.Number.{is_unpadded, numeral_of, AreDigitsAt};
+ghost use Rattle.pc_cert.specs.inside.Lines.{IsNumberAt, IsNumeralAt};
 
 /// The most digits that a number of a certificate has.
 pub const MAX_DIGITS: usize = 18;

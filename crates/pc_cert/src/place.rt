@@ -2,7 +2,7 @@
 ghost use Rattle.std.specs.Prelude.{◌≡◌, ℕ, ◌<◌, IsTrue, List, Option, None, Some, IfNone, IfSome, Bool, false};
 ghost use Rattle.pc_cert.specs.declared.line.CertLine.{CertLine};
 ghost use Rattle.pc_cert.specs.declared.line.CertLine.TheVariants.{Event, Act};
-ghost use Rattle.pc_cert.specs.Known.{HasText, IsAgain, IsFrontOf, IsTextOf};
+ghost use Rattle.pc_cert.specs.inside.Known.{HasText, IsAgain, IsFrontOf, IsTextOf};
 ghost use Rattle.pc_cert.specs.Grammar.{next, next_at_start, next_after_head, next_in_normal_walk, next_in_crash_walk, next_in_segment, next_between, opened, takes_flows};
 
 use crate::event::EventSaid;

@@ -2,9 +2,9 @@
 ghost use Rattle.std.specs.Prelude.{◌≡◌, ℕ, ◌+◌, ◌^◌, ◌<◌, ◌≤◌, List, [], ◌++◌, length, take, Option, Some, None, Ok, Err, IfOk, IfNone, IsNone, IsSome, IsTrue, MatchResult};
 ghost use Rattle.pc_cert.specs.declared.line.CertLine.{CertLine};
 ghost use Rattle.pc_cert.specs.declared.place.Place.TheVariants.{Start};
-ghost use Rattle.pc_cert.specs.Reading.{line_of};
-ghost use Rattle.pc_cert.specs.Reader.{StandsFor, HasPassed, Reading, EndsAs};
-ghost use Rattle.pc_cert.specs.Fed.{given, used, left_in, used_of};
+ghost use Rattle.pc_cert.specs.inside.Reading.{line_of};
+ghost use Rattle.pc_cert.specs.inside.Reader.{StandsFor, HasPassed, Reading, EndsAs};
+ghost use Rattle.pc_cert.specs.inside.Fed.{given, used, left_in, used_of};
 ghost use Rattle.pc_cert.specs.declared.reader.Malformed.{Malformed};
 
 use crate::known::KnownLine;
@@ -39,7 +39,7 @@ pub struct CertReader {
 
 impl Model for CertReader {
     ghost use Rattle.std.specs.Prelude.{take};
-    ghost use Rattle.pc_cert.specs.Reader.{Reading, KeepsRoom};
+    ghost use Rattle.pc_cert.specs.inside.Reader.{Reading, KeepsRoom};
 
     ghost Value = { Reading };
 

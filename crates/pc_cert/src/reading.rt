@@ -1,7 +1,7 @@
 //! Reading a line: its first word says which it is, and its fields are read one after the other.
 ghost use Rattle.std.specs.Prelude.{◌≡◌};
 ghost use Rattle.pc_text.specs.Fields.{alone};
-ghost use Rattle.pc_cert.specs.Reading.{line_of, line_with, head_of, step_of, segment_of, event_of};
+ghost use Rattle.pc_cert.specs.inside.Reading.{line_of, line_with, head_of, step_of, segment_of, event_of};
 
 use crate::act::act_of;
 use crate::field::{bit_field, number_field};
@@ -9,7 +9,7 @@ use crate::line::CertLine;
 use pc_text::{Code, field, run_len};
 
 /// The line that the bytes spell.
-#[tactic(auto, unfolding(crate::specs::Reading::line_of))]
+#[tactic(auto, unfolding(crate::specs::inside::Reading::line_of))]
 pub fn line_of(bytes: &[u8]) -> Option<CertLine>
     ensures { result ≡ line_of bytes.now }
 {
@@ -51,7 +51,7 @@ fn alone(rest: &[u8], line: CertLine) -> Option<CertLine>
     if rest.is_empty() { Some(line) } else { None }
 }
 
-#[tactic(auto, unfolding(crate::specs::Reading::head_of, pc_text::specs::Fields::field_by))]
+#[tactic(auto, unfolding(crate::specs::inside::Reading::head_of, pc_text::specs::Fields::field_by))]
 fn head_of(fields: &[u8]) -> Option<CertLine>
     ensures { result ≡ head_of fields.now }
 {
@@ -74,7 +74,7 @@ fn head_of(fields: &[u8]) -> Option<CertLine>
     )
 }
 
-#[tactic(auto, unfolding(crate::specs::Reading::step_of, pc_text::specs::Fields::field_by))]
+#[tactic(auto, unfolding(crate::specs::inside::Reading::step_of, pc_text::specs::Fields::field_by))]
 fn step_of(fields: &[u8]) -> Option<CertLine>
     ensures { result ≡ step_of fields.now }
 {
@@ -83,7 +83,7 @@ fn step_of(fields: &[u8]) -> Option<CertLine>
     alone(rest, CertLine::Step(code))
 }
 
-#[tactic(auto, unfolding(crate::specs::Reading::segment_of))]
+#[tactic(auto, unfolding(crate::specs::inside::Reading::segment_of))]
 fn segment_of(fields: &[u8]) -> Option<CertLine>
     ensures { result ≡ segment_of fields.now }
 {
@@ -102,7 +102,7 @@ fn segment_of(fields: &[u8]) -> Option<CertLine>
     )
 }
 
-#[tactic(auto, unfolding(crate::specs::Reading::event_of, pc_text::specs::Fields::field_by))]
+#[tactic(auto, unfolding(crate::specs::inside::Reading::event_of, pc_text::specs::Fields::field_by))]
 fn event_of(fields: &[u8]) -> Option<CertLine>
     ensures { result ≡ event_of fields.now }
 {

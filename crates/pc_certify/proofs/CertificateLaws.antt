@@ -4,13 +4,13 @@ use Rattle.pc_model.specs.Network.{Network, IsLongest}
 use Rattle.pc_model.proofs.Walks.WalkLaws.{greatest_unique}
 use Rattle.pc_cert.specs.Text.{text_of}
 use Rattle.pc_crash.specs.Priced.{PricedNetwork}
-use Rattle.pc_page.specs.Puts.{Desk}
-use Rattle.pc_times.specs.Picked.{LongestWalk}
+use Rattle.pc_page.specs.inside.Puts.{Desk}
+use Rattle.pc_times.specs.inside.Picked.{LongestWalk}
 use Rattle.pc_certify.specs.Document.{document_lines}
-use Rattle.pc_certify.specs.Complete.{IsComplete, IsThrough}
+use Rattle.pc_certify.specs.inside.Complete.{IsComplete, IsThrough}
 use Rattle.pc_check.specs.Texts.{IsCertified}
-use Rattle.pc_certify.specs.Walks.{IsPicked, ArePicked}
-use Rattle.pc_certify.specs.Descent.{IsPutDown}
+use Rattle.pc_certify.specs.inside.Walks.{IsPicked, ArePicked}
+use Rattle.pc_certify.specs.inside.Descent.{IsPutDown}
 use Rattle.pc_certify.specs.Certificate.{IsCertificate}
 
 -- the picked walk has the greatest sum

@@ -11,14 +11,19 @@ use Rattle.pc_curve_laws.specs.Segment.{Segment}
 use Rattle.pc_curve_laws.specs.Cover.{Joins, segment_at}
 use Rattle.pc_cert.specs.Text.{text_of, AllFit}
 use Rattle.pc_cert.proofs.TextLaws.{text_of-append, AllFit-append}
-use Rattle.pc_crash.specs.Priced.{PricedNetwork, AreNames}
+use Rattle.pc_crash.specs.Priced.{PricedNetwork}
+use Rattle.pc_crash.specs.inside.Priced.{AreNames}
 use Rattle.pc_check.specs.Said.{segment_in}
-use Rattle.pc_check.specs.Certified.{AreCertified, AreCurve, segments_of}
+use Rattle.pc_check.specs.Certified.{segments_of}
+use Rattle.pc_check.specs.inside.Certified.{AreCertified, AreCurve}
 use Rattle.pc_check.proofs.GoodLines.{curve_of}
 use Rattle.pc_check.specs.Texts.{IsCertified}
-use Rattle.pc_certify.specs.Document.{head_lines, segment_lines, end_lines, document_lines, HasSmallNumbers}
-use Rattle.pc_certify.specs.Complete.{IsComplete, begun_lines}
-use Rattle.pc_certify.specs.Rows.{part_of, SaySame, AllSaySame}
+use Rattle.pc_certify.specs.Document.{head_lines, segment_lines, end_lines, document_lines}
+use Rattle.pc_certify.specs.inside.Document.{HasSmallNumbers}
+use Rattle.pc_certify.specs.Complete.{begun_lines}
+use Rattle.pc_certify.specs.inside.Complete.{IsComplete}
+use Rattle.pc_certify.proofs.RowLaws.{part_of}
+use Rattle.pc_certify.specs.inside.Rows.{SaySame, AllSaySame}
 use Rattle.pc_certify.proofs.CloseLaws.{says_same}
 use Rattle.pc_certify.proofs.DocumentPass.{document_passes}
 use Rattle.pc_certify.proofs.OrderLaws.{document_order}

@@ -17,9 +17,9 @@ use Rattle.pc_check.specs.Said.{segment_in, flow_along, flow_at, spent_in, forwa
 use Rattle.pc_check.proofs.BelowLaws.{some_below-finds}
 use Rattle.pc_certify.specs.Document.{flows_along}
 use Rattle.pc_certify.proofs.ListedLaws.{length-listed}
-use Rattle.pc_certify.specs.Rows.{act_row, part_of, SaySame}
+use Rattle.pc_certify.proofs.RowLaws.{act_row, part_of, event_is, act_is, flow_is, beside_is}
+use Rattle.pc_certify.specs.inside.Rows.{SaySame}
 use Rattle.pc_certify.proofs.HoldLaws.{both, left, right, Ends}
-use Rattle.pc_certify.proofs.RowLaws.{event_is, act_is, flow_is, beside_is}
 use Rattle.pc_certify.proofs.SameLaws.{MoveSame, forward_by-same, backward_by-same, stops_in-same}
 
 -- what is read back of a segment says the same

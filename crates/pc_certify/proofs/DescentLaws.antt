@@ -1,15 +1,44 @@
 -- A solver on its way down: the segments that it gave so far are a front of the curve, and at its end the whole of it.
 use Rattle.std.proofs.Common.{◌≡◌, ℕ, ◌<◌, Bool, true, false, List, [], ◌∷◌, ◌++◌, length, refl, sym, ap, ◌∙◌, subst, inl, inr, arith}
-use Rattle.std.specs.Prelude.{if◌then◌else◌}
+use Rattle.std.specs.Prelude.{if◌then◌else◌, ◌+◌, ◌-◌, ◌≤◌}
 use Rattle.std.proofs.lemmas.Bool.{cases_Bool, cases_lt}
 use Rattle.pc_model.specs.Schedule.{normal_of, IsAllNormalLength, IsAllCrashLength}
 use Rattle.pc_curve_laws.specs.Segment.{Segment, IsSegment}
 use Rattle.pc_curve_laws.specs.Cover.{IsFront}
 use Rattle.pc_curve_laws.proofs.Segments.Covering.{front_begins, front_grows}
 use Rattle.pc_crash.specs.Priced.{PricedNetwork, knees_in}
-use Rattle.pc_flow.specs.Courses.{Course, upper_of, lower_of, present, HasEnded, IsSameCurve, IsNext, HasSmallNumbers as IsSmallBelow}
-use Rattle.pc_certify.specs.Document.{HasSmallNumbers}
-use Rattle.pc_certify.specs.Descent.{IsAlong, IsAtTop, AreFront, HasGiven, still_to_come}
+use Rattle.pc_flow.specs.Courses.{Course, upper_of, lower_of, IsSameCurve}
+use Rattle.pc_flow.specs.inside.Courses.{present, HasEnded, IsNext, HasSmallNumbers as IsSmallBelow}
+use Rattle.pc_certify.specs.inside.Document.{HasSmallNumbers}
+use Rattle.pc_certify.specs.inside.Descent.{IsAlong, IsAtTop, CanBeSpelled}
+use Rattle.pc_cert.specs.Text.{text_of}
+use Rattle.pc_page.specs.inside.Puts.{Desk, Adds}
+use Rattle.pc_certify.specs.Complete.{begun_lines}
+
+-- the segments are a front of the curve down to the lower end of the present one; where this is above the all-crash length,
+-- it is below the all-normal length
+pub record AreFront (net : PricedNetwork) (course : Course) (segments : List Segment) : Type 0 where
+  pub front : IsFront net.network net.terms (knees_in net) segments course.longest (lower_of course)
+  pub within : course.shortest ≤ lower_of course
+  pub apart : course.shortest < lower_of course → lower_of course < course.longest
+
+-- these are the segments that a course along the curve gave so far
+pub record HasGiven (net : PricedNetwork) (course : Course) (segments : List Segment) : Type 0 where
+  pub along : IsAlong net course
+  pub none : course.given ≡ false → segments ≡ []
+  pub top : course.given ≡ false → lower_of course ≡ course.longest
+  pub front : course.given ≡ true → AreFront net course segments
+
+-- no more segments are still to come than there are units down to the all-crash length, and the first
+abbrev pub still_to_come : Course → ℕ
+still_to_come course = (if course.given then 0 else 1) + (lower_of course - course.shortest)
+
+-- a certificate's head and the segments that the course gave so far were put on a page
+pub record IsPut (net : PricedNetwork) (normal crash : List ℕ) (course : Course) (old new : Desk) : Type 0 where
+  pub segments : List Segment
+  pub given : HasGiven net course segments
+  pub text : Adds old new (text_of (begun_lines net normal crash segments))
+  pub fit : CanBeSpelled net segments
 
 -- numbers below 10 ^ 18 can be written
 small-numbers : (net : PricedNetwork) (seg : Segment) → IsSmallBelow net seg → HasSmallNumbers net seg

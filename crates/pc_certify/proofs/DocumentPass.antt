@@ -12,7 +12,8 @@ use Rattle.pc_curve_laws.specs.Segment.{Segment, IsSegment}
 use Rattle.pc_curve_laws.specs.Cover.{Joins, IsLong, IsFront}
 use Rattle.pc_curve_laws.proofs.Segments.Covering.{joins-first}
 use Rattle.pc_cert.specs.declared.line.CertLine.TheVariants.{Segment as SegmentLine, Normal, Crash, End}
-use Rattle.pc_crash.specs.Priced.{PricedNetwork, AreNames, knees_in}
+use Rattle.pc_crash.specs.Priced.{PricedNetwork, knees_in}
+use Rattle.pc_crash.specs.inside.Priced.{AreNames}
 use Rattle.pc_check.specs.Draft.{Part, begun_part, empty_draft, draft_of}
 use Rattle.pc_check.specs.Conditions.{conditions, is_first, has_head, has_joined_ends}
 use Rattle.pc_check.specs.Failures.{first_failing, reason_at, failure_of}
@@ -20,8 +21,8 @@ use Rattle.pc_check.specs.Known.{Known}
 use Rattle.pc_check.specs.Said.{said}
 use Rattle.pc_check.specs.Walks.{length_in, walked, at_start, is_through}
 use Rattle.pc_certify.specs.Document.{first_line, steps, head_lines, segment_lines, end_lines, document_lines, version_of}
-use Rattle.pc_certify.specs.Complete.{IsThrough, IsComplete}
-use Rattle.pc_certify.specs.Rows.{part_of}
+use Rattle.pc_certify.specs.inside.Complete.{IsThrough, IsComplete}
+use Rattle.pc_certify.proofs.RowLaws.{part_of}
 use Rattle.pc_certify.proofs.PassLaws.{Pass, Pass-nil, Pass-cons, Pass-then, PassTo, PassTo-then, holds_on}
 use Rattle.pc_certify.proofs.HoldLaws.{both, left, right, same_code}
 use Rattle.pc_certify.proofs.StepLaws.{codes_of, comes_through, in_crash, normal_steps, crash_steps}

@@ -14,7 +14,8 @@ use Rattle.pc_cert.specs.Lines.{IsVersion, IsSmall, AreSmall, Fits}
 use Rattle.pc_cert.specs.Text.{AllFit}
 use Rattle.pc_cert.proofs.TextLaws.{AllFit-append}
 use Rattle.pc_certify.specs.Listed.{listed}
-use Rattle.pc_certify.specs.Document.{event_line, act_line, segment_lines, HasSmallNumbers}
+use Rattle.pc_certify.specs.Document.{event_line, act_line, segment_lines}
+use Rattle.pc_certify.specs.inside.Document.{HasSmallNumbers}
 use Rattle.pc_certify.proofs.ListedLaws.{length-listed}
 
 pub AllFit-listed : (n : ℕ) (line : ℕ → CertLine) → ((i : ℕ) → i < n → Fits (line i)) → AllFit (listed n line)

@@ -4,7 +4,7 @@ use Rattle.pc_curve_laws.specs.Segment.{Segment}
 use Rattle.pc_curve_laws.specs.Stair.{stair_of, knee_flow, crash_flow}
 use Rattle.pc_crash.specs.Priced.{PricedNetwork, knees_in}
 use Rattle.pc_certify.specs.Document.{flows_along}
-use Rattle.pc_certify.specs.Spelled.{filled_along}
+use Rattle.pc_certify.specs.inside.Spelled.{filled_along}
 use Rattle.pc_certify.proofs.ListedLaws.{listed-same}
 
 -- what flows at each knee and beside them is what the whole flow makes, so the list is the same

@@ -2,9 +2,9 @@
 use Rattle.std.proofs.Common.{◌≡◌, ℕ, ◌+◌, ◌≤◌, List, [], ◌++◌, length, take, drop, refl, sym, ap, ◌∙◌, subst, arith, append_assoc, append-nil, length-drop, length-take-le, take-add, take-take, take_at, drop_at}
 use Rattle.std.proofs.lemmas.Slice.{take-put_mid}
 use borrow.Rule.Slice.PartMut.{put_mid, same_len_mid}
-use Rattle.pc_page.specs.Puts.{Desk, Adds}
+use Rattle.pc_page.specs.inside.Puts.{Desk, Adds}
 use Rattle.pc_page.proofs.PageLaws.{Adds-nil, Adds-then, Adds-as}
-use Rattle.pc_certify.specs.Gathers.{Gathers, IsPlaced}
+use Rattle.pc_certify.specs.inside.Gathers.{Gathers, IsPlaced}
 
 -- nothing was put
 pub Gathers-nil : (d : Desk) (lines : List ℕ) → Gathers d lines d lines []

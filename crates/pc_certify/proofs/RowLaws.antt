@@ -7,13 +7,32 @@ use Rattle.pc_model.specs.Schedule.{normal_of, crash_of}
 use Rattle.pc_curve_laws.specs.Tight.{IsSlack}
 use Rattle.pc_curve_laws.specs.Segment.{Segment, span, head_at, tail_at, IsRightSegment}
 use Rattle.pc_crash.specs.Priced.{PricedNetwork, knees_in}
-use Rattle.pc_check.specs.Draft.{event_at, act_at}
+use Rattle.pc_check.specs.Draft.{event_at, act_at, EventRow, ActRow, Part}
 use Rattle.pc_check.proofs.GoodRows.{IsRightEvent, IsRightAct}
 use Rattle.pc_certify.specs.Listed.{listed}
 use Rattle.pc_certify.specs.Document.{flows_along}
 use Rattle.pc_certify.proofs.ListedLaws.{length-listed, listed-at, listed-last, listed-before}
-use Rattle.pc_certify.specs.Rows.{event_row, act_row}
 use Rattle.pc_certify.proofs.SameLaws.{MoveSame, head_same, tail_same, low_head_same, low_tail_same, lesser_same}
+use Rattle.pc_model.specs.Codes.{code_at}
+
+-- what the line of event e says
+abbrev pub event_row : PricedNetwork → Segment → ℕ → EventRow
+event_row net seg e = record { code = code_at net.events e; time = seg.time e; moves = seg.moves e }
+
+-- what the line of activity a says
+abbrev pub act_row : PricedNetwork → Segment → ℕ → ActRow
+act_row net seg a = record { code = code_at net.activities a; duration = seg.duration a; flows = flows_along net seg a }
+
+-- what all of them say
+abbrev pub part_of : PricedNetwork → Segment → Part
+part_of net seg = record {
+  upper = seg.upper;
+  lower = seg.lower;
+  cost = seg.cost;
+  slope = seg.slope;
+  events = listed net.network.events (event_row net seg);
+  acts = listed (length net.network.arcs) (act_row net seg);
+}
 
 -- ---- what is read back of the rows
 

@@ -15,10 +15,9 @@ use Rattle.pc_check.specs.Said.{said}
 use Rattle.pc_certify.specs.Listed.{listed}
 use Rattle.pc_certify.specs.Document.{ends_line, event_line, act_line, flows_along, segment_lines}
 use Rattle.pc_certify.proofs.ListedLaws.{length-listed}
-use Rattle.pc_certify.specs.Rows.{event_row, act_row, part_of}
+use Rattle.pc_certify.proofs.RowLaws.{event_row, act_row, part_of, event_is, flows_long, right_event, right_act}
 use Rattle.pc_certify.proofs.PassLaws.{Pass, Pass-nil, Pass-cons, Pass-one, Pass-then}
 use Rattle.pc_certify.proofs.HoldLaws.{event_holds, act_holds, close_holds}
-use Rattle.pc_certify.proofs.RowLaws.{event_is, flows_long, right_event, right_act}
 use Rattle.pc_certify.proofs.SameLaws.{MoveSame}
 use Rattle.pc_certify.proofs.CloseLaws.{ends}
 

@@ -10,7 +10,7 @@ use Rattle.pc_text.specs.Fields.{spaced}
 use Rattle.pc_cert.specs.Lines.{bit_text}
 use Rattle.pc_cert.specs.Text.{text_of}
 use Rattle.pc_cert.proofs.EventLaws.{front_of}
-use Rattle.pc_certify.specs.Spelled.{SpellsEvent, SpellsAct, AreEventsSpelled, AreActsSpelled}
+use Rattle.pc_certify.specs.inside.Spelled.{SpellsEvent, SpellsAct, AreEventsSpelled, AreActsSpelled}
 use Rattle.pc_certify.specs.declared.last_lines.EventRow.{EventRow}
 use Rattle.pc_certify.specs.declared.last_lines.ActRow.{ActRow}
 

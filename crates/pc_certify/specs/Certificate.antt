@@ -1,7 +1,6 @@
 -- The certificate of a network, as it is written.
-use Rattle.std.specs.Prelude.{◌≡◌, ℕ, List, length, Option}
+use Rattle.std.specs.Prelude.{◌≡◌, ℕ, List, length}
 use Rattle.pc_model.specs.Schedule.{normals, crashes}
-use Rattle.pc_edges.specs.Writes.{Wrote, Stopped}
 use Rattle.pc_curve_laws.specs.Segment.{Segment}
 use Rattle.pc_cert.specs.Text.{text_of}
 use Rattle.pc_crash.specs.Priced.{PricedNetwork}
@@ -19,11 +18,3 @@ pub record IsCertificate (net : PricedNetwork) (text : List ℕ) : Type 0 where
   pub picked_crash : IsPickedWalk net.network (crashes net.terms) crash
   pub spelled : text ≡ text_of (document_lines net normal crash segments)
   pub certified : IsCertified net text (length segments)
-
--- the sink took a certificate of the network, whole
-abbrev pub TookCertificate : PricedNetwork → Option (List ℕ) → Option (List ℕ) → ℕ → ℕ → Type 0
-TookCertificate net old new before after = (text : List ℕ) × IsCertificate net text × Wrote old new before after text
-
--- a fault of the sink came when it had taken a front of one
-abbrev pub TookFrontOfOne : PricedNetwork → Option (List ℕ) → Option (List ℕ) → ℕ → ℕ → Type 0
-TookFrontOfOne net old new before after = (text : List ℕ) × IsCertificate net text × Stopped old new before after text

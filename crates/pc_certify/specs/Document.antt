@@ -1,12 +1,11 @@
 -- The lines of a certificate: what its writer says of a network, of two walks along it, and of the segments of its curve.
-use Rattle.std.specs.Prelude.{ℕ, ◌<◌, ◌==◌, List, [], ◌∷◌, ◌++◌, length, map, if◌then◌else◌}
+use Rattle.std.specs.Prelude.{ℕ, ◌==◌, List, [], ◌∷◌, ◌++◌, length, map, if◌then◌else◌}
 use Rattle.std.specs.List.{flat_map}
 use Rattle.pc_model.specs.Codes.{code_at}
 use Rattle.pc_curve_laws.specs.Segment.{Segment as Stretch}
 use Rattle.pc_crash.specs.Priced.{PricedNetwork, knees_in}
 use Rattle.pc_cert.specs.declared.line.CertLine.{CertLine}
 use Rattle.pc_cert.specs.declared.line.CertLine.TheVariants.{Head, Normal, Step, Crash, Segment, Event, Act, Close, End}
-use Rattle.pc_cert.specs.Lines.{IsSmall}
 use Rattle.pc_certify.specs.Listed.{listed}
 
 -- ---- the lines before the segments
@@ -59,14 +58,3 @@ end_lines = End ∷ []
 -- all lines
 abbrev pub document_lines : PricedNetwork → List ℕ → List ℕ → List Stretch → List CertLine
 document_lines net normal crash segments = head_lines net normal crash ++ (flat_map (segment_lines net) segments ++ end_lines)
-
--- the numbers of a segment have at most 18 digits
-pub record HasSmallNumbers (net : PricedNetwork) (seg : Stretch) : Type 0 where
-  pub upper : IsSmall seg.upper
-  pub lower : IsSmall seg.lower
-  pub cost : IsSmall seg.cost
-  pub slope : IsSmall seg.slope
-  pub times : (e : ℕ) → e < net.network.events → IsSmall (seg.time e)
-  pub durations : (a : ℕ) → a < length net.network.arcs → IsSmall (seg.duration a)
-  pub flows : (a k : ℕ) → a < length net.network.arcs → k < (knees_in net).count a → IsSmall (seg.flow a k)
-  pub beside : (a : ℕ) → a < length net.network.arcs → IsSmall (seg.beside a)

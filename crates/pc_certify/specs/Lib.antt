@@ -1,10 +1,5 @@
 pub mod Listed
 pub mod Document
-pub mod Spelled
-pub mod Gathers
-pub mod Rows
 pub mod Complete
-pub mod Worked
 pub mod Certificate
-pub mod Walks
-pub mod Descent
+pub mod inside

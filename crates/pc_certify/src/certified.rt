@@ -3,13 +3,15 @@ ghost use Rattle.std.specs.Prelude.{◌≡◌, ℕ, List, length, All};
 ghost use Rattle.pc_curve_laws.specs.Segment.{Segment};
 ghost use Rattle.pc_cert.specs.Text.{text_of, AllFit};
 ghost use Rattle.pc_crash.specs.Priced.{PricedNetwork};
-ghost use Rattle.pc_check.specs.Certified.{AreCertified, AreCurve, segments_of};
+ghost use Rattle.pc_check.specs.Certified.{segments_of};
+ghost use Rattle.pc_check.specs.inside.Certified.{AreCertified, AreCurve};
 ghost use Rattle.pc_check.specs.declared.fail.Verdict.{Verdict};
 ghost use Rattle.pc_check.specs.declared.fail.Verdict.TheVariants.{Yes};
 ghost use Rattle.pc_check.specs.Texts.{IsCertified, Finds};
-ghost use Rattle.pc_certify.specs.Document.{document_lines, HasSmallNumbers};
-ghost use Rattle.pc_certify.specs.Complete.{IsComplete};
-ghost use Rattle.pc_certify.specs.Rows.{AllSaySame};
+ghost use Rattle.pc_certify.specs.Document.{document_lines};
+ghost use Rattle.pc_certify.specs.inside.Document.{HasSmallNumbers};
+ghost use Rattle.pc_certify.specs.inside.Complete.{IsComplete};
+ghost use Rattle.pc_certify.specs.inside.Rows.{AllSaySame};
 
 use pc_crash::CrashNet;
 

@@ -1,7 +1,7 @@
 //! The call that writes a certificate.
 ghost use Rattle.std.specs.Prelude.{◌≡◌, ◌+◌, ◌*◌, ◌≤◌, length, OnOk, IsErrOf};
-ghost use Rattle.pc_cells.specs.Spans.{free_of};
-ghost use Rattle.pc_certify.specs.Certificate.{TookCertificate, TookFrontOfOne};
+ghost use Rattle.pc_cells.specs.inside.Spans.{free_of};
+ghost use Rattle.pc_certify.specs.inside.Certificate.{TookCertificate, TookFrontOfOne};
 
 use crate::last_lines::LastLines;
 use crate::walks::Walks;

@@ -1,5 +1,5 @@
 //! The end of a certificate.
-ghost use Rattle.pc_page.specs.Puts.{Puts};
+ghost use Rattle.pc_page.specs.inside.Puts.{Puts};
 ghost use Rattle.pc_cert.specs.Text.{text_of};
 ghost use Rattle.pc_certify.specs.Document.{end_lines};
 

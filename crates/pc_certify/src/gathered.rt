@@ -1,7 +1,7 @@
 //! Lines of a segment on their way to the page.
 ghost use Rattle.std.specs.Prelude.{◌≡◌, ◌+◌, ◌≤◌, [], ◌++◌, IfOk, length};
-ghost use Rattle.pc_page.specs.Puts.{Puts, desk};
-ghost use Rattle.pc_certify.specs.Gathers.{Gathers};
+ghost use Rattle.pc_page.specs.inside.Puts.{Puts, desk};
+ghost use Rattle.pc_certify.specs.inside.Gathers.{Gathers};
 
 use crate::spelling::{ROOM, Spelling};
 use pc_edges::Sink;

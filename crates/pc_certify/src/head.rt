@@ -1,6 +1,6 @@
 //! The head of a certificate.
 ghost use Rattle.std.specs.Prelude.{◌≡◌, ◌<◌, [], ◌∷◌, All, length};
-ghost use Rattle.pc_page.specs.Puts.{Puts};
+ghost use Rattle.pc_page.specs.inside.Puts.{Puts};
 ghost use Rattle.pc_cert.specs.Text.{text_of, AllFit};
 ghost use Rattle.pc_cert.specs.declared.line.CertLine.TheVariants.{Step};
 ghost use Rattle.pc_certify.specs.Document.{first_line, head_lines, steps, version_of};

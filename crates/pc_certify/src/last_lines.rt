@@ -1,7 +1,7 @@
 //! The lines of the segment that was put last, of which most are those of the next.
 ghost use Rattle.std.specs.Prelude.{◌≡◌, ◌+◌, ◌<◌, ◌≤◌, ◌++◌, length, IfOk};
 ghost use Rattle.pc_cert.specs.Lines.{numbers};
-ghost use Rattle.pc_certify.specs.Spelled.{SpellsEvent, SpellsAct, AreEventsSpelled, AreActsSpelled, filled_along};
+ghost use Rattle.pc_certify.specs.inside.Spelled.{SpellsEvent, SpellsAct, AreEventsSpelled, AreActsSpelled, filled_along};
 
 use crate::gathered::Gathered;
 use crate::spelling::{NUMBER_ROOM, ROOM, Spelling};

@@ -1,13 +1,14 @@
 //! The lines of a segment.
 ghost use Rattle.std.specs.Prelude.{◌≡◌, ℕ, ◌<◌, [], ◌∷◌, length};
-ghost use Rattle.pc_page.specs.Puts.{Puts, desk};
+ghost use Rattle.pc_page.specs.inside.Puts.{Puts, desk};
 ghost use Rattle.pc_text.specs.Fields.{IsCode};
 ghost use Rattle.pc_cert.specs.Text.{text_of, AllFit};
 ghost use Rattle.pc_model.specs.Codes.{code_at};
 ghost use Rattle.pc_certify.specs.Listed.{listed};
-ghost use Rattle.pc_certify.specs.Document.{ends_line, event_line, act_line, flows_along, segment_lines, HasSmallNumbers};
-ghost use Rattle.pc_certify.specs.Gathers.{Gathers};
-ghost use Rattle.pc_certify.specs.Spelled.{AreEventsSpelled, AreActsSpelled, SpellsAct, filled_along};
+ghost use Rattle.pc_certify.specs.Document.{ends_line, event_line, act_line, flows_along, segment_lines};
+ghost use Rattle.pc_certify.specs.inside.Document.{HasSmallNumbers};
+ghost use Rattle.pc_certify.specs.inside.Gathers.{Gathers};
+ghost use Rattle.pc_certify.specs.inside.Spelled.{AreEventsSpelled, AreActsSpelled, SpellsAct, filled_along};
 
 use crate::gathered::Gathered;
 use crate::last_lines::{ActRow, EventRow, LastLines};

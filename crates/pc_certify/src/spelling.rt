@@ -1,6 +1,6 @@
 //! The bytes of a line with its end, as they were spelled last.
 ghost use Rattle.std.specs.Prelude.{◌≡◌, ◌+◌, ◌≤◌, [], ◌∷◌, ◌++◌, true, decimal, length, take};
-ghost use Rattle.pc_certify.specs.Gathers.{IsPlaced};
+ghost use Rattle.pc_certify.specs.inside.Gathers.{IsPlaced};
 ghost use Rattle.pc_text.specs.Code.{is_code};
 ghost use Rattle.pc_text.specs.Fields.{spaced};
 ghost use Rattle.pc_cert.specs.Lines.{bit_text};

@@ -1,7 +1,7 @@
 //! The two walks of a certificate.
 ghost use Rattle.std.specs.Prelude.{◌≡◌, IfOk};
 ghost use Rattle.pc_model.specs.Schedule.{crashes, normals};
-ghost use Rattle.pc_certify.specs.Walks.{ArePicked};
+ghost use Rattle.pc_certify.specs.inside.Walks.{ArePicked};
 
 use pc_crash::CrashNet;
 use pc_times::{Longest, longest};

@@ -1,7 +1,7 @@
 //! Words of a line.
 ghost use Rattle.std.specs.Prelude.{◌≡◌, [], decimal, true};
 ghost use Rattle.pc_text.specs.Code.{is_code};
-ghost use Rattle.pc_page.specs.Puts.{Puts};
+ghost use Rattle.pc_page.specs.inside.Puts.{Puts};
 ghost use Rattle.pc_text.specs.Fields.{spaced};
 
 use pc_edges::Sink;

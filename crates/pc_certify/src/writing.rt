@@ -1,13 +1,13 @@
 //! The text of a certificate, segment by segment.
 ghost use Rattle.std.specs.Prelude.{◌≡◌, ℕ, List};
-ghost use Rattle.pc_edges.specs.Writes.{Writes};
-ghost use Rattle.pc_page.specs.Page.{fresh};
-ghost use Rattle.pc_page.specs.Puts.{desk};
-ghost use Rattle.pc_crash.specs.Steps.{IsBlankOf};
+ghost use Rattle.pc_edges.specs.inside.Writes.{Writes};
+ghost use Rattle.pc_page.specs.inside.Page.{fresh};
+ghost use Rattle.pc_page.specs.inside.Puts.{desk};
+ghost use Rattle.pc_crash.specs.inside.Steps.{IsBlankOf};
 ghost use Rattle.pc_certify.specs.Certificate.{IsCertificate};
-ghost use Rattle.pc_certify.specs.Descent.{IsAtTop, IsPutDown};
-ghost use Rattle.pc_certify.specs.Spelled.{AreEventsSpelled, AreActsSpelled};
-ghost use Rattle.pc_certify.specs.Walks.{ArePicked};
+ghost use Rattle.pc_certify.specs.inside.Descent.{IsAtTop, IsPutDown};
+ghost use Rattle.pc_certify.specs.inside.Spelled.{AreEventsSpelled, AreActsSpelled};
+ghost use Rattle.pc_certify.specs.inside.Walks.{ArePicked};
 
 use crate::certified::written_is_certified;
 use crate::end::put_end;

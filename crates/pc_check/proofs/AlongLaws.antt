@@ -4,18 +4,18 @@ use Rattle.pc_model.specs.declared.limits.TheConstants.{MAX_EVENTS, MAX_ACTIVITI
 use Rattle.pc_cert.specs.declared.line.CertLine.{CertLine}
 use Rattle.pc_cert.specs.declared.line.CertLine.TheVariants.{Head, Normal, Step, Crash, Segment, Event, Act, Close, End}
 use Rattle.pc_cert.specs.declared.place.Place.{Place}
-use Rattle.pc_cert.specs.Grammar.{IsRow}
-use Rattle.pc_cert.specs.Passing.{PassesLine}
-use Rattle.pc_cert.specs.Reader.{Reading}
+use Rattle.pc_cert.specs.inside.Grammar.{IsRow}
+use Rattle.pc_cert.proofs.Passing.{PassesLine}
+use Rattle.pc_cert.specs.inside.Reader.{Reading}
 use Rattle.pc_cert.proofs.ReaderLaws.{passes_line}
 use Rattle.pc_crash.specs.Priced.{PricedNetwork}
 use Rattle.pc_check.specs.declared.kept.Kept.{Kept}
-use Rattle.pc_check.specs.Advances.{Adds, Advances, moved_on}
-use Rattle.pc_check.specs.Again.{AddsLine, going}
-use Rattle.pc_check.specs.Along.{TakesAlong}
-use Rattle.pc_check.specs.Bounds.{IsBounded, lines_left}
-use Rattle.pc_check.specs.Checking.{Checking}
-use Rattle.pc_check.specs.Safe.{IsSafe}
+use Rattle.pc_check.specs.inside.Advances.{Adds, Advances, moved_on}
+use Rattle.pc_check.specs.inside.Again.{AddsLine, going}
+use Rattle.pc_check.specs.inside.Along.{TakesAlong}
+use Rattle.pc_check.specs.inside.Bounds.{IsBounded, lines_left}
+use Rattle.pc_check.specs.inside.Checking.{Checking}
+use Rattle.pc_check.specs.inside.Safe.{IsSafe}
 use Rattle.pc_check.proofs.BoundLaws.{Passes, bounded_behind, fewer_behind, lines_few, lines_kept}
 use Rattle.pc_check.proofs.RunLaws.{IsRest, all_left, begun, less_left, used_is}
 use Rattle.pc_check.proofs.TakeLaws.{goes_on}

@@ -11,9 +11,9 @@ use Rattle.pc_check.specs.declared.fail.Fail.{Fail}
 use Rattle.pc_check.specs.declared.fail.Verdict.{Verdict}
 use Rattle.pc_check.specs.declared.fail.Verdict.TheVariants.{Yes, No}
 use Rattle.pc_check.specs.Failures.{failure_of}
-use Rattle.pc_check.specs.Certified.{Finds as ChecksTo}
+use Rattle.pc_check.specs.inside.Certified.{Finds as ChecksTo}
 use Rattle.pc_check.specs.Texts.{IsFailing, malformed, missing, Finds}
-use Rattle.pc_check.specs.Auditing.{Auditing, HasRead, IsGoing}
+use Rattle.pc_check.specs.inside.Auditing.{Auditing, HasRead, IsGoing}
 use Rattle.pc_check.proofs.AuditLaws.{checking}
 
 place_same : (p q : Place) → Some p ≡ Some q → p ≡ q

@@ -10,14 +10,15 @@ use Rattle.pc_cert.specs.Grammar.{next}
 use Rattle.pc_cert.specs.Text.{text_of, ran}
 use Rattle.pc_text.proofs.FieldLemmas.{bind_some}
 use Rattle.pc_cert.proofs.TextLaws.{ran-append}
-use Rattle.pc_cert.specs.Reader.{Reading, IsStopped, Stands as ReadStands, StandsFor as ReadsAs, IsGoing as IsReading}
+use Rattle.pc_cert.specs.Reader.{IsStopped, IsGoing as IsReading}
+use Rattle.pc_cert.specs.inside.Reader.{Reading, Stands as ReadStands, StandsFor as ReadsAs}
 use Rattle.pc_cert.specs.declared.reader.Malformed.{Malformed}
 use Rattle.pc_check.specs.declared.fail.Fail.{Fail}
-use Rattle.pc_check.specs.Bounds.{lines_left}
+use Rattle.pc_check.specs.inside.Bounds.{lines_left}
 use Rattle.pc_check.specs.Failures.{failure_of}
-use Rattle.pc_check.specs.Checking.{Checking, Stands as CheckStands, StandsFor as ChecksAs, IsGoing as IsChecking}
+use Rattle.pc_check.specs.inside.Checking.{Checking, Stands as CheckStands, StandsFor as ChecksAs, IsGoing as IsChecking}
 use Rattle.pc_check.specs.Texts.{IsFailing, fails, malformed}
-use Rattle.pc_check.specs.Auditing.{Auditing, HasRead, IsGoing, bytes_left}
+use Rattle.pc_check.specs.inside.Auditing.{Auditing, HasRead, IsGoing, bytes_left}
 
 -- a reader that goes on, and a checker
 pub reading : (reader : Reading) (lines : List CertLine) (text : List ℕ) → reader.malformed ≡ None → ReadsAs reader lines text → IsReading reader.place reader.lines reader.held lines text

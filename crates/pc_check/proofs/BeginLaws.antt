@@ -6,8 +6,10 @@ use Rattle.pc_cert.specs.declared.place.Place.TheVariants.{Start}
 use Rattle.pc_cert.specs.Lines.{spelling}
 use Rattle.pc_cert.specs.Text.{text_of, ran}
 use Rattle.pc_cert.proofs.TextLaws.{lacks_no_stop}
-use Rattle.pc_check.specs.Bounds.{lines_from, lines_left, lines_of_all}
-use Rattle.pc_check.specs.Auditing.{Auditing, HasRead, IsGoing, bytes_left, most_bytes}
+use Rattle.pc_check.specs.Bounds.{lines_from, lines_of_all}
+use Rattle.pc_check.specs.inside.Bounds.{lines_left}
+use Rattle.pc_check.specs.Auditing.{most_bytes}
+use Rattle.pc_check.specs.inside.Auditing.{Auditing, HasRead, IsGoing, bytes_left}
 use Rattle.pc_check.proofs.AuditLaws.{reading, checking}
 
 -- no line stands in an empty text

@@ -14,15 +14,17 @@ use Rattle.pc_cert.specs.declared.place.Place.{Place}
 use Rattle.pc_cert.specs.declared.place.Place.TheVariants.{Start, AfterHead, NormalWalk, CrashWalk, InSegment, Between, Ended}
 use Rattle.pc_check.specs.declared.kept.Kept.{Kept}
 use Rattle.pc_check.specs.declared.walk.Reached.{Reached}
-use Rattle.pc_check.specs.Walks.{sum_of, is_through}
+use Rattle.pc_check.specs.Walks.{is_through}
+use Rattle.pc_check.specs.inside.Walks.{sum_of}
 use Rattle.pc_check.specs.Conditions.{conditions}
 use Rattle.pc_check.specs.Failures.{first_failing}
 use Rattle.pc_check.specs.Known.{Known}
-use Rattle.pc_check.specs.Kept.{known_by}
-use Rattle.pc_check.specs.Bounds.{longest_walk, lines_below, lines_from, lines_of_all, lines_left, IsShaped, IsInNormal, IsInPart, IsAtPlace, IsBounded}
-use Rattle.pc_check.specs.Advances.{Adds, moved_on}
-use Rattle.pc_check.specs.Additions.{MayBeAdded}
-use Rattle.pc_check.specs.Safe.{IsBegun}
+use Rattle.pc_check.specs.inside.Kept.{known_by}
+use Rattle.pc_check.specs.Bounds.{longest_walk, lines_below, lines_from, lines_of_all}
+use Rattle.pc_check.specs.inside.Bounds.{lines_left, IsShaped, IsInNormal, IsInPart, IsAtPlace, IsBounded}
+use Rattle.pc_check.specs.inside.Advances.{Adds, moved_on}
+use Rattle.pc_check.specs.inside.Additions.{MayBeAdded}
+use Rattle.pc_check.specs.inside.Safe.{IsBegun}
 use Rattle.pc_check.proofs.BelowLaws.{and_parts, or_parts}
 use Rattle.pc_check.proofs.ReasonLaws.{holds_first}
 

@@ -6,12 +6,12 @@ use Rattle.pc_model.specs.Sums.{sum_to}
 use Rattle.pc_model.specs.Schedule.{crash_of}
 use Rattle.pc_model.specs.Cost.{Knees}
 use Rattle.pc_curve_laws.specs.Segment.{Segment}
-use Rattle.pc_crash.specs.KneeLists.{AreKneesOf}
+use Rattle.pc_crash.specs.inside.KneeLists.{AreKneesOf}
 use Rattle.pc_crash.specs.Priced.{PricedNetwork, knees_in}
 use Rattle.pc_check.specs.declared.gaps.Crossing.{Crossing}
-use Rattle.pc_check.specs.Crossings.{IsCrossing}
+use Rattle.pc_check.specs.inside.Crossings.{IsCrossing}
 use Rattle.pc_check.specs.Known.{some_below}
-use Rattle.pc_check.specs.KneeTests.{rises_over, stops_at_knee_over, stops_over}
+use Rattle.pc_check.specs.inside.KneeTests.{rises_over, stops_at_knee_over, stops_over}
 use Rattle.pc_check.specs.Segments.{stops_at_knee_in, stops_in}
 use Rattle.pc_check.proofs.BelowLaws.{some_below-same}
 use Rattle.pc_check.proofs.KneeLaws.{rises_over-list, some-list}

@@ -3,7 +3,7 @@ use Rattle.std.proofs.Common.{◌≡◌, ℕ, ◌<◌, ◌≤◌, List, [], ◌+
 use Rattle.std.proofs.lemmas.List.{take-append-drop, nil_from_length}
 use Rattle.pc_check.specs.declared.fail.Fail.{Fail}
 use Rattle.pc_check.specs.Texts.{IsFailing}
-use Rattle.pc_check.specs.Auditing.{Auditing, HasRead, IsGoing, bytes_left}
+use Rattle.pc_check.specs.inside.Auditing.{Auditing, HasRead, IsGoing, bytes_left}
 
 -- a front of the piece was used, and the rest is left
 pub record IsFeeding (before now : Auditing) (piece rest : List ℕ) : Type 0 where

@@ -5,8 +5,9 @@ use Rattle.pc_model.specs.Cost.{IsPriced}
 use Rattle.pc_cert.specs.declared.line.CertLine.{CertLine}
 use Rattle.pc_cert.specs.declared.place.Place.TheVariants.{Ended}
 use Rattle.pc_crash.specs.Priced.{knees_in}
-use Rattle.pc_check.specs.Certified.{AreCurve, segments_of}
-use Rattle.pc_check.specs.Checking.{Checking, StandsFor}
+use Rattle.pc_check.specs.Certified.{segments_of}
+use Rattle.pc_check.specs.inside.Certified.{AreCurve}
+use Rattle.pc_check.specs.inside.Checking.{Checking, StandsFor}
 use Rattle.pc_check.proofs.TakeLaws.{is_going, when_none}
 use Rattle.pc_check.proofs.GoodLines.{curve_of}
 

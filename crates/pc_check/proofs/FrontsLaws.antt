@@ -6,8 +6,8 @@ use Rattle.std.proofs.lemmas.Bool.{cases_eq}
 use Rattle.pc_model.specs.Codes.{code_at}
 use Rattle.pc_crash.specs.Priced.{PricedNetwork}
 use Rattle.pc_cert.specs.declared.event_front.EventFront.{EventFront}
-use Rattle.pc_cert.specs.Known.{IsFrontOf, IsEventFront}
-use Rattle.pc_check.specs.Fronts.{front_at}
+use Rattle.pc_cert.specs.inside.Known.{IsFrontOf, IsEventFront}
+use Rattle.pc_check.specs.inside.Fronts.{front_at}
 
 -- those of the first so many events
 pub record AreFirst (net : PricedNetwork) (fronts : List EventFront) (count : ℕ) : Type 0 where

@@ -1,14 +1,15 @@
 -- Tests over the list of an activity's knees are those over its knees.
 use Rattle.std.proofs.Common.{◌≡◌, ℕ, ◌+◌, Bool, not, ◌&&◌, ◌||◌, List, length, refl, ap, ◌∙◌}
 use Rattle.std.specs.Prelude.{◌==◌, nat_le, nat_lt, slice_index, if◌then◌else◌}
-use Rattle.pc_model.specs.Pieces.{knee_at}
+use Rattle.pc_model.specs.inside.Pieces.{knee_at}
 use Rattle.pc_model.specs.declared.Knee.{Knee}
 use Rattle.pc_model.specs.Sums.{sum_to}
 use Rattle.pc_model.specs.Cost.{Knees}
 use Rattle.pc_model.proofs.Sums.{sum_to-same}
-use Rattle.pc_crash.specs.KneeLists.{AreKneesOf}
+use Rattle.pc_crash.specs.inside.KneeLists.{AreKneesOf}
 use Rattle.pc_check.specs.Known.{each_below, some_below}
-use Rattle.pc_check.specs.KneeTests.{is_slack_at_knee, keeps_rises_over, is_slack_over, rises_over}
+use Rattle.pc_check.specs.KneeTests.{is_slack_at_knee}
+use Rattle.pc_check.specs.inside.KneeTests.{keeps_rises_over, is_slack_over, rises_over}
 use Rattle.pc_check.proofs.BelowLaws.{each_below-same, some_below-same}
 
 module _ (knees : Knees) (a : ℕ) (list : List Knee) (are : AreKneesOf knees a list) where

@@ -12,7 +12,7 @@ use Rattle.pc_text.proofs.FieldLemmas.{bind_some}
 use Rattle.pc_cert.specs.declared.line.CertLine.{CertLine}
 use Rattle.pc_cert.specs.declared.line.CertLine.TheVariants.{Head, Normal, Step, Crash, Segment, Event, Act, Close, End}
 use Rattle.pc_cert.specs.declared.place.Place.{Place}
-use Rattle.pc_check.specs.Bounds.{IsShaped}
+use Rattle.pc_check.specs.inside.Bounds.{IsShaped}
 use Rattle.pc_check.specs.Draft.{Part, Draft, empty_draft, with_line}
 use Rattle.pc_check.specs.Failures.{reason_at, failure_after, failure_of}
 use Rattle.pc_check.specs.Said.{said}

@@ -4,22 +4,23 @@ use Rattle.std.specs.Prelude.{◌==◌, nat_lt, slice_index, slice_index_or, if�
 use Rattle.std.proofs.lemmas.Bool.{cases_eq, eq-eqb, eqb-true, le-leb, le-ltb}
 use Rattle.std.proofs.lemmas.List.{get_or_default, get_or-replicate, get_or-set_same, get_or-set_other, length-replicate, length-set}
 use Rattle.pc_model.specs.declared.Knee.{Knee}
-use Rattle.pc_model.specs.Pieces.{knee_at}
+use Rattle.pc_model.specs.inside.Pieces.{knee_at}
 use Rattle.pc_model.specs.Schedule.{normal_of, crash_of, lesser_of}
 use Rattle.pc_model.specs.Walk.{from_of, to_of}
 use Rattle.pc_curve_laws.specs.Segment.{head_at, tail_at}
-use Rattle.pc_crash.specs.KneeLists.{AreKneesOf}
+use Rattle.pc_crash.specs.inside.KneeLists.{AreKneesOf}
 use Rattle.pc_crash.specs.Priced.{PricedNetwork, knees_in}
 use Rattle.pc_cert.specs.declared.line.CertLine.TheVariants.{Act}
-use Rattle.pc_cert.specs.Known.{HasText, IsTextOf}
+use Rattle.pc_cert.specs.inside.Known.{HasText, IsTextOf}
 use Rattle.pc_check.specs.Conditions.{conditions, has_act_code, has_duration, is_slack_in}
-use Rattle.pc_check.specs.Crossings.{IsStill}
+use Rattle.pc_check.specs.inside.Crossings.{IsStill}
 use Rattle.pc_check.specs.Failures.{first_failing}
 use Rattle.pc_check.specs.Known.{Known, each_below, frame}
-use Rattle.pc_check.specs.KneeTests.{is_slack_at_knee, is_slack_over}
-use Rattle.pc_check.specs.Passed.{IsWithin, FitsWithin, HasPassed, IsPassed, passed_at, flow_of, cost_of, ArePassed, IsNothing, ComesAgain}
-use Rattle.pc_check.specs.Kept.{stretch_of}
-use Rattle.pc_check.specs.Safe.{IsRenewed, IsSafe, AddsAct}
+use Rattle.pc_check.specs.KneeTests.{is_slack_at_knee}
+use Rattle.pc_check.specs.inside.KneeTests.{is_slack_over}
+use Rattle.pc_check.specs.inside.Passed.{IsWithin, FitsWithin, HasPassed, IsPassed, passed_at, flow_of, cost_of, ArePassed, IsNothing, ComesAgain}
+use Rattle.pc_check.specs.inside.Kept.{stretch_of}
+use Rattle.pc_check.specs.inside.Safe.{IsRenewed, IsSafe, AddsAct}
 use Rattle.pc_check.specs.declared.kept.Tally.{Tally}
 use Rattle.pc_check.specs.declared.passed.Passed.{Passed}
 use Rattle.pc_check.proofs.BelowLaws.{and_parts, passes_behind}

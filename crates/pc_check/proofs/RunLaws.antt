@@ -2,9 +2,9 @@
 use Rattle.std.proofs.Common.{◌≡◌, ℕ, ◌+◌, ◌-◌, ◌^◌, ◌<◌, ◌≤◌, zero, suc, List, ◌++◌, length, take, drop, None, refl, sym, ap, subst, ◌∙◌, arith, append_assoc}
 use Rattle.std.proofs.Math.Seq.{take-add}
 use Rattle.std.proofs.lemmas.List.{length-drop, drop-drop}
-use Rattle.pc_cert.specs.Reader.{Reading, StandsFor as ReadsAs}
-use Rattle.pc_check.specs.Along.{TakesAlong}
-use Rattle.pc_check.specs.Checking.{Checking, StandsFor}
+use Rattle.pc_cert.specs.inside.Reader.{Reading, StandsFor as ReadsAs}
+use Rattle.pc_check.specs.inside.Along.{TakesAlong}
+use Rattle.pc_check.specs.inside.Checking.{Checking, StandsFor}
 
 -- lines that are so many bytes of the piece were taken, or nothing has changed, and more may be taken
 pub record IsRun (piece : List ℕ) (used : ℕ) (before after : Reading) (old new : Checking) : Type 0 where

@@ -10,7 +10,7 @@ use Rattle.pc_check.specs.declared.fail.Fail.{Fail}
 use Rattle.pc_check.specs.declared.fail.Verdict.{Verdict}
 use Rattle.pc_check.specs.Texts.{IsFailing, Finds}
 use Rattle.pc_check.specs.declared.fail.Verdict.TheVariants.{No}
-use Rattle.pc_check.specs.Auditing.{Auditing, HasRead, IsGoing, bytes_left}
+use Rattle.pc_check.specs.inside.Auditing.{Auditing, HasRead, IsGoing, bytes_left}
 use Rattle.pc_check.specs.Stops.{HasNoFailure, IsSettled, IsUnsettled}
 use Rattle.pc_check.proofs.AuditLaws.{reading, checking}
 

@@ -4,16 +4,17 @@ use Rattle.std.specs.Prelude.{nat_lt, slice_index, if◌then◌else◌}
 use Rattle.std.proofs.lemmas.Bool.{cases_lt, lt-ltb, le-ltb, le-leb, leb-true}
 use Rattle.pc_model.specs.declared.Arc.{Arc}
 use Rattle.pc_model.specs.declared.Knee.{Knee}
-use Rattle.pc_model.specs.Pieces.{knee_at}
+use Rattle.pc_model.specs.inside.Pieces.{knee_at}
 use Rattle.pc_model.specs.Schedule.{crash_of}
 use Rattle.pc_model.specs.Walk.{from_of, to_of}
 use Rattle.pc_crash.specs.Priced.{PricedNetwork, knees_in}
 use Rattle.pc_curve_laws.specs.Segment.{Segment, span, head_at, tail_at, is_forward, is_backward}
 use Rattle.pc_check.specs.Conditions.{has_room, is_slack, is_slack_in}
-use Rattle.pc_check.specs.Crossings.{IsCrossing, IsStill}
+use Rattle.pc_check.specs.inside.Crossings.{IsCrossing, IsStill}
 use Rattle.pc_check.specs.declared.gaps.Crossing.{Crossing}
 use Rattle.pc_check.specs.Known.{each_below, some_below}
-use Rattle.pc_check.specs.KneeTests.{is_slack_at_knee, stops_at_knee_over, stops_over}
+use Rattle.pc_check.specs.KneeTests.{is_slack_at_knee}
+use Rattle.pc_check.specs.inside.KneeTests.{stops_at_knee_over, stops_over}
 use Rattle.pc_check.specs.Segments.{stops_at_knee_in, stops_in}
 use Rattle.pc_check.proofs.BelowLaws.{each_below-same}
 

@@ -7,8 +7,8 @@ use Rattle.pc_model.proofs.Sums.{sum_to-zero, sum_to-bound, sum_to-change, sum_t
 use Rattle.pc_crash.specs.Priced.{PricedNetwork}
 use Rattle.pc_crash.specs.declared.costing.TheConstants.{MAX_ACTIVITY_COST}
 use Rattle.pc_check.specs.declared.passed.Passed.{Passed}
-use Rattle.pc_check.specs.Passed.{flow_of, cost_of, ArePassed, IsNothing}
-use Rattle.pc_check.specs.Safe.{AreSums, IsExchanged, IsRenewed}
+use Rattle.pc_check.specs.inside.Passed.{flow_of, cost_of, ArePassed, IsNothing}
+use Rattle.pc_check.specs.inside.Safe.{AreSums, IsExchanged, IsRenewed}
 
 -- ---- the flows
 

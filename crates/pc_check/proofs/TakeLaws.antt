@@ -16,11 +16,11 @@ use Rattle.pc_check.specs.declared.kept.Kept.{Kept}
 use Rattle.pc_check.specs.Draft.{Draft, empty_draft, with_line, draft_of}
 use Rattle.pc_check.specs.Conditions.{conditions}
 use Rattle.pc_check.specs.Failures.{first_failing, reason_at, or_later, failure_of}
-use Rattle.pc_check.specs.Kept.{known_by}
-use Rattle.pc_check.specs.Bounds.{IsBounded}
-use Rattle.pc_check.specs.Advances.{Advances, moved_on}
-use Rattle.pc_check.specs.Checking.{IsKept, IsGoing, Stands}
-use Rattle.pc_check.specs.Safe.{IsSafe}
+use Rattle.pc_check.specs.inside.Kept.{known_by}
+use Rattle.pc_check.specs.inside.Bounds.{IsBounded}
+use Rattle.pc_check.specs.inside.Advances.{Advances, moved_on}
+use Rattle.pc_check.specs.inside.Checking.{IsKept, IsGoing, Stands}
+use Rattle.pc_check.specs.inside.Safe.{IsSafe}
 use Rattle.pc_check.proofs.BelowLaws.{and_parts}
 use Rattle.pc_check.proofs.ReasonLaws.{holds_first}
 use Rattle.pc_check.proofs.BoundLaws.{Passes, event_first, all_come, lines_kept}

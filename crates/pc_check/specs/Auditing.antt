@@ -1,33 +1,8 @@
--- What an audit stands for.
-use Rattle.std.specs.Prelude.{◌≡◌, ℕ, ◌+◌, ◌-◌, ◌*◌, ◌^◌, ◌<◌, List, length, None}
-use Rattle.pc_cert.specs.declared.line.CertLine.{CertLine}
+-- How much of a text may come before something of it fails.
+use Rattle.std.specs.Prelude.{ℕ, ◌+◌, ◌*◌, length}
 use Rattle.pc_cert.specs.declared.line.TheConstants.{MAX_LINE}
-use Rattle.pc_cert.specs.Reader.{Reading, StandsFor as ReadsAs}
-use Rattle.pc_check.specs.Bounds.{lines_left, lines_of_all}
+use Rattle.pc_check.specs.Bounds.{lines_of_all}
 use Rattle.pc_crash.specs.Priced.{PricedNetwork}
-use Rattle.pc_check.specs.Checking.{Checking, StandsFor as ChecksAs}
-
--- a reader and a checker
-pub record Auditing : Type 0 where
-  pub reader : Reading
-  pub checker : Checking
-
--- the text was read, and its whole lines were checked
-pub record HasRead (text : List ℕ) (audit : Auditing) : Type 0 where
-  pub lines : List CertLine
-  pub read : ReadsAs audit.reader lines text
-  pub checked : ChecksAs audit.checker lines
-
--- nothing is malformed and nothing has failed
-pub record IsGoing (audit : Auditing) : Type 0 where
-  pub well_formed : audit.reader.malformed ≡ None
-  pub no_fail : audit.checker.fail ≡ None
-  pub few : audit.checker.kept.lines < 2 ^ 63
-  pub short : length audit.reader.held < MAX_LINE
-
--- the most bytes that may still come before something is malformed or fails
-abbrev pub bytes_left : Auditing → ℕ
-bytes_left audit = lines_left audit.checker.net audit.checker.kept * MAX_LINE + (MAX_LINE - length audit.reader.held)
 
 -- the most bytes that may come of a text before something is malformed or fails: those of the most lines that a certificate of
 -- the network may have, and of one line more

@@ -1,12 +1,8 @@
--- How many lines may still come, and what a checker that has found no failure keeps to.
-use Rattle.std.specs.Prelude.{◌≡◌, ℕ, ◌+◌, ◌*◌, ◌<◌, ◌≤◌, true, false, length}
+-- How many lines may still come.
+use Rattle.std.specs.Prelude.{ℕ, ◌+◌, ◌*◌}
 use Rattle.pc_model.specs.declared.limits.TheConstants.{MAX_DURATION}
-use Rattle.pc_crash.specs.Priced.{PricedNetwork}
-use Rattle.pc_cert.specs.declared.place.Shape.{Shape}
 use Rattle.pc_cert.specs.declared.place.Place.{Place}
 use Rattle.pc_cert.specs.declared.place.Place.TheVariants.{Start, AfterHead, NormalWalk, CrashWalk, InSegment, Between, Ended}
-use Rattle.pc_check.specs.declared.kept.Kept.{Kept}
-use Rattle.pc_check.specs.Walks.{sum_of}
 
 -- no walk of at most n activities is longer
 abbrev pub longest_walk : ℕ → ℕ
@@ -29,50 +25,3 @@ lines_from n m Ended lower = 0
 -- the most lines of a certificate
 abbrev pub lines_of_all : ℕ → ℕ → ℕ
 lines_of_all n m = lines_from n m Start 0
-
--- the most lines that may still come
-abbrev pub lines_left : PricedNetwork → Kept → ℕ
-lines_left net kept = lines_from net.network.events (length net.network.arcs) kept.place kept.tally.lower
-
--- the numbers of the first line are those of the network
-pub record IsShaped (n m : ℕ) (shape : Shape) : Type 0 where
-  pub events : shape.events ≡ n
-  pub activities : shape.activities ≡ m
-
--- no segment has come, and the normal walk has come so far
-pub record IsInNormal (n steps : ℕ) (kept : Kept) : Type 0 where
-  pub normal : kept.has_normal ≡ false
-  pub none : kept.parts ≡ 0
-  pub short : sum_of kept.normal + steps * MAX_DURATION ≤ longest_walk n
-  pub nothing : sum_of kept.crash ≡ 0
-
--- no segment has come, the normal walk is whole, and the crash walk has come so far
-pub record IsInCrash (n steps : ℕ) (kept : Kept) : Type 0 where
-  pub normal : kept.has_normal ≡ true
-  pub none : kept.parts ≡ 0
-  pub whole : sum_of kept.normal ≤ longest_walk n
-  pub short : sum_of kept.crash + steps * MAX_DURATION ≤ longest_walk n
-
--- a segment has begun, and so many events and activities of it have come
-pub record IsInPart (n m events activities : ℕ) (kept : Kept) : Type 0 where
-  pub low : kept.tally.lower ≤ longest_walk n
-  pub events_come : length kept.tally.times.items + events ≡ n
-  pub acts_come : kept.tally.acts + activities ≡ m
-  pub events_first : 0 < events → kept.tally.acts ≡ 0
-
--- what is kept fits the place of the next line
-abbrev pub IsAtPlace : ℕ → ℕ → Place → Kept → Type 0
-IsAtPlace n m Start kept = IsInNormal n n kept
-IsAtPlace n m (AfterHead shape) kept = IsShaped n m shape × IsInNormal n n kept
-IsAtPlace n m (NormalWalk shape steps) kept = IsShaped n m shape × IsInNormal n steps kept
-IsAtPlace n m (CrashWalk shape steps) kept = IsShaped n m shape × IsInCrash n steps kept
-IsAtPlace n m (InSegment shape events activities) kept = IsShaped n m shape × IsInPart n m events activities kept
-IsAtPlace n m (Between shape) kept = IsShaped n m shape × IsInPart n m 0 0 kept × (0 < kept.parts)
-IsAtPlace n m Ended kept = 0 < kept.parts
-
--- what a checker that has found no failure keeps to
-pub record IsBounded (net : PricedNetwork) (kept : Kept) : Type 0 where
-  pub place : IsAtPlace net.network.events (length net.network.arcs) kept.place kept
-  pub lines : kept.lines + lines_left net kept ≤ lines_of_all net.network.events (length net.network.arcs)
-  pub parts : kept.parts ≤ kept.lines
-  pub moves : length kept.tally.moves.items ≡ length kept.tally.times.items

@@ -12,11 +12,6 @@ abbrev pub length_in : PricedNetwork → Bool → ℕ → ℕ
 length_in net true a = crash_of net.terms a
 length_in net false a = normal_of net.terms a
 
--- the sum of a walk's lengths so far, and 0 where the steps are no walk
-abbrev pub sum_of : Option Reached → ℕ
-sum_of None = 0
-sum_of (Some at) = at.sum
-
 -- the first place of a code among codes, counted from i
 abbrev pub place_of : List ℕ → ℕ → List (List ℕ) → Option ℕ
 place_of code i [] = None

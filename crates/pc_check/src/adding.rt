@@ -2,11 +2,11 @@
 ghost use Rattle.std.specs.Prelude.{◌≡◌, ◌+◌, ◌^◌, ◌<◌, ◌≤◌, ◌++◌, ◌∷◌, [], length, slice_index, vec_len, if◌then◌else◌};
 ghost use Rattle.pc_curve_laws.specs.Segment.{is_forward, is_backward, rises_above, span};
 ghost use Rattle.pc_crash.specs.Priced.{knees_in};
-ghost use Rattle.pc_check.specs.Kept.{stretch_of};
-ghost use Rattle.pc_check.specs.KneeTests.{rises_over};
-ghost use Rattle.pc_check.specs.Crossings.{IsCrossing};
-ghost use Rattle.pc_check.specs.Safe.{IsSafe, IsBegun, IsExchanged, IsRenewed, AddsAct};
-ghost use Rattle.pc_check.specs.Passed.{HasPassed};
+ghost use Rattle.pc_check.specs.inside.Kept.{stretch_of};
+ghost use Rattle.pc_check.specs.inside.KneeTests.{rises_over};
+ghost use Rattle.pc_check.specs.inside.Crossings.{IsCrossing};
+ghost use Rattle.pc_check.specs.inside.Safe.{IsSafe, IsBegun, IsExchanged, IsRenewed, AddsAct};
+ghost use Rattle.pc_check.specs.inside.Passed.{HasPassed};
 ghost use Rattle.pc_check.specs.Segments.{stops_in};
 
 use crate::acts::{rises_over, stops};

@@ -2,13 +2,13 @@
 ghost use Rattle.std.specs.Prelude.{◌≡◌, ◌^◌, ◌<◌, length, None, Some, IfNone, OnSome};
 ghost use Rattle.pc_cert.specs.Grammar.{next};
 ghost use Rattle.pc_cert.specs.declared.line.CertLine.TheVariants.{Step, Act};
-ghost use Rattle.pc_check.specs.Advances.{Adds, AddsStep, Advances};
-ghost use Rattle.pc_check.specs.Bounds.{IsBounded, lines_left};
+ghost use Rattle.pc_check.specs.inside.Advances.{Adds, AddsStep, Advances};
+ghost use Rattle.pc_check.specs.inside.Bounds.{IsBounded, lines_left};
 ghost use Rattle.pc_check.specs.Conditions.{conditions};
 ghost use Rattle.pc_check.specs.Failures.{first_failing};
-ghost use Rattle.pc_check.specs.Kept.{known_by};
-ghost use Rattle.pc_check.specs.Additions.{IsAct, MayBeAdded};
-ghost use Rattle.pc_check.specs.Safe.{IsSafe};
+ghost use Rattle.pc_check.specs.inside.Kept.{known_by};
+ghost use Rattle.pc_check.specs.inside.Additions.{IsAct, MayBeAdded};
+ghost use Rattle.pc_check.specs.inside.Safe.{IsSafe};
 
 use crate::adding::{add_act, add_event, begin_segment};
 use crate::gaps::crossing_of;

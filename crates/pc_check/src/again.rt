@@ -1,11 +1,11 @@
 //! Going on by a line that comes again, or that is told by how it begins.
 ghost use Rattle.std.specs.Prelude.{◌≡◌, ◌≢◌, ◌+◌, ◌^◌, ◌<◌, ◌≤◌, None, length};
-ghost use Rattle.pc_check.specs.Again.{AddsLine, AreEnds, acts_at, going};
-ghost use Rattle.pc_check.specs.Along.{TakesAlong};
-ghost use Rattle.pc_check.specs.Bounds.{IsBounded};
-ghost use Rattle.pc_check.specs.Fronts.{AreFronts};
-ghost use Rattle.pc_check.specs.Passed.{ArePassed};
-ghost use Rattle.pc_check.specs.Safe.{IsSafe};
+ghost use Rattle.pc_check.specs.inside.Again.{AddsLine, AreEnds, acts_at, going};
+ghost use Rattle.pc_check.specs.inside.Along.{TakesAlong};
+ghost use Rattle.pc_check.specs.inside.Bounds.{IsBounded};
+ghost use Rattle.pc_check.specs.inside.Fronts.{AreFronts};
+ghost use Rattle.pc_check.specs.inside.Passed.{ArePassed};
+ghost use Rattle.pc_check.specs.inside.Safe.{IsSafe};
 
 use crate::adding::add_event;
 use crate::kept::Kept;

@@ -1,7 +1,8 @@
 //! Reading and checking the text of a certificate.
 ghost use Rattle.std.specs.Prelude.{◌≡◌, ℕ, ◌<◌, ◌≤◌, List, [], ◌++◌, length, take, IfOk, IfErr, IfSome, OnOk, IfNone};
 ghost use Rattle.pc_check.specs.Texts.{IsFailing, Finds};
-ghost use Rattle.pc_check.specs.Auditing.{HasRead, IsGoing, bytes_left, most_bytes};
+ghost use Rattle.pc_check.specs.Auditing.{most_bytes};
+ghost use Rattle.pc_check.specs.inside.Auditing.{HasRead, IsGoing, bytes_left};
 ghost use Rattle.pc_check.specs.declared.fail.Fail.{Fail};
 
 use crate::checker::Checker;
@@ -22,7 +23,7 @@ pub struct Audit<'n> {
 }
 
 impl<'n> Model for Audit<'n> {
-    ghost use Rattle.pc_check.specs.Auditing.{Auditing};
+    ghost use Rattle.pc_check.specs.inside.Auditing.{Auditing};
 
     ghost Value = { Auditing };
 

@@ -3,10 +3,11 @@ ghost use Rattle.std.specs.Prelude.{◌≡◌, ◌^◌, ◌<◌, ◌∷◌, ◌+
 ghost use Rattle.pc_cert.specs.Grammar.{next};
 ghost use Rattle.pc_cert.specs.declared.line.CertLine.{CertLine};
 ghost use Rattle.pc_cert.specs.declared.place.Place.TheVariants.{Ended};
-ghost use Rattle.pc_check.specs.Bounds.{lines_left};
-ghost use Rattle.pc_check.specs.Certified.{AreCurve, Finds, OnYes, segments_of};
-ghost use Rattle.pc_check.specs.Checking.{StandsFor};
-ghost use Rattle.pc_check.specs.Along.{TakesAlong};
+ghost use Rattle.pc_check.specs.inside.Bounds.{lines_left};
+ghost use Rattle.pc_check.specs.Certified.{segments_of};
+ghost use Rattle.pc_check.specs.inside.Certified.{AreCurve, Finds, OnYes};
+ghost use Rattle.pc_check.specs.inside.Checking.{StandsFor};
+ghost use Rattle.pc_check.specs.inside.Along.{TakesAlong};
 ghost use Rattle.pc_check.specs.declared.fail.Fail.{Fail};
 
 use crate::advancing::advance;
@@ -30,11 +31,11 @@ pub struct Checker<'n> {
 }
 
 impl<'n> Model for Checker<'n> {
-    ghost use Rattle.pc_check.specs.Checking.{Checking};
+    ghost use Rattle.pc_check.specs.inside.Checking.{Checking};
 
     ghost Value = { Checking };
 
-    ghost use Rattle.pc_check.specs.Checkers.{checking, IsSound};
+    ghost use Rattle.pc_check.specs.inside.Checkers.{checking, IsSound};
 
     ghost view = { checking };
 

@@ -3,8 +3,8 @@ ghost use Rattle.std.specs.Prelude.{◌≡◌, ◌<◌, ◌||◌, ◌==◌, leng
 ghost use Rattle.pc_cert.specs.declared.line.CertLine.TheVariants.{Close};
 ghost use Rattle.pc_check.specs.Conditions.{conditions, is_conserved, has_cut_gain, has_stop};
 ghost use Rattle.pc_check.specs.Failures.{first_failing};
-ghost use Rattle.pc_check.specs.Kept.{known_by};
-ghost use Rattle.pc_check.specs.Safe.{IsSafe};
+ghost use Rattle.pc_check.specs.inside.Kept.{known_by};
+ghost use Rattle.pc_check.specs.inside.Safe.{IsSafe};
 
 use crate::kept::Kept;
 use pc_crash::CrashNet;

@@ -1,6 +1,6 @@
 //! How the lines of each event begin.
 ghost use Rattle.std.specs.Prelude.{IfOk};
-ghost use Rattle.pc_check.specs.Fronts.{AreFronts};
+ghost use Rattle.pc_check.specs.inside.Fronts.{AreFronts};
 
 use pc_cert::EventFront;
 use pc_crash::CrashNet;

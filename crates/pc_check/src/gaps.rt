@@ -1,7 +1,7 @@
 //! The gaps of activities, and the cut between the resting and the moving events.
 ghost use Rattle.std.specs.Prelude.{◌≡◌, ◌+◌, ◌^◌, ◌<◌, ◌||◌, nat_le, length, if◌then◌else◌};
-ghost use Rattle.pc_check.specs.Kept.{stretch_of};
-ghost use Rattle.pc_check.specs.Crossings.{IsCrossing};
+ghost use Rattle.pc_check.specs.inside.Kept.{stretch_of};
+ghost use Rattle.pc_check.specs.inside.Crossings.{IsCrossing};
 
 use crate::kept::{Tally, bit_at, number_at};
 use pc_crash::CrashNet;

@@ -1,10 +1,10 @@
 //! What a checker keeps of the lines that have come.
 ghost use Rattle.std.specs.Prelude.{◌≡◌, ◌<◌, slice_index, slice_index_or, length, false, IfOk};
 ghost use Rattle.pc_cert.specs.declared.place.Place.TheVariants.{Start};
-ghost use Rattle.pc_check.specs.Bounds.{IsBounded};
-ghost use Rattle.pc_check.specs.Checking.{IsKept};
+ghost use Rattle.pc_check.specs.inside.Bounds.{IsBounded};
+ghost use Rattle.pc_check.specs.inside.Checking.{IsKept};
 ghost use Rattle.pc_check.specs.Draft.{empty_draft};
-ghost use Rattle.pc_check.specs.Safe.{IsBegun, IsSafe};
+ghost use Rattle.pc_check.specs.inside.Safe.{IsBegun, IsSafe};
 
 use crate::passed::{Passed, none_passed};
 use crate::walk::Reached;

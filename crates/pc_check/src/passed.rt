@@ -3,9 +3,9 @@ ghost use Rattle.std.specs.Prelude.{◌≡◌, ◌≢◌, ℕ, ◌+◌, ◌<◌,
 ghost use Rattle.pc_crash.specs.Priced.{knees_in};
 ghost use Rattle.pc_model.specs.Schedule.{normal_of};
 ghost use Rattle.pc_check.specs.Conditions.{keeps_rises};
-ghost use Rattle.pc_check.specs.Again.{acts_at};
-ghost use Rattle.pc_check.specs.Kept.{known_by};
-ghost use Rattle.pc_check.specs.Passed.{IsLineOf, HasPassed, ArePassed, IsNothing, FitsWithin, IsWithin, ComesAgain};
+ghost use Rattle.pc_check.specs.inside.Again.{acts_at};
+ghost use Rattle.pc_check.specs.inside.Kept.{known_by};
+ghost use Rattle.pc_check.specs.inside.Passed.{IsLineOf, HasPassed, ArePassed, IsNothing, FitsWithin, IsWithin, ComesAgain};
 
 use crate::acts::flow_sum;
 use crate::kept::{Kept, known_bit, known_number};

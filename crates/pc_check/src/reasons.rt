@@ -1,13 +1,13 @@
 //! The reason for which a line fails, if it does: the first condition that is reported there and does not hold.
 ghost use Rattle.std.specs.Prelude.{◌≡◌, ℕ, ◌+◌, ◌^◌, ◌<◌, ◌&&◌, List, [], ◌∷◌, IsTrue, length};
-ghost use Rattle.pc_check.specs.Additions.{IsAct};
+ghost use Rattle.pc_check.specs.inside.Additions.{IsAct};
 ghost use Rattle.pc_check.specs.Conditions.{condition, conditions, has_head, has_joined_ends, is_code_at, has_act_code, has_duration, has_room, keeps_rises, is_slack, is_slack_in};
 ghost use Rattle.pc_check.specs.Failures.{first_failing};
 ghost use Rattle.pc_curve_laws.specs.Segment.{span};
 ghost use Rattle.pc_crash.specs.Priced.{knees_in};
-ghost use Rattle.pc_check.specs.Crossings.{IsCrossing};
-ghost use Rattle.pc_check.specs.Kept.{known_by, stretch_of};
-ghost use Rattle.pc_check.specs.Safe.{IsSafe};
+ghost use Rattle.pc_check.specs.inside.Crossings.{IsCrossing};
+ghost use Rattle.pc_check.specs.inside.Kept.{known_by, stretch_of};
+ghost use Rattle.pc_check.specs.inside.Safe.{IsSafe};
 ghost use Rattle.pc_cert.specs.declared.line.CertLine.TheVariants.{Head, Segment, Event, Act};
 
 use crate::acts::{is_slack, is_still, keeps_rises};

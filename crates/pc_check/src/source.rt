@@ -3,11 +3,12 @@ ghost use Rattle.std.specs.Prelude.{◌≡◌, ℕ, ◌+◌, ◌<◌, ◌≤◌,
 ghost use Rattle.std.specs.Io.KnownBytes.{IsAtEnd};
 ghost use Rattle.pc_edges.specs.Faults.{Rose};
 ghost use Rattle.pc_edges.specs.Pulls.{TakesPulls};
-ghost use Rattle.pc_check.specs.Certified.{OnYes};
+ghost use Rattle.pc_check.specs.inside.Certified.{OnYes};
 ghost use Rattle.pc_check.specs.Texts.{Finds};
 ghost use Rattle.pc_check.specs.Stops.{IsSettled, IsUnsettled};
 ghost use Rattle.pc_edges.specs.declared.loading.TheConstants.{STREAM_ROOM};
-ghost use Rattle.pc_check.specs.Auditing.{HasRead, IsGoing, bytes_left, most_bytes};
+ghost use Rattle.pc_check.specs.Auditing.{most_bytes};
+ghost use Rattle.pc_check.specs.inside.Auditing.{HasRead, IsGoing, bytes_left};
 ghost use Rattle.pc_check.specs.OwnLines.{KeepsToOwnLines};
 
 use crate::audit::Audit;

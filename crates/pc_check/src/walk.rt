@@ -1,7 +1,8 @@
 //! The two walks of a certificate, step by step.
 ghost use Rattle.std.specs.Prelude.{◌≡◌, ◌+◌, ◌^◌, ◌<◌, ◌≤◌, length, IfSome};
 ghost use Rattle.pc_model.specs.declared.limits.TheConstants.{MAX_DURATION};
-ghost use Rattle.pc_check.specs.Walks.{length_in, place_of, further, stepped, is_through, sum_of};
+ghost use Rattle.pc_check.specs.Walks.{length_in, place_of, further, stepped, is_through};
+ghost use Rattle.pc_check.specs.inside.Walks.{sum_of};
 
 use pc_crash::CrashNet;
 use pc_model::MAX_DURATION;

@@ -5,9 +5,10 @@ use Rattle.std.specs.declared.alloc.Global.{Global}
 use Rattle.pc_faults.specs.declared.fault.Fault.{Fault}
 use Rattle.pc_check.specs.declared.fail.Verdict.TheVariants.{Yes, No}
 use Rattle.pc_reading.specs.declared.status.Status.{Status}
-use Rattle.pc_reading.specs.Status.{code_of}
+use Rattle.pc_reading.specs.inside.Status.{code_of}
 use Rattle.pc_checking.specs.Certificate.{HasVerdict, Certifies, ProvesCurve, IsSettledFor, failing_text}
-use Rattle.pc_checking.specs.CheckOutcome.{OfBoth, IsChecked, IsCheckCut, CheckOutcome, certified, not_certified, deck_refused, check_usage, no_memory, read_fault, deck_unread, cert_unread, write_fault, in_verdict, in_refusal, in_check_usage}
+use Rattle.pc_checking.specs.CheckOutcome.{OfBoth, IsChecked, IsCheckCut, deck_unread, cert_unread, in_verdict, in_refusal, in_check_usage}
+use Rattle.pc_checking.specs.inside.CheckOutcome.{CheckOutcome, certified, not_certified, deck_refused, check_usage, no_memory, read_fault, write_fault}
 use Rattle.pc_reading.specs.OneWord.{IsOneWord}
 use Rattle.pc_reading.specs.Sides.{Side, HadNoFault, OfDeck, Took}
 use Rattle.pc_reading.specs.Verdict.{AcceptedBy, RefusedBy, IsFault}

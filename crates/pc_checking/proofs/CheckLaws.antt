@@ -16,11 +16,14 @@ use Rattle.pc_edges.proofs.PullLaws.{TakesPulls-none}
 use Rattle.pc_project.specs.Project.{Project}
 use Rattle.pc_reading.specs.declared.status.Status.{Status}
 use Rattle.pc_reading.specs.Priced.{priced_in}
-use Rattle.pc_reading.specs.OneWord.{IsOneWord, EndsWithout}
-use Rattle.pc_reading.specs.OneWord as ends
-use Rattle.pc_checking.specs.Certificate.{check_usage_text, verdict_text, HasVerdict, Certifies, FailsAsCertificate, ProvesCurve, IsFound, KeepsToOwnLinesFor, IsSettledFor, IsSettledIn, IsUnsettledFor, IsUnsettledIn, status_for, Told, told, cut, Answered, found, unread, no_room}
-use Rattle.pc_checking.specs.CheckOutcome.{IsChecked, CheckOutcome, certified, not_certified, deck_refused, check_usage, no_memory, read_fault, deck_unread, cert_unread, write_fault, in_verdict, in_refusal, in_check_usage}
-use Rattle.pc_reading.specs.Reading.{HasProject}
+use Rattle.pc_reading.specs.OneWord.{IsOneWord}
+use Rattle.pc_reading.specs.inside.OneWord.{EndsWithout}
+use Rattle.pc_reading.specs.inside.OneWord as ends
+use Rattle.pc_checking.specs.Certificate.{check_usage_text, verdict_text, HasVerdict, Certifies, FailsAsCertificate, ProvesCurve, KeepsToOwnLinesFor, IsSettledFor, IsSettledIn, IsUnsettledFor, IsUnsettledIn}
+use Rattle.pc_checking.specs.inside.Certificate.{IsFound, status_for, Told, told, cut, Answered, found, unread, no_room}
+use Rattle.pc_checking.specs.CheckOutcome.{IsChecked, deck_unread, cert_unread, in_verdict, in_refusal, in_check_usage}
+use Rattle.pc_checking.specs.inside.CheckOutcome.{CheckOutcome, certified, not_certified, deck_refused, check_usage, no_memory, read_fault, write_fault}
+use Rattle.pc_reading.specs.inside.Reading.{HasProject}
 use Rattle.pc_reading.specs.Sides.{Side, IsUntouched, Took}
 use Rattle.pc_reading.specs.Verdict.{IsProjectOf, AcceptedBy}
 use Rattle.pc_check.proofs.HeadlineLaws.{prints_whole_curve}

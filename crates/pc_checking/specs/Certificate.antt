@@ -1,7 +1,6 @@
 -- Certificates of a deck's project, and what is said of them.
-use Rattle.std.specs.Prelude.{◌≡◌, ℕ, List, [], ◌∷◌, ◌++◌, codes, decimal, Option}
+use Rattle.std.specs.Prelude.{ℕ, List, [], ◌∷◌, ◌++◌, codes, decimal, Option}
 use Rattle.pc_crash.specs.Priced.{PricedNetwork}
-use Rattle.pc_check.specs.Certified.{OnYes}
 use Rattle.pc_check.specs.declared.fail.Verdict.{Verdict}
 use Rattle.pc_check.specs.declared.fail.Verdict.TheVariants.{Yes, No}
 use Rattle.pc_edges.specs.declared.loading.TheConstants.{STREAM_ROOM}
@@ -10,10 +9,8 @@ use Rattle.pc_check.specs.Headline.{PrintsWholeCurve}
 use Rattle.pc_check.specs.Stops.{IsSettled, IsUnsettled}
 use Rattle.pc_check.specs.OwnLines.{KeepsToOwnLines}
 use Rattle.pc_project.specs.Project.{Project}
-use Rattle.pc_reading.specs.declared.status.Status.{Status}
-use Rattle.pc_reading.specs.declared.status.Status.TheVariants.{Done, OutOfMemory, ReadFault, WriteFault, NotCertified}
 use Rattle.pc_reading.specs.Priced.{priced_in}
-use Rattle.pc_reading.specs.Sides.{Side, HadFault, IsReadToEnd, IsUntouched, OfBytes, Took, TookFront}
+use Rattle.pc_reading.specs.Sides.{Side}
 use Rattle.pc_reading.specs.Verdict.{IsProjectOf}
 
 -- ---- lines
@@ -66,13 +63,6 @@ abbrev pub IsSettledIn : {X : Type 0} → PricedNetwork → Verdict → Side X �
 IsSettledIn net verdict cert =
     IsSettled net verdict STREAM_ROOM cert.bytes cert.pulls cert.old cert.new
 
--- what the source had left is found to be this, a certified text was read to its end, and nothing was pulled behind the first
--- failing line
-pub record IsFound {X : Type 0} (net : PricedNetwork) (cert : Side X) (verdict : Verdict) : Type 0 where
-  pub finds : OfBytes cert (λ text. Finds net text verdict)
-  pub end : OnYes verdict (IsReadToEnd cert)
-  pub settled : IsSettledIn net verdict cert
-
 -- the deck is accepted, and this is so for the network of its project
 pub record IsSettledFor {X : Type 0} (deck : List ℕ) (cert : Side X) (verdict : Verdict) : Type 0 where
   pub project : Project
@@ -93,20 +83,3 @@ pub record IsUnsettledFor {X : Type 0} (deck : List ℕ) (cert : Side X) : Type 
 abbrev pub KeepsToOwnLinesFor : Option ℕ → Option ℕ → List ℕ → List ℕ → Type 0
 KeepsToOwnLinesFor pulls pulls_after deck text =
     (project : Project) → IsProjectOf deck project → KeepsToOwnLines (priced_in project) text pulls pulls_after
-
--- the status of a verdict that was told
-abbrev pub status_for : Verdict → Status
-status_for (Yes segments) = Done
-status_for (No line reason) = NotCertified
-
--- the line of the verdict was written, or a fault of the sink came in it
-pub data Told {X : Type 0} (verdict : Verdict) (out : Side X) : Status → Type 0 where
-  told : (status : Status) → status ≡ status_for verdict → Took out (verdict_text verdict) → Told verdict out status
-  cut : TookFront out (verdict_text verdict) → Told verdict out WriteFault
-
--- how the check of a certificate of the project ends: with a verdict, with a fault of the source before any line failed, or for want of
--- memory before anything was pulled
-pub data Answered {C O : Type 0} (project : Project) (cert : Side C) (out : Side O) : Status → Type 0 where
-  found : (verdict : Verdict) (status : Status) → IsFound (priced_in project) cert verdict → Told verdict out status → Answered project cert out status
-  unread : HadFault cert → IsUnsettledIn (priced_in project) cert → IsUntouched out → Answered project cert out ReadFault
-  no_room : IsUntouched cert → IsUntouched out → Answered project cert out OutOfMemory

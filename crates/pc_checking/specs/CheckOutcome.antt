@@ -2,13 +2,10 @@
 use Rattle.std.specs.Prelude.{ℕ, List, String}
 use Rattle.std.specs.declared.alloc.Global.{Global}
 use Rattle.pc_check.specs.declared.fail.Verdict.{Verdict}
-use Rattle.pc_check.specs.declared.fail.Verdict.TheVariants.{Yes, No}
 use Rattle.pc_deck.specs.Limits.{longest_deck}
-use Rattle.pc_reading.specs.declared.status.Status.{Status}
-use Rattle.pc_reading.specs.declared.status.Status.TheVariants.{Done, Refused, Usage, OutOfMemory, ReadFault, WriteFault, NotCertified}
 use Rattle.pc_checking.specs.Certificate.{check_usage_text, verdict_text, HasVerdict, IsSettledFor, IsUnsettledFor}
 use Rattle.pc_reading.specs.Sides.{Side, HadFault, IsReadToEnd, IsUntouched, OfBytes, OfDeck, Took, TookAtMost, TookFront}
-use Rattle.pc_reading.specs.OneWord.{IsDeckRefused, IsOneWord, IsRefusalCut}
+use Rattle.pc_reading.specs.OneWord.{IsOneWord, IsRefusalCut}
 use Rattle.pc_reading.specs.Verdict.{AcceptedBy}
 
 -- the bytes that the two sources had left have P, where they tell them
@@ -47,13 +44,3 @@ pub data IsCheckCut {D C O E : Type 0} (words : List (String Global)) (deck : Si
 pub data IsUnread {D C : Type 0} (deck : Side D) (cert : Side C) : Type 0 where
   deck_unread : HadFault deck → TookAtMost longest_deck deck → IsUntouched cert → IsUnread deck cert
   cert_unread : IsReadToEnd deck → OfDeck deck AcceptedBy → HadFault cert → OfDeck deck (λ bytes. IsUnsettledFor bytes cert) → IsUnread deck cert
-
--- what a check that ended with the status means and leaves behind
-pub data CheckOutcome {D C O E : Type 0} (words : List (String Global)) (deck : Side D) (cert : Side C) (out : Side O) (err : Side E) : Status → Type 0 where
-  certified : (segments : ℕ) → IsChecked words deck cert out (Yes segments) → IsReadToEnd cert → IsUntouched err → CheckOutcome words deck cert out err Done
-  not_certified : (line reason : ℕ) → IsChecked words deck cert out (No line reason) → IsUntouched err → CheckOutcome words deck cert out err NotCertified
-  deck_refused : IsDeckRefused words deck err → IsUntouched cert → IsUntouched out → CheckOutcome words deck cert out err Refused
-  check_usage : (IsOneWord words → ⊥) → Took err check_usage_text → IsUntouched deck → IsUntouched cert → IsUntouched out → CheckOutcome words deck cert out err Usage
-  no_memory : IsOneWord words → IsUntouched cert → IsUntouched out → IsUntouched err → CheckOutcome words deck cert out err OutOfMemory
-  read_fault : IsOneWord words → IsUnread deck cert → IsUntouched out → IsUntouched err → CheckOutcome words deck cert out err ReadFault
-  write_fault : IsCheckCut words deck cert out err → CheckOutcome words deck cert out err WriteFault

@@ -1,6 +1,7 @@
 //! Telling what a certificate was found to be.
 ghost use Rattle.std.specs.Prelude.{◌≡◌, ◌+◌, ◌≤◌, ◌++◌, length};
-ghost use Rattle.pc_checking.specs.Certificate.{certified_text, failing_text, verdict_text, Told, status_for};
+ghost use Rattle.pc_checking.specs.Certificate.{certified_text, failing_text, verdict_text};
+ghost use Rattle.pc_checking.specs.inside.Certificate.{Told, status_for};
 ghost use Rattle.pc_reading.specs.Sides.{side};
 
 use arrayvec::ArrayVec;

@@ -11,12 +11,13 @@ use Rattle.pc_model.specs.declared.limits.TheConstants.{MAX_DURATION, MAX_SLOPE}
 use Rattle.pc_model.specs.Sums.{sum_to}
 use Rattle.pc_model.specs.Network.{Network}
 use Rattle.pc_model.specs.Cost.{activity_cost, cost_of, last_slope}
-use Rattle.pc_model.specs.Pieces.{pieces_of, knees_of, slope_in, ArePieces, knee_at}
+use Rattle.pc_model.specs.Pieces.{pieces_of, knees_of, slope_in, ArePieces}
+use Rattle.pc_model.specs.inside.Pieces.{knee_at}
 use Rattle.pc_model.specs.Schedule.{term_at, AreTerms}
 use Rattle.pc_model.proofs.Sums.{sum_to-le, sum_to-most, sum_to-same, sum_to-times}
 use Rattle.pc_model.proofs.Costs.PieceLaws.{knee-normal, last_slope-pieces, pieces_fit}
-use Rattle.pc_crash.specs.KneeLists.{AreKneesOf, AreSmallKnees}
-use Rattle.pc_crash.specs.CrashNets.{IsWhole}
+use Rattle.pc_crash.specs.inside.KneeLists.{AreKneesOf, AreSmallKnees}
+use Rattle.pc_crash.specs.inside.CrashNets.{IsWhole}
 use Rattle.pc_crash.specs.Priced.{PricedNetwork, knees_in, ArePiecesWithinLimits}
 use Rattle.pc_crash.specs.Terms.{AreWithinLimits}
 

@@ -9,7 +9,7 @@ use Rattle.pc_model.specs.declared.PieceRow.{PieceRow}
 use Rattle.pc_model.specs.declared.Term.{Term}
 use Rattle.pc_model.specs.declared.limits.TheConstants.{MAX_PIECES_EACH}
 use Rattle.pc_model.specs.Pieces.{pieces_of, ArePieces}
-use Rattle.pc_crash.specs.Groups.{AreGroups, group_at}
+use Rattle.pc_crash.specs.inside.Groups.{AreGroups, group_at}
 use Rattle.pc_crash.specs.Priced.{piece_at}
 use Rattle.pc_crash.proofs.PieceLaws.{pieces_of-here, pieces_of-elsewhere}
 

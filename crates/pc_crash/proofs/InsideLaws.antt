@@ -7,9 +7,9 @@ use Rattle.pc_model.specs.declared.PieceRow.{PieceRow}
 use Rattle.pc_model.specs.declared.Term.{Term}
 use Rattle.pc_crash.specs.declared.crash_net.CrashNet.TheInside.{Inside}
 use Rattle.pc_crash.specs.declared.laying.Row.{Row}
-use Rattle.pc_crash.specs.CrashNets.{priced_network, IsWholeInside}
-use Rattle.pc_crash.specs.KneeLists.{AreKneesOf}
-use Rattle.pc_crash.specs.Laid.{AreLaid, IsRowOf, part_of}
+use Rattle.pc_crash.specs.inside.CrashNets.{priced_network, IsWholeInside}
+use Rattle.pc_crash.specs.inside.KneeLists.{AreKneesOf}
+use Rattle.pc_crash.specs.inside.Laid.{AreLaid, IsRowOf, part_of}
 use Rattle.pc_crash.specs.Priced.{knees_in}
 use Rattle.pc_crash.proofs.KneeListLaws.{AreKneesOf-knee_list}
 

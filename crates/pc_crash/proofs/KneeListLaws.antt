@@ -6,10 +6,11 @@ use Rattle.std.proofs.lemmas.List.Sums.{sum_by-drop_more}
 use Rattle.pc_model.specs.declared.Knee.{Knee}
 use Rattle.pc_model.specs.declared.PieceRow.{PieceRow}
 use Rattle.pc_model.specs.declared.Term.{Term}
-use Rattle.pc_model.specs.Pieces.{pieces_of, knees_of, units_of, slope_in, rise_in, ArePieces, knee_at}
+use Rattle.pc_model.specs.Pieces.{pieces_of, knees_of, units_of, slope_in, rise_in, ArePieces}
+use Rattle.pc_model.specs.inside.Pieces.{knee_at}
 use Rattle.pc_model.specs.Schedule.{term_at}
-use Rattle.pc_crash.specs.KneeLists.{knee_list, piece_knees, AreKneesOf}
-use Rattle.pc_crash.specs.Laid.{IsRising}
+use Rattle.pc_crash.specs.inside.KneeLists.{knee_list, piece_knees, AreKneesOf}
+use Rattle.pc_crash.specs.inside.Laid.{IsRising}
 use Rattle.pc_crash.specs.Priced.{piece_at}
 
 -- the units of the pieces from one on are its own and those further on

@@ -11,8 +11,8 @@ use Rattle.pc_model.specs.Pieces.{pieces_of}
 use Rattle.pc_model.specs.Schedule.{term_at}
 use Rattle.pc_model.specs.Walk.{arc_at}
 use Rattle.pc_crash.specs.declared.laying.Row.{Row}
-use Rattle.pc_crash.specs.KneeLists.{knee_list}
-use Rattle.pc_crash.specs.Laid.{AreLaid, IsRowOf, row_at}
+use Rattle.pc_crash.specs.inside.KneeLists.{knee_list}
+use Rattle.pc_crash.specs.inside.Laid.{AreLaid, IsRowOf, row_at}
 
 -- no activity is laid out yet
 pub AreLaid-start : (arcs : List Arc) (terms : List Term) (pieces : List PieceRow) → AreLaid arcs terms pieces 0 [] []

@@ -10,17 +10,18 @@ use Rattle.pc_model.specs.declared.Knee.{Knee}
 use Rattle.pc_model.specs.declared.PieceRow.{PieceRow}
 use Rattle.pc_model.specs.declared.Term.{Term}
 use Rattle.pc_model.specs.declared.limits.TheConstants.{MAX_DURATION, MAX_SLOPE}
-use Rattle.pc_model.specs.Pieces.{ArePieces, knee_at, pieces_of, rise_in, slope_in, units_of}
+use Rattle.pc_model.specs.Pieces.{ArePieces, pieces_of, rise_in, slope_in, units_of}
+use Rattle.pc_model.specs.inside.Pieces.{knee_at}
 use Rattle.pc_model.specs.Schedule.{AreTerms, term_at}
 use Rattle.pc_model.specs.Walk.{arc_at}
 use Rattle.pc_crash.specs.declared.laying.Row.{Row}
-use Rattle.pc_crash.specs.KneeLists.{AreSmallKnees, knee_list}
-use Rattle.pc_crash.specs.Laid.{AreLaid, IsRowOf, part_of, row_at}
+use Rattle.pc_crash.specs.inside.KneeLists.{AreSmallKnees, knee_list}
+use Rattle.pc_crash.specs.inside.Laid.{AreLaid, IsRowOf, part_of, row_at}
 use Rattle.pc_crash.specs.declared.crash_net.CrashNet.TheInside.{Inside}
-use Rattle.pc_crash.specs.CrashNets.{IsWhole, IsWholeInside, priced_network}
+use Rattle.pc_crash.specs.inside.CrashNets.{IsWhole, IsWholeInside, priced_network}
 use Rattle.pc_crash.specs.Priced.{PricedNetwork}
 use Rattle.pc_crash.specs.Terms.{AreWithinLimits}
-use Rattle.pc_crash.specs.Moved.{AreMoved, IsMovable, moved_knee}
+use Rattle.pc_crash.specs.inside.Moved.{AreMoved, IsMovable, moved_knee}
 use Rattle.pc_crash.proofs.CostLaws.{AreSmallKnees-of}
 use Rattle.pc_crash.proofs.InsideLaws.{row-read, rows-each}
 use Rattle.pc_crash.proofs.KneeListLaws.{AreKneesOf-knee_list, piece_knees-at, piece_knees-rise, length-knee_list}

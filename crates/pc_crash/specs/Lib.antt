@@ -1,9 +1,3 @@
 pub mod Terms
-pub mod KneeLists
-pub mod Groups
-pub mod Laid
-pub mod Moved
 pub mod Priced
-pub mod Looks
-pub mod CrashNets
-pub mod Steps
+pub mod inside

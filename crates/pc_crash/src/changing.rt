@@ -1,8 +1,9 @@
 //! Another term for one activity.
 ghost use Rattle.std.specs.Prelude.{◌≡◌, ℕ, ◌<◌, length, slice_set};
-ghost use Rattle.pc_model.specs.Pieces.{ArePieces, knee_at};
+ghost use Rattle.pc_model.specs.Pieces.{ArePieces};
+ghost use Rattle.pc_model.specs.inside.Pieces.{knee_at};
 ghost use Rattle.pc_model.specs.Schedule.{AreTerms};
-ghost use Rattle.pc_crash.specs.Moved.{AreMoved, IsMovable, moved_knee};
+ghost use Rattle.pc_crash.specs.inside.Moved.{AreMoved, IsMovable, moved_knee};
 ghost use Rattle.pc_crash.specs.Terms.{AreWithinLimits};
 
 use crate::crash_net::CrashNet;

@@ -1,10 +1,11 @@
 //! What durations cost.
 ghost use Rattle.std.specs.Prelude.{◌≡◌, ◌*◌, ◌-◌, ◌<◌, ◌≤◌, length, slice_index};
-ghost use Rattle.pc_model.specs.Pieces.{knee_at};
+ghost use Rattle.pc_model.specs.inside.Pieces.{knee_at};
 ghost use Rattle.pc_model.specs.Cost.{activity_cost, cost_of};
 ghost use Rattle.pc_model.specs.Sums.{sum_to};
-ghost use Rattle.pc_crash.specs.KneeLists.{AreSmallKnees};
-ghost use Rattle.pc_crash.specs.Priced.{knees_in, AreDurations};
+ghost use Rattle.pc_crash.specs.inside.KneeLists.{AreSmallKnees};
+ghost use Rattle.pc_crash.specs.Priced.{knees_in};
+ghost use Rattle.pc_crash.specs.inside.Priced.{AreDurations};
 
 use crate::crash_net::CrashNet;
 use pc_model::Knee;

@@ -4,9 +4,10 @@ ghost use Rattle.pc_model.specs.Codes.{code_at};
 ghost use Rattle.pc_model.specs.Cost.{IsPriced};
 ghost use Rattle.pc_model.specs.Pieces.{ArePieces};
 ghost use Rattle.pc_model.specs.Schedule.{AreTerms, term_at};
-ghost use Rattle.pc_crash.specs.KneeLists.{AreKneesOf};
-ghost use Rattle.pc_crash.specs.Looks.{IsLookAt};
-ghost use Rattle.pc_crash.specs.Priced.{knees_in, AreNames, ArePiecesWithinLimits};
+ghost use Rattle.pc_crash.specs.inside.KneeLists.{AreKneesOf};
+ghost use Rattle.pc_crash.specs.inside.Looks.{IsLookAt};
+ghost use Rattle.pc_crash.specs.Priced.{knees_in, ArePiecesWithinLimits};
+ghost use Rattle.pc_crash.specs.inside.Priced.{AreNames};
 ghost use Rattle.pc_crash.specs.Terms.{AreWithinLimits};
 
 use crate::counting::Steps;
@@ -39,7 +40,7 @@ impl<'n> Model for CrashNet<'n> {
 
     ghost Value = { PricedNetwork };
 
-    ghost use Rattle.pc_crash.specs.CrashNets.{priced_network, IsWholeInside};
+    ghost use Rattle.pc_crash.specs.inside.CrashNets.{priced_network, IsWholeInside};
 
     ghost view = { priced_network };
 

@@ -1,7 +1,7 @@
 //! The pieces of each activity.
 ghost use Rattle.std.specs.Prelude.{◌≡◌, [], IfOk, length};
 ghost use Rattle.pc_model.specs.Pieces.{ArePieces};
-ghost use Rattle.pc_crash.specs.Groups.{AreGroups};
+ghost use Rattle.pc_crash.specs.inside.Groups.{AreGroups};
 
 use arrayvec::ArrayVec;
 use pc_model::{MAX_PIECES_EACH, PieceRow, Term};

@@ -1,6 +1,6 @@
 //! The knees of one activity's cost.
 ghost use Rattle.std.specs.Prelude.{◌≡◌, ◌+◌, ◌<◌, ◌≤◌, length};
-ghost use Rattle.pc_model.specs.Pieces.{knee_at};
+ghost use Rattle.pc_model.specs.inside.Pieces.{knee_at};
 
 use pc_model::{Knee, MAX_PIECES_EACH};
 use std::marker::Model;

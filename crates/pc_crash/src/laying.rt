@@ -3,8 +3,8 @@ ghost use Rattle.std.specs.Prelude.{◌≡◌, ◌+◌, ◌^◌, ◌<◌, ◌≤
 ghost use Rattle.pc_model.specs.Network.{IsInRange, IsSound};
 ghost use Rattle.pc_model.specs.Schedule.{AreTerms};
 ghost use Rattle.pc_model.specs.Pieces.{ArePieces, units_of};
-ghost use Rattle.pc_crash.specs.KneeLists.{knee_list};
-ghost use Rattle.pc_crash.specs.Laid.{AreLaid, IsRising, part_of, row_at};
+ghost use Rattle.pc_crash.specs.inside.KneeLists.{knee_list};
+ghost use Rattle.pc_crash.specs.inside.Laid.{AreLaid, IsRising, part_of, row_at};
 ghost use Rattle.pc_crash.specs.Terms.{AreWithinLimits};
 
 use crate::grouping::grouped;

@@ -2,7 +2,7 @@
 ghost use Rattle.std.specs.Prelude.{◌≡◌, ℕ, ◌+◌, ◌^◌, ◌<◌, ◌≤◌, length, slice_index, pos, ◌-ℤ◌, IsTrue, ◌↔◌};
 ghost use Rattle.pc_model.specs.Schedule.{IsSchedule};
 ghost use Rattle.pc_model.specs.Walk.{from_of, to_of};
-ghost use Rattle.pc_crash.specs.Priced.{Fits};
+ghost use Rattle.pc_crash.specs.inside.Priced.{Fits};
 
 use crate::crash_net::CrashNet;
 

@@ -2,8 +2,9 @@
 use Rattle.std.proofs.Common.{◌≡◌, ℕ, ◌+◌, ◌<◌, ◌≤◌, Bool, true, false, if◌then◌else◌, inl, inr, sym, ◌∙◌, ap, arith}
 use Rattle.std.specs.Prelude.{◌↔◌, IsFalse}
 use Rattle.std.proofs.lemmas.Bool.{cases_Bool, cases_lt}
-use Rattle.pc_flow.specs.Courses.{Course, upper_of, lower_of, present, IsLevel, IsOnCurve, IsSameCurve, HasEnded, IsNext}
-use Rattle.pc_curve.specs.Points.{IsToCome, IsThere}
+use Rattle.pc_flow.specs.Courses.{Course, upper_of, lower_of, IsLevel, IsSameCurve}
+use Rattle.pc_flow.specs.inside.Courses.{present, IsOnCurve, HasEnded, IsNext}
+use Rattle.pc_curve.specs.inside.Points.{IsToCome, IsThere}
 
 -- one step comes before the first segment
 abbrev step_before : Bool → ℕ

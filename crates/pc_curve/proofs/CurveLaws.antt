@@ -7,10 +7,13 @@ use Rattle.pc_curve_laws.specs.Curve.{Breakpoint}
 use Rattle.pc_curve_laws.proofs.Curves.Turns.{IsCurve, LiesOn, is_curve, lies_on}
 use Rattle.pc_curve_laws.proofs.Segments.Readings.{right_at}
 use Rattle.pc_crash.specs.Priced.{PricedNetwork, knees_in}
-use Rattle.pc_flow.specs.Courses.{Course, upper_of, lower_of, present, IsOnCurve, IsSameCurve, IsFurther, HasEnded, IsNext}
+use Rattle.pc_flow.specs.Courses.{Course, upper_of, lower_of, IsSameCurve, IsFurther}
+use Rattle.pc_flow.specs.inside.Courses.{present, IsOnCurve, HasEnded, IsNext}
 use Rattle.pc_curve.specs.declared.breaks.Break.{Break}
-use Rattle.pc_curve.specs.Points.{curve_in, IsThere}
-use Rattle.pc_curve.specs.Breaks.{IsNextBreakpoint, IsNextBreak, StandsAt}
+use Rattle.pc_curve.specs.Points.{curve_in}
+use Rattle.pc_curve.specs.inside.Points.{IsThere}
+use Rattle.pc_curve.specs.Breaks.{IsNextBreakpoint}
+use Rattle.pc_curve.specs.inside.Breaks.{IsNextBreak, StandsAt}
 use Rattle.pc_flow.proofs.LookLaws.{same-stays, same-joins, further-stays, further-joins}
 use Rattle.pc_curve.proofs.TurnLaws.{IsClear, clear-begins, clear-goes_on, next-upper, next-lower, first-upper, first-only}
 

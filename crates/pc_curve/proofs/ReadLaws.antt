@@ -14,8 +14,10 @@ use Rattle.pc_curve_laws.specs.Segment.{Segment, times_for, durations_for, cost_
 use Rattle.pc_crash.specs.Priced.{PricedNetwork, knees_in, ArePiecesWithinLimits}
 use Rattle.pc_crash.specs.Terms.{AreWithinLimits}
 use Rattle.pc_crash.proofs.CostLaws.{cost_of-most}
-use Rattle.pc_flow.specs.Courses.{Course, present}
-use Rattle.pc_curve.specs.Points.{curve_in, IsThere, AreTimesRead, AreDurationsRead}
+use Rattle.pc_flow.specs.Courses.{Course}
+use Rattle.pc_flow.specs.inside.Courses.{present}
+use Rattle.pc_curve.specs.Points.{curve_in}
+use Rattle.pc_curve.specs.inside.Points.{IsThere, AreTimesRead, AreDurationsRead}
 use Rattle.pc_curve.proofs.CurveLaws.{right-there}
 
 -- a schedule of durations and times that are alike

@@ -2,14 +2,15 @@
 use Rattle.std.proofs.Common.{◌≡◌, ℕ, ◌+◌, ◌<◌, List, [], ◌∷◌, ◌++◌, Option, Some, None, refl, sym, ◌∙◌, ap, subst, arith}
 use Rattle.std.proofs.lemmas.List.{append_assoc, append-nil}
 use Rattle.pc_crash.specs.Priced.{PricedNetwork}
-use Rattle.pc_page.specs.Puts.{Desk, Adds}
+use Rattle.pc_page.specs.inside.Puts.{Desk, Adds}
 use Rattle.pc_page.proofs.PageLaws.{Adds-nil, Adds-then, Adds-as}
 use Rattle.pc_flow.specs.Courses.{Course, IsSameCurve}
 use Rattle.pc_flow.proofs.LookLaws.{same-stays, same-joins}
 use Rattle.pc_curve_laws.specs.Curve.{Breakpoint, AreBreakpoints}
 use Rattle.pc_curve.specs.declared.breaks.Break.{Break}
 use Rattle.pc_curve.specs.Points.{curve_in}
-use Rattle.pc_curve.specs.Breaks.{IsNextBreakpoint, IsNextBreak, StandsAt, StandsBy, AreBreakpointsTo, point_of}
+use Rattle.pc_curve.specs.Breaks.{IsNextBreakpoint, AreBreakpointsTo}
+use Rattle.pc_curve.specs.inside.Breaks.{IsNextBreak, StandsAt, StandsBy, point_of}
 use Rattle.pc_curve.proofs.ListLaws.{list-begins, list-grows, list-whole}
 use Rattle.pc_curve.specs.CurveText.{break_line, curve_text}
 

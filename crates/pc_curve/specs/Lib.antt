@@ -2,3 +2,4 @@ pub mod Points
 pub mod Breaks
 pub mod CurveText
 pub mod Range
+pub mod inside

@@ -1,36 +1,8 @@
--- A schedule for a length, read from a solver.
-use Rattle.std.specs.Prelude.{◌≡◌, ℕ, ◌<◌, ◌≤◌, true, List, length, slice_index}
+-- The time-cost curve of a priced network.
+use Rattle.std.specs.Prelude.{ℕ}
 use Rattle.pc_model.specs.Cost.{IsLeastCost}
-use Rattle.pc_curve_laws.specs.Segment.{Segment, Holds, times_for, durations_for}
 use Rattle.pc_crash.specs.Priced.{PricedNetwork, knees_in}
-use Rattle.pc_flow.specs.Courses.{Course, upper_of, present, IsOnCurve}
 
 -- the least costs of a priced network's schedules, by their lengths
 abbrev pub curve_in : PricedNetwork → ℕ → ℕ → Type 0
 curve_in net = IsLeastCost net.network net.terms (knees_in net)
-
--- a solver comes down to the length: it lies in the range, and not above the present segment
-pub record IsToCome (c : Course) (limit : ℕ) : Type 0 where
-  pub above : c.shortest ≤ limit
-  pub within : limit ≤ c.longest
-  pub below : c.given ≡ true → limit ≤ upper_of c
-
--- the solver has a whole segment, and it holds the length
-pub record IsThere (c : Course) (limit : ℕ) : Type 0 where
-  pub given : c.given ≡ true
-  pub whole : IsOnCurve c
-  pub holds : Holds (present c) limit
-
--- one number for each event and each activity of a network
-pub record HasPlaces (net : PricedNetwork) (times durations : List ℕ) : Type 0 where
-  pub events : length times ≡ net.network.events
-  pub activities : length durations ≡ length net.network.arcs
-
--- the times are those that are read from a segment for a length
-abbrev pub AreTimesRead : PricedNetwork → Segment → ℕ → List ℕ → Type 0
-AreTimesRead net seg limit times = (e : ℕ) → e < net.network.events → slice_index times e ≡ times_for seg limit e
-
--- so are the durations
-abbrev pub AreDurationsRead : PricedNetwork → Segment → ℕ → List ℕ → Type 0
-AreDurationsRead net seg limit durations =
-    (a : ℕ) → a < length net.network.arcs → slice_index durations a ≡ durations_for net.network net.terms seg limit a

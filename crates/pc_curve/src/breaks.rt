@@ -1,10 +1,11 @@
 //! The breakpoints of the curve, one after another.
 ghost use Rattle.std.specs.Prelude.{◌≡◌, ◌+◌, ◌<◌, ◌≤◌, ◌≢◌, ◌↔◌, Some, None, true, false, IsNone, IfSome, IfNone};
 ghost use Rattle.pc_curve_laws.specs.Segment.{Holds, cost_for};
-ghost use Rattle.pc_flow.specs.Courses.{present, lower_of, IsSameCurve, IsFurther, most_looks};
+ghost use Rattle.pc_flow.specs.Courses.{lower_of, IsSameCurve, IsFurther, most_looks};
+ghost use Rattle.pc_flow.specs.inside.Courses.{present};
 ghost use Rattle.pc_search.specs.Labelling.{slopes_in};
-ghost use Rattle.pc_curve.specs.Points.{IsThere};
-ghost use Rattle.pc_curve.specs.Breaks.{IsNextBreak, StandsAt, StandsBy};
+ghost use Rattle.pc_curve.specs.inside.Points.{IsThere};
+ghost use Rattle.pc_curve.specs.inside.Breaks.{IsNextBreak, StandsAt, StandsBy};
 
 use crate::reading::least_cost_for;
 use pc_crash::{SegmentView, Steps};

@@ -1,12 +1,12 @@
 //! The breakpoints of a curve, a line each.
 ghost use Rattle.std.specs.Prelude.{◌≡◌, ◌+◌, ◌≤◌, ℕ, List, false};
-ghost use Rattle.pc_edges.specs.Writes.{Writes};
+ghost use Rattle.pc_edges.specs.inside.Writes.{Writes};
 ghost use Rattle.pc_curve_laws.specs.Curve.{Breakpoint, AreBreakpoints};
 ghost use Rattle.pc_flow.specs.Courses.{IsSameCurve, IsFurther, most_looks};
-ghost use Rattle.pc_page.specs.Page.{fresh};
-ghost use Rattle.pc_page.specs.Puts.{Puts};
+ghost use Rattle.pc_page.specs.inside.Page.{fresh};
+ghost use Rattle.pc_page.specs.inside.Puts.{Puts};
 ghost use Rattle.pc_curve.specs.Points.{curve_in};
-ghost use Rattle.pc_curve.specs.Breaks.{point_of};
+ghost use Rattle.pc_curve.specs.inside.Breaks.{point_of};
 ghost use Rattle.pc_curve.specs.CurveText.{IsCurveText, curve_text, break_line, slope_text};
 
 use crate::breaks::{Break, Breaks};

@@ -5,9 +5,11 @@ ghost use Rattle.pc_model.specs.Walk.{from_of, to_of};
 ghost use Rattle.pc_model.specs.Cost.{cost_of};
 ghost use Rattle.pc_curve_laws.specs.Segment.{Holds, times_for};
 ghost use Rattle.pc_crash.specs.Priced.{knees_in};
-ghost use Rattle.pc_flow.specs.Courses.{present, lower_of, IsSameCurve, IsFurther, most_looks};
+ghost use Rattle.pc_flow.specs.Courses.{lower_of, IsSameCurve, IsFurther, most_looks};
+ghost use Rattle.pc_flow.specs.inside.Courses.{present};
 ghost use Rattle.pc_search.specs.Labelling.{slopes_in};
-ghost use Rattle.pc_curve.specs.Points.{curve_in, IsToCome, IsThere, HasPlaces, AreTimesRead, AreDurationsRead};
+ghost use Rattle.pc_curve.specs.Points.{curve_in};
+ghost use Rattle.pc_curve.specs.inside.Points.{IsToCome, IsThere, HasPlaces, AreTimesRead, AreDurationsRead};
 
 use crate::reading::cost_at;
 use pc_crash::{CrashNet, SegmentView, Steps};

@@ -6,7 +6,8 @@ use Rattle.jiff_core.proofs.DateLemmas.{days_from_civil-day, days_from_civil-nex
 use Rattle.jiff_core.proofs.SignedLemmas.{signed_arith}
 use Rattle.jiff_core.specs.Calendar.{IsCivilDate, days_from_civil, days_in_month}
 use Rattle.pc_days.specs.Calendar.{CalendarDay, calendar_day, first_day, next_day, text_of_day}
-use Rattle.pc_days.specs.Dates.{IsPrintedDay, NamesDay, NamesDeckDay, day_of}
+use Rattle.pc_days.specs.Dates.{IsPrintedDay, NamesDay, day_of}
+use Rattle.pc_days.specs.inside.Dates.{NamesDeckDay}
 use Rattle.pc_days.proofs.Form.{day_count-1900, day_number_range}
 use Rattle.pc_days.proofs.Reading.{NamesDay-same, day_clause}
 

@@ -7,7 +7,8 @@ use Rattle.jiff_core.proofs.SignedLemmas.{signed_arith}
 use Rattle.jiff_core.specs.Calendar.{IsCivilDate, days_from_civil}
 use Rattle.pc_days.specs.declared.error.DayError.{DayError}
 use Rattle.pc_days.specs.declared.error.DayError.TheVariants.{Shape, Years}
-use Rattle.pc_days.specs.Dates.{NamesDate, NamesDay, NamesDeckDay, NamesOtherYear, number_at, year_of, has_form, has_day, is_deck_year, day_of, date_text}
+use Rattle.pc_days.specs.Dates.{NamesDay, number_at, year_of, has_form, has_day, is_deck_year, day_of, date_text}
+use Rattle.pc_days.specs.inside.Dates.{NamesDate, NamesDeckDay, NamesOtherYear}
 use Rattle.pc_days.proofs.Form.{shown, named, passes}
 
 -- the day that the numbers of a text name

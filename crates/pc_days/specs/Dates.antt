@@ -1,5 +1,5 @@
 -- The dates of a deck: how one is spelled, and the number of its day.
-use Rattle.std.specs.Prelude.{◌≡◌, ℕ, ◌+◌, ◌-◌, ◌*◌, ◌/◌, ◌%◌, ◌<◌, ◌≤◌, ◌⊎◌, Bool, ◌&&◌, ◌==◌, nat_le, if◌then◌else◌, List, [], ◌∷◌, length, slice_index, Result, Ok, Err, ℤ, pos, neg_ℤ, ◌+ℤ◌, ◌-ℤ◌, ◌*ℤ◌, ◌≤ℤ◌, ◌<ℤ◌}
+use Rattle.std.specs.Prelude.{◌≡◌, ℕ, ◌+◌, ◌-◌, ◌*◌, ◌/◌, ◌%◌, Bool, ◌&&◌, ◌==◌, nat_le, if◌then◌else◌, List, [], ◌∷◌, length, slice_index, Result, Ok, Err, ℤ, pos, neg_ℤ, ◌+ℤ◌, ◌-ℤ◌, ◌*ℤ◌, ◌≤ℤ◌, ◌<ℤ◌}
 use Rattle.jiff_core.specs.Calendar.{IsCivilDate, IsBetween, days_from_civil, days_in_month}
 use Rattle.pc_days.specs.declared.error.DayError.{DayError}
 use Rattle.pc_days.specs.declared.error.DayError.TheVariants.{Shape, Years}
@@ -28,25 +28,9 @@ pub record IsDateText (text : List ℕ) (y m d : ℕ) : Type 0 where
   pub civil : IsCivilDate (pos y) m d
   pub spelled : text ≡ date_text y m d
 
--- the text is some date of the calendar
-abbrev pub NamesDate : List ℕ → Type 0
-NamesDate text = (y : ℕ) × ((m : ℕ) × ((d : ℕ) × IsDateText text y m d))
-
 -- the text is the date of this day, where a day is the number of days from 1970-01-01 to it
 abbrev pub NamesDay : List ℕ → ℤ → Type 0
 NamesDay text day = (y : ℕ) × ((m : ℕ) × ((d : ℕ) × (IsDateText text y m d × (days_from_civil (pos y) m d ≡ day))))
-
--- the years of a deck's dates
-abbrev pub IsDeckYear : ℕ → Type 0
-IsDeckYear y = (1900 ≤ y) × (y ≤ 2199)
-
--- the text is the date of this day, in a year of a deck's dates
-abbrev pub NamesDeckDay : List ℕ → ℤ → Type 0
-NamesDeckDay text day = (y : ℕ) × ((m : ℕ) × ((d : ℕ) × (IsDeckYear y × (IsDateText text y m d × (days_from_civil (pos y) m d ≡ day)))))
-
--- the text is a date of the calendar in another year
-abbrev pub NamesOtherYear : List ℕ → Type 0
-NamesOtherYear text = (y : ℕ) × ((m : ℕ) × ((d : ℕ) × (((y < 1900) ⊎ (2199 < y)) × IsDateText text y m d)))
 
 -- the byte is a decimal digit
 abbrev pub is_digit : ℕ → Bool

@@ -7,12 +7,15 @@ use Rattle.pc_faults.specs.Faults as faults
 use Rattle.pc_faults.specs.declared.kind.Kind.{Kind}
 use Rattle.pc_faults.specs.declared.kind.Kind.TheVariants.{Project}
 use Rattle.pc_faults.specs.declared.fault.Fault.{Fault}
-use Rattle.pc_deck.specs.Kinds.{kind_of, is_project, stands_once, least_width_of, limit_of, slots_of, width_of}
+use Rattle.pc_deck.specs.Kinds.{kind_of, stands_once, least_width_of, limit_of, slots_of, width_of}
+use Rattle.pc_deck.specs.inside.Kinds.{is_project}
 use Rattle.pc_cards.specs.Forms.{Slot, first_misshapen, first_over_limit}
 use Rattle.pc_cards.specs.Cards.{Numbered}
 use Rattle.pc_cards.specs.Named.{is_among}
-use Rattle.pc_cards.specs.Findings.{or_else, where_so, width_wanted, wrong_fields, misshapen_at, over_limit_at, flaw_of_fields, repeated, one_too_many, fault_of_place}
-use Rattle.pc_deck.specs.Judged.{Seen, place_of, not_project, second, fault_of_kind, unless, no_kind, judge_of, judge}
+use Rattle.pc_cards.specs.Findings.{width_wanted}
+use Rattle.pc_cards.specs.inside.Findings.{or_else, where_so, wrong_fields, misshapen_at, over_limit_at, flaw_of_fields, repeated, one_too_many, fault_of_place}
+use Rattle.pc_deck.specs.Judged.{Seen}
+use Rattle.pc_deck.specs.inside.Judged.{place_of, not_project, second, fault_of_kind, unless, no_kind, judge_of, judge}
 use Rattle.pc_deck.specs.Refusal.{HasCardFault, is_whole_as}
 use Rattle.pc_deck.specs.Refusal as has
 

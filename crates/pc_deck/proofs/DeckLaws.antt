@@ -12,7 +12,7 @@ use Rattle.pc_faults.specs.declared.kind.Kind.TheVariants.{Project, End}
 use Rattle.pc_deck.specs.Kinds.{CardOf, stands_once, held_in, lists_with}
 use Rattle.pc_cards.specs.Named.{as_list, HeldBy, listed_by}
 use Rattle.pc_deck.specs.Deck.{Deck, list_of}
-use Rattle.pc_deck.specs.Reading.{cards_of}
+use Rattle.pc_deck.specs.inside.Reading.{cards_of}
 use Rattle.pc_deck.specs.Read.{IsDeckOf, IsReadAs}
 use Rattle.pc_deck.specs.Refusal.{IsCardRefusal, IsRefusalAs}
 use Rattle.pc_deck.specs.Says.{Says}

@@ -13,13 +13,14 @@ use Rattle.pc_faults.specs.declared.fault.Fault.{Fault}
 use Rattle.pc_model.specs.Codes.{IsNamedOnce}
 use Rattle.pc_cards.specs.Cards.{Numbered}
 use Rattle.pc_cards.specs.declared.sort.Sort.TheVariants.{Plan}
-use Rattle.pc_cards.specs.Findings.{one_too_many, where_so}
+use Rattle.pc_cards.specs.inside.Findings.{one_too_many, where_so}
 use Rattle.pc_cards.specs.Forms.{AllFit}
 use Rattle.pc_cards.specs.Named.{is_among}
 use Rattle.pc_cards.proofs.FindLemmas.{no_flaw, none_then}
 use Rattle.pc_cards.proofs.NameLemmas.{new_code}
-use Rattle.pc_deck.specs.Judged.{fault_of_kind, judge, judge_of, unless}
-use Rattle.pc_deck.specs.Kinds.{has_code_of_its_own, is_project, kind_of, limit_of, slots_of, stands_once}
+use Rattle.pc_deck.specs.inside.Judged.{fault_of_kind, judge, judge_of, unless}
+use Rattle.pc_deck.specs.Kinds.{has_code_of_its_own, kind_of, limit_of, slots_of, stands_once}
+use Rattle.pc_deck.specs.inside.Kinds.{is_project}
 use Rattle.pc_deck.specs.Project.{version_in}
 use Rattle.pc_deck.specs.Refusal.{HasFaultFrom, are_none, is_whole_as, of_kind, own_codes, seen_among, version_said}
 use Rattle.pc_deck.specs.Within.{IsUpTo}

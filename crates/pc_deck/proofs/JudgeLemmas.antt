@@ -5,10 +5,12 @@ use Rattle.pc_faults.specs.declared.kind.Kind.{Kind}
 use Rattle.pc_faults.specs.declared.fault.Fault.{Fault}
 use Rattle.pc_cards.specs.Forms.{AllFit, first_misshapen, first_over_limit}
 use Rattle.pc_cards.specs.Named.{is_among}
-use Rattle.pc_cards.specs.Findings.{wrong_fields, misshapen_at, flaw_of_fields, repeated, one_too_many}
+use Rattle.pc_cards.specs.inside.Findings.{wrong_fields, misshapen_at, flaw_of_fields, repeated, one_too_many}
 use Rattle.pc_cards.proofs.FitLemmas.{neither, not_so, not_not, no_shape, no_limit, all_fit}
-use Rattle.pc_deck.specs.Kinds.{kind_of, is_project, stands_once, limit_of, least_width_of, slots_of, width_of}
-use Rattle.pc_deck.specs.Judged.{Seen, place_of, not_project, second, fault_of_kind, unless, judge_of, judge}
+use Rattle.pc_deck.specs.Kinds.{kind_of, stands_once, limit_of, least_width_of, slots_of, width_of}
+use Rattle.pc_deck.specs.inside.Kinds.{is_project}
+use Rattle.pc_deck.specs.Judged.{Seen}
+use Rattle.pc_deck.specs.inside.Judged.{place_of, not_project, second, fault_of_kind, unless, judge_of, judge}
 use Rattle.pc_deck.specs.Refusal.{is_whole_as}
 
 -- what is known of a card that has no fault

@@ -8,7 +8,8 @@ use Rattle.pc_faults.specs.declared.kind.Kind.TheVariants.{Project, Task, After,
 use Rattle.pc_cards.specs.declared.sort.Sort.{Sort}
 use Rattle.pc_cards.specs.declared.sort.Sort.TheVariants.{Plan, Tasks}
 use Rattle.pc_cards.specs.Entry.{Limit, unlimited, up_to, growing, limit_at}
-use Rattle.pc_deck.specs.Kinds.{entry_of, kinds, kinds_of, kind_of, card_of, has_code_of_its_own, is_project, is_end, is_same, limit_of}
+use Rattle.pc_deck.specs.Kinds.{entry_of, kinds, kinds_of, kind_of, card_of, has_code_of_its_own, is_same, limit_of}
+use Rattle.pc_deck.specs.inside.Kinds.{is_project, is_end}
 use Rattle.pc_deck.specs.Within.{IsUpTo}
 
 -- a choice that gave the kind by its test, or behind it

@@ -11,17 +11,67 @@ use Rattle.pc_deck.specs.Kinds.{CardOf, card_of, slots_of}
 use Rattle.pc_cards.specs.Forms.{AllFit, is_outside}
 use Rattle.pc_cards.specs.Named.{as_list}
 use Rattle.pc_cards.specs.declared.sort.Sort.{Sort}
-use Rattle.pc_deck.specs.Project.{project_slots, project_of, IsProjectWithin}
-use Rattle.pc_deck.specs.Terms.{terms_slots, terms_of, AreTermsWithin}
-use Rattle.pc_deck.specs.Act.{act_slots, act_of, IsActWithin}
-use Rattle.pc_deck.specs.Task.{task_slots, task_of, IsTaskWithin}
-use Rattle.pc_deck.specs.Piece.{piece_slots, piece_of, IsPieceWithin}
-use Rattle.pc_deck.specs.Acct.{account_slots, account_of, IsBudgetWithin}
-use Rattle.pc_deck.specs.Money.{money_slots, money_of, IsAmountWithin}
-use Rattle.pc_deck.specs.Load.{load_slots, load_of, IsLoadWithin}
+use Rattle.pc_deck.specs.Project.{project_slots, project_of}
+use Rattle.pc_deck.specs.Terms.{terms_slots, terms_of}
+use Rattle.pc_deck.specs.Act.{act_slots, act_of}
+use Rattle.pc_deck.specs.inside.Act.{IsActWithin}
+use Rattle.pc_deck.specs.Task.{task_slots, task_of}
+use Rattle.pc_deck.specs.Piece.{piece_slots, piece_of}
+use Rattle.pc_deck.specs.Acct.{account_slots, account_of}
+use Rattle.pc_deck.specs.Money.{money_slots, money_of}
+use Rattle.pc_deck.specs.Load.{load_slots, load_of}
 use Rattle.pc_deck.specs.Within.{IsFit, IsWithin}
 use Rattle.pc_deck.specs.declared.kinds.terms.TermsCard.{TermsCard}
 use Rattle.pc_cards.proofs.FitLemmas.{number_fits}
+use Rattle.pc_deck.specs.declared.kinds.task.TaskCard.{TaskCard}
+use Rattle.pc_deck.specs.declared.kinds.project.ProjectCard.{ProjectCard}
+use Rattle.pc_deck.specs.declared.kinds.piece.PieceCard.{PieceCard}
+use Rattle.pc_deck.specs.declared.kinds.money.MoneyCard.{MoneyCard}
+use Rattle.pc_deck.specs.declared.kinds.load.LoadCard.{LoadCard}
+use Rattle.pc_deck.specs.declared.kinds.acct.AcctCard.{AcctCard}
+
+-- the budget of an account is within the limit of money
+abbrev pub IsBudgetWithin : AcctCard → Type 0
+IsBudgetWithin account = account.budget ≤ MAX_COST
+
+-- the quantity of a load is within the limit of money
+abbrev pub IsLoadWithin : LoadCard → Type 0
+IsLoadWithin card = card.quantity ≤ MAX_COST
+
+-- the amount of a CHARGE or TOGO card is within the limit of money
+abbrev pub IsAmountWithin : MoneyCard → Type 0
+IsAmountWithin card = card.amount ≤ MAX_COST
+
+-- the numbers of a piece are within their limits
+pub record IsPieceWithin (piece : PieceCard) : Type 0 where
+  pub some_units : 1 ≤ piece.units
+  pub units : piece.units ≤ MAX_DURATION
+  pub slope : piece.slope ≤ MAX_SLOPE
+
+-- the numbers of the project are within their limits
+pub record IsProjectWithin (project : ProjectCard) : Type 0 where
+  pub unit_some : 1 ≤ project.unit_days
+  pub unit_within : project.unit_days ≤ MAX_UNIT_DAYS
+  pub directed_within : ForSome project.directed (λ days. days ≤ MAX_DIRECTED)
+  pub version_some : 1 ≤ project.version
+  pub version_within : project.version ≤ 2
+
+-- the numbers of a task are within their limits
+pub record IsTaskWithin (task : TaskCard) : Type 0 where
+  pub opt : task.opt ≤ MAX_DURATION
+  pub likely : task.likely ≤ MAX_DURATION
+  pub pess : task.pess ≤ MAX_DURATION
+  pub normal : task.normal ≤ MAX_DURATION
+  pub crash : task.crash ≤ MAX_DURATION
+  pub cost : task.cost ≤ MAX_COST
+  pub slope : task.slope ≤ MAX_SLOPE
+
+-- the terms are within their limits
+pub record AreTermsWithin (terms : TermsCard) : Type 0 where
+  pub overhead : terms.overhead ≤ MAX_TERMS
+  pub target : terms.target ≤ MAX_TERMS
+  pub bonus : terms.bonus ≤ MAX_TERMS
+  pub penalty : terms.penalty ≤ MAX_TERMS
 
 -- a number that is empty or fits is within its limits, where the number of an empty field is
 or_fits : (least most other : ℕ) (found : Option ℕ) → least ≤ other → other ≤ most → is_outside least most found ≡ false → (least ≤ unwrap_or found other) × (unwrap_or found other ≤ most)

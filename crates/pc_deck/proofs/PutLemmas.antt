@@ -7,7 +7,8 @@ use Rattle.pc_faults.specs.Kinds.{word_of}
 use Rattle.pc_faults.specs.declared.kind.Kind.{Kind}
 use Rattle.pc_faults.specs.declared.kind.Kind.TheVariants.{Project, AsOf, Terms, Wbs, Event, Act, Piece, Acct, Charge, ToGo, Status, Res, Load, End}
 use Rattle.pc_deck.specs.Deck.{Deck}
-use Rattle.pc_deck.specs.Text.{deck_text, lead_text, lists_text, records_of, settled}
+use Rattle.pc_deck.specs.Text.{deck_text, records_of, settled}
+use Rattle.pc_deck.specs.inside.Text.{lead_text, lists_text}
 
 -- nothing more
 pub put-none : (text : List ℕ) → text ≡ text ++ records_text []

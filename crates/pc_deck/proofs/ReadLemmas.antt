@@ -5,15 +5,16 @@ use Rattle.std.proofs.lemmas.Str.{IsUtf8-from_is_utf8}
 use Rattle.std.proofs.lemmas.List.Elements.{All-cons, All-head, All-nil, All-tail}
 use Rattle.pc_records.specs.Deck.{deck_records}
 use Rattle.pc_records.proofs.Utf8Facts.{deck_records-text}
-use Rattle.pc_cards.specs.Cards.{Numbered, CardsLeft, Follows, cards_from, deck_cards, is_card}
-use Rattle.pc_deck.specs.Judged.{judge}
-use Rattle.pc_deck.specs.Reading.{IsKept, and_then, read_from, seen_in, with_card}
+use Rattle.pc_cards.specs.Cards.{Numbered, cards_from, deck_cards, is_card}
+use Rattle.pc_cards.specs.inside.Cards.{CardsLeft, Follows}
+use Rattle.pc_deck.specs.inside.Judged.{judge}
+use Rattle.pc_deck.specs.inside.Reading.{IsKept, and_then, read_from, seen_in, with_card}
 use Rattle.pc_faults.specs.declared.kind.Kind.{Kind}
 use Rattle.pc_faults.specs.declared.fault.Fault.{Fault}
 use Rattle.pc_deck.specs.declared.draft.Draft.{Draft}
 use Rattle.pc_cards.specs.declared.rows.Next.{Next}
 use Rattle.pc_cards.specs.declared.rows.Next.TheVariants.{Card}
-use Rattle.pc_deck.specs.Within.{IsDraftWithin}
+use Rattle.pc_deck.specs.inside.Within.{IsDraftWithin}
 use Rattle.pc_deck.proofs.WithinLemmas.{next_within}
 
 -- a card without a fault leads on to the rest

@@ -6,10 +6,12 @@ use Rattle.pc_records.specs.Deck.{deck_records}
 use Rattle.pc_cards.specs.declared.sort.Sort.{Sort}
 use Rattle.pc_cards.specs.Cards.{Numbered, is_card, cards_from, deck_cards}
 use Rattle.pc_deck.specs.Deck.{Deck}
-use Rattle.pc_deck.specs.Judged.{Seen, judge}
+use Rattle.pc_deck.specs.Judged.{Seen}
+use Rattle.pc_deck.specs.inside.Judged.{judge}
 use Rattle.pc_faults.specs.Faults as faults
-use Rattle.pc_faults.specs.First.{IsFirst, Refuses}
-use Rattle.pc_deck.specs.Reading.{no_cards, with_card, seen_in, deck_with, closed, closed_with, and_then, read_from, cards_of}
+use Rattle.pc_faults.specs.First.{IsFirst}
+use Rattle.pc_faults.specs.inside.First.{Refuses}
+use Rattle.pc_deck.specs.inside.Reading.{no_cards, with_card, seen_in, deck_with, closed, closed_with, and_then, read_from, cards_of}
 use Rattle.pc_deck.specs.Refusal.{are_none, seen_among, HasCardFault, HasFaultFrom, HasFaultWhere, HasFault, IsRefusalAs}
 use Rattle.pc_deck.specs.declared.kinds.project.ProjectCard.{ProjectCard}
 use Rattle.pc_faults.specs.declared.kind.Kind.{Kind}

@@ -7,9 +7,9 @@ use Rattle.pc_faults.specs.declared.fault.Fault.{Fault}
 use Rattle.pc_cards.specs.Cards.{Numbered, deck_cards}
 use Rattle.pc_cards.specs.declared.sort.Sort.{Sort}
 use Rattle.pc_deck.specs.Deck.{Deck, list_of}
-use Rattle.pc_deck.specs.Judged.{judge}
+use Rattle.pc_deck.specs.inside.Judged.{judge}
 use Rattle.pc_cards.specs.Named.{as_list}
-use Rattle.pc_deck.specs.Reading.{no_cards, with_card, list_so_far, seen_in, deck_with, closed, closed_with, and_then, read_from, cards_of}
+use Rattle.pc_deck.specs.inside.Reading.{no_cards, with_card, list_so_far, seen_in, deck_with, closed, closed_with, and_then, read_from, cards_of}
 use Rattle.pc_deck.specs.Says.{Says}
 use Rattle.pc_deck.specs.declared.kinds.project.ProjectCard.{ProjectCard}
 use Rattle.pc_deck.specs.declared.draft.Draft.{Draft}

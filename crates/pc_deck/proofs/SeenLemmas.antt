@@ -8,7 +8,7 @@ use Rattle.pc_cards.specs.Cards.{Numbered}
 use Rattle.pc_deck.specs.Project.{project_of}
 use Rattle.pc_deck.specs.Kinds.{card_of, entry_of, has_code_of_its_own}
 use Rattle.pc_cards.specs.Named.{as_list}
-use Rattle.pc_deck.specs.Reading.{count_in, codes_in, list_so_far, seen_in, version_of}
+use Rattle.pc_deck.specs.inside.Reading.{count_in, codes_in, list_so_far, seen_in, version_of}
 use Rattle.pc_deck.specs.Refusal.{of_kind, own_codes, are_none, seen_among, version_said}
 use Rattle.pc_deck.specs.declared.kinds.project.ProjectCard.{ProjectCard}
 use Rattle.pc_deck.specs.declared.draft.Draft.{Draft}

@@ -6,13 +6,15 @@ use Rattle.pc_records.specs.Deck.{field_at}
 use Rattle.pc_faults.specs.Kinds.{word_of}
 use Rattle.pc_faults.specs.declared.kind.Kind.{Kind}
 use Rattle.pc_faults.specs.declared.kind.Kind.TheVariants.{Project, End}
-use Rattle.pc_deck.specs.Kinds.{CardOf, card_of, is_end, is_project, is_same, stands_once, held_in}
+use Rattle.pc_deck.specs.Kinds.{CardOf, card_of, is_same, stands_once, held_in}
+use Rattle.pc_deck.specs.inside.Kinds.{is_end, is_project}
 use Rattle.pc_cards.specs.Cards.{Numbered}
 use Rattle.pc_cards.specs.declared.sort.Sort.{Sort}
-use Rattle.pc_cards.specs.Named.{as_list, HeldBy, listed_by, more_if}
+use Rattle.pc_cards.specs.Named.{as_list, HeldBy, listed_by}
+use Rattle.pc_cards.specs.inside.Named.{more_if}
 use Rattle.pc_deck.specs.Project.{project_of}
-use Rattle.pc_deck.specs.Judged.{judge}
-use Rattle.pc_deck.specs.Reading.{no_cards, with_card, codes_among, codes_in, count_in, list_so_far, seen_in}
+use Rattle.pc_deck.specs.inside.Judged.{judge}
+use Rattle.pc_deck.specs.inside.Reading.{no_cards, with_card, codes_among, codes_in, count_in, list_so_far, seen_in}
 use Rattle.pc_deck.specs.Refusal.{of_kind, are_none}
 use Rattle.pc_deck.specs.Says.{spelled}
 use Rattle.pc_deck.specs.declared.kinds.project.ProjectCard.{ProjectCard}

@@ -7,7 +7,7 @@ use Rattle.pc_faults.specs.declared.kind.Kind.TheVariants.{Project, Wbs, Event, 
 use Rattle.pc_cards.specs.declared.sort.Sort.{Sort}
 use Rattle.pc_deck.specs.Deck.{Deck, list_of}
 use Rattle.pc_deck.specs.Kinds.{CardOf, card_of}
-use Rattle.pc_deck.specs.Titles.{AreTitlesText}
+use Rattle.pc_deck.specs.inside.Titles.{AreTitlesText}
 use Rattle.pc_deck.specs.Within.{IsFit, IsWithin}
 use Rattle.pc_deck.proofs.WrittenLemmas.{field-text}
 

@@ -1,7 +1,7 @@
 -- Each fault of a deck can be told.
 use Rattle.std.proofs.Common.{ℕ, Bool, true, false, List, [], ◌∷◌, ◌++◌, inl, inr, refl, sym, subst}
 use Rattle.std.specs.Str.{is_utf8}
-use Rattle.pc_faults.specs.FaultText.{IsTold}
+use Rattle.pc_faults.specs.inside.FaultText.{IsTold}
 use Rattle.pc_faults.specs.declared.fault.Fault.{Fault}
 use Rattle.pc_cards.specs.Cards.{Numbered, deck_cards}
 use Rattle.pc_cards.specs.declared.sort.Sort.{Sort}

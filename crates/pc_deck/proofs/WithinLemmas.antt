@@ -9,14 +9,16 @@ use Rattle.pc_records.specs.Deck.{field_at}
 use Rattle.pc_faults.specs.declared.kind.Kind.{Kind}
 use Rattle.pc_faults.specs.declared.kind.Kind.TheVariants.{Project, End}
 use Rattle.pc_deck.specs.Deck.{list_of}
-use Rattle.pc_deck.specs.Kinds.{CardOf, card_of, entry_of, has_code_of_its_own, is_project, is_same, limit_of}
+use Rattle.pc_deck.specs.Kinds.{CardOf, card_of, entry_of, has_code_of_its_own, is_same, limit_of}
+use Rattle.pc_deck.specs.inside.Kinds.{is_project}
 use Rattle.pc_cards.specs.Named.{as_list, is_among}
 use Rattle.pc_cards.specs.declared.sort.Sort.{Sort}
 use Rattle.pc_deck.specs.Project.{project_of}
-use Rattle.pc_cards.specs.Findings.{one_too_many}
-use Rattle.pc_deck.specs.Judged.{judge}
-use Rattle.pc_deck.specs.Reading.{no_cards, with_card, deck_with, list_so_far, seen_in, version_of}
-use Rattle.pc_deck.specs.Within.{IsUpTo, IsFit, IsListWithin, IsDraftWithin}
+use Rattle.pc_cards.specs.inside.Findings.{one_too_many}
+use Rattle.pc_deck.specs.inside.Judged.{judge}
+use Rattle.pc_deck.specs.inside.Reading.{no_cards, with_card, deck_with, list_so_far, seen_in, version_of}
+use Rattle.pc_deck.specs.Within.{IsUpTo, IsFit, IsListWithin}
+use Rattle.pc_deck.specs.inside.Within.{IsDraftWithin}
 use Rattle.pc_deck.specs.declared.kinds.project.ProjectCard.{ProjectCard}
 use Rattle.pc_deck.specs.declared.draft.Draft.{Draft}
 use Rattle.pc_cards.proofs.FitLemmas.{room_as}

@@ -17,7 +17,8 @@ use Rattle.pc_cards.specs.Named.{as_list}
 use Rattle.pc_cards.proofs.SpellingLemmas.{all_respelled, all_respelled-same, fields_of}
 use Rattle.pc_deck.specs.Deck.{Deck, list_of}
 use Rattle.pc_deck.specs.WrittenKinds.{written_of}
-use Rattle.pc_deck.specs.Kinds.{CardOf, card_of, is_project, least_width_of, slots_of, width_of}
+use Rattle.pc_deck.specs.Kinds.{CardOf, card_of, least_width_of, slots_of, width_of}
+use Rattle.pc_deck.specs.inside.Kinds.{is_project}
 use Rattle.pc_deck.specs.Project.{project_of, project_slots, written_project}
 use Rattle.pc_deck.specs.Text.{record_of, says_nothing, settled, settled_as_of, settled_terms}
 use Rattle.pc_deck.specs.Within.{IsFit, IsWithinLimits}

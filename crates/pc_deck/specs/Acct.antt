@@ -1,7 +1,7 @@
 -- ACCT,code,item,budget,title
-use Rattle.std.specs.Prelude.{ℕ, ◌≤◌, List, [], ◌∷◌, false, true, decimal}
+use Rattle.std.specs.Prelude.{ℕ, List, [], ◌∷◌, false, true, decimal}
 use Rattle.pc_records.specs.Deck.{field_at}
-use Rattle.pc_model.specs.declared.limits.TheConstants.{MAX_COST, MAX_ACCOUNTS}
+use Rattle.pc_model.specs.declared.limits.TheConstants.{MAX_ACCOUNTS}
 use Rattle.pc_cards.specs.Entry.{Entry, Written, in_both, up_to}
 use Rattle.pc_cards.specs.Forms.{Slot, money, number_in}
 use Rattle.pc_cards.specs.declared.form.Form.TheVariants as form
@@ -21,10 +21,6 @@ account_of row fields = record {
   budget = number_in (field_at fields 3);
   title = field_at fields 4;
 }
-
--- the budget of an account is within the limit of money
-abbrev pub IsBudgetWithin : AcctCard → Type 0
-IsBudgetWithin account = account.budget ≤ MAX_COST
 
 -- its fields as they are written
 abbrev pub written_account : AcctCard → List (List ℕ)

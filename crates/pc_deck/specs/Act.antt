@@ -1,7 +1,7 @@
 -- ACT,code,from,to,item,opt,likely,pess,normal,crash,cost,slope,title
-use Rattle.std.specs.Prelude.{ℕ, ◌≤◌, List, [], ◌∷◌, false, true, decimal}
+use Rattle.std.specs.Prelude.{ℕ, List, [], ◌∷◌, false, true, decimal}
 use Rattle.pc_records.specs.Deck.{field_at}
-use Rattle.pc_model.specs.declared.limits.TheConstants.{MAX_COST, MAX_DURATION, MAX_SLOPE, MAX_ACTIVITIES}
+use Rattle.pc_model.specs.declared.limits.TheConstants.{MAX_SLOPE, MAX_ACTIVITIES}
 use Rattle.pc_cards.specs.Entry.{Entry, Written, growing, in_both, in_plans}
 use Rattle.pc_deck.specs.declared.limits.TheConstants.{SMALL_ACTIVITIES}
 use Rattle.pc_cards.specs.Forms.{Slot, duration, money, number_in}
@@ -33,16 +33,6 @@ act_of row fields = record {
   slope = number_in (field_at fields 11);
   title = field_at fields 12;
 }
-
--- the numbers of an activity are within their limits
-pub record IsActWithin (act : ActCard) : Type 0 where
-  pub opt : act.opt ≤ MAX_DURATION
-  pub likely : act.likely ≤ MAX_DURATION
-  pub pess : act.pess ≤ MAX_DURATION
-  pub normal : act.normal ≤ MAX_DURATION
-  pub crash : act.crash ≤ MAX_DURATION
-  pub cost : act.cost ≤ MAX_COST
-  pub slope : act.slope ≤ MAX_SLOPE
 
 -- its fields as they are written
 abbrev pub written_act : ActCard → List (List ℕ)

@@ -1,5 +1,5 @@
 -- The kinds of cards in decks of both sorts: the table of them, and what it says of a kind.
-use Rattle.std.specs.Prelude.{ℕ, Bool, true, false, List, [], ◌∷◌, ◌++◌, Option, find, bytes_eq}
+use Rattle.std.specs.Prelude.{ℕ, Bool, List, [], ◌∷◌, ◌++◌, Option, find, bytes_eq}
 use Rattle.pc_faults.specs.Kinds.{word_of}
 use Rattle.pc_faults.specs.declared.kind.Kind.{Kind}
 use Rattle.pc_faults.specs.declared.kind.Kind.TheVariants.{Project, AsOf, Terms, Wbs, Event, Act, Task, After, Piece, Acct, Charge, ToGo, Status, Res, Load, End}
@@ -7,7 +7,7 @@ use Rattle.pc_cards.specs.declared.sort.Sort.{Sort}
 use Rattle.pc_cards.specs.declared.sort.Sort.TheVariants.{Plan, Tasks}
 use Rattle.pc_cards.specs.Entry.{Entry, limit_at}
 use Rattle.pc_cards.specs.Forms.{Slot}
-use Rattle.pc_cards.specs.Named.{HeldBy, none_by, listed_by, more_if}
+use Rattle.pc_cards.specs.Named.{HeldBy, listed_by}
 use Rattle.pc_deck.specs.declared.kinds.CardLists.{CardLists}
 use Rattle.pc_deck.specs.Project.{project_kind}
 use Rattle.pc_deck.specs.AsOf.{as_of_kind}
@@ -136,29 +136,10 @@ ruling_version Tasks version = 2
 abbrev pub limit_of : Sort → ℕ → Kind → Option ℕ
 limit_of sort version kind = limit_at (ruling_version sort version) ((entry_of kind).limit sort)
 
--- whether the kind is that of the first card
-abbrev pub is_project : Kind → Bool
-is_project Project = true
-is_project other = false
-
--- whether the kind is that of the last card
-abbrev pub is_end : Kind → Bool
-is_end End = true
-is_end other = false
-
 -- whether two kinds are one: whether they have one word
 abbrev pub is_same : Kind → Kind → Bool
 is_same kind other = bytes_eq (word_of kind) (word_of other)
 
--- no cards
-abbrev pub no_lists : CardLists
-no_lists = lists_with (λ kind. none_by (stands_once kind) (CardOf kind))
-
 -- the cards of a kind in card order
 abbrev pub cards_in : CardLists → (kind : Kind) → List (CardOf kind)
 cards_in lists kind = listed_by (stands_once kind) (CardOf kind) (held_in lists kind)
-
--- the lists with one more card of a kind
-abbrev pub lists_and : CardLists → Kind → ℕ → List (List ℕ) → CardLists
-lists_and lists kind row fields =
-    lists_with (λ other. more_if (is_same kind other) (stands_once other) (CardOf other) (held_in lists other) (card_of other row fields))

@@ -17,11 +17,10 @@ pub mod WrittenKinds
 pub mod Deck
 pub mod Text
 pub mod Judged
-pub mod Reading
 pub mod Within
-pub mod Titles
 pub mod Refusal
 pub mod Says
 pub mod Read
 pub mod Made
+pub mod inside
 pub use Rattle.pc_cards.specs.Limits

@@ -1,7 +1,7 @@
 -- LOAD,activity,resource,quantity
-use Rattle.std.specs.Prelude.{ℕ, ◌≤◌, List, [], ◌∷◌, false, decimal}
+use Rattle.std.specs.Prelude.{ℕ, List, [], ◌∷◌, false, decimal}
 use Rattle.pc_records.specs.Deck.{field_at}
-use Rattle.pc_model.specs.declared.limits.TheConstants.{MAX_COST, MAX_LOADS}
+use Rattle.pc_model.specs.declared.limits.TheConstants.{MAX_LOADS}
 use Rattle.pc_cards.specs.Entry.{Entry, Written, in_both, no_code, up_to}
 use Rattle.pc_cards.specs.Forms.{Slot, money, number_in}
 use Rattle.pc_cards.specs.declared.form.Form.TheVariants as form
@@ -15,10 +15,6 @@ load_slots = (2, form.Code) ∷ (3, form.Code) ∷ (4, money) ∷ []
 -- the card that a record spells
 abbrev pub load_of : ℕ → List (List ℕ) → LoadCard
 load_of row fields = record { row = row; activity = field_at fields 1; resource = field_at fields 2; quantity = number_in (field_at fields 3) }
-
--- the quantity of a load is within the limit of money
-abbrev pub IsLoadWithin : LoadCard → Type 0
-IsLoadWithin card = card.quantity ≤ MAX_COST
 
 -- its fields as they are written
 abbrev pub written_load : LoadCard → List (List ℕ)

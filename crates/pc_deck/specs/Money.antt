@@ -1,7 +1,7 @@
 -- CHARGE,account,date,amount and TOGO,account,date,amount
-use Rattle.std.specs.Prelude.{ℕ, ◌≤◌, List, [], ◌∷◌, false, decimal}
+use Rattle.std.specs.Prelude.{ℕ, List, [], ◌∷◌, false, decimal}
 use Rattle.pc_records.specs.Deck.{field_at}
-use Rattle.pc_model.specs.declared.limits.TheConstants.{MAX_COST, MAX_CHARGES, MAX_TOGOS}
+use Rattle.pc_model.specs.declared.limits.TheConstants.{MAX_CHARGES, MAX_TOGOS}
 use Rattle.pc_days.specs.Calendar.{text_of_day}
 use Rattle.pc_cards.specs.Entry.{Entry, Limit, Written, growing, in_both, no_code, up_to}
 use Rattle.pc_deck.specs.declared.limits.TheConstants.{SMALL_CHARGES}
@@ -18,10 +18,6 @@ money_slots = (2, form.Code) ∷ (3, form.Date) ∷ (4, money) ∷ []
 abbrev pub money_of : ℕ → List (List ℕ) → MoneyCard
 money_of row fields = record { row = row; account = field_at fields 1; day = day_in (field_at fields 2); amount = number_in (field_at fields 3) }
 
--- the amount of a CHARGE or TOGO card is within the limit of money
-abbrev pub IsAmountWithin : MoneyCard → Type 0
-IsAmountWithin card = card.amount ≤ MAX_COST
-
 -- its fields as they are written
 abbrev pub written_money : MoneyCard → List (List ℕ)
 written_money card = card.account ∷ text_of_day card.day ∷ decimal card.amount ∷ []
@@ -31,7 +27,7 @@ abbrev pub money_at : ℕ → MoneyCard → MoneyCard
 money_at row card = record card { row = row }
 
 -- a kind of such cards, by where the lists have them and how many there may be
-abbrev money_kind : (CardLists → List MoneyCard) → Limit → Entry CardLists
+abbrev pub money_kind : (CardLists → List MoneyCard) → Limit → Entry CardLists
 money_kind held limit = record {
   Card = MoneyCard;
   spelled = money_of;

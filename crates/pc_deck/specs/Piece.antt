@@ -1,5 +1,5 @@
 -- PIECE,activity,units,slope
-use Rattle.std.specs.Prelude.{ℕ, ◌≤◌, List, [], ◌∷◌, false, decimal}
+use Rattle.std.specs.Prelude.{ℕ, List, [], ◌∷◌, false, decimal}
 use Rattle.pc_records.specs.Deck.{field_at}
 use Rattle.pc_model.specs.declared.limits.TheConstants.{MAX_DURATION, MAX_SLOPE, MAX_PIECES}
 use Rattle.pc_cards.specs.Entry.{Entry, Written, growing, in_both, no_code}
@@ -16,12 +16,6 @@ piece_slots = (2, form.Code) ∷ (3, form.Number 1 MAX_DURATION) ∷ (4, form.Nu
 -- the card that a record spells
 abbrev pub piece_of : ℕ → List (List ℕ) → PieceCard
 piece_of row fields = record { row = row; activity = field_at fields 1; units = number_in (field_at fields 2); slope = number_in (field_at fields 3) }
-
--- the numbers of a piece are within their limits
-pub record IsPieceWithin (piece : PieceCard) : Type 0 where
-  pub some_units : 1 ≤ piece.units
-  pub units : piece.units ≤ MAX_DURATION
-  pub slope : piece.slope ≤ MAX_SLOPE
 
 -- its fields as they are written
 abbrev pub written_piece : PieceCard → List (List ℕ)

@@ -1,7 +1,6 @@
 -- PROJECT,code,start,end,date,days of a unit,directed end,title,version
-use Rattle.std.specs.Prelude.{ℕ, ◌≤◌, List, [], ◌∷◌, unwrap_or, false, true, None, decimal}
+use Rattle.std.specs.Prelude.{ℕ, List, [], ◌∷◌, unwrap_or, false, true, None, decimal}
 use Rattle.pc_records.specs.Deck.{field_at}
-use Rattle.std.specs.Option.{ForSome}
 use Rattle.pc_text.specs.Number.{number_of}
 use Rattle.pc_model.specs.declared.limits.TheConstants.{MAX_DIRECTED, MAX_UNIT_DAYS}
 use Rattle.pc_days.specs.Calendar.{text_of_day}
@@ -34,14 +33,6 @@ project_of row fields = record {
   title = field_at fields 7;
   version = version_in (field_at fields 8);
 }
-
--- the numbers of the project are within their limits
-pub record IsProjectWithin (project : ProjectCard) : Type 0 where
-  pub unit_some : 1 ≤ project.unit_days
-  pub unit_within : project.unit_days ≤ MAX_UNIT_DAYS
-  pub directed_within : ForSome project.directed (λ days. days ≤ MAX_DIRECTED)
-  pub version_some : 1 ≤ project.version
-  pub version_within : project.version ≤ 2
 
 -- its fields as they are written
 abbrev pub written_project : ProjectCard → List (List ℕ)

@@ -1,7 +1,7 @@
 -- TASK,code,item,opt,likely,pess,normal,crash,cost,slope,title
-use Rattle.std.specs.Prelude.{ℕ, ◌≤◌, List, [], ◌∷◌, false, true, decimal}
+use Rattle.std.specs.Prelude.{ℕ, List, [], ◌∷◌, false, true, decimal}
 use Rattle.pc_records.specs.Deck.{field_at}
-use Rattle.pc_model.specs.declared.limits.TheConstants.{MAX_COST, MAX_DURATION, MAX_SLOPE}
+use Rattle.pc_model.specs.declared.limits.TheConstants.{MAX_SLOPE}
 use Rattle.pc_cards.specs.Entry.{Entry, Written, in_both, in_tasks, up_to}
 use Rattle.pc_deck.specs.declared.limits.TheConstants.{MAX_TASKS}
 use Rattle.pc_cards.specs.Forms.{Slot, duration, money, number_in}
@@ -31,16 +31,6 @@ task_of row fields = record {
   slope = number_in (field_at fields 9);
   title = field_at fields 10;
 }
-
--- the numbers of a task are within their limits
-pub record IsTaskWithin (task : TaskCard) : Type 0 where
-  pub opt : task.opt ≤ MAX_DURATION
-  pub likely : task.likely ≤ MAX_DURATION
-  pub pess : task.pess ≤ MAX_DURATION
-  pub normal : task.normal ≤ MAX_DURATION
-  pub crash : task.crash ≤ MAX_DURATION
-  pub cost : task.cost ≤ MAX_COST
-  pub slope : task.slope ≤ MAX_SLOPE
 
 -- its fields as they are written
 abbrev pub written_task : TaskCard → List (List ℕ)

@@ -1,5 +1,5 @@
 -- TERMS,overhead,target,bonus,penalty
-use Rattle.std.specs.Prelude.{ℕ, ◌≤◌, List, [], ◌∷◌, false, true, decimal}
+use Rattle.std.specs.Prelude.{ℕ, List, [], ◌∷◌, false, true, decimal}
 use Rattle.pc_records.specs.Deck.{field_at}
 use Rattle.pc_model.specs.declared.limits.TheConstants.{MAX_TERMS}
 use Rattle.pc_cards.specs.Entry.{Entry, Written, in_both, no_code, unlimited}
@@ -26,13 +26,6 @@ terms_of row fields = record {
   bonus = number_in (field_at fields 3);
   penalty = number_in (field_at fields 4);
 }
-
--- the terms are within their limits
-pub record AreTermsWithin (terms : TermsCard) : Type 0 where
-  pub overhead : terms.overhead ≤ MAX_TERMS
-  pub target : terms.target ≤ MAX_TERMS
-  pub bonus : terms.bonus ≤ MAX_TERMS
-  pub penalty : terms.penalty ≤ MAX_TERMS
 
 -- its fields as they are written
 abbrev pub written_terms : TermsCard → List (List ℕ)

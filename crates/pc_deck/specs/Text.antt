@@ -3,7 +3,6 @@ use Rattle.std.specs.Prelude.{ℕ, ℤ, ◌+◌, ◌&&◌, ◌==◌, List, [], �
 use Rattle.pc_records.specs.Text.{records_text}
 use Rattle.pc_faults.specs.Kinds.{word_of}
 use Rattle.pc_faults.specs.declared.kind.Kind.{Kind}
-use Rattle.pc_faults.specs.declared.kind.Kind.TheVariants.{Project, AsOf, Terms, Wbs, Event, Act, Piece, Acct, Charge, ToGo, Status, Res, Load}
 use Rattle.pc_cards.specs.Named.{numbered_by}
 use Rattle.pc_deck.specs.WrittenKinds.{written_of}
 use Rattle.pc_deck.specs.Kinds.{CardOf, held_in, is_same, kinds, lists_with, stands_once}
@@ -47,13 +46,6 @@ deck_rows deck = flat_map (records_of (settled deck)) kinds
 -- the text of a deck
 abbrev pub deck_text : Deck → List ℕ
 deck_text deck = records_text (deck_rows deck)
-
--- the text of the cards that stand once, but for END, and of those that do not
-abbrev pub lead_text : Deck → List ℕ
-lead_text deck = records_text (flat_map (records_of (settled deck)) (Project ∷ AsOf ∷ Terms ∷ []))
-
-abbrev pub lists_text : Deck → List ℕ
-lists_text deck = records_text (flat_map (records_of (settled deck)) (Wbs ∷ Event ∷ Act ∷ Piece ∷ Acct ∷ Charge ∷ ToGo ∷ Status ∷ Res ∷ Load ∷ []))
 
 -- the record of the first card of a kind: behind the cards of the kinds that come before it
 abbrev pub first_from : ℕ → Deck → Kind → List Kind → ℕ

@@ -27,7 +27,7 @@ abbrev pub titled_at : ℕ → TitledCard → TitledCard
 titled_at row card = record card { row = row }
 
 -- a kind of such cards, by where the lists have them and how many there may be
-abbrev titled_kind : (CardLists → List TitledCard) → (Sort → Limit) → Entry CardLists
+abbrev pub titled_kind : (CardLists → List TitledCard) → (Sort → Limit) → Entry CardLists
 titled_kind held limit = record {
   Card = TitledCard;
   spelled = titled_of;

@@ -1,5 +1,5 @@
 -- What holds of every deck that was read.
-use Rattle.std.specs.Prelude.{◌≡◌, ℕ, ◌≤◌, true, List, [], length, map, All, Option, Some, None, is_none}
+use Rattle.std.specs.Prelude.{◌≡◌, ℕ, ◌≤◌, true, List, length, map, All, Option, Some, None}
 use Rattle.std.specs.Str.{IsUtf8}
 use Rattle.pc_faults.specs.declared.kind.Kind.{Kind}
 use Rattle.pc_model.specs.Codes.{IsNamedOnce}
@@ -8,8 +8,6 @@ use Rattle.pc_cards.specs.declared.sort.Sort.{Sort}
 use Rattle.pc_cards.specs.declared.sort.Sort.TheVariants.{Plan}
 use Rattle.pc_deck.specs.Kinds.{CardOf, card_of, entry_of, has_code_of_its_own, limit_of, slots_of}
 use Rattle.pc_deck.specs.Deck.{Deck, list_of}
-use Rattle.pc_deck.specs.Reading.{list_so_far, version_of}
-use Rattle.pc_deck.specs.declared.draft.Draft.{Draft}
 
 -- so many are within a limit, where there is one
 abbrev pub IsUpTo : Option ℕ → ℕ → Type 0
@@ -36,8 +34,3 @@ IsWithin sort deck = (kind : Kind) → IsListWithin sort kind 2 (list_of deck ki
 -- the same of a plan
 abbrev pub IsWithinLimits : Deck → Type 0
 IsWithinLimits deck = IsWithin Plan deck
-
--- the same of the cards so far, by the version of the deck; there are none before the PROJECT card
-pub record IsDraftWithin (draft : Draft) : Type 0 where
-  pub empty : is_none draft.project ≡ true → (kind : Kind) → list_so_far draft kind ≡ []
-  pub lists : (kind : Kind) → IsListWithin draft.sort kind (version_of draft.project) (list_so_far draft kind)

@@ -1,9 +1,9 @@
 //! The cards so far, while a deck is read.
 ghost use Rattle.std.specs.Prelude.{◌≡◌, [], true, None, Some, Err, IfOk, OnOk, IfErr};
-ghost use Rattle.pc_cards.specs.Findings.{fault_of_listed};
-ghost use Rattle.pc_deck.specs.Judged.{no_kind};
+ghost use Rattle.pc_cards.specs.inside.Findings.{fault_of_listed};
+ghost use Rattle.pc_deck.specs.inside.Judged.{no_kind};
 ghost use Rattle.pc_faults.specs.declared.kind.Kind.TheVariants as kind;
-ghost use Rattle.pc_faults.specs.First.{Refuses};
+ghost use Rattle.pc_faults.specs.inside.First.{Refuses};
 
 use crate::deck_cards::DeckCards;
 use crate::kinds::{CardLists, ProjectCard, kind_of, limit_of};
@@ -25,9 +25,10 @@ pub struct Draft {
 }
 
 impl Draft {
-    ghost use Rattle.pc_deck.specs.Judged.{judge, place_of};
-    ghost use Rattle.pc_deck.specs.Reading.{IsKept, no_cards, closed, count_in, seen_in, version_of};
-    ghost use Rattle.pc_deck.specs.Within.{IsDraftWithin, IsWithin};
+    ghost use Rattle.pc_deck.specs.inside.Judged.{judge, place_of};
+    ghost use Rattle.pc_deck.specs.inside.Reading.{IsKept, no_cards, closed, count_in, seen_in, version_of};
+    ghost use Rattle.pc_deck.specs.Within.{IsWithin};
+    ghost use Rattle.pc_deck.specs.inside.Within.{IsDraftWithin};
 
     /// No cards.
     pub fn new(alloc: Global, sort: Sort) -> Draft

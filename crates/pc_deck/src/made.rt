@@ -1,6 +1,7 @@
 //! The cards of a plan that is made of lists, or drawn of a deck of tasks, and not read.
 ghost use Rattle.std.specs.Prelude.{◌≡◌, IfOk, OnOk};
-ghost use Rattle.pc_deck.specs.Made.{drawn_with, plan_of};
+ghost use Rattle.pc_deck.specs.Made.{drawn_with};
+ghost use Rattle.pc_deck.specs.inside.Made.{plan_of};
 ghost use Rattle.pc_deck.specs.Within.{IsWithinLimits};
 
 use crate::cards::{Cards, TaskCards};
@@ -80,8 +81,8 @@ impl Cards {
 }
 
 impl CardLists {
-    ghost use Rattle.pc_deck.specs.Kinds.{no_lists};
-    ghost use Rattle.pc_deck.specs.Made.{AreNamedOnce, lists_of};
+    ghost use Rattle.pc_deck.specs.inside.Kinds.{no_lists};
+    ghost use Rattle.pc_deck.specs.inside.Made.{AreNamedOnce, lists_of};
 
     /// Adds the cards of a plan to lists that have none. After an error the lists are of no more use.
     fn add_plan(&mut self, plan: &PlanLists) -> Result<(), AllocError>

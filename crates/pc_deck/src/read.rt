@@ -2,15 +2,16 @@
 ghost use Rattle.std.specs.Prelude.{◌≡◌, true, ◌≤◌, ◌+◌, length, Ok, Err, IfOk, IfErr, OnOk};
 ghost use Rattle.std.specs.Str.{is_utf8};
 ghost use Rattle.pc_records.specs.Deck.{deck_records};
-ghost use Rattle.pc_faults.specs.First.{Refuses};
+ghost use Rattle.pc_faults.specs.inside.First.{Refuses};
 ghost use Rattle.pc_cards.specs.Limits.{longest_deck};
 ghost use Rattle.pc_cards.specs.declared.sort.Sort.TheVariants as sorts;
-ghost use Rattle.pc_deck.specs.Reading.{cards_of, closed, read_from};
+ghost use Rattle.pc_deck.specs.inside.Reading.{cards_of, closed, read_from};
 ghost use Rattle.pc_cards.specs.Cards.{deck_cards};
 ghost use Rattle.pc_deck.specs.Read.{IsDeckOf, IsReadAs};
 ghost use Rattle.pc_deck.specs.Refusal.{IsCardRefusal, IsRefusalAs};
-ghost use Rattle.pc_deck.specs.Titles.{AreTitlesText};
-ghost use Rattle.pc_deck.specs.Within.{IsDraftWithin, IsWithin, IsWithinLimits};
+ghost use Rattle.pc_deck.specs.inside.Titles.{AreTitlesText};
+ghost use Rattle.pc_deck.specs.Within.{IsWithin, IsWithinLimits};
+ghost use Rattle.pc_deck.specs.inside.Within.{IsDraftWithin};
 
 use crate::cards::{Cards, TaskCards};
 use crate::deck_cards::DeckCards;

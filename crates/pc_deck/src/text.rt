@@ -1,6 +1,7 @@
 //! Writing the text of a deck.
 ghost use Rattle.std.specs.Prelude.{◌≡◌, ◌++◌, IfOk, OnOk};
-ghost use Rattle.pc_deck.specs.Text.{deck_text, lead_text, lists_text, says_nothing, settled_terms};
+ghost use Rattle.pc_deck.specs.Text.{deck_text, says_nothing, settled_terms};
+ghost use Rattle.pc_deck.specs.inside.Text.{lead_text, lists_text};
 
 use crate::cards::Cards;
 use crate::kinds::{AsOfCard, ProjectCard, TermsCard};

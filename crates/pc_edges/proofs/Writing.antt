@@ -10,7 +10,8 @@ use Rattle.std.proofs.KnownBytes.{Appends-nil, Appends-trans}
 use Rattle.std.specs.Prelude.{OnOk, OnErr}
 use Rattle.std.specs.Io.KnownBytes.{Appends, Keeps}
 use Rattle.pc_edges.specs.Faults.{Rose}
-use Rattle.pc_edges.specs.Writes.{Wrote, Stopped, Writes, Gathered}
+use Rattle.pc_edges.specs.Writes.{Wrote, Stopped}
+use Rattle.pc_edges.specs.inside.Writes.{Writes, Gathered}
 use Rattle.pc_edges.specs.Texts.{texts_to}
 
 -- ---- counts of faults

@@ -1,5 +1,5 @@
 -- What a call that writes to a sink leaves behind.
-use Rattle.std.specs.Prelude.{◌≡◌, ℕ, ◌≤◌, List, ◌++◌, take, Option, Result, OnOk, OnErr}
+use Rattle.std.specs.Prelude.{◌≡◌, ℕ, List, take, Option}
 use Rattle.std.specs.Io.KnownBytes.{Appends}
 use Rattle.pc_edges.specs.Faults.{Rose}
 
@@ -12,14 +12,3 @@ pub record Wrote (old new : Option (List ℕ)) (before after : ℕ) (text : List
 pub record Stopped (old new : Option (List ℕ)) (before after : ℕ) (text : List ℕ) : Type 0 where
   pub front : (n : ℕ) × Appends old new (take n text)
   pub fault : Rose before after
-
--- what a call that writes the text leaves: at Ok all of it, at an error a front of it and a fault
-pub record Writes {A E : Type 0} (result : Result A E) (old new : Option (List ℕ)) (before after : ℕ) (text : List ℕ) : Type 0 where
-  pub ok : OnOk result (Wrote old new before after text)
-  pub err : OnErr result (Stopped old new before after text)
-  pub count : before ≤ after
-
--- the sink took a front of the text, what is pending is the rest of it, and no fault came
-pub record Gathered (old now : Option (List ℕ)) (pending : List ℕ) (before after : ℕ) (text : List ℕ) : Type 0 where
-  pub pushed : (front : List ℕ) × Appends old now front × (text ≡ front ++ pending)
-  pub no_fault : after ≡ before

@@ -22,11 +22,11 @@ pub struct MemSink {
 }
 
 impl Model for MemSink {
-    ghost use Rattle.pc_edges.specs.Intake.{Intake};
+    ghost use Rattle.pc_edges.specs.inside.Intake.{Intake};
 
     ghost Value = { Intake };
 
-    ghost use Rattle.pc_edges.specs.MemSink.{intake_of, HasRoom};
+    ghost use Rattle.pc_edges.specs.inside.MemSink.{intake_of, HasRoom};
 
     ghost view = { intake_of };
 

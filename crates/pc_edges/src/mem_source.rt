@@ -21,11 +21,11 @@ pub struct MemSource {
 }
 
 impl Model for MemSource {
-    ghost use Rattle.pc_edges.specs.Supply.{Supply};
+    ghost use Rattle.pc_edges.specs.inside.Supply.{Supply};
 
     ghost Value = { Supply };
 
-    ghost use Rattle.pc_edges.specs.MemSource.{supply_of, IsSupplied};
+    ghost use Rattle.pc_edges.specs.inside.MemSource.{supply_of, IsSupplied};
 
     ghost view = { supply_of };
 

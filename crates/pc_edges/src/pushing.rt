@@ -1,5 +1,5 @@
 //! Pushing a piece whole.
-ghost use Rattle.pc_edges.specs.Writes.{Writes};
+ghost use Rattle.pc_edges.specs.inside.Writes.{Writes};
 
 use crate::{Failed, Sink};
 

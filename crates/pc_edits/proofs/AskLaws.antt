@@ -13,7 +13,7 @@ use Rattle.pc_edits.specs.declared.ask.Trial.{Trial}
 use Rattle.pc_edits.specs.declared.ask.TheConstants.{MAX_LINE}
 use Rattle.pc_text.specs.Fields.{◌>>=◌, run_len, code_field, alone, spaced, IsCode}
 use Rattle.pc_edits.specs.Fields.{number_field}
-use Rattle.pc_edits.specs.Lines.{spelling, Fits, Asks, IsSmall}
+use Rattle.pc_edits.specs.inside.Lines.{spelling, Fits, Asks, IsSmall}
 use Rattle.pc_edits.specs.Reading.{edit_of, estimate_of, amount_of, normal_of, crash_of, slope_of, try_of, ask_with, ask_of}
 use Rattle.pc_text.proofs.SpellingLemmas.{IsSpelled, either, no_name, one_word}
 use Rattle.pc_text.proofs.FieldLemmas.{bind_some, alone_takes, unless_takes, unless_again, nothing, space, code_field_takes, code_field_again}

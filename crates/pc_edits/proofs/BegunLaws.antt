@@ -4,8 +4,9 @@ use Rattle.std.proofs.lemmas.Bool.{cases_lt}
 use Rattle.std.proofs.lemmas.List.{length-map, get_or-map, get_or_default}
 use Rattle.std.specs.List.{All}
 use Rattle.circular_buffer.specs.Buffer.{Buffer, buffer}
-use Rattle.pc_crash.specs.Priced.{AreNames, ArePiecesWithinLimits, PricedNetwork}
-use Rattle.pc_deck.specs.Act.{IsActWithin}
+use Rattle.pc_crash.specs.Priced.{ArePiecesWithinLimits, PricedNetwork}
+use Rattle.pc_crash.specs.inside.Priced.{AreNames}
+use Rattle.pc_deck.specs.inside.Act.{IsActWithin}
 use Rattle.pc_deck.specs.Deck.{Deck}
 use Rattle.pc_deck.specs.declared.kinds.act.ActCard.{ActCard}
 use Rattle.pc_deck.proofs.NumberLemmas.{acts-within}
@@ -15,12 +16,14 @@ use Rattle.pc_project.specs.Misfit as has
 use Rattle.pc_project.specs.Misfit.{HasActFault, HasNoMisfit, act, listed}
 use Rattle.pc_project.specs.Planned.{IsPlanned}
 use Rattle.pc_project.specs.Project.{Project}
-use Rattle.pc_edits.specs.Plans.{AreEstimates, estimates_at, estimates_in}
+use Rattle.pc_edits.specs.Plans.{estimates_at, estimates_in}
+use Rattle.pc_edits.specs.inside.Plans.{AreEstimates}
 use Rattle.pc_edits.specs.declared.kept.Kept.{Kept}
 use Rattle.pc_edits.specs.declared.edits.Edits.TheInside.{Inside}
 use Rattle.pc_edits.specs.declared.edits.TheConstants.{MAX_KEPT}
-use Rattle.pc_edits.specs.Editing.{IsEditing, begun, priced_of}
-use Rattle.pc_edits.specs.Inside.{IsWholeInside, editing_in, plans_back}
+use Rattle.pc_edits.specs.Editing.{begun, priced_of}
+use Rattle.pc_edits.specs.inside.Editing.{IsEditing}
+use Rattle.pc_edits.specs.inside.Inside.{IsWholeInside, editing_in, plans_back}
 
 -- a card to read past the end of the cards, where no one looks
 no_act : ActCard

@@ -11,7 +11,8 @@ use Rattle.pc_project.specs.Project.{Project}
 use Rattle.pc_times.specs.Estimates.{expected_time, variance_of}
 use Rattle.pc_times.specs.Times.{AreLengths}
 use Rattle.pc_edits.specs.Plans.{estimates_at, expected_times, variances}
-use Rattle.pc_edits.specs.Editing.{ChangesOnly, Editing, IsEditing, begun}
+use Rattle.pc_edits.specs.Editing.{Editing, begun}
+use Rattle.pc_edits.specs.inside.Editing.{ChangesOnly, IsEditing}
 use Rattle.pc_edits.proofs.PlanLaws.{no_estimates, variance_small}
 
 -- the expected time of an activity with these estimates, and its variance

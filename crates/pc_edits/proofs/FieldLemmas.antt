@@ -4,11 +4,12 @@ use Rattle.std.proofs.lemmas.Option.{cond_some}
 use Rattle.std.specs.Char.{is_ascii_digit}
 use Rattle.std.specs.Fmt.{decimal}
 use Rattle.pc_text.specs.Fields.{spaced, Lacks}
-use Rattle.pc_text.specs.Number.{is_number, number_of, value_after, IsDecimal}
+use Rattle.pc_text.specs.Number.{is_number, number_of, value_after}
+use Rattle.pc_text.specs.inside.Number.{IsDecimal}
 use Rattle.pc_text.proofs.NumberLemmas.{spelled_by, is_number-IsDecimal, value_after-IsDecimal, value_read}
 use Rattle.pc_text.proofs.FieldLemmas.{lacks, IsBehind, field_by_takes, field_by_again}
 use Rattle.pc_edits.specs.Fields.{number_field}
-use Rattle.pc_edits.specs.Lines.{IsSmall}
+use Rattle.pc_edits.specs.inside.Lines.{IsSmall}
 
 -- a number has no space
 decimal_lacks : (n : ℕ) → IsSmall n → Lacks 32 (decimal n)

@@ -5,11 +5,11 @@ use Rattle.std.proofs.lemmas.List.Sums.{sum_by-cons}
 use Rattle.pc_model.specs.declared.PieceRow.{PieceRow}
 use Rattle.pc_model.specs.declared.Term.{Term}
 use Rattle.pc_model.specs.Pieces.{knee_in, rise_in, slope_in, units_of}
-use Rattle.pc_crash.specs.Laid.{IsRising}
+use Rattle.pc_crash.specs.inside.Laid.{IsRising}
 use Rattle.pc_crash.specs.Priced.{piece_at}
 use Rattle.pc_project.specs.declared.estimates.Estimates.{Estimates}
 use Rattle.pc_edits.specs.declared.further.Further.{Further}
-use Rattle.pc_edits.specs.Further.{further_in, is_flawed, refusal_with}
+use Rattle.pc_edits.specs.inside.Further.{further_in, is_flawed, refusal_with}
 use Rattle.pc_edits.specs.Refusal.{has_flaw, refusal_of}
 
 -- the units of a piece and of those behind it

@@ -10,7 +10,8 @@ use Rattle.std.proofs.lemmas.Option.{get_or_from_slice_get}
 use Rattle.circular_buffer.specs.Buffer.{Buffer, buffer, keep_last, last_item}
 use Rattle.pc_model.specs.declared.Term.{Term}
 use Rattle.pc_model.specs.Schedule.{term_at}
-use Rattle.pc_crash.specs.Priced.{AreNames, ArePiecesWithinLimits, PricedNetwork}
+use Rattle.pc_crash.specs.Priced.{ArePiecesWithinLimits, PricedNetwork}
+use Rattle.pc_crash.specs.inside.Priced.{AreNames}
 use Rattle.pc_project.specs.declared.estimates.Estimates.{Estimates}
 use Rattle.pc_edits.specs.declared.ask.Change.{Change}
 use Rattle.pc_edits.specs.declared.ask.Edit.{Edit}
@@ -18,9 +19,11 @@ use Rattle.pc_edits.specs.declared.kept.Kept.{Kept}
 use Rattle.pc_edits.specs.declared.trying.ActTerm.{ActTerm}
 use Rattle.pc_edits.specs.declared.edits.Edits.TheInside.{Inside}
 use Rattle.pc_edits.specs.declared.edits.TheConstants.{MAX_KEPT}
-use Rattle.pc_edits.specs.Plans.{Plan, plan_with, term_with, estimates_with, estimates_at, IsFitPlan}
-use Rattle.pc_edits.specs.Editing.{ChangesOnly, Editing, Edits, IsEditing, activity_named, at_rest, edited, editing_with, net_in, net_trying, plan_of, undone}
-use Rattle.pc_edits.specs.Inside.{edits_from, editing_in, plans_back, replaced, trial_in, IsWholeInside}
+use Rattle.pc_edits.specs.Plans.{Plan, plan_with, term_with, estimates_with, estimates_at}
+use Rattle.pc_edits.specs.inside.Plans.{IsFitPlan}
+use Rattle.pc_edits.specs.Editing.{Editing, activity_named, edited, editing_with, net_trying, plan_of, undone}
+use Rattle.pc_edits.specs.inside.Editing.{ChangesOnly, Edits, IsEditing, at_rest, net_in}
+use Rattle.pc_edits.specs.inside.Inside.{edits_from, editing_in, plans_back, replaced, trial_in, IsWholeInside}
 use Rattle.pc_edits.specs.Refusal.{undo_refusal}
 use Rattle.pc_edits.proofs.ListLaws.{length-push, keep_last-push, last_item-push, last_item-some, front-push}
 use Rattle.pc_edits.proofs.KeptLaws.{length-plans_back, plans_back-keep_last, plans_back-push}

@@ -11,10 +11,12 @@ use Rattle.pc_edits.specs.declared.ask.Trial.{Trial}
 use Rattle.pc_edits.specs.declared.further.Further.{Further}
 use Rattle.pc_edits.specs.declared.reason.Reason.{Reason}
 use Rattle.pc_edits.specs.declared.reason.Reason.TheVariants.{UnknownActivity}
-use Rattle.pc_edits.specs.Plans.{IsFitPlan, plan_with, term_with, term_tried, estimates_with, estimates_at}
-use Rattle.pc_edits.specs.Editing.{MayTry, activity_named}
+use Rattle.pc_edits.specs.Plans.{plan_with, term_with, term_tried, estimates_with, estimates_at}
+use Rattle.pc_edits.specs.inside.Plans.{IsFitPlan}
+use Rattle.pc_edits.specs.Editing.{activity_named}
+use Rattle.pc_edits.specs.inside.Editing.{MayTry}
 use Rattle.pc_edits.specs.Refusal.{edit_refusal, is_over, is_trial_over, refusal_of, trial_refusal}
-use Rattle.pc_edits.specs.Further.{further_in, refusal_with}
+use Rattle.pc_edits.specs.inside.Further.{further_in, refusal_with}
 use Rattle.pc_edits.proofs.FlawLaws.{refusal_with-is}
 use Rattle.pc_edits.proofs.PlanLaws.{HasNone-of, IsFitPlan-with, tried_terms, tried_limits, tried_pieces}
 

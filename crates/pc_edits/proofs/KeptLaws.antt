@@ -3,7 +3,7 @@ use Rattle.std.proofs.Common.{◌≡◌, ℕ, zero, suc, ◌-◌, List, [], ◌�
 use Rattle.circular_buffer.specs.Buffer.{keep_last}
 use Rattle.pc_edits.specs.declared.kept.Kept.{Kept}
 use Rattle.pc_edits.specs.Plans.{Plan, plan_with}
-use Rattle.pc_edits.specs.Inside.{plan_back, plans_back}
+use Rattle.pc_edits.specs.inside.Inside.{plan_back, plans_back}
 
 pub length-plans_back : (kept : List Kept) (plan : Plan) → length (plans_back kept plan) ≡ length kept
 length-plans_back [] plan = refl

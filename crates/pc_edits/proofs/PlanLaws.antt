@@ -17,10 +17,11 @@ use Rattle.pc_edits.specs.declared.ask.Change.TheVariants.{Estimate, Normal, Cra
 use Rattle.pc_edits.specs.declared.ask.Trial.{Trial}
 use Rattle.pc_edits.specs.declared.reason.Reason.{Reason}
 use Rattle.pc_edits.specs.declared.reason.Reason.TheVariants.{OverLimit, CrashAboveNormal, EstimatesOutOfOrder, PieceFault}
-use Rattle.pc_edits.specs.Plans.{Plan, plan_with, term_with, estimates_with, estimates_at, term_tried, AreEstimates, IsFitPlan}
+use Rattle.pc_edits.specs.Plans.{Plan, plan_with, term_with, estimates_with, estimates_at, term_tried}
+use Rattle.pc_edits.specs.inside.Plans.{AreEstimates, IsFitPlan}
 use Rattle.pc_edits.specs.Refusal.{is_over, is_trial_over, is_crash_above, are_disordered}
-use Rattle.pc_edits.specs.Further.{further_in, is_flawed, refusal_with}
-use Rattle.pc_edits.specs.Inside.{replaced}
+use Rattle.pc_edits.specs.inside.Further.{further_in, is_flawed, refusal_with}
+use Rattle.pc_edits.specs.inside.Inside.{replaced}
 
 -- what is past the ends of the lists
 abbrev pub no_term : Term

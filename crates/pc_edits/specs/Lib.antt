@@ -1,10 +1,8 @@
 pub mod Fields
-pub mod Lines
 pub mod Reading
 pub mod Reasons
 pub mod Plans
 pub mod Editing
 pub mod Refusal
-pub mod Further
 pub mod Standing
-pub mod Inside
+pub mod inside

@@ -1,12 +1,7 @@
 -- The numbers of a project that edits change, and what a change makes of them.
-use Rattle.std.specs.Prelude.{◌≡◌, ℕ, ◌<◌, ◌≤◌, List, length, map, slice_index_or, slice_set}
-use Rattle.pc_model.specs.declared.PieceRow.{PieceRow}
+use Rattle.std.specs.Prelude.{ℕ, List, map, slice_index_or, slice_set}
 use Rattle.pc_model.specs.declared.Term.{Term}
-use Rattle.pc_model.specs.declared.limits.TheConstants.{MAX_DURATION}
-use Rattle.pc_model.specs.Network.{Network}
-use Rattle.pc_model.specs.Pieces.{ArePieces}
-use Rattle.pc_model.specs.Schedule.{AreTerms, term_at}
-use Rattle.pc_crash.specs.Terms.{AreWithinLimits}
+use Rattle.pc_model.specs.Schedule.{term_at}
 use Rattle.pc_deck.specs.Deck.{Deck}
 use Rattle.pc_project.specs.declared.estimates.Estimates.{Estimates}
 use Rattle.pc_times.specs.Estimates.{expected_time, variance_of}
@@ -56,17 +51,3 @@ expected_times unit_days estimates = map (λ e. expected_time e.optimistic e.lik
 
 abbrev pub variances : ℕ → List Estimates → List ℕ
 variances unit_days estimates = map (λ e. variance_of e.optimistic e.pessimistic unit_days) estimates
-
--- the estimates are in order, and none is above its limit
-pub record AreEstimates (e : Estimates) : Type 0 where
-  pub optimistic : e.optimistic ≤ e.likely
-  pub pessimistic : e.likely ≤ e.pessimistic
-  pub short : e.pessimistic ≤ MAX_DURATION
-
--- the numbers fit the network and the pieces of costs, as those of an accepted deck do
-pub record IsFitPlan (net : Network) (further : List PieceRow) (plan : Plan) : Type 0 where
-  pub terms : AreTerms net plan.terms
-  pub limits : AreWithinLimits plan.terms
-  pub pieces : ArePieces plan.terms further
-  pub estimates_each : length plan.estimates ≡ length net.arcs
-  pub estimates : (a : ℕ) → a < length net.arcs → AreEstimates (estimates_at plan.estimates a)

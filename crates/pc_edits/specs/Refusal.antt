@@ -8,8 +8,6 @@ use Rattle.pc_model.specs.Pieces.{pieces_of}
 use Rattle.pc_model.specs.Schedule.{term_at}
 use Rattle.pc_crash.specs.Priced.{PricedNetwork}
 use Rattle.pc_project.specs.declared.estimates.Estimates.{Estimates}
-use Rattle.pc_edits.specs.declared.ask.Ask.{Ask}
-use Rattle.pc_edits.specs.declared.ask.Ask.TheVariants as ask
 use Rattle.pc_edits.specs.declared.ask.Change.{Change}
 use Rattle.pc_edits.specs.declared.ask.Change.TheVariants.{Estimate, Normal, Crash, Slope}
 use Rattle.pc_edits.specs.declared.ask.Edit.{Edit}
@@ -82,11 +80,3 @@ trial_refusal net estimates trial =
 -- why an UNDO is refused: 7, nothing is kept
 abbrev pub undo_refusal : Editing → Option Reason
 undo_refusal editing = if length editing.kept == 0 then Some NothingToUndo else None
-
--- why an ask is refused, but for the length of a trial
-abbrev pub refusal : Editing → Ask → Option Reason
-refusal editing (ask.Edit edit) = edit_refusal editing.net editing.estimates edit
-refusal editing ask.Undo = undo_refusal editing
-refusal editing ask.Times = None
-refusal editing ask.Curve = None
-refusal editing (ask.Try trial) = trial_refusal editing.net editing.estimates trial

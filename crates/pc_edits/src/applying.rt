@@ -1,7 +1,8 @@
 //! Edits that are accepted or refused.
 ghost use Rattle.std.specs.Prelude.{◌≡◌, None, Some, IfErr, IfOk, OnErr, OnOk};
 ghost use Rattle.pc_project.specs.Project.{Project};
-ghost use Rattle.pc_edits.specs.Editing.{ChangesOnly, at_rest, edited, plan_of, undone};
+ghost use Rattle.pc_edits.specs.Editing.{edited, plan_of, undone};
+ghost use Rattle.pc_edits.specs.inside.Editing.{ChangesOnly, at_rest};
 ghost use Rattle.pc_edits.specs.Refusal.{edit_refusal};
 ghost use Rattle.pc_edits.specs.Standing.{Journal, Stands, noted};
 

@@ -1,6 +1,6 @@
 //! What a line of a session asks.
 ghost use Rattle.std.specs.Prelude.{◌≡◌, IfSome, Some};
-ghost use Rattle.pc_edits.specs.Lines.{Asks};
+ghost use Rattle.pc_edits.specs.inside.Lines.{Asks};
 ghost use Rattle.pc_edits.specs.Reading.{ask_of};
 ghost use Rattle.pc_edits.specs.declared.ask.Ask.{Ask};
 

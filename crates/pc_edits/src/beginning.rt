@@ -1,7 +1,8 @@
 //! A project before any edit.
 ghost use Rattle.std.specs.Prelude.{◌≡◌, IfOk, OnOk};
 ghost use Rattle.pc_project.specs.Planned.{IsPlanned};
-ghost use Rattle.pc_edits.specs.Editing.{at_rest, begun};
+ghost use Rattle.pc_edits.specs.Editing.{begun};
+ghost use Rattle.pc_edits.specs.inside.Editing.{at_rest};
 ghost use Rattle.pc_edits.specs.Plans.{estimates_in};
 ghost use Rattle.pc_edits.specs.Standing.{Stands, empty};
 

@@ -1,8 +1,9 @@
 //! Other numbers for an activity.
 ghost use Rattle.std.specs.Prelude.{◌≡◌, ◌<◌, length, slice_set};
 ghost use Rattle.pc_model.specs.Schedule.{term_at};
-ghost use Rattle.pc_edits.specs.Inside.{replaced};
-ghost use Rattle.pc_edits.specs.Plans.{IsFitPlan, estimates_at, estimates_with, plan_with, term_with};
+ghost use Rattle.pc_edits.specs.inside.Inside.{replaced};
+ghost use Rattle.pc_edits.specs.Plans.{estimates_at, estimates_with, plan_with, term_with};
+ghost use Rattle.pc_edits.specs.inside.Plans.{IsFitPlan};
 
 use crate::ask::Change;
 use pc_crash::CrashNet;

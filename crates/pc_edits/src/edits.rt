@@ -2,7 +2,7 @@
 ghost use Rattle.std.specs.Prelude.{◌≡◌, ◌<◌, ◌≤◌, length, slice_index};
 ghost use Rattle.pc_model.specs.declared.limits.TheConstants.{MAX_VARIANCE};
 ghost use Rattle.pc_times.specs.declared.TheConstants.{MAX_LENGTH};
-ghost use Rattle.pc_edits.specs.Editing.{IsEditing, net_in};
+ghost use Rattle.pc_edits.specs.inside.Editing.{IsEditing, net_in};
 ghost use Rattle.pc_edits.specs.Plans.{estimates_at, expected_times, variances};
 
 use crate::kept::Kept;
@@ -32,11 +32,11 @@ pub struct Edits<'p> {
 }
 
 impl<'p> Model for Edits<'p> {
-    ghost use Rattle.pc_edits.specs.Editing.{Edits};
+    ghost use Rattle.pc_edits.specs.inside.Editing.{Edits};
 
     ghost Value = { Edits };
 
-    ghost use Rattle.pc_edits.specs.Inside.{edits_from, IsWholeInside};
+    ghost use Rattle.pc_edits.specs.inside.Inside.{edits_from, IsWholeInside};
 
     ghost view = { edits_from };
 

@@ -4,7 +4,7 @@ ghost use Rattle.pc_model.specs.Pieces.{ArePieces, pieces_of};
 ghost use Rattle.pc_model.specs.Schedule.{AreTerms};
 ghost use Rattle.pc_crash.specs.Priced.{ArePiecesWithinLimits};
 ghost use Rattle.pc_crash.specs.Terms.{AreWithinLimits};
-ghost use Rattle.pc_edits.specs.Further.{further_in, is_flawed};
+ghost use Rattle.pc_edits.specs.inside.Further.{further_in, is_flawed};
 
 use pc_crash::CrashNet;
 use pc_model::Term;

@@ -1,10 +1,13 @@
 //! Why numbers of an activity are refused.
 ghost use Rattle.std.specs.Prelude.{◌≡◌, ◌<◌, IfOk, IfErr, IfSome, OnOk, None, Some, length};
 ghost use Rattle.pc_model.specs.Schedule.{term_at};
-ghost use Rattle.pc_crash.specs.Priced.{AreNames, ArePiecesWithinLimits};
-ghost use Rattle.pc_edits.specs.Editing.{MayTry, activity_named};
-ghost use Rattle.pc_edits.specs.Further.{refusal_with};
-ghost use Rattle.pc_edits.specs.Plans.{IsFitPlan, plan_with, term_tried};
+ghost use Rattle.pc_crash.specs.Priced.{ArePiecesWithinLimits};
+ghost use Rattle.pc_crash.specs.inside.Priced.{AreNames};
+ghost use Rattle.pc_edits.specs.Editing.{activity_named};
+ghost use Rattle.pc_edits.specs.inside.Editing.{MayTry};
+ghost use Rattle.pc_edits.specs.inside.Further.{refusal_with};
+ghost use Rattle.pc_edits.specs.Plans.{plan_with, term_tried};
+ghost use Rattle.pc_edits.specs.inside.Plans.{IsFitPlan};
 ghost use Rattle.pc_edits.specs.Refusal.{are_disordered, edit_refusal, is_over, is_trial_over, trial_refusal};
 
 use crate::ask::{Change, Edit, Trial};

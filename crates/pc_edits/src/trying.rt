@@ -1,7 +1,8 @@
 //! A term on trial for an activity.
 ghost use Rattle.std.specs.Prelude.{◌≡◌, None, Some, IfOk, IfErr, OnOk};
 ghost use Rattle.pc_model.specs.Schedule.{term_at};
-ghost use Rattle.pc_edits.specs.Editing.{MayTry, activity_named};
+ghost use Rattle.pc_edits.specs.Editing.{activity_named};
+ghost use Rattle.pc_edits.specs.inside.Editing.{MayTry};
 ghost use Rattle.pc_edits.specs.Plans.{term_tried};
 ghost use Rattle.pc_edits.specs.Refusal.{trial_refusal};
 

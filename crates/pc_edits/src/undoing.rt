@@ -1,7 +1,8 @@
 //! Edits that are taken back.
 ghost use Rattle.std.specs.Prelude.{◌≡◌, None, Some, IfErr, IfOk, OnErr, OnOk};
 ghost use Rattle.pc_project.specs.Project.{Project};
-ghost use Rattle.pc_edits.specs.Editing.{ChangesOnly, at_rest, undone};
+ghost use Rattle.pc_edits.specs.Editing.{undone};
+ghost use Rattle.pc_edits.specs.inside.Editing.{ChangesOnly, at_rest};
 ghost use Rattle.pc_edits.specs.Refusal.{undo_refusal};
 ghost use Rattle.pc_edits.specs.Standing.{Journal, Stands, taken_back};
 

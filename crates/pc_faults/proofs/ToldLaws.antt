@@ -1,6 +1,6 @@
 -- Each fault can be told: its number and its detail go together.
 use Rattle.std.proofs.Common.{ℕ, ℤ, Bool, List, refl}
-use Rattle.pc_faults.specs.FaultText.{IsTold}
+use Rattle.pc_faults.specs.inside.FaultText.{IsTold}
 use Rattle.pc_faults.specs.Faults as fault
 use Rattle.pc_faults.specs.declared.kind.Kind.{Kind}
 use Rattle.pc_faults.specs.declared.status.StatusFault.{StatusFault}

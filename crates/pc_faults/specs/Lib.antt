@@ -2,4 +2,4 @@ pub mod Kinds
 pub mod Faults
 pub mod First
 pub mod FaultText
-pub mod FaultRoom
+pub mod inside

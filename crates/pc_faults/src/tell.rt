@@ -1,7 +1,8 @@
 //! The line that tells a fault.
 ghost use Rattle.std.specs.Prelude.{◌≡◌, ◌<◌, ◌≤◌, ◌+◌, ◌*◌, ◌^◌, [], ◌∷◌, ◌++◌, length, IfOk};
-ghost use Rattle.pc_faults.specs.FaultText.{IsNumber, IsTold, list_numbers, name_numbers, numbers_of, words_of, fault_text};
-ghost use Rattle.pc_faults.specs.FaultRoom.{listed_in, words_limit};
+ghost use Rattle.pc_faults.specs.FaultText.{words_of, fault_text};
+ghost use Rattle.pc_faults.specs.inside.FaultText.{IsNumber, IsTold, list_numbers, name_numbers, numbers_of};
+ghost use Rattle.pc_faults.specs.inside.FaultRoom.{listed_in, words_limit};
 ghost use Rattle.pc_faults.specs.declared.fault.Detail.TheVariants as detail;
 
 use crate::fault::{Detail, Fault};

@@ -1,5 +1,5 @@
 //! The line of each fault that names something, or nothing.
-ghost use Rattle.pc_faults.specs.FaultText.{IsTold};
+ghost use Rattle.pc_faults.specs.inside.FaultText.{IsTold};
 
 use super::*;
 use pc_days::read_day;

@@ -1,6 +1,7 @@
 //! The words of the faults, by their numbers.
 ghost use Rattle.std.specs.Prelude.{◌≡◌, ◌≤◌, [], ◌∷◌, length};
-ghost use Rattle.pc_faults.specs.FaultText.{IsNumber, plain_numbers, name_numbers, list_numbers, plain_words, field_words, words_before, words_behind, listed_words, side_words};
+ghost use Rattle.pc_faults.specs.FaultText.{plain_words, field_words, words_before, words_behind, listed_words, side_words};
+ghost use Rattle.pc_faults.specs.inside.FaultText.{IsNumber, plain_numbers, name_numbers, list_numbers};
 
 /// What is wrong, where a fault names nothing.
 pub fn plain_words(number: u8) -> &'static [u8]

@@ -12,7 +12,8 @@ use Rattle.pc_accounts.specs.Entries.{IsSmall}
 use Rattle.std.proofs.lemmas.Int.{ints}
 use Rattle.pc_figures.specs.declared.figures.Figure.{Figure}
 use Rattle.pc_figures.specs.declared.figures.Figure.TheVariants.{Budget, Actual, ToGo, Latest, Overrun}
-use Rattle.pc_figures.specs.Figures.{AreAmounts, figure_of}
+use Rattle.pc_figures.specs.Figures.{figure_of}
+use Rattle.pc_figures.specs.inside.Figures.{AreAmounts}
 use Rattle.pc_figures.proofs.PushLaws.{each_more}
 
 -- the amounts of the first n accounts, which together are no more than what was spent on these, their budgets, and what is

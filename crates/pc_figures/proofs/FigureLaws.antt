@@ -9,14 +9,16 @@ use Rattle.pc_accounts.specs.declared.rows.AcctRow.{AcctRow}
 use Rattle.pc_accounts.specs.declared.rows.MoneyRow.{MoneyRow}
 use Rattle.pc_accounts.specs.declared.entry.Entry.{Entry}
 use Rattle.pc_accounts.specs.Amounts.{all_charged}
-use Rattle.pc_accounts.specs.Entries.{entry_at, entry_of_all}
+use Rattle.pc_accounts.specs.Entries.{entry_at}
+use Rattle.pc_accounts.specs.inside.Entries.{entry_of_all}
 use Rattle.pc_accounts.proofs.WholeLaws.{all_spent}
 use Rattle.pc_rollup.specs.declared.levels.LevelLine.{LevelLine}
 use Rattle.pc_rollup.specs.Lines.{AreLevelLines, sum_of}
 use Rattle.pc_rollup.proofs.SumLaws.{IsSumOver-all}
 use Rattle.pc_figures.specs.declared.figures.Figure.{Figure}
 use Rattle.pc_figures.specs.declared.figures.Figure.TheVariants.{Budget, Actual, ToGo, Latest, Overrun}
-use Rattle.pc_figures.specs.Columns.{AreItemSums, IsTotal}
+use Rattle.pc_figures.specs.Columns.{AreItemSums}
+use Rattle.pc_figures.specs.inside.Columns.{IsTotal}
 use Rattle.pc_figures.specs.Figures.{figure_of, figure_at}
 use Rattle.pc_figures.specs.Summary.{AreBooked}
 use Rattle.pc_figures.proofs.SumLaws.{lines_are_whole}

@@ -17,7 +17,8 @@ use Rattle.pc_rollup.proofs.SumLaws.{IsSumOver-only}
 use Rattle.pc_times.specs.declared.state.ActState.{ActState}
 use Rattle.pc_figures.specs.declared.figures.Figure.TheVariants.{Budget, Actual, ToGo, Latest, Overrun}
 use Rattle.pc_figures.specs.declared.outline.OutlineRow.{OutlineRow}
-use Rattle.pc_figures.specs.Columns.{AreOnTree, AreItemSums, AreLevelSums, Column, IsColumn, IsLevelSum, IsTotal}
+use Rattle.pc_figures.specs.Columns.{AreOnTree, AreItemSums, AreLevelSums, Column, IsColumn, IsLevelSum}
+use Rattle.pc_figures.specs.inside.Columns.{IsTotal}
 use Rattle.pc_figures.specs.Figures.{figure_at}
 use Rattle.pc_figures.specs.Outline.{AreInOrder, IsOutline, row_at}
 use Rattle.pc_figures.specs.Packages.{AreValues, IsValueOf, overrun_at}

@@ -17,7 +17,8 @@ use Rattle.pc_accounts.specs.Amounts.{item_of}
 use Rattle.pc_accounts.specs.Entries.{AreSmall, entry_at}
 use Rattle.pc_rollup.specs.declared.totals.Placed.{Placed}
 use Rattle.pc_rollup.specs.Sums.{IsSumOver}
-use Rattle.pc_rollup.specs.Totals.{amount_at, placed_at, place_of, amount_of, AreOnLeaves, AreTotalsOf}
+use Rattle.pc_rollup.specs.Totals.{amount_at}
+use Rattle.pc_rollup.specs.inside.Totals.{placed_at, place_of, amount_of, AreOnLeaves, AreTotalsOf}
 use Rattle.pc_rollup.proofs.SumLaws.{IsSumOver-bound, IsSumOver-only, IsSumOver-part, IsSumOver-same}
 use Rattle.pc_figures.specs.declared.figures.Figure.TheVariants.{Budget}
 use Rattle.pc_figures.specs.declared.outline.OutlineRow.{OutlineRow}
@@ -25,8 +26,9 @@ use Rattle.pc_figures.specs.declared.outlook.OutlookAmounts.{OutlookAmounts}
 use Rattle.pc_figures.specs.Columns.{AreItemSums, AreOnTree, IsItemSum}
 use Rattle.pc_figures.specs.Figures.{figure_at}
 use Rattle.pc_figures.specs.Outline.{IsOutline}
-use Rattle.pc_figures.specs.Outlook.{Outlook, AreAmountsOf, HasActivity, HasWholeAtTop, IsOutlookOf, IsRest, IsWholeOutlook, IsWork, StandOnLeaves, amounts_at}
-use Rattle.pc_figures.specs.OutlookParts.{AreAdded, AreAddedTo, AreMarked, ArePlacedCosts, AreSpare, CanBeAdded, HasActivityTo, IsSpare, mark_at}
+use Rattle.pc_figures.specs.Outlook.{Outlook, AreAmountsOf, HasActivity, IsOutlookOf, IsRest, IsWholeOutlook, IsWork, amounts_at}
+use Rattle.pc_figures.specs.inside.Outlook.{HasWholeAtTop, StandOnLeaves}
+use Rattle.pc_figures.specs.inside.OutlookParts.{AreAdded, AreAddedTo, AreMarked, ArePlacedCosts, AreSpare, CanBeAdded, HasActivityTo, IsSpare, mark_at}
 use Rattle.pc_figures.proofs.PushLaws.{each_more}
 use Rattle.pc_figures.proofs.SumLaws.{IsSumOver-alike}
 

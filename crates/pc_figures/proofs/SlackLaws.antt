@@ -6,9 +6,11 @@ use Rattle.std.proofs.lemmas.List.{length_push}
 use Rattle.pc_wbs.specs.declared.row.ItemRow.{ItemRow}
 use Rattle.pc_wbs.specs.Climb.{IsBelow}
 use Rattle.pc_rollup.specs.declared.totals.Placed.{Placed}
-use Rattle.pc_rollup.specs.Least.{IsLeastOver, least_at, AreLeastOf}
-use Rattle.pc_rollup.specs.Totals.{placed_at, place_of, amount_of}
-use Rattle.pc_figures.specs.Slacks.{AreLeastSlacks, ArePlacedSlacks}
+use Rattle.pc_rollup.specs.Least.{IsLeastOver, least_at}
+use Rattle.pc_rollup.specs.inside.Least.{AreLeastOf}
+use Rattle.pc_rollup.specs.inside.Totals.{placed_at, place_of, amount_of}
+use Rattle.pc_figures.specs.Slacks.{AreLeastSlacks}
+use Rattle.pc_figures.specs.inside.Slacks.{ArePlacedSlacks}
 use Rattle.pc_figures.proofs.PushLaws.{each_more}
 
 -- one slack more

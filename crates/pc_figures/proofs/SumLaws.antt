@@ -12,12 +12,14 @@ use Rattle.pc_rollup.specs.declared.totals.Placed.{Placed}
 use Rattle.pc_rollup.specs.declared.levels.LevelLine.{LevelLine}
 use Rattle.pc_rollup.specs.Lines.{line_at, AreLevelLines, sum_of}
 use Rattle.pc_rollup.specs.Sums.{IsSumOver}
-use Rattle.pc_rollup.specs.Totals.{amount_at, placed_at, place_of, amount_of, AreTotalsOf}
+use Rattle.pc_rollup.specs.Totals.{amount_at}
+use Rattle.pc_rollup.specs.inside.Totals.{placed_at, place_of, amount_of, AreTotalsOf}
 use Rattle.pc_rollup.proofs.SumLaws.{IsSumOver-same, unsigned_abs-add}
 use Rattle.pc_rollup.proofs.WholeLaws.{lines_sum}
-use Rattle.pc_figures.specs.Columns.{AreOnTree, AreItemSums, Column, IsColumn, IsLevelSum, AreLevelSums, IsTotal, IsWhole, AddUpTo}
+use Rattle.pc_figures.specs.Columns.{AreOnTree, AreItemSums, Column, IsColumn, IsLevelSum, AreLevelSums, AddUpTo}
+use Rattle.pc_figures.specs.inside.Columns.{IsTotal, IsWhole}
 use Rattle.pc_figures.proofs.PushLaws.{each_more}
-use Rattle.pc_figures.specs.ColumnParts.{ArePlaced}
+use Rattle.pc_figures.specs.inside.ColumnParts.{ArePlaced}
 
 -- sums of functions that agree
 pub IsSumOver-alike : (P : ℕ → Type 0) (n : ℕ) (f g : ℕ → ℤ) (t : ℤ) → ((x : ℕ) → x < n → f x ≡ g x) → IsSumOver P n f t → IsSumOver P n g t

@@ -12,7 +12,8 @@ use Rattle.pc_accounts.specs.Entries.{entry_at, value_of}
 use Rattle.pc_rollup.specs.Totals.{amount_at}
 use Rattle.pc_times.specs.declared.state.ActState.{ActState}
 use Rattle.pc_times.specs.Forecast.{state_at}
-use Rattle.pc_figures.specs.Packages.{IsFinished, IsFinishedPackage, IsValueOf, AreValues, IsProgress, progress_at, AreProgress}
+use Rattle.pc_figures.specs.Packages.{IsFinished, IsFinishedPackage, IsValueOf, AreValues}
+use Rattle.pc_figures.specs.inside.Packages.{IsProgress, progress_at, AreProgress}
 use Rattle.pc_figures.proofs.PushLaws.{each_more}
 
 -- a test that failed did not pass

@@ -44,16 +44,6 @@ pub record IsColumn (tree : List ItemRow) (accounts : List AcctRow) (amount : �
   pub items : AreItemSums tree accounts amount column.items
   pub levels : AreLevelSums tree column.items column.levels
 
--- total is the sum of an amount over all accounts
-abbrev pub IsTotal : List AcctRow → (ℕ → ℤ) → ℤ → Type 0
-IsTotal accounts amount total =
-    IsSumOver (λ a. a < length accounts) (length accounts) amount total
-
--- each level has the sum over all accounts, each of which counts once
-abbrev pub IsWhole : List AcctRow → (ℕ → ℤ) → Column → Type 0
-IsWhole accounts amount column =
-    (k : ℕ) → k < length column.levels → IsTotal accounts amount (amount_at column.levels k)
-
 -- at each level the lines add up to this sum, and it is what the level has
 abbrev pub AddUpTo : List ItemRow → ℤ → Column → Type 0
 AddUpTo tree sum column =

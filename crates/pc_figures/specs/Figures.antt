@@ -1,8 +1,7 @@
 -- The amounts that the summary tells.
-use Rattle.std.specs.Prelude.{◌≡◌, ℕ, ◌<◌, ℤ, pos, ◌-ℤ◌, List, length}
+use Rattle.std.specs.Prelude.{ℕ, ℤ, pos, ◌-ℤ◌, List}
 use Rattle.pc_accounts.specs.declared.entry.Entry.{Entry}
 use Rattle.pc_accounts.specs.Entries.{entry_at, latest_of}
-use Rattle.pc_rollup.specs.Totals.{amount_at}
 use Rattle.pc_figures.specs.declared.figures.Figure.{Figure}
 use Rattle.pc_figures.specs.declared.figures.Figure.TheVariants.{Budget, Actual, ToGo, Latest, Overrun}
 
@@ -18,8 +17,3 @@ figure_of Overrun entry = pos (latest_of entry) -ℤ pos entry.budget
 -- the same of the a-th account
 abbrev pub figure_at : Figure → List Entry → ℕ → ℤ
 figure_at figure entries a = figure_of figure (entry_at entries a)
-
--- for each of the first n accounts one amount
-pub record AreAmounts (amount : ℕ → ℤ) (n : ℕ) (amounts : List ℤ) : Type 0 where
-  pub one_each : length amounts ≡ n
-  pub each : (a : ℕ) → a < n → amount_at amounts a ≡ amount a

@@ -1,10 +1,9 @@
 pub mod Outline
 pub mod Columns
-pub mod ColumnParts
 pub mod Figures
 pub mod Summary
 pub mod Packages
 pub mod Worth
 pub mod Slacks
 pub mod Outlook
-pub mod OutlookParts
+pub mod inside

@@ -1,8 +1,7 @@
 -- What the items are going to cost at given durations of the activities.
-use Rattle.std.specs.Prelude.{◌≡◌, ◌⊎◌, ℕ, ◌<◌, ◌≤◌, Bool, IsTrue, ◌↔◌, false, ℤ, pos, ◌+ℤ◌, ◌-ℤ◌, List, length, slice_index, slice_index_or}
-use Rattle.pc_model.specs.Sums.{sum_to}
+use Rattle.std.specs.Prelude.{◌≡◌, ℕ, ◌<◌, ℤ, pos, ◌+ℤ◌, ◌-ℤ◌, List, length, slice_index, slice_index_or}
 use Rattle.pc_wbs.specs.declared.row.ItemRow.{ItemRow}
-use Rattle.pc_wbs.specs.Climb.{IsBelow, IsLeaf, IsTop}
+use Rattle.pc_wbs.specs.Climb.{IsBelow}
 use Rattle.pc_accounts.specs.declared.entry.Entry.{Entry}
 use Rattle.pc_accounts.specs.declared.rows.AcctRow.{AcctRow}
 use Rattle.pc_accounts.specs.Amounts.{item_of}
@@ -59,13 +58,3 @@ pub record IsWholeOutlook (places : List ℕ) (accounts : List AcctRow) (entries
   pub rest : ℤ
   pub rest_is : IsSumOver (λ b. HasActivity places (item_of accounts b) → ⊥) (length accounts) (figure_at Budget entries) rest
   pub sum : whole ≡ pos cost +ℤ rest
-
--- the top has the whole outlook
-abbrev pub HasWholeAtTop : List ItemRow → List ℕ → (ℕ → ℕ) → List AcctRow → List Entry → Outlook → Type 0
-HasWholeAtTop tree places cost accounts entries outlook =
-    (top : ℕ) → IsTop tree top → IsWholeOutlook places accounts entries (sum_to (length places) cost) (amounts_at outlook.amounts top).outlook
-
--- each activity stands on a leaf of the tree
-pub record StandOnLeaves (tree : List ItemRow) (places : List ℕ) : Type 0 where
-  pub known : (a : ℕ) → a < length places → slice_index places a < length tree
-  pub leaves : (a : ℕ) → a < length places → IsLeaf tree (slice_index places a)

@@ -1,5 +1,5 @@
 -- Which packages are finished, and what the work of each account is worth.
-use Rattle.std.specs.Prelude.{◌≡◌, ◌⊎◌, ℕ, ◌<◌, Bool, true, false, IsTrue, ℤ, pos, ◌-ℤ◌, List, length, slice_index, slice_index_or, Option, Some, None}
+use Rattle.std.specs.Prelude.{◌≡◌, ◌⊎◌, ℕ, ◌<◌, false, ℤ, pos, ◌-ℤ◌, List, length, slice_index}
 use Rattle.pc_accounts.specs.declared.rows.AcctRow.{AcctRow}
 use Rattle.pc_accounts.specs.declared.entry.Entry.{Entry}
 use Rattle.pc_accounts.specs.Amounts.{item_of}
@@ -35,20 +35,3 @@ pub record AreValues (places : List ℕ) (states : List ActState) (accounts : Li
 -- by how much what was spent on account a is more than its work is worth
 abbrev pub overrun_at : List Entry → List ℤ → ℕ → ℤ
 overrun_at entries values a = pos (entry_at entries a).actual -ℤ amount_at values a
-
--- of the first n activities, whether all that stand on item x are finished, or none where none stands there
-abbrev pub IsProgress : List ℕ → List ActState → ℕ → ℕ → Option Bool → Type 0
-IsProgress places states n x None = (a : ℕ) → a < n → slice_index places a ≡ x → ⊥
-IsProgress places states n x (Some true) =
-    ((a : ℕ) × ((a < n) × (slice_index places a ≡ x))) × ((a : ℕ) → a < n → slice_index places a ≡ x → IsFinished (state_at states a))
-IsProgress places states n x (Some false) =
-    (a : ℕ) × ((a < n) × (slice_index places a ≡ x) × (IsFinished (state_at states a) → ⊥))
-
--- an element of a list; none past its end
-abbrev pub progress_at : List (Option Bool) → ℕ → Option Bool
-progress_at progress x = slice_index_or progress x None
-
--- one for each of so many items
-pub record AreProgress (items : ℕ) (places : List ℕ) (states : List ActState) (n : ℕ) (progress : List (Option Bool)) : Type 0 where
-  pub one_each : length progress ≡ items
-  pub each : (x : ℕ) → x < items → IsProgress places states n x (progress_at progress x)

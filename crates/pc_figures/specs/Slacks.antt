@@ -4,9 +4,7 @@ use Rattle.pc_model.specs.Network.{Network}
 use Rattle.pc_model.specs.Walk.{to_of}
 use Rattle.pc_wbs.specs.declared.row.ItemRow.{ItemRow}
 use Rattle.pc_wbs.specs.Climb.{IsBelow}
-use Rattle.pc_rollup.specs.declared.totals.Placed.{Placed}
 use Rattle.pc_rollup.specs.Least.{IsLeastOver, least_at}
-use Rattle.pc_rollup.specs.Totals.{placed_at}
 
 -- the forecast slack of activity a: the latest time of the event where it ends, less when it is expected to be finished
 abbrev pub slack_at : Network → List ℤ → List ℕ → ℕ → ℤ
@@ -17,8 +15,3 @@ slack_at net late finishes a =
 pub record AreLeastSlacks (tree : List ItemRow) (places : List ℕ) (slack : ℕ → ℤ) (slacks : List (Option ℤ)) : Type 0 where
   pub one_each : length slacks ≡ length tree
   pub each : (y : ℕ) → y < length tree → IsLeastOver (λ a. IsBelow tree (slice_index places a) y) (length places) slack (least_at slacks y)
-
--- the slack of each of the first n activities, on the activity's item
-pub record ArePlacedSlacks (places : List ℕ) (slack : ℕ → ℤ) (n : ℕ) (placed : List Placed) : Type 0 where
-  pub one_each : length placed ≡ n
-  pub each : (a : ℕ) → a < n → placed_at placed a ≡ record { item = slice_index places a; amount = slack a }

@@ -3,9 +3,11 @@ ghost use Rattle.std.specs.Prelude.{◌≡◌, ℕ, ◌+◌, ◌<◌, ◌≤◌,
 ghost use Rattle.std.specs.Int.{w64};
 ghost use Rattle.pc_wbs.specs.Climb.{AreInRange, IsTree};
 ghost use Rattle.pc_rollup.specs.Lines.{sum_of};
-ghost use Rattle.pc_rollup.specs.Totals.{amount_at, IsRolledUp};
-ghost use Rattle.pc_figures.specs.Columns.{AreOnTree, AreItemSums, AreLevelSums, IsColumn, IsWhole};
-ghost use Rattle.pc_figures.specs.ColumnParts.{ArePlaced};
+ghost use Rattle.pc_rollup.specs.Totals.{amount_at};
+ghost use Rattle.pc_rollup.specs.inside.Totals.{IsRolledUp};
+ghost use Rattle.pc_figures.specs.Columns.{AreOnTree, AreItemSums, AreLevelSums, IsColumn};
+ghost use Rattle.pc_figures.specs.inside.Columns.{IsWhole};
+ghost use Rattle.pc_figures.specs.inside.ColumnParts.{ArePlaced};
 
 use pc_accounts::AcctRow;
 use pc_rollup::{LevelLine, Placed, level_lines, totals_of};

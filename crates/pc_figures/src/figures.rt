@@ -1,7 +1,8 @@
 //! The amounts that the summary tells of each account.
 ghost use Rattle.std.specs.Prelude.{◌≡◌, ◌<◌, ◌^◌, length, sum_by, unsigned_abs, IfOk};
 ghost use Rattle.pc_accounts.specs.Entries.{IsSmall, AreSmall};
-ghost use Rattle.pc_figures.specs.Figures.{figure_of, figure_at, AreAmounts};
+ghost use Rattle.pc_figures.specs.Figures.{figure_of, figure_at};
+ghost use Rattle.pc_figures.specs.inside.Figures.{AreAmounts};
 
 use pc_accounts::Entry;
 use std::alloc::{AllocError, Global};

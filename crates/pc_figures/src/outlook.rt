@@ -4,8 +4,9 @@ ghost use Rattle.pc_accounts.specs.Entries.{AreSmall};
 ghost use Rattle.pc_model.specs.Sums.{sum_to};
 ghost use Rattle.pc_figures.specs.Columns.{AreOnTree};
 ghost use Rattle.pc_figures.specs.Outline.{row_at};
-ghost use Rattle.pc_figures.specs.Outlook.{IsOutlookOf, HasWholeAtTop, StandOnLeaves, amounts_at};
-ghost use Rattle.pc_figures.specs.OutlookParts.{AreAdded, AreAddedTo, CanBeAdded};
+ghost use Rattle.pc_figures.specs.Outlook.{IsOutlookOf, amounts_at};
+ghost use Rattle.pc_figures.specs.inside.Outlook.{HasWholeAtTop, StandOnLeaves};
+ghost use Rattle.pc_figures.specs.inside.OutlookParts.{AreAdded, AreAddedTo, CanBeAdded};
 
 use crate::column::item_sums;
 use crate::figures::{Figure, figures};

@@ -6,7 +6,7 @@ ghost use Rattle.pc_model.specs.declared.limits.TheConstants.{MAX_COST};
 ghost use Rattle.pc_model.specs.Sums.{sum_to};
 ghost use Rattle.pc_figures.specs.declared.figures.Figure.TheVariants.{Budget};
 ghost use Rattle.pc_figures.specs.Figures.{figure_of};
-ghost use Rattle.pc_figures.specs.OutlookParts.{AreMarked, AreSpare, ArePlacedCosts};
+ghost use Rattle.pc_figures.specs.inside.OutlookParts.{AreMarked, AreSpare, ArePlacedCosts};
 
 use pc_accounts::{AcctRow, Entry};
 use pc_rollup::Placed;

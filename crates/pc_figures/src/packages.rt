@@ -4,8 +4,9 @@ ghost use Rattle.pc_accounts.specs.Amounts.{item_of};
 ghost use Rattle.pc_accounts.specs.Entries.{AreSmall, IsSmall, value_of};
 ghost use Rattle.pc_model.specs.declared.limits.TheConstants.{MAX_COST};
 ghost use Rattle.pc_rollup.specs.Totals.{amount_at};
-ghost use Rattle.pc_figures.specs.Figures.{AreAmounts};
-ghost use Rattle.pc_figures.specs.Packages.{IsFinished, AreProgress, AreValues, overrun_at};
+ghost use Rattle.pc_figures.specs.inside.Figures.{AreAmounts};
+ghost use Rattle.pc_figures.specs.Packages.{IsFinished, AreValues, overrun_at};
+ghost use Rattle.pc_figures.specs.inside.Packages.{AreProgress};
 
 use pc_accounts::{AcctRow, Entry};
 use pc_times::ActState;

@@ -3,7 +3,8 @@ ghost use Rattle.std.specs.Prelude.{◌≡◌, ℕ, ◌<◌, ◌≤◌, unsigned
 ghost use Rattle.std.specs.List.{All};
 ghost use Rattle.pc_model.specs.Network.{IsInRange};
 ghost use Rattle.pc_times.specs.declared.TheConstants.{MAX_TIME};
-ghost use Rattle.pc_figures.specs.Slacks.{ArePlacedSlacks, AreLeastSlacks, slack_at};
+ghost use Rattle.pc_figures.specs.Slacks.{AreLeastSlacks, slack_at};
+ghost use Rattle.pc_figures.specs.inside.Slacks.{ArePlacedSlacks};
 
 use pc_net::Net;
 use pc_rollup::{Placed, least_of};

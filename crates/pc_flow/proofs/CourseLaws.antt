@@ -11,10 +11,12 @@ use Rattle.pc_curve_laws.proofs.Stairs.StairStates.{stair-within_range, stair-fa
 use Rattle.pc_crash.specs.Priced.{knees_in}
 use Rattle.pc_crash.proofs.CostLaws.{cost_of-most}
 use Rattle.pc_board.specs.Sheets.{Sheet, time_of, rank_of, flow_of}
-use Rattle.pc_search.specs.Choosing.{moving}
-use Rattle.pc_search.specs.Labelling.{slope_at, slopes_in, IsStateWith, MayFall}
+use Rattle.pc_search.specs.inside.Choosing.{moving}
+use Rattle.pc_search.specs.Labelling.{slopes_in}
+use Rattle.pc_search.specs.inside.Labelling.{slope_at, IsStateWith, MayFall}
 use Rattle.pc_search.proofs.StateLaws.{IsKnown, slopes-small, value-bounded, flow-bounded}
-use Rattle.pc_flow.specs.Courses.{Course, upper_of, lower_of, moves_at, present, IsOnCurve, IsOnCourse, HasSmallNumbers}
+use Rattle.pc_flow.specs.Courses.{Course, upper_of, lower_of}
+use Rattle.pc_flow.specs.inside.Courses.{moves_at, present, IsOnCurve, IsOnCourse, HasSmallNumbers}
 
 -- where a segment has more than one length, the events without a label move
 pub moves-are : (s : Sheet) (fall : ℕ) → 0 < fall → moves_at s fall ≡ moving s

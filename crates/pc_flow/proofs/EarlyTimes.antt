@@ -4,7 +4,7 @@ use Rattle.std.proofs.Math.Nat.{mul-le-mul_right}
 use Rattle.std.proofs.lemmas.Bool.{cases_lt}
 use Rattle.pc_model.specs.declared.Term.{Term}
 use Rattle.pc_model.specs.declared.limits.TheConstants.{MAX_EVENTS, MAX_DURATION}
-use Rattle.pc_model.specs.Greatest.{IsListed}
+use Rattle.pc_model.specs.inside.Greatest.{IsListed}
 use Rattle.pc_model.specs.Walk.{from_of, to_of, IsWalk, walk_sum, IsSumOfWalk}
 use Rattle.pc_model.specs.Network.{Network, IsInRange, IsSound, IsOrder, IsEntered, IsEarly}
 use Rattle.pc_model.specs.Schedule.{AreTerms}
@@ -12,11 +12,11 @@ use Rattle.pc_model.proofs.Schedules.Durations.{normals-at, crashes-at, crash-no
 use Rattle.pc_model.proofs.Walks.WalkLaws.{IsWalk-push, walk_sum-push, last_of_walk, walk_sum-bound}
 use Rattle.pc_model.proofs.Walks.OrderLaws.{walk_is_short, stands_in_order}
 use Rattle.pc_board.specs.Sheets.{Sheet, kept_time}
-use Rattle.pc_board.specs.Moves.{SetsTime}
+use Rattle.pc_board.specs.inside.Moves.{SetsTime}
 use Rattle.pc_crash.specs.Terms.{AreWithinLimits}
 use Rattle.pc_flow.specs.declared.pace.Pace.{Pace}
 use Rattle.pc_flow.specs.declared.pace.Pace.TheVariants.{Crash, Normal}
-use Rattle.pc_flow.specs.Paces.{durations_at, HasSmallTimes, AreEarlyBefore}
+use Rattle.pc_flow.specs.inside.Paces.{durations_at, HasSmallTimes, AreEarlyBefore}
 
 module _ (net : Network) (lengths : List ℕ) (times : ℕ → ℕ) where
   -- what activity a brings to the event where it ends

@@ -4,8 +4,8 @@ use Rattle.pc_model.specs.declared.Knee.{Knee}
 use Rattle.pc_model.specs.Schedule.{crash_of}
 use Rattle.pc_curve_laws.specs.Stair.{Stair, IsSameStair, stair_of, knee_flow, crash_flow}
 use Rattle.pc_curve_laws.proofs.Stairs.SameStair.{same-knee_flow, same-crash_flow}
-use Rattle.pc_stair.specs.Rows.{stair}
-use Rattle.pc_crash.specs.KneeLists.{AreKneesOf}
+use Rattle.pc_stair.specs.inside.Rows.{stair}
+use Rattle.pc_crash.specs.inside.KneeLists.{AreKneesOf}
 use Rattle.pc_crash.specs.Priced.{PricedNetwork, knees_in}
 
 module _ (net : PricedNetwork) (a : ℕ) (list : List Knee) (are : AreKneesOf (knees_in net) a list) where

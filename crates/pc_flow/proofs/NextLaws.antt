@@ -10,11 +10,13 @@ use Rattle.pc_model.proofs.Costs.NormalCost.{cost_of-same}
 use Rattle.pc_curve_laws.specs.Segment.{fall_of}
 use Rattle.pc_crash.specs.Priced.{PricedNetwork, knees_in}
 use Rattle.pc_board.specs.Sheets.{Sheet, time_of, rank_of, flow_of}
-use Rattle.pc_search.specs.Growing.{AreListed}
-use Rattle.pc_search.specs.Choosing.{moving}
-use Rattle.pc_search.specs.Labelling.{length_at, slope_at, IsBetween, HasFallen}
-use Rattle.pc_flow.specs.Courses.{Course, upper_of, lower_of, IsLevel, IsOnCourse, HasEnded, IsSameCurve, IsNext, IsFurther, most_looks}
-use Rattle.pc_flow.specs.Descents.{HasDescended, HasSearched}
+use Rattle.pc_search.specs.inside.Growing.{AreListed}
+use Rattle.pc_search.specs.inside.Choosing.{moving}
+use Rattle.pc_search.specs.Labelling.{length_at}
+use Rattle.pc_search.specs.inside.Labelling.{slope_at, IsBetween, HasFallen}
+use Rattle.pc_flow.specs.Courses.{Course, upper_of, lower_of, IsLevel, IsSameCurve, IsFurther, most_looks}
+use Rattle.pc_flow.specs.inside.Courses.{IsOnCourse, HasEnded, IsNext}
+use Rattle.pc_flow.specs.inside.Descents.{HasDescended, HasSearched}
 use Rattle.pc_flow.proofs.CourseLaws.{fall-within, lower-above, fall-some, whole, fallen_times, cost-fallen, cost-still, slope-small, small}
 
 -- where the test for the end says no, it is not there

@@ -21,17 +21,20 @@ use Rattle.pc_curve_laws.proofs.Flows.Bounds.{last_slope-small}
 use Rattle.pc_curve_laws.proofs.States.Opening.{normal_lesser}
 use Rattle.pc_crash.specs.Priced.{PricedNetwork, knees_in, ArePiecesWithinLimits}
 use Rattle.pc_crash.specs.Terms.{AreWithinLimits}
-use Rattle.pc_board.specs.Sheets.{Sheet, kept_time, time_of, rank_of, queue_of, flow_of, slot_of, clear_sheet}
-use Rattle.pc_board.specs.Labelling.{HasStep, HaveRoom, AreTimes, IsRanked}
-use Rattle.pc_board.specs.Moves.{StartsAt}
+use Rattle.pc_board.specs.Sheets.{Sheet, kept_time, time_of, rank_of, flow_of}
+use Rattle.pc_board.specs.inside.Sheets.{queue_of, slot_of, clear_sheet}
+use Rattle.pc_board.specs.inside.Labelling.{HasStep, HaveRoom, AreTimes, IsRanked}
+use Rattle.pc_board.specs.inside.Moves.{StartsAt}
 use Rattle.pc_board.proofs.AfterPruning.{time-labelled, time-unlabelled}
-use Rattle.pc_search.specs.Searches.{IsSearch, IsOnStairs, IsWaiting}
-use Rattle.pc_search.specs.Growing.{IsScanned, IsMet, AreListed}
-use Rattle.pc_search.specs.Labelling.{length_at, slope_at, IsStateWith, IsBetween}
+use Rattle.pc_search.specs.inside.Searches.{IsSearch, IsOnStairs, IsWaiting}
+use Rattle.pc_search.specs.inside.Growing.{IsScanned, IsMet, AreListed}
+use Rattle.pc_search.specs.Labelling.{length_at}
+use Rattle.pc_search.specs.inside.Labelling.{slope_at, IsStateWith, IsBetween}
 use Rattle.pc_search.proofs.StateLaws.{state-own}
 use Rattle.pc_flow.specs.declared.early.TheConstants.{MAX_LENGTH}
-use Rattle.pc_flow.specs.Courses.{Course, IsLevel, IsOnCourse}
-use Rattle.pc_flow.specs.Openings.{IsOpened}
+use Rattle.pc_flow.specs.Courses.{Course, IsLevel}
+use Rattle.pc_flow.specs.inside.Courses.{IsOnCourse}
+use Rattle.pc_flow.specs.inside.Openings.{IsOpened}
 
 -- a sound network has events and activities
 pub some-events : (net : Network) → IsInRange net → 0 < net.events

@@ -1,18 +1,8 @@
 -- A solver on its way down the curve.
-use Rattle.std.specs.Prelude.{◌≡◌, ℕ, ◌+◌, ◌-◌, ◌*◌, ◌^◌, ◌<◌, ◌≤◌, ◌==◌, ◌&&◌, Bool, true, false, nat_lt, List, length}
-use Rattle.pc_model.specs.Schedule.{normal_of, lesser_of, IsAllNormalLength, IsAllCrashLength}
-use Rattle.pc_model.specs.Network.{IsOrder}
-use Rattle.pc_model.specs.Cost.{IsPriced, cost_of}
-use Rattle.pc_model.specs.Pieces.{ArePieces}
-use Rattle.pc_curve_laws.specs.Segment.{Segment, IsSegment}
-use Rattle.pc_curve_laws.specs.State.{segment_of}
-use Rattle.pc_curve_laws.specs.Steps.{filled_state}
-use Rattle.pc_crash.specs.Priced.{PricedNetwork, knees_in, ArePiecesWithinLimits}
-use Rattle.pc_crash.specs.Terms.{AreWithinLimits}
-use Rattle.pc_board.specs.Sheets.{Sheet, time_of, rank_of, flow_of}
-use Rattle.pc_search.specs.Growing.{AreListed}
-use Rattle.pc_search.specs.Labelling.{length_at, slope_at, slopes_in, IsBetween, MayFall}
-use Rattle.pc_flow.specs.declared.early.TheConstants.{MAX_LENGTH}
+use Rattle.std.specs.Prelude.{◌≡◌, ℕ, ◌+◌, ◌-◌, ◌*◌, ◌≤◌, Bool, length}
+use Rattle.pc_crash.specs.Priced.{PricedNetwork}
+use Rattle.pc_board.specs.Sheets.{Sheet, flow_of}
+use Rattle.pc_search.specs.Labelling.{length_at, slopes_in}
 
 -- a network and a board, the all-normal and the all-crash length, and of the present segment its cost and slope, how far
 -- its lower end lies below the upper one, and whether there is one
@@ -34,21 +24,6 @@ upper_of c = length_at c.net c.board
 abbrev pub lower_of : Course → ℕ
 lower_of c = upper_of c - c.fall
 
--- the events that move are those without a label, where the segment has more than one length
-abbrev pub moves_at : Sheet → ℕ → ℕ → Bool
-moves_at s fall e = nat_lt 0 fall && (rank_of s e == 0)
-
--- the present segment, with the whole flows filled in at the knees
-abbrev pub present : Course → Segment
-present c =
-    segment_of c.net.network c.net.terms (knees_in c.net)
-    (filled_state c.net.terms (knees_in c.net) (upper_of c) (time_of c.board) (flow_of c.board) (slope_at c.net c.board))
-    (moves_at c.board c.fall) c.fall
-
--- the present segment is whole
-abbrev pub IsOnCurve : Course → Type 0
-IsOnCurve c = IsSegment c.net.network c.net.terms (knees_in c.net) (present c)
-
 -- nothing flows, and nothing has fallen from the all-normal length
 pub record IsLevel (c : Course) : Type 0 where
   pub upper : upper_of c ≡ c.longest
@@ -56,51 +31,7 @@ pub record IsLevel (c : Course) : Type 0 where
   pub fall : c.fall ≡ 0
   pub empty : (a : ℕ) → flow_of c.board a ≡ 0
 
--- each activity has the time that its normal duration takes
-abbrev pub AreAllNormal : Course → Type 0
-AreAllNormal c = (a : ℕ) → a < length c.net.network.arcs → lesser_of c.net.network c.net.terms (time_of c.board) a ≡ normal_of c.net.terms a
-
--- What holds of every solver
-
--- its network is priced within the limits, and its events have an order; it is between two labellings, with the two lengths, the cost and the slope as they are said; before the first segment nothing
--- flows; with a segment, either the length is above the all-crash length, and some activity stops at the lower end, or
--- the curve has one length alone
-pub record IsOnCourse (c : Course) : Type 0 where
-  pub priced : IsPriced c.net.network c.net.terms (knees_in c.net)
-  pub limits : AreWithinLimits c.net.terms
-  pub pieces : ArePieces c.net.terms c.net.pieces
-  pub piece_limits : ArePiecesWithinLimits c.net.pieces
-  pub ordered : (order : List ℕ) × IsOrder c.net.network order
-  pub between : IsBetween c.net c.board
-  pub listed : AreListed c.net c.board
-  pub longest : IsAllNormalLength c.net.network c.net.terms c.longest
-  pub shortest : IsAllCrashLength c.net.network c.net.terms c.shortest
-  pub small : c.longest ≤ MAX_LENGTH
-  pub within : upper_of c ≤ c.longest
-  pub cost : c.cost ≡ cost_of c.net.terms (knees_in c.net) (lesser_of c.net.network c.net.terms (time_of c.board))
-  pub slope : c.slope ≡ slope_at c.net c.board
-  pub untouched : c.given ≡ false → IsLevel c
-  pub normal : c.given ≡ false → AreAllNormal c
-  pub falls : c.given ≡ true → c.shortest < upper_of c → MayFall c.net c.board c.fall
-  pub level : c.given ≡ true → upper_of c ≤ c.shortest → IsLevel c
-
 -- What a next segment is
-
--- a segment was given, and the curve ends with it
-pub record HasEnded (c : Course) : Type 0 where
-  pub given : c.given ≡ true
-  pub lowest : lower_of c ≡ c.shortest
-
--- all numbers of a segment are below 10 ^ 18
-pub record HasSmallNumbers (net : PricedNetwork) (seg : Segment) : Type 0 where
-  pub upper : seg.upper < 10 ^ 18
-  pub lower : seg.lower < 10 ^ 18
-  pub cost : seg.cost < 10 ^ 18
-  pub slope : seg.slope < 10 ^ 18
-  pub time : (e : ℕ) → e < net.network.events → seg.time e < 10 ^ 18
-  pub duration : (a : ℕ) → a < length net.network.arcs → seg.duration a < 10 ^ 18
-  pub flow : (a k : ℕ) → a < length net.network.arcs → k < (knees_in net).count a → seg.flow a k < 10 ^ 18
-  pub beside : (a : ℕ) → a < length net.network.arcs → seg.beside a < 10 ^ 18
 
 -- the curve is the same, and the region as it was before is
 pub record IsSameCurve (c d : Course) : Type 0 where
@@ -122,15 +53,3 @@ most_looks c d = 4 * length c.net.network.arcs * ((d.slope - c.slope) + (lower_o
 -- how many the whole curve may take at most: the slope rises to no more than the sum of the last slopes
 abbrev pub all_looks : Course → ℕ
 all_looks c = 4 * length c.net.network.arcs * (slopes_in c.net + (c.longest - c.shortest))
-
--- solver d has the segment that comes after that of solver c
-pub record IsNext (c d : Course) : Type 0 where
-  pub given : d.given ≡ true
-  pub whole : IsOnCurve d
-  pub first : c.given ≡ false → upper_of d ≡ c.longest
-  pub normal : c.given ≡ false → (a : ℕ) → a < length c.net.network.arcs → (present d).duration a ≡ normal_of c.net.terms a
-  pub joined : c.given ≡ true → upper_of d ≡ lower_of c
-  pub steeper : c.slope ≤ d.slope
-  pub long : c.shortest < upper_of d → lower_of d < upper_of d
-  pub within : c.shortest ≤ lower_of d
-  pub small : HasSmallNumbers d.net (present d)

@@ -1,5 +1,2 @@
-pub mod Paces
 pub mod Courses
-pub mod Solvers
-pub mod Openings
-pub mod Descents
+pub mod inside

@@ -2,8 +2,8 @@
 ghost use Rattle.std.specs.Prelude.{◌≡◌, ◌<◌, ◌≤◌, ℕ, length};
 ghost use Rattle.pc_model.specs.Network.{IsEarly};
 ghost use Rattle.pc_board.specs.Sheets.{Sheet, kept_time};
-ghost use Rattle.pc_board.specs.Labelling.{IsFor};
-ghost use Rattle.pc_flow.specs.Paces.{durations_at, HasSmallTimes, AreEarlyBefore};
+ghost use Rattle.pc_board.specs.inside.Labelling.{IsFor};
+ghost use Rattle.pc_flow.specs.inside.Paces.{durations_at, HasSmallTimes, AreEarlyBefore};
 
 use crate::pace::Pace;
 use pc_board::Board;

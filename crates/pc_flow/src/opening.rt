@@ -1,9 +1,9 @@
 //! A board before the first segment.
 ghost use Rattle.std.specs.Prelude.{◌≡◌, ◌+◌, ◌*◌, ◌≤◌, length};
 ghost use Rattle.pc_model.specs.Schedule.{IsAllCrashLength};
-ghost use Rattle.pc_cells.specs.Spans.{free_of};
+ghost use Rattle.pc_cells.specs.inside.Spans.{free_of};
 ghost use Rattle.pc_board.specs.Sheets.{kept_time};
-ghost use Rattle.pc_flow.specs.Openings.{IsOpened};
+ghost use Rattle.pc_flow.specs.inside.Openings.{IsOpened};
 
 use crate::early::keep_early_times;
 use crate::pace::Pace;

@@ -1,6 +1,6 @@
 //! Which of their durations the activities have.
 ghost use Rattle.std.specs.Prelude.{◌≡◌, ◌<◌, length, slice_index};
-ghost use Rattle.pc_flow.specs.Paces.{durations_at};
+ghost use Rattle.pc_flow.specs.inside.Paces.{durations_at};
 
 use pc_crash::CrashNet;
 

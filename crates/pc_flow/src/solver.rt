@@ -4,9 +4,10 @@ ghost use Rattle.pc_model.specs.declared.limits.TheConstants.{MAX_EVENTS, MAX_AC
 ghost use Rattle.pc_model.specs.Sums.{sum_to};
 ghost use Rattle.pc_model.specs.Schedule.{base_cost_of, IsAllNormalLength, IsAllCrashLength};
 ghost use Rattle.pc_flow.specs.declared.early.TheConstants.{MAX_LENGTH};
-ghost use Rattle.pc_cells.specs.Spans.{free_of};
+ghost use Rattle.pc_cells.specs.inside.Spans.{free_of};
 ghost use Rattle.pc_search.specs.Labelling.{slopes_in};
-ghost use Rattle.pc_flow.specs.Courses.{IsLevel, IsOnCurve, lower_of};
+ghost use Rattle.pc_flow.specs.Courses.{IsLevel, lower_of};
+ghost use Rattle.pc_flow.specs.inside.Courses.{IsOnCurve};
 
 use crate::early::MAX_LENGTH;
 use crate::opening::open_board;
@@ -37,7 +38,7 @@ impl<'n> Model for Solver<'n> {
 
     ghost Value = { Course };
 
-    ghost use Rattle.pc_flow.specs.Solvers.{course_of, IsOnCourseInside};
+    ghost use Rattle.pc_flow.specs.inside.Solvers.{course_of, IsOnCourseInside};
 
     ghost view = { course_of };
 

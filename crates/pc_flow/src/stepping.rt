@@ -1,10 +1,12 @@
 //! One segment after another.
 ghost use Rattle.std.specs.Prelude.{◌≡◌, ◌+◌, ◌*◌, ◌<◌, ◌↔◌, ◌≤◌, length, IsTrue, IsFalse};
 ghost use Rattle.pc_model.specs.Schedule.{IsAllCrashLength};
-ghost use Rattle.pc_search.specs.Growing.{AreListed};
-ghost use Rattle.pc_search.specs.Labelling.{IsBetween, MayFall, slopes_in};
-ghost use Rattle.pc_flow.specs.Courses.{IsSameCurve, IsNext, IsFurther, HasEnded, most_looks};
-ghost use Rattle.pc_flow.specs.Descents.{HasDescended, HasSearched};
+ghost use Rattle.pc_search.specs.inside.Growing.{AreListed};
+ghost use Rattle.pc_search.specs.Labelling.{slopes_in};
+ghost use Rattle.pc_search.specs.inside.Labelling.{IsBetween, MayFall};
+ghost use Rattle.pc_flow.specs.Courses.{IsSameCurve, IsFurther, most_looks};
+ghost use Rattle.pc_flow.specs.inside.Courses.{IsNext, HasEnded};
+ghost use Rattle.pc_flow.specs.inside.Descents.{HasDescended, HasSearched};
 
 use crate::solver::Solver;
 use pc_crash::{SegmentView, Steps};

@@ -1,6 +1,6 @@
 //! The present segment of a solver.
 ghost use Rattle.std.specs.Prelude.{◌≡◌, true};
-ghost use Rattle.pc_flow.specs.Courses.{present};
+ghost use Rattle.pc_flow.specs.inside.Courses.{present};
 
 use crate::solver::Solver;
 use pc_crash::SegmentView;

@@ -2,7 +2,8 @@
 use Rattle.std.proofs.Common.{◌≡◌, ◌≢◌, ℕ, ◌+◌, ◌<◌, Bool, true, false, List, [], ◌∷◌, ◌++◌, length, take, drop, refl, sym, ap, ◌∙◌, arith, append_assoc, append-nil, add-one}
 use Rattle.std.proofs.lemmas.Bool.{eqb-true, eqb-false, ne_eqb}
 use Rattle.std.specs.Prelude.{◌==◌}
-use Rattle.pc_lines.specs.Lines.{line_len, lines_behind, whole_lines, open_behind, last_line, lines_of, text_of, IsOpen, AreOpen}
+use Rattle.pc_lines.specs.Lines.{lines_behind, whole_lines, open_behind, last_line, lines_of}
+use Rattle.pc_lines.specs.inside.Lines.{line_len, text_of, IsOpen, AreOpen}
 
 -- ---- where lines end
 

@@ -2,7 +2,7 @@
 use Rattle.std.proofs.Common.{◌≡◌, ◌≢◌, ℕ, ◌<◌, zero, suc, List, [], ◌∷◌, length, get_or, Some, None, refl, ap, arith}
 use Rattle.std.proofs.lemmas.Bool.{eqb-true, eq-eqb, ne_eqb}
 use Rattle.memchr.specs.Find.{IsFirstByte, is_byte}
-use Rattle.pc_lines.specs.Lines.{line_len}
+use Rattle.pc_lines.specs.inside.Lines.{line_len}
 
 -- an end of a line before which there is none
 first : (k : ℕ) (bytes : List ℕ) → k < length bytes → get_or bytes k 0 ≡ 10 → ((i : ℕ) → i < k → get_or bytes i 0 ≢ 10) → k ≡ line_len bytes

@@ -5,8 +5,9 @@ use Rattle.std.proofs.Math.Seq.{take-append-add}
 use Rattle.std.proofs.KnownBytes.{Consumes-nil, Consumes-trans, Consumes-kept}
 use Rattle.std.specs.Io.KnownBytes.{Consumes, Keeps, IsAtEnd}
 use Rattle.pc_lines.specs.declared.reader.TheConstants.{INPUT_LIMIT, LINE_ROOM}
-use Rattle.pc_lines.specs.Lines.{line_len, text_of, last_line, lines_of, whole_lines, IsOpen, AreOpen}
-use Rattle.pc_lines.specs.Reading.{Reading, kept, StandsFor, bytes_left, TookAll, TookLine, IsFilled, Gave, GaveLast, GaveAll, FailedBehind, PassedLimit}
+use Rattle.pc_lines.specs.Lines.{last_line, lines_of, whole_lines}
+use Rattle.pc_lines.specs.inside.Lines.{line_len, text_of, IsOpen, AreOpen}
+use Rattle.pc_lines.specs.inside.Reading.{Reading, kept, StandsFor, bytes_left, TookAll, TookLine, IsFilled, Gave, GaveLast, GaveAll, FailedBehind, PassedLimit}
 use Rattle.pc_lines.proofs.HoldLemmas.{take-of_cut}
 use Rattle.pc_lines.proofs.LineLaws.{line_len-splits, line_len-open, IsOpen-append, text_of-more, AreOpen-more, whole_lines-are, lines_of-are, last_line-some}
 

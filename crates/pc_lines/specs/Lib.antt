@@ -1,4 +1,3 @@
 pub mod Lines
-pub mod Reading
-pub mod Inside
+pub mod inside
 pub use Rattle.pc_edges.specs.Faults

@@ -1,6 +1,6 @@
 //! The end of a line.
 ghost use Rattle.std.specs.Prelude.{◌≡◌, ◌≤◌, length};
-ghost use Rattle.pc_lines.specs.Lines.{line_len};
+ghost use Rattle.pc_lines.specs.inside.Lines.{line_len};
 
 use memchr::memchr;
 

@@ -1,7 +1,7 @@
 //! The reader of lines.
 ghost use Rattle.std.specs.Prelude.{◌≡◌, ℕ, ◌+◌, ◌<◌, ◌≤◌, ◌-◌, List, [], ◌++◌, length, take, drop, Ok, IfOk, OnOk, OnErr, IsErrOf, Contains};
 ghost use Rattle.pc_edges.specs.Faults.{Rose};
-ghost use Rattle.pc_lines.specs.Reading.{Reading, StandsFor, Stepped, TakesLine, Filled, bytes_left};
+ghost use Rattle.pc_lines.specs.inside.Reading.{Reading, StandsFor, Stepped, TakesLine, Filled, bytes_left};
 
 use crate::line_end::line_len;
 use pc_edges::{Failed, STREAM_ROOM, Source};
@@ -52,11 +52,11 @@ pub struct LineReader {
 }
 
 impl Model for LineReader {
-    ghost use Rattle.pc_lines.specs.Reading.{Reading};
+    ghost use Rattle.pc_lines.specs.inside.Reading.{Reading};
 
     ghost Value = { Reading };
 
-    ghost use Rattle.pc_lines.specs.Inside.{reading_of, IsWithinRoom};
+    ghost use Rattle.pc_lines.specs.inside.Inside.{reading_of, IsWithinRoom};
 
     ghost view = { reading_of };
 

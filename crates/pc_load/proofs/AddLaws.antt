@@ -8,7 +8,7 @@ use Rattle.std.proofs.Math.Nat.{lt-mul-div-succ, mul-div-le, mul-le-mul_left}
 use Rattle.pc_rollup.specs.Totals.{amount_at}
 use Rattle.pc_load.specs.declared.spread.Spread.{Spread}
 use Rattle.pc_load.specs.declared.table.LoadRow.{LoadRow}
-use Rattle.pc_load.specs.Adding.{CanTake, IsAdded, IsGrown}
+use Rattle.pc_load.specs.inside.Adding.{CanTake, IsAdded, IsGrown}
 use Rattle.pc_load.specs.Share.{share, part}
 use Rattle.pc_load.specs.Table.{column_of}
 use Rattle.pc_load.proofs.ColumnLaws.{read_cell, column-set_same, column-set_other}

@@ -8,10 +8,10 @@ use Rattle.pc_model.specs.Walk.{from_of}
 use Rattle.pc_project.specs.Planned.{IsLoad, IsPlanned}
 use Rattle.pc_project.specs.Project.{Project}
 use Rattle.pc_load.specs.declared.table.LoadRow.{LoadRow}
-use Rattle.pc_load.specs.Entries.{AreCosts, AreLoads, AreTimes}
+use Rattle.pc_load.specs.inside.Entries.{AreCosts, AreLoads, AreTimes}
 use Rattle.pc_load.specs.Loading.{cost_at, load_at, spread_at}
-use Rattle.pc_load.specs.Share.{IsSpread}
-use Rattle.pc_load.specs.Table.{AreEntries, IsOver}
+use Rattle.pc_load.specs.inside.Share.{IsSpread}
+use Rattle.pc_load.specs.inside.Table.{AreEntries, IsOver}
 use Rattle.pc_load.proofs.EndLaws.{ends_within}
 
 -- an entry more

@@ -7,11 +7,14 @@ use Rattle.std.proofs.Math.Seq.{drop_at, take_all}
 use Rattle.std.proofs.Math.Nat.{suc-mul, zero-mul}
 use Rattle.pc_wbs.specs.declared.row.ItemRow.{ItemRow}
 use Rattle.pc_wbs.specs.Climb.{AreInRange, IsBelow, IsLeaf, IsTree}
-use Rattle.pc_rollup.specs.Totals.{amount_at, AreRolledUp}
+use Rattle.pc_rollup.specs.Totals.{amount_at}
+use Rattle.pc_rollup.specs.inside.Totals.{AreRolledUp}
 use Rattle.pc_rollup.proofs.SumLaws.{IsSumOver-natural}
 use Rattle.pc_rollup.proofs.WholeLaws.{lines_have_all}
-use Rattle.pc_load.specs.Items.{IsItemTable, LevelsAddUp}
-use Rattle.pc_load.specs.Table.{IsTable, Table, column, column_of}
+use Rattle.pc_load.specs.Items.{LevelsAddUp}
+use Rattle.pc_load.specs.inside.Items.{IsItemTable}
+use Rattle.pc_load.specs.Table.{Table, column, column_of}
+use Rattle.pc_load.specs.inside.Table.{IsTable}
 use Rattle.pc_load.proofs.ColumnLaws.{before_next}
 
 -- the first n periods are rolled up

@@ -4,15 +4,16 @@ use Rattle.std.specs.Prelude.{pos}
 use Rattle.pc_project.specs.Planned.{IsPlanned}
 use Rattle.pc_project.specs.Project.{Project}
 use Rattle.pc_rollup.specs.Sums.{IsSumOver}
-use Rattle.pc_rollup.specs.Totals.{AreAtLeaves}
+use Rattle.pc_rollup.specs.inside.Totals.{AreAtLeaves}
 use Rattle.pc_rollup.proofs.SumLaws.{IsSumOver-amounts, IsSumOver-nested, IsSumOver-none, IsSumOver-only, IsSumOver-same}
 use Rattle.pc_wbs.specs.Climb.{IsBelow, IsLeaf}
 use Rattle.pc_load.specs.declared.spread.Spread.{Spread}
 use Rattle.pc_load.specs.declared.table.LoadRow.{LoadRow}
-use Rattle.pc_load.specs.Entries.{AreCosts, AreLoads, AreTimes}
-use Rattle.pc_load.specs.Items.{IsItemTable}
+use Rattle.pc_load.specs.inside.Entries.{AreCosts, AreLoads, AreTimes}
+use Rattle.pc_load.specs.inside.Items.{IsItemTable}
 use Rattle.pc_load.specs.Loading.{AreItemParts, AreResourceParts, ItemsAddUp, ResourcesAddUp, cost_at, cost_part, load_at, load_part, part_at, spread_at}
-use Rattle.pc_load.specs.Table.{IsTableOf, Table, amount_in, column, part_in, row_of, spread_of, sum_before}
+use Rattle.pc_load.specs.Table.{Table, amount_in, column, sum_before}
+use Rattle.pc_load.specs.inside.Table.{IsTableOf, part_in, row_of, spread_of}
 use Rattle.pc_load.proofs.EntryLaws.{load_known, spread_over}
 use Rattle.pc_load.proofs.SeriesLaws.{adds_up}
 

@@ -7,7 +7,8 @@ use Rattle.pc_rollup.specs.Sums.{IsSumOver}
 use Rattle.pc_rollup.proofs.SumLaws.{IsSumOver-amounts, IsSumOver-nothing, IsSumOver-plus}
 use Rattle.pc_load.specs.declared.spread.Spread.{Spread}
 use Rattle.pc_load.specs.Share.{share, part}
-use Rattle.pc_load.specs.Table.{IsOver, sum_before}
+use Rattle.pc_load.specs.Table.{sum_before}
+use Rattle.pc_load.specs.inside.Table.{IsOver}
 use Rattle.pc_load.proofs.ShareLaws.{share_all, share_none, part_more}
 
 -- what grows by f in each period is summed by the sums of f

@@ -10,14 +10,16 @@ use Rattle.std.proofs.Math.Nat.{mul-le-mul_right}
 use Rattle.pc_model.specs.declared.limits.TheConstants.{MAX_COST, MAX_ITEMS, MAX_LOADS}
 use Rattle.pc_rollup.specs.declared.totals.Placed.{Placed}
 use Rattle.pc_rollup.specs.Sums.{IsSumOver}
-use Rattle.pc_rollup.specs.Totals.{amount_at, amount_of, place_of, placed_at}
+use Rattle.pc_rollup.specs.Totals.{amount_at}
+use Rattle.pc_rollup.specs.inside.Totals.{amount_of, place_of, placed_at}
 use Rattle.pc_rollup.proofs.PlacedLaws.{AreSummed, AreSummed-more, magnitude_of}
 use Rattle.pc_rollup.proofs.SumLaws.{IsSumOver-amounts, IsSumOver-natural, IsSumOver-same}
 use Rattle.pc_load.specs.declared.table.LoadRow.{LoadRow}
 use Rattle.pc_load.specs.declared.table.TheConstants.{MAX_PERIODS}
-use Rattle.pc_load.specs.Adding.{CanTake, IsAdded}
+use Rattle.pc_load.specs.inside.Adding.{CanTake, IsAdded}
 use Rattle.pc_load.specs.Share.{part}
-use Rattle.pc_load.specs.Table.{AreEntries, IsTable, IsTableOf, RowsAddUp, column_of, entry_at, part_in, row_of, spread_of}
+use Rattle.pc_load.specs.Table.{column_of}
+use Rattle.pc_load.specs.inside.Table.{AreEntries, IsTable, IsTableOf, RowsAddUp, entry_at, part_in, row_of, spread_of}
 use Rattle.pc_load.proofs.ColumnLaws.{before_next}
 use Rattle.pc_load.proofs.SeriesLaws.{adds_up}
 use Rattle.pc_load.proofs.ShareLaws.{part_most}

@@ -1,17 +1,10 @@
 -- The table of items: what their leaves add up to in each period.
-use Rattle.std.specs.Prelude.{◌≡◌, ℕ, ◌<◌, ◌≤◌, List, length}
+use Rattle.std.specs.Prelude.{ℕ, ◌<◌, ◌≤◌, List, length}
 use Rattle.pc_wbs.specs.declared.row.ItemRow.{ItemRow}
 use Rattle.pc_wbs.specs.Climb.{IsTop}
 use Rattle.pc_rollup.specs.Lines.{HasLine}
 use Rattle.pc_rollup.specs.Sums.{IsSumOver}
-use Rattle.pc_rollup.specs.Totals.{AreRolledUp}
-use Rattle.pc_load.specs.Table.{Table, column, amount_in}
-
--- in each period each item has the sum of the amounts of the leaves that are it or lie below it
-pub record IsItemTable (tree : List ItemRow) (leaves items : Table) : Type 0 where
-  pub rows : items.rows ≡ length tree
-  pub periods : items.periods ≡ leaves.periods
-  pub each : (k : ℕ) → k < leaves.periods → AreRolledUp tree (column leaves k) (column items k)
+use Rattle.pc_load.specs.Table.{Table, amount_in}
 
 -- in each period the lines of a level, which are the items at it and the leaves above it, add up to what the top has
 abbrev pub LevelsAddUp : List ItemRow → Table → Type 0

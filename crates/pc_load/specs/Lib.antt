@@ -1,9 +1,6 @@
 pub mod Share
 pub mod Table
-pub mod TableInside
-pub mod Adding
 pub mod Items
 pub mod Loading
-pub mod LoadingInside
-pub mod Entries
 pub mod LoadText
+pub mod inside

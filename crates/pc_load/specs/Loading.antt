@@ -1,6 +1,5 @@
 -- What a project spends in each period by item, and what it takes of each resource.
-use Rattle.std.specs.Prelude.{◌≡◌, ℕ, ◌+◌, ◌*◌, ◌/◌, ◌<◌, ◌≤◌, pos, ⊤, List, length, slice_index, slice_index_or}
-use Rattle.pc_model.specs.declared.limits.TheConstants.{MAX_RESOURCES}
+use Rattle.std.specs.Prelude.{◌≡◌, ℕ, ◌+◌, ◌*◌, ◌/◌, ◌<◌, ◌≤◌, pos, List, length, slice_index, slice_index_or}
 use Rattle.pc_model.specs.Network.{IsEarly}
 use Rattle.pc_model.specs.Schedule.{base_cost_of}
 use Rattle.pc_model.specs.Walk.{from_of}
@@ -12,9 +11,6 @@ use Rattle.pc_wbs.specs.Climb.{IsBelow}
 use Rattle.pc_wbs.specs.Preorder.{IsPreorder}
 use Rattle.pc_load.specs.declared.spread.Spread.{Spread}
 use Rattle.pc_load.specs.declared.table.TheConstants.{MAX_PERIODS}
-use Rattle.pc_load.specs.declared.loading.NoLoad.{NoLoad}
-use Rattle.pc_load.specs.declared.loading.TheConstants.{MAX_DAYS}
-use Rattle.pc_load.specs.declared.loading.NoLoad.TheVariants.{TooMany, OutOfMemory}
 use Rattle.pc_load.specs.Items.{LevelsAddUp}
 use Rattle.pc_load.specs.Share.{part}
 use Rattle.pc_load.specs.Table.{Table, amount_in, total_of}
@@ -71,11 +67,6 @@ pub record IsTooMany (project : Project) (days periods : ℕ) : Type 0 where
   pub are : ArePeriods project days periods
   pub more : MAX_PERIODS < periods
 
--- why there is no report of loads: the project has too many periods; want of memory comes at any time
-abbrev pub HasNoLoad : Project → ℕ → NoLoad → Type 0
-HasNoLoad project days (TooMany have) = IsTooMany project days have
-HasNoLoad project days OutOfMemory = ⊤
-
 -- ---- the two tables
 
 -- in each period each item has the sum of the parts of the costs of the activities on it and below it
@@ -111,16 +102,6 @@ pub record Loading : Type 0 where
   pub order : List ℕ
   pub items : Table
   pub resources : Table
-
--- the tables have the project's items and resources, and equal periods; and nothing is more than it may be
-pub record IsReadyFor (project : Project) (loading : Loading) : Type 0 where
-  pub days : loading.days ≤ MAX_DAYS
-  pub order : (i : ℕ) → i < length loading.order → slice_index loading.order i < length project.tree
-  pub items : loading.items.rows ≡ length project.tree
-  pub resources : loading.resources.rows ≡ length project.resources
-  pub periods : loading.resources.periods ≡ loading.items.periods
-  pub few_periods : loading.items.periods ≤ MAX_PERIODS
-  pub few_resources : loading.resources.rows ≤ MAX_RESOURCES
 
 -- the tables are the project's, items in preorder, for periods of so many days, no more than a report may have; and they add up
 pub record IsLoading (project : Project) (days : ℕ) (loading : Loading) : Type 0 where

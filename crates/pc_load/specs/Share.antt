@@ -1,15 +1,6 @@
 -- The share of a spread amount that has come by a time, and its part between two times.
-use Rattle.std.specs.Prelude.{ℕ, ◌+◌, ◌-◌, ◌*◌, ◌/◌, ◌<◌, ◌≤◌, ◌^◌, nat_le, if◌then◌else◌}
-use Rattle.pc_model.specs.declared.limits.TheConstants.{MAX_COST}
-use Rattle.pc_times.specs.declared.TheConstants.{MAX_LENGTH}
+use Rattle.std.specs.Prelude.{ℕ, ◌+◌, ◌-◌, ◌*◌, ◌/◌, nat_le, if◌then◌else◌}
 use Rattle.pc_load.specs.declared.spread.Spread.{Spread}
-
--- the spread is one of a project: it begins at a time of one, lasts no longer than an activity may, and its amount is one of
--- a card
-pub record IsSpread (s : Spread) : Type 0 where
-  pub begin : s.begin < 2 ^ 40
-  pub length : s.length ≤ MAX_LENGTH
-  pub amount : s.amount ≤ MAX_COST
 
 -- the share by a time: nothing up to the beginning; behind it the whole from the end on; and before the end as much of the
 -- amount as the time since the beginning is of the length, rounded down

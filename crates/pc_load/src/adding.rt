@@ -2,8 +2,8 @@
 ghost use Rattle.std.specs.Prelude.{◌≡◌, ◌*◌, ◌<◌, ◌≤◌, length};
 ghost use Rattle.pc_model.specs.declared.limits.TheConstants.{MAX_ITEMS};
 ghost use Rattle.pc_load.specs.declared.table.TheConstants.{MAX_PERIODS};
-ghost use Rattle.pc_load.specs.Adding.{CanTake, IsAdded};
-ghost use Rattle.pc_load.specs.Share.{IsSpread};
+ghost use Rattle.pc_load.specs.inside.Adding.{CanTake, IsAdded};
+ghost use Rattle.pc_load.specs.inside.Share.{IsSpread};
 
 use crate::spread::share;
 use crate::table::LoadRow;

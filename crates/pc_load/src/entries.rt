@@ -1,8 +1,8 @@
 //! What a project spreads: the costs of its activities, and its loads on resources.
 ghost use Rattle.std.specs.Prelude.{◌≡◌, ◌<◌, length, IfOk};
-ghost use Rattle.pc_load.specs.Entries.{AreCosts, AreLoads, AreTimes};
+ghost use Rattle.pc_load.specs.inside.Entries.{AreCosts, AreLoads, AreTimes};
 ghost use Rattle.pc_load.specs.Loading.{spread_at};
-ghost use Rattle.pc_load.specs.Table.{AreEntries};
+ghost use Rattle.pc_load.specs.inside.Table.{AreEntries};
 
 use crate::spread::Spread;
 use crate::table::LoadRow;

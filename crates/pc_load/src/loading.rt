@@ -1,8 +1,9 @@
 //! What a project spends and takes of its resources in each period.
 ghost use Rattle.std.specs.Prelude.{◌≡◌, ℕ, ◌*◌, ◌<◌, ◌≤◌, length, slice_index, IfOk, IfErr};
-ghost use Rattle.pc_load.specs.Entries.{AreTimes};
+ghost use Rattle.pc_load.specs.inside.Entries.{AreTimes};
 ghost use Rattle.pc_load.specs.Items.{LevelsAddUp};
-ghost use Rattle.pc_load.specs.Loading.{AreItemParts, HasNoLoad, IsLoading, IsReadyFor, ItemsAddUp, periods_for};
+ghost use Rattle.pc_load.specs.Loading.{AreItemParts, IsLoading, ItemsAddUp, periods_for};
+ghost use Rattle.pc_load.specs.inside.Loading.{HasNoLoad, IsReadyFor};
 
 use crate::entries::{costs, loads};
 use crate::table::{MAX_PERIODS, Table, item_table};
@@ -47,7 +48,7 @@ impl Model for Loading {
 
     ghost Value = { Loading };
 
-    ghost use Rattle.pc_load.specs.LoadingInside.{loading_from};
+    ghost use Rattle.pc_load.specs.inside.LoadingInside.{loading_from};
 
     ghost view = { loading_from };
 }

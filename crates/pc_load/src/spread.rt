@@ -1,6 +1,7 @@
 //! An amount that is spread over time.
 ghost use Rattle.std.specs.Prelude.{◌≡◌, ◌+◌, ◌^◌, ◌<◌, ◌≤◌};
-ghost use Rattle.pc_load.specs.Share.{IsSpread, part, share};
+ghost use Rattle.pc_load.specs.Share.{part, share};
+ghost use Rattle.pc_load.specs.inside.Share.{IsSpread};
 
 /// An amount that comes evenly over some time. All times are in sixths of a day from the project's start.
 #[derive(Clone, Copy, Debug, PartialEq, Eq)]

@@ -1,9 +1,11 @@
 //! Tables of amounts by row and period.
 ghost use Rattle.std.specs.Prelude.{◌≡◌, ℕ, ◌^◌, ◌*◌, ◌<◌, ◌≤◌, pos, length, sum_by, unsigned_abs, IfOk};
 ghost use Rattle.pc_model.specs.declared.limits.TheConstants.{MAX_COST, MAX_ITEMS, MAX_LOADS};
-ghost use Rattle.pc_rollup.specs.Totals.{AreAtLeaves};
-ghost use Rattle.pc_load.specs.Items.{IsItemTable, LevelsAddUp};
-ghost use Rattle.pc_load.specs.Table.{AreEntries, IsTableOf, RowsAddUp, amount_in, column};
+ghost use Rattle.pc_rollup.specs.inside.Totals.{AreAtLeaves};
+ghost use Rattle.pc_load.specs.Items.{LevelsAddUp};
+ghost use Rattle.pc_load.specs.inside.Items.{IsItemTable};
+ghost use Rattle.pc_load.specs.Table.{amount_in, column};
+ghost use Rattle.pc_load.specs.inside.Table.{AreEntries, IsTableOf, RowsAddUp};
 
 use crate::adding::add;
 use crate::spread::Spread;
@@ -36,7 +38,7 @@ impl Model for Table {
 
     ghost Value = { Table };
 
-    ghost use Rattle.pc_load.specs.TableInside.{table_from, IsTableInside};
+    ghost use Rattle.pc_load.specs.inside.TableInside.{table_from, IsTableInside};
 
     ghost view = { table_from };
 

@@ -1,5 +1,5 @@
 -- Greatest, first and listed numbers.
-use Rattle.std.specs.Prelude.{◌≡◌, ◌==◌, if◌then◌else◌, ℕ, ◌+◌, ◌<◌, ◌≤◌, List, [], ◌∷◌, length, slice_index}
+use Rattle.std.specs.Prelude.{◌≡◌, ◌==◌, if◌then◌else◌, ℕ, ◌+◌, ◌<◌, ◌≤◌, List, [], ◌∷◌, slice_index}
 
 -- n is the greatest number with P
 pub record IsGreatest (P : ℕ → Type 0) (n : ℕ) : Type 0 where
@@ -14,12 +14,6 @@ pub record IsFirst (P : ℕ → Type 0) (a : ℕ) : Type 0 where
 -- v stands among the first n elements of xs
 abbrev pub StandsBelow : List ℕ → ℕ → ℕ → Type 0
 StandsBelow xs n v = (j : ℕ) × (j < n) × (slice_index xs j ≡ v)
-
--- xs has the numbers below n that have P, each once, from the least up
-pub record IsListed (P : ℕ → Type 0) (n : ℕ) (xs : List ℕ) : Type 0 where
-  pub each : (k : ℕ) → k < length xs → (slice_index xs k < n) × P (slice_index xs k)
-  pub every : (v : ℕ) → v < n → P v → StandsBelow xs (length xs) v
-  pub rising : (j k : ℕ) → j < k → k < length xs → slice_index xs j < slice_index xs k
 
 -- the places of x among ys, where the first of ys has the place i
 abbrev pub places : ℕ → ℕ → List ℕ → List ℕ

@@ -8,3 +8,4 @@ pub mod Pieces
 pub mod TimeCost
 pub mod Codes
 pub mod Worked
+pub mod inside

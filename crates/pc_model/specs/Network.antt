@@ -42,12 +42,6 @@ pub record IsSound (net : Network) : Type 0 where
   pub reaches : (e : ℕ) → e < net.events → (walk : List ℕ) × IsWalk net.arcs e walk net.end
   pub no_cycle : (walk : List ℕ) → IsCycle net.arcs walk → ⊥
 
--- the network is not sound: something enters the start or leaves the end, an event dangles, or there is a cycle
-abbrev pub IsUnsound : Network → Type 0
-IsUnsound net =
-    IsEntered net net.start
-    ⊎ (IsLeft net net.end ⊎ (((e : ℕ) × (e < net.events) × IsDangling net e) ⊎ ((walk : List ℕ) × IsCycle net.arcs walk)))
-
 -- the order has events, each at most once, and those where an activity begins before the one where it ends
 pub record IsPartOrder (net : Network) (order : List ℕ) : Type 0 where
   pub range : (k : ℕ) → k < length order → slice_index order k < net.events

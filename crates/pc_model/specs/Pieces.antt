@@ -1,6 +1,5 @@
 -- The pieces of the activities' costs, and the knees that they make.
 use Rattle.std.specs.Prelude.{◌==◌, ℕ, ◌+◌, ◌-◌, ◌<◌, ◌≤◌, zero, suc, List, length, filter, drop, sum_by, slice_index_or}
-use Rattle.pc_model.specs.declared.Knee.{Knee}
 use Rattle.pc_model.specs.declared.Term.{Term}
 use Rattle.pc_model.specs.declared.PieceRow.{PieceRow}
 use Rattle.pc_model.specs.declared.limits.TheConstants.{MAX_PIECES_EACH}
@@ -30,10 +29,6 @@ knee_in term pieces (suc k) = term.crash + units_of (drop k pieces)
 abbrev pub rise_in : Term → List PieceRow → ℕ → ℕ
 rise_in term pieces zero = term.slope
 rise_in term pieces (suc k) = slope_in term pieces (suc k) - slope_in term pieces k
-
--- the k-th knee of a list; past its end one at duration 0 that does not rise
-abbrev pub knee_at : List Knee → ℕ → Knee
-knee_at knees k = slice_index_or knees k (record { at = 0; rise = 0 })
 
 -- the knees of all activities
 abbrev pub knees_of : List Term → List PieceRow → Knees

@@ -10,11 +10,11 @@ use Rattle.std.specs.List.{list_any, position}
 use Rattle.std.specs.Map.{lookup}
 use Rattle.std.specs.Ordering.{nat_cmp}
 use Rattle.pc_model.specs.Codes.{code_at, IsNamedOnce}
-use Rattle.pc_names.specs.Index.{IsIndexed, IsFound, own, beside, crowded, slot_of, slot_at, beside_at, crowded_at}
+use Rattle.pc_names.specs.inside.Index.{IsIndexed, IsFound, own, beside, crowded, slot_of, slot_at, beside_at, crowded_at}
 use Rattle.pc_names.specs.declared.index.Index.{Index}
 use Rattle.pc_names.proofs.OnceLaws.{absent, inner_or_last, inner-place, last-place}
 use Rattle.pc_names.proofs.PlaceLaws.{position-named, position-unknown}
-use Rattle.pc_text.specs.CodeNumber.{number_of, code_in}
+use Rattle.pc_text.specs.inside.CodeNumber.{number_of, code_in}
 
 -- no codes
 pub IsIndexed-none : (index : Index) → ((slot : ℕ) → get_or index.slots.items slot 0 ≡ 0) → index.crowded.entries ≡ [] → IsIndexed [] index

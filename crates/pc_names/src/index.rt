@@ -4,7 +4,7 @@ ghost use Rattle.std.specs.List.{list_any};
 ghost use Rattle.std.specs.Cmp.Lexicographic.{pointwise};
 ghost use Rattle.std.specs.Hash.FoldHasher.{folded_multiply};
 ghost use Rattle.pc_model.specs.Codes.{IsNamedOnce};
-ghost use Rattle.pc_names.specs.Index.{IsIndexed, mixed, slot_of};
+ghost use Rattle.pc_names.specs.inside.Index.{IsIndexed, mixed, slot_of};
 
 use pc_text::Code;
 use std::alloc::{AllocError, Global};

@@ -18,7 +18,7 @@ pub struct Names {
 
 impl Model for Names {
     ghost use Rattle.std.specs.Prelude.{ℕ, List};
-    ghost use Rattle.pc_names.specs.Inside.{AreFound};
+    ghost use Rattle.pc_names.specs.inside.Inside.{AreFound};
 
     ghost Value = { List (List ℕ) };
 

@@ -3,7 +3,7 @@ use Rattle.std.proofs.Common.{◌≡◌, ◌≢◌, ℕ, zero, suc, ◌+◌, ◌
 use Rattle.std.proofs.lemmas.Bool.{cases_eq, cases_lt, ne_eqb}
 use Rattle.std.proofs.lemmas.List.{drop_more, drop_all, length-set, get_or-set_same, get_or-set_other, length-replicate, get_or-replicate}
 use Rattle.pc_model.specs.Greatest.{places}
-use Rattle.pc_net.specs.Chains.{first_or, places_from, AreChains}
+use Rattle.pc_net.specs.inside.Chains.{first_or, places_from, AreChains}
 
 -- at a place of x this place is the first
 pub places_from_hit : (xs : List ℕ) (x i : ℕ) → i < length xs → slice_index xs i ≡ x → places_from xs x i ≡ i ∷ places_from xs x (i + 1)

@@ -3,12 +3,12 @@ use Rattle.std.proofs.Common.{◌≡◌, ◌≢◌, ℕ, ◌+◌, ◌<◌, ◌�
 use Rattle.std.proofs.lemmas.Bool.{cases_eq}
 use Rattle.std.proofs.lemmas.List.{get_or-set_same, get_or-set_other, length-set, get_or_append_left, get_or_push, length_push}
 use Rattle.pc_model.specs.declared.Arc.{Arc}
-use Rattle.pc_model.specs.Greatest.{IsListed}
+use Rattle.pc_model.specs.inside.Greatest.{IsListed}
 use Rattle.pc_model.specs.Walk.{from_of, to_of, IsWalk}
 use Rattle.pc_model.specs.Network.{Network}
 use Rattle.pc_model.proofs.Walks.OrderLaws.{room_below}
 use Rattle.pc_net.specs.Cycles.{LiesOnCycle}
-use Rattle.pc_net.specs.Labels.{IsQueued, IsSpread, NeverFalls}
+use Rattle.pc_net.specs.inside.Labels.{IsQueued, IsSpread, NeverFalls}
 use Rattle.pc_net.proofs.SearchLaws.{way_round}
 
 -- nor do they along a walk

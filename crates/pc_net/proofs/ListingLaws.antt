@@ -3,14 +3,15 @@ use Rattle.std.proofs.Common.{◌≡◌, ℕ, ◌+◌, ◌-◌, ◌<◌, ◌≤�
 use Rattle.std.proofs.lemmas.Bool.{cases_eq}
 use Rattle.std.proofs.lemmas.List.{get_or_append_left, get_or_push, length_push, drop-append-le, take-append-le, drop_at, take_all, append-nil}
 use Rattle.pc_model.specs.declared.Arc.{Arc}
-use Rattle.pc_model.specs.Greatest.{IsListed, places}
+use Rattle.pc_model.specs.Greatest.{places}
+use Rattle.pc_model.specs.inside.Greatest.{IsListed}
 use Rattle.pc_model.specs.Walk.{arc_at}
 use Rattle.pc_model.proofs.Walks.ListedLaws.{IsListed-places, IsListed-same}
-use Rattle.pc_net.specs.Chains.{first_or, places_from, AreChains}
+use Rattle.pc_net.specs.inside.Chains.{first_or, places_from, AreChains}
 use Rattle.pc_net.specs.declared.listing.Listing.{Listing}
 use Rattle.pc_net.specs.declared.side.Side.{Side}
-use Rattle.pc_net.specs.Sides.{event_of, events_of}
-use Rattle.pc_net.specs.Listings.{AreListed, IsListing, HasPart, part_of}
+use Rattle.pc_net.specs.inside.Sides.{event_of, events_of}
+use Rattle.pc_net.specs.inside.Listings.{AreListed, IsListing, HasPart, part_of}
 use Rattle.pc_net.proofs.SideLaws.{events_of_at, length-events_of}
 use Rattle.pc_net.proofs.ChainLaws.{IsFirstPlace, first_place}
 

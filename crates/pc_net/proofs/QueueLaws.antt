@@ -2,13 +2,14 @@
 use Rattle.std.proofs.Common.{◌≡◌, ◌≢◌, ℕ, ◌+◌, ◌-◌, ◌<◌, ◌≤◌, ◌==◌, List, [], ◌∷◌, ◌++◌, length, slice_index, set, cond, count_by, refl, sym, ◌∙◌, ap, subst, ◌⊎◌, inl, inr, ⊎_elim, arith}
 use Rattle.std.proofs.lemmas.Bool.{cases_eq}
 use Rattle.std.proofs.lemmas.List.{get_or-set_same, get_or-set_other, length-set, get_or_append_left, get_or_push, length_push}
-use Rattle.pc_model.specs.Greatest.{StandsBelow, IsListed}
+use Rattle.pc_model.specs.Greatest.{StandsBelow}
+use Rattle.pc_model.specs.inside.Greatest.{IsListed}
 use Rattle.pc_model.specs.Walk.{from_of, to_of}
 use Rattle.pc_model.specs.Network.{Network, IsPartOrder}
 use Rattle.pc_model.proofs.Walks.ListedLaws.{StandsBelow-more, StandsBelow-push, StandsBelow-unpush, StandsBelow-last}
 use Rattle.pc_net.specs.declared.side.Side.TheVariants.{Ends}
-use Rattle.pc_net.specs.Sides.{events_of}
-use Rattle.pc_net.specs.Queue.{AreEntering, IsWaiting, IsQueue, IsBlocked}
+use Rattle.pc_net.specs.inside.Sides.{events_of}
+use Rattle.pc_net.specs.inside.Queue.{AreEntering, IsWaiting, IsQueue, IsBlocked}
 use Rattle.pc_net.proofs.SideLaws.{events_of_at, length-events_of}
 use Rattle.pc_net.proofs.CountLaws.{one_at_same, one_at_other, count-set, count_none, count_some}
 

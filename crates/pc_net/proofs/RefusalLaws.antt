@@ -1,7 +1,7 @@
 -- A refusal for another cause than want of memory says that the network is unsound, which a sound one never is.
 use Rattle.std.proofs.Common.{◌≢◌, refl, inl, inr}
-use Rattle.pc_model.specs.Network.{Network, IsSound, IsUnsound}
-use Rattle.pc_model.proofs.Walks.UnsoundLaws.{IsSound-not-IsUnsound}
+use Rattle.pc_model.specs.Network.{Network, IsSound}
+use Rattle.pc_model.proofs.Walks.UnsoundLaws.{IsUnsound, IsSound-not-IsUnsound}
 use Rattle.pc_net.specs.declared.refusal.NetError.{NetError}
 use Rattle.pc_net.specs.declared.refusal.NetError.TheVariants.{StartEntered, EndLeft, Dangling, Cycle, OutOfMemory}
 use Rattle.pc_net.specs.Refusals.{IsRefusal}

@@ -3,12 +3,13 @@ use Rattle.std.proofs.Common.{◌≡◌, ◌≢◌, ℕ, zero, suc, ◌+◌, ◌
 use Rattle.std.proofs.lemmas.Bool.{cases_eq}
 use Rattle.std.proofs.lemmas.List.{get_or-set_same, get_or-set_other, length-set, get_or_append_left, get_or_push, length_push, drop_more, get_or-map, length-map}
 use Rattle.pc_model.specs.declared.Arc.{Arc}
-use Rattle.pc_model.specs.Greatest.{IsListed}
+use Rattle.pc_model.specs.inside.Greatest.{IsListed}
 use Rattle.pc_model.specs.Walk.{from_of, to_of, IsWalk, IsCycle}
 use Rattle.pc_model.specs.Network.{Network}
 use Rattle.pc_model.proofs.Walks.WalkLaws.{IsWalk-append, IsWalk-push, split_walk_at}
 use Rattle.pc_model.proofs.Walks.OrderLaws.{room_below}
-use Rattle.pc_net.specs.Cycles.{LiesOnCycle, MeetsOnce, IsRound, IsFirstCycle, IsSearch}
+use Rattle.pc_net.specs.Cycles.{LiesOnCycle, MeetsOnce, IsFirstCycle}
+use Rattle.pc_net.specs.inside.Cycles.{IsRound, IsSearch}
 
 -- where the activity begins is found at once
 pub IsSearch-start : (net : Network) (a : ℕ) (ranks : List ℕ) → length ranks ≡ net.events → ((v : ℕ) → slice_index ranks v ≡ 0) → a < length net.arcs → from_of net.arcs a < net.events → IsSearch net a (a ∷ []) (set ranks (from_of net.arcs a) 1) 0

@@ -4,7 +4,7 @@ use Rattle.std.proofs.lemmas.List.{get_or-map, length-map}
 use Rattle.pc_model.specs.declared.Arc.{Arc}
 use Rattle.pc_model.specs.Walk.{arc_at}
 use Rattle.pc_net.specs.declared.side.Side.{Side}
-use Rattle.pc_net.specs.Sides.{event_of, events_of, AreBelow}
+use Rattle.pc_net.specs.inside.Sides.{event_of, events_of, AreBelow}
 
 -- the k-th of these events is that of the k-th activity
 pub events_of_at : (side : Side) (arcs : List Arc) (k : ℕ) → k < length arcs → slice_index (events_of side arcs) k ≡ event_of side (arc_at arcs k)

@@ -8,7 +8,7 @@ use Rattle.pc_model.specs.Network.{Network, IsInRange, IsEntered, IsLeft, IsDang
 use Rattle.pc_model.proofs.Walks.WalkLaws.{IsWalk-push}
 use Rattle.pc_model.proofs.Walks.OrderLaws.{stands_in_order, same_place, no_cycle_from_order}
 use Rattle.pc_model.proofs.Walks.CycleLaws.{HasCycle, long_walk_has_cycle, all_stand, stand_or_misses}
-use Rattle.pc_net.specs.Queue.{IsMissing, IsBlocked}
+use Rattle.pc_net.specs.inside.Queue.{IsMissing, IsBlocked}
 
 -- a function has a value somewhere below n, or nowhere
 value_or_not : (f : ℕ → ℕ) (v n : ℕ) → ((a : ℕ) × (a < n) × (f a ≡ v)) ⊎ ((a : ℕ) → a < n → f a ≢ v)

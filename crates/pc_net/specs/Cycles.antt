@@ -1,9 +1,8 @@
 -- The first activity on any cycle, and the search for a way back to where an activity begins.
-use Rattle.std.specs.Prelude.{◌≡◌, ◌≢◌, ℕ, ◌+◌, ◌<◌, List, length, slice_index}
+use Rattle.std.specs.Prelude.{◌≢◌, ℕ, ◌<◌, List, length, slice_index}
 use Rattle.pc_model.specs.declared.Arc.{Arc}
 use Rattle.pc_model.specs.Greatest.{IsFirst, StandsBelow}
-use Rattle.pc_model.specs.Walk.{from_of, to_of, IsCycle}
-use Rattle.pc_model.specs.Network.{Network}
+use Rattle.pc_model.specs.Walk.{from_of, IsCycle}
 
 -- activity a is one of those of a cycle
 abbrev pub LiesOnCycle : List Arc → ℕ → Type 0
@@ -13,28 +12,8 @@ LiesOnCycle arcs a = (cycle : List ℕ) × IsCycle arcs cycle × StandsBelow cyc
 abbrev pub MeetsOnce : List Arc → List ℕ → Type 0
 MeetsOnce arcs walk = (j k : ℕ) → j < k → k < length walk → from_of arcs (slice_index walk j) ≢ from_of arcs (slice_index walk k)
 
--- a cycle through no event twice that begins with activity a
-pub record IsRound (arcs : List Arc) (a : ℕ) (walk : List ℕ) : Type 0 where
-  pub begins : slice_index walk 0 ≡ a
-  pub cycle : IsCycle arcs walk
-  pub once : MeetsOnce arcs walk
-
 -- a cycle through no event twice that begins with the first activity on any cycle
 pub record IsFirstCycle (arcs : List Arc) (walk : List ℕ) : Type 0 where
   pub cycle : IsCycle arcs walk
   pub once : MeetsOnce arcs walk
   pub first : IsFirst (LiesOnCycle arcs) (slice_index walk 0)
-
--- a search back from where activity a begins: `steps` leave the events found, each but the first towards one found
--- before it, `ranks` has each event's place among them and 1, or 0 where it was not found; all that lead to the
--- first events found are found themselves
-pub record IsSearch (net : Network) (a : ℕ) (steps ranks : List ℕ) (at : ℕ) : Type 0 where
-  pub ranks_len : length ranks ≡ net.events
-  pub some : 0 < length steps
-  pub begins : slice_index steps 0 ≡ a
-  pub known : (k : ℕ) → k < length steps → slice_index steps k < length net.arcs
-  pub named : (k : ℕ) → k < length steps → from_of net.arcs (slice_index steps k) < net.events
-  pub ranked : (k : ℕ) → k < length steps → slice_index ranks (from_of net.arcs (slice_index steps k)) ≡ k + 1
-  pub found : (v : ℕ) → slice_index ranks v ≢ 0 → (k : ℕ) × (k < length steps) × (from_of net.arcs (slice_index steps k) ≡ v)
-  pub leads : (k : ℕ) → 0 < k → k < length steps → (j : ℕ) × (j < k) × (from_of net.arcs (slice_index steps j) ≡ to_of net.arcs (slice_index steps k))
-  pub closed : (k b : ℕ) → k < at → b < length net.arcs → to_of net.arcs b ≡ from_of net.arcs (slice_index steps k) → slice_index ranks (from_of net.arcs b) ≢ 0

@@ -1,12 +1,7 @@
 -- The first number with a property, and networks without loose ends.
-use Rattle.std.specs.Prelude.{◌≡◌, ◌≢◌, ℕ, ◌<◌, Option, MatchOption, length}
-use Rattle.pc_model.specs.Greatest.{IsFirst}
+use Rattle.std.specs.Prelude.{◌≡◌, ◌≢◌, ℕ, ◌<◌, length}
 use Rattle.pc_model.specs.Walk.{from_of, to_of}
 use Rattle.pc_model.specs.Network.{Network, IsEntered, IsLeft, IsDangling}
-
--- the first number with P, or none where no number has it
-abbrev pub IsFirstIn : (ℕ → Type 0) → Option ℕ → Type 0
-IsFirstIn P found = MatchOption found ((a : ℕ) → P a → ⊥) (IsFirst P)
 
 -- activity a ends at the start
 abbrev pub EntersStart : Network → ℕ → Type 0
@@ -23,10 +18,6 @@ Dangles net e = (e < net.events) × IsDangling net e
 -- event e is not the start, and no activity enters it
 abbrev pub IsUnentered : Network → ℕ → Type 0
 IsUnentered net e = (e ≢ net.start) × (IsEntered net e → ⊥)
-
--- event e is not the end, and no activity leaves it
-abbrev pub IsUnleft : Network → ℕ → Type 0
-IsUnleft net e = (e ≢ net.end) × (IsLeft net e → ⊥)
 
 -- nothing enters the start or leaves the end, and no event dangles
 pub record IsFirm (net : Network) : Type 0 where

@@ -1,13 +1,6 @@
-pub mod Sides
-pub mod Chains
-pub mod Listings
 pub mod Networks
 pub mod Degrees
-pub mod Graphs
-pub mod Queue
 pub mod Firmness
 pub mod Cycles
-pub mod Turns
-pub mod Labels
 pub mod Refusals
-pub mod Nets
+pub mod inside

@@ -1,11 +1,6 @@
 -- A network from its parts, and the events where its activities begin and end.
 use Rattle.std.specs.Prelude.{ℕ, List, map}
 use Rattle.pc_model.specs.declared.Arc.{Arc}
-use Rattle.pc_model.specs.Network.{Network}
-
--- the network with these parts
-abbrev pub network : ℕ → ℕ → ℕ → List Arc → Network
-network events start end arcs = record { events = events; start = start; end = end; arcs = arcs }
 
 -- the events where the activities begin, in card order
 abbrev pub events_from : List Arc → List ℕ

@@ -1,7 +1,7 @@
 //! The activities at each event, chained.
 ghost use Rattle.std.specs.Prelude.{◌<◌, ◌^◌, IfOk, length};
-ghost use Rattle.pc_net.specs.Sides.{events_of, AreBelow};
-ghost use Rattle.pc_net.specs.Chains.{AreChains};
+ghost use Rattle.pc_net.specs.inside.Sides.{events_of, AreBelow};
+ghost use Rattle.pc_net.specs.inside.Chains.{AreChains};
 
 use crate::side::Side;
 use pc_model::Arc;

@@ -1,7 +1,8 @@
 //! The first activity on any cycle, and a cycle that begins with it.
 ghost use Rattle.std.specs.Prelude.{◌≡◌, ◌≢◌, ℕ, ◌+◌, ◌<◌, ◌≤◌, IfOk, MatchOption, OnOk, length, slice_index, vec_len};
 ghost use Rattle.pc_model.specs.Walk.{to_of};
-ghost use Rattle.pc_net.specs.Cycles.{LiesOnCycle, IsFirstCycle, IsRound, IsSearch};
+ghost use Rattle.pc_net.specs.Cycles.{LiesOnCycle, IsFirstCycle};
+ghost use Rattle.pc_net.specs.inside.Cycles.{IsRound, IsSearch};
 
 use crate::graph::Graph;
 use crate::labels::labels_of;

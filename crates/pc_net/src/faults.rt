@@ -1,7 +1,8 @@
 //! What is wrong with a network besides cycles: the start entered, the end left, an event that dangles.
 ghost use Rattle.std.specs.Prelude.{◌<◌, IfErr, IsErrOf, MatchBool, OnOk};
 ghost use Rattle.pc_model.specs.Network.{IsDangling};
-ghost use Rattle.pc_net.specs.Firmness.{IsFirstIn, EntersStart, LeavesEnd, Dangles, IsUnentered, IsUnleft, IsFirm};
+ghost use Rattle.pc_net.specs.Firmness.{EntersStart, LeavesEnd, Dangles, IsUnentered, IsFirm};
+ghost use Rattle.pc_net.specs.inside.Firmness.{IsFirstIn, IsUnleft};
 ghost use Rattle.pc_net.specs.Refusals.{IsRefusal};
 
 use crate::graph::Graph;

@@ -1,6 +1,6 @@
 //! The order in which a depth-first search finishes the events.
 ghost use Rattle.std.specs.Prelude.{◌≡◌, ◌<◌, IfOk, OnOk, vec_len};
-ghost use Rattle.pc_net.specs.Turns.{AreEvents, AreTurns};
+ghost use Rattle.pc_net.specs.inside.Turns.{AreEvents, AreTurns};
 
 use crate::graph::Graph;
 use std::alloc::{AllocError, Global};

@@ -1,9 +1,11 @@
 //! A network of which it is not known yet whether it is sound.
 ghost use Rattle.std.specs.Prelude.{◌≡◌, ◌<◌, ◌≤◌, IfOk, length};
-ghost use Rattle.pc_model.specs.Greatest.{IsListed, places};
+ghost use Rattle.pc_model.specs.Greatest.{places};
+ghost use Rattle.pc_model.specs.inside.Greatest.{IsListed};
 ghost use Rattle.pc_model.specs.Walk.{from_of, to_of};
 ghost use Rattle.pc_model.specs.Network.{IsInRange};
-ghost use Rattle.pc_net.specs.Networks.{network, events_from, events_to};
+ghost use Rattle.pc_net.specs.Networks.{events_from, events_to};
+ghost use Rattle.pc_net.specs.inside.Networks.{network};
 
 use crate::listing::Listing;
 use crate::side::Side;
@@ -27,7 +29,7 @@ impl Model for Graph {
 
     ghost Value = { Network };
 
-    ghost use Rattle.pc_net.specs.Graphs.{network_of, IsIndexed};
+    ghost use Rattle.pc_net.specs.inside.Graphs.{network_of, IsIndexed};
 
     ghost view = { network_of };
 

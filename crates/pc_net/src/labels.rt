@@ -1,6 +1,6 @@
 //! Labels of the events that never fall along an activity.
 ghost use Rattle.std.specs.Prelude.{◌≡◌, ◌+◌, ◌<◌, IfOk, OnOk, length, slice_index, vec_len};
-ghost use Rattle.pc_net.specs.Labels.{IsSpread, NeverFalls};
+ghost use Rattle.pc_net.specs.inside.Labels.{IsSpread, NeverFalls};
 
 use crate::finishing::finished;
 use crate::graph::Graph;

@@ -1,7 +1,7 @@
 //! The activities at each event, in one list.
 ghost use Rattle.std.specs.Prelude.{◌≡◌, ◌<◌, ◌^◌, IfOk, length};
-ghost use Rattle.pc_net.specs.Sides.{events_of, AreBelow};
-ghost use Rattle.pc_net.specs.Listings.{IsListing, HasPart, part_of};
+ghost use Rattle.pc_net.specs.inside.Sides.{events_of, AreBelow};
+ghost use Rattle.pc_net.specs.inside.Listings.{IsListing, HasPart, part_of};
 
 use crate::chains::chained;
 use crate::side::Side;

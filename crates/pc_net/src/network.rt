@@ -1,9 +1,11 @@
 //! A sound network.
 ghost use Rattle.std.specs.Prelude.{◌≡◌, ◌<◌, ◌≤◌, IfOk, IfErr, OnOk, length};
-ghost use Rattle.pc_model.specs.Greatest.{IsListed, places};
+ghost use Rattle.pc_model.specs.Greatest.{places};
+ghost use Rattle.pc_model.specs.inside.Greatest.{IsListed};
 ghost use Rattle.pc_model.specs.Walk.{from_of, to_of};
 ghost use Rattle.pc_model.specs.Network.{IsInRange, IsSound, IsOrder};
-ghost use Rattle.pc_net.specs.Networks.{network, events_from, events_to};
+ghost use Rattle.pc_net.specs.Networks.{events_from, events_to};
+ghost use Rattle.pc_net.specs.inside.Networks.{network};
 ghost use Rattle.pc_net.specs.Refusals.{IsRefusal};
 
 use crate::cycle::first_cycle;
@@ -27,7 +29,7 @@ impl Model for Net {
 
     ghost Value = { Network };
 
-    ghost use Rattle.pc_net.specs.Nets.{graph_of, IsOrdered};
+    ghost use Rattle.pc_net.specs.inside.Nets.{graph_of, IsOrdered};
 
     ghost view = { graph_of };
 

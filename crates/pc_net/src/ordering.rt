@@ -1,8 +1,8 @@
 //! An order of the events.
 ghost use Rattle.std.specs.Prelude.{◌≡◌, ℕ, ◌+◌, ◌<◌, ◌≤◌, ◌^◌, IfOk, OnOk, length, slice_index, vec_len};
-ghost use Rattle.pc_model.specs.Greatest.{IsListed};
+ghost use Rattle.pc_model.specs.inside.Greatest.{IsListed};
 ghost use Rattle.pc_model.specs.Network.{IsPartOrder};
-ghost use Rattle.pc_net.specs.Queue.{AreEntering, IsQueue, IsBlocked};
+ghost use Rattle.pc_net.specs.inside.Queue.{AreEntering, IsQueue, IsBlocked};
 
 use crate::graph::Graph;
 use pc_model::MAX_EVENTS;

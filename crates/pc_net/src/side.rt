@@ -1,6 +1,6 @@
 //! The two ends of an activity.
 ghost use Rattle.std.specs.Prelude.{◌≡◌};
-ghost use Rattle.pc_net.specs.Sides.{event_of};
+ghost use Rattle.pc_net.specs.inside.Sides.{event_of};
 
 use pc_model::Arc;
 

@@ -1,7 +1,7 @@
 //! Networks that are sound, and those that are refused.
 ghost use Rattle.std.specs.Bool.{OnTrue};
 ghost use Rattle.pc_model.specs.Network.{IsInRange};
-ghost use Rattle.pc_net.specs.Networks.{network};
+ghost use Rattle.pc_net.specs.inside.Networks.{network};
 
 use crate::graph::Graph;
 use crate::labels::labels_of;

@@ -9,8 +9,8 @@ use Rattle.std.proofs.KnownBytes.{Appends-nil}
 use Rattle.pc_edges.specs.Writes.{Wrote, Stopped}
 use Rattle.pc_edges.specs.Texts.{texts_to}
 use Rattle.pc_edges.proofs.Writing.{Gathered-as, Gathered-next, Stopped-next, Stopped-before, texts_to-more}
-use Rattle.pc_page.specs.Page.{Page, fresh}
-use Rattle.pc_page.specs.Puts.{Desk, AddsFrom, Adds}
+use Rattle.pc_page.specs.inside.Page.{Page, fresh}
+use Rattle.pc_page.specs.inside.Puts.{Desk, AddsFrom, Adds}
 
 -- the sink stopped, and nothing was done since
 Stopped-since : {a b c : Option (List ℕ)} {s t u : ℕ} {x : List ℕ} → Stopped a b s t x → c ≡ b → u ≡ t → Stopped a c s u x

@@ -1,3 +1,2 @@
-pub mod Page
-pub mod Puts
 pub mod Cells
+pub mod inside

@@ -3,7 +3,7 @@ ghost use Rattle.std.specs.Prelude.{◌≡◌, ◌≤◌, decimal, length};
 ghost use Rattle.std.specs.Fmt.{signed_decimal};
 ghost use Rattle.pc_text.specs.Line.{spaces};
 ghost use Rattle.pc_page.specs.Cells.{left, right};
-ghost use Rattle.pc_page.specs.Puts.{Puts};
+ghost use Rattle.pc_page.specs.inside.Puts.{Puts};
 
 use crate::page::Page;
 use pc_edges::Sink;

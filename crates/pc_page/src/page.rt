@@ -1,9 +1,9 @@
 //! The page itself: pieces of a text one behind the other.
 ghost use Rattle.std.specs.Prelude.{◌≡◌, ℕ, List, [], IfOk, decimal};
 ghost use Rattle.std.specs.Fmt.{signed_decimal};
-ghost use Rattle.pc_edges.specs.Writes.{Writes};
-ghost use Rattle.pc_page.specs.Page.{fresh};
-ghost use Rattle.pc_page.specs.Puts.{Adds, Desk, Puts, desk};
+ghost use Rattle.pc_edges.specs.inside.Writes.{Writes};
+ghost use Rattle.pc_page.specs.inside.Page.{fresh};
+ghost use Rattle.pc_page.specs.inside.Puts.{Adds, Desk, Puts, desk};
 
 use pc_edges::{Failed, STREAM_ROOM, Sink, push_all};
 use pc_text::{digits, signed};
@@ -28,7 +28,7 @@ pub struct Page {
 
 impl Model for Page {
     ghost use Rattle.std.specs.Prelude.{◌≤◌, vec_len, vec_capacity};
-    ghost use Rattle.pc_page.specs.Page.{Page as Sheet};
+    ghost use Rattle.pc_page.specs.inside.Page.{Page as Sheet};
 
     ghost Value = { Sheet };
 

@@ -1,7 +1,7 @@
 //! Rows of a text, put one after the other.
 ghost use Rattle.std.specs.Prelude.{◌≡◌, ℕ, ◌<◌, List};
 ghost use Rattle.pc_edges.specs.Texts.{texts_to};
-ghost use Rattle.pc_page.specs.Puts.{Puts};
+ghost use Rattle.pc_page.specs.inside.Puts.{Puts};
 
 use crate::page::Page;
 use pc_edges::Sink;

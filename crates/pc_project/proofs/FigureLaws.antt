@@ -5,7 +5,8 @@ use Rattle.std.proofs.lemmas.List.{get_or-map, length-map}
 use Rattle.pc_faults.specs.declared.kind.Kind.TheVariants.{Acct, Charge, Status, ToGo}
 use Rattle.pc_accounts.specs.Amounts.{AreEntriesOf, AreMoney, account_at, money_at}
 use Rattle.pc_accounts.specs.Entries.{AreSmall}
-use Rattle.pc_accounts.specs.Packages.{AreWork, IsUneven, work_at}
+use Rattle.pc_accounts.specs.Packages.{IsUneven, work_at}
+use Rattle.pc_accounts.specs.inside.Packages.{AreWork}
 use Rattle.pc_accounts.specs.declared.entry.Entry.{Entry}
 use Rattle.pc_accounts.specs.declared.rows.AcctRow.{AcctRow}
 use Rattle.pc_accounts.specs.declared.rows.MoneyRow.{MoneyRow}

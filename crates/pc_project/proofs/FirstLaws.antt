@@ -4,7 +4,7 @@ use Rattle.std.proofs.lemmas.Bool.{cases_order}
 use Rattle.std.proofs.lemmas.Bool.Decides.{nat_tests}
 use Rattle.pc_faults.specs.First.{IsFirst, IsNoLater}
 use Rattle.pc_faults.specs.declared.fault.Fault.{Fault}
-use Rattle.pc_project.specs.First.{IsFirstIn, earliest, is_no_later}
+use Rattle.pc_project.specs.inside.First.{IsFirstIn, earliest, is_no_later}
 
 -- the test in numbers: record and number of one fault and of another
 comes_first : ℕ → ℕ → ℕ → ℕ → Bool

@@ -4,7 +4,7 @@ use Rattle.std.specs.List.{Any}
 use Rattle.std.proofs.lemmas.List.{take_all, take_more, map_push}
 use Rattle.pc_faults.specs.First.{IsFirst}
 use Rattle.pc_faults.specs.declared.fault.Fault.{Fault}
-use Rattle.pc_project.specs.First.{IsFirstIn, earliest}
+use Rattle.pc_project.specs.inside.First.{IsFirstIn, earliest}
 use Rattle.pc_project.proofs.AnyLaws.{Any-kept, Any-here, Any-before, Any-none}
 use Rattle.pc_project.proofs.FirstLaws.{earliest-first}
 

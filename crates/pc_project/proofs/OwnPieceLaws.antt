@@ -16,7 +16,7 @@ use Rattle.pc_model.specs.Sums.{sum_to}
 use Rattle.pc_model.proofs.Costs.PieceLaws.{rises-slope}
 use Rattle.pc_model.proofs.Sums.{sum_to-le, sum_to-mono, sum_to-times}
 use Rattle.pc_crash.specs.Priced.{piece_at}
-use Rattle.pc_project.specs.OwnPieces.{AreOwnPieces}
+use Rattle.pc_project.specs.inside.OwnPieces.{AreOwnPieces}
 use Rattle.pc_project.specs.Planned.{IsPlanned}
 use Rattle.pc_project.specs.Project.{Project}
 

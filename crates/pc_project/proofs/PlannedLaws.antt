@@ -21,9 +21,8 @@ use Rattle.pc_deck.specs.declared.kinds.load.LoadCard.{LoadCard}
 use Rattle.pc_deck.specs.declared.kinds.piece.PieceCard.{PieceCard}
 use Rattle.pc_deck.specs.declared.kinds.terms.TermsCard.{TermsCard}
 use Rattle.pc_deck.specs.Deck.{Deck, act_codes, event_codes, item_codes, resource_codes}
-use Rattle.pc_deck.specs.Terms.{AreTermsWithin}
+use Rattle.pc_deck.proofs.NumberLemmas.{AreTermsWithin, acts-within, loads-within, pieces-within, project-within, terms-within}
 use Rattle.pc_deck.specs.Within.{IsWithinLimits}
-use Rattle.pc_deck.proofs.NumberLemmas.{acts-within, loads-within, pieces-within, project-within, terms-within}
 use Rattle.pc_project.specs.Project.{Project, accounts_in, arc_of, charges_in, counts_of, expected_of, heading_of, load_of, network_of, piece_of, pieces_in, place_of, project_in, row_of, rows_of, statuses_in, term_of, terms_in, time_terms_of, togos_in, variance_in}
 use Rattle.pc_project.specs.Misfit.{HasNoMisfit}
 use Rattle.pc_project.specs.declared.load.LoadItem.{LoadItem}

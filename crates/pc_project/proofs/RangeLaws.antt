@@ -12,7 +12,7 @@ use Rattle.pc_wbs.specs.declared.error.TreeError.{TreeError}
 use Rattle.pc_wbs.specs.declared.error.TreeError.TheVariants as tree
 use Rattle.pc_deck.specs.Deck.{Deck}
 use Rattle.pc_project.specs.Project.{arc_of, network_of}
-use Rattle.pc_project.specs.Refusal.{IsAbout}
+use Rattle.pc_project.specs.inside.Refusal.{IsAbout}
 
 -- from one row of a loop on, each is a row
 loop_known : (rows : List ItemRow) (x : ℕ) (loop : List ℕ) → AreInRange rows → x < length rows → IsLoopFrom rows x loop → (k : ℕ) → k < length loop → slice_index loop k < length rows

@@ -18,8 +18,9 @@ use Rattle.pc_deck.specs.declared.kinds.piece.PieceCard.{PieceCard}
 use Rattle.pc_deck.specs.declared.kinds.project.ProjectCard.{ProjectCard}
 use Rattle.pc_deck.specs.declared.kinds.status.StatusCard.{StatusCard}
 use Rattle.pc_deck.specs.Deck.{Deck}
-use Rattle.pc_faults.specs.FaultText.{IsTold}
-use Rattle.pc_faults.specs.First.{IsFirst, Refuses}
+use Rattle.pc_faults.specs.inside.FaultText.{IsTold}
+use Rattle.pc_faults.specs.First.{IsFirst}
+use Rattle.pc_faults.specs.inside.First.{Refuses}
 use Rattle.pc_faults.specs.declared.fault.Fault.{Fault as ADeckFault}
 use Rattle.pc_faults.specs.declared.fault.DeckError.{DeckError}
 use Rattle.pc_faults.specs.declared.fault.DeckError.TheVariants.{Fault, OutOfMemory}

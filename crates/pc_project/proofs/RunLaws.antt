@@ -6,15 +6,28 @@ use Rattle.std.proofs.lemmas.List.Sums.{sum_by-append}
 use Rattle.pc_model.specs.declared.PieceRow.{PieceRow}
 use Rattle.pc_model.specs.declared.Term.{Term}
 use Rattle.pc_model.specs.declared.limits.TheConstants.{MAX_DURATION}
-use Rattle.pc_model.specs.Pieces.{pieces_of, slope_in}
+use Rattle.pc_model.specs.Pieces.{pieces_of, slope_in, units_of}
 use Rattle.pc_model.specs.Schedule.{term_at}
 use Rattle.pc_crash.specs.Priced.{piece_at}
 use Rattle.pc_crash.proofs.PieceLaws.{pieces_of-here, pieces_of-elsewhere}
 use Rattle.pc_deck.specs.declared.kinds.act.ActCard.{ActCard}
 use Rattle.pc_project.specs.declared.pieces.Run.{Run}
 use Rattle.pc_project.specs.Project.{term_of}
-use Rattle.pc_project.specs.Runs.{AreRuns, IsRunOf, run_at}
+use Rattle.pc_project.specs.inside.Runs.{run_at}
 use Rattle.pc_project.proofs.FitLaws.{no_act}
+use Rattle.std.specs.Prelude.{◌*◌}
+
+-- the run is that of an activity with a term and these pieces
+pub record IsRunOf (term : Term) (own : List PieceRow) (run : Run) : Type 0 where
+  pub same_count : run.count ≡ length own
+  pub same_slope : run.slope ≡ slope_in term own (length own)
+  pub same_units : run.units ≡ units_of own
+
+-- the runs are those of the activities behind the first i pieces
+pub record AreRuns (terms : List Term) (pieces : List PieceRow) (i : ℕ) (runs : List Run) : Type 0 where
+  pub one_each : length runs ≡ length terms
+  pub each : (a : ℕ) → a < length terms → IsRunOf (term_at terms a) (pieces_of (take i pieces) a) (run_at runs a)
+  pub small : (a : ℕ) → a < length terms → (run_at runs a).units ≤ i * MAX_DURATION
 
 -- an activity before any piece
 abbrev first_run : ActCard → Run

@@ -1,5 +1,5 @@
 -- The project of a deck: its lists in card order, with numbers for codes.
-use Rattle.std.specs.Prelude.{ℕ, ℤ, List, [], length, map, Option, Some, None, unwrap_or, slice_index, slice_index_or, option_and_then}
+use Rattle.std.specs.Prelude.{ℕ, ℤ, List, length, map, Option, Some, None, unwrap_or, option_and_then}
 use Rattle.pc_accounts.specs.declared.entry.Entry.{Entry}
 use Rattle.pc_accounts.specs.declared.rows.AcctRow.{AcctRow}
 use Rattle.pc_accounts.specs.declared.rows.MoneyRow.{MoneyRow}
@@ -8,8 +8,6 @@ use Rattle.pc_model.specs.declared.Arc.{Arc}
 use Rattle.pc_model.specs.declared.PieceRow.{PieceRow}
 use Rattle.pc_model.specs.declared.Term.{Term}
 use Rattle.pc_model.specs.Network.{Network}
-use Rattle.pc_model.specs.Schedule.{term_at}
-use Rattle.pc_model.specs.Walk.{from_of, to_of}
 use Rattle.pc_status.specs.declared.row.StatusRow.{StatusRow}
 use Rattle.pc_times.specs.Estimates.{expected_time, variance_of}
 use Rattle.pc_times.specs.declared.state.ActState.{ActState}
@@ -26,9 +24,7 @@ use Rattle.pc_deck.specs.declared.kinds.wbs.ItemCard.{ItemCard}
 use Rattle.pc_deck.specs.Deck.{Deck, act_codes, event_codes, item_codes, event_named, item_named, account_named, act_named, resource_named, resource_codes}
 use Rattle.pc_project.specs.declared.heading.Counts.{Counts}
 use Rattle.pc_model.specs.declared.TimeTerms.{TimeTerms}
-use Rattle.pc_project.specs.declared.activity.Activity.{Activity}
 use Rattle.pc_project.specs.declared.load.LoadItem.{LoadItem}
-use Rattle.pc_project.specs.declared.placed.Placement.{Placement}
 
 -- what a project is called, when it starts and the day that its figures are of, how many days a unit is, and the end to be
 -- met, in days from the start, where one is given
@@ -97,10 +93,6 @@ arc_of deck act = record { from = event_number deck act.from; to = event_number 
 -- the item of the activity of a card
 abbrev pub place_of : Deck → ActCard → ℕ
 place_of deck act = item_number deck act.item
-
--- where the activity of a card stands
-abbrev pub placement_of : Deck → ActCard → Placement
-placement_of deck act = record { arc = arc_of deck act; item = place_of deck act }
 
 -- what the activity of a card may last and costs
 abbrev pub term_of : ActCard → Term
@@ -247,19 +239,4 @@ project_in deck entries states = record {
   states = states;
   time_terms = time_terms_of deck.terms;
   counts = counts_of deck;
-}
-
--- what a project says of activity a
-abbrev pub activity_at : Project → ℕ → Activity
-activity_at project a = record {
-  code = slice_index_or project.activities a [];
-  from = from_of project.network.arcs a;
-  to = to_of project.network.arcs a;
-  item = slice_index project.places a;
-  expected = slice_index project.expected a;
-  variance = slice_index project.variances a;
-  normal = (term_at project.terms a).normal;
-  crash = (term_at project.terms a).crash;
-  cost = (term_at project.terms a).cost;
-  slope = (term_at project.terms a).slope;
 }

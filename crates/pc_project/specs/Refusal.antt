@@ -3,7 +3,7 @@
 -- order), then the network of the activities (F24 to F27, tried in that order), then the items that activities and
 -- accounts stand on (F28), then the budgets of packages (F29), then statuses and as-of (F30), then second amounts to go
 -- (F31), then the pieces of the activities' costs (F33 to F35), and last the terms of time (F36).
-use Rattle.std.specs.Prelude.{◌≡◌, ℕ, ◌<◌, List, All, length, slice_index}
+use Rattle.std.specs.Prelude.{◌≡◌, ℕ, List, slice_index}
 use Rattle.pc_model.specs.Codes.{code_at}
 use Rattle.pc_accounts.specs.Packages.{IsUneven}
 use Rattle.pc_accounts.specs.Second.{IsRepeated}
@@ -31,14 +31,6 @@ use Rattle.pc_project.specs.Records.{act_records, codes_among, codes_at, event_r
 use Rattle.pc_project.specs.TermsFaults.{HasTermsFault, HasNoTermsFault}
 use Rattle.pc_project.specs.ToGoFaults.{IsFirstSecondToGo}
 use Rattle.pc_project.specs.Misfit.{HasMisfit, HasNoMisfit}
-
--- a refusal of the tree names some of n items
-abbrev pub IsAbout : ℕ → TreeError → Type 0
-IsAbout n tree.NoTop = Unit {0}
-IsAbout n (tree.SecondTop item) = item < n
-IsAbout n (tree.Loop loop) = (0 < length loop) × All (λ item. item < n) loop
-IsAbout n (tree.TooDeep item level) = item < n
-IsAbout n tree.OutOfMemory = Unit {0}
 
 -- the fault by which a refusal of the tree of these items is told; it comes at the card of the item that is named first
 abbrev pub tree_fault : List ItemCard → TreeError → DeckError

@@ -3,7 +3,7 @@ ghost use Rattle.std.specs.Prelude.{◌≡◌, ◌+◌, ◌-◌, ◌*◌, ◌^�
 ghost use Rattle.pc_model.specs.Cost.{activity_cost};
 ghost use Rattle.pc_model.specs.Pieces.{knees_of, knee_in, pieces_of, rise_in, units_of};
 ghost use Rattle.pc_model.specs.Sums.{sum_to};
-ghost use Rattle.pc_project.specs.OwnPieces.{AreOwnPieces};
+ghost use Rattle.pc_project.specs.inside.OwnPieces.{AreOwnPieces};
 
 use crate::project::Project;
 use arrayvec::ArrayVec;

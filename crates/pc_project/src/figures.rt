@@ -1,8 +1,8 @@
 //! The cards that give figures, looked up: accounts, charges, amounts to go and statuses.
 ghost use Rattle.std.specs.Prelude.{◌≡◌, IfOk, None};
-ghost use Rattle.pc_project.specs.First.{IsFirstIn};
+ghost use Rattle.pc_project.specs.inside.First.{IsFirstIn};
 ghost use Rattle.pc_project.specs.Misfit.{HasFigureFault};
-ghost use Rattle.pc_project.specs.Numbered.{AreFiguresOf};
+ghost use Rattle.pc_project.specs.inside.Numbered.{AreFiguresOf};
 
 use crate::first::earliest;
 use crate::refers::look_up_all;

@@ -1,6 +1,6 @@
 //! Which of several faults comes first.
 ghost use Rattle.std.specs.Prelude.{◌≡◌, Some};
-ghost use Rattle.pc_project.specs.First.{earliest, is_no_later};
+ghost use Rattle.pc_project.specs.inside.First.{earliest, is_no_later};
 
 use pc_faults::Fault;
 

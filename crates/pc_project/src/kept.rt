@@ -1,7 +1,7 @@
 //! What the cards of a project say and no number does: titles, the codes of accounts, and estimates.
 ghost use Rattle.std.specs.Prelude.{◌≡◌, ◌<◌, [], length, slice_index_or};
 ghost use Rattle.pc_deck.specs.Deck.{account_codes};
-ghost use Rattle.pc_project.specs.Kept.{account_titles, act_titles, estimates_at, event_titles, resource_titles};
+ghost use Rattle.pc_project.specs.inside.Kept.{account_titles, act_titles, estimates_at, event_titles, resource_titles};
 ghost use Rattle.pc_project.specs.Planned.{IsPlanned};
 
 use crate::estimates::Estimates;

@@ -3,10 +3,11 @@ ghost use Rattle.std.specs.Prelude.{◌≡◌, ◌≤◌, All, map, IfOk};
 ghost use Rattle.pc_model.specs.declared.limits.TheConstants.{MAX_UNIT_DAYS};
 ghost use Rattle.pc_times.specs.Estimates.{expected_time, variance_of};
 ghost use Rattle.pc_deck.specs.Deck.{act_codes, event_codes};
-ghost use Rattle.pc_deck.specs.Act.{IsActWithin};
+ghost use Rattle.pc_deck.specs.inside.Act.{IsActWithin};
 ghost use Rattle.pc_deck.specs.Within.{IsWithinLimits};
 ghost use Rattle.pc_project.specs.Misfit.{IsInOrder};
-ghost use Rattle.pc_project.specs.Project.{expected_of, place_of, placement_of, term_of, variance_in};
+ghost use Rattle.pc_project.specs.Project.{expected_of, place_of, term_of, variance_in};
+ghost use Rattle.pc_project.specs.inside.Project.{placement_of};
 ghost use Rattle.pc_project.specs.Records.{codes_among};
 
 use crate::placed::Placement;

@@ -4,9 +4,9 @@ ghost use Rattle.pc_model.specs.Network.{IsSound};
 ghost use Rattle.pc_wbs.specs.Climb.{IsTree};
 ghost use Rattle.pc_net.specs.Refusals.{IsRefusal};
 ghost use Rattle.pc_net.specs.declared.refusal.NetError.TheVariants as net;
-ghost use Rattle.pc_faults.specs.First.{Refuses};
+ghost use Rattle.pc_faults.specs.inside.First.{Refuses};
 ghost use Rattle.pc_project.specs.Misfit.{HasNoMisfit};
-ghost use Rattle.pc_project.specs.Numbered.{AreNumbersOf};
+ghost use Rattle.pc_project.specs.inside.Numbered.{AreNumbersOf};
 ghost use Rattle.pc_project.specs.Project.{arc_of, network_of, rows_of};
 ghost use Rattle.pc_project.specs.Refusal.{IsRefusedWith, net_fault};
 

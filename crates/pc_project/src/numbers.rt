@@ -1,10 +1,11 @@
 //! The numbers of all that the cards name, or the first fault of any card.
 ghost use Rattle.std.specs.Prelude.{◌≡◌, None, Some, IfOk, IfErr};
 ghost use Rattle.pc_deck.specs.Within.{IsWithinLimits};
-ghost use Rattle.pc_faults.specs.First.{IsFirst, Refuses};
-ghost use Rattle.pc_project.specs.First.{IsFirstIn, earliest};
+ghost use Rattle.pc_faults.specs.First.{IsFirst};
+ghost use Rattle.pc_faults.specs.inside.First.{Refuses};
+ghost use Rattle.pc_project.specs.inside.First.{IsFirstIn, earliest};
 ghost use Rattle.pc_project.specs.Misfit.{HasListedFault, HasMisfit};
-ghost use Rattle.pc_project.specs.Numbered.{AreListsOf, AreNumbersOf};
+ghost use Rattle.pc_project.specs.inside.Numbered.{AreListsOf, AreNumbersOf};
 
 use crate::figures::{Figures, figures_of};
 use crate::first::earliest;

@@ -1,12 +1,14 @@
 //! Whether the budgets of each package are the costs of its activities.
 ghost use Rattle.std.specs.Prelude.{◌≡◌, ◌<◌, length, map, IfOk, IfErr, OnOk};
 ghost use Rattle.pc_wbs.specs.Climb.{IsTree};
-ghost use Rattle.pc_accounts.specs.Packages.{IsFirstUneven, IsUneven};
-ghost use Rattle.pc_faults.specs.First.{Refuses};
+ghost use Rattle.pc_accounts.specs.Packages.{IsUneven};
+ghost use Rattle.pc_accounts.specs.inside.Packages.{IsFirstUneven};
+ghost use Rattle.pc_faults.specs.inside.First.{Refuses};
 ghost use Rattle.pc_project.specs.Misfit.{HasNoMisfit};
-ghost use Rattle.pc_project.specs.Numbered.{AreNumbersOf};
+ghost use Rattle.pc_project.specs.inside.Numbered.{AreNumbersOf};
 ghost use Rattle.pc_project.specs.PackageFaults.{IsFirstUnevenFault};
-ghost use Rattle.pc_project.specs.Project.{accounts_in, placement_of, rows_of, work_in};
+ghost use Rattle.pc_project.specs.Project.{accounts_in, rows_of, work_in};
+ghost use Rattle.pc_project.specs.inside.Project.{placement_of};
 ghost use Rattle.pc_project.specs.Refusal.{IsEven};
 
 use crate::named::item_card;

@@ -1,11 +1,11 @@
 //! From the cards of a deck to its project, phase by phase.
 ghost use Rattle.std.specs.Prelude.{◌≡◌, length, IfOk, IfErr, OnOk};
 ghost use Rattle.pc_accounts.specs.Amounts.{AreEntriesOf};
-ghost use Rattle.pc_faults.specs.First.{Refuses};
+ghost use Rattle.pc_faults.specs.inside.First.{Refuses};
 ghost use Rattle.pc_project.specs.DisorderFaults.{as_of_in};
 ghost use Rattle.pc_project.specs.Figures.{AreStatesOf, IsProjectOfDeck};
-ghost use Rattle.pc_project.specs.Numbered.{AreNumbersOf};
-ghost use Rattle.pc_project.specs.Parts.{project_with};
+ghost use Rattle.pc_project.specs.inside.Numbered.{AreNumbersOf};
+ghost use Rattle.pc_project.specs.inside.Parts.{project_with};
 ghost use Rattle.pc_project.specs.Planned.{IsPlanned};
 ghost use Rattle.pc_project.specs.PieceFaults.{HasNoPieceFault};
 ghost use Rattle.pc_project.specs.Project.{accounts_in, charges_in, network_of, rows_of, statuses_in, togos_in};

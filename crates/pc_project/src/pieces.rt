@@ -1,12 +1,13 @@
 //! The pieces of the activities' costs, or why they are none.
 ghost use Rattle.std.specs.Prelude.{◌≡◌, ◌+◌, ◌^◌, ◌<◌, OnOk, IfOk, IfErr, map, slice_set};
-ghost use Rattle.pc_faults.specs.First.{Refuses, IsFirst};
-ghost use Rattle.pc_project.specs.First.{IsFirstIn};
+ghost use Rattle.pc_faults.specs.First.{IsFirst};
+ghost use Rattle.pc_faults.specs.inside.First.{Refuses};
+ghost use Rattle.pc_project.specs.inside.First.{IsFirstIn};
 ghost use Rattle.pc_project.specs.Misfit.{HasNoMisfit};
-ghost use Rattle.pc_project.specs.Numbered.{AreNumbersOf};
+ghost use Rattle.pc_project.specs.inside.Numbered.{AreNumbersOf};
 ghost use Rattle.pc_project.specs.PieceFaults.{HasFlaw, HasNoPieceFault, HasPieceFault};
 ghost use Rattle.pc_project.specs.Project.{pieces_in, term_of};
-ghost use Rattle.pc_project.specs.Runs.{HasFlawBehind, IsNext, run_at, run_with};
+ghost use Rattle.pc_project.specs.inside.Runs.{HasFlawBehind, IsNext, run_at, run_with};
 
 use crate::first::earliest;
 use crate::numbers::Numbers;

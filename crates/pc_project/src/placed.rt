@@ -79,7 +79,7 @@ fn is_in_order(act: &ActCard) -> bool
 }
 
 impl Refers for ActCard {
-    ghost use Rattle.pc_project.specs.Project.{placement_of};
+    ghost use Rattle.pc_project.specs.inside.Project.{placement_of};
     ghost use Rattle.pc_project.specs.Misfit.{HasActFault};
 
     type Found = Placement;

@@ -1,10 +1,10 @@
 //! What the accounts of a project have come to and how far its activities are, or why that can't be said.
 ghost use Rattle.std.specs.Prelude.{◌≡◌, length, IfOk, IfErr, OnOk};
 ghost use Rattle.pc_accounts.specs.Amounts.{AreEntriesOf};
-ghost use Rattle.pc_faults.specs.First.{Refuses};
+ghost use Rattle.pc_faults.specs.inside.First.{Refuses};
 ghost use Rattle.pc_project.specs.DisorderFaults.{as_of_in};
 ghost use Rattle.pc_project.specs.Figures.{AreStatesOf};
-ghost use Rattle.pc_project.specs.Numbered.{AreNumbersOf};
+ghost use Rattle.pc_project.specs.inside.Numbered.{AreNumbersOf};
 ghost use Rattle.pc_project.specs.Project.{accounts_in, charges_in, rows_of, statuses_in, togos_in};
 ghost use Rattle.pc_project.specs.Refusal.{HasSoundFigures, HasSoundPlan, IsRefusedWith};
 

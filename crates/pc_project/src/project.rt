@@ -4,7 +4,7 @@ ghost use Rattle.pc_model.specs.declared.limits.TheConstants.{MAX_UNIT_DAYS};
 ghost use Rattle.pc_status.specs.Statuses.{IsSixths};
 ghost use Rattle.pc_times.specs.Forecast.{state_at};
 ghost use Rattle.pc_project.specs.Planned.{IsPlanned};
-ghost use Rattle.pc_project.specs.Project.{activity_at};
+ghost use Rattle.pc_project.specs.inside.Project.{activity_at};
 
 use crate::activity::Activity;
 use crate::heading::{Counts, count_cards, time_terms};
@@ -42,7 +42,7 @@ impl Model for Project {
 
     ghost Value = { Project };
 
-    ghost use Rattle.pc_project.specs.Parts.{project_from, IsPlannedInside};
+    ghost use Rattle.pc_project.specs.inside.Parts.{project_from, IsPlannedInside};
 
     ghost view = { project_from };
 

@@ -4,7 +4,7 @@ ghost use Rattle.std.specs.List.{Any};
 ghost use Rattle.pc_deck.specs.Deck.{Deck};
 ghost use Rattle.pc_faults.specs.First.{IsFirst};
 ghost use Rattle.pc_faults.specs.declared.fault.Fault.{Fault};
-ghost use Rattle.pc_project.specs.First.{IsFirstIn};
+ghost use Rattle.pc_project.specs.inside.First.{IsFirstIn};
 
 use crate::first::earliest;
 use pc_deck::Cards;

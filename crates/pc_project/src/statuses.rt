@@ -1,13 +1,14 @@
 //! How far the activities are, or which status is in disorder.
 ghost use Rattle.std.specs.Prelude.{◌≡◌, length, IfOk, IfErr, OnOk, option_map};
 ghost use Rattle.pc_faults.specs.Faults.{disorder};
-ghost use Rattle.pc_faults.specs.First.{Refuses, IsFirst};
+ghost use Rattle.pc_faults.specs.First.{IsFirst};
+ghost use Rattle.pc_faults.specs.inside.First.{Refuses};
 ghost use Rattle.pc_status.specs.Statuses.{AreInOrder};
 ghost use Rattle.pc_project.specs.DisorderFaults.{HasDisorder, HasNoDisorder, HasStatusDisorder, IsEarlyAsOf, as_of_in};
 ghost use Rattle.pc_project.specs.Figures.{AreStatesOf};
-ghost use Rattle.pc_project.specs.First.{IsFirstIn};
+ghost use Rattle.pc_project.specs.inside.First.{IsFirstIn};
 ghost use Rattle.pc_project.specs.Misfit.{HasNoMisfit};
-ghost use Rattle.pc_project.specs.Numbered.{AreNumbersOf};
+ghost use Rattle.pc_project.specs.inside.Numbered.{AreNumbersOf};
 ghost use Rattle.pc_project.specs.Project.{statuses_in};
 
 use crate::first::earliest;

@@ -1,5 +1,5 @@
 //! The terms of time, or why they are none.
-ghost use Rattle.pc_project.specs.First.{IsFirstIn};
+ghost use Rattle.pc_project.specs.inside.First.{IsFirstIn};
 ghost use Rattle.pc_project.specs.TermsFaults.{HasTermsFault};
 
 use pc_deck::Cards;

@@ -1,11 +1,11 @@
 //! The book of the accounts, or which amount to go is a second one.
 ghost use Rattle.std.specs.Prelude.{◌≡◌, IfOk, IfErr, OnOk};
 ghost use Rattle.pc_accounts.specs.Amounts.{AreEntriesOf};
-ghost use Rattle.pc_accounts.specs.Second.{IsRefusal};
-ghost use Rattle.pc_faults.specs.First.{Refuses};
+ghost use Rattle.pc_accounts.specs.inside.Second.{IsRefusal};
+ghost use Rattle.pc_faults.specs.inside.First.{Refuses};
 ghost use Rattle.pc_project.specs.DisorderFaults.{as_of_in};
 ghost use Rattle.pc_project.specs.Misfit.{HasNoMisfit};
-ghost use Rattle.pc_project.specs.Numbered.{AreNumbersOf};
+ghost use Rattle.pc_project.specs.inside.Numbered.{AreNumbersOf};
 ghost use Rattle.pc_project.specs.Project.{accounts_in, charges_in, togos_in};
 ghost use Rattle.pc_project.specs.Refusal.{HasNoSecondToGo};
 ghost use Rattle.pc_project.specs.ToGoFaults.{IsFirstSecondToGo};

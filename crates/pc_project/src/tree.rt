@@ -3,10 +3,11 @@ ghost use Rattle.std.specs.Prelude.{◌≡◌, ◌<◌, ◌≤◌, All, length, 
 ghost use Rattle.pc_model.specs.declared.limits.TheConstants.{MAX_ITEMS};
 ghost use Rattle.pc_wbs.specs.Climb.{AreInRange, IsTree};
 ghost use Rattle.pc_wbs.specs.declared.error.TreeError.TheVariants as tree;
-ghost use Rattle.pc_faults.specs.First.{Refuses};
-ghost use Rattle.pc_project.specs.Numbered.{AreNumbersOf};
+ghost use Rattle.pc_faults.specs.inside.First.{Refuses};
+ghost use Rattle.pc_project.specs.inside.Numbered.{AreNumbersOf};
 ghost use Rattle.pc_project.specs.Project.{rows_of};
-ghost use Rattle.pc_project.specs.Refusal.{IsAbout, IsRefusedWith, IsTreeFault, tree_fault};
+ghost use Rattle.pc_project.specs.Refusal.{IsRefusedWith, IsTreeFault, tree_fault};
+ghost use Rattle.pc_project.specs.inside.Refusal.{IsAbout};
 
 use crate::lists::codes_of_items;
 use crate::named::{codes_at, item_card};

@@ -4,9 +4,10 @@ use Rattle.std.specs.declared.alloc.Global.{Global}
 use Rattle.pc_faults.specs.declared.fault.Fault.{Fault}
 use Rattle.pc_reading.specs.declared.status.Status.{Status}
 use Rattle.pc_reading.specs.declared.status.Status.TheVariants.{Refused, OutOfMemory, WriteFault}
-use Rattle.pc_reading.specs.OneWord.{IsOneWord, EndsWithout, deck_refused, no_memory, refusal_cut}
+use Rattle.pc_reading.specs.OneWord.{IsOneWord}
+use Rattle.pc_reading.specs.inside.OneWord.{EndsWithout, deck_refused, no_memory, refusal_cut}
 use Rattle.pc_reading.specs.Reading.{HasRefusal}
-use Rattle.pc_reading.specs.Refusing.{Refusal}
+use Rattle.pc_reading.specs.inside.Refusing.{Refusal}
 use Rattle.pc_reading.specs.Sides.{Side}
 
 -- the line of the deck's fault was handed to the error output

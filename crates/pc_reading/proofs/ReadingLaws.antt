@@ -3,9 +3,9 @@ use Rattle.std.proofs.Common.{◌≡◌, ◌≤◌, ℕ, ◌<◌, List, length, 
 use Rattle.std.specs.Prelude.{IfSome, IfOk, IfErr}
 use Rattle.std.specs.Io.KnownBytes.{Consumes}
 use Rattle.pc_deck.specs.Limits.{longest_deck}
-use Rattle.pc_faults.specs.FaultText.{IsTold}
+use Rattle.pc_faults.specs.inside.FaultText.{IsTold}
 use Rattle.pc_faults.specs.Faults.{too_long as fault_too_long}
-use Rattle.pc_faults.specs.First.{Refuses}
+use Rattle.pc_faults.specs.inside.First.{Refuses}
 use Rattle.pc_faults.specs.declared.fault.DeckError.{DeckError}
 use Rattle.pc_faults.specs.declared.fault.DeckError.TheVariants as error
 use Rattle.pc_faults.specs.declared.fault.Fault.{Fault}
@@ -13,7 +13,8 @@ use Rattle.pc_project.specs.Project.{Project}
 use Rattle.pc_reading.specs.declared.reading.NoProject.{NoProject}
 use Rattle.pc_reading.specs.declared.reading.NoProject.TheVariants.{Refused, ReadFault, OutOfMemory}
 use Rattle.pc_reading.specs.Sides.{Side, IsReadToEnd, OfDeck}
-use Rattle.pc_reading.specs.Reading.{HasNoDeck, HasNoProjectBy, HasProjectBy, HasRefusal, HasRefusalBy, IsNoProjectBy, IsWholeDeck, lacking, too_long as took_too_much, faulty}
+use Rattle.pc_reading.specs.Reading.{HasProjectBy, HasRefusal, HasRefusalBy, too_long as took_too_much, faulty}
+use Rattle.pc_reading.specs.inside.Reading.{HasNoDeck, HasNoProjectBy, IsNoProjectBy, IsWholeDeck, lacking}
 use Rattle.pc_reading.specs.Verdict.{IsFault, too_long}
 use Rattle.pc_reading.proofs.SideLaws.{of_one, of_the_deck}
 

@@ -7,8 +7,8 @@ use Rattle.pc_faults.specs.declared.fault.DeckError.{DeckError}
 use Rattle.pc_faults.specs.declared.fault.DeckError.TheVariants.{Fault, OutOfMemory}
 use Rattle.pc_deck.specs.Deck.{Deck}
 use Rattle.pc_deck.specs.Read.{IsDeckOf}
-use Rattle.pc_faults.specs.First.{Refuses}
-use Rattle.pc_faults.specs.FaultText.{IsTold}
+use Rattle.pc_faults.specs.inside.First.{Refuses}
+use Rattle.pc_faults.specs.inside.FaultText.{IsTold}
 use Rattle.pc_deck.proofs.ToldLemmas.{told_of-refusal}
 use Rattle.pc_deck.proofs.DeckLaws.{one_deck, not_both as cards_not_refused}
 use Rattle.pc_project.specs.Refusal.{IsRefusedWith}

@@ -1,10 +1,9 @@
 pub mod Sides
-pub mod Status
 pub mod Verdict
 pub mod Reading
-pub mod Refusing
 pub mod OneWord
 pub mod Priced
+pub mod inside
 pub use Rattle.pc_edges.specs.Faults
 pub use Rattle.pc_edges.specs.Writes
 pub use Rattle.pc_deck.specs.Deck

@@ -3,7 +3,7 @@ ghost use Rattle.std.specs.Prelude.{◌+◌, IfOk, IfErr};
 ghost use Rattle.pc_deck.specs.Limits.{longest_deck};
 ghost use Rattle.pc_edges.specs.Pulls.{TakesPulls};
 ghost use Rattle.pc_edges.specs.declared.loading.TheConstants.{STREAM_ROOM};
-ghost use Rattle.pc_reading.specs.OneWord.{EndsWithout, IsProjectNamed};
+ghost use Rattle.pc_reading.specs.inside.OneWord.{EndsWithout, IsProjectNamed};
 ghost use Rattle.pc_reading.specs.Sides.{side, TookAtMost};
 
 use crate::reading::{NoProject, read_project};

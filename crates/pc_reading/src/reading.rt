@@ -2,9 +2,9 @@
 ghost use Rattle.std.specs.Prelude.{◌≡◌, ◌+◌, ◌≤◌, length, IfOk, IfErr};
 ghost use Rattle.pc_edges.specs.Pulls.{TakesPulls};
 ghost use Rattle.pc_edges.specs.declared.loading.TheConstants.{STREAM_ROOM};
-ghost use Rattle.pc_faults.specs.First.{Refuses};
+ghost use Rattle.pc_faults.specs.inside.First.{Refuses};
 ghost use Rattle.pc_deck.specs.Limits.{longest_deck};
-ghost use Rattle.pc_reading.specs.Reading.{HasNoDeck, HasNoProject, HasProject, IsNoProjectOf, IsWholeDeck, lacking};
+ghost use Rattle.pc_reading.specs.inside.Reading.{HasNoDeck, HasNoProject, HasProject, IsNoProjectOf, IsWholeDeck, lacking};
 ghost use Rattle.pc_reading.specs.Sides.{side, TookAtMost};
 ghost use Rattle.pc_reading.specs.Verdict.{IsFault, IsProjectOf};
 

@@ -1,6 +1,6 @@
 //! Writing the line that says why a deck is refused.
-ghost use Rattle.pc_faults.specs.FaultText.{IsTold};
-ghost use Rattle.pc_reading.specs.Refusing.{Refusal};
+ghost use Rattle.pc_faults.specs.inside.FaultText.{IsTold};
+ghost use Rattle.pc_reading.specs.inside.Refusing.{Refusal};
 ghost use Rattle.pc_reading.specs.Sides.{side};
 
 use crate::sending::send;

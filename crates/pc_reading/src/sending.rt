@@ -1,5 +1,5 @@
 //! Handing a text to a sink.
-ghost use Rattle.pc_edges.specs.Writes.{Writes};
+ghost use Rattle.pc_edges.specs.inside.Writes.{Writes};
 
 use pc_edges::{Failed, Sink, push_all};
 

@@ -24,7 +24,7 @@ pub enum Status {
 }
 
 impl Status {
-    ghost use Rattle.pc_reading.specs.Status.{code_of};
+    ghost use Rattle.pc_reading.specs.inside.Status.{code_of};
 
     /// The number with which the program ends.
     pub fn code(self) -> u8

@@ -12,7 +12,7 @@ use Rattle.csv.specs.declared.parser.State.TheVariants as st
 use Rattle.csv.specs.declared.parser.Terminator.{Terminator}
 use Rattle.csv.specs.declared.parser.Terminator.TheVariants as term
 use Rattle.pc_records.specs.Deck.{deck_records, mark, without_mark}
-use Rattle.pc_records.specs.Reading.{records_after}
+use Rattle.pc_records.specs.inside.Reading.{records_after}
 
 -- a byte that ends a record leaves the reader between two records
 abbrev EndsBetween : State × Action → Type 0

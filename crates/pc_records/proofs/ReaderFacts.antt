@@ -5,7 +5,7 @@ use Rattle.csv.specs.Machine.{ends_at_end}
 use Rattle.csv.specs.Reading.{ReadRecord, Reached, default_config, is_flexible, reader_state, took_first}
 use Rattle.csv.specs.declared.parser.State.{State}
 use Rattle.csv.proofs.ReadFacts.{rows-end, rows-more}
-use Rattle.pc_records.specs.Reading.{ByteReader, IsGoing, bytes_left, records_after}
+use Rattle.pc_records.specs.inside.Reading.{ByteReader, IsGoing, bytes_left, records_after}
 use Rattle.pc_records.proofs.DeckFacts.{next_record-between, records_after-next, records_after-none}
 
 -- the bytes that are left are known

@@ -8,9 +8,9 @@ use Rattle.csv.specs.Writing.{default_writer, escaped, field_text, fields_text, 
 use Rattle.csv.specs.declared.parser.State.TheVariants as st
 use Rattle.csv.proofs.RoundTrip.{read-write}
 use Rattle.pc_records.specs.Deck.{deck_records, mark, without_mark}
-use Rattle.pc_records.specs.Reading.{records_after}
+use Rattle.pc_records.specs.inside.Reading.{records_after}
 use Rattle.pc_records.specs.Text.{record_text, records_text}
-use Rattle.pc_records.specs.Writing.{any_length}
+use Rattle.pc_records.specs.inside.Writing.{any_length}
 use Rattle.pc_records.proofs.DeckFacts.{records_after-next, records_after-none}
 
 -- a field between quotes

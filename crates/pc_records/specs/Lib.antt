@@ -1,4 +1,3 @@
 pub mod Deck
-pub mod Reading
 pub mod Text
-pub mod Writing
+pub mod inside

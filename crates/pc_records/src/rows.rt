@@ -4,7 +4,7 @@ ghost use Rattle.std.specs.Prelude.{◌≡◌, ◌+◌, ◌≤◌, ◌∷◌, []
 ghost use Rattle.csv.specs.Reading.{reader_state, strip_bom};
 ghost use Rattle.csv.specs.declared.parser.State.TheVariants as st;
 ghost use Rattle.pc_records.specs.Deck.{deck_records, without_mark};
-ghost use Rattle.pc_records.specs.Reading.{bytes_left, IsGoing};
+ghost use Rattle.pc_records.specs.inside.Reading.{bytes_left, IsGoing};
 
 use crate::row::Row;
 use csv::{Reader, ReaderBuilder};
@@ -25,7 +25,7 @@ pub struct Rows<'a> {
 
 impl<'a> Model for Rows<'a> {
     ghost use Rattle.std.specs.Prelude.{ℕ, List};
-    ghost use Rattle.pc_records.specs.Reading.{rows_left, GoesOn};
+    ghost use Rattle.pc_records.specs.inside.Reading.{rows_left, GoesOn};
 
     ghost Value = { List (List (List ℕ)) };
 

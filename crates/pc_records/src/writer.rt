@@ -18,7 +18,7 @@ pub struct RowWriter {
 
 impl Model for RowWriter {
     ghost use Rattle.std.specs.Prelude.{ℕ, List};
-    ghost use Rattle.pc_records.specs.Writing.{text_put, PutsOn};
+    ghost use Rattle.pc_records.specs.inside.Writing.{text_put, PutsOn};
 
     ghost Value = { List ℕ };
 

@@ -9,10 +9,12 @@ use Rattle.pc_model.specs.Sums.{sum_to}
 use Rattle.pc_model.proofs.Sums.{sum_to-most, sum_to-same}
 use Rattle.pc_crash.specs.declared.costing.TheConstants.{MAX_ACTIVITY_COST}
 use Rattle.pc_project.specs.Project.{Project}
-use Rattle.pc_figures.specs.Outlook.{Outlook, IsOutlookOf, HasWholeAtTop, IsWholeOutlook, amounts_at}
+use Rattle.pc_figures.specs.Outlook.{Outlook, IsOutlookOf, IsWholeOutlook, amounts_at}
+use Rattle.pc_figures.specs.inside.Outlook.{HasWholeAtTop}
 use Rattle.pc_figures.proofs.PushLaws.{each_more}
 use Rattle.pc_figures.proofs.OutlookLaws.{outlook_alike}
-use Rattle.pc_reports.specs.OutlookText.{AreCostsAt, IsOutlook, TellsTop, cost_at}
+use Rattle.pc_reports.specs.OutlookText.{IsOutlook, cost_at}
+use Rattle.pc_reports.specs.inside.OutlookText.{AreCostsAt, TellsTop}
 
 -- the costs of the first n activities, none of them too great
 pub record AreCostsTo (project : Project) (durations : List ℕ) (n : ℕ) (costs : List ℕ) : Type 0 where

@@ -3,11 +3,9 @@ pub mod Cells
 pub mod Schedule
 pub mod Check
 pub mod Times
-pub mod View
 pub mod TimesText
-pub mod TimesInside
 pub mod SummaryText
 pub mod Earned
-pub mod EarnedInside
 pub mod ValueText
 pub mod OutlookText
+pub mod inside

@@ -1,15 +1,14 @@
 -- The text of the outlook: what the items are going to cost at given durations of the activities.
-use Rattle.std.specs.Prelude.{◌≡◌, ℕ, ◌<◌, List, [], ◌∷◌, ◌++◌, length, slice_index, slice_index_or, codes, decimal}
+use Rattle.std.specs.Prelude.{ℕ, List, [], ◌∷◌, ◌++◌, length, slice_index, slice_index_or, codes, decimal}
 use Rattle.std.specs.Fmt.{signed_decimal}
-use Rattle.pc_model.specs.Cost.{activity_cost, cost_of}
+use Rattle.pc_model.specs.Cost.{activity_cost}
 use Rattle.pc_model.specs.Pieces.{knees_of}
-use Rattle.pc_wbs.specs.Climb.{IsTop}
 use Rattle.pc_edges.specs.Texts.{texts_to}
 use Rattle.pc_page.specs.Cells.{left, right}
 use Rattle.pc_project.specs.Project.{Project}
 use Rattle.pc_figures.specs.declared.outlook.OutlookAmounts.{OutlookAmounts}
 use Rattle.pc_figures.specs.Outline.{row_at}
-use Rattle.pc_figures.specs.Outlook.{Outlook, IsOutlookOf, IsWholeOutlook, amounts_at}
+use Rattle.pc_figures.specs.Outlook.{Outlook, IsOutlookOf, amounts_at}
 use Rattle.pc_reports.specs.Cells.{row}
 
 -- the words above the items
@@ -38,24 +37,7 @@ outlook_text project outlook = outlook_head ++ texts_to (length outlook.outline)
 abbrev pub cost_at : Project → List ℕ → ℕ → ℕ
 cost_at project durations a = activity_cost project.terms (knees_of project.terms project.pieces) a (slice_index durations a)
 
--- the costs are those of the first n activities at their durations
-pub record AreCostsAt (project : Project) (durations : List ℕ) (n : ℕ) (costs : List ℕ) : Type 0 where
-  pub one_each : length costs ≡ n
-  pub each : (a : ℕ) → a < n → slice_index costs a ≡ cost_at project durations a
-
 -- the outlook is the project's at these durations
 abbrev pub IsOutlook : Project → List ℕ → Outlook → Type 0
 IsOutlook project durations outlook =
     IsOutlookOf project.tree project.places (cost_at project durations) project.accounts project.entries outlook
-
--- the outlook is the project's at some durations
-pub record IsOutlookFor (project : Project) (outlook : Outlook) : Type 0 where
-  pub durations : List ℕ
-  pub is : IsOutlook project durations outlook
-
--- the top's outlook is what all activities cost at these durations, and the budgets of all accounts whose package has no
--- activities
-abbrev pub TellsTop : Project → List ℕ → Outlook → Type 0
-TellsTop project durations outlook =
-    (top : ℕ) → IsTop project.tree top
-    → IsWholeOutlook project.places project.accounts project.entries (cost_of project.terms (knees_of project.terms project.pieces) (slice_index durations)) (amounts_at outlook.amounts top).outlook

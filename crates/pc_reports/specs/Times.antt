@@ -1,13 +1,10 @@
 -- What the report of event times tells.
-use Rattle.std.specs.Prelude.{◌≡◌, ℕ, ◌+◌, ◌*◌, ◌/◌, ◌<◌, ◌≤◌, ◌&&◌, if◌then◌else◌, ℤ, pos, neg_ℤ, ◌+ℤ◌, int_le, unsigned_abs, List, [], length, slice_index, slice_index_or, codes, Option, Some, None}
-use Rattle.std.specs.List.{All}
+use Rattle.std.specs.Prelude.{◌≡◌, ℕ, ◌+◌, ◌*◌, ◌/◌, ◌<◌, ◌&&◌, if◌then◌else◌, ℤ, pos, neg_ℤ, ◌+ℤ◌, int_le, List, [], length, slice_index, slice_index_or, codes, Option, Some, None}
 use Rattle.pc_days.specs.Calendar.{text_of_day}
 use Rattle.pc_days.specs.Dates.{IsAfterSixths, IsPrintedDay, NamesDay}
-use Rattle.pc_model.specs.declared.limits.TheConstants.{MAX_EVENTS}
 use Rattle.pc_times.specs.Times.{AreEarly}
 use Rattle.pc_times.specs.Late.{AreLate}
 use Rattle.pc_times.specs.Picked.{IsPickedWalk}
-use Rattle.pc_times.specs.declared.TheConstants.{MAX_TIME}
 use Rattle.pc_project.specs.Project.{Project}
 
 -- for each event when it is reached at the earliest and when it must be at the latest, in sixths of a day from the
@@ -51,9 +48,3 @@ pub record IsTimes (project : Project) (times : Times) : Type 0 where
   pub early : AreEarly project.network project.expected times.early
   pub late : AreLate project.network project.expected (end_to_meet project.heading.directed (slice_index times.early project.network.end)) times.late
   pub path : IsPickedWalk project.network project.expected times.path
-
--- no time is longer than a project can take, and the path has no more activities than a project has events
-pub record AreSmall (times : Times) : Type 0 where
-  pub early : All (λ time. time ≤ MAX_TIME) times.early
-  pub late : All (λ time. unsigned_abs time ≤ MAX_TIME) times.late
-  pub path : length times.path ≤ MAX_EVENTS

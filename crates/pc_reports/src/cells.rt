@@ -1,6 +1,6 @@
 //! The cells that the rows of items have in common.
-ghost use Rattle.pc_page.specs.Puts.{Puts};
-ghost use Rattle.pc_reports.specs.Cells.{amount_cell, level_cell, title_cell};
+ghost use Rattle.pc_page.specs.inside.Puts.{Puts};
+ghost use Rattle.pc_reports.specs.inside.Cells.{amount_cell, level_cell, title_cell};
 
 use pc_edges::Sink;
 use pc_page::Page;

@@ -1,8 +1,8 @@
 //! The text that tells that a deck is accepted.
 ghost use Rattle.std.specs.Prelude.{◌≡◌};
-ghost use Rattle.pc_edges.specs.Writes.{Writes};
-ghost use Rattle.pc_page.specs.Page.{fresh};
-ghost use Rattle.pc_page.specs.Puts.{Puts};
+ghost use Rattle.pc_edges.specs.inside.Writes.{Writes};
+ghost use Rattle.pc_page.specs.inside.Page.{fresh};
+ghost use Rattle.pc_page.specs.inside.Puts.{Puts};
 ghost use Rattle.pc_reports.specs.Check.{check_text, counts_text};
 
 use crate::lines::{put_code, put_number};

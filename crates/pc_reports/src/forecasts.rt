@@ -32,7 +32,7 @@ impl Model for Forecasts {
 
     ghost Value = { Forecasts };
 
-    ghost use Rattle.pc_reports.specs.EarnedInside.{forecasts_from, AreSoonInside};
+    ghost use Rattle.pc_reports.specs.inside.EarnedInside.{forecasts_from, AreSoonInside};
 
     ghost view = { forecasts_from };
 

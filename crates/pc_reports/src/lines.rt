@@ -1,5 +1,5 @@
 //! Short lines of reports.
-ghost use Rattle.pc_page.specs.Puts.{Puts};
+ghost use Rattle.pc_page.specs.inside.Puts.{Puts};
 ghost use Rattle.pc_reports.specs.Lines.{code_line, dated_line, number_line, named_line};
 
 use pc_days::{Day, day_text};

@@ -1,7 +1,7 @@
 //! What the activities of a project cost at given durations.
 ghost use Rattle.std.specs.Prelude.{◌≡◌, ◌≤◌, ◌^◌, length, slice_index, IfOk};
 ghost use Rattle.pc_model.specs.Sums.{sum_to};
-ghost use Rattle.pc_reports.specs.OutlookText.{AreCostsAt};
+ghost use Rattle.pc_reports.specs.inside.OutlookText.{AreCostsAt};
 
 use pc_project::Project;
 use std::alloc::{AllocError, Global};

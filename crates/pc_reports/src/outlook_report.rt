@@ -1,9 +1,10 @@
 //! The outlook: what the items are going to cost at given durations of the activities.
 ghost use Rattle.std.specs.Prelude.{◌≡◌, ◌++◌, length, IfOk};
-ghost use Rattle.pc_edges.specs.Writes.{Writes};
-ghost use Rattle.pc_page.specs.Puts.{Puts};
-ghost use Rattle.pc_reports.specs.OutlookText.{IsOutlook, IsOutlookFor, TellsTop, outlook_text};
-ghost use Rattle.pc_reports.specs.Schedule.{text_of, IsWhole};
+ghost use Rattle.pc_edges.specs.inside.Writes.{Writes};
+ghost use Rattle.pc_page.specs.inside.Puts.{Puts};
+ghost use Rattle.pc_reports.specs.OutlookText.{IsOutlook, outlook_text};
+ghost use Rattle.pc_reports.specs.inside.OutlookText.{IsOutlookFor, TellsTop};
+ghost use Rattle.pc_reports.specs.inside.Schedule.{text_of, IsWhole};
 
 use crate::outlook_costs::costs_at;
 use crate::outlook_rows::OutlookRows;
@@ -30,7 +31,7 @@ pub struct OutlookReport {
 
 impl Model for OutlookReport {
     ghost use Rattle.std.specs.Prelude.{◌≡◌};
-    ghost use Rattle.pc_page.specs.Page.{fresh};
+    ghost use Rattle.pc_page.specs.inside.Page.{fresh};
     ghost use Rattle.pc_figures.specs.Outlook.{Outlook};
 
     ghost Value = { Outlook };

@@ -1,7 +1,8 @@
 //! The rows of the outlook.
 ghost use Rattle.std.specs.Prelude.{length};
-ghost use Rattle.pc_page.specs.Puts.{Puts};
-ghost use Rattle.pc_reports.specs.OutlookText.{IsOutlookFor, outlook_cells, outlook_row};
+ghost use Rattle.pc_page.specs.inside.Puts.{Puts};
+ghost use Rattle.pc_reports.specs.OutlookText.{outlook_cells, outlook_row};
+ghost use Rattle.pc_reports.specs.inside.OutlookText.{IsOutlookFor};
 
 use crate::cells::{put_amount_cell, put_level_cell, put_title_cell};
 use pc_edges::Sink;

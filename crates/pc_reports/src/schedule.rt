@@ -1,10 +1,10 @@
 //! The text of a schedule.
 ghost use Rattle.std.specs.Prelude.{◌≡◌, length};
-ghost use Rattle.pc_edges.specs.Writes.{Writes};
-ghost use Rattle.pc_page.specs.Page.{fresh};
-ghost use Rattle.pc_page.specs.Puts.{Puts};
+ghost use Rattle.pc_edges.specs.inside.Writes.{Writes};
+ghost use Rattle.pc_page.specs.inside.Page.{fresh};
+ghost use Rattle.pc_page.specs.inside.Puts.{Puts};
 ghost use Rattle.pc_reports.specs.Lines.{line_at};
-ghost use Rattle.pc_reports.specs.Schedule.{plan_of, text_of, IsWhole};
+ghost use Rattle.pc_reports.specs.inside.Schedule.{plan_of, text_of, IsWhole};
 
 use crate::lines::{put_named, put_number};
 use pc_edges::{Failed, Sink};

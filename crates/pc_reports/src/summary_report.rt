@@ -1,7 +1,7 @@
 //! The management summary.
 ghost use Rattle.std.specs.Prelude.{◌≡◌, IfOk};
-ghost use Rattle.pc_edges.specs.Writes.{Writes};
-ghost use Rattle.pc_page.specs.Puts.{Puts};
+ghost use Rattle.pc_edges.specs.inside.Writes.{Writes};
+ghost use Rattle.pc_page.specs.inside.Puts.{Puts};
 ghost use Rattle.pc_reports.specs.SummaryText.{IsSummary, ChargesCountOnce, summary_text};
 
 use crate::lines::put_dated;
@@ -28,7 +28,7 @@ pub struct SummaryReport {
 
 impl Model for SummaryReport {
     ghost use Rattle.std.specs.Prelude.{◌≡◌};
-    ghost use Rattle.pc_page.specs.Page.{fresh};
+    ghost use Rattle.pc_page.specs.inside.Page.{fresh};
     ghost use Rattle.pc_figures.specs.Summary.{Summary};
 
     ghost Value = { Summary };

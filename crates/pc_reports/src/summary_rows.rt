@@ -1,6 +1,6 @@
 //! The rows of the management summary.
 ghost use Rattle.std.specs.Prelude.{◌≡◌, length};
-ghost use Rattle.pc_page.specs.Puts.{Puts};
+ghost use Rattle.pc_page.specs.inside.Puts.{Puts};
 ghost use Rattle.pc_reports.specs.SummaryText.{IsSummary, item_cells, item_row, level_cells, level_row};
 
 use crate::cells::{put_amount_cell, put_level_cell, put_title_cell};

@@ -4,7 +4,8 @@ ghost use Rattle.std.specs.List.{All};
 ghost use Rattle.std.specs.Option.{ForSome};
 ghost use Rattle.pc_model.specs.declared.limits.TheConstants.{MAX_DIRECTED, MAX_EVENTS};
 ghost use Rattle.pc_times.specs.declared.TheConstants.{MAX_TIME};
-ghost use Rattle.pc_reports.specs.Times.{IsTimes, AreSmall, end_to_meet};
+ghost use Rattle.pc_reports.specs.Times.{IsTimes, end_to_meet};
+ghost use Rattle.pc_reports.specs.inside.Times.{AreSmall};
 
 use pc_project::Project;
 use pc_times::{Longest, late, longest};
@@ -25,7 +26,7 @@ impl Model for Times {
 
     ghost Value = { Times };
 
-    ghost use Rattle.pc_reports.specs.TimesInside.{times_from, AreSmallInside};
+    ghost use Rattle.pc_reports.specs.inside.TimesInside.{times_from, AreSmallInside};
 
     ghost view = { times_from };
 

@@ -1,10 +1,10 @@
 //! The report of event times.
 ghost use Rattle.std.specs.Prelude.{◌≡◌, IfOk};
-ghost use Rattle.pc_edges.specs.Writes.{Writes};
-ghost use Rattle.pc_page.specs.Page.{fresh};
+ghost use Rattle.pc_edges.specs.inside.Writes.{Writes};
+ghost use Rattle.pc_page.specs.inside.Page.{fresh};
 ghost use Rattle.pc_reports.specs.Times.{IsTimes};
 ghost use Rattle.pc_reports.specs.TimesText.{times_text};
-ghost use Rattle.pc_reports.specs.View.{IsShownOf, as_shown};
+ghost use Rattle.pc_reports.specs.inside.View.{IsShownOf, as_shown};
 
 use crate::lines::put_code;
 use crate::times::Times;
@@ -27,8 +27,9 @@ pub struct TimesReport {
 
 impl Model for TimesReport {
     ghost use Rattle.std.specs.Prelude.{◌≡◌};
-    ghost use Rattle.pc_page.specs.Page.{fresh};
-    ghost use Rattle.pc_reports.specs.Times.{Times, AreSmall};
+    ghost use Rattle.pc_page.specs.inside.Page.{fresh};
+    ghost use Rattle.pc_reports.specs.Times.{Times};
+    ghost use Rattle.pc_reports.specs.inside.Times.{AreSmall};
 
     ghost Value = { Times };
 

@@ -1,7 +1,7 @@
 //! The report of the value of work.
 ghost use Rattle.std.specs.Prelude.{◌≡◌, IfOk};
-ghost use Rattle.pc_edges.specs.Writes.{Writes};
-ghost use Rattle.pc_page.specs.Puts.{Puts};
+ghost use Rattle.pc_edges.specs.inside.Writes.{Writes};
+ghost use Rattle.pc_page.specs.inside.Puts.{Puts};
 ghost use Rattle.pc_reports.specs.Earned.{IsEarned};
 ghost use Rattle.pc_reports.specs.ValueText.{value_text};
 
@@ -33,7 +33,7 @@ pub struct ValueReport {
 
 impl Model for ValueReport {
     ghost use Rattle.std.specs.Prelude.{◌≡◌};
-    ghost use Rattle.pc_page.specs.Page.{fresh};
+    ghost use Rattle.pc_page.specs.inside.Page.{fresh};
     ghost use Rattle.pc_reports.specs.Earned.{Earned};
 
     ghost Value = { Earned };

@@ -1,7 +1,7 @@
 //! The rows of the report of the value of work.
 ghost use Rattle.std.specs.Prelude.{◌≡◌, ◌<◌, ◌≤◌, ◌^◌, length, unsigned_abs};
 ghost use Rattle.pc_page.specs.Cells.{right};
-ghost use Rattle.pc_page.specs.Puts.{Puts};
+ghost use Rattle.pc_page.specs.inside.Puts.{Puts};
 ghost use Rattle.pc_times.specs.declared.TheConstants.{MAX_TIME};
 ghost use Rattle.pc_reports.specs.Earned.{AreForecasts, IsEarned};
 ghost use Rattle.pc_reports.specs.ValueText.{forecast_cells, forecast_row, slack_text, worth_cells, worth_row};

@@ -1,6 +1,6 @@
 //! What the report of event times is written from.
 ghost use Rattle.std.specs.Prelude.{◌≡◌, ◌↔◌, ◌<◌, ◌≤◌, IfSome, IsNone, length, pos, slice_index, slice_index_or};
-ghost use Rattle.pc_reports.specs.View.{Shown};
+ghost use Rattle.pc_reports.specs.inside.View.{Shown};
 
 use crate::times::Times;
 use pc_project::Project;

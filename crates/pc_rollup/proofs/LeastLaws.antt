@@ -9,8 +9,9 @@ use Rattle.pc_wbs.specs.Climb.{parent_of, AreInRange, IsBelow}
 use Rattle.pc_wbs.specs.Preorder.{IsPreorder}
 use Rattle.pc_wbs.proofs.OrderLaws.{parent-inside}
 use Rattle.pc_rollup.specs.declared.totals.Placed.{Placed}
-use Rattle.pc_rollup.specs.Totals.{place_of, amount_of}
-use Rattle.pc_rollup.specs.Least.{IsLeastOver, least_at, AreLeastOf, AreLeastOn, lesser}
+use Rattle.pc_rollup.specs.inside.Totals.{place_of, amount_of}
+use Rattle.pc_rollup.specs.Least.{IsLeastOver, least_at}
+use Rattle.pc_rollup.specs.inside.Least.{AreLeastOf, AreLeastOn, lesser}
 use Rattle.pc_rollup.proofs.RollLaws.{IsGathered, gathered_to-parent, gathered_from-parent, gathered_to-other, gathered_from-other, gathered-below, whole, all_gathered}
 
 -- properties that agree below the count have the same least

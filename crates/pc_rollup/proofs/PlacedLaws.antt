@@ -8,7 +8,8 @@ use Rattle.pc_wbs.specs.declared.row.ItemRow.{ItemRow}
 use Rattle.pc_wbs.specs.Climb.{IsBelow, IsLeaf}
 use Rattle.pc_rollup.specs.declared.totals.Placed.{Placed}
 use Rattle.pc_rollup.specs.Sums.{IsSumOver}
-use Rattle.pc_rollup.specs.Totals.{amount_at, place_of, amount_of, AreAmountsOf, AreOnLeaves, AreAtLeaves, AreRolledUp, AreTotalsOf}
+use Rattle.pc_rollup.specs.Totals.{amount_at}
+use Rattle.pc_rollup.specs.inside.Totals.{place_of, amount_of, AreAmountsOf, AreOnLeaves, AreAtLeaves, AreRolledUp, AreTotalsOf}
 use Rattle.pc_rollup.proofs.SumLaws.{unsigned_abs-add, IsSumOver-has, IsSumOver-lacks, IsSumOver-same, IsSumOver-nested, IsSumOver-none, IsSumOver-only}
 use Rattle.pc_rollup.proofs.RollLaws.{added, added_fits}
 

@@ -10,12 +10,13 @@ use Rattle.pc_model.specs.Sums.{sum_to}
 use Rattle.pc_wbs.specs.declared.row.ItemRow.{ItemRow}
 use Rattle.pc_wbs.specs.Climb.{parent_of, AreInRange, IsBelow, IsLeaf, IsTree}
 use Rattle.pc_wbs.specs.Preorder.{IsPreorder}
-use Rattle.pc_wbs.specs.Precedes.{IsUnder}
+use Rattle.pc_wbs.specs.inside.Precedes.{IsUnder}
 use Rattle.pc_wbs.proofs.ClimbLaws.{IsBelow-self, IsBelow-parent}
 use Rattle.pc_wbs.proofs.PrecedesLaws.{IsBelow-trans, IsUnder-from, IsUnder-self, cases_below, cases_above, siblings_apart}
 use Rattle.pc_wbs.proofs.OrderLaws.{parent-inside, HasNoLoop-tree, under_child}
 use Rattle.pc_rollup.specs.Sums.{IsSumOver}
-use Rattle.pc_rollup.specs.Totals.{amount_at, AreAtLeaves, AreRolledUp}
+use Rattle.pc_rollup.specs.Totals.{amount_at}
+use Rattle.pc_rollup.specs.inside.Totals.{AreAtLeaves, AreRolledUp}
 use Rattle.pc_rollup.proofs.SumLaws.{IsSumOver-same, IsSumOver-both, IsSumOver-one, IsSumOver-part, IsSumOver-bound}
 
 -- c is one of the last j of the order

@@ -11,7 +11,8 @@ use Rattle.pc_wbs.specs.Preorder.{IsPreorder}
 use Rattle.pc_wbs.proofs.OrderLaws.{IsBelow-top}
 use Rattle.pc_rollup.specs.declared.levels.LevelLine.{LevelLine}
 use Rattle.pc_rollup.specs.Sums.{IsSumOver}
-use Rattle.pc_rollup.specs.Totals.{amount_at, AreRolledUp}
+use Rattle.pc_rollup.specs.Totals.{amount_at}
+use Rattle.pc_rollup.specs.inside.Totals.{AreRolledUp}
 use Rattle.pc_rollup.specs.Lines.{HasLine, line_at, StandsBefore, AreLines, sum_of}
 use Rattle.pc_rollup.proofs.SumLaws.{IsSumOver-none, IsSumOver-same, IsSumOver-both, IsSumOver-only, IsSumOver-at, IsSumOver-parts, IsSumOver-some}
 use Rattle.pc_rollup.proofs.LineLaws.{line_of_leaf}

@@ -2,3 +2,4 @@ pub mod Sums
 pub mod Totals
 pub mod Lines
 pub mod Least
+pub mod inside

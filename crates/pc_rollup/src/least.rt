@@ -1,7 +1,7 @@
 //! The least of what lies below each item.
 ghost use Rattle.std.specs.Prelude.{◌≡◌, ℕ, ◌<◌, length, IfOk};
-ghost use Rattle.pc_rollup.specs.Totals.{place_of};
-ghost use Rattle.pc_rollup.specs.Least.{AreLeastOf, AreLeastOn, lesser};
+ghost use Rattle.pc_rollup.specs.inside.Totals.{place_of};
+ghost use Rattle.pc_rollup.specs.inside.Least.{AreLeastOf, AreLeastOn, lesser};
 
 use crate::totals::Placed;
 use pc_wbs::Tree;

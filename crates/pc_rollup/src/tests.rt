@@ -1,6 +1,6 @@
 //! Sums by item on a tree of three levels.
 ghost use Rattle.std.specs.Prelude.{◌≡◌, ◌*◌, ◌≤◌, length, sum_by, unsigned_abs, IfOk, IfSome};
-ghost use Rattle.pc_rollup.specs.Totals.{AreOnLeaves};
+ghost use Rattle.pc_rollup.specs.inside.Totals.{AreOnLeaves};
 
 use crate::{LevelLine, Placed, level_lines, totals_of};
 use pc_wbs::{ItemRow, Tree};

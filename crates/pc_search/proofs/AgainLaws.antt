@@ -7,9 +7,10 @@ use Rattle.pc_curve_laws.specs.Stair.{unit_length, IsOnStair}
 use Rattle.pc_net.specs.Networks.{events_from, events_to}
 use Rattle.pc_net.specs.Degrees.{AreDistinct, degrees}
 use Rattle.pc_crash.specs.Priced.{PricedNetwork}
-use Rattle.pc_board.specs.Sheets.{Sheet, time_of, rank_of, queue_of, step_of, against_of, room_of, lost_of, flow_of, slot_of}
-use Rattle.pc_board.specs.Labelling.{HasStep, HaveRoom}
-use Rattle.pc_board.specs.Pruning.{IsSorted, IsPruned}
+use Rattle.pc_board.specs.Sheets.{Sheet, time_of, rank_of, flow_of}
+use Rattle.pc_board.specs.inside.Sheets.{queue_of, step_of, against_of, room_of, lost_of, slot_of}
+use Rattle.pc_board.specs.inside.Labelling.{HasStep, HaveRoom}
+use Rattle.pc_board.specs.inside.Pruning.{IsSorted, IsPruned}
 use Rattle.pc_board.proofs.AfterPruning.{
   pruned-flow,
   pruned-had,
@@ -23,8 +24,8 @@ use Rattle.pc_board.proofs.AfterPruning.{
   pruned-joined,
   pruned-for,
 }
-use Rattle.pc_search.specs.Searches.{stair_at, gap_at, next_at, last_at, IsSearch, IsOnStairs, AreLed, IsSettled, grown_as}
-use Rattle.pc_search.specs.Growing.{IsAt, IsAtLost, degree, IsReached, IsScanned, IsMet, AreSettled, GoesOn, relabelled, HasLookedAgain}
+use Rattle.pc_search.specs.inside.Searches.{stair_at, gap_at, next_at, last_at, IsSearch, IsOnStairs, AreLed, IsSettled, grown_as}
+use Rattle.pc_search.specs.inside.Growing.{IsAt, IsAtLost, degree, IsReached, IsScanned, IsMet, AreSettled, GoesOn, relabelled, HasLookedAgain}
 use Rattle.pc_search.proofs.KeptLaws.{with_list, waiting-kept}
 use Rattle.pc_search.proofs.GrowingLaws.{goes_on-joins, met-was, met-reached, settled-grows}
 use Rattle.pc_search.proofs.GrowLaws.{headed, search-headed, room-headed}

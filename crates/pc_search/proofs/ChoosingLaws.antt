@@ -2,10 +2,11 @@
 use Rattle.std.proofs.Common.{◌≡◌, ◌≢◌, ℕ, ◌+◌, ◌-◌, ◌^◌, ◌<◌, ◌≤◌, ◌⊎◌, min, length, refl, sym, ◌∙◌, ap, subst, inl, inr, arith}
 use Rattle.std.proofs.lemmas.Bool.{cases_eq, cases_lt}
 use Rattle.pc_crash.specs.Priced.{PricedNetwork}
-use Rattle.pc_board.specs.Sheets.{Sheet, waiting_of, slot_of}
-use Rattle.pc_board.specs.Moves.{WaitsAt, GoesAt}
-use Rattle.pc_search.specs.Searches.{gap_at, next_at, last_at, IsWaiting, IsPricedBoard, IsSearch, MayGoAlong, MayGoAgainst, IsQuiet}
-use Rattle.pc_search.specs.Choosing.{StopsAt}
+use Rattle.pc_board.specs.Sheets.{Sheet}
+use Rattle.pc_board.specs.inside.Sheets.{waiting_of, slot_of}
+use Rattle.pc_board.specs.inside.Moves.{WaitsAt, GoesAt}
+use Rattle.pc_search.specs.inside.Searches.{gap_at, next_at, last_at, IsWaiting, IsPricedBoard, IsSearch, MayGoAlong, MayGoAgainst, IsQuiet}
+use Rattle.pc_search.specs.inside.Choosing.{StopsAt}
 use Rattle.pc_search.proofs.KeptLaws.{board-relisted}
 
 -- activity a, which labels may cross, stops no sooner than this

@@ -4,13 +4,14 @@ use Rattle.std.proofs.lemmas.Bool.{cases_eq}
 use Rattle.pc_model.specs.declared.Knee.{Knee}
 use Rattle.pc_stair.specs.declared.stop.Stop.{Stop}
 use Rattle.pc_crash.specs.Priced.{PricedNetwork}
-use Rattle.pc_board.specs.Sheets.{Sheet, kept_time, rank_of, slot_of}
-use Rattle.pc_board.specs.Moves.{WaitsOnce, EntersAt}
-use Rattle.pc_board.specs.Labelling.{HaveRoom}
+use Rattle.pc_board.specs.Sheets.{Sheet, kept_time, rank_of}
+use Rattle.pc_board.specs.inside.Sheets.{slot_of}
+use Rattle.pc_board.specs.inside.Moves.{WaitsOnce, EntersAt}
+use Rattle.pc_board.specs.inside.Labelling.{HaveRoom}
 use Rattle.pc_board.proofs.AfterEntering.{IsNewStep, queue-room}
 use Rattle.pc_search.specs.declared.way.Way.{Way}
 use Rattle.pc_search.specs.declared.way.Way.TheVariants.{Along, Against}
-use Rattle.pc_search.specs.Searches.{IsSearch, IsSeen, MayGoAlong, MayGoAgainst, IsWay, StopsAlong, StopsAgainst, StopsAfter, StopsLater, IsVisited}
+use Rattle.pc_search.specs.inside.Searches.{IsSearch, IsSeen, MayGoAlong, MayGoAgainst, IsWay, StopsAlong, StopsAgainst, StopsAfter, StopsLater, IsVisited}
 use Rattle.pc_search.proofs.VisitLaws.{visited-still, visited-waits}
 use Rattle.pc_search.proofs.EnterLaws.{visited-enters}
 

@@ -7,7 +7,7 @@ use Rattle.pc_model.specs.Sums.{sum_to}
 use Rattle.pc_net.specs.Networks.{events_from, events_to}
 use Rattle.pc_net.specs.Degrees.{AreDistinct, degrees}
 use Rattle.pc_crash.specs.Priced.{PricedNetwork}
-use Rattle.pc_search.specs.Growing.{degree}
+use Rattle.pc_search.specs.inside.Growing.{degree}
 
 -- f (n - 1), .., f 1, f 0
 listed : (ℕ → ℕ) → ℕ → List ℕ

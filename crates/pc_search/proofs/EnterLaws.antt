@@ -4,9 +4,10 @@ use Rattle.std.proofs.lemmas.Bool.{cases_eq}
 use Rattle.pc_model.specs.Walk.{from_of, to_of}
 use Rattle.pc_curve_laws.specs.Stair.{IsOnStair}
 use Rattle.pc_crash.specs.Priced.{PricedNetwork}
-use Rattle.pc_board.specs.Sheets.{Sheet, time_of, rank_of, step_of, against_of, room_of, flow_of, waiting_of, slot_of}
-use Rattle.pc_board.specs.Moves.{EntersAt, way_number}
-use Rattle.pc_board.specs.Labelling.{HasStep, HaveRoom}
+use Rattle.pc_board.specs.Sheets.{Sheet, time_of, rank_of, flow_of}
+use Rattle.pc_board.specs.inside.Sheets.{step_of, against_of, room_of, waiting_of, slot_of}
+use Rattle.pc_board.specs.inside.Moves.{EntersAt, way_number}
+use Rattle.pc_board.specs.inside.Labelling.{HasStep, HaveRoom}
 use Rattle.pc_board.proofs.AfterEntering.{
   IsNewStep,
   entered-flow,
@@ -19,7 +20,7 @@ use Rattle.pc_board.proofs.AfterEntering.{
   entered-room,
   entered-joined,
 }
-use Rattle.pc_search.specs.Searches.{stair_at, gap_at, IsOnStairs, IsSearch, IsSettled, grown_as, Grows, IsVisited}
+use Rattle.pc_search.specs.inside.Searches.{stair_at, gap_at, IsOnStairs, IsSearch, IsSettled, grown_as, Grows, IsVisited}
 use Rattle.pc_search.proofs.KeptLaws.{with_list, waiting-kept}
 
 module _ (net : PricedNetwork) (s t : Sheet) (e a : ℕ) (against : Bool) (near room : ℕ) (search : IsSearch net s) (known : a < length net.network.arcs)

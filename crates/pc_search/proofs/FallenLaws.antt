@@ -9,13 +9,15 @@ use Rattle.pc_curve_laws.specs.Steps.{IsStairOptimal}
 use Rattle.pc_curve_laws.proofs.Segments.Falls.{falls_along}
 use Rattle.pc_curve_laws.proofs.Stairs.StairStates.{stair-fallen, stair-times_within}
 use Rattle.pc_crash.specs.Priced.{PricedNetwork, knees_in}
-use Rattle.pc_board.specs.Sheets.{Sheet, kept_time, time_of, rank_of, step_of, room_of, flow_of}
-use Rattle.pc_board.specs.Labelling.{HasStep, AreTimes}
+use Rattle.pc_board.specs.Sheets.{Sheet, kept_time, time_of, rank_of, flow_of}
+use Rattle.pc_board.specs.inside.Sheets.{step_of, room_of}
+use Rattle.pc_board.specs.inside.Labelling.{HasStep, AreTimes}
 use Rattle.pc_board.proofs.AfterPruning.{time-labelled, time-unlabelled}
-use Rattle.pc_search.specs.Searches.{stair_at, gap_at, IsSearch, IsOnStairs, AreLed}
-use Rattle.pc_search.specs.Growing.{IsMet, AreListed}
-use Rattle.pc_search.specs.Choosing.{moving}
-use Rattle.pc_search.specs.Labelling.{length_at, slope_at, IsStateWith, IsBetween, MayFall, HasFallen}
+use Rattle.pc_search.specs.inside.Searches.{stair_at, gap_at, IsSearch, IsOnStairs, AreLed}
+use Rattle.pc_search.specs.inside.Growing.{IsMet, AreListed}
+use Rattle.pc_search.specs.inside.Choosing.{moving}
+use Rattle.pc_search.specs.Labelling.{length_at}
+use Rattle.pc_search.specs.inside.Labelling.{slope_at, IsStateWith, IsBetween, MayFall, HasFallen}
 use Rattle.pc_search.proofs.KeptLaws.{waiting-kept, search-recounted}
 use Rattle.pc_search.proofs.StateLaws.{times-alike, state-own}
 use Rattle.pc_search.proofs.StepLaws.{step-from_labelled, step-to_labelled}

@@ -7,10 +7,11 @@ use Rattle.pc_model.proofs.Sums.{sum_to-same}
 use Rattle.pc_net.specs.Networks.{events_from, events_to}
 use Rattle.pc_net.specs.Degrees.{AreDistinct, degrees}
 use Rattle.pc_crash.specs.Priced.{PricedNetwork}
-use Rattle.pc_board.specs.Sheets.{Sheet, rank_of, queue_of}
-use Rattle.pc_board.specs.Labelling.{HaveRoom}
-use Rattle.pc_search.specs.Searches.{IsSearch, IsSettled, Grows}
-use Rattle.pc_search.specs.Growing.{IsAt, degree, IsReached, IsScanned, IsMet, AreSettled, GoesOn, HasGrown}
+use Rattle.pc_board.specs.Sheets.{Sheet, rank_of}
+use Rattle.pc_board.specs.inside.Sheets.{queue_of}
+use Rattle.pc_board.specs.inside.Labelling.{HaveRoom}
+use Rattle.pc_search.specs.inside.Searches.{IsSearch, IsSettled, Grows}
+use Rattle.pc_search.specs.inside.Growing.{IsAt, degree, IsReached, IsScanned, IsMet, AreSettled, GoesOn, HasGrown}
 use Rattle.pc_search.proofs.KeptLaws.{waiting-kept, search-relisted}
 use Rattle.pc_search.proofs.VisitLaws.{grows-none}
 use Rattle.pc_search.proofs.GrowingLaws.{grows-head, grows-joins, grows-early, settled-grows}

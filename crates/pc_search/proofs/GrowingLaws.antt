@@ -7,11 +7,12 @@ use Rattle.pc_model.specs.Walk.{from_of, to_of}
 use Rattle.pc_model.specs.Network.{IsInRange}
 use Rattle.pc_curve_laws.specs.Stair.{unit_length}
 use Rattle.pc_crash.specs.Priced.{PricedNetwork}
-use Rattle.pc_board.specs.Sheets.{Sheet, time_of, rank_of, queue_of, flow_of, slot_of}
-use Rattle.pc_board.specs.Labelling.{HaveRoom, IsRanked}
-use Rattle.pc_search.specs.Searches.{stair_at, next_at, last_at, gap_at, IsSearch, MayGoAlong, MayGoAgainst, IsSettled, grown_as, Grows, IsVisited}
+use Rattle.pc_board.specs.Sheets.{Sheet, time_of, rank_of, flow_of}
+use Rattle.pc_board.specs.inside.Sheets.{queue_of, slot_of}
+use Rattle.pc_board.specs.inside.Labelling.{HaveRoom, IsRanked}
+use Rattle.pc_search.specs.inside.Searches.{stair_at, next_at, last_at, gap_at, IsSearch, MayGoAlong, MayGoAgainst, IsSettled, grown_as, Grows, IsVisited}
 use Rattle.pc_search.proofs.VisitLaws.{grows-none}
-use Rattle.pc_search.specs.Growing.{IsReached, IsScanned, IsMet, AreListed, GoesOn, HasSettled}
+use Rattle.pc_search.specs.inside.Growing.{IsReached, IsScanned, IsMet, AreListed, GoesOn, HasSettled}
 
 -- Going on from board to board
 

@@ -2,8 +2,8 @@
 use Rattle.std.proofs.Common.{◌≡◌, ◌≤◌, sym, subst}
 use Rattle.pc_crash.specs.Priced.{PricedNetwork}
 use Rattle.pc_board.specs.Sheets.{Sheet}
-use Rattle.pc_board.specs.Labelling.{AreTimes}
-use Rattle.pc_search.specs.Searches.{IsWaiting, IsOnStairs, IsPricedBoard, AreLed, IsSearch}
+use Rattle.pc_board.specs.inside.Labelling.{AreTimes}
+use Rattle.pc_search.specs.inside.Searches.{IsWaiting, IsOnStairs, IsPricedBoard, AreLed, IsSearch}
 
 -- board s with the activities of board t that wait
 abbrev pub with_list : Sheet → Sheet → Sheet

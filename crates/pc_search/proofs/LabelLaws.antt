@@ -6,10 +6,11 @@ use Rattle.pc_curve_laws.specs.Steps.{IsStairOptimal}
 use Rattle.pc_curve_laws.proofs.Stairs.StairStates.{stair-chosen}
 use Rattle.pc_crash.specs.Priced.{PricedNetwork, knees_in}
 use Rattle.pc_board.specs.Sheets.{Sheet, time_of, flow_of}
-use Rattle.pc_search.specs.Searches.{IsSearch}
-use Rattle.pc_search.specs.Growing.{HasSettled, HasGrown, relabelled, HasLookedAgain}
-use Rattle.pc_search.specs.Choosing.{moving, HasChosen}
-use Rattle.pc_search.specs.Labelling.{length_at, slope_at, IsStateWith, IsAboveAllCrash, IsBetween, HasRaised, risen, Rises, IsUnderWay, HasLabelled}
+use Rattle.pc_search.specs.inside.Searches.{IsSearch}
+use Rattle.pc_search.specs.inside.Growing.{HasSettled, HasGrown, relabelled, HasLookedAgain}
+use Rattle.pc_search.specs.inside.Choosing.{moving, HasChosen}
+use Rattle.pc_search.specs.Labelling.{length_at}
+use Rattle.pc_search.specs.inside.Labelling.{slope_at, IsStateWith, IsAboveAllCrash, IsBetween, HasRaised, risen, Rises, IsUnderWay, HasLabelled}
 use Rattle.pc_search.proofs.StateLaws.{times-alike, state-own}
 
 -- labels and lists have changed, times and flows are as they were

@@ -5,11 +5,12 @@ use Rattle.pc_model.specs.Walk.{from_of, to_of}
 use Rattle.pc_curve_laws.specs.Stair.{unit_length, IsOnStair}
 use Rattle.pc_curve_laws.proofs.Stairs.OnStair.{stair-between}
 use Rattle.pc_crash.specs.Priced.{PricedNetwork}
-use Rattle.pc_board.specs.Sheets.{Sheet, rank_of, against_of, room_of, flow_of, slot_of}
-use Rattle.pc_board.specs.Raising.{IsRaisedBy}
+use Rattle.pc_board.specs.Sheets.{Sheet, rank_of, flow_of}
+use Rattle.pc_board.specs.inside.Sheets.{against_of, room_of, slot_of}
+use Rattle.pc_board.specs.inside.Raising.{IsRaisedBy}
 use Rattle.pc_board.proofs.AfterRaising.{IsChangedBy, raised-flow}
-use Rattle.pc_search.specs.Searches.{stair_at, gap_at, next_at, last_at, IsSearch}
-use Rattle.pc_search.specs.Growing.{IsScanned, IsMet, AreSettled}
+use Rattle.pc_search.specs.inside.Searches.{stair_at, gap_at, next_at, last_at, IsSearch}
+use Rattle.pc_search.specs.inside.Growing.{IsScanned, IsMet, AreSettled}
 use Rattle.pc_search.proofs.StepLaws.{step-from_labelled, step-to_labelled}
 
 module _ (net : PricedNetwork) (s t : Sheet) (end by k : ℕ) (search : IsSearch net s) (raised : IsRaisedBy s t end by k) where

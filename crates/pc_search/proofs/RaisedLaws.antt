@@ -7,9 +7,10 @@ use Rattle.pc_curve_laws.specs.Stair.{IsOnStair}
 use Rattle.pc_curve_laws.specs.Steps.{IsStairOptimal}
 use Rattle.pc_curve_laws.proofs.Stairs.Raised.{stair-raised}
 use Rattle.pc_crash.specs.Priced.{PricedNetwork, knees_in}
-use Rattle.pc_board.specs.Sheets.{Sheet, time_of, rank_of, queue_of, step_of, against_of, room_of, flow_of}
-use Rattle.pc_board.specs.Labelling.{HasStep}
-use Rattle.pc_board.specs.Raising.{IsRaisedBy}
+use Rattle.pc_board.specs.Sheets.{Sheet, time_of, rank_of, flow_of}
+use Rattle.pc_board.specs.inside.Sheets.{queue_of, step_of, against_of, room_of}
+use Rattle.pc_board.specs.inside.Labelling.{HasStep}
+use Rattle.pc_board.specs.inside.Raising.{IsRaisedBy}
 use Rattle.pc_board.proofs.AfterRaising.{
   raised-along,
   raised-against,
@@ -21,9 +22,10 @@ use Rattle.pc_board.proofs.AfterRaising.{
   raised-joined,
   raised-for,
 }
-use Rattle.pc_search.specs.Searches.{stair_at, gap_at, IsSearch, IsWaiting, IsOnStairs, AreLed}
-use Rattle.pc_search.specs.Growing.{AreSettled}
-use Rattle.pc_search.specs.Labelling.{length_at, slope_at, slopes_in, IsStateWith, IsAboveAllCrash, IsBetween, HasRaised}
+use Rattle.pc_search.specs.inside.Searches.{stair_at, gap_at, IsSearch, IsWaiting, IsOnStairs, AreLed}
+use Rattle.pc_search.specs.inside.Growing.{AreSettled}
+use Rattle.pc_search.specs.Labelling.{length_at, slopes_in}
+use Rattle.pc_search.specs.inside.Labelling.{slope_at, IsStateWith, IsAboveAllCrash, IsBetween, HasRaised}
 use Rattle.pc_search.proofs.StateLaws.{IsKnown, slopes-small, value-bounded, flow-bounded}
 use Rattle.pc_search.proofs.RaiseLaws.{on-raised, settled-raised}
 

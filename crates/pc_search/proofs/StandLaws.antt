@@ -6,11 +6,12 @@ use Rattle.pc_model.specs.Walk.{from_of, to_of}
 use Rattle.pc_curve_laws.specs.Segment.{is_forward, is_backward}
 use Rattle.pc_curve_laws.specs.Steps.{IsStairStuck, HasStop, HasNoStopBefore}
 use Rattle.pc_crash.specs.Priced.{PricedNetwork, knees_in}
-use Rattle.pc_board.specs.Sheets.{Sheet, time_of, rank_of, flow_of, slot_of}
-use Rattle.pc_board.specs.Labelling.{HaveRoom}
-use Rattle.pc_search.specs.Searches.{gap_at, next_at, last_at, IsSearch, IsWaiting, MayGoAlong, MayGoAgainst}
-use Rattle.pc_search.specs.Growing.{AreSettled}
-use Rattle.pc_search.specs.Choosing.{moving, HasChosen}
+use Rattle.pc_board.specs.Sheets.{Sheet, time_of, rank_of, flow_of}
+use Rattle.pc_board.specs.inside.Sheets.{slot_of}
+use Rattle.pc_board.specs.inside.Labelling.{HaveRoom}
+use Rattle.pc_search.specs.inside.Searches.{gap_at, next_at, last_at, IsSearch, IsWaiting, MayGoAlong, MayGoAgainst}
+use Rattle.pc_search.specs.inside.Growing.{AreSettled}
+use Rattle.pc_search.specs.inside.Choosing.{moving, HasChosen}
 use Rattle.pc_search.proofs.KeptLaws.{search-relisted}
 use Rattle.pc_search.proofs.ChoosingLaws.{IsChoosing, StillWaits, HasGone, SomeStopsAt}
 

@@ -15,10 +15,12 @@ use Rattle.pc_curve_laws.proofs.Flows.Bounds.{last_slopes-small}
 use Rattle.pc_curve_laws.proofs.Stairs.StairStates.{stair-value_above_crash, stair-units_bounded}
 use Rattle.pc_crash.specs.Priced.{PricedNetwork, knees_in, ArePiecesWithinLimits}
 use Rattle.pc_crash.specs.Terms.{AreWithinLimits}
-use Rattle.pc_board.specs.Sheets.{Sheet, rank_of, queue_of}
-use Rattle.pc_board.specs.Labelling.{HasStep}
-use Rattle.pc_search.specs.Searches.{IsSearch}
-use Rattle.pc_search.specs.Labelling.{length_at, slope_at, slopes_in, IsStateWith}
+use Rattle.pc_board.specs.Sheets.{Sheet, rank_of}
+use Rattle.pc_board.specs.inside.Sheets.{queue_of}
+use Rattle.pc_board.specs.inside.Labelling.{HasStep}
+use Rattle.pc_search.specs.inside.Searches.{IsSearch}
+use Rattle.pc_search.specs.Labelling.{length_at, slopes_in}
+use Rattle.pc_search.specs.inside.Labelling.{slope_at, IsStateWith}
 
 -- what holds between two labellings holds of times that are alike
 pub times-alike : (net : Network) (terms : List Term) (knees : Knees) (limit : ℕ) (time later along : ℕ → ℕ) (value : ℕ) → IsInRange net

@@ -3,9 +3,10 @@ use Rattle.std.proofs.Common.{ℕ, ◌<◌, length, inl, inr, ap, arith}
 use Rattle.std.proofs.lemmas.Bool.{cases_lt}
 use Rattle.pc_model.specs.Walk.{from_of, to_of}
 use Rattle.pc_crash.specs.Priced.{PricedNetwork}
-use Rattle.pc_board.specs.Sheets.{Sheet, rank_of, step_of, against_of}
-use Rattle.pc_board.specs.Labelling.{HasStep}
-use Rattle.pc_search.specs.Searches.{IsSearch}
+use Rattle.pc_board.specs.Sheets.{Sheet, rank_of}
+use Rattle.pc_board.specs.inside.Sheets.{step_of, against_of}
+use Rattle.pc_board.specs.inside.Labelling.{HasStep}
+use Rattle.pc_search.specs.inside.Searches.{IsSearch}
 
 module _ (net : PricedNetwork) (s : Sheet) (search : IsSearch net s) (f : ℕ) (known : f < s.events) (has : HasStep s f) where
   pub step-from_labelled : 0 < rank_of s (from_of net.network.arcs (step_of s f))

@@ -4,11 +4,11 @@ use Rattle.pc_model.specs.declared.Knee.{Knee}
 use Rattle.pc_model.specs.Walk.{to_of}
 use Rattle.pc_curve_laws.specs.Stair.{Stair, IsFalling, IsSameStair, full_reach, unit_length, IsOnStair}
 use Rattle.pc_curve_laws.proofs.Stairs.SameStair.{same-full_reach, same-unit, same-on_stair, on_same-stair, same-falling}
-use Rattle.pc_stair.specs.Rows.{stair}
+use Rattle.pc_stair.specs.inside.Rows.{stair}
 use Rattle.pc_stair.specs.declared.stop.Stop.{Stop}
 use Rattle.pc_crash.specs.Priced.{PricedNetwork}
 use Rattle.pc_board.specs.Sheets.{Sheet, time_of, flow_of}
-use Rattle.pc_search.specs.Searches.{stair_at, gap_at, IsSeen, IsOnStairs, StopsAlong, StopsAgainst}
+use Rattle.pc_search.specs.inside.Searches.{stair_at, gap_at, IsSeen, IsOnStairs, StopsAlong, StopsAgainst}
 
 module _ (net : PricedNetwork) (s : Sheet) (a from to crash : ℕ) (knees : List Knee) (known : a < length net.network.arcs)
     (seen : IsSeen net a from to crash knees)

@@ -2,11 +2,12 @@
 use Rattle.std.proofs.Common.{◌≡◌, ◌≢◌, ℕ, ◌+◌, ◌-◌, ◌<◌, refl, sym, ◌∙◌, ap, subst, inl, inr, arith}
 use Rattle.std.proofs.lemmas.Bool.{cases_eq, cases_lt}
 use Rattle.pc_crash.specs.Priced.{PricedNetwork}
-use Rattle.pc_board.specs.Sheets.{Sheet, waiting_of, slot_of}
-use Rattle.pc_board.specs.Moves.{WaitsOnce}
-use Rattle.pc_board.specs.Labelling.{HaveRoom}
+use Rattle.pc_board.specs.Sheets.{Sheet}
+use Rattle.pc_board.specs.inside.Sheets.{waiting_of, slot_of}
+use Rattle.pc_board.specs.inside.Moves.{WaitsOnce}
+use Rattle.pc_board.specs.inside.Labelling.{HaveRoom}
 use Rattle.pc_board.proofs.RoomLaws.{room-left}
-use Rattle.pc_search.specs.Searches.{IsWaiting, IsSearch, IsQuiet, StopsLater, IsSettled, Grows, IsVisited}
+use Rattle.pc_search.specs.inside.Searches.{IsWaiting, IsSearch, IsQuiet, StopsLater, IsSettled, Grows, IsVisited}
 use Rattle.pc_search.proofs.KeptLaws.{search-relisted}
 
 pub grows-none : (s : Sheet) → Grows s s

@@ -1,4 +1,2 @@
-pub mod Searches
-pub mod Growing
-pub mod Choosing
 pub mod Labelling
+pub mod inside

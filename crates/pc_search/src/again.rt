@@ -1,10 +1,11 @@
 //! The search after a raising.
 ghost use Rattle.std.specs.Prelude.{◌≡◌, ◌+◌, ◌*◌, ◌<◌, ◌≤◌, ℕ, length};
 ghost use Rattle.pc_model.specs.Sums.{sum_to};
-ghost use Rattle.pc_board.specs.Sheets.{Sheet, lost_of};
-ghost use Rattle.pc_board.specs.Labelling.{HaveRoom};
-ghost use Rattle.pc_search.specs.Searches.{IsSearch};
-ghost use Rattle.pc_search.specs.Growing.{degree, AreSettled, GoesOn, IsAtLost, HasLookedAgain};
+ghost use Rattle.pc_board.specs.Sheets.{Sheet};
+ghost use Rattle.pc_board.specs.inside.Sheets.{lost_of};
+ghost use Rattle.pc_board.specs.inside.Labelling.{HaveRoom};
+ghost use Rattle.pc_search.specs.inside.Searches.{IsSearch};
+ghost use Rattle.pc_search.specs.inside.Growing.{degree, AreSettled, GoesOn, IsAtLost, HasLookedAgain};
 
 use crate::search::Search;
 use pc_crash::Steps;

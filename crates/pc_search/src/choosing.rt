@@ -1,10 +1,10 @@
 //! How far the events without a label may fall.
 ghost use Rattle.std.specs.Prelude.{◌≡◌, ◌+◌, ◌<◌, length};
 ghost use Rattle.pc_board.specs.Sheets.{Sheet, rank_of};
-ghost use Rattle.pc_board.specs.Labelling.{HaveRoom};
-ghost use Rattle.pc_search.specs.Searches.{IsSearch, IsPricedBoard};
-ghost use Rattle.pc_search.specs.Growing.{AreSettled};
-ghost use Rattle.pc_search.specs.Choosing.{IsStopOf, HasChosen};
+ghost use Rattle.pc_board.specs.inside.Labelling.{HaveRoom};
+ghost use Rattle.pc_search.specs.inside.Searches.{IsSearch, IsPricedBoard};
+ghost use Rattle.pc_search.specs.inside.Growing.{AreSettled};
+ghost use Rattle.pc_search.specs.inside.Choosing.{IsStopOf, HasChosen};
 
 use crate::search::Search;
 use pc_crash::Steps;

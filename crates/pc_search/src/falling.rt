@@ -1,7 +1,7 @@
 //! The events without a label fall.
 ghost use Rattle.std.specs.Prelude.{◌≡◌};
-ghost use Rattle.pc_search.specs.Growing.{AreListed};
-ghost use Rattle.pc_search.specs.Labelling.{IsBetween, MayFall, HasFallen};
+ghost use Rattle.pc_search.specs.inside.Growing.{AreListed};
+ghost use Rattle.pc_search.specs.inside.Labelling.{IsBetween, MayFall, HasFallen};
 
 use crate::search::Search;
 

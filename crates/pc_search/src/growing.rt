@@ -1,9 +1,9 @@
 //! Labels that are given along steps with room, from event to event.
 ghost use Rattle.std.specs.Prelude.{◌≡◌, ◌+◌, ◌*◌, ◌<◌, ◌≤◌, ℕ, length, slice_index};
 ghost use Rattle.pc_model.specs.Greatest.{StandsBelow};
-ghost use Rattle.pc_board.specs.Labelling.{HaveRoom};
-ghost use Rattle.pc_search.specs.Searches.{IsSearch};
-ghost use Rattle.pc_search.specs.Growing.{IsAt, degree, AreListed, AreSettled, GoesOn, HasSettled, HasGrown};
+ghost use Rattle.pc_board.specs.inside.Labelling.{HaveRoom};
+ghost use Rattle.pc_search.specs.inside.Searches.{IsSearch};
+ghost use Rattle.pc_search.specs.inside.Growing.{IsAt, degree, AreListed, AreSettled, GoesOn, HasSettled, HasGrown};
 
 use crate::search::Search;
 use pc_crash::Steps;

@@ -1,8 +1,9 @@
 //! A whole labelling: the flow raised until the labels come to a stand.
 ghost use Rattle.std.specs.Prelude.{◌≡◌, ◌+◌, ◌*◌, ◌<◌, ◌≤◌, length};
 ghost use Rattle.pc_board.specs.Sheets.{rank_of};
-ghost use Rattle.pc_search.specs.Growing.{AreListed};
-ghost use Rattle.pc_search.specs.Labelling.{IsBetween, IsAboveAllCrash, IsUnderWay, Rises, HasLabelled, slope_at, slopes_in};
+ghost use Rattle.pc_search.specs.inside.Growing.{AreListed};
+ghost use Rattle.pc_search.specs.Labelling.{slopes_in};
+ghost use Rattle.pc_search.specs.inside.Labelling.{IsBetween, IsAboveAllCrash, IsUnderWay, Rises, HasLabelled, slope_at};
 
 use crate::search::Search;
 use pc_crash::Steps;

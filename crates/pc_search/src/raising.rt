@@ -1,8 +1,8 @@
 //! The flow raised where the labels reach the end.
 ghost use Rattle.std.specs.Prelude.{◌≡◌, ◌<◌};
 ghost use Rattle.pc_board.specs.Sheets.{rank_of};
-ghost use Rattle.pc_search.specs.Growing.{AreSettled};
-ghost use Rattle.pc_search.specs.Labelling.{IsBetween, IsAboveAllCrash, HasRaised};
+ghost use Rattle.pc_search.specs.inside.Growing.{AreSettled};
+ghost use Rattle.pc_search.specs.inside.Labelling.{IsBetween, IsAboveAllCrash, HasRaised};
 
 use crate::search::Search;
 

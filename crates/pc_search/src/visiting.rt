@@ -1,10 +1,10 @@
 //! An activity looked at, and the event at its far end labelled where its step has room.
 ghost use Rattle.std.specs.Prelude.{◌≡◌, ◌+◌, ◌<◌, ◌≤◌, ◌^◌, length};
 ghost use Rattle.pc_model.specs.Walk.{from_of, to_of};
-ghost use Rattle.pc_crash.specs.Looks.{IsLookAt};
+ghost use Rattle.pc_crash.specs.inside.Looks.{IsLookAt};
 ghost use Rattle.pc_model.specs.Network.{IsInRange};
-ghost use Rattle.pc_board.specs.Labelling.{HaveRoom, IsFor};
-ghost use Rattle.pc_search.specs.Searches.{IsSearch, IsSeen, IsPricedBoard, IsWay, MayGoAlong, MayGoAgainst, StopsAlong, StopsAgainst, StopsAfter, StopsLater, IsVisited};
+ghost use Rattle.pc_board.specs.inside.Labelling.{HaveRoom, IsFor};
+ghost use Rattle.pc_search.specs.inside.Searches.{IsSearch, IsSeen, IsPricedBoard, IsWay, MayGoAlong, MayGoAgainst, StopsAlong, StopsAgainst, StopsAfter, StopsLater, IsVisited};
 
 use crate::search::Search;
 use crate::way::Way;

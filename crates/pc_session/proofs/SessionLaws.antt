@@ -5,17 +5,19 @@ use Rattle.std.specs.declared.alloc.Global.{Global}
 use Rattle.pc_project.specs.Project.{Project}
 use Rattle.pc_talk.specs.declared.talking.TalkError.{TalkError}
 use Rattle.pc_talk.specs.declared.talking.TalkError.TheVariants as talk
-use Rattle.pc_talk.specs.Talk.{Answered, Ends}
+use Rattle.pc_talk.specs.inside.Talk.{Answered, Ends}
 use Rattle.pc_reading.specs.declared.status.Status.{Status}
-use Rattle.pc_reading.specs.OneWord.{IsOneWord, EndsWithout}
-use Rattle.pc_reading.specs.OneWord as ends
-use Rattle.pc_reading.specs.Reading.{HasProject}
+use Rattle.pc_reading.specs.OneWord.{IsOneWord}
+use Rattle.pc_reading.specs.inside.OneWord.{EndsWithout}
+use Rattle.pc_reading.specs.inside.OneWord as ends
+use Rattle.pc_reading.specs.inside.Reading.{HasProject}
 use Rattle.pc_reading.specs.Sides.{Side, side, IsUntouched}
 use Rattle.pc_reading.specs.Verdict.{AcceptedBy, IsProjectOf}
 use Rattle.pc_reading.proofs.SideLaws.{of_one}
 use Rattle.pc_session.specs.Heard.{Meaning, AnswersOn, HasAnswered, IsHeard, session_usage_text}
-use Rattle.pc_session.specs.Hearing.{Hearing, all, passed, unread, cut, no_room, status_of}
-use Rattle.pc_session.specs.SessionOutcome.{SessionOutcome, heard_out, too_long, deck_refused, usage, no_memory, read_fault, write_fault, deck_unread, edits_unread, in_answers, in_refusal, in_usage}
+use Rattle.pc_session.specs.inside.Hearing.{Hearing, all, passed, unread, cut, no_room, status_of}
+use Rattle.pc_session.specs.SessionOutcome.{deck_unread, edits_unread, in_answers, in_refusal, in_usage}
+use Rattle.pc_session.specs.inside.SessionOutcome.{SessionOutcome, heard_out, too_long, deck_refused, usage, no_memory, read_fault, write_fault}
 
 -- ---- what a talk comes to
 

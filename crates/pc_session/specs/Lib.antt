@@ -1,6 +1,6 @@
 pub mod Heard
-pub mod Hearing
 pub mod SessionOutcome
+pub mod inside
 pub use Rattle.pc_edges.specs.Faults
 pub use Rattle.pc_edges.specs.Writes
 pub use Rattle.pc_deck.specs.Deck

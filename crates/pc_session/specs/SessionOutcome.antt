@@ -2,11 +2,9 @@
 use Rattle.std.specs.Prelude.{List, String}
 use Rattle.std.specs.declared.alloc.Global.{Global}
 use Rattle.pc_deck.specs.Limits.{longest_deck}
-use Rattle.pc_reading.specs.declared.status.Status.{Status}
-use Rattle.pc_reading.specs.declared.status.Status.TheVariants.{Done, Refused, Usage, OutOfMemory, ReadFault, WriteFault, TooLong}
-use Rattle.pc_reading.specs.Sides.{Side, HadFault, IsUntouched, Took, TookAtMost, TookFront}
-use Rattle.pc_reading.specs.OneWord.{IsDeckRefused, IsOneWord, IsRefusalCut}
-use Rattle.pc_session.specs.Heard.{session_usage_text, Meaning, IsHeardOut, IsHeardTooLong, IsHeardUnread, IsHeardCut}
+use Rattle.pc_reading.specs.Sides.{Side, HadFault, IsUntouched, TookAtMost, TookFront}
+use Rattle.pc_reading.specs.OneWord.{IsOneWord, IsRefusalCut}
+use Rattle.pc_session.specs.Heard.{session_usage_text, Meaning, IsHeardUnread, IsHeardCut}
 
 -- what could not be read: the deck, of which no more was taken than a deck may have, and of the edits nothing; or the edits, whose whole
 -- lines before that were answered
@@ -20,13 +18,3 @@ pub data IsSessionCut {D C O E : Type 0} (means : Meaning) (words : List (String
   in_answers : IsOneWord words → IsHeardCut means deck edits out → IsUntouched err → IsSessionCut means words deck edits out err
   in_refusal : IsRefusalCut words deck err → IsUntouched edits → IsUntouched out → IsSessionCut means words deck edits out err
   in_usage : (IsOneWord words → ⊥) → TookFront err session_usage_text → IsUntouched deck → IsUntouched edits → IsUntouched out → IsSessionCut means words deck edits out err
-
--- what a session that ended with the status means and leaves behind
-pub data SessionOutcome {D C O E : Type 0} (means : Meaning) (words : List (String Global)) (deck : Side D) (edits : Side C) (out : Side O) (err : Side E) : Status → Type 0 where
-  heard_out : IsOneWord words → IsHeardOut means deck edits out → IsUntouched err → SessionOutcome means words deck edits out err Done
-  too_long : IsOneWord words → IsHeardTooLong means deck edits out → IsUntouched err → SessionOutcome means words deck edits out err TooLong
-  deck_refused : IsDeckRefused words deck err → IsUntouched edits → IsUntouched out → SessionOutcome means words deck edits out err Refused
-  usage : (IsOneWord words → ⊥) → Took err session_usage_text → IsUntouched deck → IsUntouched edits → IsUntouched out → SessionOutcome means words deck edits out err Usage
-  no_memory : IsOneWord words → IsUntouched edits → IsUntouched out → IsUntouched err → SessionOutcome means words deck edits out err OutOfMemory
-  read_fault : IsOneWord words → IsUnread means deck edits out → IsUntouched err → SessionOutcome means words deck edits out err ReadFault
-  write_fault : IsSessionCut means words deck edits out err → SessionOutcome means words deck edits out err WriteFault

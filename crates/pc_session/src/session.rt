@@ -8,8 +8,9 @@ ghost use Rattle.pc_reading.specs.OneWord.{IsDeckRefused, IsOneWord};
 ghost use Rattle.pc_reading.specs.Sides.{side, HadNoFault, IsReadToEnd, OfBytes, OfDeck, Took, TookAtMost};
 ghost use Rattle.pc_reading.specs.Verdict.{AcceptedBy, RefusedBy};
 ghost use Rattle.pc_session.specs.Heard.{session_usage_text, IsHeardOut, IsHeardTooLong};
-ghost use Rattle.pc_session.specs.Hearing.{Hearing, status_of};
-ghost use Rattle.pc_session.specs.SessionOutcome.{SessionOutcome, IsSessionCut, IsUnread};
+ghost use Rattle.pc_session.specs.inside.Hearing.{Hearing, status_of};
+ghost use Rattle.pc_session.specs.SessionOutcome.{IsSessionCut, IsUnread};
+ghost use Rattle.pc_session.specs.inside.SessionOutcome.{SessionOutcome};
 ghost use Rattle.pc_whatif.specs.Planning.{AnswersLines};
 
 use pc_edges::{Sink, Source};

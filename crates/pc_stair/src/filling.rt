@@ -1,7 +1,7 @@
 //! A whole flow over the knees of an activity, filled in their order.
 ghost use Rattle.std.specs.Prelude.{◌≡◌, ◌<◌, ℕ, length};
 ghost use Rattle.pc_curve_laws.specs.Stair.{knee_flow, crash_flow};
-ghost use Rattle.pc_stair.specs.Rows.{stair};
+ghost use Rattle.pc_stair.specs.inside.Rows.{stair};
 
 use pc_model::Knee;
 

@@ -1,7 +1,7 @@
 //! The piece of a staircase on which a unit of flow runs.
 ghost use Rattle.std.specs.Prelude.{◌≡◌, ◌+◌, ◌<◌, ◌^◌};
 ghost use Rattle.pc_curve_laws.specs.Stair.{full_reach, unit_length, IsPiece};
-ghost use Rattle.pc_stair.specs.Rows.{stair};
+ghost use Rattle.pc_stair.specs.inside.Rows.{stair};
 
 use pc_model::Knee;
 

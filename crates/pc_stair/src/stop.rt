@@ -1,7 +1,7 @@
 //! How far a gap may change while the flow stays as it is, and what room the flow has where it may not.
 ghost use Rattle.std.specs.Prelude.{◌≡◌, ◌+◌, ◌-◌, ◌<◌, ◌≤◌, ◌^◌};
 ghost use Rattle.pc_curve_laws.specs.Stair.{full_reach, unit_length, IsFalling, IsOnStair};
-ghost use Rattle.pc_stair.specs.Rows.{stair};
+ghost use Rattle.pc_stair.specs.inside.Rows.{stair};
 
 use crate::piece::piece_of;
 use pc_model::Knee;

@@ -6,7 +6,7 @@ use Rattle.std.proofs.lemmas.List.{get_or_default}
 use Rattle.pc_faults.specs.declared.status.StatusFault.TheVariants.{Early}
 use Rattle.pc_status.specs.declared.row.StatusRow.{StatusRow}
 use Rattle.pc_status.specs.Statuses.{status_at, IsOf, IsFirstOf, AreInOrder}
-use Rattle.pc_status.specs.Firsts.{option_at, FirstBelow, AreFirsts}
+use Rattle.pc_status.specs.inside.Firsts.{option_at, FirstBelow, AreFirsts}
 
 -- a first status that was read
 pub record IsFound (statuses : List StatusRow) (ended : Bool) (a k : ℕ) (row : StatusRow) : Type 0 where

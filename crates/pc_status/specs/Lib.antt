@@ -1,3 +1,2 @@
 pub mod Statuses
-pub mod Firsts
-pub mod Parts
+pub mod inside

@@ -81,11 +81,6 @@ IsStateOf start statuses a (Started at) =
     ((j : ℕ) → IsOf statuses true a j → ⊥) × ((k : ℕ) × (IsFirstOf statuses false a k × IsSixths start (status_at statuses k).day at))
 IsStateOf start statuses a Waiting = (ended : Bool) (j : ℕ) → IsOf statuses ended a j → ⊥
 
--- the statuses of so many activities
-pub record StatusLog : Type 0 where
-  pub activities : ℕ
-  pub statuses : List StatusRow
-
 -- each status is of one of the activities
 abbrev pub AreKnown : ℕ → List StatusRow → Type 0
 AreKnown activities statuses = (k : ℕ) → k < length statuses → (status_at statuses k).activity < activities

@@ -2,7 +2,7 @@
 ghost use Rattle.std.specs.Prelude.{◌≡◌, ◌≤◌, length, IfOk};
 ghost use Rattle.pc_model.specs.declared.limits.TheConstants.{MAX_STATUSES};
 ghost use Rattle.pc_status.specs.Statuses.{AreKnown};
-ghost use Rattle.pc_status.specs.Firsts.{AreFirsts, first_or};
+ghost use Rattle.pc_status.specs.inside.Firsts.{AreFirsts, first_or};
 
 use crate::row::StatusRow;
 use std::alloc::{AllocError, Global};

@@ -23,11 +23,11 @@ pub struct Log {
 }
 
 impl Model for Log {
-    ghost use Rattle.pc_status.specs.Statuses.{StatusLog};
+    ghost use Rattle.pc_status.specs.inside.Statuses.{StatusLog};
 
     ghost Value = { StatusLog };
 
-    ghost use Rattle.pc_status.specs.Parts.{log_from, AreParts};
+    ghost use Rattle.pc_status.specs.inside.Parts.{log_from, AreParts};
 
     ghost view = { log_from };
 

@@ -1,7 +1,7 @@
 //! Why a status is in disorder.
 ghost use Rattle.std.specs.Prelude.{◌≡◌, ℕ, ◌<◌, IsTrue, length, IfSome, IfNone, OnSome, false};
 ghost use Rattle.pc_status.specs.Statuses.{IsReason, IsInOrder, IsWithoutStart, IsBeforeStart, status_at};
-ghost use Rattle.pc_status.specs.Firsts.{FirstBelow, IsFinishReason};
+ghost use Rattle.pc_status.specs.inside.Firsts.{FirstBelow, IsFinishReason};
 
 use crate::row::StatusRow;
 use pc_days::Day;

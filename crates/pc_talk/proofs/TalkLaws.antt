@@ -8,9 +8,9 @@ use Rattle.pc_edges.specs.Writes.{Wrote, Stopped}
 use Rattle.pc_edges.proofs.Writing.{Rose-earlier, Wrote-nil, Wrote-then, Stopped-after}
 use Rattle.pc_lines.specs.declared.reader.TheConstants.{INPUT_LIMIT}
 use Rattle.pc_lines.specs.Lines.{lines_of}
-use Rattle.pc_lines.specs.Reading.{Reading, kept, StandsFor, Gave, GaveLast, GaveAll, FailedBehind, PassedLimit}
+use Rattle.pc_lines.specs.inside.Reading.{Reading, kept, StandsFor, Gave, GaveLast, GaveAll, FailedBehind, PassedLimit}
 use Rattle.pc_lines.proofs.LineLaws.{lines_of-front}
-use Rattle.pc_talk.specs.Talk.{Talks, Answered, IsDone, IsUnread, IsTooLong, IsCut}
+use Rattle.pc_talk.specs.inside.Talk.{Talks, Answered, IsDone, IsUnread, IsTooLong, IsCut}
 
 -- one line more is answered
 pub Talks-more : {T : Type 0} (says : T → List ℕ → List ℕ → T → Type 0) (old middle new : T) (lines : List (List ℕ)) (line text answer : List ℕ)

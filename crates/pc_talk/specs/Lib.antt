@@ -1,3 +1,3 @@
-pub mod Talk
+pub mod inside
 pub use Rattle.pc_edges.specs.Faults
 pub use Rattle.pc_edges.specs.Writes

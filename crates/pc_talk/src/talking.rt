@@ -1,8 +1,8 @@
 //! Talking.
 ghost use Rattle.std.specs.Prelude.{◌≡◌, ℕ, List, []};
-ghost use Rattle.pc_edges.specs.Writes.{Writes};
-ghost use Rattle.pc_lines.specs.Reading.{StandsFor};
-ghost use Rattle.pc_talk.specs.Talk.{Ends};
+ghost use Rattle.pc_edges.specs.inside.Writes.{Writes};
+ghost use Rattle.pc_lines.specs.inside.Reading.{StandsFor};
+ghost use Rattle.pc_talk.specs.inside.Talk.{Ends};
 
 use pc_edges::{Failed, Sink, Source};
 use pc_lines::{LineError, LineReader, Next};

@@ -7,7 +7,7 @@ use Rattle.std.proofs.lemmas.Bool.Decides.{nat_tests}
 use Rattle.std.proofs.lemmas.List.{append-nil, get_or-replicate, get_or-set_other, get_or-set_same, length-replicate, length-set, map-id}
 use Rattle.std.proofs.lemmas.List.Elements.{All-from_get_or, All-head, All-tail}
 use Rattle.std.proofs.lemmas.List.FromFn.{filter_of_map_range_with_len_more, get_or-range_with_len, length-range_with_len}
-use Rattle.pc_tasks.specs.Marks.{AreMarks}
+use Rattle.pc_tasks.specs.inside.Marks.{AreMarks}
 
 -- no mark is set at first
 pub no_marks : (n : ℕ) → AreMarks n (λ i. false) (replicate n false)

@@ -6,7 +6,7 @@ use Rattle.pc_arrows.specs.Cycles.{IsFirstTaskCycle, IsTaskWalk}
 use Rattle.pc_arrows.specs.Tasks.{AreAmong}
 use Rattle.pc_arrows.specs.declared.AfterRow.{AfterRow}
 use Rattle.pc_deck.specs.Deck.{Deck}
-use Rattle.pc_faults.specs.First.{Refuses}
+use Rattle.pc_faults.specs.inside.First.{Refuses}
 use Rattle.pc_faults.specs.declared.fault.DeckError.{DeckError}
 use Rattle.pc_faults.specs.declared.fault.DeckError.TheVariants.{Fault, OutOfMemory}
 use Rattle.pc_project.specs.Project.{rows_of}

@@ -1,11 +1,10 @@
 -- What the project and the text of the arrows of a deck of tasks are.
-use Rattle.std.specs.Prelude.{◌↔◌, ℕ, List}
+use Rattle.std.specs.Prelude.{◌↔◌, ℕ}
 use Rattle.pc_model.specs.Cost.{IsLeastCost}
 use Rattle.pc_model.specs.Pieces.{knees_of}
 use Rattle.pc_model.specs.Schedule.{HasSchedule}
 use Rattle.pc_arrows.specs.Tasks.{HasTaskSchedule, IsLeastTaskCost}
 use Rattle.pc_deck.specs.Deck.{Deck}
-use Rattle.pc_deck_text.specs.Written.{IsDeckText}
 use Rattle.pc_project.specs.Figures.{IsProjectOfDeck}
 use Rattle.pc_project.specs.Project.{Project}
 use Rattle.pc_tasks.specs.Drawn.{drawn}
@@ -24,9 +23,3 @@ pub record IsDrawnProject (deck : Deck) (project : Project) : Type 0 where
   pub makes : MakesArrows deck
   pub is : IsProjectOfDeck (drawn deck) project
   pub keeps : KeepsTasks deck project
-
--- the text is that of the plan that is drawn of the tasks
-pub record IsArrowsText (deck : Deck) (text : List ℕ) : Type 0 where
-  pub project : Project
-  pub drawn : IsDrawnProject deck project
-  pub written : IsDeckText project text

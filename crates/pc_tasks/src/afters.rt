@@ -3,7 +3,7 @@ ghost use Rattle.std.specs.Prelude.{◌≡◌, IfOk, IfErr, OnOk, None};
 ghost use Rattle.std.specs.List.{Any};
 ghost use Rattle.pc_faults.specs.First.{IsFirst};
 ghost use Rattle.pc_faults.specs.declared.fault.Fault.{Fault};
-ghost use Rattle.pc_project.specs.First.{IsFirstIn};
+ghost use Rattle.pc_project.specs.inside.First.{IsFirstIn};
 ghost use Rattle.pc_tasks.specs.Lists.{after_row, afters_in};
 ghost use Rattle.pc_tasks.specs.Misfit.{HasAfterFault};
 

@@ -1,10 +1,11 @@
 //! The arrows of a deck of tasks, or its first fault.
 ghost use Rattle.std.specs.Prelude.{◌≡◌, IfOk, IfErr};
-ghost use Rattle.pc_faults.specs.First.{Refuses};
+ghost use Rattle.pc_faults.specs.inside.First.{Refuses};
 ghost use Rattle.pc_tasks.specs.Drawn.{drawn};
 ghost use Rattle.pc_tasks.specs.Lists.{afters_in};
 ghost use Rattle.pc_tasks.specs.Refusal.{HasSoundTasks, IsTasksRefusedWith};
-ghost use Rattle.pc_tasks.specs.Text.{IsArrowsText, IsDrawnProject};
+ghost use Rattle.pc_tasks.specs.Text.{IsDrawnProject};
+ghost use Rattle.pc_tasks.specs.inside.Text.{IsArrowsText};
 ghost use Rattle.pc_cards.specs.declared.sort.Sort.TheVariants.{Tasks};
 ghost use Rattle.pc_deck.specs.Within.{IsWithin};
 

@@ -3,7 +3,7 @@ ghost use Rattle.std.specs.Prelude.{◌≡◌, ◌<◌, ◌^◌, false, not, fil
 ghost use Rattle.pc_arrows.specs.Arrows.{comes_after, comes_before, firsts, lasts};
 ghost use Rattle.pc_arrows.specs.Tasks.{AreAmong};
 ghost use Rattle.std.specs.List.{range_with_len};
-ghost use Rattle.pc_tasks.specs.Marks.{AreMarks};
+ghost use Rattle.pc_tasks.specs.inside.Marks.{AreMarks};
 
 use pc_arrows::AfterRow;
 use std::alloc::{AllocError, Global};

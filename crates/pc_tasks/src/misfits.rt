@@ -1,8 +1,9 @@
 //! The first fault of all cards by themselves.
 ghost use Rattle.std.specs.Prelude.{◌≡◌, IfOk, IfErr, OnOk};
 ghost use Rattle.std.specs.List.{Any};
-ghost use Rattle.pc_faults.specs.First.{IsFirst, Refuses};
-ghost use Rattle.pc_project.specs.First.{IsFirstIn};
+ghost use Rattle.pc_faults.specs.First.{IsFirst};
+ghost use Rattle.pc_faults.specs.inside.First.{Refuses};
+ghost use Rattle.pc_project.specs.inside.First.{IsFirstIn};
 ghost use Rattle.pc_tasks.specs.Lists.{afters_in};
 ghost use Rattle.pc_tasks.specs.Misfit.{HasAfterFault, HasMisfit, HasNoMisfit};
 

@@ -5,7 +5,7 @@ ghost use Rattle.pc_deck.specs.Deck.{task_codes};
 ghost use Rattle.pc_faults.specs.Faults.{task_cycle};
 ghost use Rattle.pc_faults.specs.declared.fault.Fault.{Fault as ADeckFault};
 ghost use Rattle.pc_project.specs.Records.{codes_at};
-ghost use Rattle.pc_faults.specs.First.{Refuses};
+ghost use Rattle.pc_faults.specs.inside.First.{Refuses};
 ghost use Rattle.pc_tasks.specs.Lists.{afters_in};
 ghost use Rattle.pc_tasks.specs.Misfit.{HasNoMisfit};
 ghost use Rattle.pc_tasks.specs.Refusal.{HasLoneTop, HasSoundItems, HasSoundTasks, IsCycleFault, IsTasksRefusedWith, task_records};

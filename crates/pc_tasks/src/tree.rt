@@ -1,6 +1,6 @@
 //! The tree of the items, or why they are none.
 ghost use Rattle.std.specs.Prelude.{IfErr, OnOk};
-ghost use Rattle.pc_faults.specs.First.{Refuses};
+ghost use Rattle.pc_faults.specs.inside.First.{Refuses};
 ghost use Rattle.pc_project.specs.Project.{rows_of};
 ghost use Rattle.pc_wbs.specs.Climb.{IsTree};
 ghost use Rattle.pc_tasks.specs.Misfit.{HasNoMisfit};

@@ -1,6 +1,6 @@
 //! The benchmark's deck of four activities and what is said of its curve, both worked by hand.
 ghost use Rattle.std.specs.Prelude.{◌≡◌, [], length, IfSome};
-ghost use Rattle.pc_crash.specs.Steps.{IsBlankOf};
+ghost use Rattle.pc_crash.specs.inside.Steps.{IsBlankOf};
 
 use crate::curves::solver;
 use pc_bench::{bench_deck, write_bench};

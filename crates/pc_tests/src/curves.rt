@@ -1,6 +1,6 @@
 //! The segments of small time-cost curves, one after another.
 ghost use Rattle.std.specs.Prelude.{◌≡◌, ◌<◌, ◌≤◌, false, [], length, IfOk, IfSome};
-ghost use Rattle.pc_crash.specs.Steps.{IsBlankOf};
+ghost use Rattle.pc_crash.specs.inside.Steps.{IsBlankOf};
 
 use crate::small::{small_net, small_priced};
 use pc_cells::Region;

@@ -1,7 +1,7 @@
 //! What time costs, and the length for which the small network costs least in all.
 ghost use Rattle.std.specs.Prelude.{◌≡◌, ◌≤◌, false, length};
 ghost use Rattle.pc_model.specs.TimeCost.{AreTimeTerms};
-ghost use Rattle.pc_crash.specs.Steps.{IsBlankOf};
+ghost use Rattle.pc_crash.specs.inside.Steps.{IsBlankOf};
 
 use crate::curves::solver;
 use crate::small::{small_net, small_priced};

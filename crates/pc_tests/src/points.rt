@@ -1,6 +1,6 @@
 //! The breakpoints of the small network's curve, its least costs, and a cheapest schedule.
 ghost use Rattle.std.specs.Prelude.{◌≡◌, ◌≤◌, false, length};
-ghost use Rattle.pc_crash.specs.Steps.{IsBlankOf};
+ghost use Rattle.pc_crash.specs.inside.Steps.{IsBlankOf};
 
 use crate::curves::solver;
 use crate::small::{small_net, small_priced};

@@ -1,6 +1,6 @@
 //! What the small network says of its prices, and what durations cost.
 ghost use Rattle.std.specs.Prelude.{◌≡◌, ◌<◌, ◌≤◌, length};
-ghost use Rattle.pc_crash.specs.Steps.{IsBlankOf};
+ghost use Rattle.pc_crash.specs.inside.Steps.{IsBlankOf};
 
 use crate::small::{small_net, small_priced};
 use pc_crash::{CrashNet, Knee, Steps, Term};

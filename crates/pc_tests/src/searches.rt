@@ -1,7 +1,7 @@
 //! Which way labels may cross an activity. The calls that ask for a whole state of a search are made by a solver in the tests of
 //! `curves`.
 ghost use Rattle.std.specs.Prelude.{◌≡◌, length};
-ghost use Rattle.pc_crash.specs.Steps.{IsBlankOf};
+ghost use Rattle.pc_crash.specs.inside.Steps.{IsBlankOf};
 
 use crate::small::{small_net, small_priced};
 use pc_board::Board;

@@ -6,8 +6,8 @@ use Rattle.std.specs.Cmp.{first_so, second_so}
 use Rattle.std.specs.Int.{w128, from_le_bytes}
 use Rattle.std.specs.List.{list_all, take_while}
 use Rattle.pc_text.specs.Code.{is_code, is_code_byte}
-use Rattle.pc_text.specs.CodeNumber.{value_of, bytes_of, number_of, code_in}
-use Rattle.pc_text.specs.Words.{padded}
+use Rattle.pc_text.specs.inside.CodeNumber.{value_of, bytes_of, number_of, code_in}
+use Rattle.pc_text.specs.inside.Words.{padded}
 
 -- the bytes of a number that was made of bytes are these
 bytes_of-value : (bs : List ℕ) (k : ℕ) → length bs ≡ k → ((i : ℕ) → get_or bs i 0 < 256) → bytes_of k (value_of bs) ≡ bs

@@ -8,7 +8,8 @@ use Rattle.std.specs.List.{list_all}
 use Rattle.std.specs.Char.{is_ascii_digit}
 use Rattle.std.specs.Fmt.{decimal}
 use Rattle.std.specs.Int.{IsInRange}
-use Rattle.pc_text.specs.Number.{is_plain, is_number, value_of, value_after, IsDecimal}
+use Rattle.pc_text.specs.Number.{is_number, value_after}
+use Rattle.pc_text.specs.inside.Number.{is_plain, value_of, IsDecimal}
 
 -- the tests and the value here are std's digits and their value
 pub own : IsNumeralModel (λ ds. list_all is_ascii_digit ds ≡ true) (value_after 0)

@@ -7,10 +7,6 @@ use Rattle.std.specs.Char.{is_ascii_alphanumeric}
 abbrev pub is_code_byte : ℕ → Bool
 is_code_byte b = is_ascii_alphanumeric b || (b == 46 || (b == 95 || b == 45))
 
--- 1 to 16 bytes
-abbrev pub has_code_length : List ℕ → Bool
-has_code_length field = nat_le 1 (length field) && nat_le (length field) 16
-
 -- 1 to 16 bytes, each of which a code may have
 abbrev pub is_code : List ℕ → Bool
 is_code field = nat_le 1 (length field) && (nat_le (length field) 16 && list_all is_code_byte field)

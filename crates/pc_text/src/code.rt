@@ -4,10 +4,11 @@ ghost use Rattle.std.specs.Ordering.{nat_cmp};
 ghost use Rattle.std.specs.Cmp.{partial_equiv_from_equiv};
 ghost use Rattle.std.specs.Cmp.Lexicographic.{pointwise, slice_cmp, nat_list_eq_equiv, nat_list_cmp_total, texts_ties, texts_po};
 ghost use Rattle.std.specs.List.{list_all};
-ghost use Rattle.pc_text.specs.Code.{is_code_byte, has_code_length, is_code, code_of};
-ghost use Rattle.pc_text.specs.CodeCells.{cells_of, same_cells};
-ghost use Rattle.pc_text.specs.CodeNumber.{number_of, code_in};
-ghost use Rattle.pc_text.specs.Words.{padded};
+ghost use Rattle.pc_text.specs.Code.{is_code_byte, is_code, code_of};
+ghost use Rattle.pc_text.specs.inside.Code.{has_code_length};
+ghost use Rattle.pc_text.specs.inside.CodeCells.{cells_of, same_cells};
+ghost use Rattle.pc_text.specs.inside.CodeNumber.{number_of, code_in};
+ghost use Rattle.pc_text.specs.inside.Words.{padded};
 
 use std::cmp::Ordering;
 use std::hash::{Hash, Hasher};
@@ -38,8 +39,8 @@ pub struct Code {
 
 impl Model for Code {
     ghost use Rattle.std.specs.Prelude.{◌≡◌, ℕ, List, length, take, true};
-    ghost use Rattle.pc_text.specs.Words.{padded, length-IsPadded};
-    ghost use Rattle.pc_text.specs.CodeCells.{IsCodeCells};
+    ghost use Rattle.pc_text.specs.inside.Words.{padded, length-IsPadded};
+    ghost use Rattle.pc_text.specs.inside.CodeCells.{IsCodeCells};
     ghost use Rattle.std.proofs.Common.{sym};
 
     ghost Value = { List ℕ };

@@ -14,7 +14,7 @@ pub struct Line {
 
 impl Model for Line {
     ghost use Rattle.std.specs.Prelude.{◌≤◌, vec_len, vec_capacity};
-    ghost use Rattle.pc_text.specs.Line.{Line as Bytes};
+    ghost use Rattle.pc_text.specs.inside.Line.{Line as Bytes};
 
     ghost Value = { Bytes };
 

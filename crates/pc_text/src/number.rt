@@ -1,7 +1,8 @@
 //! Numbers as a deck writes them.
 ghost use Rattle.std.specs.Prelude.{◌≡◌, ◌≤◌, ℕ, IfSome, Some, decimal, length};
 ghost use Rattle.std.specs.Fmt.{signed_decimal};
-ghost use Rattle.pc_text.specs.Number.{is_plain, value_of, number_of, IsDecimal};
+ghost use Rattle.pc_text.specs.Number.{number_of};
+ghost use Rattle.pc_text.specs.inside.Number.{is_plain, value_of, IsDecimal};
 
 use crate::decimals::{Decimal, of_signed, of_unsigned, of_wide};
 

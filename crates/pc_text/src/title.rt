@@ -2,7 +2,8 @@
 ghost use Rattle.std.specs.Prelude.{◌≡◌, nat_eq};
 ghost use Rattle.std.specs.Cmp.{partial_equiv_from_equiv};
 ghost use Rattle.std.specs.Cmp.Lexicographic.{pointwise, nat_list_eq_equiv};
-ghost use Rattle.pc_text.specs.Title.{is_title_shape, title_of};
+ghost use Rattle.pc_text.specs.Title.{is_title_shape};
+ghost use Rattle.pc_text.specs.inside.Title.{title_of};
 
 use crate::words::pad;
 use std::marker::Model;
@@ -19,7 +20,7 @@ pub struct Title {
 
 impl Model for Title {
     ghost use Rattle.std.specs.Prelude.{◌≡◌, ℕ, List, length, take};
-    ghost use Rattle.pc_text.specs.Words.{padded, IsPadded, length-IsPadded};
+    ghost use Rattle.pc_text.specs.inside.Words.{padded, IsPadded, length-IsPadded};
     ghost use Rattle.std.proofs.Common.{sym};
 
     ghost Value = { List ℕ };

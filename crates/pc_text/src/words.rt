@@ -1,6 +1,6 @@
 //! What codes and titles share: a piece of text that lies in the value itself.
 ghost use Rattle.std.specs.Prelude.{◌≤◌, ◌≡◌, length};
-ghost use Rattle.pc_text.specs.Words.{padded};
+ghost use Rattle.pc_text.specs.inside.Words.{padded};
 
 /// The piece, and zeros behind it up to `N` bytes.
 pub fn pad<const N: usize>(piece: &[u8]) -> [u8; N]

@@ -4,7 +4,7 @@ use Rattle.std.proofs.Math.Nat.{mul-le-mul_right}
 use Rattle.std.proofs.lemmas.Bool.{cases_eq, cases_lt}
 use Rattle.std.proofs.lemmas.List.{ext_get_or, get_or_past}
 use Rattle.pc_model.specs.declared.limits.TheConstants.{MAX_EVENTS}
-use Rattle.pc_model.specs.Greatest.{IsListed}
+use Rattle.pc_model.specs.inside.Greatest.{IsListed}
 use Rattle.pc_model.specs.Walk.{from_of, to_of}
 use Rattle.pc_model.specs.Network.{Network, IsInRange, IsSound, IsOrder, IsEntered}
 use Rattle.pc_model.proofs.Walks.WalkLaws.{last_of_walk, greatest_unique}
@@ -13,7 +13,8 @@ use Rattle.pc_times.specs.declared.TheConstants.{MAX_LENGTH, MAX_TIME}
 use Rattle.pc_times.specs.declared.state.ActState.{ActState}
 use Rattle.pc_times.specs.declared.state.ActState.TheVariants.{Waiting, Started, Finished}
 use Rattle.pc_times.specs.Times.{AreLengths}
-use Rattle.pc_times.specs.Forecast.{Expected, state_at, finish_of, finish_at, IsFinishAt, IsForecast, IsSmallState, AreStates, IsLastAt, AreFinishes, AreLast}
+use Rattle.pc_times.specs.Forecast.{Expected, state_at, finish_of, IsFinishAt, IsForecast, IsSmallState, AreStates}
+use Rattle.pc_times.specs.inside.Forecast.{finish_at, IsLastAt, AreFinishes, AreLast}
 
 -- n is the greatest of what g gives for the first k of the items, or 0 where there are none
 pub record IsLastOf (g : ℕ → ℕ) (items : List ℕ) (k n : ℕ) : Type 0 where

@@ -6,9 +6,11 @@ use Rattle.std.proofs.lemmas.Int.{ints}
 use Rattle.std.proofs.lemmas.List.{length-map, get_or-map, map-append, take_more, take_all}
 use Rattle.std.proofs.Math.Nat.{mul-le-mul_right}
 use Rattle.pc_model.specs.Network.{Network}
-use Rattle.pc_times.specs.Times.{AreEarly, AreTails}
-use Rattle.pc_times.specs.Late.{AreLate, IsUpTo}
-use Rattle.pc_times.specs.Passes.{HasBoundedWalks}
+use Rattle.pc_times.specs.Times.{AreEarly}
+use Rattle.pc_times.specs.inside.Times.{AreTails}
+use Rattle.pc_times.specs.Late.{AreLate}
+use Rattle.pc_times.specs.inside.Late.{IsUpTo}
+use Rattle.pc_times.specs.inside.Passes.{HasBoundedWalks}
 use Rattle.pc_times.specs.declared.TheConstants.{MAX_LENGTH, MAX_TIME}
 
 -- the longest walk that a network can have takes the greatest time

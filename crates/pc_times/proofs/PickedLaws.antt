@@ -4,14 +4,16 @@ use Rattle.std.proofs.Common.{◌≡◌, ℕ, ◌+◌, ◌<◌, ◌≤◌, List,
 use Rattle.std.specs.List.{Contains}
 use Rattle.std.proofs.lemmas.List.{take-append-drop, drop_more, get_or_at}
 use Rattle.std.proofs.lemmas.Bool.{cases_eq, cases_lt}
-use Rattle.pc_model.specs.Greatest.{IsFirst, IsListed}
+use Rattle.pc_model.specs.Greatest.{IsFirst}
+use Rattle.pc_model.specs.inside.Greatest.{IsListed}
 use Rattle.pc_model.specs.Walk.{from_of, to_of, IsWalk, walk_sum, IsSumOfWalk}
 use Rattle.pc_model.specs.Network.{Network, IsInRange, IsSound, IsLongest}
 use Rattle.pc_model.proofs.Walks.WalkLaws.{IsWalk-append, IsWalk-push, walk_sum-append, walk_sum-push, split_walk, greatest_unique}
 use Rattle.pc_model.proofs.Walks.EarlyLaws.{early_at_start, early_fits}
-use Rattle.pc_times.specs.Times.{AreEarly, AreTails}
+use Rattle.pc_times.specs.Times.{AreEarly}
+use Rattle.pc_times.specs.inside.Times.{AreTails}
 use Rattle.pc_times.specs.Picked.{IsCriticalAt, IsPickedFrom, IsPickedWalk}
-use Rattle.pc_times.specs.Passes.{HasNoSlack}
+use Rattle.pc_times.specs.inside.Passes.{HasNoSlack}
 
 -- the first of the listed activities that meets the test, all of one event, is the first that does
 pub first_listed : (P : ℕ → Type 0) (n e k : ℕ) (place : ℕ → ℕ) (items : List ℕ) → ((a : ℕ) → P a → (a < n) × (place a ≡ e)) → IsListed (λ a. place a ≡ e) n items → k < length items → P (slice_index items k) → ((j : ℕ) → j < k → P (slice_index items j) → ⊥) → IsFirst P (slice_index items k)

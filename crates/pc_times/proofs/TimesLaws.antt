@@ -2,15 +2,16 @@
 use Rattle.std.proofs.Common.{◌≡◌, ◌≢◌, ℕ, ◌+◌, ◌*◌, ◌-◌, ◌<◌, ◌≤◌, List, [], ◌∷◌, ◌++◌, length, slice_index, get_or, set, get_or-set_same, get_or-set_other, length-set, ◌∙◌, refl, sym, ap, subst, ◌⊎◌, inl, inr, ⊎_elim, max, below_more, arith}
 use Rattle.std.proofs.Math.Nat.{mul-le-mul_right}
 use Rattle.std.proofs.lemmas.Bool.{cases_eq, cases_lt}
-use Rattle.pc_model.specs.Greatest.{IsListed}
+use Rattle.pc_model.specs.inside.Greatest.{IsListed}
 use Rattle.pc_model.specs.Walk.{from_of, to_of, IsWalk, walk_sum, IsSumOfWalk}
 use Rattle.pc_model.specs.Network.{Network, IsInRange, IsSound, IsOrder, IsEntered, IsLeft, IsEarly}
 use Rattle.pc_model.proofs.Walks.WalkLaws.{IsWalk-push, walk_sum-push, last_of_walk, walk_sum-bound}
 use Rattle.pc_model.proofs.Walks.OrderLaws.{walk_is_short, stands_in_order, same_place}
 use Rattle.pc_model.specs.declared.limits.TheConstants.{MAX_EVENTS}
 use Rattle.pc_times.specs.declared.TheConstants.{MAX_LENGTH}
-use Rattle.pc_times.specs.Times.{IsTail, AreLengths, AreEarly, AreTails}
-use Rattle.pc_times.specs.Passes.{HasBoundedWalks, AreEarlyBefore, AreTailsAfter}
+use Rattle.pc_times.specs.Times.{IsTail, AreLengths, AreEarly}
+use Rattle.pc_times.specs.inside.Times.{AreTails}
+use Rattle.pc_times.specs.inside.Passes.{HasBoundedWalks, AreEarlyBefore, AreTailsAfter}
 
 -- n bounds what the activities that enter event e bring, and one of them brings it, or none enters and n is 0
 pub record IsArrival (net : Network) (lengths times : List ℕ) (e n : ℕ) : Type 0 where

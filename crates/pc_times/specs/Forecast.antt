@@ -1,9 +1,8 @@
 -- When events and activities are expected from what is known of the activities.
-use Rattle.std.specs.Prelude.{◌≡◌, ◌≢◌, ℕ, ◌+◌, ◌<◌, ◌≤◌, ◌==◌, ◌^◌, max, if◌then◌else◌, List, length, slice_index, slice_index_or}
+use Rattle.std.specs.Prelude.{◌≡◌, ◌≢◌, ℕ, ◌+◌, ◌<◌, ◌==◌, ◌^◌, max, if◌then◌else◌, List, length, slice_index, slice_index_or}
 use Rattle.pc_model.specs.Greatest.{IsGreatest}
 use Rattle.pc_model.specs.Walk.{from_of, to_of}
 use Rattle.pc_model.specs.Network.{Network}
-use Rattle.pc_times.specs.declared.TheConstants.{MAX_TIME}
 use Rattle.pc_times.specs.declared.state.ActState.{ActState}
 use Rattle.pc_times.specs.declared.state.ActState.TheVariants.{Waiting, Started, Finished}
 
@@ -48,25 +47,3 @@ IsSmallState Waiting = Unit {0}
 pub record AreStates (net : Network) (states : List ActState) : Type 0 where
   pub one_each : length states ≡ length net.arcs
   pub small : (a : ℕ) → a < length net.arcs → IsSmallState (state_at states a)
-
--- the finish of activity a, where these are the times of events
-abbrev pub finish_at : Network → List ℕ → List ActState → ℕ → List ℕ → ℕ → ℕ
-finish_at net lengths states as_of times a =
-    finish_of (state_at states a) (slice_index lengths a) as_of (slice_index times (from_of net.arcs a))
-
--- n is the greatest of what g gives for the activities that end at event e, or 0 where none does
-pub record IsLastAt (net : Network) (g : ℕ → ℕ) (e n : ℕ) : Type 0 where
-  pub above : (a : ℕ) → a < length net.arcs → to_of net.arcs a ≡ e → g a ≤ n
-  pub met : (e ≢ net.start) → (a : ℕ) × ((a < length net.arcs) × (to_of net.arcs a ≡ e) × (g a ≡ n))
-  pub none : e ≡ net.start → n ≡ 0
-
--- so many finishes, from the times of all events
-pub record AreFinishes (net : Network) (lengths : List ℕ) (states : List ActState) (as_of : ℕ) (times : List ℕ) (n : ℕ) (finishes : List ℕ) : Type 0 where
-  pub one_each : length finishes ≡ n
-  pub each : (a : ℕ) → a < n → slice_index finishes a ≡ finish_at net lengths states as_of times a
-
--- each event has the last finish of the activities that end there, by these times
-pub record AreLast (net : Network) (lengths : List ℕ) (states : List ActState) (as_of : ℕ) (times : List ℕ) : Type 0 where
-  pub one_each : length times ≡ net.events
-  pub each : (e : ℕ) → e < net.events → IsLastAt net (finish_at net lengths states as_of times) e (slice_index times e)
-  pub small : (e : ℕ) → slice_index times e ≤ 2 ^ 40 + MAX_TIME

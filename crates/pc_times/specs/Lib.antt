@@ -1,6 +1,6 @@
 pub mod Times
 pub mod Picked
-pub mod Passes
 pub mod Estimates
 pub mod Late
 pub mod Forecast
+pub mod inside

@@ -27,10 +27,3 @@ IsPickedFrom net lengths e (a ∷ walk) =
 -- the walk from the start to the end that takes at each event the first activity on a longest walk
 abbrev pub IsPickedWalk : Network → List ℕ → List ℕ → Type 0
 IsPickedWalk net lengths walk = IsPickedFrom net lengths net.start walk
-
--- what `longest` finds: the greatest sum over the walks from the start to the end, that to each event, and the
--- picked walk
-pub record LongestWalk : Type 0 where
-  pub length : ℕ
-  pub times : List ℕ
-  pub path : List ℕ

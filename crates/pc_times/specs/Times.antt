@@ -18,8 +18,3 @@ IsTail net lengths e n = IsGreatest (IsSumOfWalk net.arcs lengths e net.end) n
 pub record AreEarly (net : Network) (lengths times : List ℕ) : Type 0 where
   pub one_each : length times ≡ net.events
   pub each : (e : ℕ) → e < net.events → IsEarly net lengths e (slice_index times e)
-
--- one number for each event, the greatest sum of the lengths over the walks from it to the end
-pub record AreTails (net : Network) (lengths tails : List ℕ) : Type 0 where
-  pub one_each : length tails ≡ net.events
-  pub each : (e : ℕ) → e < net.events → IsTail net lengths e (slice_index tails e)

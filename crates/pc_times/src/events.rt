@@ -2,7 +2,8 @@
 ghost use Rattle.std.specs.Prelude.{◌≡◌, ◌^◌, ◌<◌, ◌≤◌, pos, ◌-ℤ◌, unsigned_abs, IfOk};
 ghost use Rattle.std.specs.List.{All};
 ghost use Rattle.pc_times.specs.Times.{AreLengths, AreEarly};
-ghost use Rattle.pc_times.specs.Late.{AreLate, IsUpTo};
+ghost use Rattle.pc_times.specs.Late.{AreLate};
+ghost use Rattle.pc_times.specs.inside.Late.{IsUpTo};
 
 use crate::MAX_TIME;
 use crate::passes::{early_times, tails_to_end};

@@ -2,7 +2,8 @@
 ghost use Rattle.std.specs.Prelude.{◌≡◌, ℕ, ◌^◌, ◌<◌, ◌≤◌, length, slice_index, IfOk, OnOk};
 ghost use Rattle.pc_model.specs.Network.{IsInRange, IsSound};
 ghost use Rattle.pc_times.specs.Times.{AreLengths};
-ghost use Rattle.pc_times.specs.Forecast.{Expected, state_at, finish_of, finish_at, IsSmallState, AreStates, IsForecast, IsLastAt, AreFinishes, AreLast};
+ghost use Rattle.pc_times.specs.Forecast.{Expected, state_at, finish_of, IsSmallState, AreStates, IsForecast};
+ghost use Rattle.pc_times.specs.inside.Forecast.{finish_at, IsLastAt, AreFinishes, AreLast};
 ghost use Rattle.pc_times.specs.declared.TheConstants.{MAX_LENGTH};
 
 use crate::expected::Forecast;

@@ -12,7 +12,7 @@ pub struct Longest {
 }
 
 impl Model for Longest {
-    ghost use Rattle.pc_times.specs.Picked.{LongestWalk};
+    ghost use Rattle.pc_times.specs.inside.Picked.{LongestWalk};
 
     ghost Value = { LongestWalk };
 

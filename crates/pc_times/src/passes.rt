@@ -2,8 +2,9 @@
 ghost use Rattle.std.specs.Prelude.{◌≡◌, ◌≤◌, length, IfOk, OnOk};
 ghost use Rattle.std.specs.List.{All};
 ghost use Rattle.pc_model.specs.Network.{IsEarly};
-ghost use Rattle.pc_times.specs.Times.{AreLengths, AreEarly, AreTails, IsTail};
-ghost use Rattle.pc_times.specs.Passes.{HasBoundedWalks, AreEarlyBefore, AreTailsAfter};
+ghost use Rattle.pc_times.specs.Times.{AreLengths, AreEarly, IsTail};
+ghost use Rattle.pc_times.specs.inside.Times.{AreTails};
+ghost use Rattle.pc_times.specs.inside.Passes.{HasBoundedWalks, AreEarlyBefore, AreTailsAfter};
 
 use crate::MAX_TIME;
 use pc_net::Net;

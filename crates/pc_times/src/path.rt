@@ -4,9 +4,10 @@ ghost use Rattle.std.specs.List.{All};
 ghost use Rattle.pc_model.specs.Greatest.{IsFirst};
 ghost use Rattle.pc_model.specs.Walk.{IsWalk, walk_sum};
 ghost use Rattle.pc_model.specs.Network.{IsLongest};
-ghost use Rattle.pc_times.specs.Times.{AreLengths, AreEarly, AreTails};
+ghost use Rattle.pc_times.specs.Times.{AreLengths, AreEarly};
+ghost use Rattle.pc_times.specs.inside.Times.{AreTails};
 ghost use Rattle.pc_times.specs.Picked.{IsPickedWalk, IsLongestWalk};
-ghost use Rattle.pc_times.specs.Passes.{HasBoundedWalks, HasNoSlack};
+ghost use Rattle.pc_times.specs.inside.Passes.{HasBoundedWalks, HasNoSlack};
 
 use crate::MAX_TIME;
 use crate::found::Longest;

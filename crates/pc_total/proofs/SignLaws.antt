@@ -7,7 +7,7 @@ use Rattle.pc_model.specs.TimeCost.{time_cost_of}
 use Rattle.pc_total.specs.declared.optimum.Best.{Best}
 use Rattle.pc_total.specs.Totals.{IsTotal}
 use Rattle.pc_total.specs.Bests.{HaveSigns, IsAbove, IsBelow, IsBest}
-use Rattle.pc_total.specs.Stops.{unit_cost, IsGain, PaysToStop}
+use Rattle.pc_total.specs.inside.Stops.{unit_cost, IsGain, PaysToStop}
 use Rattle.pc_total.proofs.ConvexLaws.{IsConvex}
 use Rattle.pc_total.proofs.TotalLaws.{weight, weight-more, time-weight, signs-show}
 

@@ -10,7 +10,7 @@ use Rattle.pc_model.specs.TimeCost.{AreTimeTerms, time_cost_of}
 use Rattle.pc_flow.specs.declared.early.TheConstants.{MAX_LENGTH}
 use Rattle.pc_total.specs.Totals.{IsOptimum, IsTotal}
 use Rattle.pc_total.specs.Bests.{HaveSigns, IsAbove, IsBelow}
-use Rattle.pc_total.specs.Stops.{unit_cost}
+use Rattle.pc_total.specs.inside.Stops.{unit_cost}
 use Rattle.pc_total.proofs.ConvexLaws.{IsConvex, dearer-below, no-cheaper-above}
 
 module _ (terms : TimeTerms) where

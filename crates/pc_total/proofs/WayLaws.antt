@@ -8,12 +8,14 @@ use Rattle.pc_model.specs.Cost.{IsPriced}
 use Rattle.pc_curve_laws.specs.Segment.{Segment, cost_for}
 use Rattle.pc_curve_laws.proofs.Curves.Turns.{LiesOn, lies_on}
 use Rattle.pc_crash.specs.Priced.{PricedNetwork, knees_in}
-use Rattle.pc_flow.specs.Courses.{Course, upper_of, lower_of, present, IsSameCurve, IsFurther, HasEnded, IsNext}
+use Rattle.pc_flow.specs.Courses.{Course, upper_of, lower_of, IsSameCurve, IsFurther}
+use Rattle.pc_flow.specs.inside.Courses.{present, HasEnded, IsNext}
 use Rattle.pc_flow.proofs.LookLaws.{same-stays, same-joins, further-stays, further-joins}
-use Rattle.pc_curve.specs.Points.{curve_in, IsToCome}
+use Rattle.pc_curve.specs.Points.{curve_in}
+use Rattle.pc_curve.specs.inside.Points.{IsToCome}
 use Rattle.pc_total.specs.declared.optimum.Best.{Best}
 use Rattle.pc_total.specs.Bests.{IsBest}
-use Rattle.pc_total.specs.Stops.{unit_cost, IsStop, IsGain, PaysToStop}
+use Rattle.pc_total.specs.inside.Stops.{unit_cost, IsStop, IsGain, PaysToStop}
 
 -- what is left of the way: all lengths before the first segment, and then those below the lower end
 abbrev pub left : Course → ℕ

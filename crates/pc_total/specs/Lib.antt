@@ -1,4 +1,4 @@
 pub mod Totals
 pub mod Bests
-pub mod Stops
 pub mod BestText
+pub mod inside

@@ -1,7 +1,7 @@
 //! What is printed of an optimum.
 ghost use Rattle.std.specs.Prelude.{decimal};
 ghost use Rattle.std.specs.Fmt.{signed_decimal};
-ghost use Rattle.pc_page.specs.Puts.{Puts};
+ghost use Rattle.pc_page.specs.inside.Puts.{Puts};
 ghost use Rattle.pc_total.specs.BestText.{best_text, difference, line};
 
 use crate::optimum::Best;

@@ -2,7 +2,7 @@
 ghost use Rattle.std.specs.Prelude.{◌≡◌, ◌+◌, ◌^◌, ◌<◌, ◌≤◌, pos, ◌+ℤ◌, IfNone, IfSome};
 ghost use Rattle.pc_model.specs.TimeCost.{AreTimeTerms};
 ghost use Rattle.pc_flow.specs.declared.early.TheConstants.{MAX_LENGTH};
-ghost use Rattle.pc_total.specs.Stops.{unit_cost};
+ghost use Rattle.pc_total.specs.inside.Stops.{unit_cost};
 
 use crate::time::unit_cost;
 use pc_model::TimeTerms;

@@ -1,7 +1,7 @@
 //! Where it pays to stop in a segment.
 ghost use Rattle.std.specs.Prelude.{◌≤◌};
 ghost use Rattle.pc_model.specs.TimeCost.{AreTimeTerms};
-ghost use Rattle.pc_total.specs.Stops.{IsStop};
+ghost use Rattle.pc_total.specs.inside.Stops.{IsStop};
 
 use pc_model::TimeTerms;
 

@@ -3,14 +3,15 @@ use Rattle.std.proofs.Common.{◌≡◌, ℕ, ◌-◌, ◌*◌, ◌^◌, ◌<◌
 use Rattle.std.specs.Prelude.{Option, Some, unwrap_or}
 use Rattle.std.proofs.Math.Nat.{mul-le-mul, pow-le-pow_left}
 use Rattle.std.proofs.lemmas.List.{length-set}
-use Rattle.pc_cells.specs.Spans.{Cells, free_of, with_span}
+use Rattle.pc_cells.specs.Spans.{Cells}
+use Rattle.pc_cells.specs.inside.Spans.{free_of, with_span}
 use Rattle.pc_model.specs.Network.{Network}
 use Rattle.pc_model.specs.declared.limits.TheConstants.{MAX_DURATION, MAX_UNIT_DAYS, MAX_VARIANCE}
 use Rattle.pc_times.specs.declared.TheConstants.{MAX_LENGTH}
 use Rattle.pc_trials.specs.declared.reservation.Reservation.TheInside.{Inside}
 use Rattle.pc_trials.specs.declared.spans.Spans.{Spans}
-use Rattle.pc_trials.specs.Reserved.{Reserved}
-use Rattle.pc_trials.specs.Laid.{AreAtMost, AreRenewed, IsLaidIn, IsWhole, kept_in, list_of, region_of, no_region}
+use Rattle.pc_trials.specs.inside.Reserved.{Reserved}
+use Rattle.pc_trials.specs.inside.Laid.{AreAtMost, AreRenewed, IsLaidIn, IsWhole, kept_in, list_of, region_of, no_region}
 use Rattle.pc_trials.proofs.LaidLaws.{IsPut, put, small-set}
 
 -- two numbers are set

@@ -5,10 +5,11 @@ use Rattle.std.proofs.lemmas.List.{length-set, get_or-set_same, get_or-set_other
 use Rattle.std.proofs.lemmas.List.Sums.{sum_by-cons}
 use Rattle.std.proofs.lemmas.Bool.{cases_eq}
 use Rattle.pc_cells.specs.declared.span.Span.{Span}
-use Rattle.pc_cells.specs.Spans.{Cells, span_at, with_span, free_of, IsSpan}
+use Rattle.pc_cells.specs.Spans.{Cells}
+use Rattle.pc_cells.specs.inside.Spans.{span_at, with_span, free_of, IsSpan}
 use Rattle.pc_cells.proofs.LiveLaws.{live-set}
 use Rattle.pc_trials.specs.declared.spans.Spans.{Spans}
-use Rattle.pc_trials.specs.Laid.{AreAtMost, IsLaidIn, list_of}
+use Rattle.pc_trials.specs.inside.Laid.{AreAtMost, IsLaidIn, list_of}
 
 -- another list of its length in a span: all spans are together as long as before
 sum-set : (spans : List (List ℕ)) (k : ℕ) (xs : List ℕ) → length xs ≡ length (span_at spans k) → sum_by length (set spans k xs) ≡ sum_by length spans

@@ -3,12 +3,13 @@ use Rattle.std.proofs.Common.{◌≡◌, ℕ, ◌+◌, ◌-◌, ◌*◌, List, [
 use Rattle.std.specs.Prelude.{sum_by}
 use Rattle.std.proofs.lemmas.List.{get_or-replicate, length-replicate}
 use Rattle.std.proofs.lemmas.List.Sums.{sum_by-cons}
-use Rattle.pc_cells.specs.Spans.{Cells, free_of, with_span}
+use Rattle.pc_cells.specs.Spans.{Cells}
+use Rattle.pc_cells.specs.inside.Spans.{free_of, with_span}
 use Rattle.pc_model.specs.declared.limits.TheConstants.{MAX_VARIANCE}
 use Rattle.pc_times.specs.declared.TheConstants.{MAX_LENGTH}
 use Rattle.pc_trials.specs.declared.spans.Spans.{Spans}
-use Rattle.pc_trials.specs.Reserved.{Reserved}
-use Rattle.pc_trials.specs.Laid.{AreAtMost, AreSpansTaken, IsLaidIn, IsWhole, kept_in, list_of}
+use Rattle.pc_trials.specs.inside.Reserved.{Reserved}
+use Rattle.pc_trials.specs.inside.Laid.{AreAtMost, AreSpansTaken, IsLaidIn, IsWhole, kept_in, list_of}
 use Rattle.pc_trials.proofs.LaidLaws.{IsPut, put}
 
 -- so many numbers in all

@@ -1,12 +1,14 @@
 -- The passes over the network, from span to span.
 use Rattle.std.proofs.Common.{◌≡◌, ℕ, ◌<◌, List, length, take, sym, ◌∙◌, ap, subst, arith}
-use Rattle.pc_cells.specs.Spans.{Cells, with_span}
+use Rattle.pc_cells.specs.Spans.{Cells}
+use Rattle.pc_cells.specs.inside.Spans.{with_span}
 use Rattle.pc_model.specs.Network.{Network}
 use Rattle.pc_times.specs.Picked.{IsPickedWalk}
-use Rattle.pc_times.specs.Times.{AreEarly, AreTails}
+use Rattle.pc_times.specs.Times.{AreEarly}
+use Rattle.pc_times.specs.inside.Times.{AreTails}
 use Rattle.pc_times.specs.declared.TheConstants.{MAX_TIME}
 use Rattle.pc_trials.specs.declared.spans.Spans.{Spans}
-use Rattle.pc_trials.specs.Laid.{AreAtMost, AreRenewed, IsLaidIn, list_of}
+use Rattle.pc_trials.specs.inside.Laid.{AreAtMost, AreRenewed, IsLaidIn, list_of}
 use Rattle.pc_trials.proofs.LaidLaws.{IsPut, put}
 
 -- the region r1, where the early times are written

@@ -11,10 +11,10 @@ use Rattle.pc_times.specs.declared.TheConstants.{MAX_LENGTH, MAX_TIME}
 use Rattle.pc_project.specs.Project.{Project, Heading}
 use Rattle.pc_reports.specs.Times.{Times, IsTimes, end_to_meet}
 use Rattle.pc_reports.specs.TimesText.{times_text}
-use Rattle.pc_reports.specs.View.{Shown, IsShownOf, as_shown}
-use Rattle.pc_trials.specs.Reserved.{Reserved, IsChangedTo, IsFor, IsStanding, path_in}
-use Rattle.pc_trials.specs.Laid.{AreAtMost}
-use Rattle.pc_trials.specs.Shown.{late_by}
+use Rattle.pc_reports.specs.inside.View.{Shown, IsShownOf, as_shown}
+use Rattle.pc_trials.specs.inside.Reserved.{Reserved, IsChangedTo, IsFor, IsStanding, path_in}
+use Rattle.pc_trials.specs.inside.Laid.{AreAtMost}
+use Rattle.pc_trials.specs.inside.Shown.{late_by}
 
 -- the activities of a picked walk are activities of the network
 picked_from-known : (net : Network) (lengths : List ℕ) (e : ℕ) (walk : List ℕ) (i : ℕ) → IsPickedFrom net lengths e walk → i < length walk → slice_index walk i < length net.arcs

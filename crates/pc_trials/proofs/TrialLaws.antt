@@ -7,7 +7,7 @@ use Rattle.pc_crash.specs.Priced.{PricedNetwork}
 use Rattle.pc_flow.specs.Courses.{Course}
 use Rattle.pc_curve.specs.Range.{IsRange}
 use Rattle.pc_curve.proofs.RangeLaws.{one_range}
-use Rattle.pc_trials.specs.Trials.{looks_over}
+use Rattle.pc_trials.specs.inside.Trials.{looks_over}
 
 -- a sound network has activities
 pub some-activities : (net : Network) → IsInRange net → IsSound net → 0 < length net.arcs

@@ -1,4 +1,1 @@
-pub mod Reserved
-pub mod Trials
-pub mod Laid
-pub mod Shown
+pub mod inside

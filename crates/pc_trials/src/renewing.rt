@@ -1,7 +1,7 @@
 //! The passes over the network, from span to span.
 ghost use Rattle.std.specs.Prelude.{◌≡◌, length};
 ghost use Rattle.pc_times.specs.Times.{AreLengths};
-ghost use Rattle.pc_trials.specs.Laid.{AreRenewed, IsLaidIn, list_of};
+ghost use Rattle.pc_trials.specs.inside.Laid.{AreRenewed, IsLaidIn, list_of};
 
 use crate::spans::Spans;
 use pc_cells::Region;

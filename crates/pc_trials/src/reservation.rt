@@ -2,17 +2,17 @@
 ghost use Rattle.std.specs.Prelude.{◌≡◌, ◌+◌, ◌-◌, ◌*◌, ◌<◌, ◌≤◌, ◌↔◌, ℕ, List, length, Some, IfOk, IfSome, IsSome};
 ghost use Rattle.pc_curve.specs.CurveText.{IsCurveText};
 ghost use Rattle.pc_curve.specs.Points.{curve_in};
-ghost use Rattle.pc_edges.specs.Writes.{Writes};
+ghost use Rattle.pc_edges.specs.inside.Writes.{Writes};
 ghost use Rattle.pc_model.specs.declared.limits.TheConstants.{MAX_ACTIVITIES, MAX_DURATION, MAX_EVENTS, MAX_PIECES, MAX_UNIT_DAYS, MAX_VARIANCE};
-ghost use Rattle.pc_page.specs.Page.{fresh};
+ghost use Rattle.pc_page.specs.inside.Page.{fresh};
 ghost use Rattle.pc_project.specs.Project.{Project as Plan};
 ghost use Rattle.pc_reports.specs.TimesText.{IsTimesText};
 ghost use Rattle.pc_times.specs.Times.{AreLengths};
 ghost use Rattle.pc_times.specs.declared.TheConstants.{MAX_LENGTH, MAX_TIME};
-ghost use Rattle.pc_trials.specs.Laid.{AreAtMost};
-ghost use Rattle.pc_trials.specs.Reserved.{IsChangedTo, IsFor, IsStanding, IsStandingOf, path_in, with_estimates, with_times};
+ghost use Rattle.pc_trials.specs.inside.Laid.{AreAtMost};
+ghost use Rattle.pc_trials.specs.inside.Reserved.{IsChangedTo, IsFor, IsStanding, IsStandingOf, path_in, with_estimates, with_times};
 ghost use Rattle.pc_curve.specs.Range.{IsRange, IsWithin};
-ghost use Rattle.pc_trials.specs.Trials.{HasRoom, looks_over, trial_cells};
+ghost use Rattle.pc_trials.specs.inside.Trials.{HasRoom, looks_over, trial_cells};
 
 use crate::renewing::renew_times;
 use crate::spans::{Spans, take_spans};
@@ -47,11 +47,11 @@ pub struct Reservation {
 }
 
 impl Model for Reservation {
-    ghost use Rattle.pc_trials.specs.Reserved.{Reserved};
+    ghost use Rattle.pc_trials.specs.inside.Reserved.{Reserved};
 
     ghost Value = { Reserved };
 
-    ghost use Rattle.pc_trials.specs.Laid.{IsLaid, reserved_of};
+    ghost use Rattle.pc_trials.specs.inside.Laid.{IsLaid, reserved_of};
 
     ghost view = { reserved_of };
 

@@ -1,6 +1,6 @@
 //! The spans that are taken at the opening.
 ghost use Rattle.std.specs.Prelude.{◌≡◌, ◌+◌, ◌*◌, ◌<◌, ◌≤◌, [], replicate};
-ghost use Rattle.pc_trials.specs.Laid.{AreSpansTaken};
+ghost use Rattle.pc_trials.specs.inside.Laid.{AreSpansTaken};
 
 use pc_cells::{Region, Span};
 

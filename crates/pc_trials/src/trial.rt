@@ -1,13 +1,13 @@
 //! A trial: a solver in the free cells of a region, which come back when it ends.
 ghost use Rattle.std.specs.Prelude.{◌≡◌, ◌+◌, ◌-◌, ◌≤◌, ◌↔◌, ℕ, List, length, false, IfSome, IsSome};
-ghost use Rattle.pc_cells.specs.Spans.{free_of};
+ghost use Rattle.pc_cells.specs.inside.Spans.{free_of};
 ghost use Rattle.pc_curve.specs.CurveText.{IsCurveText};
 ghost use Rattle.pc_curve.specs.Points.{curve_in};
-ghost use Rattle.pc_edges.specs.Writes.{Writes};
+ghost use Rattle.pc_edges.specs.inside.Writes.{Writes};
 ghost use Rattle.pc_flow.specs.Courses.{IsSameCurve};
-ghost use Rattle.pc_page.specs.Page.{fresh};
+ghost use Rattle.pc_page.specs.inside.Page.{fresh};
 ghost use Rattle.pc_curve.specs.Range.{IsRange, IsWithin};
-ghost use Rattle.pc_trials.specs.Trials.{looks_over, trial_cells};
+ghost use Rattle.pc_trials.specs.inside.Trials.{looks_over, trial_cells};
 
 use pc_cells::Region;
 use pc_crash::{CrashNet, Steps};

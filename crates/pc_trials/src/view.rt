@@ -16,11 +16,11 @@ pub(crate) struct StandingTimes<'a> {
 }
 
 impl<'a> Model for StandingTimes<'a> {
-    ghost use Rattle.pc_reports.specs.View.{Shown};
+    ghost use Rattle.pc_reports.specs.inside.View.{Shown};
 
     ghost Value = { Shown };
 
-    ghost use Rattle.pc_trials.specs.Shown.{shown_of, IsSmallView};
+    ghost use Rattle.pc_trials.specs.inside.Shown.{shown_of, IsSmallView};
 
     ghost view = { shown_of };
 

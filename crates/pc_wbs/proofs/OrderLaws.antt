@@ -6,9 +6,9 @@ use Rattle.std.proofs.lemmas.List.{length_push, get_or_push, get_or_append_left,
 use Rattle.pc_model.specs.Greatest.{StandsBelow}
 use Rattle.pc_wbs.specs.declared.row.ItemRow.{ItemRow}
 use Rattle.pc_wbs.specs.Climb.{parent_of, AreInRange, climb, IsBelow, HasLevel, IsOnlyTop, IsTree}
-use Rattle.pc_wbs.specs.Links.{IsFirstChild, link_at, AreNextSiblings, IsNextBeside}
+use Rattle.pc_wbs.specs.inside.Links.{IsFirstChild, link_at, AreNextSiblings, IsNextBeside}
 use Rattle.pc_wbs.specs.Preorder.{IsPreorder}
-use Rattle.pc_wbs.specs.Precedes.{IsUnder, Parts, Precedes, IsSuccessor}
+use Rattle.pc_wbs.specs.inside.Precedes.{IsUnder, Parts, Precedes, IsSuccessor}
 use Rattle.pc_wbs.proofs.Pigeon.{Repeats, repeats, length-apart}
 use Rattle.pc_wbs.proofs.ClimbLaws.{climb-add, step-some, climb-range, IsBelow-self, IsBelow-parent}
 use Rattle.pc_wbs.proofs.LoopLaws.{HasLevel-no_loop}

@@ -3,7 +3,7 @@ ghost use Rattle.std.specs.Prelude.{◌≡◌, ℕ, ◌+◌, ◌<◌, ◌≤◌,
 ghost use Rattle.pc_model.specs.declared.limits.TheConstants.{MAX_ITEMS};
 ghost use Rattle.pc_wbs.specs.Climb.{AreInRange, climb, HasLevel, IsOnlyTop};
 ghost use Rattle.pc_wbs.specs.Refusal.{IsRefusal, IsLooped};
-ghost use Rattle.pc_wbs.specs.Ends.{IsTopBelow, AreLevels, AreGreatest};
+ghost use Rattle.pc_wbs.specs.inside.Ends.{IsTopBelow, AreLevels, AreGreatest};
 
 use crate::error::TreeError;
 use crate::loops;

@@ -2,7 +2,7 @@
 ghost use Rattle.std.specs.Prelude.{◌≤◌, length, IfOk};
 ghost use Rattle.pc_model.specs.declared.limits.TheConstants.{MAX_ITEMS};
 ghost use Rattle.pc_wbs.specs.Climb.{AreInRange};
-ghost use Rattle.pc_wbs.specs.Links.{AreFirstChildren, AreNextSiblings};
+ghost use Rattle.pc_wbs.specs.inside.Links.{AreFirstChildren, AreNextSiblings};
 
 use crate::row::{ItemRow, parent_of};
 use std::alloc::{AllocError, Global};

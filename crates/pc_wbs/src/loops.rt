@@ -3,7 +3,7 @@ ghost use Rattle.std.specs.Prelude.{◌≡◌, ℕ, ◌+◌, ◌<◌, ◌≤◌,
 ghost use Rattle.pc_model.specs.declared.limits.TheConstants.{MAX_ITEMS};
 ghost use Rattle.pc_wbs.specs.Climb.{AreInRange, IsOnlyTop};
 ghost use Rattle.pc_wbs.specs.Refusal.{IsRefusal, IsLooped, IsLoopFrom};
-ghost use Rattle.pc_wbs.specs.Ends.{AreEnds, AreDoubled, StayInside, IsLeastBelow, IsFirstLooped, lesser};
+ghost use Rattle.pc_wbs.specs.inside.Ends.{AreEnds, AreDoubled, StayInside, IsLeastBelow, IsFirstLooped, lesser};
 
 use crate::error::{Indices, TreeError};
 use crate::row::{ItemRow, parent_of};

@@ -2,8 +2,8 @@
 ghost use Rattle.std.specs.Prelude.{◌<◌, ◌≤◌, length, IfOk};
 ghost use Rattle.pc_model.specs.declared.limits.TheConstants.{MAX_ITEMS};
 ghost use Rattle.pc_wbs.specs.Climb.{AreInRange, IsOnlyTop, IsTree};
-ghost use Rattle.pc_wbs.specs.Links.{AreFirstChildren, AreNextSiblings, IsNextBeside};
-ghost use Rattle.pc_wbs.specs.Precedes.{IsSuccessor};
+ghost use Rattle.pc_wbs.specs.inside.Links.{AreFirstChildren, AreNextSiblings, IsNextBeside};
+ghost use Rattle.pc_wbs.specs.inside.Precedes.{IsSuccessor};
 ghost use Rattle.pc_wbs.specs.Preorder.{IsPreorder};
 
 use crate::links::Links;

@@ -31,7 +31,7 @@ impl Model for Tree {
 
     ghost view = { λ tree. tree.rows.items };
 
-    ghost use Rattle.pc_wbs.specs.Parts.{AreParts};
+    ghost use Rattle.pc_wbs.specs.inside.Parts.{AreParts};
 
     ghost invariant = { AreParts };
 }

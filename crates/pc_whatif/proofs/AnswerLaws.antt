@@ -20,11 +20,12 @@ use Rattle.pc_edits.specs.declared.trying.ActTerm.{ActTerm}
 use Rattle.pc_edits.specs.Editing.{Editing, activity_named, edited, undone, editing_with, net_trying}
 use Rattle.pc_edits.specs.Plans.{Plan, term_tried}
 use Rattle.pc_edits.specs.Refusal.{edit_refusal, undo_refusal, trial_refusal}
-use Rattle.pc_talk.specs.Talk.{Answered}
-use Rattle.pc_lines.specs.Reading.{kept}
+use Rattle.pc_talk.specs.inside.Talk.{Answered}
+use Rattle.pc_lines.specs.inside.Reading.{kept}
 use Rattle.pc_curve.specs.Range.{IsWithin}
-use Rattle.pc_trials.specs.Reserved.{Reserved}
-use Rattle.pc_whatif.specs.Planning.{Planning, IsAnswer, IsAnswered, IsTrialText, outside, costs, AreAnswers, Says, editing_after, net_tried}
+use Rattle.pc_trials.specs.inside.Reserved.{Reserved}
+use Rattle.pc_whatif.specs.Planning.{IsAnswer, IsTrialText, outside, costs, AreAnswers, editing_after, net_tried}
+use Rattle.pc_whatif.specs.inside.Planning.{Planning, IsAnswered, Says}
 use Rattle.pc_whatif.specs.Texts.{ok_text, refused_text, cost_text, verdict_text}
 use Rattle.pc_whatif.proofs.LineLaws.{ask_of-kept}
 

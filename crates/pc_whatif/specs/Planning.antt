@@ -1,5 +1,5 @@
 -- What the lines of a session mean.
-use Rattle.std.specs.Prelude.{◌≡◌, ℕ, ◌+◌, ◌-◌, ◌<◌, ◌≤◌, List, [], ◌∷◌, ◌++◌, length, slice_set, Option, Some, None}
+use Rattle.std.specs.Prelude.{◌≡◌, ℕ, List, [], ◌∷◌, ◌++◌, Option, Some, None}
 use Rattle.std.specs.Option.{option_map_or}
 use Rattle.pc_model.specs.Schedule.{term_at}
 use Rattle.pc_crash.specs.Priced.{PricedNetwork}
@@ -13,19 +13,11 @@ use Rattle.pc_edits.specs.declared.ask.Trial.{Trial}
 use Rattle.pc_edits.specs.declared.reason.Reason.{Reason}
 use Rattle.pc_edits.specs.declared.reason.Reason.TheVariants.{Form, OutsideRange}
 use Rattle.pc_edits.specs.Editing.{Editing, activity_named, begun, edited, undone, net_trying}
-use Rattle.pc_edits.specs.Plans.{estimates_at, expected_times, variances, term_tried}
+use Rattle.pc_edits.specs.Plans.{expected_times, variances, term_tried}
 use Rattle.pc_edits.specs.Reading.{ask_of}
 use Rattle.pc_edits.specs.Refusal.{edit_refusal, undo_refusal, trial_refusal}
-use Rattle.pc_trials.specs.Reserved.{Reserved, IsFor, IsStanding, expected_by, variance_by}
-use Rattle.pc_curve.specs.Range.{IsRange, IsWithin}
-use Rattle.pc_trials.specs.Trials.{looks_over}
-use Rattle.pc_whatif.specs.Texts.{ok_text, refused_text, cost_text, verdict_text}
-
--- what contracts see of a session: the deck's project, that project as it is edited, and what stands in the session's spans
-pub record Planning : Type 0 where
-  pub project : Project
-  pub editing : Editing
-  pub reserved : Reserved
+use Rattle.pc_curve.specs.Range.{IsWithin}
+use Rattle.pc_whatif.specs.Texts.{refused_text, cost_text, verdict_text}
 
 -- ---- the answer to a line
 
@@ -79,60 +71,3 @@ AreAnswers project editing (line ∷ lines) text =
 -- and they are those on the project of a deck
 abbrev pub AnswersLines : Project → List (List ℕ) → List ℕ → Type 0
 AnswersLines project lines text = AreAnswers project (begun project) lines text
-
--- ---- what a line leaves
-
--- the line was answered with the text, and the session is as after it: of its spans only an accepted edit or UNDO changes the lists, and no
--- line changes how many cells are free
-pub record IsAnswered (old : Planning) (asked : Option Ask) (text : List ℕ) (new : Planning) : Type 0 where
-  pub answer : IsAnswer old.project old.editing asked text
-  pub project : new.project ≡ old.project
-  pub editing : new.editing ≡ editing_after old.editing asked
-  pub lists : (text ≡ ok_text → ⊥) → new ≡ old
-  pub cells : new.reserved.free ≡ old.reserved.free
-
-abbrev pub Says : Planning → List ℕ → List ℕ → Planning → Type 0
-Says old line text new = IsAnswered old (ask_of line) text new
-
--- ---- how often a line looks
-
--- a trial of the network looks at most so often by its range
-abbrev pub LooksOver : PricedNetwork → ℕ → ℕ → Type 0
-LooksOver net before after = (shortest longest : ℕ) → IsRange net shortest longest → after ≤ before + looks_over net (longest - shortest)
-
--- a TRY looks over the network with its numbers in place, or not at all where it is refused before that
-pub record LooksToTry (editing : Editing) (trial : Trial) (before after : ℕ) : Type 0 where
-  pub refused : (reason : Reason) → trial_refusal editing.net editing.estimates trial ≡ Some reason → after ≡ before
-  pub tried : (a : ℕ) → trial_refusal editing.net editing.estimates trial ≡ None → activity_named editing.net trial.act ≡ Some a
-      → LooksOver (net_tried editing trial a) before after
-
--- CURVE looks over the network as it is edited, and no line but these two looks at all
-abbrev pub LooksToAnswer : Editing → Option Ask → ℕ → ℕ → Type 0
-LooksToAnswer editing None before after = after ≡ before
-LooksToAnswer editing (Some (ask.Edit edit)) before after = after ≡ before
-LooksToAnswer editing (Some ask.Undo) before after = after ≡ before
-LooksToAnswer editing (Some ask.Times) before after = after ≡ before
-LooksToAnswer editing (Some ask.Curve) before after = LooksOver editing.net before after
-LooksToAnswer editing (Some (ask.Try trial)) before after = LooksToTry editing trial before after
-
--- ---- the standing times
-
--- the project as it is edited is of this project: it has its network and its pieces, and its numbers fit
-pub record IsEditionOf (project : Project) (editing : Editing) : Type 0 where
-  pub network : editing.net.network ≡ project.network
-  pub pieces : editing.net.pieces ≡ project.pieces
-  pub unit_days : editing.unit_days ≡ project.heading.unit_days
-
--- the expected times and the variances that stand are those of the project as it is edited, but for those of activity a
-pub record IsChangedAt (project : Project) (editing : Editing) (a : ℕ) (reserved : Reserved) : Type 0 where
-  pub fits : IsFor project.network reserved
-  pub activity : a < length project.network.arcs
-  pub expected : expected_times editing.unit_days editing.estimates ≡ slice_set reserved.expected a (expected_by editing.unit_days (estimates_at editing.estimates a))
-  pub variances_are : variances editing.unit_days editing.estimates ≡ slice_set reserved.variances a (variance_by editing.unit_days (estimates_at editing.estimates a))
-
--- the standing times are those of the project as it is edited
-pub record IsRenewed (project : Project) (editing : Editing) (reserved : Reserved) : Type 0 where
-  pub fits : IsFor project.network reserved
-  pub standing : IsStanding project.network reserved
-  pub expected : reserved.expected ≡ expected_times editing.unit_days editing.estimates
-  pub variances_are : reserved.variances ≡ variances editing.unit_days editing.estimates

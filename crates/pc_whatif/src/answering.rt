@@ -1,9 +1,9 @@
 //! Answers to lines.
 ghost use Rattle.std.specs.Prelude.{◌≡◌, ℕ, List, None, Some};
-ghost use Rattle.pc_edges.specs.Writes.{Writes};
+ghost use Rattle.pc_edges.specs.inside.Writes.{Writes};
 ghost use Rattle.pc_edits.specs.Reading.{ask_of};
 ghost use Rattle.pc_edits.specs.declared.ask.Ask.TheVariants as asks;
-ghost use Rattle.pc_whatif.specs.Planning.{IsAnswered, LooksOver, LooksToAnswer, LooksToTry};
+ghost use Rattle.pc_whatif.specs.inside.Planning.{IsAnswered, LooksOver, LooksToAnswer, LooksToTry};
 
 use crate::renewing::renew;
 use crate::replies::{accept, refuse, tell_cost};

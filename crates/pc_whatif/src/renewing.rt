@@ -1,7 +1,7 @@
 //! The times of a project that was edited.
 ghost use Rattle.std.specs.Prelude.{◌≡◌};
-ghost use Rattle.pc_edits.specs.Editing.{IsEditing};
-ghost use Rattle.pc_whatif.specs.Planning.{IsChangedAt, IsEditionOf, IsRenewed};
+ghost use Rattle.pc_edits.specs.inside.Editing.{IsEditing};
+ghost use Rattle.pc_whatif.specs.inside.Planning.{IsChangedAt, IsEditionOf, IsRenewed};
 
 use pc_edits::Edits;
 use pc_project::Project;

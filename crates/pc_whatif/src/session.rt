@@ -21,11 +21,11 @@ pub struct Session<'p> {
 }
 
 impl<'p> Model for Session<'p> {
-    ghost use Rattle.pc_whatif.specs.Planning.{Planning};
+    ghost use Rattle.pc_whatif.specs.inside.Planning.{Planning};
 
     ghost Value = { Planning };
 
-    ghost use Rattle.pc_whatif.specs.Inside.{planning_of, IsWholeInside};
+    ghost use Rattle.pc_whatif.specs.inside.Inside.{planning_of, IsWholeInside};
 
     ghost view = { planning_of };
 

@@ -1,9 +1,9 @@
 //! A session as one that answers lines of a source.
 ghost use Rattle.std.specs.Prelude.{◌≡◌, ℕ, List};
-ghost use Rattle.pc_crash.specs.Steps.{IsBlankOf};
-ghost use Rattle.pc_edges.specs.Writes.{Writes};
+ghost use Rattle.pc_crash.specs.inside.Steps.{IsBlankOf};
+ghost use Rattle.pc_edges.specs.inside.Writes.{Writes};
 ghost use Rattle.pc_edits.specs.Reading.{ask_of};
-ghost use Rattle.pc_whatif.specs.Planning.{IsAnswered, Says};
+ghost use Rattle.pc_whatif.specs.inside.Planning.{IsAnswered, Says};
 
 use crate::session::Session;
 use pc_crash::Steps;

@@ -5,11 +5,11 @@ use Rattle.std.specs.declared.alloc.Global.{Global}
 use Rattle.pc_deck_text.specs.Written.{IsDeckText}
 use Rattle.pc_project.specs.Project.{Project}
 use Rattle.pc_reading.specs.declared.status.Status.{Status}
-use Rattle.pc_reading.specs.Status.{code_of}
+use Rattle.pc_reading.specs.inside.Status.{code_of}
 use Rattle.pc_reading.specs.Sides.{Side, OfDeck, Took}
 use Rattle.pert_cli.specs.declared.forms.Form.TheVariants.{Arrows}
 use Rattle.pert_cli.specs.Arrows.{TookArrows}
-use Rattle.pert_cli.specs.Outcome.{Outcome}
+use Rattle.pert_cli.specs.inside.Outcome.{Outcome}
 use Rattle.pert_cli.specs.Tasks.{IsDrawnOf}
 use Rattle.pert_cli.specs.Words.{AskFor}
 use Rattle.pert_cli.proofs.AnsweredLaws.{answered}

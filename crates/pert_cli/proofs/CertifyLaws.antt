@@ -8,7 +8,7 @@ use Rattle.pc_check.proofs.HeadlineLaws.{prints_whole_curve}
 use Rattle.pc_reading.proofs.PricedLaws.{is_named, is_priced}
 use Rattle.pert_cli.specs.declared.forms.Form.TheVariants.{Certify}
 use Rattle.pc_reading.specs.declared.status.Status.{Status}
-use Rattle.pc_reading.specs.Status.{code_of}
+use Rattle.pc_reading.specs.inside.Status.{code_of}
 use Rattle.pc_reading.specs.Priced.{priced_in}
 use Rattle.pert_cli.proofs.AnsweredLaws.{answered}
 use Rattle.pert_cli.proofs.FormDeckLaws.{read_project}
@@ -16,7 +16,7 @@ use Rattle.pert_cli.specs.Words.{AskFor}
 use Rattle.pert_cli.specs.Headline.{TookWholeCurve}
 use Rattle.pc_reading.specs.Sides.{Side, OfDeck, Took}
 use Rattle.pc_reading.specs.Verdict.{IsProjectOf}
-use Rattle.pert_cli.specs.Outcome.{Outcome}
+use Rattle.pert_cli.specs.inside.Outcome.{Outcome}
 
 of_deck : {X : Type 0} (left : Option (List ℕ)) (out : Side X) (project : Project) (text : List ℕ) → Took out text → IsCertificate (priced_in project) text
     → IfSome left (λ bytes. IsProjectOf bytes project) → IfSome left (TookWholeCurve out)

@@ -6,15 +6,17 @@ use Rattle.pc_deck.specs.Limits.{longest_deck}
 use Rattle.pc_faults.specs.declared.fault.Fault.{Fault}
 use Rattle.pc_project.specs.Project.{Project}
 use Rattle.pc_reading.specs.declared.status.Status.{Status}
-use Rattle.pc_reading.specs.Status.{code_of}
+use Rattle.pc_reading.specs.inside.Status.{code_of}
 use Rattle.pert_cli.specs.declared.forms.Form.{Form}
-use Rattle.pert_cli.specs.FormDeck.{AskToRead, IsLeftBy, IsOwnDeck, ReadsSource, sort_of}
+use Rattle.pert_cli.specs.FormDeck.{AskToRead, IsOwnDeck, ReadsSource, sort_of}
+use Rattle.pert_cli.specs.inside.FormDeck.{IsLeftBy}
 use Rattle.pert_cli.specs.Words.{AskFor, AskForOne}
 use Rattle.pc_reading.specs.Sides.{Side, HadNoFault, IsReadToEnd, IsUntouched, OfDeck}
 use Rattle.pert_cli.specs.Forms.{IsDenial}
 use Rattle.pert_cli.specs.Handing.{IsReply}
 use Rattle.pert_cli.specs.Verdicts.{AcceptedAs, IsFaultAs, IsMadeAs, RefusedAs}
-use Rattle.pert_cli.specs.Outcome.{IsAcceptedFor, IsAnswer, IsCut, IsRefusedFor, IsTurnedDown, Outcome, by_deck, by_form, deck_refused, done, form_refuses, refused, usage, no_memory, read_fault, write_fault, in_answer, in_fault, in_usage}
+use Rattle.pert_cli.specs.Outcome.{IsAcceptedFor, IsAnswer, IsCut, IsRefusedFor, IsTurnedDown, by_deck, by_form, deck_refused, form_refuses, in_answer, in_fault, in_usage}
+use Rattle.pert_cli.specs.inside.Outcome.{Outcome, done, refused, usage, no_memory, read_fault, write_fault}
 use Rattle.pert_cli.proofs.FormDeckLaws.{left_turned_down, left_with_project, owned_project, owned_refusal, read_project, read_refusal, reads_not_owned}
 use Rattle.pert_cli.proofs.OneFormLaws.{of_form}
 use Rattle.pert_cli.proofs.VerdictLaws.{accepted_not_refused, accepts_as, long_as, one_project_as}

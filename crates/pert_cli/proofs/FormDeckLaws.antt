@@ -5,12 +5,14 @@ use Rattle.std.proofs.lemmas.Option.{none-some, same_Some}
 use Rattle.pc_faults.specs.declared.fault.Fault.{Fault}
 use Rattle.pc_project.specs.Project.{Project}
 use Rattle.pert_cli.specs.declared.forms.Form.{Form}
-use Rattle.pert_cli.specs.FormDeck.{HasProjectFor, HasNoProjectFor, HasRefusalFor, IsLeftBy, IsOwnDeck, ReadsSource, project_owned, project_read, refusal_owned, refusal_read, sort_of}
+use Rattle.pert_cli.specs.FormDeck.{HasProjectFor, HasRefusalFor, IsOwnDeck, ReadsSource, project_owned, project_read, refusal_owned, refusal_read, sort_of}
+use Rattle.pert_cli.specs.inside.FormDeck.{HasNoProjectFor, IsLeftBy}
 use Rattle.pert_cli.specs.Outcome.{IsTurnedDown, by_deck, by_form}
 use Rattle.pert_cli.specs.Verdicts.{IsFaultAs, IsMadeAs}
 use Rattle.pc_reading.specs.declared.reading.NoProject.{NoProject}
 use Rattle.pc_reading.specs.declared.reading.NoProject.TheVariants.{Refused, ReadFault, OutOfMemory}
-use Rattle.pc_reading.specs.Reading.{HasNoProjectBy, HasProjectBy, HasRefusalBy, IsNoProjectBy}
+use Rattle.pc_reading.specs.Reading.{HasProjectBy, HasRefusalBy}
+use Rattle.pc_reading.specs.inside.Reading.{HasNoProjectBy, IsNoProjectBy}
 use Rattle.pc_reading.specs.Sides.{Side, IsUntouched}
 
 -- ---- one deck

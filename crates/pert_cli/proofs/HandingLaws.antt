@@ -5,10 +5,10 @@ use Rattle.pc_faults.specs.declared.fault.Fault.{Fault}
 use Rattle.pc_project.specs.Project.{Project}
 use Rattle.pc_reading.specs.declared.status.Status.{Status}
 use Rattle.pc_reading.specs.declared.status.Status.TheVariants.{Done, OutOfMemory, WriteFault}
-use Rattle.pc_reading.specs.Refusing.{Refusal}
+use Rattle.pc_reading.specs.inside.Refusing.{Refusal}
 use Rattle.pc_reading.specs.Sides.{Side, IsUntouched}
 use Rattle.pert_cli.specs.Forms.{IsDenial}
-use Rattle.pert_cli.specs.Handing.{Answers, Replies, denies}
+use Rattle.pert_cli.specs.inside.Handing.{Answers, Replies, denies}
 use Rattle.pert_cli.specs.declared.forms.Form.{Form}
 
 -- a text that was written answers what follows from it

@@ -6,13 +6,13 @@ use Rattle.pc_deck.specs.Text.{deck_text}
 use Rattle.pc_deck_text.specs.Written.{IsDeckText, migrated, written}
 use Rattle.pc_project.specs.Project.{Project}
 use Rattle.pc_reading.specs.declared.status.Status.{Status}
-use Rattle.pc_reading.specs.Status.{code_of}
+use Rattle.pc_reading.specs.inside.Status.{code_of}
 use Rattle.pc_reading.specs.Sides.{Side, OfDeck, Took}
 use Rattle.pc_reading.specs.Verdict.{IsProjectOf}
 use Rattle.pc_reading.proofs.VerdictLaws.{one_project}
 use Rattle.pert_cli.specs.declared.forms.Form.TheVariants.{Migrate}
 use Rattle.pert_cli.specs.Migrate.{TookDeckOf, TookSameProject}
-use Rattle.pert_cli.specs.Outcome.{Outcome}
+use Rattle.pert_cli.specs.inside.Outcome.{Outcome}
 use Rattle.pert_cli.specs.Words.{AskFor}
 use Rattle.pert_cli.proofs.AnsweredLaws.{answered}
 use Rattle.pert_cli.proofs.FormDeckLaws.{read_project}

@@ -4,7 +4,8 @@ use Rattle.pc_model.specs.declared.TimeTerms.{TimeTerms}
 use Rattle.pc_model.proofs.Costs.LeastCost.{unique}
 use Rattle.pc_crash.specs.Priced.{PricedNetwork, knees_in}
 use Rattle.pc_flow.specs.Courses.{Course, IsSameCurve}
-use Rattle.pc_curve.specs.Points.{curve_in, IsThere, IsToCome}
+use Rattle.pc_curve.specs.Points.{curve_in}
+use Rattle.pc_curve.specs.inside.Points.{IsThere, IsToCome}
 use Rattle.pc_total.specs.declared.optimum.Best.{Best}
 use Rattle.pc_total.specs.Bests.{IsBest}
 use Rattle.pc_project.specs.Project.{Project}

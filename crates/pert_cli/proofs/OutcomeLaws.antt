@@ -9,11 +9,13 @@ use Rattle.pc_reading.specs.declared.status.Status.TheVariants.{Done, Refused, O
 use Rattle.pert_cli.specs.declared.forms.Form.{Form}
 use Rattle.pert_cli.specs.Words.{AskFor}
 use Rattle.pc_reading.specs.Sides.{Side, IsUntouched}
-use Rattle.pc_reading.specs.Refusing.{Refusal}
-use Rattle.pert_cli.specs.Handing.{Answers, IsReply, Replies, answers, denies}
+use Rattle.pc_reading.specs.inside.Refusing.{Refusal}
+use Rattle.pert_cli.specs.Handing.{IsReply}
+use Rattle.pert_cli.specs.inside.Handing.{Answers, Replies, answers, denies}
 use Rattle.pert_cli.specs.FormDeck.{HasProjectFor, HasRefusalFor}
 use Rattle.pert_cli.proofs.FormDeckLaws.{left_turned_down, left_with_project}
-use Rattle.pert_cli.specs.Outcome.{IsTurnedDown, Outcome, by_deck, by_form, done, refused, no_memory, write_fault, in_answer, in_fault}
+use Rattle.pert_cli.specs.Outcome.{IsTurnedDown, by_deck, by_form, in_answer, in_fault}
+use Rattle.pert_cli.specs.inside.Outcome.{Outcome, done, refused, no_memory, write_fault}
 
 module _ {S O E : Type 0} (words : List (String Global)) (source : Side S) (out : Side O) (err : Side E) (form : Form) (asked : AskFor form words) where
   -- the deck or the form refuses with a fault, and its line was handed to the error output

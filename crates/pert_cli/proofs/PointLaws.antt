@@ -1,12 +1,13 @@
 -- Lengths of a network's range and their schedules.
 use Rattle.std.proofs.Common.{◌≡◌, ℕ, List, ◌++◌, refl, sym, subst}
 use Rattle.pc_faults.specs.declared.fault.Fault.{Fault}
-use Rattle.pc_faults.specs.FaultText.{IsTold}
+use Rattle.pc_faults.specs.inside.FaultText.{IsTold}
 use Rattle.pc_crash.specs.Priced.{PricedNetwork}
 use Rattle.pc_model.specs.Schedule.{IsAllCrashLength, IsAllNormalLength}
 use Rattle.pc_project.specs.Project.{Project}
 use Rattle.pc_figures.specs.Outlook.{amounts_at, IsWholeOutlook, Outlook as TheOutlook}
-use Rattle.pc_reports.specs.OutlookText.{IsOutlook, TellsTop, outlook_text}
+use Rattle.pc_reports.specs.OutlookText.{IsOutlook, outlook_text}
+use Rattle.pc_reports.specs.inside.OutlookText.{TellsTop}
 use Rattle.pert_cli.specs.declared.forms.Form.TheVariants.{Point, Outlook}
 use Rattle.pc_reading.specs.Priced.{priced_in}
 use Rattle.pert_cli.specs.Handing.{IsReply}

@@ -8,7 +8,7 @@ use Rattle.pc_model.specs.Cost.{cost_of}
 use Rattle.pc_model.specs.Pieces.{knees_of}
 use Rattle.pc_model.proofs.Schedules.Durations.{normals-at}
 use Rattle.pc_model.proofs.Costs.NormalCost.{all_normal_least_cost, all_normal_schedule, cost_of-normals}
-use Rattle.pc_crash.specs.Priced.{AreDurations}
+use Rattle.pc_crash.specs.inside.Priced.{AreDurations}
 use Rattle.pc_reports.specs.Schedule.{schedule_text}
 use Rattle.pc_times.specs.Times.{AreEarly, AreLengths}
 use Rattle.pc_project.specs.Project.{Project}

@@ -8,9 +8,9 @@ use Rattle.pc_deck.specs.Limits.{longest_deck}
 use Rattle.pc_deck.specs.Read.{IsReadAs}
 use Rattle.pc_deck.proofs.DeckLaws.{not_both_as as cards_not_refused, one_deck_as}
 use Rattle.pc_deck.proofs.ToldLemmas.{told_of-refusal_as}
-use Rattle.pc_faults.specs.FaultText.{IsTold}
+use Rattle.pc_faults.specs.inside.FaultText.{IsTold}
 use Rattle.pc_faults.specs.Faults.{too_long as fault_too_long}
-use Rattle.pc_faults.specs.First.{Refuses}
+use Rattle.pc_faults.specs.inside.First.{Refuses}
 use Rattle.pc_faults.specs.declared.fault.DeckError.{DeckError}
 use Rattle.pc_faults.specs.declared.fault.DeckError.TheVariants as error
 use Rattle.pc_faults.specs.declared.fault.Fault.{Fault}

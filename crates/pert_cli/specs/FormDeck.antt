@@ -4,15 +4,11 @@ use Rattle.std.specs.declared.alloc.Global.{Global}
 use Rattle.pc_bench.specs.Deck.{bench_text}
 use Rattle.pc_cards.specs.declared.sort.Sort.{Sort}
 use Rattle.pc_cards.specs.declared.sort.Sort.TheVariants.{Plan, Tasks}
-use Rattle.pc_deck.specs.Limits.{longest_deck}
 use Rattle.pc_faults.specs.declared.fault.Fault.{Fault}
-use Rattle.pc_faults.specs.FaultText.{IsTold}
 use Rattle.pc_project.specs.Project.{Project}
 use Rattle.pert_cli.specs.declared.forms.Form.{Form}
 use Rattle.pert_cli.specs.declared.forms.Form.TheVariants.{Check, Normal, Times, Summary, Value, Curve, Certify, Point, Outlook, Bench, Migrate, Optimum, Arrows, Load}
-use Rattle.pc_reading.specs.declared.reading.NoProject.{NoProject}
-use Rattle.pc_reading.specs.declared.reading.NoProject.TheVariants.{Refused, ReadFault, OutOfMemory}
-use Rattle.pc_reading.specs.Sides.{Side, HadFault, IsUntouched, TookAtMost}
+use Rattle.pc_reading.specs.Sides.{Side, IsUntouched}
 use Rattle.pc_reading.specs.Reading.{HasProjectBy, HasRefusalBy}
 use Rattle.pert_cli.specs.Verdicts.{IsFaultAs, IsMadeAs}
 use Rattle.pert_cli.specs.Words.{AskFor}
@@ -73,14 +69,3 @@ pub data HasProjectFor {X : Type 0} (form : Form) (source : Side X) (project : P
 pub data HasRefusalFor {X : Type 0} (form : Form) (source : Side X) (fault : Fault) : Type 0 where
   refusal_read : ReadsSource form → HasRefusalBy (IsFaultAs (sort_of form)) source fault → HasRefusalFor form source fault
   refusal_owned : (deck : List ℕ) → IsOwnDeck form deck → IsUntouched source → IsFaultAs (sort_of form) deck fault → HasRefusalFor form source fault
-
--- a form that has a deck of its own left the source as it was
-abbrev pub IsLeftBy : {X : Type 0} → Form → Side X → Type 0
-IsLeftBy form source = (deck : List ℕ) → IsOwnDeck form deck → IsUntouched source
-
--- why a form has no project: its deck is refused, or the source that it reads could not be read, and no more of it was taken than a deck
--- may have; want of memory comes at any time
-abbrev pub HasNoProjectFor : {X : Type 0} → Form → Side X → NoProject → Type 0
-HasNoProjectFor form source (Refused fault) = IsTold fault × HasRefusalFor form source fault
-HasNoProjectFor form source ReadFault = ReadsSource form × HadFault source × TookAtMost longest_deck source
-HasNoProjectFor form source OutOfMemory = IsLeftBy form source

@@ -13,6 +13,7 @@ pub mod Outcome
 pub mod Headline
 pub mod Migrate
 pub mod Arrows
+pub mod inside
 pub use Rattle.pc_edges.specs.Faults
 pub use Rattle.pc_edges.specs.Writes
 pub use Rattle.pc_deck.specs.Deck

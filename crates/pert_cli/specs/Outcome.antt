@@ -1,17 +1,14 @@
 -- What a run means and leaves behind, by its status.
 use Rattle.std.specs.Prelude.{ℕ, List, String}
 use Rattle.std.specs.declared.alloc.Global.{Global}
-use Rattle.pc_deck.specs.Limits.{longest_deck}
 use Rattle.pc_faults.specs.declared.fault.Fault.{Fault}
 use Rattle.pc_faults.specs.FaultText.{fault_text}
 use Rattle.pc_project.specs.Project.{Project}
-use Rattle.pc_reading.specs.declared.status.Status.{Status}
-use Rattle.pc_reading.specs.declared.status.Status.TheVariants.{Done, Refused, Usage, OutOfMemory, ReadFault, WriteFault}
 use Rattle.pert_cli.specs.declared.forms.Form.{Form}
 use Rattle.pert_cli.specs.Words.{AskFor, AskForNone, usage_text}
-use Rattle.pc_reading.specs.Sides.{Side, HadFault, IsUntouched, Took, TookAtMost, TookFront}
+use Rattle.pc_reading.specs.Sides.{Side, IsUntouched, Took, TookFront}
 use Rattle.pert_cli.specs.Verdicts.{IsMadeAs, RefusedAs}
-use Rattle.pert_cli.specs.FormDeck.{AskToRead, HasProjectFor, HasRefusalFor, IsLeftBy, sort_of}
+use Rattle.pert_cli.specs.FormDeck.{HasProjectFor, HasRefusalFor, sort_of}
 use Rattle.pert_cli.specs.Forms.{IsDenial}
 use Rattle.pert_cli.specs.Handing.{IsReply}
 
@@ -65,15 +62,6 @@ pub data IsCut {S O E : Type 0} (words : List (String Global)) (source : Side S)
   in_answer : IsAnswerCut words source out → IsUntouched err → IsCut words source out err
   in_fault : IsFaultCut words source err → IsUntouched out → IsCut words source out err
   in_usage : AskForNone words → TookFront err usage_text → IsUntouched source → IsUntouched out → IsCut words source out err
-
--- what a run that ended with the status means and leaves behind
-pub data Outcome {S O E : Type 0} (words : List (String Global)) (source : Side S) (out : Side O) (err : Side E) : Status → Type 0 where
-  done : IsDone words source out → IsUntouched err → Outcome words source out err Done
-  refused : IsRefused words source err → IsUntouched out → Outcome words source out err Refused
-  usage : AskForNone words → Took err usage_text → IsUntouched source → IsUntouched out → Outcome words source out err Usage
-  no_memory : (form : Form) → AskFor form words → IsLeftBy form source → IsUntouched out → IsUntouched err → Outcome words source out err OutOfMemory
-  read_fault : AskToRead words → HadFault source → TookAtMost longest_deck source → IsUntouched out → IsUntouched err → Outcome words source out err ReadFault
-  write_fault : IsCut words source out err → Outcome words source out err WriteFault
 
 -- the deck is accepted, and the form does not refuse its project
 pub record IsAcceptedFor (form : Form) (bytes : List ℕ) : Type 0 where

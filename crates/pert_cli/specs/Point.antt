@@ -1,8 +1,7 @@
 -- The answer to `point L`: a schedule of least cost for a length of the project's range.
-use Rattle.std.specs.Prelude.{◌≡◌, ℕ, ◌<◌, ◌≤◌, ◌⊎◌, ⊤, List, length, slice_index}
+use Rattle.std.specs.Prelude.{◌≡◌, ℕ, ◌<◌, ◌≤◌, ◌⊎◌, List, length, slice_index}
 use Rattle.pc_faults.specs.declared.fault.Fault.{Fault}
 use Rattle.pc_faults.specs.Faults.{outside_range}
-use Rattle.pc_faults.specs.FaultText.{IsTold}
 use Rattle.pc_model.specs.Schedule.{IsSchedule}
 use Rattle.pc_model.specs.Cost.{cost_of}
 use Rattle.pc_crash.specs.Priced.{PricedNetwork, knees_in}
@@ -10,8 +9,6 @@ use Rattle.pc_curve.specs.Range.{IsRange, IsWithin}
 use Rattle.pc_project.specs.Project.{Project}
 use Rattle.pc_reading.specs.Priced.{priced_in}
 use Rattle.pert_cli.specs.Normal.{Printed, printed_text}
-use Rattle.pert_cli.specs.declared.cheapest.NoSchedule.{NoSchedule}
-use Rattle.pert_cli.specs.declared.cheapest.NoSchedule.TheVariants.{Outside, OutOfMemory}
 
 -- ---- the range
 
@@ -40,11 +37,6 @@ pub record IsCheapestFor (net : PricedNetwork) (limit : ℕ) (printed : Printed)
   pub length : printed.length ≡ limit
   pub within : IsWithin net limit
   pub cheapest : IsCheapest net printed
-
--- why there is no schedule for a length: it is none of the network; want of memory comes at any time
-abbrev pub HasNoSchedule : PricedNetwork → ℕ → NoSchedule → Type 0
-HasNoSchedule net limit (Outside fault) = IsTold fault × IsOutside net limit fault
-HasNoSchedule net limit OutOfMemory = ⊤
 
 -- the text is that of a schedule of least cost for the length
 pub record IsPointText (project : Project) (limit : ℕ) (text : List ℕ) : Type 0 where

@@ -1,9 +1,9 @@
 //! How an answer is handed to an output.
 ghost use Rattle.std.specs.Prelude.{◌≡◌, ℕ, List, IfOk, OnErr};
 ghost use Rattle.std.specs.Result.{ForOk};
-ghost use Rattle.pc_edges.specs.Writes.{Writes};
+ghost use Rattle.pc_edges.specs.inside.Writes.{Writes};
 ghost use Rattle.pc_project.specs.Project.{Project as TheProject};
-ghost use Rattle.pert_cli.specs.Handing.{Answers};
+ghost use Rattle.pert_cli.specs.inside.Handing.{Answers};
 ghost use Rattle.pc_reading.specs.Sides.{side};
 
 use pc_edges::{Failed, Sink};

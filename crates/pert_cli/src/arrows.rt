@@ -1,5 +1,6 @@
 //! `arrows`: the plan of arrows that is drawn of a deck of tasks, in its one form.
-ghost use Rattle.pert_cli.specs.Handing.{Answers, IsReply};
+ghost use Rattle.pert_cli.specs.Handing.{IsReply};
+ghost use Rattle.pert_cli.specs.inside.Handing.{Answers};
 ghost use Rattle.pc_reading.specs.Sides.{side};
 ghost use Rattle.pert_cli.specs.declared.forms.Form.TheVariants.{Arrows};
 

@@ -1,6 +1,7 @@
 //! `certify`: the certificate of the time-cost curve.
 ghost use Rattle.std.specs.Prelude.{◌≡◌};
-ghost use Rattle.pert_cli.specs.Handing.{Answers, IsReply};
+ghost use Rattle.pert_cli.specs.Handing.{IsReply};
+ghost use Rattle.pert_cli.specs.inside.Handing.{Answers};
 ghost use Rattle.pc_reading.specs.Sides.{side};
 ghost use Rattle.pert_cli.specs.declared.forms.Form.TheVariants.{Certify};
 

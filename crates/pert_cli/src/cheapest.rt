@@ -1,13 +1,15 @@
 //! A schedule of least cost for a length of the project's range.
 ghost use Rattle.std.specs.Prelude.{◌≡◌, ◌≤◌, IfOk, IfErr, IfSome, IfNone};
-ghost use Rattle.pc_crash.specs.Steps.{IsBlankOf};
-ghost use Rattle.pc_curve.specs.Points.{HasPlaces, IsToCome};
-ghost use Rattle.pc_faults.specs.FaultText.{IsTold};
-ghost use Rattle.pc_reports.specs.Schedule.{plan_of, plan_text, text_of, IsWhole};
+ghost use Rattle.pc_crash.specs.inside.Steps.{IsBlankOf};
+ghost use Rattle.pc_curve.specs.inside.Points.{HasPlaces, IsToCome};
+ghost use Rattle.pc_faults.specs.inside.FaultText.{IsTold};
+ghost use Rattle.pc_reports.specs.Schedule.{plan_text};
+ghost use Rattle.pc_reports.specs.inside.Schedule.{plan_of, text_of, IsWhole};
 ghost use Rattle.pc_reading.specs.Priced.{priced_in};
 ghost use Rattle.pert_cli.specs.Normal.{printed_text};
 ghost use Rattle.pc_curve.specs.Range.{IsWithin};
-ghost use Rattle.pert_cli.specs.Point.{HasNoSchedule, IsCheapest, IsCheapestFor, IsOutside};
+ghost use Rattle.pert_cli.specs.Point.{IsCheapest, IsCheapestFor, IsOutside};
+ghost use Rattle.pert_cli.specs.inside.Point.{HasNoSchedule};
 
 use crate::solving::solver_region;
 use pc_crash::Steps;

@@ -4,12 +4,14 @@ ghost use Rattle.pc_bench.specs.Deck.{bench_text};
 ghost use Rattle.pc_deck.specs.Limits.{longest_deck};
 ghost use Rattle.pc_edges.specs.Pulls.{TakesPulls};
 ghost use Rattle.pc_edges.specs.declared.loading.TheConstants.{STREAM_ROOM};
-ghost use Rattle.pc_reading.specs.Reading.{HasNoProjectBy, HasProjectBy, IsNoProjectBy, IsNoProjectOf};
+ghost use Rattle.pc_reading.specs.Reading.{HasProjectBy};
+ghost use Rattle.pc_reading.specs.inside.Reading.{HasNoProjectBy, IsNoProjectBy, IsNoProjectOf};
 ghost use Rattle.pc_reading.specs.Sides.{side, TookAtMost};
 ghost use Rattle.pc_reading.specs.Verdict.{IsProjectOf};
 ghost use Rattle.pert_cli.specs.Tasks.{IsDrawnOf, IsTasksFault};
 ghost use Rattle.pert_cli.specs.Verdicts.{IsFaultAs, IsMadeAs};
-ghost use Rattle.pert_cli.specs.FormDeck.{HasProjectFor, HasNoProjectFor};
+ghost use Rattle.pert_cli.specs.FormDeck.{HasProjectFor};
+ghost use Rattle.pert_cli.specs.inside.FormDeck.{HasNoProjectFor};
 ghost use Rattle.pert_cli.specs.Forms.{IsNumbered};
 
 use crate::forms::Form;

@@ -1,10 +1,10 @@
 //! `load P`: what is spent by item and taken by resource in each period of P days.
 ghost use Rattle.std.specs.Prelude.{◌≡◌};
-ghost use Rattle.pc_load.specs.Loading.{IsReadyFor};
+ghost use Rattle.pc_load.specs.inside.Loading.{IsReadyFor};
 ghost use Rattle.pc_load.specs.LoadText.{load_text};
-ghost use Rattle.pc_page.specs.Page.{fresh};
+ghost use Rattle.pc_page.specs.inside.Page.{fresh};
 ghost use Rattle.pert_cli.specs.Forms.{IsNumbered};
-ghost use Rattle.pert_cli.specs.Handing.{Replies};
+ghost use Rattle.pert_cli.specs.inside.Handing.{Replies};
 ghost use Rattle.pc_reading.specs.Sides.{side};
 ghost use Rattle.pert_cli.specs.declared.forms.Form.TheVariants.{Load};
 

@@ -2,7 +2,8 @@
 ghost use Rattle.std.specs.Prelude.{IfOk};
 ghost use Rattle.pc_deck_text.specs.Written.{IsDeckText};
 ghost use Rattle.pc_reading.specs.Sides.{side};
-ghost use Rattle.pert_cli.specs.Handing.{Answers, IsReply};
+ghost use Rattle.pert_cli.specs.Handing.{IsReply};
+ghost use Rattle.pert_cli.specs.inside.Handing.{Answers};
 ghost use Rattle.pert_cli.specs.declared.forms.Form.TheVariants.{Migrate};
 
 use crate::answer::{Answer, deliver};

@@ -1,7 +1,8 @@
 //! `normal`: the schedule at the all-normal length.
 ghost use Rattle.std.specs.Prelude.{◌≡◌, IfOk};
-ghost use Rattle.pc_page.specs.Page.{fresh};
-ghost use Rattle.pert_cli.specs.Handing.{Answers, IsReply};
+ghost use Rattle.pc_page.specs.inside.Page.{fresh};
+ghost use Rattle.pert_cli.specs.Handing.{IsReply};
+ghost use Rattle.pert_cli.specs.inside.Handing.{Answers};
 ghost use Rattle.pert_cli.specs.Normal.{IsNormalSchedule, printed_text};
 ghost use Rattle.pc_reading.specs.Sides.{side};
 ghost use Rattle.pert_cli.specs.declared.forms.Form.TheVariants.{Normal};

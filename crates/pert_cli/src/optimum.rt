@@ -1,14 +1,16 @@
 //! `optimum`: the length for which the project costs least in all, and a schedule for it.
 ghost use Rattle.std.specs.Prelude.{◌≡◌, ◌+◌, ◌*◌, ◌≤◌, false, length, IfOk};
-ghost use Rattle.pc_cells.specs.Spans.{free_of};
-ghost use Rattle.pc_crash.specs.Steps.{IsBlankOf};
-ghost use Rattle.pc_curve.specs.Points.{curve_in, IsThere};
+ghost use Rattle.pc_cells.specs.inside.Spans.{free_of};
+ghost use Rattle.pc_crash.specs.inside.Steps.{IsBlankOf};
+ghost use Rattle.pc_curve.specs.Points.{curve_in};
+ghost use Rattle.pc_curve.specs.inside.Points.{IsThere};
 ghost use Rattle.pc_model.specs.TimeCost.{AreTimeTerms};
-ghost use Rattle.pc_page.specs.Page.{fresh};
+ghost use Rattle.pc_page.specs.inside.Page.{fresh};
 ghost use Rattle.pc_total.specs.Bests.{IsBest};
 ghost use Rattle.pc_flow.specs.Courses.{IsSameCurve};
 ghost use Rattle.pc_reading.specs.Priced.{priced_in};
-ghost use Rattle.pert_cli.specs.Handing.{Answers, IsReply};
+ghost use Rattle.pert_cli.specs.Handing.{IsReply};
+ghost use Rattle.pert_cli.specs.inside.Handing.{Answers};
 ghost use Rattle.pert_cli.specs.Optimum.{IsOptimumWith, optimum_text};
 ghost use Rattle.pc_reading.specs.Sides.{side};
 ghost use Rattle.pert_cli.specs.declared.forms.Form.TheVariants.{Optimum};

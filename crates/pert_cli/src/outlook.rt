@@ -1,8 +1,9 @@
 //! `outlook L`: a schedule of least cost for the length L, and what each item costs by it.
 ghost use Rattle.std.specs.Prelude.{◌++◌};
-ghost use Rattle.pc_reports.specs.OutlookText.{IsOutlookFor, outlook_text};
+ghost use Rattle.pc_reports.specs.OutlookText.{outlook_text};
+ghost use Rattle.pc_reports.specs.inside.OutlookText.{IsOutlookFor};
 ghost use Rattle.pc_reading.specs.Priced.{priced_in};
-ghost use Rattle.pert_cli.specs.Handing.{Replies};
+ghost use Rattle.pert_cli.specs.inside.Handing.{Replies};
 ghost use Rattle.pert_cli.specs.Normal.{printed_text};
 ghost use Rattle.pert_cli.specs.Point.{IsCheapest};
 ghost use Rattle.pc_reading.specs.Sides.{side};

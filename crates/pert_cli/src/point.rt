@@ -1,8 +1,8 @@
 //! `point L`: a schedule of least cost for the length L.
 ghost use Rattle.std.specs.Prelude.{◌≡◌};
-ghost use Rattle.pc_page.specs.Page.{fresh};
+ghost use Rattle.pc_page.specs.inside.Page.{fresh};
 ghost use Rattle.pc_reading.specs.Priced.{priced_in};
-ghost use Rattle.pert_cli.specs.Handing.{Replies};
+ghost use Rattle.pert_cli.specs.inside.Handing.{Replies};
 ghost use Rattle.pert_cli.specs.Normal.{printed_text};
 ghost use Rattle.pert_cli.specs.Point.{IsCheapest};
 ghost use Rattle.pc_reading.specs.Sides.{side};

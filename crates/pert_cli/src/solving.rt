@@ -1,7 +1,7 @@
 //! The memory that solving takes.
 ghost use Rattle.std.specs.Prelude.{◌≡◌, ◌+◌, ◌*◌, ◌≤◌, length, IfOk};
-ghost use Rattle.pc_cells.specs.Spans.{free_of};
-ghost use Rattle.pc_page.specs.Page.{fresh};
+ghost use Rattle.pc_cells.specs.inside.Spans.{free_of};
+ghost use Rattle.pc_page.specs.inside.Page.{fresh};
 ghost use Rattle.pc_reading.specs.Priced.{priced_in};
 
 use pc_cells::Region;

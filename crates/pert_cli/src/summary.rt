@@ -1,6 +1,7 @@
 //! `summary`: what the accounts add up to, by item and by level.
 ghost use Rattle.pc_reports.specs.SummaryText.{ChargesCountOnce, IsSummary, summary_text};
-ghost use Rattle.pert_cli.specs.Handing.{Answers, IsReply};
+ghost use Rattle.pert_cli.specs.Handing.{IsReply};
+ghost use Rattle.pert_cli.specs.inside.Handing.{Answers};
 ghost use Rattle.pc_reading.specs.Sides.{side};
 ghost use Rattle.pert_cli.specs.declared.forms.Form.TheVariants.{Summary};
 

@@ -1,7 +1,7 @@
 //! From a deck of tasks to the project of the plan that is drawn of them, or to why there is none.
 ghost use Rattle.std.specs.Prelude.{◌≤◌, length, IfOk, IfErr};
 ghost use Rattle.pc_deck.specs.Limits.{longest_deck};
-ghost use Rattle.pc_faults.specs.First.{Refuses};
+ghost use Rattle.pc_faults.specs.inside.First.{Refuses};
 ghost use Rattle.pert_cli.specs.Tasks.{IsDrawnOf, IsTasksFault};
 
 use pc_deck::read_tasks;

@@ -15,7 +15,8 @@ ghost use Rattle.pert_cli.specs.Migrate.{TookSameProject};
 ghost use Rattle.pert_cli.specs.Words.{AskFor, AskForOne, AskForNone, usage_text};
 ghost use Rattle.pc_reading.specs.Sides.{side, HadFault, HadNoFault, IsReadToEnd, OfDeck, Took, TookAtMost};
 ghost use Rattle.pert_cli.specs.Verdicts.{AcceptedAs, IsMadeAs, RefusedAs};
-ghost use Rattle.pert_cli.specs.Outcome.{Outcome, IsAcceptedFor, IsCut, IsDone, IsRefused, IsRefusedFor};
+ghost use Rattle.pert_cli.specs.Outcome.{IsAcceptedFor, IsCut, IsDone, IsRefused, IsRefusedFor};
+ghost use Rattle.pert_cli.specs.inside.Outcome.{Outcome};
 
 use crate::form_deck::project_for;
 use crate::forms::{Form, usage};

@@ -1,7 +1,7 @@
 //! The kinds of cards, a file for each or for two whose cards have the same fields, and the table of them: the word of each kind,
 //! its list, and its limit in decks of each sort.
 ghost use Rattle.std.specs.Prelude.{◌≡◌, None, Some, OnOk, IfErr};
-ghost use Rattle.pc_faults.specs.First.{Refuses};
+ghost use Rattle.pc_faults.specs.inside.First.{Refuses};
 ghost use Rattle.pc_deck.specs.Kinds.{kind_of, kind_among, first_kinds, work_kinds, further_kinds, limit_of};
 
 use crate::draft::Draft;
@@ -90,7 +90,7 @@ impl Drop for CardLists {
 }
 
 impl CardLists {
-    ghost use Rattle.pc_deck.specs.Kinds.{no_lists};
+    ghost use Rattle.pc_deck.specs.inside.Kinds.{no_lists};
 
     /// No cards.
     pub fn new(alloc: Global) -> CardLists
@@ -116,8 +116,8 @@ impl CardLists {
 }
 
 impl Draft {
-    ghost use Rattle.pc_deck.specs.Judged.{fault_at};
-    ghost use Rattle.pc_deck.specs.Reading.{with_card, count_in, codes_in};
+    ghost use Rattle.pc_deck.specs.inside.Judged.{fault_at};
+    ghost use Rattle.pc_deck.specs.inside.Reading.{with_card, count_in, codes_in};
 
     /// Takes the next card, of a kind that is known, or answers its fault.
     pub(crate) fn keep(&mut self, place: &Place, fields: &Row) -> Result<(), DeckError>

@@ -2,7 +2,8 @@
 use Rattle.std.proofs.Common.{◌≡◌, ℕ, ◌+◌, ◌<◌, ◌≤◌, zero, suc, List, [], ◌∷◌, ◌++◌, length, slice_index, take, Bool, true, false, cond, eqb, refl, sym, ◌∙◌, ap, subst, ⊎_elim, arith, eq-eqb, add-zero, length-take}
 use Rattle.std.proofs.lemmas.Bool.{cases_eq, ne_eqb}
 use Rattle.std.proofs.lemmas.List.{get_or_append_left, get_or_push, length_push, take_more, take_all, append-nil}
-use Rattle.pc_model.specs.Greatest.{StandsBelow, IsListed, places}
+use Rattle.pc_model.specs.Greatest.{StandsBelow, places}
+use Rattle.pc_model.specs.inside.Greatest.{IsListed}
 
 -- what stands among the first n stands among more of them
 pub StandsBelow-more : (xs : List ℕ) (n m v : ℕ) → StandsBelow xs n v → n ≤ m → StandsBelow xs m v

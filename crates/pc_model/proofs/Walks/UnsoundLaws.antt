@@ -1,8 +1,15 @@
 -- A sound network has nothing of what makes one unsound.
 use Rattle.std.proofs.Common.{◌≢◌, ℕ, ◌<◌, List, [], ◌∷◌, sym, inl, inr}
-use Rattle.pc_model.specs.Walk.{IsWalk}
-use Rattle.pc_model.specs.Network.{Network, IsEntered, IsLeft, IsDangling, IsSound, IsUnsound}
+use Rattle.pc_model.specs.Walk.{IsWalk, IsCycle}
+use Rattle.pc_model.specs.Network.{Network, IsEntered, IsLeft, IsDangling, IsSound}
 use Rattle.pc_model.proofs.Walks.WalkLaws.{last_of_walk}
+use Rattle.std.specs.Prelude.{◌⊎◌}
+
+-- the network is not sound: something enters the start or leaves the end, an event dangles, or there is a cycle
+abbrev pub IsUnsound : Network → Type 0
+IsUnsound net =
+    IsEntered net net.start
+    ⊎ (IsLeft net net.end ⊎ (((e : ℕ) × (e < net.events) × IsDangling net e) ⊎ ((walk : List ℕ) × IsCycle net.arcs walk)))
 
 -- a walk from the start to another event enters it
 entered_by : (net : Network) (e : ℕ) (walk : List ℕ) → IsWalk net.arcs net.start walk e → e ≢ net.start → IsEntered net e

@@ -1,4 +1,4 @@
-use Rattle.pc_accounts.specs.Parts.{AreActuals}
+use Rattle.pc_accounts.specs.inside.Parts.{AreActuals}
 use Rattle.pc_accounts.proofs.book.actuals.Given as goal
 
 abbrev pub invariant-loop-charge : goal.invariant-loop-charge

@@ -1,4 +1,4 @@
-use Rattle.pc_accounts.specs.Parts.{AreMade}
+use Rattle.pc_accounts.specs.inside.Parts.{AreMade}
 use Rattle.pc_accounts.proofs.book.entries.Given as goal
 
 abbrev pub invariant-loop-a : goal.invariant-loop-a

@@ -1,4 +1,4 @@
-use Rattle.pc_accounts.specs.Parts.{AreBudgetSums}
+use Rattle.pc_accounts.specs.inside.Parts.{AreBudgetSums}
 use Rattle.pc_accounts.proofs.packages.budget_sums.Given as goal
 
 abbrev pub invariant-loop-account : goal.invariant-loop-account

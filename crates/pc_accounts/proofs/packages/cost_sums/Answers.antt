@@ -1,7 +1,7 @@
 use Rattle.std.proofs.Common.{◌≡◌, ◌∙◌, ◌+◌, ℕ, Option, None, Some, sym, refl, ap, subst, unwrap_or, set, arith}
 use Rattle.std.proofs.lemmas.List.{get_or_default}
 use Rattle.pc_accounts.specs.Packages.{work_at}
-use Rattle.pc_accounts.specs.Parts.{option_at, AreCostSums}
+use Rattle.pc_accounts.specs.inside.Parts.{option_at, AreCostSums}
 use Rattle.pc_accounts.proofs.PackageLaws.{cost_fits, AreCostSums-more}
 use Rattle.pc_accounts.proofs.packages.cost_sums.Goals as goal
 

@@ -1,4 +1,4 @@
-use Rattle.pc_accounts.specs.Parts.{AreCostSums}
+use Rattle.pc_accounts.specs.inside.Parts.{AreCostSums}
 use Rattle.pc_accounts.proofs.packages.cost_sums.Given as goal
 
 abbrev pub invariant-loop-activity : goal.invariant-loop-activity

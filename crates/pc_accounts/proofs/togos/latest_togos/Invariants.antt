@@ -1,4 +1,4 @@
-use Rattle.pc_accounts.specs.Parts.{AreLatest}
+use Rattle.pc_accounts.specs.inside.Parts.{AreLatest}
 use Rattle.pc_accounts.proofs.togos.latest_togos.Given as goal
 
 abbrev pub invariant-loop-row : goal.invariant-loop-row

@@ -1,5 +1,5 @@
 use Rattle.std.proofs.Common.{◌∙◌}
-use Rattle.pc_flow.specs.Courses.{present}
+use Rattle.pc_flow.specs.inside.Courses.{present}
 use Rattle.pc_bench.proofs.SumLaws.{below-is}
 use Rattle.pc_bench.proofs.figures.costs_below.Goals as goal
 

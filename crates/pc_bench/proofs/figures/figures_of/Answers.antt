@@ -1,9 +1,9 @@
 use Rattle.std.proofs.Common.{◌≡◌, ◌∙◌, inl, inr, true≢false, refl, sym, subst, arith}
 use Rattle.std.proofs.lemmas.Bool.{cases_lt}
-use Rattle.pc_flow.specs.Courses.{HasEnded, present}
+use Rattle.pc_flow.specs.inside.Courses.{HasEnded, present}
 use Rattle.pc_flow.proofs.LookLaws.{same-joins, further-joins, looks-join}
 use Rattle.pc_curve.specs.Points.{curve_in}
-use Rattle.pc_bench.specs.Tallies.{IsSmall}
+use Rattle.pc_bench.specs.inside.Tallies.{IsSmall}
 use Rattle.pc_bench.proofs.TallyLaws.{IsAlong, IsTallied, cost-at-top, tally-begins, tally-lower, tally-numbers, tally-grows, sum-of-all, cost-at-end, breaks-of-all}
 use Rattle.pc_bench.proofs.figures.figures_of.Goals as goal
 

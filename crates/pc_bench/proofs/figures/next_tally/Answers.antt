@@ -1,5 +1,5 @@
 use Rattle.std.proofs.Common.{arith}
-use Rattle.pc_flow.specs.Courses.{present}
+use Rattle.pc_flow.specs.inside.Courses.{present}
 use Rattle.pc_bench.proofs.TallyLaws.{below-small}
 use Rattle.pc_bench.proofs.figures.next_tally.Goals as goal
 

@@ -1,5 +1,5 @@
 use Rattle.std.proofs.Common.{refl}
-use Rattle.pc_page.specs.Puts.{desk}
+use Rattle.pc_page.specs.inside.Puts.{desk}
 use Rattle.pc_bench.specs.Report.{bench_text}
 use Rattle.pc_bench.proofs.report.write_bench.Goals as goal
 

@@ -1,5 +1,5 @@
 use Rattle.std.proofs.Common.{◌≡◌, drop}
-use Rattle.pc_cards.specs.Forms.{slots_behind}
+use Rattle.pc_cards.specs.inside.Forms.{slots_behind}
 use Rattle.pc_cards.proofs.form.slots_behind.Given as goal
 
 -- the slots so far have other numbers

@@ -1,7 +1,7 @@
 use Rattle.std.proofs.Common.{◌-◌, replicate, arith, subst, sym, ap, ◌∙◌}
 use Rattle.std.proofs.lemmas.List.{length-take, length-drop}
 use borrow.Rule.Slice.PartMut.{put_mid}
-use Rattle.pc_cells.specs.Layout.{IsRangeFilled}
+use Rattle.pc_cells.specs.inside.Layout.{IsRangeFilled}
 use Rattle.pc_cells.proofs.SpanLaws.{range-filled}
 use Rattle.pc_cells.proofs.region.fill_range.Goals as goal
 

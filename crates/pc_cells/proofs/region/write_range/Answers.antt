@@ -1,6 +1,6 @@
 use Rattle.std.proofs.Common.{◌+◌, ◌-◌, length, arith, subst, sym}
 use borrow.Rule.Slice.PartMut.{put_mid}
-use Rattle.pc_cells.specs.Layout.{IsRangeWritten}
+use Rattle.pc_cells.specs.inside.Layout.{IsRangeWritten}
 use Rattle.pc_cells.proofs.SpanLaws.{range-written}
 use Rattle.pc_cells.proofs.region.write_range.Goals as goal
 

@@ -1,7 +1,7 @@
 use Rattle.std.proofs.Common.{◌+◌, ◌-◌, ◌*◌, ◌^◌, ◌%◌, ◌<◌, ◌≤◌, ◌≡◌, get_or, refl, sym, subst, arith}
 use Rattle.pc_text.proofs.NumberLemmas.{longer}
 use Rattle.pc_cert.proofs.NumberLemmas.{AreSoFar, below_17_digits, digits_more, is_digit}
-use Rattle.pc_cert.specs.Number.{AreDigitsAt}
+use Rattle.pc_cert.specs.inside.Number.{AreDigitsAt}
 use Rattle.pc_cert.proofs.number.digits_within.Goals as goal
 
 pub overflow_mul-number : goal.overflow_mul-number

@@ -1,5 +1,5 @@
 use Rattle.std.proofs.Common.{◌≡◌, ℕ, ◌<◌, length}
-use Rattle.pc_certify.specs.Spelled.{SpellsAct, act_row}
+use Rattle.pc_certify.specs.inside.Spelled.{SpellsAct, act_row}
 use Rattle.pc_certify.proofs.last_lines.act_rows.Given as goal
 
 abbrev pub invariant-loop-a : goal.invariant-loop-a

@@ -1,6 +1,6 @@
 use Rattle.std.proofs.Common.{◌≡◌, ℕ, ◌<◌, length}
 use Rattle.pc_model.specs.Codes.{code_at}
-use Rattle.pc_certify.specs.Spelled.{SpellsEvent, event_row}
+use Rattle.pc_certify.specs.inside.Spelled.{SpellsEvent, event_row}
 use Rattle.pc_certify.proofs.last_lines.event_rows.Given as goal
 
 abbrev pub invariant-loop-e : goal.invariant-loop-e

@@ -4,7 +4,7 @@ use Rattle.pc_cert.specs.Text.{AllFit}
 use Rattle.pc_page.proofs.PageLaws.{Adds-as, ◌⨾◌}
 use Rattle.pc_certify.specs.Document.{segment_lines}
 use Rattle.pc_certify.proofs.CertifiedLaws.{text_begins, text_goes_on, walk_known}
-use Rattle.pc_flow.specs.Courses.{present, HasEnded}
+use Rattle.pc_flow.specs.inside.Courses.{present, HasEnded}
 use Rattle.pc_certify.proofs.DescentLaws.{given-none, given-more, given-all, come-less, small-next}
 use Rattle.pc_certify.proofs.writing.put_segments.Goals as goal
 

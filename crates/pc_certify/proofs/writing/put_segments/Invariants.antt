@@ -1,6 +1,6 @@
-use Rattle.pc_page.specs.Puts.{desk}
-use Rattle.pc_certify.specs.Descent.{IsPut, still_to_come}
-use Rattle.pc_certify.specs.Spelled.{AreEventsSpelled, AreActsSpelled}
+use Rattle.pc_page.specs.inside.Puts.{desk}
+use Rattle.pc_certify.proofs.DescentLaws.{IsPut, still_to_come}
+use Rattle.pc_certify.specs.inside.Spelled.{AreEventsSpelled, AreActsSpelled}
 use Rattle.pc_certify.proofs.writing.put_segments.Given as goal
 
 abbrev pub invariant-loop-page : goal.invariant-loop-page

@@ -1,5 +1,5 @@
 use Rattle.pc_cert.specs.Text.{text_of}
-use Rattle.pc_page.specs.Puts.{desk}
+use Rattle.pc_page.specs.inside.Puts.{desk}
 use Rattle.pc_page.proofs.PageLaws.{Adds-as, ◌⨾◌}
 use Rattle.pc_certify.specs.Document.{document_lines}
 use Rattle.pc_certify.proofs.CertifiedLaws.{text_ends, document_fits}

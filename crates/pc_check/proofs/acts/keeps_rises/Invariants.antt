@@ -1,6 +1,6 @@
 use Rattle.std.proofs.Common.{◌≡◌, true}
 use Rattle.std.specs.Prelude.{nat_le, slice_index}
-use Rattle.pc_model.specs.Pieces.{knee_at}
+use Rattle.pc_model.specs.inside.Pieces.{knee_at}
 use Rattle.pc_check.specs.Known.{each_below}
 use Rattle.pc_check.proofs.acts.keeps_rises.Given as goal
 

@@ -1,7 +1,7 @@
 use Rattle.std.proofs.Common.{◌≡◌, ◌+◌, ◌*◌, ◌^◌, ◌≤◌}
 use Rattle.std.specs.Prelude.{nat_lt, if◌then◌else◌}
 use Rattle.pc_model.specs.Sums.{sum_to}
-use Rattle.pc_model.specs.Pieces.{knee_at}
+use Rattle.pc_model.specs.inside.Pieces.{knee_at}
 use Rattle.pc_check.proofs.acts.rises_over.Given as goal
 
 abbrev pub invariant-loop-knee : goal.invariant-loop-knee

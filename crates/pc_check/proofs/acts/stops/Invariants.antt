@@ -1,7 +1,7 @@
 use Rattle.std.proofs.Common.{◌≡◌, false}
-use Rattle.pc_model.specs.Pieces.{knee_at}
+use Rattle.pc_model.specs.inside.Pieces.{knee_at}
 use Rattle.pc_check.specs.Known.{some_below}
-use Rattle.pc_check.specs.KneeTests.{stops_at_knee_over}
+use Rattle.pc_check.specs.inside.KneeTests.{stops_at_knee_over}
 use Rattle.pc_check.proofs.acts.stops.Given as goal
 
 abbrev pub invariant-loop-knee : goal.invariant-loop-knee

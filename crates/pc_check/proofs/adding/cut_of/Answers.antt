@@ -1,7 +1,7 @@
 use Rattle.std.proofs.Common.{◌∙◌, ap}
 use Rattle.std.specs.Prelude.{if◌then◌else◌}
 use Rattle.pc_crash.specs.Priced.{knees_in}
-use Rattle.pc_check.specs.KneeTests.{rises_over, stops_over}
+use Rattle.pc_check.specs.inside.KneeTests.{rises_over, stops_over}
 use Rattle.pc_check.proofs.CutLaws.{rises_if-list, stops-list}
 use Rattle.pc_check.proofs.adding.cut_of.Goals as goal
 

@@ -3,8 +3,8 @@ use Rattle.std.specs.Prelude.{slice_index}
 use Rattle.pc_model.specs.declared.limits.TheConstants.{MAX_ACTIVITIES}
 use Rattle.pc_model.specs.Walk.{from_of, to_of}
 use Rattle.pc_check.specs.declared.passed.Passed.{Passed}
-use Rattle.pc_check.specs.Passed.{flow_of, cost_of}
-use Rattle.pc_check.specs.Safe.{IsExchanged}
+use Rattle.pc_check.specs.inside.Passed.{flow_of, cost_of}
+use Rattle.pc_check.specs.inside.Safe.{IsExchanged}
 use Rattle.pc_check.proofs.PassedLaws.{passed_with, row_read, row_renewed}
 use Rattle.pc_check.proofs.SumLaws.{sums_exchanged, is_in_sum, sum_small, cost_exchanged, cost_in_sum, cost_small}
 use Rattle.pc_check.proofs.adding.renew.Goals as goal

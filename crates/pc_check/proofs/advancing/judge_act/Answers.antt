@@ -1,5 +1,5 @@
 use Rattle.std.proofs.Common.{sym, ◌∙◌}
-use Rattle.pc_check.specs.Kept.{known_by}
+use Rattle.pc_check.specs.inside.Kept.{known_by}
 use Rattle.pc_check.proofs.PassedLaws.{lasts_at_most}
 use Rattle.pc_check.proofs.advancing.judge_act.Goals as goal
 

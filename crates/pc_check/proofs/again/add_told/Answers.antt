@@ -1,8 +1,8 @@
 use Rattle.std.proofs.Common.{◌≡◌, ◌<◌, [], length, sym, subst, ◌∙◌, arith}
 use Rattle.std.proofs.lemmas.List.{get_or_default}
 use Rattle.pc_model.specs.Codes.{code_at}
-use Rattle.pc_cert.specs.Known.{IsFrontOf}
-use Rattle.pc_check.specs.Fronts.{front_at}
+use Rattle.pc_cert.specs.inside.Known.{IsFrontOf}
+use Rattle.pc_check.specs.inside.Fronts.{front_at}
 use Rattle.pc_check.proofs.FrontsLaws.{own_front}
 use Rattle.pc_check.proofs.again.add_told.Goals as goal
 

@@ -1,7 +1,7 @@
 use Rattle.std.proofs.Common.{◌+◌, ◌<◌, ◌≤◌, drop, length, refl, sym, ap, subst, arith}
 use Rattle.std.proofs.lemmas.List.{take_all, length-drop}
 use Rattle.pc_model.specs.declared.limits.TheConstants.{MAX_EVENTS, MAX_ACTIVITIES}
-use Rattle.pc_check.specs.Again.{acts_at}
+use Rattle.pc_check.specs.inside.Again.{acts_at}
 use Rattle.pc_check.proofs.AlongLaws.{IsAlong, along_begins, along_ends, along_more}
 use Rattle.pc_check.proofs.PassedLaws.{safe_again}
 use Rattle.pc_check.proofs.again.advance_acts.Goals as goal

@@ -1,5 +1,5 @@
 use Rattle.std.proofs.Common.{length}
-use Rattle.pc_check.specs.Again.{acts_at}
+use Rattle.pc_check.specs.inside.Again.{acts_at}
 use Rattle.pc_check.proofs.AlongLaws.{IsAlong}
 use Rattle.pc_check.proofs.again.advance_acts.Given as goal
 

@@ -1,10 +1,10 @@
 use Rattle.std.proofs.Common.{◌+◌, ◌<◌, length, Some, refl, sym, subst, arith}
 use Rattle.pc_cert.specs.declared.line.CertLine.TheVariants.{Act}
-use Rattle.pc_cert.specs.Known.{IsTextOf}
+use Rattle.pc_cert.specs.inside.Known.{IsTextOf}
 use Rattle.pc_check.specs.declared.passed.Passed.{Passed}
-use Rattle.pc_check.specs.Again.{acts_at}
-use Rattle.pc_check.specs.Passed.{HasPassed, IsPassed, passed_at}
-use Rattle.pc_check.specs.Safe.{AddsAct}
+use Rattle.pc_check.specs.inside.Again.{acts_at}
+use Rattle.pc_check.specs.inside.Passed.{HasPassed, IsPassed, passed_at}
+use Rattle.pc_check.specs.inside.Safe.{AddsAct}
 use Rattle.pc_check.proofs.PassedLaws.{adds_again, again_passes, read_passed, row_read}
 use Rattle.pc_check.proofs.again.pass_same.Goals as goal
 

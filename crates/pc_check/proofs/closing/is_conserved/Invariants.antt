@@ -1,6 +1,6 @@
 use Rattle.std.proofs.Common.{◌≡◌, true}
 use Rattle.std.specs.Prelude.{◌==◌, ◌||◌}
-use Rattle.pc_check.specs.Kept.{known_by}
+use Rattle.pc_check.specs.inside.Kept.{known_by}
 use Rattle.pc_check.specs.Known.{each_below}
 use Rattle.pc_check.proofs.closing.is_conserved.Given as goal
 

@@ -1,4 +1,4 @@
-use Rattle.pc_check.specs.Passed.{FitsWithin}
+use Rattle.pc_check.specs.inside.Passed.{FitsWithin}
 use Rattle.pc_check.proofs.passed.gaps_of.Given as goal
 
 abbrev pub invariant-loop-k : goal.invariant-loop-k

@@ -1,5 +1,5 @@
 use Rattle.std.proofs.Common.{None, refl, subst, sym, ap, replicate, ◌∙◌, length}
-use Rattle.pc_check.specs.Passed.{ArePassed, IsNothing}
+use Rattle.pc_check.specs.inside.Passed.{ArePassed, IsNothing}
 use Rattle.pc_check.specs.declared.passed.Passed.{Passed}
 use Rattle.pc_check.proofs.PassedLaws.{nothing_passed, nothing_flows}
 use Rattle.pc_check.proofs.passed.none_passed.Goals as goal

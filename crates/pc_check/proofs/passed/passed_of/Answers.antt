@@ -1,7 +1,7 @@
 use Rattle.std.proofs.Common.{◌≡◌, ℕ, ◌-◌, min, arith, ap, subst, ◌∙◌, length}
 use Rattle.pc_model.specs.declared.Term.{Term}
-use Rattle.pc_check.specs.KneeTests.{flow_sum}
-use Rattle.pc_check.specs.Passed.{FitsWithin, IsWithin}
+use Rattle.pc_check.specs.inside.KneeTests.{flow_sum}
+use Rattle.pc_check.specs.inside.Passed.{FitsWithin, IsWithin}
 use Rattle.pc_check.proofs.PassedLaws.{slack_in_within}
 use Rattle.pc_check.proofs.passed.passed_of.Goals as goal
 

@@ -1,6 +1,6 @@
 use Rattle.std.proofs.Common.{◌∙◌, ap}
 use Rattle.pc_crash.specs.Priced.{knees_in}
-use Rattle.pc_check.specs.KneeTests.{is_slack_over}
+use Rattle.pc_check.specs.inside.KneeTests.{is_slack_over}
 use Rattle.pc_check.proofs.KneeLaws.{is_slack-list}
 use Rattle.pc_check.proofs.reasons.fits_gap.Goals as goal
 

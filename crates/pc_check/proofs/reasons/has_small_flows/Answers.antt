@@ -1,6 +1,6 @@
 use Rattle.std.proofs.Common.{◌∙◌, ap}
 use Rattle.pc_crash.specs.Priced.{knees_in}
-use Rattle.pc_check.specs.KneeTests.{keeps_rises_over}
+use Rattle.pc_check.specs.inside.KneeTests.{keeps_rises_over}
 use Rattle.pc_check.proofs.KneeLaws.{keeps_rises-list}
 use Rattle.pc_check.proofs.reasons.has_small_flows.Goals as goal
 

@@ -1,4 +1,4 @@
-use Rattle.pc_check.specs.Auditing.{bytes_left}
+use Rattle.pc_check.specs.inside.Auditing.{bytes_left}
 use Rattle.pc_check.proofs.SourceLaws.{IsPulling}
 use Rattle.pc_check.proofs.source.audit_by.Given as goal
 

@@ -3,7 +3,8 @@ use Rattle.std.specs.Prelude.{IfOk, IfSome}
 use Rattle.pc_edges.specs.declared.loading.TheConstants.{STREAM_ROOM}
 use Rattle.pc_check.specs.Texts.{Finds}
 use Rattle.pc_check.specs.Stops.{IsSettled}
-use Rattle.pc_check.specs.Auditing.{bytes_left, most_bytes}
+use Rattle.pc_check.specs.Auditing.{most_bytes}
+use Rattle.pc_check.specs.inside.Auditing.{bytes_left}
 use Rattle.pc_edges.proofs.PullLaws.{TakesPulls-one_more}
 use Rattle.pc_check.specs.OwnLines.{KeepsToOwnLines}
 use Rattle.pc_check.proofs.OwnTurnLaws.{keeps_to_lines, unpulled_keeps}

@@ -1,7 +1,8 @@
 use Rattle.std.proofs.Common.{Err, refl, ap, subst}
 use Rattle.std.specs.Prelude.{IfSome}
 use Rattle.pc_check.specs.Texts.{Finds}
-use Rattle.pc_checking.specs.Certificate.{IsSettledIn, IsUnsettledIn, found, unread, no_room}
+use Rattle.pc_checking.specs.Certificate.{IsSettledIn, IsUnsettledIn}
+use Rattle.pc_checking.specs.inside.Certificate.{found, unread, no_room}
 use Rattle.pc_reading.specs.Priced.{priced_in}
 use Rattle.pc_reading.specs.Sides.{pulled_side}
 use Rattle.pc_reading.proofs.PricedLaws.{priced_is}

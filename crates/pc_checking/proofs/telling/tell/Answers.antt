@@ -1,5 +1,5 @@
 use Rattle.std.proofs.Common.{subst, ◌∙◌}
-use Rattle.pc_checking.specs.Certificate.{told, cut}
+use Rattle.pc_checking.specs.inside.Certificate.{told, cut}
 use Rattle.pc_reading.specs.Sides.{side, Took, TookFront}
 use Rattle.pc_checking.proofs.telling.tell.Goals as goal
 

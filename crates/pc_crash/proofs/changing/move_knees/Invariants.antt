@@ -1,6 +1,6 @@
 use Rattle.std.proofs.Common.{◌≡◌, ℕ, ◌<◌, ◌≤◌}
-use Rattle.pc_model.specs.Pieces.{knee_at}
-use Rattle.pc_crash.specs.Moved.{moved_knee}
+use Rattle.pc_model.specs.inside.Pieces.{knee_at}
+use Rattle.pc_crash.specs.inside.Moved.{moved_knee}
 use Rattle.pc_crash.proofs.changing.move_knees.Given as goal
 
 abbrev pub invariant-loop-k : goal.invariant-loop-k

@@ -1,5 +1,5 @@
 use Rattle.std.proofs.Common.{◌*◌, ap, arith}
-use Rattle.pc_model.specs.Pieces.{knee_at}
+use Rattle.pc_model.specs.inside.Pieces.{knee_at}
 use Rattle.pc_crash.proofs.CostLaws.{price_to-room}
 use Rattle.pc_crash.proofs.costing.price_of.Goals as goal
 

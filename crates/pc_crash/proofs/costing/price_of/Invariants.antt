@@ -1,6 +1,6 @@
 use Rattle.std.proofs.Common.{◌≡◌, ◌*◌, ◌-◌}
 use Rattle.pc_model.specs.Sums.{sum_to}
-use Rattle.pc_model.specs.Pieces.{knee_at}
+use Rattle.pc_model.specs.inside.Pieces.{knee_at}
 use Rattle.pc_crash.proofs.costing.price_of.Given as goal
 
 abbrev pub invariant-loop-knee : goal.invariant-loop-knee

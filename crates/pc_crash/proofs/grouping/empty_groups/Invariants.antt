@@ -1,5 +1,5 @@
 use Rattle.std.proofs.Common.{[]}
-use Rattle.pc_crash.specs.Groups.{AreGroups}
+use Rattle.pc_crash.specs.inside.Groups.{AreGroups}
 use Rattle.pc_crash.proofs.grouping.empty_groups.Given as goal
 
 abbrev pub invariant-loop : goal.invariant-loop

@@ -1,5 +1,5 @@
 use Rattle.std.proofs.Common.{length, take}
-use Rattle.pc_crash.specs.Groups.{AreGroups}
+use Rattle.pc_crash.specs.inside.Groups.{AreGroups}
 use Rattle.pc_crash.proofs.grouping.grouped.Given as goal
 
 abbrev pub invariant-loop-piece : goal.invariant-loop-piece

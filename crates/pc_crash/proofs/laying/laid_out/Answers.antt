@@ -4,9 +4,9 @@ use Rattle.arrayvec.specs.ArrayVec.{ArrayVec}
 use Rattle.pc_model.specs.declared.PieceRow.{PieceRow}
 use Rattle.pc_model.specs.Pieces.{pieces_of, units_of}
 use Rattle.pc_model.specs.Schedule.{term_at}
-use Rattle.pc_crash.specs.Groups.{AreGroups}
-use Rattle.pc_crash.specs.KneeLists.{knee_list}
-use Rattle.pc_crash.specs.Laid.{IsRising}
+use Rattle.pc_crash.specs.inside.Groups.{AreGroups}
+use Rattle.pc_crash.specs.inside.KneeLists.{knee_list}
+use Rattle.pc_crash.specs.inside.Laid.{IsRising}
 use Rattle.pc_crash.proofs.KneeListLaws.{IsRising-from_slopes, length-knee_list, units-most}
 use Rattle.pc_crash.proofs.LaidLaws.{AreLaid-push}
 use Rattle.pc_crash.proofs.laying.laid_out.Goals as goal

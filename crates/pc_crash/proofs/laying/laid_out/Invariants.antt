@@ -1,4 +1,4 @@
-use Rattle.pc_crash.specs.Laid.{AreLaid}
+use Rattle.pc_crash.specs.inside.Laid.{AreLaid}
 use Rattle.pc_crash.proofs.laying.laid_out.Given as goal
 
 abbrev pub invariant-loop-a : goal.invariant-loop-a

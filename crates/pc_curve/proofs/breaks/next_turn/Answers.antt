@@ -1,6 +1,7 @@
 use Rattle.std.proofs.Common.{◌≡◌, ◌≢◌, ◌<◌, ◌≤◌, ◌⊎◌, ◌∙◌, true≢false, inl, inr, sym, subst, arith}
-use Rattle.pc_flow.specs.Courses.{lower_of, present, HasEnded}
-use Rattle.pc_curve.specs.Points.{IsThere}
+use Rattle.pc_flow.specs.Courses.{lower_of}
+use Rattle.pc_flow.specs.inside.Courses.{present, HasEnded}
+use Rattle.pc_curve.specs.inside.Points.{IsThere}
 use Rattle.pc_flow.proofs.LookLaws.{further-joins, looks-none, looks-join}
 use Rattle.pc_curve.proofs.CurveLaws.{priced-there, IsOnTheWay, way-begins, way-there, way-ends, ends-place, way-lower, way-goes_on, way-turns}
 use Rattle.pc_curve.proofs.breaks.next_turn.Goals.{else-slope-via-then-slope+else-upper-last, else-slope-via-else-slope}

@@ -1,5 +1,6 @@
 use Rattle.std.proofs.Common.{◌≡◌, ◌+◌, ◌≤◌}
-use Rattle.pc_flow.specs.Courses.{present, lower_of, most_looks}
+use Rattle.pc_flow.specs.Courses.{lower_of, most_looks}
+use Rattle.pc_flow.specs.inside.Courses.{present}
 use Rattle.pc_curve.proofs.CurveLaws.{IsOnTheWay}
 use Rattle.pc_curve.proofs.breaks.next_turn.Given as goal
 

@@ -1,7 +1,7 @@
 use Rattle.std.proofs.Common.{subst, sym, arith}
-use Rattle.pc_page.specs.Puts.{desk}
+use Rattle.pc_page.specs.inside.Puts.{desk}
 use Rattle.pc_flow.proofs.LookLaws.{further-stays, further-joins, looks-none, looks-join}
-use Rattle.pc_curve.specs.Breaks.{StandsAt, StandsBy}
+use Rattle.pc_curve.specs.inside.Breaks.{StandsAt, StandsBy}
 use Rattle.pc_curve.proofs.TextLaws.{ArePutTo, put-begins, put-more}
 use Rattle.pc_curve.proofs.curve_text.put_breaks.Goals as goal
 

@@ -1,5 +1,6 @@
 use Rattle.std.proofs.Common.{◌≡◌, ◌≤◌, ◌∙◌, true, true≢false, sym, arith}
-use Rattle.pc_flow.specs.Courses.{lower_of, IsNext}
+use Rattle.pc_flow.specs.Courses.{lower_of}
+use Rattle.pc_flow.specs.inside.Courses.{IsNext}
 use Rattle.pc_flow.proofs.LookLaws.{same-stays, same-joins, further-stays, further-joins, looks-none, looks-join}
 use Rattle.pc_curve.proofs.ComeLaws.{still-to_come, goes-on}
 use Rattle.pc_curve.proofs.reading.come_to.Goals as goal

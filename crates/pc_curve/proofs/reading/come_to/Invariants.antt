@@ -1,6 +1,6 @@
 use Rattle.std.proofs.Common.{◌+◌, ◌≤◌}
 use Rattle.pc_flow.specs.Courses.{IsSameCurve, IsFurther, most_looks}
-use Rattle.pc_curve.specs.Points.{IsToCome}
+use Rattle.pc_curve.specs.inside.Points.{IsToCome}
 use Rattle.pc_curve.proofs.ComeLaws.{left}
 use Rattle.pc_curve.proofs.reading.come_to.Given as goal
 

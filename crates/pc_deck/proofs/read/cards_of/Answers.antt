@@ -1,6 +1,7 @@
 use Rattle.std.proofs.Common.{sym, ap, subst, ◌∙◌}
 use Rattle.pc_cards.specs.declared.sort.Sort.{Sort}
-use Rattle.pc_deck.specs.Within.{IsDraftWithin, IsWithin}
+use Rattle.pc_deck.specs.Within.{IsWithin}
+use Rattle.pc_deck.specs.inside.Within.{IsDraftWithin}
 use Rattle.pc_deck.specs.declared.draft.Draft.{Draft}
 use Rattle.pc_deck.proofs.WithinLemmas.{no_cards_within}
 use Rattle.pc_deck.proofs.read.cards_of.Goals as goal

@@ -1,8 +1,8 @@
 use Rattle.std.proofs.Common.{◌≡◌, ◌+◌, All, length}
 use Rattle.pc_records.specs.Deck.{deck_records}
 use Rattle.pc_cards.specs.Cards.{deck_cards}
-use Rattle.pc_deck.specs.Reading.{read_from}
-use Rattle.pc_deck.specs.Within.{IsDraftWithin}
+use Rattle.pc_deck.specs.inside.Reading.{read_from}
+use Rattle.pc_deck.specs.inside.Within.{IsDraftWithin}
 use Rattle.pc_deck.proofs.ReadLemmas.{IsTextCard}
 use Rattle.pc_deck.proofs.read.take_all.Given as goal
 

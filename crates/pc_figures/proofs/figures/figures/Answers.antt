@@ -3,7 +3,8 @@ use Rattle.std.specs.Prelude.{unsigned_abs}
 use Rattle.std.proofs.lemmas.Int.{to_z-of_z}
 use mir.Val.{SFits}
 use Rattle.pc_accounts.specs.Entries.{entry_at}
-use Rattle.pc_figures.specs.Figures.{AreAmounts, figure_at}
+use Rattle.pc_figures.specs.Figures.{figure_at}
+use Rattle.pc_figures.specs.inside.Figures.{AreAmounts}
 use Rattle.pc_figures.proofs.AmountLaws.{amounts_more, amounts_fit, figure_small}
 use Rattle.pc_figures.proofs.figures.figures.Goals as goal
 

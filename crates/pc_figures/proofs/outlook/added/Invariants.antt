@@ -1,4 +1,4 @@
-use Rattle.pc_figures.specs.OutlookParts.{AreAddedTo}
+use Rattle.pc_figures.specs.inside.OutlookParts.{AreAddedTo}
 use Rattle.pc_figures.proofs.outlook.added.Given as goal
 
 abbrev pub invariant-loop-y : goal.invariant-loop-y

@@ -1,4 +1,4 @@
-use Rattle.pc_figures.specs.OutlookParts.{AreMarked}
+use Rattle.pc_figures.specs.inside.OutlookParts.{AreMarked}
 use Rattle.pc_figures.proofs.outlook_parts.marked.Given as goal
 
 abbrev pub invariant-loop-a : goal.invariant-loop-a

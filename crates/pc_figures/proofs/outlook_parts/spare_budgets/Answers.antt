@@ -4,7 +4,7 @@ use Rattle.std.proofs.lemmas.Int.{to_z-of_z}
 use mir.Val.{SFits}
 use Rattle.pc_model.specs.declared.limits.TheConstants.{MAX_COST}
 use Rattle.pc_accounts.specs.Amounts.{item_of}
-use Rattle.pc_figures.specs.OutlookParts.{IsSpare}
+use Rattle.pc_figures.specs.inside.OutlookParts.{IsSpare}
 use Rattle.pc_figures.proofs.OutlookLaws.{spare_is, spare_more, spare_all, spare_fit}
 use Rattle.pc_figures.proofs.outlook_parts.spare_budgets.Goals as goal
 

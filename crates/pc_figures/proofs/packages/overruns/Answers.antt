@@ -3,7 +3,7 @@ use Rattle.std.specs.Prelude.{unsigned_abs}
 use Rattle.std.proofs.lemmas.Int.{ints, to_z-of_z}
 use mir.Val.{SFits}
 use Rattle.pc_rollup.specs.Totals.{amount_at}
-use Rattle.pc_figures.specs.Figures.{AreAmounts}
+use Rattle.pc_figures.specs.inside.Figures.{AreAmounts}
 use Rattle.pc_figures.specs.Packages.{overrun_at}
 use Rattle.pc_figures.proofs.AmountLaws.{amounts_more, amounts_fit}
 use Rattle.pc_figures.proofs.packages.overruns.Goals as goal

@@ -1,4 +1,4 @@
-use Rattle.pc_figures.specs.Packages.{AreProgress}
+use Rattle.pc_figures.specs.inside.Packages.{AreProgress}
 use Rattle.pc_figures.proofs.packages.progress_of.Given as goal
 
 abbrev pub invariant-loop-a : goal.invariant-loop-a

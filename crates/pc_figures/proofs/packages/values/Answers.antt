@@ -6,7 +6,8 @@ use mir.Val.{SFits}
 use Rattle.pc_model.specs.declared.limits.TheConstants.{MAX_COST}
 use Rattle.pc_accounts.specs.Amounts.{item_of}
 use Rattle.pc_accounts.specs.Entries.{entry_at, value_of}
-use Rattle.pc_figures.specs.Packages.{IsValueOf, IsProgress, progress_at}
+use Rattle.pc_figures.specs.Packages.{IsValueOf}
+use Rattle.pc_figures.specs.inside.Packages.{IsProgress, progress_at}
 use Rattle.pc_figures.proofs.ValueLaws.{value_is, values_more, values_all, values_small, values_fit}
 use Rattle.pc_figures.proofs.packages.values.Goals as goal
 

@@ -1,4 +1,5 @@
-use Rattle.pc_figures.specs.Slacks.{ArePlacedSlacks, slack_at}
+use Rattle.pc_figures.specs.Slacks.{slack_at}
+use Rattle.pc_figures.specs.inside.Slacks.{ArePlacedSlacks}
 use Rattle.pc_figures.proofs.slacks.placed_slacks.Given as goal
 
 abbrev pub invariant-loop-a : goal.invariant-loop-a

@@ -1,6 +1,6 @@
 use Rattle.std.proofs.Common.{◌≡◌, ℕ, ◌<◌, length, arith}
 use Rattle.pc_rollup.specs.Totals.{amount_at}
-use Rattle.pc_accounts.specs.Entries.{entry_of_all}
+use Rattle.pc_accounts.specs.inside.Entries.{entry_of_all}
 use Rattle.pc_figures.specs.Figures.{figure_of, figure_at}
 use Rattle.pc_figures.proofs.PushLaws.{if_answered, if_both}
 use Rattle.pc_figures.proofs.SumLaws.{column_alike, adds_up}

@@ -1,6 +1,6 @@
 use Rattle.std.proofs.Common.{◌≤◌, arith}
 use Rattle.pc_model.specs.declared.limits.TheConstants.{MAX_EVENTS}
-use Rattle.pc_flow.specs.Paces.{durations_at}
+use Rattle.pc_flow.specs.inside.Paces.{durations_at}
 use Rattle.pc_flow.proofs.EarlyTimes.{early-before, early-more, early-all, small_times, durations-short}
 use Rattle.pc_flow.proofs.early.keep_early_times.Goals as goal
 

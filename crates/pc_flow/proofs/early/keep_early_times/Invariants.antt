@@ -1,4 +1,4 @@
-use Rattle.pc_flow.specs.Paces.{durations_at}
+use Rattle.pc_flow.specs.inside.Paces.{durations_at}
 use Rattle.pc_flow.proofs.EarlyTimes.{AreEarlyTo}
 use Rattle.pc_flow.proofs.early.keep_early_times.Given as goal
 

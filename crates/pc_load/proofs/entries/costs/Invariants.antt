@@ -1,4 +1,4 @@
-use Rattle.pc_load.specs.Entries.{AreCosts}
+use Rattle.pc_load.specs.inside.Entries.{AreCosts}
 use Rattle.pc_load.proofs.entries.costs.Given as goal
 
 abbrev pub invariant-loop-a : goal.invariant-loop-a

@@ -1,4 +1,4 @@
-use Rattle.pc_load.specs.Entries.{AreLoads}
+use Rattle.pc_load.specs.inside.Entries.{AreLoads}
 use Rattle.pc_load.proofs.entries.loads.Given as goal
 
 abbrev pub invariant-loop-load : goal.invariant-loop-load

@@ -1,10 +1,11 @@
 use Rattle.std.proofs.Common.{List, length, subst, sym}
 use Rattle.pc_figures.proofs.PushLaws.{if_answered}
-use Rattle.pc_rollup.specs.Totals.{AreAtLeaves}
+use Rattle.pc_rollup.specs.inside.Totals.{AreAtLeaves}
 use Rattle.pc_wbs.specs.declared.row.ItemRow.{ItemRow}
-use Rattle.pc_load.specs.Items.{IsItemTable}
+use Rattle.pc_load.specs.inside.Items.{IsItemTable}
 use Rattle.pc_load.specs.Loading.{AreItemParts, ItemsAddUp}
-use Rattle.pc_load.specs.Table.{IsTableOf, column}
+use Rattle.pc_load.specs.Table.{column}
+use Rattle.pc_load.specs.inside.Table.{IsTableOf}
 use Rattle.pc_load.proofs.LoadingLaws.{costs_at_leaves, items_have_parts, items_add_up}
 use Rattle.pc_load.proofs.loading.items_of.Goals as goal
 

@@ -1,10 +1,10 @@
 use Rattle.std.proofs.Common.{◌≡◌, ℕ, List, ◌++◌, length, sym, ap, ◌∙◌, subst, arith}
 use Rattle.std.specs.Prelude.{ℤ}
 use Rattle.pc_wbs.specs.declared.row.ItemRow.{ItemRow}
-use Rattle.pc_rollup.specs.Totals.{AreRolledUp}
-use Rattle.pc_load.specs.Items.{IsItemTable}
+use Rattle.pc_rollup.specs.inside.Totals.{AreRolledUp}
+use Rattle.pc_load.specs.inside.Items.{IsItemTable}
 use Rattle.pc_load.specs.Table.{Table, column}
-use Rattle.pc_load.specs.TableInside.{table_from}
+use Rattle.pc_load.specs.inside.TableInside.{table_from}
 use Rattle.pc_load.proofs.ItemLaws.{AreRolledTo, rolled_more, items_are, items_natural, levels_add_up}
 use Rattle.pc_load.proofs.table.item_table.Goals as goal
 

@@ -4,7 +4,7 @@ use Rattle.std.proofs.lemmas.Bool.Decides.{eqb_tells}
 use Rattle.std.proofs.lemmas.Cmp.{nat_list_eq_equiv}
 use Rattle.std.specs.Cmp.Lexicographic.{pointwise, same_text}
 use Rattle.pc_names.proofs.index.are_same.Goals as goal
-use Rattle.pc_text.specs.CodeNumber.{number_of, code_in}
+use Rattle.pc_text.specs.inside.CodeNumber.{number_of, code_in}
 
 -- codes with one number are one, and codes that are one have one number
 by_numbers : (one other : List ℕ) (a b : ℕ) → a ≡ number_of one → b ≡ number_of other → code_in a ≡ one → code_in b ≡ other → nat_eq a b ≡ pointwise nat_eq one other

@@ -1,4 +1,4 @@
-use Rattle.pc_names.specs.Index.{mixed}
+use Rattle.pc_names.specs.inside.Index.{mixed}
 use Rattle.pc_names.proofs.index.mixed.Goals as goal
 
 pub returns : goal.returns

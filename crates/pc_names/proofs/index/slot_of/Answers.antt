@@ -1,6 +1,6 @@
 use Rattle.std.proofs.Common.{◌-◌, ap, ◌∙◌}
 use Rattle.std.specs.Prelude.{bit_and}
-use Rattle.pc_names.specs.Index.{slot_of, mixed}
+use Rattle.pc_names.specs.inside.Index.{slot_of, mixed}
 use Rattle.pc_names.proofs.index.slot_of.Goals as goal
 
 pub returns-clause-value : goal.returns-clause-value

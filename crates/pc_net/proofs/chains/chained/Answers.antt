@@ -1,7 +1,7 @@
 use Rattle.std.proofs.Common.{◌≡◌, ◌<◌, ◌-◌, ◌+◌, length, slice_index, sym, ◌∙◌, subst, arith}
 use Rattle.std.proofs.lemmas.List.{get_or_read}
-use Rattle.pc_net.specs.Sides.{events_of}
-use Rattle.pc_net.specs.Chains.{AreChains}
+use Rattle.pc_net.specs.inside.Sides.{events_of}
+use Rattle.pc_net.specs.inside.Chains.{AreChains}
 use Rattle.pc_net.proofs.SideLaws.{events_of_at, length-events_of, event_known}
 use Rattle.pc_net.proofs.ChainLaws.{AreChains-step}
 use Rattle.pc_net.proofs.chains.chained.Goals as goal

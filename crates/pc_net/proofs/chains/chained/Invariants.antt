@@ -1,5 +1,5 @@
-use Rattle.pc_net.specs.Sides.{events_of}
-use Rattle.pc_net.specs.Chains.{AreChains}
+use Rattle.pc_net.specs.inside.Sides.{events_of}
+use Rattle.pc_net.specs.inside.Chains.{AreChains}
 use Rattle.pc_net.proofs.chains.chained.Given as goal
 
 abbrev pub invariant-loop-i : goal.invariant-loop-i

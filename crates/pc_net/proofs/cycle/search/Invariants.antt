@@ -1,5 +1,5 @@
 use Rattle.std.proofs.Common.{◌≡◌, ◌-◌, vec_len}
-use Rattle.pc_net.specs.Cycles.{IsSearch}
+use Rattle.pc_net.specs.inside.Cycles.{IsSearch}
 use Rattle.pc_net.proofs.cycle.search.Given as goal
 
 abbrev pub invariant-loop-at : goal.invariant-loop-at

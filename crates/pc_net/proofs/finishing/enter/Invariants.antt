@@ -1,4 +1,4 @@
-use Rattle.pc_net.specs.Turns.{AreTurns}
+use Rattle.pc_net.specs.inside.Turns.{AreTurns}
 use Rattle.pc_net.proofs.finishing.enter.Given as goal
 
 abbrev pub invariant-loop-a : goal.invariant-loop-a

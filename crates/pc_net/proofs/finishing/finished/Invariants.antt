@@ -1,5 +1,5 @@
 use Rattle.std.proofs.Common.{◌≡◌, vec_len}
-use Rattle.pc_net.specs.Turns.{AreEvents, AreTurns}
+use Rattle.pc_net.specs.inside.Turns.{AreEvents, AreTurns}
 use Rattle.pc_net.proofs.finishing.finished.Given as goal
 
 abbrev pub invariant-loop-root : goal.invariant-loop-root

@@ -1,6 +1,6 @@
 use Rattle.std.proofs.Common.{◌+◌, length}
-use Rattle.pc_net.specs.Labels.{IsSpread}
-use Rattle.pc_net.specs.Turns.{AreEvents}
+use Rattle.pc_net.specs.inside.Labels.{IsSpread}
+use Rattle.pc_net.specs.inside.Turns.{AreEvents}
 use Rattle.pc_net.proofs.labels.labels_of.Given as goal
 
 abbrev pub invariant-loop-round : goal.invariant-loop-round

@@ -1,5 +1,5 @@
 use Rattle.std.proofs.Common.{◌-◌}
-use Rattle.pc_net.specs.Labels.{IsSpread}
+use Rattle.pc_net.specs.inside.Labels.{IsSpread}
 use Rattle.pc_net.proofs.labels.spread.Given as goal
 
 abbrev pub invariant-loop-at : goal.invariant-loop-at

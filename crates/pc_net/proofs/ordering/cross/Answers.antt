@@ -1,6 +1,6 @@
 use Rattle.std.proofs.Common.{◌≡◌, ℕ, ◌<◌, ◌-◌, List, length, slice_index, slice_index_or, slice_set, refl, sym, ◌∙◌, subst, arith}
 use Rattle.std.proofs.lemmas.List.{get_or_read, get_or-set_same, length-set}
-use Rattle.pc_model.specs.Greatest.{IsListed}
+use Rattle.pc_model.specs.inside.Greatest.{IsListed}
 use Rattle.pc_model.specs.Network.{Network}
 use Rattle.pc_model.specs.Walk.{from_of}
 use Rattle.pc_net.proofs.QueueLaws.{IsCrossing-entered, IsCrossing-cross, IsCrossing-push, IsQueue-next}

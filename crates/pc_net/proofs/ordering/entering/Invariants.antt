@@ -1,6 +1,6 @@
 use Rattle.std.proofs.Common.{◌≡◌, ℕ, ◌<◌, ◌==◌, length, slice_index, count_by, take}
 use Rattle.pc_net.specs.declared.side.Side.TheVariants.{Ends}
-use Rattle.pc_net.specs.Sides.{events_of}
+use Rattle.pc_net.specs.inside.Sides.{events_of}
 use Rattle.pc_net.proofs.ordering.entering.Given as goal
 
 abbrev pub invariant-loop-a : goal.invariant-loop-a

@@ -1,5 +1,5 @@
 use Rattle.std.proofs.Common.{◌≡◌, slice_index}
-use Rattle.pc_model.specs.Greatest.{IsListed}
+use Rattle.pc_model.specs.inside.Greatest.{IsListed}
 use Rattle.pc_net.proofs.ordering.free_events.Given as goal
 
 abbrev pub invariant-loop-event : goal.invariant-loop-event

@@ -1,5 +1,5 @@
 use Rattle.std.proofs.Common.{◌≡◌, length, slice_index, subst, arith}
-use Rattle.pc_model.specs.Greatest.{IsListed}
+use Rattle.pc_model.specs.inside.Greatest.{IsListed}
 use Rattle.pc_model.proofs.Walks.OrderLaws.{room_below}
 use Rattle.pc_net.proofs.QueueLaws.{IsQueue-start, IsBlocked-end}
 use Rattle.pc_net.proofs.ordering.ordered.Goals as goal

@@ -1,5 +1,5 @@
 use Rattle.std.proofs.Common.{◌-◌}
-use Rattle.pc_net.specs.Queue.{IsQueue}
+use Rattle.pc_net.specs.inside.Queue.{IsQueue}
 use Rattle.pc_net.proofs.ordering.ordered.Given as goal
 
 abbrev pub invariant-loop-at : goal.invariant-loop-at

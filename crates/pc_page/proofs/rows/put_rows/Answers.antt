@@ -1,4 +1,4 @@
-use Rattle.pc_page.specs.Puts.{desk}
+use Rattle.pc_page.specs.inside.Puts.{desk}
 use Rattle.pc_page.proofs.PageLaws.{Adds-nil, Adds-line}
 use Rattle.pc_page.proofs.rows.put_rows.Goals as goal
 

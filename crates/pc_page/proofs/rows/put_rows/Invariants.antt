@@ -1,5 +1,5 @@
 use Rattle.pc_edges.specs.Texts.{texts_to}
-use Rattle.pc_page.specs.Puts.{Puts}
+use Rattle.pc_page.specs.inside.Puts.{Puts}
 use Rattle.pc_page.proofs.rows.put_rows.Given as goal
 
 abbrev pub invariant-loop-i : goal.invariant-loop-i

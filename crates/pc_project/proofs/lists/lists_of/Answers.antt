@@ -2,10 +2,10 @@ use Rattle.std.proofs.Common.{◌∙◌, ◌≤◌, ap, map, sym, subst}
 use Rattle.std.specs.Prelude.{All}
 use Rattle.std.proofs.lemmas.Simd.{map-map}
 use Rattle.pc_model.specs.declared.limits.TheConstants.{MAX_UNIT_DAYS}
-use Rattle.pc_deck.specs.Act.{IsActWithin}
+use Rattle.pc_deck.specs.inside.Act.{IsActWithin}
 use Rattle.pc_deck.specs.declared.kinds.project.ProjectCard.{ProjectCard}
 use Rattle.pc_deck.proofs.NumberLemmas.{acts-within, project-within}
-use Rattle.pc_project.specs.Project.{placement_of}
+use Rattle.pc_project.specs.inside.Project.{placement_of}
 use Rattle.pc_project.proofs.lists.lists_of.Goals as goal
 
 pub returns-clause-places : goal.returns-clause-places

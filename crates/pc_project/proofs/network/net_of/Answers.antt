@@ -1,6 +1,6 @@
 use Rattle.std.proofs.Common.{◌∙◌, ap, map}
 use Rattle.std.proofs.lemmas.Simd.{map-map}
-use Rattle.pc_project.specs.Project.{placement_of}
+use Rattle.pc_project.specs.inside.Project.{placement_of}
 use Rattle.pc_project.proofs.network.net_of.Goals as goal
 
 pub net_between-requires-clause-arcs : goal.net_between-requires-clause-arcs

@@ -2,7 +2,7 @@ use Rattle.std.proofs.Common.{◌∙◌, length, sym, ap, subst, arith}
 use Rattle.std.proofs.lemmas.List.{length-map}
 use Rattle.pc_faults.specs.declared.kind.Kind.TheVariants.{Acct, Act}
 use Rattle.pc_accounts.specs.Amounts.{AreBudgets, item_of}
-use Rattle.pc_accounts.specs.Packages.{AreWork}
+use Rattle.pc_accounts.specs.inside.Packages.{AreWork}
 use Rattle.pc_project.specs.Project.{account_of, rows_of, work_of}
 use Rattle.pc_project.proofs.FigureLaws.{accounts_cheap, accounts_known, are_work}
 use Rattle.pc_project.proofs.packages.check_packages.Goals as goal

@@ -1,5 +1,5 @@
 use Rattle.std.proofs.Common.{length, ap, subst, arith}
-use Rattle.pc_accounts.specs.Packages.{IsFirstUneven}
+use Rattle.pc_accounts.specs.inside.Packages.{IsFirstUneven}
 use Rattle.pc_project.specs.Project.{accounts_in, work_in}
 use Rattle.pc_project.proofs.FigureLaws.{work_known}
 use Rattle.pc_project.proofs.packages.fault_of.Goals as goal

@@ -3,7 +3,7 @@ use Rattle.std.proofs.lemmas.List.{length-map}
 use Rattle.pc_crash.specs.Priced.{piece_at}
 use Rattle.pc_project.specs.PieceFaults.{HasPieceFaultAt}
 use Rattle.pc_project.specs.Project.{piece_of, pieces_in, term_of, terms_in}
-use Rattle.pc_project.specs.Runs.{run_at}
+use Rattle.pc_project.specs.inside.Runs.{run_at}
 use Rattle.pc_project.proofs.CountLaws.{first_of_none, first_of_all, first_with}
 use Rattle.pc_project.proofs.PieceSteps.{flaw-is, next-is, piece-known, piece-short}
 use Rattle.pc_project.proofs.RunLaws.{AreRuns-start, AreRuns-more}

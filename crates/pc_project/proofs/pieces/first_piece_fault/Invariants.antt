@@ -1,6 +1,6 @@
 use Rattle.pc_project.specs.PieceFaults.{HasPieceFaultAt}
 use Rattle.pc_project.specs.Project.{pieces_in, terms_in}
-use Rattle.pc_project.specs.Runs.{AreRuns}
+use Rattle.pc_project.proofs.RunLaws.{AreRuns}
 use Rattle.pc_project.proofs.CountLaws.{IsFirstBelow}
 use Rattle.pc_project.proofs.pieces.first_piece_fault.Given as goal
 

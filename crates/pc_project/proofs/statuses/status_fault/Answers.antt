@@ -7,7 +7,7 @@ use Rattle.pc_model.specs.declared.limits.TheConstants.{MAX_STATUSES}
 use Rattle.pc_faults.specs.declared.kind.Kind.TheVariants.{Status}
 use Rattle.pc_faults.specs.Faults.{disorder}
 use Rattle.pc_project.specs.DisorderFaults.{IsDisorderAt}
-use Rattle.pc_project.specs.First.{IsFirstIn}
+use Rattle.pc_project.specs.inside.First.{IsFirstIn}
 use Rattle.pc_project.specs.Records.{status_records}
 use Rattle.pc_project.proofs.CountLaws.{IsFirstBelow, first_of_none, first_of_all, first_with}
 use Rattle.pc_project.proofs.DisorderLaws.{disorder-first}

@@ -1,6 +1,6 @@
 use Rattle.std.proofs.Common.{length, subst, sym}
 use Rattle.std.specs.Prelude.{All, ◌<◌}
-use Rattle.pc_project.specs.Refusal.{IsAbout}
+use Rattle.pc_project.specs.inside.Refusal.{IsAbout}
 use Rattle.pc_project.proofs.tree.fault_of.Goals as goal
 
 pub fault_of_loop-requires-clause-known : goal.fault_of_loop-requires-clause-known

@@ -3,7 +3,7 @@ use Rattle.std.proofs.lemmas.List.{length-map}
 use Rattle.pc_wbs.specs.Climb.{AreInRange}
 use Rattle.pc_project.specs.Project.{row_of, rows_of}
 use Rattle.pc_project.specs.Refusal.{IsTreeFault}
-use Rattle.pc_faults.specs.First.{Refuses}
+use Rattle.pc_faults.specs.inside.First.{Refuses}
 use Rattle.pc_project.proofs.FitLaws.{rows_of-in_range}
 use Rattle.pc_project.proofs.RefusalLaws.{refused_by_tree}
 use Rattle.pc_project.proofs.tree.tree_of.Goals as goal

@@ -1,7 +1,7 @@
 use Rattle.std.proofs.Common.{refl, subst, arith}
 use Rattle.pc_faults.specs.declared.fault.Fault.{Fault}
-use Rattle.pc_reading.specs.OneWord.{not_one_word, no_memory, deck_unread, usage_cut}
-use Rattle.pc_reading.specs.Refusing.{Refusal}
+use Rattle.pc_reading.specs.inside.OneWord.{not_one_word, no_memory, deck_unread, usage_cut}
+use Rattle.pc_reading.specs.inside.Refusing.{Refusal}
 use Rattle.pc_reading.specs.Sides.{side}
 use Rattle.pc_reading.proofs.OneWordLaws.{after_refusal}
 use Rattle.pc_reading.proofs.one_word.project_named.Goals as goal

@@ -1,5 +1,5 @@
 use Rattle.std.proofs.Common.{subst, sym}
-use Rattle.pc_reading.specs.Reading.{IsNoProjectOf}
+use Rattle.pc_reading.specs.inside.Reading.{IsNoProjectOf}
 use Rattle.pc_reading.specs.Verdict.{IsFault}
 use Rattle.pc_reading.proofs.ReadingLaws.{lacks_by}
 use Rattle.pc_reading.proofs.VerdictLaws.{told_of-fault}

@@ -1,6 +1,7 @@
 use Rattle.std.proofs.Common.{◌≡◌, ℕ, length, refl, ap, ◌∙◌, subst, arith}
 use Rattle.pc_model.specs.Network.{Network}
-use Rattle.pc_reports.specs.OutlookText.{AreCostsAt, cost_at}
+use Rattle.pc_reports.specs.OutlookText.{cost_at}
+use Rattle.pc_reports.specs.inside.OutlookText.{AreCostsAt}
 use Rattle.pc_reports.proofs.OutlookLaws.{costs_more, costs_fit}
 use Rattle.pc_reports.proofs.outlook_costs.costs_at.Goals as goal
 

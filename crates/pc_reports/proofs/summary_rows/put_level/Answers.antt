@@ -1,6 +1,6 @@
 use Rattle.std.proofs.Common.{rules}
 use Rattle.pc_page.proofs.PageLaws.{◌▸◌, Adds-as}
-use Rattle.pc_reports.specs.Cells.{amount_cell}
+use Rattle.pc_reports.specs.inside.Cells.{amount_cell}
 use Rattle.pc_reports.proofs.summary_rows.put_level.Goals as goal
 
 pub returns : goal.returns

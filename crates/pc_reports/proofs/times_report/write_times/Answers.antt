@@ -1,9 +1,9 @@
 use Rattle.std.proofs.Common.{codes, ap}
-use Rattle.pc_page.specs.Puts.{desk}
+use Rattle.pc_page.specs.inside.Puts.{desk}
 use Rattle.pc_page.proofs.PageLaws.{◌⨾◌, Adds-as}
 use Rattle.pc_reports.specs.Lines.{code_line}
 use Rattle.pc_reports.specs.TimesText.{times_text}
-use Rattle.pc_reports.specs.View.{as_shown}
+use Rattle.pc_reports.specs.inside.View.{as_shown}
 use Rattle.pc_reports.proofs.times_report.write_times.Goals as goal
 
 pub returns-clause-text : goal.returns-clause-text

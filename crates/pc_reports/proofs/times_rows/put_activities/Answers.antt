@@ -1,10 +1,10 @@
 use Rattle.std.proofs.Common.{◌≡◌, ◌<◌, [], length, slice_index_or, ap, ◌∙◌, to_z, of_z, w64, arith, rules}
 use Rattle.std.proofs.lemmas.List.{get_or_read}
 use Rattle.pc_edges.specs.Texts.{texts_to}
-use Rattle.pc_page.specs.Puts.{desk}
+use Rattle.pc_page.specs.inside.Puts.{desk}
 use Rattle.pc_page.proofs.PageLaws.{◌⨾◌, Adds-as, Adds-line, Adds-nil}
 use Rattle.pc_reports.specs.TimesText.{activity_row}
-use Rattle.pc_reports.specs.View.{as_shown}
+use Rattle.pc_reports.specs.inside.View.{as_shown}
 use Rattle.pc_reports.proofs.RowLaws.{activity_cells-same}
 use Rattle.pc_reports.proofs.times_rows.put_activities.Goals as goal
 

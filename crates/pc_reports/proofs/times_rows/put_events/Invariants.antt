@@ -1,7 +1,7 @@
 use Rattle.pc_edges.specs.Texts.{texts_to}
-use Rattle.pc_page.specs.Puts.{Puts}
+use Rattle.pc_page.specs.inside.Puts.{Puts}
 use Rattle.pc_reports.specs.TimesText.{event_row}
-use Rattle.pc_reports.specs.View.{as_shown}
+use Rattle.pc_reports.specs.inside.View.{as_shown}
 use Rattle.pc_reports.proofs.times_rows.put_events.Given as goal
 
 abbrev pub invariant-loop-e : goal.invariant-loop-e

@@ -1,4 +1,4 @@
-use Rattle.pc_rollup.specs.Least.{AreLeastOn}
+use Rattle.pc_rollup.specs.inside.Least.{AreLeastOn}
 use Rattle.pc_rollup.proofs.least.least_by_item.Given as goal
 
 abbrev pub invariant-loop-p : goal.invariant-loop-p

@@ -1,7 +1,7 @@
 use Rattle.std.proofs.Common.{◌*◌, ◌≤◌, sum_by}
 use Rattle.std.specs.Prelude.{unsigned_abs}
 use Rattle.pc_rollup.specs.declared.totals.Placed.{Placed}
-use Rattle.pc_rollup.specs.Totals.{AreOnLeaves}
+use Rattle.pc_rollup.specs.inside.Totals.{AreOnLeaves}
 use Rattle.pc_rollup.proofs.tests.on_leaves.Given as goal
 
 abbrev pub invariant-loop-item : goal.invariant-loop-item

@@ -1,5 +1,5 @@
 use Rattle.std.proofs.Common.{ℕ, List, ℤ, length, sym, subst, ◌≡◌, Result, Ok, Err, IfOk}
-use Rattle.pc_rollup.specs.Totals.{AreAmountsOf}
+use Rattle.pc_rollup.specs.inside.Totals.{AreAmountsOf}
 use Rattle.pc_rollup.proofs.PlacedLaws.{amounts_at_leaves, totals_are}
 use Rattle.pc_rollup.proofs.totals.totals_of.Goals as goal
 

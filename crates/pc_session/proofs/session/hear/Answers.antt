@@ -3,10 +3,11 @@ use Rattle.pc_edits.specs.Editing.{Editing}
 use Rattle.pc_project.specs.Project.{Project}
 use Rattle.pc_reading.specs.declared.status.Status.{Status}
 use Rattle.pc_reading.specs.Sides.{side}
-use Rattle.pc_talk.specs.Talk.{Answered}
-use Rattle.pc_whatif.specs.Planning.{AnswersLines, AreAnswers, Says}
+use Rattle.pc_talk.specs.inside.Talk.{Answered}
+use Rattle.pc_whatif.specs.Planning.{AnswersLines, AreAnswers}
+use Rattle.pc_whatif.specs.inside.Planning.{Says}
 use Rattle.pc_whatif.proofs.AnswerLaws.{answers_of}
-use Rattle.pc_session.specs.Hearing.{Hearing, no_room}
+use Rattle.pc_session.specs.inside.Hearing.{Hearing, no_room}
 use Rattle.pc_session.proofs.SessionLaws.{heard}
 use Rattle.pc_session.proofs.session.hear.Goals as goal
 

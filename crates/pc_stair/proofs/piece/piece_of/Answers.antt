@@ -1,6 +1,6 @@
 use Rattle.std.proofs.Common.{arith, length, suc, sym}
 use Rattle.pc_model.proofs.Sums.{sum_to-mono}
-use Rattle.pc_stair.specs.Rows.{stair}
+use Rattle.pc_stair.specs.inside.Rows.{stair}
 use Rattle.pc_curve_laws.proofs.Stairs.Units.{unit-at}
 use Rattle.pc_stair.proofs.piece.piece_of.Goals as goal
 

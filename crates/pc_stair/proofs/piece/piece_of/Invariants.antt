@@ -1,6 +1,6 @@
 use Rattle.std.proofs.Common.{◌≡◌, ◌≤◌}
 use Rattle.pc_curve_laws.specs.Stair.{reach}
-use Rattle.pc_stair.specs.Rows.{stair}
+use Rattle.pc_stair.specs.inside.Rows.{stair}
 use Rattle.pc_stair.proofs.piece.piece_of.Given as goal
 
 abbrev pub invariant-loop-knee : goal.invariant-loop-knee

@@ -1,5 +1,5 @@
 use Rattle.std.proofs.Common.{◌-◌, arith}
-use Rattle.pc_stair.specs.Rows.{stair}
+use Rattle.pc_stair.specs.inside.Rows.{stair}
 use Rattle.pc_curve_laws.proofs.Stairs.OnStair.{stair-against, stair-grows}
 use Rattle.pc_stair.proofs.stop.stop_against.Goals as goal
 

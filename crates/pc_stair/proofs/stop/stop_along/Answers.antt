@@ -1,5 +1,5 @@
 use Rattle.std.proofs.Common.{◌-◌, arith}
-use Rattle.pc_stair.specs.Rows.{stair}
+use Rattle.pc_stair.specs.inside.Rows.{stair}
 use Rattle.pc_curve_laws.proofs.Stairs.OnStair.{stair-along, stair-shrinks}
 use Rattle.pc_stair.proofs.stop.stop_along.Goals as goal
 

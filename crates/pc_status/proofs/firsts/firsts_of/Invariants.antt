@@ -1,4 +1,4 @@
-use Rattle.pc_status.specs.Firsts.{AreFirsts}
+use Rattle.pc_status.specs.inside.Firsts.{AreFirsts}
 use Rattle.pc_status.proofs.firsts.firsts_of.Given as goal
 
 abbrev pub invariant-loop-k : goal.invariant-loop-k

@@ -1,4 +1,4 @@
-use Rattle.pc_lines.specs.Reading.{bytes_left}
+use Rattle.pc_lines.specs.inside.Reading.{bytes_left}
 use Rattle.pc_talk.proofs.TalkLaws.{IsTalking}
 use Rattle.pc_talk.proofs.talking.talk.Given as goal
 

@@ -2,7 +2,7 @@ use Rattle.std.proofs.Common.{◌≡◌, ◌+◌, ◌∙◌, sym, ap, subst, Non
 use Rattle.std.specs.Prelude.{Option, Some}
 use Rattle.std.specs.List.{Any}
 use Rattle.pc_faults.specs.declared.fault.Fault.{Fault}
-use Rattle.pc_project.specs.First.{IsFirstIn, earliest}
+use Rattle.pc_project.specs.inside.First.{IsFirstIn, earliest}
 use Rattle.pc_tasks.specs.Lists.{after_row}
 use Rattle.pc_tasks.specs.Misfit.{HasAfterFault}
 use Rattle.pc_project.proofs.FirstLaws.{earliest-none}

@@ -1,6 +1,6 @@
 use Rattle.std.proofs.Common.{take}
 use Rattle.pc_arrows.specs.Arrows.{comes_before}
-use Rattle.pc_tasks.specs.Marks.{AreMarks}
+use Rattle.pc_tasks.specs.inside.Marks.{AreMarks}
 use Rattle.pc_tasks.proofs.links.coming_before.Given as goal
 
 abbrev pub invariant-loop-after : goal.invariant-loop-after

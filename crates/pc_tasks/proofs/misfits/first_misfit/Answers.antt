@@ -1,6 +1,6 @@
 use Rattle.std.proofs.Common.{subst, ◌⊎◌}
 use Rattle.std.specs.List.{Any}
-use Rattle.pc_project.specs.First.{IsFirstIn}
+use Rattle.pc_project.specs.inside.First.{IsFirstIn}
 use Rattle.pc_project.specs.Misfit.{HasAccountFault, HasItemFault, HasMoneyFault}
 use Rattle.pc_tasks.specs.Misfit.{HasEndsFault, HasLoadFault, HasNameFault, HasTaskFault}
 use Rattle.pc_project.proofs.FirstLaws.{first_of_either}

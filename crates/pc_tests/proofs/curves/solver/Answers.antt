@@ -1,5 +1,5 @@
 use Rattle.std.proofs.Common.{ap, arith}
-use Rattle.pc_cells.specs.Spans.{free_of}
+use Rattle.pc_cells.specs.inside.Spans.{free_of}
 use Rattle.pc_tests.proofs.curves.solver.Goals as goal
 
 pub begin-requires : goal.begin-requires

@@ -1,5 +1,5 @@
 use Rattle.std.proofs.Common.{rules, [], ◌∷◌, sym, subst}
-use Rattle.pc_crash.specs.Priced.{AreDurations}
+use Rattle.pc_crash.specs.inside.Priced.{AreDurations}
 use Rattle.pc_tests.specs.declared.small.TheConstants.{TERMS}
 use Rattle.pc_tests.proofs.priced.costs.Goals as goal
 

@@ -1,7 +1,8 @@
 use Rattle.std.proofs.Common.{◌≡◌, ℤ, pos, ◌-ℤ◌, List, map, arith, subst, sym}
 use Rattle.std.proofs.lemmas.Int.{ints, to_z-of_z}
 use Rattle.std.specs.List.{All}
-use Rattle.pc_times.specs.Late.{AreLate, IsUpTo}
+use Rattle.pc_times.specs.Late.{AreLate}
+use Rattle.pc_times.specs.inside.Late.{IsUpTo}
 use Rattle.pc_times.proofs.LateLaws.{late_from_tails, late_limit, late_more, late_all}
 use Rattle.pc_times.proofs.events.late.Goals as goal
 

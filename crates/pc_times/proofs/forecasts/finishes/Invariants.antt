@@ -1,4 +1,4 @@
-use Rattle.pc_times.specs.Forecast.{AreFinishes}
+use Rattle.pc_times.specs.inside.Forecast.{AreFinishes}
 use Rattle.pc_times.proofs.forecasts.finishes.Given as goal
 
 abbrev pub invariant-loop-a : goal.invariant-loop-a

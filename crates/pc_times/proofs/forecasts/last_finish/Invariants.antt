@@ -1,4 +1,4 @@
-use Rattle.pc_times.specs.Forecast.{finish_at}
+use Rattle.pc_times.specs.inside.Forecast.{finish_at}
 use Rattle.pc_times.proofs.ForecastLaws.{IsLastOf}
 use Rattle.pc_times.proofs.forecasts.last_finish.Given as goal
 

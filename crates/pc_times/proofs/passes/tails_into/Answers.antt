@@ -6,7 +6,7 @@ use Rattle.std.proofs.lemmas.Iterator.Adapters.{YieldsList-from_rev_slice}
 use Rattle.std.proofs.lemmas.Iterator.Consumers.{YieldsList-turn, YieldsList-end}
 use Rattle.pc_model.specs.Network.{IsOrder}
 use Rattle.pc_model.proofs.Walks.PlaceLaws.{place_from_end}
-use Rattle.pc_times.specs.Passes.{AreTailsAfter}
+use Rattle.pc_times.specs.inside.Passes.{AreTailsAfter}
 use Rattle.pc_times.proofs.TimesLaws.{has_bounded_walks, tails_none, tails_after, tails_more, tails_all}
 use Rattle.pc_times.proofs.LateLaws.{tails_limit}
 use Rattle.pc_times.proofs.passes.tails_into.Goals as goal

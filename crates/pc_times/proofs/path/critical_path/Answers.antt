@@ -1,6 +1,7 @@
 use Rattle.std.proofs.Common.{◌≡◌, ℕ, List, subst, sym, ap}
 use Rattle.pc_model.specs.Network.{IsLongest}
-use Rattle.pc_times.specs.Picked.{LongestWalk, IsLongestWalk}
+use Rattle.pc_times.specs.Picked.{IsLongestWalk}
+use Rattle.pc_times.specs.inside.Picked.{LongestWalk}
 use Rattle.pc_times.proofs.path.critical_path.Goals as goal
 
 pub returns-clause-longest : goal.returns-clause-longest

@@ -4,8 +4,9 @@ use Rattle.pc_model.specs.Greatest.{IsFirst}
 use Rattle.pc_model.specs.Network.{Network, IsOrder, IsInRange, IsSound}
 use Rattle.pc_model.specs.Walk.{to_of}
 use Rattle.pc_model.specs.declared.limits.TheConstants.{MAX_EVENTS}
-use Rattle.pc_times.specs.Passes.{HasBoundedWalks, HasNoSlack}
-use Rattle.pc_times.specs.Times.{AreEarly, AreLengths, AreTails}
+use Rattle.pc_times.specs.inside.Passes.{HasBoundedWalks, HasNoSlack}
+use Rattle.pc_times.specs.Times.{AreEarly, AreLengths}
+use Rattle.pc_times.specs.inside.Times.{AreTails}
 use Rattle.pc_times.specs.Picked.{IsPickedWalk}
 use Rattle.pc_times.proofs.PickedLaws.{IsPickedTo, picked_to_start, picked_to_next, end_when_none_without_slack, picked_at_end}
 use Rattle.pc_times.proofs.TimesLaws.{has_bounded_walks}

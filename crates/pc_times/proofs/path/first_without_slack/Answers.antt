@@ -1,6 +1,6 @@
 use Rattle.std.proofs.Common.{slice_index, ap, arith}
 use Rattle.pc_model.specs.Walk.{from_of}
-use Rattle.pc_times.specs.Passes.{HasNoSlack}
+use Rattle.pc_times.specs.inside.Passes.{HasNoSlack}
 use Rattle.pc_times.proofs.PickedLaws.{first_listed}
 use Rattle.pc_times.proofs.path.first_without_slack.Goals as goal
 

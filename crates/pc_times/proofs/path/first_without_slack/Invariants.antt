@@ -1,5 +1,5 @@
 use Rattle.std.proofs.Common.{◌≡◌, ℕ, ◌<◌, slice_index}
-use Rattle.pc_times.specs.Passes.{HasNoSlack}
+use Rattle.pc_times.specs.inside.Passes.{HasNoSlack}
 use Rattle.pc_times.proofs.path.first_without_slack.Given as goal
 
 abbrev pub invariant-loop-a : goal.invariant-loop-a

@@ -1,7 +1,7 @@
 use Rattle.std.proofs.Common.{◌≡◌, ◌<◌, ◌≤◌, ◌∙◌, true≢false, sym, subst, arith}
-use Rattle.pc_flow.specs.Courses.{HasEnded, present}
+use Rattle.pc_flow.specs.inside.Courses.{HasEnded, present}
 use Rattle.pc_flow.proofs.LookLaws.{same-joins, further-joins, looks-none, looks-join, looks-most}
-use Rattle.pc_total.specs.Stops.{IsStop}
+use Rattle.pc_total.specs.inside.Stops.{IsStop}
 use Rattle.pc_total.proofs.WayLaws.{HasComeDown, IsNextDown, way-begins, ends-come, ends-stop, next-less, next-way, stop-come, stop-pays, best-there, pays-there}
 use Rattle.pc_total.proofs.finding.best.Given.{Over}
 use Rattle.pc_total.proofs.finding.best.Goals.{After-stop_in-stop, After-shortest-shortest, then-stop-upper, else-stop-upper}

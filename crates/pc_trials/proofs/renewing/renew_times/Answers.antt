@@ -1,6 +1,7 @@
 use Rattle.std.proofs.Common.{take, sym, ◌∙◌, subst}
 use Rattle.pc_times.specs.Picked.{IsPickedWalk}
-use Rattle.pc_times.specs.Times.{AreLengths, AreEarly, AreTails}
+use Rattle.pc_times.specs.Times.{AreLengths, AreEarly}
+use Rattle.pc_times.specs.inside.Times.{AreTails}
 use Rattle.pc_trials.proofs.RenewLaws.{HasEarly, HasTails, has-early, has-tails, renewed}
 use Rattle.pc_trials.proofs.renewing.renew_times.Goals.{After-write, After-write-2}
 use Rattle.pc_trials.proofs.renewing.renew_times.Goals as goal

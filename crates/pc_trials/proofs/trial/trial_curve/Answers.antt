@@ -1,5 +1,5 @@
 use Rattle.std.proofs.Common.{◌+◌, ◌-◌, ◌≤◌, arith}
-use Rattle.pc_trials.specs.Trials.{looks_over}
+use Rattle.pc_trials.specs.inside.Trials.{looks_over}
 use Rattle.pc_trials.proofs.TrialLaws.{looks-of-range}
 use Rattle.pc_trials.proofs.trial.trial_curve.Goals as goal
 

@@ -1,4 +1,4 @@
-use Rattle.pc_wbs.specs.Ends.{AreGreatest}
+use Rattle.pc_wbs.specs.inside.Ends.{AreGreatest}
 use Rattle.pc_wbs.proofs.levels.depth_of.Given as goal
 
 abbrev pub invariant-loop-level : goal.invariant-loop-level

@@ -1,4 +1,4 @@
-use Rattle.pc_wbs.specs.Links.{AreFirstChildren, AreNextSiblings}
+use Rattle.pc_wbs.specs.inside.Links.{AreFirstChildren, AreNextSiblings}
 use Rattle.pc_wbs.proofs.links.links_of.Given as goal
 
 abbrev pub invariant-loop-item : goal.invariant-loop-item

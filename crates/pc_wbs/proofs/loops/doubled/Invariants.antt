@@ -1,4 +1,4 @@
-use Rattle.pc_wbs.specs.Ends.{AreDoubled}
+use Rattle.pc_wbs.specs.inside.Ends.{AreDoubled}
 use Rattle.pc_wbs.proofs.loops.doubled.Given as goal
 
 abbrev pub invariant-loop-item : goal.invariant-loop-item

@@ -1,5 +1,5 @@
 use Rattle.std.proofs.Common.{length, ◌^◌}
-use Rattle.pc_wbs.specs.Ends.{AreEnds}
+use Rattle.pc_wbs.specs.inside.Ends.{AreEnds}
 use Rattle.pc_wbs.proofs.loops.first_on_loop.Given as goal
 
 abbrev pub invariant-loop-round : goal.invariant-loop-round

@@ -1,4 +1,4 @@
-use Rattle.pc_wbs.specs.Ends.{IsLeastBelow}
+use Rattle.pc_wbs.specs.inside.Ends.{IsLeastBelow}
 use Rattle.pc_wbs.proofs.loops.least.Given as goal
 
 abbrev pub invariant-loop-item : goal.invariant-loop-item

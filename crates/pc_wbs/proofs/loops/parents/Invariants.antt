@@ -1,4 +1,4 @@
-use Rattle.pc_wbs.specs.Ends.{AreEnds}
+use Rattle.pc_wbs.specs.inside.Ends.{AreEnds}
 use Rattle.pc_wbs.proofs.loops.parents.Given as goal
 
 abbrev pub invariant-loop-item : goal.invariant-loop-item

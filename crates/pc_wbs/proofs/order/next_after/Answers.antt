@@ -1,5 +1,5 @@
 use Rattle.std.proofs.Common.{arith, ◌≡◌, ◌<◌, length, Some, None, ◌∙◌}
-use Rattle.pc_wbs.specs.Links.{IsFirstChild, link_at}
+use Rattle.pc_wbs.specs.inside.Links.{IsFirstChild, link_at}
 use Rattle.pc_wbs.proofs.BuildLaws.{link-read}
 use Rattle.pc_wbs.proofs.OrderLaws.{IsSuccessor-child, IsSuccessor-beside}
 use Rattle.pc_wbs.proofs.order.next_after.Goals as goal

@@ -1,6 +1,6 @@
 use Rattle.std.proofs.Common.{◌≡◌, ℕ, ◌<◌, length, Some, None}
 use Rattle.pc_wbs.specs.Climb.{climb}
-use Rattle.pc_wbs.specs.Links.{link_at}
+use Rattle.pc_wbs.specs.inside.Links.{link_at}
 use Rattle.pc_wbs.proofs.order.next_beside.Given as goal
 
 abbrev pub invariant-loop-climbed : goal.invariant-loop-climbed

@@ -1,5 +1,5 @@
 use Rattle.std.proofs.Common.{subst, sym}
-use Rattle.pc_reading.specs.Reading.{IsNoProjectBy}
+use Rattle.pc_reading.specs.inside.Reading.{IsNoProjectBy}
 use Rattle.pc_reading.proofs.ReadingLaws.{lacks_by}
 use Rattle.pert_cli.specs.Tasks.{IsTasksFault}
 use Rattle.pert_cli.proofs.VerdictLaws.{told_of-tasks}

@@ -5,7 +5,8 @@ use Rattle.pc_cards.specs.declared.sort.Sort.{Sort}
 use Rattle.pert_cli.specs.FormDeck.{own_deck, sort_of}
 use Rattle.pert_cli.specs.Verdicts.{IsFaultAs, IsMadeAs}
 use Rattle.pert_cli.specs.declared.forms.Form.{Form}
-use Rattle.pc_reading.specs.Reading.{HasNoProjectBy, HasProjectBy, IsNoProjectBy}
+use Rattle.pc_reading.specs.Reading.{HasProjectBy}
+use Rattle.pc_reading.specs.inside.Reading.{HasNoProjectBy, IsNoProjectBy}
 use Rattle.pc_reading.specs.Sides.{side}
 use Rattle.pert_cli.proofs.FormDeckLaws.{own_gives, own_lacks, read_gives, read_lacks}
 use Rattle.std.proofs.KnownBytes.{Consumes-nil}

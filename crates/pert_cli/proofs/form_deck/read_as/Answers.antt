@@ -1,6 +1,6 @@
 use Rattle.std.proofs.Common.{List, ℕ, subst}
 use Rattle.std.specs.Prelude.{IfErr, IfOk}
-use Rattle.pc_reading.specs.Reading.{IsNoProjectBy}
+use Rattle.pc_reading.specs.inside.Reading.{IsNoProjectBy}
 use Rattle.pc_reading.specs.Sides.{side}
 use Rattle.pc_reading.proofs.ReadingLaws.{unread_lacks, whole_has, whole_lacks}
 use Rattle.pert_cli.specs.Verdicts.{IsFaultAs, IsMadeAs}

@@ -2,7 +2,8 @@ use Rattle.std.proofs.Common.{◌≡◌, ℕ, List, refl, ap, ◌∙◌}
 use Rattle.pc_faults.specs.Faults.{too_many_periods}
 use Rattle.pc_load.specs.LoadText.{load_text}
 use Rattle.pert_cli.specs.declared.forms.Form.TheVariants.{Load}
-use Rattle.pert_cli.specs.Handing.{IsReply, answers, denies}
+use Rattle.pert_cli.specs.Handing.{IsReply}
+use Rattle.pert_cli.specs.inside.Handing.{answers, denies}
 use Rattle.pc_reading.specs.Sides.{side}
 use Rattle.pert_cli.proofs.HandingLaws.{Answers-weaker}
 use Rattle.pert_cli.proofs.LoadLaws.{load_reply}

@@ -1,5 +1,5 @@
 use Rattle.std.proofs.Common.{◌≡◌, refl}
-use Rattle.pc_page.specs.Page.{fresh}
+use Rattle.pc_page.specs.inside.Page.{fresh}
 use Rattle.pert_cli.specs.declared.forms.Form.TheVariants.{Normal}
 use Rattle.pert_cli.specs.Handing.{IsReply}
 use Rattle.pert_cli.specs.Normal.{IsNormalSchedule, printed_text}

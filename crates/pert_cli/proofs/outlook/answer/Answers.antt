@@ -1,7 +1,9 @@
 use Rattle.std.proofs.Common.{◌≡◌, ℕ, List, ◌++◌, refl, subst}
-use Rattle.pc_reports.specs.OutlookText.{IsOutlook, TellsTop, outlook_text}
+use Rattle.pc_reports.specs.OutlookText.{IsOutlook, outlook_text}
+use Rattle.pc_reports.specs.inside.OutlookText.{TellsTop}
 use Rattle.pert_cli.specs.declared.forms.Form.TheVariants.{Outlook}
-use Rattle.pert_cli.specs.Handing.{IsReply, answers}
+use Rattle.pert_cli.specs.Handing.{IsReply}
+use Rattle.pert_cli.specs.inside.Handing.{answers}
 use Rattle.pert_cli.specs.Normal.{printed_text}
 use Rattle.pc_reading.specs.Sides.{side}
 use Rattle.pert_cli.proofs.HandingLaws.{Answers-weaker, Replies-denial}

@@ -1,6 +1,7 @@
 use Rattle.std.proofs.Common.{◌≡◌, ℕ, List, refl}
 use Rattle.pert_cli.specs.declared.forms.Form.TheVariants.{Point}
-use Rattle.pert_cli.specs.Handing.{IsReply, answers}
+use Rattle.pert_cli.specs.Handing.{IsReply}
+use Rattle.pert_cli.specs.inside.Handing.{answers}
 use Rattle.pert_cli.specs.Normal.{printed_text}
 use Rattle.pc_reading.specs.Sides.{side}
 use Rattle.pert_cli.proofs.HandingLaws.{Answers-weaker, Replies-denial}

@@ -1,9 +1,10 @@
 use Rattle.std.proofs.Common.{◌+◌, [], refl, sym, subst, ◌∙◌, arith}
 use Rattle.pc_faults.specs.declared.fault.Fault.{Fault}
-use Rattle.pc_faults.specs.FaultText.{IsTold}
-use Rattle.pc_reading.specs.Refusing.{Refusal}
+use Rattle.pc_faults.specs.inside.FaultText.{IsTold}
+use Rattle.pc_reading.specs.inside.Refusing.{Refusal}
 use Rattle.pc_reading.specs.Sides.{side, Took, TookFront}
-use Rattle.pert_cli.specs.Outcome.{usage, no_memory, read_fault, write_fault, in_usage}
+use Rattle.pert_cli.specs.Outcome.{in_usage}
+use Rattle.pert_cli.specs.inside.Outcome.{usage, no_memory, read_fault, write_fault}
 use Rattle.pert_cli.proofs.OutcomeLaws.{after_refusal, after_reply}
 use Rattle.std.proofs.KnownBytes.{Consumes-nil}
 use Rattle.pc_deck.specs.Limits.{longest_deck}

@@ -1,6 +1,7 @@
 use Rattle.std.proofs.Common.{suc, min, ap, arith}
-use Rattle.pc_board.specs.Sheets.{rank_of, near_of}
-use Rattle.pc_board.specs.Labelling.{HasStep}
+use Rattle.pc_board.specs.Sheets.{rank_of}
+use Rattle.pc_board.specs.inside.Sheets.{near_of}
+use Rattle.pc_board.specs.inside.Labelling.{HasStep}
 use Rattle.pc_board.proofs.RaisingLaws.{IsLeasting, way-known, leasting-begins, leasting-goes_on, leasting-ends}
 use Rattle.pc_board.proofs.board.Board.least_room.Goals as goal
 

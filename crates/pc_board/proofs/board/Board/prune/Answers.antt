@@ -1,7 +1,8 @@
 use Rattle.std.proofs.Common.{◌≡◌, ◌<◌, ◌⊎◌, ℕ, inl, inr, subst, sym, arith, true, false}
 use Rattle.std.proofs.lemmas.Bool.{cases_lt}
-use Rattle.pc_board.specs.Sheets.{rank_of, near_of, room_of}
-use Rattle.pc_board.specs.Pruning.{IsPruned}
+use Rattle.pc_board.specs.Sheets.{rank_of}
+use Rattle.pc_board.specs.inside.Sheets.{near_of, room_of}
+use Rattle.pc_board.specs.inside.Pruning.{IsPruned}
 use Rattle.pc_board.proofs.PruningLaws.{IsPruning, pruning-begins, pruning-keeps_at, pruning-loses_at, pruning-ends}
 use Rattle.pc_board.proofs.board.Board.prune.Goals as goal
 use Rattle.pc_board.proofs.board.Board.prune.Goals.{then-is_held, else-is_held}

@@ -1,7 +1,8 @@
 use Rattle.std.proofs.Common.{◌≡◌, suc, ap, sym, ◌∙◌, subst, arith}
-use Rattle.pc_board.specs.Sheets.{Sheet, rank_of, near_of}
-use Rattle.pc_board.specs.Labelling.{HasStep}
-use Rattle.pc_board.specs.Raising.{IsRaising}
+use Rattle.pc_board.specs.Sheets.{Sheet, rank_of}
+use Rattle.pc_board.specs.inside.Sheets.{near_of}
+use Rattle.pc_board.specs.inside.Labelling.{HasStep}
+use Rattle.pc_board.specs.inside.Raising.{IsRaising}
 use Rattle.pc_board.proofs.RaisingLaws.{raising-begins, raising-room, raising-along, raising-against, raising-goes_on}
 use Rattle.pc_board.proofs.board.Board.raise.Goals as goal
 

@@ -1,6 +1,6 @@
 use Rattle.std.proofs.Common.{ℕ}
 use Rattle.pc_board.specs.Sheets.{rank_of}
-use Rattle.pc_board.specs.Raising.{IsRaising}
+use Rattle.pc_board.specs.inside.Raising.{IsRaising}
 use Rattle.pc_board.proofs.board.Board.raise.Given as goal
 
 abbrev pub invariant-loop-self : goal.invariant-loop-self

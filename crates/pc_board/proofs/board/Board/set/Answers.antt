@@ -1,6 +1,6 @@
 use Rattle.std.proofs.Common.{◌+◌, subst, sym}
-use Rattle.pc_cells.specs.Spans.{IsSpan}
-use Rattle.pc_board.specs.Places.{place_of}
+use Rattle.pc_cells.specs.inside.Spans.{IsSpan}
+use Rattle.pc_board.specs.inside.Places.{place_of}
 use Rattle.pc_board.proofs.BoardLaws.{set-written, board-written}
 use Rattle.pc_board.proofs.board.Board.set.Goals as goal
 

@@ -1,5 +1,5 @@
 use Rattle.std.proofs.Common.{sym, ap, ◌∙◌}
-use Rattle.pc_cards.specs.Findings.{fault_of_place}
+use Rattle.pc_cards.specs.inside.Findings.{fault_of_place}
 use Rattle.pc_cards.proofs.FindLemmas.{none_then}
 use Rattle.pc_cards.proofs.lists.Listed.take.Goals as goal
 

@@ -1,6 +1,6 @@
 use Rattle.std.proofs.Common.{◌+◌, length, arith, ap, subst, sym}
 use Rattle.std.specs.Vec.{with_items}
-use Rattle.pc_cells.specs.Layout.{IsRangeWritten}
+use Rattle.pc_cells.specs.inside.Layout.{IsRangeWritten}
 use Rattle.pc_cells.proofs.RegionLaws.{region-within, region-written, vector-written}
 use Rattle.pc_cells.proofs.region.Region.write.Goals as goal
 

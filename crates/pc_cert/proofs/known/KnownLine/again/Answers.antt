@@ -1,5 +1,5 @@
 use Rattle.std.proofs.Common.{ap, subst}
-use Rattle.pc_cert.specs.Known.{IsAgain}
+use Rattle.pc_cert.specs.inside.Known.{IsAgain}
 use Rattle.pc_cert.proofs.KnownLaws.{comes_again}
 use Rattle.pc_cert.proofs.known.KnownLine.again.Goals as goal
 

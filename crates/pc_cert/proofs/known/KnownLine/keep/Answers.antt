@@ -1,6 +1,6 @@
 use Rattle.std.proofs.Common.{sym, ap, subst, ◌∙◌}
 use Rattle.std.specs.Prelude.{IsSome}
-use Rattle.pc_cert.specs.Known.{Known}
+use Rattle.pc_cert.specs.inside.Known.{Known}
 use Rattle.pc_cert.proofs.KnownLaws.{kept_cells}
 use Rattle.pc_cert.proofs.known.KnownLine.keep.Goals as goal
 

@@ -1,5 +1,5 @@
 use Rattle.std.proofs.Common.{Some, ap, subst, ◌∙◌, arith}
-use Rattle.pc_cert.specs.Known.{AreCells}
+use Rattle.pc_cert.specs.inside.Known.{AreCells}
 use Rattle.pc_cert.proofs.EventLaws.{event_front}
 use Rattle.pc_cert.proofs.known.KnownLine.renew.Goals as goal
 

@@ -1,7 +1,7 @@
 use Rattle.std.proofs.Common.{◌≡◌, ◌+◌, ◌<◌, [], ◌++◌, None, sym, ap, subst, ◌∙◌, arith, append-nil, length, take, length-take-le}
 use Rattle.pc_text.specs.Fields.{run_len}
-use Rattle.pc_cert.specs.Reading.{line_of}
-use Rattle.pc_cert.specs.Reader.{Reading, HasPassed}
+use Rattle.pc_cert.specs.inside.Reading.{line_of}
+use Rattle.pc_cert.specs.inside.Reader.{Reading, HasPassed}
 use Rattle.pc_cert.proofs.ReaderLaws.{none_from, going, holds, too_long, passed}
 use Rattle.pc_cert.proofs.reader.CertReader.feed_known.Goals as goal
 

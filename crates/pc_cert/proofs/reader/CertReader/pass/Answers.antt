@@ -1,6 +1,6 @@
 use Rattle.std.proofs.Common.{◌+◌, [], refl, sym, ap, ◌∙◌}
 use Rattle.pc_cert.specs.Grammar.{next}
-use Rattle.pc_cert.specs.Reader.{Reading}
+use Rattle.pc_cert.specs.inside.Reader.{Reading}
 use Rattle.pc_cert.proofs.reader.CertReader.pass.Goals as goal
 
 pub returns : goal.returns

@@ -1,6 +1,6 @@
 use Rattle.std.proofs.Common.{sym, subst}
 use Rattle.pc_check.specs.Texts.{IsFailing, Finds}
-use Rattle.pc_check.specs.Auditing.{Auditing, HasRead, IsGoing}
+use Rattle.pc_check.specs.inside.Auditing.{Auditing, HasRead, IsGoing}
 use Rattle.pc_check.proofs.AuditLaws.{checking}
 use Rattle.pc_check.proofs.AuditFinishLaws.{found_whole, found_broken}
 use Rattle.pc_check.proofs.audit.Audit.finish.Goals as goal

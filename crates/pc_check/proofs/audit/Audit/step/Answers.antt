@@ -1,9 +1,9 @@
 use Rattle.std.specs.Prelude.{IfErr}
 use Rattle.std.proofs.Common.{◌≡◌, ℕ, List, ◌++◌, ap, subst, ◌∙◌, arith}
-use Rattle.pc_cert.specs.Reader.{Reading}
-use Rattle.pc_check.specs.Checking.{Checking}
+use Rattle.pc_cert.specs.inside.Reader.{Reading}
+use Rattle.pc_check.specs.inside.Checking.{Checking}
 use Rattle.pc_check.specs.Texts.{IsFailing}
-use Rattle.pc_check.specs.Auditing.{Auditing, HasRead}
+use Rattle.pc_check.specs.inside.Auditing.{Auditing, HasRead}
 use Rattle.pc_check.proofs.audit.Audit.step.Goals as goal
 
 pub returns-clause-fails : goal.returns-clause-fails

@@ -2,10 +2,10 @@ use Rattle.std.specs.Prelude.{IfNone}
 use Rattle.pc_cert.specs.Grammar.{next}
 use Rattle.std.proofs.Common.{◌≡◌, [], ◌∷◌, ◌++◌, take, drop, Some, sym, subst, ◌∙◌}
 use Rattle.std.proofs.lemmas.List.{take-append-drop}
-use Rattle.pc_cert.specs.Reader.{StandsFor}
-use Rattle.pc_cert.specs.Fed.{line_list}
+use Rattle.pc_cert.specs.inside.Reader.{StandsFor}
+use Rattle.pc_cert.specs.inside.Fed.{line_list}
 use Rattle.pc_check.specs.Texts.{IsFailing}
-use Rattle.pc_check.specs.Auditing.{Auditing, HasRead, IsGoing}
+use Rattle.pc_check.specs.inside.Auditing.{Auditing, HasRead, IsGoing}
 use Rattle.pc_check.proofs.AuditLaws.{malformed_fails, may_take, line_fails}
 use Rattle.pc_check.proofs.audit.Audit.step_anew.Goals as goal
 

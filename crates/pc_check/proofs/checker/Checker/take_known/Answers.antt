@@ -1,8 +1,8 @@
 use Rattle.std.proofs.Common.{◌≡◌, ◌+◌, ◌<◌, Some, sym, ap, subst, ◌∙◌}
-use Rattle.pc_check.specs.Bounds.{lines_left}
+use Rattle.pc_check.specs.inside.Bounds.{lines_left}
 use Rattle.std.specs.Prelude.{IfNone}
 use Rattle.pc_cert.specs.Grammar.{next}
-use Rattle.pc_check.specs.Checking.{Checking, StandsFor}
+use Rattle.pc_check.specs.inside.Checking.{Checking, StandsFor}
 use Rattle.pc_check.proofs.TakeLaws.{goes_on, fails, stays, is_going, still_going, when_none}
 use Rattle.pc_check.proofs.checker.Checker.take_known.Goals as goal
 

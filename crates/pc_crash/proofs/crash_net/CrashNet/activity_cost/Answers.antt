@@ -1,7 +1,7 @@
 use Rattle.std.proofs.Common.{◌≡◌, ◌+◌, ◌<◌, ◌≤◌, length, ap, arith}
 use Rattle.pc_model.specs.Cost.{activity_cost}
-use Rattle.pc_crash.specs.CrashNets.{priced_network}
-use Rattle.pc_crash.specs.KneeLists.{AreKneesOf}
+use Rattle.pc_crash.specs.inside.CrashNets.{priced_network}
+use Rattle.pc_crash.specs.inside.KneeLists.{AreKneesOf}
 use Rattle.pc_crash.specs.Priced.{knees_in}
 use Rattle.pc_crash.proofs.CostLaws.{AreSmallKnees-of, price-of, activity_cost-most}
 use Rattle.pc_crash.proofs.InsideLaws.{activity-read}

@@ -1,5 +1,5 @@
 use Rattle.std.proofs.Common.{length, slice_index, ap, subst, arith}
-use Rattle.pc_crash.specs.CrashNets.{IsWhole}
+use Rattle.pc_crash.specs.inside.CrashNets.{IsWhole}
 use Rattle.pc_crash.proofs.CostLaws.{costs-most}
 use Rattle.pc_crash.proofs.crash_net.CrashNet.cost_of.Goals as goal
 

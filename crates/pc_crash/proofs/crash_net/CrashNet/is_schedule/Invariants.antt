@@ -1,5 +1,5 @@
 use Rattle.std.proofs.Common.{ℕ, ◌<◌, slice_index}
-use Rattle.pc_crash.specs.Priced.{Fits}
+use Rattle.pc_crash.specs.inside.Priced.{Fits}
 use Rattle.pc_crash.proofs.crash_net.CrashNet.is_schedule.Given as goal
 
 abbrev pub invariant-loop-a : goal.invariant-loop-a

@@ -1,6 +1,6 @@
 use Rattle.std.proofs.Common.{◌<◌, length, ap, arith}
 use Rattle.pc_crash.proofs.InsideLaws.{rows-each, knees-read}
-use Rattle.pc_crash.specs.Laid.{row_at}
+use Rattle.pc_crash.specs.inside.Laid.{row_at}
 use Rattle.pc_crash.proofs.crash_net.CrashNet.knees.Goals as goal
 
 pub returns : goal.returns

@@ -1,6 +1,6 @@
 use Rattle.std.proofs.Common.{◌<◌, length, ap, arith}
 use Rattle.pc_crash.proofs.InsideLaws.{rows-each, row-read, knees-read}
-use Rattle.pc_crash.specs.Laid.{row_at}
+use Rattle.pc_crash.specs.inside.Laid.{row_at}
 use Rattle.pc_crash.proofs.crash_net.CrashNet.look.Goals as goal
 
 pub returns-clause-look : goal.returns-clause-look

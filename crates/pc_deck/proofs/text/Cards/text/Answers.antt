@@ -1,7 +1,8 @@
 use Rattle.std.proofs.Common.{◌≡◌, [], ◌∷◌, ◌++◌, ◌∙◌, List, ℕ, sym, ap, subst, append_assoc}
 use Rattle.std.specs.Prelude.{IfOk}
 use Rattle.pc_records.specs.Text.{record_text}
-use Rattle.pc_deck.specs.Text.{deck_text, lead_text, lists_text}
+use Rattle.pc_deck.specs.Text.{deck_text}
+use Rattle.pc_deck.specs.inside.Text.{lead_text, lists_text}
 use Rattle.pc_deck.proofs.PutLemmas.{whole_text}
 use Rattle.pc_deck.proofs.text.Cards.text.Goals as goal
 

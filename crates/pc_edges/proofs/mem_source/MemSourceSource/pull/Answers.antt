@@ -1,5 +1,5 @@
 use Rattle.std.proofs.Common.{◌≡◌, ◌+◌, ◌-◌, length, take, drop, arith, sym, ap, ◌∙◌, length-take-le}
-use Rattle.pc_edges.specs.Supply.{Supply}
+use Rattle.pc_edges.specs.inside.Supply.{Supply}
 use Rattle.pc_edges.proofs.Copying.{drop-copied}
 use Rattle.pc_edges.proofs.mem_source.MemSourceSource.pull.Goals as goal
 

@@ -1,8 +1,9 @@
 use Rattle.std.proofs.Common.{◌≡◌, sym, ap, subst, ◌∙◌, arith}
 use Rattle.std.proofs.lemmas.List.{get_or_read}
 use Rattle.pc_model.specs.Schedule.{term_at}
-use Rattle.pc_edits.specs.Editing.{Edits, activity_named, plan_of, undone}
-use Rattle.pc_edits.specs.Inside.{replaced}
+use Rattle.pc_edits.specs.Editing.{activity_named, plan_of, undone}
+use Rattle.pc_edits.specs.inside.Editing.{Edits}
+use Rattle.pc_edits.specs.inside.Inside.{replaced}
 use Rattle.pc_edits.specs.Plans.{estimates_at}
 use Rattle.pc_edits.specs.Standing.{Stands, noted}
 use Rattle.pc_edits.proofs.InsideLaws.{edit_touched, edit_undone, edit_view, edit_whole}

@@ -1,5 +1,5 @@
 use Rattle.std.proofs.Common.{ap, ◌<◌, length, arith}
-use Rattle.pc_edits.specs.Editing.{Edits}
+use Rattle.pc_edits.specs.inside.Editing.{Edits}
 use Rattle.pc_edits.proofs.InsideLaws.{trial_view, trial_whole}
 use Rattle.pc_edits.proofs.edits.Edits.begin_trial.Goals as goal
 

@@ -1,5 +1,5 @@
 use Rattle.std.proofs.Common.{sym, subst, ◌∙◌}
-use Rattle.pc_edits.specs.Editing.{Edits}
+use Rattle.pc_edits.specs.inside.Editing.{Edits}
 use Rattle.pc_edits.specs.Standing.{Stands, taken_back}
 use Rattle.pc_edits.proofs.InsideLaws.{undo_accepted, undo_fits, undo_some, undo_touched, undo_view, undo_whole}
 use Rattle.pc_edits.proofs.StandingLaws.{Stands-undone}

@@ -1,7 +1,7 @@
 use Rattle.std.proofs.Common.{◌<◌, length, sym, ap, subst, arith}
 use Rattle.std.proofs.lemmas.List.{get_or_read}
-use Rattle.pc_edits.specs.Editing.{Edits}
-use Rattle.pc_edits.specs.Plans.{AreEstimates}
+use Rattle.pc_edits.specs.inside.Editing.{Edits}
+use Rattle.pc_edits.specs.inside.Plans.{AreEstimates}
 use Rattle.pc_edits.proofs.PlanLaws.{no_estimates, variance_small}
 use Rattle.pc_edits.proofs.edits.Edits.variance.Goals as goal
 

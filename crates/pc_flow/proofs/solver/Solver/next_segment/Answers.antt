@@ -1,5 +1,5 @@
 use Rattle.std.proofs.Common.{◌≡◌, true, false, refl, arith}
-use Rattle.pc_flow.specs.Solvers.{course_of}
+use Rattle.pc_flow.specs.inside.Solvers.{course_of}
 use Rattle.pc_flow.proofs.CourseLaws.{falls, slope-most, cost-lower}
 use Rattle.pc_flow.proofs.NextLaws.{not_ended, between-mid, listed-mid, on_course-after, next-after, same-after, further-after, slope-fits, counted-after}
 use Rattle.pc_flow.proofs.solver.Solver.next_segment.Goals as goal

@@ -1,5 +1,5 @@
 use Rattle.std.proofs.Common.{arith}
-use Rattle.pc_flow.specs.Solvers.{course_of}
+use Rattle.pc_flow.specs.inside.Solvers.{course_of}
 use Rattle.pc_flow.proofs.CourseLaws.{fall-within}
 use Rattle.pc_flow.proofs.viewing.SolverSegmentView.lower.Goals as goal
 

@@ -1,6 +1,6 @@
 use Rattle.std.proofs.Common.{◌≡◌, ◌+◌, ◌-◌, ◌++◌, ◌≤◌, List, ℕ, length, take, drop, ap, ◌∙◌, arith, length-take-le, length-drop}
 use Rattle.pc_lines.specs.declared.reader.TheConstants.{LINE_ROOM}
-use Rattle.pc_lines.specs.Reading.{Reading}
+use Rattle.pc_lines.specs.inside.Reading.{Reading}
 use Rattle.pc_lines.proofs.HoldLemmas.{held-more}
 use Rattle.pc_lines.proofs.reader.LineReader.hold.Goals as goal
 

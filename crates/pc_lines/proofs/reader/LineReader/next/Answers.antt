@@ -1,8 +1,8 @@
 use Rattle.std.proofs.Common.{◌≤◌, length, refl, sym, ap, ◌∙◌, arith, subst}
 use Rattle.std.proofs.lemmas.Bool.{eqb-true, eqb-false}
 use Rattle.pc_lines.specs.declared.reader.TheConstants.{INPUT_LIMIT}
-use Rattle.pc_lines.specs.Lines.{IsOpen}
-use Rattle.pc_lines.specs.Reading.{Reading}
+use Rattle.pc_lines.specs.inside.Lines.{IsOpen}
+use Rattle.pc_lines.specs.inside.Reading.{Reading}
 use Rattle.pc_lines.proofs.StepLemmas.{begins, gives, goes_on, fills, fills_nothing, ends_all, ends_last, fails, passes, left-of_all, left-filled, open_lacks}
 use Rattle.pc_lines.proofs.reader.LineReader.next.Goals as goal
 

@@ -1,5 +1,5 @@
 use Rattle.std.proofs.Common.{◌≡◌, ◌-◌, ◌≤◌, List, ℕ, length, take, drop, ap, ◌∙◌, arith, length-take-le, length-drop}
-use Rattle.pc_lines.specs.Reading.{Reading}
+use Rattle.pc_lines.specs.inside.Reading.{Reading}
 use Rattle.pc_lines.proofs.HoldLemmas.{ahead-passed}
 use Rattle.pc_lines.proofs.reader.LineReader.pass.Goals as goal
 

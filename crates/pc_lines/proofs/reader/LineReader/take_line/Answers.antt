@@ -1,5 +1,5 @@
 use Rattle.std.proofs.Common.{length, ap, ◌∙◌, arith}
-use Rattle.pc_lines.specs.Lines.{line_len}
+use Rattle.pc_lines.specs.inside.Lines.{line_len}
 use Rattle.pc_lines.proofs.StepLemmas.{took_all, took_line}
 use Rattle.pc_lines.proofs.reader.LineReader.take_line.Goals as goal
 

@@ -5,7 +5,7 @@ use Rattle.pc_project.specs.Planned.{IsPlanned}
 use Rattle.pc_project.specs.Project.{Project}
 use Rattle.pc_times.specs.Times.{AreEarly}
 use Rattle.pc_load.specs.Loading.{ArePeriods, periods_for}
-use Rattle.pc_load.specs.Entries.{AreTimes}
+use Rattle.pc_load.specs.inside.Entries.{AreTimes}
 use Rattle.pc_load.proofs.LoadingLaws.{resources_add_up, resources_have_parts}
 use Rattle.pc_load.proofs.loading.Loading.of.Goals as goal
 

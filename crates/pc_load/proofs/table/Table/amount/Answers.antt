@@ -4,7 +4,7 @@ use Rattle.std.proofs.lemmas.Int.{ints, to_z-of_z}
 use Rattle.std.proofs.lemmas.List.{get_or_default}
 use mir.Val.{SFits}
 use Rattle.pc_load.specs.Table.{Table, amount_in}
-use Rattle.pc_load.specs.TableInside.{table_from}
+use Rattle.pc_load.specs.inside.TableInside.{table_from}
 use Rattle.pc_load.proofs.ColumnLaws.{place_within, read_cell}
 use Rattle.pc_load.proofs.table.Table.amount.Goals as goal
 

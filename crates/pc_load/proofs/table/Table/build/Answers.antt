@@ -2,8 +2,8 @@ use Rattle.std.proofs.Common.{◌≡◌, ◌*◌, List, ◌++◌, length, replic
 use Rattle.std.specs.Prelude.{ℤ, pos}
 use Rattle.std.proofs.Math.Nat.{mul_comm}
 use Rattle.std.proofs.Math.Seq.{take_at}
-use Rattle.pc_load.specs.Adding.{IsAdded}
-use Rattle.pc_load.specs.Table.{entry_at, row_of}
+use Rattle.pc_load.specs.inside.Adding.{IsAdded}
+use Rattle.pc_load.specs.inside.Table.{entry_at, row_of}
 use Rattle.pc_load.proofs.TableLaws.{summed_none, summed_room, summed_more, table_is, is_table, rows_add_up, column_small}
 use Rattle.pc_load.proofs.table.Table.build.Goals as goal
 

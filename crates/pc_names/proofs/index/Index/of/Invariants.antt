@@ -1,5 +1,5 @@
 use Rattle.std.proofs.Common.{◌<◌, length, take}
-use Rattle.pc_names.specs.Index.{IsIndexed}
+use Rattle.pc_names.specs.inside.Index.{IsIndexed}
 use Rattle.pc_names.proofs.index.Index.of.Given as goal
 
 -- the codes so far are found

@@ -6,12 +6,12 @@ use Rattle.std.specs.List.{position}
 use Rattle.std.specs.Option.{option_copied}
 use Rattle.std.specs.Prelude.{Some}
 use Rattle.pc_model.specs.Codes.{code_at, IsNamedOnce}
-use Rattle.pc_names.specs.Index.{IsIndexed, beside_at, crowded_at, slot_at, slot_of}
+use Rattle.pc_names.specs.inside.Index.{IsIndexed, beside_at, crowded_at, slot_at, slot_of}
 use Rattle.pc_names.specs.declared.index.Index.{Index}
 use Rattle.pc_names.proofs.IndexLaws.{beside-read, found-crowded, nowhere-beside, nowhere-crowded, nowhere-free, slot-read}
 use Rattle.pc_names.proofs.PlaceLaws.{position-named}
 use Rattle.pc_names.proofs.index.Index.place_of.Goals as goal
-use Rattle.pc_text.specs.CodeNumber.{code_in}
+use Rattle.pc_text.specs.inside.CodeNumber.{code_in}
 
 module _ (codes : List (List ℕ)) (code : List ℕ) (index : Index) (indexed : IsIndexed codes index) where
   -- a slot that was read and is not free has the place of a code, and one more

@@ -2,10 +2,10 @@ use Rattle.std.proofs.Common.{◌+◌, ◌-◌, ◌<◌, [], ◌∷◌, length, 
 use Rattle.std.proofs.lemmas.List.{get_or_read}
 use Rattle.std.specs.BTreeMap.{Updates}
 use Rattle.std.specs.Ordering.{nat_cmp}
-use Rattle.pc_names.specs.Index.{slot_of}
+use Rattle.pc_names.specs.inside.Index.{slot_of}
 use Rattle.pc_names.proofs.IndexLaws.{IsIndexed-slot, IsIndexed-crowded, IsIndexed-same, slot-read, beside-read}
 use Rattle.pc_names.proofs.index.Index.put.Goals as goal
-use Rattle.pc_text.specs.CodeNumber.{code_in}
+use Rattle.pc_text.specs.inside.CodeNumber.{code_in}
 
 pub returns-then-index-eq0-clause-indexed : goal.returns-then-index-eq0-clause-indexed
 returns-then-index-eq0-clause-indexed c =

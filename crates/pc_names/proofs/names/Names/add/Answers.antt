@@ -6,7 +6,7 @@ use Rattle.pc_model.specs.Codes.{IsNamedOnce}
 use Rattle.pc_names.proofs.OnceLaws.{IsNamedOnce-push}
 use Rattle.pc_names.proofs.PlaceLaws.{is_some-position}
 use Rattle.pc_names.proofs.names.Names.add.Goals as goal
-use Rattle.pc_names.specs.Index.{IsIndexed}
+use Rattle.pc_names.specs.inside.Index.{IsIndexed}
 
 pub returns-then-is_some-clause-added : goal.returns-then-is_some-clause-added
 returns-then-is_some-clause-added c =

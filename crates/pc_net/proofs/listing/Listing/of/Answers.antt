@@ -1,7 +1,7 @@
 use Rattle.std.proofs.Common.{◌≡◌, ◌<◌, ◌++◌, length, slice_index, refl, arith}
 use Rattle.std.proofs.lemmas.List.{get_or_read}
 use Rattle.pc_model.specs.Greatest.{places}
-use Rattle.pc_net.specs.Sides.{events_of}
+use Rattle.pc_net.specs.inside.Sides.{events_of}
 use Rattle.pc_net.proofs.SideLaws.{length-events_of}
 use Rattle.pc_net.proofs.ListingLaws.{AreListed-push, IsFollowed-step, IsFollowed-end}
 use Rattle.pc_net.proofs.listing.Listing.of.Goals as goal

@@ -1,6 +1,6 @@
 use Rattle.std.proofs.Common.{◌-◌, length}
-use Rattle.pc_net.specs.Sides.{events_of}
-use Rattle.pc_net.specs.Listings.{AreListed}
+use Rattle.pc_net.specs.inside.Sides.{events_of}
+use Rattle.pc_net.specs.inside.Listings.{AreListed}
 use Rattle.pc_net.proofs.ListingLaws.{IsFollowed}
 use Rattle.pc_net.proofs.listing.Listing.of.Given as goal
 

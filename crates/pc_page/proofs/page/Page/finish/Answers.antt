@@ -1,6 +1,6 @@
 use Rattle.std.proofs.Common.{append-nil, ap, sym, ◌∙◌}
 use Rattle.pc_edges.proofs.Writing.{Writes-flushed}
-use Rattle.pc_page.specs.Page.{Page}
+use Rattle.pc_page.specs.inside.Page.{Page}
 use Rattle.pc_page.proofs.PageLaws.{◌⨾◌, Adds-as, Adds-whole, Adds-stopped}
 use Rattle.pc_page.proofs.page.Page.finish.Goals as goal
 

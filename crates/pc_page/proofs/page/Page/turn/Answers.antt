@@ -1,6 +1,6 @@
 use Rattle.std.proofs.Common.{◌≡◌, ℕ, List, [], ◌++◌, rules, ap, sym, refl, ◌∙◌, subst}
-use Rattle.pc_page.specs.Page.{Page}
-use Rattle.pc_page.specs.Puts.{Adds, desk}
+use Rattle.pc_page.specs.inside.Page.{Page}
+use Rattle.pc_page.specs.inside.Puts.{Adds, desk}
 use Rattle.pc_page.proofs.PageLaws.{Adds-then, Adds-behind, emptied}
 use Rattle.pc_page.proofs.page.Page.turn.Goals as goal
 

@@ -5,8 +5,8 @@ use Rattle.pc_model.specs.declared.Term.{Term}
 use Rattle.pc_model.specs.Pieces.{pieces_of}
 use Rattle.pc_model.specs.Schedule.{term_at}
 use Rattle.pc_project.specs.declared.project.Project.TheInside.{Inside}
-use Rattle.pc_project.specs.OwnPieces.{AreOwnPieces}
-use Rattle.pc_project.specs.Parts.{project_from}
+use Rattle.pc_project.specs.inside.OwnPieces.{AreOwnPieces}
+use Rattle.pc_project.specs.inside.Parts.{project_from}
 use Rattle.pc_project.specs.Planned.{IsPlanned}
 use Rattle.pc_project.proofs.OwnPieceLaws.{added-most, own_pieces}
 use Rattle.pc_project.proofs.project.Project.cost_at.Goals as goal

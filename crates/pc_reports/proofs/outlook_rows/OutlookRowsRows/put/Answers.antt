@@ -1,7 +1,8 @@
 use Rattle.std.proofs.Common.{refl, arith}
 use Rattle.pc_page.proofs.PageLaws.{Adds-as}
 use Rattle.pc_figures.proofs.OutlineLaws.{row_known}
-use Rattle.pc_reports.specs.OutlookText.{IsOutlookFor, outlook_row}
+use Rattle.pc_reports.specs.OutlookText.{outlook_row}
+use Rattle.pc_reports.specs.inside.OutlookText.{IsOutlookFor}
 use Rattle.pc_reports.proofs.outlook_rows.OutlookRowsRows.put.Goals as goal
 
 pub item_code-code-requires : goal.item_code-code-requires

@@ -1,7 +1,7 @@
 use Rattle.std.proofs.Common.{length, subst}
 use Rattle.pc_accounts.specs.declared.entry.Entry.{Entry}
 use Rattle.pc_accounts.specs.Amounts.{AreEntriesOf, AreMoney}
-use Rattle.pc_accounts.specs.Entries.{entry_of_all}
+use Rattle.pc_accounts.specs.inside.Entries.{entry_of_all}
 use Rattle.pc_accounts.proofs.WholeLaws.{entries_are_project}
 use Rattle.pc_figures.specs.Summary.{Summary, CountsOnce}
 use Rattle.pc_project.specs.Project.{Project}

@@ -1,6 +1,7 @@
 use Rattle.std.proofs.Common.{pos, subst, sym, arith}
-use Rattle.pc_edges.specs.Writes.{Writes}
-use Rattle.pc_reports.specs.Times.{Times, AreSmall, IsTimes}
+use Rattle.pc_edges.specs.inside.Writes.{Writes}
+use Rattle.pc_reports.specs.Times.{Times, IsTimes}
+use Rattle.pc_reports.specs.inside.Times.{AreSmall}
 use Rattle.pc_reports.specs.TimesText.{times_text}
 use Rattle.pc_reports.proofs.PathLaws.{picked_from_known}
 use Rattle.pc_reports.proofs.times_report.TimesReport.write.Goals as goal

@@ -1,6 +1,6 @@
 use Rattle.std.proofs.Common.{◌≡◌, ◌<◌, ◌+◌, length, refl, sym, subst, arith}
-use Rattle.pc_search.specs.Searches.{IsPricedBoard, IsQuiet}
-use Rattle.pc_search.specs.Choosing.{StopsAt, IsStopOf}
+use Rattle.pc_search.specs.inside.Searches.{IsPricedBoard, IsQuiet}
+use Rattle.pc_search.specs.inside.Choosing.{StopsAt, IsStopOf}
 use Rattle.pc_search.proofs.ChoosingLaws.{IsChoosing, choosing-begins, choosing-keeps, choosing-goes, stops-relisted, quiet-relisted, priced-relisted}
 use Rattle.pc_search.proofs.StandLaws.{choosing-ends}
 use Rattle.pc_search.proofs.search.Search.choose.Goals as goal

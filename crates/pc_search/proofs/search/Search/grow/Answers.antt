@@ -1,7 +1,7 @@
 use Rattle.std.proofs.Common.{◌≡◌, ◌<◌, ◌≤◌, ◌+◌, refl, ◌∙◌, subst, ap, inl, inr, arith}
 use Rattle.pc_model.specs.Network.{Network}
 use Rattle.pc_board.specs.Sheets.{Sheet, rank_of}
-use Rattle.pc_search.specs.Growing.{GoesOn, IsAt, degree}
+use Rattle.pc_search.specs.inside.Growing.{GoesOn, IsAt, degree}
 use Rattle.pc_search.proofs.GrowLaws.{headed, growing-begins, growing-goes_on, growing-few, growing-ends, search-headed, room-headed}
 use Rattle.pc_search.proofs.search.Search.grow.Goals as goal
 use Rattle.pc_search.proofs.search.Search.grow.Goals.{then-loop-self-test+else-rank-eq0, else-loop-self-test}

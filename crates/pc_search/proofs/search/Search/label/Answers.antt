@@ -1,8 +1,8 @@
 use Rattle.std.proofs.Common.{◌≡◌, ◌≤◌, ◌+◌, ◌*◌, ◌∙◌, length, sym, subst, arith}
 use Rattle.pc_crash.specs.Priced.{PricedNetwork}
-use Rattle.pc_search.specs.Growing.{AreSettled, HasGrown}
-use Rattle.pc_search.specs.Choosing.{HasChosen}
-use Rattle.pc_search.specs.Labelling.{IsUnderWay, Rises}
+use Rattle.pc_search.specs.inside.Growing.{AreSettled, HasGrown}
+use Rattle.pc_search.specs.inside.Choosing.{HasChosen}
+use Rattle.pc_search.specs.inside.Labelling.{IsUnderWay, Rises}
 use Rattle.pc_search.proofs.LabelLaws.{under_way-begins, rises-joins, labelled-ends, looks-whole}
 use Rattle.pc_search.proofs.search.Search.label.Goals as goal
 

@@ -1,5 +1,5 @@
 use Rattle.std.proofs.Common.{sym, subst, arith}
-use Rattle.pc_search.specs.Growing.{HasLookedAgain}
+use Rattle.pc_search.specs.inside.Growing.{HasLookedAgain}
 use Rattle.pc_search.proofs.AgainLaws.{search-pruned, room-pruned, looks-lost, again-anew, again-lost}
 use Rattle.pc_search.proofs.search.Search.look_again.Goals as goal
 

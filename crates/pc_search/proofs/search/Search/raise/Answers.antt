@@ -1,7 +1,7 @@
 use Rattle.std.proofs.Common.{◌≡◌, ℕ, List, sym, ◌∙◌, ap, subst}
 use Rattle.pc_model.specs.Network.{Network, IsOrder}
-use Rattle.pc_board.specs.Labelling.{HasStep}
-use Rattle.pc_board.specs.Raising.{IsRaised}
+use Rattle.pc_board.specs.inside.Labelling.{HasStep}
+use Rattle.pc_board.specs.inside.Raising.{IsRaised}
 use Rattle.pc_search.proofs.StateLaws.{IsKnown, end-stepped}
 use Rattle.pc_search.proofs.RaisedLaws.{has_raised}
 use Rattle.pc_search.proofs.search.Search.raise.Goals as goal

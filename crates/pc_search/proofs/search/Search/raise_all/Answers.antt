@@ -1,6 +1,7 @@
 use Rattle.std.proofs.Common.{◌<◌, ◌≤◌, ◌*◌, ◌^◌, ◌∙◌, length, ap, subst, arith}
 use Rattle.pc_crash.specs.Priced.{PricedNetwork}
-use Rattle.pc_search.specs.Labelling.{IsUnderWay, Rises, slope_at, slopes_in}
+use Rattle.pc_search.specs.Labelling.{slopes_in}
+use Rattle.pc_search.specs.inside.Labelling.{IsUnderWay, Rises, slope_at}
 use Rattle.pc_search.proofs.StateLaws.{slopes-small}
 use Rattle.pc_search.proofs.LabelLaws.{rises-joins, looks-more}
 use Rattle.pc_search.proofs.search.Search.raise_all.Goals as goal

@@ -1,5 +1,6 @@
 use Rattle.std.proofs.Common.{◌≡◌, ◌+◌, ◌*◌, ◌≤◌, ◌-◌, length}
-use Rattle.pc_search.specs.Labelling.{IsUnderWay, Rises, slope_at, slopes_in}
+use Rattle.pc_search.specs.Labelling.{slopes_in}
+use Rattle.pc_search.specs.inside.Labelling.{IsUnderWay, Rises, slope_at}
 use Rattle.pc_search.proofs.search.Search.raise_all.Given as goal
 
 abbrev pub invariant-loop-self : goal.invariant-loop-self

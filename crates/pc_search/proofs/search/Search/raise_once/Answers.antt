@@ -1,6 +1,6 @@
 use Rattle.std.proofs.Common.{◌≡◌, ◌∙◌, length, ap, sym, subst, arith}
 use Rattle.pc_crash.specs.Priced.{PricedNetwork}
-use Rattle.pc_search.specs.Growing.{AreSettled, HasLookedAgain, HasGrown}
+use Rattle.pc_search.specs.inside.Growing.{AreSettled, HasLookedAgain, HasGrown}
 use Rattle.pc_search.proofs.LabelLaws.{rises-once, slope-once, under_way-once}
 use Rattle.pc_search.proofs.search.Search.raise_once.Goals as goal
 

@@ -2,7 +2,7 @@ use Rattle.std.proofs.Common.{◌≡◌, ◌<◌, ◌⊎◌, ℕ, length, ap, in
 use Rattle.pc_model.specs.Greatest.{StandsBelow}
 use Rattle.pc_model.specs.Network.{Network}
 use Rattle.pc_model.specs.Walk.{from_of, to_of}
-use Rattle.pc_search.specs.Growing.{GoesOn, IsAt}
+use Rattle.pc_search.specs.inside.Growing.{GoesOn, IsAt}
 use Rattle.pc_search.proofs.GrowingLaws.{goes_on-joins}
 use Rattle.pc_search.proofs.search.Search.scan.Goals as goal
 

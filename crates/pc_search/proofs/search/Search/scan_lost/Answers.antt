@@ -1,7 +1,8 @@
 use Rattle.std.proofs.Common.{◌≡◌, ◌+◌, suc, refl, ◌∙◌, ap, subst, arith}
 use Rattle.pc_model.specs.Sums.{sum_to}
-use Rattle.pc_board.specs.Sheets.{Sheet, lost_of}
-use Rattle.pc_search.specs.Growing.{degree, GoesOn, IsAt, IsAtLost}
+use Rattle.pc_board.specs.Sheets.{Sheet}
+use Rattle.pc_board.specs.inside.Sheets.{lost_of}
+use Rattle.pc_search.specs.inside.Growing.{degree, GoesOn, IsAt, IsAtLost}
 use Rattle.pc_search.proofs.GrowingLaws.{goes_on-begins}
 use Rattle.pc_search.proofs.AgainLaws.{lost-goes_on}
 use Rattle.pc_search.proofs.search.Search.scan_lost.Goals as goal

@@ -1,7 +1,7 @@
 use Rattle.std.proofs.Common.{◌≡◌, ◌+◌}
 use Rattle.pc_model.specs.Sums.{sum_to}
-use Rattle.pc_board.specs.Sheets.{lost_of}
-use Rattle.pc_search.specs.Growing.{degree, GoesOn, IsAtLost}
+use Rattle.pc_board.specs.inside.Sheets.{lost_of}
+use Rattle.pc_search.specs.inside.Growing.{degree, GoesOn, IsAtLost}
 use Rattle.pc_search.proofs.search.Search.scan_lost.Given as goal
 
 abbrev pub invariant-loop-i : goal.invariant-loop-i

@@ -1,7 +1,7 @@
 use Rattle.std.proofs.Common.{◌≡◌, ◌<◌, refl, sym, ◌∙◌, subst, arith}
 use Rattle.pc_model.specs.Greatest.{StandsBelow}
-use Rattle.pc_search.specs.Searches.{IsVisited}
-use Rattle.pc_search.specs.Growing.{GoesOn}
+use Rattle.pc_search.specs.inside.Searches.{IsVisited}
+use Rattle.pc_search.specs.inside.Growing.{GoesOn}
 use Rattle.pc_search.proofs.GrowingLaws.{goes_on-begins, goes_on-visits, settled-all}
 use Rattle.pc_search.proofs.search.Search.settle.Goals as goal
 

@@ -1,6 +1,6 @@
 use Rattle.std.proofs.Common.{◌≡◌, ◌+◌}
 use Rattle.pc_model.specs.Greatest.{StandsBelow}
-use Rattle.pc_search.specs.Growing.{GoesOn}
+use Rattle.pc_search.specs.inside.Growing.{GoesOn}
 use Rattle.pc_search.proofs.search.Search.settle.Given as goal
 
 abbrev pub invariant-loop-i : goal.invariant-loop-i

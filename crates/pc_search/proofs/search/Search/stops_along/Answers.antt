@@ -1,6 +1,6 @@
 use Rattle.std.proofs.Common.{◌≡◌, ◌+◌, ◌-◌, ap, ◌∙◌, subst, arith}
 use Rattle.pc_curve_laws.specs.Stair.{IsOnStair}
-use Rattle.pc_stair.specs.Rows.{stair}
+use Rattle.pc_stair.specs.inside.Rows.{stair}
 use Rattle.pc_board.specs.Sheets.{time_of}
 use Rattle.pc_search.proofs.StopLaws.{seen-reach, seen-falling, seen-on, seen-gap, stops-along}
 use Rattle.pc_search.proofs.search.Search.stops_along.Goals as goal

@@ -1,4 +1,4 @@
-use Rattle.pc_search.specs.Searches.{IsQuiet}
+use Rattle.pc_search.specs.inside.Searches.{IsQuiet}
 use Rattle.pc_search.proofs.VisitLaws.{visited-still, settled-quiet}
 use Rattle.pc_search.proofs.search.Search.visit.Goals as goal
 

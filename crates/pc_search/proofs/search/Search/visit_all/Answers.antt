@@ -1,7 +1,7 @@
 use Rattle.std.proofs.Common.{refl, ◌∙◌, subst, arith}
 use Rattle.std.specs.Prelude.{slice_index}
 use Rattle.pc_model.specs.Greatest.{StandsBelow}
-use Rattle.pc_search.specs.Searches.{IsVisited}
+use Rattle.pc_search.specs.inside.Searches.{IsVisited}
 use Rattle.pc_search.proofs.GrowingLaws.{goes_on-begins, goes_on-visits}
 use Rattle.pc_search.proofs.search.Search.visit_all.Goals as goal
 

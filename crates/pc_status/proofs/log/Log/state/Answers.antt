@@ -1,5 +1,6 @@
 use Rattle.std.proofs.Common.{ap, sym, subst, arith}
-use Rattle.pc_status.specs.Statuses.{StatusLog, AreInOrder}
+use Rattle.pc_status.specs.Statuses.{AreInOrder}
+use Rattle.pc_status.specs.inside.Statuses.{StatusLog}
 use Rattle.pc_status.proofs.StateLaws.{first_found, found_day}
 use Rattle.pc_status.proofs.log.Log.state.Goals as goal
 

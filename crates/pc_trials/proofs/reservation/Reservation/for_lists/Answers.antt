@@ -1,7 +1,7 @@
 use Rattle.std.proofs.Common.{◌≡◌, ℕ, length, replicate, refl, sym, ◌∙◌, ap, subst, arith}
 use Rattle.std.proofs.lemmas.List.{length-replicate}
-use Rattle.pc_trials.specs.Reserved.{IsFor}
-use Rattle.pc_trials.specs.Laid.{IsLaidIn}
+use Rattle.pc_trials.specs.inside.Reserved.{IsFor}
+use Rattle.pc_trials.specs.inside.Laid.{IsLaidIn}
 use Rattle.pc_trials.proofs.OpenLaws.{IsOpened, laid-2, is-opened}
 use Rattle.pc_trials.proofs.TrialLaws.{some-activities}
 use Rattle.pc_trials.proofs.reservation.Reservation.for_lists.Goals.{After-write, After-write-2}

@@ -1,6 +1,6 @@
 use Rattle.std.proofs.Common.{length, refl, ap, subst, arith}
 use Rattle.std.specs.Vec.{with_items}
-use Rattle.pc_trials.specs.Laid.{IsWhole, kept_in}
+use Rattle.pc_trials.specs.inside.Laid.{IsWhole, kept_in}
 use Rattle.pc_trials.proofs.KeptLaws.{region-taken, renewed-whole}
 use Rattle.pc_trials.proofs.reservation.Reservation.renew.Goals as goal
 

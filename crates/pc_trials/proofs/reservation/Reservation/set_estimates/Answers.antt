@@ -1,6 +1,6 @@
 use Rattle.std.proofs.Common.{◌≡◌, length, refl, sym, ap, subst, ◌∙◌, arith}
-use Rattle.pc_trials.specs.Laid.{IsLaidIn, IsWhole, kept_in, list_of, region_of}
-use Rattle.pc_trials.specs.Reserved.{Reserved, expected_by}
+use Rattle.pc_trials.specs.inside.Laid.{IsLaidIn, IsWhole, kept_in, list_of, region_of}
+use Rattle.pc_trials.specs.inside.Reserved.{Reserved, expected_by}
 use Rattle.pc_trials.proofs.KeptLaws.{with_numbers, AreSet, region-taken, laid-set, laid-both, kept-both, early-both, whole-both, variance-small}
 use Rattle.pc_trials.proofs.reservation.Reservation.set_estimates.Goals as goal
 use Rattle.pc_trials.proofs.reservation.Reservation.set_estimates.Goals.{Joined-self}

@@ -1,13 +1,13 @@
 use Rattle.std.proofs.Common.{◌≡◌, ◌<◌, length, refl, sym, ◌∙◌, ap, subst, arith}
 use Rattle.std.specs.Prelude.{slice_index}
-use Rattle.pc_edges.specs.Writes.{Writes}
+use Rattle.pc_edges.specs.inside.Writes.{Writes}
 use Rattle.pc_reports.specs.Times.{end_to_meet}
 use Rattle.pc_reports.specs.TimesText.{times_text}
-use Rattle.pc_reports.specs.View.{IsShownOf, as_shown}
+use Rattle.pc_reports.specs.inside.View.{IsShownOf, as_shown}
 use Rattle.pc_model.specs.declared.limits.TheConstants.{MAX_VARIANCE}
 use Rattle.pc_times.specs.declared.TheConstants.{MAX_LENGTH, MAX_TIME}
-use Rattle.pc_trials.specs.Laid.{AreAtMost}
-use Rattle.pc_trials.specs.Reserved.{path_in}
+use Rattle.pc_trials.specs.inside.Laid.{AreAtMost}
+use Rattle.pc_trials.specs.inside.Reserved.{path_in}
 use Rattle.pc_trials.proofs.TimesLaws.{path-known, shown_by, shown-is, shown-fits, read-back, small-back, times-are, text-same}
 use Rattle.pc_trials.proofs.reservation.Reservation.write_times.Goals as goal
 

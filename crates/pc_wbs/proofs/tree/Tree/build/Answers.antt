@@ -1,6 +1,6 @@
 use Rattle.std.proofs.Common.{arith, ◌<◌, length}
 use Rattle.pc_wbs.specs.Climb.{IsTree}
-use Rattle.pc_wbs.specs.Ends.{AreGreatest}
+use Rattle.pc_wbs.specs.inside.Ends.{AreGreatest}
 use Rattle.pc_wbs.proofs.BuildLaws.{IsTree-levels, IsDepth-greatest}
 use Rattle.pc_wbs.proofs.tree.Tree.build.Goals as goal
 

@@ -4,9 +4,11 @@ use Rattle.pc_crash.specs.Priced.{PricedNetwork}
 use Rattle.pc_curve.specs.Points.{curve_in}
 use Rattle.pc_edits.specs.declared.ask.Ask.TheVariants as asks
 use Rattle.pc_edits.specs.declared.reason.Reason.TheVariants.{OutsideRange}
-use Rattle.pc_edits.specs.Editing.{Edits, net_in, net_trying}
+use Rattle.pc_edits.specs.Editing.{net_trying}
+use Rattle.pc_edits.specs.inside.Editing.{Edits, net_in}
 use Rattle.pc_curve.specs.Range.{IsWithin}
-use Rattle.pc_whatif.specs.Planning.{Planning, IsTrialText, refused}
+use Rattle.pc_whatif.specs.Planning.{IsTrialText, refused}
+use Rattle.pc_whatif.specs.inside.Planning.{Planning}
 use Rattle.pc_whatif.specs.Texts.{cost_text, refused_text}
 use Rattle.pc_whatif.proofs.AnswerLaws.{stays, tried_out, trial_costs, trial_outside}
 use Rattle.pc_whatif.proofs.session.Session.try_out.Goals as goal

@@ -1,5 +1,5 @@
 use Rattle.std.proofs.Common.{List, ℕ, ap}
-use Rattle.pc_page.specs.Puts.{desk}
+use Rattle.pc_page.specs.inside.Puts.{desk}
 use Rattle.pc_page.proofs.PageLaws.{◌⨾◌, Adds-as}
 use Rattle.pc_total.specs.BestText.{best_text}
 use Rattle.pert_cli.specs.Optimum.{optimum_text}

@@ -1,0 +1,15 @@
+-- A line that is read without being kept.
+use Rattle.std.specs.Prelude.{◌≡◌, ℕ, ◌+◌, ◌<◌, ◌≤◌, List, [], ◌∷◌, ◌++◌, length, take, Some, None}
+use Rattle.pc_cert.specs.declared.line.CertLine.{CertLine}
+use Rattle.pc_cert.specs.Grammar.{next}
+use Rattle.pc_cert.specs.inside.Reader.{Reading, StandsFor}
+
+-- a reader has gone on behind the line at the front of a piece, of which it used so many bytes: it stands for one line more
+pub record PassesLine (line : CertLine) (piece : List ℕ) (count : ℕ) (old new : Reading) : Type 0 where
+  pub some : 0 < count
+  pub within : count ≤ length piece
+  pub goes : next old.place line ≡ Some new.place
+  pub going : new.malformed ≡ None
+  pub nothing : new.held ≡ []
+  pub counted : new.lines ≡ old.lines + 1
+  pub stands : (lines : List CertLine) (text : List ℕ) → StandsFor old lines text → StandsFor new (lines ++ line ∷ []) (text ++ take count piece)

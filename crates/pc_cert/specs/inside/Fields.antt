@@ -1,0 +1,16 @@
+-- The fields of a line of a certificate: its numbers, which may be longer than those of a deck, and its bits.
+use Rattle.std.specs.Prelude.{ℕ, Bool, true, false, List, Option, Some, None, bytes_eq, codes, if◌then◌else◌}
+use Rattle.pc_text.specs.Fields.{field_by}
+use Rattle.pc_cert.specs.inside.Number.{numeral_of}
+
+-- the number behind the space at the front, and the bytes behind it
+unfoldable pub number_field : List ℕ → Option (ℕ × List ℕ)
+number_field bytes = field_by numeral_of bytes
+
+-- the bit that a word spells: `0` or `1`
+abbrev pub bit_of : List ℕ → Option Bool
+bit_of word = if bytes_eq word (codes "0") then Some false else if bytes_eq word (codes "1") then Some true else None
+
+-- the bit behind the space at the front, and the bytes behind it
+unfoldable pub bit_field : List ℕ → Option (Bool × List ℕ)
+bit_field bytes = field_by bit_of bytes

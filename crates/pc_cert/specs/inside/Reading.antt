@@ -1,0 +1,72 @@
+-- The line that bytes spell, read word by word.
+use Rattle.std.specs.Prelude.{ℕ, zero, suc, ◌||◌, nat_lt, List, [], ◌∷◌, length, take, drop, Option, Some, None, bytes_eq, codes, if◌then◌else◌}
+use Rattle.pc_text.specs.Fields.{◌>>=◌, run_len, code_field, alone}
+use Rattle.pc_cert.specs.inside.Fields.{number_field, bit_field}
+use Rattle.pc_cert.specs.declared.line.CertLine.{CertLine}
+use Rattle.pc_cert.specs.declared.line.CertLine.TheVariants.{Head, Normal, Step, Crash, Segment, Event, Act, Close, End}
+
+unfoldable pub head_of : List ℕ → Option CertLine
+head_of fields = do
+  version ← number_field fields
+  project ← code_field version.1
+  events ← number_field project.1
+  activities ← number_field events.1
+  if nat_lt version.0 1 || nat_lt 2 version.0 then None else alone activities.1 (Head version.0 project.0 events.0 activities.0)
+
+unfoldable pub step_of : List ℕ → Option CertLine
+step_of fields = do
+  code ← code_field fields
+  alone code.1 (Step code.0)
+
+unfoldable pub segment_of : List ℕ → Option CertLine
+segment_of fields = do
+  upper ← number_field fields
+  lower ← number_field upper.1
+  cost ← number_field lower.1
+  slope ← number_field cost.1
+  alone slope.1 (Segment upper.0 lower.0 cost.0 slope.0)
+
+unfoldable pub event_of : List ℕ → Option CertLine
+event_of fields = do
+  code ← code_field fields
+  time ← number_field code.1
+  moves ← bit_field time.1
+  alone moves.1 (Event code.0 time.0 moves.0)
+
+-- the numbers that the fields are, where there are at most so many
+abbrev pub numbers_in : ℕ → List ℕ → Option (List ℕ)
+numbers_in room [] = Some []
+numbers_in zero (b ∷ bs) = None
+numbers_in (suc room) (b ∷ bs) = do
+  number ← number_field (b ∷ bs)
+  others ← numbers_in room number.1
+  Some (number.0 ∷ others)
+
+-- the flows that the fields are
+unfoldable pub flows_of : List ℕ → Option (List ℕ)
+flows_of fields = numbers_in 6 fields
+
+unfoldable pub act_of : List ℕ → Option CertLine
+act_of fields = do
+  code ← code_field fields
+  duration ← number_field code.1
+  flows ← flows_of duration.1
+  if nat_lt (length flows) 2 then None else Some (Act code.0 duration.0 flows)
+
+-- the line with this first word and these fields
+abbrev pub line_with : List ℕ → List ℕ → Option CertLine
+line_with word fields =
+    if bytes_eq word (codes "ACT") then act_of fields
+    else if bytes_eq word (codes "EVENT") then event_of fields
+    else if bytes_eq word (codes "SEGMENT") then segment_of fields
+    else if bytes_eq word (codes "CLOSE") then alone fields Close
+    else if bytes_eq word (codes "STEP") then step_of fields
+    else if bytes_eq word (codes "CERT") then head_of fields
+    else if bytes_eq word (codes "NORMAL") then alone fields Normal
+    else if bytes_eq word (codes "CRASH") then alone fields Crash
+    else if bytes_eq word (codes "END") then alone fields End
+    else None
+
+-- the line that the bytes spell: its first word goes up to the first space
+unfoldable pub line_of : List ℕ → Option CertLine
+line_of bytes = line_with (take (run_len 32 bytes) bytes) (drop (run_len 32 bytes) bytes)

@@ -1,0 +1,17 @@
+-- What contracts within and between crates speak of besides what the clauses of the top calls and the laws reach.
+pub mod Walks
+pub mod KneeTests
+pub mod Kept
+pub mod Crossings
+pub mod Safe
+pub mod Bounds
+pub mod Passed
+pub mod Fronts
+pub mod Again
+pub mod Along
+pub mod Advances
+pub mod Additions
+pub mod Checking
+pub mod Checkers
+pub mod Certified
+pub mod Auditing

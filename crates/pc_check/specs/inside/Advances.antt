@@ -1,0 +1,52 @@
+-- What one more line adds to what is kept.
+use Rattle.std.specs.Prelude.{◌≡◌, ℕ, ◌+◌, ◌≤◌, Bool, true, false, List, [], ◌∷◌, ◌++◌, Some, if◌then◌else◌}
+use Rattle.pc_model.specs.declared.limits.TheConstants.{MAX_DURATION}
+use Rattle.pc_cert.specs.declared.line.CertLine.{CertLine}
+use Rattle.pc_cert.specs.declared.line.CertLine.TheVariants.{Step, Crash, Segment, Event, Act, Close}
+use Rattle.pc_cert.specs.Grammar.{next}
+use Rattle.pc_cert.specs.declared.place.Place.{Place}
+use Rattle.pc_crash.specs.Priced.{PricedNetwork}
+use Rattle.pc_check.specs.declared.kept.Kept.{Kept}
+use Rattle.pc_check.specs.declared.kept.Tally.{Tally}
+use Rattle.pc_check.specs.inside.Safe.{IsBegun, AddsAct}
+use Rattle.pc_check.specs.Walks.{length_in, stepped}
+use Rattle.pc_check.specs.inside.Walks.{sum_of}
+
+-- one more step of the walk that has begun
+pub record AddsStep (net : PricedNetwork) (code : List ℕ) (old new : Kept) : Type 0 where
+  pub rest : new ≡ record old { normal = new.normal; crash = new.crash }
+  pub normal : new.normal ≡ (if old.has_normal then old.normal else stepped net (length_in net false) old.normal code)
+  pub crash : new.crash ≡ (if old.has_normal then stepped net (length_in net true) old.crash code else old.crash)
+  pub short_normal : sum_of new.normal ≤ sum_of old.normal + (if old.has_normal then 0 else MAX_DURATION)
+  pub short_crash : sum_of new.crash ≤ sum_of old.crash + (if old.has_normal then MAX_DURATION else 0)
+
+-- one more event
+pub record AddsEvent (time : ℕ) (moves : Bool) (old new : Tally) : Type 0 where
+  pub times : new.times.items ≡ old.times.items ++ time ∷ []
+  pub moves_too : new.moves.items ≡ old.moves.items ++ moves ∷ []
+  pub rest : new ≡ record old { times = new.times; moves = new.moves }
+
+-- the present segment has changed, and nothing else
+abbrev pub KeepsAllBut : Kept → Kept → Type 0
+KeepsAllBut old new = new ≡ record old { tally = new.tally }
+
+-- what a line adds
+abbrev pub Adds : PricedNetwork → CertLine → Kept → Kept → Type 0
+Adds net (Step code) old new = AddsStep net code old new
+Adds net Crash old new = new ≡ record old { has_normal = true }
+Adds net (Segment upper lower cost slope) old new = KeepsAllBut old new × IsBegun upper lower cost slope new.tally
+Adds net (Event code time moves) old new = KeepsAllBut old new × AddsEvent time moves old.tally new.tally
+Adds net (Act code duration flows) old new = KeepsAllBut old new × AddsAct net old.tally duration flows new.tally
+Adds net Close old new = new ≡ record old { parts = old.parts + 1 }
+Adds net other old new = new ≡ old
+
+-- what is kept behind the line, where the next one stands there
+abbrev pub moved_on : Kept → Place → Kept
+moved_on kept behind = record kept { place = behind; lines = kept.lines + 1 }
+
+-- a line was added, and the next one stands behind it
+pub record Advances (net : PricedNetwork) (line : CertLine) (old new : Kept) : Type 0 where
+  pub goes : next old.place line ≡ Some new.place
+  pub between : Kept
+  pub added : Adds net line old between
+  pub moved : new ≡ moved_on between new.place

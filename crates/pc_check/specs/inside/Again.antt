@@ -1,0 +1,38 @@
+-- A line that is taken as it is read.
+use Rattle.std.specs.Prelude.{◌≡◌, ℕ, List, Some, None}
+use Rattle.pc_cert.specs.declared.line.CertLine.{CertLine}
+use Rattle.pc_cert.specs.declared.place.Place.{Place}
+use Rattle.pc_cert.specs.Grammar.{next}
+use Rattle.pc_cert.specs.inside.Grammar.{IsRow}
+use Rattle.pc_cert.specs.inside.Known.{IsAgain}
+use Rattle.pc_crash.specs.Priced.{PricedNetwork}
+use Rattle.pc_check.specs.declared.again.Ends.{Ends}
+use Rattle.pc_check.specs.declared.kept.Kept.{Kept}
+use Rattle.pc_check.specs.inside.Advances.{Adds}
+use Rattle.pc_check.specs.inside.Checking.{Checking}
+use Rattle.pc_check.specs.Conditions.{conditions}
+use Rattle.pc_check.specs.Failures.{first_failing}
+use Rattle.pc_check.specs.inside.Kept.{known_by}
+
+-- a row is at the front of the piece, of so many bytes with its end, which may stand in this place and does not fail, and was added to what
+-- is kept
+pub record AddsLine (net : PricedNetwork) (piece : List ℕ) (count : ℕ) (before after : Place) (old new : Kept) : Type 0 where
+  pub line : CertLine
+  pub row : IsRow line
+  pub again : IsAgain (Some line) piece count
+  pub goes : next before line ≡ Some after
+  pub none : first_failing (conditions net (known_by old) line) ≡ None
+  pub adds : Adds net line old new
+
+-- what is kept where so many activities have come
+abbrev pub acts_at : Kept → ℕ → Kept
+acts_at kept a = record kept { tally = record kept.tally { acts = a } }
+
+-- a checker that keeps this and has found no failure
+abbrev pub going : PricedNetwork → Kept → Checking
+going net kept = record { net = net; kept = kept; fail = None }
+
+-- the start and the end are those of the network
+pub record AreEnds (net : PricedNetwork) (ends : Ends) : Type 0 where
+  pub start : ends.start ≡ net.network.start
+  pub last : ends.end ≡ net.network.end

@@ -1,0 +1,18 @@
+-- What the fields of a checker say.
+use Rattle.std.specs.Prelude.{IfNone}
+use Rattle.pc_check.specs.declared.checker.Checker.TheInside.{Inside}
+use Rattle.pc_check.specs.inside.Bounds.{IsBounded}
+use Rattle.pc_check.specs.inside.Checking.{Checking}
+use Rattle.pc_check.specs.inside.Fronts.{AreFronts}
+use Rattle.pc_check.specs.inside.Safe.{IsSafe}
+
+-- the checker of the fields
+abbrev pub checking : Inside → Checking
+checking a = record { net = a.net.now; kept = a.kept; fail = a.fail }
+
+-- the lists are as long as the network asks, what is kept of each activity has passed and the sums are those of all of them, no count of
+-- lines grows too large where no line failed, and the lines of each event begin as is kept
+pub record IsSound (a : Inside) : Type 0 where
+  pub safe : IsSafe a.net.now a.kept.tally
+  pub bounded : IfNone a.fail (IsBounded a.net.now a.kept)
+  pub fronts : AreFronts a.net.now a.fronts.items

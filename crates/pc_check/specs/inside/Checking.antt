@@ -1,0 +1,62 @@
+-- What a checker stands for.
+use Rattle.std.specs.Prelude.{◌≡◌, ℕ, ◌<◌, List, length, map, Option, Some, None}
+use Rattle.pc_cert.specs.declared.line.CertLine.{CertLine}
+use Rattle.pc_cert.specs.declared.place.Place.TheVariants.{Start}
+use Rattle.pc_cert.specs.Text.{ran}
+use Rattle.pc_model.specs.Sums.{sum_to}
+use Rattle.pc_model.specs.Cost.{activity_cost}
+use Rattle.pc_crash.specs.Priced.{PricedNetwork, knees_in}
+use Rattle.pc_check.specs.declared.fail.Fail.{Fail}
+use Rattle.pc_check.specs.declared.kept.Kept.{Kept}
+use Rattle.pc_check.specs.declared.kept.Tally.{Tally}
+use Rattle.pc_check.specs.Draft.{Part, Draft, draft_of}
+use Rattle.pc_check.specs.Known.{some_below}
+use Rattle.pc_check.specs.inside.Passed.{flow_of, cost_of}
+use Rattle.pc_check.specs.Said.{segment_in, flow_along, forward_by, backward_by, said}
+use Rattle.pc_check.specs.Segments.{stops_in}
+use Rattle.pc_check.specs.Failures.{failure_of}
+
+-- a checker: the network of which it checks a certificate, what it keeps of the lines, and the first failure
+pub record Checking : Type 0 where
+  pub net : PricedNetwork
+  pub kept : Kept
+  pub fail : Option Fail
+
+-- what is kept of a segment is what the rows of its part say
+pub record IsTallied (net : PricedNetwork) (part : Part) (tally : Tally) : Type 0 where
+  pub upper : tally.upper ≡ part.upper
+  pub lower : tally.lower ≡ part.lower
+  pub cost : tally.cost ≡ part.cost
+  pub slope : tally.slope ≡ part.slope
+  pub times : tally.times.items ≡ map (λ row. row.time) part.events
+  pub moves : tally.moves.items ≡ map (λ row. row.moves) part.events
+  pub acts : tally.acts ≡ length part.acts
+  pub flows : (a : ℕ) → a < length part.acts → flow_of tally.rows.items a ≡ flow_along net part a
+  pub costs : (a : ℕ) → a < length part.acts → cost_of tally.rows.items a ≡ activity_cost net.terms (knees_in net) a ((segment_in net part).duration a)
+  pub forward : tally.forward ≡ sum_to (length part.acts) (forward_by net (segment_in net part))
+  pub backward : tally.backward ≡ sum_to (length part.acts) (backward_by net (segment_in net part))
+  pub stops : tally.stops ≡ some_below (length part.acts) (stops_in net (segment_in net part))
+
+-- what is kept is what is known of lines that say so much
+pub record IsKept (net : PricedNetwork) (draft : Draft) (kept : Kept) : Type 0 where
+  pub normal : kept.normal ≡ (said net draft).normal
+  pub crash : kept.crash ≡ (said net draft).crash
+  pub has_normal : kept.has_normal ≡ draft.has_normal
+  pub parts : kept.parts ≡ length draft.parts
+  pub tally : IsTallied net draft.part kept.tally
+
+-- lines of which none fails, in the order in which they may come, and what is kept of them
+pub record IsGoing (net : PricedNetwork) (kept : Kept) (lines : List CertLine) : Type 0 where
+  pub order : ran Start lines ≡ Some kept.place
+  pub count : kept.lines ≡ length lines
+  pub none : failure_of net lines ≡ None
+  pub keeps : IsKept net (draft_of lines) kept
+
+abbrev pub Stands : PricedNetwork → Kept → Option Fail → List CertLine → Type 0
+Stands net kept None lines = IsGoing net kept lines
+Stands net kept (Some fail) lines = failure_of net lines ≡ Some fail
+
+-- the checker stands for lines: for those of which none fails and which give what it keeps, or for all that have its
+-- failure first
+abbrev pub StandsFor : Checking → List CertLine → Type 0
+StandsFor checking lines = Stands checking.net checking.kept checking.fail lines

@@ -1,0 +1,66 @@
+-- What keeps the sums of a checker within their types, and its lists as long as the network asks.
+use Rattle.std.specs.Prelude.{◌≡◌, ℕ, ◌+◌, ◌*◌, ◌^◌, ◌<◌, ◌≤◌, ◌||◌, false, List, [], length, slice_index, vec_capacity, if◌then◌else◌}
+use Rattle.pc_model.specs.Cost.{activity_cost}
+use Rattle.pc_model.specs.Sums.{sum_to, at_event}
+use Rattle.pc_model.specs.Walk.{from_of, to_of}
+use Rattle.pc_curve_laws.specs.Segment.{span, is_forward, is_backward, rises_above}
+use Rattle.pc_crash.specs.Priced.{PricedNetwork, knees_in}
+use Rattle.pc_check.specs.declared.kept.Tally.{Tally}
+use Rattle.pc_check.specs.declared.passed.Passed.{Passed}
+use Rattle.pc_check.specs.inside.Kept.{stretch_of}
+use Rattle.pc_check.specs.inside.KneeTests.{flow_sum}
+use Rattle.pc_check.specs.inside.Passed.{ArePassed, passed_at, flow_of, cost_of}
+use Rattle.pc_check.specs.Segments.{stops_in}
+
+-- sums by event of what flows along all activities, each as its line said that passed last: into the events where `place` is an
+-- activity's ending event, and out of them where it is the beginning one
+abbrev pub AreSums : PricedNetwork → List Passed → (ℕ → ℕ) → List ℕ → Type 0
+AreSums net rows place sums = (e : ℕ) → e < net.network.events → slice_index sums e ≡ at_event (length net.network.arcs) place (flow_of rows) e
+
+-- there is room for all events, no activity has come that the network lacks, what is kept of each has passed, the sums of flows and of the
+-- cost are those of what is kept of all, and those of the cut are no larger than so many activities can make them
+pub record IsSafe (net : PricedNetwork) (tally : Tally) : Type 0 where
+  pub times : net.network.events ≤ vec_capacity tally.times
+  pub moves : net.network.events ≤ vec_capacity tally.moves
+  pub entering : length tally.inflow.items ≡ net.network.events
+  pub leaving : length tally.outflow.items ≡ net.network.events
+  pub acts : tally.acts ≤ length net.network.arcs
+  pub rows : ArePassed net tally.rows.items
+  pub inflow : AreSums net tally.rows.items (to_of net.network.arcs) tally.inflow.items
+  pub outflow : AreSums net tally.rows.items (from_of net.network.arcs) tally.outflow.items
+  pub spent : tally.spent ≡ sum_to (length net.network.arcs) (cost_of tally.rows.items)
+  pub forward : tally.forward ≤ tally.acts * 2 ^ 67
+  pub backward : tally.backward ≤ tally.acts * 2 ^ 67
+
+-- a segment with these ends, of which nothing has come
+pub record IsBegun (u l c s : ℕ) (tally : Tally) : Type 0 where
+  pub upper : tally.upper ≡ u
+  pub lower : tally.lower ≡ l
+  pub cost : tally.cost ≡ c
+  pub slope : tally.slope ≡ s
+  pub times : tally.times.items ≡ []
+  pub moves : tally.moves.items ≡ []
+  pub acts : tally.acts ≡ 0
+  pub forward : tally.forward ≡ 0
+  pub backward : tally.backward ≡ 0
+  pub stops : tally.stops ≡ false
+
+-- sums by event with one number at one event in place of another
+pub record IsExchanged (old new : List ℕ) (event before now : ℕ) : Type 0 where
+  pub there : slice_index new event + before ≡ slice_index old event + now
+  pub elsewhere : (e : ℕ) → (e ≡ event → ⊥) → slice_index new e ≡ slice_index old e
+  pub same_length : length new ≡ length old
+
+-- this flow and this cost are kept of activity a, and of each other one what was
+pub record IsRenewed (old new : List Passed) (a flows costs : ℕ) : Type 0 where
+  pub flow : flow_of new a ≡ flows
+  pub cost : cost_of new a ≡ costs
+  pub others : (b : ℕ) → (b ≡ a → ⊥) → passed_at new b ≡ passed_at old b
+
+-- one more activity has come, with its duration and its flows
+pub record AddsAct (net : PricedNetwork) (old : Tally) (duration : ℕ) (flows : List ℕ) (new : Tally) : Type 0 where
+  pub rest : new ≡ record old { acts = old.acts + 1; rows = new.rows; inflow = new.inflow; outflow = new.outflow; spent = new.spent; forward = new.forward; backward = new.backward; stops = new.stops }
+  pub row : IsRenewed old.rows.items new.rows.items old.acts (flow_sum flows) (activity_cost net.terms (knees_in net) old.acts duration)
+  pub forward : new.forward ≡ old.forward + (if is_forward net.network.arcs (stretch_of old).moves old.acts then rises_above net.network (knees_in net) (stretch_of old) (span (stretch_of old)) old.acts else 0)
+  pub backward : new.backward ≡ old.backward + (if is_backward net.network.arcs (stretch_of old).moves old.acts then rises_above net.network (knees_in net) (stretch_of old) 0 old.acts else 0)
+  pub stops : new.stops ≡ (old.stops || stops_in net (stretch_of old) old.acts)

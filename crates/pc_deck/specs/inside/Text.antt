@@ -1,0 +1,14 @@
+-- The text of a deck in its one form: what a deck says is written as cards of version 2, kind by kind.
+-- Here is what no clause of a top call and no law reaches.
+use Rattle.std.specs.Prelude.{ℕ, List, [], ◌∷◌, flat_map}
+use Rattle.pc_records.specs.Text.{records_text}
+use Rattle.pc_faults.specs.declared.kind.Kind.TheVariants.{Project, AsOf, Terms, Wbs, Event, Act, Piece, Acct, Charge, ToGo, Status, Res, Load}
+use Rattle.pc_deck.specs.Deck.{Deck}
+use Rattle.pc_deck.specs.Text.{settled, records_of}
+
+-- the text of the cards that stand once, but for END, and of those that do not
+abbrev pub lead_text : Deck → List ℕ
+lead_text deck = records_text (flat_map (records_of (settled deck)) (Project ∷ AsOf ∷ Terms ∷ []))
+
+abbrev pub lists_text : Deck → List ℕ
+lists_text deck = records_text (flat_map (records_of (settled deck)) (Wbs ∷ Event ∷ Act ∷ Piece ∷ Acct ∷ Charge ∷ ToGo ∷ Status ∷ Res ∷ Load ∷ []))

@@ -1,0 +1,6 @@
+-- What contracts within and between crates speak of besides what the clauses of the top calls and the laws reach.
+pub mod Lines
+pub mod Plans
+pub mod Editing
+pub mod Further
+pub mod Inside

@@ -1,0 +1,6 @@
+-- What contracts within and between crates speak of besides what the clauses of the top calls and the laws reach.
+pub mod Paces
+pub mod Courses
+pub mod Solvers
+pub mod Openings
+pub mod Descents

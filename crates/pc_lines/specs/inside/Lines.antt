@@ -1,0 +1,23 @@
+-- The lines of a text: each is what stands before an end of a line (10), and what stands behind the last of them, where it is not empty.
+-- Here is what no clause of a top call and no law reaches.
+use Rattle.std.specs.Prelude.{ℕ, ◌≢◌, zero, suc, ◌==◌, List, [], ◌∷◌, ◌++◌, if◌then◌else◌}
+
+-- how many bytes stand before the first end of a line
+abbrev pub line_len : List ℕ → ℕ
+line_len [] = zero
+line_len (b ∷ bytes) = if b == 10 then zero else suc (line_len bytes)
+
+-- the text of lines that have an end
+abbrev pub text_of : List (List ℕ) → List ℕ
+text_of [] = []
+text_of (line ∷ lines) = line ++ 10 ∷ text_of lines
+
+-- no line ends in the bytes
+abbrev pub IsOpen : List ℕ → Type 0
+IsOpen [] = Unit {0}
+IsOpen (b ∷ bytes) = (b ≢ 10) × IsOpen bytes
+
+-- no line ends in any of them
+abbrev pub AreOpen : List (List ℕ) → Type 0
+AreOpen [] = Unit {0}
+AreOpen (line ∷ lines) = IsOpen line × AreOpen lines

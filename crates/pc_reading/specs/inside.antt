@@ -1,0 +1,5 @@
+-- What contracts within and between crates speak of besides what the clauses of the top calls and the laws reach.
+pub mod Status
+pub mod Reading
+pub mod Refusing
+pub mod OneWord

@@ -1,9 +1,0 @@
--- The times that the parts of `Times` hold.
-use Rattle.pc_reports.specs.declared.times.Times.TheInside.{Inside}
-use Rattle.pc_reports.specs.Times.{Times, AreSmall}
-
-abbrev pub times_from : Inside → Times
-times_from a = record { early = a.longest.times; late = a.late.items; path = a.longest.path }
-
-abbrev pub AreSmallInside : Inside → Type 0
-AreSmallInside a = AreSmall (times_from a)

@@ -1,0 +1,26 @@
+-- The text of the outlook: what the items are going to cost at given durations of the activities.
+-- Here is what no clause of a top call and no law reaches.
+use Rattle.std.specs.Prelude.{◌≡◌, ℕ, ◌<◌, List, length, slice_index}
+use Rattle.pc_model.specs.Cost.{cost_of}
+use Rattle.pc_model.specs.Pieces.{knees_of}
+use Rattle.pc_wbs.specs.Climb.{IsTop}
+use Rattle.pc_project.specs.Project.{Project}
+use Rattle.pc_figures.specs.Outlook.{Outlook, IsWholeOutlook, amounts_at}
+use Rattle.pc_reports.specs.OutlookText.{cost_at, IsOutlook}
+
+-- the costs are those of the first n activities at their durations
+pub record AreCostsAt (project : Project) (durations : List ℕ) (n : ℕ) (costs : List ℕ) : Type 0 where
+  pub one_each : length costs ≡ n
+  pub each : (a : ℕ) → a < n → slice_index costs a ≡ cost_at project durations a
+
+-- the outlook is the project's at some durations
+pub record IsOutlookFor (project : Project) (outlook : Outlook) : Type 0 where
+  pub durations : List ℕ
+  pub is : IsOutlook project durations outlook
+
+-- the top's outlook is what all activities cost at these durations, and the budgets of all accounts whose package has no
+-- activities
+abbrev pub TellsTop : Project → List ℕ → Outlook → Type 0
+TellsTop project durations outlook =
+    (top : ℕ) → IsTop project.tree top
+    → IsWholeOutlook project.places project.accounts project.entries (cost_of project.terms (knees_of project.terms project.pieces) (slice_index durations)) (amounts_at outlook.amounts top).outlook

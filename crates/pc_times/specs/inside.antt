@@ -1,0 +1,6 @@
+-- What contracts within and between crates speak of besides what the clauses of the top calls and the laws reach.
+pub mod Times
+pub mod Picked
+pub mod Passes
+pub mod Late
+pub mod Forecast

@@ -1,0 +1,17 @@
+-- What contracts see of a session, by what it keeps.
+use Rattle.std.specs.Prelude.{◌≡◌, ◌≤◌, length, None}
+use Rattle.pc_page.specs.inside.Page.{fresh}
+use Rattle.pc_trials.specs.inside.Trials.{trial_cells}
+use Rattle.pc_whatif.specs.declared.session.Session.TheInside.{Inside}
+use Rattle.pc_whatif.specs.inside.Planning.{Planning, IsEditionOf, IsRenewed}
+
+abbrev pub planning_of : Inside → Planning
+planning_of a = record { project = a.project.now; editing = a.edits.editing; reserved = a.reservation }
+
+-- nothing is on trial, the times are those of the project as it is edited, a trial has its cells, and no text was begun
+pub record IsWholeInside (a : Inside) : Type 0 where
+  pub at_rest : a.edits.trial ≡ None
+  pub edition : IsEditionOf a.project.now a.edits.editing
+  pub renewed : IsRenewed a.project.now a.edits.editing a.reservation
+  pub room : trial_cells a.project.now.network.events (length a.project.now.network.arcs) (length a.project.now.pieces) ≤ a.reservation.free
+  pub page : a.page ≡ fresh

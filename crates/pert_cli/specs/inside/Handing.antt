@@ -1,0 +1,25 @@
+-- What handing a text to an output leaves, by the status that it ends with.
+-- Here is what no clause of a top call and no law reaches.
+use Rattle.std.specs.Prelude.{ℕ, List}
+use Rattle.pc_faults.specs.declared.fault.Fault.{Fault}
+use Rattle.pc_project.specs.Project.{Project}
+use Rattle.pert_cli.specs.declared.forms.Form.{Form}
+use Rattle.pc_reading.specs.declared.status.Status.{Status}
+use Rattle.pc_reading.specs.declared.status.Status.TheVariants.{Done, OutOfMemory, WriteFault}
+use Rattle.pert_cli.specs.Forms.{IsDenial}
+use Rattle.pc_reading.specs.inside.Refusing.{Refusal}
+use Rattle.pc_reading.specs.Sides.{Side, IsUntouched, Took, TookFront}
+use Rattle.pert_cli.specs.Handing.{IsReply}
+
+-- a text that answers was written, or there was no memory for it, or a fault of the sink came in it
+abbrev pub Answers : {X : Type 0} → (List ℕ → Type 0) → Side X → Status → Type 0
+Answers IsText out Done = (text : List ℕ) × IsText text × Took out text
+Answers IsText out OutOfMemory = IsUntouched out
+Answers IsText out WriteFault = (text : List ℕ) × IsText text × TookFront out text
+Answers IsText out _ = ⊥
+
+-- how a form replied to a project: its answer was handed to the output, or the line of the fault with which it refuses the
+-- project to the error output; the other output is as it was
+pub data Replies {O E : Type 0} (form : Form) (project : Project) (out : Side O) (err : Side E) (status : Status) : Type 0 where
+  answers : Answers (IsReply form project) out status → IsUntouched err → Replies form project out err status
+  denies : (fault : Fault) → IsDenial form project fault → Refusal fault err status → IsUntouched out → Replies form project out err status
