@@ -1,5 +1,5 @@
 //! The breakpoints of the curve, one after another.
-ghost use Rattle.std.specs.Prelude.{◌≡◌, ◌+◌, ◌<◌, ◌≤◌, ◌≢◌, ◌↔◌, Some, None, true, false, IsNone, IfSome, IfNone};
+ghost use Rattle.std.specs.Prelude.{◌≡◌, ◌+◌, ◌<◌, ◌≤◌, ◌≢◌, ◌↔◌, Some, None, true, IsNone, IfSome, IfNone};
 ghost use Rattle.pc_curve_laws.specs.Segment.{Holds, cost_for};
 ghost use Rattle.pc_flow.specs.Courses.{lower_of, IsSameCurve, IsFurther, most_looks};
 ghost use Rattle.pc_flow.specs.inside.Courses.{present};
@@ -100,25 +100,14 @@ fn break_after<L: Ledger>(
     ensures counted { steps.new ≤ steps.old + most_looks solver.old solver.new }
 {
     match last {
-        None => Some(first_break(solver, steps)),
+        None => {
+            // What is known of the network says that the least costs are those of a curve.
+            let _net = solver.net().net();
+            solver.next_segment(steps);
+            Some(break_at_upper(solver))
+        }
         Some(last) => break_below(solver, last, steps),
     }
-}
-
-// The breakpoint at the all-normal length.
-fn first_break<L: Ledger>(solver: &mut Solver<'_>, steps: &mut Steps<L>) -> Break
-    requires { solver.old.given ≡ false }
-    ensures next { IsNextBreak solver.old None result }
-    ensures place { StandsAt result.length solver.new }
-    ensures same { IsSameCurve solver.old solver.new }
-    ensures further { IsFurther solver.old solver.new }
-    ensures gentle { solver.new.slope ≤ slopes_in solver.new.net }
-    ensures counted { steps.new ≤ steps.old + most_looks solver.old solver.new }
-{
-    // What is known of the network says that the least costs are those of a curve.
-    let _net = solver.net().net();
-    solver.next_segment(steps);
-    break_at_upper(solver)
 }
 
 // The next breakpoint below a length.
