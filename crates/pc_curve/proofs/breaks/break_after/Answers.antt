@@ -1,6 +1,6 @@
 use Rattle.std.proofs.Common.{◌≡◌, ◌∙◌, true, false, true≢false, inl, inr, sym, subst}
 use Rattle.std.proofs.lemmas.Bool.{cases_Bool}
-use Rattle.pc_curve.specs.Breaks.{StandsBy, IsNextBreak}
+use Rattle.pc_curve.specs.inside.Breaks.{StandsBy, IsNextBreak}
 use Rattle.pc_curve.proofs.CurveLaws.{priced-there, first-break}
 use Rattle.pc_curve.proofs.breaks.break_after.Goals as goal
 
