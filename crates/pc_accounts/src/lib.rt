@@ -14,6 +14,3 @@ pub use entry::Entry;
 pub use error::{BookError, Uneven};
 pub use packages::reconcile;
 pub use rows::{AcctRow, MoneyRow, WorkRow};
-
-#[cfg(test)]
-mod tests;

@@ -38,15 +38,13 @@ pub(crate) fn draw_activity(draws: &mut Draws, n: u64, i: u64) -> Activity
     let (from, to) = draw_ends(draws, n, i);
     let normal = (to - from) * (1 + draws.next() % 20);
     let crash = draws.next() % (normal + 1);
-    let slope = 1 + draws.next() % 9;
-    let cost = 10 + draws.next() % 90;
     Activity {
         from,
         to,
         normal,
         crash,
-        slope,
-        cost,
+        slope: 1 + draws.next() % 9,
+        cost: 10 + draws.next() % 90,
     }
 }
 

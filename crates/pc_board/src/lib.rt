@@ -14,6 +14,3 @@ mod raising;
 mod waiting;
 
 pub use board::Board;
-
-#[cfg(test)]
-mod tests;

@@ -7,6 +7,3 @@ mod span;
 
 pub use region::Region;
 pub use span::{Mark, RegionFull, Span};
-
-#[cfg(test)]
-mod tests;

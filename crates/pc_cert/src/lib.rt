@@ -32,8 +32,3 @@ pub use line_text::LineText;
 pub use number::MAX_DIGITS;
 pub use place::{Place, Shape};
 pub use reader::{CertReader, Fed, Malformed};
-
-#[cfg(test)]
-mod line_tests;
-#[cfg(test)]
-mod reader_tests;

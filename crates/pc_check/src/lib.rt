@@ -27,8 +27,3 @@ pub use meaning::certificates_print_the_curve;
 pub use pc_cert::{CertLine, Flows};
 pub use source::{AuditError, audit_source};
 pub use verdict_laws::{lines_are_few, one_verdict};
-
-#[cfg(test)]
-mod audit_tests;
-#[cfg(test)]
-mod checker_tests;

@@ -15,8 +15,6 @@ mod sink;
 mod source;
 mod sure_sink;
 mod sure_source;
-#[cfg(test)]
-mod tests;
 mod write_sink;
 
 pub use file_source::FileSource;

@@ -18,6 +18,3 @@ pub use crate::fault::{DeckError, Detail, Fault, NOT_UTF8, TOO_LONG};
 pub use crate::kind::Kind;
 pub use crate::status::StatusFault;
 pub use crate::tell::fault_line;
-
-#[cfg(test)]
-mod tests;

@@ -3,4 +3,4 @@ mod EarlyTimes
 mod FlowLaws
 pub mod LookLaws
 mod NextLaws
-mod OpeningLaws
+pub mod OpeningLaws

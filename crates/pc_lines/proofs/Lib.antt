@@ -2,3 +2,4 @@ pub mod LineLaws
 mod RunLemmas
 mod HoldLemmas
 mod StepLemmas
+pub mod TalkLaws

@@ -1,3 +1,4 @@
 pub mod Lines
 pub mod inside
 pub use Rattle.pc_edges.specs.Faults
+pub use Rattle.pc_edges.specs.Writes

@@ -1,7 +1,10 @@
-//! The lines of a source, one after the other, however the pieces are cut in which it gives its bytes.
+//! The lines of a source, one after the other, however the pieces are cut in which it gives its bytes; and a talk, in which each line is
+//! answered on a sink before the next is pulled.
 #![tactic(auto)]
 
 mod line_end;
 mod reader;
+mod talking;
 
 pub use crate::reader::{INPUT_LIMIT, LINE_LIMIT, LineError, LineReader, Next};
+pub use crate::talking::{Answers, TalkError, talk};

@@ -7,8 +7,6 @@
 mod cells;
 mod page;
 mod rows;
-#[cfg(test)]
-mod tests;
 
 pub use page::{PAGE_ROOM, Page};
 pub use rows::{Rows, put_rows};

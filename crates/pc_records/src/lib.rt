@@ -7,8 +7,6 @@
 
 mod row;
 mod rows;
-#[cfg(test)]
-mod tests;
 mod writer;
 
 pub use crate::row::Row;

@@ -15,11 +15,13 @@ use std::alloc::{AllocError, Global};
 use std::marker::Brand;
 use std::sync::ledger::{Blank, Ledger};
 
-/// Puts the next segment of a solver on a page, if there is one.
-fn put_next<L: Ledger>(
+/// Puts a head with this walk at normal and at crash durations, the next two segments of a solver and the end; or says that there are
+/// not two.
+fn put_parts<L: Ledger>(
     page: &mut Page,
     sink: &mut MemSink,
     net: &CrashNet<'_>,
+    walk: &[u32],
     solver: &mut Solver<'_>,
     lines: &mut LastLines,
     steps: &mut Steps<L>,
@@ -27,14 +29,18 @@ fn put_next<L: Ledger>(
     requires net { solver.old.net ≡ net.now }
     requires events { AreEventsSpelled net.now lines.old.events.items }
     requires acts { AreActsSpelled net.now lines.old.acts.items }
-    ensures net { solver.new.net ≡ net.now }
-    ensures events { AreEventsSpelled net.now lines.new.events.items }
-    ensures acts { AreActsSpelled net.now lines.new.acts.items }
+    requires walk { All (λ a. a < length net.now.network.arcs) walk.now }
 {
+    put_head(page, sink, net, walk, walk);
     if !solver.next_segment(steps) {
         return false;
     }
     put_segment(page, sink, net, solver, lines);
+    if !solver.next_segment(steps) {
+        return false;
+    }
+    put_segment(page, sink, net, solver, lines);
+    put_end(page, sink);
     true
 }
 
@@ -55,26 +61,17 @@ fn is_put_in_parts<L: Ledger>(
     let mut lines = LastLines::of(alloc, net)?;
     let mut page = Page::with_room(alloc, 1000)?;
     let mut sink = MemSink::new(alloc, 1000, 1000, &[])?;
-    put_head(&mut page, &mut sink, net, walk, walk);
-    let first = put_next(
+    let both = put_parts(
         &mut page,
         &mut sink,
         net,
+        walk,
         &mut solver,
         &mut lines,
         &mut steps,
     );
-    let second = put_next(
-        &mut page,
-        &mut sink,
-        net,
-        &mut solver,
-        &mut lines,
-        &mut steps,
-    );
-    put_end(&mut page, &mut sink);
     let written = page.finish(&mut sink);
-    Ok(first && second && written.is_ok() && sink.bytes() == text)
+    Ok(both && written.is_ok() && sink.bytes() == text)
 }
 
 fn small_is_put_in_parts(alloc: Global, text: &[u8]) -> Option<bool> {

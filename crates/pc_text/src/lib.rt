@@ -17,6 +17,3 @@ pub use fields::{field, run_len};
 pub use line::Line;
 pub use number::{digits, read_number, signed, wide};
 pub use title::{Title, is_title_shape};
-
-#[cfg(test)]
-mod tests;

@@ -1,21 +1,11 @@
--- The looks of a trial by the ends of a network's range, and that a network has activities.
-use Rattle.std.proofs.Common.{◌≡◌, ℕ, ◌+◌, ◌-◌, ◌<◌, ◌≤◌, List, [], ◌∷◌, length, subst, arith}
-use Rattle.pc_model.specs.Walk.{IsWalk}
-use Rattle.pc_model.specs.Network.{Network, IsInRange, IsSound}
+-- The looks of a trial by the ends of a network's range.
+use Rattle.std.proofs.Common.{◌≡◌, ℕ, ◌+◌, ◌-◌, ◌≤◌, subst}
 use Rattle.pc_model.specs.Schedule.{IsAllCrashLength, IsAllNormalLength}
 use Rattle.pc_crash.specs.Priced.{PricedNetwork}
 use Rattle.pc_flow.specs.Courses.{Course}
 use Rattle.pc_curve.specs.Range.{IsRange}
 use Rattle.pc_curve.proofs.RangeLaws.{one_range}
 use Rattle.pc_trials.specs.inside.Trials.{looks_over}
-
--- a sound network has activities
-pub some-activities : (net : Network) → IsInRange net → IsSound net → 0 < length net.arcs
-some-activities net range sound = let (walk, walked) = sound.reached net.end range.end_in in some walk walked
-  where
-    some : (walk : List ℕ) → IsWalk net.arcs net.start walk net.end → 0 < length net.arcs
-    some [] walked = absurd (range.apart walked)
-    some (a ∷ walk) walked = omega (arith, walked.0)
 
 -- the looks that a solver of the network may take, by the ends of the range
 pub looks-of-range : (net : PricedNetwork) (c : Course) (before after : ℕ) → c.net ≡ net

@@ -12,6 +12,3 @@ mod tree;
 pub use error::{Indices, TreeError};
 pub use row::ItemRow;
 pub use tree::Tree;
-
-#[cfg(test)]
-mod tests;

@@ -20,7 +20,7 @@ use Rattle.pc_edits.specs.declared.trying.ActTerm.{ActTerm}
 use Rattle.pc_edits.specs.Editing.{Editing, activity_named, edited, undone, editing_with, net_trying}
 use Rattle.pc_edits.specs.Plans.{Plan, term_tried}
 use Rattle.pc_edits.specs.Refusal.{edit_refusal, undo_refusal, trial_refusal}
-use Rattle.pc_talk.specs.inside.Talk.{Answered}
+use Rattle.pc_lines.specs.inside.Talk.{Answered}
 use Rattle.pc_lines.specs.inside.Reading.{kept}
 use Rattle.pc_curve.specs.Range.{IsWithin}
 use Rattle.pc_trials.specs.inside.Reserved.{Reserved}

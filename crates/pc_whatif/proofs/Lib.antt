@@ -3,3 +3,5 @@ pub mod AnswerLaws
 pub mod LineLaws
 pub mod JournalLaws
 pub mod OneTextLaws
+pub mod SessionLaws
+pub mod SessionDecided

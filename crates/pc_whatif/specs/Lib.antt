@@ -1,6 +1,10 @@
 pub mod Texts
 pub mod Planning
 pub mod Standing
+pub mod Heard
+pub mod SessionOutcome
 pub mod inside
 pub use Rattle.pc_edges.specs.Faults
 pub use Rattle.pc_edges.specs.Writes
+pub use Rattle.pc_deck.specs.Deck
+pub use Rattle.pc_project.specs.Project

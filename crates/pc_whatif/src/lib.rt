@@ -7,6 +7,8 @@ mod renewing;
 mod replies;
 mod session;
 mod talker;
+mod top;
 
 pub use crate::laws::{answers_are_one_text, edits_stand_in_order};
 pub use crate::session::Session;
+pub use crate::top::session_run;

@@ -8,7 +8,7 @@ ghost use Rattle.pc_whatif.specs.inside.Planning.{IsAnswered, Says};
 use crate::session::Session;
 use pc_crash::Steps;
 use pc_edges::{Failed, Sink};
-use pc_talk::Answers;
+use pc_lines::Answers;
 use std::marker::Brand;
 use std::sync::ledger::{Blank, Ledger};
 

@@ -1,6 +1,6 @@
 //! The benchmark: its figures, that it reads nothing, and the certificates of its decks.
 
-use crate::testing::{Edges, SMALL, USAGE, check_of, left_by, run_of};
+use crate::testing::{Edges, SMALL, Task, USAGE, check_of, left_by, run_of};
 use pc_bench::{MOST_ACTIVITIES, bench_deck};
 use std::alloc::{AllocError, Global};
 use std::test::Fail;
@@ -30,7 +30,7 @@ const FIGURES: [(&str, &[u8]); 3] = [
 #[test]
 fn the_benchmark_reads_nothing(rt: HostRuntime) -> Result<(), Fail> {
     for (n, figures) in FIGURES {
-        let left = left_by(rt.alloc(), &run_of(&["bench", n], b""), UNREADABLE)?;
+        let left = left_by(rt.alloc(), &run_of(&["bench", n], ""), UNREADABLE)?;
         assert!(rt; left.is(0, figures, b""), "bench {n}");
     }
     Ok(())
@@ -42,7 +42,7 @@ const NUMBERS: [&str; 6] = ["0", "4001", "04", "-1", "", "10000000000000"];
 #[test]
 fn the_benchmark_has_1_to_4000_activities(rt: HostRuntime) -> Result<(), Fail> {
     for n in NUMBERS {
-        let left = left_by(rt.alloc(), &run_of(&["bench", n], b""), UNREADABLE)?;
+        let left = left_by(rt.alloc(), &run_of(&["bench", n], ""), UNREADABLE)?;
         assert!(rt; left.is(2, b"", USAGE), "bench {n}");
     }
     Ok(())
@@ -59,8 +59,16 @@ const LARGE: Edges = Edges {
 // The two statuses of a certificate of the benchmark's deck: as it is written, and as it is checked.
 fn certified(alloc: Global, n: u64) -> Result<(u8, u8), AllocError> {
     let deck = bench_deck(alloc, n.clamp(1, MOST_ACTIVITIES))?;
-    let written = left_by(alloc, &run_of(&["certify"], &deck), LARGE)?;
-    let checked = left_by(alloc, &check_of(&["deck"], &deck, &written.out), LARGE)?;
+    let certify = Task {
+        deck: &deck,
+        ..run_of(&["certify"], "")
+    };
+    let written = left_by(alloc, &certify, LARGE)?;
+    let check = Task {
+        deck: &deck,
+        ..check_of(&["deck"], "", &written.out)
+    };
+    let checked = left_by(alloc, &check, LARGE)?;
     Ok((written.status, checked.status))
 }
 

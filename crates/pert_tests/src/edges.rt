@@ -7,7 +7,7 @@ use std::test::Fail;
 
 // Words, a deck, and how many pulls read it: the last of them finds its end. The words ask for each form, for lengths that the deck
 // does not have, and for nothing; the last deck is none.
-const RUNS: [(&[&str], &[u8], u64); 27] = [
+const RUNS: [(&[&str], &str, u64); 27] = [
     (&["check"], WHOLE, 4),
     (&["normal"], WHOLE, 4),
     (&["times"], WHOLE, 4),
@@ -33,8 +33,8 @@ const RUNS: [(&[&str], &[u8], u64); 27] = [
     (&["curve", "x"], WHOLE, 0),
     (&["CURVE"], WHOLE, 0),
     (&["bench", "0"], WHOLE, 0),
-    (&["certify"], b"END\n", 2),
-    (&["arrows"], b"END\n", 2),
+    (&["certify"], "END\n", 2),
+    (&["arrows"], "END\n", 2),
 ];
 
 #[test]
@@ -57,17 +57,17 @@ fn each_push_of_a_run_fails(rt: HostRuntime) -> Result<(), Fail> {
 }
 
 // The words of a check, a deck and a certificate, and how many pulls read each.
-const CHECKS: [(&[&str], &[u8], u64, &[u8], u64); 4] = [
+const CHECKS: [(&[&str], &str, u64, &str, u64); 4] = [
     (&["deck"], WHOLE, 4, CERTIFICATE, 4),
-    (&["deck"], WHOLE, 4, b"END\n", 1),
-    (&["deck"], b"END\n", 2, CERTIFICATE, 0),
+    (&["deck"], WHOLE, 4, "END\n", 1),
+    (&["deck"], "END\n", 2, CERTIFICATE, 0),
     (&[], WHOLE, 0, CERTIFICATE, 0),
 ];
 
 #[test]
 fn each_pull_of_a_check_fails(rt: HostRuntime) -> Result<(), Fail> {
     for (words, deck, of_deck, cert, of_cert) in CHECKS {
-        let task = check_of(words, deck, cert);
+        let task = check_of(words, deck, cert.as_bytes());
         let wrong = first_wrong_pull(rt.alloc(), &task, Edge::Deck, of_deck)?;
         assert_eq!(rt; wrong, None, "the deck, {of_deck} pulls");
         let wrong = first_wrong_pull(rt.alloc(), &task, Edge::Second, of_cert)?;
@@ -79,7 +79,8 @@ fn each_pull_of_a_check_fails(rt: HostRuntime) -> Result<(), Fail> {
 #[test]
 fn each_push_of_a_check_fails(rt: HostRuntime) -> Result<(), Fail> {
     for (words, deck, of_deck, cert, of_cert) in CHECKS {
-        let wrong = first_wrong_push(rt.alloc(), &check_of(words, deck, cert))?;
+        let task = check_of(words, deck, cert.as_bytes());
+        let wrong = first_wrong_push(rt.alloc(), &task)?;
         assert_eq!(rt; wrong, None, "{of_deck} pulls and {of_cert}");
     }
     Ok(())

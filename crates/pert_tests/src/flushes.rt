@@ -3,7 +3,7 @@
 use crate::sessions::{ANSWERS, LINES};
 use crate::testing::{WHOLE, owned};
 use pc_edges::{Failed, Sink, Source, SureSink, SureSource};
-use pc_session::session_run;
+use pc_whatif::session_run;
 use std::alloc::{AllocError, Global};
 use std::cell::Cell;
 use std::test::Fail;
@@ -73,7 +73,7 @@ fn waited(alloc: Global) -> Result<(u8, usize, u64, bool), AllocError> {
         taken: SureSink::new(),
         flushed: &flushed,
     };
-    let mut deck = SureSource::new(WHOLE);
+    let mut deck = SureSource::new(WHOLE.as_bytes());
     let mut err = SureSink::new();
     let status = session_run(alloc, &words, &mut deck, &mut edits, &mut out, &mut err);
     Ok((

@@ -1,10 +1,12 @@
 //! Runs over sources and sinks in memory: what each status leaves behind.
 
-use crate::testing::{AT_WORK, CERTIFICATE, Edges, SMALL, USAGE, WHOLE, left_by, run_of};
+use crate::testing::{
+    AT_WORK, CERTIFICATE, Edges, MIGRATED, SMALL, Task, USAGE, WHOLE, left_by, run_of,
+};
 use std::test::Fail;
 
 // Activities of an item that no card has.
-const NO_ITEMS: &[u8] = b"PROJECT,E0,S,T,2024-01-01,1,,Example\n\
+const NO_ITEMS: &str = "PROJECT,E0,S,T,2024-01-01,1,,Example\n\
 EVENT,S,Start\n\
 EVENT,M,Middle\n\
 EVENT,T,End\n\
@@ -13,7 +15,7 @@ ACT,B,M,T,1.2,4,5,12,5,3,20,5,Cover\n\
 END\n";
 
 // Two activities that go round beside the way from the start to the end.
-const ROUND: &[u8] = b"PROJECT,P,S,T,2024-01-01,1,,\n\
+const ROUND: &str = "PROJECT,P,S,T,2024-01-01,1,,\n\
 WBS,1,,\n\
 EVENT,S,\n\
 EVENT,M,\n\
@@ -25,13 +27,13 @@ ACT,C,N,M,1,1,1,1,1,1,1,1,\n\
 ACT,D,N,T,1,1,1,1,1,1,1,1,\n\
 END\n";
 
-const COUNTS: &[u8] =
-    b"accepted E1\nevents 3\nactivities 3\nitems 3\naccounts 2\ncharges 0\ntogos 0\nstatuses 0\n";
+const COUNTS: &str =
+    "accepted E1\nevents 3\nactivities 3\nitems 3\naccounts 2\ncharges 0\ntogos 0\nstatuses 0\n";
 
-const SCHEDULE: &[u8] =
-    b"LENGTH 9\nCOST 45\nEVENT S 0\nEVENT M 4\nEVENT T 9\nACT A 4\nACT B 5\nACT C 7\n";
+const SCHEDULE: &str =
+    "LENGTH 9\nCOST 45\nEVENT S 0\nEVENT M 4\nEVENT T 9\nACT A 4\nACT B 5\nACT C 7\n";
 
-const TIMES: &[u8] = b"TIMES E1\n\
+const TIMES: &str = "TIMES E1\n\
 EVENT                      TE           TL        SLACK DATE\n\
 S                           0            0            0 2024-01-01\n\
 M                          24           24            0 2024-01-05\n\
@@ -44,7 +46,7 @@ CRITICAL A\n\
 CRITICAL B\n\
 VARIANCE 68\n";
 
-const SUMMARY: &[u8] = b"SUMMARY E1 2024-01-08\n\
+const SUMMARY: &str = "SUMMARY E1 2024-01-08\n\
 ITEM             LV         BUDGET         ACTUAL          TO-GO         LATEST        OVERRUN TITLE\n\
 1                 1             45             10             50             60             15 Whole\n\
 1.1               2             25             10             30             40             15 Frame, north\n\
@@ -52,7 +54,7 @@ ITEM             LV         BUDGET         ACTUAL          TO-GO         LATEST 
 LEVEL             1             45             10             50             60             15\n\
 LEVEL             2             45             10             50             60             15\n";
 
-const VALUE: &[u8] = b"VALUE E1 2024-01-08\n\
+const VALUE: &str = "VALUE E1 2024-01-08\n\
 EVENT                FORECAST       FSLACK DATE\n\
 S                           0            0 2024-01-01\n\
 M                          66          -42 2024-01-12\n\
@@ -62,35 +64,20 @@ ITEM             LV         BUDGET         ACTUAL          VALUE        OVERRUN 
 1.1               2             25             10              6              4          -42 Frame, north\n\
 1.2               2             20              0              0              0          -42 Roof\n";
 
-const BREAKS: &[u8] = b"9 45 3\n7 51 7\n5 65 -\n";
+const BREAKS: &str = "9 45 3\n7 51 7\n5 65 -\n";
 
 // The length lies between two breakpoints.
-const POINT_6: &[u8] =
-    b"LENGTH 6\nCOST 58\nEVENT S 0\nEVENT M 2\nEVENT T 6\nACT A 2\nACT B 4\nACT C 6\n";
+const POINT_6: &str =
+    "LENGTH 6\nCOST 58\nEVENT S 0\nEVENT M 2\nEVENT T 6\nACT A 2\nACT B 4\nACT C 6\n";
 
-const OUTLOOK_6: &[u8] =
-    b"LENGTH 6\nCOST 58\nEVENT S 0\nEVENT M 2\nEVENT T 6\nACT A 2\nACT B 4\nACT C 6\n\
+const OUTLOOK_6: &str =
+    "LENGTH 6\nCOST 58\nEVENT S 0\nEVENT M 2\nEVENT T 6\nACT A 2\nACT B 4\nACT C 6\n\
 ITEM             LV         BUDGET        OUTLOOK         CHANGE TITLE\n\
 1                 1             45             58             13 Whole\n\
 1.1               2             25             33              8 Frame, north\n\
 1.2               2             20             25              5 Roof\n";
 
-const MIGRATED: &[u8] = b"PROJECT,E1,S,T,2024-01-01,1,,Example one,2\n\
-ASOF,2024-01-01\n\
-WBS,1,,Whole\n\
-WBS,1.1,1,\"Frame, north\"\n\
-WBS,1.2,1,Roof\n\
-EVENT,S,Start\n\
-EVENT,M,Middle\n\
-EVENT,T,End\n\
-ACT,A,S,M,1.1,3,4,5,4,2,10,3,Dig\n\
-ACT,B,M,T,1.2,4,5,12,5,3,20,5,Cover\n\
-ACT,C,S,T,1.1,7,7,7,7,5,15,2,Frame\n\
-ACCT,X1,1.1,25,Frame account\n\
-ACCT,X2,1.2,20,Roof account\n\
-END\n";
-
-const LOADED: &[u8] = b"LOAD E1 7\n\
+const LOADED: &str = "LOAD E1 7\n\
 PERIOD                0 2024-01-01\n\
 PERIOD                1 2024-01-08\n\
 ITEMS\n\
@@ -102,47 +89,47 @@ ITEMS\n\
 RESOURCES\n";
 
 // Without terms the time costs nothing.
-const OPTIMUM: &[u8] = b"OPTIMUM E1\nLENGTH 9\nDIRECT 45\nTIME 0\nTOTAL 45\nBELOW 3\nABOVE -\n\
+const OPTIMUM: &str = "OPTIMUM E1\nLENGTH 9\nDIRECT 45\nTIME 0\nTOTAL 45\nBELOW 3\nABOVE -\n\
 EVENT S 0\nEVENT M 4\nEVENT T 9\nACT A 4\nACT B 5\nACT C 7\n";
 
-const TOO_SHORT: &[u8] = b"F32 record 0: length 4 is outside 5 to 9\n";
+const TOO_SHORT: &str = "F32 record 0: length 4 is outside 5 to 9\n";
 
-const TOO_LONG: &[u8] = b"F32 record 0: length 10 is outside 5 to 9\n";
+const TOO_LONG: &str = "F32 record 0: length 10 is outside 5 to 9\n";
 
-const NO_PROJECT: &[u8] = b"F3 record 1: first card is not PROJECT\n";
+const NO_PROJECT: &str = "F3 record 1: first card is not PROJECT\n";
 
 // Words that ask for a form and a deck, with the status, the output and the error output that they give.
-const RUNS: [(&[&str], &[u8], u8, &[u8], &[u8]); 19] = [
-    (&["check"], WHOLE, 0, COUNTS, b""),
-    (&["normal"], WHOLE, 0, SCHEDULE, b""),
-    (&["times"], WHOLE, 0, TIMES, b""),
-    (&["summary"], AT_WORK, 0, SUMMARY, b""),
-    (&["value"], AT_WORK, 0, VALUE, b""),
-    (&["curve"], WHOLE, 0, BREAKS, b""),
-    (&["certify"], WHOLE, 0, CERTIFICATE, b""),
-    (&["point", "6"], WHOLE, 0, POINT_6, b""),
-    (&["outlook", "6"], WHOLE, 0, OUTLOOK_6, b""),
-    (&["migrate"], WHOLE, 0, MIGRATED, b""),
-    (&["migrate"], MIGRATED, 0, MIGRATED, b""),
-    (&["optimum"], WHOLE, 0, OPTIMUM, b""),
-    (&["load", "7"], WHOLE, 0, LOADED, b""),
-    (&["outlook", "4"], WHOLE, 1, b"", TOO_SHORT),
-    (&["point", "4"], WHOLE, 1, b"", TOO_SHORT),
-    (&["point", "10"], WHOLE, 1, b"", TOO_LONG),
-    (&["check"], b"END\n", 1, b"", NO_PROJECT),
+const RUNS: [(&[&str], &str, u8, &str, &str); 19] = [
+    (&["check"], WHOLE, 0, COUNTS, ""),
+    (&["normal"], WHOLE, 0, SCHEDULE, ""),
+    (&["times"], WHOLE, 0, TIMES, ""),
+    (&["summary"], AT_WORK, 0, SUMMARY, ""),
+    (&["value"], AT_WORK, 0, VALUE, ""),
+    (&["curve"], WHOLE, 0, BREAKS, ""),
+    (&["certify"], WHOLE, 0, CERTIFICATE, ""),
+    (&["point", "6"], WHOLE, 0, POINT_6, ""),
+    (&["outlook", "6"], WHOLE, 0, OUTLOOK_6, ""),
+    (&["migrate"], WHOLE, 0, MIGRATED, ""),
+    (&["migrate"], MIGRATED, 0, MIGRATED, ""),
+    (&["optimum"], WHOLE, 0, OPTIMUM, ""),
+    (&["load", "7"], WHOLE, 0, LOADED, ""),
+    (&["outlook", "4"], WHOLE, 1, "", TOO_SHORT),
+    (&["point", "4"], WHOLE, 1, "", TOO_SHORT),
+    (&["point", "10"], WHOLE, 1, "", TOO_LONG),
+    (&["check"], "END\n", 1, "", NO_PROJECT),
     (
         &["point", "6"],
         NO_ITEMS,
         1,
-        b"",
-        b"F14 record 5: unknown item 1.1\n",
+        "",
+        "F14 record 5: unknown item 1.1\n",
     ),
     (
         &["times"],
         ROUND,
         1,
-        b"",
-        b"F27 record 8: activities in a cycle: B C\n",
+        "",
+        "F27 record 8: activities in a cycle: B C\n",
     ),
 ];
 
@@ -150,7 +137,10 @@ const RUNS: [(&[&str], &[u8], u8, &[u8], &[u8]); 19] = [
 fn answers_or_refuses_decks(rt: HostRuntime) -> Result<(), Fail> {
     for (words, deck, status, out, err) in RUNS {
         let left = left_by(rt.alloc(), &run_of(words, deck), SMALL)?;
-        assert!(rt; left.is(status, out, err), "{words:?}");
+        assert!(rt;
+            left.is(status, out.as_bytes(), err.as_bytes()),
+            "{words:?}"
+        );
     }
     Ok(())
 }
@@ -202,7 +192,11 @@ fn a_deck_may_be_too_long(rt: HostRuntime) -> Result<(), Fail> {
         pulled: 1_000_000,
         ..SMALL
     };
-    let left = left_by(rt.alloc(), &run_of(&["normal"], &deck), edges)?;
+    let task = Task {
+        deck: &deck,
+        ..run_of(&["normal"], "")
+    };
+    let left = left_by(rt.alloc(), &task, edges)?;
     assert!(rt; left.is(1, b"", b"F1 record 0: more than 67108864 bytes\n"));
     Ok(())
 }

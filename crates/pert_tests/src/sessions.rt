@@ -50,10 +50,10 @@ const USAGE: &[u8] = b"usage: pert_whatif DECK\n";
 const NO_PROJECT: &[u8] = b"F3 record 1: first card is not PROJECT\n";
 
 // Words and a deck that give no project, with the status and the error output. The words are refused before the deck is read.
-const REFUSED: [(&[&str], &[u8], u64, u8, &[u8]); 3] = [
+const REFUSED: [(&[&str], &str, u64, u8, &[u8]); 3] = [
     (&[], WHOLE, 1, 2, USAGE),
     (&["deck", "lines"], WHOLE, 1, 2, USAGE),
-    (&["deck"], b"END\n", 0, 1, NO_PROJECT),
+    (&["deck"], "END\n", 0, 1, NO_PROJECT),
 ];
 
 #[test]
@@ -72,7 +72,7 @@ fn no_line_is_read_without_a_project(rt: HostRuntime) -> Result<(), Fail> {
 
 #[test]
 fn each_pull_of_the_deck_fails(rt: HostRuntime) -> Result<(), Fail> {
-    for (deck, pulls) in [(WHOLE, 4), (b"END\n", 2)] {
+    for (deck, pulls) in [(WHOLE, 4), ("END\n", 2)] {
         let task = session_of(&["deck"], deck, b"CURVE\n");
         let wrong = first_wrong_pull(rt.alloc(), &task, Edge::Deck, pulls)?;
         assert_eq!(rt; wrong, None, "{pulls} pulls");

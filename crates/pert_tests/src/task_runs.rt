@@ -3,7 +3,7 @@
 use crate::testing::{SMALL, TASKS, WHOLE, left_by, run_of};
 use std::test::Fail;
 
-const DRAWN: &[u8] = b"PROJECT,K1,S,T,2024-01-01,1,,Tasks,2\n\
+const DRAWN: &str = "PROJECT,K1,S,T,2024-01-01,1,,Tasks,2\n\
 ASOF,2024-01-01\n\
 WBS,1,,Whole\n\
 WBS,1.1,1,Work\n\
@@ -23,7 +23,7 @@ ACCT,X,1.1,30,\n\
 END\n";
 
 // Tasks that wait for each other.
-const WAITING: &[u8] = b"PROJECT,K1,S,T,2024-01-01,1,,Tasks\n\
+const WAITING: &str = "PROJECT,K1,S,T,2024-01-01,1,,Tasks\n\
 WBS,1,,Whole\n\
 WBS,1.1,1,Work\n\
 TASK,A,1.1,4,4,4,4,2,10,3,\n\
@@ -33,25 +33,28 @@ AFTER,A,B\n\
 END\n";
 
 // Words that ask for a form and a deck, with the status, the output and the error output that they give.
-const RUNS: [(&[&str], &[u8], u8, &[u8], &[u8]); 5] = [
-    (&["arrows"], TASKS, 0, DRAWN, b""),
-    (&["migrate"], DRAWN, 0, DRAWN, b""),
+const RUNS: [(&[&str], &str, u8, &str, &str); 5] = [
+    (&["arrows"], TASKS, 0, DRAWN, ""),
+    (&["migrate"], DRAWN, 0, DRAWN, ""),
     (
         &["arrows"],
         WAITING,
         1,
-        b"",
-        b"F38 record 4: tasks in a cycle: A B\n",
+        "",
+        "F38 record 4: tasks in a cycle: A B\n",
     ),
-    (&["arrows"], WHOLE, 1, b"", b"F4 record 5: unknown kind\n"),
-    (&["migrate"], TASKS, 1, b"", b"F4 record 4: unknown kind\n"),
+    (&["arrows"], WHOLE, 1, "", "F4 record 5: unknown kind\n"),
+    (&["migrate"], TASKS, 1, "", "F4 record 4: unknown kind\n"),
 ];
 
 #[test]
 fn draws_or_refuses_decks(rt: HostRuntime) -> Result<(), Fail> {
     for (words, deck, status, out, err) in RUNS {
         let left = left_by(rt.alloc(), &run_of(words, deck), SMALL)?;
-        assert!(rt; left.is(status, out, err), "{words:?}");
+        assert!(rt;
+            left.is(status, out.as_bytes(), err.as_bytes()),
+            "{words:?}"
+        );
     }
     Ok(())
 }

@@ -1,13 +1,16 @@
 //! What the tests share: a small deck with its answers, and what a program leaves of edges in memory of which a call fails.
 
 use pc_edges::{MemSink, MemSource};
-use pc_session::session_run;
+use pc_whatif::session_run;
 use pert_cli::{check_run, run};
 use std::alloc::{AllocError, Global};
 
-/// A deck of three activities.
-pub(crate) const WHOLE: &[u8] = b"PROJECT,E1,S,T,2024-01-01,1,,Example one\n\
-WBS,1,,Whole\n\
+/// A deck of three activities: these first cards, its items, events, activities and accounts, and these last cards.
+macro_rules! deck_of_three {
+    ($first:literal, $last:literal) => {
+        concat!(
+            $first,
+            "WBS,1,,Whole\n\
 WBS,1.1,1,\"Frame, north\"\n\
 WBS,1.2,1,Roof\n\
 EVENT,S,Start\n\
@@ -17,29 +20,32 @@ ACT,A,S,M,1.1,3,4,5,4,2,10,3,Dig\n\
 ACT,B,M,T,1.2,4,5,12,5,3,20,5,Cover\n\
 ACT,C,S,T,1.1,7,7,7,7,5,15,2,Frame\n\
 ACCT,X1,1.1,25,Frame account\n\
-ACCT,X2,1.2,20,Roof account\n\
-END\n";
+ACCT,X2,1.2,20,Roof account\n",
+            $last
+        )
+    };
+}
+
+/// A deck of three activities.
+pub(crate) const WHOLE: &str = deck_of_three!(
+    "PROJECT,E1,S,T,2024-01-01,1,,Example one\n",
+    "END\n"
+);
 
 /// The same in the middle of its work.
-pub(crate) const AT_WORK: &[u8] = b"PROJECT,E1,S,T,2024-01-01,1,,Example one\n\
-WBS,1,,Whole\n\
-WBS,1.1,1,\"Frame, north\"\n\
-WBS,1.2,1,Roof\n\
-EVENT,S,Start\n\
-EVENT,M,Middle\n\
-EVENT,T,End\n\
-ACT,A,S,M,1.1,3,4,5,4,2,10,3,Dig\n\
-ACT,B,M,T,1.2,4,5,12,5,3,20,5,Cover\n\
-ACT,C,S,T,1.1,7,7,7,7,5,15,2,Frame\n\
-ACCT,X1,1.1,25,Frame account\n\
-ACCT,X2,1.2,20,Roof account\n\
-ASOF,2024-01-08\n\
-CHARGE,X1,2024-01-03,10\n\
-TOGO,X1,2024-01-08,30\n\
-END\n";
+pub(crate) const AT_WORK: &str = deck_of_three!(
+    "PROJECT,E1,S,T,2024-01-01,1,,Example one\n",
+    "ASOF,2024-01-08\nCHARGE,X1,2024-01-03,10\nTOGO,X1,2024-01-08,30\nEND\n"
+);
+
+/// The deck in its one form.
+pub(crate) const MIGRATED: &str = deck_of_three!(
+    "PROJECT,E1,S,T,2024-01-01,1,,Example one,2\nASOF,2024-01-01\n",
+    "END\n"
+);
 
 /// A deck of two tasks, the second after the first.
-pub(crate) const TASKS: &[u8] = b"PROJECT,K1,S,T,2024-01-01,1,,Tasks\n\
+pub(crate) const TASKS: &str = "PROJECT,K1,S,T,2024-01-01,1,,Tasks\n\
 WBS,1,,Whole\n\
 WBS,1.1,1,Work\n\
 TASK,A,1.1,4,4,4,4,2,10,3,\n\
@@ -49,7 +55,7 @@ ACCT,X,1.1,30,\n\
 END\n";
 
 /// The certificate of the deck's time-cost curve.
-pub(crate) const CERTIFICATE: &[u8] = b"CERT 1 E1 3 3\n\
+pub(crate) const CERTIFICATE: &str = "CERT 1 E1 3 3\n\
 NORMAL\n\
 STEP A\n\
 STEP B\n\
@@ -96,31 +102,31 @@ pub(crate) struct Task<'a> {
 }
 
 /// A run of these words on a deck.
-pub(crate) fn run_of<'a>(words: &'a [&'a str], deck: &'a [u8]) -> Task<'a> {
+pub(crate) fn run_of<'a>(words: &'a [&'a str], deck: &'a str) -> Task<'a> {
     Task {
         call: Call::Run,
         words,
-        deck,
+        deck: deck.as_bytes(),
         second: b"",
     }
 }
 
 /// A check with these words of a certificate of a deck.
-pub(crate) fn check_of<'a>(words: &'a [&'a str], deck: &'a [u8], cert: &'a [u8]) -> Task<'a> {
+pub(crate) fn check_of<'a>(words: &'a [&'a str], deck: &'a str, cert: &'a [u8]) -> Task<'a> {
     Task {
         call: Call::CheckRun,
         words,
-        deck,
+        deck: deck.as_bytes(),
         second: cert,
     }
 }
 
 /// A session with these words that answers lines on a deck.
-pub(crate) fn session_of<'a>(words: &'a [&'a str], deck: &'a [u8], lines: &'a [u8]) -> Task<'a> {
+pub(crate) fn session_of<'a>(words: &'a [&'a str], deck: &'a str, lines: &'a [u8]) -> Task<'a> {
     Task {
         call: Call::SessionRun,
         words,
-        deck,
+        deck: deck.as_bytes(),
         second: lines,
     }
 }

@@ -2,12 +2,12 @@
 //! output an answer to each line, before it reads more.
 //!
 //! The program only collects its words, makes the adapters of the file and the real streams, and calls
-//! [`pc_session::session_run`], whose answer is its status.
+//! [`pc_whatif::session_run`], whose answer is its status.
 #![tactic(auto)]
 
 use pc_edges::{FileSource, ReadSource, WriteSink};
 use pc_reading::{Status, deck_name, words_of};
-use pc_session::session_run;
+use pc_whatif::session_run;
 use std::process::ExitCode;
 
 fn main(rt: HostRuntime) -> ExitCode {

@@ -3,7 +3,7 @@ use Rattle.std.proofs.lemmas.List.{length-replicate}
 use Rattle.pc_trials.specs.inside.Reserved.{IsFor}
 use Rattle.pc_trials.specs.inside.Laid.{IsLaidIn}
 use Rattle.pc_trials.proofs.OpenLaws.{IsOpened, laid-2, is-opened}
-use Rattle.pc_trials.proofs.TrialLaws.{some-activities}
+use Rattle.pc_flow.proofs.OpeningLaws.{some-activities}
 use Rattle.pc_trials.proofs.reservation.Reservation.for_lists.Goals.{After-write, After-write-2}
 use Rattle.pc_trials.proofs.reservation.Reservation.for_lists.Goals as goal
 

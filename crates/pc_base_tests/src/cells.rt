@@ -1,0 +1,30 @@
+//! A region whose spans are taken and given back.
+use pc_cells::{Region, RegionFull};
+use std::alloc::AllocError;
+use std::rt::HostRuntime;
+
+// What a region of 10 cells answers while spans of 4 and 5 are taken, 2 more are refused, and 1 is taken and given back.
+#[test]
+fn spans_are_taken_and_given_back(rt: HostRuntime) -> Result<(), AllocError> {
+    let mut region = Region::with_cells(rt.alloc(), 10)?;
+    let first = match region.take(4) {
+        Ok(span) => span,
+        Err(_) => panic!(rt; "no room for 4"),
+    };
+    region.fill(first, 7);
+    let second = region.take_free(5);
+    region.set(second, 4, 9);
+    assert_eq!(rt; region.get(first, 3), 7);
+    assert_eq!(rt; (region.get(second, 3), region.get(second, 4)), (0, 9));
+    region.write(second, &[1, 2, 3, 4, 5]);
+    assert_eq!(rt; region.list(second), [1, 2, 3, 4, 5].as_slice());
+    assert_eq!(rt; region.list(first), [7; 4].as_slice());
+    assert_eq!(rt; region.take(2), Err(RegionFull { need: 2, free: 1 }));
+    let mark = region.mark();
+    assert!(rt; region.take(1).is_ok());
+    assert_eq!(rt; region.free(), 0);
+    assert!(rt; region.is_mark(mark));
+    region.release_to(mark);
+    assert_eq!(rt; region.free(), 1);
+    Ok(())
+}

@@ -1,0 +1,145 @@
+//! Lines as they are spelled, and the order in which they come.
+use pc_cert::{CertLine, Place, line_len};
+use std::test::Fail;
+
+/// The numbers that a line says, in order, and 0 where it says fewer than six; a bit is 0 or 1.
+fn numbers(line: &CertLine) -> [u64; 6] {
+    match line {
+        CertLine::Head {
+            version,
+            events,
+            activities,
+            ..
+        } => [*version, *events, *activities, 0, 0, 0],
+        CertLine::Segment {
+            upper,
+            lower,
+            cost,
+            slope,
+        } => [*upper, *lower, *cost, *slope, 0, 0],
+        CertLine::Event { time, moves, .. } => [*time, *moves as u64, 0, 0, 0, 0],
+        CertLine::Act {
+            duration,
+            flows,
+            ..
+        } => match flows.as_slice() {
+            [first, second] => [*duration, *first, *second, 0, 0, 0],
+            [first, second, third] => [*duration, *first, *second, *third, 0, 0],
+            _ => [*duration, 0, 0, 0, 0, 0],
+        },
+        _ => [0; 6],
+    }
+}
+
+/// The code that a line says, or none.
+fn code(line: &CertLine) -> Option<&[u8]> {
+    match line {
+        CertLine::Head { project, .. } => Some(project.bytes()),
+        CertLine::Step(code) | CertLine::Event { code, .. } | CertLine::Act { code, .. } => {
+            Some(code.bytes())
+        }
+        _ => None,
+    }
+}
+
+#[test]
+fn lines_are_read(rt: HostRuntime) -> Result<(), Fail> {
+    let cases: [(&[u8], Option<&[u8]>, [u64; 6]); 8] = [
+        (b"CERT 2 E1 3 4", Some(b"E1"), [2, 3, 4, 0, 0, 0]),
+        (b"NORMAL", None, [0; 6]),
+        (b"STEP A.9_z-", Some(b"A.9_z-"), [0; 6]),
+        (b"SEGMENT 9 7 45 3", None, [9, 7, 45, 3, 0, 0]),
+        (b"EVENT M 4 1", Some(b"M"), [4, 1, 0, 0, 0, 0]),
+        (b"ACT A 2 3 0", Some(b"A"), [2, 3, 0, 0, 0, 0]),
+        (
+            b"ACT B 5 5 10 999999999999999999",
+            Some(b"B"),
+            [5, 5, 10, 999_999_999_999_999_999, 0, 0],
+        ),
+        (b"END", None, [0; 6]),
+    ];
+    for (bytes, word, says) in cases {
+        let line = CertLine::read(bytes).ok_or("a line")?;
+        assert_eq!(rt; code(&line), word);
+        assert_eq!(rt; numbers(&line), says);
+    }
+    Ok(())
+}
+
+#[test]
+fn nothing_else_is_a_line(rt: HostRuntime) {
+    let cases: [(&[u8], bool); 20] = [
+        (b"", false),
+        (b"ACT A 4 3", false),
+        (b"ACT A 4 3 0", true),
+        (b"ACT A 4 1 2 3 4 5 6", true),
+        (b"ACT A 4 1 2 3 4 5 6 7", false),
+        (b"ACT  A 4 3 0", false),
+        (b"ACT A 04 3 0", false),
+        (b"ACT A 4 3 0 ", false),
+        (b"ACT A 4 3\t0", false),
+        (b"act A 4 3 0", false),
+        (b"EVENT M 4 0", true),
+        (b"EVENT M 4 2", false),
+        (b"EVENT M -4 1", false),
+        (b"CERT 1 E1 3 3", true),
+        (b"CERT 3 E1 3 3", false),
+        (b"SEGMENT 1000000000000000000 7 45 3", false),
+        (b"CLOSE", true),
+        (b"CLOSE ", false),
+        (b"END\r", false),
+        (b"STEP A B", false),
+    ];
+    for (bytes, is) in cases {
+        assert_eq!(rt; CertLine::read(bytes).is_some(), is);
+    }
+}
+
+#[test]
+fn a_line_ends_at_its_first_end(rt: HostRuntime) {
+    let mut text = [b'x'; 100];
+    assert_eq!(rt; line_len(&text), 100);
+    text[99] = b'\n';
+    assert_eq!(rt; line_len(&text), 99);
+    text[35] = b'\n';
+    assert_eq!(rt; line_len(&text), 35);
+    text[0] = b'\n';
+    assert_eq!(rt; line_len(&text), 0);
+    assert_eq!(rt; line_len(b""), 0);
+}
+
+// A line behind those before it, and whether it may stand there.
+const LINES: [(&[u8], bool); 17] = [
+    (b"NORMAL", false),
+    (b"CERT 1 E 2 1", true),
+    (b"NORMAL", true),
+    (b"STEP A", true),
+    (b"SEGMENT 4 4 1 0", false),
+    (b"CRASH", true),
+    (b"STEP A", true),
+    (b"SEGMENT 4 4 1 0", true),
+    (b"ACT A 4 0 0", false),
+    (b"EVENT S 0 0", true),
+    (b"EVENT T 4 0", true),
+    (b"CLOSE", false),
+    (b"ACT A 4 0 0 0", false),
+    (b"ACT A 4 0 0", true),
+    (b"CLOSE", true),
+    (b"END", true),
+    (b"END", false),
+];
+
+#[test]
+fn lines_come_in_order(rt: HostRuntime) -> Result<(), Fail> {
+    let mut place = Place::Start;
+    for (bytes, may) in LINES {
+        let line = CertLine::read(bytes).ok_or("a line")?;
+        let next = place.next(&line);
+        assert_eq!(rt; next.is_some(), may);
+        if let Some(behind) = next {
+            place = behind;
+        }
+    }
+    assert!(rt; matches!(place, Place::Ended));
+    Ok(())
+}

@@ -1,0 +1,129 @@
+//! The certificate of three activities, cut into pieces in several ways, and others that are malformed.
+ghost use Rattle.std.specs.Prelude.{◌≤◌};
+
+use pc_cert::{CertLine, CertReader, Fed, KnownLine, KnownLines, LineText, Place};
+use std::alloc::{AllocError, Global};
+use std::test::Fail;
+
+const HEAD: &[u8] = b"CERT 1 E1 3 3\nNORMAL\nSTEP A\nSTEP B\nCRASH\nSTEP A\nSTEP B\n";
+
+const FIRST: &[u8] = b"SEGMENT 9 7 45 3\nEVENT S 0 0\nEVENT M 4 1\nEVENT T 9 1\n\
+ACT A 4 3 0\nACT B 5 3 0\nACT C 7 0 0\nCLOSE\n";
+
+const SECOND: &[u8] = b"SEGMENT 7 5 51 7\nEVENT S 0 0\nEVENT M 2 0\nEVENT T 7 1\n\
+ACT A 2 3 2\nACT B 5 5 0\nACT C 7 2 0\nCLOSE\n";
+
+// The text of these parts.
+pub(crate) fn joined(alloc: Global, parts: &[&[u8]]) -> Result<Vec<u8>, AllocError> {
+    let mut text = Vec::new(alloc);
+    for part in parts {
+        text.extend_from_slice(part)?;
+    }
+    Ok(text)
+}
+
+// How many lines a text gives that comes in pulls of so many bytes, and which one is malformed or missing; 0 for none. The
+// lines are read through what is known of those one round before.
+fn read(text: &[u8], pull: usize, known: &mut KnownLines) -> [u64; 2]
+    requires { pull ≤ 4096 }
+{
+    let mut reader = CertReader::begin();
+    let mut at = 0usize;
+    let mut left = pull;
+    let mut lines = 0u64;
+    for _ in 0..1000u64 {
+        if at == text.len() {
+            break;
+        }
+        let size = left.min(text.len() - at);
+        match reader.feed_known(&text[at..at + size], known.here()) {
+            Err(malformed) => return [lines, malformed.line],
+            Ok(used) => {
+                at += used;
+                left -= used;
+                if left == 0 {
+                    left = pull;
+                }
+                if known.here().line().is_some() {
+                    known.go_on();
+                    lines = lines.saturating_add(1);
+                }
+            }
+        }
+    }
+    match reader.finish() {
+        Ok(()) => [lines, 0],
+        Err(malformed) => [lines, malformed.line],
+    }
+}
+
+// The second segment with a line of an event that is spelled wrongly, though it begins as that of the first does.
+const PADDED: &[u8] = b"SEGMENT 7 5 51 7\nEVENT S 0 0\nEVENT M 02 0\nEVENT T 7 1\n";
+
+const OPEN: &[u8] = b"SEGMENT 7 5 51 7\nEVENT S 0 0\nEVENT M 2 00\nEVENT T 7 1\n";
+
+// The parts of a text, how many lines it gives, and which one is malformed or missing.
+const TEXTS: [(&[&[u8]], [u64; 2]); 10] = [
+    (&[HEAD, FIRST, SECOND, b"END\n"], [24, 0]),
+    (&[HEAD, FIRST, b"END\n"], [16, 0]),
+    (&[HEAD, FIRST, SECOND], [23, 24]),
+    (&[HEAD, FIRST, SECOND, b"EN"], [23, 24]),
+    (&[HEAD, FIRST, SECOND, b"END\nx"], [24, 25]),
+    (&[HEAD, FIRST, SECOND, b"\nEND\n"], [23, 24]),
+    (&[HEAD, FIRST, PADDED], [17, 18]),
+    (&[HEAD, FIRST, OPEN], [17, 18]),
+    (&[HEAD, b"EVENT S 0 0\n"], [7, 8]),
+    (&[b"CERT 1 E1 03 3\n"], [0, 1]),
+];
+
+#[test]
+fn texts_come_in_pulls(rt: HostRuntime) -> Result<(), Fail> {
+    for pull in [1, 2, 7, 4096] {
+        for (parts, found) in TEXTS {
+            let text = joined(rt.alloc(), parts)?;
+            let mut known = KnownLines::begin(rt.alloc(), 8)?;
+            assert_eq!(rt; read(&text, pull, &mut known), found);
+        }
+    }
+    Ok(())
+}
+
+#[test]
+fn a_known_line_is_read_again(rt: HostRuntime) {
+    let mut known = KnownLine::new();
+    for (bytes, is) in [
+        (b"CLOSE".as_slice(), true),
+        (b"CLOSE", true),
+        (b"CLOSF", false),
+        (b"CLOSF", false),
+        (b"END", true),
+    ] {
+        assert_eq!(rt; known.read(bytes).is_some(), is);
+    }
+}
+
+#[test]
+fn a_line_is_told_by_its_bytes(rt: HostRuntime) {
+    let mut known = KnownLine::new();
+    assert!(rt; known.read(b"ACT A 4 3 0").is_some());
+    let text = known.text();
+    assert_eq!(rt; text.again(b"ACT A 4 3 0\nACT B 5 3 0\n"), 12);
+    assert_eq!(rt; text.again(b"ACT A 4 3 01\nACT B 5 3 0\n"), 0);
+    assert_eq!(rt; LineText::new().again(b"CLOSE\n"), 0);
+}
+
+#[test]
+fn a_reader_is_fed(rt: HostRuntime) {
+    let mut reader = CertReader::begin();
+    let fed = reader.feed(b"CERT 1 E1 3 3\nNORMAL\n");
+    assert!(rt;
+        matches!(
+            fed,
+            Ok(Fed {
+                used: 14,
+                line: Some(CertLine::Head { version: 1, .. })
+            })
+        )
+    );
+    assert!(rt; matches!(reader.place(), Place::AfterHead(_)));
+}

@@ -1,0 +1,202 @@
+//! The conditions of a certificate on an activity's gaps and flows, on three activities: the first has knees at 4, of a rise of
+//! 3, and at 2, of a rise of 5.
+ghost use Rattle.std.specs.Prelude.{◌≡◌, length, IfSome};
+
+use crate::cert_reader::joined;
+use pc_check::{Verdict, audit_source};
+use pc_crash::{CrashNet, PieceRow, Term};
+use pc_edges::MemSource;
+use pc_model::Arc;
+use pc_net::Net;
+use pc_text::Code;
+use std::alloc::Global;
+
+const TERMS: [Term; 3] = [
+    Term {
+        normal: 4,
+        crash: 1,
+        cost: 10,
+        slope: 3,
+    },
+    Term {
+        normal: 5,
+        crash: 2,
+        cost: 20,
+        slope: 9,
+    },
+    Term {
+        normal: 12,
+        crash: 3,
+        cost: 30,
+        slope: 2,
+    },
+];
+
+const PIECES: [PieceRow; 1] = [PieceRow {
+    activity: 0,
+    units: 1,
+    slope: 8,
+}];
+
+// The first two activities follow one another, and the third runs beside them.
+fn net(alloc: Global) -> Option<Net>
+    ensures events { IfSome result (λ net. net.events ≡ 3) }
+    ensures activities { IfSome result (λ net. length net.arcs ≡ 3) }
+{
+    let arcs = [
+        Arc { from: 0, to: 1 },
+        Arc { from: 1, to: 2 },
+        Arc { from: 0, to: 2 },
+    ];
+    Net::build(alloc, 3, 0, 2, &arcs).ok()
+}
+
+fn priced<'n>(alloc: Global, net: &'n Net) -> Option<CrashNet<'n>>
+    requires events { net.now.events ≡ 3 }
+    requires activities { length net.now.arcs ≡ 3 }
+{
+    let (a, b, c) = (Code::read(b"A")?, Code::read(b"B")?, Code::read(b"C")?);
+    CrashNet::build(alloc, net, &TERMS, &PIECES, a, &[a, b, c], &[a, b, c]).ok()
+}
+
+// The first line of the text that fails and why, or 0 and how many segments are certified.
+fn audited(alloc: Global, net: &CrashNet<'_>, text: &[u8]) -> Option<(u64, u64)> {
+    let mut source = MemSource::new(alloc, text, 4096, &[]).ok()?;
+    match audit_source(alloc, net, &mut source).ok()? {
+        Verdict::Yes { segments } => Some((0, segments)),
+        Verdict::No { line, reason } => Some((line, u64::from(reason))),
+    }
+}
+
+// What is found of the text of these parts.
+fn found(alloc: Global, parts: &[&[u8]]) -> Option<(u64, u64)> {
+    let net = net(alloc)?;
+    let priced = priced(alloc, &net)?;
+    let text = joined(alloc, parts).ok()?;
+    audited(alloc, &priced, &text)
+}
+
+// The lines up to the second segment.
+const BEGUN: &[u8] =
+    b"CERT 2 A 3 3\nNORMAL\nSTEP C\nCRASH\nSTEP C\nSEGMENT 12 9 60 2\nEVENT A 0 0\nEVENT B 4 0\nEVENT C 12 1\n\
+ACT A 4 0 0 0\nACT B 5 0 0\nACT C 12 2 0\nCLOSE\n";
+
+// The second segment up to the line of the first activity, where its gap is 3, 4, 2 and 1 units.
+const GAPS: [&[u8]; 4] = [
+    b"SEGMENT 9 8 0 0\nEVENT A 0 0\nEVENT B 3 0\nEVENT C 9 1\nACT A 3 ",
+    b"SEGMENT 9 8 0 0\nEVENT A 0 0\nEVENT B 4 0\nEVENT C 9 1\nACT A 4 ",
+    b"SEGMENT 9 8 0 0\nEVENT A 0 0\nEVENT B 2 0\nEVENT C 9 1\nACT A 2 ",
+    b"SEGMENT 9 8 0 0\nEVENT A 0 0\nEVENT B 1 0\nEVENT C 9 1\nACT A 1 ",
+];
+
+// The flows of the first activity, and why its line fails at these gaps; 0 where it doesn't, and the next line is missing.
+const FLOWS: [(&[u8], [u64; 4]); 6] = [
+    (b"3 0 0\n", [0, 0, 0, 11]),
+    (b"1 0 0\n", [11, 0, 11, 11]),
+    (b"3 5 0\n", [11, 11, 0, 0]),
+    (b"3 5 9\n", [11, 11, 11, 0]),
+    (b"0 0 0\n", [11, 0, 11, 11]),
+    // above its rise
+    (b"4 0 0\n", [8, 8, 8, 8]),
+];
+
+#[test]
+fn flows_of_an_activity(rt: HostRuntime) {
+    for (flows, reasons) in FLOWS {
+        for g in 0..4 {
+            let at = if reasons[g] == 0 { 19 } else { 18 };
+            let seen = found(rt.alloc(), &[BEGUN, GAPS[g], flows]);
+            assert_eq!(rt; seen, Some((at, reasons[g])));
+        }
+    }
+}
+
+// The lines up to the first segment, and that of an only length.
+const HEAD: &[u8] = b"CERT 2 A 3 3\nNORMAL\nSTEP C\nCRASH\nSTEP C\n";
+
+const ONE: &[u8] = b"SEGMENT 12 12 60 0\nEVENT A 0 0\nEVENT B 4 0\nEVENT C 12 0\n";
+
+// The second segment, in which the first activity is shortened from 4 to 2, the third, in which it is to 1, and the fourth.
+const SECOND: &[u8] =
+    b"SEGMENT 9 7 66 5\nEVENT A 0 0\nEVENT B 4 1\nEVENT C 9 1\nACT A 4 3 0 0\nACT B 5 3 0\nACT C 9 2 0\nCLOSE\n";
+
+const THIRD: &[u8] =
+    b"SEGMENT 7 6 76 10\nEVENT A 0 0\nEVENT B 2 1\nEVENT C 7 1\nACT A 2 3 5 0\nACT B 5 8 0\nACT C 7 2 0\nCLOSE\n";
+
+const FOURTH: &[u8] =
+    b"SEGMENT 6 3 86 11\nEVENT A 0 0\nEVENT B 1 0\nEVENT C 6 1\nACT A 1 3 5 1\nACT B 5 9 0\nACT C 6 2 0\nCLOSE\n";
+
+// The parts of a text, and the first line that fails and why; where nothing else does, the line behind the last is missing.
+const TEXTS: [(&[&[u8]], (u64, u64)); 12] = [
+    (&[BEGUN, SECOND, THIRD, FOURTH, b"END\n"], (0, 4)),
+    // it stops where its gap at the lower end is crash, or at a knee that it comes to: from 4 to 2, from 2 to 1 and from 5 to 4, but
+    // not from 4 to 3 nor from 6 to 5
+    (&[BEGUN, SECOND], (22, 0)),
+    (&[BEGUN, SECOND, THIRD], (30, 0)),
+    (
+        &[
+            HEAD,
+            b"SEGMENT 12 11 60 2\nEVENT A 0 0\nEVENT B 5 1\nEVENT C 12 1\nACT A 4 0 0 0\nACT B 5 0 0\nACT C 12 2 0\nCLOSE\n",
+        ],
+        (14, 0),
+    ),
+    (
+        &[
+            BEGUN,
+            b"SEGMENT 9 8 66 5\nEVENT A 0 0\nEVENT B 4 1\nEVENT C 9 1\nACT A 4 3 0 0\nACT B 5 3 0\nACT C 9 2 0\nCLOSE\n",
+        ],
+        (21, 14),
+    ),
+    (
+        &[
+            HEAD,
+            b"SEGMENT 12 11 60 2\nEVENT A 0 0\nEVENT B 6 1\nEVENT C 12 1\nACT A 4 0 0 0\nACT B 5 0 0\nACT C 12 2 0\nCLOSE\n",
+        ],
+        (13, 14),
+    ),
+    // the second activity has a gap of 1, and the first one of 0
+    (
+        &[
+            BEGUN,
+            b"SEGMENT 9 8 0 0\nEVENT A 0 0\nEVENT B 8 0\nEVENT C 9 1\nACT A 4 0 0 0\nACT B 1 9 0\n",
+        ],
+        (19, 6),
+    ),
+    (
+        &[
+            BEGUN,
+            b"SEGMENT 9 8 0 0\nEVENT A 0 0\nEVENT B 0 0\nEVENT C 9 1\nACT A 0 3 5 0\n",
+        ],
+        (18, 6),
+    ),
+    // the flows of the first activity are summed
+    (
+        &[
+            BEGUN,
+            SECOND,
+            THIRD,
+            b"SEGMENT 6 3 86 11\nEVENT A 0 0\nEVENT B 1 0\nEVENT C 6 1\nACT A 1 3 5 2\nACT B 5 9 0\nACT C 6 2 0\nCLOSE\n",
+        ],
+        (37, 9),
+    ),
+    (
+        &[
+            BEGUN,
+            SECOND,
+            THIRD,
+            b"SEGMENT 6 3 86 11\nEVENT A 0 0\nEVENT B 1 0\nEVENT C 6 1\nACT A 1 3 5 999999999999999999\nACT B 5 9 0\nACT C 6 2 0\nCLOSE\n",
+        ],
+        (37, 9),
+    ),
+    // nothing flows in a segment of one length
+    (&[HEAD, ONE, b"ACT A 4 0 0 0\n"], (11, 0)),
+    (&[HEAD, ONE, b"ACT A 4 1 0 0\n"], (10, 15)),
+];
+
+#[test]
+fn gaps_of_an_activity(rt: HostRuntime) {
+    for (parts, want) in TEXTS {
+        let seen = found(rt.alloc(), parts);
+        assert_eq!(rt; seen, Some(want));
+    }
+}

@@ -1,3 +1,0 @@
-pub mod inside
-pub use Rattle.pc_edges.specs.Faults
-pub use Rattle.pc_edges.specs.Writes

@@ -1,0 +1,20 @@
+-- What a session means and leaves behind, by its status.
+-- Here is what no clause of a top call and no law reaches.
+use Rattle.std.specs.Prelude.{List, String}
+use Rattle.std.specs.declared.alloc.Global.{Global}
+use Rattle.pc_reading.specs.declared.status.Status.{Status}
+use Rattle.pc_reading.specs.declared.status.Status.TheVariants.{Done, Refused, Usage, OutOfMemory, ReadFault, WriteFault, TooLong}
+use Rattle.pc_reading.specs.Sides.{Side, IsUntouched, Took}
+use Rattle.pc_reading.specs.OneWord.{IsDeckRefused, IsOneWord}
+use Rattle.pc_whatif.specs.Heard.{session_usage_text, Meaning, IsHeardOut, IsHeardTooLong}
+use Rattle.pc_whatif.specs.SessionOutcome.{IsUnread, IsSessionCut}
+
+-- what a session that ended with the status means and leaves behind
+pub data SessionOutcome {D C O E : Type 0} (means : Meaning) (words : List (String Global)) (deck : Side D) (edits : Side C) (out : Side O) (err : Side E) : Status → Type 0 where
+  heard_out : IsOneWord words → IsHeardOut means deck edits out → IsUntouched err → SessionOutcome means words deck edits out err Done
+  too_long : IsOneWord words → IsHeardTooLong means deck edits out → IsUntouched err → SessionOutcome means words deck edits out err TooLong
+  deck_refused : IsDeckRefused words deck err → IsUntouched edits → IsUntouched out → SessionOutcome means words deck edits out err Refused
+  usage : (IsOneWord words → ⊥) → Took err session_usage_text → IsUntouched deck → IsUntouched edits → IsUntouched out → SessionOutcome means words deck edits out err Usage
+  no_memory : IsOneWord words → IsUntouched edits → IsUntouched out → IsUntouched err → SessionOutcome means words deck edits out err OutOfMemory
+  read_fault : IsOneWord words → IsUnread means deck edits out → IsUntouched err → SessionOutcome means words deck edits out err ReadFault
+  write_fault : IsSessionCut means words deck edits out err → SessionOutcome means words deck edits out err WriteFault

@@ -1,0 +1,149 @@
+//! The top call of the program that answers what-if lines.
+ghost use Rattle.std.specs.Prelude.{◌≡◌, ◌≢◌, ℕ, List, ◌+◌, ◌<◌, ◌≤◌, ◌⊎◌, length, IfSome};
+ghost use Rattle.pc_deck.specs.Limits.{longest_deck};
+ghost use Rattle.pc_edges.specs.Pulls.{TakesPulls};
+ghost use Rattle.pc_edges.specs.declared.loading.TheConstants.{STREAM_ROOM};
+ghost use Rattle.pc_lines.specs.declared.reader.TheConstants.{INPUT_LIMIT};
+ghost use Rattle.pc_reading.specs.OneWord.{IsDeckRefused, IsOneWord};
+ghost use Rattle.pc_reading.specs.Sides.{side, HadNoFault, IsReadToEnd, OfBytes, OfDeck, Took, TookAtMost};
+ghost use Rattle.pc_reading.specs.Verdict.{AcceptedBy, RefusedBy};
+ghost use Rattle.pc_whatif.specs.Heard.{session_usage_text, IsHeardOut, IsHeardTooLong};
+ghost use Rattle.pc_whatif.specs.inside.Hearing.{Hearing, status_of};
+ghost use Rattle.pc_whatif.specs.SessionOutcome.{IsSessionCut, IsUnread};
+ghost use Rattle.pc_whatif.specs.inside.SessionOutcome.{SessionOutcome};
+ghost use Rattle.pc_whatif.specs.Planning.{AnswersLines};
+
+use crate::session::Session;
+use pc_edges::{Sink, Source};
+use pc_lines::{LineReader, TalkError, talk};
+use pc_project::Project;
+use pc_reading::{Status, project_named};
+use std::alloc::Global;
+
+/// The line that says which words are asked for.
+const USAGE: &[u8] = b"usage: pert_whatif DECK\n";
+
+/// Reads a deck from `deck`, and answers the lines of `edits` on its project, each on `out` before more is pulled; or says on `err` why
+/// there is no project.
+///
+/// There is one word, the deck's name. The words come first, then the whole deck, then its faults, then all memory, and then the lines,
+/// to their end. The answer of the call is the status with which the program ends.
+pub fn session_run<D: Source, C: Source, O: Sink, E: Sink>(
+    alloc: Global,
+    words: &[String],
+    deck: &mut D,
+    edits: &mut C,
+    out: &mut O,
+    err: &mut E,
+) -> u8
+    ensures statuses { (result ≤ 5) ⊎ (result ≡ 8) }
+
+    // 0: the deck is accepted, the edits were read to their end, and `out` took the answers to all their lines, each by the project that
+    // the lines before it leave
+    ensures heard { result ≡ 0 → IsHeardOut AnswersLines (side D.left D.faults deck.old deck.new)
+        (side C.left C.faults edits.old edits.new) (side O.taken O.faults out.old out.new) }
+    ensures heard_only { result ≡ 0 → err.new ≡ err.old }
+
+    // 8: the deck is accepted, more was taken of the edits than they may have, and `out` took the answers to the whole lines within that
+    ensures too_long { result ≡ 8 → IsHeardTooLong AnswersLines (side D.left D.faults deck.old deck.new)
+        (side C.left C.faults edits.old edits.new) (side O.taken O.faults out.old out.new) }
+    ensures too_long_only { result ≡ 8 → err.new ≡ err.old }
+
+    // 1: the deck is refused, and `err` took the line of its fault. Of the edits nothing was read.
+    ensures refused { result ≡ 1 → IsDeckRefused words.now (side D.left D.faults deck.old deck.new) (side E.taken E.faults err.old err.new) }
+    ensures refused_read { result ≡ 1 → OfDeck (side D.left D.faults deck.old deck.new)
+        (λ bytes. length bytes ≤ longest_deck → IsReadToEnd (side D.left D.faults deck.old deck.new)) }
+    ensures refused_only { result ≡ 1 → (edits.new ≡ edits.old) × (out.new ≡ out.old) }
+
+    // 2: there is not one word, and `err` took the usage line. Nothing was read.
+    ensures not_one_word { result ≡ 2 → IsOneWord words.now → ⊥ }
+    ensures usage { result ≡ 2 → Took (side E.taken E.faults err.old err.new) session_usage_text }
+    ensures usage_unread { result ≡ 2 → (deck.new ≡ deck.old) × (edits.new ≡ edits.old) }
+    ensures usage_only { result ≡ 2 → out.new ≡ out.old }
+
+    // 3: memory ran out, before anything of the edits was read and before anything was written.
+    ensures no_memory { result ≡ 3 → (edits.new ≡ edits.old) × (out.new ≡ out.old) × (err.new ≡ err.old) }
+
+    // 4: the deck could not be read; or the edits, whose whole lines before that were answered
+    ensures read_fault { result ≡ 4 → IsUnread AnswersLines (side D.left D.faults deck.old deck.new)
+        (side C.left C.faults edits.old edits.new) (side O.taken O.faults out.old out.new) }
+    ensures read_fault_only { result ≡ 4 → err.new ≡ err.old }
+
+    // 5: a fault of `out` or `err` came in the answers, the line of a fault or the usage line.
+    ensures write_fault { result ≡ 5 → IsSessionCut AnswersLines words.now (side D.left D.faults deck.old deck.new)
+        (side C.left C.faults edits.old edits.new) (side O.taken O.faults out.old out.new) (side E.taken E.faults err.old err.new) }
+
+    // Each status but 2 and 5 comes only where there is one word.
+    ensures one_word { result ≢ 2 → result ≢ 5 → IsOneWord words.now }
+
+    // A deck that is not refused is accepted, as far as it could be read and but for want of memory.
+    ensures acceptance { IsOneWord words.now → HadNoFault (side D.left D.faults deck.old deck.new)
+        → OfDeck (side D.left D.faults deck.old deck.new) (λ bytes. (RefusedBy bytes → ⊥) → AcceptedBy bytes ⊎ (result ≡ 3)) }
+
+    // No deck is both accepted and refused.
+    ensures one_verdict { (bytes : List ℕ) → AcceptedBy bytes → RefusedBy bytes → ⊥ }
+
+    // Where no fault came, the words and the deck decide, but for want of memory and for the length of the edits.
+    ensures words_refused { (IsOneWord words.now → ⊥) → HadNoFault (side E.taken E.faults err.old err.new) → result ≡ 2 }
+    ensures deck_refused { IsOneWord words.now → OfDeck (side D.left D.faults deck.old deck.new) (λ bytes. RefusedBy bytes
+        → HadNoFault (side D.left D.faults deck.old deck.new)
+        → HadNoFault (side E.taken E.faults err.old err.new) → (result ≡ 1) ⊎ (result ≡ 3)) }
+    ensures deck_accepted { IsOneWord words.now → OfDeck (side D.left D.faults deck.old deck.new) (λ bytes. AcceptedBy bytes
+        → HadNoFault (side D.left D.faults deck.old deck.new) → HadNoFault (side C.left C.faults edits.old edits.new)
+        → HadNoFault (side O.taken O.faults out.old out.new) → (result ≡ 0) ⊎ ((result ≡ 3) ⊎ (result ≡ 8))) }
+
+    // Where more is taken of the edits than they may have, and no fault of `out` came, that is the answer.
+    ensures long_edits { HadNoFault (side O.taken O.faults out.old out.new) → OfBytes (side C.left C.faults edits.old edits.new)
+        (λ before. IfSome (C.left edits.new) (λ after. INPUT_LIMIT + length after < length before → result ≡ 8)) }
+
+    // However long the deck is, no more pulls and hardly more bytes than those of the longest deck are taken of it.
+    ensures deck_turns { TakesPulls (longest_deck + 2) (D.pulls deck.old) (D.pulls deck.new) }
+    ensures deck_near { TookAtMost (longest_deck + STREAM_ROOM) (side D.left D.faults deck.old deck.new) }
+{
+    session_outcome(alloc, words, deck, edits, out, err).code()
+}
+
+/// Answers the lines of edits of a deck, and answers how that ended.
+fn session_outcome<D: Source, C: Source, O: Sink, E: Sink>(
+    alloc: Global,
+    words: &[String],
+    deck: &mut D,
+    edits: &mut C,
+    out: &mut O,
+    err: &mut E,
+) -> Status
+    ensures outcome { SessionOutcome AnswersLines words.now (side D.left D.faults deck.old deck.new) (side C.left C.faults edits.old edits.new)
+        (side O.taken O.faults out.old out.new) (side E.taken E.faults err.old err.new) result }
+    ensures deck_turns { TakesPulls (longest_deck + 2) (D.pulls deck.old) (D.pulls deck.new) }
+    ensures deck_near { TookAtMost (longest_deck + STREAM_ROOM) (side D.left D.faults deck.old deck.new) }
+{
+    match project_named(alloc, words, USAGE, deck, err) {
+        Ok(project) => hear(alloc, &project, edits, out),
+        Err(status) => status,
+    }
+}
+
+/// Answers the lines of edits of the project, with all memory taken before the first is read.
+fn hear<C: Source, O: Sink>(alloc: Global, project: &Project, edits: &mut C, out: &mut O) -> Status
+    ensures { Hearing (AnswersLines project.now) (side C.left C.faults edits.old edits.new) (side O.taken O.faults out.old out.new) result }
+{
+    let Ok(mut session) = Session::begin(alloc, project) else {
+        return Status::OutOfMemory;
+    };
+    let Ok(reader) = LineReader::begin(alloc) else {
+        return Status::OutOfMemory;
+    };
+    status_of(talk(reader, &mut session, edits, out))
+}
+
+/// The status of a talk that ended so.
+fn status_of(ended: Result<(), TalkError>) -> Status
+    ensures { result ≡ status_of ended }
+{
+    match ended {
+        Ok(()) => Status::Done,
+        Err(TalkError::ReadFault) => Status::ReadFault,
+        Err(TalkError::WriteFault) => Status::WriteFault,
+        Err(TalkError::TooLong) => Status::TooLong,
+    }
+}
