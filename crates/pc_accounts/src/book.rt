@@ -17,7 +17,7 @@ use std::alloc::{AllocError, Global};
 use std::marker::Model;
 
 /// What each account has spent up to as-of and what is to go, in card order.
-#[derive(Debug, Drop)]
+#[derive(Drop)]
 pub struct Book {
     entries: Vec<Entry>,
 }

@@ -5,7 +5,7 @@ ghost use Rattle.pc_accounts.specs.Entries.{latest_of, value_of, IsSmall};
 ghost use Rattle.pc_accounts.specs.inside.Entries.{IsShare};
 
 /// An account's budget, the sum of its charges up to as-of, and what is still to go.
-#[derive(Clone, Copy, Debug, PartialEq, Eq)]
+#[derive(Clone, Copy)]
 pub struct Entry {
     pub budget: u64,
     pub actual: u64,

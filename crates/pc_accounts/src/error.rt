@@ -4,7 +4,7 @@ ghost use Rattle.std.specs.Prelude.{◌≡◌};
 use std::alloc::{AllocError, AllocFailed};
 
 /// Why no book is made.
-#[derive(Clone, Copy, Debug, PartialEq, Eq)]
+#[derive(Clone, Copy, Debug)]
 pub enum BookError {
     /// The first amount to go that has the account and the day of an earlier one, and the earliest such one.
     SecondToGo { first: u32, second: u32 },

@@ -3,14 +3,14 @@
 use pc_days::Day;
 
 /// A cost account: the item that it stands on, and its budget.
-#[derive(Clone, Copy, Debug, PartialEq, Eq)]
+#[derive(Clone, Copy)]
 pub struct AcctRow {
     pub item: u32,
     pub budget: u64,
 }
 
 /// An amount of money of an account, with its date: a charge, or what was to go on that day.
-#[derive(Clone, Copy, Debug, PartialEq, Eq)]
+#[derive(Clone, Copy)]
 pub struct MoneyRow {
     pub account: u32,
     pub day: Day,
@@ -18,7 +18,7 @@ pub struct MoneyRow {
 }
 
 /// An activity's cost at its normal duration, and the item that it belongs to.
-#[derive(Clone, Copy, Debug, PartialEq, Eq)]
+#[derive(Clone, Copy)]
 pub struct WorkRow {
     pub item: u32,
     pub cost: u64,

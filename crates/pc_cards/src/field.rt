@@ -13,7 +13,7 @@ use pc_records::Row;
 use pc_text::{Code, Title, is_title_shape, read_number};
 
 /// What is wrong with a field.
-#[derive(Clone, Copy, Debug, PartialEq, Eq)]
+#[derive(Clone, Copy)]
 pub enum Flaw {
     /// It has not the shape of what it must be.
     Shape,
@@ -34,7 +34,7 @@ impl Flaw {
 }
 
 /// A field that is not what it must be: its number, the kind being field 1, and what is wrong with it.
-#[derive(Clone, Copy, Debug, PartialEq, Eq)]
+#[derive(Clone, Copy)]
 pub struct Misfit {
     pub number: u8,
     pub flaw: Flaw,

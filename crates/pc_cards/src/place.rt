@@ -7,7 +7,7 @@ use pc_faults::{Fault, Kind};
 
 /// Where a card stands: the sort of its deck, its kind and record, how many cards of its kind the deck may have, and whether
 /// the END card came before it.
-#[derive(Clone, Copy, Debug)]
+#[derive(Clone, Copy)]
 pub struct Place {
     pub sort: Sort,
     pub kind: Kind,

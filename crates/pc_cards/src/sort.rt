@@ -1,7 +1,7 @@
 //! The sorts of decks.
 
 /// What a deck is a deck of.
-#[derive(Clone, Copy, Debug, PartialEq, Eq)]
+#[derive(Clone, Copy)]
 pub enum Sort {
     /// A plan: events, and activities from one to another.
     Plan,

@@ -13,7 +13,7 @@ use pc_text::Code;
 pub const EVENT_NAMED: usize = 6;
 
 /// What the line of an event says of it, and how many bytes the line and its end are.
-#[derive(Clone, Copy, Debug)]
+#[derive(Clone, Copy)]
 pub struct EventSaid {
     pub time: u64,
     pub moves: bool,

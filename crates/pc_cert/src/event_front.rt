@@ -10,7 +10,7 @@ use pc_text::Code;
 /// How each line of an event begins: its word, a space and the code.
 ///
 /// So its lines are told by one comparison, and of each only the time and the bit are read.
-#[derive(Clone, Copy, Debug)]
+#[derive(Clone, Copy)]
 pub struct EventFront {
     pub(crate) code: Code,
     pub(crate) cells: [u8; WIDTH],

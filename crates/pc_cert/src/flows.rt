@@ -9,7 +9,7 @@ use std::marker::Model;
 pub const MAX_FLOWS: usize = 6;
 
 /// The flows of an activity: one for each of its knees, from the first on, and then the one beside them. At most six.
-#[derive(Clone, Copy, Debug)]
+#[derive(Clone, Copy)]
 pub struct Flows {
     cells: [u64; MAX_FLOWS],
     len: usize,

@@ -12,7 +12,7 @@ use pc_text::Code;
 pub const MAX_LINE: usize = 192;
 
 /// A line of a certificate, without its end.
-#[derive(Clone, Copy, Debug)]
+#[derive(Clone, Copy)]
 pub enum CertLine {
     /// `CERT <version> <project> <events> <activities>`
     Head {

@@ -11,7 +11,7 @@ pub(crate) const ROOM: usize = 64;
 /// The bytes of a line and its end, where they are kept.
 ///
 /// Whoever keeps them beside what was found of the line need not read it again where it comes again.
-#[derive(Clone, Copy, Debug)]
+#[derive(Clone, Copy)]
 pub struct LineText {
     /// the bytes, and how many these are: 0 where they are not kept
     pub(crate) cells: [u8; ROOM],

@@ -12,7 +12,7 @@ use crate::line::CertLine;
 use crate::line_text::LineText;
 
 /// What the first line says of the lines that follow: the version, and the numbers of events and of activities.
-#[derive(Clone, Copy, Debug)]
+#[derive(Clone, Copy)]
 pub struct Shape {
     pub version: u64,
     pub events: u64,
@@ -20,7 +20,7 @@ pub struct Shape {
 }
 
 /// Where in a certificate the next line stands.
-#[derive(Clone, Copy, Debug)]
+#[derive(Clone, Copy)]
 pub enum Place {
     /// at the beginning
     Start,

@@ -14,13 +14,13 @@ use crate::place::Place;
 use std::marker::Model;
 
 /// A line that may not stand where it does, or that is missing. Lines are counted from 1.
-#[derive(Clone, Copy, Debug, PartialEq, Eq)]
+#[derive(Clone, Copy, Debug)]
 pub struct Malformed {
     pub line: u64,
 }
 
 /// How many bytes of a piece were used, and the line that ended in them, if one did.
-#[derive(Clone, Copy, Debug)]
+#[derive(Clone, Copy)]
 pub struct Fed {
     pub used: usize,
     pub line: Option<CertLine>,

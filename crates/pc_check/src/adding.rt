@@ -96,7 +96,7 @@ fn renew(net: &CrashNet<'_>, tally: &mut Tally, passed: Passed)
 }
 
 /// What an activity adds to the cut.
-#[derive(Clone, Copy, Debug)]
+#[derive(Clone, Copy)]
 struct Cut {
     forward: u128,
     backward: u128,

@@ -14,7 +14,7 @@ use pc_cert::{CertReader, EventFront, Place, WIDTH};
 use pc_crash::CrashNet;
 
 /// What is asked of the network at each event: its start and its end.
-#[derive(Clone, Copy, Debug)]
+#[derive(Clone, Copy)]
 pub(crate) struct Ends {
     pub(crate) start: usize,
     pub(crate) end: usize,

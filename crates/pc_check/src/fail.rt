@@ -1,7 +1,7 @@
 //! What a checker answers.
 
 /// The first condition that fails: the line where it is reported, counted from 1, and its number, from 1 to 15.
-#[derive(Clone, Copy, Debug, PartialEq, Eq)]
+#[derive(Clone, Copy)]
 pub struct Fail {
     pub line: u64,
     pub reason: u8,

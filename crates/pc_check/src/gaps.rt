@@ -7,7 +7,7 @@ use crate::kept::{Tally, bit_at, number_at};
 use pc_crash::CrashNet;
 
 /// A gap is its head less its tail.
-#[derive(Clone, Copy, Debug)]
+#[derive(Clone, Copy)]
 pub struct Gap {
     pub(crate) head: u128,
     pub(crate) tail: u128,
@@ -15,7 +15,7 @@ pub struct Gap {
 
 /// An activity beside the cut: its gaps at the upper and at the lower end of the segment, and whether it leads from a
 /// resting to a moving event or the other way round.
-#[derive(Clone, Copy, Debug)]
+#[derive(Clone, Copy)]
 pub struct Crossing {
     pub(crate) upper: Gap,
     pub(crate) lower: Gap,

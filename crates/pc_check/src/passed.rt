@@ -17,7 +17,7 @@ use std::alloc::{AllocError, Global};
 /// What passed last of an activity: the bytes of its line, which are not kept where nothing has passed, its duration and its flows.
 ///
 /// The line passes again behind the first segment wherever the activity does not cross the cut and its gap is from `low` to `high`.
-#[derive(Clone, Copy, Debug)]
+#[derive(Clone, Copy)]
 pub struct Passed {
     pub(crate) text: LineText,
     pub(crate) duration: u64,
@@ -31,7 +31,7 @@ pub struct Passed {
 }
 
 /// Gaps from a least to a greatest one.
-#[derive(Clone, Copy, Debug)]
+#[derive(Clone, Copy)]
 pub struct Gaps {
     pub(crate) low: u64,
     pub(crate) high: u64,

@@ -19,7 +19,7 @@ use std::alloc::Global;
 use thiserror::Error;
 
 /// Why a source was not audited.
-#[derive(Clone, Copy, Debug, PartialEq, Eq, Hash, Error)]
+#[derive(Clone, Copy, Debug, Error)]
 pub enum AuditError {
     #[error("the certificate could not be read")]
     ReadFault,

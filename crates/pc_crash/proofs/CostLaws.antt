@@ -48,7 +48,7 @@ module _ (net : Network) (terms : List Term) (pieces : List PieceRow) (fit : Are
   own = pieces_of pieces a
 
   -- no unit of the activity costs more than the greatest slope
-  slope_in-most : (k : ℕ) → slope_in (term_at terms a) own k ≤ MAX_SLOPE
+  pub slope_in-most : (k : ℕ) → slope_in (term_at terms a) own k ≤ MAX_SLOPE
   slope_in-most zero = limits.gentle a inside
   slope_in-most (suc k) =
       elim (cases_lt k (length own)) [

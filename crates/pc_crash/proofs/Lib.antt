@@ -4,4 +4,5 @@ mod KneeListLaws
 mod LaidLaws
 mod MoveLaws
 pub mod CostLaws
+pub mod OwnPieceLaws
 mod InsideLaws

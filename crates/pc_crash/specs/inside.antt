@@ -5,5 +5,6 @@ pub mod Laid
 pub mod Moved
 pub mod Priced
 pub mod Looks
+pub mod OwnPieces
 pub mod CrashNets
 pub mod Steps

@@ -8,7 +8,7 @@ use std::marker::Model;
 /// The knees of one activity's cost, in units: its normal duration, and then where each of its pieces begins.
 ///
 /// A unit by which the activity is shortened below knee k costs as much as the rises of the knees 0 to k add up to.
-#[derive(Debug, Drop)]
+#[derive(Drop)]
 pub struct KneeList<'n> {
     list: &'n [Knee],
 }

@@ -14,7 +14,7 @@ use pc_net::Net;
 use std::alloc::{AllocError, Global};
 
 /// What is known of one activity. Its knees stand in the list of all of them, `count` from `first` on.
-#[derive(Clone, Copy, Debug)]
+#[derive(Clone, Copy)]
 pub(crate) struct Row {
     pub(crate) arc: Arc,
     pub(crate) term: Term,
@@ -88,7 +88,7 @@ fn push_knees(knees: &mut Vec<Knee>, term: Term, pieces: &[PieceRow]) -> Result<
 }
 
 /// The units of some pieces.
-fn units(pieces: &[PieceRow]) -> u64
+pub(crate) fn units(pieces: &[PieceRow]) -> u64
     requires { units_of pieces.now < 2 ^ 64 }
     ensures { result ≡ units_of pieces.now }
 {

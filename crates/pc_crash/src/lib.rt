@@ -10,6 +10,7 @@ mod grouping;
 mod knee_list;
 mod laying;
 mod looking;
+mod one_cost;
 mod scheduling;
 mod viewing;
 
@@ -18,5 +19,6 @@ pub use counting::Steps;
 pub use crash_net::CrashNet;
 pub use knee_list::KneeList;
 pub use looking::Look;
+pub use one_cost::cost_of_one;
 pub use pc_model::{Knee, PieceRow, Term};
 pub use viewing::SegmentView;

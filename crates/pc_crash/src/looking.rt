@@ -4,7 +4,7 @@ use crate::knee_list::KneeList;
 
 /// An activity's events, its durations in units, what the first unit by which it is shortened costs, and the knees of its
 /// cost.
-#[derive(Debug, Drop)]
+#[derive(Drop)]
 pub struct Look<'n> {
     pub from: u32,
     pub to: u32,

@@ -12,7 +12,7 @@ use pc_text::Code;
 pub const MAX_LINE: usize = 96;
 
 /// What a line asks.
-#[derive(Clone, Copy, Debug)]
+#[derive(Clone, Copy)]
 pub enum Ask {
     /// One of the four edits.
     Edit(Edit),
@@ -27,14 +27,14 @@ pub enum Ask {
 }
 
 /// An edit: other numbers for one activity.
-#[derive(Clone, Copy, Debug)]
+#[derive(Clone, Copy)]
 pub struct Edit {
     pub act: Code,
     pub change: Change,
 }
 
 /// Which numbers an edit gives an activity: estimates and durations in units, a slope in money for each unit.
-#[derive(Clone, Copy, Debug)]
+#[derive(Clone, Copy)]
 pub enum Change {
     /// `ESTIMATE <act> <opt> <likely> <pess>`
     Estimate(Estimates),
@@ -47,7 +47,7 @@ pub enum Change {
 }
 
 /// Three numbers that are tried for one activity, and the length of the project for which a least cost is asked.
-#[derive(Clone, Copy, Debug)]
+#[derive(Clone, Copy)]
 pub struct Trial {
     pub act: Code,
     pub normal: u64,

@@ -12,7 +12,7 @@ use pc_model::Term;
 /// The further pieces of an activity's cost: the slope of the first of them, and the units that they have together.
 ///
 /// They ask for a slope of the activity below the former, and for more units from normal to crash than the latter.
-#[derive(Clone, Copy, Debug)]
+#[derive(Clone, Copy)]
 pub(crate) struct Further {
     pub(crate) slope: u64,
     pub(crate) units: u64,

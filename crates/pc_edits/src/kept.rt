@@ -3,7 +3,7 @@
 use crate::ask::Change;
 
 /// A kept edit: the activity, and the numbers that it had before.
-#[derive(Clone, Copy, Debug)]
+#[derive(Clone, Copy)]
 pub(crate) struct Kept {
     pub(crate) activity: u32,
     pub(crate) was: Change,

@@ -3,7 +3,7 @@ ghost use Rattle.std.specs.Prelude.{◌≡◌, ◌≤◌};
 ghost use Rattle.pc_edits.specs.Reasons.{reason_number};
 
 /// Why a line is refused. Where several reasons hold, the one that stands first here is told.
-#[derive(Clone, Copy, Debug, PartialEq, Eq)]
+#[derive(Clone, Copy)]
 pub enum Reason {
     /// It has none of the forms, or is longer than `MAX_LINE` bytes.
     Form,

@@ -13,7 +13,7 @@ use crate::reason::Reason;
 use pc_model::Term;
 
 /// An activity, and a term for it.
-#[derive(Clone, Copy, Debug)]
+#[derive(Clone, Copy)]
 pub struct ActTerm {
     pub activity: u32,
     pub term: Term,

@@ -1,11 +1,13 @@
 //! The faults with which a deck is refused, and the line that tells each.
 //!
 //! A fault has a number, the record at which it comes, and what it names beside. [`Fault`] has a constructor for each
-//! number, and [`fault_line`] writes the line. Which fault a deck has is for the crates above to say.
+//! number, and [`fault_line`] writes the line. [`earliest`] tells which of two comes first; which faults a deck has is for the
+//! crates above to say.
 #![tactic(auto)]
 
 mod card_faults;
 mod fault;
+mod first;
 mod joined;
 mod kind;
 mod plan_faults;
@@ -15,6 +17,7 @@ mod tell;
 mod words;
 
 pub use crate::fault::{DeckError, Detail, Fault, NOT_UTF8, TOO_LONG};
+pub use crate::first::{earlier_of, earliest};
 pub use crate::kind::Kind;
 pub use crate::status::StatusFault;
 pub use crate::tell::fault_line;

@@ -12,13 +12,13 @@ use Rattle.pc_faults.specs.Faults.{not_a_leaf}
 use Rattle.pc_faults.specs.declared.fault.Fault.{Fault}
 use Rattle.pc_wbs.specs.Climb.{IsLeaf}
 use Rattle.pc_wbs.specs.declared.row.ItemRow.{ItemRow}
-use Rattle.pc_project.specs.inside.First.{IsFirstIn, earliest}
+use Rattle.pc_faults.specs.inside.First.{IsFirstIn, earliest}
 use Rattle.pc_project.specs.Misfit.{HasNoMisfit}
 use Rattle.pc_project.specs.PackageFaults.{HasLeafFault, HasNoLeafFault, StandsOnBranch, of_act, of_account}
 use Rattle.pc_project.specs.Project.{account_of, accounts_in, item_number, row_of, rows_of, work_of}
 use Rattle.pc_project.specs.inside.Project.{placement_of}
 use Rattle.pc_project.specs.declared.placed.Placement.{Placement}
-use Rattle.pc_project.proofs.FirstLaws.{earliest-first}
+use Rattle.pc_faults.proofs.FirstLaws.{earliest-first}
 use Rattle.pc_project.proofs.FitLaws.{Any-at, account_item-read, act_item-within}
 use Rattle.pc_project.proofs.LoopLaws.{IsFirstBefore, first_more, first_of_all}
 

@@ -2,8 +2,8 @@
 use Rattle.std.proofs.Common.{◌≡◌, ℕ, ◌+◌, ◌<◌, Option, None, inl, inr, ◌⊎◌, subst, arith}
 use Rattle.std.proofs.lemmas.Bool.{cases_lt}
 use Rattle.pc_faults.specs.declared.fault.Fault.{Fault}
-use Rattle.pc_project.specs.inside.First.{IsFirstIn, earliest}
-use Rattle.pc_project.proofs.FirstLaws.{earliest-first}
+use Rattle.pc_faults.specs.inside.First.{IsFirstIn, earliest}
+use Rattle.pc_faults.proofs.FirstLaws.{earliest-first}
 
 module _ (Has : ℕ → Fault → Type 0) where
   -- some number below n has the fault

@@ -12,10 +12,10 @@ use Rattle.pc_faults.specs.declared.status.StatusFault.TheVariants.{Second, Earl
 use Rattle.pc_status.specs.Statuses.{AreInOrder, HasReason, IsInOrder, IsReason, place_of}
 use Rattle.pc_status.specs.declared.row.StatusRow.{StatusRow}
 use Rattle.pc_project.specs.DisorderFaults.{HasDisorder, HasNoDisorder, HasStatusDisorder, IsEarlyAsOf, as_of_in, of_as_of, of_status}
-use Rattle.pc_project.specs.inside.First.{IsFirstIn, earliest}
+use Rattle.pc_faults.specs.inside.First.{IsFirstIn, earliest}
 use Rattle.pc_project.specs.Project.{as_of_day, statuses_in}
 use Rattle.pc_project.proofs.CardLaws.{no_later}
-use Rattle.pc_project.proofs.FirstLaws.{earliest-first}
+use Rattle.pc_faults.proofs.FirstLaws.{earliest-first}
 
 -- a status without a first reason has no reason
 module _ (start as_of : ℤ) (statuses : List StatusRow) (k : ℕ) (none : (reason : StatusFault) → IsReason start as_of statuses k reason → ⊥) where

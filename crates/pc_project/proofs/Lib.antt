@@ -1,7 +1,6 @@
 pub mod RefusalLaws
 pub mod AnyLaws
 pub mod CardLaws
-pub mod FirstLaws
 pub mod FitLaws
 pub mod LoopLaws
 pub mod MisfitLaws
@@ -16,6 +15,5 @@ mod BranchLaws
 mod DisorderLaws
 mod FigureLaws
 mod StateLaws
-mod OwnPieceLaws
 pub mod SoundLaws
 pub mod OneProjectLaws

@@ -4,9 +4,9 @@ use Rattle.std.specs.List.{Any}
 use Rattle.std.proofs.lemmas.List.{take_all, take_more, map_push}
 use Rattle.pc_faults.specs.First.{IsFirst}
 use Rattle.pc_faults.specs.declared.fault.Fault.{Fault}
-use Rattle.pc_project.specs.inside.First.{IsFirstIn, earliest}
+use Rattle.pc_faults.specs.inside.First.{IsFirstIn, earliest}
 use Rattle.pc_project.proofs.AnyLaws.{Any-kept, Any-here, Any-before, Any-none}
-use Rattle.pc_project.proofs.FirstLaws.{earliest-first}
+use Rattle.pc_faults.proofs.FirstLaws.{earliest-first}
 
 module _ {C : Type 0} (Has : C → Fault → Type 0) (cards : List C) where
   -- found is the first fault of the cards before place i

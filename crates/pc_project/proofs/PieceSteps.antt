@@ -16,7 +16,7 @@ use Rattle.pc_deck.proofs.NumberLemmas.{acts-within, pieces-within}
 use Rattle.pc_faults.specs.declared.kind.Kind.TheVariants.{Piece}
 use Rattle.pc_faults.specs.declared.fault.Fault.{Fault}
 use Rattle.pc_project.specs.declared.pieces.Run.{Run}
-use Rattle.pc_project.specs.inside.First.{IsFirstIn}
+use Rattle.pc_faults.specs.inside.First.{IsFirstIn}
 use Rattle.pc_project.specs.Misfit.{HasNoMisfit}
 use Rattle.pc_project.specs.PieceFaults.{HasFlaw, HasPieceFaultAt, pieces_before}
 use Rattle.pc_project.specs.Project.{piece_of, piece_codes, piece_records, pieces_in, term_of, terms_in}

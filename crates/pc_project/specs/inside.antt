@@ -1,9 +1,7 @@
 -- What contracts within and between crates speak of besides what the clauses of the top calls and the laws reach.
 pub mod Project
 pub mod Kept
-pub mod First
 pub mod Refusal
 pub mod Numbered
 pub mod Runs
-pub mod OwnPieces
 pub mod Parts

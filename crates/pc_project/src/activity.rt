@@ -3,7 +3,7 @@
 use pc_text::Code;
 
 /// An activity, with numbers for what its card names.
-#[derive(Clone, Copy, Debug)]
+#[derive(Clone, Copy)]
 pub struct Activity {
     pub code: Code,
     /// The event where it begins.

@@ -1,14 +1,13 @@
 //! The cards that give figures, looked up: accounts, charges, amounts to go and statuses.
 ghost use Rattle.std.specs.Prelude.{◌≡◌, IfOk, None};
-ghost use Rattle.pc_project.specs.inside.First.{IsFirstIn};
+ghost use Rattle.pc_faults.specs.inside.First.{IsFirstIn};
 ghost use Rattle.pc_project.specs.Misfit.{HasFigureFault};
 ghost use Rattle.pc_project.specs.inside.Numbered.{AreFiguresOf};
 
-use crate::first::earliest;
 use crate::refers::look_up_all;
 use pc_accounts::{AcctRow, MoneyRow};
 use pc_deck::Cards;
-use pc_faults::Fault;
+use pc_faults::{Fault, earliest};
 use pc_status::StatusRow;
 use std::alloc::{AllocError, Global};
 

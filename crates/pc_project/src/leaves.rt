@@ -3,19 +3,18 @@ ghost use Rattle.std.specs.Prelude.{◌≡◌, ◌<◌, length, map};
 ghost use Rattle.std.specs.List.{Any};
 ghost use Rattle.pc_wbs.specs.Climb.{IsLeaf};
 ghost use Rattle.pc_faults.specs.Faults.{not_a_leaf};
-ghost use Rattle.pc_project.specs.inside.First.{IsFirstIn};
+ghost use Rattle.pc_faults.specs.inside.First.{IsFirstIn};
 ghost use Rattle.pc_project.specs.Misfit.{HasNoMisfit};
 ghost use Rattle.pc_project.specs.inside.Numbered.{AreNumbersOf};
 ghost use Rattle.pc_project.specs.PackageFaults.{HasLeafFault, StandsOnBranch};
 ghost use Rattle.pc_project.specs.Project.{accounts_in, rows_of};
 ghost use Rattle.pc_project.specs.inside.Project.{placement_of};
 
-use crate::first::earliest;
 use crate::numbers::Numbers;
 use crate::placed::Placement;
 use pc_accounts::AcctRow;
 use pc_deck::Cards;
-use pc_faults::Fault;
+use pc_faults::{Fault, earliest};
 use pc_text::Code;
 use pc_wbs::Tree;
 

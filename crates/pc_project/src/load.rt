@@ -1,7 +1,7 @@
 //! The loads of activities on resources.
 
 /// So much of a resource that an activity takes, with numbers for both.
-#[derive(Clone, Copy, Debug, PartialEq, Eq)]
+#[derive(Clone, Copy)]
 pub struct LoadItem {
     pub activity: u32,
     pub resource: u32,

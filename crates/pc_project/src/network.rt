@@ -1,22 +1,19 @@
 //! The network of the activities, or why it is not sound.
-ghost use Rattle.std.specs.Prelude.{◌≡◌, ◌<◌, All, length, map, slice_index, IfOk, IfErr, OnOk};
+ghost use Rattle.std.specs.Prelude.{◌≡◌, ◌<◌, All, length, IfOk, IfErr, OnOk};
 ghost use Rattle.pc_model.specs.Network.{IsSound};
 ghost use Rattle.pc_wbs.specs.Climb.{IsTree};
 ghost use Rattle.pc_net.specs.Refusals.{IsRefusal};
 ghost use Rattle.pc_net.specs.declared.refusal.NetError.TheVariants as net;
 ghost use Rattle.pc_faults.specs.inside.First.{Refuses};
-ghost use Rattle.pc_project.specs.Misfit.{HasNoMisfit};
 ghost use Rattle.pc_project.specs.inside.Numbered.{AreNumbersOf};
-ghost use Rattle.pc_project.specs.Project.{arc_of, network_of, rows_of};
+ghost use Rattle.pc_project.specs.Project.{network_of, rows_of};
 ghost use Rattle.pc_project.specs.Refusal.{IsRefusedWith, net_fault};
 
 use crate::lists::{arcs, codes_of_acts};
 use crate::named::{act_card, codes_at, event_card};
 use crate::numbers::Numbers;
-use crate::placed::Ends;
 use pc_deck::Cards;
 use pc_faults::{DeckError, Fault};
-use pc_model::Arc;
 use pc_net::{Net, NetError};
 use std::alloc::{AllocError, Global};
 
@@ -28,25 +25,9 @@ pub(crate) fn net_of(alloc: Global, cards: &Cards, numbers: &Numbers) -> Result<
     ensures sound { OnOk result (IsSound (network_of cards.now)) }
     ensures refused { IfErr result (Refuses (IsRefusedWith cards.now)) }
 {
-    match arcs(alloc, &numbers.placements) {
-        Ok(arcs) => net_between(alloc, cards, numbers.ends, &arcs),
-        Err(_) => Err(DeckError::OutOfMemory),
-    }
-}
-
-/// The network of activities between these ends, or the fault that keeps it from being sound.
-fn net_between(alloc: Global, cards: &Cards, ends: Ends, arcs: &[Arc]) -> Result<Net, DeckError>
-    requires faultless { HasNoMisfit cards.now }
-    requires tree { IsTree (rows_of cards.now) }
-    requires start { ends.start ≡ (network_of cards.now).start }
-    requires end { ends.end ≡ (network_of cards.now).end }
-    requires arcs { arcs.now ≡ map (arc_of cards.now) cards.now.acts }
-    ensures network { IfOk result (λ net. net ≡ network_of cards.now) }
-    ensures sound { OnOk result (IsSound (network_of cards.now)) }
-    ensures refused { IfErr result (Refuses (IsRefusedWith cards.now)) }
-{
+    let arcs = arcs(alloc, &numbers.placements)?;
     let events = cards.events().len() as u32;
-    match Net::build(alloc, events, ends.start, ends.end, arcs) {
+    match Net::build(alloc, events, numbers.ends.start, numbers.ends.end, &arcs) {
         Ok(net) => Ok(net),
         Err(error) => Err(fault_of(alloc, cards, error)),
     }

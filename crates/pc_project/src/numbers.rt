@@ -1,19 +1,17 @@
 //! The numbers of all that the cards name, or the first fault of any card.
-ghost use Rattle.std.specs.Prelude.{◌≡◌, None, Some, IfOk, IfErr};
+ghost use Rattle.std.specs.Prelude.{◌≡◌, None, IfOk, IfErr};
 ghost use Rattle.pc_deck.specs.Within.{IsWithinLimits};
 ghost use Rattle.pc_faults.specs.First.{IsFirst};
-ghost use Rattle.pc_faults.specs.inside.First.{Refuses};
-ghost use Rattle.pc_project.specs.inside.First.{IsFirstIn, earliest};
+ghost use Rattle.pc_faults.specs.inside.First.{IsFirstIn, Refuses};
 ghost use Rattle.pc_project.specs.Misfit.{HasListedFault, HasMisfit};
 ghost use Rattle.pc_project.specs.inside.Numbered.{AreListsOf, AreNumbersOf};
 
 use crate::figures::{Figures, figures_of};
-use crate::first::earliest;
 use crate::load::LoadItem;
 use crate::placed::{Ends, Placement, ends_of};
 use crate::refers::look_up_all;
 use pc_deck::Cards;
-use pc_faults::{DeckError, Fault};
+use pc_faults::{DeckError, Fault, earlier_of, earliest};
 use pc_model::PieceRow;
 use pc_wbs::ItemRow;
 use std::alloc::{AllocError, Global};
@@ -87,14 +85,4 @@ fn lists_in(alloc: Global, cards: &Cards) -> Result<FoundLists, AllocError>
         figures: figures.figures,
         fault,
     })
-}
-
-/// The earlier of a fault and another, where there is another.
-fn earlier_of(fault: Fault, other: Option<Fault>) -> Fault
-    ensures { Some result ≡ earliest (Some fault) other }
-{
-    match earliest(Some(fault), other) {
-        Some(first) => first,
-        None => unreachable!(),
-    }
 }

@@ -15,15 +15,14 @@ ghost use Rattle.pc_project.specs.TermsFaults.{HasNoTermsFault};
 use crate::lists::lists_of;
 use crate::network::net_of;
 use crate::numbers::{Numbers, numbers_of};
-use crate::pieces::check_pieces;
+use crate::pieces::first_piece_fault;
 use crate::plan::Plan;
 use crate::progress::{Progress, progress_of};
 use crate::project::Project;
-use crate::terms::terms_fault;
 use crate::tree::tree_of;
 use pc_accounts::Book;
 use pc_deck::Cards;
-use pc_faults::DeckError;
+use pc_faults::{DeckError, Fault};
 use pc_net::Net;
 use pc_times::ActState;
 use pc_wbs::Tree;
@@ -87,12 +86,14 @@ fn check_costs(alloc: Global, cards: &Cards, numbers: &Numbers) -> Result<(), De
     ensures terms { OnOk result (HasNoTermsFault cards.now) }
     ensures refused { IfErr result (Refuses (IsRefusedWith cards.now)) }
 {
-    if let Err(error) = check_pieces(alloc, cards, numbers) {
-        return Err(error);
+    if let Some(fault) = first_piece_fault(alloc, cards, &numbers.pieces)? {
+        return Err(DeckError::Fault(fault));
     }
-    match terms_fault(cards) {
-        Some(fault) => Err(DeckError::Fault(fault)),
-        None => Ok(()),
+    match cards.terms() {
+        Some(card) if card.penalty < card.bonus => {
+            Err(DeckError::Fault(Fault::bonus_above_penalty(card.row)))
+        }
+        _ => Ok(()),
     }
 }
 

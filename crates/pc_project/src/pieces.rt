@@ -1,18 +1,13 @@
 //! The pieces of the activities' costs, or why they are none.
-ghost use Rattle.std.specs.Prelude.{◌≡◌, ◌+◌, ◌^◌, ◌<◌, OnOk, IfOk, IfErr, map, slice_set};
-ghost use Rattle.pc_faults.specs.First.{IsFirst};
-ghost use Rattle.pc_faults.specs.inside.First.{Refuses};
-ghost use Rattle.pc_project.specs.inside.First.{IsFirstIn};
+ghost use Rattle.std.specs.Prelude.{◌≡◌, ◌+◌, ◌^◌, ◌<◌, IfOk, map, slice_set};
+ghost use Rattle.pc_faults.specs.inside.First.{IsFirstIn};
 ghost use Rattle.pc_project.specs.Misfit.{HasNoMisfit};
-ghost use Rattle.pc_project.specs.inside.Numbered.{AreNumbersOf};
-ghost use Rattle.pc_project.specs.PieceFaults.{HasFlaw, HasNoPieceFault, HasPieceFault};
+ghost use Rattle.pc_project.specs.PieceFaults.{HasFlaw, HasPieceFault};
 ghost use Rattle.pc_project.specs.Project.{pieces_in, term_of};
 ghost use Rattle.pc_project.specs.inside.Runs.{HasFlawBehind, IsNext, run_at, run_with};
 
-use crate::first::earliest;
-use crate::numbers::Numbers;
 use pc_deck::{ActCard, Cards, PieceCard};
-use pc_faults::{DeckError, Fault};
+use pc_faults::{Fault, earliest};
 use pc_model::{MAX_PIECES_EACH, PieceRow};
 use std::alloc::{AllocError, Global};
 
@@ -25,21 +20,8 @@ pub(crate) struct Run {
     pub units: u64,
 }
 
-/// Answers the first fault of the pieces, if they have one (F33 to F35).
-pub(crate) fn check_pieces(alloc: Global, cards: &Cards, numbers: &Numbers) -> Result<(), DeckError>
-    requires { AreNumbersOf cards.now numbers.now }
-    ensures faultless { OnOk result (HasNoPieceFault cards.now) }
-    ensures first { IfErr result (Refuses (IsFirst (HasPieceFault cards.now))) }
-{
-    match first_piece_fault(alloc, cards, &numbers.pieces) {
-        Ok(None) => Ok(()),
-        Ok(Some(fault)) => Err(DeckError::Fault(fault)),
-        Err(_) => Err(DeckError::OutOfMemory),
-    }
-}
-
-/// The first fault of the pieces. One pass.
-fn first_piece_fault(
+/// The first fault of the pieces, if they have one (F33 to F35). One pass.
+pub(crate) fn first_piece_fault(
     alloc: Global,
     cards: &Cards,
     pieces: &[PieceRow],

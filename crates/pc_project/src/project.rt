@@ -7,7 +7,7 @@ ghost use Rattle.pc_project.specs.Planned.{IsPlanned};
 ghost use Rattle.pc_project.specs.inside.Project.{activity_at};
 
 use crate::activity::Activity;
-use crate::heading::{Counts, count_cards, time_terms};
+use crate::heading::Counts;
 use crate::load::LoadItem;
 use crate::plan::Plan;
 use crate::statuses::as_of;
@@ -107,7 +107,16 @@ impl Project {
     pub fn counts(&self) -> Counts
         ensures { result ≡ self.now.counts }
     {
-        count_cards(&self.cards)
+        let cards = &self.cards;
+        Counts {
+            events: cards.events().len() as u64,
+            activities: cards.acts().len() as u64,
+            items: cards.items().len() as u64,
+            accounts: cards.accounts().len() as u64,
+            charges: cards.charges().len() as u64,
+            togos: cards.togos().len() as u64,
+            statuses: cards.statuses().len() as u64,
+        }
     }
 
     /// The code of an event.
@@ -222,8 +231,10 @@ impl Project {
         ensures penalty { result.3 ≡ self.now.time_terms.penalty }
         ensures planned { IsPlanned self.now }
     {
-        let terms = time_terms(&self.cards);
-        (terms.overhead, terms.target, terms.bonus, terms.penalty)
+        match self.cards.terms() {
+            Some(card) => (card.overhead, card.target, card.bonus, card.penalty),
+            None => (0, 0, 0, 0),
+        }
     }
 
     /// How many resources there are.

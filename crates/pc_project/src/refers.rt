@@ -4,11 +4,10 @@ ghost use Rattle.std.specs.List.{Any};
 ghost use Rattle.pc_deck.specs.Deck.{Deck};
 ghost use Rattle.pc_faults.specs.First.{IsFirst};
 ghost use Rattle.pc_faults.specs.declared.fault.Fault.{Fault};
-ghost use Rattle.pc_project.specs.inside.First.{IsFirstIn};
+ghost use Rattle.pc_faults.specs.inside.First.{IsFirstIn};
 
-use crate::first::earliest;
 use pc_deck::Cards;
-use pc_faults::Fault;
+use pc_faults::{Fault, earliest};
 use std::alloc::{AllocError, Global};
 
 /// A card that names other cards by their codes.

@@ -1,22 +1,18 @@
 //! How far the activities are, or which status is in disorder.
-ghost use Rattle.std.specs.Prelude.{◌≡◌, length, IfOk, IfErr, OnOk, option_map};
-ghost use Rattle.pc_faults.specs.Faults.{disorder};
+ghost use Rattle.std.specs.Prelude.{◌≡◌, length, IfOk, IfErr, OnOk};
 ghost use Rattle.pc_faults.specs.First.{IsFirst};
-ghost use Rattle.pc_faults.specs.inside.First.{Refuses};
+ghost use Rattle.pc_faults.specs.inside.First.{IsFirstIn, Refuses};
 ghost use Rattle.pc_status.specs.Statuses.{AreInOrder};
 ghost use Rattle.pc_project.specs.DisorderFaults.{HasDisorder, HasNoDisorder, HasStatusDisorder, IsEarlyAsOf, as_of_in};
 ghost use Rattle.pc_project.specs.Figures.{AreStatesOf};
-ghost use Rattle.pc_project.specs.inside.First.{IsFirstIn};
-ghost use Rattle.pc_project.specs.Misfit.{HasNoMisfit};
 ghost use Rattle.pc_project.specs.inside.Numbered.{AreNumbersOf};
 ghost use Rattle.pc_project.specs.Project.{statuses_in};
 
-use crate::first::earliest;
 use crate::numbers::Numbers;
 use pc_days::Day;
 use pc_deck::Cards;
-use pc_faults::{DeckError, Fault, StatusFault};
-use pc_status::{Log, StatusRow};
+use pc_faults::{DeckError, Fault, StatusFault, earliest};
+use pc_status::Log;
 use pc_times::ActState;
 use std::alloc::{AllocError, Global};
 
@@ -41,21 +37,10 @@ pub(crate) fn states_of(
     ensures ordered { OnOk result (HasNoDisorder cards.now) }
     ensures first { IfErr result (Refuses (IsFirst (HasDisorder cards.now))) }
 {
-    match log_of(alloc, cards, &numbers.figures.statuses) {
-        Ok(log) => states_in(alloc, cards, &log),
-        Err(_) => Err(DeckError::OutOfMemory),
-    }
-}
-
-/// The log of the statuses.
-fn log_of(alloc: Global, cards: &Cards, statuses: &[StatusRow]) -> Result<Log, AllocError>
-    requires faultless { HasNoMisfit cards.now }
-    requires statuses { statuses.now ≡ statuses_in cards.now }
-    ensures activities { IfOk result (λ log. log.activities ≡ length cards.now.acts) }
-    ensures statuses { IfOk result (λ log. log.statuses ≡ statuses_in cards.now) }
-{
     let activities = cards.acts().len() as u32;
-    Log::build(alloc, activities, Vec::from_slice(alloc, statuses)?)
+    let statuses = Vec::from_slice(alloc, &numbers.figures.statuses)?;
+    let log = Log::build(alloc, activities, statuses)?;
+    states_in(alloc, cards, &log)
 }
 
 /// How far each activity is by the log, or the first fault of statuses and as-of.
@@ -93,20 +78,12 @@ fn status_fault(cards: &Cards, log: &Log) -> Option<Fault>
     let as_of = as_of(cards);
     let mut fault = None;
     for (k, card) in cards.statuses().iter().enumerate() {
-        let reason = log.disorder(start, as_of, k as u32);
-        fault = earliest(fault, told(card.row, reason));
+        if let Some(reason) = log.disorder(start, as_of, k as u32) {
+            let told = Fault::disorder(card.row, reason);
+            fault = earliest(fault, Some(told));
+        }
     }
     fault
-}
-
-/// The fault of a card with a reason.
-fn told(row: u32, reason: Option<StatusFault>) -> Option<Fault>
-    ensures { result ≡ option_map (disorder row) reason }
-{
-    match reason {
-        Some(reason) => Some(Fault::disorder(row, reason)),
-        None => None,
-    }
 }
 
 /// How far each activity is by a log in order.

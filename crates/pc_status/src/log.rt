@@ -14,7 +14,7 @@ use std::alloc::{AllocError, Global};
 use std::marker::Model;
 
 /// The statuses of a project's activities, in card order.
-#[derive(Debug, Drop)]
+#[derive(Drop)]
 pub struct Log {
     activities: u32,
     statuses: Vec<StatusRow>,

@@ -3,7 +3,7 @@
 use pc_days::Day;
 
 /// What a STATUS card says of an activity, by its number: on which day it was begun or, where `finished`, ended.
-#[derive(Clone, Copy, Debug, PartialEq, Eq)]
+#[derive(Clone, Copy)]
 pub struct StatusRow {
     pub activity: u32,
     pub finished: bool,

@@ -3,8 +3,8 @@ use Rattle.std.proofs.Common.{◌≡◌, Option, Some, None, inl, inr, ◌⊎◌
 use Rattle.std.specs.List.{Any}
 use Rattle.pc_deck.specs.Deck.{Deck}
 use Rattle.pc_faults.specs.declared.fault.Fault.{Fault}
-use Rattle.pc_project.specs.inside.First.{IsFirstIn}
-use Rattle.pc_project.proofs.FirstLaws.{first_of_same}
+use Rattle.pc_faults.specs.inside.First.{IsFirstIn}
+use Rattle.pc_faults.proofs.FirstLaws.{first_of_same}
 use Rattle.pc_project.proofs.MisfitLaws.{OfAccounts, OfCharges, OfItems, OfTogos}
 use Rattle.pc_tasks.specs.Misfit.{HasAfterFault, HasEndsFault, HasLoadFault, HasMisfit, HasNoMisfit, HasNameFault, HasTaskFault, account, after, charge, ends, item, load, piece, status, task, togo}
 

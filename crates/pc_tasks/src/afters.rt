@@ -3,14 +3,13 @@ ghost use Rattle.std.specs.Prelude.{◌≡◌, IfOk, IfErr, OnOk, None};
 ghost use Rattle.std.specs.List.{Any};
 ghost use Rattle.pc_faults.specs.First.{IsFirst};
 ghost use Rattle.pc_faults.specs.declared.fault.Fault.{Fault};
-ghost use Rattle.pc_project.specs.inside.First.{IsFirstIn};
+ghost use Rattle.pc_faults.specs.inside.First.{IsFirstIn};
 ghost use Rattle.pc_tasks.specs.Lists.{after_row, afters_in};
 ghost use Rattle.pc_tasks.specs.Misfit.{HasAfterFault};
 
 use pc_arrows::AfterRow;
 use pc_deck::{AfterCard, TaskCards};
-use pc_faults::Fault;
-use pc_project::earliest;
+use pc_faults::{Fault, earliest};
 use std::alloc::{AllocError, Global};
 
 /// Which task comes after which, one row for each card that has no fault, in card order, and the first fault of any card.

@@ -1,6 +1,6 @@
 //! What each kind of card names, looked up: the card's first fault. AFTER cards are looked up elsewhere, since what they name is kept.
 ghost use Rattle.std.specs.Prelude.{◌↔◌, IsTrue};
-ghost use Rattle.pc_project.specs.inside.First.{IsFirstIn};
+ghost use Rattle.pc_faults.specs.inside.First.{IsFirstIn};
 ghost use Rattle.pc_tasks.specs.Misfit.{HasEndsFault, HasNameFault, IsInOrder};
 
 use crate::faulty::Faulty;

@@ -2,11 +2,10 @@
 ghost use Rattle.std.specs.List.{Any};
 ghost use Rattle.pc_deck.specs.Deck.{Deck};
 ghost use Rattle.pc_faults.specs.declared.fault.Fault.{Fault};
-ghost use Rattle.pc_project.specs.inside.First.{IsFirstIn};
+ghost use Rattle.pc_faults.specs.inside.First.{IsFirstIn};
 
 use pc_deck::TaskCards;
-use pc_faults::Fault;
-use pc_project::earliest;
+use pc_faults::{Fault, earliest};
 
 /// A card that has faults by what it names or by its numbers.
 pub(crate) trait Faulty: Copy {

@@ -2,8 +2,7 @@
 ghost use Rattle.std.specs.Prelude.{◌≡◌, IfOk, IfErr, OnOk};
 ghost use Rattle.std.specs.List.{Any};
 ghost use Rattle.pc_faults.specs.First.{IsFirst};
-ghost use Rattle.pc_faults.specs.inside.First.{Refuses};
-ghost use Rattle.pc_project.specs.inside.First.{IsFirstIn};
+ghost use Rattle.pc_faults.specs.inside.First.{IsFirstIn, Refuses};
 ghost use Rattle.pc_tasks.specs.Lists.{afters_in};
 ghost use Rattle.pc_tasks.specs.Misfit.{HasAfterFault, HasMisfit, HasNoMisfit};
 
@@ -12,8 +11,7 @@ use crate::card_faults::ends_fault;
 use crate::faulty::first_fault;
 use pc_arrows::AfterRow;
 use pc_deck::TaskCards;
-use pc_faults::{DeckError, Fault};
-use pc_project::earliest;
+use pc_faults::{DeckError, Fault, earliest};
 use std::alloc::Global;
 
 /// Looks up once what each card names: which task comes after which, or the first fault of any card (F14 to F19, F41).

@@ -4,7 +4,7 @@ ghost use Rattle.std.specs.Prelude.{◌≡◌, ◌^◌, ◌<◌, length, slice_i
 use std::marker::Model;
 
 /// When each event and each activity's finish are expected.
-#[derive(Debug, Drop)]
+#[derive(Drop)]
 pub struct Forecast {
     pub(crate) times: Vec<u64>,
     pub(crate) finishes: Vec<u64>,

@@ -1,7 +1,7 @@
 //! What is known of an activity.
 
 /// How far an activity is. Times are in sixths of a day from the project's start date.
-#[derive(Clone, Copy, Debug, PartialEq, Eq)]
+#[derive(Clone, Copy)]
 pub enum ActState {
     /// It has not begun.
     Waiting,

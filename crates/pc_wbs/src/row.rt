@@ -5,7 +5,7 @@ ghost use Rattle.pc_wbs.specs.Climb.{parent_of};
 /// A row of a work breakdown structure: an item by the row of its parent, counted from 0.
 ///
 /// Only the top item has no parent.
-#[derive(Clone, Copy, Debug, PartialEq, Eq)]
+#[derive(Clone, Copy)]
 pub struct ItemRow {
     pub parent: Option<u32>,
 }

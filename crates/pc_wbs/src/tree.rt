@@ -14,7 +14,7 @@ use std::alloc::Global;
 use std::marker::Model;
 
 /// A tree of items, each named by its row. In contracts it is its rows.
-#[derive(Debug, Drop)]
+#[derive(Drop)]
 pub struct Tree {
     rows: Vec<ItemRow>,
     levels: Vec<u32>,

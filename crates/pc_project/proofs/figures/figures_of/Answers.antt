@@ -1,9 +1,9 @@
 use Rattle.std.proofs.Common.{◌∙◌, ap, map, sym, subst}
 use Rattle.std.specs.List.{Any}
-use Rattle.pc_project.specs.inside.First.{IsFirstIn}
+use Rattle.pc_faults.specs.inside.First.{IsFirstIn}
 use Rattle.pc_project.specs.Misfit.{HasAccountFault, HasMoneyFault, HasStatusFault}
 use Rattle.pc_project.specs.Project.{account_of, money_of, status_of}
-use Rattle.pc_project.proofs.FirstLaws.{earliest-none}
+use Rattle.pc_faults.proofs.FirstLaws.{earliest-none}
 use Rattle.pc_project.proofs.MisfitLaws.{first_of_figures}
 use Rattle.pc_project.proofs.figures.figures_of.Goals as goal
 

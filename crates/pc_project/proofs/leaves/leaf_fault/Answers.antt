@@ -1,5 +1,5 @@
 use Rattle.std.proofs.Common.{sym, subst}
-use Rattle.pc_project.specs.inside.First.{IsFirstIn}
+use Rattle.pc_faults.specs.inside.First.{IsFirstIn}
 use Rattle.pc_project.specs.PackageFaults.{HasLeafFault}
 use Rattle.pc_project.proofs.BranchLaws.{first_of_leaves}
 use Rattle.pc_project.proofs.leaves.leaf_fault.Goals as goal

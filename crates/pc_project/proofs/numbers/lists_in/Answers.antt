@@ -1,10 +1,10 @@
 use Rattle.std.proofs.Common.{◌∙◌, ap, map, sym, subst}
 use Rattle.std.specs.List.{Any}
-use Rattle.pc_project.specs.inside.First.{IsFirstIn}
+use Rattle.pc_faults.specs.inside.First.{IsFirstIn}
 use Rattle.pc_project.specs.Misfit.{HasItemFault, HasActFault, HasPieceCardFault, HasLoadFault}
 use Rattle.pc_project.specs.Project.{load_of, piece_of, row_of}
 use Rattle.pc_project.specs.inside.Project.{placement_of}
-use Rattle.pc_project.proofs.FirstLaws.{earliest-none}
+use Rattle.pc_faults.proofs.FirstLaws.{earliest-none}
 use Rattle.pc_project.proofs.MisfitLaws.{first_of_listed}
 use Rattle.pc_project.proofs.numbers.lists_in.Goals as goal
 

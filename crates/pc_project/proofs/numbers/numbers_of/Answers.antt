@@ -1,7 +1,7 @@
 use Rattle.std.proofs.Common.{None, Some, length, sym, ap, subst, arith}
 use Rattle.std.proofs.lemmas.List.{length-map}
 use Rattle.pc_faults.specs.declared.kind.Kind.TheVariants.{Wbs}
-use Rattle.pc_project.specs.inside.First.{IsFirstIn}
+use Rattle.pc_faults.specs.inside.First.{IsFirstIn}
 use Rattle.pc_project.specs.Misfit.{HasMisfit}
 use Rattle.pc_project.specs.Project.{row_of}
 use Rattle.pc_project.proofs.MisfitLaws.{first_of_cards}

@@ -1,8 +1,8 @@
 use Rattle.std.proofs.Common.{◌≡◌, ◌+◌, ◌∙◌, sym, ap, subst, None}
 use Rattle.std.specs.Prelude.{Option, Some}
 use Rattle.pc_faults.specs.declared.fault.Fault.{Fault}
-use Rattle.pc_project.specs.inside.First.{earliest}
-use Rattle.pc_project.proofs.FirstLaws.{earliest-none}
+use Rattle.pc_faults.specs.inside.First.{earliest}
+use Rattle.pc_faults.proofs.FirstLaws.{earliest-none}
 use Rattle.pc_project.proofs.LoopLaws.{IsFirstBefore, first_with, first_without, first_of_all, map_take_more}
 use Rattle.pc_project.proofs.refers.look_up_all.Goals.{in-Ok+in_ok-push-in-Ok, in-Err}
 use Rattle.pc_project.proofs.refers.look_up_all.Goals as goal

@@ -2,7 +2,7 @@ use Rattle.std.proofs.Common.{◌∙◌, sym, subst}
 use Rattle.std.proofs.lemmas.List.{length-map}
 use Rattle.pc_status.specs.Statuses.{AreInOrder}
 use Rattle.pc_project.specs.DisorderFaults.{HasDisorder, as_of_in}
-use Rattle.pc_project.specs.inside.First.{IsFirstIn}
+use Rattle.pc_faults.specs.inside.First.{IsFirstIn}
 use Rattle.pc_project.specs.Project.{status_of}
 use Rattle.pc_project.proofs.DisorderLaws.{all_in_order, first_of_disorder}
 use Rattle.pc_project.proofs.statuses.states_in.Goals as goal

@@ -2,10 +2,10 @@ use Rattle.std.proofs.Common.{◌≡◌, ◌+◌, ◌∙◌, sym, ap, subst, Non
 use Rattle.std.specs.Prelude.{Option, Some}
 use Rattle.std.specs.List.{Any}
 use Rattle.pc_faults.specs.declared.fault.Fault.{Fault}
-use Rattle.pc_project.specs.inside.First.{IsFirstIn, earliest}
+use Rattle.pc_faults.specs.inside.First.{IsFirstIn, earliest}
 use Rattle.pc_tasks.specs.Lists.{after_row}
 use Rattle.pc_tasks.specs.Misfit.{HasAfterFault}
-use Rattle.pc_project.proofs.FirstLaws.{earliest-none}
+use Rattle.pc_faults.proofs.FirstLaws.{earliest-none}
 use Rattle.pc_project.proofs.LoopLaws.{IsFirstBefore, first_with, first_without, first_of_all, map_take_more}
 use Rattle.pc_tasks.proofs.afters.find_afters.Goals.{in-Ok+in_ok-push-in-Ok, in-Err}
 use Rattle.pc_tasks.proofs.afters.find_afters.Goals as goal

@@ -1,9 +1,9 @@
 use Rattle.std.proofs.Common.{subst, ◌⊎◌}
 use Rattle.std.specs.List.{Any}
-use Rattle.pc_project.specs.inside.First.{IsFirstIn}
+use Rattle.pc_faults.specs.inside.First.{IsFirstIn}
 use Rattle.pc_project.specs.Misfit.{HasAccountFault, HasItemFault, HasMoneyFault}
 use Rattle.pc_tasks.specs.Misfit.{HasEndsFault, HasLoadFault, HasNameFault, HasTaskFault}
-use Rattle.pc_project.proofs.FirstLaws.{first_of_either}
+use Rattle.pc_faults.proofs.FirstLaws.{first_of_either}
 use Rattle.pc_project.proofs.MisfitLaws.{OfAccounts, OfCharges, OfItems, OfTogos}
 use Rattle.pc_tasks.proofs.MisfitLemmas.{Figures, OfAfters, OfLoads, OfPieces, OfStatuses, OfTasks, Plan, first_of_all_cards}
 use Rattle.pc_tasks.proofs.misfits.first_misfit.Goals as goal

@@ -1,24 +1,24 @@
 -- What an activity costs, one piece after another.
 use Rattle.std.proofs.Common.{◌≡◌, ℕ, zero, suc, ◌+◌, ◌-◌, ◌*◌, ◌<◌, ◌≤◌, Bool, List, [], ◌∷◌, length, length-append, take, drop, refl, ap, sym, ◌∙◌, subst, inl, inr, arith, add-one, ◌==◌, eq-eqb}
 use Rattle.std.proofs.Math.Nat.{mul-le-mul, mul-le-mul_left, mul_comm}
-use Rattle.std.proofs.Math.ListN.{get_or-eq_default}
 use Rattle.std.proofs.lemmas.Bool.{cases_lt, cond-true}
 use Rattle.std.proofs.lemmas.List.{take-append-drop}
-use Rattle.std.proofs.lemmas.List.Elements.{All-filter, All-get_or, filter-append}
+use Rattle.std.proofs.lemmas.List.Elements.{filter-append}
 use Rattle.std.proofs.lemmas.List.Filters.{length-filter_more}
 use Rattle.std.proofs.lemmas.List.Sums.{sum_by-drop_more, sum_by-take-drop}
 use Rattle.pc_model.specs.declared.PieceRow.{PieceRow}
 use Rattle.pc_model.specs.declared.Term.{Term}
-use Rattle.pc_model.specs.declared.limits.TheConstants.{MAX_DURATION, MAX_SLOPE}
-use Rattle.pc_model.specs.Pieces.{knee_in, pieces_of, rise_in, slope_in, units_of}
-use Rattle.pc_model.specs.Schedule.{term_at}
+use Rattle.pc_model.specs.declared.limits.TheConstants.{MAX_DURATION}
+use Rattle.pc_model.specs.Network.{Network}
+use Rattle.pc_model.specs.Pieces.{knee_in, pieces_of, rise_in, slope_in, units_of, ArePieces}
+use Rattle.pc_model.specs.Schedule.{term_at, AreTerms}
 use Rattle.pc_model.specs.Sums.{sum_to}
 use Rattle.pc_model.proofs.Costs.PieceLaws.{rises-slope}
 use Rattle.pc_model.proofs.Sums.{sum_to-le, sum_to-mono, sum_to-times}
-use Rattle.pc_crash.specs.Priced.{piece_at}
-use Rattle.pc_project.specs.inside.OwnPieces.{AreOwnPieces}
-use Rattle.pc_project.specs.Planned.{IsPlanned}
-use Rattle.pc_project.specs.Project.{Project}
+use Rattle.pc_crash.specs.Priced.{piece_at, ArePiecesWithinLimits}
+use Rattle.pc_crash.specs.Terms.{AreWithinLimits}
+use Rattle.pc_crash.specs.inside.OwnPieces.{AreOwnPieces}
+use Rattle.pc_crash.proofs.CostLaws.{slope_in-most}
 
 -- what the k-th knee adds to the cost
 abbrev pub added : Term → List PieceRow → ℕ → ℕ → ℕ
@@ -119,24 +119,17 @@ no_units : (pieces : List PieceRow) → length pieces ≤ 0 → units_of pieces 
 no_units [] none = refl
 no_units (piece ∷ pieces) none = absurd (omega arith)
 
--- the pieces of an activity of a project
-pub own_pieces : (project : Project) → IsPlanned project → (a : ℕ) → a < length project.terms → AreOwnPieces (term_at project.terms a) (pieces_of project.pieces a)
-own_pieces project planned a inside = record {
-  few = planned.pieces.few a inside;
-  rising = λ k below. planned.pieces.rising a k inside below;
-  within = elim (cases_lt 0 (length (pieces_of project.pieces a))) [
-    | inl some ↦ omega (arith, planned.pieces.leaving a inside some)
-    | inr none ↦ omega (arith, no_units (pieces_of project.pieces a) none, planned.terms.ordered a inside)
+-- the pieces of an activity among those of all
+pub own_pieces : (net : Network) (terms : List Term) (pieces : List PieceRow) → AreTerms net terms → AreWithinLimits terms → ArePieces terms pieces → ArePiecesWithinLimits pieces
+    → (a : ℕ) → a < length terms → AreOwnPieces (term_at terms a) (pieces_of pieces a)
+own_pieces net terms pieces fit limits right small a inside = record {
+  few = right.few a inside;
+  rising = λ k below. right.rising a k inside below;
+  within = elim (cases_lt 0 (length (pieces_of pieces a))) [
+    | inl some ↦ omega (arith, right.leaving a inside some)
+    | inr none ↦ omega (arith, no_units (pieces_of pieces a) none, fit.ordered a inside)
   ];
-  short = planned.limits.short a inside;
-  cheap = planned.limits.cheap a inside;
-  gentle = gentle;
+  short = limits.short a inside;
+  cheap = limits.cheap a inside;
+  gentle = slope_in-most net terms pieces fit limits right small a inside;
 }
-  where
-    gentle : (k : ℕ) → slope_in (term_at project.terms a) (pieces_of project.pieces a) k ≤ MAX_SLOPE
-    gentle zero = planned.limits.gentle a inside
-    gentle (suc k) =
-        elim (cases_lt k (length (pieces_of project.pieces a))) [
-          | inl below ↦ All-get_or (λ (piece : PieceRow). piece.slope ≤ MAX_SLOPE) (pieces_of project.pieces a) k _ below (All-filter (λ piece. piece.activity == a) (λ (piece : PieceRow). piece.slope ≤ MAX_SLOPE) project.pieces planned.piece_limits.gentle)
-          | inr past ↦ omega (arith, ap (λ (piece : PieceRow). piece.slope) (get_or-eq_default (pieces_of project.pieces a) (record { activity = 0; units = 0; slope = 0 }) past))
-        ]

@@ -4,7 +4,7 @@ use Rattle.std.proofs.lemmas.Bool.{cases_order}
 use Rattle.std.proofs.lemmas.Bool.Decides.{nat_tests}
 use Rattle.pc_faults.specs.First.{IsFirst, IsNoLater}
 use Rattle.pc_faults.specs.declared.fault.Fault.{Fault}
-use Rattle.pc_project.specs.inside.First.{IsFirstIn, earliest, is_no_later}
+use Rattle.pc_faults.specs.inside.First.{IsFirstIn, earliest, is_no_later}
 
 -- the test in numbers: record and number of one fault and of another
 comes_first : ℕ → ℕ → ℕ → ℕ → Bool
@@ -82,3 +82,8 @@ earliest-none (Some f) (Some g) h = absurd (by (is_no_later f g) h)
     by : (test : Bool) → (if test then Some f else Some g) ≡ None → ⊥
     by true h = cc
     by false h = cc
+
+-- beside none a fault is the earlier one
+pub earliest-alone : (one : Option Fault) → earliest one None ≡ one
+earliest-alone None = refl
+earliest-alone (Some fault) = refl

@@ -4,11 +4,11 @@ use Rattle.pc_faults.specs.declared.kind.Kind.TheVariants.{Status}
 use Rattle.pc_status.specs.Statuses.{status_at}
 use Rattle.pc_project.specs.Project.{status_of}
 use Rattle.pc_project.proofs.FigureLaws.{are_known}
-use Rattle.pc_project.proofs.statuses.log_of.Goals as goal
+use Rattle.pc_project.proofs.statuses.states_of.Goals as goal
 
 pub build-requires-clause-known : goal.build-requires-clause-known
 build-requires-clause-known c =
-    let same = c.in_ok-from_slice.ensures.items ∙ c.requires.statuses in
+    let same = c.in_ok-statuses.ensures.items ∙ (c.deref.ensures.value ∙ c.requires.figures.statuses) in
     λ k below.
     omega (
       arith,
@@ -20,4 +20,5 @@ build-requires-clause-known c =
 pub build-requires-clause-few : goal.build-requires-clause-few
 build-requires-clause-few c =
     let deck = c.args.cards.now in
-    omega (arith, ap length (c.in_ok-from_slice.ensures.items ∙ c.requires.statuses), length-map deck.statuses (status_of deck), (c.acts.ensures.within Status).few)
+    let same = c.in_ok-statuses.ensures.items ∙ (c.deref.ensures.value ∙ c.requires.figures.statuses) in
+    omega (arith, ap length same, length-map deck.statuses (status_of deck), (c.acts.ensures.within Status).few)

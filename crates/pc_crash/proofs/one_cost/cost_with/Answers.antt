@@ -1,7 +1,7 @@
 use Rattle.std.proofs.Common.{◌*◌, ◌+◌, ◌-◌, ap, arith}
 use Rattle.pc_crash.specs.Priced.{piece_at}
-use Rattle.pc_project.proofs.OwnPieceLaws.{first-most, IsSummed-end, IsSummed-more, IsSummed-start, next-left, next-most, next-rises}
-use Rattle.pc_project.proofs.costing.cost_with.Goals as goal
+use Rattle.pc_crash.proofs.OwnPieceLaws.{first-most, IsSummed-end, IsSummed-more, IsSummed-start, next-left, next-most, next-rises}
+use Rattle.pc_crash.proofs.one_cost.cost_with.Goals as goal
 
 pub overflow_mul-cost : goal.overflow_mul-cost
 overflow_mul-cost c =

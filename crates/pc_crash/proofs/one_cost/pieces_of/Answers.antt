@@ -1,6 +1,6 @@
 use Rattle.std.proofs.Common.{◌<◌, length, ap, arith}
-use Rattle.pc_project.proofs.OwnPieceLaws.{own-room}
-use Rattle.pc_project.proofs.costing.pieces_of.Goals as goal
+use Rattle.pc_crash.proofs.OwnPieceLaws.{own-room}
+use Rattle.pc_crash.proofs.one_cost.pieces_of.Goals as goal
 
 pub push-requires : goal.push-requires
 push-requires c =

@@ -1,0 +1,58 @@
+//! What one activity costs, of which no priced network is laid out.
+ghost use Rattle.std.specs.Prelude.{◌≡◌, ◌+◌, ◌-◌, ◌*◌, ◌<◌, ◌≤◌, length};
+ghost use Rattle.pc_model.specs.Cost.{activity_cost};
+ghost use Rattle.pc_model.specs.Pieces.{knees_of, knee_in, pieces_of, rise_in};
+ghost use Rattle.pc_model.specs.Schedule.{term_at};
+ghost use Rattle.pc_model.specs.Sums.{sum_to};
+ghost use Rattle.pc_crash.specs.inside.OwnPieces.{AreOwnPieces};
+
+use crate::costing::MAX_ACTIVITY_COST;
+use crate::grouping::Group;
+use crate::laying::units;
+use pc_model::{MAX_PIECES_EACH, PieceRow, Term};
+
+/// What an activity costs at a duration in units, by the terms of all activities and the further pieces of their costs. It takes
+/// no memory, and goes over the pieces of all activities: for what many activities cost, ask the priced network.
+pub fn cost_of_one(terms: &[Term], pieces: &[PieceRow], a: u32, duration: u64) -> u64
+    requires known { a < length terms.now }
+    requires own { AreOwnPieces (term_at terms.now a) (pieces_of pieces.now a) }
+    ensures cost { result ≡ activity_cost terms.now (knees_of terms.now pieces.now) a duration }
+    ensures limit { result ≤ MAX_ACTIVITY_COST }
+{
+    let own = pieces_of(pieces, a);
+    cost_with(terms[a as usize], own.as_slice(), duration)
+}
+
+/// The pieces of one activity, in their order.
+fn pieces_of(pieces: &[PieceRow], a: u32) -> Group
+    requires { length (pieces_of pieces.now a) ≤ MAX_PIECES_EACH }
+    ensures { result.items ≡ pieces_of pieces.now a }
+{
+    let mut own = Group::new();
+    for piece in pieces {
+        if piece.activity == a {
+            own.push(*piece);
+        }
+    }
+    own
+}
+
+/// What an activity with these pieces costs at a duration.
+fn cost_with(term: Term, pieces: &[PieceRow], duration: u64) -> u64
+    requires { AreOwnPieces term pieces.now }
+    ensures { result ≡ term.cost + sum_to (length pieces.now + 1) (λ k. rise_in term pieces.now k * (knee_in term pieces.now k - duration)) }
+{
+    let saved = term.normal.saturating_sub(duration);
+    let mut cost = term.cost + term.slope * saved;
+    let left = units(pieces);
+    let mut knee = term.crash + left;
+    let mut slope = term.slope;
+    for piece in pieces {
+        let rise = piece.slope - slope;
+        let below = knee.saturating_sub(duration);
+        cost += rise * below;
+        knee -= piece.units;
+        slope = piece.slope;
+    }
+    cost
+}

@@ -1,0 +1,39 @@
+//! Which of several faults comes first.
+ghost use Rattle.std.specs.Prelude.{◌≡◌, Some};
+ghost use Rattle.pc_faults.specs.inside.First.{earliest, is_no_later};
+
+use crate::fault::Fault;
+
+/// The earlier of two faults, where there are any: the one at an earlier record, or of those at one record the one with the
+/// lesser number.
+pub fn earliest(one: Option<Fault>, other: Option<Fault>) -> Option<Fault>
+    ensures { result ≡ earliest one other }
+{
+    match one {
+        None => other,
+        Some(fault) => Some(earlier_of(fault, other)),
+    }
+}
+
+/// The earlier of a fault and another, where there is another.
+pub fn earlier_of(fault: Fault, other: Option<Fault>) -> Fault
+    ensures { Some result ≡ earliest (Some fault) other }
+{
+    match other {
+        None => fault,
+        Some(other) => {
+            if is_no_later(&fault, &other) {
+                fault
+            } else {
+                other
+            }
+        }
+    }
+}
+
+/// Whether a fault comes no later than another: at an earlier record, or at the same one with no greater number.
+fn is_no_later(fault: &Fault, other: &Fault) -> bool
+    ensures { result ≡ is_no_later fault.now other.now }
+{
+    fault.row < other.row || (fault.row == other.row && fault.number <= other.number)
+}
