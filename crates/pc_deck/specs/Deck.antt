@@ -1,5 +1,5 @@
 -- The cards of a deck, as lists in card order.
-use Rattle.std.specs.Prelude.{ℕ, nat_eq, List, [], ◌∷◌, map, position, Option}
+use Rattle.std.specs.Prelude.{ℕ, nat_eq, List, [], ◌∷◌, length, map, position, Option, unwrap_or}
 use Rattle.std.specs.Cmp.Lexicographic.{pointwise}
 use Rattle.pc_faults.specs.declared.kind.Kind.{Kind}
 use Rattle.pc_faults.specs.declared.kind.Kind.TheVariants.{Project, End}
@@ -43,26 +43,10 @@ account_codes deck = map (λ account. account.code) deck.accounts
 abbrev pub resource_codes : Deck → List (List ℕ)
 resource_codes deck = map (λ resource. resource.code) deck.resources
 
--- the number of the item with a code: the place of its card among the WBS cards, from 0; none where no card has it
-abbrev pub item_named : Deck → List ℕ → Option ℕ
-item_named deck code = position (pointwise nat_eq code) (item_codes deck)
+-- the number of what has a code among those with these codes: the first place where it stands, from 0; none where it stands nowhere
+abbrev pub named_among : List (List ℕ) → List ℕ → Option ℕ
+named_among codes code = position (pointwise nat_eq code) codes
 
--- the number of the event with a code, as that of an item
-abbrev pub event_named : Deck → List ℕ → Option ℕ
-event_named deck code = position (pointwise nat_eq code) (event_codes deck)
-
--- the number of the activity with a code, as that of an item
-abbrev pub act_named : Deck → List ℕ → Option ℕ
-act_named deck code = position (pointwise nat_eq code) (act_codes deck)
-
--- the number of the task with a code, as that of an item
-abbrev pub task_named : Deck → List ℕ → Option ℕ
-task_named deck code = position (pointwise nat_eq code) (task_codes deck)
-
--- the number of the account with a code, as that of an item
-abbrev pub account_named : Deck → List ℕ → Option ℕ
-account_named deck code = position (pointwise nat_eq code) (account_codes deck)
-
--- the number of the resource with a code, as that of an item
-abbrev pub resource_named : Deck → List ℕ → Option ℕ
-resource_named deck code = position (pointwise nat_eq code) (resource_codes deck)
+-- that number, and the count of the codes where the code stands nowhere
+abbrev pub number_among : List (List ℕ) → List ℕ → ℕ
+number_among codes code = unwrap_or (named_among codes code) (length codes)

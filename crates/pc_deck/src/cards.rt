@@ -3,7 +3,7 @@ ghost use Rattle.std.specs.Prelude.{◌≡◌, ◌≤◌, length};
 ghost use Rattle.pc_model.specs.declared.limits.TheConstants.{MAX_ACTIVITIES, MAX_EVENTS};
 ghost use Rattle.pc_cards.specs.declared.sort.Sort.{Sort};
 ghost use Rattle.pc_cards.specs.declared.sort.Sort.TheVariants.{Plan, Tasks};
-ghost use Rattle.pc_deck.specs.Deck.{item_named, event_named, act_named, task_named, account_named, resource_named};
+ghost use Rattle.pc_deck.specs.Deck.{account_codes, act_codes, event_codes, item_codes, named_among, resource_codes, task_codes};
 ghost use Rattle.pc_deck.specs.Within.{IsWithin};
 
 use crate::deck_cards::DeckCards;
@@ -159,7 +159,7 @@ impl<S: DeckSort> CardsOf<S> {
 
     /// The number of the item with a code: its place in card order, from 0.
     pub fn item_named(&self, code: &Code) -> Option<u32>
-        ensures { result ≡ item_named self.now code.now }
+        ensures { result ≡ named_among (item_codes self.now) code.now }
     {
         let number = self.deck.lists.items.place_of(code)?;
         Some(number as u32)
@@ -167,7 +167,7 @@ impl<S: DeckSort> CardsOf<S> {
 
     /// The number of the account with a code: its place in card order, from 0.
     pub fn account_named(&self, code: &Code) -> Option<u32>
-        ensures { result ≡ account_named self.now code.now }
+        ensures { result ≡ named_among (account_codes self.now) code.now }
     {
         let number = self.deck.lists.accounts.place_of(code)?;
         Some(number as u32)
@@ -175,7 +175,7 @@ impl<S: DeckSort> CardsOf<S> {
 
     /// The number of the resource with a code: its place in card order, from 0.
     pub fn resource_named(&self, code: &Code) -> Option<u32>
-        ensures { result ≡ resource_named self.now code.now }
+        ensures { result ≡ named_among (resource_codes self.now) code.now }
     {
         let number = self.deck.lists.resources.place_of(code)?;
         Some(number as u32)
@@ -204,7 +204,7 @@ impl Cards {
 
     /// The number of the event with a code: its place in card order, from 0.
     pub fn event_named(&self, code: &Code) -> Option<u32>
-        ensures { result ≡ event_named self.now code.now }
+        ensures { result ≡ named_among (event_codes self.now) code.now }
     {
         let number = self.deck.lists.events.place_of(code)?;
         Some(number as u32)
@@ -212,7 +212,7 @@ impl Cards {
 
     /// The number of the activity with a code: its place in card order, from 0.
     pub fn act_named(&self, code: &Code) -> Option<u32>
-        ensures { result ≡ act_named self.now code.now }
+        ensures { result ≡ named_among (act_codes self.now) code.now }
     {
         let number = self.deck.lists.acts.place_of(code)?;
         Some(number as u32)
@@ -239,7 +239,7 @@ impl TaskCards {
 
     /// The number of the task with a code: its place in card order, from 0.
     pub fn task_named(&self, code: &Code) -> Option<u32>
-        ensures { result ≡ task_named self.now code.now }
+        ensures { result ≡ named_among (task_codes self.now) code.now }
     {
         let number = self.deck.lists.tasks.place_of(code)?;
         Some(number as u32)

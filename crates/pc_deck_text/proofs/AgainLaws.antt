@@ -21,13 +21,13 @@ use Rattle.pc_deck.specs.declared.kinds.piece.PieceCard.{PieceCard}
 use Rattle.pc_deck.specs.declared.kinds.status.StatusCard.{StatusCard}
 use Rattle.pc_deck.specs.declared.kinds.terms.TermsCard.{TermsCard}
 use Rattle.pc_deck.specs.declared.kinds.wbs.ItemCard.{ItemCard}
-use Rattle.pc_deck.specs.Deck.{Deck, account_named, act_named, event_named, item_named, resource_named}
+use Rattle.pc_deck.specs.Deck.{Deck, account_codes, act_codes, event_codes, item_codes, named_among, number_among, resource_codes}
 use Rattle.pc_project.specs.DisorderFaults.{HasDisorder, IsDisorderAt, IsEarlyAsOf, as_of_in, of_as_of, of_status}
-use Rattle.pc_project.specs.Misfit.{HasAccountFault, HasActFault, HasFigureFault, HasItemFault, HasListedFault, HasLoadFault, HasMisfit, HasMoneyFault, HasNoMisfit, HasPieceCardFault, HasProjectFault, HasStatusFault, IsEvent, IsInOrder}
+use Rattle.pc_project.specs.Misfit.{HasAccountFault, HasActFault, HasFigureFault, HasItemFault, HasListedFault, HasLoadFault, HasMisfit, HasMoneyFault, HasNoMisfit, HasPieceCardFault, HasProjectFault, HasStatusFault, IsInOrder}
 use Rattle.pc_project.specs.Misfit as has
 use Rattle.pc_project.specs.PackageFaults.{HasLeafFault, StandsOnBranch, of_account, of_act}
 use Rattle.pc_project.specs.PieceFaults.{HasFlaw, HasFlawAt, HasPieceFault, none_left, not_rising, one_too_many}
-use Rattle.pc_project.specs.Project.{accounts_in, as_of_day, item_number, pieces_in, rows_of, statuses_in, terms_in, time_terms_of, work_in}
+use Rattle.pc_project.specs.Project.{accounts_in, as_of_day, pieces_in, rows_of, statuses_in, terms_in, time_terms_of, work_in}
 use Rattle.pc_project.specs.Refusal.{HasNoSecondToGo, HasSoundFigures, IsEven, MakesProject}
 use Rattle.pc_project.specs.TermsFaults.{HasTermsFault, bonus_above}
 use Rattle.pc_model.specs.declared.TimeTerms.{TimeTerms}
@@ -53,23 +53,23 @@ Any-fault Has xs (k, x, within, at, (fault, holds)) = (fault, (k, x, within, at,
 -- the lists of the first deck are those of the second
 module _ (a b : Deck) (same : SayTheSame a b) where
   -- a code that is unknown in one deck is unknown in the other
-  no_event : (c d : List ℕ) → c ≡ d → event_named a c ≡ None → event_named b d ≡ None
-  no_event c d is none = (λ i. sym (same_events a b same) i d) ∙ ap (event_named a) (sym is) ∙ none
+  no_event : (c d : List ℕ) → c ≡ d → named_among (event_codes a) c ≡ None → named_among (event_codes b) d ≡ None
+  no_event c d is none = (λ i. sym (same_events a b same) i d) ∙ ap (named_among (event_codes a)) (sym is) ∙ none
 
-  an_event : (c d : List ℕ) → c ≡ d → IsEvent a c → IsEvent b d
-  an_event c d is known = subst IsSome ((λ i. same_events a b same i c) ∙ ap (event_named b) is) known
+  an_event : (c d : List ℕ) → c ≡ d → IsSome (named_among (event_codes a) c) → IsSome (named_among (event_codes b) d)
+  an_event c d is known = subst IsSome ((λ i. same_events a b same i c) ∙ ap (named_among (event_codes b)) is) known
 
-  no_item : (c d : List ℕ) → c ≡ d → item_named a c ≡ None → item_named b d ≡ None
-  no_item c d is none = (λ i. sym (same_items a b same) i d) ∙ ap (item_named a) (sym is) ∙ none
+  no_item : (c d : List ℕ) → c ≡ d → named_among (item_codes a) c ≡ None → named_among (item_codes b) d ≡ None
+  no_item c d is none = (λ i. sym (same_items a b same) i d) ∙ ap (named_among (item_codes a)) (sym is) ∙ none
 
-  no_act : (c d : List ℕ) → c ≡ d → act_named a c ≡ None → act_named b d ≡ None
-  no_act c d is none = (λ i. sym (same_acts a b same) i d) ∙ ap (act_named a) (sym is) ∙ none
+  no_act : (c d : List ℕ) → c ≡ d → named_among (act_codes a) c ≡ None → named_among (act_codes b) d ≡ None
+  no_act c d is none = (λ i. sym (same_acts a b same) i d) ∙ ap (named_among (act_codes a)) (sym is) ∙ none
 
-  no_account : (c d : List ℕ) → c ≡ d → account_named a c ≡ None → account_named b d ≡ None
-  no_account c d is none = (λ i. sym (same_accounts a b same) i d) ∙ ap (account_named a) (sym is) ∙ none
+  no_account : (c d : List ℕ) → c ≡ d → named_among (account_codes a) c ≡ None → named_among (account_codes b) d ≡ None
+  no_account c d is none = (λ i. sym (same_accounts a b same) i d) ∙ ap (named_among (account_codes a)) (sym is) ∙ none
 
-  no_resource : (c d : List ℕ) → c ≡ d → resource_named a c ≡ None → resource_named b d ≡ None
-  no_resource c d is none = (λ i. sym (same_resources a b same) i d) ∙ ap (resource_named a) (sym is) ∙ none
+  no_resource : (c d : List ℕ) → c ≡ d → named_among (resource_codes a) c ≡ None → named_among (resource_codes b) d ≡ None
+  no_resource c d is none = (λ i. sym (same_resources a b same) i d) ∙ ap (named_among (resource_codes a)) (sym is) ∙ none
 
   project_fault : (fault : Fault) → HasProjectFault a a.project fault → Some-fault (HasProjectFault b b.project)
   project_fault fault (has.unknown_start none is) = (_, has.unknown_start (no_event _ _ (ap (λ card. card.start) same.project) none) refl)
@@ -154,8 +154,8 @@ module _ (a b : Deck) (same : SayTheSame a b) where
   on_branch c d row other is fault (branch, told) = (
     _,
     (
-      λ leaf. branch (subst (IsLeaf (rows_of a)) (sym ((λ i. same_item_number a b same i c) ∙ ap (item_number b) is))
-          (subst (λ rows. IsLeaf rows (item_number b d)) (sym (same_rows a b same)) leaf)),
+      λ leaf. branch (subst (IsLeaf (rows_of a)) (sym ((λ i. same_item_number a b same i c) ∙ ap (number_among (item_codes b)) is))
+          (subst (λ rows. IsLeaf rows (number_among (item_codes b) d)) (sym (same_rows a b same)) leaf)),
       refl,
     ),
   )

@@ -1,15 +1,14 @@
 -- Decks that say the same have the same codes and the same lists, so they make the same project.
-use Rattle.std.proofs.Common.{◌≡◌, ℕ, List, length, map, Option, sym, ap, ◌∙◌}
-use Rattle.std.specs.Prelude.{nat_eq, position, unwrap_or, option_and_then, Some}
-use Rattle.std.specs.Cmp.Lexicographic.{pointwise}
+use Rattle.std.proofs.Common.{◌≡◌, ℕ, List, length, map, sym, ap, ◌∙◌}
+use Rattle.std.specs.Prelude.{option_and_then, Some}
 use Rattle.std.proofs.lemmas.List.{length-map}
 use Rattle.std.proofs.lemmas.Simd.{map-map}
 use Rattle.pc_accounts.specs.declared.entry.Entry.{Entry}
 use Rattle.pc_times.specs.Estimates.{expected_time, variance_of}
 use Rattle.pc_times.specs.declared.state.ActState.{ActState}
 use Rattle.pc_deck.specs.declared.kinds.act.ActCard.{ActCard}
-use Rattle.pc_deck.specs.Deck.{Deck, account_codes, account_named, act_codes, act_named, event_codes, event_named, item_codes, item_named, resource_codes, resource_named}
-use Rattle.pc_project.specs.Project.{account_number, account_of, accounts_in, act_number, arc_of, charges_in, counts_of, event_number, expected_of, heading_of, item_number, load_of, money_of, network_of, piece_codes, piece_of, pieces_in, place_of, project_in, resource_number, row_of, rows_of, status_of, statuses_in, term_of, terms_in, togos_in, variance_in, work_in, work_of}
+use Rattle.pc_deck.specs.Deck.{Deck, account_codes, act_codes, event_codes, item_codes, named_among, number_among, resource_codes}
+use Rattle.pc_project.specs.Project.{account_of, accounts_in, arc_of, charges_in, counts_of, expected_of, heading_of, load_of, money_of, network_of, piece_of, pieces_in, place_of, project_in, row_of, rows_of, status_of, statuses_in, term_of, terms_in, togos_in, variance_in, work_in, work_of}
 use Rattle.pc_deck_text.specs.Same.{SayTheSame, account_said, act_said, item_said, load_said, money_said, piece_said, status_said, titled_said}
 
 -- what is read of each element alike before and behind a function is the same of two lists that the function makes one
@@ -27,10 +26,6 @@ expected_with unit_days act = expected_time act.opt act.likely act.pess unit_day
 abbrev variance_with : ℕ → ActCard → ℕ
 variance_with unit_days act = variance_of act.opt act.pess unit_days
 
--- the place of a code among codes
-abbrev named_among : List (List ℕ) → List ℕ → Option ℕ
-named_among codes code = position (pointwise nat_eq code) codes
-
 module _ (a b : Deck) (same : SayTheSame a b) where
   pub same_item_codes : item_codes a ≡ item_codes b
   same_item_codes = of_said item_said (λ item. item.code) a.items b.items same.items
@@ -47,37 +42,37 @@ module _ (a b : Deck) (same : SayTheSame a b) where
   pub same_resource_codes : resource_codes a ≡ resource_codes b
   same_resource_codes = of_said titled_said (λ resource. resource.code) a.resources b.resources same.resources
 
-  pub same_items : item_named a ≡ item_named b
+  pub same_items : named_among (item_codes a) ≡ named_among (item_codes b)
   same_items = ap named_among same_item_codes
 
-  pub same_events : event_named a ≡ event_named b
+  pub same_events : named_among (event_codes a) ≡ named_among (event_codes b)
   same_events = ap named_among same_event_codes
 
-  pub same_acts : act_named a ≡ act_named b
+  pub same_acts : named_among (act_codes a) ≡ named_among (act_codes b)
   same_acts = ap named_among same_act_codes
 
-  pub same_accounts : account_named a ≡ account_named b
+  pub same_accounts : named_among (account_codes a) ≡ named_among (account_codes b)
   same_accounts = ap named_among same_account_codes
 
-  pub same_resources : resource_named a ≡ resource_named b
+  pub same_resources : named_among (resource_codes a) ≡ named_among (resource_codes b)
   same_resources = ap named_among same_resource_codes
 
-  item_numbers : item_number a ≡ item_number b
-  item_numbers = λ i code. unwrap_or (same_items i code) (length_said item_said a.items b.items same.items i)
+  item_numbers : number_among (item_codes a) ≡ number_among (item_codes b)
+  item_numbers = ap number_among same_item_codes
 
-  event_numbers : event_number a ≡ event_number b
-  event_numbers = λ i code. unwrap_or (same_events i code) (length_said titled_said a.events b.events same.events i)
+  event_numbers : number_among (event_codes a) ≡ number_among (event_codes b)
+  event_numbers = ap number_among same_event_codes
 
-  act_numbers : act_number a ≡ act_number b
-  act_numbers = λ i code. unwrap_or (same_acts i code) (length_said act_said a.acts b.acts same.acts i)
+  act_numbers : number_among (act_codes a) ≡ number_among (act_codes b)
+  act_numbers = ap number_among same_act_codes
 
-  account_numbers : account_number a ≡ account_number b
-  account_numbers = λ i code. unwrap_or (same_accounts i code) (length_said account_said a.accounts b.accounts same.accounts i)
+  account_numbers : number_among (account_codes a) ≡ number_among (account_codes b)
+  account_numbers = ap number_among same_account_codes
 
-  resource_numbers : resource_number a ≡ resource_number b
-  resource_numbers = λ i code. unwrap_or (same_resources i code) (length_said titled_said a.resources b.resources same.resources i)
+  resource_numbers : number_among (resource_codes a) ≡ number_among (resource_codes b)
+  resource_numbers = ap number_among same_resource_codes
 
-  pub same_item_number : item_number a ≡ item_number b
+  pub same_item_number : number_among (item_codes a) ≡ number_among (item_codes b)
   same_item_number = item_numbers
 
   -- the network
@@ -131,9 +126,6 @@ module _ (a b : Deck) (same : SayTheSame a b) where
   same_pieces =
       (λ i. map (λ piece. record { activity = act_numbers i piece.activity; units = piece.units; slope = piece.slope }) a.pieces)
       ∙ of_said piece_said (piece_of b) a.pieces b.pieces same.pieces
-
-  pub same_piece_codes : piece_codes a ≡ piece_codes b
-  same_piece_codes = of_said piece_said (λ piece. piece.activity) a.pieces b.pieces same.pieces
 
   loads : map (load_of a) a.loads ≡ map (load_of b) b.loads
   loads =

@@ -2,7 +2,7 @@
 use Rattle.std.proofs.Common.{◌≡◌, ◌<◌, ◌≤◌, List, ℕ, None, Some, refl, sym, ap, ◌∙◌, subst, inr, arith}
 use Rattle.pc_deck.specs.declared.kinds.wbs.ItemCard.{ItemCard}
 use Rattle.pc_deck.specs.declared.kinds.terms.TermsCard.{TermsCard}
-use Rattle.pc_deck.specs.Deck.{Deck, item_named}
+use Rattle.pc_deck.specs.Deck.{Deck, item_codes, named_among}
 use Rattle.pc_faults.specs.Faults.{bonus_above_penalty, unknown_item}
 use Rattle.pc_faults.specs.First.{IsFirst, IsNoLater}
 use Rattle.pc_faults.specs.declared.fault.Fault.{Fault}
@@ -14,7 +14,7 @@ pub no_later : (fault other known : Fault) → other ≡ known → fault.row ≡
 no_later fault other known is row number = subst (IsNoLater fault) (sym is) (inr (row, number))
 
 -- a parent that is no item is the first fault of its card
-pub first_unknown_parent : (deck : Deck) (card : ItemCard) (code : List ℕ) → card.parent ≡ Some code → item_named deck code ≡ None → IsFirst (HasItemFault deck card) (unknown_item card.row code)
+pub first_unknown_parent : (deck : Deck) (card : ItemCard) (code : List ℕ) → card.parent ≡ Some code → named_among (item_codes deck) code ≡ None → IsFirst (HasItemFault deck card) (unknown_item card.row code)
 first_unknown_parent deck card code there none = record { holds = unknown_parent code there none refl; least = by }
   where
     by : (other : Fault) → HasItemFault deck card other → IsNoLater (unknown_item card.row code) other

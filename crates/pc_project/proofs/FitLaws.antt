@@ -17,9 +17,9 @@ use Rattle.pc_faults.specs.Faults as told
 use Rattle.pc_faults.specs.declared.fault.Fault.{Fault}
 use Rattle.pc_deck.specs.declared.kinds.load.LoadCard.{LoadCard}
 use Rattle.pc_deck.specs.declared.kinds.piece.PieceCard.{PieceCard}
-use Rattle.pc_deck.specs.Deck.{Deck, account_named, act_named, event_named, item_named, resource_named}
-use Rattle.pc_project.specs.Project.{account_number, act_number, arc_of, event_number, item_number, network_of, place_of, resource_number, row_of, rows_of}
-use Rattle.pc_project.specs.Misfit.{HasAccountFault, HasActFault, HasItemFault, HasLoadFault, HasMoneyFault, HasPieceCardFault, HasStatusFault, HasNoMisfit, IsEvent, IsInOrder, account, act, charge, figure, item, listed, project, status, togo}
+use Rattle.pc_deck.specs.Deck.{Deck, account_codes, act_codes, event_codes, item_codes, named_among, number_among, resource_codes}
+use Rattle.pc_project.specs.Project.{arc_of, network_of, place_of, row_of, rows_of}
+use Rattle.pc_project.specs.Misfit.{HasAccountFault, HasActFault, HasItemFault, HasLoadFault, HasMoneyFault, HasPieceCardFault, HasStatusFault, HasNoMisfit, IsInOrder, account, act, charge, figure, item, listed, project, status, togo}
 use Rattle.pc_project.specs.Misfit as has
 use Rattle.pc_project.proofs.NumberLaws.{account_number-within, act_number-within, event_number-within, event_number-apart, item_number-within, resource_number-within}
 
@@ -34,15 +34,15 @@ Any-at P xs i d within holds = (i, get_or xs i d, within, get_or_default xs i (g
 
 -- the start and the end are two events
 pub record HasEnds (deck : Deck) : Type 0 where
-  pub starts : IsEvent deck deck.project.start
-  pub ends : IsEvent deck deck.project.end
+  pub starts : IsSome (named_among (event_codes deck) deck.project.start)
+  pub ends : IsSome (named_among (event_codes deck) deck.project.end)
   pub apart : deck.project.start ≢ deck.project.end
 
 -- the activity leads from one event to another and stands at an item, with its numbers in order
 pub record Fits (deck : Deck) (card : ActCard) : Type 0 where
-  pub begins : IsEvent deck card.from
-  pub ends : IsEvent deck card.to
-  pub placed : IsSome (item_named deck card.item)
+  pub begins : IsSome (named_among (event_codes deck) card.from)
+  pub ends : IsSome (named_among (event_codes deck) card.to)
+  pub placed : IsSome (named_among (item_codes deck) card.item)
   pub apart : card.from ≢ card.to
   pub ordered : IsInOrder card
   pub durations : card.crash ≤ card.normal
@@ -50,18 +50,18 @@ pub record Fits (deck : Deck) (card : ActCard) : Type 0 where
 module _ (deck : Deck) (none : HasNoMisfit deck) where
   has_ends : HasEnds deck
   has_ends =
-      let starts = known_unless (event_named deck deck.project.start) (λ n. none _ (project (has.unknown_start n refl))) in record {
+      let starts = known_unless (named_among (event_codes deck) deck.project.start) (λ n. none _ (project (has.unknown_start n refl))) in record {
         starts = starts;
-        ends = known_unless (event_named deck deck.project.end) (λ n. none _ (project (has.unknown_end starts n refl)));
+        ends = known_unless (named_among (event_codes deck) deck.project.end) (λ n. none _ (project (has.unknown_end starts n refl)));
         apart = λ same. none _ (project (has.same_ends same refl));
       }
 
   fits_at : (card : ActCard) → ((fault : Fault) → HasActFault deck card fault → ⊥) → Fits deck card
   fits_at card out =
-      let begins = known_unless (event_named deck card.from) (λ n. out _ (has.unknown_from n refl)) in record {
+      let begins = known_unless (named_among (event_codes deck) card.from) (λ n. out _ (has.unknown_from n refl)) in record {
         begins = begins;
-        ends = known_unless (event_named deck card.to) (λ n. out _ (has.unknown_to begins n refl));
-        placed = known_unless (item_named deck card.item) (λ n. out _ (has.HasActFault.unknown_item n refl));
+        ends = known_unless (named_among (event_codes deck) card.to) (λ n. out _ (has.unknown_to begins n refl));
+        placed = known_unless (named_among (item_codes deck) card.item) (λ n. out _ (has.HasActFault.unknown_item n refl));
         apart = λ same. out _ (has.same_events same refl);
         ordered = record {
           optimistic = elim (cases_lt card.likely card.opt) [ inl above ↦ absurd (out _ (has.unordered (λ o. omega (arith, above, o.optimistic)) refl)) | inr fine ↦ fine ];
@@ -84,8 +84,8 @@ no_item = record { row = 0; code = []; parent = None; title = [] }
 -- the activity leads from the event that its card names first to the one that it names second
 record IsPlaced (deck : Deck) (a : ℕ) (card : ActCard) : Type 0 where
   fits : Fits deck card
-  from : from_of (network_of deck).arcs a ≡ event_number deck card.from
-  to : to_of (network_of deck).arcs a ≡ event_number deck card.to
+  from : from_of (network_of deck).arcs a ≡ number_among (event_codes deck) card.from
+  to : to_of (network_of deck).arcs a ≡ number_among (event_codes deck) card.to
 
 is_placed : (deck : Deck) → HasNoMisfit deck → (a : ℕ) → a < length (network_of deck).arcs → IsPlaced deck a (get_or deck.acts a no_act)
 is_placed deck none a within =
@@ -108,10 +108,10 @@ network_of-in_range deck none =
     }
 
 -- the number of a parent that is named
-parent_within : (deck : Deck) (parent : Option (List ℕ)) (p : ℕ) → ((code : List ℕ) → parent ≡ Some code → IsSome (item_named deck code)) → option_and_then (λ code. Some (item_number deck code)) parent ≡ Some p → p < length deck.items
+parent_within : (deck : Deck) (parent : Option (List ℕ)) (p : ℕ) → ((code : List ℕ) → parent ≡ Some code → IsSome (named_among (item_codes deck) code)) → option_and_then (λ code. Some (number_among (item_codes deck) code)) parent ≡ Some p → p < length deck.items
 parent_within deck None p known is = absurd (let never : None ≡ Some p = is in cc)
 parent_within deck (Some code) p known is =
-    let same : item_number deck code ≡ p = cc in
+    let same : number_among (item_codes deck) code ≡ p = cc in
     omega (arith, same, item_number-within deck code (known code refl))
 
 -- items without faults have items for parents
@@ -121,9 +121,9 @@ items-in_range deck none x p within is =
     let inside : x < length deck.items = omega (arith, within, count) in
     let card = get_or deck.items x no_item in
     let row = get_or-map (row_of deck) deck.items x no_item (record { parent = None }) inside in
-    let parent : option_and_then (λ code. Some (item_number deck code)) card.parent ≡ Some p = sym (ap (λ r. r.parent) row) ∙ is in
+    let parent : option_and_then (λ code. Some (number_among (item_codes deck) code)) card.parent ≡ Some p = sym (ap (λ r. r.parent) row) ∙ is in
     let known = λ (code : List ℕ) (there : card.parent ≡ Some code).
-    known_unless (item_named deck code)
+    known_unless (named_among (item_codes deck) code)
     (λ n. let fault : Fault = told.unknown_item card.row code in
     none fault (Any-at (λ card. HasItemFault deck card fault) deck.items x no_item inside (has.unknown_parent code there n refl))) in
     omega (arith, count, parent_within deck card.parent p known parent)
@@ -137,47 +137,47 @@ place_of-within deck none a within =
     item_number-within deck (get_or deck.acts a no_act).item (all_fit deck none a no_act within).placed
 
 -- the item of an account is an item
-pub account_item-within : (deck : Deck) → HasNoMisfit deck → (a : ℕ) (d : AcctCard) → a < length deck.accounts → item_number deck (get_or deck.accounts a d).item < length deck.items
+pub account_item-within : (deck : Deck) → HasNoMisfit deck → (a : ℕ) (d : AcctCard) → a < length deck.accounts → number_among (item_codes deck) (get_or deck.accounts a d).item < length deck.items
 account_item-within deck none a d within =
     let card = get_or deck.accounts a d in
     let fault : Fault = told.unknown_item card.row card.item in
     item_number-within deck card.item
-    (known_unless (item_named deck card.item)
+    (known_unless (named_among (item_codes deck) card.item)
     (λ n. none fault (listed (figure (account (Any-at (λ c. HasAccountFault deck c fault) deck.accounts a d within (has.HasAccountFault.unknown_item n refl)))))))
 
 -- the same of a card that was read
-pub act_item-within : (deck : Deck) → HasNoMisfit deck → (a : ℕ) (card : ActCard) → a < length deck.acts → card ≡ get_or deck.acts a card → item_number deck card.item < length deck.items
+pub act_item-within : (deck : Deck) → HasNoMisfit deck → (a : ℕ) (card : ActCard) → a < length deck.acts → card ≡ get_or deck.acts a card → number_among (item_codes deck) card.item < length deck.items
 act_item-within deck none a card within read =
-    subst (λ (c : ActCard). item_number deck c.item < length deck.items) (sym read) (item_number-within deck (get_or deck.acts a card).item (all_fit deck none a card within).placed)
+    subst (λ (c : ActCard). number_among (item_codes deck) c.item < length deck.items) (sym read) (item_number-within deck (get_or deck.acts a card).item (all_fit deck none a card within).placed)
 
-pub account_item-read : (deck : Deck) → HasNoMisfit deck → (a : ℕ) (card : AcctCard) → a < length deck.accounts → card ≡ get_or deck.accounts a card → item_number deck card.item < length deck.items
+pub account_item-read : (deck : Deck) → HasNoMisfit deck → (a : ℕ) (card : AcctCard) → a < length deck.accounts → card ≡ get_or deck.accounts a card → number_among (item_codes deck) card.item < length deck.items
 account_item-read deck none a card within read =
-    subst (λ (c : AcctCard). item_number deck c.item < length deck.items) (sym read) (account_item-within deck none a card within)
+    subst (λ (c : AcctCard). number_among (item_codes deck) c.item < length deck.items) (sym read) (account_item-within deck none a card within)
 
 -- the account of a charge, and that of an amount to go, is an account
-pub charge_account-within : (deck : Deck) → HasNoMisfit deck → (k : ℕ) (d : MoneyCard) → k < length deck.charges → account_number deck (get_or deck.charges k d).account < length deck.accounts
+pub charge_account-within : (deck : Deck) → HasNoMisfit deck → (k : ℕ) (d : MoneyCard) → k < length deck.charges → number_among (account_codes deck) (get_or deck.charges k d).account < length deck.accounts
 charge_account-within deck none k d within =
     let card = get_or deck.charges k d in
     let fault : Fault = told.unknown_account card.row card.account in
     account_number-within deck card.account
-    (known_unless (account_named deck card.account)
+    (known_unless (named_among (account_codes deck) card.account)
     (λ n. none fault (listed (figure (charge (Any-at (λ c. HasMoneyFault deck c fault) deck.charges k d within (has.HasMoneyFault.unknown_account n refl)))))))
 
-pub togo_account-within : (deck : Deck) → HasNoMisfit deck → (k : ℕ) (d : MoneyCard) → k < length deck.togos → account_number deck (get_or deck.togos k d).account < length deck.accounts
+pub togo_account-within : (deck : Deck) → HasNoMisfit deck → (k : ℕ) (d : MoneyCard) → k < length deck.togos → number_among (account_codes deck) (get_or deck.togos k d).account < length deck.accounts
 togo_account-within deck none k d within =
     let card = get_or deck.togos k d in
     let fault : Fault = told.unknown_account card.row card.account in
     account_number-within deck card.account
-    (known_unless (account_named deck card.account)
+    (known_unless (named_among (account_codes deck) card.account)
     (λ n. none fault (listed (figure (togo (Any-at (λ c. HasMoneyFault deck c fault) deck.togos k d within (has.HasMoneyFault.unknown_account n refl)))))))
 
 -- the activity of a status is an activity
-pub status_activity-within : (deck : Deck) → HasNoMisfit deck → (k : ℕ) (d : StatusCard) → k < length deck.statuses → act_number deck (get_or deck.statuses k d).activity < length deck.acts
+pub status_activity-within : (deck : Deck) → HasNoMisfit deck → (k : ℕ) (d : StatusCard) → k < length deck.statuses → number_among (act_codes deck) (get_or deck.statuses k d).activity < length deck.acts
 status_activity-within deck none k d within =
     let card = get_or deck.statuses k d in
     let fault : Fault = told.unknown_activity card.row card.activity in
     act_number-within deck card.activity
-    (known_unless (act_named deck card.activity)
+    (known_unless (named_among (act_codes deck) card.activity)
     (λ n. none fault (listed (figure (status (Any-at (λ c. HasStatusFault deck c fault) deck.statuses k d within (has.HasStatusFault.unknown_activity n refl)))))))
 
 -- the network of a deck, from its parts
@@ -186,20 +186,20 @@ network_of-is deck events start end arcs same_events same_start same_end same_ar
     λ i. record { events = same_events i; start = same_start i; end = same_end i; arcs = same_arcs i }
 
 -- the activity of a piece is an activity
-pub piece_activity-within : (deck : Deck) → HasNoMisfit deck → (i : ℕ) (d : PieceCard) → i < length deck.pieces → act_number deck (get_or deck.pieces i d).activity < length deck.acts
+pub piece_activity-within : (deck : Deck) → HasNoMisfit deck → (i : ℕ) (d : PieceCard) → i < length deck.pieces → number_among (act_codes deck) (get_or deck.pieces i d).activity < length deck.acts
 piece_activity-within deck none i d within =
     act_number-within deck (get_or deck.pieces i d).activity
-    (known_unless (act_named deck (get_or deck.pieces i d).activity)
+    (known_unless (named_among (act_codes deck) (get_or deck.pieces i d).activity)
     (λ n. none (told.unknown_activity (get_or deck.pieces i d).row (get_or deck.pieces i d).activity) (listed (has.piece (Any-at (λ card. HasPieceCardFault deck card (told.unknown_activity (get_or deck.pieces i d).row (get_or deck.pieces i d).activity)) deck.pieces i d within (has.HasPieceCardFault.unknown_activity n refl))))))
 
 -- the activity and the resource of a load are known
-pub load_known : (deck : Deck) → HasNoMisfit deck → (i : ℕ) (d : LoadCard) → i < length deck.loads → (act_number deck (get_or deck.loads i d).activity < length deck.acts) × (resource_number deck (get_or deck.loads i d).resource < length deck.resources)
+pub load_known : (deck : Deck) → HasNoMisfit deck → (i : ℕ) (d : LoadCard) → i < length deck.loads → (number_among (act_codes deck) (get_or deck.loads i d).activity < length deck.acts) × (number_among (resource_codes deck) (get_or deck.loads i d).resource < length deck.resources)
 load_known deck none i d within =
     let card = get_or deck.loads i d in (
       act_number-within deck card.activity
-          (known_unless (act_named deck card.activity)
+          (known_unless (named_among (act_codes deck) card.activity)
           (λ n. none (told.unknown_activity card.row card.activity) (listed (has.load (Any-at (λ c. HasLoadFault deck c (told.unknown_activity card.row card.activity)) deck.loads i d within (has.HasLoadFault.unknown_activity n refl)))))),
       resource_number-within deck card.resource
-          (known_unless (resource_named deck card.resource)
+          (known_unless (named_among (resource_codes deck) card.resource)
           (λ n. none (told.unknown_resource card.row card.resource) (listed (has.load (Any-at (λ c. HasLoadFault deck c (told.unknown_resource card.row card.resource)) deck.loads i d within (has.HasLoadFault.unknown_resource n refl)))))),
     )

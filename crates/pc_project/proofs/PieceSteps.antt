@@ -1,5 +1,5 @@
 -- One piece of a deck: what it names and how large it is, and its faults by the run of its activity.
-use Rattle.std.proofs.Common.{◌≡◌, ℕ, ◌<◌, ◌≤◌, List, [], Option, length, take, get_or, sym, ◌∙◌, ap, subst, ◌==◌, arith}
+use Rattle.std.proofs.Common.{◌≡◌, ℕ, ◌<◌, ◌≤◌, List, [], Option, length, map, take, get_or, sym, ◌∙◌, ap, subst, ◌==◌, arith}
 use Rattle.std.specs.Prelude.{slice_index, slice_index_or}
 use Rattle.std.proofs.lemmas.List.{get_or-map, get_or_read, length-map, length-take-le}
 use Rattle.std.proofs.lemmas.List.Sums.{count_by-le-length, length-filter}
@@ -19,7 +19,7 @@ use Rattle.pc_project.specs.declared.pieces.Run.{Run}
 use Rattle.pc_faults.specs.inside.First.{IsFirstIn}
 use Rattle.pc_project.specs.Misfit.{HasNoMisfit}
 use Rattle.pc_project.specs.PieceFaults.{HasFlaw, HasPieceFaultAt, pieces_before}
-use Rattle.pc_project.specs.Project.{piece_of, piece_codes, piece_records, pieces_in, term_of, terms_in}
+use Rattle.pc_project.specs.Project.{piece_of, pieces_in, term_of, terms_in}
 use Rattle.pc_project.proofs.RunLaws.{AreRuns, IsRunOf}
 use Rattle.pc_project.specs.inside.Runs.{HasFlawBehind, IsNext, run_at}
 use Rattle.pc_project.proofs.FitLaws.{no_act, piece_activity-within}
@@ -75,12 +75,14 @@ module _ (deck : Deck) (none : HasNoMisfit deck) (limits : IsWithinLimits deck) 
     flaw-is card found card_is first =
         let term = term_at (terms_in deck) piece.activity in
         let there = get_or_read deck.pieces i card inside card_is no_piece in
-        let row : card.row ≡ slice_index (piece_records deck) i = ap (λ (c : PieceCard). c.row) there ∙ sym (get_or-map (λ (c : PieceCard). c.row) deck.pieces i no_piece 0 inside) in
-        let code : card.activity ≡ slice_index_or (piece_codes deck) i [] = ap (λ (c : PieceCard). c.activity) there ∙ sym (get_or-map (λ (c : PieceCard). c.activity) deck.pieces i no_piece [] inside) in
+        let at : ℕ = slice_index (map (λ (c : PieceCard). c.row) deck.pieces) i in
+        let name : List ℕ = slice_index_or (map (λ (c : PieceCard). c.activity) deck.pieces) i [] in
+        let row : card.row ≡ at = ap (λ (c : PieceCard). c.row) there ∙ sym (get_or-map (λ (c : PieceCard). c.row) deck.pieces i no_piece 0 inside) in
+        let code : card.activity ≡ name = ap (λ (c : PieceCard). c.activity) there ∙ sym (get_or-map (λ (c : PieceCard). c.activity) deck.pieces i no_piece [] inside) in
         let before = pieces_before (pieces_in deck) i in
         let slope = slope_in term before (length before) in
-        subst (λ n. IsFirstIn (HasFlaw term n slope (units_of before) piece (slice_index (piece_records deck) i) (slice_index_or (piece_codes deck) i [])) found) run-is.same_count
-        (subst (λ s. IsFirstIn (HasFlaw term run.count s (units_of before) piece (slice_index (piece_records deck) i) (slice_index_or (piece_codes deck) i [])) found) run-is.same_slope
-        (subst (λ u. IsFirstIn (HasFlaw term run.count run.slope u piece (slice_index (piece_records deck) i) (slice_index_or (piece_codes deck) i [])) found) run-is.same_units
-        (subst (λ r. IsFirstIn (HasFlaw term run.count run.slope run.units piece r (slice_index_or (piece_codes deck) i [])) found) row
+        subst (λ n. IsFirstIn (HasFlaw term n slope (units_of before) piece at name) found) run-is.same_count
+        (subst (λ s. IsFirstIn (HasFlaw term run.count s (units_of before) piece at name) found) run-is.same_slope
+        (subst (λ u. IsFirstIn (HasFlaw term run.count run.slope u piece at name) found) run-is.same_units
+        (subst (λ r. IsFirstIn (HasFlaw term run.count run.slope run.units piece r name) found) row
         (subst (λ k. IsFirstIn (HasFlaw term run.count run.slope run.units piece card.row k) found) code first))))

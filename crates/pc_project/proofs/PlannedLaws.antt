@@ -27,7 +27,8 @@ use Rattle.pc_project.specs.Project.{Project, accounts_in, arc_of, charges_in, c
 use Rattle.pc_project.specs.Misfit.{HasNoMisfit}
 use Rattle.pc_project.specs.declared.load.LoadItem.{LoadItem}
 use Rattle.pc_project.specs.PieceFaults.{HasNoPieceFault, pieces_before, one_too_many, not_rising, none_left}
-use Rattle.pc_project.specs.TermsFaults.{HasNoTermsFault, bonus_above}
+use Rattle.pc_project.specs.TermsFaults.{HasTermsFault, bonus_above}
+use Rattle.pc_faults.specs.declared.fault.Fault.{Fault}
 use Rattle.pc_project.specs.Refusal.{MakesProject}
 use Rattle.pc_model.specs.TimeCost.{AreTimeTerms}
 use Rattle.pc_project.specs.Planned.{HasFigures, IsLoad, IsPlanned}
@@ -154,7 +155,7 @@ loads_of_deck deck entries states cards limits =
     })
 
 -- the terms of time
-time_terms_of_deck : (deck : Deck) (terms : Option TermsCard) → HasNoTermsFault deck → ForSome deck.terms AreTermsWithin → deck.terms ≡ terms → AreTimeTerms (time_terms_of terms)
+time_terms_of_deck : (deck : Deck) (terms : Option TermsCard) → ((fault : Fault) → HasTermsFault deck fault → ⊥) → ForSome deck.terms AreTermsWithin → deck.terms ≡ terms → AreTimeTerms (time_terms_of terms)
 time_terms_of_deck deck None none within is = record { overhead = omega arith; target = omega arith; bonus = omega arith; penalty = omega arith }
 time_terms_of_deck deck (Some card) none within is =
     let fit = within card is in record {

@@ -9,13 +9,9 @@ use Rattle.pc_deck.specs.declared.kinds.piece.PieceCard.{PieceCard}
 use Rattle.pc_deck.specs.declared.kinds.money.MoneyCard.{MoneyCard}
 use Rattle.pc_deck.specs.declared.kinds.project.ProjectCard.{ProjectCard}
 use Rattle.pc_deck.specs.declared.kinds.status.StatusCard.{StatusCard}
-use Rattle.pc_deck.specs.Deck.{Deck, event_named, item_named, act_named, account_named, resource_named}
+use Rattle.pc_deck.specs.Deck.{Deck, account_codes, act_codes, event_codes, item_codes, named_among, resource_codes}
 use Rattle.pc_faults.specs.Faults as told
 use Rattle.pc_faults.specs.declared.fault.Fault.{Fault}
-
--- some EVENT card has the code
-abbrev pub IsEvent : Deck → List ℕ → Type 0
-IsEvent deck code = IsSome (event_named deck code)
 
 -- the estimates are in order
 pub record IsInOrder (act : ActCard) : Type 0 where
@@ -25,22 +21,25 @@ pub record IsInOrder (act : ActCard) : Type 0 where
 -- the faults of the PROJECT card
 pub data HasProjectFault (deck : Deck) (card : ProjectCard) (fault : Fault) : Type 0 where
   -- F13: the start, or else the end, is no event
-  unknown_start : event_named deck card.start ≡ None → fault ≡ told.unknown_event card.row card.start → HasProjectFault deck card fault
-  unknown_end : IsEvent deck card.start → event_named deck card.end ≡ None → fault ≡ told.unknown_event card.row card.end → HasProjectFault deck card fault
+  unknown_start : named_among (event_codes deck) card.start ≡ None → fault ≡ told.unknown_event card.row card.start → HasProjectFault deck card fault
+  unknown_end : IsSome (named_among (event_codes deck) card.start) → named_among (event_codes deck) card.end ≡ None →
+      fault ≡ told.unknown_event card.row card.end → HasProjectFault deck card fault
   -- F17: the start is the end
   same_ends : card.start ≡ card.end → fault ≡ told.one_event card.row card.start → HasProjectFault deck card fault
 
 -- the fault of a WBS card, F14: its parent is no item
 pub data HasItemFault (deck : Deck) (card : ItemCard) (fault : Fault) : Type 0 where
-  unknown_parent : (code : List ℕ) → card.parent ≡ Some code → item_named deck code ≡ None → fault ≡ told.unknown_item card.row code → HasItemFault deck card fault
+  unknown_parent : (code : List ℕ) → card.parent ≡ Some code → named_among (item_codes deck) code ≡ None →
+      fault ≡ told.unknown_item card.row code → HasItemFault deck card fault
 
 -- the faults of an ACT card
 pub data HasActFault (deck : Deck) (card : ActCard) (fault : Fault) : Type 0 where
   -- F13: where it begins, or else where it ends, is no event
-  unknown_from : event_named deck card.from ≡ None → fault ≡ told.unknown_event card.row card.from → HasActFault deck card fault
-  unknown_to : IsEvent deck card.from → event_named deck card.to ≡ None → fault ≡ told.unknown_event card.row card.to → HasActFault deck card fault
+  unknown_from : named_among (event_codes deck) card.from ≡ None → fault ≡ told.unknown_event card.row card.from → HasActFault deck card fault
+  unknown_to : IsSome (named_among (event_codes deck) card.from) → named_among (event_codes deck) card.to ≡ None →
+      fault ≡ told.unknown_event card.row card.to → HasActFault deck card fault
   -- F14: its item is no item
-  unknown_item : item_named deck card.item ≡ None → fault ≡ told.unknown_item card.row card.item → HasActFault deck card fault
+  unknown_item : named_among (item_codes deck) card.item ≡ None → fault ≡ told.unknown_item card.row card.item → HasActFault deck card fault
   -- F17: it begins where it ends
   same_events : card.from ≡ card.to → fault ≡ told.one_event card.row card.from → HasActFault deck card fault
   -- F18: its estimates are out of order
@@ -50,26 +49,31 @@ pub data HasActFault (deck : Deck) (card : ActCard) (fault : Fault) : Type 0 whe
 
 -- the fault of an ACCT card, F14: its item is no item
 pub data HasAccountFault (deck : Deck) (card : AcctCard) (fault : Fault) : Type 0 where
-  unknown_item : item_named deck card.item ≡ None → fault ≡ told.unknown_item card.row card.item → HasAccountFault deck card fault
+  unknown_item : named_among (item_codes deck) card.item ≡ None → fault ≡ told.unknown_item card.row card.item → HasAccountFault deck card fault
 
 -- the fault of a CHARGE or TOGO card, F15: its account is no account
 pub data HasMoneyFault (deck : Deck) (card : MoneyCard) (fault : Fault) : Type 0 where
-  unknown_account : account_named deck card.account ≡ None → fault ≡ told.unknown_account card.row card.account → HasMoneyFault deck card fault
+  unknown_account : named_among (account_codes deck) card.account ≡ None →
+      fault ≡ told.unknown_account card.row card.account → HasMoneyFault deck card fault
 
 -- the fault of a STATUS card, F16: its activity is no activity
 pub data HasStatusFault (deck : Deck) (card : StatusCard) (fault : Fault) : Type 0 where
-  unknown_activity : act_named deck card.activity ≡ None → fault ≡ told.unknown_activity card.row card.activity → HasStatusFault deck card fault
+  unknown_activity : named_among (act_codes deck) card.activity ≡ None →
+      fault ≡ told.unknown_activity card.row card.activity → HasStatusFault deck card fault
 
 -- the fault of a PIECE card, F16: its activity is no activity
 pub data HasPieceCardFault (deck : Deck) (card : PieceCard) (fault : Fault) : Type 0 where
-  unknown_activity : act_named deck card.activity ≡ None → fault ≡ told.unknown_activity card.row card.activity → HasPieceCardFault deck card fault
+  unknown_activity : named_among (act_codes deck) card.activity ≡ None →
+      fault ≡ told.unknown_activity card.row card.activity → HasPieceCardFault deck card fault
 
 -- the faults of a LOAD card
 pub data HasLoadFault (deck : Deck) (card : LoadCard) (fault : Fault) : Type 0 where
   -- F16: its activity is no activity
-  unknown_activity : act_named deck card.activity ≡ None → fault ≡ told.unknown_activity card.row card.activity → HasLoadFault deck card fault
+  unknown_activity : named_among (act_codes deck) card.activity ≡ None →
+      fault ≡ told.unknown_activity card.row card.activity → HasLoadFault deck card fault
   -- F41: its resource is no resource
-  unknown_resource : resource_named deck card.resource ≡ None → fault ≡ told.unknown_resource card.row card.resource → HasLoadFault deck card fault
+  unknown_resource : named_among (resource_codes deck) card.resource ≡ None →
+      fault ≡ told.unknown_resource card.row card.resource → HasLoadFault deck card fault
 
 -- the faults of the cards that give figures: accounts, charges, amounts to go and status
 pub data HasFigureFault (deck : Deck) (fault : Fault) : Type 0 where

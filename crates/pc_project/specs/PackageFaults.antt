@@ -4,18 +4,18 @@ use Rattle.std.specs.Prelude.{◌≡◌, ℕ, List, slice_index}
 use Rattle.std.specs.List.{Any}
 use Rattle.pc_model.specs.Codes.{code_at}
 use Rattle.pc_accounts.specs.Packages.{IsUneven, budgets_of, costs_of}
-use Rattle.pc_deck.specs.Deck.{Deck, item_codes}
+use Rattle.pc_deck.specs.Deck.{Deck, item_codes, number_among}
 use Rattle.pc_faults.specs.Faults.{not_a_leaf, uneven}
 use Rattle.pc_faults.specs.declared.fault.Fault.{Fault}
 use Rattle.pc_model.specs.Greatest.{IsFirst}
 use Rattle.pc_wbs.specs.Climb.{IsLeaf}
-use Rattle.pc_project.specs.Project.{accounts_in, item_number, rows_of, work_in}
+use Rattle.pc_project.specs.Project.{accounts_in, rows_of, work_in}
 use Rattle.pc_project.specs.Records.{item_records}
 
 -- the card at a record stands on the item with a code, which has items below it
 abbrev pub StandsOnBranch : Deck → ℕ → List ℕ → Fault → Type 0
 StandsOnBranch deck row code fault =
-    (IsLeaf (rows_of deck) (item_number deck code) → ⊥) × (fault ≡ not_a_leaf row code)
+    (IsLeaf (rows_of deck) (number_among (item_codes deck) code) → ⊥) × (fault ≡ not_a_leaf row code)
 
 -- F28: an activity or an account does
 pub data HasLeafFault (deck : Deck) (fault : Fault) : Type 0 where

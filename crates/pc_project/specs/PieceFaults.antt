@@ -1,5 +1,5 @@
 -- The faults of the pieces of the activities' costs (F33 to F35).
-use Rattle.std.specs.Prelude.{◌≡◌, ℕ, ◌+◌, ◌<◌, ◌≤◌, List, [], length, take, slice_index, slice_index_or}
+use Rattle.std.specs.Prelude.{◌≡◌, ℕ, ◌+◌, ◌<◌, ◌≤◌, List, [], length, map, take, slice_index, slice_index_or}
 use Rattle.pc_model.specs.declared.PieceRow.{PieceRow}
 use Rattle.pc_model.specs.declared.Term.{Term}
 use Rattle.pc_model.specs.declared.limits.TheConstants.{MAX_PIECES_EACH}
@@ -9,7 +9,7 @@ use Rattle.pc_crash.specs.Priced.{piece_at}
 use Rattle.pc_deck.specs.Deck.{Deck}
 use Rattle.pc_faults.specs.Faults.{too_many_pieces, slope_not_rising, nothing_left}
 use Rattle.pc_faults.specs.declared.fault.Fault.{Fault}
-use Rattle.pc_project.specs.Project.{pieces_in, piece_records, piece_codes, terms_in}
+use Rattle.pc_project.specs.Project.{pieces_in, terms_in}
 
 -- the faults of a piece behind so many pieces of its activity with so many units, of which the last, or else the
 -- activity's own slope, costs `slope`; they come at this record and name this code
@@ -35,7 +35,8 @@ HasFlawAt terms pieces i row code fault =
 -- the faults of a deck's i-th PIECE card
 abbrev pub HasPieceFaultAt : Deck → ℕ → Fault → Type 0
 HasPieceFaultAt deck i fault =
-    HasFlawAt (terms_in deck) (pieces_in deck) i (slice_index (piece_records deck) i) (slice_index_or (piece_codes deck) i []) fault
+    HasFlawAt (terms_in deck) (pieces_in deck) i (slice_index (map (λ piece. piece.row) deck.pieces) i)
+    (slice_index_or (map (λ piece. piece.activity) deck.pieces) i []) fault
 
 -- the faults of its PIECE cards
 abbrev pub HasPieceFault : Deck → Fault → Type 0

@@ -1,5 +1,5 @@
 -- The project of a deck: its lists in card order, with numbers for codes.
-use Rattle.std.specs.Prelude.{ℕ, ℤ, List, length, map, Option, Some, None, unwrap_or, option_and_then}
+use Rattle.std.specs.Prelude.{ℕ, ℤ, List, length, map, Option, Some, None, option_and_then}
 use Rattle.pc_accounts.specs.declared.entry.Entry.{Entry}
 use Rattle.pc_accounts.specs.declared.rows.AcctRow.{AcctRow}
 use Rattle.pc_accounts.specs.declared.rows.MoneyRow.{MoneyRow}
@@ -21,7 +21,7 @@ use Rattle.pc_deck.specs.declared.kinds.piece.PieceCard.{PieceCard}
 use Rattle.pc_deck.specs.declared.kinds.status.StatusCard.{StatusCard}
 use Rattle.pc_deck.specs.declared.kinds.terms.TermsCard.{TermsCard}
 use Rattle.pc_deck.specs.declared.kinds.wbs.ItemCard.{ItemCard}
-use Rattle.pc_deck.specs.Deck.{Deck, act_codes, event_codes, item_codes, event_named, item_named, account_named, act_named, resource_named, resource_codes}
+use Rattle.pc_deck.specs.Deck.{Deck, account_codes, act_codes, event_codes, item_codes, number_among, resource_codes}
 use Rattle.pc_project.specs.declared.heading.Counts.{Counts}
 use Rattle.pc_model.specs.declared.TimeTerms.{TimeTerms}
 use Rattle.pc_project.specs.declared.load.LoadItem.{LoadItem}
@@ -66,33 +66,13 @@ pub record Project : Type 0 where
   pub time_terms : TimeTerms
   pub counts : Counts
 
--- the number of the event with a code; the number of events where no event has it
-abbrev pub event_number : Deck → List ℕ → ℕ
-event_number deck code = unwrap_or (event_named deck code) (length deck.events)
-
--- the number of the item with a code; the number of items where no item has it
-abbrev pub item_number : Deck → List ℕ → ℕ
-item_number deck code = unwrap_or (item_named deck code) (length deck.items)
-
--- the number of the account with a code; the number of accounts where no account has it
-abbrev pub account_number : Deck → List ℕ → ℕ
-account_number deck code = unwrap_or (account_named deck code) (length deck.accounts)
-
--- the number of the activity with a code; the number of activities where no activity has it
-abbrev pub act_number : Deck → List ℕ → ℕ
-act_number deck code = unwrap_or (act_named deck code) (length deck.acts)
-
--- the number of the resource with a code; the number of resources where no resource has it
-abbrev pub resource_number : Deck → List ℕ → ℕ
-resource_number deck code = unwrap_or (resource_named deck code) (length deck.resources)
-
 -- the events where the activity of a card begins and ends
 abbrev pub arc_of : Deck → ActCard → Arc
-arc_of deck act = record { from = event_number deck act.from; to = event_number deck act.to }
+arc_of deck act = record { from = number_among (event_codes deck) act.from; to = number_among (event_codes deck) act.to }
 
 -- the item of the activity of a card
 abbrev pub place_of : Deck → ActCard → ℕ
-place_of deck act = item_number deck act.item
+place_of deck act = number_among (item_codes deck) act.item
 
 -- what the activity of a card may last and costs
 abbrev pub term_of : ActCard → Term
@@ -104,26 +84,23 @@ terms_in deck = map term_of deck.acts
 
 -- the piece of a card
 abbrev pub piece_of : Deck → PieceCard → PieceRow
-piece_of deck piece = record { activity = act_number deck piece.activity; units = piece.units; slope = piece.slope }
+piece_of deck piece = record { activity = number_among (act_codes deck) piece.activity; units = piece.units; slope = piece.slope }
 
 -- the pieces
 abbrev pub pieces_in : Deck → List PieceRow
 pieces_in deck = map (piece_of deck) deck.pieces
 
--- the records of the PIECE cards, and the codes of the activities that they name
-abbrev pub piece_records : Deck → List ℕ
-piece_records deck = map (λ piece. piece.row) deck.pieces
-
-abbrev pub piece_codes : Deck → List (List ℕ)
-piece_codes deck = map (λ piece. piece.activity) deck.pieces
-
 -- the load of a card
 abbrev pub load_of : Deck → LoadCard → LoadItem
-load_of deck load = record { activity = act_number deck load.activity; resource = resource_number deck load.resource; quantity = load.quantity }
+load_of deck load = record {
+  activity = number_among (act_codes deck) load.activity;
+  resource = number_among (resource_codes deck) load.resource;
+  quantity = load.quantity;
+}
 
 -- the account of a card: the item that it stands on, and its budget
 abbrev pub account_of : Deck → AcctCard → AcctRow
-account_of deck card = record { item = item_number deck card.item; budget = card.budget }
+account_of deck card = record { item = number_among (item_codes deck) card.item; budget = card.budget }
 
 -- the accounts
 abbrev pub accounts_in : Deck → List AcctRow
@@ -131,7 +108,7 @@ accounts_in deck = map (account_of deck) deck.accounts
 
 -- the amount of a CHARGE or a TOGO card
 abbrev pub money_of : Deck → MoneyCard → MoneyRow
-money_of deck card = record { account = account_number deck card.account; day = card.day; amount = card.amount }
+money_of deck card = record { account = number_among (account_codes deck) card.account; day = card.day; amount = card.amount }
 
 -- the charges, and the amounts to go
 abbrev pub charges_in : Deck → List MoneyRow
@@ -150,7 +127,7 @@ work_in deck = map (work_of deck) deck.acts
 
 -- what a STATUS card says
 abbrev pub status_of : Deck → StatusCard → StatusRow
-status_of deck card = record { activity = act_number deck card.activity; finished = card.finished; day = card.day }
+status_of deck card = record { activity = number_among (act_codes deck) card.activity; finished = card.finished; day = card.day }
 
 -- the statuses
 abbrev pub statuses_in : Deck → List StatusRow
@@ -173,14 +150,14 @@ variance_in deck act = variance_of act.opt act.pess deck.project.unit_days
 abbrev pub network_of : Deck → Network
 network_of deck = record {
   events = length deck.events;
-  start = event_number deck deck.project.start;
-  end = event_number deck deck.project.end;
+  start = number_among (event_codes deck) deck.project.start;
+  end = number_among (event_codes deck) deck.project.end;
   arcs = map (arc_of deck) deck.acts;
 }
 
 -- the item of a WBS card by the number of its parent; none at a card without a parent
 abbrev pub row_of : Deck → ItemCard → ItemRow
-row_of deck item = record { parent = option_and_then (λ code. Some (item_number deck code)) item.parent }
+row_of deck item = record { parent = option_and_then (λ code. Some (number_among (item_codes deck) code)) item.parent }
 
 -- the items of a deck by their parents
 abbrev pub rows_of : Deck → List ItemRow

@@ -28,7 +28,7 @@ use Rattle.pc_project.specs.PackageFaults.{HasLeafFault, HasNoLeafFault, IsFirst
 use Rattle.pc_project.specs.PieceFaults.{HasPieceFault, HasNoPieceFault}
 use Rattle.pc_project.specs.Project.{accounts_in, network_of, rows_of, togos_in, work_in}
 use Rattle.pc_project.specs.Records.{act_records, codes_among, codes_at, event_records, records_among}
-use Rattle.pc_project.specs.TermsFaults.{HasTermsFault, HasNoTermsFault}
+use Rattle.pc_project.specs.TermsFaults.{HasTermsFault}
 use Rattle.pc_project.specs.ToGoFaults.{IsFirstSecondToGo}
 use Rattle.pc_project.specs.Misfit.{HasMisfit, HasNoMisfit}
 
@@ -85,7 +85,7 @@ pub record MakesProject (deck : Deck) : Type 0 where
   pub sound : IsSound (network_of deck)
   pub figures : HasSoundFigures deck
   pub pieces : HasNoPieceFault deck
-  pub terms : HasNoTermsFault deck
+  pub terms : (fault : ADeckFault) → HasTermsFault deck fault → ⊥
 
 -- the fault with which a deck is refused whose cards make no project; a phase counts only where none before it has a fault
 pub data IsRefusedWith (deck : Deck) (fault : ADeckFault) : Type 0 where

@@ -8,7 +8,3 @@ use Rattle.pc_faults.specs.declared.fault.Fault.{Fault}
 -- the bonus on the TERMS card is above the penalty
 pub data HasTermsFault (deck : Deck) (fault : Fault) : Type 0 where
   bonus_above : (card : TermsCard) → deck.terms ≡ Some card → card.penalty < card.bonus → fault ≡ bonus_above_penalty card.row → HasTermsFault deck fault
-
--- it is not
-abbrev pub HasNoTermsFault : Deck → Type 0
-HasNoTermsFault deck = (fault : Fault) → HasTermsFault deck fault → ⊥

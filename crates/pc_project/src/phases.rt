@@ -1,6 +1,7 @@
 //! From the cards of a deck to its project, phase by phase.
 ghost use Rattle.std.specs.Prelude.{◌≡◌, length, IfOk, IfErr, OnOk};
 ghost use Rattle.pc_accounts.specs.Amounts.{AreEntriesOf};
+ghost use Rattle.pc_faults.specs.declared.fault.Fault.{Fault};
 ghost use Rattle.pc_faults.specs.inside.First.{Refuses};
 ghost use Rattle.pc_project.specs.DisorderFaults.{as_of_in};
 ghost use Rattle.pc_project.specs.Figures.{AreStatesOf, IsProjectOfDeck};
@@ -10,7 +11,7 @@ ghost use Rattle.pc_project.specs.Planned.{IsPlanned};
 ghost use Rattle.pc_project.specs.PieceFaults.{HasNoPieceFault};
 ghost use Rattle.pc_project.specs.Project.{accounts_in, charges_in, network_of, rows_of, statuses_in, togos_in};
 ghost use Rattle.pc_project.specs.Refusal.{HasSoundFigures, HasSoundPlan, IsRefusedWith, MakesProject};
-ghost use Rattle.pc_project.specs.TermsFaults.{HasNoTermsFault};
+ghost use Rattle.pc_project.specs.TermsFaults.{HasTermsFault};
 
 use crate::lists::lists_of;
 use crate::network::net_of;
@@ -83,7 +84,7 @@ fn check_costs(alloc: Global, cards: &Cards, numbers: &Numbers) -> Result<(), De
     requires figures { HasSoundFigures cards.now }
     requires numbers { AreNumbersOf cards.now numbers.now }
     ensures pieces { OnOk result (HasNoPieceFault cards.now) }
-    ensures terms { OnOk result (HasNoTermsFault cards.now) }
+    ensures terms { OnOk result ((fault : Fault) → HasTermsFault cards.now fault → ⊥) }
     ensures refused { IfErr result (Refuses (IsRefusedWith cards.now)) }
 {
     if let Some(fault) = first_piece_fault(alloc, cards, &numbers.pieces)? {

@@ -1,15 +1,13 @@
 -- The events of the deck that is drawn, by their numbers and their codes.
 use Rattle.std.proofs.Common.{◌≡◌, ℕ, zero, suc, ◌+◌, ◌*◌, ◌^◌, ◌<◌, List, [], ◌∷◌, ◌++◌, length, map, Some, refl, sym, ◌∙◌, ap, arith}
-use Rattle.std.specs.Prelude.{unwrap_or, position, nat_eq}
-use Rattle.std.specs.Cmp.Lexicographic.{pointwise}
+use Rattle.std.specs.Prelude.{unwrap_or}
 use Rattle.std.proofs.lemmas.List.{get_or_append_left, get_or_push, length-append, length-map, map-append}
 use Rattle.pc_model.specs.Codes.{code_at, IsNamedOnce}
 use Rattle.pc_arrows.specs.Arrows.{begin_event, end_event, last_event}
 use Rattle.pc_arrows.proofs.Outer.{IsEvent, event_of}
 use Rattle.pc_arrows.proofs.Outer.IsEvent.{at_start, at_begin, at_end, at_last}
-use Rattle.pc_deck.specs.Deck.{Deck, event_codes, event_named}
+use Rattle.pc_deck.specs.Deck.{Deck, event_codes, named_among, number_among}
 use Rattle.pc_deck.specs.declared.kinds.titled.TitledCard.{TitledCard}
-use Rattle.pc_project.specs.Project.{event_number}
 use Rattle.pc_deck.specs.declared.kinds.task.TaskCard.{TaskCard}
 use Rattle.pc_tasks.specs.Codes.{begin_code, end_code}
 use Rattle.pc_tasks.specs.Drawn.{drawn, drawn_event, task_events}
@@ -122,37 +120,37 @@ module _ (deck : Deck) (can : CanBeDrawn deck) where
       events-once j k before within (sym (ap (λ codes. code_at codes j) events-are) ∙ (same ∙ ap (λ codes. code_at codes k) events-are))
 
   -- the place of an event by its code
-  place : (e : ℕ) (event : IsEvent n e) → e < 2 * n + 2 → event_named (drawn deck) (code_of_event e event) ≡ Some e
+  place : (e : ℕ) (event : IsEvent n e) → e < 2 * n + 2 → named_among (event_codes (drawn deck)) (code_of_event e event) ≡ Some e
   place e event inside =
-      ap (λ codes. position (pointwise nat_eq (code_of_event e event)) codes) events-are
+      ap (λ codes. named_among codes (code_of_event e event)) events-are
       ∙ only_place-is (code_of_event e event) all e events-once (omega (arith, length-all, inside)) (code_is e event)
 
-  pub named-start : event_named (drawn deck) deck.project.start ≡ Some 0
+  pub named-start : named_among (event_codes (drawn deck)) deck.project.start ≡ Some 0
   named-start = place 0 (at_start refl) (omega arith)
 
-  pub named-begin : (i : ℕ) → i < n → event_named (drawn deck) (begin_code i) ≡ Some (begin_event i)
+  pub named-begin : (i : ℕ) → i < n → named_among (event_codes (drawn deck)) (begin_code i) ≡ Some (begin_event i)
   named-begin i known = place (begin_event i) (at_begin i known refl) (omega arith)
 
-  pub named-end : (i : ℕ) → i < n → event_named (drawn deck) (end_code i) ≡ Some (end_event i)
+  pub named-end : (i : ℕ) → i < n → named_among (event_codes (drawn deck)) (end_code i) ≡ Some (end_event i)
   named-end i known = place (end_event i) (at_end i known refl) (omega arith)
 
-  pub named-last : event_named (drawn deck) deck.project.end ≡ Some (last_event n)
+  pub named-last : named_among (event_codes (drawn deck)) deck.project.end ≡ Some (last_event n)
   named-last = place (last_event n) (at_last refl) (omega arith)
 
   -- and its number
-  number : (e : ℕ) (event : IsEvent n e) → e < 2 * n + 2 → event_number (drawn deck) (code_of_event e event) ≡ e
-  number e event inside = ap (λ found. unwrap_or found (length (drawn deck).events)) (place e event inside)
+  number : (e : ℕ) (event : IsEvent n e) → e < 2 * n + 2 → number_among (event_codes (drawn deck)) (code_of_event e event) ≡ e
+  number e event inside = ap (λ found. unwrap_or found (length (event_codes (drawn deck)))) (place e event inside)
 
-  pub number-start : event_number (drawn deck) deck.project.start ≡ 0
+  pub number-start : number_among (event_codes (drawn deck)) deck.project.start ≡ 0
   number-start = number 0 (at_start refl) (omega arith)
 
-  pub number-begin : (i : ℕ) → i < n → event_number (drawn deck) (begin_code i) ≡ begin_event i
+  pub number-begin : (i : ℕ) → i < n → number_among (event_codes (drawn deck)) (begin_code i) ≡ begin_event i
   number-begin i known = number (begin_event i) (at_begin i known refl) (omega arith)
 
-  pub number-end : (i : ℕ) → i < n → event_number (drawn deck) (end_code i) ≡ end_event i
+  pub number-end : (i : ℕ) → i < n → number_among (event_codes (drawn deck)) (end_code i) ≡ end_event i
   number-end i known = number (end_event i) (at_end i known refl) (omega arith)
 
-  pub number-last : event_number (drawn deck) deck.project.end ≡ last_event n
+  pub number-last : number_among (event_codes (drawn deck)) deck.project.end ≡ last_event n
   number-last = number (last_event n) (at_last refl) (omega arith)
 
   pub length-events : length (drawn deck).events ≡ 2 * n + 2

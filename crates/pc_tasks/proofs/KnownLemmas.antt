@@ -1,7 +1,7 @@
 -- Of a deck of tasks without faults of single cards, arrows can be drawn, and its items are within their range.
 use Rattle.std.proofs.Common.{ℕ, ◌<◌, length, get_or, refl}
 use Rattle.pc_cards.specs.declared.sort.Sort.TheVariants.{Tasks}
-use Rattle.pc_deck.specs.Deck.{Deck, task_named}
+use Rattle.pc_deck.specs.Deck.{Deck, named_among, task_codes}
 use Rattle.pc_deck.specs.Within.{IsWithin}
 use Rattle.pc_deck.specs.declared.kinds.after.AfterCard.{AfterCard}
 use Rattle.pc_deck.specs.declared.kinds.piece.PieceCard.{PieceCard}
@@ -20,17 +20,17 @@ module _ (deck : Deck) (none : HasNoMisfit deck) where
   known_after k d inside =
       let card = get_or deck.afters k d in
       let out = λ (fault : Fault) (h : HasAfterFault deck card fault). none fault (after (Any-at (λ card. HasAfterFault deck card fault) deck.afters k d inside h)) in
-      let task = known_unless (task_named deck card.task) (λ n. out (told.unknown_activity card.row card.task) (has.HasAfterFault.unknown_task n refl)) in
+      let task = known_unless (named_among (task_codes deck) card.task) (λ n. out (told.unknown_activity card.row card.task) (has.HasAfterFault.unknown_task n refl)) in
       record {
         task = task;
-        before = known_unless (task_named deck card.before) (λ n. out (told.unknown_activity card.row card.before) (has.HasAfterFault.unknown_before task n refl));
+        before = known_unless (named_among (task_codes deck) card.before) (λ n. out (told.unknown_activity card.row card.before) (has.HasAfterFault.unknown_before task n refl));
       }
 
   known_piece : (k : ℕ) (d : PieceCard) → k < length deck.pieces → IsKnownPiece deck (get_or deck.pieces k d)
   known_piece k d inside =
       let card = get_or deck.pieces k d in
       let fault : Fault = told.unknown_activity card.row card.activity in
-      known_unless (task_named deck card.activity)
+      known_unless (named_among (task_codes deck) card.activity)
       (λ n. none fault (piece (Any-at (λ (card : PieceCard). HasNameFault deck card.row card.activity fault) deck.pieces k d inside (has.HasNameFault.unknown_task n refl))))
 
   pub can_be_drawn : IsWithin Tasks deck → CanBeDrawn deck

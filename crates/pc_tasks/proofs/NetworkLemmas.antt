@@ -9,14 +9,14 @@ use Rattle.pc_model.specs.declared.Arc.{Arc}
 use Rattle.pc_model.specs.Network.{Network}
 use Rattle.pc_arrows.specs.declared.AfterRow.{AfterRow}
 use Rattle.pc_arrows.specs.Arrows.{after_arc, arrows, begin_event, comes_after, comes_before, end_event, first_arc, firsts, last_arc, last_event, lasts, links, task_arc}
-use Rattle.pc_project.specs.Project.{arc_of, event_number, network_of}
+use Rattle.pc_project.specs.Project.{arc_of, network_of}
 use Rattle.pc_deck.specs.declared.kinds.after.AfterCard.{AfterCard}
 use Rattle.pc_deck.specs.declared.kinds.task.TaskCard.{TaskCard}
-use Rattle.pc_deck.specs.Deck.{Deck, task_codes}
+use Rattle.pc_deck.specs.Deck.{Deck, event_codes, number_among, task_codes}
 use Rattle.pc_tasks.specs.Codes.{begin_code, end_code}
 use Rattle.pc_tasks.specs.Drawn.{after_links, drawn, first_link, last_link, links_of, task_acts}
 use Rattle.pc_tasks.specs.Known.{CanBeDrawn, IsKnownAfter}
-use Rattle.pc_tasks.specs.Lists.{after_row, afters_in, task_number}
+use Rattle.pc_tasks.specs.Lists.{after_row, afters_in}
 use Rattle.pc_tasks.proofs.EventLemmas as events
 use Rattle.pc_tasks.proofs.PlaceLemmas.{found-within}
 
@@ -25,10 +25,10 @@ abbrev arc : ℕ → ℕ → Arc
 arc from to = record { from = from; to = to }
 
 -- the number of a task that is known
-pub task_number-within : (deck : Deck) (after : AfterCard) → IsKnownAfter deck after → (task_number deck after.task < length deck.tasks) × (task_number deck after.before < length deck.tasks)
+pub task_number-within : (deck : Deck) (after : AfterCard) → IsKnownAfter deck after → (number_among (task_codes deck) after.task < length deck.tasks) × (number_among (task_codes deck) after.before < length deck.tasks)
 task_number-within deck after known = (
-  omega (arith, found-within after.task (task_codes deck) (length deck.tasks) known.task, length-map deck.tasks (λ task. task.code)),
-  omega (arith, found-within after.before (task_codes deck) (length deck.tasks) known.before, length-map deck.tasks (λ task. task.code)),
+  omega (arith, found-within after.task (task_codes deck) known.task, length-map deck.tasks (λ task. task.code)),
+  omega (arith, found-within after.before (task_codes deck) known.before, length-map deck.tasks (λ task. task.code)),
 )
 
 -- both numbers of a row are those of tasks
@@ -54,8 +54,8 @@ module _ (deck : Deck) (can : CanBeDrawn deck) where
   abbrev n : ℕ
   n = length deck.tasks
 
-  between : (from to : List ℕ) (e f : ℕ) → event_number (drawn deck) from ≡ e → event_number (drawn deck) to ≡ f → arc (event_number (drawn deck) from) (event_number (drawn deck) to) ≡ arc e f
-  between from to e f from_is to_is = ap (λ x. arc x (event_number (drawn deck) to)) from_is ∙ ap (arc e) to_is
+  between : (from to : List ℕ) (e f : ℕ) → number_among (event_codes (drawn deck)) from ≡ e → number_among (event_codes (drawn deck)) to ≡ f → arc (number_among (event_codes (drawn deck)) from) (number_among (event_codes (drawn deck)) to) ≡ arc e f
+  between from to e f from_is to_is = ap (λ x. arc x (number_among (event_codes (drawn deck)) to)) from_is ∙ ap (arc e) to_is
 
   task-arcs : (i : ℕ) (tasks : List TaskCard) → i + length tasks ≤ n → map (arc_of (drawn deck)) (task_acts i tasks) ≡ map task_arc (range_with_len i (length tasks))
   task-arcs i [] few = refl
@@ -110,7 +110,7 @@ module _ (deck : Deck) (can : CanBeDrawn deck) where
   -- the network is that of the arrows
   pub network-is : network_of (drawn deck) ≡ arrows n rows
   network-is =
-      ap (λ events. net events (event_number (drawn deck) deck.project.start) (event_number (drawn deck) deck.project.end) (map (arc_of (drawn deck)) (drawn deck).acts)) (events.length-events deck can)
-      ∙ (ap (λ start. net (2 * n + 2) start (event_number (drawn deck) deck.project.end) (map (arc_of (drawn deck)) (drawn deck).acts)) (events.number-start deck can)
+      ap (λ events. net events (number_among (event_codes (drawn deck)) deck.project.start) (number_among (event_codes (drawn deck)) deck.project.end) (map (arc_of (drawn deck)) (drawn deck).acts)) (events.length-events deck can)
+      ∙ (ap (λ start. net (2 * n + 2) start (number_among (event_codes (drawn deck)) deck.project.end) (map (arc_of (drawn deck)) (drawn deck).acts)) (events.number-start deck can)
       ∙ (ap (λ end. net (2 * n + 2) 0 end (map (arc_of (drawn deck)) (drawn deck).acts)) (events.number-last deck can)
       ∙ ap (net (2 * n + 2) 0 (last_event n)) arcs-are))

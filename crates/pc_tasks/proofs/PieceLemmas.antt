@@ -1,19 +1,18 @@
 -- The pieces of the costs are those of the tasks.
 use Rattle.std.proofs.Common.{◌≡◌, ℕ, ◌+◌, ◌<◌, List, [], ◌∷◌, ◌++◌, length, map, get_or, Option, Some, None, refl, ◌∙◌, ap, arith}
-use Rattle.std.specs.Prelude.{All, IsSome, unwrap_or, position, nat_eq}
-use Rattle.std.specs.Cmp.Lexicographic.{pointwise}
+use Rattle.std.specs.Prelude.{All, IsSome, unwrap_or}
 use Rattle.std.proofs.lemmas.List.{length-map, map-append}
 use Rattle.std.proofs.lemmas.Bool.{false≢true}
 use Rattle.std.proofs.lemmas.List.Elements.{All-head, All-tail, All-map}
 use Rattle.pc_model.specs.declared.PieceRow.{PieceRow}
-use Rattle.pc_deck.specs.Deck.{Deck, act_codes, task_codes, task_named}
+use Rattle.pc_deck.specs.Deck.{Deck, act_codes, named_among, number_among, task_codes}
 use Rattle.pc_deck.specs.declared.kinds.act.ActCard.{ActCard}
 use Rattle.pc_deck.specs.declared.kinds.piece.PieceCard.{PieceCard}
-use Rattle.pc_project.specs.Project.{act_number, piece_of, pieces_in}
+use Rattle.pc_project.specs.Project.{piece_of, pieces_in}
 use Rattle.pc_deck.specs.declared.kinds.task.TaskCard.{TaskCard}
 use Rattle.pc_tasks.specs.Drawn.{drawn, links_of, task_acts}
 use Rattle.pc_tasks.specs.Known.{CanBeDrawn, IsKnownPiece}
-use Rattle.pc_tasks.specs.Lists.{task_number, task_piece, task_pieces}
+use Rattle.pc_tasks.specs.Lists.{task_piece, task_pieces}
 use Rattle.pc_tasks.proofs.PlaceLemmas.{found-before, found-within}
 
 abbrev code_of : ActCard → List ℕ
@@ -30,23 +29,20 @@ acts-are deck =
     ∙ ap (λ front. front ++ map code_of (links_of deck)) (of_tasks 0 deck.tasks)
 
 -- a task is found among the activities at its own place
-pub task-named : (deck : Deck) (code : List ℕ) → IsSome (task_named deck code) → position (pointwise nat_eq code) (act_codes (drawn deck)) ≡ task_named deck code
+pub task-named : (deck : Deck) (code : List ℕ) → IsSome (named_among (task_codes deck) code) → named_among (act_codes (drawn deck)) code ≡ named_among (task_codes deck) code
 task-named deck code known =
-    ap (λ all. position (pointwise nat_eq code) all) (acts-are deck) ∙ found-before code (task_codes deck) (map code_of (links_of deck)) known
+    ap (λ codes. named_among codes code) (acts-are deck) ∙ found-before code (task_codes deck) (map code_of (links_of deck)) known
 
 -- what stands in for what is not found does not matter for what is found
-default : (code : List ℕ) (codes : List (List ℕ)) (a b : ℕ) → IsSome (position (pointwise nat_eq code) codes) → unwrap_or (position (pointwise nat_eq code) codes) a ≡ unwrap_or (position (pointwise nat_eq code) codes) b
-default code codes a b known = some (position (pointwise nat_eq code) codes) known
-  where
-    some : (found : Option ℕ) → IsSome found → unwrap_or found a ≡ unwrap_or found b
-    some (Some i) known = refl
-    some None known = absurd (false≢true known)
+default : (found : Option ℕ) (a b : ℕ) → IsSome found → unwrap_or found a ≡ unwrap_or found b
+default (Some i) a b known = refl
+default None a b known = absurd (false≢true known)
 
 module _ (deck : Deck) where
-  task-number : (code : List ℕ) → IsSome (task_named deck code) → act_number (drawn deck) code ≡ task_number deck code
+  task-number : (code : List ℕ) → IsSome (named_among (task_codes deck) code) → number_among (act_codes (drawn deck)) code ≡ number_among (task_codes deck) code
   task-number code known =
-      ap (λ found. unwrap_or found (length (drawn deck).acts)) (task-named deck code known)
-      ∙ default code (task_codes deck) (length (drawn deck).acts) (length deck.tasks) known
+      ap (λ found. unwrap_or found (length (act_codes (drawn deck)))) (task-named deck code known)
+      ∙ default (named_among (task_codes deck) code) (length (act_codes (drawn deck))) (length (task_codes deck)) known
 
   of_pieces : (pieces : List PieceCard) → All (IsKnownPiece deck) pieces → map (piece_of (drawn deck)) pieces ≡ map (task_piece deck) pieces
   of_pieces [] known = refl
@@ -64,6 +60,6 @@ module _ (deck : Deck) where
       All-map (λ (piece : PieceRow). piece.activity < length deck.tasks) (task_piece deck) deck.pieces
       (λ k d inside. omega (
         arith,
-        found-within (get_or deck.pieces k d).activity (task_codes deck) (length deck.tasks) (can.pieces k d inside),
+        found-within (get_or deck.pieces k d).activity (task_codes deck) (can.pieces k d inside),
         length-map deck.tasks (λ task. task.code),
       ))

@@ -1,12 +1,13 @@
 -- Where a code stands among codes.
 use Rattle.std.proofs.Common.{◌≡◌, ◌≢◌, ℕ, zero, suc, ◌+◌, ◌<◌, true, false, cond, nat_eq, List, [], ◌∷◌, ◌++◌, length, Option, Some, None, refl, sym, ◌∙◌, ap, arith}
-use Rattle.std.specs.Prelude.{IsSome, unwrap_or, position, nat_lt, not}
+use Rattle.std.specs.Prelude.{IsSome, unwrap_or, nat_lt, not}
 use Rattle.std.specs.Cmp.Lexicographic.{pointwise, bytes_decides}
 use Rattle.std.specs.List.{position_or_len}
 use Rattle.std.proofs.lemmas.Bool.{cond-true, false≢true, false_from_ne_true, lt-ltb}
 use Rattle.std.proofs.lemmas.List.{get_or_append_left, length-append}
 use Rattle.std.proofs.lemmas.List.Quantifiers.{position-Some}
 use Rattle.pc_model.specs.Codes.{code_at, IsNamedOnce}
+use Rattle.pc_deck.specs.Deck.{named_among, number_among}
 
 is_same : (code other : List ℕ) → other ≡ code → pointwise nat_eq code other ≡ true
 is_same code other same = (bytes_decides code other).1 (sym same)
@@ -22,13 +23,13 @@ first_place code (c ∷ cs) (suc k) inside is before =
     ∙ (ap (λ n. 1 + n) (first_place code cs k (omega arith) is (λ j below. before (suc j) (omega arith))) ∙ omega arith)
 
 -- a code stands at its first place
-pub first_place-is : (code : List ℕ) (codes : List (List ℕ)) (k : ℕ) → k < length codes → code_at codes k ≡ code → ((j : ℕ) → j < k → code_at codes j ≢ code) → position (pointwise nat_eq code) codes ≡ Some k
+pub first_place-is : (code : List ℕ) (codes : List (List ℕ)) (k : ℕ) → k < length codes → code_at codes k ≡ code → ((j : ℕ) → j < k → code_at codes j ≢ code) → named_among codes code ≡ Some k
 first_place-is code codes k inside is before =
     ap (λ n. cond (nat_lt n (length codes)) (Some n) None) (first_place code codes k inside is before)
     ∙ cond-true (nat_lt k (length codes)) (Some k) None (lt-ltb k (length codes) inside)
 
 -- where no code stands twice, at the only one
-pub only_place-is : (code : List ℕ) (codes : List (List ℕ)) (k : ℕ) → IsNamedOnce codes → k < length codes → code_at codes k ≡ code → position (pointwise nat_eq code) codes ≡ Some k
+pub only_place-is : (code : List ℕ) (codes : List (List ℕ)) (k : ℕ) → IsNamedOnce codes → k < length codes → code_at codes k ≡ code → named_among codes code ≡ Some k
 only_place-is code codes k once inside is = first_place-is code codes k inside is (λ j before same. once j k before inside (same ∙ sym is))
 
 -- what is found stands somewhere
@@ -36,18 +37,18 @@ found_at : (found : Option ℕ) → IsSome found → (i : ℕ) × (found ≡ Som
 found_at (Some i) known = (i, refl)
 found_at None known = absurd (false≢true known)
 
--- a code that is found has a place below the count of codes
-pub found-within : (code : List ℕ) (codes : List (List ℕ)) (past : ℕ) → IsSome (position (pointwise nat_eq code) codes) → unwrap_or (position (pointwise nat_eq code) codes) past < length codes
-found-within code codes past known =
-    let (i, at) = found_at (position (pointwise nat_eq code) codes) known in
-    let number : unwrap_or (position (pointwise nat_eq code) codes) past ≡ i = ap (λ o. unwrap_or o past) at in
+-- a code that is found has a number below the count of codes
+pub found-within : (code : List ℕ) (codes : List (List ℕ)) → IsSome (named_among codes code) → number_among codes code < length codes
+found-within code codes known =
+    let (i, at) = found_at (named_among codes code) known in
+    let number : number_among codes code ≡ i = ap (λ found. unwrap_or found (length codes)) at in
     let found = position-Some (pointwise nat_eq code) codes i [] at in
     omega (arith, found.0, number)
 
 -- it is found at the same place where more codes stand behind
-pub found-before : (code : List ℕ) (codes more : List (List ℕ)) → IsSome (position (pointwise nat_eq code) codes) → position (pointwise nat_eq code) (codes ++ more) ≡ position (pointwise nat_eq code) codes
+pub found-before : (code : List ℕ) (codes more : List (List ℕ)) → IsSome (named_among codes code) → named_among (codes ++ more) code ≡ named_among codes code
 found-before code codes more known =
-    let (i, at) = found_at (position (pointwise nat_eq code) codes) known in
+    let (i, at) = found_at (named_among codes code) known in
     let (inside, passes, before) = position-Some (pointwise nat_eq code) codes i [] at in
     first_place-is code (codes ++ more) i (omega (arith, length-append codes more, inside))
     (get_or_append_left codes more [] i inside ∙ sym ((bytes_decides code (code_at codes i)).0 passes))

@@ -1,5 +1,5 @@
 -- When arrows can be drawn of a deck of tasks.
-use Rattle.pc_deck.specs.Deck.{Deck, task_named}
+use Rattle.pc_deck.specs.Deck.{Deck, named_among, task_codes}
 use Rattle.std.specs.Prelude.{◌≢◌, ℕ, ◌≤◌, List, ◌∷◌, length, All, IsSome}
 use Rattle.pc_deck.specs.declared.kinds.piece.PieceCard.{PieceCard}
 use Rattle.pc_deck.specs.declared.kinds.after.AfterCard.{AfterCard}
@@ -11,12 +11,12 @@ IsGiven code = (rest : List ℕ) → code ≢ 95 ∷ rest
 
 -- both codes of an AFTER card are those of tasks
 pub record IsKnownAfter (deck : Deck) (after : AfterCard) : Type 0 where
-  pub task : IsSome (task_named deck after.task)
-  pub before : IsSome (task_named deck after.before)
+  pub task : IsSome (named_among (task_codes deck) after.task)
+  pub before : IsSome (named_among (task_codes deck) after.before)
 
 -- the code of a PIECE card is that of a task
 abbrev pub IsKnownPiece : Deck → PieceCard → Type 0
-IsKnownPiece deck piece = IsSome (task_named deck piece.activity)
+IsKnownPiece deck piece = IsSome (named_among (task_codes deck) piece.activity)
 
 -- the start and the end are two codes, neither of them of those that are drawn; and what cards name by the codes of tasks are tasks
 pub record CanBeDrawn (deck : Deck) : Type 0 where

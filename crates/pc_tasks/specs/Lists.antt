@@ -1,20 +1,16 @@
 -- The tasks of a deck by their numbers: which of them come after which, what they may last and cost, and the pieces of their costs.
-use Rattle.std.specs.Prelude.{ℕ, List, length, map, unwrap_or}
+use Rattle.std.specs.Prelude.{List, map}
 use Rattle.pc_model.specs.declared.Term.{Term}
 use Rattle.pc_model.specs.declared.PieceRow.{PieceRow}
 use Rattle.pc_arrows.specs.declared.AfterRow.{AfterRow}
-use Rattle.pc_deck.specs.Deck.{Deck, task_named}
+use Rattle.pc_deck.specs.Deck.{Deck, number_among, task_codes}
 use Rattle.pc_deck.specs.declared.kinds.after.AfterCard.{AfterCard}
 use Rattle.pc_deck.specs.declared.kinds.piece.PieceCard.{PieceCard}
 use Rattle.pc_deck.specs.declared.kinds.task.TaskCard.{TaskCard}
 
--- the number of the task with a code; the number of tasks where no task has it
-abbrev pub task_number : Deck → List ℕ → ℕ
-task_number deck code = unwrap_or (task_named deck code) (length deck.tasks)
-
 -- which task comes after which, by their numbers
 abbrev pub after_row : Deck → AfterCard → AfterRow
-after_row deck after = record { task = task_number deck after.task; before = task_number deck after.before }
+after_row deck after = record { task = number_among (task_codes deck) after.task; before = number_among (task_codes deck) after.before }
 
 abbrev pub afters_in : Deck → List AfterRow
 afters_in deck = map (after_row deck) deck.afters
@@ -28,7 +24,7 @@ task_terms deck = map task_term deck.tasks
 
 -- the pieces of the tasks' costs
 abbrev pub task_piece : Deck → PieceCard → PieceRow
-task_piece deck piece = record { activity = task_number deck piece.activity; units = piece.units; slope = piece.slope }
+task_piece deck piece = record { activity = number_among (task_codes deck) piece.activity; units = piece.units; slope = piece.slope }
 
 abbrev pub task_pieces : Deck → List PieceRow
 task_pieces deck = map (task_piece deck) deck.pieces

@@ -4,7 +4,7 @@ use Rattle.std.specs.List.{Any}
 use Rattle.pc_deck.specs.declared.kinds.after.AfterCard.{AfterCard}
 use Rattle.pc_deck.specs.declared.kinds.load.LoadCard.{LoadCard}
 use Rattle.pc_deck.specs.declared.kinds.task.TaskCard.{TaskCard}
-use Rattle.pc_deck.specs.Deck.{Deck, item_named, resource_named, task_named}
+use Rattle.pc_deck.specs.Deck.{Deck, item_codes, named_among, resource_codes, task_codes}
 use Rattle.pc_faults.specs.Faults as told
 use Rattle.pc_faults.specs.declared.fault.Fault.{Fault}
 use Rattle.pc_project.specs.Misfit.{HasAccountFault, HasItemFault, HasMoneyFault}
@@ -21,7 +21,7 @@ pub record IsInOrder (task : TaskCard) : Type 0 where
 -- the faults of a TASK card
 pub data HasTaskFault (deck : Deck) (card : TaskCard) (fault : Fault) : Type 0 where
   -- F14: its item is no item
-  unknown_item : item_named deck card.item ≡ None → fault ≡ told.unknown_item card.row card.item → HasTaskFault deck card fault
+  unknown_item : named_among (item_codes deck) card.item ≡ None → fault ≡ told.unknown_item card.row card.item → HasTaskFault deck card fault
   -- F18: its estimates are out of order
   unordered : (IsInOrder card → ⊥) → fault ≡ told.estimates_disorder card.row → HasTaskFault deck card fault
   -- F19: its crash duration is above the normal one
@@ -30,21 +30,24 @@ pub data HasTaskFault (deck : Deck) (card : TaskCard) (fault : Fault) : Type 0 w
 -- the faults of an AFTER card
 pub data HasAfterFault (deck : Deck) (card : AfterCard) (fault : Fault) : Type 0 where
   -- F16: the task, or else the one before, is no task
-  unknown_task : task_named deck card.task ≡ None → fault ≡ told.unknown_activity card.row card.task → HasAfterFault deck card fault
-  unknown_before : IsSome (task_named deck card.task) → task_named deck card.before ≡ None → fault ≡ told.unknown_activity card.row card.before → HasAfterFault deck card fault
+  unknown_task : named_among (task_codes deck) card.task ≡ None → fault ≡ told.unknown_activity card.row card.task → HasAfterFault deck card fault
+  unknown_before : IsSome (named_among (task_codes deck) card.task) → named_among (task_codes deck) card.before ≡ None →
+      fault ≡ told.unknown_activity card.row card.before → HasAfterFault deck card fault
   -- F17: the task comes after itself
   same_task : card.task ≡ card.before → fault ≡ told.one_event card.row card.task → HasAfterFault deck card fault
 
 -- F16, at a record whose card names a task by a code: it is no task
 pub data HasNameFault (deck : Deck) (row : ℕ) (code : List ℕ) (fault : Fault) : Type 0 where
-  unknown_task : task_named deck code ≡ None → fault ≡ told.unknown_activity row code → HasNameFault deck row code fault
+  unknown_task : named_among (task_codes deck) code ≡ None → fault ≡ told.unknown_activity row code → HasNameFault deck row code fault
 
 -- the faults of a LOAD card
 pub data HasLoadFault (deck : Deck) (card : LoadCard) (fault : Fault) : Type 0 where
   -- F16: its task is no task
-  unknown_task : task_named deck card.activity ≡ None → fault ≡ told.unknown_activity card.row card.activity → HasLoadFault deck card fault
+  unknown_task : named_among (task_codes deck) card.activity ≡ None →
+      fault ≡ told.unknown_activity card.row card.activity → HasLoadFault deck card fault
   -- F41: its resource is no resource
-  unknown_resource : resource_named deck card.resource ≡ None → fault ≡ told.unknown_resource card.row card.resource → HasLoadFault deck card fault
+  unknown_resource : named_among (resource_codes deck) card.resource ≡ None →
+      fault ≡ told.unknown_resource card.row card.resource → HasLoadFault deck card fault
 
 -- the faults of the cards of a deck of tasks
 pub data HasMisfit (deck : Deck) (fault : Fault) : Type 0 where
