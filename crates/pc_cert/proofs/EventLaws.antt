@@ -8,7 +8,8 @@ use Rattle.std.proofs.lemmas.List.{take-append-drop, take-append-le, take_all, l
 use Rattle.pc_cert.specs.declared.line.CertLine.{CertLine}
 use Rattle.pc_cert.specs.declared.line.CertLine.TheVariants.{Event}
 use Rattle.pc_text.specs.Fields.{run_len, spaced, IsCode}
-use Rattle.pc_cert.specs.Lines.{Fits, spelling, bit_text, IsSmall}
+use Rattle.pc_cert.specs.Lines.{Fits, spelling, IsSmall}
+use Rattle.pc_cert.specs.inside.Fields.{bit_text}
 use Rattle.pc_cert.specs.inside.Reading.{line_of}
 use Rattle.pc_cert.specs.inside.Known.{AreCells, IsAgain, IsEventFront}
 use Rattle.pc_text.proofs.FieldLemmas.{run_len-before}

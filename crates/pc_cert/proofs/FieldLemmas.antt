@@ -7,8 +7,8 @@ use Rattle.std.specs.Fmt.{decimal}
 use Rattle.pc_text.specs.Fields.{spaced, Lacks}
 use Rattle.pc_text.proofs.FieldLemmas.{lacks, IsBehind, field_by_takes, field_by_again}
 use Rattle.pc_cert.specs.inside.Number.{numeral_of}
-use Rattle.pc_cert.specs.inside.Fields.{number_field, bit_of, bit_field}
-use Rattle.pc_cert.specs.Lines.{bit_text, IsSmall}
+use Rattle.pc_cert.specs.inside.Fields.{bit_text, number_field, bit_of, bit_field}
+use Rattle.pc_cert.specs.Lines.{IsSmall}
 use Rattle.pc_cert.proofs.NumberLemmas.{number_takes, number_again, decimal_parts}
 
 -- a number has no space, and no end of a line

@@ -9,8 +9,8 @@ use Rattle.std.specs.Fmt.{decimal}
 use Rattle.pc_cert.specs.declared.line.CertLine.{CertLine}
 use Rattle.pc_cert.specs.declared.line.CertLine.TheVariants.{Head, Normal, Step, Crash, Segment, Event, Act, Close, End}
 use Rattle.pc_text.specs.Fields.{◌>>=◌, run_len, code_field, spaced, IsCode, alone}
-use Rattle.pc_cert.specs.inside.Fields.{number_field, bit_field}
-use Rattle.pc_cert.specs.Lines.{numbers, bit_text, spelling, IsSmall, AreSmall, Fits}
+use Rattle.pc_cert.specs.inside.Fields.{bit_text, number_field, bit_field}
+use Rattle.pc_cert.specs.Lines.{numbers, spelling, IsSmall, AreSmall, Fits}
 use Rattle.pc_cert.specs.inside.Reading.{head_of, step_of, segment_of, event_of, numbers_in, flows_of, act_of, line_with, line_of}
 use Rattle.pc_cert.specs.declared.flows.TheConstants.{MAX_FLOWS}
 use Rattle.pc_text.proofs.SpellingLemmas.{IsSpelled, either, no_name, one_word}

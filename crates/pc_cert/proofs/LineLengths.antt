@@ -8,7 +8,8 @@ use Rattle.std.specs.Fmt.{decimal}
 use Rattle.pc_cert.specs.declared.line.CertLine.{CertLine}
 use Rattle.pc_cert.specs.declared.line.CertLine.TheVariants.{Head, Normal, Step, Crash, Segment, Event, Act, Close, End}
 use Rattle.pc_text.specs.Fields.{Lacks, spaced, IsCode}
-use Rattle.pc_cert.specs.Lines.{numbers, bit_text, spelling, IsSmall, AreSmall, Fits}
+use Rattle.pc_cert.specs.Lines.{numbers, spelling, IsSmall, AreSmall, Fits}
+use Rattle.pc_cert.specs.inside.Fields.{bit_text}
 use Rattle.pc_text.proofs.FieldLemmas.{lacks, code_lacks}
 use Rattle.pc_cert.proofs.FieldLemmas.{decimal_lacks}
 

@@ -1,5 +1,5 @@
 -- The lines of a certificate, and how each is spelled.
-use Rattle.std.specs.Prelude.{ℕ, ◌^◌, ◌<◌, ◌≤◌, Bool, List, [], ◌∷◌, ◌++◌, length, decimal, codes, if◌then◌else◌}
+use Rattle.std.specs.Prelude.{ℕ, ◌^◌, ◌<◌, ◌≤◌, List, [], ◌∷◌, ◌++◌, length, decimal, codes, if◌then◌else◌}
 use Rattle.pc_text.specs.Fields.{spaced, IsCode}
 use Rattle.pc_cert.specs.declared.line.CertLine.{CertLine}
 use Rattle.pc_cert.specs.declared.line.CertLine.TheVariants.{Head, Normal, Step, Crash, Segment, Event, Act, Close, End}
@@ -11,10 +11,6 @@ abbrev pub numbers : List ℕ → List ℕ
 numbers [] = []
 numbers (n ∷ ns) = spaced (decimal n) (numbers ns)
 
--- a bit as its digit
-abbrev pub bit_text : Bool → List ℕ
-bit_text bit = if bit then codes "1" else codes "0"
-
 -- the one spelling of a line, without its end
 abbrev pub spelling : CertLine → List ℕ
 spelling (Head version project events activities) =
@@ -24,7 +20,7 @@ spelling (Step code) = codes "STEP" ++ spaced code []
 spelling Crash = codes "CRASH"
 spelling (Segment upper lower cost slope) =
     codes "SEGMENT" ++ spaced (decimal upper) (spaced (decimal lower) (spaced (decimal cost) (spaced (decimal slope) [])))
-spelling (Event code time moves) = codes "EVENT" ++ spaced code (spaced (decimal time) (spaced (bit_text moves) []))
+spelling (Event code time moves) = codes "EVENT" ++ spaced code (spaced (decimal time) (spaced (if moves then codes "1" else codes "0") []))
 spelling (Act code duration flows) = codes "ACT" ++ spaced code (spaced (decimal duration) (numbers flows))
 spelling Close = codes "CLOSE"
 spelling End = codes "END"
@@ -32,10 +28,6 @@ spelling End = codes "END"
 -- a number of at most 18 digits
 abbrev pub IsSmall : ℕ → Type 0
 IsSmall n = n < 10 ^ MAX_DIGITS
-
--- version 1 or 2
-abbrev pub IsVersion : ℕ → Type 0
-IsVersion version = (1 ≤ version) × (version ≤ 2)
 
 -- each of the numbers is one of at most 18 digits
 abbrev pub AreSmall : List ℕ → Type 0
@@ -45,7 +37,7 @@ AreSmall (n ∷ ns) = IsSmall n × AreSmall ns
 -- what a line says can be spelled: codes are codes, numbers have at most 18 digits, the version is 1 or 2, and an
 -- activity has two to six flows
 abbrev pub Fits : CertLine → Type 0
-Fits (Head version project events activities) = IsVersion version × IsCode project × IsSmall events × IsSmall activities
+Fits (Head version project events activities) = ((1 ≤ version) × (version ≤ 2)) × IsCode project × IsSmall events × IsSmall activities
 Fits (Step code) = IsCode code
 Fits (Segment upper lower cost slope) = IsSmall upper × IsSmall lower × IsSmall cost × IsSmall slope
 Fits (Event code time moves) = IsCode code × IsSmall time

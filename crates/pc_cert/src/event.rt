@@ -2,7 +2,7 @@
 ghost use Rattle.std.specs.Prelude.{◌≡◌, ◌≤◌, ◌∷◌, IfSome, Some, length};
 ghost use Rattle.pc_cert.specs.declared.line.CertLine.TheVariants.{Event};
 ghost use Rattle.pc_text.specs.Fields.{spaced};
-ghost use Rattle.pc_cert.specs.Lines.{bit_text};
+ghost use Rattle.pc_cert.specs.inside.Fields.{bit_text};
 ghost use Rattle.pc_cert.specs.inside.Known.{IsAgain, IsEventFront};
 
 use crate::front::{WIDTH, begin_same, begins};

@@ -1,9 +1,10 @@
 //! The order in which the lines of a certificate come.
-ghost use Rattle.std.specs.Prelude.{◌≡◌, ℕ, ◌<◌, IsTrue, List, Option, None, Some, IfNone, IfSome, Bool, false};
+ghost use Rattle.std.specs.Prelude.{◌≡◌, ℕ, ◌<◌, ◌==◌, ◌||◌, length, IsTrue, List, Option, None, Some, IfNone, IfSome, Bool, false};
 ghost use Rattle.pc_cert.specs.declared.line.CertLine.{CertLine};
 ghost use Rattle.pc_cert.specs.declared.line.CertLine.TheVariants.{Event, Act};
+ghost use Rattle.pc_cert.specs.declared.place.Place.TheVariants.{Start, AfterHead, NormalWalk, CrashWalk, InSegment, Between};
 ghost use Rattle.pc_cert.specs.inside.Known.{HasText, IsAgain, IsFrontOf, IsTextOf};
-ghost use Rattle.pc_cert.specs.Grammar.{next, next_at_start, next_after_head, next_in_normal_walk, next_in_crash_walk, next_in_segment, next_between, opened, takes_flows};
+ghost use Rattle.pc_cert.specs.Grammar.{next};
 
 use crate::event::EventSaid;
 use crate::event_front::EventFront;
@@ -183,7 +184,7 @@ impl Place {
 }
 
 fn next_at_start(line: &CertLine) -> Option<Place>
-    ensures { result ≡ next_at_start line.now }
+    ensures { result ≡ next Start line.now }
 {
     match line {
         CertLine::Head {
@@ -201,7 +202,7 @@ fn next_at_start(line: &CertLine) -> Option<Place>
 }
 
 fn next_after_head(shape: Shape, line: &CertLine) -> Option<Place>
-    ensures { result ≡ next_after_head shape line.now }
+    ensures { result ≡ next (AfterHead shape) line.now }
 {
     match line {
         CertLine::Normal => Some(Place::NormalWalk {
@@ -213,7 +214,7 @@ fn next_after_head(shape: Shape, line: &CertLine) -> Option<Place>
 }
 
 fn next_in_normal_walk(shape: Shape, steps: u64, line: &CertLine) -> Option<Place>
-    ensures { result ≡ next_in_normal_walk shape steps line.now }
+    ensures { result ≡ next (NormalWalk shape steps) line.now }
 {
     match line {
         CertLine::Step(_) if 0 < steps => Some(Place::NormalWalk {
@@ -229,7 +230,7 @@ fn next_in_normal_walk(shape: Shape, steps: u64, line: &CertLine) -> Option<Plac
 }
 
 fn next_in_crash_walk(shape: Shape, steps: u64, line: &CertLine) -> Option<Place>
-    ensures { result ≡ next_in_crash_walk shape steps line.now }
+    ensures { result ≡ next (CrashWalk shape steps) line.now }
 {
     match line {
         CertLine::Step(_) if 0 < steps => Some(Place::CrashWalk {
@@ -242,7 +243,7 @@ fn next_in_crash_walk(shape: Shape, steps: u64, line: &CertLine) -> Option<Place
 }
 
 fn next_between(shape: Shape, line: &CertLine) -> Option<Place>
-    ensures { result ≡ next_between shape line.now }
+    ensures { result ≡ next (Between shape) line.now }
 {
     match line {
         CertLine::Segment { .. } => Some(opened(shape)),
@@ -253,7 +254,7 @@ fn next_between(shape: Shape, line: &CertLine) -> Option<Place>
 
 /// In a segment of which nothing has come.
 fn opened(shape: Shape) -> Place
-    ensures { result ≡ opened shape }
+    ensures { result ≡ InSegment shape shape.events shape.activities }
 {
     Place::InSegment {
         shape,
@@ -263,7 +264,7 @@ fn opened(shape: Shape) -> Place
 }
 
 fn next_in_segment(shape: Shape, events: u64, activities: u64, line: &CertLine) -> Option<Place>
-    ensures { result ≡ next_in_segment shape events activities line.now }
+    ensures { result ≡ next (InSegment shape events activities) line.now }
 {
     match line {
         CertLine::Event { .. } if 0 < events => Some(Place::InSegment {
@@ -286,7 +287,7 @@ fn next_in_segment(shape: Shape, events: u64, activities: u64, line: &CertLine) 
 
 /// Whether an activity may have so many flows: two in version 1, and two to six in version 2.
 fn takes_flows(shape: Shape, flows: &Flows) -> bool
-    ensures { result ≡ takes_flows shape flows.now }
+    ensures { result ≡ (shape.version == 2 || length flows.now == 2) }
 {
     flows.as_slice().len() == 2 || shape.version == 2
 }

@@ -13,7 +13,7 @@ use Rattle.pc_cert.specs.Text.{text_of, AllFit}
 use Rattle.pc_cert.proofs.TextLaws.{text_of-append, AllFit-append}
 use Rattle.pc_crash.specs.Priced.{PricedNetwork}
 use Rattle.pc_crash.specs.inside.Priced.{AreNames}
-use Rattle.pc_check.specs.Said.{segment_in}
+use Rattle.pc_check.specs.Segments.{segment_in}
 use Rattle.pc_check.specs.Certified.{segments_of}
 use Rattle.pc_check.specs.inside.Certified.{AreCertified, AreCurve}
 use Rattle.pc_check.proofs.GoodLines.{curve_of}

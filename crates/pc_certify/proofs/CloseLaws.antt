@@ -12,8 +12,8 @@ use Rattle.pc_curve_laws.specs.Flow.{whole_flow}
 use Rattle.pc_crash.specs.Priced.{PricedNetwork, knees_in}
 use Rattle.pc_check.specs.Draft.{ActRow, Part, Draft}
 use Rattle.pc_check.specs.Known.{some_below}
-use Rattle.pc_check.specs.Segments.{stops_at_knee_in, stops_in}
-use Rattle.pc_check.specs.Said.{segment_in, flow_along, flow_at, spent_in, forward_by, backward_by, said}
+use Rattle.pc_check.specs.Segments.{segment_in, stops_at_knee_in, stops_in}
+use Rattle.pc_check.specs.Said.{flow_along, flow_at, spent_in, forward_by, backward_by, said}
 use Rattle.pc_check.proofs.BelowLaws.{some_below-finds}
 use Rattle.pc_certify.specs.Document.{flows_along}
 use Rattle.pc_certify.proofs.ListedLaws.{length-listed}

@@ -14,12 +14,13 @@ use Rattle.pc_curve_laws.proofs.Segments.Covering.{joins-first}
 use Rattle.pc_cert.specs.declared.line.CertLine.TheVariants.{Segment as SegmentLine, Normal, Crash, End}
 use Rattle.pc_crash.specs.Priced.{PricedNetwork, knees_in}
 use Rattle.pc_crash.specs.inside.Priced.{AreNames}
-use Rattle.pc_check.specs.Draft.{Part, begun_part, empty_draft, draft_of}
+use Rattle.pc_check.specs.Draft.{Part, empty_draft, draft_of}
 use Rattle.pc_check.specs.Conditions.{conditions, is_first, has_head, has_joined_ends}
 use Rattle.pc_check.specs.Failures.{first_failing, reason_at, failure_of}
 use Rattle.pc_check.specs.Known.{Known}
 use Rattle.pc_check.specs.Said.{said}
 use Rattle.pc_check.specs.Walks.{length_in, walked, at_start, is_through}
+use Rattle.pc_check.proofs.Drafts.{begun_part}
 use Rattle.pc_certify.specs.Document.{first_line, steps, head_lines, segment_lines, end_lines, document_lines, version_of}
 use Rattle.pc_certify.specs.inside.Complete.{IsThrough, IsComplete}
 use Rattle.pc_certify.proofs.RowLaws.{part_of}

@@ -1,5 +1,5 @@
 -- Lines that can be spelled.
-use Rattle.std.proofs.Common.{◌≡◌, ℕ, ◌<◌, zero, suc, ◌==◌, Bool, true, false, List, [], ◌∷◌, ◌++◌, length, sym, ap, ◌∙◌, subst, arith, length-append}
+use Rattle.std.proofs.Common.{◌≡◌, ℕ, ◌<◌, ◌≤◌, zero, suc, ◌==◌, Bool, true, false, List, [], ◌∷◌, ◌++◌, length, sym, ap, ◌∙◌, subst, arith, length-append}
 use Rattle.std.proofs.lemmas.List.{map-append}
 use Rattle.std.specs.Prelude.{map, if◌then◌else◌}
 use Rattle.pc_model.specs.Codes.{code_at}
@@ -10,7 +10,7 @@ use Rattle.pc_crash.specs.Priced.{PricedNetwork, knees_in}
 use Rattle.pc_cert.specs.declared.line.CertLine.{CertLine}
 use Rattle.pc_cert.specs.declared.line.CertLine.TheVariants.{Close}
 use Rattle.pc_text.specs.Fields.{IsCode}
-use Rattle.pc_cert.specs.Lines.{IsVersion, IsSmall, AreSmall, Fits}
+use Rattle.pc_cert.specs.Lines.{IsSmall, AreSmall, Fits}
 use Rattle.pc_cert.specs.Text.{AllFit}
 use Rattle.pc_cert.proofs.TextLaws.{AllFit-append}
 use Rattle.pc_certify.specs.Listed.{listed}
@@ -33,12 +33,12 @@ AreSmall-listed (suc n) each small = AreSmall-append (listed n each) (each n ∷
 pub AreSmall-with_last : (n : ℕ) (each : ℕ → ℕ) (last : ℕ) → ((i : ℕ) → i < n → IsSmall (each i)) → IsSmall last → AreSmall (listed n each ++ last ∷ [])
 AreSmall-with_last n each last small is = AreSmall-append (listed n each) (last ∷ []) (AreSmall-listed n each small) (is, tt)
 
-one_or_two : (b : Bool) → IsVersion (if b then 1 else 2)
+one_or_two : (b : Bool) → (1 ≤ (if b then 1 else 2)) × ((if b then 1 else 2) ≤ 2)
 one_or_two true = (omega arith, omega arith)
 one_or_two false = (omega arith, omega arith)
 
 -- a certificate has version 1 or 2
-pub is_version : (pieces : ℕ) → IsVersion (if pieces == 0 then 1 else 2)
+pub is_version : (pieces : ℕ) → (1 ≤ (if pieces == 0 then 1 else 2)) × ((if pieces == 0 then 1 else 2) ≤ 2)
 is_version pieces = one_or_two (pieces == 0)
 
 -- an activity has two to six flows

@@ -13,7 +13,7 @@ use Rattle.pc_cert.specs.declared.place.Shape.{Shape}
 use Rattle.pc_cert.specs.declared.place.Place.{Place}
 use Rattle.pc_cert.specs.declared.place.Place.TheVariants.{Start, AfterHead, NormalWalk, CrashWalk, InSegment, Between, Ended}
 use Rattle.pc_text.specs.Fields.{◌>>=◌}
-use Rattle.pc_cert.specs.Grammar.{next, opened, takes_flows}
+use Rattle.pc_cert.specs.Grammar.{next}
 use Rattle.pc_cert.specs.Text.{ran}
 use Rattle.pc_cert.proofs.TextLaws.{ran-append}
 use Rattle.pc_crash.specs.Priced.{PricedNetwork}
@@ -71,7 +71,7 @@ two_flows true count h = right ((if true then 1 else 2) == 2) (count == 2) (eq-e
 two_flows false count h = left ((if false then 1 else 2) == 2) (count == 2) refl
 
 -- an activity has as many flows as the version allows
-takes : (net : PricedNetwork) (seg : Stretch) (a : ℕ) → takes_flows (shape_of net) (flows_along net seg a) ≡ true
+takes : (net : PricedNetwork) (seg : Stretch) (a : ℕ) → (version_of net == 2 || length (flows_along net seg a) == 2) ≡ true
 takes net seg a = two_flows (length net.pieces == 0) (length (flows_along net seg a)) (λ is.
     let none = ap (λ pieces. length (pieces_of pieces a)) (nil_from_length net.pieces (eqb-true (length net.pieces) 0 is)) in
     omega (arith, flows_long net seg a, none))
@@ -81,14 +81,14 @@ acts_order net seg zero n rest all = let same : n ≡ rest = omega arith in ap (
 acts_order net seg (suc j) n rest all =
     let one : suc rest - 1 ≡ rest = omega arith in
     ran-then (InSegment (shape_of net) 0 n) (listed j (act_line net seg)) (act_line net seg j ∷ []) (acts_order net seg j n (suc rest) (omega arith))
-    (ran-cons (InSegment (shape_of net) 0 (suc rest)) (act_line net seg j) [] (cond-true (0 == 0 && (nat_lt 0 (suc rest) && takes_flows (shape_of net) (flows_along net seg j))) (Some (InSegment (shape_of net) 0 (suc rest - 1))) None
+    (ran-cons (InSegment (shape_of net) 0 (suc rest)) (act_line net seg j) [] (cond-true (0 == 0 && (nat_lt 0 (suc rest) && (version_of net == 2 || length (flows_along net seg j) == 2))) (Some (InSegment (shape_of net) 0 (suc rest - 1))) None
     (both refl (both (lt-ltb 0 (suc rest) (omega arith)) (takes net seg j))) ∙ ap (λ k. Some (InSegment (shape_of net) 0 k)) one) refl)
 
-segment_order : (net : PricedNetwork) (seg : Stretch) (place : Place) → next place (ends_line seg) ≡ Some (opened (shape_of net)) → ran place (segment_lines net seg) ≡ Some (Between (shape_of net))
+segment_order : (net : PricedNetwork) (seg : Stretch) (place : Place) → next place (ends_line seg) ≡ Some (InSegment (shape_of net) net.network.events (length net.network.arcs)) → ran place (segment_lines net seg) ≡ Some (Between (shape_of net))
 segment_order net seg place goes =
     let acts = listed (length net.network.arcs) (act_line net seg) in
     ran-cons place (ends_line seg) _ goes
-    (ran-then (opened (shape_of net)) (listed net.network.events (event_line net seg)) (acts ++ Close ∷ []) (events_order net (shape_of net) seg (length net.network.arcs) net.network.events net.network.events 0 (omega arith))
+    (ran-then (InSegment (shape_of net) net.network.events (length net.network.arcs)) (listed net.network.events (event_line net seg)) (acts ++ Close ∷ []) (events_order net (shape_of net) seg (length net.network.arcs) net.network.events net.network.events 0 (omega arith))
     (ran-then (InSegment (shape_of net) 0 (length net.network.arcs)) acts (Close ∷ []) (acts_order net seg (length net.network.arcs) (length net.network.arcs) 0 (omega arith)) refl))
 
 -- ---- the whole certificate

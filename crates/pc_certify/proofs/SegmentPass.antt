@@ -7,11 +7,12 @@ use Rattle.pc_model.specs.Schedule.{normal_of}
 use Rattle.pc_curve_laws.specs.Segment.{Segment, IsSegment}
 use Rattle.pc_cert.specs.declared.line.CertLine.TheVariants.{Event, Act, Close}
 use Rattle.pc_crash.specs.Priced.{PricedNetwork, knees_in}
-use Rattle.pc_check.specs.Draft.{Part, Draft, begun_part}
+use Rattle.pc_check.specs.Draft.{Part, Draft}
 use Rattle.pc_check.specs.Conditions.{conditions}
 use Rattle.pc_check.specs.Failures.{reason_at, first_failing}
 use Rattle.pc_check.specs.Known.{frame}
 use Rattle.pc_check.specs.Said.{said}
+use Rattle.pc_check.proofs.Drafts.{begun_part}
 use Rattle.pc_certify.specs.Listed.{listed}
 use Rattle.pc_certify.specs.Document.{ends_line, event_line, act_line, flows_along, segment_lines}
 use Rattle.pc_certify.proofs.ListedLaws.{length-listed}

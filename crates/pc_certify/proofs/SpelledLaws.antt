@@ -7,7 +7,7 @@ use Rattle.pc_model.specs.Codes.{code_at}
 use Rattle.pc_crash.specs.Priced.{PricedNetwork}
 use Rattle.pc_cert.specs.declared.line.CertLine.TheVariants.{Event}
 use Rattle.pc_text.specs.Fields.{spaced}
-use Rattle.pc_cert.specs.Lines.{bit_text}
+use Rattle.pc_cert.specs.inside.Fields.{bit_text}
 use Rattle.pc_cert.specs.Text.{text_of}
 use Rattle.pc_cert.proofs.EventLaws.{front_of}
 use Rattle.pc_certify.specs.inside.Spelled.{SpellsEvent, SpellsAct, AreEventsSpelled, AreActsSpelled}

@@ -9,9 +9,10 @@ use Rattle.pc_cert.specs.declared.line.CertLine.TheVariants.{Step}
 use Rattle.pc_crash.specs.Priced.{PricedNetwork}
 use Rattle.pc_crash.specs.inside.Priced.{AreNames}
 use Rattle.pc_check.specs.declared.walk.Reached.{Reached}
-use Rattle.pc_check.specs.Draft.{Draft, begun_part}
+use Rattle.pc_check.specs.Draft.{Draft}
 use Rattle.pc_check.specs.Walks.{place_of, further, stepped, walked, at_start, is_through}
 use Rattle.pc_check.proofs.NamedLaws.{named_is_place}
+use Rattle.pc_check.proofs.Drafts.{begun_part}
 use Rattle.pc_certify.specs.Document.{steps}
 use Rattle.pc_certify.specs.inside.Complete.{IsThrough}
 use Rattle.pc_certify.proofs.PassLaws.{Pass, Pass-nil, Pass-cons, Pass-as}

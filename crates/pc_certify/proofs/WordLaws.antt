@@ -5,7 +5,8 @@ use Rattle.std.proofs.lemmas.List.{map-append}
 use Rattle.pc_cert.specs.declared.line.CertLine.{CertLine}
 use Rattle.pc_cert.specs.declared.line.CertLine.TheVariants.{Head, Step, Segment, Event, Act}
 use Rattle.pc_text.specs.Fields.{spaced}
-use Rattle.pc_cert.specs.Lines.{numbers, bit_text}
+use Rattle.pc_cert.specs.Lines.{numbers}
+use Rattle.pc_cert.specs.inside.Fields.{bit_text}
 use Rattle.pc_cert.specs.Text.{text_of}
 use Rattle.pc_cert.proofs.TextLaws.{text_of-append}
 use Rattle.pc_certify.specs.Listed.{listed}

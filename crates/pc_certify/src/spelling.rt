@@ -3,7 +3,7 @@ ghost use Rattle.std.specs.Prelude.{◌≡◌, ◌+◌, ◌≤◌, [], ◌∷◌
 ghost use Rattle.pc_certify.specs.inside.Gathers.{IsPlaced};
 ghost use Rattle.pc_text.specs.Code.{is_code};
 ghost use Rattle.pc_text.specs.Fields.{spaced};
-ghost use Rattle.pc_cert.specs.Lines.{bit_text};
+ghost use Rattle.pc_cert.specs.inside.Fields.{bit_text};
 
 use pc_text::{Code, digits};
 use std::marker::Model;

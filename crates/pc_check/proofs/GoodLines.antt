@@ -5,7 +5,7 @@ use Rattle.std.proofs.lemmas.List.{map-append}
 use Rattle.std.proofs.lemmas.Option.{cond_some}
 use Rattle.std.proofs.Math.ListN.{get_or-append}
 use Rattle.std.proofs.Math.Seq.{get_or-append_seam}
-use Rattle.std.specs.Prelude.{◌==◌}
+use Rattle.std.specs.Prelude.{◌==◌, fold}
 use Rattle.pc_model.specs.Walk.{IsSumOfWalk}
 use Rattle.pc_model.specs.Schedule.{normal_of, normals}
 use Rattle.pc_model.specs.Cost.{IsPriced}
@@ -23,17 +23,18 @@ use Rattle.pc_cert.specs.declared.place.Place.{Place}
 use Rattle.pc_cert.specs.declared.place.Place.TheVariants.{Start, AfterHead, NormalWalk, CrashWalk, InSegment, Between, Ended}
 use Rattle.pc_check.specs.declared.fail.Fail.{Fail}
 use Rattle.pc_check.specs.inside.Bounds.{IsShaped}
-use Rattle.pc_check.specs.Draft.{Part, Draft, EventRow, ActRow, empty_draft, begun_part, event_at, act_at, with_event, with_act, with_step, with_line, draft_after, draft_of}
+use Rattle.pc_check.specs.Draft.{Part, Draft, EventRow, ActRow, empty_draft, event_at, act_at, with_line, draft_of}
 use Rattle.pc_check.specs.Failures.{reason_at, or_later, failure_after}
 use Rattle.pc_check.specs.Certified.{segments_of}
 use Rattle.pc_check.specs.inside.Certified.{AreCertified, AreCurve}
-use Rattle.pc_check.specs.Said.{segment_in, said}
+use Rattle.pc_check.specs.Said.{said}
 use Rattle.pc_check.proofs.BelowLaws.{and_parts}
 use Rattle.pc_check.proofs.ReasonLaws.{holds_first}
 use Rattle.pc_check.proofs.BoundLaws.{head_passes, first_walk, first_ends, later_ends}
 use Rattle.pc_check.proofs.WalkLaws.{normal_walk, crash_walk}
-use Rattle.pc_check.specs.Segments.{outline}
+use Rattle.pc_check.specs.Segments.{segment_in}
 use Rattle.pc_check.proofs.GoodRows.{IsRightEvent, IsRightAct, right_event, right_act}
+use Rattle.pc_check.proofs.Drafts.{begun_part, with_step, with_event, with_act, outline}
 use Rattle.pc_check.proofs.GoodSegments.{HasOrderedEnds, HasRightRows, IsWhole, whole_segment}
 
 -- the segments before the present one: there are none, and the normal walk has its upper end as its sum, or they come down
@@ -246,7 +247,7 @@ pub none_parts : (number : ℕ) (reason : Option ℕ) (later : Option Fail) → 
 none_parts number None later h = (refl, h)
 none_parts number (Some reason) later h = absurd cc
 
-good_lines : (net : PricedNetwork) (place : Place) (lines : List CertLine) (behind : Place) (draft : Draft) (number : ℕ) → IsKnown net → IsGood net place draft → ran place lines ≡ Some behind → failure_after net draft number lines ≡ None → IsGood net behind (draft_after draft lines)
+good_lines : (net : PricedNetwork) (place : Place) (lines : List CertLine) (behind : Place) (draft : Draft) (number : ℕ) → IsKnown net → IsGood net place draft → ran place lines ≡ Some behind → failure_after net draft number lines ≡ None → IsGood net behind (fold with_line draft lines)
 good_lines net place [] behind draft number known h goes passes = carry net draft h goes
 good_lines net place (line ∷ lines) behind draft number known h goes passes =
     let step = bind_some (next place line) (λ p. ran p lines) behind goes in

@@ -11,10 +11,11 @@ use Rattle.pc_crash.specs.Priced.{PricedNetwork, knees_in}
 use Rattle.pc_cert.specs.declared.line.CertLine.TheVariants.{Close}
 use Rattle.pc_check.specs.Draft.{Part, Draft, event_at, act_at}
 use Rattle.pc_check.specs.Known.{Known}
-use Rattle.pc_check.specs.Segments.{outline, stops_at_knee_in, stops_in}
-use Rattle.pc_check.specs.Said.{segment_in, flow_along, flow_at, forward_by, backward_by, said}
+use Rattle.pc_check.specs.Segments.{segment_in, stops_at_knee_in, stops_in}
+use Rattle.pc_check.specs.Said.{flow_along, flow_at, forward_by, backward_by, said}
 use Rattle.pc_check.specs.Conditions.{conditions}
 use Rattle.pc_check.specs.Failures.{first_failing}
+use Rattle.pc_check.proofs.Drafts.{outline}
 use Rattle.pc_check.proofs.BelowLaws.{and_parts, or_parts, each_below-at, some_below-at}
 use Rattle.pc_check.proofs.ReasonLaws.{holds_first}
 use Rattle.pc_check.proofs.GoodRows.{IsRightEvent, IsRightAct}

@@ -1,3 +1,4 @@
+pub mod Drafts
 pub mod BelowLaws
 pub mod NamedLaws
 pub mod KneeLaws

@@ -15,12 +15,12 @@ use Rattle.pc_cert.specs.declared.line.CertLine.TheVariants.{Head, Normal, Step,
 use Rattle.pc_check.specs.declared.kept.Kept.{Kept}
 use Rattle.pc_check.specs.declared.kept.Tally.{Tally}
 use Rattle.pc_check.specs.declared.walk.Reached.{Reached}
-use Rattle.pc_check.specs.Draft.{Part, Draft, EventRow, ActRow, event_at, act_at, with_event, with_act, with_line, with_step, begun_part}
+use Rattle.pc_check.specs.Draft.{Part, Draft, EventRow, ActRow, event_at, act_at, with_line}
 use Rattle.pc_check.specs.Known.{Known, some_below}
 use Rattle.pc_check.specs.inside.Kept.{known_by, stretch_of}
 use Rattle.pc_check.specs.inside.KneeTests.{flow_sum}
-use Rattle.pc_check.specs.Segments.{outline, stops_in}
-use Rattle.pc_check.specs.Said.{segment_in, flow_along, flow_at, spent_in, forward_by, backward_by, said}
+use Rattle.pc_check.specs.Segments.{segment_in, stops_in}
+use Rattle.pc_check.specs.Said.{flow_along, flow_at, spent_in, forward_by, backward_by, said}
 use Rattle.pc_check.specs.declared.passed.Passed.{Passed}
 use Rattle.pc_check.specs.inside.Passed.{flow_of, cost_of}
 use Rattle.pc_check.specs.Conditions.{conditions}
@@ -29,6 +29,7 @@ use Rattle.pc_check.specs.inside.Safe.{AreSums, IsSafe, IsBegun, AddsAct}
 use Rattle.pc_check.specs.Walks.{length_in, stepped, walked, at_start}
 use Rattle.pc_check.specs.inside.Advances.{AddsStep, AddsEvent, Adds}
 use Rattle.pc_check.specs.inside.Checking.{IsKept, IsTallied}
+use Rattle.pc_check.proofs.Drafts.{begun_part, with_step, with_event, with_act, outline}
 use Rattle.pc_check.proofs.BelowLaws.{some_below-same}
 
 -- ---- what is kept is what is said

@@ -24,7 +24,7 @@ use Rattle.pc_check.specs.inside.Safe.{IsSafe}
 use Rattle.pc_check.proofs.BelowLaws.{and_parts}
 use Rattle.pc_check.proofs.ReasonLaws.{holds_first}
 use Rattle.pc_check.proofs.BoundLaws.{Passes, event_first, all_come, lines_kept}
-use Rattle.pc_check.proofs.FailureLaws.{draft_after-append, failure_of-more, failure_of-next}
+use Rattle.pc_check.proofs.FailureLaws.{draft-append, failure_of-more, failure_of-next}
 use Rattle.pc_check.proofs.SaidLaws.{reason_told, IsReady, kept_more}
 
 -- the draft of the lines fits the line
@@ -61,7 +61,7 @@ goes_on {net} {lines} {old} {new} line safe bounded reason a h =
       order = ran-append Start lines (line ∷ []) ∙ ap (λ found. found >>= (λ b. ran b (line ∷ []))) h.order ∙ ran_more line old.place new.place a.goes;
       count = omega (arith, ap (λ k. k.lines) a.moved, lines_kept net line old a.between a.added, h.count, length-append lines (line ∷ []));
       none = failure_of-next net lines line h.none ∙ ap (λ r. or_later (1 + length lines) r None) (reason_is net lines line old new.place safe bounded a.goes h.keeps ∙ sym reason);
-      keeps = subst (λ d. IsKept net d new) (sym (draft_after-append empty_draft lines (line ∷ []))) kept;
+      keeps = subst (λ d. IsKept net d new) (sym (draft-append empty_draft lines (line ∷ []))) kept;
     }
 
 -- a line that fails

@@ -4,7 +4,7 @@ use Rattle.pc_curve_laws.specs.Segment.{Segment}
 use Rattle.pc_cert.specs.declared.line.CertLine.{CertLine}
 use Rattle.pc_crash.specs.Priced.{PricedNetwork}
 use Rattle.pc_check.specs.Draft.{draft_of}
-use Rattle.pc_check.specs.Said.{segment_in}
+use Rattle.pc_check.specs.Segments.{segment_in}
 
 -- the segments that lines say
 abbrev pub segments_of : PricedNetwork → List CertLine → List Segment

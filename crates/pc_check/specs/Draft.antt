@@ -1,5 +1,5 @@
 -- What the lines of a certificate say so far.
-use Rattle.std.specs.Prelude.{ℕ, Bool, true, false, List, [], ◌∷◌, ◌++◌, slice_index_or}
+use Rattle.std.specs.Prelude.{ℕ, Bool, true, false, List, [], ◌∷◌, ◌++◌, fold, slice_index_or, if◌then◌else◌}
 use Rattle.pc_cert.specs.declared.line.CertLine.{CertLine}
 use Rattle.pc_cert.specs.declared.line.CertLine.TheVariants.{Head, Normal, Step, Crash, Segment, Event, Act, Close, End}
 
@@ -34,46 +34,35 @@ pub record Draft : Type 0 where
   pub parts : List Part
   pub part : Part
 
--- a segment of which nothing has come
-abbrev pub begun_part : ℕ → ℕ → ℕ → ℕ → Part
-begun_part upper lower cost slope = record { upper = upper; lower = lower; cost = cost; slope = slope; events = []; acts = [] }
-
 -- no line has come
 abbrev pub empty_draft : Draft
-empty_draft = record { normal = []; crash = []; has_normal = false; parts = []; part = begun_part 0 0 0 0 }
+empty_draft = record {
+  normal = [];
+  crash = [];
+  has_normal = false;
+  parts = [];
+  part = record { upper = 0; lower = 0; cost = 0; slope = 0; events = []; acts = [] };
+}
 
--- one more step of the walk that has begun
-abbrev pub with_step : Draft → List ℕ → Bool → Draft
-with_step draft code false = record draft { normal = draft.normal ++ code ∷ [] }
-with_step draft code true = record draft { crash = draft.crash ++ code ∷ [] }
-
--- one more row
-abbrev pub with_event : Part → EventRow → Part
-with_event part row = record part { events = part.events ++ row ∷ [] }
-
-abbrev pub with_act : Part → ActRow → Part
-with_act part row = record part { acts = part.acts ++ row ∷ [] }
-
--- what the lines and one more say
+-- what the lines and one more say: a step is one more of the walk that has begun, and a row one more of the segment that has begun
 abbrev pub with_line : Draft → CertLine → Draft
 with_line draft (Head version project events activities) = draft
 with_line draft Normal = draft
-with_line draft (Step code) = with_step draft code draft.has_normal
+with_line draft (Step code) =
+    if draft.has_normal then record draft { crash = draft.crash ++ code ∷ [] } else record draft { normal = draft.normal ++ code ∷ [] }
 with_line draft Crash = record draft { has_normal = true }
-with_line draft (Segment upper lower cost slope) = record draft { part = begun_part upper lower cost slope }
-with_line draft (Event code time moves) = record draft { part = with_event draft.part (record { code = code; time = time; moves = moves }) }
-with_line draft (Act code duration flows) = record draft { part = with_act draft.part (record { code = code; duration = duration; flows = flows }) }
+with_line draft (Segment upper lower cost slope) =
+    record draft { part = record { upper = upper; lower = lower; cost = cost; slope = slope; events = []; acts = [] } }
+with_line draft (Event code time moves) =
+    record draft { part = record draft.part { events = draft.part.events ++ record { code = code; time = time; moves = moves } ∷ [] } }
+with_line draft (Act code duration flows) =
+    record draft { part = record draft.part { acts = draft.part.acts ++ record { code = code; duration = duration; flows = flows } ∷ [] } }
 with_line draft Close = record draft { parts = draft.parts ++ draft.part ∷ [] }
 with_line draft End = draft
 
--- what lines say that come after others
-abbrev pub draft_after : Draft → List CertLine → Draft
-draft_after draft [] = draft
-draft_after draft (line ∷ lines) = draft_after (with_line draft line) lines
-
--- what lines say
+-- what lines say, one after the other
 abbrev pub draft_of : List CertLine → Draft
-draft_of lines = draft_after empty_draft lines
+draft_of lines = fold with_line empty_draft lines
 
 -- the row of event e; past their end one of an event without a code that rests at 0
 abbrev pub event_at : List EventRow → ℕ → EventRow

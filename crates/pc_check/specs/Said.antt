@@ -7,13 +7,9 @@ use Rattle.pc_curve_laws.specs.Segment.{Segment, span, is_forward, is_backward, 
 use Rattle.pc_curve_laws.specs.Flow.{whole_flow}
 use Rattle.pc_crash.specs.Priced.{PricedNetwork, knees_in}
 use Rattle.pc_check.specs.Draft.{Part, Draft}
-use Rattle.pc_check.specs.Segments.{segment_of, stops_in}
+use Rattle.pc_check.specs.Segments.{segment_in, stops_in}
 use Rattle.pc_check.specs.Known.{Known, some_below}
 use Rattle.pc_check.specs.Walks.{length_in, walked, at_start}
-
--- the segment that a part is, or begins to be
-abbrev pub segment_in : PricedNetwork → Part → Segment
-segment_in net part = segment_of (knees_in net) part
 
 -- what flows along activity a
 abbrev pub flow_along : PricedNetwork → Part → ℕ → ℕ

@@ -11,6 +11,10 @@ number_field bytes = field_by numeral_of bytes
 abbrev pub bit_of : List ℕ → Option Bool
 bit_of word = if bytes_eq word (codes "0") then Some false else if bytes_eq word (codes "1") then Some true else None
 
+-- a bit as its digit
+abbrev pub bit_text : Bool → List ℕ
+bit_text bit = if bit then codes "1" else codes "0"
+
 -- the bit behind the space at the front, and the bytes behind it
 unfoldable pub bit_field : List ℕ → Option (Bool × List ℕ)
 bit_field bytes = field_by bit_of bytes

@@ -1,7 +1,7 @@
 use Rattle.std.proofs.Common.{◌≡◌, ◌+◌, ◌≤◌, [], ◌∷◌, ◌++◌, length, take, decimal, ap, ◌∙◌, arith, length-take-le}
 use Rattle.std.specs.Prelude.{codes}
 use Rattle.pc_text.specs.Fields.{spaced}
-use Rattle.pc_cert.specs.Lines.{bit_text}
+use Rattle.pc_cert.specs.inside.Fields.{bit_text}
 use Rattle.pc_cert.proofs.EventLaws.{short_code}
 use Rattle.pc_certify.proofs.SpelledLaws.{event_cut, event_long, event_rest}
 use Rattle.pc_certify.proofs.last_lines.EventRow.respell.Goals as goal
