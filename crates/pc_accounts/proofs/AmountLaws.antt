@@ -10,15 +10,16 @@ use Rattle.pc_model.specs.declared.limits.TheConstants.{MAX_COST, MAX_CHARGES}
 use Rattle.pc_accounts.specs.declared.rows.AcctRow.{AcctRow}
 use Rattle.pc_accounts.specs.declared.rows.MoneyRow.{MoneyRow}
 use Rattle.pc_accounts.specs.declared.entry.Entry.{Entry}
-use Rattle.pc_accounts.specs.Amounts.{money_at, budget_of, is_due, actual_of, IsDue, IsToGo, AreEntriesOf, AreMoney}
+use Rattle.pc_accounts.specs.Amounts.{money_at, budget_of, actual_of, IsDue, IsToGo, AreEntriesOf, AreMoney}
 use Rattle.pc_accounts.specs.inside.Parts.{AreActuals, LatestBelow, AreLatest, AreMade, option_at, later_row, entry_from}
 use Rattle.pc_accounts.proofs.PartLaws.{part_more}
 use Rattle.pc_accounts.proofs.DayLaws.{le-from_test, test-from_le, lt-from_test, le-from_no_test}
 
 -- one charge more
-actual_more : (charges : List MoneyRow) (as_of : ℤ) (a i : ℕ) → i < length charges → actual_of (take (i + 1) charges) as_of a ≡ actual_of (take i charges) as_of a + cond (is_due as_of a (money_at charges i)) (money_at charges i).amount 0
+actual_more : (charges : List MoneyRow) (as_of : ℤ) (a i : ℕ) → i < length charges → actual_of (take (i + 1) charges) as_of a ≡ actual_of (take i charges) as_of a + cond (((money_at charges i).account == a) && int_le (money_at charges i).day as_of) (money_at charges i).amount 0
 actual_more charges as_of a i h =
-    part_more (λ (row : MoneyRow). row.amount) (is_due as_of a) charges i (record { account = 0; day = pos 0; amount = 0 }) h
+    part_more (λ (row : MoneyRow). row.amount) (λ (row : MoneyRow). (row.account == a) && int_le row.day as_of) charges i
+    (record { account = 0; day = pos 0; amount = 0 }) h
 
 due : (a account : ℕ) (late : Bool) (amount : ℕ) → account ≡ a → late ≡ true → cond ((account == a) && late) amount 0 ≡ amount
 due a account late amount same on = rw (eq-eqb account a same, on) refl
@@ -162,7 +163,7 @@ latest_skip accounts togos as_of i latest row so_far within is off =
 to_go_is : (togos : List MoneyRow) (as_of : ℤ) (a budget actual : ℕ) (o : Option ℕ) → LatestBelow togos as_of a (length togos) o → IsToGo togos as_of a (entry_from togos budget actual o)
 to_go_is togos as_of a budget actual None none = inr (λ k is. none k is.in_rows is, refl)
 to_go_is togos as_of a budget actual (Some k) (lt, is, most) =
-    inl (k, record { due = is; latest = λ j at. most j at.in_rows at }, refl)
+    inl (k, is, (λ j at. most j at.in_rows at), refl)
 
 -- entries that are made of all rows say what they should
 pub entries_of : (accounts : List AcctRow) (charges togos : List MoneyRow) (as_of : ℤ) (actuals : List ℕ) (latest : List (Option ℕ)) (entries : List Entry) → AreActuals (length accounts) charges as_of (length charges) actuals → AreLatest (length accounts) togos as_of (length togos) latest → AreMade accounts togos actuals latest (length accounts) entries → AreEntriesOf accounts charges togos as_of entries

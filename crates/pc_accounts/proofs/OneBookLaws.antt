@@ -1,5 +1,5 @@
 -- Accounts, charges and amounts to go make one book.
-use Rattle.std.proofs.Common.{◌≡◌, ℕ, ◌<◌, List, length, inl, inr, sym, ap, ◌∙◌, ℤ, arith}
+use Rattle.std.proofs.Common.{◌≡◌, ℕ, ◌<◌, List, length, inl, inr, sym, ap, ◌∙◌, ℤ, ◌≤ℤ◌, arith}
 use Rattle.std.proofs.lemmas.Bool.{cases_lt}
 use Rattle.std.proofs.lemmas.Int.{ints}
 use Rattle.std.proofs.lemmas.List.{ext_get_or}
@@ -7,29 +7,33 @@ use Rattle.pc_accounts.specs.declared.rows.AcctRow.{AcctRow}
 use Rattle.pc_accounts.specs.declared.rows.MoneyRow.{MoneyRow}
 use Rattle.pc_accounts.specs.declared.entry.Entry.{Entry}
 use Rattle.pc_accounts.specs.Entries.{entry_at}
-use Rattle.pc_accounts.specs.Amounts.{money_at, AreEntriesOf, IsEntryOf, IsLatestDue, IsToGo}
+use Rattle.pc_accounts.specs.Amounts.{money_at, AreEntriesOf, IsDue, IsEntryOf, IsToGo}
 use Rattle.pc_accounts.specs.Second.{IsRepeated}
 use Rattle.pc_accounts.proofs.EntryLaws.{same_entry}
 
+-- row k is of account a and dated up to as-of, and none of these rows has a later date
+abbrev IsLatest : List MoneyRow → ℤ → ℕ → ℕ → Type 0
+IsLatest rows as_of a k = IsDue rows as_of a k × ((j : ℕ) → IsDue rows as_of a j → (money_at rows j).day ≤ℤ (money_at rows k).day)
+
 -- where no account has two amounts to go of one day, the latest of an account is one
-one_latest : (togos : List MoneyRow) → ((k : ℕ) → IsRepeated togos k → ⊥) → (as_of : ℤ) (a k j : ℕ) → IsLatestDue togos as_of a k → IsLatestDue togos as_of a j → k ≡ j
-one_latest togos once as_of a k j x y =
-    let account : (money_at togos k).account ≡ (money_at togos j).account = x.due.account ∙ sym y.due.account in
-    let day : (money_at togos k).day ≡ (money_at togos j).day = omega (arith, ints, x.latest j y.due, y.latest k x.due) in
+one_latest : (togos : List MoneyRow) → ((k : ℕ) → IsRepeated togos k → ⊥) → (as_of : ℤ) (a k j : ℕ) → IsLatest togos as_of a k → IsLatest togos as_of a j → k ≡ j
+one_latest togos once as_of a k j (due, latest) (due', latest') =
+    let account : (money_at togos k).account ≡ (money_at togos j).account = due.account ∙ sym due'.account in
+    let day : (money_at togos k).day ≡ (money_at togos j).day = omega (arith, ints, latest j due', latest' k due) in
     elim (cases_lt k j) [
-      | inl below ↦ absurd (once j (y.due.in_rows, (k, record { later = below; account = sym account; day = sym day })))
+      | inl below ↦ absurd (once j (due'.in_rows, (k, record { later = below; account = sym account; day = sym day })))
       | inr over ↦ elim (cases_lt j k) [
-        | inl below ↦ absurd (once k (x.due.in_rows, (j, record { later = below; account = account; day = day })))
+        | inl below ↦ absurd (once k (due.in_rows, (j, record { later = below; account = account; day = day })))
         | inr under ↦ omega (arith, over, under)
       ]
     ]
 
 -- so what is to go is one amount
 one_to_go : (togos : List MoneyRow) → ((k : ℕ) → IsRepeated togos k → ⊥) → (as_of : ℤ) (a : ℕ) (e f : Entry) → e.budget ≡ f.budget → e.actual ≡ f.actual → IsToGo togos as_of a e → IsToGo togos as_of a f → e.to_go ≡ f.to_go
-one_to_go togos once as_of a e f b c (inl x) (inl y) =
-    x.2 ∙ ap (λ k. (money_at togos k).amount) (one_latest togos once as_of a x.0 y.0 x.1 y.1) ∙ sym y.2
-one_to_go togos once as_of a e f b c (inl x) (inr y) = absurd (y.0 x.0 x.1.due)
-one_to_go togos once as_of a e f b c (inr x) (inl y) = absurd (x.0 y.0 y.1.due)
+one_to_go togos once as_of a e f b c (inl (k, due, latest, x)) (inl (j, due', latest', y)) =
+    x ∙ ap (λ k. (money_at togos k).amount) (one_latest togos once as_of a k j (due, latest) (due', latest')) ∙ sym y
+one_to_go togos once as_of a e f b c (inl (k, due, latest, x)) (inr y) = absurd (y.0 k due)
+one_to_go togos once as_of a e f b c (inr x) (inl (j, due, latest, y)) = absurd (x.0 j due)
 one_to_go togos once as_of a e f b c (inr x) (inr y) = omega (arith, x.1, y.1, b, c)
 
 -- an account has one entry

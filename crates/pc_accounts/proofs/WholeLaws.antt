@@ -9,7 +9,7 @@ use Rattle.pc_accounts.specs.declared.rows.MoneyRow.{MoneyRow}
 use Rattle.pc_accounts.specs.declared.entry.Entry.{Entry}
 use Rattle.pc_accounts.specs.Entries.{entry_at}
 use Rattle.pc_accounts.specs.inside.Entries.{entry_of_all}
-use Rattle.pc_accounts.specs.Amounts.{money_at, budget_of, is_due, actual_of, all_charged, AreEntriesOf, AreMoney, entry_of_project}
+use Rattle.pc_accounts.specs.Amounts.{money_at, budget_of, actual_of, all_charged, AreEntriesOf, AreMoney, entry_of_project}
 use Rattle.pc_accounts.proofs.EntryLaws.{same_entry}
 use Rattle.pc_accounts.proofs.PartLaws.{part_more, part_sum}
 
@@ -37,7 +37,7 @@ charged_so_far accounts charges as_of (suc i) money h =
     let e : suc i ≡ i + 1 = omega arith in
     rw e (omega (
       arith,
-      sum_to-same accounts (actual_of (take (i + 1) charges) as_of) (λ a. actual_of (take i charges) as_of a + added a) (λ a lt. part_more (λ (row : MoneyRow). row.amount) (is_due as_of a) charges i none (omega arith)),
+      sum_to-same accounts (actual_of (take (i + 1) charges) as_of) (λ a. actual_of (take i charges) as_of a + added a) (λ a lt. part_more (λ (row : MoneyRow). row.amount) (λ (row : MoneyRow). (row.account == a) && int_le row.day as_of) charges i none (omega arith)),
       sum_to-add accounts (actual_of (take i charges) as_of) added,
       charged_so_far accounts charges as_of i money (omega arith),
       counts_once accounts row.account row.amount (int_le row.day as_of) (money.known i (omega arith)),
@@ -51,7 +51,7 @@ charged_so_far accounts charges as_of (suc i) money h =
     row = money_at charges i
 
     added : ℕ → ℕ
-    added a = cond (is_due as_of a row) row.amount 0
+    added a = cond ((row.account == a) && int_le row.day as_of) row.amount 0
 
 -- an amount of all entries, by their numbers
 entries_sum : (f : Entry → ℕ) (entries : List Entry) → sum_by f entries ≡ sum_to (length entries) (λ a. f (entry_at entries a))

@@ -1,5 +1,5 @@
 -- What a book says of each account: sums and choices over all charges and all amounts to go.
-use Rattle.std.specs.Prelude.{◌≡◌, ℕ, ◌-◌, ◌<◌, ◌≤◌, ◌==◌, ◌&&◌, ◌⊎◌, Bool, ℤ, pos, ◌≤ℤ◌, int_le, List, length, slice_index_or, filter, sum_by}
+use Rattle.std.specs.Prelude.{◌≡◌, ℕ, ◌-◌, ◌<◌, ◌≤◌, ◌==◌, ◌&&◌, ◌⊎◌, ℤ, pos, ◌≤ℤ◌, int_le, List, length, slice_index_or, filter, sum_by}
 use Rattle.pc_model.specs.declared.limits.TheConstants.{MAX_COST}
 use Rattle.pc_accounts.specs.declared.rows.AcctRow.{AcctRow}
 use Rattle.pc_accounts.specs.declared.rows.MoneyRow.{MoneyRow}
@@ -22,13 +22,9 @@ budget_of accounts a = (account_at accounts a).budget
 abbrev pub money_at : List MoneyRow → ℕ → MoneyRow
 money_at rows k = slice_index_or rows k (record { account = 0; day = pos 0; amount = 0 })
 
--- a test for: the row is of account a, and dated up to as-of
-abbrev pub is_due : ℤ → ℕ → MoneyRow → Bool
-is_due as_of a row = (row.account == a) && int_le row.day as_of
-
 -- the sum of the account's charges dated up to as-of
 abbrev pub actual_of : List MoneyRow → ℤ → ℕ → ℕ
-actual_of charges as_of a = sum_by (λ row. row.amount) (filter (is_due as_of a) charges)
+actual_of charges as_of a = sum_by (λ row. row.amount) (filter (λ row. (row.account == a) && int_le row.day as_of) charges)
 
 -- the sum of all charges dated up to as-of, whichever account they are of
 abbrev pub all_charged : List MoneyRow → ℤ → ℕ
@@ -40,16 +36,12 @@ pub record IsDue (rows : List MoneyRow) (as_of : ℤ) (a k : ℕ) : Type 0 where
   pub account : (money_at rows k).account ≡ a
   pub due : (money_at rows k).day ≤ℤ as_of
 
--- and none of these rows has a later date
-pub record IsLatestDue (rows : List MoneyRow) (as_of : ℤ) (a k : ℕ) : Type 0 where
-  pub due : IsDue rows as_of a k
-  pub latest : (j : ℕ) → IsDue rows as_of a j → (money_at rows j).day ≤ℤ (money_at rows k).day
-
 -- what is to go: the amount to go with the latest date up to as-of; where there is none, what actual leaves of the
 -- budget, and nothing where it leaves none
 abbrev pub IsToGo : List MoneyRow → ℤ → ℕ → Entry → Type 0
 IsToGo togos as_of a entry =
-    ((k : ℕ) × IsLatestDue togos as_of a k × (entry.to_go ≡ (money_at togos k).amount))
+    ((k : ℕ) × IsDue togos as_of a k × ((j : ℕ) → IsDue togos as_of a j → (money_at togos j).day ≤ℤ (money_at togos k).day)
+    × (entry.to_go ≡ (money_at togos k).amount))
     ⊎ (((k : ℕ) → IsDue togos as_of a k → ⊥) × (entry.to_go ≡ entry.budget - entry.actual))
 
 -- the entry says the budget of account a, the sum of its charges up to as-of, and what is to go

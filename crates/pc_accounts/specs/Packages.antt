@@ -15,10 +15,7 @@ costs_of work item = sum_by (λ row. row.cost) (filter (λ row. row.item == item
 abbrev pub work_at : List WorkRow → ℕ → WorkRow
 work_at work k = slice_index_or work k (record { item = 0; cost = 0 })
 
--- the item has an activity
-abbrev pub HasWork : List WorkRow → ℕ → Type 0
-HasWork work item = (k : ℕ) × (k < length work) × ((work_at work k).item ≡ item)
-
--- the item has work, and what its accounts may spend is not what its activities cost
+-- the item has an activity, and what its accounts may spend is not what its activities cost
 abbrev pub IsUneven : List AcctRow → List WorkRow → ℕ → Type 0
-IsUneven accounts work item = HasWork work item × (budgets_of accounts item ≢ costs_of work item)
+IsUneven accounts work item =
+    ((k : ℕ) × (k < length work) × ((work_at work k).item ≡ item)) × (budgets_of accounts item ≢ costs_of work item)

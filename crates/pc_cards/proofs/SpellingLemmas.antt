@@ -1,6 +1,7 @@
 -- Each form has one spelling: what is written of the value of a field that fits is the field.
 use Rattle.std.proofs.Common.{◌≡◌, ℕ, Bool, true, false, not, ◌||◌, List, [], ◌∷◌, length, map, Some, None, is_some, unwrap_or, if◌then◌else◌, bytes_eq, codes, Result, Ok, Err, refl, sym, arith, ℤ}
-use Rattle.std.specs.Prelude.{decimal}
+use Rattle.std.specs.Prelude.{decimal, pos}
+use Rattle.std.specs.Result.{result_unwrap_or}
 use Rattle.std.proofs.lemmas.Bool.{eqb-true}
 use Rattle.std.specs.Cmp.Lexicographic.{bytes_decides}
 use Rattle.pc_text.specs.Code.{code_of, is_code}
@@ -12,7 +13,7 @@ use Rattle.pc_days.specs.declared.error.DayError.{DayError}
 use Rattle.pc_days.specs.declared.error.DayError.TheVariants.{Shape, Years}
 use Rattle.pc_days.proofs.CalendarLaws.{text_of-read}
 use Rattle.pc_records.specs.Deck.{is_empty}
-use Rattle.pc_cards.specs.Forms.{AllFit, Fits, Slot, code_text, day_in, day_read, field_numbered, is_finish, is_misshapen, is_of_other_years, letter_text, number_in, number_text}
+use Rattle.pc_cards.specs.Forms.{AllFit, Fits, Slot, code_text, day_in, field_numbered, is_misshapen, is_of_other_years, letter_text, number_in, number_text}
 use Rattle.pc_cards.specs.declared.form.Form.{Form}
 use Rattle.pc_cards.specs.declared.form.Form.TheVariants as form
 
@@ -25,7 +26,7 @@ respelled form.Title field = field
 respelled form.Date field = text_of_day (day_in field)
 respelled (form.Number least most) field = decimal (number_in field)
 respelled (form.NumberOrNone least most) field = number_text (number_of field)
-respelled form.Letter field = letter_text (is_finish field)
+respelled form.Letter field = letter_text (bytes_eq field (codes "F"))
 
 empty_is : (field : List ℕ) → is_empty field ≡ true → [] ≡ field
 empty_is [] h = refl
@@ -51,7 +52,7 @@ a_number_or_none false field is h = empty_is field (or_first (is_empty field) h)
     or_first true h = refl
     or_first false h = h
 
-a_day : (field : List ℕ) (read : Result ℤ DayError) → day_of field ≡ read → not (is_misshapen read) ≡ true → is_of_other_years read ≡ false → text_of_day (day_read read) ≡ field
+a_day : (field : List ℕ) (read : Result ℤ DayError) → day_of field ≡ read → not (is_misshapen read) ≡ true → is_of_other_years read ≡ false → text_of_day (result_unwrap_or read (pos 0)) ≡ field
 a_day field (Ok day) is shape years = sym (text_of-read field day is)
 a_day field (Err Shape) is shape years = absurd (let shape' = shape in cc)
 a_day field (Err Years) is shape years = absurd (let years' = years in cc)
@@ -73,7 +74,7 @@ respelled-same form.Title field fit = refl
 respelled-same form.Date field fit = a_day field (day_of field) refl fit.0 fit.1
 respelled-same (form.Number least most) field fit = a_number (is_number field) field refl fit.0
 respelled-same (form.NumberOrNone least most) field fit = a_number_or_none (is_number field) field refl fit.0
-respelled-same form.Letter field fit = a_letter (is_finish field) field refl fit.0
+respelled-same form.Letter field fit = a_letter (bytes_eq field (codes "F")) field refl fit.0
 
 -- what is written of the values of a card's fields
 abbrev pub all_respelled : List Slot → List (List ℕ) → List (List ℕ)

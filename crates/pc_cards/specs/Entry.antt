@@ -22,15 +22,11 @@ pub data Limit : Type 0 where
   up_to : ℕ → Limit
   growing : ℕ → ℕ → Limit
 
--- a limit that is greater in decks of version 2
-abbrev pub by_version : ℕ → ℕ → ℕ → ℕ
-by_version version small large = if version == 2 then large else small
-
 -- the number, in a deck of a version, where there is one
 abbrev pub limit_at : ℕ → Limit → Option ℕ
 limit_at version unlimited = None
 limit_at version (up_to most) = Some most
-limit_at version (growing small large) = Some (by_version version small large)
+limit_at version (growing small large) = Some (if version == 2 then large else small)
 
 -- the limit of a kind that only plans have, and of one that only decks of tasks have
 abbrev pub in_plans : Limit → Sort → Limit

@@ -1,6 +1,7 @@
 -- What one field of a card must be.
 use Rattle.std.specs.Prelude.{◌≡◌, ℕ, ℤ, pos, ◌-◌, Bool, true, false, not, ◌||◌, nat_lt, List, [], ◌∷◌, length, drop, Option, Some, None, is_some, unwrap_or, Result, Ok, Err, find, bytes_eq, codes, decimal, nat_le, nat_eq, ◌&&◌, if◌then◌else◌}
 use Rattle.std.specs.List.{starts_with}
+use Rattle.std.specs.Result.{result_unwrap_or}
 use Rattle.pc_records.specs.Deck.{field_at, is_blank, is_empty}
 use Rattle.pc_text.specs.Code.{is_code}
 use Rattle.pc_text.specs.Title.{is_title_shape}
@@ -102,18 +103,9 @@ first_over_limit slots fields = find (λ slot. is_over_limit slot.1 (field_numbe
 abbrev pub number_in : List ℕ → ℕ
 number_in field = unwrap_or (number_of field) 0
 
--- the day that was read
-abbrev pub day_read : Result ℤ DayError → ℤ
-day_read (Ok day) = day
-day_read (Err error) = pos 0
-
 -- the day whose date a field is
 abbrev pub day_in : List ℕ → ℤ
-day_in field = day_read (day_of field)
-
--- the letter F
-abbrev pub is_finish : List ℕ → Bool
-is_finish field = bytes_eq field (codes "F")
+day_in field = result_unwrap_or (day_of field) (pos 0)
 
 -- a code as it is written; nothing where there is none
 abbrev pub code_text : Option (List ℕ) → List ℕ

@@ -1,6 +1,6 @@
 //! What holds of a kind by the sort and the version of its deck.
-ghost use Rattle.std.specs.Prelude.{◌≡◌};
-ghost use Rattle.pc_cards.specs.Entry.{by_sort, by_version};
+ghost use Rattle.std.specs.Prelude.{◌≡◌, ◌==◌, if◌then◌else◌};
+ghost use Rattle.pc_cards.specs.Entry.{by_sort};
 
 use crate::sort::Sort;
 
@@ -16,7 +16,7 @@ pub fn by_sort(sort: Sort, plan: u32, tasks: u32) -> u32
 
 /// A limit that is greater in decks of version 2.
 pub fn by_version(version: u64, small: u32, large: u32) -> u32
-    ensures { result ≡ by_version version small large }
+    ensures { result ≡ (if version == 2 then large else small) }
 {
     if version == 2 { large } else { small }
 }

@@ -1,8 +1,8 @@
 //! Reading one field of a card: its value, or what is wrong with it. Each form is read here and nowhere else.
-ghost use Rattle.std.specs.Prelude.{◌≡◌, IfOk, OnOk, IfErr};
+ghost use Rattle.std.specs.Prelude.{◌≡◌, IfOk, OnOk, IfErr, bytes_eq, codes};
 ghost use Rattle.pc_text.specs.Code.{code_of};
 ghost use Rattle.pc_text.specs.Number.{number_of};
-ghost use Rattle.pc_cards.specs.Forms.{Fits, field_numbered, number_in, day_in, is_finish, is_reserved, own_code};
+ghost use Rattle.pc_cards.specs.Forms.{Fits, field_numbered, number_in, day_in, is_reserved, own_code};
 ghost use Rattle.pc_cards.specs.inside.Forms.{IsMisfit, is_of_shape};
 ghost use Rattle.pc_cards.specs.declared.field.Flaw.TheVariants as flaw;
 ghost use Rattle.pc_cards.specs.declared.form.Form.TheVariants as form;
@@ -169,7 +169,7 @@ pub fn read_amount_or_none(
 
 /// Whether a field is `F`, where it must be `S` or `F`.
 pub fn read_letter(fields: &Row, number: u8) -> Result<bool, Misfit>
-    ensures value { IfOk result (λ finished. finished ≡ is_finish (field_numbered fields.now number)) }
+    ensures value { IfOk result (λ finished. finished ≡ bytes_eq (field_numbered fields.now number) (codes "F")) }
     ensures fit { OnOk result (Fits form.Letter (field_numbered fields.now number)) }
     ensures misfit { IfErr result (IsMisfit number form.Letter (field_numbered fields.now number)) }
 {

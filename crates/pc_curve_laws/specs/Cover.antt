@@ -1,5 +1,5 @@
 -- Segments that join, and the one that is read for a length.
-use Rattle.std.specs.Prelude.{◌≡◌, ℕ, ◌+◌, ◌<◌, Bool, false, ◌&&◌, nat_le, List, [], ◌∷◌, length, slice_index_or, All, find, Option, IsSomeAnd}
+use Rattle.std.specs.Prelude.{◌≡◌, ℕ, ◌+◌, ◌<◌, false, ◌&&◌, nat_le, List, [], ◌∷◌, length, slice_index_or, All, find, IsSomeAnd}
 use Rattle.pc_model.specs.declared.Term.{Term}
 use Rattle.pc_model.specs.Walk.{IsWalk, walk_sum, IsSumOfWalk}
 use Rattle.pc_model.specs.Network.{Network}
@@ -83,15 +83,7 @@ pub record MeetsConditions (net : Network) (terms : List Term) (knees : Knees) (
 
 -- What is read for a length
 
--- a test for: the length lies between the ends of the segment
-abbrev pub is_held : ℕ → Segment → Bool
-is_held limit seg = nat_le seg.lower limit && nat_le limit seg.upper
-
--- the segment that is read for a length: the first that holds it
-abbrev pub segment_for : List Segment → ℕ → Option Segment
-segment_for segments limit = find (is_held limit) segments
-
--- what is read for a length from the segments is right
+-- what is read for a length from the first segment that holds it is right
 abbrev pub IsReadRight : Network → List Term → Knees → List Segment → ℕ → Type 0
 IsReadRight net terms knees segments limit =
-    IsSomeAnd (segment_for segments limit) (λ seg. Holds seg limit × IsRight net terms knees seg limit)
+    IsSomeAnd (find (λ seg. nat_le seg.lower limit && nat_le limit seg.upper) segments) (λ seg. Holds seg limit × IsRight net terms knees seg limit)

@@ -1,5 +1,6 @@
 -- The dates of a deck: how one is spelled, and the number of its day.
 use Rattle.std.specs.Prelude.{◌≡◌, ℕ, ◌+◌, ◌-◌, ◌*◌, ◌/◌, ◌%◌, Bool, ◌&&◌, ◌==◌, nat_le, if◌then◌else◌, List, [], ◌∷◌, length, slice_index, Result, Ok, Err, ℤ, pos, neg_ℤ, ◌+ℤ◌, ◌-ℤ◌, ◌*ℤ◌, ◌≤ℤ◌, ◌<ℤ◌}
+use Rattle.std.specs.Char.{is_ascii_digit}
 use Rattle.jiff_core.specs.Calendar.{IsCivilDate, IsBetween, days_from_civil, days_in_month}
 use Rattle.pc_days.specs.declared.error.DayError.{DayError}
 use Rattle.pc_days.specs.declared.error.DayError.TheVariants.{Shape, Years}
@@ -32,13 +33,9 @@ pub record IsDateText (text : List ℕ) (y m d : ℕ) : Type 0 where
 abbrev pub NamesDay : List ℕ → ℤ → Type 0
 NamesDay text day = (y : ℕ) × ((m : ℕ) × ((d : ℕ) × (IsDateText text y m d × (days_from_civil (pos y) m d ≡ day))))
 
--- the byte is a decimal digit
-abbrev pub is_digit : ℕ → Bool
-is_digit b = nat_le 48 b && nat_le b 57
-
--- two bytes are digits
+-- two bytes are decimal digits
 abbrev pub are_digits : List ℕ → ℕ → Bool
-are_digits text i = is_digit (slice_index text i) && is_digit (slice_index text (i + 1))
+are_digits text i = is_ascii_digit (slice_index text i) && is_ascii_digit (slice_index text (i + 1))
 
 -- the number that two digits show
 abbrev pub number_at : List ℕ → ℕ → ℕ

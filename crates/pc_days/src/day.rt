@@ -2,7 +2,7 @@
 ghost use Rattle.std.specs.Prelude.{◌≡◌, ◌↔◌, ◌-ℤ◌, ◌<ℤ◌, ◌+◌, ◌<◌, ◌/◌, ◌%◌, ◌^◌, ℕ, ℤ, pos, neg_ℤ, List, length, true, Ok, Err, IfSome, IsNone};
 ghost use Rattle.jiff_core.specs.Calendar.{IsWithin};
 ghost use Rattle.pc_days.specs.Calendar.{text_of_day};
-ghost use Rattle.pc_days.specs.Dates.{day_of, has_form, are_digits, number_at, year_of, is_digit, is_deck_year, NamesDay, date_text, IsPrintedDay, IsRoundedUp, IsAfterSixths};
+ghost use Rattle.pc_days.specs.Dates.{day_of, has_form, are_digits, number_at, year_of, is_deck_year, NamesDay, date_text, IsPrintedDay, IsRoundedUp, IsAfterSixths};
 ghost use Rattle.pc_days.specs.inside.Dates.{NamesDate, NamesDeckDay, NamesOtherYear};
 
 use crate::error::DayError;
@@ -63,19 +63,12 @@ pub fn read_day(field: &[u8]) -> Result<Day, DayError>
     })
 }
 
-/// Whether the byte is a decimal digit.
-fn is_digit(byte: u8) -> bool
-    ensures { result ≡ is_digit byte }
-{
-    b'0' <= byte && byte <= b'9'
-}
-
 /// Whether the bytes at this place and after it are digits.
 fn are_digits(field: &[u8], at: usize) -> bool
     requires { at + 1 < length field.now }
     ensures { result ≡ are_digits field.now at }
 {
-    is_digit(field[at]) && is_digit(field[at + 1])
+    field[at].is_ascii_digit() && field[at + 1].is_ascii_digit()
 }
 
 /// Whether a deck's dates may have this year.

@@ -1,11 +1,11 @@
 -- STATUS,activity,S or F,date
-use Rattle.std.specs.Prelude.{ℕ, List, [], ◌∷◌, false}
+use Rattle.std.specs.Prelude.{ℕ, List, [], ◌∷◌, false, bytes_eq, codes}
 use Rattle.pc_records.specs.Deck.{field_at}
 use Rattle.pc_days.specs.Calendar.{text_of_day}
 use Rattle.pc_cards.specs.Entry.{Entry, Written, growing, in_both, no_code}
 use Rattle.pc_deck.specs.declared.limits.TheConstants.{SMALL_STATUSES}
 use Rattle.pc_model.specs.declared.limits.TheConstants.{MAX_STATUSES}
-use Rattle.pc_cards.specs.Forms.{Slot, day_in, is_finish, letter_text}
+use Rattle.pc_cards.specs.Forms.{Slot, day_in, letter_text}
 use Rattle.pc_cards.specs.declared.form.Form.TheVariants as form
 use Rattle.pc_deck.specs.declared.kinds.status.StatusCard.{StatusCard}
 use Rattle.pc_deck.specs.declared.kinds.CardLists.{CardLists}
@@ -16,7 +16,12 @@ status_slots = (2, form.Code) ∷ (3, form.Letter) ∷ (4, form.Date) ∷ []
 
 -- the card that a record spells
 abbrev pub status_of : ℕ → List (List ℕ) → StatusCard
-status_of row fields = record { row = row; activity = field_at fields 1; finished = is_finish (field_at fields 2); day = day_in (field_at fields 3) }
+status_of row fields = record {
+  row = row;
+  activity = field_at fields 1;
+  finished = bytes_eq (field_at fields 2) (codes "F");
+  day = day_in (field_at fields 3);
+}
 
 -- its fields as they are written
 abbrev pub written_status : StatusCard → List (List ℕ)

@@ -6,13 +6,14 @@ use Rattle.std.proofs.lemmas.Bool.{cases_eq}
 use Rattle.std.proofs.lemmas.List.{get_or_default}
 use Rattle.std.proofs.lemmas.Int.{ints}
 use Rattle.pc_model.specs.declared.limits.TheConstants.{MAX_EVENTS}
+use Rattle.pc_model.specs.Greatest.{IsFirst}
 use Rattle.pc_model.specs.Network.{Network, IsOrder}
 use Rattle.pc_model.specs.Walk.{from_of, to_of}
 use Rattle.pc_model.proofs.Walks.OrderLaws.{stands_in_order}
 use Rattle.pc_project.specs.Planned.{IsPlanned}
 use Rattle.pc_project.specs.Project.{Project}
 use Rattle.pc_status.specs.declared.row.StatusRow.{StatusRow}
-use Rattle.pc_status.specs.Statuses.{status_at, AreInOrder, IsFirstOf, IsSixths, IsStateOf}
+use Rattle.pc_status.specs.Statuses.{status_at, AreInOrder, IsOf, IsSixths, IsStateOf}
 use Rattle.pc_faults.specs.declared.status.StatusFault.TheVariants.{Late}
 use Rattle.pc_times.specs.declared.TheConstants.{MAX_LENGTH, MAX_TIME}
 use Rattle.pc_times.specs.declared.state.ActState.{ActState}
@@ -27,7 +28,7 @@ IsStateUpTo most (Started at) = at ≤ most
 IsStateUpTo most Waiting = Unit {0}
 
 -- a status that is in order is not later than as-of
-status_up_to : (start as_of : ℤ) (statuses : List StatusRow) (ended : Bool) (a k at most : ℕ) → AreInOrder start as_of statuses → IsSixths start as_of most → IsFirstOf statuses ended a k → IsSixths start (status_at statuses k).day at → at ≤ most
+status_up_to : (start as_of : ℤ) (statuses : List StatusRow) (ended : Bool) (a k at most : ℕ) → AreInOrder start as_of statuses → IsSixths start as_of most → IsFirst (IsOf statuses ended a) k → IsSixths start (status_at statuses k).day at → at ≤ most
 status_up_to start as_of statuses ended a k at most in_order last first is =
     let not_late : (as_of <ℤ (status_at statuses k).day) → ⊥ = in_order k first.holds.known Late in
     grind (arith, ints)

@@ -4,14 +4,15 @@ use Rattle.std.specs.Prelude.{ℤ, pos, false, ◌≤ℤ◌}
 use Rattle.std.proofs.lemmas.Int.{by_lt_z}
 use Rattle.std.proofs.lemmas.List.{get_or_default}
 use Rattle.pc_faults.specs.declared.status.StatusFault.TheVariants.{Early}
+use Rattle.pc_model.specs.Greatest.{IsFirst}
 use Rattle.pc_status.specs.declared.row.StatusRow.{StatusRow}
-use Rattle.pc_status.specs.Statuses.{status_at, IsOf, IsFirstOf, AreInOrder}
+use Rattle.pc_status.specs.Statuses.{status_at, IsOf, AreInOrder}
 use Rattle.pc_status.specs.inside.Firsts.{option_at, FirstBelow, AreFirsts}
 
 -- a first status that was read
 pub record IsFound (statuses : List StatusRow) (ended : Bool) (a k : ℕ) (row : StatusRow) : Type 0 where
   pub known : k < length statuses
-  pub first : IsFirstOf statuses ended a k
+  pub first : IsFirst (IsOf statuses ended a) k
   pub read : status_at statuses k ≡ row
 
 pub first_found : (activities : ℕ) (statuses : List StatusRow) (ended : Bool) (a k : ℕ) (firsts : List (Option ℕ)) (o : Option ℕ) (row : StatusRow) → AreFirsts activities statuses ended (length statuses) firsts → a < activities → o ≡ get_or firsts a o → o ≡ Some k → row ≡ get_or statuses k row → IsFound statuses ended a k row

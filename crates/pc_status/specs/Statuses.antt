@@ -17,34 +17,19 @@ pub record IsOf (statuses : List StatusRow) (ended : Bool) (a k : ℕ) : Type 0 
   pub activity : (status_at statuses k).activity ≡ a
   pub letter : (status_at statuses k).finished ≡ ended
 
--- and is the first that says so
-abbrev pub IsFirstOf : List StatusRow → Bool → ℕ → ℕ → Type 0
-IsFirstOf statuses ended a k = IsFirst (IsOf statuses ended a) k
-
--- an earlier status says the same of the activity
-abbrev pub IsSecond : List StatusRow → ℕ → Type 0
-IsSecond statuses k =
-    (j : ℕ) × ((j < k) × IsOf statuses (status_at statuses k).finished (status_at statuses k).activity j)
-
--- it says that an activity was ended of which no status says that it was begun
-pub record IsWithoutStart (statuses : List StatusRow) (k : ℕ) : Type 0 where
-  pub ended : (status_at statuses k).finished ≡ true
-  pub never : (j : ℕ) → IsOf statuses false (status_at statuses k).activity j → ⊥
-
--- it says that an activity was ended before it was begun, by the first status that says when
-pub record IsBeforeStart (statuses : List StatusRow) (k : ℕ) : Type 0 where
-  pub ended : (status_at statuses k).finished ≡ true
-  pub start : ℕ
-  pub begun : IsFirstOf statuses false (status_at statuses k).activity start
-  pub before : (status_at statuses k).day <ℤ (status_at statuses start).day
-
--- why the k-th status of a project with this start and this as-of is in disorder
+-- why the k-th status of a project with this start and this as-of is in disorder: an earlier one says the same of its
+-- activity; it is dated before the start, or after as-of; it says that an activity was ended of which no status says that it
+-- was begun, or that one was ended before it was begun, by the first status that says when
 abbrev pub HasReason : ℤ → ℤ → List StatusRow → ℕ → StatusFault → Type 0
-HasReason start as_of statuses k Second = IsSecond statuses k
+HasReason start as_of statuses k Second =
+    (j : ℕ) × (j < k) × IsOf statuses (status_at statuses k).finished (status_at statuses k).activity j
 HasReason start as_of statuses k Early = (status_at statuses k).day <ℤ start
 HasReason start as_of statuses k Late = as_of <ℤ (status_at statuses k).day
-HasReason start as_of statuses k NoStart = IsWithoutStart statuses k
-HasReason start as_of statuses k FinishFirst = IsBeforeStart statuses k
+HasReason start as_of statuses k NoStart =
+    ((status_at statuses k).finished ≡ true) × ((j : ℕ) → IsOf statuses false (status_at statuses k).activity j → ⊥)
+HasReason start as_of statuses k FinishFirst =
+    ((status_at statuses k).finished ≡ true)
+    × ((j : ℕ) × IsFirst (IsOf statuses false (status_at statuses k).activity) j × ((status_at statuses k).day <ℤ (status_at statuses j).day))
 
 -- the order in which reasons are tried
 abbrev pub place_of : StatusFault → ℕ
@@ -76,9 +61,9 @@ IsSixths start day sixths = pos sixths ≡ pos 6 *ℤ (day -ℤ start)
 -- that, or else it waits
 abbrev pub IsStateOf : ℤ → List StatusRow → ℕ → ActState → Type 0
 IsStateOf start statuses a (Finished at) =
-    (k : ℕ) × (IsFirstOf statuses true a k × IsSixths start (status_at statuses k).day at)
+    (k : ℕ) × (IsFirst (IsOf statuses true a) k × IsSixths start (status_at statuses k).day at)
 IsStateOf start statuses a (Started at) =
-    ((j : ℕ) → IsOf statuses true a j → ⊥) × ((k : ℕ) × (IsFirstOf statuses false a k × IsSixths start (status_at statuses k).day at))
+    ((j : ℕ) → IsOf statuses true a j → ⊥) × ((k : ℕ) × (IsFirst (IsOf statuses false a) k × IsSixths start (status_at statuses k).day at))
 IsStateOf start statuses a Waiting = (ended : Bool) (j : ℕ) → IsOf statuses ended a j → ⊥
 
 -- each status is of one of the activities

@@ -1,7 +1,7 @@
 //! Why a status is in disorder.
 ghost use Rattle.std.specs.Prelude.{◌≡◌, ℕ, ◌<◌, IsTrue, length, IfSome, IfNone, OnSome, false};
-ghost use Rattle.pc_status.specs.Statuses.{IsReason, IsInOrder, IsWithoutStart, IsBeforeStart, status_at};
-ghost use Rattle.pc_status.specs.inside.Firsts.{FirstBelow, IsFinishReason};
+ghost use Rattle.pc_status.specs.Statuses.{IsReason, IsInOrder, status_at};
+ghost use Rattle.pc_status.specs.inside.Firsts.{FirstBelow};
 
 use crate::row::StatusRow;
 use pc_days::Day;
@@ -23,26 +23,16 @@ pub(crate) fn reason(
     ensures told { IfSome result (IsReason start as_of statuses.now k) }
     ensures none { IfNone result (IsInOrder start as_of statuses.now k) }
 {
-    let day = statuses[k as usize].day;
+    let status = statuses[k as usize];
     if same != Some(k) {
         return Some(StatusFault::Second);
     }
-    if day < start {
+    if status.day < start {
         return Some(StatusFault::Early);
     }
-    if as_of < day {
+    if as_of < status.day {
         return Some(StatusFault::Late);
     }
-    finish_reason(statuses, k, begun)
-}
-
-/// Why a status says too early that an activity was ended, if it does.
-fn finish_reason(statuses: &[StatusRow], k: u32, begun: Option<u32>) -> Option<StatusFault>
-    requires known { k < length statuses.now }
-    requires begun { FirstBelow statuses.now false (status_at statuses.now k).activity (length statuses.now) begun }
-    ensures { IsFinishReason statuses.now k result }
-{
-    let status = statuses[k as usize];
     if !status.finished {
         return None;
     }

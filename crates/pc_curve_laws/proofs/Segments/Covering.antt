@@ -1,6 +1,6 @@
 -- The ends of the range, and the segments that cover it.
 use Rattle.std.proofs.Common.{◌≡◌, ℕ, ◌+◌, suc, ap, ◌<◌, ◌≤◌, false, List, [], ◌∷◌, ◌++◌, length, refl, Option, Some, inl, inr, sym, ◌∙◌, subst, arith}
-use Rattle.std.specs.Prelude.{find, nat_le, IsSomeAnd, All}
+use Rattle.std.specs.Prelude.{find, nat_le, Bool, ◌&&◌, IsSomeAnd, All}
 use Rattle.std.proofs.lemmas.Bool.{cases_lt, le-leb, lt-leb, and_from, and_left, cond-true, cond-false}
 use Rattle.std.proofs.lemmas.List.Elements.{recursion_from_All, All-from_recursion, All-push}
 use Rattle.std.specs.List.{AllByRecursion as ByRecursion}
@@ -10,7 +10,7 @@ use Rattle.pc_model.specs.Network.{Network}
 use Rattle.pc_model.specs.Schedule.{normal_of, normals, crashes, IsAllNormalLength, IsAllCrashLength}
 use Rattle.pc_model.specs.Cost.{Knees, IsPriced}
 use Rattle.pc_curve_laws.specs.Segment.{Segment, Holds, IsRightSegment, IsSegment, IsRight}
-use Rattle.pc_curve_laws.specs.Cover.{Joins, IsLong, IsLongUnlessAlone, BeginsNormal, IsFront, IsCovering, segment_at, first_upper, last_lower, MeetsConditions, is_held, segment_for, IsReadRight}
+use Rattle.pc_curve_laws.specs.Cover.{Joins, IsLong, IsLongUnlessAlone, BeginsNormal, IsFront, IsCovering, segment_at, first_upper, last_lower, MeetsConditions, IsReadRight}
 use Rattle.pc_model.proofs.Walks.WalkLaws.{times_bound_walk}
 use Rattle.pc_model.proofs.Schedules.Durations.{normals-at, crash_walk_within}
 use Rattle.pc_curve_laws.proofs.Segments.Readings.{tight_upper, right_at}
@@ -59,16 +59,20 @@ pub at_first_upper : (net : Network) (terms : List Term) (P : Segment → Type 0
 at_first_upper net terms P B at [] high low each joined normal = absurd joined
 at_first_upper net terms P B at (seg ∷ rest) high low (p, others) joined normal = subst B (joins-first seg rest high low joined) (at seg p normal)
 
+-- a test for: the length lies between the ends of the segment
+abbrev is_held : ℕ → Segment → Bool
+is_held limit seg = nat_le seg.lower limit && nat_le limit seg.upper
+
 -- the first segment that holds a length is the first of all, if this one does
 found_first : (Q : Segment → Type 0) (limit : ℕ) (seg : Segment) (rest : List Segment) → seg.lower ≤ limit → limit ≤ seg.upper → Q seg →
-    IsSomeAnd (segment_for (seg ∷ rest) limit) Q
+    IsSomeAnd (find (is_held limit) (seg ∷ rest)) Q
 found_first Q limit seg rest above below q =
     subst (λ (o : Option Segment). IsSomeAnd o Q) (sym (cond-true (is_held limit seg) (Some seg) (find (is_held limit) rest)
     (and_from (nat_le seg.lower limit) (nat_le limit seg.upper) (le-leb seg.lower limit above) (le-leb limit seg.upper below)))) q
 
 -- of segments that join, the first that holds a length of the range is one of them
 found_for : (P Q : Segment → Type 0) (limit : ℕ) → ((seg : Segment) → P seg → Holds seg limit → Q seg) → (segments : List Segment) (high low : ℕ) →
-    ByRecursion P segments → Joins high segments low → low ≤ limit → limit ≤ high → IsSomeAnd (segment_for segments limit) Q
+    ByRecursion P segments → Joins high segments low → low ≤ limit → limit ≤ high → IsSomeAnd (find (is_held limit) segments) Q
 found_for P Q limit reads [] high low each joined above below = absurd joined
 found_for P Q limit reads (seg ∷ []) high low (p, none) (upper, lower) above below =
     found_first Q limit seg [] (omega arith) (omega arith) (reads seg p (record { above = omega arith; below = omega arith }))

@@ -1,14 +1,13 @@
 -- The first statuses of activities among those that were read.
 use Rattle.std.specs.Prelude.{◌≡◌, ℕ, ◌<◌, Bool, List, length, slice_index_or, Option, Some, None, if◌then◌else◌}
+use Rattle.pc_model.specs.Greatest.{IsFirst}
 use Rattle.pc_status.specs.declared.row.StatusRow.{StatusRow}
-use Rattle.pc_faults.specs.declared.status.StatusFault.{StatusFault}
-use Rattle.pc_faults.specs.declared.status.StatusFault.TheVariants.{Second, Early, Late, NoStart, FinishFirst}
-use Rattle.pc_status.specs.Statuses.{IsOf, IsFirstOf, IsWithoutStart, IsBeforeStart}
+use Rattle.pc_status.specs.Statuses.{IsOf}
 
 -- the first status of activity a among the first n that says that it was ended, or that it was begun, if there is one
 abbrev pub FirstBelow : List StatusRow → Bool → ℕ → ℕ → Option ℕ → Type 0
 FirstBelow statuses ended a n None = (j : ℕ) → j < n → IsOf statuses ended a j → ⊥
-FirstBelow statuses ended a n (Some k) = (k < n) × IsFirstOf statuses ended a k
+FirstBelow statuses ended a n (Some k) = (k < n) × IsFirst (IsOf statuses ended a) k
 
 -- an element of a list; none past its end
 abbrev pub option_at : List (Option ℕ) → ℕ → Option ℕ
@@ -23,12 +22,3 @@ pub record AreFirsts (activities : ℕ) (statuses : List StatusRow) (ended : Boo
 abbrev pub first_or : Option ℕ → Bool → ℕ → Option ℕ
 first_or None counts k = if counts then Some k else None
 first_or (Some first) counts k = Some first
-
--- why a status says too early that an activity was ended, if it does
-abbrev pub IsFinishReason : List StatusRow → ℕ → Option StatusFault → Type 0
-IsFinishReason statuses k None = (IsWithoutStart statuses k → ⊥) × (IsBeforeStart statuses k → ⊥)
-IsFinishReason statuses k (Some NoStart) = IsWithoutStart statuses k
-IsFinishReason statuses k (Some FinishFirst) = (IsWithoutStart statuses k → ⊥) × IsBeforeStart statuses k
-IsFinishReason statuses k (Some Second) = ⊥
-IsFinishReason statuses k (Some Early) = ⊥
-IsFinishReason statuses k (Some Late) = ⊥
