@@ -1,5 +1,5 @@
 //! Codes that are found by their bytes.
-ghost use Rattle.std.specs.Prelude.{◌≡◌, ◌∷◌, ◌++◌, [], true, false, not, nat_eq, position, IfOk, OnErr};
+ghost use Rattle.std.specs.Prelude.{◌≡◌, ◌∷◌, ◌++◌, [], true, false, not, nat_eq, position, IfOk, OnOk, OnErr};
 ghost use Rattle.std.specs.List.{list_any};
 ghost use Rattle.std.specs.Cmp.Lexicographic.{pointwise};
 ghost use Rattle.pc_model.specs.Codes.{IsNamedOnce};
@@ -62,6 +62,16 @@ impl Names {
         if self.place_of(code).is_some() {
             return Ok(false);
         }
+        self.add_new(code)?;
+        Ok(true)
+    }
+
+    /// Adds a code that is not among them.
+    fn add_new(&mut self, code: &Code) -> Result<(), AllocError>
+        requires { list_any (pointwise nat_eq code.now) self.old ≡ false }
+        ensures added { OnOk result (self.new ≡ self.old ++ code.now ∷ []) }
+        ensures err { OnErr result (self.new ≡ self.old) }
+    {
         let count = self.codes.len() + 1;
         if count >= MOST {
             return Err(AllocError);
@@ -71,7 +81,7 @@ impl Names {
         self.index.make_room(alloc, &self.codes, count)?;
         self.index.put(&self.codes, code)?;
         self.codes.push(*code).unwrap();
-        Ok(true)
+        Ok(())
     }
 
     /// The place of a code, from 0.

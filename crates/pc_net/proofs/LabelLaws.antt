@@ -1,7 +1,7 @@
 -- Labels that never fall along an activity: how they spread, and what they say of cycles.
-use Rattle.std.proofs.Common.{◌≡◌, ◌≢◌, ℕ, ◌+◌, ◌<◌, ◌≤◌, ◌⊎◌, List, [], ◌∷◌, ◌++◌, length, slice_index, set, refl, sym, ◌∙◌, ap, subst, inl, inr, ⊎_elim, arith}
-use Rattle.std.proofs.lemmas.Bool.{cases_eq}
-use Rattle.std.proofs.lemmas.List.{get_or-set_same, get_or-set_other, length-set, get_or_append_left, get_or_push, length_push}
+use Rattle.std.proofs.Common.{◌≡◌, ◌≢◌, ℕ, ◌+◌, ◌<◌, ◌≤◌, ◌⊎◌, List, [], ◌∷◌, ◌++◌, length, replicate, slice_index, set, refl, sym, ◌∙◌, ap, subst, inl, inr, ⊎_elim, arith}
+use Rattle.std.proofs.lemmas.Bool.{cases_eq, cases_lt}
+use Rattle.std.proofs.lemmas.List.{get_or-replicate, get_or-set_same, get_or-set_other, get_or_past, length-replicate, length-set, get_or_append_left, get_or_push, length_push}
 use Rattle.pc_model.specs.declared.Arc.{Arc}
 use Rattle.pc_model.specs.inside.Greatest.{IsListed}
 use Rattle.pc_model.specs.Walk.{from_of, to_of, IsWalk}
@@ -36,6 +36,17 @@ IsSpread-start net label labels sized cleared some = record {
   least = λ v labelled. absurd (labelled (cleared v));
   follows = λ a below. inl (omega (arith, cleared (from_of net.arcs a)));
 }
+
+-- nor where none has been reached, and each event has the label 0
+pub IsSpread-fresh : (net : Network) (label : ℕ) (reached labels : List ℕ) → reached ≡ [] → labels ≡ replicate net.events 0 → 0 < label → IsSpread net label reached labels (length reached)
+IsSpread-fresh net label reached labels none made some =
+    rw (none, made) (IsSpread-start net label (replicate net.events 0) (length-replicate {A = ℕ} net.events 0) cleared some)
+  where
+    cleared : (v : ℕ) → slice_index (replicate net.events 0) v ≡ 0
+    cleared v = ⊎_elim
+        (λ below. get_or-replicate net.events v 0 0 below)
+        (λ past. get_or_past (replicate net.events 0) v 0 (omega (arith, length-replicate {A = ℕ} net.events 0)))
+        (cases_lt v net.events)
 
 -- between two rounds the label may fall
 pub IsSpread-lower : (net : Network) (label lower : ℕ) (reached labels : List ℕ) → IsSpread net label reached labels (length reached) → 0 < lower → lower ≤ label → IsSpread net lower reached labels (length reached)

@@ -1,6 +1,7 @@
 //! Labels of the events that never fall along an activity.
 ghost use Rattle.std.specs.Prelude.{◌≡◌, ◌+◌, ◌<◌, IfOk, OnOk, length, slice_index, vec_len};
 ghost use Rattle.pc_net.specs.inside.Labels.{IsSpread, NeverFalls};
+ghost use Rattle.pc_net.specs.inside.Turns.{AreEvents};
 
 use crate::finishing::finished;
 use crate::graph::Graph;
@@ -19,12 +20,45 @@ pub(crate) fn labels_of(alloc: Global, graph: &Graph) -> Result<Vec<u32>, AllocE
     let mut roots = finished(alloc, graph)?;
     let mut labels = vec![in alloc; 0; graph.events() as usize]?;
     let mut reached = Vec::with_capacity(alloc, graph.events() as usize)?;
-    for round in (0..graph.events()).rev() {
-        if let Some(root) = roots.pop() {
-            spread(graph, root, round + 1, &mut reached, &mut labels)?;
-        }
-    }
+    spread_all(graph, &mut roots, &mut reached, &mut labels)?;
     Ok(labels)
+}
+
+/// Gives each event a label: a round for each root from the last one on, with a smaller label each.
+fn spread_all(
+    graph: &Graph,
+    roots: &mut Vec<u32>,
+    reached: &mut Vec<u32>,
+    labels: &mut Vec<u32>,
+) -> Result<(), AllocError>
+    requires roots { AreEvents graph.now.events roots.old.items }
+    requires spread { IsSpread graph.now (graph.now.events + 1) reached.old.items labels.old.items (length reached.old.items) }
+    ensures sized { OnOk result (vec_len labels.new ≡ graph.now.events) }
+    ensures never_falls { OnOk result (NeverFalls graph.now.arcs labels.new.items) }
+{
+    for round in (0..graph.events()).rev() {
+        spread_next(graph, round + 1, roots, reached, labels)?;
+    }
+    Ok(())
+}
+
+/// Gives the label to the events of the last root, if there is one.
+fn spread_next(
+    graph: &Graph,
+    label: u32,
+    roots: &mut Vec<u32>,
+    reached: &mut Vec<u32>,
+    labels: &mut Vec<u32>,
+) -> Result<(), AllocError>
+    requires roots { AreEvents graph.now.events roots.old.items }
+    requires spread { IsSpread graph.now label reached.old.items labels.old.items (length reached.old.items) }
+    ensures roots { AreEvents graph.now.events roots.new.items }
+    ensures spread { OnOk result (IsSpread graph.now label reached.new.items labels.new.items (length reached.new.items)) }
+{
+    match roots.pop() {
+        Some(root) => spread(graph, root, label, reached, labels),
+        None => Ok(()),
+    }
 }
 
 /// Gives the label to each event without one to which a way leads from the root, unless the root has one.

@@ -18,6 +18,3 @@ mod side;
 pub use network::Net;
 pub use pc_model::{Arc, MAX_ACTIVITIES, MAX_EVENTS};
 pub use refusal::{Indices, NetError};
-
-#[cfg(test)]
-mod tests;

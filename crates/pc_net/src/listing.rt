@@ -1,7 +1,7 @@
 //! The activities at each event, in one list.
-ghost use Rattle.std.specs.Prelude.{◌≡◌, ◌<◌, ◌^◌, IfOk, length};
+ghost use Rattle.std.specs.Prelude.{◌≡◌, ◌<◌, ◌^◌, [], IfOk, OnOk, length};
 ghost use Rattle.pc_net.specs.inside.Sides.{events_of, AreBelow};
-ghost use Rattle.pc_net.specs.inside.Listings.{IsListing, HasPart, part_of};
+ghost use Rattle.pc_net.specs.inside.Listings.{AreListed, IsListing, HasPart, part_of};
 
 use crate::chains::chained;
 use crate::side::Side;
@@ -28,18 +28,9 @@ impl Listing {
         requires in_range { AreBelow (events_of side arcs.now) events }
         ensures { IfOk result (IsListing (events_of side arcs.now) events) }
     {
-        let chains = chained(alloc, events, arcs, side)?;
         let mut items = Vec::with_capacity(alloc, arcs.len())?;
-        let mut starts = Vec::with_capacity(alloc, chains.heads.len() + 1)?;
-        starts.push(0)?;
-        'events: for head in &chains.heads {
-            let mut at = *head as usize;
-            'chain: while at < arcs.len() {
-                items.push(at as u32)?;
-                at = chains.nexts[at] as usize;
-            }
-            starts.push(items.len())?;
-        }
+        let mut starts = Vec::with_capacity(alloc, events as usize + 1)?;
+        list(alloc, events, arcs, side, &mut items, &mut starts)?;
         Ok(Listing { items, starts })
     }
 
@@ -50,4 +41,32 @@ impl Listing {
     {
         &self.items[self.starts[event as usize]..self.starts[event as usize + 1]]
     }
+}
+
+/// Lists the activities at each event, one event after another, and where each event's begin.
+fn list(
+    alloc: Global,
+    events: u32,
+    arcs: &[Arc],
+    side: Side,
+    items: &mut Vec<u32>,
+    starts: &mut Vec<usize>,
+) -> Result<(), AllocError>
+    requires few { length arcs.now < 2 ^ 32 }
+    requires in_range { AreBelow (events_of side arcs.now) events }
+    requires no_items { items.old.items ≡ [] }
+    requires no_starts { starts.old.items ≡ [] }
+    ensures { OnOk result (AreListed (events_of side arcs.now) events items.new.items starts.new.items) }
+{
+    let chains = chained(alloc, events, arcs, side)?;
+    starts.push(0)?;
+    'events: for head in &chains.heads {
+        let mut at = *head as usize;
+        'chain: while at < arcs.len() {
+            items.push(at as u32)?;
+            at = chains.nexts[at] as usize;
+        }
+        starts.push(items.len())?;
+    }
+    Ok(())
 }

@@ -4,6 +4,7 @@ pub mod LoopLaws
 pub mod BuildLaws
 pub mod PrecedesLaws
 pub mod OrderLaws
+pub mod LinkLaws
 pub mod LevelLaws
 pub mod ExactLaws
 pub mod OnePreorderLaws

@@ -51,10 +51,8 @@ const RUNS: [(&[&str], &str, u8, &str, &str); 5] = [
 fn draws_or_refuses_decks(rt: HostRuntime) -> Result<(), Fail> {
     for (words, deck, status, out, err) in RUNS {
         let left = left_by(rt.alloc(), &run_of(words, deck), SMALL)?;
-        assert!(rt;
-            left.is(status, out.as_bytes(), err.as_bytes()),
-            "{words:?}"
-        );
+        let (out, err) = (out.as_bytes(), err.as_bytes());
+        assert!(rt; left.is(status, out, err), "{words:?}");
     }
     Ok(())
 }
