@@ -29,7 +29,8 @@ one_latest togos once as_of a k j (due, latest) (due', latest') =
     ]
 
 -- so what is to go is one amount
-one_to_go : (togos : List MoneyRow) → ((k : ℕ) → IsRepeated togos k → ⊥) → (as_of : ℤ) (a : ℕ) (e f : Entry) → e.budget ≡ f.budget → e.actual ≡ f.actual → IsToGo togos as_of a e → IsToGo togos as_of a f → e.to_go ≡ f.to_go
+one_to_go : (togos : List MoneyRow) → ((k : ℕ) → IsRepeated togos k → ⊥) → (as_of : ℤ) (a : ℕ) (e f : Entry) → e.budget ≡ f.budget →
+    e.actual ≡ f.actual → IsToGo togos as_of a e → IsToGo togos as_of a f → e.to_go ≡ f.to_go
 one_to_go togos once as_of a e f b c (inl (k, due, latest, x)) (inl (j, due', latest', y)) =
     x ∙ ap (λ k. (money_at togos k).amount) (one_latest togos once as_of a k j (due, latest) (due', latest')) ∙ sym y
 one_to_go togos once as_of a e f b c (inl (k, due, latest, x)) (inr y) = absurd (y.0 k due)
@@ -37,14 +38,16 @@ one_to_go togos once as_of a e f b c (inr x) (inl (j, due, latest, y)) = absurd 
 one_to_go togos once as_of a e f b c (inr x) (inr y) = omega (arith, x.1, y.1, b, c)
 
 -- an account has one entry
-pub one_entry : (accounts : List AcctRow) (charges togos : List MoneyRow) → ((k : ℕ) → IsRepeated togos k → ⊥) → (as_of : ℤ) (a : ℕ) (e f : Entry) → IsEntryOf accounts charges togos as_of a e → IsEntryOf accounts charges togos as_of a f → e ≡ f
+pub one_entry : (accounts : List AcctRow) (charges togos : List MoneyRow) → ((k : ℕ) → IsRepeated togos k → ⊥) →
+    (as_of : ℤ) (a : ℕ) (e f : Entry) → IsEntryOf accounts charges togos as_of a e → IsEntryOf accounts charges togos as_of a f → e ≡ f
 one_entry accounts charges togos once as_of a e f x y =
     let budget = x.budget ∙ sym y.budget in
     let actual = x.actual ∙ sym y.actual in
     same_entry budget actual (one_to_go togos once as_of a e f budget actual x.to_go y.to_go)
 
 -- and all accounts have one list of entries
-pub one_book : (accounts : List AcctRow) (charges togos : List MoneyRow) → ((k : ℕ) → IsRepeated togos k → ⊥) → (as_of : ℤ) (xs ys : List Entry) → AreEntriesOf accounts charges togos as_of xs → AreEntriesOf accounts charges togos as_of ys → xs ≡ ys
+pub one_book : (accounts : List AcctRow) (charges togos : List MoneyRow) → ((k : ℕ) → IsRepeated togos k → ⊥) →
+    (as_of : ℤ) (xs ys : List Entry) → AreEntriesOf accounts charges togos as_of xs → AreEntriesOf accounts charges togos as_of ys → xs ≡ ys
 one_book accounts charges togos once as_of xs ys x y =
     ext_get_or (record { budget = 0; actual = 0; to_go = 0 }) xs ys (x.one_each ∙ sym y.one_each)
     (λ a within. one_entry accounts charges togos once as_of a (entry_at xs a) (entry_at ys a) (x.each a (omega (arith, within, x.one_each))) (y.each a (omega (arith, within, x.one_each))))

@@ -1,5 +1,6 @@
 -- How the passes over budgets and costs find the sums of each item.
-use Rattle.std.proofs.Common.{◌≡◌, ◌≢◌, ℕ, ◌+◌, ◌*◌, ◌<◌, ◌≤◌, ⊎_elim, Bool, cond, ◌==◌, List, length, get_or, set, take, Option, Some, None, refl, sym, ap, ◌∙◌, subst, get_or-set_same, get_or-set_other, length-set, below_more, Fits, w64, unwrap_or, arith}
+use Rattle.std.proofs.Common.{◌≡◌, ◌≢◌, ℕ, ◌+◌, ◌*◌, ◌<◌, ◌≤◌, ⊎_elim, Bool, cond, ◌==◌, List, length, get_or, set, take, Option, Some, None, refl}
+use Rattle.std.proofs.Common.{sym, ap, ◌∙◌, subst, get_or-set_same, get_or-set_other, length-set, below_more, Fits, w64, unwrap_or, arith}
 use Rattle.std.specs.Prelude.{slice_index}
 use Rattle.std.proofs.lemmas.Bool.{cases_eq, eq-eqb, ne_eqb}
 use Rattle.std.proofs.Math.Seq.{take-length}
@@ -14,7 +15,8 @@ use Rattle.pc_accounts.specs.inside.Parts.{option_at, AreBudgetSums, CostBelow, 
 use Rattle.pc_accounts.proofs.PartLaws.{part_more, part_le}
 
 -- no item's budgets are more than so many accounts can have
-pub budgets_fit : (items : ℕ) (accounts : List AcctRow) (i item : ℕ) (sums : List ℕ) → AreBudgets accounts → AreBudgetSums items accounts i sums → i ≤ length accounts → item < items → slice_index sums item ≤ i * MAX_COST
+pub budgets_fit : (items : ℕ) (accounts : List AcctRow) (i item : ℕ) (sums : List ℕ) → AreBudgets accounts →
+    AreBudgetSums items accounts i sums → i ≤ length accounts → item < items → slice_index sums item ≤ i * MAX_COST
 budgets_fit items accounts i item sums small so_far within lt =
     omega (arith, so_far.each item lt, part_le (λ (row : AcctRow). row.budget) (λ row. row.item == item) accounts (record { item = 0; budget = 0 }) MAX_COST i within small)
 
@@ -28,7 +30,8 @@ cost_so_far : (work : List WorkRow) (item i : ℕ) (o : Option ℕ) → CostBelo
 cost_so_far work item i None (none, zero_is) = sym zero_is
 cost_so_far work item i (Some cost) (has, e) = e
 
-CostBelow-here : (work : List WorkRow) (item i : ℕ) (o : Option ℕ) → i < length work → (work_at work i).item ≡ item → CostBelow work item i o → CostBelow work item (i + 1) (Some (unwrap_or o 0 + (work_at work i).cost))
+CostBelow-here : (work : List WorkRow) (item i : ℕ) (o : Option ℕ) → i < length work → (work_at work i).item ≡ item →
+    CostBelow work item i o → CostBelow work item (i + 1) (Some (unwrap_or o 0 + (work_at work i).cost))
 CostBelow-here work item i o h e so_far =
     ((i, (omega arith, e)), omega (arith, cost_so_far work item i o so_far, cost_more work item i h, ap (λ (b : Bool). cond b (work_at work i).cost 0) (eq-eqb (work_at work i).item item e)))
 
@@ -39,7 +42,10 @@ CostBelow-there work item i (Some cost) h ne ((k, (lt, e)), is) =
     ((k, (omega arith, e)), omega (arith, is, cost_more work item i h, ap (λ (b : Bool). cond b (work_at work i).cost 0) (ne_eqb (work_at work i).item item ne)))
 
 -- an activity's cost is added to its item
-pub AreCostSums-more : (items : ℕ) (work : List WorkRow) (i : ℕ) (sums : List (Option ℕ)) → AreWork items work → AreCostSums items work i sums → i < length work → AreCostSums items work (i + 1) (set sums (work_at work i).item (Some (unwrap_or (option_at sums (work_at work i).item) 0 + (work_at work i).cost)))
+pub AreCostSums-more : (items : ℕ) (work : List WorkRow) (i : ℕ) (sums : List (Option ℕ)) → AreWork items work →
+    AreCostSums items work i sums → i < length work →
+    AreCostSums items work (i + 1) (set sums (work_at work i).item
+    (Some (unwrap_or (option_at sums (work_at work i).item) 0 + (work_at work i).cost)))
 AreCostSums-more items work i sums rows so_far h = record {
   one_each = length-set sums own _ ∙ so_far.one_each;
   each = λ item lt. ⊎_elim (λ e. here item lt e) (λ ne. there item lt ne) (cases_eq own item);
@@ -63,7 +69,9 @@ AreCostSums-more items work i sums rows so_far h = record {
         rw (get_or-set_other sums own item sum None other) (CostBelow-there work item i (option_at sums item) h ne (so_far.each item lt))
 
 -- an item's sum leaves room for one cost more
-pub cost_fits : (items : ℕ) (work : List WorkRow) (i item sum : ℕ) (o : Option ℕ) (sums : List (Option ℕ)) → length work ≤ MAX_ACTIVITIES → AreWork items work → AreCostSums items work i sums → i < length work → item ≡ (work_at work i).item → o ≡ get_or sums item o → sum ≡ unwrap_or o 0 → Fits w64 (sum + (work_at work i).cost)
+pub cost_fits : (items : ℕ) (work : List WorkRow) (i item sum : ℕ) (o : Option ℕ) (sums : List (Option ℕ)) → length work ≤ MAX_ACTIVITIES →
+    AreWork items work → AreCostSums items work i sums → i < length work → item ≡ (work_at work i).item → o ≡ get_or sums item o →
+    sum ≡ unwrap_or o 0 → Fits w64 (sum + (work_at work i).cost)
 cost_fits items work i item sum o sums few rows so_far h own read is =
     let known : item < items = omega (arith, rows.known i h) in
     let value : option_at sums item ≡ o = get_or_default sums item None o (omega (arith, so_far.one_each)) ∙ sym read in
@@ -71,7 +79,9 @@ cost_fits items work i item sum o sums few rows so_far h own read is =
     omega (arith, few, is, ap (λ (q : Option ℕ). unwrap_or q 0) value, cost_so_far work item i (option_at sums item) (so_far.each item known), small, rows.small i h)
 
 -- an item whose sums were read and are the same is even
-pub even_here : (accounts : List AcctRow) (work : List WorkRow) (items i : ℕ) (budgets : List ℕ) (costs : List (Option ℕ)) (o : Option ℕ) (sum : ℕ) → AreBudgetSums items accounts (length accounts) budgets → AreCostSums items work (length work) costs → i < items → o ≡ get_or costs i o → sum ≡ get_or budgets i sum → ((cost : ℕ) → o ≡ Some cost → cost ≡ sum) → IsUneven accounts work i → ⊥
+pub even_here : (accounts : List AcctRow) (work : List WorkRow) (items i : ℕ) (budgets : List ℕ) (costs : List (Option ℕ)) (o : Option ℕ)
+    (sum : ℕ) → AreBudgetSums items accounts (length accounts) budgets → AreCostSums items work (length work) costs → i < items →
+    o ≡ get_or costs i o → sum ≡ get_or budgets i sum → ((cost : ℕ) → o ≡ Some cost → cost ≡ sum) → IsUneven accounts work i → ⊥
 even_here accounts work items i budgets costs o sum a b lt read read_sum same ((k, known, e), differ) =
     by_option o refl
   where

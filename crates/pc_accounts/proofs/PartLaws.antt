@@ -6,7 +6,8 @@ use Rattle.std.proofs.lemmas.List.Sums.{sum_by-append, sum_by_more}
 use Rattle.pc_model.specs.Sums.{sum_to}
 
 -- what one row more adds
-pub part_more : {X : Type 0} (f : X → ℕ) (p : X → Bool) (xs : List X) (i : ℕ) (d : X) → i < length xs → sum_by f (filter p (take (i + 1) xs)) ≡ sum_by f (filter p (take i xs)) + cond (p (get_or xs i d)) (f (get_or xs i d)) 0
+pub part_more : {X : Type 0} (f : X → ℕ) (p : X → Bool) (xs : List X) (i : ℕ) (d : X) → i < length xs →
+    sum_by f (filter p (take (i + 1) xs)) ≡ sum_by f (filter p (take i xs)) + cond (p (get_or xs i d)) (f (get_or xs i d)) 0
 part_more {X} f p xs i d h =
     ap (sum_by f) (filter_more p xs i d h) ∙ (sum_by-append f (filter p (take i xs)) (cond (p x) (x ∷ []) []) ∙ ap (λ n. sum_by f (filter p (take i xs)) + n) (of_test (p x)))
   where

@@ -38,7 +38,8 @@ key_equal : (p q : ℕ × ℤ) → key_eq p q ≡ true → p ≡ q
 key_equal p q same = exact_pairs nat_cmp int_cmp exact_unsigned exact_signed p q ((Equal-is (key_cmp p q)).0 same)
 
 -- a row whose account and day were not there
-pub IsSeen-more : (togos : List MoneyRow) (i : ℕ) (seen new : Seen) → IsSeen togos i seen → get key_cmp seen (key_of togos i) ≡ None → Updates key_cmp seen new (key_of togos i) (Some i) → IsSeen togos (i + 1) new
+pub IsSeen-more : (togos : List MoneyRow) (i : ℕ) (seen new : Seen) → IsSeen togos i seen → get key_cmp seen (key_of togos i) ≡ None →
+    Updates key_cmp seen new (key_of togos i) (Some i) → IsSeen togos (i + 1) new
 IsSeen-more togos i seen new so_far absent puts = record {
   each = below_more _ _ (λ k lt. earlier k lt (key_eq (key_of togos i) (key_of togos k)) refl) puts.1;
   only = λ q k is. from q k is (key_eq (key_of togos i) q) refl;
@@ -75,7 +76,8 @@ none_repeated togos i seen so_far k j lt r =
     omega (arith, r.later)
 
 -- the first row whose account and day were there, and the only row that they were there for
-pub first_repeated : (togos : List MoneyRow) (i first : ℕ) (seen : Seen) → IsSeen togos i seen → i < length togos → get key_cmp seen (key_of togos i) ≡ Some first → IsFirst (IsRepeated togos) i × IsFirst (Repeats togos i) first
+pub first_repeated : (togos : List MoneyRow) (i first : ℕ) (seen : Seen) → IsSeen togos i seen → i < length togos →
+    get key_cmp seen (key_of togos i) ≡ Some first → IsFirst (IsRepeated togos) i × IsFirst (Repeats togos i) first
 first_repeated togos i first seen so_far within found =
     let (lt, at) = so_far.only (key_of togos i) first found in
     let account : (money_at togos first).account ≡ (money_at togos i).account = ap (λ (p : ℕ × ℤ). p.0) at in
@@ -87,7 +89,8 @@ first_repeated togos i first seen so_far within found =
       },
       record {
         holds = repeats;
-        first = λ j earlier r. let here = so_far.each j (omega arith) in let same = ap (get key_cmp seen) (repeats_key togos i j r) in let row : j ≡ first = let some : Some j ≡ Some first = sym here ∙ sym same ∙ found in cc in absurd (omega arith);
+        first = λ j earlier r. let here = so_far.each j (omega arith) in let same = ap (get key_cmp seen) (repeats_key togos i j r) in
+            let row : j ≡ first = let some : Some j ≡ Some first = sym here ∙ sym same ∙ found in cc in absurd (omega arith);
       },
     )
 
@@ -103,11 +106,15 @@ IsSeen-none togos seen empty = record {
   only = λ q k is. let none : get key_cmp seen q ≡ None = ap (λ (es : List ((ℕ × ℤ) × ℕ)). lookup (is_at (key_cmp q)) es) empty in absurd cc;
 }
 
-pub seen_step : (togos : List MoneyRow) (i : ℕ) (row : MoneyRow) (seen new : Seen) → IsSeen togos i seen → i < length togos → row ≡ get_or togos i row → get key_cmp seen (row.account, row.day) ≡ None → Updates key_cmp seen new (row.account, row.day) (Some i) → IsSeen togos (i + 1) new
+pub seen_step : (togos : List MoneyRow) (i : ℕ) (row : MoneyRow) (seen new : Seen) → IsSeen togos i seen → i < length togos →
+    row ≡ get_or togos i row → get key_cmp seen (row.account, row.day) ≡ None → Updates key_cmp seen new (row.account, row.day) (Some i) →
+    IsSeen togos (i + 1) new
 seen_step togos i row seen new so_far within is absent puts =
     let key = row_key togos i row within is in
     IsSeen-more togos i seen new so_far (ap (get key_cmp seen) key ∙ absent) (subst (λ (q : ℕ × ℤ). Updates key_cmp seen new q (Some i)) (sym key) puts)
 
-pub seen_twice : (togos : List MoneyRow) (i first : ℕ) (row : MoneyRow) (seen : Seen) → IsSeen togos i seen → i < length togos → row ≡ get_or togos i row → get key_cmp seen (row.account, row.day) ≡ Some first → IsFirst (IsRepeated togos) i × IsFirst (Repeats togos i) first
+pub seen_twice : (togos : List MoneyRow) (i first : ℕ) (row : MoneyRow) (seen : Seen) → IsSeen togos i seen → i < length togos →
+    row ≡ get_or togos i row → get key_cmp seen (row.account, row.day) ≡ Some first →
+    IsFirst (IsRepeated togos) i × IsFirst (Repeats togos i) first
 seen_twice togos i first row seen so_far within is found =
     first_repeated togos i first seen so_far within (ap (get key_cmp seen) (row_key togos i row within is) ∙ found)

@@ -30,14 +30,17 @@ counts_once accounts account amount false known =
     sum_to-zero accounts (λ a. cond ((account == a) && false) amount 0) (λ a lt. when_late (account == a) amount)
 
 -- what all accounts are charged by the first i rows is what these come to
-charged_so_far : (accounts : ℕ) (charges : List MoneyRow) (as_of : ℤ) (i : ℕ) → AreMoney accounts charges → i ≤ length charges → sum_to accounts (actual_of (take i charges) as_of) ≡ all_charged (take i charges) as_of
+charged_so_far : (accounts : ℕ) (charges : List MoneyRow) (as_of : ℤ) (i : ℕ) → AreMoney accounts charges → i ≤ length charges →
+    sum_to accounts (actual_of (take i charges) as_of) ≡ all_charged (take i charges) as_of
 charged_so_far accounts charges as_of zero money h =
     sum_to-zero accounts (actual_of (take 0 charges) as_of) (λ a lt. refl)
 charged_so_far accounts charges as_of (suc i) money h =
     let e : suc i ≡ i + 1 = omega arith in
     rw e (omega (
       arith,
-      sum_to-same accounts (actual_of (take (i + 1) charges) as_of) (λ a. actual_of (take i charges) as_of a + added a) (λ a lt. part_more (λ (row : MoneyRow). row.amount) (λ (row : MoneyRow). (row.account == a) && int_le row.day as_of) charges i none (omega arith)),
+      sum_to-same accounts (actual_of (take (i + 1) charges) as_of) (λ a. actual_of (take i charges) as_of a + added a)
+          (λ a lt. part_more (λ (row : MoneyRow). row.amount)
+          (λ (row : MoneyRow). (row.account == a) && int_le row.day as_of) charges i none (omega arith)),
       sum_to-add accounts (actual_of (take i charges) as_of) added,
       charged_so_far accounts charges as_of i money (omega arith),
       counts_once accounts row.account row.amount (int_le row.day as_of) (money.known i (omega arith)),
@@ -59,7 +62,9 @@ entries_sum f entries =
     ap (sum_by f) (sym (take-length entries)) ∙ part_sum f entries (record { budget = 0; actual = 0; to_go = 0 }) (length entries) (omega arith)
 
 -- what all accounts have spent is what all charges up to as-of come to
-pub all_spent : (accounts : List AcctRow) (charges togos : List MoneyRow) (as_of : ℤ) (entries : List Entry) → AreMoney (length accounts) charges → AreEntriesOf accounts charges togos as_of entries → sum_by (λ (entry : Entry). entry.actual) entries ≡ all_charged charges as_of
+pub all_spent : (accounts : List AcctRow) (charges togos : List MoneyRow) (as_of : ℤ) (entries : List Entry) →
+    AreMoney (length accounts) charges → AreEntriesOf accounts charges togos as_of entries →
+    sum_by (λ (entry : Entry). entry.actual) entries ≡ all_charged charges as_of
 all_spent accounts charges togos as_of entries money are =
     entries_sum (λ (entry : Entry). entry.actual) entries
     ∙ (ap (λ (n : ℕ). sum_to n (λ a. (entry_at entries a).actual)) are.one_each
@@ -69,7 +74,9 @@ all_spent accounts charges togos as_of entries money are =
     ∙ ap (λ (rows : List MoneyRow). all_charged rows as_of) (take-length charges)))))
 
 -- and what they may spend is what their cards say
-all_budgets : (accounts : List AcctRow) (charges togos : List MoneyRow) (as_of : ℤ) (entries : List Entry) → AreEntriesOf accounts charges togos as_of entries → sum_by (λ (entry : Entry). entry.budget) entries ≡ sum_by (λ (account : AcctRow). account.budget) accounts
+all_budgets : (accounts : List AcctRow) (charges togos : List MoneyRow) (as_of : ℤ) (entries : List Entry) →
+    AreEntriesOf accounts charges togos as_of entries →
+    sum_by (λ (entry : Entry). entry.budget) entries ≡ sum_by (λ (account : AcctRow). account.budget) accounts
 all_budgets accounts charges togos as_of entries are =
     entries_sum (λ (entry : Entry). entry.budget) entries
     ∙ (ap (λ (n : ℕ). sum_to n (λ a. (entry_at entries a).budget)) are.one_each
@@ -78,6 +85,8 @@ all_budgets accounts charges togos as_of entries are =
     ∙ ap (sum_by (λ (account : AcctRow). account.budget)) (take-length accounts))))
 
 -- so all entries come to what the project does
-pub entries_are_project : (accounts : List AcctRow) (charges togos : List MoneyRow) (as_of : ℤ) (entries : List Entry) → AreMoney (length accounts) charges → AreEntriesOf accounts charges togos as_of entries → entry_of_all entries ≡ entry_of_project accounts charges as_of entries
+pub entries_are_project : (accounts : List AcctRow) (charges togos : List MoneyRow) (as_of : ℤ) (entries : List Entry) →
+    AreMoney (length accounts) charges → AreEntriesOf accounts charges togos as_of entries →
+    entry_of_all entries ≡ entry_of_project accounts charges as_of entries
 entries_are_project accounts charges togos as_of entries money are =
     same_entry (all_budgets accounts charges togos as_of entries are) (all_spent accounts charges togos as_of entries money are) refl

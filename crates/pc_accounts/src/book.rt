@@ -143,7 +143,8 @@ fn entries(
     requires actuals { length actuals.now ≡ length accounts.now }
     requires latest { length latest.now ≡ length accounts.now }
     requires known { AreKnown togos.now latest.now }
-    ensures { IfOk result (λ entries. AreMade accounts.now togos.now actuals.now latest.now (length accounts.now) entries.items) }
+    ensures { IfOk result (λ entries. AreMade accounts.now togos.now actuals.now latest.now
+        (length accounts.now) entries.items) }
 {
     let mut entries = Vec::with_capacity(alloc, accounts.len())?;
     for a in 0..accounts.len() {

@@ -51,7 +51,9 @@ module _ (n : ℕ) (afters : List AfterRow) (among : AreAmong n afters) (some : 
   task_at : (i : ℕ) → i < n → (i < length (arrows n afters).arcs) × (arc_at (arrows n afters).arcs i ≡ task_arc i)
   task_at i inside = (omega (arith, joined.length-joined n afters among more (narrow_outer n afters)), joined.at_task n afters among more (narrow_outer n afters) i inside)
 
-  link_at : (u s : ℕ) → ComesAfter afters u s → (a : ℕ) × (a < length (arrows n afters).arcs) × (from_of (arrows n afters).arcs a ≡ end_event s) × (to_of (arrows n afters).arcs a ≡ begin_event u) × (s < n) × (u < n)
+  link_at : (u s : ℕ) → ComesAfter afters u s →
+      (a : ℕ) × (a < length (arrows n afters).arcs) × (from_of (arrows n afters).arcs a ≡ end_event s)
+      × (to_of (arrows n afters).arcs a ≡ begin_event u) × (s < n) × (u < n)
   link_at u s (j, inside, task_is, before_is) =
       let at = joined.at_after n afters among more (narrow_outer n afters) j inside in (
         n + j,

@@ -39,19 +39,26 @@ pub fn wide_arrows_have_the_cycles()
 /// For a length there is a schedule of the tasks exactly where there is one of their arrows.
 pub fn arrows_keep_schedules()
     ensures drawn { (terms : List Term) (afters : List AfterRow) (limit : ℕ) → AreAmong (length terms) afters →
-        HasTaskSchedule terms afters limit → HasSchedule (arrows (length terms) afters) (arrow_terms terms afters) limit }
-    ensures read { (terms : List Term) (afters : List AfterRow) (limit : ℕ) → AreAmong (length terms) afters → IsSound (arrows (length terms) afters) →
-        HasSchedule (arrows (length terms) afters) (arrow_terms terms afters) limit → HasTaskSchedule terms afters limit }
+        HasTaskSchedule terms afters limit →
+        HasSchedule (arrows (length terms) afters) (arrow_terms terms afters) limit }
+    ensures read { (terms : List Term) (afters : List AfterRow) (limit : ℕ) → AreAmong (length terms) afters →
+        IsSound (arrows (length terms) afters) →
+        HasSchedule (arrows (length terms) afters) (arrow_terms terms afters) limit →
+        HasTaskSchedule terms afters limit }
 {}
 
 /// And then the least cost of the one is the least cost of the other.
 pub fn arrows_keep_least_costs()
-    ensures drawn { (terms : List Term) (pieces : List PieceRow) (afters : List AfterRow) (limit cost : ℕ) → AreAmong (length terms) afters →
+    ensures drawn { (terms : List Term) (pieces : List PieceRow) (afters : List AfterRow) (limit cost : ℕ) →
+        AreAmong (length terms) afters →
         All (λ piece. piece.activity < length terms) pieces → IsSound (arrows (length terms) afters) →
         IsLeastTaskCost terms (knees_of terms pieces) afters limit cost →
-        IsLeastCost (arrows (length terms) afters) (arrow_terms terms afters) (knees_of (arrow_terms terms afters) pieces) limit cost }
-    ensures read { (terms : List Term) (pieces : List PieceRow) (afters : List AfterRow) (limit cost : ℕ) → AreAmong (length terms) afters →
+        IsLeastCost (arrows (length terms) afters) (arrow_terms terms afters)
+        (knees_of (arrow_terms terms afters) pieces) limit cost }
+    ensures read { (terms : List Term) (pieces : List PieceRow) (afters : List AfterRow) (limit cost : ℕ) →
+        AreAmong (length terms) afters →
         All (λ piece. piece.activity < length terms) pieces → IsSound (arrows (length terms) afters) →
-        IsLeastCost (arrows (length terms) afters) (arrow_terms terms afters) (knees_of (arrow_terms terms afters) pieces) limit cost →
+        IsLeastCost (arrows (length terms) afters) (arrow_terms terms afters)
+        (knees_of (arrow_terms terms afters) pieces) limit cost →
         IsLeastTaskCost terms (knees_of terms pieces) afters limit cost }
 {}

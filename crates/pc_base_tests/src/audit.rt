@@ -20,10 +20,6 @@ EVENT A 0 0\nEVENT B 3 0\nACT A 3 0 0\nCLOSE\nEND\n";
 const CUT: &[u8] = b"CERT 1 A 2 1\nNORMAL\nSTEP A\nCRASH\nSTEP A\nSEGMENT 3 3 7 0\n\
 EVENT A 0 0\nEVENT B 3 0\nACT A 3 0 0\nCLOSE\n";
 
-// Something flows beside the knee, in a segment of one length.
-const FLOWING: &[u8] = b"CERT 1 A 2 1\nNORMAL\nSTEP A\nCRASH\nSTEP A\nSEGMENT 3 3 7 0\n\
-EVENT A 0 0\nEVENT B 3 0\nACT A 3 0 1\nCLOSE\nEND\n";
-
 // What the text is found to be off a source that gives at most seven bytes a pull.
 fn found(rt: HostRuntime, net: &CrashNet<'_>, text: &[u8]) -> Result<Option<Verdict>, Fail> {
     let mut source = MemSource::new(rt.alloc(), text, 7, &[])?;
@@ -80,13 +76,6 @@ fn a_certificate_is_audited(rt: HostRuntime) -> Result<(), Fail> {
                 Verdict::No {
                     line: 11,
                     reason: 0,
-                },
-            ),
-            (
-                FLOWING,
-                Verdict::No {
-                    line: 9,
-                    reason: 15,
                 },
             ),
         ];

@@ -25,7 +25,8 @@ fn tree(alloc: Global) -> Option<Tree>
 fn on_leaves(alloc: Global, tree: &Tree, amounts: &[(u32, u16)]) -> Result<Vec<Placed>, AllocError>
     requires { length amounts.now ≤ 100 }
     ensures leaves { IfOk result (λ placed. AreOnLeaves tree.now placed.items) }
-    ensures small { IfOk result (λ placed. sum_by (λ p. unsigned_abs p.amount) placed.items ≤ 65535 * length amounts.now) }
+    ensures small { IfOk result (λ placed. sum_by (λ p. unsigned_abs p.amount) placed.items
+        ≤ 65535 * length amounts.now) }
 {
     let mut placed = Vec::new(alloc);
     for &(item, amount) in amounts {

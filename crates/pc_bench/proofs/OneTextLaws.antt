@@ -20,7 +20,9 @@ one_number net shortest longest m n p q =
 one_sum : (net : PricedNetwork) (shortest longest m n : ℕ) → shortest ≤ longest → IsSumOfCosts (curve_in net) shortest longest m → IsSumOfCosts (curve_in net) shortest longest n → m ≡ n
 one_sum net shortest longest m n ordered p q =
     p.total ∙ (sum_to-same (longest - shortest + 1) (λ k. p.costs (longest - k)) (λ k. q.costs (longest - k))
-    (λ k lt. one_cost net (longest - k) (p.costs (longest - k)) (q.costs (longest - k)) (p.least (longest - k) (omega (arith, lt, ordered)) (omega arith)) (q.least (longest - k) (omega (arith, lt, ordered)) (omega arith)))
+    (λ k lt. one_cost net (longest - k) (p.costs (longest - k)) (q.costs (longest - k))
+    (p.least (longest - k) (omega (arith, lt, ordered)) (omega arith))
+    (q.least (longest - k) (omega (arith, lt, ordered)) (omega arith)))
     ∙ sym q.total)
 
 abbrev make_figures : ℕ → ℕ → ℕ → ℕ → ℕ → ℕ → Figures

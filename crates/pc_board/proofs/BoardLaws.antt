@@ -100,7 +100,8 @@ module _ (b : Inside) (s : Sheet) (view : sheet_of b ≡ s) (ok : IsBoard b) whe
     pub sheet-written : sheet_of next ≡ with_column s column xs
     sheet-written =
         ap (λ h. laid_sheet b.columns.time.len b.columns.flow.len h (list_behind region.spans b.mark.spans) b.fallen b.count b.head b.len) home
-        ∙ laid-same b.columns.time.len b.columns.flow.len (home_of b.region b.mark.spans) (list_behind region.spans b.mark.spans) (λ n. if n == place_of column then xs else list_behind b.region.spans b.mark.spans n) b.fallen b.count b.head b.len list-at
+        ∙ laid-same b.columns.time.len b.columns.flow.len (home_of b.region b.mark.spans) (list_behind region.spans b.mark.spans)
+        (λ n. if n == place_of column then xs else list_behind b.region.spans b.mark.spans n) b.fallen b.count b.head b.len list-at
         ∙ laid-with_column b.columns.time.len b.columns.flow.len (home_of b.region b.mark.spans) (list_behind b.region.spans b.mark.spans) b.fallen b.count b.head b.len column xs
         ∙ ap (λ t. with_column t column xs) view
 

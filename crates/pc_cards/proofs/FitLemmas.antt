@@ -33,7 +33,9 @@ none_found true x rest h = absurd (let h' = h in cc)
 none_found false x rest h = (refl, h)
 
 -- where no field is misshapen and none over its limit, each is what it must be
-pub all_fit : (slots : List Slot) (fields : List (List ℕ)) → find (λ (slot : Slot). not (has_shape slot.1 (field_numbered fields slot.0))) slots ≡ None → find (λ (slot : Slot). is_over_limit slot.1 (field_numbered fields slot.0)) slots ≡ None → AllFit slots fields
+pub all_fit : (slots : List Slot) (fields : List (List ℕ)) →
+    find (λ (slot : Slot). not (has_shape slot.1 (field_numbered fields slot.0))) slots ≡ None →
+    find (λ (slot : Slot). is_over_limit slot.1 (field_numbered fields slot.0)) slots ≡ None → AllFit slots fields
 all_fit [] fields shapes limits = tt
 all_fit (slot ∷ slots) fields shapes limits =
     let shape = none_found (not (has_shape slot.1 (field_numbered fields slot.0))) slot (find (λ (slot : Slot). not (has_shape slot.1 (field_numbered fields slot.0))) slots) shapes in

@@ -38,27 +38,33 @@ passes true x rest is = absurd (let is' = is in cc)
 passes false x rest is = refl
 
 -- a wrong shape is the first
-shape_first : (row : ℕ) (slots : List Slot) (fields : List (List ℕ)) (misfit : Misfit) → IsFirstMisfit slots fields misfit → misfit.flaw ≡ flaw.Shape → misshapen_at row (first_misshapen slots fields) ≡ Some (fault.misshapen row misfit.number)
+shape_first : (row : ℕ) (slots : List Slot) (fields : List (List ℕ)) (misfit : Misfit) → IsFirstMisfit slots fields misfit →
+    misfit.flaw ≡ flaw.Shape → misshapen_at row (first_misshapen slots fields) ≡ Some (fault.misshapen row misfit.number)
 shape_first row [] fields misfit first is = absurd first
 shape_first row (slot ∷ slots) fields misfit (inl here) is =
-    ap (misshapen_at row) (finds (not (has_shape slot.1 (field_numbered fields slot.0))) slot (first_misshapen slots fields) (sym (shape_told slot.0 slot.1 (field_numbered fields slot.0) misfit here) ∙ ap is_of_shape is))
+    ap (misshapen_at row) (finds (not (has_shape slot.1 (field_numbered fields slot.0))) slot (first_misshapen slots fields)
+    (sym (shape_told slot.0 slot.1 (field_numbered fields slot.0) misfit here) ∙ ap is_of_shape is))
     ∙ ap (λ number. Some (fault.misshapen row number)) here.0
 shape_first row (slot ∷ slots) fields misfit (inr behind) is =
     ap (misshapen_at row) (passes (not (has_shape slot.1 (field_numbered fields slot.0))) slot (first_misshapen slots fields) (ap not behind.0.0))
     ∙ shape_first row slots fields misfit behind.1 is
 
 -- a limit is the first
-limit_first : (row : ℕ) (slots : List Slot) (fields : List (List ℕ)) (misfit : Misfit) → IsFirstMisfit slots fields misfit → misfit.flaw ≡ flaw.Limit → over_limit_at row (first_over_limit slots fields) ≡ Some (fault.over_limit row misfit.number)
+limit_first : (row : ℕ) (slots : List Slot) (fields : List (List ℕ)) (misfit : Misfit) → IsFirstMisfit slots fields misfit →
+    misfit.flaw ≡ flaw.Limit → over_limit_at row (first_over_limit slots fields) ≡ Some (fault.over_limit row misfit.number)
 limit_first row [] fields misfit first is = absurd first
 limit_first row (slot ∷ slots) fields misfit (inl here) is =
-    ap (over_limit_at row) (finds (is_over_limit slot.1 (field_numbered fields slot.0)) slot (first_over_limit slots fields) (over (has_shape slot.1 (field_numbered fields slot.0)) (is_over_limit slot.1 (field_numbered fields slot.0)) (here.1 ∙ ap Some is)))
+    ap (over_limit_at row) (finds (is_over_limit slot.1 (field_numbered fields slot.0)) slot (first_over_limit slots fields)
+    (over (has_shape slot.1 (field_numbered fields slot.0)) (is_over_limit slot.1 (field_numbered fields slot.0))
+    (here.1 ∙ ap Some is)))
     ∙ ap (λ number. Some (fault.over_limit row number)) here.0
 limit_first row (slot ∷ slots) fields misfit (inr behind) is =
     ap (over_limit_at row) (passes (is_over_limit slot.1 (field_numbered fields slot.0)) slot (first_over_limit slots fields) behind.0.1)
     ∙ limit_first row slots fields misfit behind.1 is
 
 -- so the fault of the fields is F7 where its shape is wrong
-pub misshapen_first : (row : ℕ) (slots : List Slot) (fields : List (List ℕ)) (misfit : Misfit) → IsFirstMisfit slots fields misfit → misfit.flaw ≡ flaw.Shape → flaw_of_fields row slots fields ≡ Some (fault.misshapen row misfit.number)
+pub misshapen_first : (row : ℕ) (slots : List Slot) (fields : List (List ℕ)) (misfit : Misfit) → IsFirstMisfit slots fields misfit →
+    misfit.flaw ≡ flaw.Shape → flaw_of_fields row slots fields ≡ Some (fault.misshapen row misfit.number)
 misshapen_first row slots fields misfit first is = some_first (misshapen_at row (first_misshapen slots fields)) _ _ (shape_first row slots fields misfit first is)
 
 -- a field over its limit has its shape
@@ -66,12 +72,14 @@ shaped : (shape limit : Bool) → (if shape then (if limit then Some flaw.Limit 
 shaped true limit is = refl
 shaped false limit is = absurd (let is' = is in cc)
 
-either : (test : Bool) (fields : List (List ℕ)) (xs ys : List Slot) → first_misshapen xs fields ≡ first_misshapen ys fields → first_misshapen xs fields ≡ first_misshapen (if test then xs else ys) fields
+either : (test : Bool) (fields : List (List ℕ)) (xs ys : List Slot) → first_misshapen xs fields ≡ first_misshapen ys fields →
+    first_misshapen xs fields ≡ first_misshapen (if test then xs else ys) fields
 either true fields xs ys same = refl
 either false fields xs ys same = same
 
 -- where the first of the fields that are not what they must be is over its limit, one of a wrong shape stands behind it
-behind_is : (slots : List Slot) (fields : List (List ℕ)) (misfit : Misfit) → IsFirstMisfit slots fields misfit → misfit.flaw ≡ flaw.Limit → first_misshapen slots fields ≡ first_misshapen (slots_behind misfit.number slots) fields
+behind_is : (slots : List Slot) (fields : List (List ℕ)) (misfit : Misfit) → IsFirstMisfit slots fields misfit → misfit.flaw ≡ flaw.Limit →
+    first_misshapen slots fields ≡ first_misshapen (slots_behind misfit.number slots) fields
 behind_is [] fields misfit first is = absurd first
 behind_is (slot ∷ slots) fields misfit (inl here) is =
     passes (not (has_shape slot.1 (field_numbered fields slot.0))) slot (first_misshapen slots fields)
@@ -86,11 +94,15 @@ behind_is (slot ∷ slots) fields misfit (inr behind) is =
     ∙ either (slot.0 == misfit.number) fields slots (slots_behind misfit.number slots) (behind_is slots fields misfit behind.1 is)
 
 -- and F7 where that of one behind it is
-pub misshapen_behind : (row : ℕ) (slots : List Slot) (fields : List (List ℕ)) (misfit : Misfit) (slot : Slot) → IsFirstMisfit slots fields misfit → misfit.flaw ≡ flaw.Limit → first_misshapen (slots_behind misfit.number slots) fields ≡ Some slot → flaw_of_fields row slots fields ≡ Some (fault.misshapen row slot.0)
+pub misshapen_behind : (row : ℕ) (slots : List Slot) (fields : List (List ℕ)) (misfit : Misfit) (slot : Slot) →
+    IsFirstMisfit slots fields misfit → misfit.flaw ≡ flaw.Limit → first_misshapen (slots_behind misfit.number slots) fields ≡ Some slot →
+    flaw_of_fields row slots fields ≡ Some (fault.misshapen row slot.0)
 misshapen_behind row slots fields misfit slot first is found =
     some_first (misshapen_at row (first_misshapen slots fields)) _ _ (ap (misshapen_at row) (behind_is slots fields misfit first is ∙ found))
 
 -- and F8 where none is
-pub limit_passed : (row : ℕ) (slots : List Slot) (fields : List (List ℕ)) (misfit : Misfit) → IsFirstMisfit slots fields misfit → misfit.flaw ≡ flaw.Limit → first_misshapen (slots_behind misfit.number slots) fields ≡ None → flaw_of_fields row slots fields ≡ Some (fault.over_limit row misfit.number)
+pub limit_passed : (row : ℕ) (slots : List Slot) (fields : List (List ℕ)) (misfit : Misfit) → IsFirstMisfit slots fields misfit →
+    misfit.flaw ≡ flaw.Limit → first_misshapen (slots_behind misfit.number slots) fields ≡ None →
+    flaw_of_fields row slots fields ≡ Some (fault.over_limit row misfit.number)
 limit_passed row slots fields misfit first is none =
     none_then (misshapen_at row (first_misshapen slots fields)) _ _ (ap (misshapen_at row) (behind_is slots fields misfit first is ∙ none)) (limit_first row slots fields misfit first is)

@@ -1,5 +1,6 @@
 -- Lists of cards in which no code stands twice.
-use Rattle.std.proofs.Common.{◌≡◌, ℕ, ◌+◌, ◌<◌, Bool, true, false, not, ◌||◌, nat_eq, List, [], ◌∷◌, ◌++◌, length, map, drop, get_or, refl, sym, ap, subst, append_assoc, ◌∙◌, arith, length-append, suc}
+use Rattle.std.proofs.Common.{◌≡◌, ℕ, ◌+◌, ◌<◌, Bool, true, false, not, ◌||◌, nat_eq, List, [], ◌∷◌, ◌++◌, length, map}
+use Rattle.std.proofs.Common.{drop, get_or, refl, sym, ap, subst, append_assoc, ◌∙◌, arith, length-append, suc}
 use Rattle.std.proofs.lemmas.List.{drop_more, get_or_at, map-append}
 use Rattle.std.specs.Cmp.Lexicographic.{pointwise, same_text}
 use Rattle.pc_model.specs.Codes.{IsNamedOnce}

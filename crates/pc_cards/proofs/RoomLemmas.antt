@@ -1,5 +1,6 @@
 -- How long a field that is what it must be is at most, as it is written.
-use Rattle.std.proofs.Common.{◌≡◌, ℕ, ◌+◌, ◌≤◌, Bool, true, false, not, ◌&&◌, ◌||◌, nat_le, nat_lt, List, [], ◌∷◌, length, Some, None, is_some, if◌then◌else◌, bytes_eq, codes, Result, Ok, Err, refl, ap, inl, inr, map, arith, ℤ}
+use Rattle.std.proofs.Common.{◌≡◌, ℕ, ◌+◌, ◌≤◌, Bool, true, false, not, ◌&&◌, ◌||◌, nat_le, nat_lt, List, [], ◌∷◌, length, Some}
+use Rattle.std.proofs.Common.{None, is_some, if◌then◌else◌, bytes_eq, codes, Result, Ok, Err, refl, ap, inl, inr, map, arith, ℤ}
 use Rattle.std.specs.List.{list_all}
 use Rattle.std.specs.Char.{is_ascii_digit}
 use Rattle.std.specs.Cmp.Lexicographic.{bytes_decides}

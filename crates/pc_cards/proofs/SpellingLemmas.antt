@@ -40,11 +40,14 @@ no_code false field h = empty_is field (or_first (is_empty field) h)
     or_first true h = refl
     or_first false h = h
 
-a_number : (test : Bool) (field : List ℕ) → is_number field ≡ test → is_some (if test then Some (value_after 0 field) else None) ≡ true → decimal (unwrap_or (if test then Some (value_after 0 field) else None) 0) ≡ field
+a_number : (test : Bool) (field : List ℕ) → is_number field ≡ test → is_some (if test then Some (value_after 0 field) else None) ≡ true →
+    decimal (unwrap_or (if test then Some (value_after 0 field) else None) 0) ≡ field
 a_number true field is h = sym (spelled_by field is).1
 a_number false field is h = absurd (let h' = h in cc)
 
-a_number_or_none : (test : Bool) (field : List ℕ) → is_number field ≡ test → (is_empty field || is_some (if test then Some (value_after 0 field) else None)) ≡ true → number_text (if test then Some (value_after 0 field) else None) ≡ field
+a_number_or_none : (test : Bool) (field : List ℕ) → is_number field ≡ test →
+    (is_empty field || is_some (if test then Some (value_after 0 field) else None)) ≡ true →
+    number_text (if test then Some (value_after 0 field) else None) ≡ field
 a_number_or_none true field is h = sym (spelled_by field is).1
 a_number_or_none false field is h = empty_is field (or_first (is_empty field) h)
   where

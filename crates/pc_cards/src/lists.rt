@@ -50,8 +50,13 @@ impl<C: Card> Once<C> {
     /// Takes the card that a record spells, or answers its fault.
     pub fn take(&mut self, place: &Place, fields: &Row) -> Result<(), DeckError>
         ensures kept { OnOk result (self.new ≡ Some (C.spelled place.now.row fields.now)) }
-        ensures sound { OnOk result (or_else (not_alone place.now (count_once self.old)) (fault_of_listed place.now (count_once self.old) C.least C.most (C.slots place.now.sort) fields.now) ≡ None) }
-        ensures fault { IfErr result (Refuses (λ fault. or_else (not_alone place.now (count_once self.old)) (fault_of_listed place.now (count_once self.old) C.least C.most (C.slots place.now.sort) fields.now) ≡ Some fault)) }
+        ensures sound { OnOk result (or_else (not_alone place.now (count_once self.old))
+            (fault_of_listed place.now (count_once self.old) C.least C.most (C.slots place.now.sort) fields.now)
+            ≡ None) }
+        ensures fault { IfErr result (Refuses
+            (λ fault. or_else (not_alone place.now (count_once self.old))
+            (fault_of_listed place.now (count_once self.old) C.least C.most (C.slots place.now.sort) fields.now)
+            ≡ Some fault)) }
     {
         let before = self.count();
         if let Some(fault) = place.second(before) {
@@ -113,8 +118,11 @@ impl<C: Card> Listed<C> {
     /// Takes the card that a record spells, or answers its fault.
     pub fn take(&mut self, place: &Place, fields: &Row) -> Result<(), DeckError>
         ensures kept { OnOk result (self.new ≡ self.old ++ C.spelled place.now.row fields.now ∷ []) }
-        ensures sound { OnOk result (fault_of_listed place.now (length self.old) C.least C.most (C.slots place.now.sort) fields.now ≡ None) }
-        ensures fault { IfErr result (Refuses (λ fault. fault_of_listed place.now (length self.old) C.least C.most (C.slots place.now.sort) fields.now ≡ Some fault)) }
+        ensures sound { OnOk result (fault_of_listed place.now (length self.old) C.least C.most
+            (C.slots place.now.sort) fields.now ≡ None) }
+        ensures fault { IfErr result (Refuses
+            (λ fault. fault_of_listed place.now (length self.old) C.least C.most (C.slots place.now.sort) fields.now
+            ≡ Some fault)) }
     {
         let card = match read_card(place, fields) {
             Ok(card) => card,
@@ -185,8 +193,11 @@ impl<C: Coded> Named<C> {
     /// Takes the card that a record spells, or answers its fault.
     pub fn take(&mut self, place: &Place, fields: &Row) -> Result<(), DeckError>
         ensures kept { OnOk result (self.new ≡ self.old ++ C.spelled place.now.row fields.now ∷ []) }
-        ensures sound { OnOk result (fault_of_named place.now (map C.own_code self.old) (length self.old) C.least C.most (C.slots place.now.sort) fields.now ≡ None) }
-        ensures fault { IfErr result (Refuses (λ fault. fault_of_named place.now (map C.own_code self.old) (length self.old) C.least C.most (C.slots place.now.sort) fields.now ≡ Some fault)) }
+        ensures sound { OnOk result (fault_of_named place.now (map C.own_code self.old)
+            (length self.old) C.least C.most (C.slots place.now.sort) fields.now ≡ None) }
+        ensures fault { IfErr result (Refuses
+            (λ fault. fault_of_named place.now (map C.own_code self.old) (length self.old) C.least C.most
+            (C.slots place.now.sort) fields.now ≡ Some fault)) }
     {
         let card = match read_card(place, fields) {
             Ok(card) => card,

@@ -17,7 +17,8 @@ pub fn read_card<C: Card>(place: &Place, fields: &Row) -> Result<C, Fault>
     ensures card { IfOk result (λ card. card ≡ C.spelled place.now.row fields.now) }
     ensures whole { OnOk result (wrong_fields place.now C.least C.most fields.now ≡ None) }
     ensures fit { OnOk result (flaw_of_fields place.now.row (C.slots place.now.sort) fields.now ≡ None) }
-    ensures fault { IfErr result (λ fault. or_else (wrong_fields place.now C.least C.most fields.now) (flaw_of_fields place.now.row (C.slots place.now.sort) fields.now) ≡ Some fault) }
+    ensures fault { IfErr result (λ fault. or_else (wrong_fields place.now C.least C.most fields.now)
+        (flaw_of_fields place.now.row (C.slots place.now.sort) fields.now) ≡ Some fault) }
 {
     let layout = C::layout(place.sort);
     if let Some(fault) = wrong_fields(place, layout.least, layout.most, fields) {

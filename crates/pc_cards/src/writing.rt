@@ -16,7 +16,8 @@ pub fn put_card<C: Card>(
     kind: Kind,
     text: &mut RowWriter,
 ) -> Result<(), AllocError>
-    ensures put { OnOk result (text.new ≡ text.old ++ records_text (map (λ card. word_of kind ∷ C.written card) (as_list card))) }
+    ensures put { OnOk result (text.new
+        ≡ text.old ++ records_text (map (λ card. word_of kind ∷ C.written card) (as_list card))) }
     ensures stopped { OnErr result (text.new ≡ []) }
 {
     match card {
@@ -27,7 +28,8 @@ pub fn put_card<C: Card>(
 
 /// Puts the records of cards of one kind behind a text, in card order. After an error nothing of the text is left.
 pub fn put_cards<C: Card>(cards: &[C], kind: Kind, text: &mut RowWriter) -> Result<(), AllocError>
-    ensures put { OnOk result (text.new ≡ text.old ++ records_text (map (λ card. word_of kind ∷ C.written card) cards.now)) }
+    ensures put { OnOk result (text.new
+        ≡ text.old ++ records_text (map (λ card. word_of kind ∷ C.written card) cards.now)) }
     ensures stopped { OnErr result (text.new ≡ []) }
 {
     for card in cards {

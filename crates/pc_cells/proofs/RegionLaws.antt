@@ -10,7 +10,8 @@ use Rattle.pc_cells.specs.declared.region.Region.TheInside.{Inside}
 use Rattle.pc_cells.specs.Spans.{Cells}
 use Rattle.pc_cells.specs.inside.Spans.{span_at, cells_before, with_span, free_of, IsSpan, IsLive, IsMark}
 use Rattle.pc_cells.specs.inside.Layout.{between_starts, spans_of, cells_of, AreStarts, IsLaidOut, IsRangeFilled, IsRangeWritten}
-use Rattle.pc_cells.proofs.SpanLaws.{length-spans, sum-spans, span-within, spans-get, spans-set, spans-written, span-begins, span-ends, spans-at, spans-released, starts-released, spans-grown, mark-at, start-rises, start-above}
+use Rattle.pc_cells.proofs.SpanLaws.{length-spans, sum-spans, span-within, spans-get, spans-set, spans-written, span-begins, span-ends}
+use Rattle.pc_cells.proofs.SpanLaws.{spans-at, spans-released, starts-released, spans-grown, mark-at, start-rises, start-above}
 
 -- what a call that writes a range of a vector's slice leaves in the vector
 pub vector-written : {Z : Type 0} (v : Vec ℕ Z) (was new : List ℕ) (from to : ℕ) (xs : List ℕ) → was ≡ v.items → length was ≡ v.len
@@ -159,7 +160,15 @@ module _ (r next : Inside) (now : Cells) (view : cells_of r ≡ now) (laid : IsL
     rising k below =
         elim (cases_lt k r.count) [
           | inl before ↦ omega (arith, early k (omega arith), early (k + 1) (omega arith), laid.starts.rising k before)
-          | inr behind ↦ let at : k ≡ r.count = omega arith in omega (arith, ap (slice_index next.starts.items) at, ap (λ i. slice_index next.starts.items (i + 1)) at, early r.count (omega arith), last, begins)
+          | inr behind ↦ let at : k ≡ r.count = omega arith in
+              omega (
+                arith,
+                ap (slice_index next.starts.items) at,
+                ap (λ i. slice_index next.starts.items (i + 1)) at,
+                early r.count (omega arith),
+                last,
+                begins,
+              )
         ]
 
   pub laid-taken : IsLaidOut next

@@ -105,7 +105,9 @@ module _ (cells starts : List ℕ) (n : ℕ) (good : AreStarts starts n (length 
       at j d below =
           get_or-map-range_with_len (between_starts after starts) 0 n j j d below (omega arith)
           ∙ elim (cases_eq j k) [
-            | inl same ↦ ap (between_starts after starts) same ∙ here ∙ sym (ap (λ i. get_or (set (spans_of cells starts n) k xs) i d) same ∙ get_or-set_same (spans_of cells starts n) k xs d (omega (arith, known, length-spans)))
+            | inl same ↦ ap (between_starts after starts) same ∙ here
+                ∙ sym (ap (λ i. get_or (set (spans_of cells starts n) k xs) i d) same
+                ∙ get_or-set_same (spans_of cells starts n) k xs d (omega (arith, known, length-spans)))
             | inr apart ↦ others j below apart ∙ sym (get_or-set_other (spans_of cells starts n) k j xs d apart ∙ spans-at j d below)
           ]
 

@@ -103,7 +103,8 @@ impl Region {
     pub fn set(&mut self, s: Span, i: usize, v: u64)
         requires live { IsLive self.old.spans s }
         requires within { i < s.len }
-        ensures { (k : ℕ) → IsSpan self.old.spans k s → self.new ≡ with_span self.old k (slice_set (span_at self.old.spans k) i v) }
+        ensures { (k : ℕ) → IsSpan self.old.spans k s →
+            self.new ≡ with_span self.old k (slice_set (span_at self.old.spans k) i v) }
     {
         self.cells[s.place + i] = v;
     }

@@ -27,7 +27,8 @@ front_more : (front : List ℕ) (n : ℕ) (found : Option (List ℕ)) → with_f
 front_more front n None = refl
 front_more front n (Some others) = ap Some (sym (append_assoc front (n ∷ []) others))
 
-step : (room : ℕ) (front rest : List ℕ) (x : ℕ × List ℕ) → length rest ≢ 0 → number_field rest ≡ Some x → with_front front (numbers_in (suc room) rest) ≡ with_front (front ++ x.0 ∷ []) (numbers_in room x.1)
+step : (room : ℕ) (front rest : List ℕ) (x : ℕ × List ℕ) → length rest ≢ 0 → number_field rest ≡ Some x →
+    with_front front (numbers_in (suc room) rest) ≡ with_front (front ++ x.0 ∷ []) (numbers_in room x.1)
 step room front [] x some found = absurd (some refl)
 step room front (b ∷ bs) x some found = rw found (front_more front (x.0) (numbers_in room (x.1)))
 
@@ -41,7 +42,8 @@ full_at front [] some = absurd (some refl)
 full_at front (b ∷ bs) some = refl
 
 -- one more is read
-pub more : {fields flows rest : List ℕ} (x : ℕ × List ℕ) → IsReadingFlows fields flows rest → length flows < 6 → length rest ≢ 0 → number_field rest ≡ Some x → IsReadingFlows fields (flows ++ x.0 ∷ []) x.1
+pub more : {fields flows rest : List ℕ} (x : ℕ × List ℕ) → IsReadingFlows fields flows rest → length flows < 6 → length rest ≢ 0 →
+    number_field rest ≡ Some x → IsReadingFlows fields (flows ++ x.0 ∷ []) x.1
 more {flows = flows} {rest = rest} x h few some found =
     let long : length (flows ++ x.0 ∷ []) ≡ length flows + 1 = length-append flows (x.0 ∷ []) in
     let room : 6 - length flows ≡ suc (6 - length (flows ++ x.0 ∷ [])) = omega arith in

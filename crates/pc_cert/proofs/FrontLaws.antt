@@ -1,5 +1,6 @@
 -- Vectors of 32 bytes that are compared lane by lane.
-use Rattle.std.proofs.Common.{◌≡◌, ℕ, suc, ◌*◌, ◌%◌, ◌^◌, ◌<◌, ◌≤◌, List, Bool, true, false, cond, eqb, length, take, get_or, map, refl, sym, ap, ◌∙◌, arith, w8, bit_and, pow_pos, pow_mono, length-take-le}
+use Rattle.std.proofs.Common.{◌≡◌, ℕ, suc, ◌*◌, ◌%◌, ◌^◌, ◌<◌, ◌≤◌, List, Bool, true, false, cond, eqb, length, take}
+use Rattle.std.proofs.Common.{get_or, map, refl, sym, ap, ◌∙◌, arith, w8, bit_and, pow_pos, pow_mono, length-take-le}
 use Rattle.std.specs.Int.{bit_at}
 use Rattle.std.specs.Simd.Lanes.{zip2, mask_l, top}
 use Rattle.std.proofs.Math.Nat.{two-pow-succ}
@@ -13,7 +14,8 @@ is_set true h = refl
 is_set false h = absurd (omega arith)
 
 -- where the bit of a lane is set, the two bytes there are the same
-pub lanes_tell : (xs ys : List ℕ) (k : ℕ) → length xs ≡ 32 → length ys ≡ 32 → k < 32 → bit_at (mask_l (map (top 7) (zip2 (λ a b. cond (eqb a b) 255 0) xs ys)) % 2 ^ 64) k ≡ 1 → get_or xs k 0 ≡ get_or ys k 0
+pub lanes_tell : (xs ys : List ℕ) (k : ℕ) → length xs ≡ 32 → length ys ≡ 32 → k < 32 →
+    bit_at (mask_l (map (top 7) (zip2 (λ a b. cond (eqb a b) 255 0) xs ys)) % 2 ^ 64) k ≡ 1 → get_or xs k 0 ≡ get_or ys k 0
 lanes_tell xs ys k p q l set =
     let long : length (zip2 eqb xs ys) ≡ 32 = length-zip2 eqb xs ys (p ∙ sym q) ∙ p in
     let mask : mask_l (map (top 7) (zip2 (λ a b. cond (eqb a b) 255 0) xs ys)) % 2 ^ 64 ≡ mask_l (zip2 eqb xs ys) =
@@ -29,7 +31,9 @@ one_moved n l =
     omega arith
 
 -- where all the lowest bits of a mask are set, the first bytes are the same
-pub fronts_are_same : (xs ys : List ℕ) (count mask low : ℕ) → count ≤ length xs → count ≤ length ys → count ≤ 32 → ((k : ℕ) → k < count → bit_at low k ≡ 1) → ((k : ℕ) → k < 32 → bit_at mask k ≡ 1 → get_or xs k 0 ≡ get_or ys k 0) → bit_and mask low ≡ low → take count xs ≡ take count ys
+pub fronts_are_same : (xs ys : List ℕ) (count mask low : ℕ) → count ≤ length xs → count ≤ length ys → count ≤ 32 →
+    ((k : ℕ) → k < count → bit_at low k ≡ 1) → ((k : ℕ) → k < 32 → bit_at mask k ≡ 1 → get_or xs k 0 ≡ get_or ys k 0) →
+    bit_and mask low ≡ low → take count xs ≡ take count ys
 fronts_are_same xs ys count mask low p q few ones tells all =
     let long = length-take-le count xs p in
     ext_get_or 0 (take count xs) (take count ys) (long ∙ sym (length-take-le count ys q)) (λ k l.

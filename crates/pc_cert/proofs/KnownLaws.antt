@@ -33,7 +33,8 @@ no_end_in (Some line) text some is =
 no_end_in None text some is = absurd cc
 
 -- the cells keep the bytes of a line, and its end behind them
-pub kept_cells : (line : Option CertLine) (text part cells : List ℕ) → part ≡ text → length cells ≡ 64 → length text < 64 → IsSome line → line ≡ line_of text → AreCells (set (part ++ drop (length text) cells) (length text) 10) (length text + 1) line
+pub kept_cells : (line : Option CertLine) (text part cells : List ℕ) → part ≡ text → length cells ≡ 64 → length text < 64 → IsSome line →
+    line ≡ line_of text → AreCells (set (part ++ drop (length text) cells) (length text) 10) (length text + 1) line
 kept_cells line text part cells same room short some is =
     let whole = part ++ drop (length text) cells in
     let long : length whole ≡ 64 = omega (arith, length-append part (drop (length text) cells), length-drop (length text) cells, ap length same) in

@@ -50,9 +50,18 @@ head_takes : (fields : List ℕ) (line : CertLine) → head_of fields ≡ Some l
 unfolding head_of
 head_takes fields line e =
     let made = λ (version : ℕ) (project : List ℕ) (events : ℕ) (activities : ℕ) (rest : List ℕ). cond (ltb version 1 || ltb 2 version) None (alone rest (Head version project events activities)) in
-    let version = bind_some (number_field fields) (λ version. code_field (version.1) >>= (λ project. number_field (project.1) >>= (λ events. number_field (events.1) >>= (λ activities. made (version.0) (project.0) (events.0) (activities.0) (activities.1))))) line e in
-    let project = bind_some (code_field (version.0.1)) (λ project. number_field (project.1) >>= (λ events. number_field (events.1) >>= (λ activities. made (version.0.0) (project.0) (events.0) (activities.0) (activities.1)))) line (version.2) in
-    let events = bind_some (number_field (project.0.1)) (λ events. number_field (events.1) >>= (λ activities. made (version.0.0) (project.0.0) (events.0) (activities.0) (activities.1))) line (project.2) in
+    let version = bind_some (number_field fields)
+    (λ version. code_field (version.1) >>=
+    (λ project. number_field (project.1) >>=
+    (λ events. number_field (events.1) >>= (λ activities. made (version.0) (project.0) (events.0) (activities.0) (activities.1))))) line
+    e in
+    let project = bind_some (code_field (version.0.1))
+    (λ project. number_field (project.1) >>=
+    (λ events. number_field (events.1) >>= (λ activities. made (version.0.0) (project.0) (events.0) (activities.0) (activities.1))))
+    line (version.2) in
+    let events = bind_some (number_field (project.0.1))
+    (λ events. number_field (events.1) >>= (λ activities. made (version.0.0) (project.0.0) (events.0) (activities.0) (activities.1)))
+    line (project.2) in
     let activities = bind_some (number_field (events.0.1)) (λ activities. made (version.0.0) (project.0.0) (events.0.0) (activities.0) (activities.1)) line (events.2) in
     let known = unless_takes (ltb (version.0.0) 1 || ltb 2 (version.0.0)) (alone (activities.0.1) (Head (version.0.0) (project.0.0) (events.0.0) (activities.0.0))) line (activities.2) in
     let end = alone_takes (activities.0.1) (Head (version.0.0) (project.0.0) (events.0.0) (activities.0.0)) line (known.1) in
@@ -69,7 +78,9 @@ head_takes fields line e =
       fits = (version_known (version.0.0) (known.0), project_is.code_is, events_is.small, activities_is.small);
     })
 
-head_again : (version : ℕ) (project : List ℕ) (events activities : ℕ) → Fits (Head version project events activities) → head_of (spaced (decimal version) (spaced project (spaced (decimal events) (spaced (decimal activities) [])))) ≡ Some (Head version project events activities)
+head_again : (version : ℕ) (project : List ℕ) (events activities : ℕ) → Fits (Head version project events activities) →
+    head_of (spaced (decimal version) (spaced project (spaced (decimal events) (spaced (decimal activities) []))))
+    ≡ Some (Head version project events activities)
 unfolding head_of
 head_again version project events activities h =
     let small : IsSmall version = omega (arith, h.0.1) in
@@ -85,8 +96,13 @@ head_again version project events activities h =
 segment_takes : (fields : List ℕ) (line : CertLine) → segment_of fields ≡ Some line → IsLine (codes "SEGMENT") fields line
 unfolding segment_of
 segment_takes fields line e =
-    let upper = bind_some (number_field fields) (λ upper. number_field (upper.1) >>= (λ lower. number_field (lower.1) >>= (λ cost. number_field (cost.1) >>= (λ slope. alone (slope.1) (Segment (upper.0) (lower.0) (cost.0) (slope.0)))))) line e in
-    let lower = bind_some (number_field (upper.0.1)) (λ lower. number_field (lower.1) >>= (λ cost. number_field (cost.1) >>= (λ slope. alone (slope.1) (Segment (upper.0.0) (lower.0) (cost.0) (slope.0))))) line (upper.2) in
+    let upper = bind_some (number_field fields)
+    (λ upper. number_field (upper.1) >>=
+    (λ lower. number_field (lower.1) >>=
+    (λ cost. number_field (cost.1) >>= (λ slope. alone (slope.1) (Segment (upper.0) (lower.0) (cost.0) (slope.0)))))) line e in
+    let lower = bind_some (number_field (upper.0.1))
+    (λ lower. number_field (lower.1) >>=
+    (λ cost. number_field (cost.1) >>= (λ slope. alone (slope.1) (Segment (upper.0.0) (lower.0) (cost.0) (slope.0))))) line (upper.2) in
     let cost = bind_some (number_field (lower.0.1)) (λ cost. number_field (cost.1) >>= (λ slope. alone (slope.1) (Segment (upper.0.0) (lower.0.0) (cost.0) (slope.0)))) line (lower.2) in
     let slope = bind_some (number_field (cost.0.1)) (λ slope. alone (slope.1) (Segment (upper.0.0) (lower.0.0) (cost.0.0) (slope.0))) line (cost.2) in
     let end = alone_takes (slope.0.1) (Segment (upper.0.0) (lower.0.0) (cost.0.0) (slope.0.0)) line (slope.2) in
@@ -103,7 +119,9 @@ segment_takes fields line e =
       fits = (upper_is.small, lower_is.small, cost_is.small, slope_is.small);
     })
 
-segment_again : (upper lower cost slope : ℕ) → Fits (Segment upper lower cost slope) → segment_of (spaced (decimal upper) (spaced (decimal lower) (spaced (decimal cost) (spaced (decimal slope) [])))) ≡ Some (Segment upper lower cost slope)
+segment_again : (upper lower cost slope : ℕ) → Fits (Segment upper lower cost slope) →
+    segment_of (spaced (decimal upper) (spaced (decimal lower) (spaced (decimal cost) (spaced (decimal slope) []))))
+    ≡ Some (Segment upper lower cost slope)
 unfolding segment_of
 segment_again upper lower cost slope h =
     rw (

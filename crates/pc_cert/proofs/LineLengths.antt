@@ -63,7 +63,9 @@ wider p h = record { open_text = p.open_text; within = omega (arith, p.within, h
 -- the spelling of a line
 spelling_is_short : (line : CertLine) → Fits line → IsShort 191 (spelling line)
 spelling_is_short (Head version project events activities) h =
-    wider (then (word (codes "CERT") 4 refl (omega arith)) (behind (number version (omega (arith, h.0.1))) (behind (code project (h.1)) (behind (number events (h.2)) (behind (number activities (h.3)) none))))) (omega arith)
+    wider (then (word (codes "CERT") 4 refl (omega arith))
+    (behind (number version (omega (arith, h.0.1)))
+    (behind (code project (h.1)) (behind (number events (h.2)) (behind (number activities (h.3)) none))))) (omega arith)
 spelling_is_short Normal h = word (codes "NORMAL") 191 refl (omega arith)
 spelling_is_short (Step text) h = wider (then (word (codes "STEP") 4 refl (omega arith)) (behind (code text h) none)) (omega arith)
 spelling_is_short Crash h = word (codes "CRASH") 191 refl (omega arith)

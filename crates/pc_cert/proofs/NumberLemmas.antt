@@ -97,7 +97,8 @@ pub record AreSoFar (bytes : List ℕ) (number count : ℕ) : Type 0 where
   pub digits : list_all is_ascii_digit (take count bytes) ≡ true
   pub value : number ≡ value_after 0 (take count bytes)
 
-pub digits_more : (bytes : List ℕ) (number count : ℕ) (byte : ℕ) → AreSoFar bytes number count → count < 18 → count < length bytes → byte ≡ get_or bytes count 0 → is_ascii_digit byte ≡ true → number * 10 + (byte - 48) < 10 ^ (count + 1)
+pub digits_more : (bytes : List ℕ) (number count : ℕ) (byte : ℕ) → AreSoFar bytes number count → count < 18 → count < length bytes →
+    byte ≡ get_or bytes count 0 → is_ascii_digit byte ≡ true → number * 10 + (byte - 48) < 10 ^ (count + 1)
     → AreSoFar bytes (number * 10 + (byte - 48)) (count + 1)
 digits_more bytes number count byte are few below here digit small =
     let longer : take (count + 1) bytes ≡ take count bytes ++ byte ∷ [] = take_more bytes count 0 below ∙ ap (λ b. take count bytes ++ b ∷ []) (sym here) in

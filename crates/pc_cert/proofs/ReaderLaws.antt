@@ -1,5 +1,6 @@
 -- What a reader stands for after a piece.
-use Rattle.std.proofs.Common.{◌≡◌, ℕ, ◌+◌, ◌-◌, ◌<◌, ◌≤◌, zero, suc, List, [], ◌∷◌, ◌++◌, length, take, drop, inl, inr, Option, Some, None, Result, Ok, Err, refl, sym, ap, subst, ◌∙◌, append_assoc, append-nil, arith, add-one, length-append}
+use Rattle.std.proofs.Common.{◌≡◌, ℕ, ◌+◌, ◌-◌, ◌<◌, ◌≤◌, zero, suc, List, [], ◌∷◌, ◌++◌, length, take, drop, inl, inr, Option, Some, None}
+use Rattle.std.proofs.Common.{Result, Ok, Err, refl, sym, ap, subst, ◌∙◌, append_assoc, append-nil, arith, add-one, length-append}
 use Rattle.std.proofs.lemmas.Bool.Decides.{eqb_tells}
 use Rattle.std.proofs.lemmas.List.{take-append-drop, length-take, take_all}
 use Rattle.pc_cert.specs.declared.line.CertLine.{CertLine}
@@ -56,14 +57,17 @@ Lacks-append byte (x ∷ xs) ys p q = (p.0, Lacks-append byte xs ys (p.1) q)
 -- ---- the four ways of a piece
 
 -- a reader without a malformed line goes on
-pub going : {malformed : Option Malformed} {place : Place} {number : ℕ} {held : List ℕ} {lines : List CertLine} {text : List ℕ} → malformed ≡ None → Stands malformed place number held lines text → IsGoing place number held lines text
+pub going : {malformed : Option Malformed} {place : Place} {number : ℕ} {held : List ℕ} {lines : List CertLine} {text : List ℕ} →
+    malformed ≡ None → Stands malformed place number held lines text → IsGoing place number held lines text
 going {malformed} {place} {number} {held} {lines} {text} none h = subst (λ m. Stands m place number held lines text) none h
 
 behind : (text : List ℕ) (lines : List CertLine) (held piece : List ℕ) → text ≡ text_of lines ++ held → text ++ piece ≡ text_of lines ++ (held ++ piece)
 behind text lines held piece whole = ap (λ t. t ++ piece) whole ∙ append_assoc (text_of lines) held piece
 
 -- no line ends in the piece
-pub holds : {place : Place} {number : ℕ} {held : List ℕ} {lines : List CertLine} {text : List ℕ} (piece : List ℕ) (end : ℕ) → IsGoing place number held lines text → end ≡ run_len 10 piece → end ≡ length piece → length held + length piece < 192 → IsGoing place number (held ++ piece) lines (text ++ take end piece)
+pub holds : {place : Place} {number : ℕ} {held : List ℕ} {lines : List CertLine} {text : List ℕ} (piece : List ℕ) (end : ℕ) →
+    IsGoing place number held lines text → end ≡ run_len 10 piece → end ≡ length piece → length held + length piece < 192 →
+    IsGoing place number (held ++ piece) lines (text ++ take end piece)
 holds {held = held} {lines = lines} {text = text} piece end h ends whole few = record {
   led = h.led;
   count = h.count;
@@ -73,7 +77,9 @@ holds {held = held} {lines = lines} {text = text} piece end h ends whole few = r
 }
 
 -- too many bytes come before a line ends
-pub too_long : {place : Place} {number : ℕ} {held : List ℕ} {lines : List CertLine} {text : List ℕ} (malformed : Malformed) (piece : List ℕ) (end : ℕ) → IsGoing place number held lines text → end ≡ run_len 10 piece → 192 - length held ≤ end → end ≤ length piece → malformed.line ≡ number + 1 → IsStopped malformed lines (text ++ piece)
+pub too_long : {place : Place} {number : ℕ} {held : List ℕ} {lines : List CertLine} {text : List ℕ} (malformed : Malformed) (piece : List ℕ)
+    (end : ℕ) → IsGoing place number held lines text → end ≡ run_len 10 piece → 192 - length held ≤ end → end ≤ length piece →
+    malformed.line ≡ number + 1 → IsStopped malformed lines (text ++ piece)
 too_long {place} {number} {held} {lines} {text} malformed piece end h ends far within line = record {
   place = place;
   led = h.led;
@@ -82,7 +88,8 @@ too_long {place} {number} {held} {lines} {text} malformed piece end h ends far w
   more = drop (192 - length held) piece;
   whole =
       behind text lines held piece h.whole
-      ∙ ap (λ t. text_of lines ++ t) (ap (λ t. held ++ t) (sym (take-append-drop (192 - length held) piece)) ∙ sym (append_assoc held (take (192 - length held) piece) (drop (192 - length held) piece)));
+      ∙ ap (λ t. text_of lines ++ t) (ap (λ t. held ++ t) (sym (take-append-drop (192 - length held) piece))
+      ∙ sym (append_assoc held (take (192 - length held) piece) (drop (192 - length held) piece)));
   why = inr (
     omega (arith, h.short, length-append held (take (192 - length held) piece), length-take (192 - length held) piece),
     Lacks-append 10 held (take (192 - length held) piece) h.no_end (Lacks-run 10 (192 - length held) piece (omega arith)),
@@ -99,7 +106,9 @@ not_allowed place bytes none line behind fits is goes =
     different (line, behind) (sym none ∙ found)
 
 -- the line that ends in the piece may not stand where it does
-refused : {place : Place} {number : ℕ} {held : List ℕ} {lines : List CertLine} {text : List ℕ} (malformed : Malformed) (piece : List ℕ) → IsGoing place number held lines text → run_len 10 piece < length piece → arrived place (held ++ take (run_len 10 piece) piece) ≡ None → malformed.line ≡ number + 1 → IsStopped malformed lines (text ++ piece)
+refused : {place : Place} {number : ℕ} {held : List ℕ} {lines : List CertLine} {text : List ℕ} (malformed : Malformed) (piece : List ℕ) →
+    IsGoing place number held lines text → run_len 10 piece < length piece → arrived place (held ++ take (run_len 10 piece) piece) ≡ None →
+    malformed.line ≡ number + 1 → IsStopped malformed lines (text ++ piece)
 refused {place} {number} {held} {lines} {text} malformed piece h ends none line =
     let front = take (run_len 10 piece) piece in
     let rest = drop (suc (run_len 10 piece)) piece in
@@ -119,7 +128,10 @@ refused {place} {number} {held} {lines} {text} malformed piece h ends none line 
     }
 
 -- the line that ends in the piece may stand where it does
-accepted : {place : Place} {number : ℕ} {held : List ℕ} {lines : List CertLine} {text : List ℕ} (piece : List ℕ) (line : CertLine) (after : Place) → IsGoing place number held lines text → run_len 10 piece < length piece → arrived place (held ++ take (run_len 10 piece) piece) ≡ Some (line, after) → IsGoing after (number + 1) [] (lines ++ line ∷ []) (text ++ take (run_len 10 piece + 1) piece)
+accepted : {place : Place} {number : ℕ} {held : List ℕ} {lines : List CertLine} {text : List ℕ} (piece : List ℕ) (line : CertLine)
+    (after : Place) → IsGoing place number held lines text → run_len 10 piece < length piece →
+    arrived place (held ++ take (run_len 10 piece) piece) ≡ Some (line, after) →
+    IsGoing after (number + 1) [] (lines ++ line ∷ []) (text ++ take (run_len 10 piece + 1) piece)
 accepted {place} {number} {held} {lines} {text} piece line after h ends found =
     let front = take (run_len 10 piece) piece in
     let read = bind_some (line_of (held ++ front)) (λ l. next place l >>= (λ b. Some (l, b))) (line, after) found in
@@ -154,7 +166,11 @@ no_arrival place None none = refl
 no_arrival place (Some line) none = ap (λ found. found >>= (λ b. Some (line, b))) none
 
 -- what comes of a line that ends in the piece
-pub passed : (old new : Reading) (held : List ℕ) (line : Option CertLine) (piece : List ℕ) (used : ℕ) (result : Result ℕ Malformed) → old.malformed ≡ None → used ≡ run_len 10 piece + 1 → run_len 10 piece < length piece → line_of (old.held ++ take (run_len 10 piece) piece) ≡ line → HasPassed line used (record old { held = held }) new result → (lines : List CertLine) (text : List ℕ) → StandsFor old lines text → StandsFor new (lines ++ left_in line result) (text ++ used_of result piece)
+pub passed : (old new : Reading) (held : List ℕ) (line : Option CertLine) (piece : List ℕ) (used : ℕ) (result : Result ℕ Malformed) →
+    old.malformed ≡ None → used ≡ run_len 10 piece + 1 → run_len 10 piece < length piece →
+    line_of (old.held ++ take (run_len 10 piece) piece) ≡ line → HasPassed line used (record old { held = held }) new result →
+    (lines : List CertLine) (text : List ℕ) → StandsFor old lines text →
+    StandsFor new (lines ++ left_in line result) (text ++ used_of result piece)
 passed old new held line piece used (Ok count) none ends less read p lines text h =
     let found : arrived old.place (old.held ++ take (run_len 10 piece) piece) ≡ Some (p.taken, new.place) =
     ap (arrival old.place) (read ∙ p.there) ∙ ap (λ found. found >>= (λ b. Some (p.taken, b))) p.goes in

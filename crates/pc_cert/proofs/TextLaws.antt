@@ -45,7 +45,9 @@ pub AllFit-append : (lines others : List CertLine) → AllFit lines → AllFit o
 AllFit-append [] others p q = q
 AllFit-append (line ∷ lines) others p q = (p.0, AllFit-append lines others (p.1) q)
 
-of : (found : Option Place) (lines others : List CertLine) → ((p : Place) → ran p (lines ++ others) ≡ (ran p lines >>= (λ behind. ran behind others))) → (found >>= (λ p. ran p (lines ++ others))) ≡ ((found >>= (λ p. ran p lines)) >>= (λ behind. ran behind others))
+of : (found : Option Place) (lines others : List CertLine) →
+    ((p : Place) → ran p (lines ++ others) ≡ (ran p lines >>= (λ behind. ran behind others))) →
+    (found >>= (λ p. ran p (lines ++ others))) ≡ ((found >>= (λ p. ran p lines)) >>= (λ behind. ran behind others))
 of None lines others h = refl
 of (Some p) lines others h = h p
 

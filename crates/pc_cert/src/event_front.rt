@@ -32,7 +32,8 @@ impl EventFront {
     #[inline(always)]
     pub(crate) fn said(&self, piece: &[u8]) -> Option<EventSaid>
         requires { IsFrontOf self.now.code self.now }
-        ensures { IfSome result (λ said. IsAgain (Some (Event self.now.code said.time said.moves)) piece.now said.used) }
+        ensures { IfSome result (λ said. IsAgain
+            (Some (Event self.now.code said.time said.moves)) piece.now said.used) }
     {
         event_at(&self.code, &self.cells, piece)
     }

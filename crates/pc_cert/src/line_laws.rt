@@ -15,5 +15,6 @@ pub fn spelling_is_once()
 
 /// No text is that of two lists of lines.
 pub fn text_is_once()
-    ensures { (lines others : List CertLine) → AllFit lines → AllFit others → text_of lines ≡ text_of others → lines ≡ others }
+    ensures { (lines others : List CertLine) → AllFit lines → AllFit others → text_of lines ≡ text_of others →
+        lines ≡ others }
 {}

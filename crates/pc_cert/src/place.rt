@@ -101,7 +101,8 @@ impl Place {
     /// Goes on behind the line of an activity with these flows, where one may stand here, and answers whether it may.
     #[inline(always)]
     pub(crate) fn go_behind_act(&mut self, flows: &Flows) -> bool
-        ensures goes { (code : List ℕ) (duration : ℕ) → IsTrue result → next self.old (Act code duration flows.now) ≡ Some self.new }
+        ensures goes { (code : List ℕ) (duration : ℕ) → IsTrue result →
+            next self.old (Act code duration flows.now) ≡ Some self.new }
         ensures same { result ≡ false → self.new ≡ self.old }
     {
         match self {
@@ -120,7 +121,8 @@ impl Place {
     /// Goes on behind the line of an event, where one may stand here, and answers whether it may.
     #[inline(always)]
     pub(crate) fn go_behind_event(&mut self) -> bool
-        ensures goes { (code : List ℕ) (time : ℕ) (moves : Bool) → IsTrue result → next self.old (Event code time moves) ≡ Some self.new }
+        ensures goes { (code : List ℕ) (time : ℕ) (moves : Bool) → IsTrue result →
+            next self.old (Event code time moves) ≡ Some self.new }
         ensures same { result ≡ false → self.new ≡ self.old }
     {
         match self {
@@ -140,7 +142,8 @@ impl Place {
         ensures kept { 0 < result → HasText text.now }
         ensures same { result ≡ 0 → self.new ≡ self.old }
         ensures again { (line : Option CertLine) → 0 < result → IsTextOf line text.now → IsAgain line piece.now result }
-        ensures goes { (code : List ℕ) (duration : ℕ) → 0 < result → next self.old (Act code duration flows.now) ≡ Some self.new }
+        ensures goes { (code : List ℕ) (duration : ℕ) → 0 < result →
+            next self.old (Act code duration flows.now) ≡ Some self.new }
     {
         let used = text.again(piece);
         if used == 0 {
@@ -157,8 +160,10 @@ impl Place {
     pub fn pass_event(&mut self, piece: &[u8], front: &EventFront) -> Option<EventSaid>
         requires front { IsFrontOf front.now.code front.now }
         ensures same { IfNone result (self.new ≡ self.old) }
-        ensures again { IfSome result (λ said. IsAgain (Some (Event front.now.code said.time said.moves)) piece.now said.used) }
-        ensures goes { IfSome result (λ said. next self.old (Event front.now.code said.time said.moves) ≡ Some self.new) }
+        ensures again { IfSome result (λ said. IsAgain
+            (Some (Event front.now.code said.time said.moves)) piece.now said.used) }
+        ensures goes { IfSome result (λ said. next self.old (Event front.now.code said.time said.moves)
+            ≡ Some self.new) }
     {
         let said = front.said(piece)?;
         if !self.go_behind_event() {

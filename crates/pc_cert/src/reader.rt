@@ -43,7 +43,12 @@ impl Model for CertReader {
 
     ghost Value = { Reading };
 
-    ghost view = { λ s. record { place = s.place; lines = s.lines; held = take s.held s.cells; malformed = s.malformed } };
+    ghost view = { λ s. record {
+      place = s.place;
+      lines = s.lines;
+      held = take s.held s.cells;
+      malformed = s.malformed;
+    } };
 
     ghost invariant = { λ s. KeepsRoom s.cells s.held s.lines };
 }
@@ -79,7 +84,8 @@ impl CertReader {
         ensures one_line { IfOk result (λ fed. IsSome fed.line → (0 < fed.used) × (self.new.held ≡ [])) }
 
         // a line that is malformed is kept, and answered again
-        ensures kept { MatchResult result (λ _. self.new.malformed ≡ None) (λ malformed. self.new.malformed ≡ Some malformed) }
+        ensures kept { MatchResult result (λ _. self.new.malformed ≡ None)
+            (λ malformed. self.new.malformed ≡ Some malformed) }
         ensures again { (malformed : Malformed) → self.old.malformed ≡ Some malformed
             → (result ≡ Err malformed) × (self.new ≡ self.old) }
         ensures short { length self.new.held < MAX_LINE }
@@ -106,7 +112,8 @@ impl CertReader {
         ensures no_line { IfOk result (λ used. IsNone known.new.line → used ≡ length piece.now) }
         ensures held { IfOk result (λ used. IsNone known.new.line → self.new.held ≡ self.old.held ++ piece.now) }
         ensures one_line { IfOk result (λ used. IsSome known.new.line → (0 < used) × (self.new.held ≡ [])) }
-        ensures kept { MatchResult result (λ _. self.new.malformed ≡ None) (λ malformed. self.new.malformed ≡ Some malformed) }
+        ensures kept { MatchResult result (λ _. self.new.malformed ≡ None)
+            (λ malformed. self.new.malformed ≡ Some malformed) }
         ensures again { (malformed : Malformed) → self.old.malformed ≡ Some malformed
             → (result ≡ Err malformed) × (self.new ≡ self.old) }
         ensures short { length self.new.held < MAX_LINE }

@@ -38,7 +38,8 @@ same_at net [] k lt = absurd (omega arith)
 same_at net (seg ∷ rest) zero lt = says_same net seg
 same_at net (seg ∷ rest) (suc k) lt = same_at net rest k (omega arith)
 
-module _ (net : PricedNetwork) (sized : IsSized net) (names : AreNames (length net.network.arcs) net.activities) (normal crash : List ℕ) (segments : List Segment) (complete : IsComplete net normal crash segments) where
+module _ (net : PricedNetwork) (sized : IsSized net) (names : AreNames (length net.network.arcs) net.activities) (normal crash : List ℕ)
+    (segments : List Segment) (complete : IsComplete net normal crash segments) where
   pub certified : AreCertified net (document_lines net normal crash segments)
   certified = record {
     whole = document_order net normal crash segments (some_joined segments complete.high complete.low complete.front.joined)
@@ -71,7 +72,9 @@ module _ (net : PricedNetwork) (sized : IsSized net) (names : AreNames (length n
 pub text_begins : (net : PricedNetwork) (normal crash : List ℕ) → text_of (begun_lines net normal crash []) ≡ text_of (head_lines net normal crash)
 text_begins net normal crash = ap text_of (append-nil (head_lines net normal crash))
 
-pub text_goes_on : (net : PricedNetwork) (normal crash : List ℕ) (segments : List Segment) (seg : Segment) → text_of (begun_lines net normal crash segments) ++ text_of (segment_lines net seg) ≡ text_of (begun_lines net normal crash (segments ++ seg ∷ []))
+pub text_goes_on : (net : PricedNetwork) (normal crash : List ℕ) (segments : List Segment) (seg : Segment) →
+    text_of (begun_lines net normal crash segments) ++ text_of (segment_lines net seg)
+    ≡ text_of (begun_lines net normal crash (segments ++ seg ∷ []))
 text_goes_on net normal crash segments seg =
     let head = head_lines net normal crash in
     let body = flat_map (segment_lines net) segments in
@@ -79,7 +82,8 @@ text_goes_on net normal crash segments seg =
     let all : flat_map (segment_lines net) (segments ++ seg ∷ []) ≡ body ++ segment_lines net seg = flat_map-append (segment_lines net) segments (seg ∷ []) ∙ ap (λ lines. body ++ lines) one in
     sym (text_of-append (head ++ body) (segment_lines net seg)) ∙ ap text_of (append_assoc head body (segment_lines net seg) ∙ ap (λ lines. head ++ lines) (sym all))
 
-pub text_ends : (net : PricedNetwork) (normal crash : List ℕ) (segments : List Segment) → text_of (begun_lines net normal crash segments) ++ text_of end_lines ≡ text_of (document_lines net normal crash segments)
+pub text_ends : (net : PricedNetwork) (normal crash : List ℕ) (segments : List Segment) →
+    text_of (begun_lines net normal crash segments) ++ text_of end_lines ≡ text_of (document_lines net normal crash segments)
 text_ends net normal crash segments =
     let head = head_lines net normal crash in
     let body = flat_map (segment_lines net) segments in
@@ -91,7 +95,8 @@ fit_all net (seg ∷ rest) (fit, others) =
     subst (λ lines. AllFit lines) (sym (append_assoc (segment_lines net seg) (flat_map (segment_lines net) rest) end_lines))
     (AllFit-append (segment_lines net seg) (flat_map (segment_lines net) rest ++ end_lines) fit (fit_all net rest others))
 
-pub document_fits : (net : PricedNetwork) (normal crash : List ℕ) (segments : List Segment) → AllFit (head_lines net normal crash) → All (λ seg. AllFit (segment_lines net seg)) segments → AllFit (document_lines net normal crash segments)
+pub document_fits : (net : PricedNetwork) (normal crash : List ℕ) (segments : List Segment) → AllFit (head_lines net normal crash) →
+    All (λ seg. AllFit (segment_lines net seg)) segments → AllFit (document_lines net normal crash segments)
 document_fits net normal crash segments head fit =
     AllFit-append (head_lines net normal crash) (flat_map (segment_lines net) segments ++ end_lines) head
     (fit_all net segments (recursion_from_All (λ seg. AllFit (segment_lines net seg)) segments fit))

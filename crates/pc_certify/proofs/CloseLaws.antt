@@ -67,7 +67,8 @@ module _ (net : PricedNetwork) (priced : IsPriced net.network net.terms (knees_i
   same_flow : (a : ℕ) → a < length net.network.arcs → flow_along net (part_of net seg) a ≡ whole_flow (knees_in net) seg.flow seg.beside a
   same_flow a lt =
       ap (λ (row : ActRow). sum_to ((knees_in net).count a) (slice_index row.flows) + slice_index row.flows ((knees_in net).count a)) (act_is net seg a lt)
-      ∙ ap (λ n. n + slice_index (flows_along net seg a) ((knees_in net).count a)) (sum_to-same ((knees_in net).count a) (slice_index (flows_along net seg a)) (seg.flow a) (λ k within. flow_is net seg a k within))
+      ∙ ap (λ n. n + slice_index (flows_along net seg a) ((knees_in net).count a))
+      (sum_to-same ((knees_in net).count a) (slice_index (flows_along net seg a)) (seg.flow a) (λ k within. flow_is net seg a k within))
       ∙ ap (λ n. sum_to ((knees_in net).count a) (seg.flow a) + n) (beside_is net seg a)
 
   same_flow_at : (place : ℕ → ℕ) (e : ℕ) → e < net.network.events → flow_at net (part_of net seg) place e ≡ at_event (length net.network.arcs) place (whole_flow (knees_in net) seg.flow seg.beside) e
@@ -80,19 +81,23 @@ module _ (net : PricedNetwork) (priced : IsPriced net.network net.terms (knees_i
   same_cost : spent_in net (part_of net seg) ≡ sum_to (length net.terms) (λ a. activity_cost net.terms (knees_in net) a (seg.duration a))
   same_cost =
       ap (λ m. sum_to m (λ a. activity_cost net.terms (knees_in net) a ((segment_in net (part_of net seg)).duration a))) all_acts
-      ∙ sum_to-same (length net.network.arcs) (λ a. activity_cost net.terms (knees_in net) a ((segment_in net (part_of net seg)).duration a)) (λ a. activity_cost net.terms (knees_in net) a (seg.duration a))
+      ∙ sum_to-same (length net.network.arcs)
+      (λ a. activity_cost net.terms (knees_in net) a ((segment_in net (part_of net seg)).duration a))
+      (λ a. activity_cost net.terms (knees_in net) a (seg.duration a))
       (λ a lt. ap (activity_cost net.terms (knees_in net) a) ((says_same net seg).duration a lt))
       ∙ ap (λ m. sum_to m (λ a. activity_cost net.terms (knees_in net) a (seg.duration a))) (sym priced.terms_fit.one_each)
 
   same_forward : sum_to (length (part_of net seg).acts) (forward_by net (segment_in net (part_of net seg))) ≡ forward_rises net.network (knees_in net) seg
   same_forward =
       ap (λ m. sum_to m (forward_by net (segment_in net (part_of net seg)))) all_acts
-      ∙ sum_to-same (length net.network.arcs) (forward_by net (segment_in net (part_of net seg))) (forward_by net seg) (λ a lt. forward_by-same net priced.range seg (segment_in net (part_of net seg)) (moves_same net seg) a lt)
+      ∙ sum_to-same (length net.network.arcs) (forward_by net (segment_in net (part_of net seg))) (forward_by net seg)
+      (λ a lt. forward_by-same net priced.range seg (segment_in net (part_of net seg)) (moves_same net seg) a lt)
 
   same_backward : sum_to (length (part_of net seg).acts) (backward_by net (segment_in net (part_of net seg))) ≡ backward_rises net.network (knees_in net) seg
   same_backward =
       ap (λ m. sum_to m (backward_by net (segment_in net (part_of net seg)))) all_acts
-      ∙ sum_to-same (length net.network.arcs) (backward_by net (segment_in net (part_of net seg))) (backward_by net seg) (λ a lt. backward_by-same net priced.range seg (segment_in net (part_of net seg)) (moves_same net seg) a lt)
+      ∙ sum_to-same (length net.network.arcs) (backward_by net (segment_in net (part_of net seg))) (backward_by net seg)
+      (λ a lt. backward_by-same net priced.range seg (segment_in net (part_of net seg)) (moves_same net seg) a lt)
 
   same_stops : StopsAtLower net.network net.terms (knees_in net) seg → some_below (length (part_of net seg).acts) (stops_in net (segment_in net (part_of net seg))) ≡ true
   same_stops h =

@@ -78,9 +78,15 @@ module _ (net : PricedNetwork) (priced : IsPriced net.network net.terms (knees_i
       → PassTo net (in_body (codes_of net normal) (codes_of net crash) done (part_of net last)) end_lines done
   end_passes done last low at through =
       let draft = in_body (codes_of net normal) (codes_of net crash) done (part_of net last) in
-      let comes = comes_through net names (length_in net true) (crashes net.terms) (λ a. sym (get_or-map (λ (t : Term). t.crash) net.terms a (record { normal = 0; crash = 0; cost = 0; slope = 0 }))) crash low through in
-      let holds : is_through net.network last.lower (walked net (length_in net true) (at_start net.network) (codes_of net crash)) ≡ true = subst (λ n. is_through net.network n (walked net (length_in net true) (at_start net.network) (codes_of net crash)) ≡ true) (sym at) comes in
-      let passes = Pass-cons {draft = draft} End [] (holds_on (is_through net.network last.lower (walked net (length_in net true) (at_start net.network) (codes_of net crash))) None 3 holds refl) (Pass-nil net draft) in
+      let comes = comes_through net names (length_in net true) (crashes net.terms)
+      (λ a. sym (get_or-map (λ (t : Term). t.crash) net.terms a (record { normal = 0; crash = 0; cost = 0; slope = 0 }))) crash low
+      through in
+      let holds : is_through net.network last.lower (walked net (length_in net true) (at_start net.network) (codes_of net crash))
+      ≡ true = subst (λ n. is_through net.network n (walked net (length_in net true) (at_start net.network) (codes_of net crash))
+      ≡ true) (sym at) comes in
+      let passes = Pass-cons {draft = draft} End []
+      (holds_on (is_through net.network last.lower (walked net (length_in net true) (at_start net.network) (codes_of net crash))) None 3
+      holds refl) (Pass-nil net draft) in
       record { none = passes.none; says = refl }
 
   -- behind a whole segment come the others and the end
@@ -109,8 +115,12 @@ module _ (net : PricedNetwork) (priced : IsPriced net.network net.terms (knees_i
       let draft = in_crash (codes_of net normal) (codes_of net crash) in
       let each = recursion_from_All (IsSegment net.network net.terms (knees_in net)) (seg ∷ rest) front.each in
       let top = joins-first seg rest high low front.joined in
-      let comes = comes_through net names (length_in net false) (normals net.terms) (λ a. sym (get_or-map (λ (t : Term). t.normal) net.terms a (record { normal = 0; crash = 0; cost = 0; slope = 0 }))) normal high normals_through in
-      let through : is_through net.network seg.upper (walked net (length_in net false) (at_start net.network) (codes_of net normal)) ≡ true = subst (λ n. is_through net.network n (walked net (length_in net false) (at_start net.network) (codes_of net normal)) ≡ true) (sym top) comes in
+      let comes = comes_through net names (length_in net false) (normals net.terms)
+      (λ a. sym (get_or-map (λ (t : Term). t.normal) net.terms a (record { normal = 0; crash = 0; cost = 0; slope = 0 }))) normal high
+      normals_through in
+      let through : is_through net.network seg.upper (walked net (length_in net false) (at_start net.network) (codes_of net normal))
+      ≡ true = subst (λ n. is_through net.network n (walked net (length_in net false) (at_start net.network) (codes_of net normal))
+      ≡ true) (sym top) comes in
       let first = first_ends_hold net (said net draft) seg.upper seg.lower seg.cost seg.slope refl through each.0.right.proper.ordered (λ same. (each.0.right.proper.degenerate same).flat) in
       let here = segment_passes net priced (codes_of net normal) (codes_of net crash) [] seg (each.0) (λ is. front.normal) (begun_part 0 0 0 0) first in
       let behind = rest_pass (part_of net seg ∷ []) seg rest high low (omega arith) front.joined (λ more. recursion_from_All IsLong (seg ∷ rest) (front.long (omega arith))) (each.1) crashes_through in
@@ -119,7 +129,8 @@ module _ (net : PricedNetwork) (priced : IsPriced net.network net.terms (knees_i
       (PassTo-then (segment_lines net seg) (flat_map (segment_lines net) rest ++ end_lines) here behind))
 
 -- none of the lines fails, and they say the segments that were written
-pub document_passes : (net : PricedNetwork) (normal crash : List ℕ) (segments : List Segment) → IsPriced net.network net.terms (knees_in net) → AreNames (length net.network.arcs) net.activities → IsComplete net normal crash segments
+pub document_passes : (net : PricedNetwork) (normal crash : List ℕ) (segments : List Segment) →
+    IsPriced net.network net.terms (knees_in net) → AreNames (length net.network.arcs) net.activities → IsComplete net normal crash segments
     → (failure_of net (document_lines net normal crash segments) ≡ None) × ((draft_of (document_lines net normal crash segments)).parts ≡ map (part_of net) segments)
 document_passes net normal crash segments priced names complete =
     let passes = all_pass net priced names normal crash segments complete.high complete.low complete.front complete.normal_walk complete.crash_walk in

@@ -78,7 +78,8 @@ nothing_stops bad more place (inr (long, lacks)) same =
     omega (arith, long, none, length-append bad more)
 
 -- a line that may stand in its place does not stop a reader
-line_goes_on : (bad more : List ℕ) (place behind : Place) (line : CertLine) (rest : List ℕ) → IsBadLine place bad ⊎ IsTooLong bad → Fits line → next place line ≡ Some behind → bad ++ more ≡ spelling line ++ 10 ∷ rest → ⊥
+line_goes_on : (bad more : List ℕ) (place behind : Place) (line : CertLine) (rest : List ℕ) → IsBadLine place bad ⊎ IsTooLong bad →
+    Fits line → next place line ≡ Some behind → bad ++ more ≡ spelling line ++ 10 ∷ rest → ⊥
 line_goes_on bad more place behind line rest (inl (word, lacks, is, refused)) fits goes same =
     let whole : word ++ 10 ∷ more ≡ spelling line ++ 10 ∷ rest = sym (append_assoc word (10 ∷ []) more) ∙ ap (λ b. b ++ more) (sym is) ∙ same in
     let parts = split_once 10 word (spelling line) more rest lacks (spelling_lacks_end line fits) whole in
@@ -104,10 +105,12 @@ module _ (net : PricedNetwork) (text : List ℕ) (segments : ℕ) (certified : I
       contrary fail (sym certified.none ∙ ap (failure_of net) front.lines ∙ found)
   never_fails fail (malformed lines none stop reason) =
       let front = has_front lines certified.lines (stop.bad ++ stop.more) stop.led.fit certified.whole.led.fit (sym stop.whole ∙ certified.whole.whole) in
-      let goes : ran stop.place front.more ≡ Some Ended = ap (λ found. found >>= (λ at. ran at front.more)) (sym stop.led.order) ∙ sym (ran-append Start lines front.more) ∙ ap (ran Start) (sym front.lines) ∙ certified.whole.led.order in
+      let goes : ran stop.place front.more ≡ Some Ended = ap (λ found. found >>= (λ at. ran at front.more)) (sym stop.led.order)
+      ∙ sym (ran-append Start lines front.more) ∙ ap (ran Start) (sym front.lines) ∙ certified.whole.led.order in
       stops_nowhere stop.bad stop.more stop.place front.more stop.why front.fit goes front.text
   never_fails fail (missing lines none lack reason) =
-      let same = text_once lines certified.lines lack.held [] lack.going.led.fit certified.whole.led.fit lack.going.no_end tt (sym lack.going.whole ∙ certified.whole.whole ∙ sym (append-nil (text_of certified.lines))) in
+      let same = text_once lines certified.lines lack.held [] lack.going.led.fit certified.whole.led.fit lack.going.no_end tt
+      (sym lack.going.whole ∙ certified.whole.whole ∙ sym (append-nil (text_of certified.lines))) in
       let ended : lack.place ≡ Ended = place_same lack.place Ended (sym lack.going.led.order ∙ ap (ran Start) (same.0) ∙ certified.whole.led.order) in
       elim lack.why [ inl elsewhere ↦ elsewhere ended | inr held ↦ held (same.1) ]
 

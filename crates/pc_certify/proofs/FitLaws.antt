@@ -47,10 +47,17 @@ module _ (net : PricedNetwork) (priced : IsPriced net.network net.terms (knees_i
   act_fits seg a lt code small =
       let long = length-listed ((knees_in net).count a) (seg.flow a) in
       let all = length-append (listed ((knees_in net).count a) (seg.flow a)) (seg.beside a ∷ []) in
-      let few = pieces.few a (omega (arith, lt, priced.terms_fit.one_each)) in
-      (code, small.durations a lt, AreSmall-with_last ((knees_in net).count a) (seg.flow a) (seg.beside a) (λ k within. small.flows a k lt within) (small.beside a lt), omega (arith, long, all), omega (arith, long, all, few))
+      let few = pieces.few a (omega (arith, lt, priced.terms_fit.one_each)) in (
+        code,
+        small.durations a lt,
+        AreSmall-with_last ((knees_in net).count a) (seg.flow a) (seg.beside a)
+            (λ k within. small.flows a k lt within) (small.beside a lt),
+        omega (arith, long, all),
+        omega (arith, long, all, few),
+      )
 
-  pub segment_fits : (seg : Stretch) → ((e : ℕ) → e < net.network.events → IsCode (code_at net.events e)) → ((a : ℕ) → a < length net.network.arcs → IsCode (code_at net.activities a)) → HasSmallNumbers net seg → AllFit (segment_lines net seg)
+  pub segment_fits : (seg : Stretch) → ((e : ℕ) → e < net.network.events → IsCode (code_at net.events e)) →
+      ((a : ℕ) → a < length net.network.arcs → IsCode (code_at net.activities a)) → HasSmallNumbers net seg → AllFit (segment_lines net seg)
   segment_fits seg events activities small = (
     (small.upper, small.lower, small.cost, small.slope),
     AllFit-append (listed net.network.events (event_line net seg)) (listed (length net.network.arcs) (act_line net seg) ++ Close ∷ [])

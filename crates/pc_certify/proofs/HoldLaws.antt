@@ -12,7 +12,8 @@ use Rattle.pc_crash.specs.Priced.{PricedNetwork, knees_in}
 use Rattle.pc_cert.specs.declared.line.CertLine.TheVariants.{Event, Act, Close}
 use Rattle.pc_check.specs.Known.{Known, each_below, frame}
 use Rattle.pc_check.specs.KneeTests.{is_slack_at_knee}
-use Rattle.pc_check.specs.Conditions.{conditions, is_one_length, is_slack_in, is_code_at, is_right_start, is_right_end, rests_in_one_length, has_act_code, has_room, has_duration, keeps_rises, is_slack, is_still_in_one_length, is_conserved, has_cut_gain, has_stop}
+use Rattle.pc_check.specs.Conditions.{conditions, is_one_length, is_slack_in, is_code_at, is_right_start, is_right_end, rests_in_one_length, has_act_code}
+use Rattle.pc_check.specs.Conditions.{has_room, has_duration, keeps_rises, is_slack, is_still_in_one_length, is_conserved, has_cut_gain, has_stop}
 use Rattle.pc_check.specs.Failures.{first_failing}
 use Rattle.pc_check.proofs.GoodRows.{IsRightEvent, IsRightAct}
 use Rattle.pc_certify.proofs.PassLaws.{holds_on}
@@ -76,11 +77,14 @@ slack_holds_at head tail knee rise flow h = both
     (when (nat_lt (tail + knee) head) (flow == 0) (λ is. eq-eqb flow 0 (h.above (ltb-true (tail + knee) head is))))
     (when (nat_lt head (tail + knee)) (flow == rise) (λ is. eq-eqb flow rise (h.below (ltb-true head (tail + knee) is))))
 
-slack_holds : (net : PricedNetwork) (head tail a : ℕ) (flows : List ℕ) → IsSlack net.terms (knees_in net) a tail head (slice_index flows) (slice_index flows ((knees_in net).count a)) → is_slack_in net head tail a flows ≡ true
+slack_holds : (net : PricedNetwork) (head tail a : ℕ) (flows : List ℕ) →
+    IsSlack net.terms (knees_in net) a tail head (slice_index flows) (slice_index flows ((knees_in net).count a)) →
+    is_slack_in net head tail a flows ≡ true
 slack_holds net head tail a flows h = both
     (each_below-all ((knees_in net).count a) (λ k. is_slack_at_knee head tail ((knees_in net).knee a k) ((knees_in net).rise a k) (slice_index flows k))
     (λ k lt. slack_holds_at head tail ((knees_in net).knee a k) ((knees_in net).rise a k) (slice_index flows k) (h.at_knees k lt)))
-    (when (nat_lt (tail + crash_of net.terms a) head) (slice_index flows ((knees_in net).count a) == 0) (λ is. eq-eqb (slice_index flows ((knees_in net).count a)) 0 (h.above_crash (ltb-true (tail + crash_of net.terms a) head is))))
+    (when (nat_lt (tail + crash_of net.terms a) head) (slice_index flows ((knees_in net).count a) == 0)
+    (λ is. eq-eqb (slice_index flows ((knees_in net).count a)) 0 (h.above_crash (ltb-true (tail + crash_of net.terms a) head is))))
 
 -- an activity whose row is right
 pub act_holds : (net : PricedNetwork) (known : Known) (duration : ℕ) (flows : List ℕ) → known.acts < length net.network.arcs → length flows ≡ (knees_in net).count known.acts + 1
@@ -98,7 +102,9 @@ act_holds net known duration flows lt long h =
     (holds_on (has_duration net known a duration) _ 7 (both
     (eq-eqb duration (lesser_of net.network net.terms known.time a) h.duration)
     (when (known.parts == 0) (duration == normal_of net.terms a) (λ first. eq-eqb duration (normal_of net.terms a) (h.normal first))))
-    (holds_on (keeps_rises net a flows) _ 8 (each_below-all ((knees_in net).count a) (λ k. nat_le (slice_index flows k) ((knees_in net).rise a k)) (λ k within. le-leb (slice_index flows k) ((knees_in net).rise a k) (h.capacity k within)))
+    (holds_on (keeps_rises net a flows) _ 8
+    (each_below-all ((knees_in net).count a) (λ k. nat_le (slice_index flows k) ((knees_in net).rise a k))
+    (λ k within. le-leb (slice_index flows k) ((knees_in net).rise a k) (h.capacity k within)))
     (holds_on (is_slack net seg 0 a flows && is_slack net seg (span seg) a flows) _ 11 (both
     (slack_holds net (head_at arcs seg 0 a) (tail_at arcs seg 0 a) a flows h.slack_upper)
     (slack_holds net (head_at arcs seg (span seg) a) (tail_at arcs seg (span seg) a) a flows h.slack_lower))
@@ -134,7 +140,9 @@ conserved_at net known e h lt = elim (cases_eq e net.start) [
 
 pub close_holds : (net : PricedNetwork) (known : Known) → Ends net.network known → first_failing (conditions net known Close) ≡ None
 close_holds net known h =
-    holds_on (is_conserved net.network known) _ 9 (each_below-all net.network.events (λ e. e == net.network.start || (e == net.network.end || known.inflow e == known.outflow e)) (λ e lt. conserved_at net.network known e h lt))
+    holds_on (is_conserved net.network known) _ 9
+    (each_below-all net.network.events (λ e. e == net.network.start || (e == net.network.end || known.inflow e == known.outflow e))
+    (λ e lt. conserved_at net.network known e h lt))
     (holds_on (known.outflow net.network.start == known.slope) _ 10 (eq-eqb (known.outflow net.network.start) known.slope h.leaves)
     (holds_on (known.spent == known.cost) _ 12 (eq-eqb known.spent known.cost h.costs)
     (holds_on (has_cut_gain known) _ 13 (unless_one known (known.forward == known.backward + known.slope) h.ordered (λ below. eq-eqb known.forward (known.backward + known.slope) (h.cut below)))

@@ -64,7 +64,9 @@ events_order net shape seg m zero n rest all = let same : n ≡ rest = omega ari
 events_order net shape seg m (suc j) n rest all =
     let one : suc rest - 1 ≡ rest = omega arith in
     ran-then (InSegment shape n m) (listed j (event_line net seg)) (event_line net seg j ∷ []) (events_order net shape seg m j n (suc rest) (omega arith))
-    (ran-cons (InSegment shape (suc rest) m) (event_line net seg j) [] (cond-true (nat_lt 0 (suc rest)) (Some (InSegment shape (suc rest - 1) m)) None (lt-ltb 0 (suc rest) (omega arith)) ∙ ap (λ k. Some (InSegment shape k m)) one) refl)
+    (ran-cons (InSegment shape (suc rest) m) (event_line net seg j) []
+    (cond-true (nat_lt 0 (suc rest)) (Some (InSegment shape (suc rest - 1) m)) None (lt-ltb 0 (suc rest) (omega arith))
+    ∙ ap (λ k. Some (InSegment shape k m)) one) refl)
 
 two_flows : (one_kind : Bool) (count : ℕ) → (one_kind ≡ true → count ≡ 2) → ((if one_kind then 1 else 2) == 2 || count == 2) ≡ true
 two_flows true count h = right ((if true then 1 else 2) == 2) (count == 2) (eq-eqb count 2 (h refl))
@@ -81,14 +83,20 @@ acts_order net seg zero n rest all = let same : n ≡ rest = omega arith in ap (
 acts_order net seg (suc j) n rest all =
     let one : suc rest - 1 ≡ rest = omega arith in
     ran-then (InSegment (shape_of net) 0 n) (listed j (act_line net seg)) (act_line net seg j ∷ []) (acts_order net seg j n (suc rest) (omega arith))
-    (ran-cons (InSegment (shape_of net) 0 (suc rest)) (act_line net seg j) [] (cond-true (0 == 0 && (nat_lt 0 (suc rest) && (version_of net == 2 || length (flows_along net seg j) == 2))) (Some (InSegment (shape_of net) 0 (suc rest - 1))) None
+    (ran-cons (InSegment (shape_of net) 0 (suc rest)) (act_line net seg j) []
+    (cond-true (0 == 0 && (nat_lt 0 (suc rest) && (version_of net == 2 || length (flows_along net seg j) == 2)))
+    (Some (InSegment (shape_of net) 0 (suc rest - 1))) None
     (both refl (both (lt-ltb 0 (suc rest) (omega arith)) (takes net seg j))) ∙ ap (λ k. Some (InSegment (shape_of net) 0 k)) one) refl)
 
-segment_order : (net : PricedNetwork) (seg : Stretch) (place : Place) → next place (ends_line seg) ≡ Some (InSegment (shape_of net) net.network.events (length net.network.arcs)) → ran place (segment_lines net seg) ≡ Some (Between (shape_of net))
+segment_order : (net : PricedNetwork) (seg : Stretch) (place : Place) →
+    next place (ends_line seg) ≡ Some (InSegment (shape_of net) net.network.events (length net.network.arcs)) →
+    ran place (segment_lines net seg) ≡ Some (Between (shape_of net))
 segment_order net seg place goes =
     let acts = listed (length net.network.arcs) (act_line net seg) in
     ran-cons place (ends_line seg) _ goes
-    (ran-then (InSegment (shape_of net) net.network.events (length net.network.arcs)) (listed net.network.events (event_line net seg)) (acts ++ Close ∷ []) (events_order net (shape_of net) seg (length net.network.arcs) net.network.events net.network.events 0 (omega arith))
+    (ran-then (InSegment (shape_of net) net.network.events (length net.network.arcs)) (listed net.network.events (event_line net seg))
+    (acts ++ Close ∷ []) (events_order net (shape_of net) seg (length net.network.arcs) net.network.events net.network.events 0
+    (omega arith))
     (ran-then (InSegment (shape_of net) 0 (length net.network.arcs)) acts (Close ∷ []) (acts_order net seg (length net.network.arcs) (length net.network.arcs) 0 (omega arith)) refl))
 
 -- ---- the whole certificate

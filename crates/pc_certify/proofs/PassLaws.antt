@@ -24,7 +24,8 @@ none_parts number None later h = (refl, h)
 none_parts number (Some reason) later h = absurd cc
 
 -- a line and those behind it
-pub Pass-cons : {net : PricedNetwork} {draft behind : Draft} (line : CertLine) (lines : List CertLine) → reason_at net draft line ≡ None → Pass net (with_line draft line) lines behind → Pass net draft (line ∷ lines) behind
+pub Pass-cons : {net : PricedNetwork} {draft behind : Draft} (line : CertLine) (lines : List CertLine) → reason_at net draft line ≡ None →
+    Pass net (with_line draft line) lines behind → Pass net draft (line ∷ lines) behind
 Pass-cons {net} {draft} {behind} line lines passes h = record {
   none = λ number. or_none number (reason_at net draft line) (failure_after net (with_line draft line) (number + 1) lines) passes (h.none (number + 1));
   says = h.says;
@@ -37,18 +38,22 @@ Pass-one net draft line passes = Pass-cons line [] passes (Pass-nil net (with_li
 pub Pass-as : {net : PricedNetwork} {draft behind : Draft} {lines : List CertLine} (other : Draft) → behind ≡ other → Pass net draft lines behind → Pass net draft lines other
 Pass-as {net} {draft} {behind} {lines} other same h = record { none = h.none; says = h.says ∙ same }
 
-none_then : (net : PricedNetwork) (draft : Draft) (number : ℕ) (lines others : List CertLine) → failure_after net draft number lines ≡ None → ((m : ℕ) → failure_after net (fold with_line draft lines) m others ≡ None) → failure_after net draft number (lines ++ others) ≡ None
+none_then : (net : PricedNetwork) (draft : Draft) (number : ℕ) (lines others : List CertLine) →
+    failure_after net draft number lines ≡ None → ((m : ℕ) → failure_after net (fold with_line draft lines) m others ≡ None) →
+    failure_after net draft number (lines ++ others) ≡ None
 none_then net draft number [] others h later = later number
 none_then net draft number (line ∷ lines) others h later =
     let parts = none_parts number (reason_at net draft line) (failure_after net (with_line draft line) (number + 1) lines) h in
-    or_none number (reason_at net draft line) (failure_after net (with_line draft line) (number + 1) (lines ++ others)) (parts.0) (none_then net (with_line draft line) (number + 1) lines others (parts.1) later)
+    or_none number (reason_at net draft line) (failure_after net (with_line draft line) (number + 1) (lines ++ others)) (parts.0)
+    (none_then net (with_line draft line) (number + 1) lines others (parts.1) later)
 
 says_then : (draft : Draft) (lines others : List CertLine) → fold with_line draft (lines ++ others) ≡ fold with_line (fold with_line draft lines) others
 says_then draft [] others = refl
 says_then draft (line ∷ lines) others = says_then (with_line draft line) lines others
 
 -- lines and those behind them
-pub Pass-then : {net : PricedNetwork} {draft middle behind : Draft} (lines others : List CertLine) → Pass net draft lines middle → Pass net middle others behind → Pass net draft (lines ++ others) behind
+pub Pass-then : {net : PricedNetwork} {draft middle behind : Draft} (lines others : List CertLine) → Pass net draft lines middle →
+    Pass net middle others behind → Pass net draft (lines ++ others) behind
 Pass-then {net} {draft} {middle} {behind} lines others h later = record {
   none = λ number. none_then net draft number lines others (h.none number) (λ m. subst (λ d. failure_after net d m others ≡ None) (sym h.says) (later.none m));
   says = says_then draft lines others ∙ ap (λ d. fold with_line d others) h.says ∙ later.says;
@@ -59,7 +64,8 @@ pub record PassTo (net : PricedNetwork) (draft : Draft) (lines : List CertLine) 
   pub none : (number : ℕ) → failure_after net draft number lines ≡ None
   pub says : (fold with_line draft lines).parts ≡ parts
 
-pub PassTo-then : {net : PricedNetwork} {draft middle : Draft} {parts : List Part} (lines others : List CertLine) → Pass net draft lines middle → PassTo net middle others parts → PassTo net draft (lines ++ others) parts
+pub PassTo-then : {net : PricedNetwork} {draft middle : Draft} {parts : List Part} (lines others : List CertLine) →
+    Pass net draft lines middle → PassTo net middle others parts → PassTo net draft (lines ++ others) parts
 PassTo-then {net} {draft} {middle} {parts} lines others h later = record {
   none = λ number. none_then net draft number lines others (h.none number) (λ m. subst (λ d. failure_after net d m others ≡ None) (sym h.says) (later.none m));
   says = ap (λ (d : Draft). d.parts) (says_then draft lines others ∙ ap (λ d. fold with_line d others) h.says) ∙ later.says;

@@ -54,7 +54,8 @@ module _ (net : PricedNetwork) (seg : Segment) where
 
 -- ---- events
 
-pub right_event : (net : PricedNetwork) (seg : Segment) → IsRightSegment net.network net.terms (knees_in net) seg → (e : ℕ) → e < net.network.events → IsRightEvent net.network seg.upper seg.lower e (event_row net seg e)
+pub right_event : (net : PricedNetwork) (seg : Segment) → IsRightSegment net.network net.terms (knees_in net) seg → (e : ℕ) →
+    e < net.network.events → IsRightEvent net.network seg.upper seg.lower e (event_row net seg e)
 right_event net seg right e lt = record {
   start_time = λ is. ap seg.time is ∙ right.ends.start_time;
   start_rests = λ is. ap seg.moves is ∙ right.ends.start_rests;
@@ -86,7 +87,8 @@ module _ (net : PricedNetwork) (seg : Segment) (right : IsRightSegment net.netwo
         flow_is net seg a k before ∙ (right.proper.degenerate (sym same)).empty a k lt before
   ]
 
-  pub right_act : IsInRange net.network → (first : Bool) (other : Segment) → MoveSame net seg other → (first ≡ true → seg.duration a ≡ normal_of net.terms a) → IsRightAct net first other a (act_row net seg a)
+  pub right_act : IsInRange net.network → (first : Bool) (other : Segment) → MoveSame net seg other →
+      (first ≡ true → seg.duration a ≡ normal_of net.terms a) → IsRightAct net first other a (act_row net seg a)
   right_act range first other same normal =
       let arcs = net.network.arcs in
       let high_head = head_same net range seg other same a lt 0 in
@@ -97,7 +99,8 @@ module _ (net : PricedNetwork) (seg : Segment) (right : IsRightSegment net.netwo
       let room_lower : tail_at arcs seg (span seg) a + crash_of net.terms a ≤ head_at arcs seg (span seg) a = right.room_at_lower a lt in
       record {
         room_upper = subst (λ h. tail_at arcs other 0 a + crash_of net.terms a ≤ h) (sym high_head) (subst (λ t. t + crash_of net.terms a ≤ head_at arcs seg 0 a) (sym high_tail) room_upper);
-        room_lower = subst (λ h. tail_at arcs other (span other) a + crash_of net.terms a ≤ h) (sym low_head) (subst (λ t. t + crash_of net.terms a ≤ head_at arcs seg (span seg) a) (sym low_tail) room_lower);
+        room_lower = subst (λ h. tail_at arcs other (span other) a + crash_of net.terms a ≤ h) (sym low_head)
+            (subst (λ t. t + crash_of net.terms a ≤ head_at arcs seg (span seg) a) (sym low_tail) room_lower);
         duration = right.durations a lt ∙ sym (lesser_same net range seg other same a lt);
         normal = normal;
         capacity = λ k within. subst (λ f. f ≤ (knees_in net).rise a k) (sym (flow_is net seg a k within)) (right.capacity a k lt within);

@@ -34,7 +34,8 @@ events_part net seg j = record (begun_part seg.upper seg.lower seg.cost seg.slop
 abbrev pub acts_part : PricedNetwork → Segment → ℕ → Part
 acts_part net seg j = record (part_of net seg) { acts = listed j (act_row net seg) }
 
-module _ (net : PricedNetwork) (priced : IsPriced net.network net.terms (knees_in net)) (normal crash : List (List ℕ)) (parts : List Part) (seg : Segment) (whole : IsSegment net.network net.terms (knees_in net) seg) where
+module _ (net : PricedNetwork) (priced : IsPriced net.network net.terms (knees_in net)) (normal crash : List (List ℕ)) (parts : List Part)
+    (seg : Segment) (whole : IsSegment net.network net.terms (knees_in net) seg) where
   event_passes : (j : ℕ) → j < net.network.events → reason_at net (in_body normal crash parts (events_part net seg j)) (event_line net seg j) ≡ None
   event_passes j lt =
       let known = said net (in_body normal crash parts (events_part net seg j)) in
@@ -43,7 +44,9 @@ module _ (net : PricedNetwork) (priced : IsPriced net.network net.terms (knees_i
       subst (λ e. first_failing (conditions net known (Event (code_at net.events e) (seg.time e) (seg.moves e))) ≡ None) (sym at)
       (event_holds net known (seg.time known.events) (seg.moves known.events) come whole.right.proper.ordered (right_event net seg whole.right known.events come))
 
-  pub events_pass : (j : ℕ) → j ≤ net.network.events → Pass net (in_body normal crash parts (events_part net seg 0)) (listed j (event_line net seg)) (in_body normal crash parts (events_part net seg j))
+  pub events_pass : (j : ℕ) → j ≤ net.network.events →
+      Pass net (in_body normal crash parts (events_part net seg 0)) (listed j (event_line net seg))
+      (in_body normal crash parts (events_part net seg j))
   events_pass zero some = Pass-nil net (in_body normal crash parts (events_part net seg 0))
   events_pass (suc j) some =
       Pass-then (listed j (event_line net seg)) (event_line net seg j ∷ []) (events_pass j (omega arith))
@@ -55,7 +58,13 @@ module _ (net : PricedNetwork) (priced : IsPriced net.network net.terms (knees_i
         let known = said net (in_body normal crash parts (acts_part net seg j)) in
         let at : j ≡ known.acts = sym (length-listed j (act_row net seg)) in
         let come : known.acts < length net.network.arcs = omega arith in
-        let same : MoveSame net seg (frame known) = record { upper = refl; lower = refl; time = λ e l. ap (λ row. row.time) (event_is net seg e l); moves = λ e l. ap (λ row. row.moves) (event_is net seg e l) } in
+        let same : MoveSame net seg (frame known) =
+        record {
+          upper = refl;
+          lower = refl;
+          time = λ e l. ap (λ row. row.time) (event_is net seg e l);
+          moves = λ e l. ap (λ row. row.moves) (event_is net seg e l);
+        } in
         subst (λ a. first_failing (conditions net known (Act (code_at net.activities a) (seg.duration a) (flows_along net seg a))) ≡ None) (sym at)
         (act_holds net known (seg.duration known.acts) (flows_along net seg known.acts) come (flows_long net seg known.acts)
         (right_act net seg whole.right known.acts come priced.range (known.parts == 0) (frame known) same (λ is. first is known.acts come)))

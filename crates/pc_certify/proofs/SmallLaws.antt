@@ -58,7 +58,9 @@ module _ (net : PricedNetwork) (sized : IsSized net) where
   -- the all-normal length
   low_high : (walk : List ℕ) (high : ℕ) → IsThrough net.network (normals net.terms) walk high → high ≤ 1000000000
   low_high walk high through =
-      let sum = walk_sum-bound net.network.arcs (normals net.terms) MAX_DURATION (λ a lt. omega (arith, normals-at net.terms a (inside a lt), short_normal a lt)) net.network.start net.network.end walk through.leads in
+      let sum = walk_sum-bound net.network.arcs (normals net.terms) MAX_DURATION
+      (λ a lt. omega (arith, normals-at net.terms a (inside a lt), short_normal a lt)) net.network.start net.network.end walk
+      through.leads in
       let short = short_walk (normals net.terms) walk high through in
       let most : length walk * MAX_DURATION ≤ 10000 * MAX_DURATION = mul-le-mul_right MAX_DURATION (let few : length walk ≤ 10000 = omega (arith, sized.few) in few) in
       omega (arith, through.adds, sum, most)
@@ -103,15 +105,20 @@ module _ (net : PricedNetwork) (sized : IsSized net) where
     low_forward a lt = omega (
       arith,
       rise_or_none (is_forward net.network.arcs seg.moves a) (rises_above net.network (knees_in net) seg (span seg) a),
-      sum_to-le ((knees_in net).count a) (λ k. if nat_lt (head_at net.network.arcs seg (span seg) a) (tail_at net.network.arcs seg (span seg) a + (knees_in net).knee a k) then (knees_in net).rise a k else 0) ((knees_in net).rise a)
+      sum_to-le ((knees_in net).count a)
+          (λ k. if nat_lt (head_at net.network.arcs seg (span seg) a) (tail_at net.network.arcs seg (span seg) a + (knees_in net).knee a k)
+          then (knees_in net).rise a k else 0) ((knees_in net).rise a)
           (λ k within. rise_or_none (nat_lt (head_at net.network.arcs seg (span seg) a) (tail_at net.network.arcs seg (span seg) a + (knees_in net).knee a k)) ((knees_in net).rise a k)),
     )
 
     low_slope : seg.slope < 10 ^ 13
     low_slope =
         let cut : forward_rises net.network (knees_in net) seg ≡ _ + seg.slope = cut_rises net.network net.terms (knees_in net) sized.priced seg right in
-        let below = sum_to-le (length net.network.arcs) (λ a. if is_forward net.network.arcs seg.moves a then rises_above net.network (knees_in net) seg (span seg) a else 0) (last_slope (knees_in net)) low_forward in
-        let small = last_slopes-small net.network net.terms net.pieces sized.priced.terms_fit sized.pieces sized.limits.gentle sized.piece_limits.gentle (omega (arith, sized.limits.few, sized.priced.terms_fit.one_each)) in
+        let below = sum_to-le (length net.network.arcs)
+        (λ a. if is_forward net.network.arcs seg.moves a then rises_above net.network (knees_in net) seg (span seg) a else 0)
+        (last_slope (knees_in net)) low_forward in
+        let small = last_slopes-small net.network net.terms net.pieces sized.priced.terms_fit sized.pieces sized.limits.gentle
+        sized.piece_limits.gentle (omega (arith, sized.limits.few, sized.priced.terms_fit.one_each)) in
         omega (arith, cut, below, small)
 
     low_flow : (a : ℕ) → a < length net.network.arcs → whole_flow (knees_in net) seg.flow seg.beside a ≤ seg.slope
@@ -129,7 +136,8 @@ module _ (net : PricedNetwork) (sized : IsSized net) where
       beside = λ a lt. omega (arith, low_flow a lt, low_slope);
     }
 
-  small_all : (segments : List Segment) (high low : ℕ) → ByRecursion (IsSegment net.network net.terms (knees_in net)) segments → Joins high segments low → high ≤ 1000000000 → ByRecursion (HasSmallNumbers net) segments
+  small_all : (segments : List Segment) (high low : ℕ) → ByRecursion (IsSegment net.network net.terms (knees_in net)) segments →
+      Joins high segments low → high ≤ 1000000000 → ByRecursion (HasSmallNumbers net) segments
   small_all [] high low each joined below = absurd joined
   small_all (seg ∷ []) high low (whole, none) (upper, lower) below = (small_segment seg whole.right (omega arith), tt)
   small_all (seg ∷ next ∷ rest) high low (whole, others) (upper, joined) below =
@@ -138,4 +146,6 @@ module _ (net : PricedNetwork) (sized : IsSized net) where
   pub small_segments : (normal crash : List ℕ) (segments : List Segment) → IsComplete net normal crash segments → All (HasSmallNumbers net) segments
   small_segments normal crash segments complete =
       All-from_recursion (HasSmallNumbers net) segments
-      (small_all segments complete.high complete.low (recursion_from_All (IsSegment net.network net.terms (knees_in net)) segments complete.front.each) complete.front.joined (low_high normal complete.high complete.normal_walk))
+      (small_all segments complete.high complete.low
+      (recursion_from_All (IsSegment net.network net.terms (knees_in net)) segments complete.front.each) complete.front.joined
+      (low_high normal complete.high complete.normal_walk))

@@ -10,7 +10,8 @@ use Rattle.pc_times.specs.Times.{AreLengths}
 use Rattle.pc_crash.specs.Terms.{AreWithinLimits}
 
 -- one more of the numbers of the terms, each of which has one
-pub number-more : (number : Term → ℕ) (terms : List Term) (a x : ℕ) (items later : List ℕ) → items ≡ take a (map number terms) → later ≡ items ++ x ∷ [] → a < length terms → x ≡ number (term_at terms a) → later ≡ take (a + 1) (map number terms)
+pub number-more : (number : Term → ℕ) (terms : List Term) (a x : ℕ) (items later : List ℕ) → items ≡ take a (map number terms) →
+    later ≡ items ++ x ∷ [] → a < length terms → x ≡ number (term_at terms a) → later ≡ take (a + 1) (map number terms)
 number-more number terms a x items later was pushed within is =
     let next : suc a ≡ a + 1 = omega arith in
     let inside : a < length (map number terms) = omega (arith, within, length-map terms number) in

@@ -13,7 +13,8 @@ use Rattle.pc_certify.specs.Listed.{listed}
 use Rattle.pc_certify.proofs.ListedLaws.{listed-more}
 
 pub head_words : (version : ℕ) (project : List ℕ) (events activities : ℕ)
-    → codes "CERT" ++ spaced (decimal version) [] ++ spaced project [] ++ spaced (decimal events) [] ++ spaced (decimal activities) [] ++ 10 ∷ [] ≡ text_of (Head version project events activities ∷ [])
+    → codes "CERT" ++ spaced (decimal version) [] ++ spaced project [] ++ spaced (decimal events) [] ++ spaced
+    (decimal activities) [] ++ 10 ∷ [] ≡ text_of (Head version project events activities ∷ [])
 head_words version project events activities = simp append_assoc
 
 pub step_words : (code : List ℕ) → codes "STEP" ++ spaced code [] ++ 10 ∷ [] ≡ text_of (Step code ∷ [])
@@ -23,7 +24,9 @@ pub segment_words : (upper lower cost slope : ℕ)
     → codes "SEGMENT" ++ spaced (decimal upper) [] ++ spaced (decimal lower) [] ++ spaced (decimal cost) [] ++ spaced (decimal slope) [] ++ 10 ∷ [] ≡ text_of (Segment upper lower cost slope ∷ [])
 segment_words upper lower cost slope = simp append_assoc
 
-pub event_words : (code : List ℕ) (time : ℕ) (moves : Bool) → codes "EVENT" ++ spaced code [] ++ spaced (decimal time) [] ++ spaced (bit_text moves) [] ++ 10 ∷ [] ≡ text_of (Event code time moves ∷ [])
+pub event_words : (code : List ℕ) (time : ℕ) (moves : Bool) →
+    codes "EVENT" ++ spaced code [] ++ spaced (decimal time) [] ++ spaced (bit_text moves) [] ++ 10 ∷ []
+    ≡ text_of (Event code time moves ∷ [])
 event_words code time true = simp append_assoc
 event_words code time false = simp append_assoc
 
@@ -48,11 +51,14 @@ pub text_of-map : (line : ℕ → CertLine) (walk more : List ℕ) (a : ℕ) →
 text_of-map line walk more a is = sym (ap (λ w. text_of (map line w)) is ∙ ap text_of (map-append line walk (a ∷ [])) ∙ text_of-append (map line walk) (line a ∷ []))
 
 -- two lists of lines, with a line before and one behind
-pub text_of-between : (first : CertLine) (lines others : List CertLine) (last : CertLine) → text_of (first ∷ []) ++ (text_of lines ++ text_of others) ++ text_of (last ∷ []) ≡ text_of (first ∷ (lines ++ (others ++ last ∷ [])))
+pub text_of-between : (first : CertLine) (lines others : List CertLine) (last : CertLine) →
+    text_of (first ∷ []) ++ (text_of lines ++ text_of others) ++ text_of (last ∷ []) ≡ text_of (first ∷ (lines ++ (others ++ last ∷ [])))
 text_of-between first lines others last = simp (text_of-append, append_assoc)
 
 -- two lists of lines, each with its line before it, and a line before both
-pub text_of-headed : (first second third : CertLine) (lines others : List CertLine) → text_of (first ∷ []) ++ text_of (second ∷ []) ++ text_of lines ++ text_of (third ∷ []) ++ text_of others ≡ text_of (first ∷ second ∷ (lines ++ third ∷ others))
+pub text_of-headed : (first second third : CertLine) (lines others : List CertLine) →
+    text_of (first ∷ []) ++ text_of (second ∷ []) ++ text_of lines ++ text_of (third ∷ []) ++ text_of others
+    ≡ text_of (first ∷ second ∷ (lines ++ third ∷ others))
 text_of-headed first second third lines others = simp (text_of-append, append_assoc)
 
 -- the last of the numbers

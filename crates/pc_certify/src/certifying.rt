@@ -37,8 +37,10 @@ pub fn certify<O: Sink>(
     region: Region,
     sink: &mut O,
 ) -> Result<(), CertifyError>
-    requires { 8 * net.now.network.events + 6 * length net.now.network.arcs + 2 * length net.now.pieces + 16 ≤ free_of region }
-    ensures done { OnOk result (TookCertificate net.now (O.taken sink.old) (O.taken sink.new) (O.faults sink.old) (O.faults sink.new)) }
+    requires { 8 * net.now.network.events + 6 * length net.now.network.arcs + 2 * length net.now.pieces + 16
+        ≤ free_of region }
+    ensures done { OnOk result (TookCertificate net.now (O.taken sink.old) (O.taken sink.new) (O.faults sink.old)
+        (O.faults sink.new)) }
     ensures fault { IsErrOf result CertifyError.WriteFault
         → TookFrontOfOne net.now (O.taken sink.old) (O.taken sink.new) (O.faults sink.old) (O.faults sink.new) }
     ensures no_memory { IsErrOf result CertifyError.OutOfMemory → sink.new ≡ sink.old }

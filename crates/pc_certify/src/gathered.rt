@@ -53,7 +53,8 @@ impl Gathered {
     /// Puts a line behind the others, which go on to the page where it finds no room. Inlined, since that is seldom.
     #[inline(always)]
     pub(crate) fn put<O: Sink>(&mut self, page: &mut Page, sink: &mut O, line: &Spelling)
-        ensures { Gathers (desk O.taken O.faults page.old sink.old) self.old (desk O.taken O.faults page.new sink.new) self.new line.now }
+        ensures { Gathers (desk O.taken O.faults page.old sink.old) self.old
+            (desk O.taken O.faults page.new sink.new) self.new line.now }
     {
         self.make_room(page, sink);
         self.add(line);
@@ -73,7 +74,8 @@ impl Gathered {
     /// Makes room for a line.
     #[inline(always)]
     fn make_room<O: Sink>(&mut self, page: &mut Page, sink: &mut O)
-        ensures same { Gathers (desk O.taken O.faults page.old sink.old) self.old (desk O.taken O.faults page.new sink.new) self.new [] }
+        ensures same { Gathers (desk O.taken O.faults page.old sink.old) self.old
+            (desk O.taken O.faults page.new sink.new) self.new [] }
         ensures room { length self.new + ROOM ≤ GATHERED_ROOM }
     {
         if GATHERED_ROOM - self.len < ROOM {

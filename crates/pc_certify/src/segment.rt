@@ -56,7 +56,8 @@ pub fn put_segment<O: Sink, V: SegmentView>(
 /// Puts the first line of a segment.
 fn put_ends<O: Sink, V: SegmentView>(page: &mut Page, sink: &mut O, view: &V)
     requires { V.IsPresent view.now }
-    ensures { Puts O.taken O.faults page.old sink.old page.new sink.new (text_of (ends_line (V.segment view.now) ∷ [])) }
+    ensures { Puts O.taken O.faults page.old sink.old page.new sink.new
+        (text_of (ends_line (V.segment view.now) ∷ [])) }
 {
     page.put(sink, b"SEGMENT");
     put_number(page, sink, view.upper());
@@ -78,7 +79,8 @@ fn put_events<O: Sink, V: SegmentView>(
     requires present { V.IsPresent view.now }
     requires net { V.net view.now ≡ net.now }
     requires rows { AreEventsSpelled net.now rows.old.items }
-    ensures text { Gathers (desk O.taken O.faults page.old sink.old) gathered.old (desk O.taken O.faults page.new sink.new) gathered.new
+    ensures text { Gathers (desk O.taken O.faults page.old sink.old) gathered.old
+        (desk O.taken O.faults page.new sink.new) gathered.new
         (text_of (listed net.now.network.events (event_line net.now (V.segment view.now)))) }
     ensures codes { (e : ℕ) → e < net.now.network.events → IsCode (code_at net.now.events e) }
     ensures rows { AreEventsSpelled net.now rows.new.items }
@@ -101,7 +103,8 @@ fn put_event<O: Sink, V: SegmentView>(
     requires net { V.net view.now ≡ net.now }
     requires rows { AreEventsSpelled net.now rows.old.items }
     requires event { e < net.now.network.events }
-    ensures text { Gathers (desk O.taken O.faults page.old sink.old) gathered.old (desk O.taken O.faults page.new sink.new) gathered.new
+    ensures text { Gathers (desk O.taken O.faults page.old sink.old) gathered.old
+        (desk O.taken O.faults page.new sink.new) gathered.new
         (text_of (event_line net.now (V.segment view.now) e ∷ [])) }
     ensures code { IsCode (code_at net.now.events e) }
     ensures rows { AreEventsSpelled net.now rows.new.items }
@@ -123,7 +126,8 @@ fn put_acts<O: Sink, V: SegmentView>(
     requires present { V.IsPresent view.now }
     requires net { V.net view.now ≡ net.now }
     requires rows { AreActsSpelled net.now rows.old.items }
-    ensures text { Gathers (desk O.taken O.faults page.old sink.old) gathered.old (desk O.taken O.faults page.new sink.new) gathered.new
+    ensures text { Gathers (desk O.taken O.faults page.old sink.old) gathered.old
+        (desk O.taken O.faults page.new sink.new) gathered.new
         (text_of (listed (length net.now.network.arcs) (act_line net.now (V.segment view.now)))) }
     ensures codes { (a : ℕ) → a < length net.now.network.arcs → IsCode (code_at net.now.activities a) }
     ensures rows { AreActsSpelled net.now rows.new.items }
@@ -146,7 +150,8 @@ fn put_act<O: Sink, V: SegmentView>(
     requires net { V.net view.now ≡ net.now }
     requires rows { AreActsSpelled net.now rows.old.items }
     requires activity { a < length net.now.network.arcs }
-    ensures text { Gathers (desk O.taken O.faults page.old sink.old) gathered.old (desk O.taken O.faults page.new sink.new) gathered.new
+    ensures text { Gathers (desk O.taken O.faults page.old sink.old) gathered.old
+        (desk O.taken O.faults page.new sink.new) gathered.new
         (text_of (act_line net.now (V.segment view.now) a ∷ [])) }
     ensures code { IsCode (code_at net.now.activities a) }
     ensures rows { AreActsSpelled net.now rows.new.items }

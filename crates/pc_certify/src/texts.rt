@@ -16,7 +16,8 @@ pub fn written_is_one_text()
         text_of (begun_lines net normal crash segments) ++ text_of (segment_lines net segment)
         ≡ text_of (begun_lines net normal crash (segments ++ segment ∷ [])) }
     ensures ends { (net : PricedNetwork) (normal crash : List ℕ) (segments : List Segment) →
-        text_of (begun_lines net normal crash segments) ++ text_of end_lines ≡ text_of (document_lines net normal crash segments) }
+        text_of (begun_lines net normal crash segments) ++ text_of end_lines
+        ≡ text_of (document_lines net normal crash segments) }
 {}
 
 /// Where the lines of the head and of each segment can be spelled, all lines can, and no other lines have their text: who
@@ -27,7 +28,8 @@ pub fn written_fits()
         AllFit (document_lines net normal crash segments) }
     ensures once { (net : PricedNetwork) (normal crash : List ℕ) (segments : List Segment) (lines : List CertLine) →
         AllFit (document_lines net normal crash segments) → AllFit lines →
-        text_of lines ≡ text_of (document_lines net normal crash segments) → lines ≡ document_lines net normal crash segments }
+        text_of lines ≡ text_of (document_lines net normal crash segments) →
+        lines ≡ document_lines net normal crash segments }
 {
     pc_cert::text_is_once();
 }

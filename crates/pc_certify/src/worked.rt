@@ -18,8 +18,10 @@ ghost use Rattle.pc_certify.specs.inside.Worked.{
 /// The certificate of the small deck, byte for byte, and the beginning of the one where the second unit saved of A costs
 /// 6, in version 2; what is written of that deck's four segments is all that a certified one needs.
 pub fn small_decks_are_written()
-    ensures one_slope { text_of (document_lines small_deck along_a_and_b along_a_and_b (upper_segment ∷ lower_segment ∷ [])) ≡ small_certificate }
-    ensures in_pieces { text_of (begun_lines small_deck_in_pieces along_a_and_b along_a_and_b (small_1 ∷ [])) ≡ begun_in_pieces }
+    ensures one_slope { text_of (document_lines small_deck along_a_and_b along_a_and_b
+        (upper_segment ∷ lower_segment ∷ [])) ≡ small_certificate }
+    ensures in_pieces { text_of (begun_lines small_deck_in_pieces along_a_and_b along_a_and_b (small_1 ∷ []))
+        ≡ begun_in_pieces }
     ensures complete { IsComplete small_deck_in_pieces along_a_and_b along_a_and_b small_segments }
 {
     pc_curve_laws::worked_laws::pieces_are_worked();

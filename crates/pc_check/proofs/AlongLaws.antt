@@ -43,7 +43,8 @@ moved_none : (kept : Kept) (place : Place) → place ≡ kept.place → kept ≡
 moved_none kept place there = ap (λ n. record kept { lines = n }) (omega arith) ∙ ap (λ p. record kept { place = p; lines = kept.lines + 0 }) (sym there)
 
 -- none is taken yet
-pub along_begins : {net : PricedNetwork} (piece : List ℕ) (reader : Reading) (kept : Kept) → reader.place ≡ kept.place → reader.malformed ≡ None → reader.lines ≡ kept.lines → kept.lines < 2 ^ 63 → reader.held ≡ []
+pub along_begins : {net : PricedNetwork} (piece : List ℕ) (reader : Reading) (kept : Kept) → reader.place ≡ kept.place →
+    reader.malformed ≡ None → reader.lines ≡ kept.lines → kept.lines < 2 ^ 63 → reader.held ≡ []
     → IsSafe net kept.tally → IsBounded net kept → kept.tally.upper ≢ kept.tally.lower → IsAlong net piece piece reader kept kept reader.place 0
 along_begins {net} piece reader kept place good alike few held safe bounded long =
     let begins = all_left piece reader (going net kept) (begun piece reader (going net kept) refl place good alike few) in
@@ -58,7 +59,8 @@ along_begins {net} piece reader kept place good alike few held safe bounded long
     }
 
 -- what a row adds does not hang on the place and the number of lines
-adds_moved : (net : PricedNetwork) (old new : Kept) (line : CertLine) (place : Place) (count : ℕ) → IsRow line → Adds net line old new → Adds net line (moved_by old place count) (moved_by new place count)
+adds_moved : (net : PricedNetwork) (old new : Kept) (line : CertLine) (place : Place) (count : ℕ) → IsRow line → Adds net line old new →
+    Adds net line (moved_by old place count) (moved_by new place count)
 adds_moved net old new (Head version project events activities) place count row added = absurd row
 adds_moved net old new Normal place count row added = absurd row
 adds_moved net old new (Step code) place count row added = absurd row
@@ -85,7 +87,8 @@ one_more : (n count : ℕ) → n + count + 1 ≡ n + (count + 1)
 one_more n count = omega arith
 
 -- one more row is taken
-pub along_more : {net : PricedNetwork} {piece rest : List ℕ} {reader : Reading} {old kept new : Kept} {place behind : Place} {count : ℕ} (used : ℕ) → net.network.events ≤ MAX_EVENTS → length net.network.arcs ≤ MAX_ACTIVITIES
+pub along_more : {net : PricedNetwork} {piece rest : List ℕ} {reader : Reading} {old kept new : Kept} {place behind : Place} {count : ℕ}
+    (used : ℕ) → net.network.events ≤ MAX_EVENTS → length net.network.arcs ≤ MAX_ACTIVITIES
     → IsAlong net piece rest reader old kept place count → AddsLine net rest used place behind kept new → IsSafe net new.tally → IsAlong net piece (drop used rest) reader old new behind (count + 1)
 along_more {net} {piece} {rest} {reader} {old} {kept} {new} {place} {behind} {count} used events activities h it safe =
     let run = h.left.run in
@@ -126,7 +129,8 @@ pub record HasEnded (net : PricedNetwork) (piece : List ℕ) (used : ℕ) (befor
   pub bounded : IsBounded net new
   pub safe : IsSafe net new.tally
 
-pub along_ends : {net : PricedNetwork} {piece rest : List ℕ} {reader : Reading} {old kept : Kept} {place : Place} {count : ℕ} (after : Reading) (there : Place) (final : Kept) → IsAlong net piece rest reader old kept place count
+pub along_ends : {net : PricedNetwork} {piece rest : List ℕ} {reader : Reading} {old kept : Kept} {place : Place} {count : ℕ}
+    (after : Reading) (there : Place) (final : Kept) → IsAlong net piece rest reader old kept place count
     → there ≡ place → final ≡ kept → after ≡ read_by reader there count → HasEnded net piece (length piece - length rest) reader after old (moved_by final there count)
 along_ends {net} {piece} {rest} {reader} {old} {kept} {place} {count} after there final h here same is =
     let ended : HasEnded net piece h.left.used reader (read_by reader place count) old (moved_by kept place count) = record {

@@ -29,11 +29,13 @@ contrary : (fail : Fail) → None ≡ Some fail → ⊥
 contrary fail e = absurd cc
 
 -- a whole text is certified
-pub found_whole : (net : PricedNetwork) (lines : List CertLine) (text : List ℕ) (verdict : Verdict) → IsWhole lines text → failure_of net lines ≡ None → ChecksTo net lines verdict → Finds net text verdict
+pub found_whole : (net : PricedNetwork) (lines : List CertLine) (text : List ℕ) (verdict : Verdict) → IsWhole lines text →
+    failure_of net lines ≡ None → ChecksTo net lines verdict → Finds net text verdict
 found_whole net lines text (Yes segments) whole none finds = record { lines = lines; whole = whole; none = none; count = finds.1 }
 found_whole net lines text (No line reason) whole none finds = absurd (contrary (record { line = line; reason = reason }) (sym none ∙ finds))
 
 -- another text is malformed, or a line is missing
-pub found_broken : (net : PricedNetwork) (lines : List CertLine) (text : List ℕ) (m : Malformed) → failure_of net lines ≡ None → IsStopped m lines text ⊎ IsMissing m lines text → IsFailing net text (record { line = m.line; reason = 0 })
+pub found_broken : (net : PricedNetwork) (lines : List CertLine) (text : List ℕ) (m : Malformed) → failure_of net lines ≡ None →
+    IsStopped m lines text ⊎ IsMissing m lines text → IsFailing net text (record { line = m.line; reason = 0 })
 found_broken net lines text m none (inl stop) = malformed lines none stop refl
 found_broken net lines text m none (inr lack) = missing lines none lack refl

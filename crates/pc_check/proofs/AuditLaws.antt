@@ -44,7 +44,9 @@ next_of_last : (line : CertLine) (place behind : Place) → ran place (line ∷ 
 next_of_last line place behind h = let step = bind_some (next place line) (λ p. ran p []) behind h in step.1 ∙ step.2
 
 -- the checker may take the line that was read, and the next one stands where the reader has it
-pub may_take : (audit : Auditing) (reader : Reading) (lines : List CertLine) (line : CertLine) (text : List ℕ) → IsGoing audit → ChecksAs audit.checker lines → reader.malformed ≡ None → ReadsAs reader (lines ++ line ∷ []) text → IfNone audit.checker.fail (next audit.checker.kept.place line ≡ Some reader.place)
+pub may_take : (audit : Auditing) (reader : Reading) (lines : List CertLine) (line : CertLine) (text : List ℕ) → IsGoing audit →
+    ChecksAs audit.checker lines → reader.malformed ≡ None → ReadsAs reader (lines ++ line ∷ []) text →
+    IfNone audit.checker.fail (next audit.checker.kept.place line ≡ Some reader.place)
 may_take audit reader lines line text going checked none read =
     let led = (reading reader (lines ++ line ∷ []) text none read).led in
     let before = (checking audit.checker lines going.no_fail checked).order in
@@ -53,7 +55,9 @@ may_take audit reader lines line text going checked none read =
     subst (λ f. IfNone f (next audit.checker.kept.place line ≡ Some reader.place)) (sym going.no_fail) (next_of_last line audit.checker.kept.place reader.place after)
 
 -- a malformed line
-pub malformed_fails : (text more piece : List ℕ) (audit : Auditing) (reader : Reading) (m : Malformed) → IsGoing audit → (h : HasRead text audit) → reader.malformed ≡ Some m → ReadsAs reader (h.lines ++ []) (text ++ piece) → IsFailing audit.checker.net (text ++ (piece ++ more)) (record { line = m.line; reason = 0 })
+pub malformed_fails : (text more piece : List ℕ) (audit : Auditing) (reader : Reading) (m : Malformed) → IsGoing audit →
+    (h : HasRead text audit) → reader.malformed ≡ Some m → ReadsAs reader (h.lines ++ []) (text ++ piece) →
+    IsFailing audit.checker.net (text ++ (piece ++ more)) (record { line = m.line; reason = 0 })
 malformed_fails text more piece audit reader m going h is read =
     let stop = stopped reader (h.lines ++ []) (text ++ piece) m is read in
     let here = subst (λ ls. IsStopped m ls (text ++ piece)) (append-nil h.lines) stop in
@@ -63,22 +67,30 @@ malformed_fails text more piece audit reader m going h is read =
       number = here.number;
       bad = here.bad;
       more = here.more ++ more;
-      whole = sym (append_assoc text piece more) ∙ ap (λ t. t ++ more) here.whole ∙ append_assoc (text_of h.lines) (here.bad ++ here.more) more ∙ ap (λ t. text_of h.lines ++ t) (append_assoc here.bad here.more more);
+      whole = sym (append_assoc text piece more) ∙ ap (λ t. t ++ more) here.whole
+          ∙ append_assoc (text_of h.lines) (here.bad ++ here.more) more
+          ∙ ap (λ t. text_of h.lines ++ t) (append_assoc here.bad here.more more);
       why = here.why;
     }) refl
 
 -- a line that fails
-pub line_fails : (text more piece front rest : List ℕ) (audit : Auditing) (reader : Reading) (checker : Checking) (lines : List CertLine) (fail : Fail) → front ++ rest ≡ piece → reader.malformed ≡ None → ReadsAs reader lines (text ++ front) → checker.net ≡ audit.checker.net → checker.fail ≡ Some fail → ChecksAs checker lines → IsFailing audit.checker.net (text ++ (piece ++ more)) fail
+pub line_fails : (text more piece front rest : List ℕ) (audit : Auditing) (reader : Reading) (checker : Checking) (lines : List CertLine)
+    (fail : Fail) → front ++ rest ≡ piece → reader.malformed ≡ None → ReadsAs reader lines (text ++ front) →
+    checker.net ≡ audit.checker.net → checker.fail ≡ Some fail → ChecksAs checker lines →
+    IsFailing audit.checker.net (text ++ (piece ++ more)) fail
 line_fails text more piece front rest audit reader checker lines fail split none read net is checked =
     let whole = reading reader lines (text ++ front) none read in
     fails reader.place lines (reader.held ++ (rest ++ more)) whole.led
-    (ap (λ p. text ++ (p ++ more)) (sym split) ∙ ap (λ t. text ++ t) (append_assoc front rest more) ∙ sym (append_assoc text front (rest ++ more)) ∙ ap (λ t. t ++ (rest ++ more)) whole.whole ∙ append_assoc (text_of lines) reader.held (rest ++ more))
+    (ap (λ p. text ++ (p ++ more)) (sym split) ∙ ap (λ t. text ++ t) (append_assoc front rest more)
+    ∙ sym (append_assoc text front (rest ++ more)) ∙ ap (λ t. t ++ (rest ++ more)) whole.whole
+    ∙ append_assoc (text_of lines) reader.held (rest ++ more))
     (subst (λ n. failure_of n lines ≡ Some fail) net (failed checker lines fail is checked))
 
 -- ---- what is left
 
 -- a piece in which no line ends leaves less
-pub less_behind_piece : (old new : Auditing) (piece : List ℕ) → IsGoing old → 0 < length piece → new.checker ≡ old.checker → new.reader.held ≡ old.reader.held ++ piece → bytes_left new < bytes_left old
+pub less_behind_piece : (old new : Auditing) (piece : List ℕ) → IsGoing old → 0 < length piece → new.checker ≡ old.checker →
+    new.reader.held ≡ old.reader.held ++ piece → bytes_left new < bytes_left old
 less_behind_piece old new piece going some same held =
     let long : length new.reader.held ≡ length old.reader.held + length piece = ap length held ∙ length-append old.reader.held piece in
     let lines : lines_left new.checker.net new.checker.kept ≡ lines_left old.checker.net old.checker.kept = ap (λ (c : Checking). lines_left c.net c.kept) same in

@@ -1,5 +1,6 @@
 -- What a checker that has found no failure keeps to, line by line.
-use Rattle.std.proofs.Common.{◌≡◌, ℕ, ◌+◌, ◌^◌, ◌<◌, ◌≤◌, Bool, true, false, not, ◌&&◌, ◌||◌, cond, List, [], ◌∷◌, length, Option, Some, None, refl, sym, ap, subst, ◌∙◌, arith, length-append, inl, inr}
+use Rattle.std.proofs.Common.{◌≡◌, ℕ, ◌+◌, ◌^◌, ◌<◌, ◌≤◌, Bool, true, false, not, ◌&&◌, ◌||◌, cond, List, [], ◌∷◌}
+use Rattle.std.proofs.Common.{length, Option, Some, None, refl, sym, ap, subst, ◌∙◌, arith, length-append, inl, inr}
 use Rattle.std.proofs.Math.Nat.{mul-le-mul_left, mul-le-mul_right}
 use Rattle.std.proofs.lemmas.Bool.{eqb-true, eqb-false, eq-eqb, ne_eqb, ltb-true}
 use Rattle.std.proofs.lemmas.Option.{cond_some}
@@ -45,7 +46,9 @@ when_later false x y h e = e
 ne_zero : (n : ℕ) → 0 < n → (n == 0) ≡ false
 ne_zero n some = ne_eqb n 0 (λ same. absurd (omega arith))
 
-pub head_passes : (net : PricedNetwork) (known : Known) (version : ℕ) (project : List ℕ) (events activities : ℕ) → first_failing (conditions net known (Head version project events activities)) ≡ None → (events ≡ net.network.events) × (activities ≡ length net.network.arcs)
+pub head_passes : (net : PricedNetwork) (known : Known) (version : ℕ) (project : List ℕ) (events activities : ℕ) →
+    first_failing (conditions net known (Head version project events activities)) ≡ None →
+    (events ≡ net.network.events) × (activities ≡ length net.network.arcs)
 head_passes net known version project events activities h =
     let all = (holds_first _ _ _ h).0 in
     let rest = and_parts _ _ ((and_parts _ _ ((and_parts _ _ all).1)).1) in
@@ -56,14 +59,16 @@ through_sum net sum None h = absurd cc
 through_sum net sum (Some at) h = eqb-true _ _ ((and_parts _ _ h).1)
 
 -- the normal walk comes through to the upper end of the first segment
-pub first_walk : (net : PricedNetwork) (known : Known) (upper lower cost slope : ℕ) → known.parts ≡ 0 → first_failing (conditions net known (Segment upper lower cost slope)) ≡ None → is_through net.network upper known.normal ≡ true
+pub first_walk : (net : PricedNetwork) (known : Known) (upper lower cost slope : ℕ) → known.parts ≡ 0 →
+    first_failing (conditions net known (Segment upper lower cost slope)) ≡ None → is_through net.network upper known.normal ≡ true
 first_walk net known upper lower cost slope none h = elim (or_parts _ _ ((holds_first _ _ _ h).0)) [
   | inl later ↦ absurd (eqb-false _ _ (not_true _ later) none)
   | inr through ↦ through
 ]
 
 -- its lower end is not above its upper one, and where they are equal its slope is 0
-pub first_ends : (net : PricedNetwork) (known : Known) (upper lower cost slope : ℕ) → known.parts ≡ 0 → first_failing (conditions net known (Segment upper lower cost slope)) ≡ None → (lower ≤ upper) × (upper ≡ lower → slope ≡ 0)
+pub first_ends : (net : PricedNetwork) (known : Known) (upper lower cost slope : ℕ) → known.parts ≡ 0 →
+    first_failing (conditions net known (Segment upper lower cost slope)) ≡ None → (lower ≤ upper) × (upper ≡ lower → slope ≡ 0)
 first_ends net known upper lower cost slope none h =
     let joined = (holds_first _ _ _ ((holds_first _ _ _ h).1)).0 in
     let ends : (nat_lt lower upper || (lower == upper && slope == 0)) ≡ true = when_first _ _ _ (eq-eqb _ _ none) joined in
@@ -73,7 +78,9 @@ first_ends net known upper lower cost slope none h =
     ]
 
 -- a later segment joins the one before, which is not one of one length, and has its own lower end below
-pub later_ends : (net : PricedNetwork) (known : Known) (upper lower cost slope : ℕ) → 0 < known.parts → first_failing (conditions net known (Segment upper lower cost slope)) ≡ None → (upper ≡ known.lower) × (known.lower < known.upper) × (lower < upper)
+pub later_ends : (net : PricedNetwork) (known : Known) (upper lower cost slope : ℕ) → 0 < known.parts →
+    first_failing (conditions net known (Segment upper lower cost slope)) ≡ None →
+    (upper ≡ known.lower) × (known.lower < known.upper) × (lower < upper)
 later_ends net known upper lower cost slope some h =
     let joined = (holds_first _ _ _ ((holds_first _ _ _ h).1)).0 in
     let ends : (upper == known.lower && (nat_lt known.lower known.upper && nat_lt lower upper)) ≡ true = when_later _ _ _ (ne_zero _ some) joined in
@@ -81,7 +88,8 @@ later_ends net known upper lower cost slope some h =
     (eqb-true upper known.lower ((and_parts _ _ ends).0), ltb-true known.lower known.upper (rest.0), ltb-true lower upper (rest.1))
 
 -- the upper end of the first segment is the sum of the normal walk, and its lower end is not above it
-first_passes : (net : PricedNetwork) (known : Known) (upper lower cost slope : ℕ) → known.parts ≡ 0 → first_failing (conditions net known (Segment upper lower cost slope)) ≡ None → (sum_of known.normal ≡ upper) × (lower ≤ upper)
+first_passes : (net : PricedNetwork) (known : Known) (upper lower cost slope : ℕ) → known.parts ≡ 0 →
+    first_failing (conditions net known (Segment upper lower cost slope)) ≡ None → (sum_of known.normal ≡ upper) × (lower ≤ upper)
 first_passes net known upper lower cost slope none h =
     (through_sum net upper known.normal (first_walk net known upper lower cost slope none h), (first_ends net known upper lower cost slope none h).0)
 
@@ -90,7 +98,8 @@ later_passes : (net : PricedNetwork) (known : Known) (upper lower cost slope : �
 later_passes net known upper lower cost slope some h =
     let ends = later_ends net known upper lower cost slope some h in omega (arith, ends.0, ends.2)
 
-act_passes : (net : PricedNetwork) (known : Known) (code : List ℕ) (duration : ℕ) (flows : List ℕ) → first_failing (conditions net known (Act code duration flows)) ≡ None → known.acts < length net.network.arcs
+act_passes : (net : PricedNetwork) (known : Known) (code : List ℕ) (duration : ℕ) (flows : List ℕ) →
+    first_failing (conditions net known (Act code duration flows)) ≡ None → known.acts < length net.network.arcs
 act_passes net known code duration flows h =
     ltb-true _ _ ((and_parts _ _ ((and_parts _ _ ((holds_first _ _ _ h).0)).0)).0)
 
@@ -108,7 +117,9 @@ nowhere : (behind : Place) → None ≡ Some behind → ⊥
 nowhere behind e = absurd cc
 
 -- a segment has begun
-begun_part : (net : PricedNetwork) (shape : Shape) (upper lower cost slope : ℕ) (new : Kept) → IsShaped net.network.events (length net.network.arcs) shape → lower ≤ longest_walk net.network.events → IsBegun upper lower cost slope new.tally → IsInPart net.network.events (length net.network.arcs) shape.events shape.activities new
+begun_part : (net : PricedNetwork) (shape : Shape) (upper lower cost slope : ℕ) (new : Kept) →
+    IsShaped net.network.events (length net.network.arcs) shape → lower ≤ longest_walk net.network.events →
+    IsBegun upper lower cost slope new.tally → IsInPart net.network.events (length net.network.arcs) shape.events shape.activities new
 begun_part net shape upper lower cost slope new shaped low begun = record {
   low = omega (arith, low, begun.lower);
   events_come = omega (arith, shaped.events, ap length begun.times);
@@ -214,8 +225,18 @@ at_place net (InSegment shape events activities) Close behind old new h goes pas
     let step = cond_some _ _ _ goes in
     let none : events ≡ 0 = eqb-true _ _ ((and_parts _ _ (step.0)).0) in
     let no_more : activities ≡ 0 = eqb-true _ _ ((and_parts _ _ (step.0)).1) in
-    let part : IsInPart net.network.events (length net.network.arcs) 0 0 old = record { low = h.1.low; events_come = omega (arith, none, h.1.events_come); acts_come = omega (arith, no_more, h.1.acts_come); events_first = λ more. absurd (omega arith) } in
-    carry net.network.events (length net.network.arcs) (h.0, record { low = part.low; events_come = part.events_come; acts_come = part.acts_come; events_first = part.events_first }, omega arith) (ap Some (step.1)) added
+    let part : IsInPart net.network.events (length net.network.arcs) 0 0 old =
+    record {
+      low = h.1.low;
+      events_come = omega (arith, none, h.1.events_come);
+      acts_come = omega (arith, no_more, h.1.acts_come);
+      events_first = λ more. absurd (omega arith);
+    } in
+    carry net.network.events (length net.network.arcs) (
+      h.0,
+      record { low = part.low; events_come = part.events_come; acts_come = part.acts_come; events_first = part.events_first },
+      omega arith,
+    ) (ap Some (step.1)) added
 at_place net place line behind old new h goes passes added = absurd (nowhere behind goes)
 
 -- ---- how many lines may still come
@@ -247,11 +268,24 @@ fewer_lines net (CrashWalk shape steps) (Step code) behind old new h goes passes
 fewer_lines net (CrashWalk shape steps) (Segment upper lower cost slope) behind old new h goes passes added =
     let ends = first_passes net (known_by old) upper lower cost slope h.1.none passes in
     let low : new.tally.lower < longest_walk net.network.events + 1 = omega (arith, ends.0, ends.1, h.1.whole, added.1.lower) in
-    less net.network.events (length net.network.arcs) new goes (omega (arith, lines_below-less net.network.events (length net.network.arcs) new.tally.lower (longest_walk net.network.events + 1) low, h.0.events, h.0.activities))
+    less net.network.events (length net.network.arcs) new goes
+    (omega (
+      arith,
+      lines_below-less net.network.events (length net.network.arcs) new.tally.lower
+          (longest_walk net.network.events + 1) low,
+      h.0.events,
+      h.0.activities,
+    ))
 fewer_lines net (Between shape) (Segment upper lower cost slope) behind old new h goes passes added =
     let below = later_passes net (known_by old) upper lower cost slope (h.2) passes in
     let low : new.tally.lower < old.tally.lower = omega (arith, below, added.1.lower) in
-    less net.network.events (length net.network.arcs) new goes (omega (arith, lines_below-less net.network.events (length net.network.arcs) new.tally.lower old.tally.lower low, h.0.events, h.0.activities))
+    less net.network.events (length net.network.arcs) new goes
+    (omega (
+      arith,
+      lines_below-less net.network.events (length net.network.arcs) new.tally.lower old.tally.lower low,
+      h.0.events,
+      h.0.activities,
+    ))
 fewer_lines net (Between shape) End behind old new h goes passes added =
     less net.network.events (length net.network.arcs) new goes (omega arith)
 fewer_lines net (InSegment shape events activities) (Event code time moves) behind old new h goes passes added =
@@ -290,7 +324,8 @@ parts_kept net (Act code duration flows) old new added = (omega (arith, ap (λ k
 parts_kept net Close old new added = (omega (arith, ap (λ k. k.parts) added), ap (λ k. k.lines) added)
 parts_kept net End old new added = (omega (arith, ap (λ k. k.parts) added), ap (λ k. k.lines) added)
 
-moves_kept : (net : PricedNetwork) (line : CertLine) (old new : Kept) → Adds net line old new → length old.tally.moves.items ≡ length old.tally.times.items → length new.tally.moves.items ≡ length new.tally.times.items
+moves_kept : (net : PricedNetwork) (line : CertLine) (old new : Kept) → Adds net line old new →
+    length old.tally.moves.items ≡ length old.tally.times.items → length new.tally.moves.items ≡ length new.tally.times.items
 moves_kept net (Head version project events activities) old new added h = ap (λ k. length k.tally.moves.items) added ∙ h ∙ ap (λ k. length k.tally.times.items) (sym added)
 moves_kept net Normal old new added h = ap (λ k. length k.tally.moves.items) added ∙ h ∙ ap (λ k. length k.tally.times.items) (sym added)
 moves_kept net (Step code) old new added h = ap (λ k. length k.tally.moves.items) added.rest ∙ h ∙ ap (λ k. length k.tally.times.items) (sym added.rest)
@@ -311,7 +346,8 @@ pub record Passes (net : PricedNetwork) (line : CertLine) (old : Kept) (behind :
   pub passes : first_failing (conditions net (known_by old) line) ≡ None
 
 -- what is kept to is kept to behind the line, and fewer lines may come
-pub bounded_behind : {net : PricedNetwork} {line : CertLine} {old : Kept} {behind : Place} (between : Kept) → IsBounded net old → Passes net line old behind → Adds net line old between → IsBounded net (moved_on between behind)
+pub bounded_behind : {net : PricedNetwork} {line : CertLine} {old : Kept} {behind : Place} (between : Kept) → IsBounded net old →
+    Passes net line old behind → Adds net line old between → IsBounded net (moved_on between behind)
 bounded_behind {net} {line} {old} {behind} between h p added =
     let fewer = fewer_lines net old.place line behind old between h.place p.goes p.passes added in
     let kept = parts_kept net line old between added in
@@ -322,14 +358,17 @@ bounded_behind {net} {line} {old} {behind} between h p added =
       moves = moves_kept net line old between added h.moves;
     }
 
-pub fewer_behind : {net : PricedNetwork} {line : CertLine} {old : Kept} {behind : Place} (between : Kept) → IsBounded net old → Passes net line old behind → Adds net line old between → lines_left net (moved_on between behind) < lines_left net old
+pub fewer_behind : {net : PricedNetwork} {line : CertLine} {old : Kept} {behind : Place} (between : Kept) → IsBounded net old →
+    Passes net line old behind → Adds net line old between → lines_left net (moved_on between behind) < lines_left net old
 fewer_behind {net} {line} {old} {behind} between h p added = fewer_lines net old.place line behind old between h.place p.goes p.passes added
 
 -- the count of lines has room
 pub lines_few : {net : PricedNetwork} {kept : Kept} → IsBounded net kept → net.network.events ≤ MAX_EVENTS → length net.network.arcs ≤ MAX_ACTIVITIES → kept.lines < 2 ^ 63
 lines_few {net} {kept} h few_events few_acts = omega (arith, h.lines, all_few net.network.events (length net.network.arcs) few_events few_acts)
 
-walk_has_room : (n m : ℕ) (place : Place) (code : List ℕ) (behind : Place) (old : Kept) → IsAtPlace n m place old → next place (Step code) ≡ Some behind → n ≤ MAX_EVENTS → (sum_of old.normal + MAX_DURATION < 2 ^ 64) × (sum_of old.crash + MAX_DURATION < 2 ^ 64)
+walk_has_room : (n m : ℕ) (place : Place) (code : List ℕ) (behind : Place) (old : Kept) → IsAtPlace n m place old →
+    next place (Step code) ≡ Some behind → n ≤ MAX_EVENTS →
+    (sum_of old.normal + MAX_DURATION < 2 ^ 64) × (sum_of old.crash + MAX_DURATION < 2 ^ 64)
 walk_has_room n m (NormalWalk shape steps) code behind old h goes few = (omega (arith, h.1.short), omega (arith, h.1.nothing))
 walk_has_room n m (CrashWalk shape steps) code behind old h goes few = (omega (arith, h.1.whole), omega (arith, h.1.short))
 walk_has_room n m Start code behind old h goes few = absurd (nowhere behind goes)
@@ -339,7 +378,8 @@ walk_has_room n m (Between shape) code behind old h goes few = absurd (nowhere b
 walk_has_room n m Ended code behind old h goes few = absurd (nowhere behind goes)
 
 -- a line that is allowed and does not fail can be added
-pub may_be_added : (net : PricedNetwork) (line : CertLine) (old : Kept) (behind : Place) → IsBounded net old → Passes net line old behind → net.network.events ≤ MAX_EVENTS → length net.network.arcs ≤ MAX_ACTIVITIES → MayBeAdded net line old
+pub may_be_added : (net : PricedNetwork) (line : CertLine) (old : Kept) (behind : Place) → IsBounded net old → Passes net line old behind →
+    net.network.events ≤ MAX_EVENTS → length net.network.arcs ≤ MAX_ACTIVITIES → MayBeAdded net line old
 may_be_added net (Step code) old behind h p few_events few_acts = walk_has_room net.network.events (length net.network.arcs) old.place code behind old h.place p.goes few_events
 may_be_added net (Event code time moves) old behind h p few_events few_acts =
     let room = event_passes net (known_by old) code time moves p.passes in
@@ -353,7 +393,8 @@ may_be_added net (Segment upper lower cost slope) old behind h p few_events few_
 may_be_added net End old behind h p few_events few_acts = tt
 
 -- the events of a segment come before its activities
-pub event_first : (net : PricedNetwork) (place : Place) (code : List ℕ) (time : ℕ) (moves : Bool) (behind : Place) (old : Kept) → IsAtPlace net.network.events (length net.network.arcs) place old → next place (Event code time moves) ≡ Some behind → old.tally.acts ≡ 0
+pub event_first : (net : PricedNetwork) (place : Place) (code : List ℕ) (time : ℕ) (moves : Bool) (behind : Place) (old : Kept) →
+    IsAtPlace net.network.events (length net.network.arcs) place old → next place (Event code time moves) ≡ Some behind → old.tally.acts ≡ 0
 event_first net (InSegment shape events activities) code time moves behind old h goes =
     h.1.events_first (ltb-true 0 events ((cond_some _ _ _ goes).0))
 event_first net Start code time moves behind old h goes = absurd (nowhere behind goes)
@@ -364,7 +405,9 @@ event_first net (Between shape) code time moves behind old h goes = absurd (nowh
 event_first net Ended code time moves behind old h goes = absurd (nowhere behind goes)
 
 -- a segment ends behind all its activities
-pub all_come : (net : PricedNetwork) (place behind : Place) (old : Kept) → IsAtPlace net.network.events (length net.network.arcs) place old → next place Close ≡ Some behind → old.tally.acts ≡ length net.network.arcs
+pub all_come : (net : PricedNetwork) (place behind : Place) (old : Kept) →
+    IsAtPlace net.network.events (length net.network.arcs) place old → next place Close ≡ Some behind →
+    old.tally.acts ≡ length net.network.arcs
 all_come net (InSegment shape events activities) behind old h goes =
     let no_more : activities ≡ 0 = eqb-true _ _ ((and_parts _ _ ((cond_some _ _ _ goes).0)).1) in
     omega (arith, no_more, h.1.acts_come)

@@ -27,7 +27,8 @@ rises_if-list knees a list are counts is head h tail t same_counts same_head sam
     ∙ rises_over-list knees a list are h t)
 
 -- whether the activity stops
-pub stops-list : {seg : Segment} {crossing : Crossing} (net : PricedNetwork) (a : ℕ) (list : List Knee) → AreKneesOf (knees_in net) a list → IsCrossing net.network.arcs seg a crossing → stops_over crossing (crash_of net.terms a) list ≡ stops_in net seg a
+pub stops-list : {seg : Segment} {crossing : Crossing} (net : PricedNetwork) (a : ℕ) (list : List Knee) → AreKneesOf (knees_in net) a list →
+    IsCrossing net.network.arcs seg a crossing → stops_over crossing (crash_of net.terms a) list ≡ stops_in net seg a
 stops-list {seg} {crossing} net a list are is =
     let at_knee = some-list (knees_in net) a list are (stops_at_knee_over crossing) in
     let same : some_below ((knees_in net).count a) (λ k. stops_at_knee_over crossing ((knees_in net).knee a k)) ≡ some_below ((knees_in net).count a) (stops_at_knee_in net seg a) =

@@ -30,7 +30,9 @@ begun audit piece going read = record {
 }
 
 -- one more line, or the rest, is used
-pub more : {before now : Auditing} {piece rest : List ℕ} (new : Auditing) (used : ℕ) → IsFeeding before now piece rest → IsGoing new → new.checker.net ≡ now.checker.net → ((text : List ℕ) → HasRead text now → HasRead (text ++ take used rest) new) → bytes_left new < bytes_left now → IsFeeding before new piece (drop used rest)
+pub more : {before now : Auditing} {piece rest : List ℕ} (new : Auditing) (used : ℕ) → IsFeeding before now piece rest → IsGoing new →
+    new.checker.net ≡ now.checker.net → ((text : List ℕ) → HasRead text now → HasRead (text ++ take used rest) new) →
+    bytes_left new < bytes_left now → IsFeeding before new piece (drop used rest)
 more {before} {now} {piece} {rest} new used h going net goes_on less = record {
   front = h.front ++ take used rest;
   whole = h.whole ∙ ap (λ t. h.front ++ t) (sym (take-append-drop used rest)) ∙ sym (append_assoc h.front (take used rest) (drop used rest));
@@ -43,7 +45,9 @@ more {before} {now} {piece} {rest} new used h going net goes_on less = record {
 }
 
 -- a failure in the rest is one of the text
-pub fails_in_rest : {before now : Auditing} {piece rest : List ℕ} (fail : Fail) → IsFeeding before now piece rest → ((text more : List ℕ) → HasRead text now → IsFailing now.checker.net (text ++ (rest ++ more)) fail) → (text more : List ℕ) → HasRead text before → IsFailing before.checker.net (text ++ (piece ++ more)) fail
+pub fails_in_rest : {before now : Auditing} {piece rest : List ℕ} (fail : Fail) → IsFeeding before now piece rest →
+    ((text more : List ℕ) → HasRead text now → IsFailing now.checker.net (text ++ (rest ++ more)) fail) → (text more : List ℕ) →
+    HasRead text before → IsFailing before.checker.net (text ++ (piece ++ more)) fail
 fails_in_rest {before} {now} {piece} {rest} fail h fails text more read =
     let found = fails (text ++ h.front) more (h.goes_on text read) in
     let same : (text ++ h.front) ++ (rest ++ more) ≡ text ++ (piece ++ more) =

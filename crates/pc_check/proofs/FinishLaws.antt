@@ -11,7 +11,9 @@ use Rattle.pc_check.specs.inside.Checking.{Checking, StandsFor}
 use Rattle.pc_check.proofs.TakeLaws.{is_going, when_none}
 use Rattle.pc_check.proofs.GoodLines.{curve_of}
 
-pub curve_at_yes : (s : Checking) (lines : List CertLine) → s.fail ≡ None → IfNone s.fail (s.kept.place ≡ Ended) → IsPriced s.net.network s.net.terms (knees_in s.net) → length s.net.activities ≡ length s.net.network.arcs → StandsFor s lines → AreCurve s.net (segments_of s.net lines)
+pub curve_at_yes : (s : Checking) (lines : List CertLine) → s.fail ≡ None → IfNone s.fail (s.kept.place ≡ Ended) →
+    IsPriced s.net.network s.net.terms (knees_in s.net) → length s.net.activities ≡ length s.net.network.arcs → StandsFor s lines →
+    AreCurve s.net (segments_of s.net lines)
 curve_at_yes s lines none ended priced named h =
     let going = is_going s.net s.kept s.fail lines none h in
     curve_of s.net lines priced named (record { whole = going.order ∙ ap Some (when_none s.fail none ended); none = going.none })

@@ -14,13 +14,17 @@ pub record AreFirst (net : PricedNetwork) (fronts : List EventFront) (count : �
   pub long : length fronts ≡ count
   pub each : (e : ℕ) → e < count → IsFrontOf (code_at net.events e) (front_at fronts e)
 
-pub first_more : {net : PricedNetwork} {fronts : List EventFront} {count : ℕ} (front : EventFront) → AreFirst net fronts count → IsFrontOf (code_at net.events count) front → AreFirst net (fronts ++ front ∷ []) (count + 1)
+pub first_more : {net : PricedNetwork} {fronts : List EventFront} {count : ℕ} (front : EventFront) → AreFirst net fronts count →
+    IsFrontOf (code_at net.events count) front → AreFirst net (fronts ++ front ∷ []) (count + 1)
 first_more {net} {fronts} {count} front are is = record {
   long = omega (arith, length-append fronts (front ∷ []), are.long);
   each = λ e below. ⊎_elim
       (λ here. subst (λ n. IsFrontOf (code_at net.events n) (front_at (fronts ++ front ∷ []) n)) (are.long ∙ sym here)
-      (subst (IsFrontOf (code_at net.events (length fronts))) (sym (get_or-append_seam fronts front [] (record { code = []; cells = [] }))) (subst (λ n. IsFrontOf (code_at net.events n) front) (sym are.long) is)))
-      (λ other. subst (IsFrontOf (code_at net.events e)) (sym (get_or-append fronts (front ∷ []) (record { code = []; cells = [] }) e (omega (arith, below, other, are.long)))) (are.each e (omega (arith, below, other))))
+      (subst (IsFrontOf (code_at net.events (length fronts))) (sym (get_or-append_seam fronts front [] (record { code = []; cells = [] })))
+      (subst (λ n. IsFrontOf (code_at net.events n) front) (sym are.long) is)))
+      (λ other. subst (IsFrontOf (code_at net.events e))
+      (sym (get_or-append fronts (front ∷ []) (record { code = []; cells = [] }) e (omega (arith, below, other, are.long))))
+      (are.each e (omega (arith, below, other))))
       (cases_eq e count);
 }
 

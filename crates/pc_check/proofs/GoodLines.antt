@@ -98,7 +98,8 @@ parts_step draft code false = refl
 begun_rows : (net : PricedNetwork) (first : Bool) (upper lower cost slope : ℕ) → HasOrderedEnds (begun_part upper lower cost slope) → HasRightRows net first (begun_part upper lower cost slope)
 begun_rows net first upper lower cost slope ends = record { ends = ends; events = λ e lt. absurd (omega arith); acts = λ a lt. absurd (omega arith) }
 
-begun : (net : PricedNetwork) (shape : Shape) (draft : Draft) (upper lower cost slope : ℕ) → IsShaped net.network.events (length net.network.arcs) shape → HasOrderedEnds (begun_part upper lower cost slope)
+begun : (net : PricedNetwork) (shape : Shape) (draft : Draft) (upper lower cost slope : ℕ) →
+    IsShaped net.network.events (length net.network.arcs) shape → HasOrderedEnds (begun_part upper lower cost slope)
     → (IsFirstPart net (record draft { part = begun_part upper lower cost slope }) ⊎ IsLaterPart net (record draft { part = begun_part upper lower cost slope }))
     → IsInGood net shape.events shape.activities (record draft { part = begun_part upper lower cost slope })
 begun net shape draft upper lower cost slope shaped ends before = record {
@@ -109,8 +110,15 @@ begun net shape draft upper lower cost slope shaped ends before = record {
   before = before;
 }
 
-first_in : (net : PricedNetwork) (draft : Draft) (part : Part) → part.upper ≡ draft.part.upper → part.lower ≡ draft.part.lower → (IsFirstPart net draft ⊎ IsLaterPart net draft) → (IsFirstPart net (record draft { part = part }) ⊎ IsLaterPart net (record draft { part = part }))
-first_in net draft part upper lower (inl h) = inl (record { none = h.none; walk = subst (λ u. IsSumOfWalk net.network.arcs (normals net.terms) net.network.start net.network.end u) (sym upper) h.walk })
+first_in : (net : PricedNetwork) (draft : Draft) (part : Part) → part.upper ≡ draft.part.upper → part.lower ≡ draft.part.lower →
+    (IsFirstPart net draft ⊎ IsLaterPart net draft) →
+    (IsFirstPart net (record draft { part = part }) ⊎ IsLaterPart net (record draft { part = part }))
+first_in net draft part upper lower (inl h) =
+    inl (record {
+      none = h.none;
+      walk = subst (λ u. IsSumOfWalk net.network.arcs (normals net.terms) net.network.start net.network.end u)
+          (sym upper) h.walk;
+    })
 first_in net draft part upper lower (inr h) = inr (record {
   some = h.some;
   high = h.high;
@@ -120,7 +128,8 @@ first_in net draft part upper lower (inr h) = inr (record {
 })
 
 -- an event comes
-event_comes : (net : PricedNetwork) (first : Bool) (part : Part) (row : EventRow) → length part.acts ≡ 0 → HasRightRows net first part → IsRightEvent net.network part.upper part.lower (length part.events) row → HasRightRows net first (with_event part row)
+event_comes : (net : PricedNetwork) (first : Bool) (part : Part) (row : EventRow) → length part.acts ≡ 0 → HasRightRows net first part →
+    IsRightEvent net.network part.upper part.lower (length part.events) row → HasRightRows net first (with_event part row)
 event_comes net first part row none rows right = record {
   ends = record { ordered = rows.ends.ordered; flat = rows.ends.flat };
   events = λ e lt. elim (cases_eq e (length part.events)) [
@@ -134,7 +143,8 @@ event_comes net first part row none rows right = record {
 }
 
 -- an activity comes
-act_comes : (net : PricedNetwork) (first : Bool) (part : Part) (row : ActRow) → HasRightRows net first part → IsRightAct net first (outline part) (length part.acts) row → HasRightRows net first (with_act part row)
+act_comes : (net : PricedNetwork) (first : Bool) (part : Part) (row : ActRow) → HasRightRows net first part →
+    IsRightAct net first (outline part) (length part.acts) row → HasRightRows net first (with_act part row)
 act_comes net first part row rows right = record {
   ends = record { ordered = rows.ends.ordered; flat = rows.ends.flat };
   events = rows.events;
@@ -148,9 +158,14 @@ act_comes net first part row rows right = record {
 }
 
 -- a segment ends
-front_after : (net : PricedNetwork) (draft : Draft) → IsKnown net → HasRightRows net (length draft.parts == 0) draft.part → IsWhole net draft.part → IsSegment net.network net.terms (knees_in net) (segment_in net draft.part) → (IsFirstPart net draft ⊎ IsLaterPart net draft) → IsBehindGood net (record draft { parts = draft.parts ++ draft.part ∷ [] })
+front_after : (net : PricedNetwork) (draft : Draft) → IsKnown net → HasRightRows net (length draft.parts == 0) draft.part →
+    IsWhole net draft.part → IsSegment net.network net.terms (knees_in net) (segment_in net draft.part) →
+    (IsFirstPart net draft ⊎ IsLaterPart net draft) → IsBehindGood net (record draft { parts = draft.parts ++ draft.part ∷ [] })
 front_after net draft known rows whole segment (inl h) =
-    let normal : (a : ℕ) → a < length net.network.arcs → (segment_in net draft.part).duration a ≡ normal_of net.terms a = λ a lt. (rows.acts a (omega (arith, lt, whole.all_acts))).normal (eq-eqb (length draft.parts) 0 (ap length h.none)) in
+    let normal : (a : ℕ) → a < length net.network.arcs →
+    (segment_in net draft.part).duration a
+    ≡ normal_of net.terms a = λ a lt. (rows.acts a (omega (arith, lt, whole.all_acts))).normal
+    (eq-eqb (length draft.parts) 0 (ap length h.none)) in
     let front = front_begins net.network net.terms (knees_in net) (segment_in net draft.part) segment normal h.walk in
     record {
       some = omega (arith, length-append draft.parts (draft.part ∷ []));
@@ -169,7 +184,8 @@ front_after net draft known rows whole segment (inr h) =
 
 -- ---- one line
 
-good_line : (net : PricedNetwork) (place : Place) (line : CertLine) (behind : Place) (draft : Draft) → IsKnown net → IsGood net place draft → next place line ≡ Some behind → reason_at net draft line ≡ None → IsGood net behind (with_line draft line)
+good_line : (net : PricedNetwork) (place : Place) (line : CertLine) (behind : Place) (draft : Draft) → IsKnown net →
+    IsGood net place draft → next place line ≡ Some behind → reason_at net draft line ≡ None → IsGood net behind (with_line draft line)
 good_line net Start (Head version project events activities) behind draft known h goes passes =
     let is = head_passes net (said net draft) version project events activities passes in
     carry net draft (record { events = is.0; activities = is.1 }, h) goes
@@ -183,7 +199,11 @@ good_line net (CrashWalk shape steps) (SegmentLine upper lower cost slope) behin
     let none : length draft.parts ≡ 0 = ap length (h.1) in
     let walk = normal_walk net draft.normal upper known.named (first_walk net (said net draft) upper lower cost slope none passes) in
     let ends = first_ends net (said net draft) upper lower cost slope none passes in
-    carry net (record draft { part = begun_part upper lower cost slope }) (h.0, begun net shape draft upper lower cost slope (h.0) (record { ordered = ends.0; flat = ends.1 }) (inl (record { none = h.1; walk = walk }))) goes
+    carry net (record draft { part = begun_part upper lower cost slope }) (
+      h.0,
+      begun net shape draft upper lower cost slope (h.0) (record { ordered = ends.0; flat = ends.1 })
+          (inl (record { none = h.1; walk = walk })),
+    ) goes
 good_line net (Between shape) (SegmentLine upper lower cost slope) behind draft known h goes passes =
     let ends = later_ends net (said net draft) upper lower cost slope h.1.some passes in
     let joins : upper ≡ draft.part.lower = ends.0 in
@@ -247,7 +267,9 @@ pub none_parts : (number : ℕ) (reason : Option ℕ) (later : Option Fail) → 
 none_parts number None later h = (refl, h)
 none_parts number (Some reason) later h = absurd cc
 
-good_lines : (net : PricedNetwork) (place : Place) (lines : List CertLine) (behind : Place) (draft : Draft) (number : ℕ) → IsKnown net → IsGood net place draft → ran place lines ≡ Some behind → failure_after net draft number lines ≡ None → IsGood net behind (fold with_line draft lines)
+good_lines : (net : PricedNetwork) (place : Place) (lines : List CertLine) (behind : Place) (draft : Draft) (number : ℕ) → IsKnown net →
+    IsGood net place draft → ran place lines ≡ Some behind → failure_after net draft number lines ≡ None →
+    IsGood net behind (fold with_line draft lines)
 good_lines net place [] behind draft number known h goes passes = carry net draft h goes
 good_lines net place (line ∷ lines) behind draft number known h goes passes =
     let step = bind_some (next place line) (λ p. ran p lines) behind goes in
@@ -259,7 +281,8 @@ covering_of : (net : PricedNetwork) (lines : List CertLine) → IsKnown net → 
 covering_of net lines known certified = good_lines net Start lines Ended empty_draft 1 known refl certified.whole certified.none
 
 -- and these are the whole curve
-pub curve_of : (net : PricedNetwork) (lines : List CertLine) → IsPriced net.network net.terms (knees_in net) → length net.activities ≡ length net.network.arcs → AreCertified net lines → AreCurve net (segments_of net lines)
+pub curve_of : (net : PricedNetwork) (lines : List CertLine) → IsPriced net.network net.terms (knees_in net) →
+    length net.activities ≡ length net.network.arcs → AreCertified net lines → AreCurve net (segments_of net lines)
 curve_of net lines priced named certified =
     let good = covering_of net lines (record { priced = priced; named = named }) certified in
     let front = good.covering.front in

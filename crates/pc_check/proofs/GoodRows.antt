@@ -32,7 +32,8 @@ pub record IsRightAct (net : PricedNetwork) (first : Bool) (seg : Segment) (a : 
   pub normal : first ≡ true → row.duration ≡ normal_of net.terms a
   pub capacity : (k : ℕ) → k < (knees_in net).count a → slice_index row.flows k ≤ (knees_in net).rise a k
   pub slack_upper : IsSlack net.terms (knees_in net) a (tail_at net.network.arcs seg 0 a) (head_at net.network.arcs seg 0 a) (slice_index row.flows) (slice_index row.flows ((knees_in net).count a))
-  pub slack_lower : IsSlack net.terms (knees_in net) a (tail_at net.network.arcs seg (span seg) a) (head_at net.network.arcs seg (span seg) a) (slice_index row.flows) (slice_index row.flows ((knees_in net).count a))
+  pub slack_lower : IsSlack net.terms (knees_in net) a (tail_at net.network.arcs seg (span seg) a)
+      (head_at net.network.arcs seg (span seg) a) (slice_index row.flows) (slice_index row.flows ((knees_in net).count a))
   pub still : seg.upper ≡ seg.lower → (k : ℕ) → k < (knees_in net).count a + 1 → slice_index row.flows k ≡ 0
 
 unless : (b other : Bool) → (not b || other) ≡ true → b ≡ true → other ≡ true
@@ -53,14 +54,17 @@ either true b h no_b = refl
 either false b h no_b = absurd cc
 
 -- what the conditions at an EVENT line show
-pub right_event : (net : PricedNetwork) (known : Known) (code : List ℕ) (time : ℕ) (moves : Bool) → first_failing (conditions net known (Event code time moves)) ≡ None → IsRightEvent net.network known.upper known.lower known.events (record { code = code; time = time; moves = moves })
+pub right_event : (net : PricedNetwork) (known : Known) (code : List ℕ) (time : ℕ) (moves : Bool) →
+    first_failing (conditions net known (Event code time moves)) ≡ None →
+    IsRightEvent net.network known.upper known.lower known.events (record { code = code; time = time; moves = moves })
 right_event net known code time moves h =
     let four = holds_first _ _ _ h in
     let five = holds_first _ _ _ (four.1) in
     let rests = (holds_first _ _ _ (five.1)).0 in
     let ends = and_parts _ _ (five.0) in
     let start = λ (is : known.events ≡ net.network.start). and_parts (time == 0) (not moves) (unless (known.events == net.network.start) _ (ends.0) (eq-eqb known.events net.network.start is)) in
-    let end = λ (is : known.events ≡ net.network.end). and_parts (time == known.upper) (moves || is_one_length known) (unless (known.events == net.network.end) _ (ends.1) (eq-eqb known.events net.network.end is)) in
+    let end = λ (is : known.events ≡ net.network.end). and_parts (time == known.upper) (moves || is_one_length known)
+    (unless (known.events == net.network.end) _ (ends.1) (eq-eqb known.events net.network.end is)) in
     record {
       start_time = λ is. eqb-true time 0 ((start is).0);
       start_rests = λ is. not_true moves ((start is).1);
@@ -77,16 +81,21 @@ slack_at_knee head tail knee rise flow h =
       below = λ lt. eqb-true flow rise (unless (nat_lt head (tail + knee)) (flow == rise) (both.1) (lt-ltb head (tail + knee) lt));
     }
 
-slack_from : (net : PricedNetwork) (head tail a : ℕ) (flows : List ℕ) → is_slack_in net head tail a flows ≡ true → IsSlack net.terms (knees_in net) a tail head (slice_index flows) (slice_index flows ((knees_in net).count a))
+slack_from : (net : PricedNetwork) (head tail a : ℕ) (flows : List ℕ) → is_slack_in net head tail a flows ≡ true →
+    IsSlack net.terms (knees_in net) a tail head (slice_index flows) (slice_index flows ((knees_in net).count a))
 slack_from net head tail a flows h =
     let both = and_parts _ _ h in
     record {
-      at_knees = λ k lt. slack_at_knee head tail ((knees_in net).knee a k) ((knees_in net).rise a k) (slice_index flows k) (each_below-at ((knees_in net).count a) (λ k. is_slack_at_knee head tail ((knees_in net).knee a k) ((knees_in net).rise a k) (slice_index flows k)) k (both.0) lt);
+      at_knees = λ k lt. slack_at_knee head tail ((knees_in net).knee a k) ((knees_in net).rise a k) (slice_index flows k)
+          (each_below-at ((knees_in net).count a)
+          (λ k. is_slack_at_knee head tail ((knees_in net).knee a k) ((knees_in net).rise a k) (slice_index flows k)) k (both.0) lt);
       above_crash = λ lt. eqb-true (slice_index flows ((knees_in net).count a)) 0 (unless (nat_lt (tail + crash_of net.terms a) head) _ (both.1) (lt-ltb (tail + crash_of net.terms a) head lt));
     }
 
 -- what the conditions at an ACT line show
-pub right_act : (net : PricedNetwork) (known : Known) (code : List ℕ) (duration : ℕ) (flows : List ℕ) → first_failing (conditions net known (Act code duration flows)) ≡ None → IsRightAct net (known.parts == 0) (frame known) known.acts (record { code = code; duration = duration; flows = flows })
+pub right_act : (net : PricedNetwork) (known : Known) (code : List ℕ) (duration : ℕ) (flows : List ℕ) →
+    first_failing (conditions net known (Act code duration flows)) ≡ None →
+    IsRightAct net (known.parts == 0) (frame known) known.acts (record { code = code; duration = duration; flows = flows })
 right_act net known code duration flows h =
     let four = holds_first _ _ _ h in
     let six = holds_first _ _ _ (four.1) in
@@ -107,5 +116,7 @@ right_act net known code duration flows h =
       capacity = λ k lt. leb-true (slice_index flows k) ((knees_in net).rise a k) (each_below-at ((knees_in net).count a) (λ k. nat_le (slice_index flows k) ((knees_in net).rise a k)) k (eight.0) lt);
       slack_upper = slack_from net (head_at net.network.arcs seg 0 a) (tail_at net.network.arcs seg 0 a) a flows (slack.0);
       slack_lower = slack_from net (head_at net.network.arcs seg (span seg) a) (tail_at net.network.arcs seg (span seg) a) a flows (slack.1);
-      still = λ same k lt. eqb-true (slice_index flows k) 0 (each_below-at ((knees_in net).count a + 1) (λ k. slice_index flows k == 0) k (unless (is_one_length known) _ fifteen (eq-eqb known.upper known.lower same)) lt);
+      still = λ same k lt. eqb-true (slice_index flows k) 0
+          (each_below-at ((knees_in net).count a + 1) (λ k. slice_index flows k == 0) k
+          (unless (is_one_length known) _ fifteen (eq-eqb known.upper known.lower same)) lt);
     }

@@ -61,7 +61,9 @@ closes net known h =
     record {
       conserved = λ e lt not_start not_end.
           let here = each_below-at net.network.events (λ e. e == net.network.start || (e == net.network.end || known.inflow e == known.outflow e)) e (nine.0) lt in
-          eqb-true (known.inflow e) (known.outflow e) (otherwise (e == net.network.end) _ (otherwise (e == net.network.start) _ here (ne_eqb e net.network.start not_start)) (ne_eqb e net.network.end not_end));
+          eqb-true (known.inflow e) (known.outflow e)
+          (otherwise (e == net.network.end) _ (otherwise (e == net.network.start) _ here (ne_eqb e net.network.start not_start))
+          (ne_eqb e net.network.end not_end));
       leaves = eqb-true (known.outflow net.network.start) known.slope (ten.0);
       costs = eqb-true known.spent known.cost (twelve.0);
       cut = λ below. eqb-true known.forward (known.backward + known.slope) (otherwise (known.upper == known.lower) _ (thirteen.0) (apart known below));
@@ -81,7 +83,8 @@ stops_so net seg a lt h = elim (or_parts _ _ h) [
       ]
 ]
 
-flow_at-whole : (net : PricedNetwork) (part : Part) (place : ℕ → ℕ) (e : ℕ) → length part.acts ≡ length net.network.arcs → e < net.network.events → flow_at net part place e ≡ at_event (length net.network.arcs) place (flow_along net part) e
+flow_at-whole : (net : PricedNetwork) (part : Part) (place : ℕ → ℕ) (e : ℕ) → length part.acts ≡ length net.network.arcs →
+    e < net.network.events → flow_at net part place e ≡ at_event (length net.network.arcs) place (flow_along net part) e
 flow_at-whole net part place e all lt =
     ap (λ b. cond b (at_event (length part.acts) place (flow_along net part) e) 0) (lt-ltb e net.network.events lt)
     ∙ ap (λ m. at_event m place (flow_along net part) e) all
@@ -90,7 +93,8 @@ gained : (f b s : ℕ) → f ≡ b + s → pos f -ℤ pos b ≡ pos s
 gained f b s h = omega (arith, ints)
 
 -- a part whose rows are right and whose end does not fail is a whole segment
-pub whole_segment : (net : PricedNetwork) (first : Bool) (draft : Draft) → IsPriced net.network net.terms (knees_in net) → HasRightRows net first draft.part → IsWhole net draft.part → first_failing (conditions net (said net draft) Close) ≡ None
+pub whole_segment : (net : PricedNetwork) (first : Bool) (draft : Draft) → IsPriced net.network net.terms (knees_in net) →
+    HasRightRows net first draft.part → IsWhole net draft.part → first_failing (conditions net (said net draft) Close) ≡ None
     → IsSegment net.network net.terms (knees_in net) (segment_in net draft.part)
 whole_segment net first draft priced rows whole h =
     let part = draft.part in
@@ -106,7 +110,8 @@ whole_segment net first draft priced rows whole h =
         room_at_lower = λ a lt. (act a lt).room_lower;
         durations = λ a lt. (act a lt).duration;
         capacity = λ a k lt within. (act a lt).capacity k within;
-        conserved = λ e lt not_start not_end. sym (flow_at-whole net part (to_of net.network.arcs) e whole.all_acts lt) ∙ end.conserved e lt not_start not_end ∙ flow_at-whole net part (from_of net.network.arcs) e whole.all_acts lt;
+        conserved = λ e lt not_start not_end. sym (flow_at-whole net part (to_of net.network.arcs) e whole.all_acts lt)
+            ∙ end.conserved e lt not_start not_end ∙ flow_at-whole net part (from_of net.network.arcs) e whole.all_acts lt;
         leaves = sym (flow_at-whole net part (from_of net.network.arcs) net.network.start whole.all_acts priced.range.start_in) ∙ end.leaves;
         slack_at_upper = λ a lt. (act a lt).slack_upper;
         slack_at_lower = λ a lt. (act a lt).slack_lower;

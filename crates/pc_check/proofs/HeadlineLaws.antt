@@ -6,7 +6,8 @@ use Rattle.pc_check.specs.Headline.{PrintsWholeCurve}
 use Rattle.pc_check.specs.Texts.{IsCertified}
 use Rattle.pc_check.proofs.GoodLines.{curve_of}
 
-pub prints_whole_curve : (net : PricedNetwork) (text : List ℕ) (segments : ℕ) → IsPriced net.network net.terms (knees_in net) → length net.activities ≡ length net.network.arcs → IsCertified net text segments → PrintsWholeCurve net text
+pub prints_whole_curve : (net : PricedNetwork) (text : List ℕ) (segments : ℕ) → IsPriced net.network net.terms (knees_in net) →
+    length net.activities ≡ length net.network.arcs → IsCertified net text segments → PrintsWholeCurve net text
 prints_whole_curve net text segments priced named certified =
     let curve = curve_of net certified.lines priced named (record { whole = certified.whole.led.order; none = certified.none }) in
     record {

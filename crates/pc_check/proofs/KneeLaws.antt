@@ -26,14 +26,20 @@ module _ (knees : Knees) (a : ℕ) (list : List Knee) (are : AreKneesOf knees a 
   pub keeps_rises-list : (flows : List ℕ) → keeps_rises_over list flows ≡ each_below (knees.count a) (λ k. nat_le (slice_index flows k) (knees.rise a k))
   keeps_rises-list flows = each (λ k at rise. nat_le (slice_index flows k) rise)
 
-  pub is_slack-list : (head tail crash : ℕ) (flows : List ℕ) → is_slack_over head tail crash list flows ≡ (each_below (knees.count a) (λ k. is_slack_at_knee head tail (knees.knee a k) (knees.rise a k) (slice_index flows k)) && (not (nat_lt (tail + crash) head) || slice_index flows (knees.count a) == 0))
+  pub is_slack-list : (head tail crash : ℕ) (flows : List ℕ) →
+      is_slack_over head tail crash list flows
+      ≡ (each_below (knees.count a) (λ k. is_slack_at_knee head tail (knees.knee a k) (knees.rise a k) (slice_index flows k))
+      && (not (nat_lt (tail + crash) head) || slice_index flows (knees.count a) == 0))
   is_slack-list head tail crash flows =
       ap (λ passes. passes && (not (nat_lt (tail + crash) head) || slice_index flows (length list) == 0)) (each (λ k at rise. is_slack_at_knee head tail at rise (slice_index flows k)))
-      ∙ ap (λ n. each_below (knees.count a) (λ k. is_slack_at_knee head tail (knees.knee a k) (knees.rise a k) (slice_index flows k)) && (not (nat_lt (tail + crash) head) || slice_index flows n == 0)) are.count
+      ∙ ap (λ n. each_below (knees.count a)
+      (λ k. is_slack_at_knee head tail (knees.knee a k) (knees.rise a k) (slice_index flows k))
+      && (not (nat_lt (tail + crash) head) || slice_index flows n == 0)) are.count
 
   pub rises_over-list : (head tail : ℕ) → rises_over head tail list ≡ sum_to (knees.count a) (λ k. if nat_lt head (tail + knees.knee a k) then knees.rise a k else 0)
   rises_over-list head tail =
-      sum_to-same (length list) (λ k. if nat_lt head (tail + (knee_at list k).at) then (knee_at list k).rise else 0) (λ k. if nat_lt head (tail + knees.knee a k) then knees.rise a k else 0) (λ k lt. rw (are.at k lt, are.rise k lt) refl)
+      sum_to-same (length list) (λ k. if nat_lt head (tail + (knee_at list k).at) then (knee_at list k).rise else 0)
+      (λ k. if nat_lt head (tail + knees.knee a k) then knees.rise a k else 0) (λ k lt. rw (are.at k lt, are.rise k lt) refl)
       ∙ ap (λ n. sum_to n (λ k. if nat_lt head (tail + knees.knee a k) then knees.rise a k else 0)) are.count
 
   pub some-list : (test : ℕ → Bool) → some_below (length list) (λ k. test (knee_at list k).at) ≡ some_below (knees.count a) (λ k. test (knees.knee a k))

@@ -28,7 +28,9 @@ first_named code i (suc a) (c ∷ cs) lt is before =
     rw (other_code c code (before 0 (omega arith))) (first_named code (i + 1) a cs (omega arith) is (λ j l. before (suc j) (omega arith)) ∙ ap Some (omega arith))
 
 -- what a search for a code gave, where no code stands twice
-pub named_is_place : (found : Option ℕ) (n : ℕ) (code : List ℕ) (codes : List (List ℕ)) → length codes ≡ n → IsNamedOnce codes → IfSome found (λ a. a < n) → IfSome found (λ a. code_at codes a ≡ code) → IfNone found ((a : ℕ) → a < n → code_at codes a ≢ code) → found ≡ place_of code 0 codes
+pub named_is_place : (found : Option ℕ) (n : ℕ) (code : List ℕ) (codes : List (List ℕ)) → length codes ≡ n → IsNamedOnce codes →
+    IfSome found (λ a. a < n) → IfSome found (λ a. code_at codes a ≡ code) → IfNone found ((a : ℕ) → a < n → code_at codes a ≢ code) →
+    found ≡ place_of code 0 codes
 named_is_place None n code codes all once known named unknown = sym (none_named code 0 codes (λ a lt. unknown a (omega arith)))
 named_is_place (Some a) n code codes all once known named unknown =
     sym (first_named code 0 a codes (omega arith) named (λ j lt same. once j a lt (omega arith) (same ∙ sym named)) ∙ ap Some (omega arith))

@@ -59,9 +59,11 @@ record IsBroken (net : PricedNetwork) (text : List ℕ) (fail : Fail) : Type 0 w
   pub whole : text ≡ text_of lines ++ rest
   pub line : fail.line ≡ length lines + 1
   pub zero_reason : fail.reason ≡ 0
-  pub stops : (others : List CertLine) (line : CertLine) (more : List CertLine) (behind : List ℕ) (place : Place) → others ≡ lines ++ line ∷ more → ran Start others ≡ Some place → AllFit (line ∷ more) → rest ≡ text_of (line ∷ more) ++ behind → ⊥
+  pub stops : (others : List CertLine) (line : CertLine) (more : List CertLine) (behind : List ℕ) (place : Place) →
+      others ≡ lines ++ line ∷ more → ran Start others ≡ Some place → AllFit (line ∷ more) → rest ≡ text_of (line ∷ more) ++ behind → ⊥
 
-broken_malformed : (net : PricedNetwork) (text : List ℕ) (fail : Fail) (lines : List CertLine) → failure_of net lines ≡ None → IsStopped (record { line = fail.line }) lines text → fail.reason ≡ 0 → IsBroken net text fail
+broken_malformed : (net : PricedNetwork) (text : List ℕ) (fail : Fail) (lines : List CertLine) → failure_of net lines ≡ None →
+    IsStopped (record { line = fail.line }) lines text → fail.reason ≡ 0 → IsBroken net text fail
 broken_malformed net text fail lines none stop zero_reason = record {
   lines = lines;
   rest = stop.bad ++ stop.more;
@@ -78,7 +80,8 @@ broken_malformed net text fail lines none stop zero_reason = record {
       (sym (append_assoc (spelling line) (10 ∷ text_of more) behind) ∙ sym same) stop.why;
 }
 
-broken_missing : (net : PricedNetwork) (text : List ℕ) (fail : Fail) (lines : List CertLine) → failure_of net lines ≡ None → IsMissing (record { line = fail.line }) lines text → fail.reason ≡ 0 → IsBroken net text fail
+broken_missing : (net : PricedNetwork) (text : List ℕ) (fail : Fail) (lines : List CertLine) → failure_of net lines ≡ None →
+    IsMissing (record { line = fail.line }) lines text → fail.reason ≡ 0 → IsBroken net text fail
 broken_missing net text fail lines none lack zero_reason = record {
   lines = lines;
   rest = lack.held;
@@ -119,12 +122,14 @@ module _ (net : PricedNetwork) (text : List ℕ) where
         | inr on ↦ sym (same_lines g f b a on.more on.lines_are on.behind_is on.fit)
       ]
 
-  line_stands : (g : Fail) (b : IsBroken net text g) (f : Fail) (place : Place) (lines more : List CertLine) (rest : List ℕ) → LeadTo place lines → failure_of net lines ≡ Some f → lines ≡ b.lines ++ more → b.rest ≡ text_of more ++ rest → AllFit more → ⊥
+  line_stands : (g : Fail) (b : IsBroken net text g) (f : Fail) (place : Place) (lines more : List CertLine) (rest : List ℕ) →
+      LeadTo place lines → failure_of net lines ≡ Some f → lines ≡ b.lines ++ more → b.rest ≡ text_of more ++ rest → AllFit more → ⊥
   line_stands g b f place lines [] rest led failing lines_are behind_is fit = contrary f (sym b.none ∙ ap (failure_of net) (sym (lines_are ∙ append-nil b.lines)) ∙ failing)
   line_stands g b f place lines (line ∷ more) rest led failing lines_are behind_is fit = b.stops lines line more rest place lines_are led.order fit behind_is
 
   -- a text with such a point has no line that fails
-  broken_not_failing : (g : Fail) (b : IsBroken net text g) (f : Fail) (place : Place) (lines : List CertLine) (rest : List ℕ) → LeadTo place lines → text ≡ text_of lines ++ rest → failure_of net lines ≡ Some f → ⊥
+  broken_not_failing : (g : Fail) (b : IsBroken net text g) (f : Fail) (place : Place) (lines : List CertLine) (rest : List ℕ) →
+      LeadTo place lines → text ≡ text_of lines ++ rest → failure_of net lines ≡ Some f → ⊥
   broken_not_failing g b f place lines rest led text_is failing =
       elim (either lines b.lines rest b.rest led.fit b.fit (sym text_is ∙ b.whole)) [
         | inl on ↦ line_stands g b f place lines on.more rest led failing on.lines_are on.behind_is on.fit
@@ -132,7 +137,8 @@ module _ (net : PricedNetwork) (text : List ℕ) where
       ]
 
   -- lines that fail do so once
-  fails_once : (f g : Fail) (xs ys : List CertLine) (a b : List ℕ) → AllFit xs → AllFit ys → text ≡ text_of xs ++ a → text ≡ text_of ys ++ b → failure_of net xs ≡ Some f → failure_of net ys ≡ Some g → f ≡ g
+  fails_once : (f g : Fail) (xs ys : List CertLine) (a b : List ℕ) → AllFit xs → AllFit ys → text ≡ text_of xs ++ a →
+      text ≡ text_of ys ++ b → failure_of net xs ≡ Some f → failure_of net ys ≡ Some g → f ≡ g
   fails_once f g xs ys a b p q text_is also f_fails g_fails =
       elim (either xs ys a b p q (sym text_is ∙ also)) [
         | inl on ↦ same_some f g (sym f_fails ∙ ap (failure_of net) on.lines_are ∙ failure_of-more net ys on.more g g_fails)
@@ -144,10 +150,13 @@ module _ (net : PricedNetwork) (text : List ℕ) where
   against_broken f g (malformed lines none stop zero_reason) b = broken_once f g (broken_malformed net text f lines none stop zero_reason) b
   against_broken f g (missing lines none lack zero_reason) b = broken_once f g (broken_missing net text f lines none lack zero_reason) b
 
-  against_failing : (f g : Fail) (place : Place) (lines : List CertLine) (rest : List ℕ) → LeadTo place lines → text ≡ text_of lines ++ rest → failure_of net lines ≡ Some g → IsFailing net text f → f ≡ g
+  against_failing : (f g : Fail) (place : Place) (lines : List CertLine) (rest : List ℕ) → LeadTo place lines →
+      text ≡ text_of lines ++ rest → failure_of net lines ≡ Some g → IsFailing net text f → f ≡ g
   against_failing f g place lines rest led text_is failing (fails at others behind leads also other_fails) = fails_once f g others lines behind rest leads.fit led.fit also text_is other_fails failing
-  against_failing f g place lines rest led text_is failing (malformed others none stop zero_reason) = absurd (broken_not_failing f (broken_malformed net text f others none stop zero_reason) g place lines rest led text_is failing)
-  against_failing f g place lines rest led text_is failing (missing others none lack zero_reason) = absurd (broken_not_failing f (broken_missing net text f others none lack zero_reason) g place lines rest led text_is failing)
+  against_failing f g place lines rest led text_is failing (malformed others none stop zero_reason) =
+      absurd (broken_not_failing f (broken_malformed net text f others none stop zero_reason) g place lines rest led text_is failing)
+  against_failing f g place lines rest led text_is failing (missing others none lack zero_reason) =
+      absurd (broken_not_failing f (broken_missing net text f others none lack zero_reason) g place lines rest led text_is failing)
 
   -- a text has one first failing point
   pub one_failure : (f g : Fail) → IsFailing net text f → IsFailing net text g → f ≡ g

@@ -143,7 +143,8 @@ record Comes (n m : ℕ) (place behind : Place) (line : CertLine) (new : Draft) 
 arrives : (n m : ℕ) {place reached behind : Place} {line : CertLine} {new : Draft} → Comes n m place reached line new → Some reached ≡ Some behind → Comes n m place behind line new
 arrives n m {place} {reached} {behind} {line} {new} h same = let is : reached ≡ behind = cc in subst (λ p. Comes n m place p line new) is h
 
-one_more : (n m : ℕ) {place behind : Place} {line : CertLine} {new : Draft} (lines : List CertLine) → Comes n m place behind line new → AreFewFrom n m behind lines → AreFewFrom n m place (line ∷ lines)
+one_more : (n m : ℕ) {place behind : Place} {line : CertLine} {new : Draft} (lines : List CertLine) → Comes n m place behind line new →
+    AreFewFrom n m behind lines → AreFewFrom n m place (line ∷ lines)
 one_more n m {place} {behind} {line} {new} lines h few = record {
   head = omega (arith, h.counts lines, h.fewer, few.head);
   all = omega (arith, h.counts lines, few.all, ap (most_segment_lines n m) (h.same lines));
@@ -163,7 +164,8 @@ begins : (n m : ℕ) {reached behind : Place} {line : CertLine} {new : Draft} �
 begins n m {reached} {behind} {line} {new} h same = let is : reached ≡ behind = cc in subst (λ p. Begins n m p line new) is h
 
 -- a segment takes no more lines than it has, and those behind it no more than are left
-first_few : (n m : ℕ) (place : Place) {behind : Place} {line : CertLine} {new : Draft} (lines : List CertLine) → Begins n m behind line new → length lines ≤ lines_behind (n + m + 2) behind new.part → AreFewFrom n m place (line ∷ lines)
+first_few : (n m : ℕ) (place : Place) {behind : Place} {line : CertLine} {new : Draft} (lines : List CertLine) →
+    Begins n m behind line new → length lines ≤ lines_behind (n + m + 2) behind new.part → AreFewFrom n m place (line ∷ lines)
 first_few n m place {behind} {line} {new} lines h few = record {
   head = omega (arith, h.none lines);
   all = omega (arith, h.none lines, few, h.left, ap (most_segment_lines n m) (h.first lines), mul-le-mul_right (n + m + 2) (segments_most h.upper h.lower h.ordered));
@@ -175,7 +177,13 @@ comes : (net : PricedNetwork) (place : Place) (line : CertLine) (behind : Place)
     → Comes net.network.events (length net.network.arcs) place behind line (with_line draft line) ⊎ Begins net.network.events (length net.network.arcs) behind line (with_line draft line)
 comes net Start (Head version project events activities) behind draft h goes passes =
     let is = head_passes net (said net draft) version project events activities passes in
-    inl (arrives net.network.events (length net.network.arcs) (record { at = (record { events = is.0; activities = is.1 }, h); fewer = omega arith; counts = λ lines. refl; same = λ lines. refl }) goes)
+    inl (arrives net.network.events (length net.network.arcs)
+    (record {
+      at = (record { events = is.0; activities = is.1 }, h);
+      fewer = omega arith;
+      counts = λ lines. refl;
+      same = λ lines. refl;
+    }) goes)
 comes net (AfterHead shape) Normal behind draft h goes passes =
     inl (arrives net.network.events (length net.network.arcs) (record { at = h; fewer = omega (arith, h.0.events); counts = λ lines. refl; same = λ lines. refl }) goes)
 comes net (NormalWalk shape steps) (Step code) behind draft h goes passes =

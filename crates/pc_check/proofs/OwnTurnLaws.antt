@@ -29,7 +29,8 @@ few_bytes net bytes h =
     omega (arith, ap length h.whole, length-append (text_of h.lines) h.rest, length-text_of h.lines h.led.fit, h.short, few.head, few.all)
 
 -- a source that gave bytes in which no line fails, by no more pulls than these and one
-keeps : (net : PricedNetwork) (left left_after : Option (List ℕ)) (pulls pulls_after : Option ℕ) (bytes : List ℕ) → Consumes left left_after bytes → HasNoFailure net bytes → TakesPulls (length bytes + 1) pulls pulls_after
+keeps : (net : PricedNetwork) (left left_after : Option (List ℕ)) (pulls pulls_after : Option ℕ) (bytes : List ℕ) →
+    Consumes left left_after bytes → HasNoFailure net bytes → TakesPulls (length bytes + 1) pulls pulls_after
     → IfSome left (λ text. KeepsToOwnLines net text pulls pulls_after)
 keeps net None left_after pulls pulls_after bytes taken h turns = tt
 keeps net (Some text) None pulls pulls_after bytes taken h turns = absurd taken

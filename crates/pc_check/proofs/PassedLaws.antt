@@ -45,23 +45,31 @@ below_fits low head tail at rise flow above high =
     ⊎_elim (λ whole. sym (passes_behind _ _ (eq-eqb flow rise whole)))
     (λ other. rw (le-ltb head (tail + at) (omega (arith, above, high other))) refl) (cases_eq flow rise)
 
-slack_within : {crash low high : ℕ} (knees : List Knee) (flows : List ℕ) (head tail : ℕ) → FitsWithin crash knees flows (length knees) low high → IsWithin low high head tail → is_slack_over head tail crash knees flows ≡ true
+slack_within : {crash low high : ℕ} (knees : List Knee) (flows : List ℕ) (head tail : ℕ) →
+    FitsWithin crash knees flows (length knees) low high → IsWithin low high head tail → is_slack_over head tail crash knees flows ≡ true
 slack_within {crash} {low} {high} knees flows head tail fits is =
     let each : each_below (length knees) (λ k. is_slack_at_knee head tail (knee_at knees k).at (knee_at knees k).rise (slice_index flows k)) ≡ true =
-    each_all (length knees) _ (λ k lt. rw (above_fits high head tail (knee_at knees k).at (slice_index flows k) is.below (fits.empty k lt), below_fits low head tail (knee_at knees k).at (knee_at knees k).rise (slice_index flows k) is.above (fits.full k lt)) refl) in
+    each_all (length knees) _ (λ k lt. rw (
+      above_fits high head tail (knee_at knees k).at (slice_index flows k) is.below (fits.empty k lt),
+      below_fits low head tail (knee_at knees k).at (knee_at knees k).rise (slice_index flows k) is.above (fits.full k lt),
+    ) refl) in
     rw (each, above_fits high head tail crash (slice_index flows (length knees)) is.below fits.beside) refl
 
 -- the same of the knees of an activity
-pub slack_in_within : {low high : ℕ} (net : PricedNetwork) (a : ℕ) (list : List Knee) (flows : List ℕ) (head tail : ℕ) → AreKneesOf (knees_in net) a list → FitsWithin (crash_of net.terms a) list flows (length list) low high → IsWithin low high head tail → is_slack_in net head tail a flows ≡ true
+pub slack_in_within : {low high : ℕ} (net : PricedNetwork) (a : ℕ) (list : List Knee) (flows : List ℕ) (head tail : ℕ) →
+    AreKneesOf (knees_in net) a list → FitsWithin (crash_of net.terms a) list flows (length list) low high → IsWithin low high head tail →
+    is_slack_in net head tail a flows ≡ true
 slack_in_within net a list flows head tail are fits is =
     sym (is_slack-list (knees_in net) a list are head tail (crash_of net.terms a) flows) ∙ slack_within list flows head tail fits is
 
 -- ---- nothing has passed
 
-pub nothing_passed : (net : PricedNetwork) (nothing : Passed) → (HasText nothing.text → ⊥) → IsTextOf None nothing.text → nothing.flow ≡ 0 → nothing.cost ≡ 0 → ArePassed net (replicate (length net.network.arcs) nothing)
+pub nothing_passed : (net : PricedNetwork) (nothing : Passed) → (HasText nothing.text → ⊥) → IsTextOf None nothing.text → nothing.flow ≡ 0 →
+    nothing.cost ≡ 0 → ArePassed net (replicate (length net.network.arcs) nothing)
 nothing_passed net nothing none text no_flow no_cost = record {
   one_each = length-replicate (length net.network.arcs) nothing;
-  each = λ a below. subst (IsPassed net a) (sym (get_or-replicate (length net.network.arcs) a nothing _ below)) (record { text = (None, text); has = λ some. absurd (none some); small = omega (arith, no_flow); cheap = omega (arith, no_cost) });
+  each = λ a below. subst (IsPassed net a) (sym (get_or-replicate (length net.network.arcs) a nothing _ below))
+      (record { text = (None, text); has = λ some. absurd (none some); small = omega (arith, no_flow); cheap = omega (arith, no_cost) });
 }
 
 pub nothing_flows : (net : PricedNetwork) (nothing : Passed) → nothing.flow ≡ 0 → nothing.cost ≡ 0 → IsNothing net (replicate (length net.network.arcs) nothing)
@@ -79,7 +87,8 @@ pub passed_with : {net : PricedNetwork} {rows : List Passed} (a : ℕ) (row : Pa
 passed_with {net} {rows} a row are known has = record {
   one_each = length-set rows a row ∙ are.one_each;
   each = λ b below. ⊎_elim
-      (λ here. subst (λ i. IsPassed net i (passed_at (set rows a row) i)) (sym here) (subst (IsPassed net a) (sym (get_or-set_same rows a row _ (omega (arith, known, are.one_each)))) (passed_so net a row has)))
+      (λ here. subst (λ i. IsPassed net i (passed_at (set rows a row) i)) (sym here)
+      (subst (IsPassed net a) (sym (get_or-set_same rows a row _ (omega (arith, known, are.one_each)))) (passed_so net a row has)))
       (λ other. subst (IsPassed net b) (sym (get_or-set_other rows a b row _ other)) (are.each b below)) (cases_eq b a);
 }
 
@@ -117,7 +126,15 @@ pub adds_again : {net : PricedNetwork} {old new : Tally} → IsStill net.network
 adds_again {net} {old} {new} still has rest =
     let parts = rests net.network.arcs (stretch_of old) old.acts still in
     let rows : new.rows.items ≡ old.rows.items = ap (λ t. t.rows.items) rest in record {
-      rest = rest ∙ rw (ap (λ t. t.rows) rest, ap (λ t. t.inflow) rest, ap (λ t. t.outflow) rest, ap (λ t. t.spent) rest, ap (λ t. t.forward) rest, ap (λ t. t.backward) rest, ap (λ t. t.stops) rest) refl;
+      rest = rest ∙ rw (
+        ap (λ t. t.rows) rest,
+        ap (λ t. t.inflow) rest,
+        ap (λ t. t.outflow) rest,
+        ap (λ t. t.spent) rest,
+        ap (λ t. t.forward) rest,
+        ap (λ t. t.backward) rest,
+        ap (λ t. t.stops) rest,
+      ) refl;
       row = record {
         flow = ap (λ r. flow_of r old.acts) rows ∙ has.flow;
         cost = ap (λ r. cost_of r old.acts) rows ∙ has.cost;
@@ -147,14 +164,16 @@ safe_again {net} {old} safe known = record {
 -- ---- it passes again
 
 -- what passes lasts no longer than normal
-pub lasts_at_most : (net : PricedNetwork) (known : Known) (code : List ℕ) (duration : ℕ) (flows : List ℕ) → first_failing (conditions net known (Act code duration flows)) ≡ None → duration ≤ normal_of net.terms known.acts
+pub lasts_at_most : (net : PricedNetwork) (known : Known) (code : List ℕ) (duration : ℕ) (flows : List ℕ) →
+    first_failing (conditions net known (Act code duration flows)) ≡ None → duration ≤ normal_of net.terms known.acts
 lasts_at_most net known code duration flows none =
     let behind_code = (holds_first _ _ _ none).1 in
     let behind_room = (holds_first _ _ _ behind_code).1 in
     let lasts = (and_parts _ _ (holds_first _ _ _ behind_room).0).0 in
     omega (arith, eqb-true duration (lesser_of net.network net.terms known.time known.acts) lasts)
 
-pub again_passes : {net : PricedNetwork} {known : Known} {passed : Passed} (code : List ℕ) → has_act_code net known.acts code passed.flows ≡ true → ComesAgain net known passed → HasPassed net known.acts passed
+pub again_passes : {net : PricedNetwork} {known : Known} {passed : Passed} (code : List ℕ) →
+    has_act_code net known.acts code passed.flows ≡ true → ComesAgain net known passed → HasPassed net known.acts passed
     → first_failing (conditions net known (Act code passed.duration passed.flows)) ≡ None
 again_passes {net} {known} {passed} code has_code again has =
     let a = known.acts in

@@ -20,7 +20,8 @@ pub record IsRun (piece : List ℕ) (used : ℕ) (before after : Reading) (old n
   pub few : new.kept.lines < 2 ^ 63
 
 -- nothing is taken yet
-pub begun : (piece : List ℕ) (reader : Reading) (checker : Checking) → checker.fail ≡ None → reader.place ≡ checker.kept.place → reader.malformed ≡ None → reader.lines ≡ checker.kept.lines → checker.kept.lines < 2 ^ 63 → IsRun piece 0 reader reader checker checker
+pub begun : (piece : List ℕ) (reader : Reading) (checker : Checking) → checker.fail ≡ None → reader.place ≡ checker.kept.place →
+    reader.malformed ≡ None → reader.lines ≡ checker.kept.lines → checker.kept.lines < 2 ^ 63 → IsRun piece 0 reader reader checker checker
 begun piece reader checker none place going alike few = record {
   within = omega arith;
   same = λ _. refl;
@@ -35,7 +36,8 @@ begun piece reader checker none place going alike few = record {
 }
 
 -- lines, and lines behind them
-joined : {piece : List ℕ} {before between after : Reading} {old mid new : Checking} (n m : ℕ) → TakesAlong piece n before between old mid → TakesAlong (drop n piece) m between after mid new → TakesAlong piece (n + m) before after old new
+joined : {piece : List ℕ} {before between after : Reading} {old mid new : Checking} (n m : ℕ) → TakesAlong piece n before between old mid →
+    TakesAlong (drop n piece) m between after mid new → TakesAlong piece (n + m) before after old new
 joined {piece} {before} {between} {after} {old} {mid} {new} n m one two = record {
   taken = one.taken ++ two.taken;
   within = omega (arith, one.within, two.within, length-drop n piece);
@@ -55,14 +57,18 @@ joined {piece} {before} {between} {after} {old} {mid} {new} n m one two = record
   left = omega (arith, one.left, two.left);
 }
 
-takes_more : {piece : List ℕ} {before between after : Reading} {old mid new : Checking} (n m : ℕ) → (0 < n → TakesAlong piece n before between old mid) → (n ≡ 0 → mid ≡ old) → (n ≡ 0 → between ≡ before) → TakesAlong (drop n piece) m between after mid new → TakesAlong piece (n + m) before after old new
+takes_more : {piece : List ℕ} {before between after : Reading} {old mid new : Checking} (n m : ℕ) →
+    (0 < n → TakesAlong piece n before between old mid) → (n ≡ 0 → mid ≡ old) → (n ≡ 0 → between ≡ before) →
+    TakesAlong (drop n piece) m between after mid new → TakesAlong piece (n + m) before after old new
 takes_more {piece} {before} {between} {after} {old} {mid} {new} zero m takes same same_reader it =
     let all : m ≡ 0 + m = omega arith in
     subst (λ k. TakesAlong piece k before after old new) all (subst (λ r. TakesAlong piece m r after old new) (same_reader refl) (subst (λ k. TakesAlong piece m between after k new) (same refl) it))
 takes_more (suc n) m takes same same_reader it = joined (suc n) m (takes (omega arith)) it
 
 -- more lines are taken
-pub further : {piece : List ℕ} {used : ℕ} {before between after : Reading} {old mid new : Checking} (more : ℕ) → IsRun piece used before between old mid → 0 < more → TakesAlong (drop used piece) more between after mid new → IsRun piece (used + more) before after old new
+pub further : {piece : List ℕ} {used : ℕ} {before between after : Reading} {old mid new : Checking} (more : ℕ) →
+    IsRun piece used before between old mid → 0 < more → TakesAlong (drop used piece) more between after mid new →
+    IsRun piece (used + more) before after old new
 further {piece} {used} {before} {between} {after} {old} {mid} {new} more h some it = record {
   within = omega (arith, h.within, it.within, length-drop used piece);
   same = λ nothing. absurd (omega (arith, nothing, some));
@@ -86,7 +92,9 @@ pub record IsRest (piece rest : List ℕ) (before after : Reading) (old new : Ch
 pub all_left : (piece : List ℕ) (reader : Reading) (checker : Checking) → IsRun piece 0 reader reader checker checker → IsRest piece piece reader reader checker checker
 all_left piece reader checker h = record { used = 0; left = refl; long = omega arith; run = h }
 
-pub less_left : {piece rest : List ℕ} {before between after : Reading} {old mid new : Checking} (more : ℕ) → IsRest piece rest before between old mid → 0 < more → TakesAlong rest more between after mid new → IsRest piece (drop more rest) before after old new
+pub less_left : {piece rest : List ℕ} {before between after : Reading} {old mid new : Checking} (more : ℕ) →
+    IsRest piece rest before between old mid → 0 < more → TakesAlong rest more between after mid new →
+    IsRest piece (drop more rest) before after old new
 less_left {piece} {rest} {before} {between} {after} {old} {mid} {new} more h some it = record {
   used = h.used + more;
   left = ap (drop more) h.left ∙ drop-drop more h.used piece;

@@ -1,5 +1,6 @@
 -- What is kept is what the lines say.
-use Rattle.std.proofs.Common.{◌≡◌, ℕ, ◌+◌, ◌<◌, ◌≤◌, suc, Bool, true, false, ◌||◌, cond, ltb, List, [], ◌∷◌, ◌++◌, length, map, inl, inr, ⊎_elim, Option, refl, sym, ap, subst, ◌∙◌, arith, add-one, length-append}
+use Rattle.std.proofs.Common.{◌≡◌, ℕ, ◌+◌, ◌<◌, ◌≤◌, suc, Bool, true, false, ◌||◌, cond, ltb, List, [], ◌∷◌, ◌++◌, length}
+use Rattle.std.proofs.Common.{map, inl, inr, ⊎_elim, Option, refl, sym, ap, subst, ◌∙◌, arith, add-one, length-append}
 use Rattle.std.proofs.lemmas.Bool.{cases_eq, cases_lt, lt-ltb, le-ltb}
 use Rattle.std.proofs.lemmas.List.{map-append, get_or_past}
 use Rattle.std.proofs.Math.ListN.{get_or-map, get_or-append}
@@ -43,7 +44,8 @@ moves_at rows e = get_or-map (λ (row : EventRow). row.moves) rows e (record { c
 flow_past : (net : PricedNetwork) (part : Part) (place : ℕ → ℕ) (e : ℕ) → net.network.events ≤ e → flow_at net part place e ≡ 0
 flow_past net part place e past = rw (le-ltb e net.network.events past) refl
 
-sums_at : (n : ℕ) (sums : List ℕ) (said_at : ℕ → ℕ) → length sums ≡ n → ((e : ℕ) → e < n → slice_index sums e ≡ said_at e) → ((e : ℕ) → n ≤ e → said_at e ≡ 0) → (e : ℕ) → slice_index sums e ≡ said_at e
+sums_at : (n : ℕ) (sums : List ℕ) (said_at : ℕ → ℕ) → length sums ≡ n → ((e : ℕ) → e < n → slice_index sums e ≡ said_at e) →
+    ((e : ℕ) → n ≤ e → said_at e ≡ 0) → (e : ℕ) → slice_index sums e ≡ said_at e
 sums_at n sums said_at long within past e = elim (cases_lt e n) [
   | inl lt ↦ within e lt
   | inr le ↦ get_or_past sums e 0 (omega arith) ∙ sym (past e le)
@@ -54,17 +56,21 @@ length-map_of f [] = refl
 length-map_of f (x ∷ xs) = ap suc (length-map_of f xs)
 
 -- the sums of flows are those of the activities that have come, where all have
-flows_come : (net : PricedNetwork) (part : Part) (tally : Tally) (place : ℕ → ℕ) (sums : List ℕ) → length part.acts ≡ length net.network.arcs → IsTallied net part tally → AreSums net tally.rows.items place sums → (e : ℕ) → e < net.network.events → slice_index sums e ≡ flow_at net part place e
+flows_come : (net : PricedNetwork) (part : Part) (tally : Tally) (place : ℕ → ℕ) (sums : List ℕ) →
+    length part.acts ≡ length net.network.arcs → IsTallied net part tally → AreSums net tally.rows.items place sums → (e : ℕ) →
+    e < net.network.events → slice_index sums e ≡ flow_at net part place e
 flows_come net part tally place sums all k are e lt =
     let rows = tally.rows.items in
     let here : ltb e net.network.events ≡ true = lt-ltb e net.network.events lt in
     are e lt
     ∙ ap (λ n. sum_to n (λ a. if place a == e then flow_of rows a else 0)) (sym all)
-    ∙ sum_to-same (length part.acts) (λ a. if place a == e then flow_of rows a else 0) (λ a. if place a == e then flow_along net part a else 0) (λ a below. ap (λ x. if place a == e then x else 0) (k.flows a below))
+    ∙ sum_to-same (length part.acts) (λ a. if place a == e then flow_of rows a else 0)
+    (λ a. if place a == e then flow_along net part a else 0) (λ a below. ap (λ x. if place a == e then x else 0) (k.flows a below))
     ∙ ap (λ b. cond b (sum_to (length part.acts) (λ a. if place a == e then flow_along net part a else 0)) 0) (sym here)
 
 -- and so is the cost
-spent_come : (net : PricedNetwork) (part : Part) (tally : Tally) → length part.acts ≡ length net.network.arcs → IsTallied net part tally → tally.spent ≡ sum_to (length net.network.arcs) (cost_of tally.rows.items) → tally.spent ≡ spent_in net part
+spent_come : (net : PricedNetwork) (part : Part) (tally : Tally) → length part.acts ≡ length net.network.arcs → IsTallied net part tally →
+    tally.spent ≡ sum_to (length net.network.arcs) (cost_of tally.rows.items) → tally.spent ≡ spent_in net part
 spent_come net part tally all k is =
     is
     ∙ ap (λ n. sum_to n (cost_of tally.rows.items)) (sym all)
@@ -75,10 +81,13 @@ abbrev known_with : Kept → (ℕ → ℕ) → (ℕ → ℕ) → ℕ → Known
 known_with kept inflow outflow spent = record (known_by kept) { inflow = inflow; outflow = outflow; spent = spent }
 
 -- what is kept is what is said, with sums that are said
-known_is_said : (net : PricedNetwork) (draft : Draft) (kept : Kept) (inflow outflow : ℕ → ℕ) (spent : ℕ) → ((e : ℕ) → inflow e ≡ (said net draft).inflow e) → ((e : ℕ) → outflow e ≡ (said net draft).outflow e) → spent ≡ (said net draft).spent → IsKept net draft kept → known_with kept inflow outflow spent ≡ said net draft
+known_is_said : (net : PricedNetwork) (draft : Draft) (kept : Kept) (inflow outflow : ℕ → ℕ) (spent : ℕ) →
+    ((e : ℕ) → inflow e ≡ (said net draft).inflow e) → ((e : ℕ) → outflow e ≡ (said net draft).outflow e) → spent ≡ (said net draft).spent →
+    IsKept net draft kept → known_with kept inflow outflow spent ≡ said net draft
 known_is_said net draft kept inflow outflow spent inflow_is outflow_is spent_is k =
     let time : (e : ℕ) → slice_index kept.tally.times.items e ≡ (event_at draft.part.events e).time = λ e. ap (λ xs. slice_index xs e) k.tally.times ∙ times_at draft.part.events e in
-    let moves : (e : ℕ) → slice_index_or kept.tally.moves.items e false ≡ (event_at draft.part.events e).moves = λ e. ap (λ xs. slice_index_or xs e false) k.tally.moves ∙ moves_at draft.part.events e in
+    let moves : (e : ℕ) → slice_index_or kept.tally.moves.items e false
+    ≡ (event_at draft.part.events e).moves = λ e. ap (λ xs. slice_index_or xs e false) k.tally.moves ∙ moves_at draft.part.events e in
     let events : length kept.tally.times.items ≡ length draft.part.events = ap length k.tally.times ∙ length-map_of (λ row. row.time) draft.part.events in
     λ i. record {
       normal = k.normal i;
@@ -111,14 +120,21 @@ wholly_said net draft kept safe all k =
     let come : length draft.part.acts ≡ length net.network.arcs = sym k.tally.acts ∙ all in
     let tally = kept.tally in
     known_is_said net draft kept (slice_index tally.inflow.items) (slice_index tally.outflow.items) tally.spent
-    (sums_at net.network.events tally.inflow.items (said net draft).inflow safe.entering (flows_come net draft.part tally (to_of net.network.arcs) tally.inflow.items come k.tally safe.inflow) (flow_past net draft.part (to_of net.network.arcs)))
-    (sums_at net.network.events tally.outflow.items (said net draft).outflow safe.leaving (flows_come net draft.part tally (from_of net.network.arcs) tally.outflow.items come k.tally safe.outflow) (flow_past net draft.part (from_of net.network.arcs)))
+    (sums_at net.network.events tally.inflow.items (said net draft).inflow safe.entering
+    (flows_come net draft.part tally (to_of net.network.arcs) tally.inflow.items come k.tally safe.inflow)
+    (flow_past net draft.part (to_of net.network.arcs)))
+    (sums_at net.network.events tally.outflow.items (said net draft).outflow safe.leaving
+    (flows_come net draft.part tally (from_of net.network.arcs) tally.outflow.items come k.tally safe.outflow)
+    (flow_past net draft.part (from_of net.network.arcs)))
     (spent_come net draft.part tally come k.tally safe.spent)
     k
 
 -- the reason for which a line fails is told by what is kept, at the end of a segment where all its activities have come
-pub reason_told : (net : PricedNetwork) (draft : Draft) (line : CertLine) (kept : Kept) → IsSafe net kept.tally → (line ≡ Close → kept.tally.acts ≡ length net.network.arcs) → IsKept net draft kept → first_failing (conditions net (known_by kept) line) ≡ reason_at net draft line
-reason_told net draft (Head version project events activities) kept safe all k = ap (λ known. first_failing (conditions net known (Head version project events activities))) (almost_said net draft kept k)
+pub reason_told : (net : PricedNetwork) (draft : Draft) (line : CertLine) (kept : Kept) → IsSafe net kept.tally →
+    (line ≡ Close → kept.tally.acts ≡ length net.network.arcs) → IsKept net draft kept →
+    first_failing (conditions net (known_by kept) line) ≡ reason_at net draft line
+reason_told net draft (Head version project events activities) kept safe all k =
+    ap (λ known. first_failing (conditions net known (Head version project events activities))) (almost_said net draft kept k)
 reason_told net draft Normal kept safe all k = refl
 reason_told net draft (Step code) kept safe all k = refl
 reason_told net draft Crash kept safe all k = refl
@@ -130,16 +146,20 @@ reason_told net draft End kept safe all k = ap (λ known. first_failing (conditi
 
 -- ---- one more line
 
-walked-append : (net : PricedNetwork) (lengths : ℕ → ℕ) (at : Option Reached) (codes : List (List ℕ)) (code : List ℕ) → walked net lengths at (codes ++ code ∷ []) ≡ stepped net lengths (walked net lengths at codes) code
+walked-append : (net : PricedNetwork) (lengths : ℕ → ℕ) (at : Option Reached) (codes : List (List ℕ)) (code : List ℕ) →
+    walked net lengths at (codes ++ code ∷ []) ≡ stepped net lengths (walked net lengths at codes) code
 walked-append net lengths at [] code = refl
 walked-append net lengths at (c ∷ codes) code = walked-append net lengths (stepped net lengths at c) codes code
 
 -- a step
-kept_step : (net : PricedNetwork) (draft : Draft) (code : List ℕ) (is_crash : Bool) (old new : Kept) → is_crash ≡ old.has_normal → IsKept net draft old → AddsStep net code old new → IsKept net (with_step draft code is_crash) new
+kept_step : (net : PricedNetwork) (draft : Draft) (code : List ℕ) (is_crash : Bool) (old new : Kept) → is_crash ≡ old.has_normal →
+    IsKept net draft old → AddsStep net code old new → IsKept net (with_step draft code is_crash) new
 kept_step net draft code false old new is k added =
     let rest = added.rest in
     record {
-      normal = added.normal ∙ ap (λ b. cond b old.normal (stepped net (length_in net false) old.normal code)) (sym is) ∙ ap (λ at. stepped net (length_in net false) at code) k.normal ∙ sym (walked-append net (length_in net false) (at_start net.network) draft.normal code);
+      normal = added.normal ∙ ap (λ b. cond b old.normal (stepped net (length_in net false) old.normal code)) (sym is)
+          ∙ ap (λ at. stepped net (length_in net false) at code) k.normal
+          ∙ sym (walked-append net (length_in net false) (at_start net.network) draft.normal code);
       crash = added.crash ∙ ap (λ b. cond b (stepped net (length_in net true) old.crash code) old.crash) (sym is) ∙ k.crash;
       has_normal = ap (λ k. k.has_normal) rest ∙ k.has_normal;
       parts = ap (λ k. k.parts) rest ∙ k.parts;
@@ -149,7 +169,9 @@ kept_step net draft code true old new is k added =
     let rest = added.rest in
     record {
       normal = added.normal ∙ ap (λ b. cond b old.normal (stepped net (length_in net false) old.normal code)) (sym is) ∙ k.normal;
-      crash = added.crash ∙ ap (λ b. cond b (stepped net (length_in net true) old.crash code) old.crash) (sym is) ∙ ap (λ at. stepped net (length_in net true) at code) k.crash ∙ sym (walked-append net (length_in net true) (at_start net.network) draft.crash code);
+      crash = added.crash ∙ ap (λ b. cond b (stepped net (length_in net true) old.crash code) old.crash) (sym is)
+          ∙ ap (λ at. stepped net (length_in net true) at code) k.crash
+          ∙ sym (walked-append net (length_in net true) (at_start net.network) draft.crash code);
       has_normal = ap (λ k. k.has_normal) rest ∙ k.has_normal;
       parts = ap (λ k. k.parts) rest ∙ k.parts;
       tally = subst (λ t. IsTallied net draft.part t) (ap (λ k. k.tally) (sym rest)) k.tally;
@@ -179,7 +201,8 @@ some_none : (n : ℕ) (f g : ℕ → Bool) → n ≡ 0 → some_below n f ≡ so
 some_none n f g none = some_below-same n f g (λ a lt. absurd (omega arith))
 
 -- an event, before any activity
-tallied_event : (net : PricedNetwork) (part : Part) (row : EventRow) (old new : Tally) → length part.acts ≡ 0 → IsTallied net part old → AddsEvent row.time row.moves old new → IsTallied net (with_event part row) new
+tallied_event : (net : PricedNetwork) (part : Part) (row : EventRow) (old new : Tally) → length part.acts ≡ 0 → IsTallied net part old →
+    AddsEvent row.time row.moves old new → IsTallied net (with_event part row) new
 tallied_event net part row old new none k added =
     let rest = added.rest in
     let acts : length part.acts ≡ 0 = none in
@@ -237,13 +260,17 @@ module _ (net : PricedNetwork) (part : Part) (row : ActRow) where
   grown_cases : {A : Type 0} (a : ℕ) → a < length (part.acts ++ row ∷ []) → (a ≡ length part.acts → A) → (a < length part.acts → (a ≡ length part.acts → ⊥) → A) → A
   grown_cases a below last earlier = ⊎_elim last (λ other. earlier (omega (arith, below, grown, other)) other) (cases_eq a (length part.acts))
 
-  flows_grown : (old new : Tally) (a : ℕ) → length row.flows ≡ (knees_in net).count (length part.acts) + 1 → old.acts ≡ length part.acts → ((b : ℕ) → b < length part.acts → flow_of old.rows.items b ≡ flow_along net part b) → AddsAct net old row.duration row.flows new → a < length (part.acts ++ row ∷ []) → flow_of new.rows.items a ≡ flow_along net (with_act part row) a
+  flows_grown : (old new : Tally) (a : ℕ) → length row.flows ≡ (knees_in net).count (length part.acts) + 1 → old.acts ≡ length part.acts →
+      ((b : ℕ) → b < length part.acts → flow_of old.rows.items b ≡ flow_along net part b) → AddsAct net old row.duration row.flows new →
+      a < length (part.acts ++ row ∷ []) → flow_of new.rows.items a ≡ flow_along net (with_act part row) a
   flows_grown old new a long acts before added below =
       grown_cases a below
       (λ last. ap (flow_of new.rows.items) (last ∙ sym acts) ∙ added.row.flow ∙ sym (flow_along-last long) ∙ ap (flow_along net (with_act part row)) (sym last))
       (λ earlier other. ap (λ (r : Passed). r.flow) (added.row.others a (λ q. other (q ∙ acts))) ∙ before a earlier ∙ sym (flow_along-earlier a earlier))
 
-  costs_grown : (old new : Tally) (a : ℕ) → old.acts ≡ length part.acts → ((b : ℕ) → b < length part.acts → cost_of old.rows.items b ≡ activity_cost net.terms (knees_in net) b (act_at part.acts b).duration) → AddsAct net old row.duration row.flows new → a < length (part.acts ++ row ∷ [])
+  costs_grown : (old new : Tally) (a : ℕ) → old.acts ≡ length part.acts →
+      ((b : ℕ) → b < length part.acts → cost_of old.rows.items b ≡ activity_cost net.terms (knees_in net) b (act_at part.acts b).duration) →
+      AddsAct net old row.duration row.flows new → a < length (part.acts ++ row ∷ [])
       → cost_of new.rows.items a ≡ activity_cost net.terms (knees_in net) a (act_at (part.acts ++ row ∷ []) a).duration
   costs_grown old new a acts before added below =
       grown_cases a below
@@ -255,17 +282,22 @@ module _ (net : PricedNetwork) (part : Part) (row : ActRow) where
       ap (λ (r : Passed). r.cost) (added.row.others a (λ q. other (q ∙ acts))) ∙ before a earlier
       ∙ ap (λ (r : ActRow). activity_cost net.terms (knees_in net) a r.duration) (sym (at_earlier a earlier)))
 
-  forward_there : (old : Tally) → stretch_of old ≡ outline part → old.forward + forward_by net (stretch_of old) (length part.acts) ≡ old.forward + forward_by net (segment_in net part) (length part.acts)
+  forward_there : (old : Tally) → stretch_of old ≡ outline part →
+      old.forward + forward_by net (stretch_of old) (length part.acts)
+      ≡ old.forward + forward_by net (segment_in net part) (length part.acts)
   forward_there old seg = ap (λ s. old.forward + forward_by net s (length part.acts)) seg
 
-  backward_there : (old : Tally) → stretch_of old ≡ outline part → old.backward + backward_by net (stretch_of old) (length part.acts) ≡ old.backward + backward_by net (segment_in net part) (length part.acts)
+  backward_there : (old : Tally) → stretch_of old ≡ outline part →
+      old.backward + backward_by net (stretch_of old) (length part.acts)
+      ≡ old.backward + backward_by net (segment_in net part) (length part.acts)
   backward_there old seg = ap (λ s. old.backward + backward_by net s (length part.acts)) seg
 
   stops_there : (old : Tally) → stretch_of old ≡ outline part → (old.stops || stops_in net (stretch_of old) (length part.acts)) ≡ (old.stops || stops_in net (segment_in net part) (length part.acts))
   stops_there old seg = ap (λ s. old.stops || stops_in net s (length part.acts)) seg
 
   -- an activity
-  tallied_act : (old new : Tally) → length row.flows ≡ (knees_in net).count (length part.acts) + 1 → IsTallied net part old → AddsAct net old row.duration row.flows new → IsTallied net (with_act part row) new
+  tallied_act : (old new : Tally) → length row.flows ≡ (knees_in net).count (length part.acts) + 1 → IsTallied net part old →
+      AddsAct net old row.duration row.flows new → IsTallied net (with_act part row) new
   tallied_act old new long k added =
       let rest = added.rest in
       let seg = stretch_is_outline net part old k in
@@ -279,9 +311,15 @@ module _ (net : PricedNetwork) (part : Part) (row : ActRow) where
         acts = ap (λ t. t.acts) rest ∙ ap (λ n. n + 1) k.acts ∙ add-one (length part.acts) ∙ sym grown;
         flows = λ a below. flows_grown old new a long k.acts k.flows added below;
         costs = λ a below. costs_grown old new a k.acts k.costs added below;
-        forward = added.forward ∙ ap (λ a. old.forward + forward_by net (stretch_of old) a) k.acts ∙ forward_there old seg ∙ ap (λ x. x + forward_by net (segment_in net part) (length part.acts)) k.forward ∙ sym (ap (λ n. sum_to n (forward_by net (segment_in net part))) grown);
-        backward = added.backward ∙ ap (λ a. old.backward + backward_by net (stretch_of old) a) k.acts ∙ backward_there old seg ∙ ap (λ x. x + backward_by net (segment_in net part) (length part.acts)) k.backward ∙ sym (ap (λ n. sum_to n (backward_by net (segment_in net part))) grown);
-        stops = added.stops ∙ ap (λ a. old.stops || stops_in net (stretch_of old) a) k.acts ∙ stops_there old seg ∙ ap (λ b. b || stops_in net (segment_in net part) (length part.acts)) k.stops ∙ sym (ap (λ n. some_below n (stops_in net (segment_in net part))) grown);
+        forward = added.forward ∙ ap (λ a. old.forward + forward_by net (stretch_of old) a) k.acts ∙ forward_there old seg
+            ∙ ap (λ x. x + forward_by net (segment_in net part) (length part.acts)) k.forward
+            ∙ sym (ap (λ n. sum_to n (forward_by net (segment_in net part))) grown);
+        backward = added.backward ∙ ap (λ a. old.backward + backward_by net (stretch_of old) a) k.acts ∙ backward_there old seg
+            ∙ ap (λ x. x + backward_by net (segment_in net part) (length part.acts)) k.backward
+            ∙ sym (ap (λ n. sum_to n (backward_by net (segment_in net part))) grown);
+        stops = added.stops ∙ ap (λ a. old.stops || stops_in net (stretch_of old) a) k.acts ∙ stops_there old seg
+            ∙ ap (λ b. b || stops_in net (segment_in net part) (length part.acts)) k.stops
+            ∙ sym (ap (λ n. some_below n (stops_in net (segment_in net part))) grown);
       }
 
 -- ---- all lines
@@ -289,7 +327,8 @@ module _ (net : PricedNetwork) (part : Part) (row : ActRow) where
 kept_same : (net : PricedNetwork) (draft : Draft) (old new : Kept) → new ≡ old → IsKept net draft old → IsKept net draft new
 kept_same net draft old new same k = subst (λ x. IsKept net draft x) (sym same) k
 
-in_part : (net : PricedNetwork) (draft : Draft) (part : Part) (old new : Kept) → new ≡ record old { tally = new.tally } → IsKept net draft old → IsTallied net part new.tally → IsKept net (record draft { part = part }) new
+in_part : (net : PricedNetwork) (draft : Draft) (part : Part) (old new : Kept) → new ≡ record old { tally = new.tally } →
+    IsKept net draft old → IsTallied net part new.tally → IsKept net (record draft { part = part }) new
 in_part net draft part old new rest k tally = record {
   normal = ap (λ k. k.normal) rest ∙ k.normal;
   crash = ap (λ k. k.crash) rest ∙ k.crash;
@@ -318,9 +357,12 @@ kept_more net draft Crash old new ready k added = record {
 kept_more net draft (SegmentLine upper lower cost slope) old new ready k added =
     in_part net draft (begun_part upper lower cost slope) old new (added.0) k (tallied_begun net upper lower cost slope new.tally (added.1))
 kept_more net draft (Event code time moves) old new ready k added =
-    in_part net draft (with_event draft.part (record { code = code; time = time; moves = moves })) old new (added.0) k (tallied_event net draft.part (record { code = code; time = time; moves = moves }) old.tally new.tally ready k.tally (added.1))
+    in_part net draft (with_event draft.part (record { code = code; time = time; moves = moves })) old new (added.0) k
+    (tallied_event net draft.part (record { code = code; time = time; moves = moves }) old.tally new.tally ready k.tally (added.1))
 kept_more net draft (Act code duration flows) old new ready k added =
-    in_part net draft (with_act draft.part (record { code = code; duration = duration; flows = flows })) old new (added.0) k (tallied_act net draft.part (record { code = code; duration = duration; flows = flows }) old.tally new.tally ready k.tally (added.1))
+    in_part net draft (with_act draft.part (record { code = code; duration = duration; flows = flows })) old new (added.0) k
+    (tallied_act net draft.part (record { code = code; duration = duration; flows = flows }) old.tally new.tally ready k.tally
+    (added.1))
 kept_more net draft Close old new ready k added = record {
   normal = ap (λ k. k.normal) added ∙ k.normal;
   crash = ap (λ k. k.crash) added ∙ k.crash;

@@ -70,8 +70,10 @@ none_pulled audit left faults pulls read going = record {
 
 module _ {before now : Auditing} {left left_now : Option (List ℕ)} {faults faults_now : ℕ} {pulls pulls_now : Option ℕ} (h : IsPulling before now left left_now faults faults_now pulls pulls_now) where
   -- one more piece is pulled and used
-  pub piece_pulled : (new : Auditing) (left_new : Option (List ℕ)) (faults_new : ℕ) (pulls_new : Option ℕ) (piece : List ℕ) → Consumes left_now left_new piece → faults_new ≡ faults_now → TakesPulls 1 pulls_now pulls_new → 0 < length piece
-      → IsGoing new → new.checker.net ≡ now.checker.net → ((text : List ℕ) → HasRead text now → HasRead (text ++ piece) new) → (0 < length piece → bytes_left new < bytes_left now) → IsPulling before new left left_new faults faults_new pulls pulls_new
+  pub piece_pulled : (new : Auditing) (left_new : Option (List ℕ)) (faults_new : ℕ) (pulls_new : Option ℕ) (piece : List ℕ) →
+      Consumes left_now left_new piece → faults_new ≡ faults_now → TakesPulls 1 pulls_now pulls_new → 0 < length piece
+      → IsGoing new → new.checker.net ≡ now.checker.net → ((text : List ℕ) → HasRead text now → HasRead (text ++ piece) new) →
+      (0 < length piece → bytes_left new < bytes_left now) → IsPulling before new left left_new faults faults_new pulls pulls_new
   piece_pulled new left_new faults_new pulls_new piece taken no_fault pulled some going net goes_on less = record {
     text = h.text ++ piece;
     taken = Consumes-trans left left_now left_new h.text piece h.taken taken;
@@ -90,7 +92,9 @@ module _ {before now : Auditing} {left left_now : Option (List ℕ)} {faults fau
   pulls_and_one pulls_new pulled = TakesPulls-more (h.count + 1) (bytes_left before + 1) pulls pulls_new (omega (arith, h.fewer)) (TakesPulls-then h.count 1 pulls pulls_now pulls_new h.turns pulled)
 
   -- the source is at its end, and the text is found to be this
-  pub found_at_end : (left_new : Option (List ℕ)) (verdict : Verdict) (piece : List ℕ) → Consumes left_now left_new piece → length piece ≡ 0 → IsAtEnd left_new → ((text : List ℕ) → HasRead text now → Finds now.checker.net text verdict) → IfSome left (λ text. Finds before.checker.net text verdict)
+  pub found_at_end : (left_new : Option (List ℕ)) (verdict : Verdict) (piece : List ℕ) → Consumes left_now left_new piece →
+      length piece ≡ 0 → IsAtEnd left_new → ((text : List ℕ) → HasRead text now → Finds now.checker.net text verdict) →
+      IfSome left (λ text. Finds before.checker.net text verdict)
   found_at_end left_new verdict piece taken none end finds =
       let all = Consumes-trans left left_now left_new h.text piece h.taken taken in
       let same : h.text ++ piece ≡ h.text = ap (λ p. h.text ++ p) (nil_from_length piece none) ∙ append-nil h.text in
@@ -98,7 +102,9 @@ module _ {before now : Auditing} {left left_now : Option (List ℕ)} {faults fau
       (subst (λ t. Finds before.checker.net t verdict) (sym same) (subst (λ n. Finds n h.text verdict) h.net (finds h.text h.read)))
 
   -- the text fails in a piece that was pulled
-  pub fails_in_piece : (left_new : Option (List ℕ)) (fail : Fail) (piece : List ℕ) → Consumes left_now left_new piece → ((text more : List ℕ) → HasRead text now → IsFailing now.checker.net (text ++ (piece ++ more)) fail) → IfSome left (λ text. IsFailing before.checker.net text fail)
+  pub fails_in_piece : (left_new : Option (List ℕ)) (fail : Fail) (piece : List ℕ) → Consumes left_now left_new piece →
+      ((text more : List ℕ) → HasRead text now → IsFailing now.checker.net (text ++ (piece ++ more)) fail) →
+      IfSome left (λ text. IsFailing before.checker.net text fail)
   fails_in_piece left_new fail piece taken fails =
       with_anything left left_new (h.text ++ piece) (λ text. IsFailing before.checker.net text fail) (Consumes-trans left left_now left_new h.text piece h.taken taken)
       (λ more. subst (λ n. IsFailing n ((h.text ++ piece) ++ more) fail) h.net (subst (λ t. IsFailing now.checker.net t fail) (sym (append_assoc h.text piece more)) (fails h.text more h.read)))
@@ -118,7 +124,8 @@ module _ {before now : Auditing} {left left_now : Option (List ℕ)} {faults fau
 
 -- the source as it stood before the last pull, and as it stands
 module _ {X : Type 0} (left : X → Option (List ℕ)) (pulls : X → Option ℕ) (old mid new : X) {before now : Auditing} {faults faults_now : ℕ}
-    (h : IsPulling before now (left old) (left mid) faults faults_now (pulls old) (pulls mid)) (piece : List ℕ) (pulled : Consumes (left mid) (left new) piece) (once : TakesPulls 1 (pulls mid) (pulls new)) where
+    (h : IsPulling before now (left old) (left mid) faults faults_now (pulls old) (pulls mid)) (piece : List ℕ)
+    (pulled : Consumes (left mid) (left new) piece) (once : TakesPulls 1 (pulls mid) (pulls new)) where
   -- what is found of the bytes that were taken
   settled : (verdict : Verdict) (room : ℕ) → length piece ≤ room → Finds before.checker.net (h.text ++ piece) verdict → IsSettled before.checker.net verdict room left pulls old new
   settled verdict room fits found = record {
@@ -135,14 +142,18 @@ module _ {X : Type 0} (left : X → Option (List ℕ)) (pulls : X → Option ℕ
   }
 
   -- of a source that is at its end
-  pub settled_at_end : (verdict : Verdict) (room : ℕ) → length piece ≡ 0 → ((text : List ℕ) → HasRead text now → Finds now.checker.net text verdict) → IsSettled before.checker.net verdict room left pulls old new
+  pub settled_at_end : (verdict : Verdict) (room : ℕ) → length piece ≡ 0 →
+      ((text : List ℕ) → HasRead text now → Finds now.checker.net text verdict) →
+      IsSettled before.checker.net verdict room left pulls old new
   settled_at_end verdict room none finds =
       let same : h.text ++ piece ≡ h.text = ap (λ p. h.text ++ p) (nil_from_length piece none) ∙ append-nil h.text in
       settled verdict room (omega (arith, none))
       (subst (λ n. Finds n (h.text ++ piece) verdict) h.net (subst (λ t. Finds now.checker.net t verdict) (sym same) (finds h.text h.read)))
 
   -- of a source in which a line fails
-  pub settled_in_piece : (fail : Fail) (room : ℕ) → length piece ≤ room → ((text more : List ℕ) → HasRead text now → IsFailing now.checker.net (text ++ (piece ++ more)) fail) → IsSettled before.checker.net (No fail.line fail.reason) room left pulls old new
+  pub settled_in_piece : (fail : Fail) (room : ℕ) → length piece ≤ room →
+      ((text more : List ℕ) → HasRead text now → IsFailing now.checker.net (text ++ (piece ++ more)) fail) →
+      IsSettled before.checker.net (No fail.line fail.reason) room left pulls old new
   settled_in_piece fail room fits fails =
       settled (No fail.line fail.reason) room fits
       (subst (λ n. IsFailing n (h.text ++ piece) fail) h.net (subst (λ p. IsFailing now.checker.net (h.text ++ p) fail) (append-nil piece) (fails h.text [] h.read)))

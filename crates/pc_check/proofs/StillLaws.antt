@@ -42,7 +42,8 @@ knee_shift h t s knee rise flow = rw (below_shift t h s knee, above_shift t h s 
 slack_shift : (net : PricedNetwork) (a h t s : ℕ) (flows : List ℕ) → is_slack_in net (h + s) (t + s) a flows ≡ is_slack_in net h t a flows
 slack_shift net a h t s flows =
     let knees = knees_in net in
-    let each : each_below (knees.count a) (λ k. is_slack_at_knee (h + s) (t + s) (knees.knee a k) (knees.rise a k) (slice_index flows k)) ≡ each_below (knees.count a) (λ k. is_slack_at_knee h t (knees.knee a k) (knees.rise a k) (slice_index flows k)) =
+    let each : each_below (knees.count a) (λ k. is_slack_at_knee (h + s) (t + s) (knees.knee a k) (knees.rise a k) (slice_index flows k))
+    ≡ each_below (knees.count a) (λ k. is_slack_at_knee h t (knees.knee a k) (knees.rise a k) (slice_index flows k)) =
     each_below-same (knees.count a) _ _ (λ k lt. knee_shift h t s (knees.knee a k) (knees.rise a k) (slice_index flows k)) in
     rw (each, below_shift t h s (crash_of net.terms a)) refl
 
@@ -64,7 +65,8 @@ alike false false x y span same = record { by = 0; head_is = omega arith; tail_i
 alike true false x y span same = absurd cc
 alike false true x y span same = absurd cc
 
-grows_alike : (arcs : List Arc) (seg : Segment) (a : ℕ) → IsStill arcs seg.moves a → GrowsAlike (head_at arcs seg 0 a) (head_at arcs seg (span seg) a) (tail_at arcs seg 0 a) (tail_at arcs seg (span seg) a)
+grows_alike : (arcs : List Arc) (seg : Segment) (a : ℕ) → IsStill arcs seg.moves a →
+    GrowsAlike (head_at arcs seg 0 a) (head_at arcs seg (span seg) a) (tail_at arcs seg 0 a) (tail_at arcs seg (span seg) a)
 grows_alike arcs seg a still = alike (seg.moves (from_of arcs a)) (seg.moves (to_of arcs a)) (seg.time (from_of arcs a)) (seg.time (to_of arcs a)) (span seg) still
 
 -- where nothing has fallen, the gap is that between the times of the two events
@@ -82,7 +84,8 @@ and_itself : (b other : Bool) → other ≡ b → b ≡ (b && other)
 and_itself true other same = sym same
 and_itself false other same = refl
 
-pub still_slack : (net : PricedNetwork) (seg : Segment) (a : ℕ) (flows : List ℕ) → IsStill net.network.arcs seg.moves a → is_slack net seg 0 a flows ≡ (is_slack net seg 0 a flows && is_slack net seg (span seg) a flows)
+pub still_slack : (net : PricedNetwork) (seg : Segment) (a : ℕ) (flows : List ℕ) → IsStill net.network.arcs seg.moves a →
+    is_slack net seg 0 a flows ≡ (is_slack net seg 0 a flows && is_slack net seg (span seg) a flows)
 still_slack net seg a flows still =
     let grows = grows_alike net.network.arcs seg a still in
     let head = head_at net.network.arcs seg 0 a in

@@ -16,7 +16,8 @@ use Rattle.pc_check.specs.inside.Safe.{AreSums, IsExchanged, IsRenewed}
 abbrev put_at : List Passed → (ℕ → ℕ) → ℕ → ℕ → ℕ
 put_at rows place e a = if place a == e then flow_of rows a else 0
 
-pub sums_exchanged : (net : PricedNetwork) (rows more : List Passed) {flow cost : ℕ} (place : ℕ → ℕ) (a : ℕ) (old new : List ℕ) → a < length net.network.arcs → IsRenewed rows more a flow cost → IsExchanged old new (place a) (flow_of rows a) flow
+pub sums_exchanged : (net : PricedNetwork) (rows more : List Passed) {flow cost : ℕ} (place : ℕ → ℕ) (a : ℕ) (old new : List ℕ) →
+    a < length net.network.arcs → IsRenewed rows more a flow cost → IsExchanged old new (place a) (flow_of rows a) flow
     → AreSums net rows place old → AreSums net more place new
 sums_exchanged net rows more {flow} {cost} place a old new known renewed exchanged are = λ e lt.
     let m = length net.network.arcs in
@@ -38,7 +39,8 @@ sums_exchanged net rows more {flow} {cost} place a old new known renewed exchang
     ]
 
 -- the flow of an activity is in the sum of the event where it is put
-pub is_in_sum : (net : PricedNetwork) (rows : List Passed) (place : ℕ → ℕ) (a : ℕ) (sums : List ℕ) → a < length net.network.arcs → place a < net.network.events → AreSums net rows place sums → flow_of rows a ≤ slice_index sums (place a)
+pub is_in_sum : (net : PricedNetwork) (rows : List Passed) (place : ℕ → ℕ) (a : ℕ) (sums : List ℕ) → a < length net.network.arcs →
+    place a < net.network.events → AreSums net rows place sums → flow_of rows a ≤ slice_index sums (place a)
 is_in_sum net rows place a sums known there are =
     let own : put_at rows place (place a) a ≡ flow_of rows a = ap (λ b. cond b (flow_of rows a) 0) (eq-eqb (place a) (place a) refl) in
     omega (arith, own, sum_to-bound (length net.network.arcs) (put_at rows place (place a)) a known, are (place a) there)
@@ -52,12 +54,19 @@ either_zero true = refl
 either_zero false = refl
 
 -- no sum is larger than all activities can make it
-pub sum_small : {net : PricedNetwork} {rows : List Passed} (place : ℕ → ℕ) (sums : List ℕ) (e : ℕ) → ArePassed net rows → AreSums net rows place sums → e < net.network.events → slice_index sums e ≤ length net.network.arcs * 2 ^ 67
+pub sum_small : {net : PricedNetwork} {rows : List Passed} (place : ℕ → ℕ) (sums : List ℕ) (e : ℕ) → ArePassed net rows →
+    AreSums net rows place sums → e < net.network.events → slice_index sums e ≤ length net.network.arcs * 2 ^ 67
 sum_small {net} {rows} place sums e passed are lt =
-    omega (arith, are e lt, sum_to-most (length net.network.arcs) (2 ^ 67) (put_at rows place e) (λ a below. at_most (place a == e) (flow_of rows a) (2 ^ 67) (omega (arith, (passed.each a below).small))))
+    omega (
+      arith,
+      are e lt,
+      sum_to-most (length net.network.arcs) (2 ^ 67) (put_at rows place e)
+          (λ a below. at_most (place a == e) (flow_of rows a) (2 ^ 67) (omega (arith, (passed.each a below).small))),
+    )
 
 -- nothing flows where nothing has passed
-pub no_sums : {net : PricedNetwork} {rows : List Passed} (place : ℕ → ℕ) (sums : List ℕ) → IsNothing net rows → ((e : ℕ) → e < net.network.events → slice_index sums e ≡ 0) → AreSums net rows place sums
+pub no_sums : {net : PricedNetwork} {rows : List Passed} (place : ℕ → ℕ) (sums : List ℕ) → IsNothing net rows →
+    ((e : ℕ) → e < net.network.events → slice_index sums e ≡ 0) → AreSums net rows place sums
 no_sums {net} {rows} place sums nothing none = λ e lt.
     none e lt ∙ sym (sum_to-zero (length net.network.arcs) (put_at rows place e) (λ a below. ap (λ x. if place a == e then x else 0) (nothing.flow a below) ∙ either_zero (place a == e)))
 

@@ -47,12 +47,16 @@ ran_more : (line : CertLine) (place behind : Place) → next place line ≡ Some
 ran_more line place behind goes = ap (λ found. found >>= (λ b. ran b [])) goes
 
 -- the reason for which a line fails is told by what is kept
-reason_is : (net : PricedNetwork) (lines : List CertLine) (line : CertLine) (kept : Kept) (behind : Place) → IsSafe net kept.tally → IsBounded net kept → next kept.place line ≡ Some behind → IsKept net (draft_of lines) kept → reason_at net (draft_of lines) line ≡ first_failing (conditions net (known_by kept) line)
+reason_is : (net : PricedNetwork) (lines : List CertLine) (line : CertLine) (kept : Kept) (behind : Place) → IsSafe net kept.tally →
+    IsBounded net kept → next kept.place line ≡ Some behind → IsKept net (draft_of lines) kept →
+    reason_at net (draft_of lines) line ≡ first_failing (conditions net (known_by kept) line)
 reason_is net lines line kept behind safe bounded goes k =
     sym (reason_told net (draft_of lines) line kept safe (λ is. all_come net kept.place behind kept bounded.place (subst (λ l. next kept.place l ≡ Some behind) is goes)) k)
 
 -- a line that does not fail
-pub goes_on : {net : PricedNetwork} {lines : List CertLine} {old new : Kept} (line : CertLine) → IsSafe net old.tally → IsBounded net old → None ≡ first_failing (conditions net (known_by old) line) → Advances net line old new → IsGoing net old lines → IsGoing net new (lines ++ line ∷ [])
+pub goes_on : {net : PricedNetwork} {lines : List CertLine} {old new : Kept} (line : CertLine) → IsSafe net old.tally → IsBounded net old →
+    None ≡ first_failing (conditions net (known_by old) line) → Advances net line old new → IsGoing net old lines →
+    IsGoing net new (lines ++ line ∷ [])
 goes_on {net} {lines} {old} {new} line safe bounded reason a h =
     let passes : Passes net line old new.place = record { goes = a.goes; passes = sym reason } in
     let before = kept_more net (draft_of lines) line old a.between (ready net (draft_of lines) line old new.place bounded h.keeps passes) h.keeps a.added in
@@ -65,14 +69,18 @@ goes_on {net} {lines} {old} {new} line safe bounded reason a h =
     }
 
 -- a line that fails
-pub fails : {net : PricedNetwork} {lines : List CertLine} {kept : Kept} (line : CertLine) (behind : Place) (reason number : ℕ) → IsSafe net kept.tally → IsBounded net kept → next kept.place line ≡ Some behind → Some reason ≡ first_failing (conditions net (known_by kept) line) → number ≡ kept.lines + 1 → IsGoing net kept lines → failure_of net (lines ++ line ∷ []) ≡ Some (record { line = number; reason = reason })
+pub fails : {net : PricedNetwork} {lines : List CertLine} {kept : Kept} (line : CertLine) (behind : Place) (reason number : ℕ) →
+    IsSafe net kept.tally → IsBounded net kept → next kept.place line ≡ Some behind →
+    Some reason ≡ first_failing (conditions net (known_by kept) line) → number ≡ kept.lines + 1 → IsGoing net kept lines →
+    failure_of net (lines ++ line ∷ []) ≡ Some (record { line = number; reason = reason })
 fails {net} {lines} {kept} line behind reason number safe bounded goes found is h =
     failure_of-next net lines line h.none
     ∙ ap (λ r. or_later (1 + length lines) r None) (reason_is net lines line kept behind safe bounded goes h.keeps ∙ sym found)
     ∙ ap (λ n. Some (record { line = n; reason = reason })) (omega (arith, is, h.count))
 
 -- a failure that is kept
-pub stays : (net : PricedNetwork) (kept : Kept) (found : Option Fail) (lines : List CertLine) (line : CertLine) (fail : Fail) → found ≡ Some fail → Stands net kept found lines → Stands net kept found (lines ++ line ∷ [])
+pub stays : (net : PricedNetwork) (kept : Kept) (found : Option Fail) (lines : List CertLine) (line : CertLine) (fail : Fail) →
+    found ≡ Some fail → Stands net kept found lines → Stands net kept found (lines ++ line ∷ [])
 stays net kept found lines line fail is h =
     subst (λ f. Stands net kept f (lines ++ line ∷ [])) (sym is) (failure_of-more net lines (line ∷ []) fail (subst (λ f. Stands net kept f lines) is h))
 

@@ -48,7 +48,8 @@ contrary : (x : Fail) → None ≡ Some x → ⊥
 contrary x e = absurd cc
 
 -- the first line behind others that lead to a place may stand there
-pub next_line : (place behind : Place) (front more : List CertLine) (line : CertLine) → ran Start front ≡ Some place → ran Start (front ++ line ∷ more) ≡ Some behind → (after : Place) × (next place line ≡ Some after)
+pub next_line : (place behind : Place) (front more : List CertLine) (line : CertLine) → ran Start front ≡ Some place →
+    ran Start (front ++ line ∷ more) ≡ Some behind → (after : Place) × (next place line ≡ Some after)
 next_line place behind front more line led whole =
     let goes : ran place (line ∷ more) ≡ Some behind = ap (λ found. found >>= (λ p. ran p (line ∷ more))) (sym led) ∙ sym (ran-append Start front (line ∷ more)) ∙ whole in
     let step = bind_some (next place line) (λ p. ran p more) behind goes in
@@ -61,7 +62,8 @@ line_is_longer [] (b ∷ bad) more rest lacks same = absurd (lacks.0 (let e : 10
 line_is_longer (x ∷ line) (b ∷ bad) more rest lacks same = let shorter = line_is_longer line bad more rest (lacks.1) cc in omega (arith, shorter)
 
 -- the next line of a whole text is neither one that is not allowed nor one that is too long
-pub not_bad : (place after : Place) (line : CertLine) (bad more rest : List ℕ) → Fits line → next place line ≡ Some after → spelling line ++ 10 ∷ rest ≡ bad ++ more → IsBadLine place bad ⊎ IsTooLong bad → ⊥
+pub not_bad : (place after : Place) (line : CertLine) (bad more rest : List ℕ) → Fits line → next place line ≡ Some after →
+    spelling line ++ 10 ∷ rest ≡ bad ++ more → IsBadLine place bad ⊎ IsTooLong bad → ⊥
 not_bad place after line bad more rest fits goes same (inl is) =
     let parts = split_once 10 (spelling line) (is.0) rest more (spelling_lacks_end line fits) (is.1)
     (same ∙ ap (λ t. t ++ more) (is.2) ∙ append_assoc (is.0) (10 ∷ []) more) in
@@ -75,14 +77,16 @@ bad_is_some place [] more (inr is) same = omega (arith, is.0)
 bad_is_some place (b ∷ bad) more (inr is) same = nil_not_cons (sym same)
 
 -- behind lines that lead to a place no line is bad
-pub no_bad_line : (place : Place) (front more : List CertLine) (bad rest : List ℕ) → ran Start front ≡ Some place → ran Start (front ++ more) ≡ Some Ended → AllFit more → text_of more ≡ bad ++ rest → IsBadLine place bad ⊎ IsTooLong bad → ⊥
+pub no_bad_line : (place : Place) (front more : List CertLine) (bad rest : List ℕ) → ran Start front ≡ Some place →
+    ran Start (front ++ more) ≡ Some Ended → AllFit more → text_of more ≡ bad ++ rest → IsBadLine place bad ⊎ IsTooLong bad → ⊥
 no_bad_line place front [] bad rest led whole fit same bad_is = bad_is_some place bad rest bad_is same
 no_bad_line place front (line ∷ more) bad rest led whole fit same bad_is =
     let step = next_line place Ended front more line led whole in
     not_bad place (step.0) line bad rest (text_of more) (fit.0) (step.1) same bad_is
 
 -- no line is missing behind the lines of a whole text
-pub no_line_lacks : (place : Place) (front more : List CertLine) (held : List ℕ) → ran Start front ≡ Some place → ran Start (front ++ more) ≡ Some Ended → Lacks 10 held → text_of more ≡ held → (place ≡ Ended) × (held ≡ [])
+pub no_line_lacks : (place : Place) (front more : List CertLine) (held : List ℕ) → ran Start front ≡ Some place →
+    ran Start (front ++ more) ≡ Some Ended → Lacks 10 held → text_of more ≡ held → (place ≡ Ended) × (held ≡ [])
 no_line_lacks place front [] held led whole lacks same =
     let ends : Some place ≡ Some Ended = sym led ∙ ap (ran Start) (sym (append-nil front)) ∙ whole in
     (cc, sym same)

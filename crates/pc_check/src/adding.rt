@@ -80,7 +80,12 @@ fn renew(net: &CrashNet<'_>, tally: &mut Tally, passed: Passed)
     requires known { tally.old.acts < length net.now.network.arcs }
     requires passed { HasPassed net.now tally.old.acts passed }
     ensures row { IsRenewed tally.old.rows.items tally.new.rows.items tally.old.acts passed.flow passed.cost }
-    ensures rest { tally.new ≡ record tally.old { rows = tally.new.rows; inflow = tally.new.inflow; outflow = tally.new.outflow; spent = tally.new.spent } }
+    ensures rest { tally.new ≡ record tally.old {
+      rows = tally.new.rows;
+      inflow = tally.new.inflow;
+      outflow = tally.new.outflow;
+      spent = tally.new.spent;
+    } }
     ensures safe { IsSafe net.now tally.new }
 {
     let a = tally.acts;
@@ -109,7 +114,8 @@ fn cut_of(net: &CrashNet<'_>, tally: &Tally, a: u32, crossing: &Crossing) -> Cut
     requires known { a < length net.now.network.arcs }
     requires crossing { IsCrossing net.now.network.arcs (stretch_of tally.now) a crossing.now }
     ensures forward { result.forward ≡ (if is_forward net.now.network.arcs (stretch_of tally.now).moves a
-        then rises_above net.now.network (knees_in net.now) (stretch_of tally.now) (span (stretch_of tally.now)) a else 0) }
+        then rises_above net.now.network (knees_in net.now) (stretch_of tally.now) (span (stretch_of tally.now)) a
+        else 0) }
     ensures backward { result.backward ≡ (if is_backward net.now.network.arcs (stretch_of tally.now).moves a
         then rises_above net.now.network (knees_in net.now) (stretch_of tally.now) 0 a else 0) }
     ensures stops { result.stops ≡ stops_in net.now (stretch_of tally.now) a }

@@ -57,7 +57,8 @@ pub(crate) fn advance(
 fn judge(net: &CrashNet<'_>, kept: &mut Kept, known: &KnownLine, line: &CertLine) -> Option<u8>
     requires safe { IsSafe net.now kept.old.tally }
     requires known { known.now.line ≡ Some line.now }
-    requires fits { first_failing (conditions net.now (known_by kept.old) line.now) ≡ None → MayBeAdded net.now line.now kept.old }
+    requires fits { first_failing (conditions net.now (known_by kept.old) line.now) ≡ None →
+        MayBeAdded net.now line.now kept.old }
     ensures reason { result ≡ first_failing (conditions net.now (known_by kept.old) line.now) }
     ensures added { IfNone result (Adds net.now line.now kept.old kept.new) }
     ensures same { OnSome result (kept.new ≡ kept.old) }

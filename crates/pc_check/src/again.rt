@@ -51,7 +51,8 @@ pub(crate) fn advance_events(
     requires few { kept.old.lines < 2 ^ 63 }
     ensures same_kept { result ≡ 0 → kept.new ≡ kept.old }
     ensures same_reader { result ≡ 0 → reader.new ≡ reader.old }
-    ensures takes { 0 < result → TakesAlong piece.now result reader.old reader.new (going net.now kept.old) (going net.now kept.new) }
+    ensures takes { 0 < result → TakesAlong piece.now result reader.old reader.new (going net.now kept.old)
+        (going net.now kept.new) }
     ensures bounded { IsBounded net.now kept.new }
     ensures safe { IsSafe net.now kept.new.tally }
 {
@@ -136,7 +137,8 @@ pub(crate) fn advance_acts(
     requires few { kept.old.lines < 2 ^ 63 }
     ensures same_kept { result ≡ 0 → kept.new ≡ kept.old }
     ensures same_reader { result ≡ 0 → reader.new ≡ reader.old }
-    ensures takes { 0 < result → TakesAlong piece.now result reader.old reader.new (going net.now kept.old) (going net.now kept.new) }
+    ensures takes { 0 < result → TakesAlong piece.now result reader.old reader.new (going net.now kept.old)
+        (going net.now kept.new) }
     ensures bounded { IsBounded net.now kept.new }
     ensures safe { IsSafe net.now kept.new.tally }
 {
@@ -189,7 +191,8 @@ fn pass_same(
     requires long { kept.now.tally.lower ≢ kept.now.tally.upper }
     ensures known { 0 < result → a < length net.now.network.arcs }
     ensures same_place { result ≡ 0 → place.new ≡ place.old }
-    ensures adds { 0 < result → AddsLine net.now piece.now result place.old place.new (acts_at kept.now a) (acts_at kept.now (a + 1)) }
+    ensures adds { 0 < result → AddsLine net.now piece.now result place.old place.new (acts_at kept.now a)
+        (acts_at kept.now (a + 1)) }
 {
     if activities <= a {
         return 0;

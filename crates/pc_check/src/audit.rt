@@ -52,9 +52,11 @@ impl<'n> Audit<'n> {
     pub fn feed(&mut self, piece: &[u8]) -> Option<Fail>
         requires read { (text : List ℕ) × HasRead text self.old }
         requires going { IsGoing self.old }
-        ensures goes_on { IfNone result ((text : List ℕ) → HasRead text self.old → HasRead (text ++ piece.now) self.new) }
+        ensures goes_on { IfNone result ((text : List ℕ) → HasRead text self.old →
+            HasRead (text ++ piece.now) self.new) }
         ensures going { IfNone result (IsGoing self.new) }
-        ensures fails { IfSome result (λ fail. (text more : List ℕ) → HasRead text self.old → IsFailing self.old.checker.net (text ++ (piece.now ++ more)) fail) }
+        ensures fails { IfSome result (λ fail. (text more : List ℕ) → HasRead text self.old →
+            IsFailing self.old.checker.net (text ++ (piece.now ++ more)) fail) }
         ensures net { self.new.checker.net ≡ self.old.checker.net }
         ensures left { IfNone result (0 < length piece.now → bytes_left self.new < bytes_left self.old) }
     {
@@ -76,9 +78,11 @@ impl<'n> Audit<'n> {
         requires some { 0 < length piece.now }
         ensures within { IfOk result (λ used. used ≤ length piece.now) }
         ensures some { IfOk result (λ used. 0 < used) }
-        ensures goes_on { IfOk result (λ used. (text : List ℕ) → HasRead text self.old → HasRead (text ++ take used piece.now) self.new) }
+        ensures goes_on { IfOk result (λ used. (text : List ℕ) → HasRead text self.old →
+            HasRead (text ++ take used piece.now) self.new) }
         ensures going { OnOk result (IsGoing self.new) }
-        ensures fails { IfErr result (λ fail. (text more : List ℕ) → HasRead text self.old → IsFailing self.old.checker.net (text ++ (piece.now ++ more)) fail) }
+        ensures fails { IfErr result (λ fail. (text more : List ℕ) → HasRead text self.old →
+            IsFailing self.old.checker.net (text ++ (piece.now ++ more)) fail) }
         ensures net { self.new.checker.net ≡ self.old.checker.net }
         ensures left { OnOk result (bytes_left self.new < bytes_left self.old) }
     {
@@ -96,9 +100,11 @@ impl<'n> Audit<'n> {
         requires some { 0 < length piece.now }
         ensures within { IfOk result (λ used. used ≤ length piece.now) }
         ensures some { IfOk result (λ used. 0 < used) }
-        ensures goes_on { IfOk result (λ used. (text : List ℕ) → HasRead text self.old → HasRead (text ++ take used piece.now) self.new) }
+        ensures goes_on { IfOk result (λ used. (text : List ℕ) → HasRead text self.old →
+            HasRead (text ++ take used piece.now) self.new) }
         ensures going { OnOk result (IsGoing self.new) }
-        ensures fails { IfErr result (λ fail. (text more : List ℕ) → HasRead text self.old → IsFailing self.old.checker.net (text ++ (piece.now ++ more)) fail) }
+        ensures fails { IfErr result (λ fail. (text more : List ℕ) → HasRead text self.old →
+            IsFailing self.old.checker.net (text ++ (piece.now ++ more)) fail) }
         ensures net { self.new.checker.net ≡ self.old.checker.net }
         ensures left { OnOk result (bytes_left self.new < bytes_left self.old) }
     {

@@ -82,7 +82,8 @@ impl<'n> Checker<'n> {
     /// As `take`, of a line that stays where it is, by one who knows where the next line stands.
     pub fn take_before(&mut self, line: &CertLine, behind: Place) -> Option<Fail>
         requires { IfNone self.old.fail (next self.old.kept.place line.now ≡ Some behind) }
-        ensures stands { (lines : List CertLine) → StandsFor self.old lines → StandsFor self.new (lines ++ line.now ∷ []) }
+        ensures stands { (lines : List CertLine) → StandsFor self.old lines →
+            StandsFor self.new (lines ++ line.now ∷ []) }
         ensures fail { result ≡ self.new.fail }
         ensures again { (fail : Fail) → self.old.fail ≡ Some fail → self.new ≡ self.old }
         ensures net { self.new.net ≡ self.old.net }
@@ -101,7 +102,8 @@ impl<'n> Checker<'n> {
     ) -> Option<Fail>
         requires known { known.now.line ≡ Some line.now }
         requires goes { IfNone self.old.fail (next self.old.kept.place line.now ≡ Some behind) }
-        ensures stands { (lines : List CertLine) → StandsFor self.old lines → StandsFor self.new (lines ++ line.now ∷ []) }
+        ensures stands { (lines : List CertLine) → StandsFor self.old lines →
+            StandsFor self.new (lines ++ line.now ∷ []) }
         ensures fail { result ≡ self.new.fail }
         ensures again { (fail : Fail) → self.old.fail ≡ Some fail → self.new ≡ self.old }
         ensures net { self.new.net ≡ self.old.net }
@@ -151,7 +153,8 @@ impl<'n> Checker<'n> {
     pub fn finish(self) -> Verdict
         requires { IfNone self.fail (self.kept.place ≡ Ended) }
         ensures finds { (lines : List CertLine) → StandsFor self.entry lines → Finds self.entry.net lines result }
-        ensures curve { (lines : List CertLine) → StandsFor self.entry lines → OnYes result (AreCurve self.entry.net (segments_of self.entry.net lines)) }
+        ensures curve { (lines : List CertLine) → StandsFor self.entry lines →
+            OnYes result (AreCurve self.entry.net (segments_of self.entry.net lines)) }
     {
         let _priced = self.net.net();
         match self.fail {

@@ -74,7 +74,8 @@ fn is_conserved(net: &CrashNet<'_>, kept: &Kept) -> bool
 fn is_conserved_at(net: &CrashNet<'_>, kept: &Kept, e: u32) -> bool
     requires safe { IsSafe net.now kept.now.tally }
     requires known { e < net.now.network.events }
-    ensures { result ≡ (e == net.now.network.start || (e == net.now.network.end || (known_by kept.now).inflow e == (known_by kept.now).outflow e)) }
+    ensures { result ≡ (e == net.now.network.start || (e == net.now.network.end || (known_by kept.now).inflow e ==
+        (known_by kept.now).outflow e)) }
 {
     let tally = &kept.tally;
     // asked first, since it mostly holds

@@ -171,7 +171,8 @@ pub(crate) fn reason_at_act(
 fn has_gaps(net: &CrashNet<'_>, tally: &Tally, a: u32, crossing: &Crossing) -> bool
     requires known { a < length net.now.network.arcs }
     requires crossing { IsCrossing net.now.network.arcs (stretch_of tally.now) a crossing.now }
-    ensures { result ≡ (has_room net.now (stretch_of tally.now) 0 a && has_room net.now (stretch_of tally.now) (span (stretch_of tally.now)) a) }
+    ensures { result ≡ (has_room net.now (stretch_of tally.now) 0 a && has_room net.now (stretch_of tally.now)
+        (span (stretch_of tally.now)) a) }
 {
     let crash = net.term(a).crash;
     if !crossing.crosses() {
@@ -195,7 +196,8 @@ fn fits_gaps(net: &CrashNet<'_>, tally: &Tally, a: u32, crossing: &Crossing, flo
     requires known { a < length net.now.network.arcs }
     requires crossing { IsCrossing net.now.network.arcs (stretch_of tally.now) a crossing.now }
     requires flows { length flows.now ≡ (knees_in net.now).count a + 1 }
-    ensures { result ≡ (is_slack net.now (stretch_of tally.now) 0 a flows.now && is_slack net.now (stretch_of tally.now) (span (stretch_of tally.now)) a flows.now) }
+    ensures { result ≡ (is_slack net.now (stretch_of tally.now) 0 a flows.now && is_slack net.now
+        (stretch_of tally.now) (span (stretch_of tally.now)) a flows.now) }
 {
     if !crossing.crosses() {
         return fits_gap(net, a, crossing.upper, flows);

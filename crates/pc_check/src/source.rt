@@ -39,18 +39,21 @@ pub fn audit_source<C: Source>(
 ) -> Result<Verdict, AuditError>
     ensures finds { IfOk result (λ verdict. IfSome (C.left source.old) (λ text. Finds net.now text verdict)) }
     // nothing is pulled behind the failing line
-    ensures stops { IfOk result (λ verdict. IsSettled net.now verdict STREAM_ROOM C.left C.pulls source.old source.new) }
+    ensures stops { IfOk result (λ verdict. IsSettled net.now verdict STREAM_ROOM C.left C.pulls source.old
+        source.new) }
     ensures end { IfOk result (λ verdict. OnYes verdict (IsAtEnd (C.left source.new))) }
     ensures no_fault { OnOk result (C.faults source.new ≡ C.faults source.old) }
     ensures fault { IsErrOf result AuditError.ReadFault → Rose (C.faults source.old) (C.faults source.new) }
     // a fault counts only where no line has failed before it
-    ensures unsettled { IsErrOf result AuditError.ReadFault → IsUnsettled net.now (C.left source.old) (C.left source.new)
+    ensures unsettled { IsErrOf result AuditError.ReadFault →
+        IsUnsettled net.now (C.left source.old) (C.left source.new)
         (C.pulls source.old) (C.pulls source.new) }
     ensures no_room { IsErrOf result AuditError.OutOfMemory → source.new ≡ source.old }
     ensures count { C.faults source.old ≤ C.faults source.new }
     // the pulls are bounded by the network, and by the first upper end of the text's own segments
     ensures turns { TakesPulls (most_bytes net.now + 1) (C.pulls source.old) (C.pulls source.new) }
-    ensures own_turns { IfSome (C.left source.old) (λ text. KeepsToOwnLines net.now text (C.pulls source.old) (C.pulls source.new)) }
+    ensures own_turns { IfSome (C.left source.old)
+        (λ text. KeepsToOwnLines net.now text (C.pulls source.old) (C.pulls source.new)) }
 {
     let Ok(audit) = Audit::begin(alloc, net) else {
         return Err(AuditError::OutOfMemory);
@@ -70,8 +73,10 @@ fn audit_by<C: Source>(
     requires room { length buffer.old ≡ STREAM_ROOM }
     requires read { HasRead [] audit }
     requires going { IsGoing audit }
-    ensures finds { IfOk result (λ verdict. IfSome (C.left source.old) (λ text. Finds audit.entry.checker.net text verdict)) }
-    ensures stops { IfOk result (λ verdict. IsSettled audit.entry.checker.net verdict STREAM_ROOM C.left C.pulls source.old source.new) }
+    ensures finds { IfOk result (λ verdict. IfSome (C.left source.old)
+        (λ text. Finds audit.entry.checker.net text verdict)) }
+    ensures stops { IfOk result (λ verdict. IsSettled audit.entry.checker.net verdict STREAM_ROOM C.left C.pulls
+        source.old source.new) }
     ensures end { IfOk result (λ verdict. OnYes verdict (IsAtEnd (C.left source.new))) }
     ensures no_fault { OnOk result (C.faults source.new ≡ C.faults source.old) }
     ensures fault { IsErrOf result AuditError.ReadFault → Rose (C.faults source.old) (C.faults source.new) }

@@ -19,13 +19,15 @@ use Rattle.pc_reading.proofs.VerdictLaws.{not_both}
 
 -- ---- what holds of the bytes of one or two sources
 
-of_two : (left right : Option (List ℕ)) (P Q : List ℕ → List ℕ → Type 0) → ((bytes text : List ℕ) → P bytes text → Q bytes text) → IfSome left (λ bytes. IfSome right (P bytes)) → IfSome left (λ bytes. IfSome right (Q bytes))
+of_two : (left right : Option (List ℕ)) (P Q : List ℕ → List ℕ → Type 0) → ((bytes text : List ℕ) → P bytes text → Q bytes text) →
+    IfSome left (λ bytes. IfSome right (P bytes)) → IfSome left (λ bytes. IfSome right (Q bytes))
 of_two left right P Q follows = of_one left _ _ (λ bytes. of_one right (P bytes) (Q bytes) (follows bytes))
 
 of_any_two : (left right : Option (List ℕ)) (Q : List ℕ → List ℕ → Type 0) → ((bytes text : List ℕ) → Q bytes text) → IfSome left (λ bytes. IfSome right (Q bytes))
 of_any_two left right Q holds = of_any left _ (λ bytes. of_any right (Q bytes) (holds bytes))
 
-of_first : (left right : Option (List ℕ)) (P : List ℕ → Type 0) (Q : List ℕ → List ℕ → Type 0) → ((bytes text : List ℕ) → P bytes → Q bytes text) → IfSome left P → IfSome left (λ bytes. IfSome right (Q bytes))
+of_first : (left right : Option (List ℕ)) (P : List ℕ → Type 0) (Q : List ℕ → List ℕ → Type 0) →
+    ((bytes text : List ℕ) → P bytes → Q bytes text) → IfSome left P → IfSome left (λ bytes. IfSome right (Q bytes))
 of_first left right P Q follows = of_one left P _ (λ bytes is. of_any right (Q bytes) (λ text. follows bytes text is))
 
 -- ---- the headline
@@ -65,7 +67,8 @@ module _ {D C O E : Type 0} (words : List (String Global)) (deck : Side D) (cert
   found_failing _ (write_fault is) code at_6 = absurd (omega (arith, code, at_6))
 
   -- and pulled nothing behind it
-  pub stops_there : (status : Status) → CheckOutcome words deck cert out err status → answer ≡ code_of status → answer ≡ 6 → (line reason : ℕ) × Took out (failing_text line reason) × OfDeck deck (λ bytes. IsSettledFor bytes cert (No line reason))
+  pub stops_there : (status : Status) → CheckOutcome words deck cert out err status → answer ≡ code_of status → answer ≡ 6 →
+      (line reason : ℕ) × Took out (failing_text line reason) × OfDeck deck (λ bytes. IsSettledFor bytes cert (No line reason))
   stops_there _ (certified segments is read same) code at_6 = absurd (omega (arith, code, at_6))
   stops_there _ (not_certified line reason is same) code at_6 = (line, reason, is.took, is.settled)
   stops_there _ (deck_refused is same also) code at_6 = absurd (omega (arith, code, at_6))
@@ -95,7 +98,8 @@ module _ {D C O E : Type 0} (words : List (String Global)) (deck : Side D) (cert
   check_cut _ (write_fault is) code five = is
 
   -- a deck that is not refused is accepted
-  pub not_refused_accepts : IsOneWord words → HadNoFault deck → (status : Status) → CheckOutcome words deck cert out err status → answer ≡ code_of status → OfDeck deck (λ bytes. (RefusedBy bytes → ⊥) → AcceptedBy bytes ⊎ (answer ≡ 3))
+  pub not_refused_accepts : IsOneWord words → HadNoFault deck → (status : Status) → CheckOutcome words deck cert out err status →
+      answer ≡ code_of status → OfDeck deck (λ bytes. (RefusedBy bytes → ⊥) → AcceptedBy bytes ⊎ (answer ≡ 3))
   not_refused_accepts asked reads _ (certified segments is read same) code = of_one (deck.bytes deck.old) AcceptedBy _ (λ bytes accepted never. inl accepted) is.accepted
   not_refused_accepts asked reads _ (not_certified line reason is same) code = of_one (deck.bytes deck.old) AcceptedBy _ (λ bytes accepted never. inl accepted) is.accepted
   not_refused_accepts asked reads _ (deck_refused is same also) code =
@@ -110,7 +114,8 @@ module _ {D C O E : Type 0} (words : List (String Global)) (deck : Side D) (cert
   not_refused_accepts asked reads _ (write_fault (in_check_usage no_word took same also unused)) code = absurd (no_word asked)
 
   -- a deck with a fault is refused
-  pub refused_deck_ends : IsOneWord words → (status : Status) → CheckOutcome words deck cert out err status → answer ≡ code_of status → OfDeck deck (λ bytes. RefusedBy bytes → HadNoFault deck → HadNoFault err → (answer ≡ 1) ⊎ (answer ≡ 3))
+  pub refused_deck_ends : IsOneWord words → (status : Status) → CheckOutcome words deck cert out err status → answer ≡ code_of status →
+      OfDeck deck (λ bytes. RefusedBy bytes → HadNoFault deck → HadNoFault err → (answer ≡ 1) ⊎ (answer ≡ 3))
   refused_deck_ends asked _ (certified segments is read same) code =
       of_one (deck.bytes deck.old) AcceptedBy _ (λ bytes accepted faulty reads takes. absurd (refusal_denied bytes (faulty.0) accepted (faulty.1))) is.accepted
   refused_deck_ends asked _ (not_certified line reason is same) code =
@@ -131,31 +136,44 @@ module _ {D C O E : Type 0} (words : List (String Global)) (deck : Side D) (cert
       → OfBoth deck cert (λ bytes text. Certifies bytes text → HadNoFault deck → HadNoFault cert → HadNoFault out → (answer ≡ 0) ⊎ (answer ≡ 3))
   right_ends asked _ (certified segments is read same) code = of_any_two (deck.bytes deck.old) (cert.bytes cert.old) _ (λ bytes text sure reads also takes. inl code)
   right_ends asked _ (not_certified line reason is same) code =
-      of_two (deck.bytes deck.old) (cert.bytes cert.old) (λ bytes text. HasVerdict bytes text (No line reason)) _ (λ bytes text failing sure reads also takes. absurd (one_verdict bytes text sure (line, reason, failing))) is.has
+      of_two (deck.bytes deck.old) (cert.bytes cert.old) (λ bytes text. HasVerdict bytes text (No line reason)) _
+      (λ bytes text failing sure reads also takes. absurd (one_verdict bytes text sure (line, reason, failing))) is.has
   right_ends asked _ (deck_refused is same also) code =
-      of_first (deck.bytes deck.old) (cert.bytes cert.old) (λ bytes. IsFault bytes is.fault) _ (λ bytes text faulty sure reads all takes. absurd (refusal_denied bytes is.fault (accepted_by bytes text sure) faulty)) (refusal_is_fault deck is.fault is.refusal)
+      of_first (deck.bytes deck.old) (cert.bytes cert.old) (λ bytes. IsFault bytes is.fault) _
+      (λ bytes text faulty sure reads all takes. absurd (refusal_denied bytes is.fault (accepted_by bytes text sure) faulty))
+      (refusal_is_fault deck is.fault is.refusal)
   right_ends asked _ (check_usage no_word took same also unused) code = absurd (no_word asked)
   right_ends asked _ (no_memory one left same also) code = of_any_two (deck.bytes deck.old) (cert.bytes cert.old) _ (λ bytes text sure reads all takes. inr code)
   right_ends asked _ (read_fault one (deck_unread rose few unread) same also) code = of_any_two (deck.bytes deck.old) (cert.bytes cert.old) _ (λ bytes text sure reads all takes. absurd (reads rose))
-  right_ends asked _ (read_fault one (cert_unread read accepted rose unsettled) same also) code = of_any_two (deck.bytes deck.old) (cert.bytes cert.old) _ (λ bytes text sure reads all takes. absurd (all rose))
+  right_ends asked _ (read_fault one (cert_unread read accepted rose unsettled) same also) code =
+      of_any_two (deck.bytes deck.old) (cert.bytes cert.old) _ (λ bytes text sure reads all takes. absurd (all rose))
   right_ends asked _ (write_fault (in_verdict is same)) code = of_any_two (deck.bytes deck.old) (cert.bytes cert.old) _ (λ bytes text sure reads all takes. absurd (takes is.took.fault))
   right_ends asked _ (write_fault (in_refusal is same also)) code =
-      of_first (deck.bytes deck.old) (cert.bytes cert.old) (λ bytes. IsFault bytes is.fault) _ (λ bytes text faulty sure reads all takes. absurd (refusal_denied bytes is.fault (accepted_by bytes text sure) faulty)) (refusal_is_fault deck is.fault is.refusal)
+      of_first (deck.bytes deck.old) (cert.bytes cert.old) (λ bytes. IsFault bytes is.fault) _
+      (λ bytes text faulty sure reads all takes. absurd (refusal_denied bytes is.fault (accepted_by bytes text sure) faulty))
+      (refusal_is_fault deck is.fault is.refusal)
   right_ends asked _ (write_fault (in_check_usage no_word took same also unused)) code = absurd (no_word asked)
 
   -- each other certificate of an accepted deck is found to fail
   pub wrong_ends : IsOneWord words → (status : Status) → CheckOutcome words deck cert out err status → answer ≡ code_of status
       → OfBoth deck cert (λ bytes text. AcceptedBy bytes → (Certifies bytes text → ⊥) → HadNoFault deck → HadNoFault cert → HadNoFault out → (answer ≡ 6) ⊎ (answer ≡ 3))
   wrong_ends asked _ (certified segments is read same) code =
-      of_two (deck.bytes deck.old) (cert.bytes cert.old) (λ bytes text. HasVerdict bytes text (Yes segments)) _ (λ bytes text sure accepted wrong reads all takes. absurd (wrong (segments, sure))) is.has
+      of_two (deck.bytes deck.old) (cert.bytes cert.old) (λ bytes text. HasVerdict bytes text (Yes segments)) _
+      (λ bytes text sure accepted wrong reads all takes. absurd (wrong (segments, sure))) is.has
   wrong_ends asked _ (not_certified line reason is same) code = of_any_two (deck.bytes deck.old) (cert.bytes cert.old) _ (λ bytes text accepted wrong reads all takes. inl code)
   wrong_ends asked _ (deck_refused is same also) code =
-      of_first (deck.bytes deck.old) (cert.bytes cert.old) (λ bytes. IsFault bytes is.fault) _ (λ bytes text faulty accepted wrong reads all takes. absurd (refusal_denied bytes is.fault accepted faulty)) (refusal_is_fault deck is.fault is.refusal)
+      of_first (deck.bytes deck.old) (cert.bytes cert.old) (λ bytes. IsFault bytes is.fault) _
+      (λ bytes text faulty accepted wrong reads all takes. absurd (refusal_denied bytes is.fault accepted faulty))
+      (refusal_is_fault deck is.fault is.refusal)
   wrong_ends asked _ (check_usage no_word took same also unused) code = absurd (no_word asked)
   wrong_ends asked _ (no_memory one left same also) code = of_any_two (deck.bytes deck.old) (cert.bytes cert.old) _ (λ bytes text accepted wrong reads all takes. inr code)
-  wrong_ends asked _ (read_fault one (deck_unread rose few unread) same also) code = of_any_two (deck.bytes deck.old) (cert.bytes cert.old) _ (λ bytes text accepted wrong reads all takes. absurd (reads rose))
-  wrong_ends asked _ (read_fault one (cert_unread read is rose unsettled) same also) code = of_any_two (deck.bytes deck.old) (cert.bytes cert.old) _ (λ bytes text accepted wrong reads all takes. absurd (all rose))
+  wrong_ends asked _ (read_fault one (deck_unread rose few unread) same also) code =
+      of_any_two (deck.bytes deck.old) (cert.bytes cert.old) _ (λ bytes text accepted wrong reads all takes. absurd (reads rose))
+  wrong_ends asked _ (read_fault one (cert_unread read is rose unsettled) same also) code =
+      of_any_two (deck.bytes deck.old) (cert.bytes cert.old) _ (λ bytes text accepted wrong reads all takes. absurd (all rose))
   wrong_ends asked _ (write_fault (in_verdict is same)) code = of_any_two (deck.bytes deck.old) (cert.bytes cert.old) _ (λ bytes text accepted wrong reads all takes. absurd (takes is.took.fault))
   wrong_ends asked _ (write_fault (in_refusal is same also)) code =
-      of_first (deck.bytes deck.old) (cert.bytes cert.old) (λ bytes. IsFault bytes is.fault) _ (λ bytes text faulty accepted wrong reads all takes. absurd (refusal_denied bytes is.fault accepted faulty)) (refusal_is_fault deck is.fault is.refusal)
+      of_first (deck.bytes deck.old) (cert.bytes cert.old) (λ bytes. IsFault bytes is.fault) _
+      (λ bytes text faulty accepted wrong reads all takes. absurd (refusal_denied bytes is.fault accepted faulty))
+      (refusal_is_fault deck is.fault is.refusal)
   wrong_ends asked _ (write_fault (in_check_usage no_word took same also unused)) code = absurd (no_word asked)

@@ -19,7 +19,8 @@ use Rattle.pc_reading.specs.Priced.{priced_in}
 use Rattle.pc_reading.specs.OneWord.{IsOneWord}
 use Rattle.pc_reading.specs.inside.OneWord.{EndsWithout}
 use Rattle.pc_reading.specs.inside.OneWord as ends
-use Rattle.pc_checking.specs.Certificate.{check_usage_text, verdict_text, HasVerdict, Certifies, FailsAsCertificate, ProvesCurve, KeepsToOwnLinesFor, IsSettledFor, IsSettledIn, IsUnsettledFor, IsUnsettledIn}
+use Rattle.pc_checking.specs.Certificate.{check_usage_text, verdict_text, HasVerdict, Certifies, FailsAsCertificate, ProvesCurve}
+use Rattle.pc_checking.specs.Certificate.{KeepsToOwnLinesFor, IsSettledFor, IsSettledIn, IsUnsettledFor, IsUnsettledIn}
 use Rattle.pc_checking.specs.inside.Certificate.{IsFound, status_for, Told, told, cut, Answered, found, unread, no_room}
 use Rattle.pc_checking.specs.CheckOutcome.{IsChecked, deck_unread, cert_unread, in_verdict, in_refusal, in_check_usage}
 use Rattle.pc_checking.specs.inside.CheckOutcome.{CheckOutcome, certified, not_certified, deck_refused, check_usage, no_memory, read_fault, write_fault}
@@ -65,7 +66,9 @@ curve_of bytes text segments h = record {
 
 -- ---- bytes of two sources
 
-both_have : (left right : Option (List ℕ)) (project : Project) (verdict : Verdict) → IfSome left (λ bytes. IsProjectOf bytes project) → IfSome right (λ text. Finds (priced_in project) text verdict) → IfSome left (λ bytes. IfSome right (λ text. HasVerdict bytes text verdict))
+both_have : (left right : Option (List ℕ)) (project : Project) (verdict : Verdict) → IfSome left (λ bytes. IsProjectOf bytes project) →
+    IfSome right (λ text. Finds (priced_in project) text verdict) →
+    IfSome left (λ bytes. IfSome right (λ text. HasVerdict bytes text verdict))
 both_have None right project verdict p q = tt
 both_have (Some bytes) None project verdict p q = tt
 both_have (Some bytes) (Some text) project verdict p q = record { project = project; accepted = p; finds = q }
@@ -85,7 +88,9 @@ unsettled_for None cert project p unsettled = tt
 unsettled_for (Some bytes) cert project p unsettled = record { project = project; accepted = p; unsettled = unsettled }
 
 -- what holds of the project of a deck holds of each project of it
-pub of_each_project : (left : Option (List ℕ)) (project : Project) (P : Project → Type 0) → IfSome left (λ bytes. IsProjectOf bytes project) → P project → IfSome left (λ bytes. (other : Project) → IsProjectOf bytes other → P other)
+pub of_each_project : (left : Option (List ℕ)) (project : Project) (P : Project → Type 0) →
+    IfSome left (λ bytes. IsProjectOf bytes project) → P project →
+    IfSome left (λ bytes. (other : Project) → IsProjectOf bytes other → P other)
 of_each_project None project P is holds = tt
 of_each_project (Some bytes) project P is holds = λ other also. subst P (one_project bytes project other is also) holds
 
@@ -110,7 +115,8 @@ unpulled_keeps_to_lines (Some bytes) (Some text) pulls = λ project is. unpulled
 -- ---- outcomes
 
 module _ {D C O E : Type 0} (words : List (String Global)) (deck : Side D) (cert : Side C) (out : Side O) (err : Side E) where
-  checked : (project : Project) (verdict : Verdict) → IsOneWord words → HasProject deck project → IsFound (priced_in project) cert verdict → Took out (verdict_text verdict) → IsChecked words deck cert out verdict
+  checked : (project : Project) (verdict : Verdict) → IsOneWord words → HasProject deck project → IsFound (priced_in project) cert verdict →
+      Took out (verdict_text verdict) → IsChecked words deck cert out verdict
   checked project verdict asked has finds took = record {
     asked = asked;
     read = has.read;
@@ -120,11 +126,14 @@ module _ {D C O E : Type 0} (words : List (String Global)) (deck : Side D) (cert
     took = took;
   }
 
-  after_verdict : (project : Project) (verdict : Verdict) → IsOneWord words → HasProject deck project → IsFound (priced_in project) cert verdict → Took out (verdict_text verdict) → IsUntouched err → CheckOutcome words deck cert out err (status_for verdict)
+  after_verdict : (project : Project) (verdict : Verdict) → IsOneWord words → HasProject deck project →
+      IsFound (priced_in project) cert verdict → Took out (verdict_text verdict) → IsUntouched err →
+      CheckOutcome words deck cert out err (status_for verdict)
   after_verdict project (Yes segments) asked has finds took same = certified segments (checked project (Yes segments) asked has finds took) finds.end same
   after_verdict project (No line reason) asked has finds took same = not_certified line reason (checked project (No line reason) asked has finds took) same
 
-  after_told : (project : Project) (verdict : Verdict) (status : Status) → IsOneWord words → HasProject deck project → IsFound (priced_in project) cert verdict → IsUntouched err → Told verdict out status → CheckOutcome words deck cert out err status
+  after_told : (project : Project) (verdict : Verdict) (status : Status) → IsOneWord words → HasProject deck project →
+      IsFound (priced_in project) cert verdict → IsUntouched err → Told verdict out status → CheckOutcome words deck cert out err status
   after_told project verdict _ asked has finds same (told status is took) = subst (CheckOutcome words deck cert out err) (sym is) (after_verdict project verdict asked has finds took same)
   after_told project verdict _ asked has finds same (cut took) = write_fault (in_verdict (record {
     asked = asked;

@@ -36,11 +36,14 @@ price_to-room list duration k small inside =
     omega (
       arith,
       small.few,
-      sum_to-most k 10000000000000 (λ j. (knee_at list j).rise * ((knee_at list j).at - duration)) (λ j below. price-most (knee_at list j).at (knee_at list j).rise duration (small.low j (omega arith)) (small.gentle j (omega arith))),
+      sum_to-most k 10000000000000 (λ j. (knee_at list j).rise * ((knee_at list j).at - duration))
+          (λ j below. price-most (knee_at list j).at (knee_at list j).rise duration (small.low j (omega arith))
+          (small.gentle j (omega arith))),
       price-most (knee_at list k).at (knee_at list k).rise duration (small.low k inside) (small.gentle k inside),
     )
 
-module _ (net : Network) (terms : List Term) (pieces : List PieceRow) (fit : AreTerms net terms) (limits : AreWithinLimits terms) (right : ArePieces terms pieces) (small : ArePiecesWithinLimits pieces) (a : ℕ) (inside : a < length terms) where
+module _ (net : Network) (terms : List Term) (pieces : List PieceRow) (fit : AreTerms net terms) (limits : AreWithinLimits terms)
+    (right : ArePieces terms pieces) (small : ArePiecesWithinLimits pieces) (a : ℕ) (inside : a < length terms) where
   in_net : a < length net.arcs
   in_net = omega (arith, fit.one_each)
 
@@ -88,7 +91,12 @@ module _ (net : Network) (terms : List Term) (pieces : List PieceRow) (fit : Are
         arith,
         limits.cheap a inside,
         sum_to-le count (λ k. (knees_of terms pieces).rise a k * ((knees_of terms pieces).knee a k - duration)) (λ k. MAX_DURATION * (knees_of terms pieces).rise a k)
-            (λ k below. omega (arith, mul-le-mul_left ((knees_of terms pieces).rise a k) (let low : (knees_of terms pieces).knee a k - duration ≤ MAX_DURATION = omega (arith, knee-most k below) in low), mul_comm MAX_DURATION ((knees_of terms pieces).rise a k))),
+            (λ k below. omega (
+              arith,
+              mul-le-mul_left ((knees_of terms pieces).rise a k)
+                  (let low : (knees_of terms pieces).knee a k - duration ≤ MAX_DURATION = omega (arith, knee-most k below) in low),
+              mul_comm MAX_DURATION ((knees_of terms pieces).rise a k),
+            )),
         sum_to-times count MAX_DURATION ((knees_of terms pieces).rise a),
         mul-le-mul {m₂ = 100000000} (let same : MAX_DURATION ≤ 100000 = omega arith in same) last,
       )

@@ -28,7 +28,9 @@ AreGroups-push n groups group all is = record {
 }
 
 -- there is room for the next piece in the group of its activity
-pub group_room : (terms : List Term) (pieces : List PieceRow) (i n x : ℕ) (groups : List (ArrayVec PieceRow)) → ArePieces terms pieces → AreGroups (take i pieces) n groups → i < length pieces → (piece_at pieces i).activity ≡ x → x < n → x < length terms → length (group_at groups x) < MAX_PIECES_EACH
+pub group_room : (terms : List Term) (pieces : List PieceRow) (i n x : ℕ) (groups : List (ArrayVec PieceRow)) → ArePieces terms pieces →
+    AreGroups (take i pieces) n groups → i < length pieces → (piece_at pieces i).activity ≡ x → x < n → x < length terms →
+    length (group_at groups x) < MAX_PIECES_EACH
 group_room terms pieces i n x groups right all inside is known in_terms =
     omega (
       arith,
@@ -45,11 +47,15 @@ group_room terms pieces i n x groups right all inside is known in_terms =
     of_x piece = piece.activity == x
 
 -- one more piece comes to those of its activity
-pub AreGroups-more : (pieces : List PieceRow) (i n x : ℕ) (groups : List (ArrayVec PieceRow)) (group : ArrayVec PieceRow) → AreGroups (take i pieces) n groups → i < length pieces → (piece_at pieces i).activity ≡ x → x < n → group.items ≡ group_at groups x ++ piece_at pieces i ∷ [] → AreGroups (take (i + 1) pieces) n (set groups x group)
+pub AreGroups-more : (pieces : List PieceRow) (i n x : ℕ) (groups : List (ArrayVec PieceRow)) (group : ArrayVec PieceRow) →
+    AreGroups (take i pieces) n groups → i < length pieces → (piece_at pieces i).activity ≡ x → x < n →
+    group.items ≡ group_at groups x ++ piece_at pieces i ∷ [] → AreGroups (take (i + 1) pieces) n (set groups x group)
 AreGroups-more pieces i n x groups group all inside is known longer = record {
   one_each = length-set groups x group ∙ all.one_each;
   each = λ a below. ⊎_elim
-      (λ same. ap (λ (g : ArrayVec PieceRow). g.items) (ap (λ b. get b) same ∙ get_or-set_same groups x group nothing (omega (arith, all.one_each))) ∙ longer ∙ ap (λ (items : List PieceRow). items ++ piece_at pieces i ∷ []) (all.each x known)
+      (λ same. ap (λ (g : ArrayVec PieceRow). g.items)
+      (ap (λ b. get b) same ∙ get_or-set_same groups x group nothing (omega (arith, all.one_each))) ∙ longer
+      ∙ ap (λ (items : List PieceRow). items ++ piece_at pieces i ∷ []) (all.each x known)
       ∙ sym (ap (pieces_of (take (i + 1) pieces)) same ∙ pieces_of-here pieces i x inside is))
       (λ other. ap (λ (g : ArrayVec PieceRow). g.items) (get_or-set_other groups x a group nothing other) ∙ all.each a below ∙ sym (pieces_of-elsewhere pieces i a inside (λ e. other (sym e ∙ is))))
       (cases_eq a x);

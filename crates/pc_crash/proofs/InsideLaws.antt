@@ -18,7 +18,8 @@ pub rows-each : (s : Inside) → IsWholeInside s → length s.layout.rows.items 
 rows-each s is = sym (length-map s.layout.rows.items (λ row. row.term)) ∙ is.whole.terms.one_each
 
 -- what is read of an activity's row
-pub row-read : (s : Inside) (a : ℕ) (row : Row) → IsWholeInside s → a < length s.net.now.arcs → row ≡ get_or s.layout.rows.items a row → IsRowOf s.net.now.arcs (priced_network s).terms s.pieces.items s.layout.knees.items a row
+pub row-read : (s : Inside) (a : ℕ) (row : Row) → IsWholeInside s → a < length s.net.now.arcs → row ≡ get_or s.layout.rows.items a row →
+    IsRowOf s.net.now.arcs (priced_network s).terms s.pieces.items s.layout.knees.items a row
 row-read s a row is inside read =
     let here : a < length s.layout.rows.items = omega (arith, rows-each s is) in
     subst (IsRowOf s.net.now.arcs (priced_network s).terms s.pieces.items s.layout.knees.items a)
@@ -26,7 +27,9 @@ row-read s a row is inside read =
     (is.laid.each a here)
 
 -- the knees of a row are those of its activity
-pub knees-read : (s : Inside) (a : ℕ) (row : Row) → IsRowOf s.net.now.arcs (priced_network s).terms s.pieces.items s.layout.knees.items a row → AreKneesOf (knees_in (priced_network s)) a (part_of s.layout.knees.items row)
+pub knees-read : (s : Inside) (a : ℕ) (row : Row) →
+    IsRowOf s.net.now.arcs (priced_network s).terms s.pieces.items s.layout.knees.items a row →
+    AreKneesOf (knees_in (priced_network s)) a (part_of s.layout.knees.items row)
 knees-read s a row is = subst (AreKneesOf (knees_in (priced_network s)) a) (sym is.part) (AreKneesOf-knee_list (priced_network s).terms s.pieces.items a)
 
 -- what is known once an activity's row was read
@@ -41,5 +44,6 @@ activity-read s a row is known read =
     record { known = omega (arith, known, is.whole.terms.one_each); is = found; knees = knees-read s a row found }
 
 -- the terms that are laid out are those given
-pub terms-laid : (arcs : List Arc) (terms : List Term) (pieces : List PieceRow) (rows : List Row) (knees : List Knee) → AreLaid arcs terms pieces (length terms) rows knees → map (λ row. row.term) rows ≡ terms
+pub terms-laid : (arcs : List Arc) (terms : List Term) (pieces : List PieceRow) (rows : List Row) (knees : List Knee) →
+    AreLaid arcs terms pieces (length terms) rows knees → map (λ row. row.term) rows ≡ terms
 terms-laid arcs terms pieces rows knees laid = laid.same_terms ∙ take_all (length terms) terms (omega arith)

@@ -24,7 +24,9 @@ pub record IsPushed (term : Term) (pieces : List PieceRow) (before : List Knee) 
   pub rising : IsRising slope (drop i pieces)
 
 -- only the normal duration is there
-pub IsPushed-start : (term : Term) (pieces : List PieceRow) (before : List Knee) (next : ℕ) → IsRising term.slope pieces → next ≡ term.crash + units_of pieces → IsPushed term pieces before 0 next term.slope (before ++ record { at = term.normal; rise = term.slope } ∷ [])
+pub IsPushed-start : (term : Term) (pieces : List PieceRow) (before : List Knee) (next : ℕ) → IsRising term.slope pieces →
+    next ≡ term.crash + units_of pieces →
+    IsPushed term pieces before 0 next term.slope (before ++ record { at = term.normal; rise = term.slope } ∷ [])
 IsPushed-start term pieces before next rising is = record {
   pushed = append_assoc before (record { at = term.normal; rise = term.slope } ∷ []) (piece_knees term.crash term.slope pieces);
   duration = is;
@@ -32,20 +34,29 @@ IsPushed-start term pieces before next rising is = record {
 }
 
 -- what is left begins with the next piece
-pub IsPushed-next : (term : Term) (pieces : List PieceRow) (before : List Knee) (i next slope : ℕ) (knees : List Knee) → IsPushed term pieces before i next slope knees → i < length pieces → (slope < (piece_at pieces i).slope) × ((piece_at pieces i).units ≤ next)
+pub IsPushed-next : (term : Term) (pieces : List PieceRow) (before : List Knee) (i next slope : ℕ) (knees : List Knee) →
+    IsPushed term pieces before i next slope knees → i < length pieces →
+    (slope < (piece_at pieces i).slope) × ((piece_at pieces i).units ≤ next)
 IsPushed-next term pieces before i next slope knees done inside =
     let first = drop_more pieces i (record { activity = 0; units = 0; slope = 0 }) inside in
     let rising : IsRising slope (piece_at pieces i ∷ drop (i + 1) pieces) = subst (IsRising slope) first done.rising in
     (rising.0, omega (arith, done.duration, units_of-next pieces i inside))
 
 -- one more knee
-pub IsPushed-more : (term : Term) (pieces : List PieceRow) (before : List Knee) (i next slope : ℕ) (knees : List Knee) (knee : Knee) → IsPushed term pieces before i next slope knees → i < length pieces → knee ≡ record { at = next; rise = (piece_at pieces i).slope - slope } →
+pub IsPushed-more : (term : Term) (pieces : List PieceRow) (before : List Knee) (i next slope : ℕ) (knees : List Knee) (knee : Knee) →
+    IsPushed term pieces before i next slope knees → i < length pieces →
+    knee ≡ record { at = next; rise = (piece_at pieces i).slope - slope } →
     IsPushed term pieces before (i + 1) (next - (piece_at pieces i).units) (piece_at pieces i).slope (knees ++ knee ∷ [])
 IsPushed-more term pieces before i next slope knees knee done inside is =
     let first = drop_more pieces i (record { activity = 0; units = 0; slope = 0 }) inside in
     let rising : IsRising slope (piece_at pieces i ∷ drop (i + 1) pieces) = subst (IsRising slope) first done.rising in
     let rest = piece_knees term.crash (piece_at pieces i).slope (drop (i + 1) pieces) in
-    let here : knee ≡ record { at = term.crash + units_of (piece_at pieces i ∷ drop (i + 1) pieces); rise = (piece_at pieces i).slope - slope } = is ∙ ap (λ d. record { at = d; rise = (piece_at pieces i).slope - slope }) (done.duration ∙ ap (λ ps. term.crash + units_of ps) first) in
+    let here : knee ≡ record {
+      at = term.crash + units_of (piece_at pieces i ∷ drop (i + 1) pieces);
+      rise = (piece_at pieces i).slope - slope;
+    } = is
+    ∙ ap (λ d. record { at = d; rise = (piece_at pieces i).slope - slope })
+    (done.duration ∙ ap (λ ps. term.crash + units_of ps) first) in
     record {
       pushed = append_assoc knees (knee ∷ []) rest ∙ ap (λ k. knees ++ k ∷ rest) here ∙ ap (λ ps. knees ++ piece_knees term.crash slope ps) (sym first) ∙ done.pushed;
       duration = omega (arith, done.duration, units_of-next pieces i inside);
@@ -53,7 +64,8 @@ IsPushed-more term pieces before i next slope knees knee done inside is =
     }
 
 -- all knees are there
-pub IsPushed-end : (term : Term) (pieces : List PieceRow) (before : List Knee) (i next slope : ℕ) (knees : List Knee) → IsPushed term pieces before i next slope knees → length pieces ≤ i → knees ≡ before ++ knee_list term pieces
+pub IsPushed-end : (term : Term) (pieces : List PieceRow) (before : List Knee) (i next slope : ℕ) (knees : List Knee) →
+    IsPushed term pieces before i next slope knees → length pieces ≤ i → knees ≡ before ++ knee_list term pieces
 IsPushed-end term pieces before i next slope knees done past =
     sym (append-nil knees) ∙ ap (λ ps. knees ++ piece_knees term.crash slope ps) (sym (drop_all i pieces past)) ∙ done.pushed
 
@@ -116,7 +128,8 @@ IsRising-from_slopes term pieces rising =
     rising_list term pieces (λ k inside. omega (arith, rising k inside, ap (slope_in term pieces) (add-one k)))
 
 -- the pieces of an activity and its crash duration are together no longer than its normal one
-pub units-most : (terms : List Term) (pieces : List PieceRow) (a : ℕ) → ArePieces terms pieces → a < length terms → (term_at terms a).crash ≤ (term_at terms a).normal → (term_at terms a).crash + units_of (pieces_of pieces a) ≤ (term_at terms a).normal
+pub units-most : (terms : List Term) (pieces : List PieceRow) (a : ℕ) → ArePieces terms pieces → a < length terms →
+    (term_at terms a).crash ≤ (term_at terms a).normal → (term_at terms a).crash + units_of (pieces_of pieces a) ≤ (term_at terms a).normal
 units-most terms pieces a right inside ordered =
     elim (cases_lt 0 (length (pieces_of pieces a))) [
       | inl some ↦ omega (arith, right.leaving a inside some)

@@ -35,7 +35,8 @@ range_last items more first count begins counts =
     ap (take (first + count - first)) (drop_at items more first (sym begins)) ∙ take_all (first + count - first) more (omega arith)
 
 -- a row stays that of its activity when more knees are put behind
-IsRowOf-append : (arcs : List Arc) (terms : List Term) (pieces : List PieceRow) (knees more : List Knee) (a : ℕ) (row : Row) → IsRowOf arcs terms pieces knees a row → IsRowOf arcs terms pieces (knees ++ more) a row
+IsRowOf-append : (arcs : List Arc) (terms : List Term) (pieces : List PieceRow) (knees more : List Knee) (a : ℕ) (row : Row) →
+    IsRowOf arcs terms pieces knees a row → IsRowOf arcs terms pieces (knees ++ more) a row
 IsRowOf-append arcs terms pieces knees more a row is = record {
   arc = is.arc;
   term = is.term;
@@ -45,13 +46,18 @@ IsRowOf-append arcs terms pieces knees more a row is = record {
 }
 
 -- one more activity is laid out
-pub AreLaid-push : (arcs : List Arc) (terms : List Term) (pieces : List PieceRow) (n : ℕ) (rows : List Row) (knees more : List Knee) (row : Row) → AreLaid arcs terms pieces n rows knees → n < length terms → row.arc ≡ arc_at arcs n → row.term ≡ term_at terms n → row.first ≡ length knees → row.count ≡ length more → row.count ≤ MAX_PIECES_EACH + 1 → more ≡ knee_list (term_at terms n) (pieces_of pieces n) → AreLaid arcs terms pieces (n + 1) (rows ++ row ∷ []) (knees ++ more)
+pub AreLaid-push : (arcs : List Arc) (terms : List Term) (pieces : List PieceRow) (n : ℕ) (rows : List Row) (knees more : List Knee)
+    (row : Row) → AreLaid arcs terms pieces n rows knees → n < length terms → row.arc ≡ arc_at arcs n → row.term ≡ term_at terms n →
+    row.first ≡ length knees → row.count ≡ length more → row.count ≤ MAX_PIECES_EACH + 1 →
+    more ≡ knee_list (term_at terms n) (pieces_of pieces n) → AreLaid arcs terms pieces (n + 1) (rows ++ row ∷ []) (knees ++ more)
 AreLaid-push arcs terms pieces n rows knees more row laid inside same_arc same_term begins counts few is = record {
   one_each = length_push rows row ∙ ap (λ k. k + 1) laid.one_each;
-  same_terms = map-append (λ (r : Row). r.term) rows (row ∷ []) ∙ ap (λ ts. ts ++ row.term ∷ []) laid.same_terms ∙ ap (λ t. take n terms ++ t ∷ []) same_term ∙ sym (take_more terms n (record { normal = 0; crash = 0; cost = 0; slope = 0 }) inside);
+  same_terms = map-append (λ (r : Row). r.term) rows (row ∷ []) ∙ ap (λ ts. ts ++ row.term ∷ []) laid.same_terms
+      ∙ ap (λ t. take n terms ++ t ∷ []) same_term ∙ sym (take_more terms n (record { normal = 0; crash = 0; cost = 0; slope = 0 }) inside);
   small = omega (arith, laid.small, length-append knees more);
   each = λ a below. ⊎_elim
-      (λ same. subst (λ b. IsRowOf arcs terms pieces (knees ++ more) b (row_at (rows ++ row ∷ []) b)) (sym same) (subst (IsRowOf arcs terms pieces (knees ++ more) n) (sym (get_or_push rows row none n laid.one_each)) new))
+      (λ same. subst (λ b. IsRowOf arcs terms pieces (knees ++ more) b (row_at (rows ++ row ∷ []) b)) (sym same)
+      (subst (IsRowOf arcs terms pieces (knees ++ more) n) (sym (get_or_push rows row none n laid.one_each)) new))
       (λ other. subst (IsRowOf arcs terms pieces (knees ++ more) a) (sym (kept a (omega arith))) (IsRowOf-append arcs terms pieces knees more a (row_at rows a) (laid.each a (omega arith))))
       (cases_eq a n);
   apart = λ a b order below. ⊎_elim

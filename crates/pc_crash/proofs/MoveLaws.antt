@@ -1,7 +1,8 @@
 -- Another term for one activity: its knees move to where they belong, and all others stay.
 use Rattle.std.proofs.Common.{◌≡◌, ◌≢◌, ℕ, zero, suc, ◌+◌, ◌-◌, ◌<◌, ◌≤◌, List, length, map, take, drop, set, slice_range, get_or, refl, sym, ◌∙◌, ap, subst, ⊎_elim, arith}
 use Rattle.std.proofs.lemmas.Bool.{cases_eq, cases_lt}
-use Rattle.std.proofs.lemmas.List.{get_or-set_same, get_or-set_other, length-set, length-map, length-take, length-drop, length-append, map-set, take_all, same_lists, get_or_default, get_or_read, with_items_is}
+use Rattle.std.proofs.lemmas.List.{get_or-set_same, get_or-set_other, length-set, length-map, length-take, length-drop}
+use Rattle.std.proofs.lemmas.List.{length-append, map-set, take_all, same_lists, get_or_default, get_or_read, with_items_is}
 use borrow.Rule.Slice.PartMut.{put_mid}
 use Rattle.std.specs.Vec.{with_item, with_items}
 use Rattle.std.proofs.lemmas.Slice.{take-put_mid_below, drop-put_mid, between-put_mid, between_is}
@@ -88,7 +89,9 @@ module _ (old new : Term) (own : List PieceRow) where
       below : k < length own
       below = omega (arith, length-knee_list old own)
 
-module _ (net : PricedNetwork) (whole : IsWhole net) (a : ℕ) (inside : a < length net.terms) (new : Term) (limits : AreWithinLimits (set net.terms a new)) (fit : AreTerms net.network (set net.terms a new)) (right : ArePieces (set net.terms a new) net.pieces) where
+module _ (net : PricedNetwork) (whole : IsWhole net) (a : ℕ) (inside : a < length net.terms) (new : Term)
+    (limits : AreWithinLimits (set net.terms a new)) (fit : AreTerms net.network (set net.terms a new))
+    (right : ArePieces (set net.terms a new) net.pieces) where
   abbrev own : List PieceRow
   own = pieces_of net.pieces a
 
@@ -224,7 +227,8 @@ module _ (arcs : List Arc) (terms : List Term) (pieces : List PieceRow) (rows : 
   }
 
 -- what a call that sets a term reads and writes: the row of activity a, and its part of the knees
-module _ (s : Inside) (net : PricedNetwork) (view : priced_network s ≡ net) (inv : IsWholeInside s) (a : ℕ) (known : a < length net.network.arcs) (row : Row) (read : row ≡ get_or s.layout.rows.items a row) where
+module _ (s : Inside) (net : PricedNetwork) (view : priced_network s ≡ net) (inv : IsWholeInside s) (a : ℕ)
+    (known : a < length net.network.arcs) (row : Row) (read : row ≡ get_or s.layout.rows.items a row) where
   in_inside : a < length s.net.now.arcs
   in_inside = omega (arith, ap (λ (n : PricedNetwork). length n.network.arcs) view)
 
@@ -238,7 +242,8 @@ module _ (s : Inside) (net : PricedNetwork) (view : priced_network s ≡ net) (i
   pub row_room : row.first + row.count ≤ 100000
   row_room = omega (arith, read_row.within, inv.laid.small, inv.whole.limits.few, length-map s.layout.rows.items (λ (r : Row). r.term))
 
-  module _ (new : Term) (fit : AreTerms net.network (set net.terms a new)) (limits : AreWithinLimits (set net.terms a new)) (right : ArePieces (set net.terms a new) net.pieces) (knees : List Knee) (all : knees ≡ s.layout.knees.items) where
+  module _ (new : Term) (fit : AreTerms net.network (set net.terms a new)) (limits : AreWithinLimits (set net.terms a new))
+      (right : ArePieces (set net.terms a new) net.pieces) (knees : List Knee) (all : knees ≡ s.layout.knees.items) where
     fit' : AreTerms s.net.now (set (priced_network s).terms a new)
     fit' = subst (λ (n : PricedNetwork). AreTerms n.network (set n.terms a new)) (sym view) fit
 
@@ -273,13 +278,15 @@ module _ (s : Inside) (net : PricedNetwork) (view : priced_network s ≡ net) (i
       after_set = record s { layout = record { rows = with_item s.layout.rows a set_row; knees = with_items s.layout.knees set_knees } }
 
       read_as : (r : Row) → r ≡ get_or s.layout.rows.items a r → r ≡ row_at s.layout.rows.items a
-      read_as r is = get_or_read s.layout.rows.items a r (omega (arith, in_inside, rows-each s inv)) is (record { arc = record { from = 0; to = 0 }; term = record { normal = 0; crash = 0; cost = 0; slope = 0 }; first = 0; count = 0 })
+      read_as r is = get_or_read s.layout.rows.items a r (omega (arith, in_inside, rows-each s inv)) is
+          (record { arc = record { from = 0; to = 0 }; term = record { normal = 0; crash = 0; cost = 0; slope = 0 }; first = 0; count = 0 })
 
       same_row : row' ≡ row
       same_row = read_as row' read' ∙ sym (read_as row read)
 
       laid_as : AreLaid s.net.now.arcs (priced_network s).terms s.pieces.items (length (priced_network s).terms) s.layout.rows.items s.layout.knees.items
-      laid_as = subst (λ n. AreLaid s.net.now.arcs (priced_network s).terms s.pieces.items n s.layout.rows.items s.layout.knees.items) (sym (length-map s.layout.rows.items (λ (r : Row). r.term))) inv.laid
+      laid_as = subst (λ n. AreLaid s.net.now.arcs (priced_network s).terms s.pieces.items n s.layout.rows.items s.layout.knees.items)
+          (sym (length-map s.layout.rows.items (λ (r : Row). r.term))) inv.laid
 
       moved_part : new_part ≡ knee_list new (pieces_of s.pieces.items a)
       moved_part =
@@ -294,9 +301,11 @@ module _ (s : Inside) (net : PricedNetwork) (view : priced_network s ≡ net) (i
           range-size : length part ≡ row.first + row.count - row.first
           range-size = simp (length-take, length-drop) (omega (arith, read_row.within, ap (λ (ks : List Knee). length ks) all))
 
-      set_laid : AreLaid s.net.now.arcs (set (priced_network s).terms a new) s.pieces.items (length (priced_network s).terms) (set s.layout.rows.items a set_row) (put_mid row.first (row.first + row.count - row.first) s.layout.knees.items new_part)
+      set_laid : AreLaid s.net.now.arcs (set (priced_network s).terms a new) s.pieces.items (length (priced_network s).terms)
+          (set s.layout.rows.items a set_row) (put_mid row.first (row.first + row.count - row.first) s.layout.knees.items new_part)
       set_laid =
-          AreLaid-set s.net.now.arcs (priced_network s).terms s.pieces.items s.layout.rows.items s.layout.knees.items laid_as a in_terms new set_row row.first (row.first + row.count - row.first) new_part
+          AreLaid-set s.net.now.arcs (priced_network s).terms s.pieces.items s.layout.rows.items s.layout.knees.items laid_as a in_terms new
+          set_row row.first (row.first + row.count - row.first) new_part
           (ap (λ (r : Row). r.first) (read_as row read))
           (omega (arith, ap (λ (r : Row). r.count) (read_as row read)))
           long moved_part
@@ -328,7 +337,9 @@ module _ (s : Inside) (net : PricedNetwork) (view : priced_network s ≡ net) (i
           activities = inv.whole.activities;
         };
         laid =
-            rw (terms_set, knees_set) (subst (λ n. AreLaid s.net.now.arcs (set (priced_network s).terms a new) s.pieces.items n (set s.layout.rows.items a set_row) (put_mid row.first (row.first + row.count - row.first) s.layout.knees.items new_part))
+            rw (terms_set, knees_set) (subst
+            (λ n. AreLaid s.net.now.arcs (set (priced_network s).terms a new) s.pieces.items n (set s.layout.rows.items a set_row)
+            (put_mid row.first (row.first + row.count - row.first) s.layout.knees.items new_part))
             (length-map s.layout.rows.items (λ (r : Row). r.term) ∙ sym (length-set s.layout.rows.items a set_row)) set_laid);
       }
 

@@ -8,7 +8,8 @@ use Rattle.pc_model.specs.Pieces.{pieces_of}
 use Rattle.pc_crash.specs.Priced.{piece_at}
 
 -- a piece of the activity is its next one
-pub pieces_of-here : (pieces : List PieceRow) (i a : ℕ) → i < length pieces → (piece_at pieces i).activity ≡ a → pieces_of (take (i + 1) pieces) a ≡ pieces_of (take i pieces) a ++ piece_at pieces i ∷ []
+pub pieces_of-here : (pieces : List PieceRow) (i a : ℕ) → i < length pieces → (piece_at pieces i).activity ≡ a →
+    pieces_of (take (i + 1) pieces) a ≡ pieces_of (take i pieces) a ++ piece_at pieces i ∷ []
 pieces_of-here pieces i a inside is =
     filter_more (λ (piece : PieceRow). piece.activity == a) pieces i (record { activity = 0; units = 0; slope = 0 }) inside
     ∙ ap (λ b. pieces_of (take i pieces) a ++ cond b (piece_at pieces i ∷ []) []) (eq-eqb _ _ is)

@@ -44,7 +44,8 @@ impl<'n> CrashNet<'n> {
 /// What it costs to shorten an activity with these knees to a duration.
 fn price_of(knees: &[Knee], duration: u64) -> u64
     requires { AreSmallKnees knees.now }
-    ensures { result ≡ sum_to (length knees.now) (λ k. (knee_at knees.now k).rise * ((knee_at knees.now k).at - duration)) }
+    ensures { result ≡ sum_to (length knees.now)
+        (λ k. (knee_at knees.now k).rise * ((knee_at knees.now k).at - duration)) }
 {
     let mut price = 0;
     for knee in knees {

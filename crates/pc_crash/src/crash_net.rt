@@ -138,7 +138,8 @@ impl<'n> CrashNet<'n> {
     pub fn activity_named(&self, code: &Code) -> Option<u32>
         ensures known { IfSome result (λ a. a < length self.now.network.arcs) }
         ensures named { IfSome result (λ a. code_at self.now.activities a ≡ code.now) }
-        ensures unknown { IfNone result ((a : ℕ) → a < length self.now.network.arcs → code_at self.now.activities a ≢ code.now) }
+        ensures unknown { IfNone result ((a : ℕ) → a < length self.now.network.arcs →
+            code_at self.now.activities a ≢ code.now) }
     {
         let a = self.activities.place_of(code)?;
         Some(a as u32)

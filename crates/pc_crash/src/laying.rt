@@ -41,7 +41,8 @@ pub(crate) fn laid_out(
     requires pieces { ArePieces terms.now pieces.now }
     ensures sound { OnOk result (IsSound net.now) }
     ensures in_range { OnOk result (IsInRange net.now) }
-    ensures laid { IfOk result (λ layout. AreLaid net.now.arcs terms.now pieces.now (length terms.now) layout.rows.items layout.knees.items) }
+    ensures laid { IfOk result (λ layout. AreLaid net.now.arcs terms.now pieces.now
+        (length terms.now) layout.rows.items layout.knees.items) }
 {
     let groups = grouped(alloc, terms, pieces)?;
     let mut rows = Vec::with_capacity(alloc, terms.len())?;
@@ -108,7 +109,8 @@ impl Layout {
     /// The knees of an activity.
     pub(crate) fn knees_of(&self, a: u32) -> KneeList<'_>
         requires row { a < vec_len self.now.rows }
-        requires within { (row_at self.now.rows.items a).first + (row_at self.now.rows.items a).count ≤ vec_len self.now.knees }
+        requires within { (row_at self.now.rows.items a).first + (row_at self.now.rows.items a).count
+            ≤ vec_len self.now.knees }
         requires few { (row_at self.now.rows.items a).count ≤ MAX_PIECES_EACH + 1 }
         ensures { result ≡ part_of self.now.knees.items (row_at self.now.rows.items a) }
     {

@@ -40,7 +40,8 @@ fn pieces_of(pieces: &[PieceRow], a: u32) -> Group
 /// What an activity with these pieces costs at a duration.
 fn cost_with(term: Term, pieces: &[PieceRow], duration: u64) -> u64
     requires { AreOwnPieces term pieces.now }
-    ensures { result ≡ term.cost + sum_to (length pieces.now + 1) (λ k. rise_in term pieces.now k * (knee_in term pieces.now k - duration)) }
+    ensures { result ≡ term.cost + sum_to (length pieces.now + 1)
+        (λ k. rise_in term pieces.now k * (knee_in term pieces.now k - duration)) }
 {
     let saved = term.normal.saturating_sub(duration);
     let mut cost = term.cost + term.slope * saved;

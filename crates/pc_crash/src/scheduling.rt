@@ -12,7 +12,8 @@ impl<'n> CrashNet<'n> {
         requires activity { a < length self.now.network.arcs }
         requires one_each { length times.now ≡ self.now.network.events }
         requires small { (e : ℕ) → e < length times.now → slice_index times.now e < 10 ^ 18 }
-        ensures { result ≡ pos (slice_index times.now (to_of self.now.network.arcs a)) -ℤ pos (slice_index times.now (from_of self.now.network.arcs a)) }
+        ensures { result ≡ pos (slice_index times.now (to_of self.now.network.arcs a)) -ℤ pos
+            (slice_index times.now (from_of self.now.network.arcs a)) }
     {
         let arc = self.layout.rows[a as usize].arc;
         times[arc.to as usize] as i64 - times[arc.from as usize] as i64
@@ -23,7 +24,8 @@ impl<'n> CrashNet<'n> {
     pub fn is_schedule(&self, durations: &[u64], times: &[u64], limit: u64) -> bool
         requires durations { length durations.now ≡ length self.now.network.arcs }
         requires times { length times.now ≡ self.now.network.events }
-        ensures { IsTrue result ↔ IsSchedule self.now.network self.now.terms limit (slice_index durations.now) (slice_index times.now) }
+        ensures { IsTrue result ↔ IsSchedule self.now.network self.now.terms limit (slice_index durations.now)
+            (slice_index times.now) }
     {
         if times[self.net.start() as usize] != 0 || times[self.net.end() as usize] > limit {
             return false;

@@ -67,6 +67,8 @@ pub trait SegmentView {
         requires present { IsPresent self.now }
         requires activity { a < length (net self.now).network.arcs }
         ensures at_knees { (k : ℕ) → k < (knees_in (net self.now)).count a
-            → (segment self.now).flow a k ≡ knee_flow (stair_of (net self.now).terms (knees_in (net self.now)) a) result k }
-        ensures beside { (segment self.now).beside a ≡ crash_flow (stair_of (net self.now).terms (knees_in (net self.now)) a) result };
+            → (segment self.now).flow a k ≡ knee_flow
+            (stair_of (net self.now).terms (knees_in (net self.now)) a) result k }
+        ensures beside { (segment self.now).beside a
+            ≡ crash_flow (stair_of (net self.now).terms (knees_in (net self.now)) a) result };
 }

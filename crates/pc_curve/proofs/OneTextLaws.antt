@@ -13,7 +13,8 @@ pub one_cost : (net : PricedNetwork) (limit a b : ℕ) → curve_in net limit a 
 one_cost net limit a b p q = unique net.network net.terms (knees_in net) limit a b p q
 
 -- and the curve one list of breakpoints
-pub one_points : (net : PricedNetwork) (shortest longest : ℕ) (ps qs : List Breakpoint) → AreBreakpoints (curve_in net) shortest longest ps → AreBreakpoints (curve_in net) shortest longest qs → ps ≡ qs
+pub one_points : (net : PricedNetwork) (shortest longest : ℕ) (ps qs : List Breakpoint) →
+    AreBreakpoints (curve_in net) shortest longest ps → AreBreakpoints (curve_in net) shortest longest qs → ps ≡ qs
 one_points net shortest longest ps qs p q = one_list (curve_in net) (one_cost net) shortest longest ps qs p q
 
 pub one_curve_text : (net : PricedNetwork) (text other : List ℕ) → IsCurveText net text → IsCurveText net other → text ≡ other

@@ -51,7 +51,8 @@ fn put_breaks<O: Sink, L: Ledger>(
     steps: &mut Steps<L>,
 )
     requires { solver.old.given ≡ false }
-    ensures text { (points : List Breakpoint) × AreBreakpoints (curve_in solver.old.net) solver.old.shortest solver.old.longest points
+    ensures text { (points : List Breakpoint)
+        × AreBreakpoints (curve_in solver.old.net) solver.old.shortest solver.old.longest points
         × Puts O.taken O.faults page.old sink.old page.new sink.new (curve_text points) }
     ensures same { IsSameCurve solver.old solver.new }
     ensures further { IsFurther solver.old solver.new }

@@ -10,9 +10,12 @@ ghost use Rattle.pc_curve.specs.Breaks.{IsNextBreakpoint, AreBreakpointsTo};
 ///
 /// This function does nothing: its contract is the law.
 pub fn breaks_make_the_list()
-    ensures begins { (net : PricedNetwork) (shortest longest : ℕ) → AreBreakpointsTo (curve_in net) shortest longest None [] }
-    ensures grows { (net : PricedNetwork) (shortest longest : ℕ) (last : Option ℕ) (points : List Breakpoint) (point : Breakpoint) →
-        AreBreakpointsTo (curve_in net) shortest longest last points → IsNextBreakpoint (curve_in net) shortest longest last point →
+    ensures begins { (net : PricedNetwork) (shortest longest : ℕ) →
+        AreBreakpointsTo (curve_in net) shortest longest None [] }
+    ensures grows { (net : PricedNetwork) (shortest longest : ℕ) (last : Option ℕ) (points : List Breakpoint)
+        (point : Breakpoint) →
+        AreBreakpointsTo (curve_in net) shortest longest last points →
+        IsNextBreakpoint (curve_in net) shortest longest last point →
         AreBreakpointsTo (curve_in net) shortest longest (Some point.limit) (points ++ point ∷ []) }
     ensures whole { (net : PricedNetwork) (shortest longest : ℕ) (points : List Breakpoint) →
         shortest ≤ longest → AreBreakpointsTo (curve_in net) shortest longest (Some shortest) points →

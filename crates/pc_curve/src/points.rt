@@ -32,7 +32,8 @@ pub fn point_at<L: Ledger>(
 ) -> u64
     requires to_come { IsToCome solver.old length }
     requires places { HasPlaces solver.old.net times.old durations.old }
-    ensures schedule { IsSchedule solver.old.net.network solver.old.net.terms length (slice_index durations.new) (slice_index times.new) }
+    ensures schedule { IsSchedule solver.old.net.network solver.old.net.terms length (slice_index durations.new)
+        (slice_index times.new) }
     ensures ends { slice_index times.new solver.old.net.network.end ≡ length }
     ensures costs { result ≡ cost_of solver.old.net.terms (knees_in solver.old.net) (slice_index durations.new) }
     ensures least { curve_in solver.old.net length result }
@@ -71,8 +72,11 @@ fn read_times(net: &CrashNet<'_>, solver: &Solver<'_>, limit: u64, times: &mut [
 fn read_durations(net: &CrashNet<'_>, times: &[u64], durations: &mut [u64])
     requires times { length times.now ≡ net.now.network.events }
     requires durations { length durations.old ≡ length net.now.network.arcs }
-    requires fit { (a : ℕ) → a < length net.now.network.arcs → slice_index times.now (from_of net.now.network.arcs a) ≤ slice_index times.now (to_of net.now.network.arcs a) }
-    ensures { (a : ℕ) → a < length net.now.network.arcs → slice_index durations.new a ≡ lesser_of net.now.network net.now.terms (slice_index times.now) a }
+    requires fit { (a : ℕ) → a < length net.now.network.arcs →
+        slice_index times.now (from_of net.now.network.arcs a)
+        ≤ slice_index times.now (to_of net.now.network.arcs a) }
+    ensures { (a : ℕ) → a < length net.now.network.arcs →
+        slice_index durations.new a ≡ lesser_of net.now.network net.now.terms (slice_index times.now) a }
 {
     let shape = net.net();
     for a in 0..shape.activities() {

@@ -12,7 +12,8 @@ use Rattle.pc_curve_laws.specs.Flow.{whole_flow, IsFlow, promise_of, promise}
 use Rattle.pc_curve_laws.specs.Tight.{IsSlackAtKnee, IsSlack}
 use Rattle.pc_curve_laws.specs.Segment.{Segment, span, head_at, tail_at, is_forward, is_backward, rises_above, backward_rises, cut_gain, StopsAtCrash, StopsAtLower, IsSegment}
 use Rattle.pc_curve_laws.specs.Cover.{IsCovering}
-use Rattle.pc_curve_laws.specs.OneSlope.{HasOneSlope, plain_cost_of, IsPlainLeastCost, IsPlainFlow, plain_promise, IsPlainSlack, is_shortened, forward_slopes, backward_slopes, FallsToNormal, RisesToNormal, IsPlainStill, IsPlainSegment, IsPlainCovering}
+use Rattle.pc_curve_laws.specs.OneSlope.{HasOneSlope, plain_cost_of, IsPlainLeastCost, IsPlainFlow, plain_promise, IsPlainSlack, is_shortened}
+use Rattle.pc_curve_laws.specs.OneSlope.{forward_slopes, backward_slopes, FallsToNormal, RisesToNormal, IsPlainStill, IsPlainSegment, IsPlainCovering}
 use Rattle.pc_model.proofs.Sums.{sum_to-add, sum_to-same}
 
 -- a sum over one knee is its one term

@@ -21,10 +21,12 @@ ghost use Rattle.pc_curve_laws.specs.Curve.{
 /// Inside a segment the curve does not turn; where one segment meets the next it turns exactly if their slopes differ.
 pub fn curve_turns_where_slopes_differ()
     ensures inside { (net : Network) (terms : List Term) (knees : Knees) (segment : Segment) (limit : ℕ) →
-        IsPriced net terms knees → IsRightSegment net terms knees segment → segment.lower < limit → limit < segment.upper →
+        IsPriced net terms knees → IsRightSegment net terms knees segment → segment.lower < limit →
+        limit < segment.upper →
         IsTurn (IsLeastCost net terms knees) limit → ⊥ }
     ensures between { (net : Network) (terms : List Term) (knees : Knees) (earlier later : Segment) →
-        IsPriced net terms knees → IsRightSegment net terms knees earlier → IsRightSegment net terms knees later → Meet earlier later →
+        IsPriced net terms knees → IsRightSegment net terms knees earlier → IsRightSegment net terms knees later →
+        Meet earlier later →
         IsTurn (IsLeastCost net terms knees) later.upper ↔ (earlier.slope ≢ later.slope) }
 {}
 
@@ -36,7 +38,8 @@ pub fn slopes_never_fall()
         IsLeastCost net terms knees segment.upper segment.cost
         × IsLeastCost net terms knees (segment.upper - 1) (segment.cost + segment.slope) }
     ensures never { (net : Network) (terms : List Term) (knees : Knees) (earlier later : Segment) →
-        IsPriced net terms knees → IsRightSegment net terms knees earlier → IsRightSegment net terms knees later → Meet earlier later →
+        IsPriced net terms knees → IsRightSegment net terms knees earlier → IsRightSegment net terms knees later →
+        Meet earlier later →
         earlier.slope ≤ later.slope }
 {}
 
@@ -44,13 +47,16 @@ pub fn slopes_never_fall()
 /// not that of the segment before, and the last lower end. Of segments that come down only to some length, these upper ends
 /// are the breakpoints above it.
 pub fn segments_give_the_breakpoints()
-    ensures above { (net : Network) (terms : List Term) (knees : Knees) (segments : List Segment) (high low shortest : ℕ) →
-        IsPriced net terms knees → IsFront net terms knees segments high low → low < high → IsAllCrashLength net terms shortest →
+    ensures above { (net : Network) (terms : List Term) (knees : Knees) (segments : List Segment)
+        (high low shortest : ℕ) →
+        IsPriced net terms knees → IsFront net terms knees segments high low → low < high →
+        IsAllCrashLength net terms shortest →
         AreBreakpointsAbove (IsLeastCost net terms knees) shortest high low (corners_of segments) }
     ensures points { (net : Network) (terms : List Term) (knees : Knees) (segments : List Segment) (high low : ℕ) →
         IsPriced net terms knees → IsCovering net terms knees segments high low →
         AreBreakpoints (IsLeastCost net terms knees) low high (breakpoints_of segments) }
-    ensures unique { (net : Network) (terms : List Term) (knees : Knees) (shortest longest : ℕ) (points others : List Breakpoint) →
+    ensures unique { (net : Network) (terms : List Term) (knees : Knees) (shortest longest : ℕ)
+        (points others : List Breakpoint) →
         AreBreakpoints (IsLeastCost net terms knees) shortest longest points →
         AreBreakpoints (IsLeastCost net terms knees) shortest longest others →
         points ≡ others }

@@ -29,15 +29,18 @@ pub fn no_pieces_give_one_slope()
 /// Durations cost the slope for each unit saved, and the least cost is the least of these costs.
 pub fn costs_with_one_slope()
     ensures costs { (net : Network) (terms : List Term) (knees : Knees) (durations : ℕ → ℕ) →
-        AreTerms net terms → HasOneSlope net terms knees → cost_of terms knees durations ≡ plain_cost_of terms durations }
-    ensures least { (net : Network) (terms : List Term) (knees : Knees) (limit cost : ℕ) → AreTerms net terms → HasOneSlope net terms knees →
+        AreTerms net terms → HasOneSlope net terms knees →
+        cost_of terms knees durations ≡ plain_cost_of terms durations }
+    ensures least { (net : Network) (terms : List Term) (knees : Knees) (limit cost : ℕ) → AreTerms net terms →
+        HasOneSlope net terms knees →
         (IsLeastCost net terms knees limit cost) ↔ (IsPlainLeastCost net terms limit cost) }
 {}
 
 /// A flow is two numbers for each activity, the first at most the slope; it promises the costs, normal times f1 and crash
 /// times f2.
 pub fn flows_with_one_slope()
-    ensures flows { (net : Network) (terms : List Term) (knees : Knees) (flow : ℕ → ℕ → ℕ) (beside : ℕ → ℕ) (value : ℕ) → HasOneSlope net terms knees →
+    ensures flows { (net : Network) (terms : List Term) (knees : Knees) (flow : ℕ → ℕ → ℕ) (beside : ℕ → ℕ)
+        (value : ℕ) → HasOneSlope net terms knees →
         (IsFlow net knees flow beside value) ↔ (IsPlainFlow net terms (λ a. flow a 0) beside value) }
     ensures promises { (net : Network) (terms : List Term) (knees : Knees) (flow : ℕ → ℕ → ℕ) (beside : ℕ → ℕ) →
         AreTerms net terms → HasOneSlope net terms knees →
@@ -47,8 +50,10 @@ pub fn flows_with_one_slope()
 /// A segment is whole exactly if it meets the conditions in the words of one slope, and segments cover a range exactly if
 /// they do in these words.
 pub fn segments_with_one_slope()
-    ensures segment { (net : Network) (terms : List Term) (knees : Knees) (segment : Segment) → AreTerms net terms → HasOneSlope net terms knees →
+    ensures segment { (net : Network) (terms : List Term) (knees : Knees) (segment : Segment) → AreTerms net terms →
+        HasOneSlope net terms knees →
         (IsSegment net terms knees segment) ↔ (IsPlainSegment net terms segment) }
-    ensures covering { (net : Network) (terms : List Term) (knees : Knees) (segments : List Segment) (high low : ℕ) → AreTerms net terms → HasOneSlope net terms knees →
+    ensures covering { (net : Network) (terms : List Term) (knees : Knees) (segments : List Segment)
+        (high low : ℕ) → AreTerms net terms → HasOneSlope net terms knees →
         (IsCovering net terms knees segments high low) ↔ (IsPlainCovering net terms segments high low) }
 {}

@@ -68,16 +68,20 @@ pub fn segments_cover_the_range()
 /// its last lower end the all-crash length, and for each length between them what is read from its segments is a cheapest
 /// schedule, which the printed flow proves.
 pub fn conditions_make_it_right()
-    ensures covering { (net : Network) (terms : List Term) (knees : Knees) (normal_walk crash_walk : List ℕ) (segments : List Segment) →
+    ensures covering { (net : Network) (terms : List Term) (knees : Knees) (normal_walk crash_walk : List ℕ)
+        (segments : List Segment) →
         MeetsConditions net terms knees normal_walk crash_walk segments →
         IsCovering net terms knees segments (first_upper segments) (last_lower segments) }
-    ensures longest { (net : Network) (terms : List Term) (knees : Knees) (normal_walk crash_walk : List ℕ) (segments : List Segment) →
+    ensures longest { (net : Network) (terms : List Term) (knees : Knees) (normal_walk crash_walk : List ℕ)
+        (segments : List Segment) →
         IsPriced net terms knees → MeetsConditions net terms knees normal_walk crash_walk segments →
         IsAllNormalLength net terms (first_upper segments) }
-    ensures shortest { (net : Network) (terms : List Term) (knees : Knees) (normal_walk crash_walk : List ℕ) (segments : List Segment) →
+    ensures shortest { (net : Network) (terms : List Term) (knees : Knees) (normal_walk crash_walk : List ℕ)
+        (segments : List Segment) →
         IsPriced net terms knees → MeetsConditions net terms knees normal_walk crash_walk segments →
         IsAllCrashLength net terms (last_lower segments) }
-    ensures read { (net : Network) (terms : List Term) (knees : Knees) (normal_walk crash_walk : List ℕ) (segments : List Segment) (limit : ℕ) →
+    ensures read { (net : Network) (terms : List Term) (knees : Knees) (normal_walk crash_walk : List ℕ)
+        (segments : List Segment) (limit : ℕ) →
         IsPriced net terms knees → MeetsConditions net terms knees normal_walk crash_walk segments →
         last_lower segments ≤ limit → limit ≤ first_upper segments → IsReadRight net terms knees segments limit }
 {}
@@ -89,9 +93,12 @@ pub fn a_front_grows()
         IsSegment net terms knees segment → ((a : ℕ) → a < length net.arcs → segment.duration a ≡ normal_of terms a) →
         IsSumOfWalk net.arcs (normals terms) net.start net.end segment.upper →
         IsFront net terms knees (segment ∷ []) segment.upper segment.lower }
-    ensures grows { (net : Network) (terms : List Term) (knees : Knees) (segments : List Segment) (segment : Segment) (high low : ℕ) →
-        IsFront net terms knees segments high low → low < high → IsSegment net terms knees segment → segment.upper ≡ low → IsLong segment →
+    ensures grows { (net : Network) (terms : List Term) (knees : Knees) (segments : List Segment)
+        (segment : Segment) (high low : ℕ) →
+        IsFront net terms knees segments high low → low < high → IsSegment net terms knees segment →
+        segment.upper ≡ low → IsLong segment →
         IsFront net terms knees (segments ++ segment ∷ []) high segment.lower }
     ensures covers { (net : Network) (terms : List Term) (knees : Knees) (segments : List Segment) (high low : ℕ) →
-        IsFront net terms knees segments high low → IsAllCrashLength net terms low → IsCovering net terms knees segments high low }
+        IsFront net terms knees segments high low → IsAllCrashLength net terms low →
+        IsCovering net terms knees segments high low }
 {}

@@ -31,7 +31,8 @@ ghost use Rattle.pc_curve_laws.specs.Stair.{
 pub fn knees_make_a_staircase()
     ensures falling { (net : Network) (terms : List Term) (knees : Knees) → AreKnees net terms knees →
         (a : ℕ) → a < length net.arcs → IsFalling (stair_of terms knees a) }
-    ensures reaches { (terms : List Term) (knees : Knees) (a : ℕ) → full_reach (stair_of terms knees a) ≡ last_slope knees a }
+    ensures reaches { (terms : List Term) (knees : Knees) (a : ℕ) →
+        full_reach (stair_of terms knees a) ≡ last_slope knees a }
     ensures opens { (net : Network) (terms : List Term) (knees : Knees) → AreKnees net terms knees →
         (a gap : ℕ) → a < length net.arcs → normal_of terms a ≤ gap → IsOnStair (stair_of terms knees a) gap 0 }
 {}
@@ -44,7 +45,8 @@ pub fn same_knees_make_the_same_staircase()
     ensures falling { (s t : Stair) → IsSameStair s t → IsFalling t → IsFalling s }
     ensures on { (s t : Stair) → IsSameStair s t → (gap flow : ℕ) → IsOnStair t gap flow → IsOnStair s gap flow }
     ensures back { (s t : Stair) → IsSameStair s t → (gap flow : ℕ) → IsOnStair s gap flow → IsOnStair t gap flow }
-    ensures at_knees { (s t : Stair) → IsSameStair s t → (flow k : ℕ) → k < s.count → knee_flow s flow k ≡ knee_flow t flow k }
+    ensures at_knees { (s t : Stair) → IsSameStair s t → (flow k : ℕ) → k < s.count →
+        knee_flow s flow k ≡ knee_flow t flow k }
     ensures at_crash { (s t : Stair) → IsSameStair s t → (flow : ℕ) → crash_flow s flow ≡ crash_flow t flow }
 {}
 
@@ -60,7 +62,8 @@ pub fn units_fall()
 
     // A unit's arc is not longer than a gap exactly where the unit comes behind the rises of all knees above the gap.
     ensures behind { (s : Stair) → IsFalling s → (gap x : ℕ) → unit_length s x ≤ gap → rises_over s gap ≤ x }
-    ensures short { (s : Stair) → IsFalling s → (gap x : ℕ) → s.crash ≤ gap → rises_over s gap ≤ x → unit_length s x ≤ gap }
+    ensures short { (s : Stair) → IsFalling s → (gap x : ℕ) → s.crash ≤ gap → rises_over s gap ≤ x →
+        unit_length s x ≤ gap }
 {}
 
 /// The flow may change while the gap stays as it is: up to the end of the next unit's piece where its arc is as long as
@@ -100,7 +103,8 @@ pub fn filling_is_the_flow()
 pub fn on_the_staircase_is_tight()
     ensures tight { (terms : List Term) (knees : Knees) (a : ℕ) → IsFalling (stair_of terms knees a) →
         (tail head gap : ℕ) → head ≡ tail + gap → (along : ℕ) → IsOnStair (stair_of terms knees a) gap along →
-        IsTight terms knees a tail head (knee_flow (stair_of terms knees a) along) (crash_flow (stair_of terms knees a) along) }
+        IsTight terms knees a tail head (knee_flow (stair_of terms knees a) along)
+        (crash_flow (stair_of terms knees a) along) }
     ensures on { (terms : List Term) (knees : Knees) (a : ℕ) → IsFalling (stair_of terms knees a) →
         (tail head gap : ℕ) → head ≡ tail + gap → (flow : ℕ → ℕ) (beside : ℕ) →
         ((k : ℕ) → k < knees.count a → flow k ≤ knees.rise a k) → IsTight terms knees a tail head flow beside →

@@ -34,10 +34,12 @@ ghost use Rattle.pc_curve_laws.specs.State.{
 /// this one length is whole, which is the curve where no schedule is shorter; its durations are the normal ones, and so
 /// are those of each segment that begins at these times.
 pub fn opening_is_optimal()
-    ensures optimal { (net : Network) (terms : List Term) (knees : Knees) (limit : ℕ) (times : ℕ → ℕ) → IsPriced net terms knees →
+    ensures optimal { (net : Network) (terms : List Term) (knees : Knees) (limit : ℕ) (times : ℕ → ℕ) →
+        IsPriced net terms knees →
         IsSchedule net terms limit (normal_of terms) times → times net.end ≡ limit →
         IsOptimal net terms knees (opening limit times) }
-    ensures level { (net : Network) (terms : List Term) (knees : Knees) (limit : ℕ) (times : ℕ → ℕ) → IsPriced net terms knees →
+    ensures level { (net : Network) (terms : List Term) (knees : Knees) (limit : ℕ) (times : ℕ → ℕ) →
+        IsPriced net terms knees →
         IsSchedule net terms limit (normal_of terms) times → times net.end ≡ limit →
         IsSegment net terms knees (segment_of net terms knees (opening limit times) rests 0) }
     ensures normal { (net : Network) (terms : List Term) (limit : ℕ) (times : ℕ → ℕ) (a : ℕ) →
@@ -51,10 +53,13 @@ pub fn optimal_state_is_cheapest()
     ensures schedule { (net : Network) (terms : List Term) (knees : Knees) (st : State) → IsPriced net terms knees →
         IsOptimal net terms knees st → IsSchedule net terms st.limit (lesser_of net terms st.time) st.time }
     ensures least { (net : Network) (terms : List Term) (knees : Knees) (st : State) → IsPriced net terms knees →
-        IsOptimal net terms knees st → IsLeastCost net terms knees st.limit (cost_of terms knees (lesser_of net terms st.time)) }
-    ensures within { (net : Network) (terms : List Term) (knees : Knees) (st : State) (shortest : ℕ) → IsPriced net terms knees →
+        IsOptimal net terms knees st → IsLeastCost net terms knees st.limit
+        (cost_of terms knees (lesser_of net terms st.time)) }
+    ensures within { (net : Network) (terms : List Term) (knees : Knees) (st : State) (shortest : ℕ) →
+        IsPriced net terms knees →
         IsOptimal net terms knees st → IsAllCrashLength net terms shortest → shortest ≤ st.limit }
-    ensures times { (net : Network) (terms : List Term) (knees : Knees) (st : State) (e : ℕ) → IsPriced net terms knees →
+    ensures times { (net : Network) (terms : List Term) (knees : Knees) (st : State) (e : ℕ) →
+        IsPriced net terms knees →
         IsOptimal net terms knees st → e < net.events → st.time e ≤ st.limit }
 {}
 
@@ -79,21 +84,27 @@ pub fn raising_walks_back()
 
 /// A raising that has come back to the start gives the next state, with a higher value.
 pub fn raising_keeps_optimal()
-    ensures optimal { (net : Network) (terms : List Term) (knees : Knees) (st : State) (flow : ℕ → ℕ → ℕ) (beside : ℕ → ℕ) (room : ℕ) →
-        IsPriced net terms knees → IsOptimal net terms knees st → IsRaising net terms knees st flow beside net.start room →
+    ensures optimal { (net : Network) (terms : List Term) (knees : Knees) (st : State) (flow : ℕ → ℕ → ℕ)
+        (beside : ℕ → ℕ) (room : ℕ) →
+        IsPriced net terms knees → IsOptimal net terms knees st →
+        IsRaising net terms knees st flow beside net.start room →
         IsOptimal net terms knees (raised st flow beside room) }
 {}
 
 /// Where the labels do not reach the end there is a fall. It is at least 1, and passes neither the present length nor the
 /// all-crash length.
 pub fn fall_exists()
-    ensures exists { (net : Network) (terms : List Term) (knees : Knees) (st : State) (moves : ℕ → Bool) → IsPriced net terms knees →
-        IsOptimal net terms knees st → IsStuck net terms knees st moves → (fall : ℕ) × IsFall net terms knees st moves fall }
+    ensures exists { (net : Network) (terms : List Term) (knees : Knees) (st : State) (moves : ℕ → Bool) →
+        IsPriced net terms knees →
+        IsOptimal net terms knees st → IsStuck net terms knees st moves →
+        (fall : ℕ) × IsFall net terms knees st moves fall }
     ensures positive { (net : Network) (terms : List Term) (knees : Knees) (st : State) (moves : ℕ → Bool) (fall : ℕ) →
         IsOptimal net terms knees st → IsFall net terms knees st moves fall → 0 < fall }
-    ensures within { (net : Network) (terms : List Term) (knees : Knees) (st : State) (moves : ℕ → Bool) (fall : ℕ) → IsPriced net terms knees →
+    ensures within { (net : Network) (terms : List Term) (knees : Knees) (st : State) (moves : ℕ → Bool)
+        (fall : ℕ) → IsPriced net terms knees →
         IsOptimal net terms knees st → IsFall net terms knees st moves fall → fall ≤ st.limit }
-    ensures in_range { (net : Network) (terms : List Term) (knees : Knees) (st : State) (moves : ℕ → Bool) (fall shortest : ℕ) → IsPriced net terms knees →
+    ensures in_range { (net : Network) (terms : List Term) (knees : Knees) (st : State) (moves : ℕ → Bool)
+        (fall shortest : ℕ) → IsPriced net terms knees →
         IsOptimal net terms knees st → IsFall net terms knees st moves fall →
         IsAllCrashLength net terms shortest → shortest + fall ≤ st.limit }
 {}
@@ -102,13 +113,16 @@ pub fn fall_exists()
 /// the cut between the events with a label and those without, and it ends where an activity stops. After the fall the
 /// same holds as before, at a cost that is higher by the value for each unit.
 pub fn fall_gives_a_segment()
-    ensures segment { (net : Network) (terms : List Term) (knees : Knees) (st : State) (moves : ℕ → Bool) (fall : ℕ) → IsPriced net terms knees →
+    ensures segment { (net : Network) (terms : List Term) (knees : Knees) (st : State) (moves : ℕ → Bool)
+        (fall : ℕ) → IsPriced net terms knees →
         IsOptimal net terms knees st → IsFall net terms knees st moves fall →
         IsSegment net terms knees (segment_of net terms knees st moves fall) }
-    ensures optimal { (net : Network) (terms : List Term) (knees : Knees) (st : State) (moves : ℕ → Bool) (fall : ℕ) → IsPriced net terms knees →
+    ensures optimal { (net : Network) (terms : List Term) (knees : Knees) (st : State) (moves : ℕ → Bool)
+        (fall : ℕ) → IsPriced net terms knees →
         IsOptimal net terms knees st → IsFall net terms knees st moves fall →
         IsOptimal net terms knees (fallen st moves fall) }
-    ensures cost { (net : Network) (terms : List Term) (knees : Knees) (st : State) (moves : ℕ → Bool) (fall : ℕ) → IsPriced net terms knees →
+    ensures cost { (net : Network) (terms : List Term) (knees : Knees) (st : State) (moves : ℕ → Bool) (fall : ℕ) →
+        IsPriced net terms knees →
         IsOptimal net terms knees st → IsFall net terms knees st moves fall →
         cost_of terms knees (lesser_of net terms (fallen st moves fall).time)
         ≡ cost_of terms knees (lesser_of net terms st.time) + st.value * fall }

@@ -41,11 +41,13 @@ pub fn whole_flows_are_states()
         (limit : ℕ) (time along : ℕ → ℕ) (value : ℕ) → IsStairOptimal net terms knees limit time along value →
         IsOptimal net terms knees (filled_state terms knees limit time along value) }
     ensures stuck { (net : Network) (terms : List Term) (knees : Knees) → IsPriced net terms knees →
-        (limit : ℕ) (time along : ℕ → ℕ) (value : ℕ) (moves : ℕ → Bool) → IsStairOptimal net terms knees limit time along value →
+        (limit : ℕ) (time along : ℕ → ℕ) (value : ℕ) (moves : ℕ → Bool) →
+        IsStairOptimal net terms knees limit time along value →
         IsStairStuck net terms knees time along moves →
         IsStuck net terms knees (filled_state terms knees limit time along value) moves }
     ensures fall { (net : Network) (terms : List Term) (knees : Knees) → IsPriced net terms knees →
-        (limit : ℕ) (time along : ℕ → ℕ) (value : ℕ) (moves : ℕ → Bool) → IsStairOptimal net terms knees limit time along value →
+        (limit : ℕ) (time along : ℕ → ℕ) (value : ℕ) (moves : ℕ → Bool) →
+        IsStairOptimal net terms knees limit time along value →
         (fall : ℕ) → IsStairFall net terms knees time along moves fall →
         IsFall net terms knees (filled_state terms knees limit time along value) moves fall }
     ensures whole { (net : Network) (terms : List Term) (knees : Knees) → IsPriced net terms knees →
@@ -63,7 +65,8 @@ pub fn nothing_flows_at_first()
         (limit : ℕ) (time along : ℕ → ℕ) (value : ℕ) → IsStairOptimal net terms knees limit time along value →
         (moves : ℕ → Bool) → ((e : ℕ) → e < net.events → moves e ≡ false) →
         ((a : ℕ) → a < length net.arcs → along a ≡ 0) → value ≡ 0 →
-        IsSegment net terms knees (segment_of net terms knees (filled_state terms knees limit time along value) moves 0) }
+        IsSegment net terms knees (segment_of net terms knees
+        (filled_state terms knees limit time along value) moves 0) }
 {}
 
 /// In each state the durations that its times allow are a cheapest schedule for the present length, which is not below
@@ -104,7 +107,8 @@ pub fn whole_flows_are_bounded()
 /// at the start it gives the next state, with a higher value.
 pub fn whole_flow_is_raised()
     ensures begins { (net : Network) (terms : List Term) (knees : Knees) (time along : ℕ → ℕ) (room limit value : ℕ) →
-        IsStairOptimal net terms knees limit time along value → IsStairRaising net terms knees time along along net.end room }
+        IsStairOptimal net terms knees limit time along value →
+        IsStairRaising net terms knees time along along net.end room }
     ensures along { (net : Network) (terms : List Term) (knees : Knees) (time along : ℕ → ℕ) (room : ℕ)
         (now next : ℕ → ℕ) (a x : ℕ) → a < length net.arcs →
         ((b : ℕ) → b < length net.arcs → b ≢ a → now b ≡ next b) →
@@ -151,7 +155,8 @@ pub fn whole_flows_give_a_segment()
     ensures segment { (net : Network) (terms : List Term) (knees : Knees) → IsPriced net terms knees →
         (limit : ℕ) (time along : ℕ → ℕ) (value : ℕ) → IsStairOptimal net terms knees limit time along value →
         (moves : ℕ → Bool) (fall : ℕ) → IsStairFall net terms knees time along moves fall →
-        IsSegment net terms knees (segment_of net terms knees (filled_state terms knees limit time along value) moves fall) }
+        IsSegment net terms knees (segment_of net terms knees
+        (filled_state terms knees limit time along value) moves fall) }
     ensures fallen { (net : Network) (terms : List Term) (knees : Knees) → IsPriced net terms knees →
         (limit : ℕ) (time along : ℕ → ℕ) (value : ℕ) → IsStairOptimal net terms knees limit time along value →
         (moves : ℕ → Bool) (fall : ℕ) → IsStairFall net terms knees time along moves fall →
@@ -167,11 +172,13 @@ pub fn whole_flows_give_a_segment()
 /// three run on the first knee and two on the second, where one more could; T alone moves, and falls by 1 until C is as
 /// long as it normally takes.
 pub fn middle_knee_is_worked()
-    ensures state { IsStairOptimal small_net small_terms (knees_of small_terms small_pieces) 8 small_2.time (slice_index (5 ∷ 5 ∷ 0 ∷ [])) 5 }
+    ensures state { IsStairOptimal small_net small_terms (knees_of small_terms small_pieces) 8 small_2.time
+        (slice_index (5 ∷ 5 ∷ 0 ∷ [])) 5 }
     ensures units { (unit_length (stair_of small_terms (knees_of small_terms small_pieces) 0) 2 ≡ 4)
         × (unit_length (stair_of small_terms (knees_of small_terms small_pieces) 0) 5 ≡ 3)
         × (unit_length (stair_of small_terms (knees_of small_terms small_pieces) 0) 6 ≡ 2) }
     ensures knees { (knee_flow (stair_of small_terms (knees_of small_terms small_pieces) 0) 5 0 ≡ 3)
         × (knee_flow (stair_of small_terms (knees_of small_terms small_pieces) 0) 5 1 ≡ 2) }
-    ensures fall { IsStairFall small_net small_terms (knees_of small_terms small_pieces) small_2.time (slice_index (5 ∷ 5 ∷ 0 ∷ [])) small_2.moves 1 }
+    ensures fall { IsStairFall small_net small_terms (knees_of small_terms small_pieces) small_2.time
+        (slice_index (5 ∷ 5 ∷ 0 ∷ [])) small_2.moves 1 }
 {}

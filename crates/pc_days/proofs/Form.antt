@@ -67,7 +67,10 @@ form text h =
 pub has_form-true : (text : List ℕ) → Form text → has_form text ≡ true
 unfolding has_form
 has_form-true text h =
-    and_from _ _ (and_from _ _ (and_from _ _ (and_from _ _ (and_from _ _ (and_from _ _ (eq-eqb _ _ h.long) (eq-eqb _ _ h.hyphen)) (eq-eqb _ _ h.second_hyphen)) (are_digits-true text 0 h.century)) (are_digits-true text 2 h.year)) (are_digits-true text 5 h.month)) (are_digits-true text 8 h.day)
+    and_from _ _ (and_from _ _ (and_from _ _
+    (and_from _ _ (and_from _ _ (and_from _ _ (eq-eqb _ _ h.long) (eq-eqb _ _ h.hyphen)) (eq-eqb _ _ h.second_hyphen))
+    (are_digits-true text 0 h.century)) (are_digits-true text 2 h.year)) (are_digits-true text 5 h.month))
+    (are_digits-true text 8 h.day)
 
 -- the numbers of a text of that form have two or four digits
 pub number_at-bound : (text : List ℕ) (i : ℕ) → Digits text i → number_at text i < 100

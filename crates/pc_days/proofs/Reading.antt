@@ -101,7 +101,8 @@ shape_clause text r e = by_shape (outcome text r e)
 -- a day is the number of one date
 same_date : (y m d y₂ m₂ d₂ : ℕ) → IsCivilDate (pos y) m d → IsCivilDate (pos y₂) m₂ d₂ → days_from_civil (pos y) m d ≡ days_from_civil (pos y₂) m₂ d₂ → (pos y ≡ pos y₂) × (m ≡ m₂) × (d ≡ d₂)
 same_date y m d y₂ m₂ d₂ h k e =
-    epoch_day_injective (record { year = pos y; month = m; day = d; year_in = h.0; month_in = h.1; day_in = h.2 }) (record { year = pos y₂; month = m₂; day = d₂; year_in = k.0; month_in = k.1; day_in = k.2 }) e
+    epoch_day_injective (record { year = pos y; month = m; day = d; year_in = h.0; month_in = h.1; day_in = h.2 })
+    (record { year = pos y₂; month = m₂; day = d₂; year_in = k.0; month_in = k.1; day_in = k.2 }) e
 
 -- so two texts of one day are one text
 pub NamesDay-same : (text text₂ : List ℕ) (day : ℤ) → NamesDay text day → NamesDay text₂ day → text ≡ text₂

@@ -18,7 +18,8 @@ rounded_up-code t early late =
     rw (to_z-of_z w64 t fits, to_z-of_z w64 (t +ℤ pos 5) more) refl
 
 -- the day's number as the code computes it
-pub number-code : (start from days : ℤ) → from ≡ to_z w32 (of_z w32 start) → IsPrintedDay start → IsWithin (2 ^ 40) days → to_z w64 (of_z w64 (to_z w64 (of_z w64 from) +ℤ to_z w64 (of_z w64 days))) ≡ start +ℤ days
+pub number-code : (start from days : ℤ) → from ≡ to_z w32 (of_z w32 start) → IsPrintedDay start → IsWithin (2 ^ 40) days →
+    to_z w64 (of_z w64 (to_z w64 (of_z w64 from) +ℤ to_z w64 (of_z w64 days))) ≡ start +ℤ days
 number-code start from days e printed within =
     let small : FitsSigned w32 start = omega (arith, signed_arith) in
     let same : from ≡ start = e ∙ to_z-of_z w32 start small in

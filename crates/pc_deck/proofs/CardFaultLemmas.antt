@@ -174,12 +174,14 @@ from_kind kind None row n h = absurd h
 from_kind kind (Some fault) row n h = h
 
 -- the same of the judgement of a card of a known kind
-judged_as : (seen : Seen) (row : ℕ) (fields : List (List ℕ)) (kind : Kind) (n : ℕ) → kind_of seen.sort (field_at fields 0) ≡ Some kind → Caught (fault_of_kind seen kind row fields) row n → IsCaught (judge seen row fields) row n
+judged_as : (seen : Seen) (row : ℕ) (fields : List (List ℕ)) (kind : Kind) (n : ℕ) → kind_of seen.sort (field_at fields 0) ≡ Some kind →
+    Caught (fault_of_kind seen kind row fields) row n → IsCaught (judge seen row fields) row n
 judged_as seen row fields kind n is h =
     subst (λ (o : Option Kind). IsCaught (judge_of seen row fields o) row n) (sym is) (from_kind kind (fault_of_kind seen kind row fields) row n h)
 
 -- a card of no kind
-judged_unknown : (seen : Seen) (row : ℕ) (fields : List (List ℕ)) (n : ℕ) → (no_kind seen.is_first row).row ≡ row → (no_kind seen.is_first row).number ≤ n → kind_of seen.sort (field_at fields 0) ≡ None → IsCaught (judge seen row fields) row n
+judged_unknown : (seen : Seen) (row : ℕ) (fields : List (List ℕ)) (n : ℕ) → (no_kind seen.is_first row).row ≡ row →
+    (no_kind seen.is_first row).number ≤ n → kind_of seen.sort (field_at fields 0) ≡ None → IsCaught (judge seen row fields) row n
 judged_unknown seen row fields n same few is =
     subst (λ (o : Option Kind). IsCaught (judge_of seen row fields o) row n) (sym is) (same, few)
 
@@ -233,7 +235,8 @@ judged_row seen card found (has.wrong_fields kind named part is) = (
       (judged_as seen card.0 card.1 kind 6 named
       (at_widths seen card.0 card.1 kind 6 _ (omega arith)
       (earlier (widths seen card.0 card.1 kind) _ card.0 6
-      (caught_test _ (faults.wrong_fields card.0 kind (length card.1) (width_wanted (least_width_of kind) (width_of kind) card.1)) card.0 6 (not_flag (is_whole_as kind card.1) part) refl (omega arith))))),
+      (caught_test _ (faults.wrong_fields card.0 kind (length card.1) (width_wanted (least_width_of kind) (width_of kind) card.1)) card.0 6
+      (not_flag (is_whole_as kind card.1) part) refl (omega arith))))),
 )
 judged_row seen card found (has.wrong_shape kind slot named whole at is) = (
   ap (λ (f : Fault). f.row) is,
@@ -284,7 +287,8 @@ pub not_faultless : (seen : Seen) (card : Numbered) (fault : Fault) (kind : Kind
 not_faultless seen card fault kind judged h = subst (λ (r : Result Kind Fault). IsCaught r card.0 fault.number) judged (judged_row seen card fault h).1
 
 -- the fault that is found comes first
-pub least_of-card : (seen : Seen) (card : Numbered) (found fault : Fault) → judge seen card.0 card.1 ≡ Err found → HasCardFault seen card fault → (found.row ≡ fault.row) × (found.number ≤ fault.number)
+pub least_of-card : (seen : Seen) (card : Numbered) (found fault : Fault) → judge seen card.0 card.1 ≡ Err found →
+    HasCardFault seen card fault → (found.row ≡ fault.row) × (found.number ≤ fault.number)
 least_of-card seen card found fault judged h =
     let row = judged_row seen card fault h in
     let caught = subst (λ (r : Result Kind Fault). IsCaught r card.0 fault.number) judged row.1 in
@@ -310,7 +314,8 @@ at_limit : (row : ℕ) (slot : Option Slot) (found : Fault) → over_limit_at ro
 at_limit row None found h = absurd (none_some found h)
 at_limit row (Some slot) found h = (slot, (refl, sym (Some-injective _ found h)))
 
-some_limit : (kind : Kind) (row count : ℕ) (limit : Option ℕ) (found : Fault) → one_too_many kind row count limit ≡ Some found → (most : ℕ) × ((limit ≡ Some most) × ((count ≡ most) × (found ≡ faults.too_many row kind most)))
+some_limit : (kind : Kind) (row count : ℕ) (limit : Option ℕ) (found : Fault) → one_too_many kind row count limit ≡ Some found →
+    (most : ℕ) × ((limit ≡ Some most) × ((count ≡ most) × (found ≡ faults.too_many row kind most)))
 some_limit kind row count None found h = absurd (none_some found h)
 some_limit kind row count (Some most) found h =
     let test = tested (count == most) _ found h in (most, (refl, (is_equal count most test.0, test.1)))
@@ -349,7 +354,9 @@ module _ (seen : Seen) (row : ℕ) (fields : List (List ℕ)) (kind : Kind) (nam
         | inr last ↦ let test = tested seen.has_ended _ found last.1 in has.behind_end kind named test.0 test.1
       ]
 
-  in_whole : (found : Fault) → is_whole_as kind fields ≡ true → or_else (flaws seen row fields kind) (or_else (again seen row fields kind) (behind seen row fields kind)) ≡ Some found → HasCardFault seen (row, fields) found
+  in_whole : (found : Fault) → is_whole_as kind fields ≡ true →
+      or_else (flaws seen row fields kind) (or_else (again seen row fields kind) (behind seen row fields kind)) ≡ Some found →
+      HasCardFault seen (row, fields) found
   in_whole found whole h =
       elim (found_in (flaws seen row fields kind) _ found h) [
         | inl here ↦ in_flaws found whole here

@@ -1,6 +1,7 @@
 -- Cards that stand in order have no fault: each is what it must be, there are no more of a kind than there may be, no code
 -- of a kind stands twice, PROJECT comes first, and END comes last.
-use Rattle.std.proofs.Common.{◌≡◌, ℕ, ◌+◌, ◌<◌, ◌≤◌, Bool, true, false, not, ◌&&◌, ◌==◌, nat_lt, List, [], ◌∷◌, ◌++◌, length, length-append, map, get_or, Option, Some, None, All, Ok, if◌then◌else◌, bytes_eq, inl, inr, refl, sym, ap, ◌∙◌, subst, append_assoc, append-nil, arith}
+use Rattle.std.proofs.Common.{◌≡◌, ℕ, ◌+◌, ◌<◌, ◌≤◌, Bool, true, false, not, ◌&&◌, ◌==◌, nat_lt, List, [], ◌∷◌, ◌++◌, length, length-append, map, get_or}
+use Rattle.std.proofs.Common.{Option, Some, None, All, Ok, if◌then◌else◌, bytes_eq, inl, inr, refl, sym, ap, ◌∙◌, subst, append_assoc, append-nil, arith}
 use Rattle.std.specs.Cmp.Lexicographic.{bytes_decides}
 use Rattle.std.proofs.lemmas.Bool.{false≢true, ne_eqb}
 use Rattle.std.proofs.lemmas.List.{get_or_at, map-append}
@@ -142,7 +143,8 @@ judged cards front rest card kind order is sound =
     none : fault_of_kind (seen_among Plan front) kind card.0 card.1 ≡ None
     none =
         none_then _ _ None (not_found (are_none front && not (is_project kind)) _ (first_is front rest card kind begins sound.named))
-        (none_then _ _ None (not_found (stands_once kind && nat_lt 0 (length (of_kind kind front))) _ (alone (stands_once kind) (length (of_kind kind front)) (λ once. let most = order.once kind once in omega (arith, most, less))))
+        (none_then _ _ None (not_found (stands_once kind && nat_lt 0 (length (of_kind kind front))) _
+        (alone (stands_once kind) (length (of_kind kind front)) (λ once. let most = order.once kind once in omega (arith, most, less))))
         (none_then _ _ None (not_found (not (is_whole_as kind card.1)) _ (ap not sound.whole))
         (none_then _ _ None (no_flaw card.0 (slots_of Plan kind) card.1 sound.fit)
         (none_then _ _ None (not_found (is_among (field_at card.1 1) (own_codes kind front)) _ (new_by (has_code_of_its_own kind) _ (field_at card.1 1) code_is_new))

@@ -28,7 +28,8 @@ pub record IsFaultless (seen : Seen) (row : ℕ) (fields : List (List ℕ)) (kin
 Ok-injective : {A E : Type 0} (x y : A) → ◌≡◌ {A = Result A E} (Ok x) (Ok y) → x ≡ y
 Ok-injective x y h = cc
 
-faultless_kind : (seen : Seen) (row : ℕ) (fields : List (List ℕ)) (kind : Kind) → kind_of seen.sort (field_at fields 0) ≡ Some kind → fault_of_kind seen kind row fields ≡ None → IsFaultless seen row fields kind
+faultless_kind : (seen : Seen) (row : ℕ) (fields : List (List ℕ)) (kind : Kind) → kind_of seen.sort (field_at fields 0) ≡ Some kind →
+    fault_of_kind seen kind row fields ≡ None → IsFaultless seen row fields kind
 faultless_kind seen row fields kind named none =
     let place = place_of seen kind row in
     let first = neither (not_project seen kind row) _ none in

@@ -13,7 +13,8 @@ use Rattle.pc_deck.specs.inside.Kinds.{is_project, is_end}
 use Rattle.pc_deck.specs.Within.{IsUpTo}
 
 -- a choice that gave the kind by its test, or behind it
-chosen : (test : Bool) (here kind : Kind) (rest : Option Kind) (field : List ℕ) → (test ≡ true → field ≡ word_of here) → (rest ≡ Some kind → field ≡ word_of kind) → (if test then Some here else rest) ≡ Some kind → field ≡ word_of kind
+chosen : (test : Bool) (here kind : Kind) (rest : Option Kind) (field : List ℕ) → (test ≡ true → field ≡ word_of here) →
+    (rest ≡ Some kind → field ≡ word_of kind) → (if test then Some here else rest) ≡ Some kind → field ≡ word_of kind
 chosen true here kind rest field is behind h = let same : here ≡ kind = cc in is refl ∙ ap word_of same
 chosen false here kind rest field is behind h = behind h
 

@@ -144,7 +144,8 @@ load_within : (row : ℕ) (fields : List (List ℕ)) → AllFit load_slots field
 load_within row fields fit = (number_fits 0 MAX_COST (number_of (field_at fields 3)) fit.1.1.0.0 fit.1.1.0.1).1
 
 -- what follows from the fields of a card of a kind holds of each card of the kind in a deck
-all_so : {sort : Sort} (kind : Kind) (P : CardOf kind → Type 0) (deck : Deck) → IsWithin sort deck → ((row : ℕ) (fields : List (List ℕ)) → AllFit (slots_of sort kind) fields → P (card_of kind row fields)) → All P (list_of deck kind)
+all_so : {sort : Sort} (kind : Kind) (P : CardOf kind → Type 0) (deck : Deck) → IsWithin sort deck →
+    ((row : ℕ) (fields : List (List ℕ)) → AllFit (slots_of sort kind) fields → P (card_of kind row fields)) → All P (list_of deck kind)
 all_so {sort} kind P deck limits follows = λ k d inside. so (get_or (list_of deck kind) k d) ((limits kind).fit k d inside)
   where
     so : (card : CardOf kind) → IsFit sort kind card → P card

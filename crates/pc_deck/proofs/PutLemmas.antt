@@ -40,7 +40,9 @@ whole_text deck =
     lists : List Kind
     lists = Wbs ∷ Event ∷ Act ∷ Piece ∷ Acct ∷ Charge ∷ ToGo ∷ Status ∷ Res ∷ Load ∷ []
 
-    apart : (some more : List Kind) → records_text (flat_map (records_of (settled deck)) (some ++ more)) ≡ records_text (flat_map (records_of (settled deck)) some) ++ records_text (flat_map (records_of (settled deck)) more)
+    apart : (some more : List Kind) →
+        records_text (flat_map (records_of (settled deck)) (some ++ more))
+        ≡ records_text (flat_map (records_of (settled deck)) some) ++ records_text (flat_map (records_of (settled deck)) more)
     apart some more =
         ap records_text (flat_map-append (records_of (settled deck)) some more)
         ∙ flat_map-append record_text (flat_map (records_of (settled deck)) some) (flat_map (records_of (settled deck)) more)

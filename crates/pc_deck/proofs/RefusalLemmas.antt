@@ -1,5 +1,6 @@
 -- Reading stops at the first fault of a deck, and a deck that is read to its end has none.
-use Rattle.std.proofs.Common.{◌≡◌, ℕ, ◌+◌, ◌≤◌, Bool, true, false, List, [], ◌∷◌, ◌++◌, length, Option, Some, None, is_none, if◌then◌else◌, Result, Ok, Err, inl, inr, ◌⊎◌, refl, sym, ap, ◌∙◌, subst, arith}
+use Rattle.std.proofs.Common.{◌≡◌, ℕ, ◌+◌, ◌≤◌, Bool, true, false, List, [], ◌∷◌, ◌++◌, length, Option, Some, None}
+use Rattle.std.proofs.Common.{is_none, if◌then◌else◌, Result, Ok, Err, inl, inr, ◌⊎◌, refl, sym, ap, ◌∙◌, subst, arith}
 use Rattle.std.specs.Prelude.{IfErr}
 use Rattle.std.specs.Str.{is_utf8}
 use Rattle.pc_records.specs.Deck.{deck_records}
@@ -84,7 +85,8 @@ at_end draft before end says = by_project draft.project refl
     missing : (seen_among draft.sort before).has_ended ≡ false → IsFirst (HasFaultFrom draft.sort before end []) (faults.no_end end)
     missing none = only_one (HasFaultFrom draft.sort before end []) (faults.no_end end) (none, refl) (λ fault has. has.1)
 
-    by_end : (project : ProjectCard) (ended : Bool) → draft.has_ended ≡ ended → IsVerdict (if ended then Ok (deck_with draft project) else Err (faults.no_end end)) (HasFaultFrom draft.sort before end [])
+    by_end : (project : ProjectCard) (ended : Bool) → draft.has_ended ≡ ended →
+        IsVerdict (if ended then Ok (deck_with draft project) else Err (faults.no_end end)) (HasFaultFrom draft.sort before end [])
     by_end project true is = λ fault has.
         let yes : (seen_among draft.sort before).has_ended ≡ true = ap (λ (s : Seen). s.has_ended) same ∙ is in
         let no = has.0 in
@@ -98,7 +100,8 @@ at_end draft before end says = by_project draft.project refl
     by_project (Some project) is = by_end project draft.has_ended refl
 
 -- the reading of cards is a verdict on their faults
-verdict : (cards : List Numbered) (draft : Draft) (before : List Numbered) (n end : ℕ) → IsSoFar before draft → Rises n end cards → IsVerdict (read_from draft end cards) (HasFaultFrom draft.sort before end cards)
+verdict : (cards : List Numbered) (draft : Draft) (before : List Numbered) (n end : ℕ) → IsSoFar before draft → Rises n end cards →
+    IsVerdict (read_from draft end cards) (HasFaultFrom draft.sort before end cards)
 verdict [] draft before n end says rising = at_end draft before end says
 verdict (card ∷ cards) draft before n end says rising =
     by_judgement (judge (seen_in draft) card.0 card.1) refl
@@ -108,7 +111,8 @@ verdict (card ∷ cards) draft before n end says rising =
     same = seen before draft says
 
     by_judgement : (judged : Result Kind ADeckFault) → judge (seen_in draft) card.0 card.1 ≡ judged
-        → ((kind : Kind) → judge (seen_in draft) card.0 card.1 ≡ Ok kind → IsVerdict (read_from (with_card draft kind card.0 card.1) end cards) (HasFaultFrom draft.sort (before ++ card ∷ []) end cards))
+        → ((kind : Kind) → judge (seen_in draft) card.0 card.1 ≡ Ok kind →
+        IsVerdict (read_from (with_card draft kind card.0 card.1) end cards) (HasFaultFrom draft.sort (before ++ card ∷ []) end cards))
         → IsVerdict (and_then judged (λ kind. read_from (with_card draft kind card.0 card.1) end cards)) (HasFaultFrom draft.sort before end (card ∷ cards))
     by_judgement (Ok kind) is more =
         widened (read_from (with_card draft kind card.0 card.1) end cards) (HasFaultFrom draft.sort (before ++ card ∷ []) end cards) (HasCardFault (seen_among draft.sort before) card)
@@ -143,7 +147,8 @@ first_of-read sort bytes fault utf8 read =
     subst (λ (b : Bool). IsFirst (HasFaultWhere sort b bytes) fault) (sym utf8) first
 
 -- the same of the answer of a call
-pub refused_first : {A : Type 0} (result : Result A DeckError) (sort : Sort) (bytes : List ℕ) → is_utf8 bytes ≡ true → IfErr result (Refuses (λ fault. cards_of sort bytes ≡ Err fault)) → IfErr result (Refuses (IsRefusalAs sort bytes))
+pub refused_first : {A : Type 0} (result : Result A DeckError) (sort : Sort) (bytes : List ℕ) → is_utf8 bytes ≡ true →
+    IfErr result (Refuses (λ fault. cards_of sort bytes ≡ Err fault)) → IfErr result (Refuses (IsRefusalAs sort bytes))
 refused_first (Ok answer) sort bytes utf8 h = tt
 refused_first (Err (Fault fault)) sort bytes utf8 h = first_of-read sort bytes fault utf8 h
 refused_first (Err OutOfMemory) sort bytes utf8 h = tt

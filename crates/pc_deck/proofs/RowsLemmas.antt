@@ -30,10 +30,12 @@ of_kind-own : (kind other : Kind) (test : Bool) → is_same other kind ≡ test 
 of_kind-own kind other true is row [] = refl
 of_kind-own kind other false is row [] = refl
 of_kind-own kind other true is row (card ∷ cards) =
-    ap (λ (b : Bool). if b then (row, record_of other card) ∷ of_kind kind (enumerate_from (row + 1) (map (record_of other) cards)) else of_kind kind (enumerate_from (row + 1) (map (record_of other) cards))) is
+    ap (λ (b : Bool). if b then (row, record_of other card) ∷ of_kind kind (enumerate_from (row + 1) (map (record_of other) cards))
+    else of_kind kind (enumerate_from (row + 1) (map (record_of other) cards))) is
     ∙ ap (λ rest. (row, record_of other card) ∷ rest) (of_kind-own kind other true is (row + 1) cards)
 of_kind-own kind other false is row (card ∷ cards) =
-    ap (λ (b : Bool). if b then (row, record_of other card) ∷ of_kind kind (enumerate_from (row + 1) (map (record_of other) cards)) else of_kind kind (enumerate_from (row + 1) (map (record_of other) cards))) is
+    ap (λ (b : Bool). if b then (row, record_of other card) ∷ of_kind kind (enumerate_from (row + 1) (map (record_of other) cards))
+    else of_kind kind (enumerate_from (row + 1) (map (record_of other) cards))) is
     ∙ of_kind-own kind other false is (row + 1) cards
 
 -- what is left of the records of some kinds, where those of one kind alone are looked at
@@ -46,9 +48,12 @@ of_kind-some : (deck : Deck) (kind : Kind) (row : ℕ) (some : List Kind) → of
 of_kind-some deck kind row [] = refl
 of_kind-some deck kind row (other ∷ rest) =
     ap (of_kind kind) (enumerate_from-append row (records_of deck other) (flat_map (records_of deck) rest))
-    ∙ (filter-append (λ (c : Numbered). bytes_eq (field_at c.1 0) (word_of kind)) (enumerate_from row (records_of deck other)) (enumerate_from (row + length (records_of deck other)) (flat_map (records_of deck) rest))
-    ∙ (ap (λ own. own ++ of_kind kind (enumerate_from (row + length (records_of deck other)) (flat_map (records_of deck) rest))) (of_kind-own kind other (is_same other kind) refl row (list_of deck other))
-    ∙ (ap (λ (n : ℕ). (if is_same other kind then enumerate_from row (records_of deck other) else []) ++ of_kind kind (enumerate_from (row + n) (flat_map (records_of deck) rest))) (length-map (list_of deck other) (record_of other))
+    ∙ (filter-append (λ (c : Numbered). bytes_eq (field_at c.1 0) (word_of kind)) (enumerate_from row (records_of deck other))
+    (enumerate_from (row + length (records_of deck other)) (flat_map (records_of deck) rest))
+    ∙ (ap (λ own. own ++ of_kind kind (enumerate_from (row + length (records_of deck other)) (flat_map (records_of deck) rest)))
+    (of_kind-own kind other (is_same other kind) refl row (list_of deck other))
+    ∙ (ap (λ (n : ℕ). (if is_same other kind then enumerate_from row (records_of deck other) else []) ++ of_kind kind
+    (enumerate_from (row + n) (flat_map (records_of deck) rest))) (length-map (list_of deck other) (record_of other))
     ∙ ap (λ more. (if is_same other kind then enumerate_from row (records_of deck other) else []) ++ more) (of_kind-some deck kind (row + length (list_of deck other)) rest))))
 
 -- a plan within the limits has no card of a kind that plans have not
@@ -63,7 +68,8 @@ in_place deck limits After = ap (λ cards. enumerate_from (first_record deck Aft
 in_place deck limits kind = append-nil (enumerate_from (first_record deck kind) (records_of deck kind))
 
 -- among the records of all kinds, those of a kind are its cards' records, from the first record of the kind on
-pub of_kind-all : (deck : Deck) → IsWithinLimits deck → (kind : Kind) → of_kind kind (enumerate_from 1 (flat_map (records_of deck) kinds)) ≡ enumerate_from (first_record deck kind) (records_of deck kind)
+pub of_kind-all : (deck : Deck) → IsWithinLimits deck → (kind : Kind) →
+    of_kind kind (enumerate_from 1 (flat_map (records_of deck) kinds)) ≡ enumerate_from (first_record deck kind) (records_of deck kind)
 of_kind-all deck limits kind = of_kind-some deck kind 1 kinds ∙ in_place deck limits kind
 
 -- they spell the cards, in other records
@@ -74,7 +80,8 @@ reads kind row (card ∷ cards) all =
     let here : IsWritten kind card = all 0 card (omega arith) in
     λ i. here.reads row i ∷ reads kind (row + 1) cards (λ k d below. all (suc k) d (omega arith)) i
 
-listed-numbered : (once : Bool) (C : Type 0) (at_row : ℕ → C → C) (row : ℕ) (held : HeldBy once C) → listed_by once C (numbered_by once C at_row row held) ≡ numbered_from at_row row (listed_by once C held)
+listed-numbered : (once : Bool) (C : Type 0) (at_row : ℕ → C → C) (row : ℕ) (held : HeldBy once C) →
+    listed_by once C (numbered_by once C at_row row held) ≡ numbered_from at_row row (listed_by once C held)
 listed-numbered true C at_row row None = refl
 listed-numbered true C at_row row (Some card) = refl
 listed-numbered false C at_row row held = refl

@@ -31,7 +31,8 @@ says-closed cards draft end deck says h = by_project draft.project refl h
     list project is ended End = ap (λ (b : Bool). ends b) ended
     list project is ended other = refl
 
-    by_end : (project : ProjectCard) (ended : Bool) → draft.has_ended ≡ ended → draft.project ≡ Some project → (if ended then Ok (deck_with draft project) else Err (faults.no_end end)) ≡ Ok deck → Says cards deck
+    by_end : (project : ProjectCard) (ended : Bool) → draft.has_ended ≡ ended → draft.project ≡ Some project →
+        (if ended then Ok (deck_with draft project) else Err (faults.no_end end)) ≡ Ok deck → Says cards deck
     by_end project true ended is h = subst (Says cards) (Ok-injective (deck_with draft project) deck h) (λ kind. says.lists kind ∙ list project is ended kind)
     by_end project false ended is h = absurd (let h' = h in cc)
 

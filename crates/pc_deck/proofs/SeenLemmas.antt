@@ -41,7 +41,14 @@ some_ends (card ∷ cards) false h = absurd (let h' = h in cc)
 -- the same counts, whether of the cards or of their draft
 pub seen : (cards : List Numbered) (draft : Draft) → IsSoFar cards draft → seen_among draft.sort cards ≡ seen_in draft
 seen cards draft says =
-    λ i. record { sort = draft.sort; is_first = says.first i; version = version i; count = λ kind. count kind i; codes = λ kind. codes kind i; has_ended = some_ends (of_kind End cards) draft.has_ended (count End) i }
+    λ i. record {
+      sort = draft.sort;
+      is_first = says.first i;
+      version = version i;
+      count = λ kind. count kind i;
+      codes = λ kind. codes kind i;
+      has_ended = some_ends (of_kind End cards) draft.has_ended (count End) i;
+    }
   where
     version : version_said (of_kind Project cards) ≡ version_of draft.project
     version = said_first (of_kind Project cards) ∙ (ap version_first (says.lists Project) ∙ first_of draft.project)
@@ -51,7 +58,9 @@ seen cards draft says =
     count kind = sym (length-map (of_kind kind cards) (λ (c : Numbered). card_of kind c.0 c.1)) ∙ (ap length (says.lists kind) ∙ sym (count-is draft kind))
 
     -- the codes that they spell
-    codes_by : (kind : Kind) (coded : Bool) → has_code_of_its_own kind ≡ coded → (if coded then map (λ (c : Numbered). field_at c.1 1) (of_kind kind cards) else []) ≡ (if coded then map (entry_of kind).code (list_so_far draft kind) else [])
+    codes_by : (kind : Kind) (coded : Bool) → has_code_of_its_own kind ≡ coded →
+        (if coded then map (λ (c : Numbered). field_at c.1 1) (of_kind kind cards) else [])
+        ≡ (if coded then map (entry_of kind).code (list_so_far draft kind) else [])
     codes_by kind true is =
         twice_mapped (λ (c : Numbered). card_of kind c.0 c.1) (entry_of kind).code (λ (c : Numbered). field_at c.1 1) (of_kind kind cards) (λ c. own_code kind is c.0 c.1)
         ∙ ap (map (entry_of kind).code) (says.lists kind)

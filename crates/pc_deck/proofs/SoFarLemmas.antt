@@ -1,5 +1,6 @@
 -- The cards so far and the draft that was made of them: each list of the draft has what the cards of its kind spell.
-use Rattle.std.proofs.Common.{◌≡◌, ℕ, Bool, true, false, not, ◌&&◌, ◌||◌, nat_lt, List, [], ◌∷◌, ◌++◌, length, map, Option, Some, None, is_none, if◌then◌else◌, bytes_eq, Ok, refl, sym, ap, ◌∙◌, subst, append-nil}
+use Rattle.std.proofs.Common.{◌≡◌, ℕ, Bool, true, false, not, ◌&&◌, ◌||◌, nat_lt, List, [], ◌∷◌, ◌++◌, length, map, Option}
+use Rattle.std.proofs.Common.{Some, None, is_none, if◌then◌else◌, bytes_eq, Ok, refl, sym, ap, ◌∙◌, subst, append-nil}
 use Rattle.std.proofs.lemmas.List.{map-append}
 use Rattle.std.proofs.lemmas.List.Elements.{filter-append}
 use Rattle.pc_records.specs.Deck.{field_at}
@@ -23,7 +24,8 @@ use Rattle.pc_deck.proofs.JudgeLemmas.{IsFaultless, faultless}
 use Rattle.pc_deck.proofs.KindLemmas.{word_of-kind, same_is, same-project, same-end, project_is}
 
 -- the cards of a kind among those before and one more
-of_kind-more : (other kind : Kind) (before : List Numbered) (card : Numbered) → field_at card.1 0 ≡ word_of kind → of_kind other (before ++ card ∷ []) ≡ of_kind other before ++ (if is_same kind other then card ∷ [] else [])
+of_kind-more : (other kind : Kind) (before : List Numbered) (card : Numbered) → field_at card.1 0 ≡ word_of kind →
+    of_kind other (before ++ card ∷ []) ≡ of_kind other before ++ (if is_same kind other then card ∷ [] else [])
 of_kind-more other kind before card is =
     filter-append (λ (c : Numbered). bytes_eq (field_at c.1 0) (word_of other)) before (card ∷ [])
     ∙ ap (λ (field : List ℕ). of_kind other before ++ (if bytes_eq field (word_of other) then card ∷ [] else [])) is
@@ -38,7 +40,8 @@ mapped f true card = refl
 mapped f false card = refl
 
 -- what the cards of a kind spell with one more card
-spelled-more : (other kind : Kind) (before : List Numbered) (card : Numbered) → field_at card.1 0 ≡ word_of kind → spelled other (before ++ card ∷ []) ≡ spelled other before ++ one_if (is_same kind other) (card_of other card.0 card.1)
+spelled-more : (other kind : Kind) (before : List Numbered) (card : Numbered) → field_at card.1 0 ≡ word_of kind →
+    spelled other (before ++ card ∷ []) ≡ spelled other before ++ one_if (is_same kind other) (card_of other card.0 card.1)
 spelled-more other kind before card is =
     ap (map (λ (c : Numbered). card_of other c.0 c.1)) (of_kind-more other kind before card is)
     ∙ (map-append (λ (c : Numbered). card_of other c.0 c.1) _ _ ∙ ap (λ xs. spelled other before ++ xs) (mapped (card_of other) (is_same kind other) card))
@@ -52,12 +55,15 @@ only_one None x once = refl
 only_one (Some y) x once = absurd (let once' = once in cc)
 
 -- a list with one more card, or without
-listed-more : (test once : Bool) (C : Type 0) (held : HeldBy once C) (card : C) → (test ≡ true → (once && nat_lt 0 (length (listed_by once C held))) ≡ false) → listed_by once C (more_if test once C held card) ≡ listed_by once C held ++ one_if test card
+listed-more : (test once : Bool) (C : Type 0) (held : HeldBy once C) (card : C) →
+    (test ≡ true → (once && nat_lt 0 (length (listed_by once C held))) ≡ false) →
+    listed_by once C (more_if test once C held card) ≡ listed_by once C held ++ one_if test card
 listed-more false once C held card single = unchanged (listed_by once C held)
 listed-more true false C held card single = refl
 listed-more true true C held card single = only_one held card (single refl)
 
-first_more : {X : Type 0} (test : Bool) (old : Option X) (x : X) → (test ≡ true → (true && nat_lt 0 (length (as_list old))) ≡ false) → as_list (if test then Some x else old) ≡ as_list old ++ one_if test x
+first_more : {X : Type 0} (test : Bool) (old : Option X) (x : X) → (test ≡ true → (true && nat_lt 0 (length (as_list old))) ≡ false) →
+    as_list (if test then Some x else old) ≡ as_list old ++ one_if test x
 first_more false old x single = unchanged (as_list old)
 first_more true old x single = only_one old x (single refl)
 
@@ -118,7 +124,8 @@ pub so_far-none : (sort : Sort) → IsSoFar [] (no_cards sort)
 so_far-none sort = record { first = refl; lists = λ kind. sym (nothing sort kind) }
 
 -- one more card
-pub so_far-more : (before : List Numbered) (draft : Draft) (kind : Kind) (card : Numbered) → IsSoFar before draft → judge (seen_in draft) card.0 card.1 ≡ Ok kind → IsSoFar (before ++ card ∷ []) (with_card draft kind card.0 card.1)
+pub so_far-more : (before : List Numbered) (draft : Draft) (kind : Kind) (card : Numbered) → IsSoFar before draft →
+    judge (seen_in draft) card.0 card.1 ≡ Ok kind → IsSoFar (before ++ card ∷ []) (with_card draft kind card.0 card.1)
 so_far-more before draft kind card old judged =
     let known = faultless (seen_in draft) card.0 card.1 kind judged in
     let word = word_of-kind draft.sort (field_at card.1 0) kind known.named in

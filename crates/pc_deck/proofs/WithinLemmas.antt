@@ -1,5 +1,6 @@
 -- What was read keeps to the limits.
-use Rattle.std.proofs.Common.{◌≡◌, ℕ, ◌+◌, ◌≤◌, Bool, true, false, ◌&&◌, ◌==◌, nat_lt, List, [], ◌∷◌, ◌++◌, length, map, get_or, Option, Some, None, is_none, if◌then◌else◌, All, Ok, refl, sym, ◌∙◌, subst, arith, length-append}
+use Rattle.std.proofs.Common.{◌≡◌, ℕ, ◌+◌, ◌≤◌, Bool, true, false, ◌&&◌, ◌==◌, nat_lt, List, [], ◌∷◌, ◌++◌, length, map, get_or}
+use Rattle.std.proofs.Common.{Option, Some, None, is_none, if◌then◌else◌, All, Ok, refl, sym, ◌∙◌, subst, arith, length-append}
 use Rattle.std.proofs.lemmas.List.{map-append}
 use Rattle.std.proofs.lemmas.List.Elements.{All-append, All-nil}
 use Rattle.std.proofs.lemmas.Bool.Decides.{nat_tests}
@@ -50,7 +51,10 @@ nothing_within sort kind version = record {
 }
 
 -- one more card on a list
-list_more : (sort : Sort) (kind : Kind) (version : ℕ) (cards : List (CardOf kind)) (card : CardOf kind) → IsListWithin sort kind version cards → IsUpTo (limit_of sort version kind) (length cards + 1) → (has_code_of_its_own kind ≡ true → is_among ((entry_of kind).code card) (map (entry_of kind).code cards) ≡ false) → IsFit sort kind card → IsListWithin sort kind version (cards ++ card ∷ [])
+list_more : (sort : Sort) (kind : Kind) (version : ℕ) (cards : List (CardOf kind)) (card : CardOf kind) →
+    IsListWithin sort kind version cards → IsUpTo (limit_of sort version kind) (length cards + 1) →
+    (has_code_of_its_own kind ≡ true → is_among ((entry_of kind).code card) (map (entry_of kind).code cards) ≡ false) →
+    IsFit sort kind card → IsListWithin sort kind version (cards ++ card ∷ [])
 list_more sort kind version cards card old few differs fit = record {
   few = subst (IsUpTo (limit_of sort version kind)) (sym (length-append cards (card ∷ []))) few;
   fit = All-append (IsFit sort kind) cards (card ∷ []) old.fit (All-one (IsFit sort kind) card fit);
@@ -88,24 +92,32 @@ module _ (draft : Draft) (row : ℕ) (fields : List (List ℕ)) (text : All IsUt
       (row, fields, refl, fits (seen_in draft) row fields kind known, text)
 
   -- the same where the card may tell the version
-  own_then : (kind : Kind) → IsFaultless (seen_in draft) row fields kind → IsListWithin draft.sort kind (version_of (with_card draft kind row fields).project) (list_so_far draft kind ++ card_of kind row fields ∷ [])
+  own_then : (kind : Kind) → IsFaultless (seen_in draft) row fields kind →
+      IsListWithin draft.sort kind (version_of (with_card draft kind row fields).project)
+      (list_so_far draft kind ++ card_of kind row fields ∷ [])
   own_then Project known = let own = own_list Project known in record { few = tt; fit = own.fit; differ = own.differ }
   own_then kind known = own_list kind known
 
   -- and to those of the others
   others_then : (kind other : Kind) → IsFaultless (seen_in draft) row fields kind → IsListWithin draft.sort other (version_of (with_card draft kind row fields).project) (list_so_far draft other)
   others_then Project other known =
-      subst (IsListWithin draft.sort other (version_of (with_card draft Project row fields).project)) (sym (old.empty (none_yet draft.project known.once) other)) (nothing_within draft.sort other (version_of (with_card draft Project row fields).project))
+      subst (IsListWithin draft.sort other (version_of (with_card draft Project row fields).project))
+      (sym (old.empty (none_yet draft.project known.once) other))
+      (nothing_within draft.sort other (version_of (with_card draft Project row fields).project))
   others_then kind other known = old.lists other
 
-  list_then : (kind other : Kind) (test : Bool) → IsFaultless (seen_in draft) row fields kind → is_same kind other ≡ test → IsListWithin draft.sort other (version_of (with_card draft kind row fields).project) (list_so_far draft other ++ one_if test (card_of other row fields))
+  list_then : (kind other : Kind) (test : Bool) → IsFaultless (seen_in draft) row fields kind → is_same kind other ≡ test →
+      IsListWithin draft.sort other (version_of (with_card draft kind row fields).project)
+      (list_so_far draft other ++ one_if test (card_of other row fields))
   list_then kind other false known is =
       subst (IsListWithin draft.sort other (version_of (with_card draft kind row fields).project)) (unchanged (list_so_far draft other)) (others_then kind other known)
   list_then kind other true known is =
-      subst (λ (k : Kind). IsListWithin draft.sort k (version_of (with_card draft kind row fields).project) (list_so_far draft k ++ card_of k row fields ∷ [])) (same_is kind other is) (own_then kind known)
+      subst (λ (k : Kind). IsListWithin draft.sort k (version_of (with_card draft kind row fields).project)
+      (list_so_far draft k ++ card_of k row fields ∷ [])) (same_is kind other is) (own_then kind known)
 
 -- one more card without a fault keeps the cards within the limits
-pub next_within : (draft : Draft) (kind : Kind) (row : ℕ) (fields : List (List ℕ)) → All IsUtf8 fields → IsDraftWithin draft → judge (seen_in draft) row fields ≡ Ok kind → IsDraftWithin (with_card draft kind row fields)
+pub next_within : (draft : Draft) (kind : Kind) (row : ℕ) (fields : List (List ℕ)) → All IsUtf8 fields → IsDraftWithin draft →
+    judge (seen_in draft) row fields ≡ Ok kind → IsDraftWithin (with_card draft kind row fields)
 next_within draft kind row fields text old h =
     let known = faultless (seen_in draft) row fields kind h in
     record {

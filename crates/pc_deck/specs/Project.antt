@@ -14,7 +14,8 @@ use Rattle.pc_deck.specs.declared.kinds.CardLists.{CardLists}
 -- the fields behind the kind, in decks of a sort; the last one may be missing
 abbrev pub project_slots : Sort → List Slot
 project_slots sort =
-    (2, form.Code) ∷ (3, own_code sort) ∷ (4, own_code sort) ∷ (5, form.Date) ∷ (6, form.Number 1 MAX_UNIT_DAYS) ∷ (7, form.NumberOrNone 0 MAX_DIRECTED) ∷ (8, form.Title) ∷ (9, form.NumberOrNone 1 2) ∷ []
+    (2, form.Code) ∷ (3, own_code sort) ∷ (4, own_code sort) ∷ (5, form.Date) ∷ (6, form.Number 1 MAX_UNIT_DAYS) ∷
+    (7, form.NumberOrNone 0 MAX_DIRECTED) ∷ (8, form.Title) ∷ (9, form.NumberOrNone 1 2) ∷ []
 
 -- the version that a field spells; where it is empty, 1
 abbrev pub version_in : List ℕ → ℕ
@@ -36,7 +37,8 @@ project_of row fields = record {
 
 -- its fields as they are written
 abbrev pub written_project : ProjectCard → List (List ℕ)
-written_project project = project.code ∷ project.start ∷ project.end ∷ text_of_day project.start_day ∷ decimal project.unit_days ∷ number_text project.directed ∷ project.title ∷ decimal project.version ∷ []
+written_project project = project.code ∷ project.start ∷ project.end ∷ text_of_day project.start_day ∷ decimal project.unit_days ∷
+    number_text project.directed ∷ project.title ∷ decimal project.version ∷ []
 
 -- the card in another record
 abbrev pub project_at : ℕ → ProjectCard → ProjectCard

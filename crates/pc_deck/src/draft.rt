@@ -86,7 +86,8 @@ impl Draft {
         requires { place.now.kind ≡ kind.End }
         ensures kept { OnOk result (self.new ≡ record self.old { has_ended = true }) }
         ensures sound { OnOk result (fault_of_listed place.now (count_in self.old kind.End) 1 1 [] fields.now ≡ None) }
-        ensures fault { IfErr result (Refuses (λ fault. fault_of_listed place.now (count_in self.old kind.End) 1 1 [] fields.now ≡ Some fault)) }
+        ensures fault { IfErr result (Refuses
+            (λ fault. fault_of_listed place.now (count_in self.old kind.End) 1 1 [] fields.now ≡ Some fault)) }
     {
         if let Some(fault) = wrong_fields(place, 1, 1, fields) {
             return Err(DeckError::Fault(fault));

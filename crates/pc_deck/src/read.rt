@@ -106,10 +106,12 @@ fn take_all(alloc: Global, bytes: &[u8], draft: &mut Draft) -> Result<u32, DeckE
     requires short { length bytes.now ≤ DECK_LIMIT }
     requires utf8 { is_utf8 bytes.now ≡ true }
     requires within { IsDraftWithin draft.old }
-    ensures cards { IfOk result (λ end. closed draft.new end ≡ read_from draft.old (length (deck_records bytes.now) + 1) (deck_cards bytes.now)) }
+    ensures cards { IfOk result (λ end. closed draft.new end
+        ≡ read_from draft.old (length (deck_records bytes.now) + 1) (deck_cards bytes.now)) }
     ensures within { OnOk result (IsDraftWithin draft.new) }
     ensures sort { OnOk result (draft.new.sort ≡ draft.old.sort) }
-    ensures fault { IfErr result (Refuses (λ fault. read_from draft.old (length (deck_records bytes.now) + 1) (deck_cards bytes.now) ≡ Err fault)) }
+    ensures fault { IfErr result (Refuses
+        (λ fault. read_from draft.old (length (deck_records bytes.now) + 1) (deck_cards bytes.now) ≡ Err fault)) }
 {
     let mut rows = CardRows::new(alloc, bytes);
     let mut fields = Row::with_room(alloc, ROW_BYTES, ROW_FIELDS)?;

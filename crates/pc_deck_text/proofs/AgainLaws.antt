@@ -23,7 +23,8 @@ use Rattle.pc_deck.specs.declared.kinds.terms.TermsCard.{TermsCard}
 use Rattle.pc_deck.specs.declared.kinds.wbs.ItemCard.{ItemCard}
 use Rattle.pc_deck.specs.Deck.{Deck, account_codes, act_codes, event_codes, item_codes, named_among, number_among, resource_codes}
 use Rattle.pc_project.specs.DisorderFaults.{HasDisorder, IsDisorderAt, IsEarlyAsOf, as_of_in, of_as_of, of_status}
-use Rattle.pc_project.specs.Misfit.{HasAccountFault, HasActFault, HasFigureFault, HasItemFault, HasListedFault, HasLoadFault, HasMisfit, HasMoneyFault, HasNoMisfit, HasPieceCardFault, HasProjectFault, HasStatusFault, IsInOrder}
+use Rattle.pc_project.specs.Misfit.{HasAccountFault, HasActFault, HasFigureFault, HasItemFault, HasListedFault, HasLoadFault, HasMisfit}
+use Rattle.pc_project.specs.Misfit.{HasMoneyFault, HasNoMisfit, HasPieceCardFault, HasProjectFault, HasStatusFault, IsInOrder}
 use Rattle.pc_project.specs.Misfit as has
 use Rattle.pc_project.specs.PackageFaults.{HasLeafFault, StandsOnBranch, of_account, of_act}
 use Rattle.pc_project.specs.PieceFaults.{HasFlaw, HasFlawAt, HasPieceFault, none_left, not_rising, one_too_many}
@@ -32,7 +33,8 @@ use Rattle.pc_project.specs.Refusal.{HasNoSecondToGo, HasSoundFigures, IsEven, M
 use Rattle.pc_project.specs.TermsFaults.{HasTermsFault, bonus_above}
 use Rattle.pc_model.specs.declared.TimeTerms.{TimeTerms}
 use Rattle.pc_deck_text.specs.Same.{SayTheSame, account_said, act_said, item_said, load_said, money_said, piece_said, status_said}
-use Rattle.pc_deck_text.proofs.SameLaws.{length_said, same_accounts, same_accounts_in, same_acts, same_events, same_item_number, same_items, same_network, same_pieces, same_resources, same_rows, same_start_day, same_statuses, same_terms, same_togos, same_work}
+use Rattle.pc_deck_text.proofs.SameLaws.{length_said, same_accounts, same_accounts_in, same_acts, same_events, same_item_number, same_items, same_network}
+use Rattle.pc_deck_text.proofs.SameLaws.{same_pieces, same_resources, same_rows, same_start_day, same_statuses, same_terms, same_togos, same_work}
 
 -- what holds of some element of one list holds of the element at that place of the other, where a function makes them one
 Any-said : {X : Type 0} (said : X → X) (P Q : X → Type 0) (xs ys : List X) → map said xs ≡ map said ys → ((x y : X) → said x ≡ said y → P x → Q y) → Any P xs → Any Q ys

@@ -8,7 +8,8 @@ use Rattle.pc_times.specs.Estimates.{expected_time, variance_of}
 use Rattle.pc_times.specs.declared.state.ActState.{ActState}
 use Rattle.pc_deck.specs.declared.kinds.act.ActCard.{ActCard}
 use Rattle.pc_deck.specs.Deck.{Deck, account_codes, act_codes, event_codes, item_codes, named_among, number_among, resource_codes}
-use Rattle.pc_project.specs.Project.{account_of, accounts_in, arc_of, charges_in, counts_of, expected_of, heading_of, load_of, money_of, network_of, piece_of, pieces_in, place_of, project_in, row_of, rows_of, status_of, statuses_in, term_of, terms_in, togos_in, variance_in, work_in, work_of}
+use Rattle.pc_project.specs.Project.{account_of, accounts_in, arc_of, charges_in, counts_of, expected_of, heading_of, load_of, money_of, network_of, piece_of, pieces_in}
+use Rattle.pc_project.specs.Project.{place_of, project_in, row_of, rows_of, status_of, statuses_in, term_of, terms_in, togos_in, variance_in, work_in, work_of}
 use Rattle.pc_deck_text.specs.Same.{SayTheSame, account_said, act_said, item_said, load_said, money_said, piece_said, status_said, titled_said}
 
 -- what is read of each element alike before and behind a function is the same of two lists that the function makes one

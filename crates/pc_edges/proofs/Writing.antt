@@ -1,7 +1,8 @@
 -- What several writes to one sink leave, one after the other.
 --
 -- `Wrote` is where a writer stands after the calls so far; `?` leaves `Stopped`; both together are `Writes`.
-use Rattle.std.proofs.Common.{◌≡◌, ℕ, ◌+◌, ◌<◌, ◌≤◌, ◌⊎◌, inl, inr, zero, suc, List, [], ◌∷◌, ◌++◌, length, take, Option, Some, None, Result, Ok, Err, IsErr, refl, sym, ap, ◌∙◌, subst, arith, append_assoc, append-nil, add-one}
+use Rattle.std.proofs.Common.{◌≡◌, ℕ, ◌+◌, ◌<◌, ◌≤◌, ◌⊎◌, inl, inr, zero, suc, List, [], ◌∷◌, ◌++◌, length, take, Option, Some}
+use Rattle.std.proofs.Common.{None, Result, Ok, Err, IsErr, refl, sym, ap, ◌∙◌, subst, arith, append_assoc, append-nil, add-one}
 use Rattle.std.proofs.lemmas.Bool.{false≢true}
 use Rattle.std.proofs.Math.Nat.{eq-or-lt_of_le}
 use Rattle.std.proofs.Math.Seq.{take-append-add}
@@ -90,7 +91,8 @@ Appends-kept (Some xs) (Some ys) None text grown kept = absurd kept
 Appends-kept (Some xs) (Some ys) (Some zs) text grown kept = kept ∙ grown
 
 -- the text was taken whole, and then the sink was flushed
-pub Writes-flushed : {A E : Type 0} (r : Result A E) {a b c : Option (List ℕ)} {s t u : ℕ} {text : List ℕ} → Wrote a b s t text → Keeps b c → OnOk r (u ≡ t) → OnErr r (Rose t u) → t ≤ u → Writes r a c s u text
+pub Writes-flushed : {A E : Type 0} (r : Result A E) {a b c : Option (List ℕ)} {s t u : ℕ} {text : List ℕ} → Wrote a b s t text →
+    Keeps b c → OnOk r (u ≡ t) → OnErr r (Rose t u) → t ≤ u → Writes r a c s u text
 Writes-flushed (Ok v) {a = a} {b = b} {c = c} {text = text} wrote kept no_fault failed count =
     record { ok = record { whole = Appends-kept a b c text wrote.whole kept; no_fault = no_fault ∙ wrote.no_fault }; err = tt; count = omega (arith, wrote.no_fault, count) }
 Writes-flushed (Err e) {a = a} {b = b} {c = c} {u = u} {text = text} wrote kept no_fault failed count =

@@ -37,7 +37,8 @@ pub fn load<S: Source>(alloc: Global, source: &mut S, limit: usize) -> Result<Ve
     ensures too_long { (bytes : List ℕ) × Consumes (S.left source.old) (S.left source.new) bytes
         × (IsErrOf result LoadError.TooLong ↔ (limit < length bytes)) }
     // nothing is pulled behind the pull that passes the limit
-    ensures near { (bytes : List ℕ) × Consumes (S.left source.old) (S.left source.new) bytes × (length bytes ≤ limit + STREAM_ROOM) }
+    ensures near { (bytes : List ℕ) × Consumes (S.left source.old) (S.left source.new) bytes
+        × (length bytes ≤ limit + STREAM_ROOM) }
     ensures count { S.faults source.old ≤ S.faults source.new }
     ensures turns { TakesPulls (limit + 2) (S.pulls source.old) (S.pulls source.new) }
 {
@@ -62,7 +63,8 @@ fn load_by<S: Source>(
     ensures fault { IsErrOf result LoadError.ReadFault → Rose (S.faults source.old) (S.faults source.new) }
     ensures too_long { (bytes : List ℕ) × Consumes (S.left source.old) (S.left source.new) bytes
         × (IsErrOf result LoadError.TooLong ↔ (limit < length bytes)) }
-    ensures near { (bytes : List ℕ) × Consumes (S.left source.old) (S.left source.new) bytes × (length bytes ≤ limit + STREAM_ROOM) }
+    ensures near { (bytes : List ℕ) × Consumes (S.left source.old) (S.left source.new) bytes
+        × (length bytes ≤ limit + STREAM_ROOM) }
     ensures count { S.faults source.old ≤ S.faults source.new }
     ensures turns { TakesPulls (limit + 2) (S.pulls source.old) (S.pulls source.new) }
 {

@@ -29,8 +29,13 @@ estimate_takes : (fields : List ℕ) (a : Ask) → estimate_of fields ≡ Some a
 unfolding estimate_of
 estimate_takes fields a e =
     let made = λ (code : List ℕ) (opt likely pess : ℕ). edit_of code (Estimate (record { optimistic = opt; likely = likely; pessimistic = pess })) in
-    let code = bind_some (code_field fields) (λ code. number_field (code.1) >>= (λ opt. number_field (opt.1) >>= (λ likely. number_field (likely.1) >>= (λ pess. alone (pess.1) (made (code.0) (opt.0) (likely.0) (pess.0)))))) a e in
-    let opt = bind_some (number_field (code.0.1)) (λ opt. number_field (opt.1) >>= (λ likely. number_field (likely.1) >>= (λ pess. alone (pess.1) (made (code.0.0) (opt.0) (likely.0) (pess.0))))) a (code.2) in
+    let code = bind_some (code_field fields)
+    (λ code. number_field (code.1) >>=
+    (λ opt. number_field (opt.1) >>=
+    (λ likely. number_field (likely.1) >>= (λ pess. alone (pess.1) (made (code.0) (opt.0) (likely.0) (pess.0)))))) a e in
+    let opt = bind_some (number_field (code.0.1))
+    (λ opt. number_field (opt.1) >>=
+    (λ likely. number_field (likely.1) >>= (λ pess. alone (pess.1) (made (code.0.0) (opt.0) (likely.0) (pess.0))))) a (code.2) in
     let likely = bind_some (number_field (opt.0.1)) (λ likely. number_field (likely.1) >>= (λ pess. alone (pess.1) (made (code.0.0) (opt.0.0) (likely.0) (pess.0)))) a (opt.2) in
     let pess = bind_some (number_field (likely.0.1)) (λ pess. alone (pess.1) (made (code.0.0) (opt.0.0) (likely.0.0) (pess.0))) a (likely.2) in
     let end = alone_takes (pess.0.1) (made (code.0.0) (opt.0.0) (likely.0.0) (pess.0.0)) a (pess.2) in
@@ -126,9 +131,20 @@ try_takes : (fields : List ℕ) (a : Ask) → try_of fields ≡ Some a → IsAsk
 unfolding try_of
 try_takes fields a e =
     let made = λ (code : List ℕ) (normal crash slope limit : ℕ). ask.Try (record { act = code; normal = normal; crash = crash; slope = slope; length = limit }) in
-    let code = bind_some (code_field fields) (λ code. number_field (code.1) >>= (λ normal. number_field (normal.1) >>= (λ crash. number_field (crash.1) >>= (λ slope. number_field (slope.1) >>= (λ limit. alone (limit.1) (made (code.0) (normal.0) (crash.0) (slope.0) (limit.0))))))) a e in
-    let normal = bind_some (number_field (code.0.1)) (λ normal. number_field (normal.1) >>= (λ crash. number_field (crash.1) >>= (λ slope. number_field (slope.1) >>= (λ limit. alone (limit.1) (made (code.0.0) (normal.0) (crash.0) (slope.0) (limit.0)))))) a (code.2) in
-    let crash = bind_some (number_field (normal.0.1)) (λ crash. number_field (crash.1) >>= (λ slope. number_field (slope.1) >>= (λ limit. alone (limit.1) (made (code.0.0) (normal.0.0) (crash.0) (slope.0) (limit.0))))) a (normal.2) in
+    let code = bind_some (code_field fields)
+    (λ code. number_field (code.1) >>=
+    (λ normal. number_field (normal.1) >>=
+    (λ crash. number_field (crash.1) >>=
+    (λ slope. number_field (slope.1) >>= (λ limit. alone (limit.1) (made (code.0) (normal.0) (crash.0) (slope.0) (limit.0))))))) a e in
+    let normal = bind_some (number_field (code.0.1))
+    (λ normal. number_field (normal.1) >>=
+    (λ crash. number_field (crash.1) >>=
+    (λ slope. number_field (slope.1) >>= (λ limit. alone (limit.1) (made (code.0.0) (normal.0) (crash.0) (slope.0) (limit.0)))))) a
+    (code.2) in
+    let crash = bind_some (number_field (normal.0.1))
+    (λ crash. number_field (crash.1) >>=
+    (λ slope. number_field (slope.1) >>= (λ limit. alone (limit.1) (made (code.0.0) (normal.0.0) (crash.0) (slope.0) (limit.0))))) a
+    (normal.2) in
     let slope = bind_some (number_field (crash.0.1)) (λ slope. number_field (slope.1) >>= (λ limit. alone (limit.1) (made (code.0.0) (normal.0.0) (crash.0.0) (slope.0) (limit.0)))) a (crash.2) in
     let limit = bind_some (number_field (slope.0.1)) (λ limit. alone (limit.1) (made (code.0.0) (normal.0.0) (crash.0.0) (slope.0.0) (limit.0))) a (slope.2) in
     let end = alone_takes (limit.0.1) (made (code.0.0) (normal.0.0) (crash.0.0) (slope.0.0) (limit.0.0)) a (limit.2) in
@@ -186,7 +202,9 @@ ask_takes line a e =
 ask_again : (a : Ask) → Fits a → ask_with (take (run_len 32 (spelling a)) (spelling a)) (drop (run_len 32 (spelling a)) (spelling a)) ≡ Some a
 ask_again (ask.Edit edit) h = change_again edit.act edit.change h
   where
-    change_again : (act : List ℕ) (change : Change) → Fits (edit_of act change) → ask_with (take (run_len 32 (spelling (edit_of act change))) (spelling (edit_of act change))) (drop (run_len 32 (spelling (edit_of act change))) (spelling (edit_of act change))) ≡ Some (edit_of act change)
+    change_again : (act : List ℕ) (change : Change) → Fits (edit_of act change) →
+        ask_with (take (run_len 32 (spelling (edit_of act change))) (spelling (edit_of act change)))
+        (drop (run_len 32 (spelling (edit_of act change))) (spelling (edit_of act change))) ≡ Some (edit_of act change)
     change_again act (Estimate new) h = estimate_again act new h
     change_again act (Normal n) h = normal_again act n (h.0) (h.1)
     change_again act (Crash n) h = crash_again act n (h.0) (h.1)

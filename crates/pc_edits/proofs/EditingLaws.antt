@@ -28,7 +28,8 @@ AreLengths-expected editing whole = record {
   one_each = length-map editing.estimates (expected_by editing.unit_days) ∙ whole.fit.estimates_each;
   small = λ a known.
       let e = whole.fit.estimates a known in
-      let times : (estimates_at editing.estimates a).optimistic + 4 * (estimates_at editing.estimates a).likely + (estimates_at editing.estimates a).pessimistic ≤ 600000 = omega (arith, e.optimistic, e.pessimistic, e.short) in
+      let times : (estimates_at editing.estimates a).optimistic + 4 * (estimates_at editing.estimates a).likely
+      + (estimates_at editing.estimates a).pessimistic ≤ 600000 = omega (arith, e.optimistic, e.pessimistic, e.short) in
       omega (arith, mul-le-mul times whole.unit_days, get_or-map (expected_by editing.unit_days) editing.estimates a no_estimates 0 (omega (arith, known, whole.fit.estimates_each)));
 }
 

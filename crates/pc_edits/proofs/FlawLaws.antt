@@ -30,15 +30,21 @@ flaw-is term slope units piece [] rising = last_one (leb piece.slope slope) term
     last_one b normal crash before own = grind (arith, nat_tests)
 flaw-is term slope units piece (next ∷ pieces) rising =
     ap (λ b. leb piece.slope slope || (leb term.normal (term.crash + (units + piece.units)) || b)) (flaw-is term piece.slope (units + piece.units) next pieces rising.1)
-    ∙ ap (λ b. leb piece.slope slope || b) (more_units term.normal term.crash units piece.units (units_of (next ∷ pieces)) (units_of (piece ∷ next ∷ pieces)) piece.slope next.slope (units_of-cons piece (next ∷ pieces)) rising.0)
+    ∙ ap (λ b. leb piece.slope slope || b)
+    (more_units term.normal term.crash units piece.units (units_of (next ∷ pieces))
+    (units_of (piece ∷ next ∷ pieces)) piece.slope next.slope (units_of-cons piece (next ∷ pieces)) rising.0)
 
 -- the slopes behind the first piece rise
-rising_behind : (slope : ℕ) (pieces : List PieceRow) → ((k : ℕ) → k < length pieces → slope_in (record { normal = 0; crash = 0; cost = 0; slope = slope }) pieces k < (piece_at pieces k).slope) → IsRising slope pieces
+rising_behind : (slope : ℕ) (pieces : List PieceRow) →
+    ((k : ℕ) → k < length pieces → slope_in
+    (record { normal = 0; crash = 0; cost = 0; slope = slope }) pieces k < (piece_at pieces k).slope) → IsRising slope pieces
 rising_behind slope [] rising = tt
 rising_behind slope (piece ∷ pieces) rising =
     (rising 0 (omega arith), rising_behind piece.slope pieces (λ k inside. later k (rising (suc k) (omega arith))))
   where
-    later : (k : ℕ) → slope_in (record { normal = 0; crash = 0; cost = 0; slope = slope }) (piece ∷ pieces) (suc k) < (piece_at (piece ∷ pieces) (suc k)).slope → slope_in (record { normal = 0; crash = 0; cost = 0; slope = piece.slope }) pieces k < (piece_at pieces k).slope
+    later : (k : ℕ) → slope_in (record { normal = 0; crash = 0; cost = 0; slope = slope }) (piece ∷ pieces)
+        (suc k) < (piece_at (piece ∷ pieces) (suc k)).slope →
+        slope_in (record { normal = 0; crash = 0; cost = 0; slope = piece.slope }) pieces k < (piece_at pieces k).slope
     later zero h = h
     later (suc k) h = h
 

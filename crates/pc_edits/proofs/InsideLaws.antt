@@ -100,8 +100,10 @@ module _ (net : PricedNetwork) (estimates : List Estimates) (unit_days : ℕ) (k
     pub undone_edited : plan_of (undone (edited before edit)) ≡ plan
     undone_edited =
         ap (λ e. plan_of (undone e)) (sym edited_at)
-        ∙ ap (λ ps. plan_of (option_map_or (λ p. editing_with (record after { kept = ps }) p (take (length ps - 1) ps)) (last_item ps) (record after { kept = ps }))) (kept_after ∙ keep_last-push (MAX_KEPT - 1) (plans_back kept plan) plan)
-        ∙ ap (λ found. plan_of (option_map_or (λ p. editing_with (record after { kept = later }) p (take (length later - 1) later)) found (record after { kept = later }))) (last_item-push (keep_last (MAX_KEPT - 1) (plans_back kept plan)) plan)
+        ∙ ap (λ ps. plan_of (option_map_or (λ p. editing_with (record after { kept = ps }) p (take (length ps - 1) ps)) (last_item ps)
+        (record after { kept = ps }))) (kept_after ∙ keep_last-push (MAX_KEPT - 1) (plans_back kept plan) plan)
+        ∙ ap (λ found. plan_of (option_map_or (λ p. editing_with (record after { kept = later }) p (take (length later - 1) later)) found
+        (record after { kept = later }))) (last_item-push (keep_last (MAX_KEPT - 1) (plans_back kept plan)) plan)
 
     pub whole_edited : IsEditing after
     whole_edited = record {
@@ -210,7 +212,8 @@ module _ (s : Inside) (inv : IsWholeInside s) (terms : List Term) (net : PricedN
   pieces_kept = subst (λ (n : PricedNetwork). ArePiecesWithinLimits n.pieces) (sym net_is) inv.piece_limits
 
   known_kept : (kept : List Kept) → All (λ (k : Kept). k.activity < length s.net.network.arcs) kept → All (λ (k : Kept). k.activity < length net.network.arcs) kept
-  known_kept kept = subst (λ (n : PricedNetwork). All (λ (k : Kept). k.activity < length s.net.network.arcs) kept → All (λ (k : Kept). k.activity < length n.network.arcs) kept) (sym net_is) (λ all. all)
+  known_kept kept = subst (λ (n : PricedNetwork). All (λ (k : Kept). k.activity < length s.net.network.arcs) kept →
+      All (λ (k : Kept). k.activity < length n.network.arcs) kept) (sym net_is) (λ all. all)
 
   aside_kept : ForSome s.aside (λ (t : ActTerm). t.activity < length net.network.arcs)
   aside_kept = subst (λ (n : PricedNetwork). ForSome s.aside (λ (t : ActTerm). t.activity < length n.network.arcs)) (sym net_is) inv.aside_known
@@ -221,7 +224,8 @@ module _ (s : Inside) (v : Edits) (view : edits_from s ≡ v) (inv : IsWholeInsi
     (list : List Estimates) (list_is : list ≡ s.estimates.items)
     (fits : IsFitPlan s.net.network s.net.pieces (plan_with edit.change a (record { terms = s.net.terms; estimates = list })))
     (was : Change) (was_is : was ≡ replaced edit.change (term_at s.net.terms a) (estimates_at s.estimates.items a))
-    (net : PricedNetwork) (net_is : net ≡ net_with edit.change a s.net) (lent : List Estimates) (lent_is : lent ≡ s.estimates.items) (new : List Estimates) (new_is : new ≡ list_with edit.change a lent)
+    (net : PricedNetwork) (net_is : net ≡ net_with edit.change a s.net) (lent : List Estimates) (lent_is : lent ≡ s.estimates.items)
+    (new : List Estimates) (new_is : new ≡ list_with edit.change a lent)
     (kept : Buffer Kept) (kept_is : kept ≡ buffer (keep_last s.kept.capacity (s.kept.items ++ record { activity = a; was = was } ∷ [])) s.kept.capacity) where
   whole_now : IsEditing (editing_at s.net s.estimates.items s.unit_days s.kept.items)
   whole_now = whole_at s v view inv rest
@@ -237,7 +241,8 @@ module _ (s : Inside) (v : Edits) (view : edits_from s ≡ v) (inv : IsWholeInsi
 
   items_are : (with_items s.estimates new).items ≡ list_with edit.change a s.estimates.items
   items_are =
-      with_items_is s.estimates new (ap (λ (xs : List Estimates). length xs) now_is ∙ length-set s.estimates.items a (estimates_with edit.change (estimates_at s.estimates.items a)) ∙ sym s.estimates.ok.0)
+      with_items_is s.estimates new (ap (λ (xs : List Estimates). length xs) now_is
+      ∙ length-set s.estimates.items a (estimates_with edit.change (estimates_at s.estimates.items a)) ∙ sym s.estimates.ok.0)
       ∙ now_is
 
   pushed_are : kept.items ≡ keep_last MAX_KEPT (s.kept.items ++ record { activity = a; was = replaced edit.change (term_at s.net.terms a) (estimates_at s.estimates.items a) } ∷ [])
@@ -254,7 +259,11 @@ module _ (s : Inside) (v : Edits) (view : edits_from s ≡ v) (inv : IsWholeInsi
 
   pub edit_view : edits_from after_edit ≡ at_rest (edited v.editing edit)
   edit_view =
-      edits_from-at after_edit none_aside (net_with edit.change a s.net) (list_with edit.change a s.estimates.items) (keep_last MAX_KEPT (s.kept.items ++ record { activity = a; was = replaced edit.change (term_at s.net.terms a) (estimates_at s.estimates.items a) } ∷ [])) net_is items_are pushed_are
+      edits_from-at after_edit none_aside (net_with edit.change a s.net) (list_with edit.change a s.estimates.items)
+      (keep_last MAX_KEPT (s.kept.items ++ record {
+        activity = a;
+        was = replaced edit.change (term_at s.net.terms a) (estimates_at s.estimates.items a);
+      } ∷ [])) net_is items_are pushed_are
       ∙ ap at_rest (edited_at s.net s.estimates.items s.unit_days s.kept.items whole_now edit a named known fits_now)
       ∙ ap (λ (e : Edits). at_rest (edited e.editing edit)) at_now
 
@@ -262,7 +271,11 @@ module _ (s : Inside) (v : Edits) (view : edits_from s ≡ v) (inv : IsWholeInsi
   edit_touched =
       subst (λ (e : Edits). ChangesOnly e.editing (editing_in after_edit) a) at_now
       (subst (λ (e : Edits). ChangesOnly (editing_at s.net s.estimates.items s.unit_days s.kept.items) e.editing a)
-      (sym (edits_from-at after_edit none_aside (net_with edit.change a s.net) (list_with edit.change a s.estimates.items) (keep_last MAX_KEPT (s.kept.items ++ record { activity = a; was = replaced edit.change (term_at s.net.terms a) (estimates_at s.estimates.items a) } ∷ [])) net_is items_are pushed_are))
+      (sym (edits_from-at after_edit none_aside (net_with edit.change a s.net) (list_with edit.change a s.estimates.items)
+      (keep_last MAX_KEPT (s.kept.items ++ record {
+        activity = a;
+        was = replaced edit.change (term_at s.net.terms a) (estimates_at s.estimates.items a);
+      } ∷ [])) net_is items_are pushed_are))
       (changes_edited s.net s.estimates.items s.unit_days s.kept.items whole_now edit a named known fits_now))
 
   pub edit_undone : plan_of (undone (edited v.editing edit)) ≡ plan_of v.editing
@@ -272,13 +285,18 @@ module _ (s : Inside) (v : Edits) (view : edits_from s ≡ v) (inv : IsWholeInsi
 
   pub edit_whole : IsWholeInside after_edit
   edit_whole = record {
-    editing = IsEditing-at after_edit none_aside (net_with edit.change a s.net) (list_with edit.change a s.estimates.items) (keep_last MAX_KEPT (s.kept.items ++ record { activity = a; was = replaced edit.change (term_at s.net.terms a) (estimates_at s.estimates.items a) } ∷ [])) net_is items_are pushed_are
+    editing = IsEditing-at after_edit none_aside (net_with edit.change a s.net) (list_with edit.change a s.estimates.items)
+        (keep_last MAX_KEPT (s.kept.items ++ record {
+          activity = a;
+          was = replaced edit.change (term_at s.net.terms a) (estimates_at s.estimates.items a);
+        } ∷ [])) net_is items_are pushed_are
         (whole_edited s.net s.estimates.items s.unit_days s.kept.items whole_now edit a named known fits_now);
     names = names_kept s inv (net_with edit.change a s.net).terms net net_is;
     piece_limits = pieces_kept s inv (net_with edit.change a s.net).terms net net_is;
     room = ap (λ (b : Buffer Kept). b.capacity) kept_is ∙ inv.room;
     known = known_kept s inv (net_with edit.change a s.net).terms net net_is kept.items
-        (subst (All (λ (k : Kept). k.activity < length s.net.network.arcs)) (sym pushed_are) (known_after s.net s.estimates.items s.unit_days s.kept.items whole_now edit a named known fits_now inv.known));
+        (subst (All (λ (k : Kept). k.activity < length s.net.network.arcs)) (sym pushed_are)
+        (known_after s.net s.estimates.items s.unit_days s.kept.items whole_now edit a named known fits_now inv.known));
     aside_known = aside_kept s inv (net_with edit.change a s.net).terms net net_is;
   }
 
@@ -294,13 +312,20 @@ module _ (s : Inside) (v : Edits) (view : edits_from s ≡ v) (inv : IsWholeInsi
       (fits_then s.net s.estimates.items s.unit_days s.kept.items (whole_at s v view inv rest) k last undo_known)
 
   pub undo_some : 0 < length v.editing.kept
-  undo_some = omega (arith, ap (λ (e : Edits). length e.editing.kept) (view_at s v view inv rest), length-plans_back s.kept.items (record { terms = s.net.terms; estimates = s.estimates.items }), ap (λ (ks : List Kept). length ks) (last_item-some s.kept.items k last), length-push (take (length s.kept.items - 1) s.kept.items) k)
+  undo_some = omega (
+    arith,
+    ap (λ (e : Edits). length e.editing.kept) (view_at s v view inv rest),
+    length-plans_back s.kept.items (record { terms = s.net.terms; estimates = s.estimates.items }),
+    ap (λ (ks : List Kept). length ks) (last_item-some s.kept.items k last),
+    length-push (take (length s.kept.items - 1) s.kept.items) k,
+  )
 
   pub undo_accepted : undo_refusal v.editing ≡ None
   undo_accepted = rw (ne_eqb (length v.editing.kept) 0 (λ e. absurd (omega (arith, e, undo_some)))) refl
 
   -- and after it is
-  module _ (net : PricedNetwork) (net_is : net ≡ net_with k.was k.activity s.net) (lent : List Estimates) (lent_is : lent ≡ s.estimates.items) (new : List Estimates) (new_is : new ≡ list_with k.was k.activity lent)
+  module _ (net : PricedNetwork) (net_is : net ≡ net_with k.was k.activity s.net) (lent : List Estimates)
+      (lent_is : lent ≡ s.estimates.items) (new : List Estimates) (new_is : new ≡ list_with k.was k.activity lent)
       (kept : Buffer Kept) (kept_is : kept ≡ buffer (take (length s.kept.items - 1) s.kept.items) s.kept.capacity) where
     abbrev pub after_undo : Inside
     after_undo = record s { net = net; estimates = with_items s.estimates new; kept = kept }
@@ -310,7 +335,9 @@ module _ (s : Inside) (v : Edits) (view : edits_from s ≡ v) (inv : IsWholeInsi
 
     items_back : (with_items s.estimates new).items ≡ list_with k.was k.activity s.estimates.items
     items_back =
-        with_items_is s.estimates new (ap (λ (xs : List Estimates). length xs) back_is ∙ length-set s.estimates.items k.activity (estimates_with k.was (estimates_at s.estimates.items k.activity)) ∙ sym s.estimates.ok.0)
+        with_items_is s.estimates new (ap (λ (xs : List Estimates). length xs) back_is
+        ∙ length-set s.estimates.items k.activity (estimates_with k.was (estimates_at s.estimates.items k.activity))
+        ∙ sym s.estimates.ok.0)
         ∙ back_is
 
     popped_are : kept.items ≡ take (length s.kept.items - 1) s.kept.items
@@ -318,19 +345,22 @@ module _ (s : Inside) (v : Edits) (view : edits_from s ≡ v) (inv : IsWholeInsi
 
     pub undo_view : edits_from after_undo ≡ at_rest (undone v.editing)
     undo_view =
-        edits_from-at after_undo (no_aside s v view inv rest) (net_with k.was k.activity s.net) (list_with k.was k.activity s.estimates.items) (take (length s.kept.items - 1) s.kept.items) net_is items_back popped_are
+        edits_from-at after_undo (no_aside s v view inv rest) (net_with k.was k.activity s.net)
+        (list_with k.was k.activity s.estimates.items) (take (length s.kept.items - 1) s.kept.items) net_is items_back popped_are
         ∙ ap at_rest (undone_at s.net s.estimates.items s.unit_days s.kept.items (whole_at s v view inv rest) k last undo_known)
         ∙ ap (λ (e : Edits). at_rest (undone e.editing)) (view_at s v view inv rest)
 
     pub undo_whole : IsWholeInside after_undo
     undo_whole = record {
-      editing = IsEditing-at after_undo (no_aside s v view inv rest) (net_with k.was k.activity s.net) (list_with k.was k.activity s.estimates.items) (take (length s.kept.items - 1) s.kept.items) net_is items_back popped_are
+      editing = IsEditing-at after_undo (no_aside s v view inv rest) (net_with k.was k.activity s.net)
+          (list_with k.was k.activity s.estimates.items) (take (length s.kept.items - 1) s.kept.items) net_is items_back popped_are
           (whole_undone s.net s.estimates.items s.unit_days s.kept.items (whole_at s v view inv rest) k last undo_known);
       names = names_kept s inv (net_with k.was k.activity s.net).terms net net_is;
       piece_limits = pieces_kept s inv (net_with k.was k.activity s.net).terms net net_is;
       room = ap (λ (b : Buffer Kept). b.capacity) kept_is ∙ inv.room;
       known = known_kept s inv (net_with k.was k.activity s.net).terms net net_is kept.items
-          (subst (All (λ (j : Kept). j.activity < length s.net.network.arcs)) (sym popped_are) (All-take (λ (j : Kept). j.activity < length s.net.network.arcs) (length s.kept.items - 1) s.kept.items inv.known));
+          (subst (All (λ (j : Kept). j.activity < length s.net.network.arcs)) (sym popped_are)
+          (All-take (λ (j : Kept). j.activity < length s.net.network.arcs) (length s.kept.items - 1) s.kept.items inv.known));
       aside_known = aside_kept s inv (net_with k.was k.activity s.net).terms net net_is;
     }
 
@@ -338,7 +368,8 @@ module _ (s : Inside) (v : Edits) (view : edits_from s ≡ v) (inv : IsWholeInsi
     undo_touched =
         subst (λ (e : Edits). ChangesOnly e.editing (editing_in after_undo) k.activity) (view_at s v view inv rest)
         (subst (λ (e : Edits). ChangesOnly (editing_at s.net s.estimates.items s.unit_days s.kept.items) e.editing k.activity)
-        (sym (edits_from-at after_undo (no_aside s v view inv rest) (net_with k.was k.activity s.net) (list_with k.was k.activity s.estimates.items) (take (length s.kept.items - 1) s.kept.items) net_is items_back popped_are))
+        (sym (edits_from-at after_undo (no_aside s v view inv rest) (net_with k.was k.activity s.net)
+        (list_with k.was k.activity s.estimates.items) (take (length s.kept.items - 1) s.kept.items) net_is items_back popped_are))
         (changes_undone s.net s.estimates.items s.unit_days s.kept.items (whole_at s v view inv rest) k last undo_known))
 
 -- fields with a term on trial

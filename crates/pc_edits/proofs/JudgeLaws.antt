@@ -25,7 +25,9 @@ pub reason_same : (found : Option Reason) (over over' : Bool) (term term' : Term
     over ≡ over' → term ≡ term' → estimates ≡ estimates' → further ≡ further' → found ≡ refusal_with over term estimates further → found ≡ refusal_with over' term' estimates' further'
 reason_same found over over' term term' estimates estimates' further further' o t e f is = is ∙ (λ i. refusal_with (o i) (t i) (e i) (f i))
 
-module _ (net : PricedNetwork) (list : List Estimates) (fit : IsFitPlan net.network net.pieces (record { terms = net.terms; estimates = list })) (a : ℕ) (known : a < length net.network.arcs) (found : Option Reason) where
+module _ (net : PricedNetwork) (list : List Estimates)
+    (fit : IsFitPlan net.network net.pieces (record { terms = net.terms; estimates = list })) (a : ℕ) (known : a < length net.network.arcs)
+    (found : Option Reason) where
   rises : (k : ℕ) → k < length (pieces_of net.pieces a) → slope_in (term_at net.terms a) (pieces_of net.pieces a) k < slope_in (term_at net.terms a) (pieces_of net.pieces a) (k + 1)
   rises k = fit.pieces.rising a k (omega (arith, known, fit.terms.one_each))
 
@@ -34,8 +36,10 @@ module _ (net : PricedNetwork) (list : List Estimates) (fit : IsFitPlan net.netw
       (is : found ≡ refusal_with (is_over edit.change) (term_with edit.change (term_at net.terms a)) (estimates_with edit.change (estimates_at list a)) (further_in (pieces_of net.pieces a))) where
     pub edit_refusal-is : edit_refusal net list edit ≡ found
     edit_refusal-is =
-        ap (λ o. option_map_or (λ b. refusal_of (is_over edit.change) (term_with edit.change (term_at net.terms b)) (estimates_with edit.change (estimates_at list b)) (pieces_of net.pieces b)) o (Some UnknownActivity)) named
-        ∙ sym (refusal_with-is (is_over edit.change) (term_at net.terms a) (term_with edit.change (term_at net.terms a)) (estimates_with edit.change (estimates_at list a)) (pieces_of net.pieces a) rises)
+        ap (λ o. option_map_or (λ b. refusal_of (is_over edit.change) (term_with edit.change (term_at net.terms b))
+        (estimates_with edit.change (estimates_at list b)) (pieces_of net.pieces b)) o (Some UnknownActivity)) named
+        ∙ sym (refusal_with-is (is_over edit.change) (term_at net.terms a) (term_with edit.change (term_at net.terms a))
+        (estimates_with edit.change (estimates_at list a)) (pieces_of net.pieces a) rises)
         ∙ sym is
 
     pub edit_fits : found ≡ None → IsFitPlan net.network net.pieces (plan_with edit.change a (record { terms = net.terms; estimates = list }))

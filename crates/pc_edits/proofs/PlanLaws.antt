@@ -1,5 +1,6 @@
 -- Numbers that are accepted fit, and those that are taken back are what they were.
-use Rattle.std.proofs.Common.{◌≡◌, ℕ, zero, suc, ◌+◌, ◌-◌, ◌*◌, ◌^◌, ◌<◌, ◌≤◌, Bool, true, false, ◌||◌, cond, leb, List, [], ◌∷◌, length, set, get_or, Option, Some, None, refl, sym, ◌∙◌, ap, subst, ⊎_elim, add-one, arith}
+use Rattle.std.proofs.Common.{◌≡◌, ℕ, zero, suc, ◌+◌, ◌-◌, ◌*◌, ◌^◌, ◌<◌, ◌≤◌, Bool, true, false, ◌||◌, cond, leb, List, [], ◌∷◌}
+use Rattle.std.proofs.Common.{length, set, get_or, Option, Some, None, refl, sym, ◌∙◌, ap, subst, ⊎_elim, add-one, arith}
 use Rattle.std.proofs.Math.Nat.{mul-le-mul, pow-le-pow_left}
 use Rattle.std.proofs.lemmas.Bool.{cases_eq, ltb-false}
 use Rattle.std.proofs.lemmas.Bool.Decides.{nat_tests}
@@ -59,7 +60,8 @@ pub record IsOwnFit (term : Term) (own : List PieceRow) : Type 0 where
   pub rising : 0 < length own → term.slope < slope_in term own 1
   pub leaving : 0 < length own → term.crash + units_of own < term.normal
 
-module _ (net : Network) (terms : List Term) (pieces : List PieceRow) (fit : AreTerms net terms) (limits : AreWithinLimits terms) (right : ArePieces terms pieces) (a : ℕ) (inside : a < length terms) (new : Term) (own : IsOwnFit new (pieces_of pieces a)) where
+module _ (net : Network) (terms : List Term) (pieces : List PieceRow) (fit : AreTerms net terms) (limits : AreWithinLimits terms)
+    (right : ArePieces terms pieces) (a : ℕ) (inside : a < length terms) (new : Term) (own : IsOwnFit new (pieces_of pieces a)) where
   -- what holds of the term of each activity holds where the new one is in place
   each : (P : ℕ → Term → Type 0) → ((b : ℕ) → b < length terms → P b (term_at terms b)) → P a new → (b : ℕ) → b < length (set terms a new) → P b (term_at (set terms a new) b)
   each P were is b below =
@@ -86,13 +88,20 @@ module _ (net : Network) (terms : List Term) (pieces : List PieceRow) (fit : Are
   -- behind the first of its pieces the slopes are those of the pieces alone
   rises : (k : ℕ) → k < length (pieces_of pieces a) → slope_in new (pieces_of pieces a) k < slope_in new (pieces_of pieces a) (k + 1)
   rises zero some = omega (arith, own.rising some)
-  rises (suc k) within = omega (arith, right.rising a (suc k) inside within, ap (slope_in new (pieces_of pieces a)) (add-one (suc k)), ap (slope_in (term_at terms a) (pieces_of pieces a)) (add-one (suc k)))
+  rises (suc k) within = omega (
+    arith,
+    right.rising a (suc k) inside within,
+    ap (slope_in new (pieces_of pieces a)) (add-one (suc k)),
+    ap (slope_in (term_at terms a) (pieces_of pieces a)) (add-one (suc k)),
+  )
 
   pub ArePieces-set : ArePieces (set terms a new) pieces
   ArePieces-set = record {
     named = λ i below. omega (arith, right.named i below, length-set terms a new);
     few = λ b below. right.few b (omega (arith, length-set terms a new));
-    rising = λ b k below. each (λ c t. (j : ℕ) → j < length (pieces_of pieces c) → slope_in t (pieces_of pieces c) j < slope_in t (pieces_of pieces c) (j + 1)) (λ c within j. right.rising c j within) rises b below k;
+    rising = λ b k below. each (λ c t. (j : ℕ) → j < length (pieces_of pieces c) →
+        slope_in t (pieces_of pieces c) j < slope_in t (pieces_of pieces c) (j + 1))
+        (λ c within j. right.rising c j within) rises b below k;
     leaving = each (λ c t. 0 < length (pieces_of pieces c) → t.crash + units_of (pieces_of pieces c) < t.normal) right.leaving own.leaving;
   }
 
@@ -119,7 +128,8 @@ HasNone-of over term estimates own e =
     record { within = not_over.0; ordered = not_above.0; in_order = not_disordered.0; flawless = not_flawed.0 }
 
 -- then the term fits, where its numbers are within their limits
-pub own_fit : (term : Term) (own : List PieceRow) → is_crash_above term ≡ false → is_flawed term (further_in own) ≡ false → term.normal ≤ MAX_DURATION → term.cost ≤ MAX_COST → term.slope ≤ MAX_SLOPE → IsOwnFit term own
+pub own_fit : (term : Term) (own : List PieceRow) → is_crash_above term ≡ false → is_flawed term (further_in own) ≡ false →
+    term.normal ≤ MAX_DURATION → term.cost ≤ MAX_COST → term.slope ≤ MAX_SLOPE → IsOwnFit term own
 own_fit term [] ordered flawless short cheap gentle = record {
   ordered = ltb-false _ _ ordered;
   short = short;
@@ -271,7 +281,8 @@ module _ (net : Network) (pieces : List PieceRow) (plan : Plan) (a : ℕ) (fit :
   in_terms = omega (arith, known, fit.terms.one_each)
 
   tried_own : IsOwnFit (term_tried trial (term_at plan.terms a)) (pieces_of pieces a)
-  tried_own = own_fit (term_tried trial (term_at plan.terms a)) (pieces_of pieces a) none.ordered none.flawless (tried_short trial none.within) (fit.limits.cheap a in_terms) (tried_gentle trial none.within)
+  tried_own = own_fit (term_tried trial (term_at plan.terms a)) (pieces_of pieces a) none.ordered none.flawless
+      (tried_short trial none.within) (fit.limits.cheap a in_terms) (tried_gentle trial none.within)
 
   pub tried_terms : AreTerms net (set plan.terms a (term_tried trial (term_at plan.terms a)))
   tried_terms = AreTerms-set net plan.terms pieces fit.terms fit.limits fit.pieces a in_terms (term_tried trial (term_at plan.terms a)) tried_own

@@ -47,7 +47,8 @@ module _ (project : Project) (journal : Journal) where
   edited_stands : (edit : Edit) (a : ℕ) → activity_named net edit.act ≡ Some a → journal.kept ≤ length journal.standing →
       edited (standing_of project journal) edit ≡ standing_of project (noted journal edit)
   edited_stands edit a named some =
-      ap (λ found. option_map_or (λ b. editing_with (standing_of project journal) (plan_with edit.change b now) (keep_last MAX_KEPT (keep_last journal.kept plans ++ now ∷ []))) found (standing_of project journal)) named
+      ap (λ found. option_map_or (λ b. editing_with (standing_of project journal) (plan_with edit.change b now)
+      (keep_last MAX_KEPT (keep_last journal.kept plans ++ now ∷ []))) found (standing_of project journal)) named
       ∙ (λ i. editing_with (begun project) (plan i) (kept i))
     where
       plan : plan_with edit.change a now ≡ plan_after net (journal.standing ++ edit ∷ []) first
@@ -61,7 +62,8 @@ module _ (project : Project) (journal : Journal) where
           ∙ keep_last-keep_last MAX_KEPT (journal.kept + 1) (plans ++ now ∷ []) (omega (arith, some, length-push plans now, length-plans_before net journal.standing first))
           ∙ ap (keep_last (min MAX_KEPT (journal.kept + 1))) (sym (plans_before-push net edit journal.standing first))
 
-  pub Stands-edited : (editing : Editing) (edit : Edit) (a : ℕ) → activity_named editing.net edit.act ≡ Some a → Stands project journal editing → Stands project (noted journal edit) (edited editing edit)
+  pub Stands-edited : (editing : Editing) (edit : Edit) (a : ℕ) → activity_named editing.net edit.act ≡ Some a →
+      Stands project journal editing → Stands project (noted journal edit) (edited editing edit)
   Stands-edited editing edit a named stands = record {
     is = ap (λ e. edited e edit) stands.is ∙ edited_stands edit a (sym (ap (λ (e : Editing). activity_named e.net edit.act) stands.is) ∙ named) stands.some;
     some = omega (arith, stands.some, length-push journal.standing edit);
@@ -91,7 +93,9 @@ module _ (project : Project) (journal : Journal) where
     back_stands : undone (standing_of project journal) ≡ standing_of project (taken_back journal)
     back_stands =
         ap (λ ps. option_map_or (λ plan. editing_with (standing_of project journal) plan (take (length ps - 1) ps)) (last_item ps) (standing_of project journal)) kept_are
-        ∙ ap (λ found. option_map_or (λ plan. editing_with (standing_of project journal) plan (take (length (before ++ latest ∷ []) - 1) (before ++ latest ∷ []))) found (standing_of project journal)) (last_item-push before latest)
+        ∙ ap (λ found. option_map_or (λ plan. editing_with (standing_of project journal) plan
+        (take (length (before ++ latest ∷ []) - 1) (before ++ latest ∷ []))) found (standing_of project journal))
+        (last_item-push before latest)
         ∙ ap (λ ps. editing_with (begun project) latest ps) (front-push before latest)
         ∙ ap (λ edits. editing_with (begun project) (plan_after net edits first) (keep_last (journal.kept - 1) (plans_before net edits first))) fronts
 

@@ -22,12 +22,14 @@ impl Edits<'_> {
     pub fn apply(&mut self, edit: &Edit) -> Result<u32, Reason>
         requires { self.old.trial ≡ None }
         ensures accepted { OnOk result (edit_refusal self.old.editing.net self.old.editing.estimates edit.now ≡ None) }
-        ensures refused { IfErr result (λ reason. edit_refusal self.old.editing.net self.old.editing.estimates edit.now ≡ Some reason) }
+        ensures refused { IfErr result (λ reason. edit_refusal self.old.editing.net self.old.editing.estimates
+            edit.now ≡ Some reason) }
         ensures changed { OnOk result (self.new ≡ at_rest (edited self.old.editing edit.now)) }
         ensures unchanged { OnErr result (self.new ≡ self.old) }
         ensures undone { OnOk result (plan_of (undone self.new.editing) ≡ plan_of self.old.editing) }
         ensures touched { IfOk result (ChangesOnly self.old.editing self.new.editing) }
-        ensures standing { OnOk result ((project : Project) (journal : Journal) → Stands project journal self.old.editing → Stands project (noted journal edit.now) self.new.editing) }
+        ensures standing { OnOk result ((project : Project) (journal : Journal) →
+            Stands project journal self.old.editing → Stands project (noted journal edit.now) self.new.editing) }
     {
         let a = judge_edit(&self.net, &self.estimates, edit)?;
         let was = replaced(&edit.change, &self.net.term(a), &self.estimates[a as usize]);

@@ -47,9 +47,12 @@ pub(crate) fn replaced(change: &Change, term: &Term, estimates: &Estimates) -> C
 /// Puts a change of an activity in place.
 pub(crate) fn put(net: &mut CrashNet<'_>, estimates: &mut [Estimates], a: u32, change: &Change)
     requires activity { a < length net.old.network.arcs }
-    requires fits { IsFitPlan net.old.network net.old.pieces (plan_with change.now a (record { terms = net.old.terms; estimates = estimates.old })) }
-    ensures net { net.new ≡ record net.old { terms = slice_set net.old.terms a (term_with change.now (term_at net.old.terms a)) } }
-    ensures estimates { estimates.new ≡ slice_set estimates.old a (estimates_with change.now (estimates_at estimates.old a)) }
+    requires fits { IsFitPlan net.old.network net.old.pieces
+        (plan_with change.now a (record { terms = net.old.terms; estimates = estimates.old })) }
+    ensures net { net.new ≡ record net.old
+        { terms = slice_set net.old.terms a (term_with change.now (term_at net.old.terms a)) } }
+    ensures estimates { estimates.new
+        ≡ slice_set estimates.old a (estimates_with change.now (estimates_at estimates.old a)) }
 {
     net.set_term(a, term_with(change, net.term(a)));
     estimates[a as usize] = estimates_with(change, estimates[a as usize]);

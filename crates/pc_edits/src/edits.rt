@@ -63,7 +63,8 @@ impl<'p> Edits<'p> {
     /// The expected time of an activity as it is now, in sixths of a day.
     pub fn expected(&self, a: u32) -> u64
         requires { a < length self.now.editing.net.network.arcs }
-        ensures expected { result ≡ slice_index (expected_times self.now.editing.unit_days self.now.editing.estimates) a }
+        ensures expected { result ≡ slice_index
+            (expected_times self.now.editing.unit_days self.now.editing.estimates) a }
         ensures limit { result ≤ MAX_LENGTH }
     {
         let estimates = &self.estimates[a as usize];

@@ -28,10 +28,12 @@ pub(crate) fn judge_edit(
 ) -> Result<u32, Reason>
     requires names { AreNames (length net.now.network.arcs) net.now.activities }
     requires piece_limits { ArePiecesWithinLimits net.now.pieces }
-    requires fit { IsFitPlan net.now.network net.now.pieces (record { terms = net.now.terms; estimates = estimates.now }) }
+    requires fit { IsFitPlan net.now.network net.now.pieces
+        (record { terms = net.now.terms; estimates = estimates.now }) }
     ensures known { IfOk result (λ a. a < length net.now.network.arcs) }
     ensures named { IfOk result (λ a. activity_named net.now edit.now.act ≡ Some a) }
-    ensures fits { IfOk result (λ a. IsFitPlan net.now.network net.now.pieces (plan_with edit.now.change a (record { terms = net.now.terms; estimates = estimates.now }))) }
+    ensures fits { IfOk result (λ a. IsFitPlan net.now.network net.now.pieces
+        (plan_with edit.now.change a (record { terms = net.now.terms; estimates = estimates.now }))) }
     ensures accepted { OnOk result (edit_refusal net.now estimates.now edit.now ≡ None) }
     ensures refused { IfErr result (λ reason. edit_refusal net.now estimates.now edit.now ≡ Some reason) }
 {
@@ -54,7 +56,8 @@ pub(crate) fn judge_trial(
 ) -> Result<ActTerm, Reason>
     requires names { AreNames (length net.now.network.arcs) net.now.activities }
     requires piece_limits { ArePiecesWithinLimits net.now.pieces }
-    requires fit { IsFitPlan net.now.network net.now.pieces (record { terms = net.now.terms; estimates = estimates.now }) }
+    requires fit { IsFitPlan net.now.network net.now.pieces
+        (record { terms = net.now.terms; estimates = estimates.now }) }
     ensures named { IfOk result (λ tried. activity_named net.now trial.now.act ≡ Some tried.activity) }
     ensures term { IfOk result (λ tried. tried.term ≡ term_tried trial.now (term_at net.now.terms tried.activity)) }
     ensures fits { IfOk result (MayTry net.now) }

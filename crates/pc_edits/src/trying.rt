@@ -23,11 +23,15 @@ impl Edits<'_> {
     /// The term that a trial gives its activity, or why it is refused: whether the length is in the range is another question.
     pub fn tried(&self, trial: &Trial) -> Result<ActTerm, Reason>
         requires { self.now.trial ≡ None }
-        ensures activity { IfOk result (λ tried. activity_named self.now.editing.net trial.now.act ≡ Some tried.activity) }
-        ensures term { IfOk result (λ tried. tried.term ≡ term_tried trial.now (term_at self.now.editing.net.terms tried.activity)) }
+        ensures activity { IfOk result (λ tried. activity_named self.now.editing.net trial.now.act
+            ≡ Some tried.activity) }
+        ensures term { IfOk result (λ tried. tried.term
+            ≡ term_tried trial.now (term_at self.now.editing.net.terms tried.activity)) }
         ensures fits { IfOk result (MayTry self.now.editing.net) }
-        ensures accepted { OnOk result (trial_refusal self.now.editing.net self.now.editing.estimates trial.now ≡ None) }
-        ensures refused { IfErr result (λ reason. trial_refusal self.now.editing.net self.now.editing.estimates trial.now ≡ Some reason) }
+        ensures accepted { OnOk result (trial_refusal self.now.editing.net self.now.editing.estimates trial.now
+            ≡ None) }
+        ensures refused { IfErr result (λ reason. trial_refusal self.now.editing.net self.now.editing.estimates
+            trial.now ≡ Some reason) }
     {
         judge_trial(&self.net, &self.estimates, trial)
     }

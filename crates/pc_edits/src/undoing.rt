@@ -20,7 +20,8 @@ impl Edits<'_> {
         ensures changed { OnOk result (self.new ≡ at_rest (undone self.old.editing)) }
         ensures unchanged { OnErr result (self.new ≡ self.old) }
         ensures touched { IfOk result (ChangesOnly self.old.editing self.new.editing) }
-        ensures standing { OnOk result ((project : Project) (journal : Journal) → Stands project journal self.old.editing → Stands project (taken_back journal) self.new.editing) }
+        ensures standing { OnOk result ((project : Project) (journal : Journal) →
+            Stands project journal self.old.editing → Stands project (taken_back journal) self.new.editing) }
     {
         let Some(kept) = self.kept.pop_back() else {
             return Err(Reason::NothingToUndo);

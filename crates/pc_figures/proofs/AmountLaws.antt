@@ -23,7 +23,9 @@ pub record AreAmountsTo (amount : ℕ → ℤ) (entries : List Entry) (n : ℕ) 
   pub small : sum_by unsigned_abs amounts ≤ sum_by (λ (e : Entry). e.actual) (take n entries) + n * (2 * MAX_COST)
 
 -- one amount more
-pub amounts_more : (amount : ℕ → ℤ) (entries : List Entry) (n : ℕ) (amounts more : List ℤ) (next : ℤ) → AreAmountsTo amount entries n amounts → n < length entries → more ≡ amounts ++ next ∷ [] → next ≡ amount n → unsigned_abs next ≤ (entry_at entries n).actual + 2 * MAX_COST → AreAmountsTo amount entries (n + 1) more
+pub amounts_more : (amount : ℕ → ℤ) (entries : List Entry) (n : ℕ) (amounts more : List ℤ) (next : ℤ) →
+    AreAmountsTo amount entries n amounts → n < length entries → more ≡ amounts ++ next ∷ [] → next ≡ amount n →
+    unsigned_abs next ≤ (entry_at entries n).actual + 2 * MAX_COST → AreAmountsTo amount entries (n + 1) more
 amounts_more amount entries n amounts more next so_far within pushed is bound =
     subst (AreAmountsTo amount entries (n + 1)) (sym pushed) (record {
       are = record {
@@ -34,7 +36,8 @@ amounts_more amount entries n amounts more next so_far within pushed is bound =
     })
 
 -- all of them together fit
-pub amounts_fit : (amount : ℕ → ℤ) (entries : List Entry) (n : ℕ) (amounts : List ℤ) → AreSmall entries → n ≡ length entries → AreAmountsTo amount entries n amounts → sum_by unsigned_abs amounts < 2 ^ 63
+pub amounts_fit : (amount : ℕ → ℤ) (entries : List Entry) (n : ℕ) (amounts : List ℤ) → AreSmall entries → n ≡ length entries →
+    AreAmountsTo amount entries n amounts → sum_by unsigned_abs amounts < 2 ^ 63
 amounts_fit amount entries n amounts small all so_far =
     let whole : take n entries ≡ entries = ap (λ (k : ℕ). take k entries) all ∙ take-length entries in
     omega (arith, so_far.small, small.together, small.few, ap (sum_by (λ (e : Entry). e.actual)) whole)

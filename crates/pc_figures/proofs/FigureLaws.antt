@@ -32,7 +32,8 @@ none_of Latest entries = refl
 none_of Overrun entries = refl
 
 -- one entry more
-more_of : (figure : Figure) (entries : List Entry) (a : ℕ) → a < length entries → figure_of figure (entry_of_all (take (a + 1) entries)) ≡ figure_of figure (entry_of_all (take a entries)) +ℤ figure_at figure entries a
+more_of : (figure : Figure) (entries : List Entry) (a : ℕ) → a < length entries →
+    figure_of figure (entry_of_all (take (a + 1) entries)) ≡ figure_of figure (entry_of_all (take a entries)) +ℤ figure_at figure entries a
 more_of figure entries a lt = of_figure figure
   where
     none : Entry
@@ -55,7 +56,8 @@ more_of figure entries a lt = of_figure figure
     of_figure Overrun = omega (arith, ints, budget, actual, to_go)
 
 -- all of them
-pub figure_total : (figure : Figure) (accounts : List AcctRow) (entries : List Entry) → length entries ≡ length accounts → (t : ℤ) → IsTotal accounts (figure_at figure entries) t → t ≡ figure_of figure (entry_of_all entries)
+pub figure_total : (figure : Figure) (accounts : List AcctRow) (entries : List Entry) → length entries ≡ length accounts → (t : ℤ) →
+    IsTotal accounts (figure_at figure entries) t → t ≡ figure_of figure (entry_of_all entries)
 figure_total figure accounts entries one_each t is =
     let whole : take (length accounts) entries ≡ entries = ap (λ (k : ℕ). take k entries) (sym one_each) ∙ take-length entries in
     IsSumOver-all (λ a. a < length accounts) (length accounts) (figure_at figure entries) (λ k. figure_of figure (entry_of_all (take k entries))) t
@@ -66,7 +68,10 @@ figure_total figure accounts entries one_each t is =
     ∙ ap (λ (es : List Entry). figure_of figure (entry_of_all es)) whole
 
 -- the lines of a level have all charges up to as-of
-pub lines_have_charges : (tree : List ItemRow) (accounts : List AcctRow) (charges togos : List MoneyRow) (as_of : ℤ) (entries : List Entry) (level : ℕ) (totals : List ℤ) (lines : List LevelLine) → AreBooked tree accounts charges togos as_of entries → AreItemSums tree accounts (figure_at Actual entries) totals → 1 ≤ level → AreLevelLines tree level totals lines → sum_of lines ≡ pos (all_charged charges as_of)
+pub lines_have_charges : (tree : List ItemRow) (accounts : List AcctRow) (charges togos : List MoneyRow) (as_of : ℤ) (entries : List Entry)
+    (level : ℕ) (totals : List ℤ) (lines : List LevelLine) → AreBooked tree accounts charges togos as_of entries →
+    AreItemSums tree accounts (figure_at Actual entries) totals → 1 ≤ level → AreLevelLines tree level totals lines →
+    sum_of lines ≡ pos (all_charged charges as_of)
 lines_have_charges tree accounts charges togos as_of entries level totals lines booked sums some its =
     figure_total Actual accounts entries booked.are.one_each (sum_of lines)
     (lines_are_whole tree accounts (figure_at Actual entries) totals level lines booked.ranged booked.sound booked.on_tree sums some its)

@@ -80,7 +80,8 @@ make_summary o b a t l v = record { outline = o; budget = b; actual = a; to_go =
 same_parts : {o p : List OutlineRow} {b c a d t u l m v w : Column} → o ≡ p → b ≡ c → a ≡ d → t ≡ u → l ≡ m → v ≡ w → make_summary o b a t l v ≡ make_summary p c d u m w
 same_parts f g h i j k = rw (f, g, h, i, j, k) refl
 
-pub one_summary : (tree : List ItemRow) (accounts : List AcctRow) (entries : List Entry) (s t : Summary) → AreInRange tree → IsTree tree → AreOnTree tree accounts → IsSummaryOf tree accounts entries s → IsSummaryOf tree accounts entries t → s ≡ t
+pub one_summary : (tree : List ItemRow) (accounts : List AcctRow) (entries : List Entry) (s t : Summary) → AreInRange tree → IsTree tree →
+    AreOnTree tree accounts → IsSummaryOf tree accounts entries s → IsSummaryOf tree accounts entries t → s ≡ t
 one_summary tree accounts entries s t ranged sound on_tree x y =
     same_parts (one_outline tree s.outline t.outline sound x.outline y.outline)
     (one_column tree accounts ranged sound on_tree (figure_at Budget entries) s.budget t.budget x.budget y.budget)
@@ -91,7 +92,8 @@ one_summary tree accounts entries s t ranged sound on_tree x y =
 
 -- ---- the worth of the work
 
-one_value : (places : List ℕ) (states : List ActState) (accounts : List AcctRow) (entries : List Entry) (a : ℕ) (v w : ℤ) → IsValueOf places states accounts entries a v → IsValueOf places states accounts entries a w → v ≡ w
+one_value : (places : List ℕ) (states : List ActState) (accounts : List AcctRow) (entries : List Entry) (a : ℕ) (v w : ℤ) →
+    IsValueOf places states accounts entries a v → IsValueOf places states accounts entries a w → v ≡ w
 one_value places states accounts entries a v w (inl (p, is)) (inl (q, also)) = is ∙ sym also
 one_value places states accounts entries a v w (inl (p, is)) (inr (none, also)) = absurd (none p)
 one_value places states accounts entries a v w (inr (none, is)) (inl (q, also)) = absurd (none q)
@@ -103,7 +105,8 @@ make_worth b a v o = record { budget = b; actual = a; value = v; overrun = o }
 same_worth : {b c a d v w o p : List ℤ} → b ≡ c → a ≡ d → v ≡ w → o ≡ p → make_worth b a v o ≡ make_worth c d w p
 same_worth f g h i = rw (f, g, h, i) refl
 
-pub one_worth : (tree : List ItemRow) (places : List ℕ) (states : List ActState) (accounts : List AcctRow) (entries : List Entry) (v w : Worth) → IsWorthOf tree places states accounts entries v → IsWorthOf tree places states accounts entries w → v ≡ w
+pub one_worth : (tree : List ItemRow) (places : List ℕ) (states : List ActState) (accounts : List AcctRow) (entries : List Entry)
+    (v w : Worth) → IsWorthOf tree places states accounts entries v → IsWorthOf tree places states accounts entries w → v ≡ w
 one_worth tree places states accounts entries v w x y =
     let values : x.values ≡ y.values =
     ext_get_or (pos 0) x.values y.values (x.are_values.one_each ∙ sym y.are_values.one_each)

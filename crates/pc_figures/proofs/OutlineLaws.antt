@@ -13,7 +13,8 @@ pub record AreRowsTo (tree : List ItemRow) (order : List ℕ) (n : ℕ) (outline
   pub each : (k : ℕ) → k < n → IsRowOf tree order k (row_at outline k)
 
 -- one row more
-pub rows_more : (tree : List ItemRow) (order : List ℕ) (n : ℕ) (outline more : List OutlineRow) (line : OutlineRow) → AreRowsTo tree order n outline → more ≡ outline ++ line ∷ [] → IsRowOf tree order n line → AreRowsTo tree order (n + 1) more
+pub rows_more : (tree : List ItemRow) (order : List ℕ) (n : ℕ) (outline more : List OutlineRow) (line : OutlineRow) →
+    AreRowsTo tree order n outline → more ≡ outline ++ line ∷ [] → IsRowOf tree order n line → AreRowsTo tree order (n + 1) more
 rows_more tree order n outline more line so_far pushed is =
     subst (AreRowsTo tree order (n + 1)) (sym pushed) (record {
       one_each = omega (arith, length_push outline line, so_far.one_each);

@@ -1,5 +1,6 @@
 -- How an outlook is made of what activities cost and of the budgets of packages without activities.
-use Rattle.std.proofs.Common.{◌≡◌, ◌≢◌, ℕ, zero, suc, ◌+◌, ◌*◌, ◌<◌, ◌≤◌, ◌^◌, ◌⊎◌, inl, inr, ⊎_elim, Bool, true, false, IsTrue, ◌↔◌, List, [], ◌∷◌, ◌++◌, length, slice_index, set, refl, sym, ap, ◌∙◌, subst, get_or-set_same, get_or-set_other, length-set, add-one, arith}
+use Rattle.std.proofs.Common.{◌≡◌, ◌≢◌, ℕ, zero, suc, ◌+◌, ◌*◌, ◌<◌, ◌≤◌, ◌^◌, ◌⊎◌, inl, inr, ⊎_elim, Bool, true, false, IsTrue, ◌↔◌, List, [], ◌∷◌, ◌++◌}
+use Rattle.std.proofs.Common.{length, slice_index, set, refl, sym, ap, ◌∙◌, subst, get_or-set_same, get_or-set_other, length-set, add-one, arith}
 use Rattle.std.specs.Prelude.{ℤ, pos, ◌+ℤ◌, ◌-ℤ◌, unsigned_abs, sum_by}
 use Rattle.std.proofs.lemmas.Bool.{cases_eq, cases_lt}
 use Rattle.std.proofs.lemmas.Int.{ints}
@@ -28,7 +29,7 @@ use Rattle.pc_figures.specs.Figures.{figure_at}
 use Rattle.pc_figures.specs.Outline.{IsOutline}
 use Rattle.pc_figures.specs.Outlook.{Outlook, AreAmountsOf, HasActivity, IsOutlookOf, IsRest, IsWholeOutlook, IsWork, amounts_at}
 use Rattle.pc_figures.specs.inside.Outlook.{HasWholeAtTop, StandOnLeaves}
-use Rattle.pc_figures.specs.inside.OutlookParts.{AreAdded, AreAddedTo, AreMarked, ArePlacedCosts, AreSpare, CanBeAdded, HasActivityTo, IsSpare, mark_at}
+use Rattle.pc_figures.specs.inside.OutlookParts.{AreAdded, AreAddedTo, AreMarked, ArePlacedCosts, AreRests, AreSpare, AreWorks, CanBeAdded, HasActivityTo, IsSpare, mark_at}
 use Rattle.pc_figures.proofs.PushLaws.{each_more}
 use Rattle.pc_figures.proofs.SumLaws.{IsSumOver-alike}
 
@@ -94,14 +95,18 @@ pub record AreSpareTo (places : List ℕ) (accounts : List AcctRow) (entries : L
   pub together : sum_by unsigned_abs amounts ≤ n * MAX_COST
 
 -- what the mark of its item makes of a budget
-pub spare_is : (places : List ℕ) (accounts : List AcctRow) (entries : List Entry) (b x : ℕ) (marks : List Bool) (has : Bool) (amount : ℤ) → AreMarked (length marks) places (length places) marks → x ≡ item_of accounts b → x < length marks → has ≡ mark_at marks x → (IsTrue has → amount ≡ pos 0) → ((IsTrue has → ⊥) → amount ≡ figure_at Budget entries b) → IsSpare places accounts entries b amount
+pub spare_is : (places : List ℕ) (accounts : List AcctRow) (entries : List Entry) (b x : ℕ) (marks : List Bool) (has : Bool) (amount : ℤ) →
+    AreMarked (length marks) places (length places) marks → x ≡ item_of accounts b → x < length marks → has ≡ mark_at marks x →
+    (IsTrue has → amount ≡ pos 0) → ((IsTrue has → ⊥) → amount ≡ figure_at Budget entries b) → IsSpare places accounts entries b amount
 spare_is places accounts entries b x marks true amount are place known read some none =
     inl (subst (HasActivity places) place ((are.each x known).0 (sym read)), some refl)
 spare_is places accounts entries b x marks false amount are place known read some none =
     inr (λ has. never (read ∙ (are.each x known).1 (subst (HasActivity places) (sym place) has)), none never)
 
 -- one amount more
-pub spare_more : (places : List ℕ) (accounts : List AcctRow) (entries : List Entry) (n : ℕ) (amounts more : List ℤ) (next : ℤ) → AreSpareTo places accounts entries n amounts → more ≡ amounts ++ next ∷ [] → IsSpare places accounts entries n next → unsigned_abs next ≤ MAX_COST → AreSpareTo places accounts entries (n + 1) more
+pub spare_more : (places : List ℕ) (accounts : List AcctRow) (entries : List Entry) (n : ℕ) (amounts more : List ℤ) (next : ℤ) →
+    AreSpareTo places accounts entries n amounts → more ≡ amounts ++ next ∷ [] → IsSpare places accounts entries n next →
+    unsigned_abs next ≤ MAX_COST → AreSpareTo places accounts entries (n + 1) more
 spare_more places accounts entries n amounts more next so_far pushed is bound =
     subst (AreSpareTo places accounts entries (n + 1)) (sym pushed) (record {
       one_each = omega (arith, length_push amounts next, so_far.one_each);
@@ -111,7 +116,8 @@ spare_more places accounts entries n amounts more next so_far pushed is bound =
     })
 
 -- all of them
-pub spare_all : (places : List ℕ) (accounts : List AcctRow) (entries : List Entry) (n : ℕ) (amounts : List ℤ) → n ≡ length accounts → AreSpareTo places accounts entries n amounts → AreSpare places accounts entries (length accounts) amounts
+pub spare_all : (places : List ℕ) (accounts : List AcctRow) (entries : List Entry) (n : ℕ) (amounts : List ℤ) → n ≡ length accounts →
+    AreSpareTo places accounts entries n amounts → AreSpare places accounts entries (length accounts) amounts
 spare_all places accounts entries n amounts all so_far = record {
   one_each = so_far.one_each ∙ all;
   each = λ b lt. so_far.each b (omega arith);
@@ -119,11 +125,14 @@ spare_all places accounts entries n amounts all so_far = record {
 }
 
 -- all of them together fit
-pub spare_fit : (places : List ℕ) (accounts : List AcctRow) (entries : List Entry) (n : ℕ) (amounts : List ℤ) → n ≤ MAX_ACCOUNTS → AreSpareTo places accounts entries n amounts → sum_by unsigned_abs amounts < 2 ^ 63
+pub spare_fit : (places : List ℕ) (accounts : List AcctRow) (entries : List Entry) (n : ℕ) (amounts : List ℤ) → n ≤ MAX_ACCOUNTS →
+    AreSpareTo places accounts entries n amounts → sum_by unsigned_abs amounts < 2 ^ 63
 spare_fit places accounts entries n amounts few so_far = omega (arith, so_far.together, few)
 
 -- sums over them are sums of budgets
-pub rest_is : (tree : List ItemRow) (places : List ℕ) (accounts : List AcctRow) (entries : List Entry) (amounts : List ℤ) (y : ℕ) (t : ℤ) → AreSpare places accounts entries (length accounts) amounts → IsItemSum tree accounts (amount_at amounts) y t → IsRest tree places accounts entries y t
+pub rest_is : (tree : List ItemRow) (places : List ℕ) (accounts : List AcctRow) (entries : List Entry) (amounts : List ℤ) (y : ℕ) (t : ℤ) →
+    AreSpare places accounts entries (length accounts) amounts → IsItemSum tree accounts (amount_at amounts) y t →
+    IsRest tree places accounts entries y t
 rest_is tree places accounts entries amounts y t spare sum =
     IsSumOver-on (λ b. (HasActivity places (item_of accounts b) → ⊥) × IsBelow tree (item_of accounts b) y) (length accounts) (amount_at amounts) (figure_at Budget entries) t
     (λ b lt (free, below). ⊎_elim (λ (has, is). absurd (free has)) (λ (without, is). is) (spare.each b lt))
@@ -139,12 +148,15 @@ pub record ArePlacedCostsTo (places costs : List ℕ) (n : ℕ) (placed : List P
   pub same : sum_by (λ (p : Placed). unsigned_abs p.amount) placed ≡ sum_to n (slice_index costs)
 
 -- one cost more
-pub costs_more : (places costs : List ℕ) (n : ℕ) (placed more : List Placed) (next : Placed) → ArePlacedCostsTo places costs n placed → more ≡ placed ++ next ∷ [] → next ≡ record { item = slice_index places n; amount = pos (slice_index costs n) } → ArePlacedCostsTo places costs (n + 1) more
+pub costs_more : (places costs : List ℕ) (n : ℕ) (placed more : List Placed) (next : Placed) → ArePlacedCostsTo places costs n placed →
+    more ≡ placed ++ next ∷ [] → next ≡ record { item = slice_index places n; amount = pos (slice_index costs n) } →
+    ArePlacedCostsTo places costs (n + 1) more
 costs_more places costs n placed more next so_far pushed is =
     subst (ArePlacedCostsTo places costs (n + 1)) (sym pushed) (record {
       are = record {
         one_each = omega (arith, length_push placed next, so_far.are.one_each);
-        each = each_more (λ a p. p ≡ record { item = slice_index places a; amount = pos (slice_index costs a) }) placed next (record { item = 0; amount = pos 0 }) n so_far.are.one_each so_far.are.each is;
+        each = each_more (λ a p. p ≡ record { item = slice_index places a; amount = pos (slice_index costs a) }) placed next
+            (record { item = 0; amount = pos 0 }) n so_far.are.one_each so_far.are.each is;
       };
       same = omega (arith, so_far.same, sum_by_push (λ (p : Placed). unsigned_abs p.amount) placed next, ap (λ (p : Placed). unsigned_abs p.amount) is, one_more n);
     })
@@ -163,7 +175,9 @@ costs_on_leaves tree places costs placed stand are = record {
     place a h = ap (λ (p : Placed). p.item) (are.each a h)
 
 -- sums over what is placed are sums over the activities
-pub work_is : (tree : List ItemRow) (places costs : List ℕ) (placed : List Placed) (totals : List ℤ) (y : ℕ) → ArePlacedCosts places costs (length places) placed → AreTotalsOf tree placed totals → y < length tree → IsWork tree places (slice_index costs) y (amount_at totals y)
+pub work_is : (tree : List ItemRow) (places costs : List ℕ) (placed : List Placed) (totals : List ℤ) (y : ℕ) →
+    ArePlacedCosts places costs (length places) placed → AreTotalsOf tree placed totals → y < length tree →
+    IsWork tree places (slice_index costs) y (amount_at totals y)
 work_is tree places costs placed totals y are sums lt =
     subst (λ (n : ℕ). IsSumOver (λ a. IsBelow tree (slice_index places a) y) n (λ a. pos (slice_index costs a)) (amount_at totals y)) are.one_each
     (IsSumOver-alike (λ a. IsBelow tree (slice_index places a) y) (length placed) (amount_of placed) (λ a. pos (slice_index costs a)) (amount_at totals y)
@@ -176,83 +190,113 @@ work_is tree places costs placed totals y are sums lt =
     place : (a : ℕ) → a < length places → place_of placed a ≡ slice_index places a
     place a h = ap (λ (p : Placed). p.item) (are.each a h)
 
+-- the sums by item
+
+-- of spare budgets
+pub rests_are : (tree : List ItemRow) (places : List ℕ) (accounts : List AcctRow) (entries : List Entry) (amounts rests : List ℤ) →
+    AreSpare places accounts entries (length accounts) amounts → AreItemSums tree accounts (amount_at amounts) rests →
+    AreRests tree places accounts entries rests
+rests_are tree places accounts entries amounts rests spare sums = record {
+  one_each = sums.one_each;
+  each = λ y lt. rest_is tree places accounts entries amounts y (amount_at rests y) spare (sums.each y lt);
+}
+
+-- of costs
+pub works_are : (tree : List ItemRow) (places costs : List ℕ) (placed : List Placed) (works : List ℤ) →
+    ArePlacedCosts places costs (length places) placed → AreTotalsOf tree placed works → AreWorks tree places (slice_index costs) works
+works_are tree places costs placed works are sums = record {
+  one_each = sums.one_each;
+  each = λ y lt. work_is tree places costs placed works y are sums lt;
+}
+
 -- How great the amounts are
 
 -- sums of budgets
-pub budgets_add : (tree : List ItemRow) (accounts : List AcctRow) (entries : List Entry) (totals : List ℤ) → AreSmall entries → length entries ≡ length accounts → AreItemSums tree accounts (figure_at Budget entries) totals → CanBeAdded totals
+pub budgets_add : (tree : List ItemRow) (accounts : List AcctRow) (entries : List Entry) (totals : List ℤ) → AreSmall entries →
+    length entries ≡ length accounts → AreItemSums tree accounts (figure_at Budget entries) totals → CanBeAdded totals
 budgets_add tree accounts entries totals small each sums = λ y lt.
     let bound = IsSumOver-bound (λ a. IsBelow tree (item_of accounts a) y) (length accounts) (figure_at Budget entries) (amount_at totals y) (sums.each y (omega (arith, sums.one_each))) in
     let within = sum_to-most (length accounts) MAX_COST (λ a. unsigned_abs (figure_at Budget entries a)) (λ a h. (small.each a (omega arith)).budget) in
     omega (arith, small.few)
 
 -- sums of spare budgets
-pub rests_add : (tree : List ItemRow) (places : List ℕ) (accounts : List AcctRow) (entries : List Entry) (amounts totals : List ℤ) → length accounts ≤ MAX_ACCOUNTS → AreSpare places accounts entries (length accounts) amounts → AreItemSums tree accounts (amount_at amounts) totals → CanBeAdded totals
+pub rests_add : (tree : List ItemRow) (places : List ℕ) (accounts : List AcctRow) (entries : List Entry) (amounts totals : List ℤ) →
+    length accounts ≤ MAX_ACCOUNTS → AreSpare places accounts entries (length accounts) amounts →
+    AreItemSums tree accounts (amount_at amounts) totals → CanBeAdded totals
 rests_add tree places accounts entries amounts totals few spare sums = λ y lt.
     let bound = IsSumOver-bound (λ a. IsBelow tree (item_of accounts a) y) (length accounts) (amount_at amounts) (amount_at totals y) (sums.each y (omega (arith, sums.one_each))) in
     let within = sum_to-most (length accounts) MAX_COST (λ a. unsigned_abs (amount_at amounts a)) (λ a h. spare.small a) in
     omega arith
 
 -- sums of costs
-pub works_add : (tree : List ItemRow) (places costs : List ℕ) (placed : List Placed) (totals : List ℤ) → ArePlacedCosts places costs (length places) placed → AreTotalsOf tree placed totals → sum_to (length places) (slice_index costs) ≤ 2 ^ 60 → CanBeAdded totals
+pub works_add : (tree : List ItemRow) (places costs : List ℕ) (placed : List Placed) (totals : List ℤ) →
+    ArePlacedCosts places costs (length places) placed → AreTotalsOf tree placed totals →
+    sum_to (length places) (slice_index costs) ≤ 2 ^ 60 → CanBeAdded totals
 works_add tree places costs placed totals are sums fit = λ y lt.
-    let bound = IsSumOver-bound (λ a. IsBelow tree (slice_index places a) y) (length places) (λ a. pos (slice_index costs a)) (amount_at totals y) (work_is tree places costs placed totals y are sums (omega (arith, sums.one_each))) in
+    let bound = IsSumOver-bound (λ a. IsBelow tree (slice_index places a) y) (length places) (λ a. pos (slice_index costs a))
+    (amount_at totals y) (work_is tree places costs placed totals y are sums (omega (arith, sums.one_each))) in
     omega arith
 
 -- The outlook
 
 -- the amounts of one item more
-pub added_more : (budgets works rests : List ℤ) (n : ℕ) (amounts more : List OutlookAmounts) (next : OutlookAmounts) → AreAddedTo budgets works rests n amounts → more ≡ amounts ++ next ∷ [] → AreAdded (amount_at budgets n) (amount_at works n) (amount_at rests n) next → AreAddedTo budgets works rests (n + 1) more
+pub added_more : (budgets works rests : List ℤ) (n : ℕ) (amounts more : List OutlookAmounts) (next : OutlookAmounts) →
+    AreAddedTo budgets works rests n amounts → more ≡ amounts ++ next ∷ [] →
+    AreAdded (amount_at budgets n) (amount_at works n) (amount_at rests n) next → AreAddedTo budgets works rests (n + 1) more
 added_more budgets works rests n amounts more next so_far pushed is =
     subst (AreAddedTo budgets works rests (n + 1)) (sym pushed) (record {
       one_each = omega (arith, length_push amounts next, so_far.one_each);
-      each = each_more (λ y (a : OutlookAmounts). AreAdded (amount_at budgets y) (amount_at works y) (amount_at rests y) a) amounts next (record { budget = pos 0; outlook = pos 0; change = pos 0 }) n so_far.one_each so_far.each is;
+      each = each_more (λ y (a : OutlookAmounts). AreAdded (amount_at budgets y) (amount_at works y) (amount_at rests y) a) amounts next
+          (record { budget = pos 0; outlook = pos 0; change = pos 0 }) n so_far.one_each so_far.each is;
     })
 
 -- the parts that an outlook is made from
-pub record HasParts (tree : List ItemRow) (places costs : List ℕ) (accounts : List AcctRow) (entries : List Entry) (outlook : Outlook) : Type 0 where
+pub record HasParts (tree : List ItemRow) (places : List ℕ) (cost : ℕ → ℕ) (accounts : List AcctRow) (entries : List Entry) (outlook : Outlook) : Type 0 where
   pub outline : IsOutline tree outlook.outline
-  pub spare : List ℤ
-  pub spare_are : AreSpare places accounts entries (length accounts) spare
-  pub placed : List Placed
-  pub placed_are : ArePlacedCosts places costs (length places) placed
   pub budgets : List ℤ
   pub budgets_are : AreItemSums tree accounts (figure_at Budget entries) budgets
   pub works : List ℤ
-  pub works_are : AreTotalsOf tree placed works
+  pub works_are : AreWorks tree places cost works
   pub rests : List ℤ
-  pub rests_are : AreItemSums tree accounts (amount_at spare) rests
+  pub rests_are : AreRests tree places accounts entries rests
   pub added : AreAddedTo budgets works rests (length budgets) outlook.amounts
 
 -- it is the outlook
-pub parts_make : (tree : List ItemRow) (places costs : List ℕ) (accounts : List AcctRow) (entries : List Entry) (outlook : Outlook) → HasParts tree places costs accounts entries outlook → IsOutlookOf tree places (slice_index costs) accounts entries outlook
-parts_make tree places costs accounts entries outlook parts = record {
+pub parts_make : (tree : List ItemRow) (places : List ℕ) (cost : ℕ → ℕ) (accounts : List AcctRow) (entries : List Entry)
+    (outlook : Outlook) → HasParts tree places cost accounts entries outlook → IsOutlookOf tree places cost accounts entries outlook
+parts_make tree places cost accounts entries outlook parts = record {
   outline = parts.outline;
   one_each = parts.added.one_each ∙ parts.budgets_are.one_each;
   each = of_item;
 }
   where
-    of_item : (y : ℕ) → y < length tree → AreAmountsOf tree places (slice_index costs) accounts entries y (amounts_at outlook.amounts y)
+    of_item : (y : ℕ) → y < length tree → AreAmountsOf tree places cost accounts entries y (amounts_at outlook.amounts y)
     of_item y lt =
         let at = parts.added.each y (omega (arith, parts.budgets_are.one_each)) in record {
           budget = subst (IsItemSum tree accounts (figure_at Budget entries) y) (sym at.budget) (parts.budgets_are.each y lt);
           work = amount_at parts.works y;
-          work_is = work_is tree places costs parts.placed parts.works y parts.placed_are parts.works_are lt;
+          work_is = parts.works_are.each y lt;
           rest = amount_at parts.rests y;
-          rest_is = rest_is tree places accounts entries parts.spare y (amount_at parts.rests y) parts.spare_are (parts.rests_are.each y lt);
+          rest_is = parts.rests_are.each y lt;
           outlook = at.outlook;
           change = rw (at.budget, at.outlook) at.change;
         }
 
 -- everything stands below the top, so that the top has the whole outlook
-pub whole_at_top : (tree : List ItemRow) (places : List ℕ) (cost : ℕ → ℕ) (accounts : List AcctRow) (entries : List Entry) (outlook : Outlook) → AreInRange tree → IsTree tree → StandOnLeaves tree places → AreOnTree tree accounts → IsOutlookOf tree places cost accounts entries outlook → HasWholeAtTop tree places cost accounts entries outlook
+pub whole_at_top : (tree : List ItemRow) (places : List ℕ) (cost : ℕ → ℕ) (accounts : List AcctRow) (entries : List Entry)
+    (outlook : Outlook) → AreInRange tree → IsTree tree → StandOnLeaves tree places → AreOnTree tree accounts →
+    IsOutlookOf tree places cost accounts entries outlook → HasWholeAtTop tree places cost accounts entries outlook
 whole_at_top tree places cost accounts entries outlook ranged sound stand on_tree is = λ top is_top.
     let (only_top, only) = sound.top in
     let same : top ≡ only_top = only.only top is_top.0 is_top.1 in
     let at = is.each top is_top.0 in
-    let work : at.work ≡ pos (sum_to (length places) cost) = IsSumOver-all (λ a. IsBelow tree (slice_index places a) top) (length places) cost at.work (λ a h. rw same (IsBelow-top tree only_top (slice_index places a) ranged sound only (stand.known a h))) at.work_is in
+    let work : at.work ≡ pos (sum_to (length places) cost) =
+    IsSumOver-all (λ a. IsBelow tree (slice_index places a) top) (length places) cost at.work
+    (λ a h. rw same (IsBelow-top tree only_top (slice_index places a) ranged sound only (stand.known a h))) at.work_is in
     record {
       rest = at.rest;
-      rest_is = IsSumOver-same (λ b. (HasActivity places (item_of accounts b) → ⊥) × IsBelow tree (item_of accounts b) top) (λ b. HasActivity places (item_of accounts b) → ⊥) (length accounts) (figure_at Budget entries) at.rest
+      rest_is = IsSumOver-same (λ b. (HasActivity places (item_of accounts b) → ⊥) × IsBelow tree (item_of accounts b) top)
+          (λ b. HasActivity places (item_of accounts b) → ⊥) (length accounts) (figure_at Budget entries) at.rest
           (λ b h (free, below). free)
           (λ b h free. (free, rw same (IsBelow-top tree only_top (item_of accounts b) ranged sound only (on_tree.known b h))))
           at.rest_is;
@@ -260,7 +304,9 @@ whole_at_top tree places cost accounts entries outlook ranged sound stand on_tre
     }
 
 -- the outlook at costs that are the same
-pub outlook_alike : (tree : List ItemRow) (places : List ℕ) (f g : ℕ → ℕ) (accounts : List AcctRow) (entries : List Entry) (outlook : Outlook) → ((a : ℕ) → a < length places → f a ≡ g a) → IsOutlookOf tree places f accounts entries outlook → IsOutlookOf tree places g accounts entries outlook
+pub outlook_alike : (tree : List ItemRow) (places : List ℕ) (f g : ℕ → ℕ) (accounts : List AcctRow) (entries : List Entry)
+    (outlook : Outlook) → ((a : ℕ) → a < length places → f a ≡ g a) → IsOutlookOf tree places f accounts entries outlook →
+    IsOutlookOf tree places g accounts entries outlook
 outlook_alike tree places f g accounts entries outlook same is = record {
   outline = is.outline;
   one_each = is.one_each;

@@ -14,7 +14,9 @@ use Rattle.pc_figures.specs.inside.Slacks.{ArePlacedSlacks}
 use Rattle.pc_figures.proofs.PushLaws.{each_more}
 
 -- one slack more
-pub slacks_more : (places : List ℕ) (slack : ℕ → ℤ) (n : ℕ) (placed more : List Placed) (next : Placed) → ArePlacedSlacks places slack n placed → more ≡ placed ++ next ∷ [] → next ≡ record { item = slice_index places n; amount = slack n } → ArePlacedSlacks places slack (n + 1) more
+pub slacks_more : (places : List ℕ) (slack : ℕ → ℤ) (n : ℕ) (placed more : List Placed) (next : Placed) →
+    ArePlacedSlacks places slack n placed → more ≡ placed ++ next ∷ [] → next ≡ record { item = slice_index places n; amount = slack n } →
+    ArePlacedSlacks places slack (n + 1) more
 slacks_more places slack n placed more next so_far pushed is =
     subst (ArePlacedSlacks places slack (n + 1)) (sym pushed) (record {
       one_each = omega (arith, length_push placed next, so_far.one_each);
@@ -22,7 +24,8 @@ slacks_more places slack n placed more next so_far pushed is =
     })
 
 -- the least over what is placed is the least over the activities
-pub least_slacks_are : (tree : List ItemRow) (places : List ℕ) (slack : ℕ → ℤ) (placed : List Placed) (slacks : List (Option ℤ)) → ArePlacedSlacks places slack (length places) placed → AreLeastOf tree placed slacks → AreLeastSlacks tree places slack slacks
+pub least_slacks_are : (tree : List ItemRow) (places : List ℕ) (slack : ℕ → ℤ) (placed : List Placed) (slacks : List (Option ℤ)) →
+    ArePlacedSlacks places slack (length places) placed → AreLeastOf tree placed slacks → AreLeastSlacks tree places slack slacks
 least_slacks_are tree places slack placed slacks are least = record {
   one_each = least.one_each;
   each = λ y lt. of_least y (least_at slacks y) (least.each y lt);
@@ -34,7 +37,8 @@ least_slacks_are tree places slack placed slacks are least = record {
     amount : (a : ℕ) → a < length places → amount_of placed a ≡ slack a
     amount a h = ap (λ (p : Placed). p.amount) (are.each a h)
 
-    of_least : (y : ℕ) (o : Option ℤ) → IsLeastOver (λ k. IsBelow tree (place_of placed k) y) (length placed) (amount_of placed) o → IsLeastOver (λ a. IsBelow tree (slice_index places a) y) (length places) slack o
+    of_least : (y : ℕ) (o : Option ℤ) → IsLeastOver (λ k. IsBelow tree (place_of placed k) y) (length placed) (amount_of placed) o →
+        IsLeastOver (λ a. IsBelow tree (slice_index places a) y) (length places) slack o
     of_least y None none = λ a h below. none a (omega (arith, are.one_each)) (subst (λ (x : ℕ). IsBelow tree x y) (sym (place a h)) below)
     of_least y (Some m) ((x, (lt, below, at)), bound) =
         let h : x < length places = omega (arith, are.one_each) in (

@@ -1,15 +1,18 @@
 //! An amount of each account, summed by item and by level.
 ghost use Rattle.std.specs.Prelude.{◌≡◌, ℕ, ◌+◌, ◌<◌, ◌≤◌, ◌^◌, length, sum_by, unsigned_abs, FitsSigned, IfOk};
 ghost use Rattle.std.specs.Int.{w64};
+ghost use Rattle.pc_accounts.specs.Entries.{AreSmall};
 ghost use Rattle.pc_wbs.specs.Climb.{AreInRange, IsTree};
 ghost use Rattle.pc_rollup.specs.Lines.{sum_of};
 ghost use Rattle.pc_rollup.specs.Totals.{amount_at};
 ghost use Rattle.pc_rollup.specs.inside.Totals.{IsRolledUp};
 ghost use Rattle.pc_figures.specs.Columns.{AreOnTree, AreItemSums, AreLevelSums, IsColumn};
+ghost use Rattle.pc_figures.specs.Figures.{figure_at};
 ghost use Rattle.pc_figures.specs.inside.Columns.{IsWhole};
 ghost use Rattle.pc_figures.specs.inside.ColumnParts.{ArePlaced};
 
-use pc_accounts::AcctRow;
+use crate::figures::{Figure, figures};
+use pc_accounts::{AcctRow, Entry};
 use pc_rollup::{LevelLine, Placed, level_lines, totals_of};
 use pc_wbs::Tree;
 use std::alloc::{AllocError, Global};
@@ -93,11 +96,29 @@ pub(crate) fn item_sums(
     totals_of(alloc, tree, &placed)
 }
 
+/// The sums by item of one of the summary's amounts.
+pub(crate) fn figure_sums(
+    alloc: Global,
+    tree: &Tree,
+    accounts: &[AcctRow],
+    entries: &[Entry],
+    figure: Figure,
+) -> Result<Vec<i64>, AllocError>
+    requires on_tree { AreOnTree tree.now accounts.now }
+    requires one_each { length entries.now ≡ length accounts.now }
+    requires small { AreSmall entries.now }
+    ensures { IfOk result (λ totals. AreItemSums tree.now accounts.now (figure_at figure entries.now) totals.items) }
+{
+    let amounts = figures(alloc, entries, figure)?;
+    item_sums(alloc, tree, accounts, &amounts)
+}
+
 /// Each amount on the item of its account.
 fn placed(alloc: Global, accounts: &[AcctRow], amounts: &[i64]) -> Result<Vec<Placed>, AllocError>
     requires one_each { length amounts.now ≡ length accounts.now }
     ensures placed { IfOk result (λ placed. ArePlaced accounts.now amounts.now (length accounts.now) placed.items) }
-    ensures same { IfOk result (λ placed. sum_by (λ p. unsigned_abs p.amount) placed.items ≡ sum_by unsigned_abs amounts.now) }
+    ensures same { IfOk result (λ placed. sum_by (λ p. unsigned_abs p.amount) placed.items
+        ≡ sum_by unsigned_abs amounts.now) }
 {
     let mut placed = Vec::with_capacity(alloc, accounts.len())?;
     for a in 0..accounts.len() {

@@ -45,7 +45,8 @@ pub(crate) fn figures(
     figure: Figure,
 ) -> Result<Vec<i64>, AllocError>
     requires { AreSmall entries.now }
-    ensures amounts { IfOk result (λ amounts. AreAmounts (figure_at figure entries.now) (length entries.now) amounts.items) }
+    ensures amounts { IfOk result (λ amounts. AreAmounts (figure_at figure entries.now)
+        (length entries.now) amounts.items) }
     ensures small { IfOk result (λ amounts. sum_by unsigned_abs amounts.items < 2 ^ 63) }
 {
     let mut amounts = Vec::with_capacity(alloc, entries.len())?;

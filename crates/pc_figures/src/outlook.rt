@@ -6,10 +6,10 @@ ghost use Rattle.pc_figures.specs.Columns.{AreOnTree};
 ghost use Rattle.pc_figures.specs.Outline.{row_at};
 ghost use Rattle.pc_figures.specs.Outlook.{IsOutlookOf, amounts_at};
 ghost use Rattle.pc_figures.specs.inside.Outlook.{HasWholeAtTop, StandOnLeaves};
-ghost use Rattle.pc_figures.specs.inside.OutlookParts.{AreAdded, AreAddedTo, CanBeAdded};
+ghost use Rattle.pc_figures.specs.inside.OutlookParts.{AreAdded, AreAddedTo, AreRests, AreWorks, CanBeAdded};
 
-use crate::column::item_sums;
-use crate::figures::{Figure, figures};
+use crate::column::{figure_sums, item_sums};
+use crate::figures::Figure;
 use crate::outline::{OutlineRow, outline_of};
 use crate::outlook_parts::{marked, placed_costs, spare_budgets};
 use pc_accounts::{AcctRow, Entry};
@@ -60,17 +60,14 @@ impl Outlook {
         requires on_tree { AreOnTree tree.now accounts.now }
         requires one_each { length entries.now ≡ length accounts.now }
         requires small { AreSmall entries.now }
-        ensures outlook { IfOk result (IsOutlookOf tree.now places.now (slice_index costs.now) accounts.now entries.now) }
+        ensures outlook { IfOk result (IsOutlookOf tree.now places.now
+            (slice_index costs.now) accounts.now entries.now) }
         ensures top { IfOk result (HasWholeAtTop tree.now places.now (slice_index costs.now) accounts.now entries.now) }
     {
         let outline = outline_of(alloc, tree)?;
-        let budgets = figures(alloc, entries, Figure::Budget)?;
-        let marks = marked(alloc, tree.len(), places)?;
-        let spare = spare_budgets(alloc, &marks, places, accounts, entries)?;
-        let costs = placed_costs(alloc, places, costs)?;
-        let budgets = item_sums(alloc, tree, accounts, &budgets)?;
-        let works = totals_of(alloc, tree, &costs)?;
-        let rests = item_sums(alloc, tree, accounts, &spare)?;
+        let budgets = figure_sums(alloc, tree, accounts, entries, Figure::Budget)?;
+        let works = work_sums(alloc, tree, places, costs)?;
+        let rests = rest_sums(alloc, tree, places, accounts, entries)?;
         let amounts = added(alloc, &budgets, &works, &rests)?;
         Ok(Outlook { outline, amounts })
     }
@@ -97,6 +94,43 @@ impl Outlook {
     {
         self.amounts[item as usize]
     }
+}
+
+/// For each item what the activities cost that stand on it or below it.
+fn work_sums(
+    alloc: Global,
+    tree: &Tree,
+    places: &[u32],
+    costs: &[u64],
+) -> Result<Vec<i64>, AllocError>
+    requires work_on_leaves { StandOnLeaves tree.now places.now }
+    requires cost_each { length costs.now ≡ length places.now }
+    requires costs_fit { sum_to (length places.now) (slice_index costs.now) ≤ 2 ^ 60 }
+    ensures works { IfOk result (λ works. AreWorks tree.now places.now (slice_index costs.now) works.items) }
+    ensures small { IfOk result (λ works. CanBeAdded works.items) }
+{
+    let placed = placed_costs(alloc, places, costs)?;
+    totals_of(alloc, tree, &placed)
+}
+
+/// For each item the budgets of the accounts on it or below it whose package has no activities.
+fn rest_sums(
+    alloc: Global,
+    tree: &Tree,
+    places: &[u32],
+    accounts: &[AcctRow],
+    entries: &[Entry],
+) -> Result<Vec<i64>, AllocError>
+    requires known { (a : ℕ) → a < length places.now → slice_index places.now a < length tree.now }
+    requires on_tree { AreOnTree tree.now accounts.now }
+    requires one_each { length entries.now ≡ length accounts.now }
+    requires small { AreSmall entries.now }
+    ensures rests { IfOk result (λ rests. AreRests tree.now places.now accounts.now entries.now rests.items) }
+    ensures small { IfOk result (λ rests. CanBeAdded rests.items) }
+{
+    let marks = marked(alloc, tree.len(), places)?;
+    let spare = spare_budgets(alloc, &marks, places, accounts, entries)?;
+    item_sums(alloc, tree, accounts, &spare)
 }
 
 /// The amounts of each item.

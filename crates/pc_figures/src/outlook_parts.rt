@@ -36,7 +36,8 @@ pub(crate) fn spare_budgets(
     requires on_items { (b : ℕ) → b < length accounts.now → item_of accounts.now b < length marks.now }
     requires one_each { length entries.now ≡ length accounts.now }
     requires small { AreSmall entries.now }
-    ensures spare { IfOk result (λ amounts. AreSpare places.now accounts.now entries.now (length accounts.now) amounts.items) }
+    ensures spare { IfOk result (λ amounts. AreSpare places.now accounts.now entries.now
+        (length accounts.now) amounts.items) }
     ensures together { IfOk result (λ amounts. sum_by unsigned_abs amounts.items < 2 ^ 63) }
 {
     let mut amounts = Vec::with_capacity(alloc, accounts.len())?;
@@ -66,7 +67,8 @@ pub(crate) fn placed_costs(
     requires one_each { length costs.now ≡ length places.now }
     requires fit { sum_to (length places.now) (slice_index costs.now) < 2 ^ 63 }
     ensures placed { IfOk result (λ placed. ArePlacedCosts places.now costs.now (length places.now) placed.items) }
-    ensures same { IfOk result (λ placed. sum_by (λ p. unsigned_abs p.amount) placed.items ≡ sum_to (length places.now) (slice_index costs.now)) }
+    ensures same { IfOk result (λ placed. sum_by (λ p. unsigned_abs p.amount) placed.items
+        ≡ sum_to (length places.now) (slice_index costs.now)) }
 {
     let mut placed = Vec::with_capacity(alloc, places.len())?;
     for a in 0..places.len() {

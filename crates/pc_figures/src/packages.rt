@@ -91,7 +91,8 @@ pub(crate) fn overruns(
     requires one_each { length values.now ≡ length entries.now }
     requires entries { AreSmall entries.now }
     requires values { (a : ℕ) → unsigned_abs (amount_at values.now a) ≤ MAX_COST }
-    ensures overruns { IfOk result (λ overruns. AreAmounts (overrun_at entries.now values.now) (length entries.now) overruns.items) }
+    ensures overruns { IfOk result (λ overruns. AreAmounts (overrun_at entries.now values.now)
+        (length entries.now) overruns.items) }
     ensures small { IfOk result (λ overruns. sum_by unsigned_abs overruns.items < 2 ^ 63) }
 {
     let mut overruns = Vec::with_capacity(alloc, entries.len())?;

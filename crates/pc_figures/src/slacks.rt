@@ -29,7 +29,8 @@ pub fn least_slacks(
     requires finish_each { length expected.now.finishes ≡ length net.now.arcs }
     requires late_each { length late.now ≡ net.now.events }
     requires limit { All (λ time. unsigned_abs time ≤ MAX_TIME) late.now }
-    ensures { IfOk result (λ slacks. AreLeastSlacks tree.now places.now (slack_at net.now late.now expected.now.finishes) slacks.items) }
+    ensures { IfOk result (λ slacks. AreLeastSlacks tree.now places.now
+        (slack_at net.now late.now expected.now.finishes) slacks.items) }
 {
     let placed = placed_slacks(alloc, places, net, late, expected)?;
     least_of(alloc, tree, &placed)
@@ -48,7 +49,8 @@ fn placed_slacks(
     requires finish_each { length expected.now.finishes ≡ length net.now.arcs }
     requires late_each { length late.now ≡ net.now.events }
     requires limit { All (λ time. unsigned_abs time ≤ MAX_TIME) late.now }
-    ensures { IfOk result (λ placed. ArePlacedSlacks places.now (slack_at net.now late.now expected.now.finishes) (length places.now) placed.items) }
+    ensures { IfOk result (λ placed. ArePlacedSlacks places.now (slack_at net.now late.now expected.now.finishes)
+        (length places.now) placed.items) }
 {
     let mut placed = Vec::with_capacity(alloc, places.len())?;
     for a in 0..net.activities() {

@@ -172,7 +172,9 @@ fn column_of(
 ///
 /// This function does nothing: its contract is the law.
 pub fn each_charge_counts_once()
-    ensures once { (tree : List ItemRow) (accounts : List AcctRow) (charges togos : List MoneyRow) (as_of : ℤ) (entries : List Entry) (level : ℕ) (totals : List ℤ) (lines : List LevelLine)
-        → AreBooked tree accounts charges togos as_of entries → AreItemSums tree accounts (figure_at Actual entries) totals
+    ensures once { (tree : List ItemRow) (accounts : List AcctRow) (charges togos : List MoneyRow) (as_of : ℤ)
+        (entries : List Entry) (level : ℕ) (totals : List ℤ) (lines : List LevelLine)
+        → AreBooked tree accounts charges togos as_of entries →
+        AreItemSums tree accounts (figure_at Actual entries) totals
         → 1 ≤ level → AreLevelLines tree level totals lines → sum_of lines ≡ pos (all_charged charges as_of) }
 {}

@@ -1,12 +1,16 @@
 //! What the work of each item is worth.
-ghost use Rattle.std.specs.Prelude.{◌≡◌, ℕ, ◌<◌, length, slice_index, IfOk};
+ghost use Rattle.std.specs.Prelude.{◌≡◌, ℕ, ◌<◌, ◌≤◌, length, slice_index, unsigned_abs, IfOk};
 ghost use Rattle.pc_accounts.specs.Entries.{AreSmall};
+ghost use Rattle.pc_model.specs.declared.limits.TheConstants.{MAX_COST};
+ghost use Rattle.pc_rollup.specs.Totals.{amount_at};
+ghost use Rattle.pc_figures.specs.declared.figures.Figure.TheVariants.{Budget, Actual};
 ghost use Rattle.pc_figures.specs.Columns.{AreOnTree, AreItemSums};
 ghost use Rattle.pc_figures.specs.Figures.{figure_at};
+ghost use Rattle.pc_figures.specs.Packages.{overrun_at};
 ghost use Rattle.pc_figures.specs.Worth.{IsWorthOf, worth_amounts};
 
-use crate::column::item_sums;
-use crate::figures::{Figure, figures};
+use crate::column::{figure_sums, item_sums};
+use crate::figures::Figure;
 use crate::packages::{overruns, values};
 use pc_accounts::{AcctRow, Entry};
 use pc_times::ActState;
@@ -64,12 +68,14 @@ impl Worth {
         ensures { IfOk result (IsWorthOf tree.now places.now states.now accounts.now entries.now) }
     {
         let values = values(alloc, tree.len(), places, states, accounts, entries)?;
-        let overruns = overruns(alloc, entries, &values)?;
+        let value = item_sums(alloc, tree, accounts, &values)?;
+        let overrun = overrun_sums(alloc, tree, accounts, entries, &values)?;
+        let (budget, actual) = spent_sums(alloc, tree, accounts, entries)?;
         Ok(Worth {
-            budget: figure_sums(alloc, tree, accounts, entries, Figure::Budget)?,
-            actual: figure_sums(alloc, tree, accounts, entries, Figure::Actual)?,
-            value: item_sums(alloc, tree, accounts, &values)?,
-            overrun: item_sums(alloc, tree, accounts, &overruns)?,
+            budget,
+            actual,
+            value,
+            overrun,
         })
     }
 
@@ -91,19 +97,42 @@ impl Worth {
     }
 }
 
-/// The sums by item of one of the summary's amounts.
-fn figure_sums(
+/// The sums by item of what may be spent and of what was spent.
+fn spent_sums(
     alloc: Global,
     tree: &Tree,
     accounts: &[AcctRow],
     entries: &[Entry],
-    figure: Figure,
-) -> Result<Vec<i64>, AllocError>
+) -> Result<(Vec<i64>, Vec<i64>), AllocError>
     requires on_tree { AreOnTree tree.now accounts.now }
     requires one_each { length entries.now ≡ length accounts.now }
     requires small { AreSmall entries.now }
-    ensures { IfOk result (λ totals. AreItemSums tree.now accounts.now (figure_at figure entries.now) totals.items) }
+    ensures budget { IfOk result (λ sums. AreItemSums tree.now accounts.now
+        (figure_at Budget entries.now) sums.0.items) }
+    ensures actual { IfOk result (λ sums. AreItemSums tree.now accounts.now
+        (figure_at Actual entries.now) sums.1.items) }
 {
-    let amounts = figures(alloc, entries, figure)?;
-    item_sums(alloc, tree, accounts, &amounts)
+    let budget = figure_sums(alloc, tree, accounts, entries, Figure::Budget)?;
+    let actual = figure_sums(alloc, tree, accounts, entries, Figure::Actual)?;
+    Ok((budget, actual))
+}
+
+/// The sums by item of how much more was spent on the accounts than their work is worth.
+fn overrun_sums(
+    alloc: Global,
+    tree: &Tree,
+    accounts: &[AcctRow],
+    entries: &[Entry],
+    values: &[i64],
+) -> Result<Vec<i64>, AllocError>
+    requires on_tree { AreOnTree tree.now accounts.now }
+    requires one_each { length entries.now ≡ length accounts.now }
+    requires value_each { length values.now ≡ length entries.now }
+    requires entries { AreSmall entries.now }
+    requires values { (a : ℕ) → unsigned_abs (amount_at values.now a) ≤ MAX_COST }
+    ensures { IfOk result (λ totals. AreItemSums tree.now accounts.now
+        (overrun_at entries.now values.now) totals.items) }
+{
+    let overruns = overruns(alloc, entries, values)?;
+    item_sums(alloc, tree, accounts, &overruns)
 }

@@ -16,7 +16,8 @@ pub const MAX_LENGTH: u64 = 1_000_000_000;
 pub(crate) fn keep_early_times(board: &mut Board, net: &CrashNet<'_>, pace: Pace)
     requires { IsFor net.now.network board.old }
     ensures rest { board.new ≡ record board.old { time = board.new.time } }
-    ensures times { (e : ℕ) → e < net.now.network.events → IsEarly net.now.network (durations_at net.now.terms pace) e (kept_time board.new e) }
+    ensures times { (e : ℕ) → e < net.now.network.events →
+        IsEarly net.now.network (durations_at net.now.terms pace) e (kept_time board.new e) }
     ensures limit { (e : ℕ) → e < net.now.network.events → kept_time board.new e ≤ MAX_LENGTH }
 {
     let shape = net.net();

@@ -10,6 +10,8 @@ ghost use Rattle.pc_flow.specs.Courses.{Course, IsLevel, IsSameCurve, IsFurther,
 /// This function does nothing: its contract is the law.
 pub fn looks_add_up()
     ensures none { (c : Course) → most_looks c c ≡ 0 }
-    ensures joins { (c d e : Course) → IsSameCurve c d → IsFurther c d → IsFurther d e → most_looks c d + most_looks d e ≡ most_looks c e }
-    ensures all { (c d : Course) → IsLevel c → IsSameCurve c d → d.slope ≤ slopes_in d.net → d.shortest ≤ lower_of d → most_looks c d ≤ all_looks c }
+    ensures joins { (c d e : Course) → IsSameCurve c d → IsFurther c d → IsFurther d e →
+        most_looks c d + most_looks d e ≡ most_looks c e }
+    ensures all { (c d : Course) → IsLevel c → IsSameCurve c d → d.slope ≤ slopes_in d.net →
+        d.shortest ≤ lower_of d → most_looks c d ≤ all_looks c }
 {}

@@ -59,7 +59,8 @@ impl<'n> Solver<'n> {
     /// A solver before its first segment, in the free cells of a region. It takes no memory. Linear in events and
     /// activities.
     pub fn begin(region: Region, net: &'n CrashNet<'n>) -> Solver<'n>
-        requires { 8 * net.now.network.events + 6 * length net.now.network.arcs + 2 * length net.now.pieces + 16 ≤ free_of region }
+        requires { 8 * net.now.network.events + 6 * length net.now.network.arcs + 2 * length net.now.pieces + 16
+            ≤ free_of region }
         ensures net { result.net ≡ net.now }
         ensures home { result.board.home ≡ region }
         ensures given { result.given ≡ false }

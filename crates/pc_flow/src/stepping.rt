@@ -65,7 +65,8 @@ fn search_on<L: Ledger>(search: &mut Search<'_>, shortest: u64, steps: &mut Step
     requires shortest { IsAllCrashLength search.old.net.now.network search.old.net.now.terms shortest }
     ensures net { search.new.net.now ≡ search.old.net.now }
     ensures counted { steps.new ≤ steps.old + 4 * length search.old.net.now.network.arcs * (result.rise + result.fall) }
-    ensures searched { HasSearched search.old.net.now search.old.board search.new.board shortest result.rise result.fall }
+    ensures searched { HasSearched search.old.net.now search.old.board search.new.board shortest result.rise
+        result.fall }
 {
     let end = search.net.net().end();
     if search.board.time(end) > shortest {

@@ -41,7 +41,8 @@ pub fn talk<T: Answers, C: Source, O: Sink>(
     out: &mut O,
 ) -> Result<(), TalkError>
     requires { StandsFor reader [] [] }
-    ensures { Ends T.Says C.left C.faults O.taken O.faults talker.old talker.new source.old source.new out.old out.new result }
+    ensures { Ends T.Says C.left C.faults O.taken O.faults talker.old talker.new source.old source.new out.old
+        out.new result }
 {
     loop {
         match reader.next(source) {

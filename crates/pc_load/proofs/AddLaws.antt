@@ -21,7 +21,8 @@ pub record IsAddedTo (rows periods : ℕ) (entry : LoadRow) (width n : ℕ) (old
   pub rest : (k : ℕ) → n ≤ k → column_of rows new k ≡ column_of rows old k
 
 -- a period with nothing of the entry stays as it is
-grown_by_none : (rows : ℕ) (entry : LoadRow) (width : ℕ) (old new : List ℤ) (k : ℕ) → column_of rows new k ≡ column_of rows old k → part entry.spread (width * k) (width * (k + 1)) ≡ 0 → IsGrown rows entry width old new k
+grown_by_none : (rows : ℕ) (entry : LoadRow) (width : ℕ) (old new : List ℤ) (k : ℕ) → column_of rows new k ≡ column_of rows old k →
+    part entry.spread (width * k) (width * (k + 1)) ≡ 0 → IsGrown rows entry width old new k
 grown_by_none rows entry width old new k same none =
     let column = column_of rows old k in
     let still : amount_at column entry.row ≡ amount_at column entry.row +ℤ pos 0 = omega (arith, ints) in
@@ -44,17 +45,22 @@ pub begun_none : (s : Spread) (width : ℕ) → share s (width * (s.begin / widt
 begun_none s width = share_none s (width * (s.begin / width)) (mul-div-le s.begin width)
 
 -- a cell that is still to come holds what it held, which is small
-pub still_small : (rows periods : ℕ) (entry : LoadRow) (width n : ℕ) (old new : List ℤ) → IsAddedTo rows periods entry width n old new → entry.row < rows → CanTake rows periods entry.row old → n < periods → unsigned_abs (amount_at new (n * rows + entry.row)) < 2 ^ 62
+pub still_small : (rows periods : ℕ) (entry : LoadRow) (width n : ℕ) (old new : List ℤ) → IsAddedTo rows periods entry width n old new →
+    entry.row < rows → CanTake rows periods entry.row old → n < periods → unsigned_abs (amount_at new (n * rows + entry.row)) < 2 ^ 62
 still_small rows periods entry width n old new are known room within =
     let same : amount_at (column_of rows old n) entry.row ≡ amount_at new (n * rows + entry.row) =
     sym (ap (λ (l : List ℤ). amount_at l entry.row) (are.rest n (omega arith))) ∙ read_cell rows new n entry.row known in
     subst (λ (z : ℤ). unsigned_abs z < 2 ^ 62) same (room n within)
 
 -- one period more
-pub added_more : (rows periods : ℕ) (entry : LoadRow) (width n : ℕ) (old new : List ℤ) (by so_far : ℕ) (v : ℤ) → IsAddedTo rows periods entry width n old new → entry.row < rows → so_far ≡ share entry.spread (width * n) → by ≡ share entry.spread (width * (n + 1)) → v ≡ amount_at new (n * rows + entry.row) +ℤ pos (by - so_far) → IsAddedTo rows periods entry width (n + 1) old (set new (n * rows + entry.row) v)
+pub added_more : (rows periods : ℕ) (entry : LoadRow) (width n : ℕ) (old new : List ℤ) (by so_far : ℕ) (v : ℤ) →
+    IsAddedTo rows periods entry width n old new → entry.row < rows → so_far ≡ share entry.spread (width * n) →
+    by ≡ share entry.spread (width * (n + 1)) → v ≡ amount_at new (n * rows + entry.row) +ℤ pos (by - so_far) →
+    IsAddedTo rows periods entry width (n + 1) old (set new (n * rows + entry.row) v)
 added_more rows periods entry width n old new by so_far v are known before behind is = record {
   one_each = length-set new (n * rows + entry.row) v ∙ are.one_each;
-  done = λ k lt within. ⊎_elim (λ e. subst (λ (j : ℕ). IsGrown rows entry width old (set new (n * rows + entry.row) v) j) (sym e) here) (λ ne. column-set_other rows new k n entry.row v known ne ∙ are.done k (omega arith) within) (cases_eq k n);
+  done = λ k lt within. ⊎_elim (λ e. subst (λ (j : ℕ). IsGrown rows entry width old (set new (n * rows + entry.row) v) j) (sym e) here)
+      (λ ne. column-set_other rows new k n entry.row v known ne ∙ are.done k (omega arith) within) (cases_eq k n);
   rest = λ k le. column-set_other rows new k n entry.row v known (λ e. absurd (omega arith)) ∙ are.rest k (omega arith);
 }
   where
@@ -71,7 +77,9 @@ added_more rows periods entry width n old new by so_far v are known before behin
         column-set_same rows new n entry.row v known ∙ (ap (λ (l : List ℤ). set l entry.row v) (are.rest n (omega arith)) ∙ ap (set column entry.row) value)
 
 -- the periods behind the end have nothing of it
-pub added_all : (rows periods : ℕ) (entry : LoadRow) (width n : ℕ) (old new : List ℤ) → IsAddedTo rows periods entry width n old new → 1 ≤ width → ((k : ℕ) → n ≤ k → k < periods → (entry.spread.begin + entry.spread.length) / width + 1 ≤ k) → IsAdded rows periods entry width old new
+pub added_all : (rows periods : ℕ) (entry : LoadRow) (width n : ℕ) (old new : List ℤ) → IsAddedTo rows periods entry width n old new →
+    1 ≤ width → ((k : ℕ) → n ≤ k → k < periods → (entry.spread.begin + entry.spread.length) / width + 1 ≤ k) →
+    IsAdded rows periods entry width old new
 added_all rows periods entry width n old new are wide behind = record {
   one_each = are.one_each;
   each = λ k within. ⊎_elim (λ lt. are.done k lt within) (λ le. grown_by_none rows entry width old new k (are.rest k le) (none k (behind k le within))) (cases_lt k n);

@@ -16,10 +16,12 @@ early_until_end net lengths e n m sound known early end =
     omega arith
 
 -- so no activity that begins at the earliest ends later
-pub ends_within : (net : Network) (lengths times : List ℕ) (a : ℕ) → IsSound net → IsInRange net → AreEarly net lengths times → a < length net.arcs → slice_index times (from_of net.arcs a) + slice_index lengths a ≤ slice_index times net.end
+pub ends_within : (net : Network) (lengths times : List ℕ) (a : ℕ) → IsSound net → IsInRange net → AreEarly net lengths times →
+    a < length net.arcs → slice_index times (from_of net.arcs a) + slice_index lengths a ≤ slice_index times net.end
 ends_within net lengths times a sound range early known =
     let begin = early.each (from_of net.arcs a) (range.from_in a known) in
     let finish = early.each (to_of net.arcs a) (range.to_in a known) in
     let fits = early_fits net lengths a known (slice_index times (from_of net.arcs a)) (slice_index times (to_of net.arcs a)) begin finish in
-    let within = early_until_end net lengths (to_of net.arcs a) (slice_index times (to_of net.arcs a)) (slice_index times net.end) sound (range.to_in a known) finish (early.each net.end range.end_in) in
+    let within = early_until_end net lengths (to_of net.arcs a) (slice_index times (to_of net.arcs a)) (slice_index times net.end) sound
+    (range.to_in a known) finish (early.each net.end range.end_in) in
     omega arith

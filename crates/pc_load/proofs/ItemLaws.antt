@@ -27,15 +27,20 @@ pub rolled_none : (tree : List ItemRow) (leaves : Table) → AreRolledTo tree le
 rolled_none tree leaves = record { whole = sym (zero-mul (length tree)); each = λ k lt. absurd (omega arith) }
 
 -- one period more
-pub rolled_more : (tree : List ItemRow) (leaves : Table) (n : ℕ) (cells totals : List ℤ) → AreRolledTo tree leaves n cells → AreRolledUp tree (column leaves n) totals → AreRolledTo tree leaves (n + 1) (cells ++ totals)
+pub rolled_more : (tree : List ItemRow) (leaves : Table) (n : ℕ) (cells totals : List ℤ) → AreRolledTo tree leaves n cells →
+    AreRolledUp tree (column leaves n) totals → AreRolledTo tree leaves (n + 1) (cells ++ totals)
 rolled_more tree leaves n cells totals so_far rolled = record {
-  whole = let next = suc-mul n (length tree) in let more = length-append cells totals in let one : (n + 1) * length tree ≡ suc n * length tree = ap (λ (m : ℕ). m * length tree) (omega arith) in omega (arith, so_far.whole, rolled.one_each);
+  whole = let next = suc-mul n (length tree) in let more = length-append cells totals in
+      let one : (n + 1) * length tree ≡ suc n * length tree = ap (λ (m : ℕ). m * length tree) (omega arith) in
+      omega (arith, so_far.whole, rolled.one_each);
   each = λ k lt. ⊎_elim (λ e. last k e) (λ ne. earlier k (omega arith)) (cases_eq k n);
 }
   where
     last : (k : ℕ) → k ≡ n → AreRolledUp tree (column leaves k) (column_of (length tree) (cells ++ totals) k)
     last k e =
-        let here : column_of (length tree) (cells ++ totals) n ≡ totals = ap (take (length tree)) (drop_at cells totals (n * length tree) so_far.whole) ∙ take_all (length tree) totals (omega (arith, rolled.one_each)) in
+        let here : column_of (length tree) (cells ++ totals) n
+        ≡ totals = ap (take (length tree)) (drop_at cells totals (n * length tree) so_far.whole)
+        ∙ take_all (length tree) totals (omega (arith, rolled.one_each)) in
         subst (λ (j : ℕ). AreRolledUp tree (column leaves j) (column_of (length tree) (cells ++ totals) j)) (sym e) (subst (AreRolledUp tree (column leaves n)) (sym here) rolled)
 
     earlier : (k : ℕ) → k < n → AreRolledUp tree (column leaves k) (column_of (length tree) (cells ++ totals) k)
@@ -43,11 +48,14 @@ rolled_more tree leaves n cells totals so_far rolled = record {
         let up = before_next (length tree) k n lt in
         let rest = length-drop (k * length tree) cells in
         let whole = so_far.whole in
-        let same : column_of (length tree) (cells ++ totals) k ≡ column_of (length tree) cells k = ap (take (length tree)) (drop-append-le (k * length tree) cells totals (omega arith)) ∙ take-append-le (length tree) (drop (k * length tree) cells) totals (omega arith) in
+        let same : column_of (length tree) (cells ++ totals) k
+        ≡ column_of (length tree) cells k = ap (take (length tree)) (drop-append-le (k * length tree) cells totals (omega arith))
+        ∙ take-append-le (length tree) (drop (k * length tree) cells) totals (omega arith) in
         subst (AreRolledUp tree (column leaves k)) (sym same) (so_far.each k lt)
 
 -- all periods
-pub items_are : (tree : List ItemRow) (leaves : Table) (n : ℕ) (cells : List ℤ) → n ≡ leaves.periods → AreRolledTo tree leaves n cells → IsItemTable tree leaves (record { rows = length tree; periods = leaves.periods; cells = cells })
+pub items_are : (tree : List ItemRow) (leaves : Table) (n : ℕ) (cells : List ℤ) → n ≡ leaves.periods → AreRolledTo tree leaves n cells →
+    IsItemTable tree leaves (record { rows = length tree; periods = leaves.periods; cells = cells })
 items_are tree leaves n cells whole so_far = record {
   rows = refl;
   periods = refl;
@@ -55,7 +63,8 @@ items_are tree leaves n cells whole so_far = record {
 }
 
 -- what is rolled up from what is never negative is never negative
-pub items_natural : (tree : List ItemRow) (leaves : Table) (n : ℕ) (cells : List ℤ) → IsTable leaves → leaves.rows ≡ length tree → n ≡ leaves.periods → AreRolledTo tree leaves n cells → IsTable (record { rows = length tree; periods = leaves.periods; cells = cells })
+pub items_natural : (tree : List ItemRow) (leaves : Table) (n : ℕ) (cells : List ℤ) → IsTable leaves → leaves.rows ≡ length tree →
+    n ≡ leaves.periods → AreRolledTo tree leaves n cells → IsTable (record { rows = length tree; periods = leaves.periods; cells = cells })
 items_natural tree leaves n cells is one_each whole so_far = record {
   rows = let few = is.rows in omega arith;
   periods = is.periods;

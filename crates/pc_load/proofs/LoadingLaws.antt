@@ -18,7 +18,9 @@ use Rattle.pc_load.proofs.EntryLaws.{load_known, spread_over}
 use Rattle.pc_load.proofs.SeriesLaws.{adds_up}
 
 -- no cost stands on an item that is no leaf
-pub costs_at_leaves : (project : Project) (times : List ℕ) (entries : List LoadRow) (width periods : ℕ) (leaves : Table) → IsPlanned project → AreCosts project times (length project.network.arcs) entries → IsTableOf (length project.tree) entries width periods leaves → (k : ℕ) → k < periods → AreAtLeaves project.tree (column leaves k)
+pub costs_at_leaves : (project : Project) (times : List ℕ) (entries : List LoadRow) (width periods : ℕ) (leaves : Table) →
+    IsPlanned project → AreCosts project times (length project.network.arcs) entries →
+    IsTableOf (length project.tree) entries width periods leaves → (k : ℕ) → k < periods → AreAtLeaves project.tree (column leaves k)
 costs_at_leaves project times entries width periods leaves planned costs is k lt x h no_leaf =
     IsSumOver-only (λ e. row_of entries e ≡ x) (length entries) (λ e. pos (part_in entries width k e)) (amount_in leaves x k) (pos 0) (is.each x k h lt)
     (IsSumOver-none (λ e. row_of entries e ≡ x) (length entries) (λ e. pos (part_in entries width k e)) none)
@@ -30,11 +32,15 @@ costs_at_leaves project times entries width periods leaves planned costs is k lt
         no_leaf (subst (IsLeaf project.tree) place (planned.figures.on_leaves e known))
 
 -- the table of items has the parts of the costs
-pub items_have_parts : (project : Project) (times : List ℕ) (entries : List LoadRow) (width periods : ℕ) (leaves items : Table) → IsPlanned project → AreCosts project times (length project.network.arcs) entries → IsTableOf (length project.tree) entries width periods leaves → IsItemTable project.tree leaves items → AreItemParts project times width periods items
+pub items_have_parts : (project : Project) (times : List ℕ) (entries : List LoadRow) (width periods : ℕ) (leaves items : Table) →
+    IsPlanned project → AreCosts project times (length project.network.arcs) entries →
+    IsTableOf (length project.tree) entries width periods leaves → IsItemTable project.tree leaves items →
+    AreItemParts project times width periods items
 items_have_parts project times entries width periods leaves items planned costs is are = record {
   row_count = are.rows;
   period_count = are.periods ∙ is.period_count;
-  each = λ y k known lt. subst (λ (m : ℕ). IsSumOver (λ a. IsBelow project.tree (slice_index project.places a) y) m (λ a. pos (cost_part project times width k a)) (amount_in items y k)) costs.one_each (summed y k known lt);
+  each = λ y k known lt. subst (λ (m : ℕ). IsSumOver (λ a. IsBelow project.tree (slice_index project.places a) y) m
+      (λ a. pos (cost_part project times width k a)) (amount_in items y k)) costs.one_each (summed y k known lt);
 }
   where
     -- what an entry is
@@ -43,33 +49,45 @@ items_have_parts project times entries width periods leaves items planned costs 
         let entry = costs.each e (omega (arith, costs.one_each)) in
         (ap (λ (l : LoadRow). l.row) entry, ap (λ (l : LoadRow). l.spread) entry)
 
-    summed : (y k : ℕ) → y < length project.tree → k < periods → IsSumOver (λ a. IsBelow project.tree (slice_index project.places a) y) (length entries) (λ a. pos (cost_part project times width k a)) (amount_in items y k)
+    summed : (y k : ℕ) → y < length project.tree → k < periods →
+        IsSumOver (λ a. IsBelow project.tree (slice_index project.places a) y) (length entries)
+        (λ a. pos (cost_part project times width k a)) (amount_in items y k)
     summed y k known lt =
-        IsSumOver-amounts (λ a. IsBelow project.tree (slice_index project.places a) y) (length entries) (λ e. pos (part_in entries width k e)) (λ a. pos (cost_part project times width k a)) (amount_in items y k)
+        IsSumOver-amounts (λ a. IsBelow project.tree (slice_index project.places a) y) (length entries)
+        (λ e. pos (part_in entries width k e)) (λ a. pos (cost_part project times width k a)) (amount_in items y k)
         (λ e below. ap (λ (s : Spread). pos (part_at s width k)) ((at e below).1))
-        (IsSumOver-same (λ e. (IsLeaf project.tree (row_of entries e) × IsBelow project.tree (row_of entries e) y) × (row_of entries e < length project.tree)) (λ a. IsBelow project.tree (slice_index project.places a) y) (length entries) (λ e. pos (part_in entries width k e)) (amount_in items y k)
+        (IsSumOver-same (λ e. (IsLeaf project.tree (row_of entries e) × IsBelow project.tree (row_of entries e) y)
+        × (row_of entries e < length project.tree)) (λ a. IsBelow project.tree (slice_index project.places a) y) (length entries)
+        (λ e. pos (part_in entries width k e)) (amount_in items y k)
         (λ e below p. subst (λ (x : ℕ). IsBelow project.tree x y) ((at e below).0) (p.0.1))
         (λ e below under.
         let h : e < length project.network.arcs = omega (arith, costs.one_each) in
         let place = sym ((at e below).0) in
         subst (λ (x : ℕ). (IsLeaf project.tree x × IsBelow project.tree x y) × (x < length project.tree)) place ((planned.figures.on_leaves e h, under), planned.placed e h))
-        (IsSumOver-nested (λ x. IsLeaf project.tree x × IsBelow project.tree x y) (row_of entries) (length project.tree) (length entries) (λ x. amount_in leaves x k) (λ e. pos (part_in entries width k e)) (amount_in items y k)
+        (IsSumOver-nested (λ x. IsLeaf project.tree x × IsBelow project.tree x y) (row_of entries) (length project.tree) (length entries)
+        (λ x. amount_in leaves x k) (λ e. pos (part_in entries width k e)) (amount_in items y k)
         (λ x h. is.each x k h lt) ((are.each k (omega (arith, is.period_count))).each y known)))
 
 -- over all periods items add up to costs
-pub items_add_up : (project : Project) (times : List ℕ) (width periods : ℕ) (items : Table) → IsPlanned project → AreTimes project times → 1 ≤ periods → slice_index times project.network.end < width * periods → AreItemParts project times width periods items → ItemsAddUp project items
+pub items_add_up : (project : Project) (times : List ℕ) (width periods : ℕ) (items : Table) → IsPlanned project → AreTimes project times →
+    1 ≤ periods → slice_index times project.network.end < width * periods → AreItemParts project times width periods items →
+    ItemsAddUp project items
 items_add_up project times width periods items planned are some whole parts y known =
-    subst (λ (n : ℕ). IsSumOver (λ a. IsBelow project.tree (slice_index project.places a) y) (length project.network.arcs) (λ a. pos (cost_at project a)) (sum_before n (amount_in items y))) (sym parts.period_count)
+    subst (λ (n : ℕ). IsSumOver (λ a. IsBelow project.tree (slice_index project.places a) y) (length project.network.arcs)
+    (λ a. pos (cost_at project a)) (sum_before n (amount_in items y))) (sym parts.period_count)
     (adds_up (λ a. IsBelow project.tree (slice_index project.places a) y) (length project.network.arcs) periods width (λ a. spread_at project times a (cost_at project a)) (amount_in items y) some
     (λ k lt. parts.each y k known lt)
     (λ a h. spread_over project times a (cost_at project a) (width * periods) planned are h whole))
 
 -- the table of resources has the parts of the quantities
-pub resources_have_parts : (project : Project) (times : List ℕ) (entries : List LoadRow) (width periods : ℕ) (resources : Table) → AreLoads project times (length project.loads) entries → IsTableOf (length project.resources) entries width periods resources → AreResourceParts project times width periods resources
+pub resources_have_parts : (project : Project) (times : List ℕ) (entries : List LoadRow) (width periods : ℕ) (resources : Table) →
+    AreLoads project times (length project.loads) entries → IsTableOf (length project.resources) entries width periods resources →
+    AreResourceParts project times width periods resources
 resources_have_parts project times entries width periods resources loads is = record {
   row_count = is.row_count;
   period_count = is.period_count;
-  each = λ r k known lt. subst (λ (m : ℕ). IsSumOver (λ l. (load_at project l).resource ≡ r) m (λ l. pos (load_part project times width k l)) (amount_in resources r k)) loads.one_each (summed r k known lt);
+  each = λ r k known lt. subst (λ (m : ℕ). IsSumOver (λ l. (load_at project l).resource ≡ r) m
+      (λ l. pos (load_part project times width k l)) (amount_in resources r k)) loads.one_each (summed r k known lt);
 }
   where
     at : (e : ℕ) → e < length entries → (row_of entries e ≡ (load_at project e).resource) × (spread_of entries e ≡ spread_at project times (load_at project e).activity (load_at project e).quantity)
@@ -77,7 +95,9 @@ resources_have_parts project times entries width periods resources loads is = re
         let entry = loads.each e (omega (arith, loads.one_each)) in
         (ap (λ (l : LoadRow). l.row) entry, ap (λ (l : LoadRow). l.spread) entry)
 
-    summed : (r k : ℕ) → r < length project.resources → k < periods → IsSumOver (λ l. (load_at project l).resource ≡ r) (length entries) (λ l. pos (load_part project times width k l)) (amount_in resources r k)
+    summed : (r k : ℕ) → r < length project.resources → k < periods →
+        IsSumOver (λ l. (load_at project l).resource ≡ r) (length entries) (λ l. pos (load_part project times width k l))
+        (amount_in resources r k)
     summed r k known lt =
         IsSumOver-amounts (λ l. (load_at project l).resource ≡ r) (length entries) (λ e. pos (part_in entries width k e)) (λ l. pos (load_part project times width k l)) (amount_in resources r k)
         (λ e below. ap (λ (s : Spread). pos (part_at s width k)) ((at e below).1))
@@ -87,9 +107,12 @@ resources_have_parts project times entries width periods resources loads is = re
         (is.each r k known lt))
 
 -- over all periods resources add up to quantities
-pub resources_add_up : (project : Project) (times : List ℕ) (width periods : ℕ) (resources : Table) → IsPlanned project → AreTimes project times → 1 ≤ periods → slice_index times project.network.end < width * periods → AreResourceParts project times width periods resources → ResourcesAddUp project resources
+pub resources_add_up : (project : Project) (times : List ℕ) (width periods : ℕ) (resources : Table) → IsPlanned project →
+    AreTimes project times → 1 ≤ periods → slice_index times project.network.end < width * periods →
+    AreResourceParts project times width periods resources → ResourcesAddUp project resources
 resources_add_up project times width periods resources planned are some whole parts r known =
     subst (λ (n : ℕ). IsSumOver (λ l. (load_at project l).resource ≡ r) (length project.loads) (λ l. pos (load_at project l).quantity) (sum_before n (amount_in resources r))) (sym parts.period_count)
-    (adds_up (λ l. (load_at project l).resource ≡ r) (length project.loads) periods width (λ l. spread_at project times (load_at project l).activity (load_at project l).quantity) (amount_in resources r) some
+    (adds_up (λ l. (load_at project l).resource ≡ r) (length project.loads) periods width
+    (λ l. spread_at project times (load_at project l).activity (load_at project l).quantity) (amount_in resources r) some
     (λ k lt. parts.each r k known lt)
     (λ l h. spread_over project times (load_at project l).activity (load_at project l).quantity (width * periods) planned are (load_known project l planned h).activity whole))

@@ -43,5 +43,6 @@ pub adds_up : (P : ℕ → Type 0) (m n width : ℕ) (spread : ℕ → Spread) (
 adds_up P m n width spread amount some each over =
     IsSumOver-amounts P m (λ e. pos (share (spread e) (width * n))) (λ e. pos (spread e).amount) (sum_before n amount)
     (λ e h. ap pos (share_all (spread e) (width * n) ((over e h).0) ((over e h).1)))
-    (series P m n (λ k e. pos (part (spread e) (width * k) (width * (k + 1)))) (λ k e. pos (share (spread e) (width * k))) amount (λ e. share_first (spread e) width) (λ k e. share_next (spread e) width k) each
+    (series P m n (λ k e. pos (part (spread e) (width * k) (width * (k + 1)))) (λ k e. pos (share (spread e) (width * k))) amount
+    (λ e. share_first (spread e) width) (λ k e. share_next (spread e) width k) each
     (IsSumOver-nothing P m (λ e. pos (part (spread e) (width * 0) (width * (0 + 1)))) (amount 0) (each 0 some)))

@@ -48,7 +48,8 @@ pub share_grows : (s : Spread) (t u : ℕ) → t ≤ u → share s t ≤ share s
 share_grows s t u le =
     ⊎_elim
     (λ lt. ⊎_elim
-    (λ less. let is = share_some s t lt (omega arith) in let then = share_some s u (omega arith) less in let grows = ratio_grows s.amount s.length (t - s.begin) (u - s.begin) (omega arith) (omega arith) in omega arith)
+    (λ less. let is = share_some s t lt (omega arith) in let then = share_some s u (omega arith) less in
+    let grows = ratio_grows s.amount s.length (t - s.begin) (u - s.begin) (omega arith) (omega arith) in omega arith)
     (λ all. let is = share_all s u (omega arith) all in let most = share_most s t in omega arith)
     (cases_lt u (s.begin + s.length)))
     (λ none. let is = share_none s t none in omega arith)

@@ -40,7 +40,9 @@ part_is entries width k e lt =
 parts_most : (rows : ℕ) (entries : List LoadRow) (width k : ℕ) → AreEntries rows entries → magnitude_of (parts_in entries width k) ≤ MAX_LOADS * MAX_COST
 parts_most rows entries width k are =
     let long = length-map entries (part_on width k) in
-    let most = sum_by-le (λ (p : Placed). unsigned_abs p.amount) MAX_COST (parts_in entries width k) (All-from_get_or (λ (p : Placed). unsigned_abs p.amount ≤ MAX_COST) (parts_in entries width k) (record { item = 0; amount = pos 0 }) each) in
+    let most = sum_by-le (λ (p : Placed). unsigned_abs p.amount) MAX_COST (parts_in entries width k)
+    (All-from_get_or (λ (p : Placed). unsigned_abs p.amount ≤ MAX_COST) (parts_in entries width k)
+    (record { item = 0; amount = pos 0 }) each) in
     let few = mul-le-mul_right {m = length entries} {n = MAX_LOADS} MAX_COST are.few in
     let same = ap (λ (n : ℕ). n * MAX_COST) long in
     omega arith
@@ -74,7 +76,8 @@ summed_none rows periods entries width size is = record {
         ap (take rows) (drop-replicate (k * rows) size (pos 0)) ∙ take-replicate rows (size - k * rows) (pos 0) (omega arith)
 
 -- no cell is too great for one entry more
-pub summed_room : (rows periods : ℕ) (entries : List LoadRow) (width n row : ℕ) (cells : List ℤ) → AreEntries rows entries → row < rows → AreSummedIn rows periods entries width n cells → CanTake rows periods row cells
+pub summed_room : (rows periods : ℕ) (entries : List LoadRow) (width n row : ℕ) (cells : List ℤ) → AreEntries rows entries → row < rows →
+    AreSummedIn rows periods entries width n cells → CanTake rows periods row cells
 summed_room rows periods entries width n row cells are known so_far k lt =
     let summed = so_far.each k lt in
     let all = sum_by-take-le (λ (p : Placed). unsigned_abs p.amount) (parts_in entries width k) n in
@@ -84,18 +87,23 @@ summed_room rows periods entries width n row cells are known so_far k lt =
     omega (arith, summed.small)
 
 -- of one entry more
-pub summed_more : (rows periods : ℕ) (entries : List LoadRow) (width n : ℕ) (old new : List ℤ) → AreEntries rows entries → n < length entries → AreSummedIn rows periods entries width n old → IsAdded rows periods (entry_at entries n) width old new → AreSummedIn rows periods entries width (n + 1) new
+pub summed_more : (rows periods : ℕ) (entries : List LoadRow) (width n : ℕ) (old new : List ℤ) → AreEntries rows entries →
+    n < length entries → AreSummedIn rows periods entries width n old → IsAdded rows periods (entry_at entries n) width old new →
+    AreSummedIn rows periods entries width (n + 1) new
 summed_more rows periods entries width n old new are within so_far added = record {
   whole = added.one_each ∙ so_far.whole;
   each = λ k lt. subst (λ (l : List ℤ). AreSummed rows (parts_in entries width k) (n + 1) l) (sym (added.each k lt))
       (let long = length-map entries (part_on width k) in
       let is = part_is entries width k n within in
-      AreSummed-more rows (parts_in entries width k) n (row_of entries n) (column_of rows old k) (amount_at (column_of rows old k) (row_of entries n)) (pos (part_in entries width k n)) (so_far.each k lt) (omega arith)
+      AreSummed-more rows (parts_in entries width k) n (row_of entries n) (column_of rows old k)
+      (amount_at (column_of rows old k) (row_of entries n)) (pos (part_in entries width k n)) (so_far.each k lt) (omega arith)
       (ap (λ (p : Placed). p.item) (sym is)) (are.known n within) refl (ap (λ (p : Placed). p.amount) (sym is)));
 }
 
 -- the sums of all entries, by row
-pub row_sum : (rows periods : ℕ) (entries : List LoadRow) (width n row k : ℕ) (cells : List ℤ) → AreSummedIn rows periods entries width n cells → n ≡ length entries → row < rows → k < periods → IsSumOver (λ e. row_of entries e ≡ row) (length entries) (λ e. pos (part_in entries width k e)) (amount_at (column_of rows cells k) row)
+pub row_sum : (rows periods : ℕ) (entries : List LoadRow) (width n row k : ℕ) (cells : List ℤ) →
+    AreSummedIn rows periods entries width n cells → n ≡ length entries → row < rows → k < periods →
+    IsSumOver (λ e. row_of entries e ≡ row) (length entries) (λ e. pos (part_in entries width k e)) (amount_at (column_of rows cells k) row)
 row_sum rows periods entries width n row k cells so_far whole known lt =
     let total = amount_at (column_of rows cells k) row in
     let placed = parts_in entries width k in
@@ -106,14 +114,16 @@ row_sum rows periods entries width n row k cells so_far whole known lt =
     (λ e h on. ap (λ (p : Placed). p.item) (part_is entries width k e h) ∙ on)
     (subst (λ (m : ℕ). IsSumOver (λ e. place_of placed e ≡ row) m (amount_of placed) total) whole ((so_far.each k lt).sums.each row known)))
 
-pub table_is : (rows periods : ℕ) (entries : List LoadRow) (width n : ℕ) (cells : List ℤ) → AreSummedIn rows periods entries width n cells → n ≡ length entries → IsTableOf rows entries width periods (record { rows = rows; periods = periods; cells = cells })
+pub table_is : (rows periods : ℕ) (entries : List LoadRow) (width n : ℕ) (cells : List ℤ) → AreSummedIn rows periods entries width n cells →
+    n ≡ length entries → IsTableOf rows entries width periods (record { rows = rows; periods = periods; cells = cells })
 table_is rows periods entries width n cells so_far whole = record {
   row_count = refl;
   period_count = refl;
   each = λ row k known lt. row_sum rows periods entries width n row k cells so_far whole known lt;
 }
 
-pub is_table : (rows periods : ℕ) (entries : List LoadRow) (width n : ℕ) (cells : List ℤ) → rows ≤ MAX_ITEMS → periods ≤ MAX_PERIODS → AreSummedIn rows periods entries width n cells → n ≡ length entries → IsTable (record { rows = rows; periods = periods; cells = cells })
+pub is_table : (rows periods : ℕ) (entries : List LoadRow) (width n : ℕ) (cells : List ℤ) → rows ≤ MAX_ITEMS → periods ≤ MAX_PERIODS →
+    AreSummedIn rows periods entries width n cells → n ≡ length entries → IsTable (record { rows = rows; periods = periods; cells = cells })
 is_table rows periods entries width n cells few_rows few_periods so_far whole = record {
   rows = few_rows;
   periods = few_periods;
@@ -122,12 +132,15 @@ is_table rows periods entries width n cells few_rows few_periods so_far whole = 
       (λ e h. omega (arith, ints)) (row_sum rows periods entries width n row k cells so_far whole known lt);
 }
 
-pub rows_add_up : (rows periods : ℕ) (entries : List LoadRow) (width n : ℕ) (cells : List ℤ) → 1 ≤ periods → AreSummedIn rows periods entries width n cells → n ≡ length entries → RowsAddUp rows entries width periods (record { rows = rows; periods = periods; cells = cells })
+pub rows_add_up : (rows periods : ℕ) (entries : List LoadRow) (width n : ℕ) (cells : List ℤ) → 1 ≤ periods →
+    AreSummedIn rows periods entries width n cells → n ≡ length entries →
+    RowsAddUp rows entries width periods (record { rows = rows; periods = periods; cells = cells })
 rows_add_up rows periods entries width n cells some so_far whole over row known =
     adds_up (λ e. row_of entries e ≡ row) (length entries) periods width (spread_of entries) (λ k. amount_at (column_of rows cells k) row) some
     (λ k lt. row_sum rows periods entries width n row k cells so_far whole known lt) over
 
-pub column_small : (rows periods : ℕ) (entries : List LoadRow) (width n k : ℕ) (cells : List ℤ) → AreEntries rows entries → AreSummedIn rows periods entries width n cells → k < periods → sum_by unsigned_abs (column_of rows cells k) ≤ MAX_LOADS * MAX_COST
+pub column_small : (rows periods : ℕ) (entries : List LoadRow) (width n k : ℕ) (cells : List ℤ) → AreEntries rows entries →
+    AreSummedIn rows periods entries width n cells → k < periods → sum_by unsigned_abs (column_of rows cells k) ≤ MAX_LOADS * MAX_COST
 column_small rows periods entries width n k cells are so_far lt =
     let all = sum_by-take-le (λ (p : Placed). unsigned_abs p.amount) (parts_in entries width k) n in
     let most = parts_most rows entries width k are in

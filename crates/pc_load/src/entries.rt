@@ -16,7 +16,8 @@ pub(crate) fn costs(
     times: &[u64],
 ) -> Result<Vec<LoadRow>, AllocError>
     requires { AreTimes project.now times.now }
-    ensures costs { IfOk result (λ entries. AreCosts project.now times.now (length project.now.network.arcs) entries.items) }
+    ensures costs { IfOk result (λ entries. AreCosts project.now times.now
+        (length project.now.network.arcs) entries.items) }
     ensures entries { IfOk result (λ entries. AreEntries (length project.now.tree) entries.items) }
 {
     let (places, terms) = (project.places(), project.activity_terms());

@@ -65,7 +65,8 @@ impl Table {
         requires few_periods { periods ≤ MAX_PERIODS }
         ensures table { IfOk result (IsTableOf rows entries.now width periods) }
         ensures add_up { IfOk result (RowsAddUp rows entries.now width periods) }
-        ensures small { IfOk result (λ table. (k : ℕ) → k < periods → sum_by unsigned_abs (column table k) ≤ MAX_LOADS * MAX_COST) }
+        ensures small { IfOk result (λ table. (k : ℕ) → k < periods →
+            sum_by unsigned_abs (column table k) ≤ MAX_LOADS * MAX_COST) }
     {
         let mut cells = vec![in alloc; 0; rows as usize * periods as usize]?;
         for entry in entries {

@@ -35,22 +35,26 @@ pub fn pieces_make_knees()
         AreTerms net terms → ArePieces terms pieces → AreKnees net terms (knees_of terms pieces) }
     ensures one { (net : Network) (terms : List Term) → AreTerms net terms → AreKnees net terms (one_knee terms) }
     ensures last { (terms : List Term) (pieces : List PieceRow) (a : ℕ) → ArePieces terms pieces → a < length terms →
-        last_slope (knees_of terms pieces) a ≡ slope_in (term_at terms a) (pieces_of pieces a) (length (pieces_of pieces a)) }
+        last_slope (knees_of terms pieces) a
+        ≡ slope_in (term_at terms a) (pieces_of pieces a) (length (pieces_of pieces a)) }
 {}
 
 /// A unit by which a duration is shortened costs the slope of the piece in which it lies: piece `k` lies below knee `k`,
 /// down to the next knee or to crash. At their normal durations the activities cost what is said of them. Without
 /// pieces, or with one knee, each unit below normal costs the slope.
 pub fn a_unit_costs_its_slope()
-    ensures piece { (net : Network) (terms : List Term) (pieces : List PieceRow) (a d k : ℕ) → AreTerms net terms → ArePieces terms pieces →
+    ensures piece { (net : Network) (terms : List Term) (pieces : List PieceRow) (a d k : ℕ) → AreTerms net terms →
+        ArePieces terms pieces →
         a < length net.arcs → k ≤ length (pieces_of pieces a) → d < (knees_of terms pieces).knee a k →
         (k < length (pieces_of pieces a) → (knees_of terms pieces).knee a (k + 1) ≤ d) →
         activity_cost terms (knees_of terms pieces) a d
         ≡ activity_cost terms (knees_of terms pieces) a (d + 1) + slope_in (term_at terms a) (pieces_of pieces a) k }
-    ensures normal { (net : Network) (terms : List Term) (knees : Knees) → AreTerms net terms → AreKnees net terms knees →
+    ensures normal { (net : Network) (terms : List Term) (knees : Knees) → AreTerms net terms →
+        AreKnees net terms knees →
         cost_of terms knees (normal_of terms) ≡ sum_to (length terms) (base_cost_of terms) }
     ensures plain { (terms : List Term) (a d : ℕ) →
-        activity_cost terms (knees_of terms []) a d ≡ base_cost_of terms a + slope_of terms a * (normal_of terms a - d) }
+        activity_cost terms (knees_of terms []) a d
+        ≡ base_cost_of terms a + slope_of terms a * (normal_of terms a - d) }
     ensures one { (terms : List Term) (a d : ℕ) →
         activity_cost terms (one_knee terms) a d ≡ base_cost_of terms a + slope_of terms a * (normal_of terms a - d) }
 {}
@@ -62,7 +66,8 @@ pub fn least_cost_is_convex()
         IsLeastCost net terms knees limit a → IsLeastCost net terms knees limit b → a ≡ b }
     ensures falls { (net : Network) (terms : List Term) (knees : Knees) (short long a b : ℕ) → short ≤ long →
         IsLeastCost net terms knees short a → IsLeastCost net terms knees long b → b ≤ a }
-    ensures convex { (net : Network) (terms : List Term) (knees : Knees) (limit a b c : ℕ) → AreTerms net terms → AreKnees net terms knees →
+    ensures convex { (net : Network) (terms : List Term) (knees : Knees) (limit a b c : ℕ) → AreTerms net terms →
+        AreKnees net terms knees →
         IsLeastCost net terms knees limit a → IsLeastCost net terms knees (limit + 1) b →
         IsLeastCost net terms knees (limit + 2) c → 2 * b ≤ a + c }
 {}
@@ -70,6 +75,7 @@ pub fn least_cost_is_convex()
 /// At the all-normal length no schedule costs less than the normal durations.
 pub fn normal_durations_are_cheapest()
     ensures { (net : Network) (terms : List Term) (knees : Knees) (times : ℕ → ℕ) (limit : ℕ) →
-        IsInRange net → IsSound net → AreTerms net terms → ((e : ℕ) → e < net.events → IsEarly net (normals terms) e (times e)) →
+        IsInRange net → IsSound net → AreTerms net terms →
+        ((e : ℕ) → e < net.events → IsEarly net (normals terms) e (times e)) →
         IsAllNormalLength net terms limit → IsLeastCost net terms knees limit (cost_of terms knees (normal_of terms)) }
 {}

@@ -52,12 +52,14 @@ IsIndexed-same codes old new indexed slots entries = record {
     still c k (crowded some more found) = crowded (omega (arith, slot_kept c)) (omega (arith, beside_kept c)) (map_kept (number_of c) ∙ found)
 
 -- what was read of a slot of a code, and of the slot beside it
-pub slot-read : (index : Index) (code : List ℕ) (count slot x : ℕ) → count ≡ length index.slots.items → slot ≡ slot_of (count - 1) code → x ≡ get_or index.slots.items slot x → slot < count → slot_at index code ≡ x
+pub slot-read : (index : Index) (code : List ℕ) (count slot x : ℕ) → count ≡ length index.slots.items → slot ≡ slot_of (count - 1) code →
+    x ≡ get_or index.slots.items slot x → slot < count → slot_at index code ≡ x
 slot-read index code count slot x full is read below =
     ap (λ i. get_or index.slots.items i 0) (ap (λ n. slot_of (n - 1) code) (sym full) ∙ sym is)
     ∙ sym (get_or_read index.slots.items slot x (omega arith) read 0)
 
-pub beside-read : (index : Index) (code : List ℕ) (count slot x : ℕ) → count ≡ length index.slots.items → slot ≡ slot_of (count - 1) code → x ≡ get_or index.slots.items (slot + 1) x → slot + 1 < count → beside_at index code ≡ x
+pub beside-read : (index : Index) (code : List ℕ) (count slot x : ℕ) → count ≡ length index.slots.items → slot ≡ slot_of (count - 1) code →
+    x ≡ get_or index.slots.items (slot + 1) x → slot + 1 < count → beside_at index code ≡ x
 beside-read index code count slot x full is read below =
     ap (λ i. get_or index.slots.items (i + 1) 0) (ap (λ n. slot_of (n - 1) code) (sym full) ∙ sym is)
     ∙ sym (get_or_read index.slots.items (slot + 1) x (omega arith) read 0)
@@ -69,7 +71,8 @@ apart a b differ =
 
 module _ (codes : List (List ℕ)) (code : List ℕ) (old new : Index) (indexed : IsIndexed codes old) (longer : length (codes ++ code ∷ []) ≡ length codes + 1) where
   -- a fact of each code and of one more
-  each_more : (P : List ℕ → ℕ → Type 0) → ((k : ℕ) → k < length codes → P (code_at codes k) k) → P code (length codes) → (k : ℕ) → k < length (codes ++ code ∷ []) → P (code_at (codes ++ code ∷ []) k) k
+  each_more : (P : List ℕ → ℕ → Type 0) → ((k : ℕ) → k < length codes → P (code_at codes k) k) → P code (length codes) → (k : ℕ) →
+      k < length (codes ++ code ∷ []) → P (code_at (codes ++ code ∷ []) k) k
   each_more P earlier here k below = elim (inner_or_last k (length codes) (omega arith)) [
     | inl inner ↦ subst (λ c. P c k) (sym (inner-place codes code k inner)) (earlier k inner)
     | inr last ↦ subst (λ i. P (code_at (codes ++ code ∷ []) i) i) (sym last) (subst (λ c. P c (length codes)) (sym (last-place codes code (length codes) refl)) here)
@@ -164,7 +167,8 @@ module _ (codes : List (List ℕ)) (code : List ℕ) (old new : Index) (indexed 
       earlier : (k : ℕ) → k < length codes → IsFound new (code_at codes k) k
       earlier k below = still (code_at codes k) k below refl (indexed.each k below)
 
-      only : (number k : ℕ) → crowded_at new number ≡ Some k → (number_of code ≡ number) ⊎ (number_of code ≢ number) → (k < length (codes ++ code ∷ [])) × (code_at (codes ++ code ∷ []) k ≡ code_in number)
+      only : (number k : ℕ) → crowded_at new number ≡ Some k → (number_of code ≡ number) ⊎ (number_of code ≢ number) →
+          (k < length (codes ++ code ∷ [])) × (code_at (codes ++ code ∷ []) k ≡ code_in number)
       only number k is (inl same) =
           let at : crowded_at new number ≡ Some (length codes) = ap (crowded_at new) (sym same) ∙ puts.1 in
           let last : k ≡ length codes = let both : Some k ≡ Some (length codes) = sym is ∙ at in cc in

@@ -44,7 +44,9 @@ IsNamedOnce-push codes code once new = λ j k before within same.
 -- each is not among those before it
 pub not_before : (codes : List (List ℕ)) (k : ℕ) → IsNamedOnce codes → k < length codes → list_any (pointwise nat_eq (code_at codes k)) (take k codes) ≡ false
 not_before codes k once inside =
-    list_any_none (pointwise nat_eq (code_at codes k)) (take k codes) (All-from_get_or (λ code. pointwise nat_eq (code_at codes k) code ≡ false) (take k codes) [] (λ j below. other j (omega (arith, length-take k codes))))
+    list_any_none (pointwise nat_eq (code_at codes k)) (take k codes)
+    (All-from_get_or (λ code. pointwise nat_eq (code_at codes k) code ≡ false) (take k codes) []
+    (λ j below. other j (omega (arith, length-take k codes))))
   where
     other : (j : ℕ) → j < k → pointwise nat_eq (code_at codes k) (get_or (take k codes) j []) ≡ false
     other j below =

@@ -29,7 +29,8 @@ AreChains-start xs events n is = record {
 }
 
 -- the place before is put in front of the chain of its event
-pub AreChains-step : (xs : List ℕ) (events i x : ℕ) (heads nexts : List ℕ) → AreChains xs events (i + 1) heads nexts → i < length xs → slice_index xs i ≡ x → x < events → AreChains xs events i (set heads x i) (set nexts i (slice_index heads x))
+pub AreChains-step : (xs : List ℕ) (events i x : ℕ) (heads nexts : List ℕ) → AreChains xs events (i + 1) heads nexts → i < length xs →
+    slice_index xs i ≡ x → x < events → AreChains xs events i (set heads x i) (set nexts i (slice_index heads x))
 AreChains-step xs events i x heads nexts chains below is known = record {
   heads_len = length-set heads x i ∙ chains.heads_len;
   nexts_len = length-set nexts i _ ∙ chains.nexts_len;
@@ -38,7 +39,9 @@ AreChains-step xs events i x heads nexts chains below is known = record {
       (λ other. get_or-set_other heads x y i 0 other ∙ chains.head y y_known ∙ sym (ap (first_or (length xs)) (places_from_miss xs y i below (λ e. other (sym e ∙ is)))))
       (cases_eq y x);
   next = λ k past k_below. ⊎_elim
-      (λ same. ap (slice_index (set nexts i (slice_index heads x))) same ∙ get_or-set_same nexts i _ 0 (omega (arith, chains.nexts_len)) ∙ chains.head x known ∙ ap (λ y. first_or (length xs) (places_from xs y (i + 1))) (sym is) ∙ ap (λ j. first_or (length xs) (places_from xs (slice_index xs j) (j + 1))) (sym same))
+      (λ same. ap (slice_index (set nexts i (slice_index heads x))) same ∙ get_or-set_same nexts i _ 0 (omega (arith, chains.nexts_len))
+      ∙ chains.head x known ∙ ap (λ y. first_or (length xs) (places_from xs y (i + 1))) (sym is)
+      ∙ ap (λ j. first_or (length xs) (places_from xs (slice_index xs j) (j + 1))) (sym same))
       (λ other. get_or-set_other nexts i k _ 0 other ∙ chains.next k (omega arith) k_below)
       (cases_eq k i);
 }
@@ -63,7 +66,9 @@ first_place_hit xs x j below is = rw (places_from_hit xs x j below is) (record {
   none = λ h. absurd (omega arith);
 })
 
-first_place_miss : (xs : List ℕ) (x j : ℕ) → j < length xs → slice_index xs j ≢ x → IsFirstPlace xs x (j + 1) (first_or (length xs) (places_from xs x (j + 1))) → IsFirstPlace xs x j (first_or (length xs) (places_from xs x j))
+first_place_miss : (xs : List ℕ) (x j : ℕ) → j < length xs → slice_index xs j ≢ x →
+    IsFirstPlace xs x (j + 1) (first_or (length xs) (places_from xs x (j + 1))) →
+    IsFirstPlace xs x j (first_or (length xs) (places_from xs x j))
 first_place_miss xs x j below isnt next = rw (places_from_miss xs x j below isnt) (record {
   low = λ h. omega (arith, next.low (omega arith));
   here = λ h. ((next.here h).0, places_from_miss xs x j below isnt ∙ (next.here h).1);

@@ -49,7 +49,8 @@ IsSpread-fresh net label reached labels none made some =
         (cases_lt v net.events)
 
 -- between two rounds the label may fall
-pub IsSpread-lower : (net : Network) (label lower : ℕ) (reached labels : List ℕ) → IsSpread net label reached labels (length reached) → 0 < lower → lower ≤ label → IsSpread net lower reached labels (length reached)
+pub IsSpread-lower : (net : Network) (label lower : ℕ) (reached labels : List ℕ) → IsSpread net label reached labels (length reached) →
+    0 < lower → lower ≤ label → IsSpread net lower reached labels (length reached)
 IsSpread-lower net label lower reached labels spread some below = record {
   labels_len = spread.labels_len;
   some = some;
@@ -144,7 +145,9 @@ pub record IsSpreading (net : Network) (label : ℕ) (reached labels : List ℕ)
   pub crossed : (i : ℕ) → i < j → label ≤ slice_index labels (to_of net.arcs (slice_index leaving i))
 
 -- none of them is
-pub IsSpreading-start : (net : Network) (label : ℕ) (reached labels : List ℕ) (at event : ℕ) (leaving : List ℕ) → IsSpread net label reached labels at → at < length reached → slice_index reached at ≡ event → IsSpreading net label reached labels at event leaving 0
+pub IsSpreading-start : (net : Network) (label : ℕ) (reached labels : List ℕ) (at event : ℕ) (leaving : List ℕ) →
+    IsSpread net label reached labels at → at < length reached → slice_index reached at ≡ event →
+    IsSpreading net label reached labels at event leaving 0
 IsSpreading-start net label reached labels at event leaving spread queued here = record {
   spread = spread;
   queued = queued;
@@ -153,7 +156,9 @@ IsSpreading-start net label reached labels at event leaving spread queued here =
 }
 
 -- the next of them ends at an event that has a label
-pub IsSpreading-skip : (net : Network) (label : ℕ) (reached labels : List ℕ) (at event : ℕ) (leaving : List ℕ) (j : ℕ) → IsSpreading net label reached labels at event leaving j → slice_index labels (to_of net.arcs (slice_index leaving j)) ≢ 0 → IsSpreading net label reached labels at event leaving (j + 1)
+pub IsSpreading-skip : (net : Network) (label : ℕ) (reached labels : List ℕ) (at event : ℕ) (leaving : List ℕ) (j : ℕ) →
+    IsSpreading net label reached labels at event leaving j → slice_index labels (to_of net.arcs (slice_index leaving j)) ≢ 0 →
+    IsSpreading net label reached labels at event leaving (j + 1)
 IsSpreading-skip net label reached labels at event leaving j spreading some = record {
   spread = spreading.spread;
   queued = spreading.queued;
@@ -165,7 +170,9 @@ IsSpreading-skip net label reached labels at event leaving j spreading some = re
 }
 
 -- the next of them ends at an event that gets the label now
-pub IsSpreading-push : (net : Network) (label : ℕ) (reached labels : List ℕ) (at event : ℕ) (leaving : List ℕ) (j w : ℕ) → IsSpreading net label reached labels at event leaving j → to_of net.arcs (slice_index leaving j) ≡ w → w < net.events → slice_index labels w ≡ 0 → IsSpreading net label (reached ++ w ∷ []) (set labels w label) at event leaving (j + 1)
+pub IsSpreading-push : (net : Network) (label : ℕ) (reached labels : List ℕ) (at event : ℕ) (leaving : List ℕ) (j w : ℕ) →
+    IsSpreading net label reached labels at event leaving j → to_of net.arcs (slice_index leaving j) ≡ w → w < net.events →
+    slice_index labels w ≡ 0 → IsSpreading net label (reached ++ w ∷ []) (set labels w label) at event leaving (j + 1)
 IsSpreading-push net label reached labels at event leaving j w spreading ends w_in fresh = record {
   spread = IsSpread-push net label reached labels at spreading.spread w w_in fresh;
   queued = omega (arith, spreading.queued, length_push reached w);
@@ -177,7 +184,9 @@ IsSpreading-push net label reached labels at event leaving j w spreading ends w_
 }
 
 -- all of them are crossed
-pub IsSpreading-end : (net : Network) (label : ℕ) (reached labels : List ℕ) (at event : ℕ) (leaving : List ℕ) (j : ℕ) → IsListed (λ a. from_of net.arcs a ≡ event) (length net.arcs) leaving → IsSpreading net label reached labels at event leaving j → j ≡ length leaving → IsSpread net label reached labels (at + 1)
+pub IsSpreading-end : (net : Network) (label : ℕ) (reached labels : List ℕ) (at event : ℕ) (leaving : List ℕ) (j : ℕ) →
+    IsListed (λ a. from_of net.arcs a ≡ event) (length net.arcs) leaving → IsSpreading net label reached labels at event leaving j →
+    j ≡ length leaving → IsSpread net label reached labels (at + 1)
 IsSpreading-end net label reached labels at event leaving j listed spreading done = record {
   labels_len = spreading.spread.labels_len;
   some = spreading.spread.some;
@@ -190,11 +199,18 @@ IsSpreading-end net label reached labels at event leaving j listed spreading don
   follows = λ a below. ⊎_elim (λ rises. inl rises) (behind a below) (spreading.spread.follows a below);
 }
   where
-    behind : (a : ℕ) → a < length net.arcs → IsQueued reached at (from_of net.arcs a) → (slice_index labels (from_of net.arcs a) ≤ slice_index labels (to_of net.arcs a)) ⊎ IsQueued reached (at + 1) (from_of net.arcs a)
+    behind : (a : ℕ) → a < length net.arcs → IsQueued reached at (from_of net.arcs a) →
+        (slice_index labels (from_of net.arcs a) ≤ slice_index labels (to_of net.arcs a)) ⊎ IsQueued reached (at + 1) (from_of net.arcs a)
     behind a a_in (k, from, below, is) = ⊎_elim
         (λ same.
         let begins : from_of net.arcs a ≡ event = sym is ∙ ap (slice_index reached) same ∙ spreading.here in
         let stands = listed.every a a_in begins in
-        inl (omega (arith, ap (slice_index labels) (sym is), spreading.spread.last k from below, spreading.crossed stands.0 (omega (arith, stands.1)), ap (λ x. slice_index labels (to_of net.arcs x)) stands.2)))
+        inl (omega (
+          arith,
+          ap (slice_index labels) (sym is),
+          spreading.spread.last k from below,
+          spreading.crossed stands.0 (omega (arith, stands.1)),
+          ap (λ x. slice_index labels (to_of net.arcs x)) stands.2,
+        )))
         (λ other. inr (k, omega arith, below, is))
         (cases_eq k at)

@@ -14,7 +14,8 @@ use Rattle.pc_net.proofs.SideLaws.{events_of_at, length-events_of}
 use Rattle.pc_net.proofs.CountLaws.{one_at_same, one_at_other, count-set, count_none, count_some}
 
 -- the same activities are crossed, said in another way
-pub IsWaiting-same : (net : Network) (order missing waits : List ℕ) (C D : ℕ → Type 0) → IsWaiting net order missing waits C → ((a : ℕ) → a < length net.arcs → C a → D a) → ((a : ℕ) → a < length net.arcs → D a → C a) → IsWaiting net order missing waits D
+pub IsWaiting-same : (net : Network) (order missing waits : List ℕ) (C D : ℕ → Type 0) → IsWaiting net order missing waits C →
+    ((a : ℕ) → a < length net.arcs → C a → D a) → ((a : ℕ) → a < length net.arcs → D a → C a) → IsWaiting net order missing waits D
 IsWaiting-same net order missing waits C D waiting there back = record {
   missing_len = waiting.missing_len;
   waits_len = waiting.waits_len;
@@ -39,7 +40,10 @@ IsQueue-start net counts order entering listed = (
       part = record {
         range = λ k below. omega (arith, entering.counts_len, (listed.each k below).0);
         once = λ j k before below same. omega (arith, listed.rising j k before below);
-        before = λ k a below a_in ends. absurd (count_none (slice_index order k) (events_of Ends net.arcs) (sym (entering.count (slice_index order k) (omega (arith, entering.counts_len, (listed.each k below).0))) ∙ (listed.each k below).1) a (omega (arith, length-events_of Ends net.arcs)) (events_of_at Ends net.arcs a a_in ∙ ends));
+        before = λ k a below a_in ends. absurd
+            (count_none (slice_index order k) (events_of Ends net.arcs)
+            (sym (entering.count (slice_index order k) (omega (arith, entering.counts_len, (listed.each k below).0)))
+            ∙ (listed.each k below).1) a (omega (arith, length-events_of Ends net.arcs)) (events_of_at Ends net.arcs a a_in ∙ ends));
       };
       free = λ k below. (listed.each k below).1;
       placed = λ v known none. listed.every v (omega (arith, entering.counts_len)) none;
@@ -60,7 +64,10 @@ IsBlocked-end net order missing at queue past v known away =
     (λ waits_here. (a, below, sym waits_here.1 ∙ stands.2, λ k k_in is. waits_here.0 (k, omega arith, is)))
     (waiting.waits_for a below)
 
-module _ (net : Network) (order missing waits : List ℕ) (C : ℕ → Type 0) (a w : ℕ) (waiting : IsWaiting net order missing waits C) (a_in : a < length net.arcs) (ends : to_of net.arcs a ≡ w) (w_in : w < net.events) (fresh : C a → ⊥) (inside : (k : ℕ) → k < length net.arcs → C k → StandsBelow order (length order) (from_of net.arcs k)) (begins : StandsBelow order (length order) (from_of net.arcs a)) where
+module _ (net : Network) (order missing waits : List ℕ) (C : ℕ → Type 0) (a w : ℕ) (waiting : IsWaiting net order missing waits C)
+    (a_in : a < length net.arcs) (ends : to_of net.arcs a ≡ w) (w_in : w < net.events) (fresh : C a → ⊥) (inside : (k : ℕ) →
+    k < length net.arcs → C k → StandsBelow order (length order) (from_of net.arcs k))
+    (begins : StandsBelow order (length order) (from_of net.arcs a)) where
   -- the activity waits for its end
   waits_here : slice_index waits a ≡ w
   waits_here = ⊎_elim (λ crossed. absurd (fresh crossed.0)) (λ waits_on. waits_on.1 ∙ ends) (waiting.waits_for a a_in)
@@ -68,7 +75,13 @@ module _ (net : Network) (order missing waits : List ℕ) (C : ℕ → Type 0) (
   -- crossing it takes 1 off the count at its end
   count_there : (v : ℕ) → v < net.events → count_by (λ u. u == v) (set waits a net.events) + cond (w == v) 1 0 ≡ slice_index missing v
   count_there v known =
-      omega (arith, count-set v waits a net.events (omega (arith, waiting.waits_len)), one_at_other v net.events (λ same. omega arith), waiting.counted v known, ap (λ u. cond {A = ℕ} (u == v) 1 0) waits_here)
+      omega (
+        arith,
+        count-set v waits a net.events (omega (arith, waiting.waits_len)),
+        one_at_other v net.events (λ same. omega arith),
+        waiting.counted v known,
+        ap (λ u. cond {A = ℕ} (u == v) 1 0) waits_here,
+      )
 
   -- so something entered the event
   pub was_entered : 1 ≤ slice_index missing w
@@ -82,11 +95,13 @@ module _ (net : Network) (order missing waits : List ℕ) (C : ℕ → Type 0) (
 
   counted_now : (v : ℕ) → v < net.events → slice_index (set missing w (slice_index missing w - 1)) v ≡ count_by (λ u. u == v) (set waits a net.events)
   counted_now v known = ⊎_elim
-      (λ same. ap (slice_index (set missing w (slice_index missing w - 1))) same ∙ missing_same ∙ omega (arith, count_there w w_in, one_at_same w w refl, ap (λ x. count_by (λ u. u == x) (set waits a net.events)) same))
+      (λ same. ap (slice_index (set missing w (slice_index missing w - 1))) same ∙ missing_same
+      ∙ omega (arith, count_there w w_in, one_at_same w w refl, ap (λ x. count_by (λ u. u == x) (set waits a net.events)) same))
       (λ other. omega (arith, missing_other v other, count_there v known, one_at_other v w (λ e. other (sym e))))
       (cases_eq v w)
 
-  waits_now : (k : ℕ) → k < length net.arcs → ((C k ⊎ (k ≡ a)) × (slice_index (set waits a net.events) k ≡ net.events)) ⊎ (((C k ⊎ (k ≡ a)) → ⊥) × (slice_index (set waits a net.events) k ≡ to_of net.arcs k))
+  waits_now : (k : ℕ) → k < length net.arcs → ((C k ⊎ (k ≡ a)) × (slice_index (set waits a net.events) k ≡ net.events))
+      ⊎ (((C k ⊎ (k ≡ a)) → ⊥) × (slice_index (set waits a net.events) k ≡ to_of net.arcs k))
   waits_now k below = ⊎_elim
       (λ same. inl (inr same, ap (slice_index (set waits a net.events)) same ∙ get_or-set_same waits a _ 0 (omega (arith, waiting.waits_len))))
       (λ other. ⊎_elim
@@ -123,7 +138,8 @@ module _ (net : Network) (order missing waits : List ℕ) (C : ℕ → Type 0) (
   all_crossed : slice_index missing w - 1 ≡ 0 → (k : ℕ) → k < length net.arcs → to_of net.arcs k ≡ w → StandsBelow order (length order) (from_of net.arcs k)
   all_crossed none k below is = ⊎_elim
       (λ crossed. ⊎_elim (λ before. inside k below before) (λ same. subst (λ x. StandsBelow order (length order) (from_of net.arcs x)) (sym same) begins) crossed.0)
-      (λ waits_on. absurd (count_none w (set waits a net.events) (sym (counted_now w w_in) ∙ missing_same ∙ none) k (omega (arith, length-set waits a net.events, waiting.waits_len)) (waits_on.1 ∙ is)))
+      (λ waits_on. absurd (count_none w (set waits a net.events) (sym (counted_now w w_in) ∙ missing_same ∙ none) k
+      (omega (arith, length-set waits a net.events, waiting.waits_len)) (waits_on.1 ∙ is)))
       (waits_now k below)
 
   part_now : slice_index missing w - 1 ≡ 0 → IsPartOrder net (order ++ w ∷ [])
@@ -138,7 +154,8 @@ module _ (net : Network) (order missing waits : List ℕ) (C : ℕ → Type 0) (
         (cases_eq k (length order));
     before = λ k b below b_in is. ⊎_elim
         (λ last. StandsBelow-push order w k (from_of net.arcs b) (subst (λ n. StandsBelow order n (from_of net.arcs b)) (sym last) (all_crossed none b b_in (is ∙ at_end k last))) (omega arith))
-        (λ other. let front : k < length order = omega (arith, length_push order w) in StandsBelow-push order w k (from_of net.arcs b) (waiting.part.before k b front b_in (is ∙ in_front k front)) (omega arith))
+        (λ other. let front : k < length order = omega (arith, length_push order w) in
+        StandsBelow-push order w k (from_of net.arcs b) (waiting.part.before k b front b_in (is ∙ in_front k front)) (omega arith))
         (cases_eq k (length order));
   }
 
@@ -157,7 +174,9 @@ module _ (net : Network) (order missing waits : List ℕ) (C : ℕ → Type 0) (
         (cases_eq k (length order));
     placed = λ v known gone. ⊎_elim
         (λ same. subst (StandsBelow (order ++ w ∷ []) (length (order ++ w ∷ []))) (sym same) (StandsBelow-last order w))
-        (λ other. StandsBelow-more (order ++ w ∷ []) (length order) (length (order ++ w ∷ [])) v (StandsBelow-push order w (length order) v (waiting.placed v known (sym (missing_other v other) ∙ gone)) (omega arith)) (omega (arith, length_push order w)))
+        (λ other. StandsBelow-more (order ++ w ∷ []) (length order) (length (order ++ w ∷ [])) v
+        (StandsBelow-push order w (length order) v (waiting.placed v known (sym (missing_other v other) ∙ gone)) (omega arith))
+        (omega (arith, length_push order w)))
         (cases_eq v w);
   }
 
@@ -169,7 +188,8 @@ pub record IsCrossing (net : Network) (order missing : List ℕ) (at event : ℕ
   pub waiting : IsWaiting net order missing waits (λ a. StandsBelow order at (from_of net.arcs a) ⊎ StandsBelow leaving j a)
 
 -- none of them is crossed yet
-pub IsCrossing-start : (net : Network) (order missing : List ℕ) (at : ℕ) (leaving : List ℕ) → IsQueue net order missing at → at < length order → IsCrossing net order missing at (slice_index order at) leaving 0
+pub IsCrossing-start : (net : Network) (order missing : List ℕ) (at : ℕ) (leaving : List ℕ) → IsQueue net order missing at →
+    at < length order → IsCrossing net order missing at (slice_index order at) leaving 0
 IsCrossing-start net order missing at leaving queue queued = record {
   queued = queued;
   here = refl;
@@ -178,7 +198,9 @@ IsCrossing-start net order missing at leaving queue queued = record {
 }
 
 -- all of them are crossed
-pub IsQueue-next : (net : Network) (order missing : List ℕ) (at event : ℕ) (leaving : List ℕ) (j : ℕ) → IsListed (λ a. from_of net.arcs a ≡ event) (length net.arcs) leaving → IsCrossing net order missing at event leaving j → j ≡ length leaving → IsQueue net order missing (at + 1)
+pub IsQueue-next : (net : Network) (order missing : List ℕ) (at event : ℕ) (leaving : List ℕ) (j : ℕ) →
+    IsListed (λ a. from_of net.arcs a ≡ event) (length net.arcs) leaving → IsCrossing net order missing at event leaving j →
+    j ≡ length leaving → IsQueue net order missing (at + 1)
 IsQueue-next net order missing at event leaving j listed crossing done =
     (omega (arith, crossing.queued), (crossing.waits, IsWaiting-same net order missing crossing.waits _ _ crossing.waiting there back))
   where
@@ -196,7 +218,10 @@ IsQueue-next net order missing at event leaving j listed crossing done =
         (λ other. inl (stands.0, omega (arith, stands.1), stands.2))
         (cases_eq stands.0 at)
 
-module _ (net : Network) (order missing : List ℕ) (at event : ℕ) (leaving : List ℕ) (j : ℕ) (listed : IsListed (λ a. from_of net.arcs a ≡ event) (length net.arcs) leaving) (crossing : IsCrossing net order missing at event leaving j) (below : j < length leaving) (a w : ℕ) (is : slice_index leaving j ≡ a) (ends : to_of net.arcs a ≡ w) (w_in : w < net.events) where
+module _ (net : Network) (order missing : List ℕ) (at event : ℕ) (leaving : List ℕ) (j : ℕ)
+    (listed : IsListed (λ a. from_of net.arcs a ≡ event) (length net.arcs) leaving)
+    (crossing : IsCrossing net order missing at event leaving j) (below : j < length leaving) (a w : ℕ) (is : slice_index leaving j ≡ a)
+    (ends : to_of net.arcs a ≡ w) (w_in : w < net.events) where
   a_in : a < length net.arcs
   a_in = omega (arith, (listed.each j below).0, is)
 

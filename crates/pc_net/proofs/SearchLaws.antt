@@ -12,7 +12,8 @@ use Rattle.pc_net.specs.Cycles.{LiesOnCycle, MeetsOnce, IsFirstCycle}
 use Rattle.pc_net.specs.inside.Cycles.{IsRound, IsSearch}
 
 -- where the activity begins is found at once
-pub IsSearch-start : (net : Network) (a : ℕ) (ranks : List ℕ) → length ranks ≡ net.events → ((v : ℕ) → slice_index ranks v ≡ 0) → a < length net.arcs → from_of net.arcs a < net.events → IsSearch net a (a ∷ []) (set ranks (from_of net.arcs a) 1) 0
+pub IsSearch-start : (net : Network) (a : ℕ) (ranks : List ℕ) → length ranks ≡ net.events → ((v : ℕ) → slice_index ranks v ≡ 0) →
+    a < length net.arcs → from_of net.arcs a < net.events → IsSearch net a (a ∷ []) (set ranks (from_of net.arcs a) 1) 0
 IsSearch-start net a ranks sized cleared known begins = record {
   ranks_len = length-set ranks e 1 ∙ sized;
   some = omega arith;
@@ -71,7 +72,9 @@ pub record IsVisit (net : Network) (a : ℕ) (steps ranks : List ℕ) (at event 
   pub seen : (i : ℕ) → i < j → slice_index ranks (from_of net.arcs (slice_index entering i)) ≢ 0
 
 -- all of them were looked at
-pub IsVisit-end : (net : Network) (a : ℕ) (steps ranks : List ℕ) (at event : ℕ) (entering : List ℕ) (j : ℕ) → IsListed (λ b. to_of net.arcs b ≡ event) (length net.arcs) entering → IsVisit net a steps ranks at event entering j → j ≡ length entering → IsSearch net a steps ranks (at + 1)
+pub IsVisit-end : (net : Network) (a : ℕ) (steps ranks : List ℕ) (at event : ℕ) (entering : List ℕ) (j : ℕ) →
+    IsListed (λ b. to_of net.arcs b ≡ event) (length net.arcs) entering → IsVisit net a steps ranks at event entering j →
+    j ≡ length entering → IsSearch net a steps ranks (at + 1)
 IsVisit-end net a steps ranks at event entering j listed visit done = record {
   ranks_len = visit.search.ranks_len;
   some = visit.search.some;
@@ -90,7 +93,9 @@ IsVisit-end net a steps ranks at event entering j listed visit done = record {
 }
 
 -- the next of them begins at an event that was found before
-pub IsVisit-skip : (net : Network) (a : ℕ) (steps ranks : List ℕ) (at event : ℕ) (entering : List ℕ) (j : ℕ) → IsVisit net a steps ranks at event entering j → slice_index ranks (from_of net.arcs (slice_index entering j)) ≢ 0 → IsVisit net a steps ranks at event entering (j + 1)
+pub IsVisit-skip : (net : Network) (a : ℕ) (steps ranks : List ℕ) (at event : ℕ) (entering : List ℕ) (j : ℕ) →
+    IsVisit net a steps ranks at event entering j → slice_index ranks (from_of net.arcs (slice_index entering j)) ≢ 0 →
+    IsVisit net a steps ranks at event entering (j + 1)
 IsVisit-skip net a steps ranks at event entering j visit known = record {
   search = visit.search;
   queued = visit.queued;
@@ -101,7 +106,9 @@ IsVisit-skip net a steps ranks at event entering j visit known = record {
       (cases_eq i j);
 }
 
-module _ (net : Network) (a : ℕ) (steps ranks : List ℕ) (at event : ℕ) (entering : List ℕ) (j : ℕ) (visit : IsVisit net a steps ranks at event entering j) (b v : ℕ) (is : slice_index entering j ≡ b) (b_in : b < length net.arcs) (ends : to_of net.arcs b ≡ event) (begins : from_of net.arcs b ≡ v) (v_in : v < net.events) (fresh : slice_index ranks v ≡ 0) where
+module _ (net : Network) (a : ℕ) (steps ranks : List ℕ) (at event : ℕ) (entering : List ℕ) (j : ℕ)
+    (visit : IsVisit net a steps ranks at event entering j) (b v : ℕ) (is : slice_index entering j ≡ b) (b_in : b < length net.arcs)
+    (ends : to_of net.arcs b ≡ event) (begins : from_of net.arcs b ≡ v) (v_in : v < net.events) (fresh : slice_index ranks v ≡ 0) where
   in_front : (k : ℕ) → k < length steps → slice_index (steps ++ b ∷ []) k ≡ slice_index steps k
   in_front k below = get_or_append_left steps (b ∷ []) 0 k below
 
@@ -186,7 +193,8 @@ IsSearch-all net a steps ranks at search past = record {
 }
 
 -- every event from which a walk leads to where the activity begins is found
-pub found_from_walk : (net : Network) (a : ℕ) (steps ranks : List ℕ) → IsSearch net a steps ranks (length steps) → (e : ℕ) (walk : List ℕ) → IsWalk net.arcs e walk (from_of net.arcs a) → slice_index ranks e ≢ 0
+pub found_from_walk : (net : Network) (a : ℕ) (steps ranks : List ℕ) → IsSearch net a steps ranks (length steps) → (e : ℕ) (walk : List ℕ) →
+    IsWalk net.arcs e walk (from_of net.arcs a) → slice_index ranks e ≢ 0
 found_from_walk net a steps ranks search e [] walked none =
     omega (arith, search.ranked 0 search.some, ap (λ x. slice_index ranks (from_of net.arcs x)) search.begins, ap (slice_index ranks) walked, none)
 found_from_walk net a steps ranks search e (b ∷ walk) walked none =
@@ -198,8 +206,14 @@ pub way_round : (arcs : List Arc) (a : ℕ) → LiesOnCycle arcs a → (a < leng
 way_round arcs a (cycle, (some, (e, walked)), (i, below, is)) =
     let (m, front, back) = split_walk_at arcs e e i cycle walked in
     let split : drop i cycle ≡ a ∷ drop (i + 1) cycle = drop_more cycle i 0 below ∙ ap (λ x. x ∷ drop (i + 1) cycle) is in
-    let (a_in, begins, behind) = subst (λ xs. IsWalk arcs m xs e) split back in
-    (a_in, (drop (i + 1) cycle ++ take i cycle, subst (IsWalk arcs (to_of arcs a) (drop (i + 1) cycle ++ take i cycle)) (sym begins) (IsWalk-append arcs (to_of arcs a) e m (drop (i + 1) cycle) (take i cycle) behind front)))
+    let (a_in, begins, behind) = subst (λ xs. IsWalk arcs m xs e) split back in (
+      a_in,
+      (
+        drop (i + 1) cycle ++ take i cycle,
+        subst (IsWalk arcs (to_of arcs a) (drop (i + 1) cycle ++ take i cycle)) (sym begins)
+            (IsWalk-append arcs (to_of arcs a) e m (drop (i + 1) cycle) (take i cycle) behind front),
+      ),
+    )
 
 -- where the end of an activity was not found, it lies on no cycle
 pub off_cycle : (net : Network) (a : ℕ) (steps ranks : List ℕ) → IsSearch net a steps ranks (length steps) → slice_index ranks (to_of net.arcs a) ≡ 0 → LiesOnCycle net.arcs a → ⊥
@@ -219,7 +233,8 @@ pub record IsWayBack (net : Network) (a : ℕ) (steps ranks cycle : List ℕ) (r
   pub once : MeetsOnce net.arcs cycle
 
 -- it begins with the activity itself
-pub IsWayBack-start : (net : Network) (a : ℕ) (steps ranks : List ℕ) → IsSearch net a steps ranks (length steps) → a < length net.arcs → slice_index ranks (to_of net.arcs a) ≢ 0 → IsWayBack net a steps ranks (a ∷ []) (slice_index ranks (to_of net.arcs a))
+pub IsWayBack-start : (net : Network) (a : ℕ) (steps ranks : List ℕ) → IsSearch net a steps ranks (length steps) → a < length net.arcs →
+    slice_index ranks (to_of net.arcs a) ≢ 0 → IsWayBack net a steps ranks (a ∷ []) (slice_index ranks (to_of net.arcs a))
 IsWayBack-start net a steps ranks search a_in some =
     let (k, k_in, at) = search.found (to_of net.arcs a) some in
     record {
@@ -234,12 +249,16 @@ IsWayBack-start net a steps ranks search a_in some =
     }
 
 -- it goes on by the step that leaves the event
-pub IsWayBack-step : (net : Network) (a : ℕ) (steps ranks cycle : List ℕ) (rank step next : ℕ) → IsSearch net a steps ranks (length steps) → IsWayBack net a steps ranks cycle rank → 1 < rank → (k : ℕ) → k + 1 ≡ rank → step ≡ slice_index steps k → next ≡ slice_index ranks (to_of net.arcs step) → IsWayBack net a steps ranks (cycle ++ step ∷ []) next × (next < rank)
+pub IsWayBack-step : (net : Network) (a : ℕ) (steps ranks cycle : List ℕ) (rank step next : ℕ) → IsSearch net a steps ranks (length steps) →
+    IsWayBack net a steps ranks cycle rank → 1 < rank → (k : ℕ) → k + 1 ≡ rank → step ≡ slice_index steps k →
+    next ≡ slice_index ranks (to_of net.arcs step) → IsWayBack net a steps ranks (cycle ++ step ∷ []) next × (next < rank)
 IsWayBack-step net a steps ranks cycle rank step next search way more k k_is step_is next_is =
     let (j, before, at) = search.leads k (omega arith) k_in in
     let to_at : from_of net.arcs (slice_index steps j) ≡ to_of net.arcs step = at ∙ ap (to_of net.arcs) (sym step_is) in
     let next_rank : next ≡ j + 1 = next_is ∙ ap (slice_index ranks) (sym to_at) ∙ search.ranked j (omega arith) in
-    let longer : IsWalk net.arcs (from_of net.arcs a) (cycle ++ step ∷ []) (to_of net.arcs step) = IsWalk-push net.arcs (from_of net.arcs a) (from_of net.arcs (slice_index steps k)) cycle step walked_k step_in (ap (from_of net.arcs) step_is) in (
+    let longer : IsWalk net.arcs (from_of net.arcs a) (cycle ++ step ∷ []) (to_of net.arcs step) =
+    IsWalk-push net.arcs (from_of net.arcs a) (from_of net.arcs (slice_index steps k)) cycle step walked_k step_in
+    (ap (from_of net.arcs) step_is) in (
       record {
         some = omega (arith, length_push cycle step);
         begins = in_front 0 way.some ∙ way.begins;
@@ -249,7 +268,8 @@ IsWayBack-step net a steps ranks cycle rank step next search way more k k_is ste
         walked = subst (IsWalk net.arcs (from_of net.arcs a) (cycle ++ step ∷ [])) (sym to_at) longer;
         falls = λ i after below. ⊎_elim
             (λ same. omega (arith, ap (λ x. slice_index ranks (from_of net.arcs x)) (at_end i same), rank_step))
-            (λ other. let front : i < length cycle = omega (arith, length_push cycle step) in omega (arith, ap (λ x. slice_index ranks (from_of net.arcs x)) (in_front i front), way.falls i after front))
+            (λ other. let front : i < length cycle = omega (arith, length_push cycle step) in
+            omega (arith, ap (λ x. slice_index ranks (from_of net.arcs x)) (in_front i front), way.falls i after front))
             (cases_eq i (length cycle));
         once = once_more;
       },
@@ -279,17 +299,27 @@ IsWayBack-step net a steps ranks cycle rank step next search way more k k_is ste
 
     -- the step leaves none of the events that the way left before
     is_new : (i : ℕ) → i < length cycle → from_of net.arcs (slice_index cycle i) ≢ from_of net.arcs step
-    is_new zero below same = omega (arith, rank_step, ap (slice_index ranks) same, ap (λ x. slice_index ranks (from_of net.arcs x)) way.begins, search.ranked 0 search.some, ap (λ x. slice_index ranks (from_of net.arcs x)) search.begins)
+    is_new zero below same = omega (
+      arith,
+      rank_step,
+      ap (slice_index ranks) same,
+      ap (λ x. slice_index ranks (from_of net.arcs x)) way.begins,
+      search.ranked 0 search.some,
+      ap (λ x. slice_index ranks (from_of net.arcs x)) search.begins,
+    )
     is_new (suc i) below same = omega (arith, rank_step, ap (slice_index ranks) same, way.falls (suc i) (omega arith) below)
 
     once_more : MeetsOnce net.arcs (cycle ++ step ∷ [])
     once_more i j before below same = ⊎_elim
         (λ last. let front : i < length cycle = omega arith in is_new i front (sym (ap (from_of net.arcs) (in_front i front)) ∙ same ∙ ap (from_of net.arcs) (at_end j last)))
-        (λ other. let front : j < length cycle = omega (arith, length_push cycle step) in way.once i j before front (sym (ap (from_of net.arcs) (in_front i (omega arith))) ∙ same ∙ ap (from_of net.arcs) (in_front j front)))
+        (λ other. let front : j < length cycle = omega (arith, length_push cycle step) in
+        way.once i j before front (sym (ap (from_of net.arcs) (in_front i (omega arith))) ∙ same
+        ∙ ap (from_of net.arcs) (in_front j front)))
         (cases_eq j (length cycle))
 
 -- at rank 1 it is back
-pub IsRound-from_way : (net : Network) (a : ℕ) (steps ranks cycle : List ℕ) (rank : ℕ) → IsSearch net a steps ranks (length steps) → IsWayBack net a steps ranks cycle rank → rank ≤ 1 → IsRound net.arcs a cycle
+pub IsRound-from_way : (net : Network) (a : ℕ) (steps ranks cycle : List ℕ) (rank : ℕ) → IsSearch net a steps ranks (length steps) →
+    IsWayBack net a steps ranks cycle rank → rank ≤ 1 → IsRound net.arcs a cycle
 IsRound-from_way net a steps ranks cycle rank search way back = record {
   begins = way.begins;
   cycle = ((λ none. omega (arith, way.some, ap length none)), (from_of net.arcs a, subst (IsWalk net.arcs (from_of net.arcs a) cycle) home way.walked));

@@ -76,7 +76,8 @@ module _ (net : Network) (order : List ℕ) (ranged : IsInRange net) (ordered : 
   }
 
 -- back from a missing event there are walks of every length
-walk_back : (net : Network) (order : List ℕ) → IsInRange net → IsBlocked net order → (n v : ℕ) → v < net.events → IsMissing order v → (e : ℕ) × (e < net.events) × ((walk : List ℕ) × (length walk ≡ n) × IsWalk net.arcs e walk v)
+walk_back : (net : Network) (order : List ℕ) → IsInRange net → IsBlocked net order → (n v : ℕ) → v < net.events → IsMissing order v →
+    (e : ℕ) × (e < net.events) × ((walk : List ℕ) × (length walk ≡ n) × IsWalk net.arcs e walk v)
 walk_back net order ranged blocked zero v known missing = (v, known, ([], refl, refl))
 walk_back net order ranged blocked (suc n) v known missing =
     let (a, a_in, ends, before) = blocked v known missing in

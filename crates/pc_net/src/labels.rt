@@ -32,7 +32,8 @@ fn spread_all(
     labels: &mut Vec<u32>,
 ) -> Result<(), AllocError>
     requires roots { AreEvents graph.now.events roots.old.items }
-    requires spread { IsSpread graph.now (graph.now.events + 1) reached.old.items labels.old.items (length reached.old.items) }
+    requires spread { IsSpread graph.now (graph.now.events + 1) reached.old.items labels.old.items
+        (length reached.old.items) }
     ensures sized { OnOk result (vec_len labels.new ≡ graph.now.events) }
     ensures never_falls { OnOk result (NeverFalls graph.now.arcs labels.new.items) }
 {
@@ -53,7 +54,8 @@ fn spread_next(
     requires roots { AreEvents graph.now.events roots.old.items }
     requires spread { IsSpread graph.now label reached.old.items labels.old.items (length reached.old.items) }
     ensures roots { AreEvents graph.now.events roots.new.items }
-    ensures spread { OnOk result (IsSpread graph.now label reached.new.items labels.new.items (length reached.new.items)) }
+    ensures spread { OnOk result (IsSpread graph.now label reached.new.items labels.new.items
+        (length reached.new.items)) }
 {
     match roots.pop() {
         Some(root) => spread(graph, root, label, reached, labels),

@@ -97,9 +97,11 @@ AddsFrom-stopped true g p q o n s t x first begun last a = absurd (true≢false 
 -- all of it is pushed
 pub Adds-whole : {d e : Desk} {x : List ℕ} → d.page ≡ fresh → e.page.pending ≡ [] → e.page.failed ≡ false → Adds d e x → Wrote d.taken e.taken d.faults e.faults x
 Adds-whole {d = d} {e = e} {x = x} begun none still a =
-    AddsFrom-whole d.page.failed e.page.failed d.page.pending e.page.pending d.taken e.taken d.faults e.faults x (ap (λ (p : Page). p.failed) begun) (ap (λ (p : Page). p.pending) begun) still none a.added
+    AddsFrom-whole d.page.failed e.page.failed d.page.pending e.page.pending d.taken e.taken d.faults e.faults x
+    (ap (λ (p : Page). p.failed) begun) (ap (λ (p : Page). p.pending) begun) still none a.added
 
 -- a push failed
 pub Adds-stopped : {d e : Desk} {x : List ℕ} → d.page ≡ fresh → e.page.failed ≡ true → Adds d e x → Stopped d.taken e.taken d.faults e.faults x
 Adds-stopped {d = d} {e = e} {x = x} begun failed a =
-    AddsFrom-stopped d.page.failed e.page.failed d.page.pending e.page.pending d.taken e.taken d.faults e.faults x (ap (λ (p : Page). p.failed) begun) (ap (λ (p : Page). p.pending) begun) failed a.added
+    AddsFrom-stopped d.page.failed e.page.failed d.page.pending e.page.pending d.taken e.taken d.faults e.faults x
+    (ap (λ (p : Page). p.failed) begun) (ap (λ (p : Page). p.pending) begun) failed a.added

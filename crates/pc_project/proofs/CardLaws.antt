@@ -14,7 +14,8 @@ pub no_later : (fault other known : Fault) → other ≡ known → fault.row ≡
 no_later fault other known is row number = subst (IsNoLater fault) (sym is) (inr (row, number))
 
 -- a parent that is no item is the first fault of its card
-pub first_unknown_parent : (deck : Deck) (card : ItemCard) (code : List ℕ) → card.parent ≡ Some code → named_among (item_codes deck) code ≡ None → IsFirst (HasItemFault deck card) (unknown_item card.row code)
+pub first_unknown_parent : (deck : Deck) (card : ItemCard) (code : List ℕ) → card.parent ≡ Some code →
+    named_among (item_codes deck) code ≡ None → IsFirst (HasItemFault deck card) (unknown_item card.row code)
 first_unknown_parent deck card code there none = record { holds = unknown_parent code there none refl; least = by }
   where
     by : (other : Fault) → HasItemFault deck card other → IsNoLater (unknown_item card.row code) other

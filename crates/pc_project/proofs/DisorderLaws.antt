@@ -99,7 +99,8 @@ into : (deck : Deck) (fault : Fault) → HasDisorder deck fault → IsEarlyAsOf 
 into deck fault (of_as_of h) = inl h
 into deck fault (of_status h) = inr h
 
-pub first_of_disorder : (deck : Deck) (as_of statuses : Option Fault) → IsFirstIn (IsEarlyAsOf deck) as_of → IsFirstIn (HasStatusDisorder deck) statuses → IsFirstIn (HasDisorder deck) (earliest as_of statuses)
+pub first_of_disorder : (deck : Deck) (as_of statuses : Option Fault) → IsFirstIn (IsEarlyAsOf deck) as_of →
+    IsFirstIn (HasStatusDisorder deck) statuses → IsFirstIn (HasDisorder deck) (earliest as_of statuses)
 first_of_disorder deck as_of statuses a s =
     earliest-first (IsEarlyAsOf deck) (HasStatusDisorder deck) (HasDisorder deck) (λ f h. of_as_of h) (λ f h. of_status h) (into deck) as_of statuses a s
 

@@ -28,7 +28,8 @@ use Rattle.pc_project.specs.Figures.{AreAccounts, AreFigures, AreStatesOf, work_
 use Rattle.pc_project.specs.Misfit.{HasNoMisfit}
 use Rattle.pc_project.specs.PackageFaults.{HasNoLeafFault}
 use Rattle.pc_project.specs.Planned.{HasFigures}
-use Rattle.pc_project.specs.Project.{account_of, accounts_in, arc_of, charges_in, money_of, network_of, place_of, project_in, row_of, rows_of, status_of, statuses_in, term_of, togos_in, work_in, work_of}
+use Rattle.pc_project.specs.Project.{account_of, accounts_in, arc_of, charges_in, money_of, network_of, place_of, project_in}
+use Rattle.pc_project.specs.Project.{row_of, rows_of, status_of, statuses_in, term_of, togos_in, work_in, work_of}
 use Rattle.pc_project.specs.Refusal.{HasNoSecondToGo, HasSoundFigures}
 use Rattle.pc_project.proofs.BranchLaws.{account_on_leaf, act_on_leaf}
 use Rattle.pc_project.proofs.DisorderLaws.{all_in_order, as_of-late}

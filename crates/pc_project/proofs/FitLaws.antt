@@ -19,7 +19,8 @@ use Rattle.pc_deck.specs.declared.kinds.load.LoadCard.{LoadCard}
 use Rattle.pc_deck.specs.declared.kinds.piece.PieceCard.{PieceCard}
 use Rattle.pc_deck.specs.Deck.{Deck, account_codes, act_codes, event_codes, item_codes, named_among, number_among, resource_codes}
 use Rattle.pc_project.specs.Project.{arc_of, network_of, place_of, row_of, rows_of}
-use Rattle.pc_project.specs.Misfit.{HasAccountFault, HasActFault, HasItemFault, HasLoadFault, HasMoneyFault, HasPieceCardFault, HasStatusFault, HasNoMisfit, IsInOrder, account, act, charge, figure, item, listed, project, status, togo}
+use Rattle.pc_project.specs.Misfit.{HasAccountFault, HasActFault, HasItemFault, HasLoadFault, HasMoneyFault, HasPieceCardFault, HasStatusFault}
+use Rattle.pc_project.specs.Misfit.{HasNoMisfit, IsInOrder, account, act, charge, figure, item, listed, project, status, togo}
 use Rattle.pc_project.specs.Misfit as has
 use Rattle.pc_project.proofs.NumberLaws.{account_number-within, act_number-within, event_number-within, event_number-apart, item_number-within, resource_number-within}
 
@@ -108,7 +109,9 @@ network_of-in_range deck none =
     }
 
 -- the number of a parent that is named
-parent_within : (deck : Deck) (parent : Option (List ℕ)) (p : ℕ) → ((code : List ℕ) → parent ≡ Some code → IsSome (named_among (item_codes deck) code)) → option_and_then (λ code. Some (number_among (item_codes deck) code)) parent ≡ Some p → p < length deck.items
+parent_within : (deck : Deck) (parent : Option (List ℕ)) (p : ℕ) →
+    ((code : List ℕ) → parent ≡ Some code → IsSome (named_among (item_codes deck) code)) →
+    option_and_then (λ code. Some (number_among (item_codes deck) code)) parent ≡ Some p → p < length deck.items
 parent_within deck None p known is = absurd (let never : None ≡ Some p = is in cc)
 parent_within deck (Some code) p known is =
     let same : number_among (item_codes deck) code ≡ p = cc in
@@ -150,12 +153,14 @@ pub act_item-within : (deck : Deck) → HasNoMisfit deck → (a : ℕ) (card : A
 act_item-within deck none a card within read =
     subst (λ (c : ActCard). number_among (item_codes deck) c.item < length deck.items) (sym read) (item_number-within deck (get_or deck.acts a card).item (all_fit deck none a card within).placed)
 
-pub account_item-read : (deck : Deck) → HasNoMisfit deck → (a : ℕ) (card : AcctCard) → a < length deck.accounts → card ≡ get_or deck.accounts a card → number_among (item_codes deck) card.item < length deck.items
+pub account_item-read : (deck : Deck) → HasNoMisfit deck → (a : ℕ) (card : AcctCard) → a < length deck.accounts →
+    card ≡ get_or deck.accounts a card → number_among (item_codes deck) card.item < length deck.items
 account_item-read deck none a card within read =
     subst (λ (c : AcctCard). number_among (item_codes deck) c.item < length deck.items) (sym read) (account_item-within deck none a card within)
 
 -- the account of a charge, and that of an amount to go, is an account
-pub charge_account-within : (deck : Deck) → HasNoMisfit deck → (k : ℕ) (d : MoneyCard) → k < length deck.charges → number_among (account_codes deck) (get_or deck.charges k d).account < length deck.accounts
+pub charge_account-within : (deck : Deck) → HasNoMisfit deck → (k : ℕ) (d : MoneyCard) → k < length deck.charges →
+    number_among (account_codes deck) (get_or deck.charges k d).account < length deck.accounts
 charge_account-within deck none k d within =
     let card = get_or deck.charges k d in
     let fault : Fault = told.unknown_account card.row card.account in
@@ -172,7 +177,8 @@ togo_account-within deck none k d within =
     (λ n. none fault (listed (figure (togo (Any-at (λ c. HasMoneyFault deck c fault) deck.togos k d within (has.HasMoneyFault.unknown_account n refl)))))))
 
 -- the activity of a status is an activity
-pub status_activity-within : (deck : Deck) → HasNoMisfit deck → (k : ℕ) (d : StatusCard) → k < length deck.statuses → number_among (act_codes deck) (get_or deck.statuses k d).activity < length deck.acts
+pub status_activity-within : (deck : Deck) → HasNoMisfit deck → (k : ℕ) (d : StatusCard) → k < length deck.statuses →
+    number_among (act_codes deck) (get_or deck.statuses k d).activity < length deck.acts
 status_activity-within deck none k d within =
     let card = get_or deck.statuses k d in
     let fault : Fault = told.unknown_activity card.row card.activity in
@@ -181,7 +187,9 @@ status_activity-within deck none k d within =
     (λ n. none fault (listed (figure (status (Any-at (λ c. HasStatusFault deck c fault) deck.statuses k d within (has.HasStatusFault.unknown_activity n refl)))))))
 
 -- the network of a deck, from its parts
-pub network_of-is : (deck : Deck) (events start end : ℕ) (arcs : List Arc) → events ≡ length deck.events → start ≡ (network_of deck).start → end ≡ (network_of deck).end → arcs ≡ (network_of deck).arcs → let net : Network = record { events = events; start = start; end = end; arcs = arcs } in net ≡ network_of deck
+pub network_of-is : (deck : Deck) (events start end : ℕ) (arcs : List Arc) → events ≡ length deck.events → start ≡ (network_of deck).start →
+    end ≡ (network_of deck).end → arcs ≡ (network_of deck).arcs →
+    let net : Network = record { events = events; start = start; end = end; arcs = arcs } in net ≡ network_of deck
 network_of-is deck events start end arcs same_events same_start same_end same_arcs =
     λ i. record { events = same_events i; start = same_start i; end = same_end i; arcs = same_arcs i }
 
@@ -190,16 +198,25 @@ pub piece_activity-within : (deck : Deck) → HasNoMisfit deck → (i : ℕ) (d 
 piece_activity-within deck none i d within =
     act_number-within deck (get_or deck.pieces i d).activity
     (known_unless (named_among (act_codes deck) (get_or deck.pieces i d).activity)
-    (λ n. none (told.unknown_activity (get_or deck.pieces i d).row (get_or deck.pieces i d).activity) (listed (has.piece (Any-at (λ card. HasPieceCardFault deck card (told.unknown_activity (get_or deck.pieces i d).row (get_or deck.pieces i d).activity)) deck.pieces i d within (has.HasPieceCardFault.unknown_activity n refl))))))
+    (λ n. none (told.unknown_activity (get_or deck.pieces i d).row (get_or deck.pieces i d).activity)
+    (listed (has.piece (Any-at (λ card. HasPieceCardFault deck card
+    (told.unknown_activity (get_or deck.pieces i d).row (get_or deck.pieces i d).activity)) deck.pieces i d within
+    (has.HasPieceCardFault.unknown_activity n refl))))))
 
 -- the activity and the resource of a load are known
-pub load_known : (deck : Deck) → HasNoMisfit deck → (i : ℕ) (d : LoadCard) → i < length deck.loads → (number_among (act_codes deck) (get_or deck.loads i d).activity < length deck.acts) × (number_among (resource_codes deck) (get_or deck.loads i d).resource < length deck.resources)
+pub load_known : (deck : Deck) → HasNoMisfit deck → (i : ℕ) (d : LoadCard) → i < length deck.loads →
+    (number_among (act_codes deck) (get_or deck.loads i d).activity < length deck.acts)
+    × (number_among (resource_codes deck) (get_or deck.loads i d).resource < length deck.resources)
 load_known deck none i d within =
     let card = get_or deck.loads i d in (
       act_number-within deck card.activity
           (known_unless (named_among (act_codes deck) card.activity)
-          (λ n. none (told.unknown_activity card.row card.activity) (listed (has.load (Any-at (λ c. HasLoadFault deck c (told.unknown_activity card.row card.activity)) deck.loads i d within (has.HasLoadFault.unknown_activity n refl)))))),
+          (λ n. none (told.unknown_activity card.row card.activity)
+          (listed (has.load (Any-at (λ c. HasLoadFault deck c (told.unknown_activity card.row card.activity)) deck.loads i d within
+          (has.HasLoadFault.unknown_activity n refl)))))),
       resource_number-within deck card.resource
           (known_unless (named_among (resource_codes deck) card.resource)
-          (λ n. none (told.unknown_resource card.row card.resource) (listed (has.load (Any-at (λ c. HasLoadFault deck c (told.unknown_resource card.row card.resource)) deck.loads i d within (has.HasLoadFault.unknown_resource n refl)))))),
+          (λ n. none (told.unknown_resource card.row card.resource)
+          (listed (has.load (Any-at (λ c. HasLoadFault deck c (told.unknown_resource card.row card.resource)) deck.loads i d within
+          (has.HasLoadFault.unknown_resource n refl)))))),
     )

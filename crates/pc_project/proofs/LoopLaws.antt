@@ -50,7 +50,8 @@ module _ {C : Type 0} (Has : C → Fault → Type 0) (cards : List C) where
   first_of_all i found all h = subst (λ cs. IsFirstIn (λ fault. Any (λ card. Has card fault) cs) found) (take_all i cards all) h
 
 -- what one more element gives
-pub map_take_more : {X Y : Type 0} (f : X → Y) (xs : List X) (i : ℕ) (x : X) (y : Y) (ys : List Y) → i < length xs → x ≡ get_or xs i x → ys ≡ map f (take i xs) → y ≡ f x → ys ++ y ∷ [] ≡ map f (take (i + 1) xs)
+pub map_take_more : {X Y : Type 0} (f : X → Y) (xs : List X) (i : ℕ) (x : X) (y : Y) (ys : List Y) → i < length xs → x ≡ get_or xs i x →
+    ys ≡ map f (take i xs) → y ≡ f x → ys ++ y ∷ [] ≡ map f (take (i + 1) xs)
 map_take_more f xs i x y ys within is before here =
     sym (ap (map f) (take_more xs i x within)
     ∙ (map_push f (take i xs) (get_or xs i x)

@@ -4,7 +4,8 @@ use Rattle.std.specs.List.{Any}
 use Rattle.pc_deck.specs.Deck.{Deck}
 use Rattle.pc_faults.specs.declared.fault.Fault.{Fault}
 use Rattle.pc_faults.specs.inside.First.{IsFirstIn, earliest}
-use Rattle.pc_project.specs.Misfit.{HasProjectFault, HasItemFault, HasActFault, HasAccountFault, HasMoneyFault, HasStatusFault, HasPieceCardFault, HasLoadFault, HasFigureFault, HasListedFault, HasMisfit, account, charge, togo, status, project, listed, item, act, piece, load, figure}
+use Rattle.pc_project.specs.Misfit.{HasProjectFault, HasItemFault, HasActFault, HasAccountFault, HasMoneyFault, HasStatusFault, HasPieceCardFault, HasLoadFault}
+use Rattle.pc_project.specs.Misfit.{HasFigureFault, HasListedFault, HasMisfit, account, charge, togo, status, project, listed, item, act, piece, load, figure}
 use Rattle.pc_faults.proofs.FirstLaws.{earliest-first, first_of_either, first_of_same}
 
 module _ (deck : Deck) where

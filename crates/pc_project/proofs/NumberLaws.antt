@@ -33,7 +33,8 @@ event_number-within deck code known =
     omega (arith, (has_number (event_codes deck) code known).within, length-map deck.events (λ event. event.code))
 
 -- two events with one number have one code
-pub event_number-apart : (deck : Deck) (a b : List ℕ) → IsSome (named_among (event_codes deck) a) → IsSome (named_among (event_codes deck) b) → number_among (event_codes deck) a ≡ number_among (event_codes deck) b → a ≡ b
+pub event_number-apart : (deck : Deck) (a b : List ℕ) → IsSome (named_among (event_codes deck) a) →
+    IsSome (named_among (event_codes deck) b) → number_among (event_codes deck) a ≡ number_among (event_codes deck) b → a ≡ b
 event_number-apart deck a b known_a known_b same =
     sym (has_number (event_codes deck) a known_a).code_there
     ∙ (ap (λ i. get_or (event_codes deck) i []) same ∙ (has_number (event_codes deck) b known_b).code_there)

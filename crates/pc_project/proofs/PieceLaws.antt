@@ -39,7 +39,8 @@ place_of pieces a (suc n) k within some =
               place = n;
               below = omega arith;
               own = own;
-              before = sym (ap (take k) longer ∙ ap (λ j. take j (pieces_of (take n pieces) a ++ piece_at pieces n ∷ [])) last ∙ take-append_seam (pieces_of (take n pieces) a) (piece_at pieces n ∷ []));
+              before = sym (ap (take k) longer ∙ ap (λ j. take j (pieces_of (take n pieces) a ++ piece_at pieces n ∷ [])) last
+                  ∙ take-append_seam (pieces_of (take n pieces) a) (piece_at pieces n ∷ []));
               here = ap (λ ps. piece_at ps k) longer ∙ get_or_push (pieces_of (take n pieces) a) (piece_at pieces n) (record { activity = 0; units = 0; slope = 0 }) k (sym last);
             }
           ]
@@ -86,7 +87,9 @@ module _ (terms : List Term) (pieces : List PieceRow) (none : (i : ℕ) → i < 
       let count : length (pieces_before pieces at.place) ≡ k = ap length before ∙ length-take-le k own (omega arith) in
       let term : term_at terms (piece_at pieces at.place).activity ≡ term_at terms a = ap (term_at terms) at.own in
       let slope : slope_in (term_at terms (piece_at pieces at.place).activity) (pieces_before pieces at.place) (length (pieces_before pieces at.place)) ≡ slope_in (term_at terms a) own k =
-      ap (λ t. slope_in t (pieces_before pieces at.place) (length (pieces_before pieces at.place))) term ∙ ap (λ ps. slope_in (term_at terms a) ps (length (pieces_before pieces at.place))) before ∙ ap (slope_in (term_at terms a) (take k own)) count ∙ slope-before (term_at terms a) own k (omega arith) in
+      ap (λ t. slope_in t (pieces_before pieces at.place) (length (pieces_before pieces at.place))) term
+      ∙ ap (λ ps. slope_in (term_at terms a) ps (length (pieces_before pieces at.place))) before
+      ∙ ap (slope_in (term_at terms a) (take k own)) count ∙ slope-before (term_at terms a) own k (omega arith) in
       record {
         few = omega (arith, flawless.few, count);
         rising = omega (arith, flawless.rising, slope, ap (λ (p : PieceRow). p.slope) here);
@@ -94,7 +97,9 @@ module _ (terms : List Term) (pieces : List PieceRow) (none : (i : ℕ) → i < 
       }
 
 -- pieces of which none has a flaw are pieces
-pub ArePieces-flawless : (terms : List Term) (pieces : List PieceRow) → ((i : ℕ) → i < length pieces → (piece_at pieces i).activity < length terms) → ((i : ℕ) → i < length pieces → IsFlawless terms pieces i) → ArePieces terms pieces
+pub ArePieces-flawless : (terms : List Term) (pieces : List PieceRow) →
+    ((i : ℕ) → i < length pieces → (piece_at pieces i).activity < length terms) →
+    ((i : ℕ) → i < length pieces → IsFlawless terms pieces i) → ArePieces terms pieces
 ArePieces-flawless terms pieces named none = record {
   named = named;
   few = λ a inside. elim (cases_lt MAX_PIECES_EACH (length (pieces_of pieces a))) [

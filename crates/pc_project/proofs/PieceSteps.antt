@@ -71,7 +71,8 @@ module _ (deck : Deck) (none : HasNoMisfit deck) (limits : IsWithinLimits deck) 
         }
 
     -- the faults behind the run are those of the piece
-    pub flaw-is : (card : PieceCard) (found : Option Fault) → card ≡ get_or deck.pieces i card → IsFirstIn (HasFlawBehind (terms_in deck) runs piece card.row card.activity) found → IsFirstIn (HasPieceFaultAt deck i) found
+    pub flaw-is : (card : PieceCard) (found : Option Fault) → card ≡ get_or deck.pieces i card →
+        IsFirstIn (HasFlawBehind (terms_in deck) runs piece card.row card.activity) found → IsFirstIn (HasPieceFaultAt deck i) found
     flaw-is card found card_is first =
         let term = term_at (terms_in deck) piece.activity in
         let there = get_or_read deck.pieces i card inside card_is no_piece in

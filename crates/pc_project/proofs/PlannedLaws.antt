@@ -23,7 +23,8 @@ use Rattle.pc_deck.specs.declared.kinds.terms.TermsCard.{TermsCard}
 use Rattle.pc_deck.specs.Deck.{Deck, act_codes, event_codes, item_codes, resource_codes}
 use Rattle.pc_deck.proofs.NumberLemmas.{AreTermsWithin, acts-within, loads-within, pieces-within, project-within, terms-within}
 use Rattle.pc_deck.specs.Within.{IsWithinLimits}
-use Rattle.pc_project.specs.Project.{Project, accounts_in, arc_of, charges_in, counts_of, expected_of, heading_of, load_of, network_of, piece_of, pieces_in, place_of, project_in, row_of, rows_of, statuses_in, term_of, terms_in, time_terms_of, togos_in, variance_in}
+use Rattle.pc_project.specs.Project.{Project, accounts_in, arc_of, charges_in, counts_of, expected_of, heading_of, load_of, network_of, piece_of, pieces_in}
+use Rattle.pc_project.specs.Project.{place_of, project_in, row_of, rows_of, statuses_in, term_of, terms_in, time_terms_of, togos_in, variance_in}
 use Rattle.pc_project.specs.Misfit.{HasNoMisfit}
 use Rattle.pc_project.specs.declared.load.LoadItem.{LoadItem}
 use Rattle.pc_project.specs.PieceFaults.{HasNoPieceFault, pieces_before, one_too_many, not_rising, none_left}
@@ -88,7 +89,8 @@ module _ (deck : Deck) (limits : IsWithinLimits deck) (none : HasNoMisfit deck) 
         let inside = inside_arcs a below in
         let fits = (all_fit deck none a no_act inside).ordered in
         let card = card_at deck a in
-        let bound = expected_small card.opt card.likely card.pess deck.project.unit_days fits.optimistic fits.pessimistic (acts-within deck limits a no_act inside).pess (project-within deck limits).unit_within in
+        let bound = expected_small card.opt card.likely card.pess deck.project.unit_days fits.optimistic fits.pessimistic
+        (acts-within deck limits a no_act inside).pess (project-within deck limits).unit_within in
         omega (arith, bound, get_or-map (expected_of deck) deck.acts a no_act 0 inside);
   }
 
@@ -128,8 +130,10 @@ pieces_of_deck deck cards none =
     let before = pieces_before (pieces_in deck) i in
     record {
       few = elim (cases_lt (length before) MAX_PIECES_EACH) [ inl fine ↦ fine | inr many ↦ absurd (none _ (i, inside, one_too_many many refl)) ];
-      rising = elim (cases_lt (slope_in (term_at (terms_in deck) a) before (length before)) (piece_at (pieces_in deck) i).slope) [ inl fine ↦ fine | inr low ↦ absurd (none _ (i, inside, not_rising low refl)) ];
-      leaving = elim (cases_lt ((term_at (terms_in deck) a).crash + (units_of before + (piece_at (pieces_in deck) i).units)) (term_at (terms_in deck) a).normal) [ inl fine ↦ fine | inr long ↦ absurd (none _ (i, inside, none_left long refl)) ];
+      rising = elim (cases_lt (slope_in (term_at (terms_in deck) a) before (length before)) (piece_at (pieces_in deck) i).slope)
+          [ inl fine ↦ fine | inr low ↦ absurd (none _ (i, inside, not_rising low refl)) ];
+      leaving = elim (cases_lt ((term_at (terms_in deck) a).crash + (units_of before + (piece_at (pieces_in deck) i).units))
+          (term_at (terms_in deck) a).normal) [ inl fine ↦ fine | inr long ↦ absurd (none _ (i, inside, none_left long refl)) ];
     })
 
 -- they are within their limits
@@ -155,7 +159,8 @@ loads_of_deck deck entries states cards limits =
     })
 
 -- the terms of time
-time_terms_of_deck : (deck : Deck) (terms : Option TermsCard) → ((fault : Fault) → HasTermsFault deck fault → ⊥) → ForSome deck.terms AreTermsWithin → deck.terms ≡ terms → AreTimeTerms (time_terms_of terms)
+time_terms_of_deck : (deck : Deck) (terms : Option TermsCard) → ((fault : Fault) → HasTermsFault deck fault → ⊥) →
+    ForSome deck.terms AreTermsWithin → deck.terms ≡ terms → AreTimeTerms (time_terms_of terms)
 time_terms_of_deck deck None none within is = record { overhead = omega arith; target = omega arith; bonus = omega arith; penalty = omega arith }
 time_terms_of_deck deck (Some card) none within is =
     let fit = within card is in record {
@@ -166,7 +171,8 @@ time_terms_of_deck deck (Some card) none within is =
     }
 
 -- the project of cards that make one
-pub project_in-planned : (deck : Deck) (entries : List Entry) (states : List ActState) → MakesProject deck → IsWithinLimits deck → HasFigures (project_in deck entries states) → IsPlanned (project_in deck entries states)
+pub project_in-planned : (deck : Deck) (entries : List Entry) (states : List ActState) → MakesProject deck → IsWithinLimits deck →
+    HasFigures (project_in deck entries states) → IsPlanned (project_in deck entries states)
 project_in-planned deck entries states makes limits figures = record {
   own = record { within = limits; makes = makes; is = record { lists = refl; entries = figures.entries; states = figures.states } };
   in_range = network_of-in_range deck makes.cards;

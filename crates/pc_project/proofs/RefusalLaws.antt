@@ -25,7 +25,8 @@ use Rattle.pc_faults.specs.declared.fault.Fault.{Fault as ADeckFault}
 use Rattle.pc_faults.specs.declared.fault.DeckError.{DeckError}
 use Rattle.pc_faults.specs.declared.fault.DeckError.TheVariants.{Fault, OutOfMemory}
 use Rattle.pc_project.specs.Project.{network_of, rows_of}
-use Rattle.pc_project.specs.Misfit.{HasProjectFault, HasItemFault, HasActFault, HasAccountFault, HasMoneyFault, HasStatusFault, HasPieceCardFault, HasLoadFault, HasFigureFault, HasListedFault, HasMisfit, HasNoMisfit}
+use Rattle.pc_project.specs.Misfit.{HasProjectFault, HasItemFault, HasActFault, HasAccountFault, HasMoneyFault, HasStatusFault}
+use Rattle.pc_project.specs.Misfit.{HasPieceCardFault, HasLoadFault, HasFigureFault, HasListedFault, HasMisfit, HasNoMisfit}
 use Rattle.pc_project.specs.Misfit as has
 use Rattle.pc_project.specs.DisorderFaults.{HasDisorder, HasNoDisorder, of_as_of, of_status}
 use Rattle.pc_project.specs.PackageFaults.{HasLeafFault, HasNoLeafFault, IsFirstUnevenFault, of_account, of_act}
@@ -33,7 +34,8 @@ use Rattle.pc_project.specs.ToGoFaults.{IsFirstSecondToGo}
 use Rattle.pc_project.specs.PieceFaults as piece
 use Rattle.pc_project.specs.PieceFaults.{HasPieceFault}
 use Rattle.pc_project.specs.TermsFaults.{HasTermsFault, bonus_above}
-use Rattle.pc_project.specs.Refusal.{IsTreeFault, tree_fault, net_fault, HasSoundFigures, HasSoundPlan, IsEven, MakesProject, IsRefusedWith, of_cards, of_tree, of_network, of_leaves, of_packages, of_statuses, of_togos, of_pieces, of_terms}
+use Rattle.pc_project.specs.Refusal.{IsTreeFault, tree_fault, net_fault, HasSoundFigures, HasSoundPlan, IsEven, MakesProject, IsRefusedWith}
+use Rattle.pc_project.specs.Refusal.{of_cards, of_tree, of_network, of_leaves, of_packages, of_statuses, of_togos, of_pieces, of_terms}
 
 -- want of memory is no fault
 no_fault : (fault : ADeckFault) → OutOfMemory ≡ Fault fault → ⊥
@@ -174,7 +176,8 @@ pub refused_by_tree : (deck : Deck) (result : DeckError) → HasNoMisfit deck �
 refused_by_tree deck (Fault fault) cards at = of_tree cards at
 refused_by_tree deck OutOfMemory cards at = tt
 
-pub refused_by_net : (deck : Deck) (e : NetError) (result : DeckError) → HasNoMisfit deck → IsTree (rows_of deck) → IsNetRefusal (network_of deck) e → Refuses (λ fault. net_fault deck e ≡ Fault fault) result → Refuses (IsRefusedWith deck) result
+pub refused_by_net : (deck : Deck) (e : NetError) (result : DeckError) → HasNoMisfit deck → IsTree (rows_of deck) →
+    IsNetRefusal (network_of deck) e → Refuses (λ fault. net_fault deck e ≡ Fault fault) result → Refuses (IsRefusedWith deck) result
 refused_by_net deck e (Fault fault) cards items refused is = of_network cards items e refused is
 refused_by_net deck e OutOfMemory cards items refused is = tt
 
@@ -187,7 +190,8 @@ pub refused_by_statuses : (deck : Deck) (result : DeckError) → HasSoundPlan de
 refused_by_statuses deck (Fault fault) plan leaves even first = of_statuses plan leaves even first
 refused_by_statuses deck OutOfMemory plan leaves even first = tt
 
-pub refused_by_togos : (deck : Deck) (result : DeckError) → HasSoundPlan deck → HasNoLeafFault deck → IsEven deck → HasNoDisorder deck → Refuses (IsFirstSecondToGo deck) result → Refuses (IsRefusedWith deck) result
+pub refused_by_togos : (deck : Deck) (result : DeckError) → HasSoundPlan deck → HasNoLeafFault deck → IsEven deck → HasNoDisorder deck →
+    Refuses (IsFirstSecondToGo deck) result → Refuses (IsRefusedWith deck) result
 refused_by_togos deck (Fault fault) plan leaves even ordered first = of_togos plan leaves even ordered first
 refused_by_togos deck OutOfMemory plan leaves even ordered first = tt
 

@@ -53,15 +53,19 @@ AreRuns-start acts pieces runs is = record {
 }
 
 -- one more piece of an activity
-IsRunOf-push : (term : Term) (own : List PieceRow) (piece : PieceRow) (run : Run) → IsRunOf term own run → IsRunOf term (own ++ piece ∷ []) (record { count = run.count + 1; slope = piece.slope; units = run.units + piece.units })
+IsRunOf-push : (term : Term) (own : List PieceRow) (piece : PieceRow) (run : Run) → IsRunOf term own run →
+    IsRunOf term (own ++ piece ∷ []) (record { count = run.count + 1; slope = piece.slope; units = run.units + piece.units })
 IsRunOf-push term own piece run is = record {
   same_count = ap (λ n. n + 1) is.same_count ∙ sym (length_push own piece);
-  same_slope = sym (ap (slope_in term (own ++ piece ∷ [])) (length_push own piece ∙ add-one (length own)) ∙ ap (λ (p : PieceRow). p.slope) (get_or_push own piece (record { activity = 0; units = 0; slope = 0 }) (length own) refl));
+  same_slope = sym (ap (slope_in term (own ++ piece ∷ [])) (length_push own piece ∙ add-one (length own))
+      ∙ ap (λ (p : PieceRow). p.slope) (get_or_push own piece (record { activity = 0; units = 0; slope = 0 }) (length own) refl));
   same_units = omega (arith, is.same_units, sum_by-append (λ (p : PieceRow). p.units) own (piece ∷ []));
 }
 
 -- the next piece goes to the run of its activity
-pub AreRuns-more : (terms : List Term) (pieces : List PieceRow) (i x : ℕ) (runs : List Run) (run : Run) → AreRuns terms pieces i runs → i < length pieces → (piece_at pieces i).activity ≡ x → x < length terms → run ≡ run_at runs x → (piece_at pieces i).units ≤ MAX_DURATION →
+pub AreRuns-more : (terms : List Term) (pieces : List PieceRow) (i x : ℕ) (runs : List Run) (run : Run) → AreRuns terms pieces i runs →
+    i < length pieces → (piece_at pieces i).activity ≡ x → x < length terms → run ≡ run_at runs x →
+    (piece_at pieces i).units ≤ MAX_DURATION →
     AreRuns terms pieces (i + 1) (set runs x (record { count = run.count + 1; slope = (piece_at pieces i).slope; units = run.units + (piece_at pieces i).units }))
 AreRuns-more terms pieces i x runs run are inside is known read short = record {
   one_each = length-set runs x next ∙ are.one_each;

@@ -38,7 +38,9 @@ sound_parts deck project makes is =
         one_each = length-map deck.acts term_of ∙ sym (length-map deck.acts (arc_of deck));
         ordered = λ a below.
             let inside : a < length deck.acts = omega (arith, below, length-map deck.acts term_of) in
-            let there : term_at (map term_of deck.acts) a ≡ term_of (get_or deck.acts a no_act) = get_or-map term_of deck.acts a no_act (record { normal = 0; crash = 0; cost = 0; slope = 0 }) inside in
+            let there : term_at (map term_of deck.acts) a
+            ≡ term_of (get_or deck.acts a no_act) =
+            get_or-map term_of deck.acts a no_act (record { normal = 0; crash = 0; cost = 0; slope = 0 }) inside in
             omega (arith, ap (λ t. t.crash) there, ap (λ t. t.normal) there, (all_fit deck makes.cards a no_act inside).durations);
       };
       pieces = pieces_of_deck deck makes.cards makes.pieces;

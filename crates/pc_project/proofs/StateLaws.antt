@@ -11,7 +11,8 @@ use Rattle.pc_times.specs.declared.state.ActState.TheVariants.{Waiting}
 use Rattle.pc_project.specs.Figures.{AreStatesOf}
 
 -- what holds of the states so far and of one more
-with_one_more : (P : ℕ → ActState → Type 0) (n : ℕ) (states : List ActState) (state : ActState) → length states ≡ n → ((a : ℕ) → a < n → P a (state_at states a)) → P n state → (a : ℕ) → a < n + 1 → P a (state_at (states ++ state ∷ []) a)
+with_one_more : (P : ℕ → ActState → Type 0) (n : ℕ) (states : List ActState) (state : ActState) → length states ≡ n →
+    ((a : ℕ) → a < n → P a (state_at states a)) → P n state → (a : ℕ) → a < n + 1 → P a (state_at (states ++ state ∷ []) a)
 with_one_more P n states state count before here a below =
     ⊎_elim
     (λ early. subst (P a) (sym (get_or_append_left states (state ∷ []) Waiting a (omega (arith, early, count)))) (before a early))
@@ -27,7 +28,9 @@ AreStatesOf-none start statuses states none = record {
   small = λ a below. absurd (omega (arith, below));
 }
 
-pub AreStatesOf-push : (start : ℤ) (statuses : List StatusRow) (n : ℕ) (states : List ActState) (state : ActState) → AreStatesOf start statuses n states → IsStateOf start statuses n state → IsSmallState state → AreStatesOf start statuses (n + 1) (states ++ state ∷ [])
+pub AreStatesOf-push : (start : ℤ) (statuses : List StatusRow) (n : ℕ) (states : List ActState) (state : ActState) →
+    AreStatesOf start statuses n states → IsStateOf start statuses n state → IsSmallState state →
+    AreStatesOf start statuses (n + 1) (states ++ state ∷ [])
 AreStatesOf-push start statuses n states state are is small = record {
   one_each = length_push states state ∙ ap (λ k. k + 1) are.one_each;
   each = with_one_more (IsStateOf start statuses) n states state are.one_each are.each is;

@@ -52,7 +52,8 @@ fn account_fault(cards: &Cards, accounts: &[AcctRow], tree: &Tree) -> Option<Fau
     requires faultless { HasNoMisfit cards.now }
     requires accounts { accounts.now ≡ accounts_in cards.now }
     requires tree { tree.now ≡ rows_of cards.now }
-    ensures { IsFirstIn (λ fault. Any (λ account. StandsOnBranch cards.now account.row account.item fault) cards.now.accounts) result }
+    ensures { IsFirstIn (λ fault. Any
+        (λ account. StandsOnBranch cards.now account.row account.item fault) cards.now.accounts) result }
 {
     let mut fault = None;
     for (a, card) in cards.accounts().iter().enumerate() {

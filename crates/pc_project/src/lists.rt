@@ -119,7 +119,8 @@ fn expected_times(alloc: Global, acts: &[ActCard], unit_days: u64) -> Result<Vec
     requires unit { unit_days ≤ MAX_UNIT_DAYS }
     requires ordered { All IsInOrder acts.now }
     requires within { All IsActWithin acts.now }
-    ensures { IfOk result (λ times. times.items ≡ map (λ act. expected_time act.opt act.likely act.pess unit_days) acts.now) }
+    ensures { IfOk result (λ times. times.items
+        ≡ map (λ act. expected_time act.opt act.likely act.pess unit_days) acts.now) }
 {
     let mut times = Vec::with_capacity(alloc, acts.len())?;
     for act in acts {
@@ -133,7 +134,8 @@ fn variances(alloc: Global, acts: &[ActCard], unit_days: u64) -> Result<Vec<u64>
     requires unit { unit_days ≤ MAX_UNIT_DAYS }
     requires ordered { All IsInOrder acts.now }
     requires within { All IsActWithin acts.now }
-    ensures { IfOk result (λ variances. variances.items ≡ map (λ act. variance_of act.opt act.pess unit_days) acts.now) }
+    ensures { IfOk result (λ variances. variances.items
+        ≡ map (λ act. variance_of act.opt act.pess unit_days) acts.now) }
 {
     let mut variances = Vec::with_capacity(alloc, acts.len())?;
     for act in acts {

@@ -112,8 +112,10 @@ fn planned(
     requires numbers { AreNumbersOf cards.now numbers }
     requires tree { tree ≡ rows_of cards.now }
     requires network { net ≡ network_of cards.now }
-    requires entries { AreEntriesOf (accounts_in cards.now) (charges_in cards.now) (togos_in cards.now) (as_of_in cards.now) book }
-    requires states { AreStatesOf cards.now.project.start_day (statuses_in cards.now) (length cards.now.acts) states.items }
+    requires entries { AreEntriesOf (accounts_in cards.now) (charges_in cards.now) (togos_in cards.now)
+        (as_of_in cards.now) book }
+    requires states { AreStatesOf cards.now.project.start_day (statuses_in cards.now)
+        (length cards.now.acts) states.items }
     ensures { IfOk result (λ plan. IsPlanned (project_with cards.now plan)) }
 {
     let lists = lists_of(alloc, cards, &numbers.placements)?;

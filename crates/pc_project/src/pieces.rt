@@ -47,8 +47,10 @@ fn take_in(
     card: &PieceCard,
 ) -> Option<Fault>
     requires { IsNext (map term_of acts.now) runs.old.items piece }
-    ensures fault { IsFirstIn (HasFlawBehind (map term_of acts.now) runs.old.items piece card.now.row card.now.activity) result }
-    ensures runs { runs.new.items ≡ slice_set runs.old.items piece.activity (run_with (run_at runs.old.items piece.activity) piece) }
+    ensures fault { IsFirstIn (HasFlawBehind
+        (map term_of acts.now) runs.old.items piece card.now.row card.now.activity) result }
+    ensures runs { runs.new.items ≡ slice_set runs.old.items piece.activity
+        (run_with (run_at runs.old.items piece.activity) piece) }
 {
     let activity = piece.activity as usize;
     let run = runs[activity];
@@ -63,7 +65,8 @@ fn take_in(
 
 /// What the activities come to before any piece.
 fn first_runs(alloc: Global, acts: &[ActCard]) -> Result<Vec<Run>, AllocError>
-    ensures { IfOk result (λ runs. runs.items ≡ map (λ act. record { count = 0; slope = act.slope; units = 0 }) acts.now) }
+    ensures { IfOk result (λ runs. runs.items
+        ≡ map (λ act. record { count = 0; slope = act.slope; units = 0 }) acts.now) }
 {
     acts.iter()
         .map(|act| Run {
@@ -77,7 +80,8 @@ fn first_runs(alloc: Global, acts: &[ActCard]) -> Result<Vec<Run>, AllocError>
 /// The first fault of a piece, which a card gives, behind those of its activity that were read.
 fn flaw(act: &ActCard, run: Run, piece: PieceRow, card: &PieceCard) -> Option<Fault>
     requires { act.now.crash + (run.units + piece.units) < 2 ^ 64 }
-    ensures { IsFirstIn (HasFlaw (term_of act.now) run.count run.slope run.units piece card.now.row card.now.activity) result }
+    ensures { IsFirstIn (HasFlaw (term_of act.now) run.count run.slope run.units piece card.now.row
+        card.now.activity) result }
 {
     if MAX_PIECES_EACH <= run.count {
         Some(Fault::too_many_pieces(card.row, card.activity))

@@ -38,8 +38,10 @@ pub(crate) fn progress_of(
     requires plan { HasSoundPlan cards.now }
     requires numbers { AreNumbersOf cards.now numbers.now }
     requires tree { tree.now ≡ rows_of cards.now }
-    ensures entries { IfOk result (λ progress. AreEntriesOf (accounts_in cards.now) (charges_in cards.now) (togos_in cards.now) (as_of_in cards.now) progress.book) }
-    ensures states { IfOk result (λ progress. AreStatesOf cards.now.project.start_day (statuses_in cards.now) (length cards.now.acts) progress.states.items) }
+    ensures entries { IfOk result (λ progress. AreEntriesOf (accounts_in cards.now) (charges_in cards.now)
+        (togos_in cards.now) (as_of_in cards.now) progress.book) }
+    ensures states { IfOk result (λ progress. AreStatesOf cards.now.project.start_day (statuses_in cards.now)
+        (length cards.now.acts) progress.states.items) }
     ensures figures { OnOk result (HasSoundFigures cards.now) }
     ensures refused { IfErr result (Refuses (IsRefusedWith cards.now)) }
 {

@@ -39,8 +39,10 @@ pub(crate) fn look_up_all<C: Refers>(
     cards: &Cards,
     list: &[C],
 ) -> Result<LookedUp<C::Found>, AllocError>
-    ensures first { IfOk result (λ looked. IsFirstIn (λ fault. Any (λ card. C.HasFault cards.now card fault) list.now) looked.fault) }
-    ensures numbers { IfOk result (λ looked. looked.fault ≡ None → looked.numbers.items ≡ map (C.found_in cards.now) list.now) }
+    ensures first { IfOk result (λ looked. IsFirstIn
+        (λ fault. Any (λ card. C.HasFault cards.now card fault) list.now) looked.fault) }
+    ensures numbers { IfOk result (λ looked. looked.fault ≡ None →
+        looked.numbers.items ≡ map (C.found_in cards.now) list.now) }
 {
     let mut numbers = Vec::with_capacity(alloc, list.len())?;
     let mut fault = None;

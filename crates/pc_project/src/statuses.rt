@@ -33,7 +33,8 @@ pub(crate) fn states_of(
     numbers: &Numbers,
 ) -> Result<Vec<ActState>, DeckError>
     requires { AreNumbersOf cards.now numbers.now }
-    ensures states { IfOk result (λ states. AreStatesOf cards.now.project.start_day (statuses_in cards.now) (length cards.now.acts) states.items) }
+    ensures states { IfOk result (λ states. AreStatesOf cards.now.project.start_day (statuses_in cards.now)
+        (length cards.now.acts) states.items) }
     ensures ordered { OnOk result (HasNoDisorder cards.now) }
     ensures first { IfErr result (Refuses (IsFirst (HasDisorder cards.now))) }
 {
@@ -47,7 +48,8 @@ pub(crate) fn states_of(
 fn states_in(alloc: Global, cards: &Cards, log: &Log) -> Result<Vec<ActState>, DeckError>
     requires activities { log.now.activities ≡ length cards.now.acts }
     requires statuses { log.now.statuses ≡ statuses_in cards.now }
-    ensures states { IfOk result (λ states. AreStatesOf cards.now.project.start_day (statuses_in cards.now) (length cards.now.acts) states.items) }
+    ensures states { IfOk result (λ states. AreStatesOf cards.now.project.start_day (statuses_in cards.now)
+        (length cards.now.acts) states.items) }
     ensures ordered { OnOk result (HasNoDisorder cards.now) }
     ensures first { IfErr result (Refuses (IsFirst (HasDisorder cards.now))) }
 {
@@ -90,7 +92,8 @@ fn status_fault(cards: &Cards, log: &Log) -> Option<Fault>
 fn states(alloc: Global, cards: &Cards, log: &Log) -> Result<Vec<ActState>, AllocError>
     requires activities { log.now.activities ≡ length cards.now.acts }
     requires in_order { AreInOrder cards.now.project.start_day (as_of_in cards.now) log.now.statuses }
-    ensures { IfOk result (λ states. AreStatesOf cards.now.project.start_day log.now.statuses (length cards.now.acts) states.items) }
+    ensures { IfOk result (λ states. AreStatesOf cards.now.project.start_day log.now.statuses
+        (length cards.now.acts) states.items) }
 {
     let start = cards.project().start_day;
     let as_of = as_of(cards);

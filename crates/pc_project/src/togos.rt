@@ -20,7 +20,8 @@ use std::alloc::Global;
 /// What each account has come to, or the fault of the first second amount to go of an account and a day (F31).
 pub(crate) fn book_of(alloc: Global, cards: &Cards, numbers: &Numbers) -> Result<Book, DeckError>
     requires { AreNumbersOf cards.now numbers.now }
-    ensures entries { IfOk result (λ book. AreEntriesOf (accounts_in cards.now) (charges_in cards.now) (togos_in cards.now) (as_of_in cards.now) book) }
+    ensures entries { IfOk result (λ book. AreEntriesOf (accounts_in cards.now) (charges_in cards.now)
+        (togos_in cards.now) (as_of_in cards.now) book) }
     ensures once { OnOk result (HasNoSecondToGo cards.now) }
     ensures first { IfErr result (Refuses (IsFirstSecondToGo cards.now)) }
 {

@@ -14,11 +14,14 @@ use Rattle.pc_reading.specs.Verdict.{IsProjectOf}
 abbrev of_fields : Network → List Term → List PieceRow → List ℕ → List (List ℕ) → List (List ℕ) → PricedNetwork
 of_fields a b c d e f = record { network = a; terms = b; pieces = c; project = d; events = e; activities = f }
 
-same_fields : {a b : Network} {c d : List Term} {e f : List PieceRow} {g h : List ℕ} {i j k l : List (List ℕ)} → a ≡ b → c ≡ d → e ≡ f → g ≡ h → i ≡ j → k ≡ l → of_fields a c e g i k ≡ of_fields b d f h j l
+same_fields : {a b : Network} {c d : List Term} {e f : List PieceRow} {g h : List ℕ} {i j k l : List (List ℕ)} → a ≡ b → c ≡ d → e ≡ f →
+    g ≡ h → i ≡ j → k ≡ l → of_fields a c e g i k ≡ of_fields b d f h j l
 same_fields p q r s t u = rw (p, q, r, s, t, u) refl
 
 -- a priced network with all that a project says is that of the project
-pub priced_is : (net : PricedNetwork) (project : Project) → net.network ≡ project.network → net.terms ≡ project.terms → net.pieces ≡ project.pieces → net.project ≡ project.heading.code → net.events ≡ project.events → net.activities ≡ project.activities → net ≡ priced_in project
+pub priced_is : (net : PricedNetwork) (project : Project) → net.network ≡ project.network → net.terms ≡ project.terms →
+    net.pieces ≡ project.pieces → net.project ≡ project.heading.code → net.events ≡ project.events → net.activities ≡ project.activities →
+    net ≡ priced_in project
 priced_is net project p q r s t u = same_fields p q r s t u
 
 -- the priced network of each accepted deck's project is sound and priced

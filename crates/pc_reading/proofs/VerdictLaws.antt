@@ -19,7 +19,8 @@ use Rattle.pc_project.proofs.OneProjectLaws.{one_project_of}
 use Rattle.pc_reading.specs.Verdict.{IsAccepted, IsFault, IsProjectOf, too_long, card_refusal, project_refusal}
 
 -- the refusal of a project is the fault of its deck
-pub refused_project : {A : Type 0} (result : Result A DeckError) (bytes : List ℕ) (deck : Deck) → length bytes ≤ longest_deck → IsDeckOf bytes deck → IfErr result (Refuses (IsRefusedWith deck)) → IfErr result (Refuses (IsFault bytes))
+pub refused_project : {A : Type 0} (result : Result A DeckError) (bytes : List ℕ) (deck : Deck) → length bytes ≤ longest_deck →
+    IsDeckOf bytes deck → IfErr result (Refuses (IsRefusedWith deck)) → IfErr result (Refuses (IsFault bytes))
 refused_project (Ok project) bytes deck short cards refused = tt
 refused_project (Err (Fault fault)) bytes deck short cards refused = project_refusal deck short cards refused
 refused_project (Err OutOfMemory) bytes deck short cards refused = tt

@@ -24,8 +24,10 @@ pub fn project_named<D: Source, E: Sink>(
     deck: &mut D,
     err: &mut E,
 ) -> Result<Project, Status>
-    ensures project { IfOk result (IsProjectNamed words.now (side D.left D.faults deck.old deck.new) (side E.taken E.faults err.old err.new)) }
-    ensures none { IfErr result (EndsWithout words.now usage.now (side D.left D.faults deck.old deck.new) (side E.taken E.faults err.old err.new)) }
+    ensures project { IfOk result (IsProjectNamed words.now (side D.left D.faults deck.old deck.new)
+        (side E.taken E.faults err.old err.new)) }
+    ensures none { IfErr result (EndsWithout words.now usage.now (side D.left D.faults deck.old deck.new)
+        (side E.taken E.faults err.old err.new)) }
     ensures turns { TakesPulls (longest_deck + 2) (D.pulls deck.old) (D.pulls deck.new) }
     ensures near { TookAtMost (longest_deck + STREAM_ROOM) (side D.left D.faults deck.old deck.new) }
 {

@@ -1,5 +1,6 @@
 -- UTF-8 both ways: the fields of a UTF-8 deck are UTF-8, and so is the text of records whose fields are.
-use Rattle.std.proofs.Common.{◌≡◌, ◌==◌, ◌⊎◌, ◌||◌, ◌+◌, ◌<◌, Bool, true, false, ℕ, zero, suc, List, [], ◌∷◌, ◌++◌, drop, length, length-append, get_or, nat_eq, Option, Some, None, IsUtf8, All, refl, sym, subst, inl, inr, if◌then◌else◌, append_assoc, arith}
+use Rattle.std.proofs.Common.{◌≡◌, ◌==◌, ◌⊎◌, ◌||◌, ◌+◌, ◌<◌, Bool, true, false, ℕ, zero, suc, List, [], ◌∷◌, ◌++◌, drop, length, length-append}
+use Rattle.std.proofs.Common.{get_or, nat_eq, Option, Some, None, IsUtf8, All, refl, sym, subst, inl, inr, if◌then◌else◌, append_assoc, arith}
 use Rattle.std.specs.List.{list_any, starts_with}
 use Rattle.std.proofs.lemmas.Bool.{and_parts, cases_Bool, eqb-true}
 use Rattle.std.proofs.lemmas.List.{append-nil, drop_at, get_or_at, take_at}

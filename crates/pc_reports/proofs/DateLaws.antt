@@ -1,5 +1,6 @@
 -- Dates that are made one after the other.
-use Rattle.std.proofs.Common.{◌≡◌, ℕ, ◌+◌, ◌-◌, ◌<◌, ◌⊎◌, ◌&&◌, true, false, int_le, ℤ, pos, neg_ℤ, ◌/◌, inl, inr, refl, List, [], ◌∷◌, ◌++◌, length, slice_index, slice_index_or, sym, ap, ◌∙◌, subst, ⊎_elim, arith, length-append}
+use Rattle.std.proofs.Common.{◌≡◌, ℕ, ◌+◌, ◌-◌, ◌<◌, ◌⊎◌, ◌&&◌, true, false, int_le, ℤ, pos, neg_ℤ, ◌/◌, inl, inr, refl, List, []}
+use Rattle.std.proofs.Common.{◌∷◌, ◌++◌, length, slice_index, slice_index_or, sym, ap, ◌∙◌, subst, ⊎_elim, arith, length-append}
 use Rattle.std.proofs.lemmas.List.{get_or_append_left, get_or-append_right}
 use Rattle.std.proofs.lemmas.Bool.{cases_Bool, true≢false}
 use Rattle.std.proofs.lemmas.Int.{ints}
@@ -27,7 +28,8 @@ last_date dates text i count =
     get_or-append_right dates (text ∷ []) i i [] count (omega arith) ∙ ap (λ k. slice_index_or (text ∷ []) k []) none
 
 -- the date of the next time
-pub dates_more : (start : ℤ) (times : List ℕ) (i : ℕ) (dates more : List (List ℕ)) (text : List ℕ) → AreDatesTo start times i dates → more ≡ dates ++ text ∷ [] → IsDate start (slice_index times i) text → AreDatesTo start times (i + 1) more
+pub dates_more : (start : ℤ) (times : List ℕ) (i : ℕ) (dates more : List (List ℕ)) (text : List ℕ) → AreDatesTo start times i dates →
+    more ≡ dates ++ text ∷ [] → IsDate start (slice_index times i) text → AreDatesTo start times (i + 1) more
 dates_more start times i dates more text so_far pushed is = record {
   one_each = omega (arith, so_far.one_each, subst (λ (l : List (List ℕ)). length l ≡ length dates + 1) (sym pushed) (length-append dates (text ∷ [])));
   each = λ e below. ⊎_elim
@@ -86,7 +88,9 @@ pub IsDate-date_of : (start : ℤ) (n : ℕ) → IsDate start n (date_of start n
 IsDate-date_of start n =
     elim (cases_Bool (int_le (neg_ℤ (pos 25_567)) (day_after start n) && int_le (day_after start n) (pos 2_932_896))) [
       | inl is ↦ let there : IsPrintedDay (day_after start n) = in_print (day_after start n) is in
-          printed (day_after start n) (after-day start n) there (subst (λ text. NamesDay text (day_after start n)) (date_of-printed start n (day_after start n) (after-day start n) there) (names_its_day (day_after start n) there))
+          printed (day_after start n) (after-day start n) there
+          (subst (λ text. NamesDay text (day_after start n)) (date_of-printed start n (day_after start n) (after-day start n) there)
+          (names_its_day (day_after start n) there))
       | inr isnt ↦ past (none isnt) (sym (date_of-past start n (none isnt)))
     ]
   where

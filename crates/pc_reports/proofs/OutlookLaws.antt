@@ -22,7 +22,8 @@ pub record AreCostsTo (project : Project) (durations : List ℕ) (n : ℕ) (cost
   pub small : (a : ℕ) → a < n → slice_index costs a ≤ MAX_ACTIVITY_COST
 
 -- one cost more
-pub costs_more : (project : Project) (durations : List ℕ) (n : ℕ) (costs more : List ℕ) (next : ℕ) → AreCostsTo project durations n costs → more ≡ costs ++ next ∷ [] → next ≡ cost_at project durations n → next ≤ MAX_ACTIVITY_COST → AreCostsTo project durations (n + 1) more
+pub costs_more : (project : Project) (durations : List ℕ) (n : ℕ) (costs more : List ℕ) (next : ℕ) → AreCostsTo project durations n costs →
+    more ≡ costs ++ next ∷ [] → next ≡ cost_at project durations n → next ≤ MAX_ACTIVITY_COST → AreCostsTo project durations (n + 1) more
 costs_more project durations n costs more next so_far pushed is bound =
     subst (AreCostsTo project durations (n + 1)) (sym pushed) (record {
       are = record {
@@ -39,12 +40,18 @@ costs_fit project durations n costs few so_far =
     omega (arith, so_far.are.one_each)
 
 -- the outlook at these costs is that at these durations
-pub outlook_told : (project : Project) (durations costs : List ℕ) (outlook : Outlook) → length project.places ≡ length project.network.arcs → AreCostsAt project durations (length project.network.arcs) costs → IsOutlookOf project.tree project.places (slice_index costs) project.accounts project.entries outlook → IsOutlook project durations outlook
+pub outlook_told : (project : Project) (durations costs : List ℕ) (outlook : Outlook) →
+    length project.places ≡ length project.network.arcs → AreCostsAt project durations (length project.network.arcs) costs →
+    IsOutlookOf project.tree project.places (slice_index costs) project.accounts project.entries outlook →
+    IsOutlook project durations outlook
 outlook_told project durations costs outlook each are is =
     outlook_alike project.tree project.places (slice_index costs) (cost_at project durations) project.accounts project.entries outlook (λ a lt. are.each a (omega (arith, each))) is
 
 -- the top has all costs
-pub top_told : (project : Project) (durations costs : List ℕ) (outlook : Outlook) → length project.places ≡ length project.network.arcs → length project.terms ≡ length project.network.arcs → AreCostsAt project durations (length project.network.arcs) costs → HasWholeAtTop project.tree project.places (slice_index costs) project.accounts project.entries outlook → TellsTop project durations outlook
+pub top_told : (project : Project) (durations costs : List ℕ) (outlook : Outlook) → length project.places ≡ length project.network.arcs →
+    length project.terms ≡ length project.network.arcs → AreCostsAt project durations (length project.network.arcs) costs →
+    HasWholeAtTop project.tree project.places (slice_index costs) project.accounts project.entries outlook →
+    TellsTop project durations outlook
 top_told project durations costs outlook each terms are has = λ top is_top.
     subst (λ (c : ℕ). IsWholeOutlook project.places project.accounts project.entries c (amounts_at outlook.amounts top).outlook) same (has top is_top)
   where

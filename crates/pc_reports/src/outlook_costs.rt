@@ -14,7 +14,8 @@ pub(crate) fn costs_at(
     durations: &[u64],
 ) -> Result<Vec<u64>, AllocError>
     requires { length durations.now ≡ length project.now.network.arcs }
-    ensures costs { IfOk result (λ costs. AreCostsAt project.now durations.now (length project.now.network.arcs) costs.items) }
+    ensures costs { IfOk result (λ costs. AreCostsAt project.now durations.now
+        (length project.now.network.arcs) costs.items) }
     ensures fit { IfOk result (λ costs. sum_to (length costs.items) (slice_index costs.items) ≤ 2 ^ 60) }
 {
     let net = project.priced(alloc)?;

@@ -47,7 +47,8 @@ fn put_amounts<O: Sink>(
     amounts: &OutlookAmounts,
     title: &Title,
 )
-    ensures { Puts O.taken O.faults page.old sink.old page.new sink.new (outlook_cells code.now level amounts.now title.now) }
+    ensures { Puts O.taken O.faults page.old sink.old page.new sink.new
+        (outlook_cells code.now level amounts.now title.now) }
 {
     page.put_left(sink, 16, code.bytes());
     put_level_cell(page, sink, level as u64);

@@ -70,7 +70,8 @@ fn put_item<O: Sink>(
     amounts: &SummaryAmounts,
     title: &Title,
 )
-    ensures { Puts O.taken O.faults page.old sink.old page.new sink.new (item_cells code.now level amounts.now title.now) }
+    ensures { Puts O.taken O.faults page.old sink.old page.new sink.new
+        (item_cells code.now level amounts.now title.now) }
 {
     page.put_left(sink, 16, code.bytes());
     put_level_cell(page, sink, level as u64);

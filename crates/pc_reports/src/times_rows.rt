@@ -114,7 +114,8 @@ fn put_activity<O: Sink>(
     variance: u64,
     slack: i64,
 )
-    ensures { Puts O.taken O.faults page.old sink.old page.new sink.new (activity_cells code.now expected variance slack) }
+    ensures { Puts O.taken O.faults page.old sink.old page.new sink.new
+        (activity_cells code.now expected variance slack) }
 {
     page.put_left(sink, 16, code.bytes());
     page.put(sink, b" ");

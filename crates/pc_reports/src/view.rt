@@ -47,7 +47,11 @@ pub(crate) struct Reported<'a> {
 }
 
 impl<'a> TimesView for Reported<'a> {
-    ghost shown = { λ r. record { expected = r.project.now.expected; variances = r.project.now.variances; times = r.times.now } };
+    ghost shown = { λ r. record {
+      expected = r.project.now.expected;
+      variances = r.project.now.variances;
+      times = r.times.now;
+    } };
 
     fn expected(&self, a: u32) -> u64 {
         self.project.expected()[a as usize]

@@ -1,5 +1,6 @@
 -- The least of what is placed on items, and how it is gathered from the end of the preorder on.
-use Rattle.std.proofs.Common.{◌≡◌, ◌≢◌, ℕ, ◌+◌, ◌<◌, ◌≤◌, ◌⊎◌, inl, inr, ⊎_elim, Bool, true, false, cond, List, length, get_or, set, Option, Some, None, refl, sym, ap, ◌∙◌, subst, get_or-set_same, get_or-set_other, length-set, arith}
+use Rattle.std.proofs.Common.{◌≡◌, ◌≢◌, ℕ, ◌+◌, ◌<◌, ◌≤◌, ◌⊎◌, inl, inr, ⊎_elim, Bool, true, false, cond, List, length, get_or, set}
+use Rattle.std.proofs.Common.{Option, Some, None, refl, sym, ap, ◌∙◌, subst, get_or-set_same, get_or-set_other, length-set, arith}
 use Rattle.std.specs.Prelude.{ℤ, int_lt, slice_index}
 use Rattle.std.proofs.lemmas.Bool.{cases_eq}
 use Rattle.std.proofs.lemmas.Int.{ints}
@@ -63,7 +64,9 @@ IsLeastOver-lacks P n f (Some least) not ((x, (lt, is, e)), bound) = (
 )
 
 -- one amount more, on the item that it is placed on
-pub AreLeastOn-more : (items : ℕ) (placed : List Placed) (i x : ℕ) (least : List (Option ℤ)) (a : Option ℤ) (b : ℤ) → AreLeastOn items placed i least → i < length placed → x ≡ place_of placed i → x < items → a ≡ get_or least x a → b ≡ amount_of placed i → AreLeastOn items placed (i + 1) (set least x (lesser a (Some b)))
+pub AreLeastOn-more : (items : ℕ) (placed : List Placed) (i x : ℕ) (least : List (Option ℤ)) (a : Option ℤ) (b : ℤ) →
+    AreLeastOn items placed i least → i < length placed → x ≡ place_of placed i → x < items → a ≡ get_or least x a →
+    b ≡ amount_of placed i → AreLeastOn items placed (i + 1) (set least x (lesser a (Some b)))
 AreLeastOn-more items placed i x least a b so_far within place known read is = record {
   one_each = length-set least x (lesser a (Some b)) ∙ so_far.one_each;
   each = λ y lt. ⊎_elim (λ e. here y e) (λ ne. there y lt ne) (cases_eq x y);
@@ -73,7 +76,8 @@ AreLeastOn-more items placed i x least a b so_far within place known read is = r
     here y e =
         let known_at : x < length least = omega (arith, so_far.one_each) in
         let at : a ≡ least_at least x = read ∙ get_or_default least x a None known_at in
-        rw (← e, get_or-set_same least x (lesser a (Some b)) None known_at, at, is) (IsLeastOver-has (λ k. place_of placed k ≡ x) i (amount_of placed) (least_at least x) (sym place) (so_far.each x known))
+        rw (← e, get_or-set_same least x (lesser a (Some b)) None known_at, at, is)
+        (IsLeastOver-has (λ k. place_of placed k ≡ x) i (amount_of placed) (least_at least x) (sym place) (so_far.each x known))
 
     there : (y : ℕ) → y < items → x ≢ y → IsLeastOver (λ k. place_of placed k ≡ y) (i + 1) (amount_of placed) (least_at (set least x (lesser a (Some b))) y)
     there y lt ne =
@@ -86,10 +90,12 @@ pub record AreLeastGathered (rows : List ItemRow) (order : List ℕ) (j : ℕ) (
   pub each : (y : ℕ) → y < length rows → IsLeastOver (λ k. IsGathered rows order j y (place_of placed k)) (length placed) (amount_of placed) (least_at least y)
 
 -- nothing has been passed on
-pub least_none : (rows : List ItemRow) (order : List ℕ) (placed : List Placed) (least : List (Option ℤ)) → AreLeastOn (length rows) placed (length placed) least → AreLeastGathered rows order 0 placed least
+pub least_none : (rows : List ItemRow) (order : List ℕ) (placed : List Placed) (least : List (Option ℤ)) →
+    AreLeastOn (length rows) placed (length placed) least → AreLeastGathered rows order 0 placed least
 least_none rows order placed least on = record {
   one_each = on.one_each;
-  each = λ y lt. IsLeastOver-same (λ k. place_of placed k ≡ y) (λ k. IsGathered rows order 0 y (place_of placed k)) (length placed) (amount_of placed) (least_at least y) (λ k h e. inl e) (λ k h g. itself y (place_of placed k) g) (on.each y lt);
+  each = λ y lt. IsLeastOver-same (λ k. place_of placed k ≡ y) (λ k. IsGathered rows order 0 y (place_of placed k)) (length placed)
+      (amount_of placed) (least_at least y) (λ k h e. inl e) (λ k h g. itself y (place_of placed k) g) (on.each y lt);
 }
   where
     itself : (y x : ℕ) → IsGathered rows order 0 y x → x ≡ y
@@ -107,7 +113,10 @@ pub record IsLeastTurn (rows : List ItemRow) (order : List ℕ) (j p : ℕ) (pla
   pub item_read : b ≡ get_or least v b
 
 -- nothing changes at the other items
-least_other : (rows : List ItemRow) (order : List ℕ) (i j y : ℕ) (placed : List Placed) (least : List (Option ℤ)) → AreLeastGathered rows order j placed least → i + j + 1 ≡ length order → y < length rows → parent_of rows (slice_index order i) ≢ Some y → IsLeastOver (λ k. IsGathered rows order (j + 1) y (place_of placed k)) (length placed) (amount_of placed) (least_at least y)
+least_other : (rows : List ItemRow) (order : List ℕ) (i j y : ℕ) (placed : List Placed) (least : List (Option ℤ)) →
+    AreLeastGathered rows order j placed least → i + j + 1 ≡ length order → y < length rows →
+    parent_of rows (slice_index order i) ≢ Some y →
+    IsLeastOver (λ k. IsGathered rows order (j + 1) y (place_of placed k)) (length placed) (amount_of placed) (least_at least y)
 least_other rows order i j y placed least so_far place lt not_parent =
     IsLeastOver-same (λ k. IsGathered rows order j y (place_of placed k)) (λ k. IsGathered rows order (j + 1) y (place_of placed k)) (length placed) (amount_of placed) (least_at least y)
     (λ k h g. gathered_to-other rows order j y (place_of placed k) g)
@@ -115,7 +124,8 @@ least_other rows order i j y placed least so_far place lt not_parent =
     (so_far.each y lt)
 
 -- an item whose turn it is hands its least to its parent
-pub least_taken : (rows : List ItemRow) (order : List ℕ) (j p : ℕ) (placed : List Placed) (least : List (Option ℤ)) (v : ℕ) (a b : Option ℤ) → IsLeastTurn rows order j p placed least v a b → AreLeastGathered rows order (j + 1) placed (set least p (lesser a b))
+pub least_taken : (rows : List ItemRow) (order : List ℕ) (j p : ℕ) (placed : List Placed) (least : List (Option ℤ)) (v : ℕ)
+    (a b : Option ℤ) → IsLeastTurn rows order j p placed least v a b → AreLeastGathered rows order (j + 1) placed (set least p (lesser a b))
 least_taken rows order j p placed least v a b t = record {
   one_each = length-set least p (lesser a b) ∙ t.so_far.one_each;
   each = λ y lt. ⊎_elim (λ e. here y e) (λ ne. there y lt ne) (cases_eq p y);
@@ -134,12 +144,18 @@ least_taken rows order j p placed least v a b t = record {
         let read_a : a ≡ least_at least p = t.parent_read ∙ get_or_default least p a None known in
         let read_b : b ≡ least_at least (slice_index order i) = t.item_read ∙ get_or_default least v b None (omega (arith, t.so_far.one_each, in_v)) ∙ ap (least_at least) (sym at) in
         let up : parent_of rows (slice_index order i) ≡ Some p = ap (parent_of rows) at ∙ t.up in
-        rw (← e, get_or-set_same least p (lesser a b) None known, read_a, read_b) (IsLeastOver-same (λ k. IsGathered rows order j p (place_of placed k) ⊎ IsBelow rows (place_of placed k) (slice_index order i)) (λ k. IsGathered rows order (j + 1) p (place_of placed k)) (length placed) (amount_of placed) (lesser (least_at least p) (least_at least (slice_index order i)))
+        rw (← e, get_or-set_same least p (lesser a b) None known, read_a, read_b)
+        (IsLeastOver-same (λ k. IsGathered rows order j p (place_of placed k) ⊎ IsBelow rows (place_of placed k) (slice_index order i))
+        (λ k. IsGathered rows order (j + 1) p (place_of placed k)) (length placed) (amount_of placed)
+        (lesser (least_at least p) (least_at least (slice_index order i)))
         (λ k h either. gathered_to-parent rows order i j p (place_of placed k) lt place up either)
         (λ k h g. gathered_from-parent rows order i j p (place_of placed k) place g)
-        (IsLeastOver-both (λ k. IsGathered rows order j p (place_of placed k)) (λ k. IsBelow rows (place_of placed k) (slice_index order i)) (length placed) (amount_of placed) (least_at least p) (least_at least (slice_index order i))
+        (IsLeastOver-both (λ k. IsGathered rows order j p (place_of placed k)) (λ k. IsBelow rows (place_of placed k) (slice_index order i))
+        (length placed) (amount_of placed) (least_at least p) (least_at least (slice_index order i))
         (t.so_far.each p in_p)
-        (IsLeastOver-same (λ k. IsGathered rows order j (slice_index order i) (place_of placed k)) (λ k. IsBelow rows (place_of placed k) (slice_index order i)) (length placed) (amount_of placed) (least_at least (slice_index order i))
+        (IsLeastOver-same (λ k. IsGathered rows order j (slice_index order i) (place_of placed k))
+        (λ k. IsBelow rows (place_of placed k) (slice_index order i)) (length placed) (amount_of placed)
+        (least_at least (slice_index order i))
         (λ k h g. gathered-below rows order j (slice_index order i) (place_of placed k) g)
         (λ k h below. whole rows order i j (place_of placed k) t.preorder lt place below)
         (t.so_far.each (slice_index order i) (t.preorder.range i lt)))))
@@ -152,14 +168,17 @@ least_taken rows order j p placed least v a b t = record {
         rw (get_or-set_other least p y (lesser a b) None other) (least_other rows order i j y placed least t.so_far place less (λ e. ne (let same : Some p ≡ Some y = sym up ∙ e in cc)))
 
 -- and the top keeps its own
-pub least_top : (rows : List ItemRow) (order : List ℕ) (j : ℕ) (placed : List Placed) (least : List (Option ℤ)) (v : ℕ) → AreLeastGathered rows order j placed least → (i : ℕ) × (i < length order) × (i + j + 1 ≡ length order) × (slice_index order i ≡ v) → parent_of rows v ≡ None → AreLeastGathered rows order (j + 1) placed least
+pub least_top : (rows : List ItemRow) (order : List ℕ) (j : ℕ) (placed : List Placed) (least : List (Option ℤ)) (v : ℕ) →
+    AreLeastGathered rows order j placed least → (i : ℕ) × (i < length order) × (i + j + 1 ≡ length order) × (slice_index order i ≡ v) →
+    parent_of rows v ≡ None → AreLeastGathered rows order (j + 1) placed least
 least_top rows order j placed least v so_far (i, lt, place, at) top = record {
   one_each = so_far.one_each;
   each = λ y less. least_other rows order i j y placed least so_far place less (λ e. let clash : None ≡ Some y = sym (ap (parent_of rows) at ∙ top) ∙ e in cc);
 }
 
 -- all passed theirs on
-pub least_all : (rows : List ItemRow) (order : List ℕ) (j : ℕ) (placed : List Placed) (least : List (Option ℤ)) → IsPreorder rows order → length order ≤ j → AreLeastGathered rows order j placed least → AreLeastOf rows placed least
+pub least_all : (rows : List ItemRow) (order : List ℕ) (j : ℕ) (placed : List Placed) (least : List (Option ℤ)) → IsPreorder rows order →
+    length order ≤ j → AreLeastGathered rows order j placed least → AreLeastOf rows placed least
 least_all rows order j placed least preorder all so_far = record {
   one_each = so_far.one_each;
   each = λ y lt. IsLeastOver-same (λ k. IsGathered rows order j y (place_of placed k)) (λ k. IsBelow rows (place_of placed k) y) (length placed) (amount_of placed) (least_at least y)

@@ -55,7 +55,9 @@ high_line rows level x own ranged lt some (k, (top, (h, t, l))) deep =
         known = climb-range rows (own - level) x y.0 ranged lt y.1;
         line = inl at;
         at = record { below = (own - level, y.1); at_level = λ other is. let same = HasLevel-same rows x own other has is in let least : min level other ≡ level = omega arith in rw least at };
-        only = λ z line below. ⊎_elim (λ here. IsBelow-same_level rows x z y.0 own level has below (own - level, y.1) here at) (λ (end, (high, (is, less))). ⊎_elim (λ e. absurd (shallow e is less)) (λ ne. absurd (above_no_leaf rows below.0 x z below.1 ne end)) (cases_eq x z)) line;
+        only = λ z line below. ⊎_elim (λ here. IsBelow-same_level rows x z y.0 own level has below (own - level, y.1) here at)
+            (λ (end, (high, (is, less))). ⊎_elim (λ e. absurd (shallow e is less))
+            (λ ne. absurd (above_no_leaf rows below.0 x z below.1 ne end)) (cases_eq x z)) line;
       },
     )
   where
@@ -88,7 +90,9 @@ lines_none rows order level totals = record {
 }
 
 -- an item without a line
-pub lines_skip : (rows : List ItemRow) (order : List ℕ) (n level : ℕ) (totals : List ℤ) (lines : List LevelLine) → (HasLine rows level (slice_index order n) → ⊥) → AreLinesTo rows order n level totals lines → AreLinesTo rows order (n + 1) level totals lines
+pub lines_skip : (rows : List ItemRow) (order : List ℕ) (n level : ℕ) (totals : List ℤ) (lines : List LevelLine) →
+    (HasLine rows level (slice_index order n) → ⊥) → AreLinesTo rows order n level totals lines →
+    AreLinesTo rows order (n + 1) level totals lines
 lines_skip rows order n level totals lines none so_far = record {
   place = λ k lt. let (j, (less, e)) = so_far.place k lt in (j, (omega arith, e));
   each = so_far.each;
@@ -98,14 +102,19 @@ lines_skip rows order n level totals lines none so_far = record {
 }
 
 -- an item with one
-pub lines_more : (rows : List ItemRow) (order : List ℕ) (n level : ℕ) (totals : List ℤ) (lines : List LevelLine) (line : LevelLine) → n < length order → line.item ≡ slice_index order n → line.amount ≡ amount_at totals (slice_index order n) → HasLine rows level (slice_index order n) → AreLinesTo rows order n level totals lines → AreLinesTo rows order (n + 1) level totals (lines ++ line ∷ [])
+pub lines_more : (rows : List ItemRow) (order : List ℕ) (n level : ℕ) (totals : List ℤ) (lines : List LevelLine) (line : LevelLine) →
+    n < length order → line.item ≡ slice_index order n → line.amount ≡ amount_at totals (slice_index order n) →
+    HasLine rows level (slice_index order n) → AreLinesTo rows order n level totals lines →
+    AreLinesTo rows order (n + 1) level totals (lines ++ line ∷ [])
 lines_more rows order n level totals lines line within item amount has so_far = record {
   place = all (λ l. (j : ℕ) × ((j < n + 1) × (slice_index order j ≡ l.item))) (λ k lt. let (j, (less, e)) = so_far.place k lt in (j, (omega arith, e))) (n, (omega arith, sym item));
   each = all (λ l. HasLine rows level l.item) so_far.each (subst (HasLine rows level) (sym item) has);
   amount = all (λ l. l.amount ≡ amount_at totals l.item) so_far.amount (amount ∙ ap (amount_at totals) (sym item));
   every = below_more _ _ (λ j lt its. let (k, (less, e)) = so_far.every j lt its in (k, (omega (arith, long), ap (λ (l : LevelLine). l.item) (earlier k less) ∙ e)))
       (λ its. (length lines, (omega (arith, long), ap (λ (l : LevelLine). l.item) here ∙ item)));
-  in_order = λ j k lt less. ⊎_elim (λ last. before j k lt last) (λ apart. let low : k < length lines = omega (arith, long) in let lower : j < length lines = omega arith in rw (earlier j lower, earlier k low) (so_far.in_order j k lt low)) (cases_eq k (length lines));
+  in_order = λ j k lt less. ⊎_elim (λ last. before j k lt last) (λ apart. let low : k < length lines = omega (arith, long) in
+      let lower : j < length lines = omega arith in rw (earlier j lower, earlier k low) (so_far.in_order j k lt low))
+      (cases_eq k (length lines));
 }
   where
     long : length (lines ++ line ∷ []) ≡ length lines + 1
@@ -130,7 +139,8 @@ lines_more rows order n level totals lines line within item amount has so_far = 
         (p, (n, (less, within, e ∙ ap (λ (l : LevelLine). l.item) (sym (earlier j low)), sym item ∙ ap (λ (l : LevelLine). l.item) (sym here ∙ ap (line_at (lines ++ line ∷ [])) (sym last)))))
 
 -- all of them
-pub lines_all : (rows : List ItemRow) (order : List ℕ) (n level : ℕ) (totals : List ℤ) (lines : List LevelLine) → IsPreorder rows order → n ≡ length order → AreLinesTo rows order n level totals lines → AreLines rows order level totals lines
+pub lines_all : (rows : List ItemRow) (order : List ℕ) (n level : ℕ) (totals : List ℤ) (lines : List LevelLine) → IsPreorder rows order →
+    n ≡ length order → AreLinesTo rows order n level totals lines → AreLines rows order level totals lines
 lines_all rows order n level totals lines preorder all so_far = record {
   known = λ k lt. let (j, (less, e)) = so_far.place k lt in let inside = preorder.range j (omega arith) in omega (arith, e);
   each = so_far.each;

@@ -1,5 +1,6 @@
 -- How amounts are summed on the items that they are placed on.
-use Rattle.std.proofs.Common.{◌≡◌, ◌≢◌, ℕ, ◌+◌, ◌<◌, ◌≤◌, ◌^◌, ⊎_elim, List, length, get_or, set, take, sym, ap, ◌∙◌, subst, get_or-set_same, get_or-set_other, length-set, FitsSigned, to_z, of_z, w64, arith}
+use Rattle.std.proofs.Common.{◌≡◌, ◌≢◌, ℕ, ◌+◌, ◌<◌, ◌≤◌, ◌^◌, ⊎_elim, List, length, get_or, set, take, sym, ap, ◌∙◌}
+use Rattle.std.proofs.Common.{subst, get_or-set_same, get_or-set_other, length-set, FitsSigned, to_z, of_z, w64, arith}
 use Rattle.std.specs.Prelude.{ℤ, pos, ◌+ℤ◌, unsigned_abs, sum_by}
 use Rattle.std.proofs.lemmas.Bool.{cases_eq}
 use Rattle.std.proofs.lemmas.List.{get_or_default}
@@ -23,20 +24,32 @@ pub record AreSummed (items : ℕ) (placed : List Placed) (n : ℕ) (amounts : L
   pub small : sum_by unsigned_abs amounts ≤ magnitude_of (take n placed)
 
 -- one amount more, on the item that it is placed on
-pub AreSummed-more : (items : ℕ) (placed : List Placed) (i x : ℕ) (amounts : List ℤ) (a b : ℤ) → AreSummed items placed i amounts → i < length placed → x ≡ place_of placed i → x < items → a ≡ amount_at amounts x → b ≡ amount_of placed i → AreSummed items placed (i + 1) (set amounts x (a +ℤ b))
+pub AreSummed-more : (items : ℕ) (placed : List Placed) (i x : ℕ) (amounts : List ℤ) (a b : ℤ) → AreSummed items placed i amounts →
+    i < length placed → x ≡ place_of placed i → x < items → a ≡ amount_at amounts x → b ≡ amount_of placed i →
+    AreSummed items placed (i + 1) (set amounts x (a +ℤ b))
 AreSummed-more items placed i x amounts a b so_far within place known read is = record {
   sums = record {
     one_each = length-set amounts x (a +ℤ b) ∙ so_far.sums.one_each;
     each = λ y lt. ⊎_elim (λ e. here y lt e) (λ ne. there y lt ne) (cases_eq x y);
   };
   small = let known_at : x < length amounts = omega (arith, so_far.sums.one_each) in
-      omega (arith, sum_by-set unsigned_abs amounts x (a +ℤ b) (pos 0) known_at, unsigned_abs-add a b, so_far.small, ap unsigned_abs read, ap unsigned_abs is, sum_by_more (λ (p : Placed). unsigned_abs p.amount) placed i (record { item = 0; amount = pos 0 }) within);
+      omega (
+        arith,
+        sum_by-set unsigned_abs amounts x (a +ℤ b) (pos 0) known_at,
+        unsigned_abs-add a b,
+        so_far.small,
+        ap unsigned_abs read,
+        ap unsigned_abs is,
+        sum_by_more (λ (p : Placed). unsigned_abs p.amount) placed i (record { item = 0; amount = pos 0 }) within,
+      );
 }
   where
     here : (y : ℕ) → y < items → x ≡ y → IsSumOver (λ k. place_of placed k ≡ y) (i + 1) (amount_of placed) (amount_at (set amounts x (a +ℤ b)) y)
     here y lt e =
         let known_at : x < length amounts = omega (arith, so_far.sums.one_each) in
-        rw (← e, get_or-set_same amounts x (a +ℤ b) (pos 0) known_at) (IsSumOver-has (λ k. place_of placed k ≡ x) i (amount_of placed) (amount_at amounts x) (a +ℤ b) (sym place) (so_far.sums.each x known) (ap (λ (z : ℤ). z +ℤ b) read ∙ ap (λ (z : ℤ). amount_at amounts x +ℤ z) is))
+        rw (← e, get_or-set_same amounts x (a +ℤ b) (pos 0) known_at)
+        (IsSumOver-has (λ k. place_of placed k ≡ x) i (amount_of placed) (amount_at amounts x) (a +ℤ b) (sym place)
+        (so_far.sums.each x known) (ap (λ (z : ℤ). z +ℤ b) read ∙ ap (λ (z : ℤ). amount_at amounts x +ℤ z) is))
 
     there : (y : ℕ) → y < items → x ≢ y → IsSumOver (λ k. place_of placed k ≡ y) (i + 1) (amount_of placed) (amount_at (set amounts x (a +ℤ b)) y)
     there y lt ne =
@@ -44,7 +57,9 @@ AreSummed-more items placed i x amounts a b so_far within place known read is = 
         rw (get_or-set_other amounts x y (a +ℤ b) (pos 0) other) (IsSumOver-lacks (λ k. place_of placed k ≡ y) i (amount_of placed) (amount_at amounts y) (λ e. ne (place ∙ e)) (so_far.sums.each y lt))
 
 -- what one amount and the sum on its item are no greater than
-pub sums_fit : (items : ℕ) (placed : List Placed) (i x : ℕ) (amounts : List ℤ) (a b : ℤ) → AreSummed items placed i amounts → magnitude_of placed < 2 ^ 63 → i < length placed → x < items → a ≡ amount_at amounts x → b ≡ amount_of placed i → (unsigned_abs a < 2 ^ 63) × (unsigned_abs b < 2 ^ 63) × (unsigned_abs (a +ℤ b) < 2 ^ 63)
+pub sums_fit : (items : ℕ) (placed : List Placed) (i x : ℕ) (amounts : List ℤ) (a b : ℤ) → AreSummed items placed i amounts →
+    magnitude_of placed < 2 ^ 63 → i < length placed → x < items → a ≡ amount_at amounts x → b ≡ amount_of placed i →
+    (unsigned_abs a < 2 ^ 63) × (unsigned_abs b < 2 ^ 63) × (unsigned_abs (a +ℤ b) < 2 ^ 63)
 sums_fit items placed i x amounts a b so_far small within known read is =
     let known_at : x < length amounts = omega (arith, so_far.sums.one_each) in
     let more = sum_by_more (λ (p : Placed). unsigned_abs p.amount) placed i (record { item = 0; amount = pos 0 }) within in
@@ -56,13 +71,17 @@ sums_fit items placed i x amounts a b so_far small within known read is =
     (omega (arith, so_far.small), omega (arith, so_far.small), omega (arith, so_far.small))
 
 -- one turn, with the sum and the amount as they are read
-pub placed_fits : (items : ℕ) (placed : List Placed) (i x : ℕ) (amounts : List ℤ) (a b : ℤ) → AreSummed items placed i amounts → magnitude_of placed < 2 ^ 63 → i < length placed → x < items → a ≡ get_or amounts x a → b ≡ amount_of placed i → FitsSigned w64 (to_z w64 (of_z w64 a) +ℤ to_z w64 (of_z w64 b))
+pub placed_fits : (items : ℕ) (placed : List Placed) (i x : ℕ) (amounts : List ℤ) (a b : ℤ) → AreSummed items placed i amounts →
+    magnitude_of placed < 2 ^ 63 → i < length placed → x < items → a ≡ get_or amounts x a → b ≡ amount_of placed i →
+    FitsSigned w64 (to_z w64 (of_z w64 a) +ℤ to_z w64 (of_z w64 b))
 placed_fits items placed i x amounts a b so_far small within known read is =
     let known_at : x < length amounts = omega (arith, so_far.sums.one_each) in
     let (less, least, sum) = sums_fit items placed i x amounts a b so_far small within known (read ∙ get_or_default amounts x a (pos 0) known_at) is in
     added_fits a b less least sum
 
-pub placed_taken : (items : ℕ) (placed : List Placed) (i x : ℕ) (amounts : List ℤ) (a b : ℤ) → AreSummed items placed i amounts → magnitude_of placed < 2 ^ 63 → i < length placed → x ≡ place_of placed i → x < items → a ≡ get_or amounts x a → b ≡ amount_of placed i → AreSummed items placed (i + 1) (set amounts x (to_z w64 (of_z w64 (to_z w64 (of_z w64 a) +ℤ to_z w64 (of_z w64 b)))))
+pub placed_taken : (items : ℕ) (placed : List Placed) (i x : ℕ) (amounts : List ℤ) (a b : ℤ) → AreSummed items placed i amounts →
+    magnitude_of placed < 2 ^ 63 → i < length placed → x ≡ place_of placed i → x < items → a ≡ get_or amounts x a → b ≡ amount_of placed i →
+    AreSummed items placed (i + 1) (set amounts x (to_z w64 (of_z w64 (to_z w64 (of_z w64 a) +ℤ to_z w64 (of_z w64 b)))))
 placed_taken items placed i x amounts a b so_far small within place known read is =
     let known_at : x < length amounts = omega (arith, so_far.sums.one_each) in
     let at : a ≡ amount_at amounts x = read ∙ get_or_default amounts x a (pos 0) known_at in
@@ -76,11 +95,14 @@ amounts_at_leaves rows placed amounts on_leaves sums x lt no_leaf =
     (IsSumOver-none (λ k. place_of placed k ≡ x) (length placed) (amount_of placed) (λ k h e. no_leaf (subst (λ (n : ℕ). IsLeaf rows n) e (on_leaves.leaves k h))))
 
 -- the sums over leaves are the sums over what is placed on them
-pub totals_are : (rows : List ItemRow) (placed : List Placed) (amounts totals : List ℤ) → AreOnLeaves rows placed → AreAmountsOf (length rows) placed (length placed) amounts → AreRolledUp rows amounts totals → AreTotalsOf rows placed totals
+pub totals_are : (rows : List ItemRow) (placed : List Placed) (amounts totals : List ℤ) → AreOnLeaves rows placed →
+    AreAmountsOf (length rows) placed (length placed) amounts → AreRolledUp rows amounts totals → AreTotalsOf rows placed totals
 totals_are rows placed amounts totals on_leaves sums rolled = record {
   one_each = rolled.one_each;
-  each = λ y lt. IsSumOver-same (λ k. (IsLeaf rows (place_of placed k) × IsBelow rows (place_of placed k) y) × (place_of placed k < length rows)) (λ k. IsBelow rows (place_of placed k) y) (length placed) (amount_of placed) (amount_at totals y)
+  each = λ y lt. IsSumOver-same (λ k. (IsLeaf rows (place_of placed k) × IsBelow rows (place_of placed k) y)
+      × (place_of placed k < length rows)) (λ k. IsBelow rows (place_of placed k) y) (length placed) (amount_of placed) (amount_at totals y)
       (λ k h p. p.0.1)
       (λ k h below. ((on_leaves.leaves k h, below), on_leaves.known k h))
-      (IsSumOver-nested (λ x. IsLeaf rows x × IsBelow rows x y) (place_of placed) (length rows) (length placed) (amount_at amounts) (amount_of placed) (amount_at totals y) sums.each (rolled.each y lt));
+      (IsSumOver-nested (λ x. IsLeaf rows x × IsBelow rows x y) (place_of placed) (length rows) (length placed) (amount_at amounts)
+      (amount_of placed) (amount_at totals y) sums.each (rolled.each y lt));
 }

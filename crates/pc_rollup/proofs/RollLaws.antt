@@ -1,5 +1,6 @@
 -- How totals are gathered from the end of the preorder on.
-use Rattle.std.proofs.Common.{◌≡◌, ◌≢◌, ℕ, zero, suc, ◌+◌, ◌<◌, ◌≤◌, ◌⊎◌, inl, inr, ⊎_elim, List, length, get_or, set, take, Option, Some, None, refl, sym, ap, ◌∙◌, subst, get_or-set_same, get_or-set_other, length-set, ◌^◌, FitsSigned, to_z, of_z, w64, arith}
+use Rattle.std.proofs.Common.{◌≡◌, ◌≢◌, ℕ, zero, suc, ◌+◌, ◌<◌, ◌≤◌, ◌⊎◌, inl, inr, ⊎_elim, List, length, get_or, set, take, Option, Some, None}
+use Rattle.std.proofs.Common.{refl, sym, ap, ◌∙◌, subst, get_or-set_same, get_or-set_other, length-set, ◌^◌, FitsSigned, to_z, of_z, w64, arith}
 use Rattle.std.specs.Prelude.{ℤ, pos, ◌+ℤ◌, unsigned_abs, slice_index, sum_by}
 use Rattle.std.proofs.lemmas.Bool.{cases_eq, cases_order}
 use Rattle.std.proofs.lemmas.Int.{to_z-of_z, fits_signed_from_abs}
@@ -52,7 +53,8 @@ passed_keep order j c (k, (le, lt, e)) = (k, (omega arith, lt, e))
 pub gathered_none : (rows : List ItemRow) (order : List ℕ) (amounts : List ℤ) → length amounts ≡ length rows → AreGathered rows order 0 amounts amounts
 gathered_none rows order amounts one_each = record {
   one_each = one_each;
-  each = λ y lt. IsSumOver-same (λ x. x ≡ y) (IsGathered rows order 0 y) (length rows) (amount_at amounts) (amount_at amounts y) (λ x h e. inl e) (λ x h g. itself y x g) (IsSumOver-one (length rows) (amount_at amounts) y lt);
+  each = λ y lt. IsSumOver-same (λ x. x ≡ y) (IsGathered rows order 0 y) (length rows) (amount_at amounts) (amount_at amounts y)
+      (λ x h e. inl e) (λ x h g. itself y x g) (IsSumOver-one (length rows) (amount_at amounts) y lt);
 }
   where
     itself : (y x : ℕ) → IsGathered rows order 0 y x → x ≡ y
@@ -73,7 +75,8 @@ gathered-below rows order j y x (inl e) = rw e (IsBelow-self rows y)
 gathered-below rows order j y x (inr (c, (p, b, s))) = from_child rows x y c p b
 
 -- an item whose turn it is has all that is below it
-pub whole : (rows : List ItemRow) (order : List ℕ) (i j x : ℕ) → IsPreorder rows order → i < length order → i + j + 1 ≡ length order → IsBelow rows x (slice_index order i) → IsGathered rows order j (slice_index order i) x
+pub whole : (rows : List ItemRow) (order : List ℕ) (i j x : ℕ) → IsPreorder rows order → i < length order → i + j + 1 ≡ length order →
+    IsBelow rows x (slice_index order i) → IsGathered rows order j (slice_index order i) x
 whole rows order i j x preorder within place below = of_child (below_child rows x v below)
   where
     v : ℕ
@@ -88,7 +91,9 @@ whole rows order i j x preorder within place below = of_child (below_child rows 
         let here : h ≡ i = same_place rows order h i preorder (omega arith) within is in
         inr (c, (e, b, (k, (omega arith, lt, at))))
 
-whole_sum : (rows : List ItemRow) (order : List ℕ) (i j : ℕ) (amounts totals : List ℤ) → IsPreorder rows order → AreGathered rows order j amounts totals → i < length order → i + j + 1 ≡ length order → IsSumOver (λ x. IsBelow rows x (slice_index order i)) (length rows) (amount_at amounts) (amount_at totals (slice_index order i))
+whole_sum : (rows : List ItemRow) (order : List ℕ) (i j : ℕ) (amounts totals : List ℤ) → IsPreorder rows order →
+    AreGathered rows order j amounts totals → i < length order → i + j + 1 ≡ length order →
+    IsSumOver (λ x. IsBelow rows x (slice_index order i)) (length rows) (amount_at amounts) (amount_at totals (slice_index order i))
 whole_sum rows order i j amounts totals preorder so_far within place =
     IsSumOver-same (IsGathered rows order j v) (λ x. IsBelow rows x v) (length rows) (amount_at amounts) (amount_at totals v)
     (λ x h g. gathered-below rows order j v x g)
@@ -99,7 +104,9 @@ whole_sum rows order i j amounts totals preorder so_far within place =
     v = slice_index order i
 
 -- what is below the item is not yet with its parent
-apart : (rows : List ItemRow) (order : List ℕ) (i j p x : ℕ) → IsTree rows → IsPreorder rows order → i < length order → i + j + 1 ≡ length order → parent_of rows (slice_index order i) ≡ Some p → IsGathered rows order j p x → IsBelow rows x (slice_index order i) → ⊥
+apart : (rows : List ItemRow) (order : List ℕ) (i j p x : ℕ) → IsTree rows → IsPreorder rows order → i < length order →
+    i + j + 1 ≡ length order → parent_of rows (slice_index order i) ≡ Some p → IsGathered rows order j p x →
+    IsBelow rows x (slice_index order i) → ⊥
 apart rows order i j p x tree preorder within place up (inl e) below =
     let under : IsUnder rows (slice_index order i) p = (p, (up, IsBelow-self rows p)) in
     let down : IsBelow rows p (slice_index order i) = rw (← e) below in
@@ -124,20 +131,27 @@ apart rows order i j p x tree preorder within place up (inr (c, (e, b, (k, (le, 
         ⊎_elim (λ same. not_same (sym same)) (λ under. siblings_apart rows v c p (HasNoLoop-tree rows tree) up e under) (cases_below rows v c vc)
 
 -- with its parent's are then all that were, and all below the item
-pub gathered_to-parent : (rows : List ItemRow) (order : List ℕ) (i j p x : ℕ) → i < length order → i + j + 1 ≡ length order → parent_of rows (slice_index order i) ≡ Some p → IsGathered rows order j p x ⊎ IsBelow rows x (slice_index order i) → IsGathered rows order (j + 1) p x
+pub gathered_to-parent : (rows : List ItemRow) (order : List ℕ) (i j p x : ℕ) → i < length order → i + j + 1 ≡ length order →
+    parent_of rows (slice_index order i) ≡ Some p → IsGathered rows order j p x ⊎ IsBelow rows x (slice_index order i) →
+    IsGathered rows order (j + 1) p x
 gathered_to-parent rows order i j p x within place up (inl (inl e)) = inl e
 gathered_to-parent rows order i j p x within place up (inl (inr (c, (e, b, s)))) =
     inr (c, (e, b, passed_keep order j c s))
 gathered_to-parent rows order i j p x within place up (inr b) =
     inr (slice_index order i, (up, b, (i, (omega arith, within, refl))))
 
-pub gathered_from-parent : (rows : List ItemRow) (order : List ℕ) (i j p x : ℕ) → i + j + 1 ≡ length order → IsGathered rows order (j + 1) p x → IsGathered rows order j p x ⊎ IsBelow rows x (slice_index order i)
+pub gathered_from-parent : (rows : List ItemRow) (order : List ℕ) (i j p x : ℕ) → i + j + 1 ≡ length order →
+    IsGathered rows order (j + 1) p x → IsGathered rows order j p x ⊎ IsBelow rows x (slice_index order i)
 gathered_from-parent rows order i j p x place (inl e) = inl (inl e)
 gathered_from-parent rows order i j p x place (inr (c, (e, b, s))) =
     ⊎_elim (λ same. inr (rw same b)) (λ passed. inl (inr (c, (e, b, passed)))) (passed_more order i j c place s)
 
 -- the item's total goes to its parent
-parent_sum : (rows : List ItemRow) (order : List ℕ) (i j p : ℕ) (amounts totals : List ℤ) → AreInRange rows → IsTree rows → IsPreorder rows order → AreGathered rows order j amounts totals → i < length order → i + j + 1 ≡ length order → parent_of rows (slice_index order i) ≡ Some p → IsSumOver (IsGathered rows order (j + 1) p) (length rows) (amount_at amounts) (amount_at totals p +ℤ amount_at totals (slice_index order i))
+parent_sum : (rows : List ItemRow) (order : List ℕ) (i j p : ℕ) (amounts totals : List ℤ) → AreInRange rows → IsTree rows →
+    IsPreorder rows order → AreGathered rows order j amounts totals → i < length order → i + j + 1 ≡ length order →
+    parent_of rows (slice_index order i) ≡ Some p →
+    IsSumOver (IsGathered rows order (j + 1) p) (length rows) (amount_at amounts)
+    (amount_at totals p +ℤ amount_at totals (slice_index order i))
 parent_sum rows order i j p amounts totals ranged tree preorder so_far within place up =
     IsSumOver-same (λ x. IsGathered rows order j p x ⊎ IsBelow rows x v) (IsGathered rows order (j + 1) p) (length rows) (amount_at amounts) (amount_at totals p +ℤ amount_at totals v)
     (λ x h either. gathered_to-parent rows order i j p x within place up either)
@@ -155,19 +169,25 @@ pub gathered_to-other : (rows : List ItemRow) (order : List ℕ) (j y x : ℕ) �
 gathered_to-other rows order j y x (inl e) = inl e
 gathered_to-other rows order j y x (inr (c, (e, b, s))) = inr (c, (e, b, passed_keep order j c s))
 
-pub gathered_from-other : (rows : List ItemRow) (order : List ℕ) (i j y x : ℕ) → i + j + 1 ≡ length order → parent_of rows (slice_index order i) ≢ Some y → IsGathered rows order (j + 1) y x → IsGathered rows order j y x
+pub gathered_from-other : (rows : List ItemRow) (order : List ℕ) (i j y x : ℕ) → i + j + 1 ≡ length order →
+    parent_of rows (slice_index order i) ≢ Some y → IsGathered rows order (j + 1) y x → IsGathered rows order j y x
 gathered_from-other rows order i j y x place not_parent (inl e) = inl e
 gathered_from-other rows order i j y x place not_parent (inr (c, (e, b, s))) =
     ⊎_elim (λ same. absurd (not_parent (ap (parent_of rows) same ∙ e))) (λ passed. inr (c, (e, b, passed))) (passed_more order i j c place s)
 
-other_sum : (rows : List ItemRow) (order : List ℕ) (i j y : ℕ) (amounts totals : List ℤ) → AreGathered rows order j amounts totals → i + j + 1 ≡ length order → y < length rows → parent_of rows (slice_index order i) ≢ Some y → IsSumOver (IsGathered rows order (j + 1) y) (length rows) (amount_at amounts) (amount_at totals y)
+other_sum : (rows : List ItemRow) (order : List ℕ) (i j y : ℕ) (amounts totals : List ℤ) → AreGathered rows order j amounts totals →
+    i + j + 1 ≡ length order → y < length rows → parent_of rows (slice_index order i) ≢ Some y →
+    IsSumOver (IsGathered rows order (j + 1) y) (length rows) (amount_at amounts) (amount_at totals y)
 other_sum rows order i j y amounts totals so_far place lt not_parent =
     IsSumOver-same (IsGathered rows order j y) (IsGathered rows order (j + 1) y) (length rows) (amount_at amounts) (amount_at totals y)
     (λ x h g. gathered_to-other rows order j y x g)
     (λ x h g. gathered_from-other rows order i j y x place not_parent g)
     (so_far.each y lt)
 
-pub gathered_child : (rows : List ItemRow) (order : List ℕ) (i j p : ℕ) (amounts totals : List ℤ) → AreInRange rows → IsTree rows → IsPreorder rows order → AreGathered rows order j amounts totals → i < length order → i + j + 1 ≡ length order → parent_of rows (slice_index order i) ≡ Some p → AreGathered rows order (j + 1) amounts (set totals p (amount_at totals p +ℤ amount_at totals (slice_index order i)))
+pub gathered_child : (rows : List ItemRow) (order : List ℕ) (i j p : ℕ) (amounts totals : List ℤ) → AreInRange rows → IsTree rows →
+    IsPreorder rows order → AreGathered rows order j amounts totals → i < length order → i + j + 1 ≡ length order →
+    parent_of rows (slice_index order i) ≡ Some p →
+    AreGathered rows order (j + 1) amounts (set totals p (amount_at totals p +ℤ amount_at totals (slice_index order i)))
 gathered_child rows order i j p amounts totals ranged tree preorder so_far within place up = record {
   one_each = length-set totals p sum ∙ so_far.one_each;
   each = λ y lt. ⊎_elim (λ e. here y e) (λ ne. there y lt ne) (cases_eq p y);
@@ -186,7 +206,8 @@ gathered_child rows order i j p amounts totals ranged tree preorder so_far withi
         let other : y ≢ p = λ e. ne (sym e) in
         rw (get_or-set_other totals p y sum (pos 0) other) (other_sum rows order i j y amounts totals so_far place lt (λ e. ne (let same : Some p ≡ Some y = sym up ∙ e in cc)))
 
-pub gathered_top : (rows : List ItemRow) (order : List ℕ) (i j : ℕ) (amounts totals : List ℤ) → AreGathered rows order j amounts totals → i + j + 1 ≡ length order → parent_of rows (slice_index order i) ≡ None → AreGathered rows order (j + 1) amounts totals
+pub gathered_top : (rows : List ItemRow) (order : List ℕ) (i j : ℕ) (amounts totals : List ℤ) → AreGathered rows order j amounts totals →
+    i + j + 1 ≡ length order → parent_of rows (slice_index order i) ≡ None → AreGathered rows order (j + 1) amounts totals
 gathered_top rows order i j amounts totals so_far place up = record {
   one_each = so_far.one_each;
   each = λ y lt. other_sum rows order i j y amounts totals so_far place lt (λ e. let clash : None ≡ Some y = sym up ∙ e in cc);
@@ -205,9 +226,14 @@ magnitude amounts =
     ap (sum_by unsigned_abs) (sym (take-length amounts)) ∙ sum_by-take unsigned_abs amounts (length amounts) (omega arith)
 
 -- the sum that goes to a parent is no greater than all amounts
-pub parent_fits : (rows : List ItemRow) (order : List ℕ) (i j p : ℕ) (amounts totals : List ℤ) → AreInRange rows → IsTree rows → IsPreorder rows order → length amounts ≡ length rows → AreGathered rows order j amounts totals → i < length order → i + j + 1 ≡ length order → parent_of rows (slice_index order i) ≡ Some p → unsigned_abs (amount_at totals p +ℤ amount_at totals (slice_index order i)) ≤ sum_by unsigned_abs amounts
+pub parent_fits : (rows : List ItemRow) (order : List ℕ) (i j p : ℕ) (amounts totals : List ℤ) → AreInRange rows → IsTree rows →
+    IsPreorder rows order → length amounts ≡ length rows → AreGathered rows order j amounts totals → i < length order →
+    i + j + 1 ≡ length order → parent_of rows (slice_index order i) ≡ Some p →
+    unsigned_abs (amount_at totals p +ℤ amount_at totals (slice_index order i)) ≤ sum_by unsigned_abs amounts
 parent_fits rows order i j p amounts totals ranged tree preorder one_each so_far within place up =
-    let bound = IsSumOver-bound (IsGathered rows order (j + 1) p) (length rows) (amount_at amounts) (amount_at totals p +ℤ amount_at totals (slice_index order i)) (parent_sum rows order i j p amounts totals ranged tree preorder so_far within place up) in
+    let bound = IsSumOver-bound (IsGathered rows order (j + 1) p) (length rows) (amount_at amounts)
+    (amount_at totals p +ℤ amount_at totals (slice_index order i))
+    (parent_sum rows order i j p amounts totals ranged tree preorder so_far within place up) in
     omega (arith, bound, magnitude amounts, ap (λ (n : ℕ). sum_to n (λ x. unsigned_abs (amount_at amounts x))) one_each)
 
 -- numbers whose sum fits are added as numbers
@@ -225,9 +251,15 @@ added_fits a b small less sum =
     rw (to_z-of_z w64 a fits_a, to_z-of_z w64 b fits_b) (fits_signed_from_abs w64 (a +ℤ b) sum)
 
 -- what an item has is no greater than all amounts
-total_fits : (rows : List ItemRow) (order : List ℕ) (j y : ℕ) (amounts totals : List ℤ) → length amounts ≡ length rows → AreGathered rows order j amounts totals → y < length rows → unsigned_abs (amount_at totals y) ≤ sum_by unsigned_abs amounts
+total_fits : (rows : List ItemRow) (order : List ℕ) (j y : ℕ) (amounts totals : List ℤ) → length amounts ≡ length rows →
+    AreGathered rows order j amounts totals → y < length rows → unsigned_abs (amount_at totals y) ≤ sum_by unsigned_abs amounts
 total_fits rows order j y amounts totals one_each so_far lt =
-    omega (arith, IsSumOver-bound (IsGathered rows order j y) (length rows) (amount_at amounts) (amount_at totals y) (so_far.each y lt), magnitude amounts, ap (λ (n : ℕ). sum_to n (λ x. unsigned_abs (amount_at amounts x))) one_each)
+    omega (
+      arith,
+      IsSumOver-bound (IsGathered rows order j y) (length rows) (amount_at amounts) (amount_at totals y) (so_far.each y lt),
+      magnitude amounts,
+      ap (λ (n : ℕ). sum_to n (λ x. unsigned_abs (amount_at amounts x))) one_each,
+    )
 
 -- what stays true of totals on their way up: the loop goes back over the preorder of a tree, the amounts are small, and the last j of the order
 -- passed their totals on
@@ -240,7 +272,8 @@ pub record AreRolling (rows : List ItemRow) (order : List ℕ) (j : ℕ) (amount
   pub gathered : AreGathered rows order j amounts totals
 
 -- the same with totals of which more are gathered
-rolling_on : (rows : List ItemRow) (order : List ℕ) (j k : ℕ) (amounts totals others : List ℤ) → AreRolling rows order j amounts totals → AreGathered rows order k amounts others → AreRolling rows order k amounts others
+rolling_on : (rows : List ItemRow) (order : List ℕ) (j k : ℕ) (amounts totals others : List ℤ) → AreRolling rows order j amounts totals →
+    AreGathered rows order k amounts others → AreRolling rows order k amounts others
 rolling_on rows order j k amounts totals others r gathered = record {
   ranged = r.ranged;
   tree = r.tree;
@@ -258,7 +291,9 @@ pub record IsTurn (rows : List ItemRow) (order : List ℕ) (j p : ℕ) (amounts 
   pub parent_read : a ≡ get_or totals p a
   pub item_read : b ≡ get_or totals v b
 
-turn_sums : (rows : List ItemRow) (order : List ℕ) (j p : ℕ) (amounts totals : List ℤ) (v : ℕ) (a b : ℤ) → IsTurn rows order j p amounts totals v a b → (amount_at totals p ≡ a) × (amount_at totals v ≡ b) × (unsigned_abs a < 2 ^ 63) × (unsigned_abs b < 2 ^ 63) × (unsigned_abs (a +ℤ b) < 2 ^ 63)
+turn_sums : (rows : List ItemRow) (order : List ℕ) (j p : ℕ) (amounts totals : List ℤ) (v : ℕ) (a b : ℤ) →
+    IsTurn rows order j p amounts totals v a b → (amount_at totals p ≡ a) × (amount_at totals v ≡ b) × (unsigned_abs a < 2 ^ 63)
+    × (unsigned_abs b < 2 ^ 63) × (unsigned_abs (a +ℤ b) < 2 ^ 63)
 turn_sums rows order j p amounts totals v a b t =
     let (i, lt, place, at) = t.place in
     let in_v : v < length rows = parent-inside rows v p t.up in
@@ -267,7 +302,9 @@ turn_sums rows order j p amounts totals v a b t =
     let read_b : amount_at totals v ≡ b = get_or_default totals v (pos 0) b (omega (arith, t.so_far.gathered.one_each)) ∙ sym t.item_read in
     let up : parent_of rows (slice_index order i) ≡ Some p = ap (parent_of rows) at ∙ t.up in
     let both = parent_fits rows order i j p amounts totals t.so_far.ranged t.so_far.tree t.so_far.preorder t.so_far.one_each t.so_far.gathered lt place up in
-    let sum : amount_at totals p +ℤ amount_at totals (slice_index order i) ≡ a +ℤ b = ap (λ (n : ℕ). amount_at totals p +ℤ amount_at totals n) at ∙ (ap (λ (z : ℤ). z +ℤ amount_at totals v) read_a ∙ ap (λ (z : ℤ). a +ℤ z) read_b) in (
+    let sum : amount_at totals p +ℤ amount_at totals (slice_index order i)
+    ≡ a +ℤ b = ap (λ (n : ℕ). amount_at totals p +ℤ amount_at totals n) at ∙
+    (ap (λ (z : ℤ). z +ℤ amount_at totals v) read_a ∙ ap (λ (z : ℤ). a +ℤ z) read_b) in (
       read_a,
       read_b,
       omega (arith, t.so_far.small, ap unsigned_abs read_a, total_fits rows order j p amounts totals t.so_far.one_each t.so_far.gathered in_p),
@@ -275,12 +312,15 @@ turn_sums rows order j p amounts totals v a b t =
       omega (arith, t.so_far.small, ap unsigned_abs sum, both),
     )
 
-pub turn_fits : (rows : List ItemRow) (order : List ℕ) (j p : ℕ) (amounts totals : List ℤ) (v : ℕ) (a b : ℤ) → IsTurn rows order j p amounts totals v a b → FitsSigned w64 (to_z w64 (of_z w64 a) +ℤ to_z w64 (of_z w64 b))
+pub turn_fits : (rows : List ItemRow) (order : List ℕ) (j p : ℕ) (amounts totals : List ℤ) (v : ℕ) (a b : ℤ) →
+    IsTurn rows order j p amounts totals v a b → FitsSigned w64 (to_z w64 (of_z w64 a) +ℤ to_z w64 (of_z w64 b))
 turn_fits rows order j p amounts totals v a b t =
     let (read_a, read_b, small, less, sum) = turn_sums rows order j p amounts totals v a b t in
     added_fits a b small less sum
 
-pub turn_taken : (rows : List ItemRow) (order : List ℕ) (j p : ℕ) (amounts totals : List ℤ) (v : ℕ) (a b : ℤ) → IsTurn rows order j p amounts totals v a b → AreRolling rows order (j + 1) amounts (set totals p (to_z w64 (of_z w64 (to_z w64 (of_z w64 a) +ℤ to_z w64 (of_z w64 b)))))
+pub turn_taken : (rows : List ItemRow) (order : List ℕ) (j p : ℕ) (amounts totals : List ℤ) (v : ℕ) (a b : ℤ) →
+    IsTurn rows order j p amounts totals v a b →
+    AreRolling rows order (j + 1) amounts (set totals p (to_z w64 (of_z w64 (to_z w64 (of_z w64 a) +ℤ to_z w64 (of_z w64 b)))))
 turn_taken rows order j p amounts totals v a b t =
     let (i, lt, place, at) = t.place in
     let (read_a, read_b, small, less, sum) = turn_sums rows order j p amounts totals v a b t in
@@ -288,9 +328,12 @@ turn_taken rows order j p amounts totals v a b t =
     let value : amount_at totals p +ℤ amount_at totals (slice_index order i) ≡ to_z w64 (of_z w64 (to_z w64 (of_z w64 a) +ℤ to_z w64 (of_z w64 b))) =
     ap (λ (n : ℕ). amount_at totals p +ℤ amount_at totals n) at ∙ (ap (λ (z : ℤ). z +ℤ amount_at totals v) read_a ∙ (ap (λ (z : ℤ). a +ℤ z) read_b ∙ sym (added a b small less sum))) in
     rolling_on rows order j (j + 1) amounts totals _ t.so_far
-    (subst (λ (z : ℤ). AreGathered rows order (j + 1) amounts (set totals p z)) value (gathered_child rows order i j p amounts totals t.so_far.ranged t.so_far.tree t.so_far.preorder t.so_far.gathered lt place up))
+    (subst (λ (z : ℤ). AreGathered rows order (j + 1) amounts (set totals p z)) value
+    (gathered_child rows order i j p amounts totals t.so_far.ranged t.so_far.tree t.so_far.preorder t.so_far.gathered lt place up))
 
-pub top_taken : (rows : List ItemRow) (order : List ℕ) (j : ℕ) (amounts totals : List ℤ) (v : ℕ) → AreRolling rows order j amounts totals → (i : ℕ) × (i < length order) × (i + j + 1 ≡ length order) × (slice_index order i ≡ v) → parent_of rows v ≡ None → AreRolling rows order (j + 1) amounts totals
+pub top_taken : (rows : List ItemRow) (order : List ℕ) (j : ℕ) (amounts totals : List ℤ) (v : ℕ) → AreRolling rows order j amounts totals →
+    (i : ℕ) × (i < length order) × (i + j + 1 ≡ length order) × (slice_index order i ≡ v) → parent_of rows v ≡ None →
+    AreRolling rows order (j + 1) amounts totals
 top_taken rows order j amounts totals v so_far (i, lt, place, at) up =
     rolling_on rows order j (j + 1) amounts totals totals so_far (gathered_top rows order i j amounts totals so_far.gathered place (ap (parent_of rows) at ∙ up))
 
@@ -303,7 +346,8 @@ child_below rows x (suc n) = ⊎_elim (λ (y, (lt, e)). inl (y, (omega arith, e)
     last n none not_here y lt =
         ⊎_elim (λ e. rw e not_here) (λ ne. none y (omega arith)) (cases_eq y n)
 
-    of_parent : ((y : ℕ) → y < n → parent_of rows y ≢ Some x) → (o : Option ℕ) → parent_of rows n ≡ o → ((y : ℕ) × ((y < suc n) × (parent_of rows y ≡ Some x))) ⊎ ((y : ℕ) → y < suc n → parent_of rows y ≢ Some x)
+    of_parent : ((y : ℕ) → y < n → parent_of rows y ≢ Some x) → (o : Option ℕ) → parent_of rows n ≡ o →
+        ((y : ℕ) × ((y < suc n) × (parent_of rows y ≡ Some x))) ⊎ ((y : ℕ) → y < suc n → parent_of rows y ≢ Some x)
     of_parent none None e = inr (last n none (λ is. let clash : None ≡ Some x = sym e ∙ is in cc))
     of_parent none (Some p) e =
         ⊎_elim (λ same. inl (n, (omega arith, e ∙ ap Some same)))
@@ -325,7 +369,8 @@ all_gathered rows order j y x preorder all below = of_child (below_child rows x 
         inr (c, (e, b, (k, (omega arith, lt, at))))
 
 -- all passed their totals on
-pub gathered_all : (rows : List ItemRow) (order : List ℕ) (j : ℕ) (amounts totals : List ℤ) → AreAtLeaves rows amounts → length order ≤ j → AreRolling rows order j amounts totals → AreRolledUp rows amounts totals
+pub gathered_all : (rows : List ItemRow) (order : List ℕ) (j : ℕ) (amounts totals : List ℤ) → AreAtLeaves rows amounts → length order ≤ j →
+    AreRolling rows order j amounts totals → AreRolledUp rows amounts totals
 gathered_all rows order j amounts totals at_leaves all so_far = record {
   one_each = so_far.gathered.one_each;
   each = λ y lt. IsSumOver-part (λ x. IsBelow rows x y) (IsLeaf rows) (length rows) (amount_at amounts) (amount_at totals y)

@@ -65,7 +65,8 @@ pub IsSumOver-lacks : (P : ℕ → Type 0) (n : ℕ) (f : ℕ → ℤ) (s : ℤ)
 IsSumOver-lacks P n f s none over = rw add-one (inr (none, over))
 
 -- where every number has it, the sum is what grows by the amount of each number
-pub IsSumOver-all : (P : ℕ → Type 0) (n : ℕ) (f so_far : ℕ → ℤ) (t : ℤ) → so_far 0 ≡ pos 0 → ((x : ℕ) → x < n → so_far (x + 1) ≡ so_far x +ℤ f x) → ((x : ℕ) → x < n → P x) → IsSumOver P n f t → t ≡ so_far n
+pub IsSumOver-all : (P : ℕ → Type 0) (n : ℕ) (f so_far : ℕ → ℤ) (t : ℤ) → so_far 0 ≡ pos 0 →
+    ((x : ℕ) → x < n → so_far (x + 1) ≡ so_far x +ℤ f x) → ((x : ℕ) → x < n → P x) → IsSumOver P n f t → t ≡ so_far n
 IsSumOver-all P zero f so_far t none more every is = is ∙ sym none
 IsSumOver-all P (suc n) f so_far t none more every (inl (p, (r, (over, e)))) =
     let same = IsSumOver-all P n f so_far r none (λ x h. more x (omega arith)) (λ x h. every x (omega arith)) over in
@@ -84,13 +85,15 @@ IsSumOver-part P Q (suc n) f t either (inr (none, over)) =
     inr (λ (q, pp). none pp, IsSumOver-part P Q n f t (λ x h. either x (omega arith)) over)
 
 -- a sum of sums: where each f x is the sum over what is placed on x, the sum of f over P is that over what is placed on P
-pub IsSumOver-nested : (P : ℕ → Type 0) (place : ℕ → ℕ) (n m : ℕ) (f g : ℕ → ℤ) (t : ℤ) → ((x : ℕ) → x < n → IsSumOver (λ k. place k ≡ x) m g (f x)) → IsSumOver P n f t → IsSumOver (λ k. P (place k) × (place k < n)) m g t
+pub IsSumOver-nested : (P : ℕ → Type 0) (place : ℕ → ℕ) (n m : ℕ) (f g : ℕ → ℤ) (t : ℤ) →
+    ((x : ℕ) → x < n → IsSumOver (λ k. place k ≡ x) m g (f x)) → IsSumOver P n f t → IsSumOver (λ k. P (place k) × (place k < n)) m g t
 IsSumOver-nested P place zero m f g t each is =
     IsSumOver-at (λ k. P (place k) × (place k < 0)) m g (pos 0) t (sym is) (IsSumOver-none (λ k. P (place k) × (place k < 0)) m g (λ k h (p, lt). absurd (omega arith)))
 IsSumOver-nested P place (suc n) m f g t each (inl (p, (r, (over, e)))) =
     let lower = IsSumOver-nested P place n m f g r (λ x h. each x (omega arith)) over in
     let here = each n (omega arith) in
-    IsSumOver-at (λ k. P (place k) × (place k < suc n)) m g (r +ℤ f n) t (sym e) (IsSumOver-same (λ k. (P (place k) × (place k < n)) ⊎ (place k ≡ n)) (λ k. P (place k) × (place k < suc n)) m g (r +ℤ f n)
+    IsSumOver-at (λ k. P (place k) × (place k < suc n)) m g (r +ℤ f n) t (sym e)
+    (IsSumOver-same (λ k. (P (place k) × (place k < n)) ⊎ (place k ≡ n)) (λ k. P (place k) × (place k < suc n)) m g (r +ℤ f n)
     (λ k h either. ⊎_elim (λ (q, lt). (q, omega arith)) (λ same. (rw same p, omega arith)) either)
     (λ k h (q, lt). ⊎_elim (λ same. inr same) (λ apart. inl (q, omega arith)) (cases_eq (place k) n))
     (IsSumOver-both (λ k. P (place k) × (place k < n)) (λ k. place k ≡ n) m g r (f n) (λ k h (q, lt) same. absurd (omega arith)) lower here))

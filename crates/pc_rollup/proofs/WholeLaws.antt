@@ -41,7 +41,10 @@ one_line rows order x y preorder (j, (k, (lt, less, at, is))) same =
     preorder.once j k lt less e
 
 -- one more line
-covered_more : (rows : List ItemRow) (order : List ℕ) (level : ℕ) (P : ℕ → Type 0) (place : ℕ → ℕ) (n : ℕ) (amount : ℕ → ℤ) (totals : List ℤ) (lines : List LevelLine) (k : ℕ) (sum : ℤ) → AreAll rows order level P place n amount totals lines → k < length lines → IsSumOver (IsCovered rows P place lines k) n amount sum → IsSumOver (IsCovered rows P place lines (k + 1)) n amount (sum +ℤ (line_at lines k).amount)
+covered_more : (rows : List ItemRow) (order : List ℕ) (level : ℕ) (P : ℕ → Type 0) (place : ℕ → ℕ) (n : ℕ) (amount : ℕ → ℤ)
+    (totals : List ℤ) (lines : List LevelLine) (k : ℕ) (sum : ℤ) → AreAll rows order level P place n amount totals lines →
+    k < length lines → IsSumOver (IsCovered rows P place lines k) n amount sum →
+    IsSumOver (IsCovered rows P place lines (k + 1)) n amount (sum +ℤ (line_at lines k).amount)
 covered_more rows order level P place n amount totals lines k sum all lt so_far =
     IsSumOver-same (λ x. IsCovered rows P place lines k x ⊎ (P x × IsBelow rows (place x) item)) (IsCovered rows P place lines (k + 1)) n amount (sum +ℤ (line_at lines k).amount)
     (λ x h either. to x either)
@@ -69,24 +72,30 @@ covered_more rows order level P place n amount totals lines k sum all lt so_far 
         let second = line.only item (all.lines.each k lt) here in
         one_line rows order (line_at lines j).item item all.preorder (all.lines.in_order j k less lt) (first ∙ sym second)
 
-covered : (rows : List ItemRow) (order : List ℕ) (level : ℕ) (P : ℕ → Type 0) (place : ℕ → ℕ) (n : ℕ) (amount : ℕ → ℤ) (totals : List ℤ) (lines : List LevelLine) (k : ℕ) → AreAll rows order level P place n amount totals lines → k ≤ length lines → IsSumOver (IsCovered rows P place lines k) n amount (sum_of (take k lines))
+covered : (rows : List ItemRow) (order : List ℕ) (level : ℕ) (P : ℕ → Type 0) (place : ℕ → ℕ) (n : ℕ) (amount : ℕ → ℤ) (totals : List ℤ)
+    (lines : List LevelLine) (k : ℕ) → AreAll rows order level P place n amount totals lines → k ≤ length lines →
+    IsSumOver (IsCovered rows P place lines k) n amount (sum_of (take k lines))
 covered rows order level P place n amount totals lines zero all le =
     IsSumOver-none (IsCovered rows P place lines 0) n amount (λ x h (has, (j, (lt, below))). absurd (omega arith))
 covered rows order level P place n amount totals lines (suc k) all le =
     let e : k + 1 ≡ suc k = omega arith in
     let lt : k < length lines = omega arith in
-    let more : sum_of (take (k + 1) lines) ≡ sum_of (take k lines) +ℤ (line_at lines k).amount = fold_more (λ (sum : ℤ) (line : LevelLine). sum +ℤ line.amount) (pos 0) lines k (record { item = 0; amount = pos 0 }) lt in
+    let more : sum_of (take (k + 1) lines)
+    ≡ sum_of (take k lines) +ℤ (line_at lines k).amount = fold_more (λ (sum : ℤ) (line : LevelLine). sum +ℤ line.amount) (pos 0) lines k
+    (record { item = 0; amount = pos 0 }) lt in
     let next = covered_more rows order level P place n amount totals lines k (sum_of (take k lines)) all lt (covered rows order level P place n amount totals lines k all (omega arith)) in
     subst (λ (i : ℕ). IsSumOver (IsCovered rows P place lines i) n amount (sum_of (take i lines))) e
     (subst (λ (z : ℤ). IsSumOver (IsCovered rows P place lines (k + 1)) n amount z) (sym more) next)
 
 -- the lines have all that stands on leaves, each amount once
-pub lines_sum : (rows : List ItemRow) (order : List ℕ) (level : ℕ) (P : ℕ → Type 0) (place : ℕ → ℕ) (n : ℕ) (amount : ℕ → ℤ) (totals : List ℤ) (lines : List LevelLine) → AreAll rows order level P place n amount totals lines → IsSumOver P n amount (sum_of lines)
+pub lines_sum : (rows : List ItemRow) (order : List ℕ) (level : ℕ) (P : ℕ → Type 0) (place : ℕ → ℕ) (n : ℕ) (amount : ℕ → ℤ)
+    (totals : List ℤ) (lines : List LevelLine) → AreAll rows order level P place n amount totals lines → IsSumOver P n amount (sum_of lines)
 lines_sum rows order level P place n amount totals lines all =
     IsSumOver-same (IsCovered rows P place lines (length lines)) P n amount (sum_of lines)
     (λ x h (has, rest). has)
     (λ x h has. (has, line x h has))
-    (subst (λ (ls : List LevelLine). IsSumOver (IsCovered rows P place lines (length lines)) n amount (sum_of ls)) (take-length lines) (covered rows order level P place n amount totals lines (length lines) all (omega arith)))
+    (subst (λ (ls : List LevelLine). IsSumOver (IsCovered rows P place lines (length lines)) n amount (sum_of ls)) (take-length lines)
+    (covered rows order level P place n amount totals lines (length lines) all (omega arith)))
   where
     line : (x : ℕ) → x < n → P x → (j : ℕ) × ((j < length lines) × IsBelow rows (place x) (line_at lines j).item)
     line x h has =
@@ -95,7 +104,8 @@ lines_sum rows order level P place n amount totals lines all =
         (j, (less, subst (IsBelow rows (place x)) (sym e) its.at.below))
 
 -- the top has the sum over all leaves
-leaves_of_top : (rows : List ItemRow) (top : ℕ) (amounts totals : List ℤ) → AreInRange rows → IsTree rows → AreRolledUp rows amounts totals → IsTop rows top → IsSumOver (IsLeaf rows) (length rows) (amount_at amounts) (amount_at totals top)
+leaves_of_top : (rows : List ItemRow) (top : ℕ) (amounts totals : List ℤ) → AreInRange rows → IsTree rows →
+    AreRolledUp rows amounts totals → IsTop rows top → IsSumOver (IsLeaf rows) (length rows) (amount_at amounts) (amount_at totals top)
 leaves_of_top rows top amounts totals ranged tree rolled is_top =
     IsSumOver-same (λ x. IsLeaf rows x × IsBelow rows x top) (IsLeaf rows) (length rows) (amount_at amounts) (amount_at totals top)
     (λ x h (leaf, rest). leaf)
@@ -106,7 +116,9 @@ leaves_of_top rows top amounts totals ranged tree rolled is_top =
     only = let (first, alone) = tree.top in subst (IsOnlyTop rows) (sym (alone.only top is_top.0 is_top.1)) alone
 
 -- so they have what the top has, where the totals are rolled up from the leaves' own amounts
-pub whole_sum : (rows : List ItemRow) (order : List ℕ) (level top : ℕ) (amounts totals : List ℤ) (lines : List LevelLine) → AreInRange rows → IsTree rows → IsPreorder rows order → 1 ≤ level → AreLines rows order level totals lines → AreRolledUp rows amounts totals → IsTop rows top → sum_of lines ≡ amount_at totals top
+pub whole_sum : (rows : List ItemRow) (order : List ℕ) (level top : ℕ) (amounts totals : List ℤ) (lines : List LevelLine) →
+    AreInRange rows → IsTree rows → IsPreorder rows order → 1 ≤ level → AreLines rows order level totals lines →
+    AreRolledUp rows amounts totals → IsTop rows top → sum_of lines ≡ amount_at totals top
 whole_sum rows order level top amounts totals lines ranged tree preorder some are rolled is_top =
     IsSumOver-only (IsLeaf rows) (length rows) (amount_at amounts) (sum_of lines) (amount_at totals top)
     (lines_sum rows order level (IsLeaf rows) (λ x. x) (length rows) (amount_at amounts) totals lines (record {
@@ -128,7 +140,9 @@ child_or_none : (rows : List ItemRow) (x n : ℕ) → ((y : ℕ) × ((y < n) × 
 child_or_none rows x zero = inr (λ y lt. absurd (omega arith))
 child_or_none rows x (suc n) =
     ⊎_elim (λ (y, (lt, e)). inl (y, (omega arith, e)))
-    (λ none. ⊎_elim (λ e. inl (n, (omega arith, e))) (λ ne. inr (λ y lt. ⊎_elim (λ same. subst (λ (i : ℕ). parent_of rows i ≢ Some x) (sym same) ne) (λ apart. none y (omega arith)) (cases_eq y n))) (parent_or_not (parent_of rows n)))
+    (λ none. ⊎_elim (λ e. inl (n, (omega arith, e)))
+    (λ ne. inr (λ y lt. ⊎_elim (λ same. subst (λ (i : ℕ). parent_of rows i ≢ Some x) (sym same) ne) (λ apart. none y (omega arith))
+    (cases_eq y n))) (parent_or_not (parent_of rows n)))
     (child_or_none rows x n)
   where
     parent_or_not : (p : Option ℕ) → (p ≡ Some x) ⊎ (p ≢ Some x)
@@ -155,7 +169,9 @@ line_or_not rows level x tree lt =
         ⊎_elim (λ at. ne (HasLevel-same rows x own level has at)) (λ (leaf, (other, (at, less))). let same = HasLevel-same rows x own other has at in absurd (omega arith)) line
 
 -- the items at a level and the leaves above it have together what the top has
-pub lines_have_all : (rows : List ItemRow) (level top : ℕ) (amounts totals : List ℤ) → AreInRange rows → IsTree rows → 1 ≤ level → AreRolledUp rows amounts totals → IsTop rows top → IsSumOver (HasLine rows level) (length rows) (amount_at totals) (amount_at totals top)
+pub lines_have_all : (rows : List ItemRow) (level top : ℕ) (amounts totals : List ℤ) → AreInRange rows → IsTree rows → 1 ≤ level →
+    AreRolledUp rows amounts totals → IsTop rows top →
+    IsSumOver (HasLine rows level) (length rows) (amount_at totals) (amount_at totals top)
 lines_have_all rows level top amounts totals ranged tree some rolled is_top =
     let (sum, over) = IsSumOver-some (HasLine rows level) (length rows) (amount_at totals) (λ x h. line_or_not rows level x tree h) in
     IsSumOver-at (HasLine rows level) (length rows) (amount_at totals) sum (amount_at totals top) (same sum over) over
@@ -174,5 +190,6 @@ lines_have_all rows level top amounts totals ranged tree some rolled is_top =
         (IsSumOver-same (λ k. (x : ℕ) × ((x < length rows) × HasLine rows level x × (IsLeaf rows k × IsBelow rows k x))) (IsLeaf rows) (length rows) (amount_at amounts) sum
         (λ k h (x, (lt, line, (leaf, below))). leaf)
         (λ k h leaf. let (y, line) = line_of_leaf rows level k ranged tree some h leaf in (y, (line.known, line.line, (leaf, line.at.below))))
-        (IsSumOver-parts (HasLine rows level) (λ x k. IsLeaf rows k × IsBelow rows k x) (length rows) (length rows) (amount_at totals) (amount_at amounts) sum (λ x h line. rolled.each x h) apart over))
+        (IsSumOver-parts (HasLine rows level) (λ x k. IsLeaf rows k × IsBelow rows k x) (length rows) (length rows) (amount_at totals)
+        (amount_at amounts) sum (λ x h line. rolled.each x h) apart over))
         (leaves_of_top rows top amounts totals ranged tree rolled is_top)

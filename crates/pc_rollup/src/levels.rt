@@ -29,7 +29,8 @@ pub fn level_lines(
     requires level { 1 ≤ level }
     requires one_each { length totals.now ≡ length tree.now }
     ensures lines { IfOk result (λ lines. AreLevelLines tree.now level totals.now lines.items) }
-    ensures whole { IfOk result (λ lines. (amounts : List ℤ) (top : ℕ) → AreRolledUp tree.now amounts totals.now → IsTop tree.now top
+    ensures whole { IfOk result (λ lines. (amounts : List ℤ) (top : ℕ) → AreRolledUp tree.now amounts totals.now →
+        IsTop tree.now top
         → sum_of lines.items ≡ amount_at totals.now top) }
 {
     let mut lines = Vec::new(alloc);
@@ -64,7 +65,8 @@ fn has_line(tree: &Tree, level: u32, item: u32) -> bool
 ///
 /// This function does nothing: its contract is the law.
 pub fn each_leaf_has_one_line()
-    ensures one { (rows : List ItemRow) (level x : ℕ) → AreInRange rows → IsTree rows → 1 ≤ level → x < length rows → IsLeaf rows x
+    ensures one { (rows : List ItemRow) (level x : ℕ) → AreInRange rows → IsTree rows → 1 ≤ level →
+        x < length rows → IsLeaf rows x
         → (y : ℕ) × ((y < length rows) × HasLine rows level y × IsAtLevel rows x level y
         × ((z : ℕ) → HasLine rows level z → IsBelow rows x z → z ≡ y)) }
 {}

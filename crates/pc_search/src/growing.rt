@@ -29,12 +29,14 @@ impl<'n> Search<'n> {
     // Visits these activities.
     #[inline(always)]
     fn visit_all<L: Ledger>(&mut self, activities: &[u32], steps: &mut Steps<L>)
-        requires known { (k : ℕ) → k < length activities.now → slice_index activities.now k < length self.old.net.now.network.arcs }
+        requires known { (k : ℕ) → k < length activities.now →
+            slice_index activities.now k < length self.old.net.now.network.arcs }
         requires search { IsSearch self.old.net.now self.old.board }
         requires room { HaveRoom self.old.board }
         ensures net { self.new.net.now ≡ self.old.net.now }
         ensures counted { steps.new ≡ steps.old + length activities.now }
-        ensures goes_on { GoesOn self.old.net.now (StandsBelow activities.now (length activities.now)) self.old.board self.new.board }
+        ensures goes_on { GoesOn self.old.net.now
+            (StandsBelow activities.now (length activities.now)) self.old.board self.new.board }
     {
         for a in activities {
             self.visit(*a, steps);

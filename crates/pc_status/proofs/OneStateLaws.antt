@@ -41,7 +41,9 @@ one_state start statuses a Waiting (Started n) x y = absurd (x false y.1.0 y.1.1
 one_state start statuses a Waiting Waiting x y = refl
 
 -- and so many activities have one list of states
-pub one_progress : (start : ℤ) (statuses : List StatusRow) (activities : ℕ) (xs ys : List ActState) → length xs ≡ activities → length ys ≡ activities → ((a : ℕ) → a < activities → IsStateOf start statuses a (state_at xs a)) → ((a : ℕ) → a < activities → IsStateOf start statuses a (state_at ys a)) → xs ≡ ys
+pub one_progress : (start : ℤ) (statuses : List StatusRow) (activities : ℕ) (xs ys : List ActState) → length xs ≡ activities →
+    length ys ≡ activities → ((a : ℕ) → a < activities → IsStateOf start statuses a (state_at xs a)) →
+    ((a : ℕ) → a < activities → IsStateOf start statuses a (state_at ys a)) → xs ≡ ys
 one_progress start statuses activities xs ys count also x y =
     ext_get_or Waiting xs ys (count ∙ sym also)
     (λ a within. one_state start statuses a (state_at xs a) (state_at ys a) (x a (omega (arith, within, count))) (y a (omega (arith, within, count))))

@@ -15,7 +15,9 @@ pub record IsFound (statuses : List StatusRow) (ended : Bool) (a k : ℕ) (row :
   pub first : IsFirst (IsOf statuses ended a) k
   pub read : status_at statuses k ≡ row
 
-pub first_found : (activities : ℕ) (statuses : List StatusRow) (ended : Bool) (a k : ℕ) (firsts : List (Option ℕ)) (o : Option ℕ) (row : StatusRow) → AreFirsts activities statuses ended (length statuses) firsts → a < activities → o ≡ get_or firsts a o → o ≡ Some k → row ≡ get_or statuses k row → IsFound statuses ended a k row
+pub first_found : (activities : ℕ) (statuses : List StatusRow) (ended : Bool) (a k : ℕ) (firsts : List (Option ℕ)) (o : Option ℕ)
+    (row : StatusRow) → AreFirsts activities statuses ended (length statuses) firsts → a < activities → o ≡ get_or firsts a o → o ≡ Some k →
+    row ≡ get_or statuses k row → IsFound statuses ended a k row
 first_found activities statuses ended a k firsts o row are known read is row_read =
     let at : option_at firsts a ≡ Some k = get_or_default firsts a None o (omega (arith, are.one_each)) ∙ (sym read ∙ is) in
     let found : FirstBelow statuses ended a (length statuses) (Some k) = subst (FirstBelow statuses ended a (length statuses)) at (are.each a known) in
@@ -26,7 +28,9 @@ first_found activities statuses ended a k firsts o row are known read is row_rea
     }
 
 -- no status that could be found
-pub none_found : (activities : ℕ) (statuses : List StatusRow) (ended : Bool) (a : ℕ) (firsts : List (Option ℕ)) (o : Option ℕ) → AreFirsts activities statuses ended (length statuses) firsts → a < activities → o ≡ get_or firsts a o → o ≡ None → (j : ℕ) → IsOf statuses ended a j → ⊥
+pub none_found : (activities : ℕ) (statuses : List StatusRow) (ended : Bool) (a : ℕ) (firsts : List (Option ℕ)) (o : Option ℕ) →
+    AreFirsts activities statuses ended (length statuses) firsts → a < activities → o ≡ get_or firsts a o → o ≡ None → (j : ℕ) →
+    IsOf statuses ended a j → ⊥
 none_found activities statuses ended a firsts o are known read is =
     let at : option_at firsts a ≡ None = get_or_default firsts a None o (omega (arith, are.one_each)) ∙ (sym read ∙ is) in
     let never : FirstBelow statuses ended a (length statuses) None = subst (FirstBelow statuses ended a (length statuses)) at (are.each a known) in

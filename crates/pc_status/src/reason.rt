@@ -18,7 +18,8 @@ pub(crate) fn reason(
     begun: Option<u32>,
 ) -> Option<StatusFault>
     requires known { k < length statuses.now }
-    requires same { FirstBelow statuses.now (status_at statuses.now k).finished (status_at statuses.now k).activity (length statuses.now) same }
+    requires same { FirstBelow statuses.now (status_at statuses.now k).finished (status_at statuses.now k).activity
+        (length statuses.now) same }
     requires begun { FirstBelow statuses.now false (status_at statuses.now k).activity (length statuses.now) begun }
     ensures told { IfSome result (IsReason start as_of statuses.now k) }
     ensures none { IfNone result (IsInOrder start as_of statuses.now k) }

@@ -14,22 +14,35 @@ use Rattle.pc_tasks.proofs.NetworkLemmas.{firsts-below, lasts-below}
 task_acts-push : (i : ℕ) (tasks : List TaskCard) (task : TaskCard) → task_acts i (tasks ++ task ∷ []) ≡ task_acts i tasks ++ task_act (i + length tasks) task ∷ []
 task_acts-push i [] task = ap (λ k. task_act k task ∷ []) (let n : i ≡ i + 0 = omega arith in n)
 task_acts-push i (first ∷ tasks) task =
-    ap (λ rest. task_act i first ∷ rest) (task_acts-push (i + 1) tasks task ∙ ap (λ k. task_acts (i + 1) tasks ++ task_act k task ∷ []) (let n : i + 1 + length tasks ≡ i + suc (length tasks) = omega arith in n))
+    ap (λ rest. task_act i first ∷ rest)
+    (task_acts-push (i + 1) tasks task
+    ∙ ap (λ k. task_acts (i + 1) tasks ++ task_act k task ∷ []) (let n : i + 1 + length tasks ≡ i + suc (length tasks) = omega arith in
+    n))
 
-after_links-push : (j : ℕ) (rows : List AfterRow) (row : AfterRow) → after_links j (rows ++ row ∷ []) ≡ after_links j rows ++ link (after_code (j + length rows)) (end_code row.before) (begin_code row.task) ∷ []
+after_links-push : (j : ℕ) (rows : List AfterRow) (row : AfterRow) →
+    after_links j (rows ++ row ∷ [])
+    ≡ after_links j rows ++ link (after_code (j + length rows)) (end_code row.before) (begin_code row.task) ∷ []
 after_links-push j [] row = ap (λ k. link (after_code k) (end_code row.before) (begin_code row.task) ∷ []) (let n : j ≡ j + 0 = omega arith in n)
 after_links-push j (first ∷ rows) row =
     ap (λ rest. link (after_code j) (end_code first.before) (begin_code first.task) ∷ rest)
-    (after_links-push (j + 1) rows row ∙ ap (λ k. after_links (j + 1) rows ++ link (after_code k) (end_code row.before) (begin_code row.task) ∷ []) (let n : j + 1 + length rows ≡ j + suc (length rows) = omega arith in n))
+    (after_links-push (j + 1) rows row
+    ∙ ap (λ k. after_links (j + 1) rows ++ link (after_code k) (end_code row.before) (begin_code row.task) ∷ [])
+    (let n : j + 1 + length rows ≡ j + suc (length rows) = omega arith in n))
 
-task_events-push : (i : ℕ) (tasks : List TaskCard) (task : TaskCard) → task_events i (tasks ++ task ∷ []) ≡ task_events i tasks ++ drawn_event (begin_code (i + length tasks)) ∷ drawn_event (end_code (i + length tasks)) ∷ []
+task_events-push : (i : ℕ) (tasks : List TaskCard) (task : TaskCard) →
+    task_events i (tasks ++ task ∷ [])
+    ≡ task_events i tasks ++ drawn_event (begin_code (i + length tasks)) ∷ drawn_event (end_code (i + length tasks)) ∷ []
 task_events-push i [] task = ap (λ k. drawn_event (begin_code k) ∷ drawn_event (end_code k) ∷ []) (let n : i ≡ i + 0 = omega arith in n)
 task_events-push i (first ∷ tasks) task =
     ap (λ rest. drawn_event (begin_code i) ∷ drawn_event (end_code i) ∷ rest)
-    (task_events-push (i + 1) tasks task ∙ ap (λ k. task_events (i + 1) tasks ++ drawn_event (begin_code k) ∷ drawn_event (end_code k) ∷ []) (let n : i + 1 + length tasks ≡ i + suc (length tasks) = omega arith in n))
+    (task_events-push (i + 1) tasks task
+    ∙ ap (λ k. task_events (i + 1) tasks ++ drawn_event (begin_code k) ∷ drawn_event (end_code k) ∷ [])
+    (let n : i + 1 + length tasks ≡ i + suc (length tasks) = omega arith in n))
 
 -- the activity of the next task
-pub put_task : (tasks : List TaskCard) (front now : List ActCard) (i : ℕ) (task : TaskCard) (x : ActCard) → i < length tasks → task ≡ get_or tasks i task → now ≡ front ++ task_acts 0 (take i tasks) → x ≡ task_act i task → now ++ x ∷ [] ≡ front ++ task_acts 0 (take (i + 1) tasks)
+pub put_task : (tasks : List TaskCard) (front now : List ActCard) (i : ℕ) (task : TaskCard) (x : ActCard) → i < length tasks →
+    task ≡ get_or tasks i task → now ≡ front ++ task_acts 0 (take i tasks) → x ≡ task_act i task →
+    now ++ x ∷ [] ≡ front ++ task_acts 0 (take (i + 1) tasks)
 put_task tasks front now i task x inside at is here =
     let n : 0 + length (take i tasks) ≡ i = omega (arith, length-take-le i tasks (omega arith)) in
     ap (λ xs. xs ++ x ∷ []) is
@@ -39,7 +52,10 @@ put_task tasks front now i task x inside at is here =
     ∙ (sym (task_acts-push 0 (take i tasks) (get_or tasks i task)) ∙ ap (task_acts 0) (sym (take_more tasks i task inside)))))
 
 -- the link of the next row
-pub put_row : (rows : List AfterRow) (front now : List ActCard) (j : ℕ) (d : AfterRow) (x : ActCard) → j < length rows → now ≡ front ++ after_links 0 (take j rows) → x ≡ link (after_code j) (end_code (get_or rows j d).before) (begin_code (get_or rows j d).task) → now ++ x ∷ [] ≡ front ++ after_links 0 (take (j + 1) rows)
+pub put_row : (rows : List AfterRow) (front now : List ActCard) (j : ℕ) (d : AfterRow) (x : ActCard) → j < length rows →
+    now ≡ front ++ after_links 0 (take j rows) →
+    x ≡ link (after_code j) (end_code (get_or rows j d).before) (begin_code (get_or rows j d).task) →
+    now ++ x ∷ [] ≡ front ++ after_links 0 (take (j + 1) rows)
 put_row rows front now j d x inside is here =
     let n : 0 + length (take j rows) ≡ j = omega (arith, length-take-le j rows (omega arith)) in
     ap (λ xs. xs ++ x ∷ []) is
@@ -63,7 +79,9 @@ abbrev no_task : TaskCard
 no_task = record { row = 0; code = []; item = []; opt = 0; likely = 0; pess = 0; normal = 0; crash = 0; cost = 0; slope = 0; title = [] }
 
 -- the two events of the next task
-pub put_events : (tasks : List TaskCard) (front now : List TitledCard) (i : ℕ) (begin end : TitledCard) → i < length tasks → now ≡ front ++ task_events 0 (take i tasks) → begin ≡ drawn_event (begin_code i) → end ≡ drawn_event (end_code i) → (now ++ begin ∷ []) ++ end ∷ [] ≡ front ++ task_events 0 (take (i + 1) tasks)
+pub put_events : (tasks : List TaskCard) (front now : List TitledCard) (i : ℕ) (begin end : TitledCard) → i < length tasks →
+    now ≡ front ++ task_events 0 (take i tasks) → begin ≡ drawn_event (begin_code i) → end ≡ drawn_event (end_code i) →
+    (now ++ begin ∷ []) ++ end ∷ [] ≡ front ++ task_events 0 (take (i + 1) tasks)
 put_events tasks front now i begin end inside is begins ends =
     let n : 0 + length (take i tasks) ≡ i = omega (arith, length-take-le i tasks (omega arith)) in
     append_assoc now (begin ∷ []) (end ∷ [])

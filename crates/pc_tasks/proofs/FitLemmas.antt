@@ -64,15 +64,53 @@ zero-text = code-text nought refl
 
 link-text : (code from to : List ℕ) → is_code code ≡ true → is_code from ≡ true → is_code to ≡ true → All IsUtf8 (link_fields code from to)
 link-text code from to is from_is to_is =
-    texts (link_fields code from to)
-    (IsUtf8-nil, (code-text code is, (code-text from from_is, (code-text to to_is, (code-text links_code refl, (zero-text, (zero-text, (zero-text, (zero-text, (zero-text, (zero-text, (zero-text, (IsUtf8-nil, tt)))))))))))))
+    texts (link_fields code from to) (
+      IsUtf8-nil,
+      (
+        code-text code is,
+        (
+          code-text from from_is,
+          (
+            code-text to to_is,
+            (
+              code-text links_code refl,
+              (
+                zero-text,
+                (zero-text, (zero-text, (zero-text, (zero-text, (zero-text, (zero-text, (IsUtf8-nil, tt))))))),
+              ),
+            ),
+          ),
+        ),
+      ),
+    )
 
 pub link-fit : (code from to : List ℕ) → is_code code ≡ true → is_code from ≡ true → is_code to ≡ true → IsFit Plan Act (link code from to)
 link-fit code from to is from_is to_is = (
   0,
   link_fields code from to,
   refl,
-  (fits code is, (fits from from_is, (fits to to_is, (fits links_code refl, ((refl, refl), ((refl, refl), ((refl, refl), ((refl, refl), ((refl, refl), ((refl, refl), ((refl, refl), ((refl, refl), tt)))))))))))),
+  (
+    fits code is,
+    (
+      fits from from_is,
+      (
+        fits to to_is,
+        (
+          fits links_code refl,
+          (
+            (refl, refl),
+            (
+              (refl, refl),
+              (
+                (refl, refl),
+                ((refl, refl), ((refl, refl), ((refl, refl), ((refl, refl), ((refl, refl), tt))))),
+              ),
+            ),
+          ),
+        ),
+      ),
+    ),
+  ),
   link-text code from to is from_is to_is,
 )
 
@@ -128,7 +166,8 @@ module _ (deck : Deck) (few : length deck.tasks ≤ 4000) (start : is_code deck.
   first_links-fit [] below = All-nil (IsFit Plan Act)
   first_links-fit (i ∷ xs) below =
       let small : i < 20000 = omega (arith, All-head (λ i. i < length deck.tasks) i xs below, few) in
-      All-cons (IsFit Plan Act) (first_link deck i) (map (first_link deck) xs) (link-fit (first_code i) deck.project.start (begin_code i) (drawn-code 115 i refl small) start (drawn-code 98 i refl small))
+      All-cons (IsFit Plan Act) (first_link deck i) (map (first_link deck) xs)
+      (link-fit (first_code i) deck.project.start (begin_code i) (drawn-code 115 i refl small) start (drawn-code 98 i refl small))
       (first_links-fit xs (All-tail (λ i. i < length deck.tasks) i xs below))
 
   pub last_links-fit : (xs : List ℕ) → All (λ i. i < length deck.tasks) xs → All (IsFit Plan Act) (map (last_link deck) xs)
@@ -144,7 +183,8 @@ module _ (deck : Deck) (few : length deck.tasks ≤ 4000) (start : is_code deck.
       let rows = afters_in deck in
       All-append (IsFit Plan Act) (after_links 0 rows) (map (first_link deck) (firsts n rows) ++ map (last_link deck) (lasts n rows))
       (after_links-fit 0 rows (omega (arith, few_afters, length-map deck.afters (after_row deck))) (rows-known deck known))
-      (All-append (IsFit Plan Act) (map (first_link deck) (firsts n rows)) (map (last_link deck) (lasts n rows)) (first_links-fit (firsts n rows) (firsts-below n rows)) (last_links-fit (lasts n rows) (lasts-below n rows)))
+      (All-append (IsFit Plan Act) (map (first_link deck) (firsts n rows)) (map (last_link deck) (lasts n rows))
+      (first_links-fit (firsts n rows) (firsts-below n rows)) (last_links-fit (lasts n rows) (lasts-below n rows)))
 
 -- an item of a deck of tasks is one of a plan
 pub item-fit : (item : ItemCard) → IsFit Tasks Wbs item → IsFit Plan Wbs item

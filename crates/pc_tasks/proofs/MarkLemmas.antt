@@ -49,7 +49,8 @@ filter-agree p q (x ∷ xs) agree =
     ∙ ap (λ kept. cond (q x) (x ∷ kept) kept) (filter-agree p q xs (All-tail (λ x. p x ≡ q x) x xs agree))
 
 -- the numbers without a mark are those that fail the test
-pub unmarked-fail : (n : ℕ) (test : ℕ → Bool) (marks : List Bool) → AreMarks n test marks → filter (λ i. not (get_or marks i false)) (range_with_len 0 (length marks)) ≡ filter (λ i. not (test i)) (range_with_len 0 n)
+pub unmarked-fail : (n : ℕ) (test : ℕ → Bool) (marks : List Bool) → AreMarks n test marks →
+    filter (λ i. not (get_or marks i false)) (range_with_len 0 (length marks)) ≡ filter (λ i. not (test i)) (range_with_len 0 n)
 unmarked-fail n test marks are =
     ap (λ m. filter (λ i. not (get_or marks i false)) (range_with_len 0 m)) are.one_each
     ∙ filter-agree (λ i. not (get_or marks i false)) (λ i. not (test i)) (range_with_len 0 n)

@@ -25,7 +25,8 @@ abbrev arc : ℕ → ℕ → Arc
 arc from to = record { from = from; to = to }
 
 -- the number of a task that is known
-pub task_number-within : (deck : Deck) (after : AfterCard) → IsKnownAfter deck after → (number_among (task_codes deck) after.task < length deck.tasks) × (number_among (task_codes deck) after.before < length deck.tasks)
+pub task_number-within : (deck : Deck) (after : AfterCard) → IsKnownAfter deck after →
+    (number_among (task_codes deck) after.task < length deck.tasks) × (number_among (task_codes deck) after.before < length deck.tasks)
 task_number-within deck after known = (
   omega (arith, found-within after.task (task_codes deck) known.task, length-map deck.tasks (λ task. task.code)),
   omega (arith, found-within after.before (task_codes deck) known.before, length-map deck.tasks (λ task. task.code)),
@@ -54,7 +55,9 @@ module _ (deck : Deck) (can : CanBeDrawn deck) where
   abbrev n : ℕ
   n = length deck.tasks
 
-  between : (from to : List ℕ) (e f : ℕ) → number_among (event_codes (drawn deck)) from ≡ e → number_among (event_codes (drawn deck)) to ≡ f → arc (number_among (event_codes (drawn deck)) from) (number_among (event_codes (drawn deck)) to) ≡ arc e f
+  between : (from to : List ℕ) (e f : ℕ) → number_among (event_codes (drawn deck)) from ≡ e →
+      number_among (event_codes (drawn deck)) to ≡ f →
+      arc (number_among (event_codes (drawn deck)) from) (number_among (event_codes (drawn deck)) to) ≡ arc e f
   between from to e f from_is to_is = ap (λ x. arc x (number_among (event_codes (drawn deck)) to)) from_is ∙ ap (arc e) to_is
 
   task-arcs : (i : ℕ) (tasks : List TaskCard) → i + length tasks ≤ n → map (arc_of (drawn deck)) (task_acts i tasks) ≡ map task_arc (range_with_len i (length tasks))
@@ -68,7 +71,8 @@ module _ (deck : Deck) (can : CanBeDrawn deck) where
   after-arcs j [] known = refl
   after-arcs j (row ∷ rows) known =
       let (task, before) = All-head (IsRow n) row rows known in
-      let here = between (end_code row.before) (begin_code row.task) (end_event row.before) (begin_event row.task) (events.number-end deck can row.before before) (events.number-begin deck can row.task task) in
+      let here = between (end_code row.before) (begin_code row.task) (end_event row.before) (begin_event row.task)
+      (events.number-end deck can row.before before) (events.number-begin deck can row.task task) in
       let rest = after-arcs (j + 1) rows (All-tail (IsRow n) row rows known) in
       ap (λ first. first ∷ map (arc_of (drawn deck)) (after_links (j + 1) rows)) here ∙ ap (λ more. after_arc row ∷ more) rest
 
@@ -110,7 +114,9 @@ module _ (deck : Deck) (can : CanBeDrawn deck) where
   -- the network is that of the arrows
   pub network-is : network_of (drawn deck) ≡ arrows n rows
   network-is =
-      ap (λ events. net events (number_among (event_codes (drawn deck)) deck.project.start) (number_among (event_codes (drawn deck)) deck.project.end) (map (arc_of (drawn deck)) (drawn deck).acts)) (events.length-events deck can)
+      ap (λ events. net events (number_among (event_codes (drawn deck)) deck.project.start)
+      (number_among (event_codes (drawn deck)) deck.project.end) (map (arc_of (drawn deck)) (drawn deck).acts))
+      (events.length-events deck can)
       ∙ (ap (λ start. net (2 * n + 2) start (number_among (event_codes (drawn deck)) deck.project.end) (map (arc_of (drawn deck)) (drawn deck).acts)) (events.number-start deck can)
       ∙ (ap (λ end. net (2 * n + 2) 0 end (map (arc_of (drawn deck)) (drawn deck).acts)) (events.number-last deck can)
       ∙ ap (net (2 * n + 2) 0 (last_event n)) arcs-are))

@@ -15,7 +15,8 @@ is_same code other same = (bytes_decides code other).1 (sym same)
 is_other : (code other : List ℕ) → other ≢ code → pointwise nat_eq code other ≡ false
 is_other code other differs = false_from_ne_true (pointwise nat_eq code other) (λ same. differs (sym ((bytes_decides code other).0 same)))
 
-first_place : (code : List ℕ) (codes : List (List ℕ)) (k : ℕ) → k < length codes → code_at codes k ≡ code → ((j : ℕ) → j < k → code_at codes j ≢ code) → position_or_len (pointwise nat_eq code) codes ≡ k
+first_place : (code : List ℕ) (codes : List (List ℕ)) (k : ℕ) → k < length codes → code_at codes k ≡ code →
+    ((j : ℕ) → j < k → code_at codes j ≢ code) → position_or_len (pointwise nat_eq code) codes ≡ k
 first_place code [] k inside is before = absurd (omega arith)
 first_place code (c ∷ cs) zero inside is before = ap (λ b. cond (not b) (1 + position_or_len (pointwise nat_eq code) cs) 0) (is_same code c is)
 first_place code (c ∷ cs) (suc k) inside is before =

@@ -14,7 +14,8 @@ module _ {X : Type 0} where
       ∙ ap (λ back. front ++ back) (sym (map-range_with_len_more f 0 i i (omega arith)))))
 
   -- what the next element gives
-  pub put_element : {Y : Type 0} (f : Y → X) (ys : List Y) (front now : List X) (i : ℕ) (x : X) (y : Y) → i < length ys → y ≡ get_or ys i y → now ≡ front ++ map f (take i ys) → x ≡ f y → now ++ x ∷ [] ≡ front ++ map f (take (i + 1) ys)
+  pub put_element : {Y : Type 0} (f : Y → X) (ys : List Y) (front now : List X) (i : ℕ) (x : X) (y : Y) → i < length ys →
+      y ≡ get_or ys i y → now ≡ front ++ map f (take i ys) → x ≡ f y → now ++ x ∷ [] ≡ front ++ map f (take (i + 1) ys)
   put_element f ys front now i x y inside at is here =
       ap (λ xs. xs ++ x ∷ []) is
       ∙ (ap (λ z. (front ++ map f (take i ys)) ++ z ∷ []) (here ∙ ap f at)

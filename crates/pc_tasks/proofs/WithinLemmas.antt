@@ -61,7 +61,8 @@ found-code [] all code is = absurd cc
 found-code (item ∷ items) all code is =
     by (is_none item.parent) is (found-code items (All-tail (IsFit Tasks Wbs) item items all) code)
   where
-    by : (test : Bool) → code_of_top (cond test (Some item) (find (λ item. is_none item.parent) items)) ≡ Some code → (code_of_top (find (λ item. is_none item.parent) items) ≡ Some code → is_code code ≡ true) → is_code code ≡ true
+    by : (test : Bool) → code_of_top (cond test (Some item) (find (λ item. is_none item.parent) items)) ≡ Some code →
+        (code_of_top (find (λ item. is_none item.parent) items) ≡ Some code → is_code code ≡ true) → is_code code ≡ true
     by true here go = let same : item.code ≡ code = cc in subst (λ c. is_code c ≡ true) same (given-code item.code (item-given item (All-head (IsFit Tasks Wbs) item items all)))
     by false there go = go there
 
@@ -169,7 +170,8 @@ module _ (deck : Deck) (within : IsWithin Tasks deck) where
     events-within : IsListWithin Plan Event 2 (drawn deck).events
     events-within = record {
       few = omega (arith, events.length-events deck can, few-tasks);
-      fit = All-cons (IsFit Plan Event) (drawn_event deck.project.start) (task_events 0 deck.tasks ++ drawn_event deck.project.end ∷ []) (event-fit deck.project.start (given-code deck.project.start start-is))
+      fit = All-cons (IsFit Plan Event) (drawn_event deck.project.start) (task_events 0 deck.tasks ++ drawn_event deck.project.end ∷ [])
+          (event-fit deck.project.start (given-code deck.project.start start-is))
           (All-append (IsFit Plan Event) (task_events 0 deck.tasks) (drawn_event deck.project.end ∷ []) (task_events-fit 0 deck.tasks (omega (arith, few-tasks)))
           (All-one (IsFit Plan Event) (drawn_event deck.project.end) (event-fit deck.project.end (given-code deck.project.end end-is))));
       differ = λ coded. events.events-differ deck can;
@@ -205,7 +207,8 @@ module _ (deck : Deck) (within : IsWithin Tasks deck) where
         (once-append s t (drawn-once 115 heads (AreOnce-filter (λ i. not (comes_after rows i)) (range_with_len 0 n) (range-once n)) (small heads (firsts-below n rows)))
         (drawn-once 116 tails (AreOnce-filter (λ i. not (comes_before rows i)) (range_with_len 0 n) (range-once n)) (small tails (lasts-below n rows)))
         (letters-apart 115 116 heads tails (λ same. omega (arith, same))))
-        (apart-append a s t (letters-apart 97 115 (range_with_len 0 (length rows)) heads (λ same. omega (arith, same))) (letters-apart 97 116 (range_with_len 0 (length rows)) tails (λ same. omega (arith, same))))
+        (apart-append a s t (letters-apart 97 115 (range_with_len 0 (length rows)) heads (λ same. omega (arith, same)))
+        (letters-apart 97 116 (range_with_len 0 (length rows)) tails (λ same. omega (arith, same))))
 
     -- none of them is that of a task
     task-drawn : (l : ℕ) (xs : List ℕ) → AreApart (task_codes deck) (map (drawn_code l) xs)
@@ -217,7 +220,8 @@ module _ (deck : Deck) (within : IsWithin Tasks deck) where
     acts-once =
         subst IsNamedOnce (sym (acts-are deck ∙ ap (λ back. task_codes deck ++ back) links-codes))
         (once-append (task_codes deck) drawn_codes ((within Task).differ refl) drawn_codes-once
-        (apart-append (task_codes deck) (map (drawn_code 97) (range_with_len 0 (length rows))) (map (drawn_code 115) heads ++ map (drawn_code 116) tails) (task-drawn 97 (range_with_len 0 (length rows)))
+        (apart-append (task_codes deck) (map (drawn_code 97) (range_with_len 0 (length rows)))
+        (map (drawn_code 115) heads ++ map (drawn_code 116) tails) (task-drawn 97 (range_with_len 0 (length rows)))
         (apart-append (task_codes deck) (map (drawn_code 115) heads) (map (drawn_code 116) tails) (task-drawn 115 heads) (task-drawn 116 tails))))
 
     length-links : length (links_of deck) ≡ length rows + (length heads + length tails)

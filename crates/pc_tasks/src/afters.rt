@@ -21,7 +21,8 @@ pub(crate) struct FoundAfters {
 
 /// Looks up the tasks of each AFTER card.
 pub(crate) fn find_afters(alloc: Global, cards: &TaskCards) -> Result<FoundAfters, AllocError>
-    ensures first { IfOk result (λ found. IsFirstIn (λ fault. Any (λ card. HasAfterFault cards.now card fault) cards.now.afters) found.fault) }
+    ensures first { IfOk result (λ found. IsFirstIn
+        (λ fault. Any (λ card. HasAfterFault cards.now card fault) cards.now.afters) found.fault) }
     ensures rows { IfOk result (λ found. found.fault ≡ None → found.rows.items ≡ afters_in cards.now) }
 {
     let list = cards.afters();

@@ -21,7 +21,8 @@ use pc_arrows::arrow_laws::{arrows_keep_least_costs, arrows_keep_schedules};
 
 /// The deck that is drawn has the arrows of the tasks: their network, what they may last and cost, and the pieces of their costs.
 pub fn drawn_deck_has_the_arrows()
-    ensures network { (deck : Deck) → CanBeDrawn deck → network_of (drawn deck) ≡ arrows (length (task_terms deck)) (afters_in deck) }
+    ensures network { (deck : Deck) → CanBeDrawn deck →
+        network_of (drawn deck) ≡ arrows (length (task_terms deck)) (afters_in deck) }
     ensures terms { (deck : Deck) → terms_in (drawn deck) ≡ arrow_terms (task_terms deck) (afters_in deck) }
     ensures pieces { (deck : Deck) → CanBeDrawn deck → pieces_in (drawn deck) ≡ task_pieces deck }
 {}
@@ -35,10 +36,12 @@ pub fn drawn_deck_is_within_limits()
 /// the other.
 pub fn drawn_deck_keeps_least_costs()
     ensures schedules { (deck : Deck) (limit : ℕ) → CanBeDrawn deck → IsSound (network_of (drawn deck)) →
-        (HasTaskSchedule (task_terms deck) (afters_in deck) limit ↔ HasSchedule (network_of (drawn deck)) (terms_in (drawn deck)) limit) }
+        (HasTaskSchedule (task_terms deck) (afters_in deck) limit
+        ↔ HasSchedule (network_of (drawn deck)) (terms_in (drawn deck)) limit) }
     ensures costs { (deck : Deck) (limit cost : ℕ) → CanBeDrawn deck → IsSound (network_of (drawn deck)) →
         (IsLeastTaskCost (task_terms deck) (knees_of (task_terms deck) (task_pieces deck)) (afters_in deck) limit cost
-        ↔ IsLeastCost (network_of (drawn deck)) (terms_in (drawn deck)) (knees_of (terms_in (drawn deck)) (pieces_in (drawn deck))) limit cost) }
+        ↔ IsLeastCost (network_of (drawn deck)) (terms_in (drawn deck))
+        (knees_of (terms_in (drawn deck)) (pieces_in (drawn deck))) limit cost) }
 {
     arrows_keep_schedules();
     arrows_keep_least_costs();

@@ -55,7 +55,8 @@ fn coming_before(alloc: Global, tasks: u32, afters: &[AfterRow]) -> Result<Vec<b
 /// The numbers that are not marked, in their order.
 fn unmarked(alloc: Global, marks: &[bool]) -> Result<Vec<u32>, AllocError>
     requires { length marks.now < 2 ^ 32 }
-    ensures { IfOk result (λ found. found.items ≡ filter (λ i. not (slice_index_or marks.now i false)) (range_with_len 0 (length marks.now))) }
+    ensures { IfOk result (λ found. found.items
+        ≡ filter (λ i. not (slice_index_or marks.now i false)) (range_with_len 0 (length marks.now))) }
 {
     let mut found = Vec::with_capacity(alloc, marks.len())?;
     for i in 0..marks.len() as u32 {

@@ -106,7 +106,9 @@ fn circle_fault(
 fn told(alloc: Global, cards: &TaskCards, circle: &[u32]) -> Result<Fault, AllocError>
     requires some { 0 < length circle.now }
     requires known { All (λ task. task < length cards.now.tasks) circle.now }
-    ensures { IfOk result (λ fault. fault ≡ task_cycle (slice_index (task_records cards.now) (slice_index circle.now 0)) (codes_at (task_codes cards.now) circle.now)) }
+    ensures { IfOk result (λ fault. fault
+        ≡ task_cycle (slice_index (task_records cards.now) (slice_index circle.now 0))
+        (codes_at (task_codes cards.now) circle.now)) }
 {
     let row = task_row(cards, circle[0]);
     let codes = codes_of_tasks(alloc, cards)?;

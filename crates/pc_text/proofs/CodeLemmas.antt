@@ -1,5 +1,6 @@
 -- Copying a text into cells, byte by byte.
-use Rattle.std.proofs.Common.{◌≡◌, ℕ, ◌+◌, ◌-◌, ◌<◌, ◌≤◌, Bool, true, List, [], ◌∷◌, ◌++◌, length, take, drop, set, get_or, replicate, refl, sym, ap, ◌∙◌, arith, suc, append_assoc, length-take-le, add-one, drop-cons}
+use Rattle.std.proofs.Common.{◌≡◌, ℕ, ◌+◌, ◌-◌, ◌<◌, ◌≤◌, Bool, true, List, [], ◌∷◌, ◌++◌, length, take, drop, set, get_or}
+use Rattle.std.proofs.Common.{replicate, refl, sym, ap, ◌∙◌, arith, suc, append_assoc, length-take-le, add-one, drop-cons}
 use Rattle.std.proofs.lemmas.List.{take_more}
 use Rattle.std.proofs.Math.Seq.{set-append_seam}
 use Rattle.std.specs.List.{list_all}
@@ -9,7 +10,8 @@ set_behind : (xs : List ℕ) (zeros : ℕ) (y : ℕ) → set (xs ++ replicate (s
 set_behind xs zeros y = set-append_seam xs 0 (replicate zeros 0) y
 
 -- one more byte is copied
-pub one_more_copied : (field : List ℕ) (i : ℕ) → i < length field → length field ≤ 16 → set (take i field ++ replicate (16 - i) 0) i (get_or field i 0) ≡ take (i + 1) field ++ replicate (16 - (i + 1)) 0
+pub one_more_copied : (field : List ℕ) (i : ℕ) → i < length field → length field ≤ 16 →
+    set (take i field ++ replicate (16 - i) 0) i (get_or field i 0) ≡ take (i + 1) field ++ replicate (16 - (i + 1)) 0
 one_more_copied field i below short =
     let long : length (take i field) ≡ i = length-take-le i field (omega arith) in
     let room : 16 - i ≡ suc (16 - (i + 1)) = omega arith in

@@ -1,5 +1,6 @@
 -- Writing a decimal form from its last digit on.
-use Rattle.std.proofs.Common.{◌≡◌, ℕ, ◌+◌, ◌-◌, ◌/◌, ◌%◌, ◌^◌, ◌<◌, ◌≤◌, ℤ, pos, negsuc, ◌≤ℤ◌, ◌<ℤ◌, List, [], ◌∷◌, ◌++◌, length, drop, set, refl, sym, ap, ◌∙◌, arith, length-append, length-drop, append-nil, append_assoc}
+use Rattle.std.proofs.Common.{◌≡◌, ℕ, ◌+◌, ◌-◌, ◌/◌, ◌%◌, ◌^◌, ◌<◌, ◌≤◌, ℤ, pos, negsuc, ◌≤ℤ◌, ◌<ℤ◌, List, [], ◌∷◌, ◌++◌, length}
+use Rattle.std.proofs.Common.{drop, set, refl, sym, ap, ◌∙◌, arith, length-append, length-drop, append-nil, append_assoc}
 use Rattle.std.proofs.lemmas.Fmt.{decimal_step_wide, decimal_digit, decimal_is_IsNumeral_wide, length-decimal-le, length-decimal-le_wide}
 use Rattle.std.proofs.lemmas.List.{drop-set, drop_all}
 use Rattle.std.proofs.lemmas.Int.{ints}
@@ -63,7 +64,8 @@ room_for_sign n start cells small full within whole =
     omega (arith, length-decimal-le 19 n (omega arith) small (omega arith), ap length whole, length-drop start cells)
 
 -- the sign of a number below 0 goes before its digits
-pub with_sign : (z : ℤ) (start : ℕ) (cells : List ℕ) → z <ℤ pos 0 → 1 ≤ start → start ≤ length cells → drop start cells ≡ decimal (unsigned_abs z) → drop (start - 1) (set cells (start - 1) 45) ≡ signed_decimal z
+pub with_sign : (z : ℤ) (start : ℕ) (cells : List ℕ) → z <ℤ pos 0 → 1 ≤ start → start ≤ length cells →
+    drop start cells ≡ decimal (unsigned_abs z) → drop (start - 1) (set cells (start - 1) 45) ≡ signed_decimal z
 with_sign (pos n) start cells below some within whole = absurd (omega (arith, ints))
 with_sign (negsuc n) start cells below some within whole = written start 45 cells some within ∙ ap (λ back. 45 ∷ back) whole
 

@@ -90,7 +90,8 @@ field_by_takes {A} read bytes x e =
     let same : (value.0, word.0.1) ≡ x = cc in
     subst (λ (y : A × List ℕ). TakesWord read bytes (y.0) (y.1)) same (record { word = word.0.0; text = field_takes bytes (word.0) (word.1); reads = value.1 })
 
-pub field_by_again : {A : Type 0} (read : List ℕ → Option A) (word rest : List ℕ) (value : A) → Lacks 32 word → IsBehind rest → read word ≡ Some value → field_by read (spaced word rest) ≡ Some (value, rest)
+pub field_by_again : {A : Type 0} (read : List ℕ → Option A) (word rest : List ℕ) (value : A) → Lacks 32 word → IsBehind rest →
+    read word ≡ Some value → field_by read (spaced word rest) ≡ Some (value, rest)
 unfolding field_by
 field_by_again read word rest value h behind reads = rw (field_again word rest h behind, reads) refl
 

@@ -28,7 +28,8 @@ pub no_name : {A : Type 0} (Reads : List ℕ → Type 0) (word : List ℕ) (a : 
 no_name Reads word a e = absurd cc
 
 -- a line of one word
-pub one_word : {A : Type 0} (spelling : A → List ℕ) (Fits : A → Type 0) (word fields : List ℕ) (known a : A) → word ≡ spelling known → Fits known → alone fields known ≡ Some a → IsSpelled spelling Fits word fields a
+pub one_word : {A : Type 0} (spelling : A → List ℕ) (Fits : A → Type 0) (word fields : List ℕ) (known a : A) → word ≡ spelling known →
+    Fits known → alone fields known ≡ Some a → IsSpelled spelling Fits word fields a
 one_word spelling Fits word fields known a is fits e =
     let end = alone_takes fields known a e in
     subst (λ b. IsSpelled spelling Fits word fields b) (end.1) (record { text = ap (λ x. word ++ x) (end.0) ∙ append-nil word ∙ is; fits = fits })

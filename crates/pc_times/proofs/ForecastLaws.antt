@@ -1,5 +1,6 @@
 -- How a forecast is made in the order of the events, and why there is one.
-use Rattle.std.proofs.Common.{◌≡◌, ◌≢◌, ℕ, zero, suc, ◌+◌, ◌*◌, ◌<◌, ◌≤◌, ◌^◌, ◌==◌, ◌⊎◌, inl, ⊎_elim, List, length, slice_index, set, get_or-set_same, get_or-set_other, length-set, refl, sym, ap, ◌∙◌, subst, Bool, true, false, cond, max, below_more, arith}
+use Rattle.std.proofs.Common.{◌≡◌, ◌≢◌, ℕ, zero, suc, ◌+◌, ◌*◌, ◌<◌, ◌≤◌, ◌^◌, ◌==◌, ◌⊎◌, inl, ⊎_elim, List, length, slice_index, set, get_or-set_same}
+use Rattle.std.proofs.Common.{get_or-set_other, length-set, refl, sym, ap, ◌∙◌, subst, Bool, true, false, cond, max, below_more, arith}
 use Rattle.std.proofs.Math.Nat.{mul-le-mul_right}
 use Rattle.std.proofs.lemmas.Bool.{cases_eq, cases_lt}
 use Rattle.std.proofs.lemmas.List.{ext_get_or, get_or_past}
@@ -24,7 +25,9 @@ pub record IsLastOf (g : ℕ → ℕ) (items : List ℕ) (k n : ℕ) : Type 0 wh
 pub last_more : (g : ℕ → ℕ) (items : List ℕ) (k n m : ℕ) → IsLastOf g items k n → m ≡ g (slice_index items k) → IsLastOf g items (k + 1) (max n m)
 last_more g items k n m so_far is = record {
   above = below_more (λ j. g (slice_index items j) ≤ max n m) k (λ j lower. omega (arith, so_far.above j lower)) (omega arith);
-  met = ⊎_elim (λ less. inl (k, (omega arith, omega arith))) (λ no_less. ⊎_elim (λ (j, (lower, at)). inl (j, (omega arith, omega arith))) (λ (zero_is, none). inl (k, (omega arith, omega arith))) so_far.met) (cases_lt n m);
+  met = ⊎_elim (λ less. inl (k, (omega arith, omega arith)))
+      (λ no_less. ⊎_elim (λ (j, (lower, at)). inl (j, (omega arith, omega arith)))
+      (λ (zero_is, none). inl (k, (omega arith, omega arith))) so_far.met) (cases_lt n m);
 }
 
 -- an event that is not the start is entered
@@ -36,13 +39,16 @@ entered net sound e below not_start =
     (last_of_walk net.arcs net.start e walk walked)
 
 -- the activities that are listed at an event are all
-pub last_all : (net : Network) (g : ℕ → ℕ) (items : List ℕ) (e k n : ℕ) → IsSound net → e < net.events → IsListed (λ a. to_of net.arcs a ≡ e) (length net.arcs) items → k ≡ length items → IsLastOf g items k n → IsLastAt net g e n
+pub last_all : (net : Network) (g : ℕ → ℕ) (items : List ℕ) (e k n : ℕ) → IsSound net → e < net.events →
+    IsListed (λ a. to_of net.arcs a ≡ e) (length net.arcs) items → k ≡ length items → IsLastOf g items k n → IsLastAt net g e n
 last_all net g items e k n sound below listed all so_far = record {
   above = λ a in_arcs ends. let (j, lower, at) = listed.every a in_arcs ends in omega (arith, so_far.above j (omega arith), ap g at);
   met = λ not_start. ⊎_elim (λ (j, (lower, at)). (slice_index items j, ((listed.each j (omega arith)).0, (listed.each j (omega arith)).1, at)))
       (λ (zero_is, none). let (a, in_arcs, ends) = entered net sound e below not_start in let (j, lower, at) = listed.every a in_arcs ends in absurd (omega arith))
       so_far.met;
-  none = λ start. ⊎_elim (λ (j, (lower, at)). absurd (sound.not_entered (slice_index items j, (listed.each j (omega arith)).0, (listed.each j (omega arith)).1 ∙ start))) (λ (zero_is, none). zero_is) so_far.met;
+  none = λ start. ⊎_elim (λ (j, (lower, at)). absurd
+      (sound.not_entered (slice_index items j, (listed.each j (omega arith)).0, (listed.each j (omega arith)).1 ∙ start)))
+      (λ (zero_is, none). zero_is) so_far.met;
 }
 
 -- the first k events of the order have their times
@@ -52,7 +58,8 @@ pub record AreLastTo (net : Network) (lengths : List ℕ) (states : List ActStat
   pub small : (e : ℕ) → slice_index times e ≤ 2 ^ 40 + k * MAX_LENGTH
 
 -- a finish is later than the times before it by no more than the greatest length
-finish_bound : (state : ActState) (len as_of begin most : ℕ) → IsSmallState state → len ≤ MAX_LENGTH → as_of < 2 ^ 40 → 2 ^ 40 ≤ most → begin ≤ most → finish_of state len as_of begin ≤ most + MAX_LENGTH
+finish_bound : (state : ActState) (len as_of begin most : ℕ) → IsSmallState state → len ≤ MAX_LENGTH → as_of < 2 ^ 40 → 2 ^ 40 ≤ most →
+    begin ≤ most → finish_of state len as_of begin ≤ most + MAX_LENGTH
 finish_bound (Finished at) len as_of begin most state short early large below = omega (arith, state)
 finish_bound (Started at) len as_of begin most state short early large below = omega (arith, state)
 finish_bound Waiting len as_of begin most state short early large below = by_test (len == 0)
@@ -61,12 +68,16 @@ finish_bound Waiting len as_of begin most state short early large below = by_tes
     by_test true = omega arith
     by_test false = omega arith
 
-pub finish_at-bound : (net : Network) (lengths : List ℕ) (states : List ActState) (as_of most : ℕ) (times : List ℕ) (a : ℕ) → AreLengths net lengths → AreStates net states → as_of < 2 ^ 40 → 2 ^ 40 ≤ most → ((e : ℕ) → slice_index times e ≤ most) → a < length net.arcs → finish_at net lengths states as_of times a ≤ most + MAX_LENGTH
+pub finish_at-bound : (net : Network) (lengths : List ℕ) (states : List ActState) (as_of most : ℕ) (times : List ℕ) (a : ℕ) →
+    AreLengths net lengths → AreStates net states → as_of < 2 ^ 40 → 2 ^ 40 ≤ most → ((e : ℕ) → slice_index times e ≤ most) →
+    a < length net.arcs → finish_at net lengths states as_of times a ≤ most + MAX_LENGTH
 finish_at-bound net lengths states as_of most times a fit known early large small in_arcs =
     finish_bound (state_at states a) (slice_index lengths a) as_of (slice_index times (from_of net.arcs a)) most (known.small a in_arcs) (fit.small a in_arcs) early large (small (from_of net.arcs a))
 
 -- times that agree where an activity begins give it the same finish
-finish_same : (net : Network) (lengths : List ℕ) (states : List ActState) (as_of : ℕ) (times other : List ℕ) (a : ℕ) → slice_index times (from_of net.arcs a) ≡ slice_index other (from_of net.arcs a) → finish_at net lengths states as_of times a ≡ finish_at net lengths states as_of other a
+finish_same : (net : Network) (lengths : List ℕ) (states : List ActState) (as_of : ℕ) (times other : List ℕ) (a : ℕ) →
+    slice_index times (from_of net.arcs a) ≡ slice_index other (from_of net.arcs a) →
+    finish_at net lengths states as_of times a ≡ finish_at net lengths states as_of other a
 finish_same net lengths states as_of times other a same =
     ap (λ (n : ℕ). finish_of (state_at states a) (slice_index lengths a) as_of n) same
 
@@ -79,20 +90,32 @@ last_same net g h e n same last = record {
 }
 
 -- one event more
-pub last_step : (net : Network) (lengths : List ℕ) (states : List ActState) (as_of : ℕ) (times order : List ℕ) (k n : ℕ) → IsOrder net order → AreLengths net lengths → AreStates net states → as_of < 2 ^ 40 → AreLastTo net lengths states as_of times order k → k < length order → IsLastAt net (finish_at net lengths states as_of times) (slice_index order k) n → AreLastTo net lengths states as_of (set times (slice_index order k) n) order (k + 1)
+pub last_step : (net : Network) (lengths : List ℕ) (states : List ActState) (as_of : ℕ) (times order : List ℕ) (k n : ℕ) →
+    IsOrder net order → AreLengths net lengths → AreStates net states → as_of < 2 ^ 40 → AreLastTo net lengths states as_of times order k →
+    k < length order → IsLastAt net (finish_at net lengths states as_of times) (slice_index order k) n →
+    AreLastTo net lengths states as_of (set times (slice_index order k) n) order (k + 1)
 last_step net lengths states as_of times order k n ordered fit known early so_far in_order last = record {
   one_each = length-set times event n ∙ so_far.one_each;
   each = below_more _ k
-      (λ j lower. rw (get_or-set_other times event (slice_index order j) n 0 (ordered.part.once j k lower in_order)) (last_same net _ _ (slice_index order j) (slice_index times (slice_index order j)) (λ a in_arcs ends. keeps j (omega arith) a in_arcs ends) (so_far.each j lower)))
+      (λ j lower. rw (get_or-set_other times event (slice_index order j) n 0 (ordered.part.once j k lower in_order))
+      (last_same net _ _ (slice_index order j) (slice_index times (slice_index order j))
+      (λ a in_arcs ends. keeps j (omega arith) a in_arcs ends) (so_far.each j lower)))
       (rw (get_or-set_same times event n 0 (omega (arith, so_far.one_each, ordered.part.range k in_order))) (last_same net _ _ event n (λ a in_arcs ends. keeps k (omega arith) a in_arcs ends) last));
-  small = λ e. ⊎_elim (λ same. omega (arith, ap (slice_index (set times event n)) same, get_or-set_same times event n 0 (omega (arith, so_far.one_each, ordered.part.range k in_order)), bound)) (λ apart. omega (arith, get_or-set_other times event e n 0 apart, so_far.small e)) (cases_eq e event);
+  small = λ e. ⊎_elim (λ same. omega (
+    arith,
+    ap (slice_index (set times event n)) same,
+    get_or-set_same times event n 0 (omega (arith, so_far.one_each, ordered.part.range k in_order)),
+    bound,
+  ))
+      (λ apart. omega (arith, get_or-set_other times event e n 0 apart, so_far.small e)) (cases_eq e event);
 }
   where
     event : ℕ
     event = slice_index order k
 
     -- no activity that ends at one of these events begins at the last of them
-    keeps : (j : ℕ) → j ≤ k → (a : ℕ) → a < length net.arcs → to_of net.arcs a ≡ slice_index order j → finish_at net lengths states as_of times a ≡ finish_at net lengths states as_of (set times event n) a
+    keeps : (j : ℕ) → j ≤ k → (a : ℕ) → a < length net.arcs → to_of net.arcs a ≡ slice_index order j →
+        finish_at net lengths states as_of times a ≡ finish_at net lengths states as_of (set times event n) a
     keeps j le a in_arcs ends =
         let (i, lower, at) = ordered.part.before j a (omega arith) in_arcs ends in
         let apart : from_of net.arcs a ≢ event = λ same. ordered.part.once i k (omega arith) in_order (at ∙ same) in
@@ -101,32 +124,46 @@ last_step net lengths states as_of times order k n ordered fit known early so_fa
     bound : n ≤ 2 ^ 40 + (k + 1) * MAX_LENGTH
     bound =
         ⊎_elim (λ start. omega (arith, last.none start))
-        (λ not_start. let (a, (in_arcs, ends, at)) = last.met not_start in omega (arith, finish_at-bound net lengths states as_of (2 ^ 40 + k * MAX_LENGTH) times a fit known early (omega arith) so_far.small in_arcs))
+        (λ not_start. let (a, (in_arcs, ends, at)) = last.met not_start in
+        omega (
+          arith,
+          finish_at-bound net lengths states as_of (2 ^ 40 + k * MAX_LENGTH) times a fit known early
+              (omega arith) so_far.small in_arcs,
+        ))
         (cases_eq event net.start)
 
 -- the times so far are no later than that
-pub small_so_far : (net : Network) (lengths : List ℕ) (states : List ActState) (as_of : ℕ) (times order : List ℕ) (k : ℕ) → net.events ≤ MAX_EVENTS → k ≤ net.events → AreLastTo net lengths states as_of times order k → (e : ℕ) → slice_index times e ≤ 2 ^ 40 + MAX_TIME
+pub small_so_far : (net : Network) (lengths : List ℕ) (states : List ActState) (as_of : ℕ) (times order : List ℕ) (k : ℕ) →
+    net.events ≤ MAX_EVENTS → k ≤ net.events → AreLastTo net lengths states as_of times order k → (e : ℕ) →
+    slice_index times e ≤ 2 ^ 40 + MAX_TIME
 small_so_far net lengths states as_of times order k few le so_far e =
     let least : k ≤ MAX_EVENTS = omega arith in
     omega (arith, so_far.small e, mul-le-mul_right MAX_LENGTH least)
 
 -- all events
-pub last_times : (net : Network) (lengths : List ℕ) (states : List ActState) (as_of : ℕ) (times order : List ℕ) (k : ℕ) → net.events ≤ MAX_EVENTS → IsOrder net order → k ≡ length order → AreLastTo net lengths states as_of times order k → AreLast net lengths states as_of times
+pub last_times : (net : Network) (lengths : List ℕ) (states : List ActState) (as_of : ℕ) (times order : List ℕ) (k : ℕ) →
+    net.events ≤ MAX_EVENTS → IsOrder net order → k ≡ length order → AreLastTo net lengths states as_of times order k →
+    AreLast net lengths states as_of times
 last_times net lengths states as_of times order k few ordered all so_far = record {
   one_each = so_far.one_each;
-  each = λ e below. let (j, in_order, at) = stands_in_order net order ordered e below in subst (λ (x : ℕ). IsLastAt net (finish_at net lengths states as_of times) x (slice_index times x)) at (so_far.each j (omega arith));
+  each = λ e below. let (j, in_order, at) = stands_in_order net order ordered e below in
+      subst (λ (x : ℕ). IsLastAt net (finish_at net lengths states as_of times) x (slice_index times x)) at (so_far.each j (omega arith));
   small = small_so_far net lengths states as_of times order k few (omega (arith, ordered.whole)) so_far;
 }
 
 -- and all finishes
-pub small_finishes : (net : Network) (lengths : List ℕ) (states : List ActState) (as_of : ℕ) (times finishes : List ℕ) → AreLengths net lengths → AreStates net states → as_of < 2 ^ 40 → AreLast net lengths states as_of times → AreFinishes net lengths states as_of times (length net.arcs) finishes → (a : ℕ) → slice_index finishes a < 2 ^ 41
+pub small_finishes : (net : Network) (lengths : List ℕ) (states : List ActState) (as_of : ℕ) (times finishes : List ℕ) →
+    AreLengths net lengths → AreStates net states → as_of < 2 ^ 40 → AreLast net lengths states as_of times →
+    AreFinishes net lengths states as_of times (length net.arcs) finishes → (a : ℕ) → slice_index finishes a < 2 ^ 41
 small_finishes net lengths states as_of times finishes fit known early last ends a =
     ⊎_elim (λ in_arcs. omega (arith, ends.each a in_arcs, finish_at-bound net lengths states as_of (2 ^ 40 + MAX_TIME) times a fit known early (omega arith) last.small in_arcs))
     (λ past. omega (arith, get_or_past finishes a 0 (omega (arith, ends.one_each))))
     (cases_lt a (length net.arcs))
 
 -- the times and finishes are a forecast
-pub forecast_made : (net : Network) (lengths : List ℕ) (states : List ActState) (as_of : ℕ) (times finishes : List ℕ) → IsInRange net → AreLast net lengths states as_of times → AreFinishes net lengths states as_of times (length net.arcs) finishes → IsForecast net lengths states as_of (record { times = times; finishes = finishes })
+pub forecast_made : (net : Network) (lengths : List ℕ) (states : List ActState) (as_of : ℕ) (times finishes : List ℕ) → IsInRange net →
+    AreLast net lengths states as_of times → AreFinishes net lengths states as_of times (length net.arcs) finishes →
+    IsForecast net lengths states as_of (record { times = times; finishes = finishes })
 forecast_made net lengths states as_of times finishes ranged last ends = record {
   one_each = last.one_each;
   finish_each = ends.one_each;
@@ -139,7 +176,8 @@ forecast_made net lengths states as_of times finishes ranged last ends = record 
 }
 
 -- two forecasts have the same times
-module _ (net : Network) (lengths : List ℕ) (states : List ActState) (as_of : ℕ) (order : List ℕ) (ordered : IsOrder net order) (one other : Expected) (first : IsForecast net lengths states as_of one) (second : IsForecast net lengths states as_of other) where
+module _ (net : Network) (lengths : List ℕ) (states : List ActState) (as_of : ℕ) (order : List ℕ) (ordered : IsOrder net order)
+    (one other : Expected) (first : IsForecast net lengths states as_of one) (second : IsForecast net lengths states as_of other) where
   -- the two agree on the first k events
   AgreeTo : ℕ → Type 0
   AgreeTo k = (j : ℕ) → j < k → slice_index one.times (slice_index order j) ≡ slice_index other.times (slice_index order j)
@@ -148,7 +186,9 @@ module _ (net : Network) (lengths : List ℕ) (states : List ActState) (as_of : 
   unfolding AgreeTo
   finish_is k in_order agree a in_arcs ends =
       let (i, lower, at) = ordered.part.before k a in_order in_arcs ends in
-      let begins : slice_index one.times (from_of net.arcs a) ≡ slice_index other.times (from_of net.arcs a) = subst (λ (n : ℕ). slice_index one.times n ≡ slice_index other.times n) at (agree i lower) in
+      let begins : slice_index one.times (from_of net.arcs a)
+      ≡ slice_index other.times (from_of net.arcs a) =
+      subst (λ (n : ℕ). slice_index one.times n ≡ slice_index other.times n) at (agree i lower) in
       first.activity a in_arcs ∙ (finish_same net lengths states as_of one.times other.times a begins ∙ sym (second.activity a in_arcs))
 
   same_next : (k : ℕ) → k < length order → AgreeTo k → slice_index one.times (slice_index order k) ≡ slice_index other.times (slice_index order k)
@@ -170,7 +210,9 @@ module _ (net : Network) (lengths : List ℕ) (states : List ActState) (as_of : 
   unfolding AgreeTo
   same_to zero le j lt = absurd (omega arith)
   same_to (suc k) le j lt =
-      ⊎_elim (λ same. subst (λ (n : ℕ). slice_index one.times (slice_index order n) ≡ slice_index other.times (slice_index order n)) (sym same) (same_next k (omega arith) (same_to k (omega arith)))) (λ apart. same_to k (omega arith) j (omega arith)) (cases_eq j k)
+      ⊎_elim (λ same. subst (λ (n : ℕ). slice_index one.times (slice_index order n) ≡ slice_index other.times (slice_index order n))
+      (sym same) (same_next k (omega arith) (same_to k (omega arith)))) (λ apart. same_to k (omega arith) j (omega arith))
+      (cases_eq j k)
 
   same_times : one.times ≡ other.times
   unfolding AgreeTo
@@ -183,7 +225,8 @@ module _ (net : Network) (lengths : List ℕ) (states : List ActState) (as_of : 
   same_finishes =
       ext_get_or 0 one.finishes other.finishes (first.finish_each ∙ sym second.finish_each)
       (λ a below. let in_arcs : a < length net.arcs = omega (arith, first.finish_each) in
-      first.activity a in_arcs ∙ (finish_same net lengths states as_of one.times other.times a (ap (λ (ts : List ℕ). slice_index ts (from_of net.arcs a)) same_times) ∙ sym (second.activity a in_arcs)))
+      first.activity a in_arcs ∙ (finish_same net lengths states as_of one.times other.times a
+      (ap (λ (ts : List ℕ). slice_index ts (from_of net.arcs a)) same_times) ∙ sym (second.activity a in_arcs)))
 
   pub forecast_only : one ≡ other
   forecast_only =

@@ -20,12 +20,14 @@ greatest_time net lengths walks = omega (arith, mul-le-mul_right MAX_LENGTH walk
 -- no event's time is above the greatest one
 pub early_limit : (net : Network) (lengths times : List ℕ) → HasBoundedWalks net lengths → AreEarly net lengths times → All (λ time. time ≤ MAX_TIME) times
 early_limit net lengths times walks early =
-    All-from_get_or (λ time. time ≤ MAX_TIME) times 0 (λ e below. let in_net : e < net.events = omega (arith, early.one_each) in omega (arith, greatest_time net lengths walks, walks.fits _ e _ in_net (early.each e in_net).attained))
+    All-from_get_or (λ time. time ≤ MAX_TIME) times 0 (λ e below. let in_net : e < net.events = omega (arith, early.one_each) in
+    omega (arith, greatest_time net lengths walks, walks.fits _ e _ in_net (early.each e in_net).attained))
 
 -- nor is a sum over a walk to the end
 pub tails_limit : (net : Network) (lengths tails : List ℕ) → HasBoundedWalks net lengths → AreTails net lengths tails → All (λ tail. tail ≤ MAX_TIME) tails
 tails_limit net lengths tails walks late =
-    All-from_get_or (λ tail. tail ≤ MAX_TIME) tails 0 (λ e below. let in_net : e < net.events = omega (arith, late.one_each) in omega (arith, greatest_time net lengths walks, walks.fits e _ _ walks.ranged.end_in (late.each e in_net).attained))
+    All-from_get_or (λ tail. tail ≤ MAX_TIME) tails 0 (λ e below. let in_net : e < net.events = omega (arith, late.one_each) in
+    omega (arith, greatest_time net lengths walks, walks.fits e _ _ walks.ranged.end_in (late.each e in_net).attained))
 
 -- the time to be met less the sums to the end are the latest times
 pub late_from_tails : (net : Network) (lengths tails : List ℕ) (by : ℤ) → AreTails net lengths tails → AreLate net lengths by (map (λ n. by -ℤ pos n) tails)
@@ -39,7 +41,9 @@ pub late_limit : (tails : List ℕ) (by : ℤ) → All (λ tail. tail ≤ MAX_TI
 late_limit tails by small = All-map (IsUpTo by) (λ n. by -ℤ pos n) tails (λ k d below. let fits : slice_index_or tails k d ≤ MAX_TIME = small k d below in (omega (arith, ints), omega (arith, ints)))
 
 -- one time more, that of the next event
-pub late_more : (by : ℤ) (tails : List ℕ) (i : ℕ) (times more : List ℤ) (t : ℤ) → i < length tails → times ≡ map (λ n. by -ℤ pos n) (take i tails) → more ≡ times ++ t ∷ [] → t ≡ by -ℤ pos (slice_index tails i) → more ≡ map (λ n. by -ℤ pos n) (take (i + 1) tails)
+pub late_more : (by : ℤ) (tails : List ℕ) (i : ℕ) (times more : List ℤ) (t : ℤ) → i < length tails →
+    times ≡ map (λ n. by -ℤ pos n) (take i tails) → more ≡ times ++ t ∷ [] → t ≡ by -ℤ pos (slice_index tails i) →
+    more ≡ map (λ n. by -ℤ pos n) (take (i + 1) tails)
 late_more by tails i times more t below so_far pushed is =
     pushed
     ∙ ap (λ front. front ++ t ∷ []) so_far
@@ -47,7 +51,8 @@ late_more by tails i times more t below so_far pushed is =
     ∙ sym (ap (map (λ n. by -ℤ pos n)) (take_more tails i 0 below) ∙ map-append (λ n. by -ℤ pos n) (take i tails) (slice_index tails i ∷ []))
 
 -- after the last event there is one for each
-pub late_all : (by same : ℤ) (tails seen : List ℕ) (i : ℕ) (times : List ℤ) → same ≡ by → seen ≡ tails → length seen ≤ i → times ≡ map (λ n. same -ℤ pos n) (take i seen) → times ≡ map (λ n. by -ℤ pos n) tails
+pub late_all : (by same : ℤ) (tails seen : List ℕ) (i : ℕ) (times : List ℤ) → same ≡ by → seen ≡ tails → length seen ≤ i →
+    times ≡ map (λ n. same -ℤ pos n) (take i seen) → times ≡ map (λ n. by -ℤ pos n) tails
 late_all by same tails seen i times is all_seen all so_far =
     so_far
     ∙ ap (map (λ n. same -ℤ pos n)) (take_all i seen all ∙ all_seen)

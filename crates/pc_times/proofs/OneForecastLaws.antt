@@ -21,7 +21,9 @@ module _ (net : Network) (lengths : List ℕ) (states : List ActState) (as_of : 
       first.activity a in_arcs ∙ (ap (λ (n : ℕ). finish_of (state_at states a) (slice_index lengths a) as_of n) same ∙ sym (second.activity a in_arcs))
 
   -- an event has one time, where those have from which only one activity less leads to it
-  next_time : (n e : ℕ) → e < net.events → IsShortTo net (suc n) e → ((f : ℕ) → f < net.events → IsShortTo net n f → slice_index one.times f ≡ slice_index other.times f) → slice_index one.times e ≡ slice_index other.times e
+  next_time : (n e : ℕ) → e < net.events → IsShortTo net (suc n) e →
+      ((f : ℕ) → f < net.events → IsShortTo net n f → slice_index one.times f ≡ slice_index other.times f) →
+      slice_index one.times e ≡ slice_index other.times e
   next_time n e below short again =
       ⊎_elim (λ start. ap (slice_index one.times) start ∙ (first.start ∙ (sym second.start ∙ ap (slice_index other.times) (sym start))))
       (λ not_start. greatest_unique (IsFinishAt net other.finishes e) (slice_index one.times e) (slice_index other.times e)

@@ -16,7 +16,9 @@ use Rattle.pc_times.specs.Picked.{IsCriticalAt, IsPickedFrom, IsPickedWalk}
 use Rattle.pc_times.specs.inside.Passes.{HasNoSlack}
 
 -- the first of the listed activities that meets the test, all of one event, is the first that does
-pub first_listed : (P : ℕ → Type 0) (n e k : ℕ) (place : ℕ → ℕ) (items : List ℕ) → ((a : ℕ) → P a → (a < n) × (place a ≡ e)) → IsListed (λ a. place a ≡ e) n items → k < length items → P (slice_index items k) → ((j : ℕ) → j < k → P (slice_index items j) → ⊥) → IsFirst P (slice_index items k)
+pub first_listed : (P : ℕ → Type 0) (n e k : ℕ) (place : ℕ → ℕ) (items : List ℕ) → ((a : ℕ) → P a → (a < n) × (place a ≡ e)) →
+    IsListed (λ a. place a ≡ e) n items → k < length items → P (slice_index items k) → ((j : ℕ) → j < k → P (slice_index items j) → ⊥) →
+    IsFirst P (slice_index items k)
 first_listed P n e k place items named listed in_items holds none = record { holds = holds; first = first }
   where
     first : (b : ℕ) → b < slice_index items k → P b → ⊥
@@ -48,11 +50,18 @@ module _ (net : Network) (lengths times tails : List ℕ) (ranged : IsInRange ne
   sum_at_bound e below = (early.each net.end ranged.end_in).bound _ (sum_at e below)
 
   -- the greatest walk sum through an activity, as a walk that has it
-  walk_through : (a : ℕ) → a < length net.arcs → (walk : List ℕ) × IsWalk net.arcs net.start walk net.end × (walk_sum lengths walk ≡ slice_index times (from_of net.arcs a) + slice_index lengths a + slice_index tails (to_of net.arcs a)) × Contains walk a
+  walk_through : (a : ℕ) → a < length net.arcs →
+      (walk : List ℕ) × IsWalk net.arcs net.start walk net.end
+      × (walk_sum lengths walk ≡ slice_index times (from_of net.arcs a) + slice_index lengths a + slice_index tails (to_of net.arcs a))
+      × Contains walk a
   walk_through a below =
       let (front, front_walked, front_sums) = (early.each _ (ranged.from_in a below)).attained in
-      let (back, back_walked, back_sums) = (late.each _ (ranged.to_in a below)).attained in
-      (front ++ a ∷ back, IsWalk-append net.arcs net.start _ net.end front (a ∷ back) front_walked (below, refl, back_walked), omega (arith, walk_sum-append lengths front (a ∷ back)), (length front, omega (arith, length-append front (a ∷ back)), get_or_at front a back a (length front) refl))
+      let (back, back_walked, back_sums) = (late.each _ (ranged.to_in a below)).attained in (
+        front ++ a ∷ back,
+        IsWalk-append net.arcs net.start _ net.end front (a ∷ back) front_walked (below, refl, back_walked),
+        omega (arith, walk_sum-append lengths front (a ∷ back)),
+        (length front, omega (arith, length-append front (a ∷ back)), get_or_at front a back a (length front) refl),
+      )
 
   -- an activity that meets the test lies on a longest walk
   pub critical_without_slack : (e a : ℕ) → HasNoSlack net lengths times tails e a → IsCriticalAt net lengths e a
@@ -66,10 +75,14 @@ module _ (net : Network) (lengths times tails : List ℕ) (ranged : IsInRange ne
       let rest : List ℕ = drop (k + 1) walk in
       let parts : take k walk ++ a ∷ rest ≡ walk = ap (λ (x : List ℕ). take k walk ++ x) (sym (drop_more walk k a in_walk ∙ ap (λ (x : ℕ). x ∷ rest) at)) ∙ take-append-drop k walk in
       let (m, front, back) = split_walk net.arcs net.start net.end (take k walk) (a ∷ rest) (subst (λ (x : List ℕ). IsWalk net.arcs net.start x net.end) (sym parts) walked) in
-      let sums : walk_sum lengths walk ≡ walk_sum lengths (take k walk) + (slice_index lengths a + walk_sum lengths rest) = ap (walk_sum lengths) (sym parts) ∙ walk_sum-append lengths (take k walk) (a ∷ rest) in
+      let sums : walk_sum lengths walk ≡ walk_sum lengths (take k walk) + (slice_index lengths a + walk_sum lengths rest) =
+      ap (walk_sum lengths) (sym parts) ∙ walk_sum-append lengths (take k walk) (a ∷ rest) in
       let (through, through_walked, through_sums, has) = walk_through a below in
       let whole : walk_sum lengths walk ≡ slice_index times net.end = greatest_unique _ _ _ longest (early.each net.end ranged.end_in) in
-      let front_bound : walk_sum lengths (take k walk) ≤ slice_index times (from_of net.arcs a) = (early.each _ (ranged.from_in a below)).bound _ (take k walk, subst (λ (x : ℕ). IsWalk net.arcs net.start (take k walk) x) (sym back.1) front, refl) in
+      let front_bound : walk_sum lengths (take k walk)
+      ≤ slice_index times (from_of net.arcs a) =
+      (early.each _ (ranged.from_in a below)).bound _
+      (take k walk, subst (λ (x : ℕ). IsWalk net.arcs net.start (take k walk) x) (sym back.1) front, refl) in
       let back_bound : walk_sum lengths rest ≤ slice_index tails (to_of net.arcs a) = (late.each _ (ranged.to_in a below)).bound _ (rest, back.2, refl) in
       let above : walk_sum lengths through ≤ slice_index times net.end = (early.each net.end ranged.end_in).bound _ (through, through_walked, refl) in
       (below, begins, omega (arith, ap (slice_index times) begins))
@@ -87,22 +100,30 @@ module _ (net : Network) (lengths times tails : List ℕ) (ranged : IsInRange ne
     walked = refl;
     in_range = ranged.start_in;
     sums = sym (early_at_start net sound lengths _ (early.each net.start ranged.start_in));
-    on_longest = omega (arith, early_at_start net sound lengths _ (early.each net.start ranged.start_in), greatest_unique _ _ _ (late.each net.start ranged.start_in) (early.each net.end ranged.end_in));
+    on_longest = omega (
+      arith,
+      early_at_start net sound lengths _ (early.each net.start ranged.start_in),
+      greatest_unique _ _ _ (late.each net.start ranged.start_in) (early.each net.end ranged.end_in),
+    );
     picked = λ rest from_start. from_start;
   }
 
   -- one activity further, by the first that meets the test
-  pub picked_to_next : (path : List ℕ) (e a : ℕ) → IsPickedTo net lengths times tails path e → IsFirst (HasNoSlack net lengths times tails e) a → IsPickedTo net lengths times tails (path ++ a ∷ []) (to_of net.arcs a)
+  pub picked_to_next : (path : List ℕ) (e a : ℕ) → IsPickedTo net lengths times tails path e →
+      IsFirst (HasNoSlack net lengths times tails e) a → IsPickedTo net lengths times tails (path ++ a ∷ []) (to_of net.arcs a)
   picked_to_next path e a so_far first_without_slack =
       let (below, begins, tight) = first_without_slack.holds in
-      let fits : slice_index times (from_of net.arcs a) + slice_index lengths a ≤ slice_index times (to_of net.arcs a) = early_fits net lengths a below _ _ (early.each _ (ranged.from_in a below)) (early.each _ (ranged.to_in a below)) in
+      let fits : slice_index times (from_of net.arcs a) + slice_index lengths a
+      ≤ slice_index times (to_of net.arcs a) = early_fits net lengths a below _ _ (early.each _ (ranged.from_in a below))
+      (early.each _ (ranged.to_in a below)) in
       let bound : slice_index times (to_of net.arcs a) + slice_index tails (to_of net.arcs a) ≤ slice_index times net.end = sum_at_bound _ (ranged.to_in a below) in
       record {
         walked = IsWalk-push net.arcs net.start e path a so_far.walked below begins;
         in_range = ranged.to_in a below;
         sums = omega (arith, walk_sum-push lengths path a, so_far.sums, ap (slice_index times) begins);
         on_longest = omega (arith, ap (slice_index times) begins);
-        picked = λ rest from_next. subst (λ (x : List ℕ). IsPickedFrom net lengths net.start x) (sym (append_assoc path (a ∷ []) rest)) (so_far.picked (a ∷ rest) (first_critical_without_slack e a first_without_slack, from_next));
+        picked = λ rest from_next. subst (λ (x : List ℕ). IsPickedFrom net lengths net.start x) (sym (append_assoc path (a ∷ []) rest))
+            (so_far.picked (a ∷ rest) (first_critical_without_slack e a first_without_slack, from_next));
       }
 
   -- where no activity meets the test the end is reached

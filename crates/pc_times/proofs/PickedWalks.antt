@@ -22,7 +22,8 @@ picked_from_unique net lengths sound e (a ∷ walk) [] picked picked_other =
     absurd (sound.not_left (a, picked.0.holds.0, picked.0.holds.1 ∙ picked_other))
 picked_from_unique net lengths sound e (a ∷ walk) (b ∷ other) picked picked_other =
     let same : a ≡ b = first_unique _ a b picked.0 picked_other.0 in
-    let rest : walk ≡ other = picked_from_unique net lengths sound (to_of net.arcs a) walk other picked.1 (subst (λ (x : ℕ). IsPickedFrom net lengths (to_of net.arcs x) other) (sym same) picked_other.1) in
+    let rest : walk ≡ other = picked_from_unique net lengths sound (to_of net.arcs a) walk other picked.1
+    (subst (λ (x : ℕ). IsPickedFrom net lengths (to_of net.arcs x) other) (sym same) picked_other.1) in
     cc
 
 -- so there is one picked walk

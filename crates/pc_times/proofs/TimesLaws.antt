@@ -1,5 +1,6 @@
 -- How the greatest sum at one event comes from those at its neighbours.
-use Rattle.std.proofs.Common.{◌≡◌, ◌≢◌, ℕ, ◌+◌, ◌*◌, ◌-◌, ◌<◌, ◌≤◌, List, [], ◌∷◌, ◌++◌, length, slice_index, get_or, set, get_or-set_same, get_or-set_other, length-set, ◌∙◌, refl, sym, ap, subst, ◌⊎◌, inl, inr, ⊎_elim, max, below_more, arith}
+use Rattle.std.proofs.Common.{◌≡◌, ◌≢◌, ℕ, ◌+◌, ◌*◌, ◌-◌, ◌<◌, ◌≤◌, List, [], ◌∷◌, ◌++◌, length, slice_index, get_or, set, get_or-set_same}
+use Rattle.std.proofs.Common.{get_or-set_other, length-set, ◌∙◌, refl, sym, ap, subst, ◌⊎◌, inl, inr, ⊎_elim, max, below_more, arith}
 use Rattle.std.proofs.Math.Nat.{mul-le-mul_right}
 use Rattle.std.proofs.lemmas.Bool.{cases_eq, cases_lt}
 use Rattle.pc_model.specs.inside.Greatest.{IsListed}
@@ -31,14 +32,21 @@ arrival_none net lengths times items = record {
 }
 
 -- one of them more, which brings m: the greater of n and m
-pub arrival_more : (net : Network) (lengths times items : List ℕ) (k n m : ℕ) → IsArrivalOf net lengths times items k n → m ≡ slice_index times (from_of net.arcs (slice_index items k)) + slice_index lengths (slice_index items k) → IsArrivalOf net lengths times items (k + 1) (max n m)
+pub arrival_more : (net : Network) (lengths times items : List ℕ) (k n m : ℕ) → IsArrivalOf net lengths times items k n →
+    m ≡ slice_index times (from_of net.arcs (slice_index items k)) + slice_index lengths (slice_index items k) →
+    IsArrivalOf net lengths times items (k + 1) (max n m)
 arrival_more net lengths times items k n m so_far is = record {
-  above = below_more (λ j. slice_index times (from_of net.arcs (slice_index items j)) + slice_index lengths (slice_index items j) ≤ max n m) k (λ j lower. omega (arith, so_far.above j lower)) (omega arith);
-  attained = ⊎_elim (λ less. inl (k, omega arith, omega arith)) (λ no_less. ⊎_elim (λ (j, lower, at). inl (j, omega arith, omega arith)) (λ (zero_is, none). inl (k, omega arith, omega arith)) so_far.attained) (cases_lt n m);
+  above = below_more (λ j. slice_index times (from_of net.arcs (slice_index items j)) + slice_index lengths (slice_index items j)
+      ≤ max n m) k (λ j lower. omega (arith, so_far.above j lower)) (omega arith);
+  attained = ⊎_elim (λ less. inl (k, omega arith, omega arith))
+      (λ no_less. ⊎_elim (λ (j, lower, at). inl (j, omega arith, omega arith))
+      (λ (zero_is, none). inl (k, omega arith, omega arith)) so_far.attained) (cases_lt n m);
 }
 
 -- all of them
-pub arrival_all : (net : Network) (lengths times items : List ℕ) (e k n : ℕ) → IsListed (λ a. to_of net.arcs a ≡ e) (length net.arcs) items → k ≡ length items → IsArrivalOf net lengths times items k n → IsArrival net lengths times e n
+pub arrival_all : (net : Network) (lengths times items : List ℕ) (e k n : ℕ) →
+    IsListed (λ a. to_of net.arcs a ≡ e) (length net.arcs) items → k ≡ length items → IsArrivalOf net lengths times items k n →
+    IsArrival net lengths times e n
 arrival_all net lengths times items e k n listed all so_far = record {
   above = λ a in_arcs ends. let (j, lower, at) = listed.every a in_arcs ends in
       omega (arith, so_far.above j (omega arith), ap (λ (x : ℕ). slice_index times (from_of net.arcs x) + slice_index lengths x) at);
@@ -48,7 +56,10 @@ arrival_all net lengths times items e k n listed all so_far = record {
 }
 
 -- the latest arrival at an event is its time, where the times of the events before it are right
-pub early_from_arrival : (net : Network) → IsSound net → (lengths times : List ℕ) (e n : ℕ) → e < net.events → ((a : ℕ) → a < length net.arcs → to_of net.arcs a ≡ e → IsEarly net lengths (from_of net.arcs a) (slice_index times (from_of net.arcs a))) → IsArrival net lengths times e n → IsEarly net lengths e n
+pub early_from_arrival : (net : Network) → IsSound net → (lengths times : List ℕ) (e n : ℕ) → e < net.events →
+    ((a : ℕ) → a < length net.arcs → to_of net.arcs a ≡ e →
+    IsEarly net lengths (from_of net.arcs a) (slice_index times (from_of net.arcs a))) → IsArrival net lengths times e n →
+    IsEarly net lengths e n
 early_from_arrival net sound lengths times e n below before arrival = record {
   attained = ⊎_elim by_activity at_start arrival.attained;
   bound = λ m (walk, walked, sums). bound m walk walked sums;
@@ -56,8 +67,12 @@ early_from_arrival net sound lengths times e n below before arrival = record {
   where
     by_activity : (a : ℕ) × (a < length net.arcs) × (to_of net.arcs a ≡ e) × (slice_index times (from_of net.arcs a) + slice_index lengths a ≡ n) → IsSumOfWalk net.arcs lengths net.start e n
     by_activity (a, in_arcs, ends, is) =
-        let (walk, walked, sums) = (before a in_arcs ends).attained in
-        (walk ++ a ∷ [], subst (λ (x : ℕ). IsWalk net.arcs net.start (walk ++ a ∷ []) x) ends (IsWalk-push net.arcs net.start _ walk a walked in_arcs refl), omega (arith, walk_sum-push lengths walk a))
+        let (walk, walked, sums) = (before a in_arcs ends).attained in (
+          walk ++ a ∷ [],
+          subst (λ (x : ℕ). IsWalk net.arcs net.start (walk ++ a ∷ []) x) ends
+              (IsWalk-push net.arcs net.start _ walk a walked in_arcs refl),
+          omega (arith, walk_sum-push lengths walk a),
+        )
 
     at_start : (n ≡ 0) × (IsEntered net e → ⊥) → IsSumOfWalk net.arcs lengths net.start e n
     at_start (zero_is, alone) =
@@ -69,7 +84,13 @@ early_from_arrival net sound lengths times e n below before arrival = record {
     bound : (m : ℕ) (walk : List ℕ) → IsWalk net.arcs net.start walk e → walk_sum lengths walk ≡ m → m ≤ n
     bound m walk walked sums =
         ⊎_elim (λ (empty, same). omega (arith, ap (walk_sum lengths) empty))
-        (λ (front, a, is, in_arcs, front_walked, ends). omega (arith, ap (walk_sum lengths) is, walk_sum-push lengths front a, arrival.above a in_arcs ends, (before a in_arcs ends).bound (walk_sum lengths front) (front, front_walked, refl)))
+        (λ (front, a, is, in_arcs, front_walked, ends). omega (
+          arith,
+          ap (walk_sum lengths) is,
+          walk_sum-push lengths front a,
+          arrival.above a in_arcs ends,
+          (before a in_arcs ends).bound (walk_sum lengths front) (front, front_walked, refl),
+        ))
         (last_of_walk net.arcs net.start e walk walked)
 
 -- n bounds what the activities that leave event e lead to, and one of them leads to it, or none leaves and n is 0
@@ -90,14 +111,21 @@ departure_none net lengths tails items = record {
 }
 
 -- one of them more, which leads to m: the greater of n and m
-pub departure_more : (net : Network) (lengths tails items : List ℕ) (k n m : ℕ) → IsDepartureOf net lengths tails items k n → m ≡ slice_index lengths (slice_index items k) + slice_index tails (to_of net.arcs (slice_index items k)) → IsDepartureOf net lengths tails items (k + 1) (max n m)
+pub departure_more : (net : Network) (lengths tails items : List ℕ) (k n m : ℕ) → IsDepartureOf net lengths tails items k n →
+    m ≡ slice_index lengths (slice_index items k) + slice_index tails (to_of net.arcs (slice_index items k)) →
+    IsDepartureOf net lengths tails items (k + 1) (max n m)
 departure_more net lengths tails items k n m so_far is = record {
-  above = below_more (λ j. slice_index lengths (slice_index items j) + slice_index tails (to_of net.arcs (slice_index items j)) ≤ max n m) k (λ j lower. omega (arith, so_far.above j lower)) (omega arith);
-  attained = ⊎_elim (λ less. inl (k, omega arith, omega arith)) (λ no_less. ⊎_elim (λ (j, lower, at). inl (j, omega arith, omega arith)) (λ (zero_is, none). inl (k, omega arith, omega arith)) so_far.attained) (cases_lt n m);
+  above = below_more (λ j. slice_index lengths (slice_index items j) + slice_index tails (to_of net.arcs (slice_index items j)) ≤ max n m) k
+      (λ j lower. omega (arith, so_far.above j lower)) (omega arith);
+  attained = ⊎_elim (λ less. inl (k, omega arith, omega arith))
+      (λ no_less. ⊎_elim (λ (j, lower, at). inl (j, omega arith, omega arith))
+      (λ (zero_is, none). inl (k, omega arith, omega arith)) so_far.attained) (cases_lt n m);
 }
 
 -- all of them
-pub departure_all : (net : Network) (lengths tails items : List ℕ) (e k n : ℕ) → IsListed (λ a. from_of net.arcs a ≡ e) (length net.arcs) items → k ≡ length items → IsDepartureOf net lengths tails items k n → IsDeparture net lengths tails e n
+pub departure_all : (net : Network) (lengths tails items : List ℕ) (e k n : ℕ) →
+    IsListed (λ a. from_of net.arcs a ≡ e) (length net.arcs) items → k ≡ length items → IsDepartureOf net lengths tails items k n →
+    IsDeparture net lengths tails e n
 departure_all net lengths tails items e k n listed all so_far = record {
   above = λ a in_arcs begins. let (j, lower, at) = listed.every a in_arcs begins in
       omega (arith, so_far.above j (omega arith), ap (λ (x : ℕ). slice_index lengths x + slice_index tails (to_of net.arcs x)) at);
@@ -107,7 +135,10 @@ departure_all net lengths tails items e k n listed all so_far = record {
 }
 
 -- the longest departure from an event is its tail, where the tails of the events after it are right
-pub tail_from_departure : (net : Network) → IsSound net → (lengths tails : List ℕ) (e n : ℕ) → e < net.events → ((a : ℕ) → a < length net.arcs → from_of net.arcs a ≡ e → IsTail net lengths (to_of net.arcs a) (slice_index tails (to_of net.arcs a))) → IsDeparture net lengths tails e n → IsTail net lengths e n
+pub tail_from_departure : (net : Network) → IsSound net → (lengths tails : List ℕ) (e n : ℕ) → e < net.events →
+    ((a : ℕ) → a < length net.arcs → from_of net.arcs a ≡ e →
+    IsTail net lengths (to_of net.arcs a) (slice_index tails (to_of net.arcs a))) → IsDeparture net lengths tails e n →
+    IsTail net lengths e n
 tail_from_departure net sound lengths tails e n below after departure = record {
   attained = ⊎_elim by_activity at_end departure.attained;
   bound = λ m (walk, walked, sums). bound m walk walked sums;
@@ -131,7 +162,9 @@ tail_from_departure net sound lengths tails e n below after departure = record {
         omega (arith, departure.above a walked.0 walked.1, (after a walked.0 walked.1).bound (walk_sum lengths walk) (walk, walked.2, refl))
 
 -- where no activity is longer than a limit, no sum over a walk to an event is above the limit for each event
-pub walk_sum_fits : (net : Network) (order : List ℕ) → IsOrder net order → (lengths : List ℕ) (limit : ℕ) → ((a : ℕ) → a < length net.arcs → slice_index lengths a ≤ limit) → (e f n : ℕ) → f < net.events → IsSumOfWalk net.arcs lengths e f n → n ≤ net.events * limit
+pub walk_sum_fits : (net : Network) (order : List ℕ) → IsOrder net order → (lengths : List ℕ) (limit : ℕ) →
+    ((a : ℕ) → a < length net.arcs → slice_index lengths a ≤ limit) → (e f n : ℕ) → f < net.events → IsSumOfWalk net.arcs lengths e f n →
+    n ≤ net.events * limit
 walk_sum_fits net order ordered lengths limit small e f n below (walk, walked, sums) =
     omega (arith, walk_sum-bound net.arcs lengths limit small e f walk walked, mul-le-mul_right limit (shorter walk walked))
   where
@@ -154,7 +187,8 @@ pub record AreEarlyTo (net : Network) (lengths times order : List ℕ) (k : ℕ)
   pub each : (j : ℕ) → j < k → IsEarly net lengths (slice_index order j) (slice_index times (slice_index order j))
 
 -- the next event in the order has all it needs before it
-pub early_before : (net : Network) (lengths times order : List ℕ) (k : ℕ) → IsOrder net order → AreEarlyTo net lengths times order k → k < length order → AreEarlyBefore net lengths times (slice_index order k)
+pub early_before : (net : Network) (lengths times order : List ℕ) (k : ℕ) → IsOrder net order → AreEarlyTo net lengths times order k →
+    k < length order → AreEarlyBefore net lengths times (slice_index order k)
 early_before net lengths times order k ordered so_far in_order = record {
   in_range = ordered.part.range k in_order;
   one_each = so_far.one_each;
@@ -163,11 +197,15 @@ early_before net lengths times order k ordered so_far in_order = record {
 }
 
 -- with its time the pass is one event further
-pub early_more : (net : Network) (lengths times order : List ℕ) (k n : ℕ) → IsOrder net order → AreEarlyTo net lengths times order k → k < length order → IsEarly net lengths (slice_index order k) n → AreEarlyTo net lengths (set times (slice_index order k) n) order (k + 1)
+pub early_more : (net : Network) (lengths times order : List ℕ) (k n : ℕ) → IsOrder net order → AreEarlyTo net lengths times order k →
+    k < length order → IsEarly net lengths (slice_index order k) n →
+    AreEarlyTo net lengths (set times (slice_index order k) n) order (k + 1)
 early_more net lengths times order k n ordered so_far in_order early = record {
   one_each = length-set times (slice_index order k) n ∙ so_far.one_each;
   each = below_more (λ j. IsEarly net lengths (slice_index order j) (slice_index (set times (slice_index order k) n) (slice_index order j))) k
-      (λ j lower. subst (λ (m : ℕ). IsEarly net lengths (slice_index order j) m) (sym (get_or-set_other times (slice_index order k) (slice_index order j) n 0 (ordered.part.once j k lower in_order))) (so_far.each j lower))
+      (λ j lower. subst (λ (m : ℕ). IsEarly net lengths (slice_index order j) m)
+      (sym (get_or-set_other times (slice_index order k) (slice_index order j) n 0 (ordered.part.once j k lower in_order)))
+      (so_far.each j lower))
       (subst (λ (m : ℕ). IsEarly net lengths (slice_index order k) m) (sym (get_or-set_same times (slice_index order k) n 0 (omega (arith, so_far.one_each, ordered.part.range k in_order)))) early);
 }
 
@@ -192,7 +230,9 @@ tails_none net lengths tails order one_each = record {
 }
 
 -- the event before them in the order has all it needs after it
-pub tails_after : (net : Network) (lengths tails order : List ℕ) (i k : ℕ) → IsInRange net → IsOrder net order → AreTailsFrom net lengths tails order k → i < length order → i + k + 1 ≡ length order → AreTailsAfter net lengths tails (slice_index order i)
+pub tails_after : (net : Network) (lengths tails order : List ℕ) (i k : ℕ) → IsInRange net → IsOrder net order →
+    AreTailsFrom net lengths tails order k → i < length order → i + k + 1 ≡ length order →
+    AreTailsAfter net lengths tails (slice_index order i)
 tails_after net lengths tails order i k ranged ordered so_far in_order place = record {
   in_range = ordered.part.range i in_order;
   one_each = so_far.one_each;
@@ -207,7 +247,9 @@ tails_after net lengths tails order i k ranged ordered so_far in_order place = r
         subst (λ (x : ℕ). IsTail net lengths x (slice_index tails x)) at (so_far.each j j_in (omega arith))
 
 -- with its tail n the pass is one event further
-pub tails_more : (net : Network) (lengths tails order : List ℕ) (i k e : ℕ) {h n : ℕ} → IsOrder net order → AreTailsFrom net lengths tails order k → i < length order → i + k + 1 ≡ length order → slice_index order i ≡ e → h ≡ k + 1 → IsTail net lengths e n → AreTailsFrom net lengths (set tails e n) order h
+pub tails_more : (net : Network) (lengths tails order : List ℕ) (i k e : ℕ) {h n : ℕ} → IsOrder net order →
+    AreTailsFrom net lengths tails order k → i < length order → i + k + 1 ≡ length order → slice_index order i ≡ e → h ≡ k + 1 →
+    IsTail net lengths e n → AreTailsFrom net lengths (set tails e n) order h
 tails_more net lengths tails order i k e {h = h} {n = n} ordered so_far in_order place at more tail = record {
   one_each = length-set tails e n ∙ so_far.one_each;
   each = λ j j_in late. ⊎_elim (λ same. same_one j same) (λ other. other_one j j_in late other) (cases_eq j i);
@@ -220,7 +262,9 @@ tails_more net lengths tails order i k e {h = h} {n = n} ordered so_far in_order
 
     other_one : (j : ℕ) → j < length order → length order ≤ j + h → j ≢ i → IsTail net lengths (slice_index order j) (slice_index (set tails e n) (slice_index order j))
     other_one j j_in late other =
-        subst (λ (m : ℕ). IsTail net lengths (slice_index order j) m) (sym (get_or-set_other tails e (slice_index order j) n 0 (λ same. other (same_place net order ordered.part j i j_in in_order (same ∙ sym at)))))
+        subst (λ (m : ℕ). IsTail net lengths (slice_index order j) m)
+        (sym (get_or-set_other tails e (slice_index order j) n 0
+        (λ same. other (same_place net order ordered.part j i j_in in_order (same ∙ sym at)))))
         (so_far.each j j_in (omega arith))
 
 -- after the first event all tails are right

@@ -18,7 +18,8 @@ impl Model for Forecast {
 
     ghost view = { λ forecast. record { times = forecast.times.items; finishes = forecast.finishes.items } };
 
-    ghost invariant = { λ forecast. ((e : ℕ) → slice_index forecast.times.items e < 2 ^ 41) × ((a : ℕ) → slice_index forecast.finishes.items a < 2 ^ 41) };
+    ghost invariant = { λ forecast. ((e : ℕ) → slice_index forecast.times.items e < 2 ^ 41)
+        × ((a : ℕ) → slice_index forecast.finishes.items a < 2 ^ 41) };
 }
 
 impl Forecast {

@@ -26,7 +26,8 @@ pub fn forecast(
     requires states { AreStates net.now states.now }
     requires as_of { as_of < 2 ^ 40 }
     ensures forecast { IfOk result (IsForecast net.now lengths.now states.now as_of) }
-    ensures only { IfOk result (λ forecast. (other : Expected) → IsForecast net.now lengths.now states.now as_of other → other ≡ forecast) }
+    ensures only { IfOk result (λ forecast. (other : Expected) →
+        IsForecast net.now lengths.now states.now as_of other → other ≡ forecast) }
 {
     let times = event_times(alloc, net, lengths, states, as_of)?;
     let finishes = finishes(alloc, net, lengths, states, as_of, &times)?;
@@ -46,7 +47,8 @@ fn event_times(
     requires as_of { as_of < 2 ^ 40 }
     ensures times { IfOk result (λ times. AreLast net.now lengths.now states.now as_of times.items) }
     ensures in_range { OnOk result (IsInRange net.now) }
-    ensures only { OnOk result ((one other : Expected) → IsForecast net.now lengths.now states.now as_of one → IsForecast net.now lengths.now states.now as_of other → one ≡ other) }
+    ensures only { OnOk result ((one other : Expected) → IsForecast net.now lengths.now states.now as_of one →
+        IsForecast net.now lengths.now states.now as_of other → one ≡ other) }
 {
     let mut times = vec![in alloc; 0; net.events() as usize]?;
     for &event in net.order() {
@@ -94,7 +96,8 @@ fn finishes(
     requires as_of { as_of < 2 ^ 40 }
     requires times { length times.now ≡ net.now.events }
     requires small { (e : ℕ) → slice_index times.now e < 2 ^ 41 }
-    ensures { IfOk result (λ finishes. AreFinishes net.now lengths.now states.now as_of times.now (length net.now.arcs) finishes.items) }
+    ensures { IfOk result (λ finishes. AreFinishes net.now lengths.now states.now as_of times.now
+        (length net.now.arcs) finishes.items) }
 {
     let mut finishes = Vec::with_capacity(alloc, net.activities() as usize)?;
     for a in 0..net.activities() {

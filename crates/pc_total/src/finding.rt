@@ -65,7 +65,8 @@ fn best_at<L: Ledger>(
 ) -> Best
     requires terms { AreTimeTerms terms.now }
     requires to_come { IsToCome solver.old length }
-    requires stop { PaysToStop (curve_in solver.old.net) terms.now solver.old.shortest solver.old.longest length slope gain }
+    requires stop { PaysToStop (curve_in solver.old.net) terms.now solver.old.shortest solver.old.longest length
+        slope gain }
     requires small { slope < 10 ^ 18 }
     requires small_gain { gain < 10 ^ 18 }
     ensures best { IsBest (curve_in solver.old.net) terms.now solver.old.shortest solver.old.longest result }

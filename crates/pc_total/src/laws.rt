@@ -10,15 +10,19 @@ ghost use Rattle.pc_total.specs.Bests.{HaveSigns, IsAbove, IsBelow};
 
 /// What one unit more saves falls with the length, over the whole range: of two lengths the longer one gains no more.
 pub fn gains_fall()
-    ensures { (net : PricedNetwork) (short long a b c d : ℕ) → IsPriced net.network net.terms (knees_in net) → short ≤ long →
-        curve_in net short a → curve_in net (short + 1) b → curve_in net long c → curve_in net (long + 1) d → c - d ≤ a - b }
+    ensures { (net : PricedNetwork) (short long a b c d : ℕ) → IsPriced net.network net.terms (knees_in net) →
+        short ≤ long →
+        curve_in net short a → curve_in net (short + 1) b → curve_in net long c → curve_in net (long + 1) d →
+        c - d ≤ a - b }
 {}
 
 /// Where the bonus is at most the penalty, two signs show the optimum: one unit shorter costs more in all, and one unit longer no
 /// less. Then no length of the range has a lesser total, and no shorter one an equal one.
 pub fn two_signs_show_the_optimum()
-    ensures { (net : PricedNetwork) (terms : TimeTerms) (shortest longest limit : ℕ) (total : ℤ) (below above : Option ℤ) →
-        IsPriced net.network net.terms (knees_in net) → terms.bonus ≤ terms.penalty → shortest ≤ limit → limit ≤ longest →
+    ensures { (net : PricedNetwork) (terms : TimeTerms) (shortest longest limit : ℕ) (total : ℤ)
+        (below above : Option ℤ) →
+        IsPriced net.network net.terms (knees_in net) → terms.bonus ≤ terms.penalty → shortest ≤ limit →
+        limit ≤ longest →
         IsTotal (curve_in net) terms limit total → IsBelow (curve_in net) terms shortest limit total below →
         IsAbove (curve_in net) terms longest limit total above → HaveSigns below above →
         IsOptimum (curve_in net) terms shortest longest limit total }

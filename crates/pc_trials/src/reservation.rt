@@ -213,7 +213,8 @@ impl Reservation {
         requires fresh { page.old ≡ fresh }
         requires fits { IsFor project.now.network self.now }
         requires standing { IsStanding project.now.network self.now }
-        ensures text { (changed : Plan) → IsChangedTo project.now self.now changed → (text : List ℕ) × IsTimesText changed text
+        ensures text { (changed : Plan) → IsChangedTo project.now self.now changed →
+            (text : List ℕ) × IsTimesText changed text
             × Writes result (O.taken sink.old) (O.taken sink.new) (O.faults sink.old) (O.faults sink.new) text }
         ensures fresh { page.new ≡ fresh }
     {

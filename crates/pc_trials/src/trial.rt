@@ -24,7 +24,8 @@ pub(crate) fn trial_cost<L: Ledger>(
     limit: u64,
     steps: &mut Steps<L>,
 ) -> (Region, Option<u64>)
-    requires room { trial_cells net.now.network.events (length net.now.network.arcs) (length net.now.pieces) ≤ free_of region }
+    requires room { trial_cells net.now.network.events (length net.now.network.arcs) (length net.now.pieces)
+        ≤ free_of region }
     ensures region { result.0 ≡ region }
     ensures least { IfSome result.1 (curve_in net.now limit) }
     ensures within { IsSome result.1 ↔ IsWithin net.now limit }
@@ -65,7 +66,8 @@ pub(crate) fn trial_curve<O: Sink, L: Ledger>(
     net: &CrashNet<'_>,
     steps: &mut Steps<L>,
 ) -> (Region, Result<(), Failed>)
-    requires room { trial_cells net.now.network.events (length net.now.network.arcs) (length net.now.pieces) ≤ free_of region }
+    requires room { trial_cells net.now.network.events (length net.now.network.arcs) (length net.now.pieces)
+        ≤ free_of region }
     requires fresh { page.old ≡ fresh }
     ensures region { result.0 ≡ region }
     ensures text { (text : List ℕ) × IsCurveText net.now text

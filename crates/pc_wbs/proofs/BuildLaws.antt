@@ -35,7 +35,8 @@ StayInside-ends rows steps ends r h x y lt e =
     let inside = climb-range rows steps x y r in_rows (sym (h.end x in_rows) ∙ e) in
     omega (arith, h.one_each)
 
-pub AreEnds-twice : (rows : List ItemRow) (steps more : ℕ) (ends twice : List (Option ℕ)) → AreInRange rows → more ≡ steps + steps → AreEnds rows (length rows) steps ends → AreDoubled ends (length ends) twice → AreEnds rows (length rows) more twice
+pub AreEnds-twice : (rows : List ItemRow) (steps more : ℕ) (ends twice : List (Option ℕ)) → AreInRange rows → more ≡ steps + steps →
+    AreEnds rows (length rows) steps ends → AreDoubled ends (length ends) twice → AreEnds rows (length rows) more twice
 AreEnds-twice rows steps more ends twice r e h d = record {
   one_each = d.one_each ∙ h.one_each;
   end = λ x lt. d.end x (omega (arith, h.one_each)) ∙ by_end x lt (climb rows steps x) refl;
@@ -51,7 +52,8 @@ AreEnds-twice rows steps more ends twice r e h d = record {
         ap (λ o. option_and_then (link_at ends) o) at ∙ h.end y inside ∙ sym (ap (λ n. climb rows n x) e ∙ climb-twice rows steps x (Some y) is)
 
 -- the least end of climbs that are long enough is the first row on a loop
-pub IsFirstLooped-ends : (rows : List ItemRow) (steps : ℕ) (ends : List (Option ℕ)) (o : Option ℕ) → AreInRange rows → length rows ≤ steps → AreEnds rows (length rows) steps ends → IsLeastBelow ends (length ends) o → IsFirstLooped rows o
+pub IsFirstLooped-ends : (rows : List ItemRow) (steps : ℕ) (ends : List (Option ℕ)) (o : Option ℕ) → AreInRange rows → length rows ≤ steps →
+    AreEnds rows (length rows) steps ends → IsLeastBelow ends (length ends) o → IsFirstLooped rows o
 IsFirstLooped-ends rows steps ends None r long h none = λ x on. missed x on (end-IsOnLoop rows x steps r on.0 on.1)
   where
     missed : (x : ℕ) → IsLooped rows x → (z : ℕ) × ((z < length rows) × (climb rows steps z ≡ Some x)) → ⊥
@@ -78,12 +80,18 @@ IsFirstLooped-ends rows steps ends (Some m) r long h ((x, (lt, e)), bound) = rec
 -- one end more
 pub IsLeastBelow-more : (ends : List (Option ℕ)) (n : ℕ) (o v : Option ℕ) → IsLeastBelow ends n o → link_at ends n ≡ v → IsLeastBelow ends (n + 1) (lesser o v)
 IsLeastBelow-more ends n None None h e = below_more _ _ h e
-IsLeastBelow-more ends n None (Some b) h e =
-    ((n, (omega arith, e)), λ x y lt is. ⊎_elim (λ at. let here : link_at ends n ≡ Some y = rw (← at) is in let same : b ≡ y = cc in omega arith) (λ apart. let not = h x (omega arith) in absurd cc) (cases_eq x n))
+IsLeastBelow-more ends n None (Some b) h e = (
+  (n, (omega arith, e)),
+  λ x y lt is. ⊎_elim (λ at. let here : link_at ends n ≡ Some y = rw (← at) is in let same : b ≡ y = cc in
+      omega arith) (λ apart. let not = h x (omega arith) in absurd cc) (cases_eq x n),
+)
 IsLeastBelow-more ends n (Some a) None h e =
     ((h.0.0, (omega (arith, h.0.1.0), h.0.1.1)), λ x y lt is. ⊎_elim (λ at. let here : link_at ends n ≡ Some y = rw (← at) is in absurd cc) (λ apart. h.1 x y (omega arith) is) (cases_eq x n))
-IsLeastBelow-more ends n (Some a) (Some b) h e =
-    (least (cases_lt a b), λ x y lt is. ⊎_elim (λ at. let here : link_at ends n ≡ Some y = rw (← at) is in let same : b ≡ y = cc in omega arith) (λ apart. let low = h.1 x y (omega arith) is in omega arith) (cases_eq x n))
+IsLeastBelow-more ends n (Some a) (Some b) h e = (
+  least (cases_lt a b),
+  λ x y lt is. ⊎_elim (λ at. let here : link_at ends n ≡ Some y = rw (← at) is in let same : b ≡ y = cc in
+      omega arith) (λ apart. let low = h.1 x y (omega arith) is in omega arith) (cases_eq x n),
+)
   where
     least : (a < b) ⊎ (b ≤ a) → (x : ℕ) × ((x < n + 1) × (link_at ends x ≡ Some (min a b)))
     least (inl lt) =
@@ -143,10 +151,14 @@ same_row rows links j k x y z e h g none =
     rw same none
 
 -- above a row without a parent there are no links
-pub no_links_above : (rows : List ItemRow) (links : List (Option ℕ)) (k x top : ℕ) → climb rows k x ≡ Some top → parent_of rows top ≡ None → ((j z : ℕ) → j < k → climb rows j x ≡ Some z → link_at links z ≡ None) → link_at links top ≡ None → (j z : ℕ) → climb rows j x ≡ Some z → link_at links z ≡ None
+pub no_links_above : (rows : List ItemRow) (links : List (Option ℕ)) (k x top : ℕ) → climb rows k x ≡ Some top → parent_of rows top ≡ None →
+    ((j z : ℕ) → j < k → climb rows j x ≡ Some z → link_at links z ≡ None) → link_at links top ≡ None → (j z : ℕ) →
+    climb rows j x ≡ Some z → link_at links z ≡ None
 no_links_above rows links k x top h e lower none j z g =
     ⊎_elim (λ lt. lower j z lt g)
-    (λ ge. ⊎_elim (λ same. same_row rows links j k x z top same g h none) (λ apart. let s = climb-lower rows (k + 1) j x z (omega arith) g in let over = climb-more rows k x top h in let is = s.1 in absurd cc) (cases_eq j k))
+    (λ ge. ⊎_elim (λ same. same_row rows links j k x z top same g h none)
+    (λ apart. let s = climb-lower rows (k + 1) j x z (omega arith) g in let over = climb-more rows k x top h in let is = s.1 in
+    absurd cc) (cases_eq j k))
     (cases_lt j k)
 
 -- what a read of a link says

@@ -54,7 +54,9 @@ not_shorter rows x l m h g lt =
 
 IsLoopFrom-same : (rows : List ItemRow) (x : ℕ) (l m : List ℕ) → IsLoopFrom rows x l → IsLoopFrom rows x m → l ≡ m
 IsLoopFrom-same rows x l m h g =
-    let lengths : length l ≡ length m = ⊎_elim (λ same. same) (λ apart. ⊎_elim (λ lt. absurd (not_shorter rows x l m h g lt)) (λ gt. absurd (not_shorter rows x m l g h gt)) apart) (cases_order (length l) (length m)) in
+    let lengths : length l ≡ length m =
+    ⊎_elim (λ same. same) (λ apart. ⊎_elim (λ lt. absurd (not_shorter rows x l m h g lt))
+    (λ gt. absurd (not_shorter rows x m l g h gt)) apart) (cases_order (length l) (length m)) in
     same_number_lists l m lengths (λ k lt. loops_agree rows x l m h g k lt (omega arith))
 
 two_tops : (rows : List ItemRow) (top item : ℕ) → IsOnlyTop rows top → IsSecondTop rows item → ⊥

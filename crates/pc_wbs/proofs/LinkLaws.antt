@@ -53,7 +53,8 @@ firsts_skip rows x firsts top are = record {
 }
 
 -- any other is the first child of its parent so far
-pub firsts_more : (rows : List ItemRow) (x p : ℕ) (firsts : List (Option ℕ)) → parent_of rows x ≡ Some p → x < length rows → AreFirstChildren rows (x + 1) firsts → AreFirstChildren rows x (set firsts p (Some x))
+pub firsts_more : (rows : List ItemRow) (x p : ℕ) (firsts : List (Option ℕ)) → parent_of rows x ≡ Some p → x < length rows →
+    AreFirstChildren rows (x + 1) firsts → AreFirstChildren rows x (set firsts p (Some x))
 firsts_more rows x p firsts child inside are = record {
   one_each = length-set firsts p (Some x) ∙ are.one_each;
   first = λ q below. ⊎_elim
@@ -77,7 +78,9 @@ nexts_skip rows x nexts top are = record {
 }
 
 -- the next sibling of any other is the first child so far of its parent
-pub nexts_more : (rows : List ItemRow) (x p : ℕ) (firsts nexts : List (Option ℕ)) → parent_of rows x ≡ Some p → x < length rows → p < length rows → AreFirstChildren rows (x + 1) firsts → AreNextSiblings rows (x + 1) nexts → AreNextSiblings rows x (set nexts x (link_at firsts p))
+pub nexts_more : (rows : List ItemRow) (x p : ℕ) (firsts nexts : List (Option ℕ)) → parent_of rows x ≡ Some p → x < length rows →
+    p < length rows → AreFirstChildren rows (x + 1) firsts → AreNextSiblings rows (x + 1) nexts →
+    AreNextSiblings rows x (set nexts x (link_at firsts p))
 nexts_more rows x p firsts nexts child inside known firsts_are are = record {
   one_each = length-set nexts x (link_at firsts p) ∙ are.one_each;
   next = λ y q from within is_child. ⊎_elim

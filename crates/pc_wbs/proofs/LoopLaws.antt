@@ -106,7 +106,9 @@ IsOnTheWay-none rows start lt = record {
   away = λ k h. absurd (omega arith);
 }
 
-pub IsOnTheWay-more : (rows : List ItemRow) (start steps : ℕ) (found : List ℕ) (here parent : ℕ) → AreInRange rows → IsOnTheWay rows start steps found here → parent_of rows here ≡ Some parent → (parent ≡ start → ⊥) → IsOnTheWay rows start (steps + 1) (found ++ here ∷ []) parent
+pub IsOnTheWay-more : (rows : List ItemRow) (start steps : ℕ) (found : List ℕ) (here parent : ℕ) → AreInRange rows →
+    IsOnTheWay rows start steps found here → parent_of rows here ≡ Some parent → (parent ≡ start → ⊥) →
+    IsOnTheWay rows start (steps + 1) (found ++ here ∷ []) parent
 IsOnTheWay-more rows start steps found here parent r h e away = record {
   so_many = length_push found here ∙ ap (λ n. n + 1) h.so_many;
   now = climb-more rows steps start here h.now ∙ e;
@@ -119,11 +121,14 @@ IsOnTheWay-more rows start steps found here parent r h e away = record {
     last n is = get_or_push found here 0 n is
 
 -- back at the start the walk is the loop
-pub IsLoopFrom-walked : (rows : List ItemRow) (start steps : ℕ) (found : List ℕ) (here : ℕ) → IsOnTheWay rows start steps found here → parent_of rows here ≡ Some start → IsLoopFrom rows start (found ++ here ∷ [])
+pub IsLoopFrom-walked : (rows : List ItemRow) (start steps : ℕ) (found : List ℕ) (here : ℕ) → IsOnTheWay rows start steps found here →
+    parent_of rows here ≡ Some start → IsLoopFrom rows start (found ++ here ∷ [])
 IsLoopFrom-walked rows start steps found here h e = record {
   some = omega (arith, length_push found here);
   starts = let first = all 0 (omega arith) in cc;
-  steps = λ k lt. let a = all k (omega (arith, length_push found here, h.so_many)) in let b = all (k + 1) (omega (arith, length_push found here, h.so_many)) in let over = climb-more rows k start (slice_index loop k) a in sym over ∙ b;
+  steps = λ k lt. let a = all k (omega (arith, length_push found here, h.so_many)) in
+      let b = all (k + 1) (omega (arith, length_push found here, h.so_many)) in let over = climb-more rows k start (slice_index loop k) a in
+      sym over ∙ b;
   closes = λ k is. let at : k ≡ steps = omega (arith, length_push found here, h.so_many) in ap (λ n. parent_of rows n) (last k (h.so_many ∙ sym at)) ∙ e;
   once = λ j k lt within same. apart j k lt (omega (arith, within, length_push found here, h.so_many)) same;
 }

@@ -36,14 +36,17 @@ module _ (rows : List ItemRow) (tree : IsTree rows) where
       (cases_lt m k)
 
   -- what a row with a parent tells of the row that stands in its place in the other order: that is below that parent too
-  both_below : (xs ys : List ℕ) (k p : ℕ) → IsPreorder rows xs → IsPreorder rows ys → ((j : ℕ) → j < k → slice_index xs j ≡ slice_index ys j) → k < length xs → k < length ys → slice_index xs k ≢ slice_index ys k
+  both_below : (xs ys : List ℕ) (k p : ℕ) → IsPreorder rows xs → IsPreorder rows ys →
+      ((j : ℕ) → j < k → slice_index xs j ≡ slice_index ys j) → k < length xs → k < length ys → slice_index xs k ≢ slice_index ys k
       → parent_of rows (slice_index xs k) ≡ Some p → IsBelow rows (slice_index ys k) p × (slice_index ys k ≢ p)
   both_below xs ys k p a b agree in_xs in_ys other parent =
       let (j, before, is) = a.before k p in_xs parent in
       let there : slice_index ys j ≡ p = sym (agree j before) ∙ is in
       let (m, (later, lower, at)) = behind ys xs k (slice_index xs k) b a (λ i lt. sym (agree i lt)) in_xs refl (λ same. other (sym same)) in
       let child : IsBelow rows (slice_index xs k) p = IsBelow-parent rows (slice_index xs k) p p parent (IsBelow-self rows p) in
-      let under : IsBelow rows (slice_index ys m) (slice_index ys j) = subst (λ (n : ℕ). IsBelow rows n (slice_index ys j)) (sym at) (subst (λ (n : ℕ). IsBelow rows (slice_index xs k) n) (sym there) child) in (
+      let under : IsBelow rows (slice_index ys m) (slice_index ys j) =
+      subst (λ (n : ℕ). IsBelow rows n (slice_index ys j)) (sym at)
+      (subst (λ (n : ℕ). IsBelow rows (slice_index xs k) n) (sym there) child) in (
         subst (λ (n : ℕ). IsBelow rows (slice_index ys k) n) there (b.together j k m (omega (arith, before)) (omega (arith, later)) lower under),
         λ same. b.once j k before in_ys (there ∙ sym same),
       )

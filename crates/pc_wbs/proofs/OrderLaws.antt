@@ -49,13 +49,32 @@ IsSuccessor-child rows x c (from, inside, e, first) = (inside, inl (x, (e, IsBel
     of_child : (u : ℕ) → (d : ℕ) × ((parent_of rows d ≡ Some x) × IsBelow rows u d) → (u ≡ c) ⊎ Precedes rows c u
     of_child u (d, (f, h)) =
         ⊎_elim (λ same. below-precedes rows u c (rw same h))
-        (λ apart. ⊎_elim (λ lt. inr (inr (record { earlier = c; later = d; parent = x; below_earlier = IsBelow-self rows c; below_later = h; parent_earlier = e; parent_later = f; order = lt }))) (λ gt. absurd (first d (omega arith) gt f)) apart)
+        (λ apart. ⊎_elim (λ lt. inr (inr
+        (record {
+          earlier = c;
+          later = d;
+          parent = x;
+          below_earlier = IsBelow-self rows c;
+          below_later = h;
+          parent_earlier = e;
+          parent_later = f;
+          order = lt;
+        }))) (λ gt. absurd (first d (omega arith) gt f)) apart)
         (cases_order c d)
 
     later : (u : ℕ) → u < length rows → Precedes rows x u → (u ≡ c) ⊎ Precedes rows c u
     later u lt (inl under) = of_child u (child_of rows u x under)
     later u lt (inr t) =
-        inr (inr (record { earlier = t.earlier; later = t.later; parent = t.parent; below_earlier = IsBelow-parent rows c x t.earlier e t.below_earlier; below_later = t.below_later; parent_earlier = t.parent_earlier; parent_later = t.parent_later; order = t.order }))
+        inr (inr (record {
+          earlier = t.earlier;
+          later = t.later;
+          parent = t.parent;
+          below_earlier = IsBelow-parent rows c x t.earlier e t.below_earlier;
+          below_later = t.below_later;
+          parent_earlier = t.parent_earlier;
+          parent_later = t.parent_later;
+          order = t.order;
+        }))
 
 -- a row with a later sibling has a next one
 linked : (rows : List ItemRow) (nexts : List (Option ℕ)) (b a p : ℕ) → AreNextSiblings rows 0 nexts → parent_of rows b ≡ Some p → parent_of rows a ≡ Some p → b < a → link_at nexts b ≡ None → ⊥
@@ -64,7 +83,8 @@ linked rows nexts b a p links eb ea lt no_link =
     none a (omega arith) (parent-inside rows a p ea) ea
 
 -- a row without children is followed by the next sibling of the nearest row above that has one
-pub IsSuccessor-beside : (rows : List ItemRow) (nexts : List (Option ℕ)) (x : ℕ) (o : Option ℕ) → AreInRange rows → x < length rows → AreNextSiblings rows 0 nexts → IsFirstChild rows x 0 None → IsNextBeside rows nexts x o → IsSuccessor rows x o
+pub IsSuccessor-beside : (rows : List ItemRow) (nexts : List (Option ℕ)) (x : ℕ) (o : Option ℕ) → AreInRange rows → x < length rows →
+    AreNextSiblings rows 0 nexts → IsFirstChild rows x 0 None → IsNextBeside rows nexts x o → IsSuccessor rows x o
 IsSuccessor-beside rows nexts x None r inside links childless none = last
   where
     last : (u : ℕ) → u < length rows → Precedes rows x u → ⊥
@@ -87,9 +107,28 @@ IsSuccessor-beside rows nexts x (Some s) r inside links childless (k, (y, (h, e,
         ⊎_elim (λ same. let parents : t.parent ≡ p = let f = t.parent_earlier in let g = ap (λ n. parent_of rows n) same in cc in
         let ea : parent_of rows a ≡ Some p = t.parent_later ∙ ap Some parents in
         ⊎_elim (λ at. below-precedes rows u s (rw at t.below_later))
-        (λ apart. ⊎_elim (λ lt. inr (inr (record { earlier = s; later = a; parent = p; below_earlier = IsBelow-self rows s; below_later = t.below_later; parent_earlier = es; parent_later = ea; order = lt }))) (λ gt. absurd (first a (omega (arith, t.order)) gt ea)) apart)
+        (λ apart. ⊎_elim (λ lt. inr (inr
+        (record {
+          earlier = s;
+          later = a;
+          parent = p;
+          below_earlier = IsBelow-self rows s;
+          below_later = t.below_later;
+          parent_earlier = es;
+          parent_later = ea;
+          order = lt;
+        }))) (λ gt. absurd (first a (omega (arith, t.order)) gt ea)) apart)
         (cases_order s a))
-        (λ under. inr (inr (record { earlier = b; later = a; parent = t.parent; below_earlier = IsBelow-under rows s b (sibling_under rows y s p b ep es under); below_later = t.below_later; parent_earlier = t.parent_earlier; parent_later = t.parent_later; order = t.order })))
+        (λ under. inr (inr (record {
+          earlier = b;
+          later = a;
+          parent = t.parent;
+          below_earlier = IsBelow-under rows s b (sibling_under rows y s p b ep es under);
+          below_later = t.below_later;
+          parent_earlier = t.parent_earlier;
+          parent_later = t.parent_later;
+          order = t.order;
+        })))
         (cases_below rows y b up))
         (cases_lt t.below_earlier.0 k)
 
@@ -102,8 +141,20 @@ IsSuccessor-beside rows nexts x (Some s) r inside links childless (k, (y, (h, e,
     by_parent : (o : Option ℕ) → parent_of rows y ≡ o → IsSuccessor rows x (Some s)
     by_parent None top = let alone = links.alone y within top in absurd cc
     by_parent (Some p) ep =
-        let sibling : IsFirstChild rows p (y + 1) (Some s) = rw e at (links.next y p (omega arith) within ep) in
-        (sibling.1, inr (record { earlier = y; later = s; parent = p; below_earlier = (k, h); below_later = IsBelow-self rows s; parent_earlier = ep; parent_later = sibling.2; order = omega (arith, sibling.0) }), later p ep sibling)
+        let sibling : IsFirstChild rows p (y + 1) (Some s) = rw e at (links.next y p (omega arith) within ep) in (
+          sibling.1,
+          inr (record {
+            earlier = y;
+            later = s;
+            parent = p;
+            below_earlier = (k, h);
+            below_later = IsBelow-self rows s;
+            parent_earlier = ep;
+            parent_later = sibling.2;
+            order = omega (arith, sibling.0);
+          }),
+          later p ep sibling,
+        )
 
 -- what is left to visit
 abbrev pub Continues : List ItemRow → List ℕ → Option ℕ → Type 0
@@ -134,7 +185,9 @@ IsFront-none rows top r t only = record {
 }
 
 -- the rows and the next one behind them are rows in order
-front_push : (rows : List ItemRow) (xs : List ℕ) (x : ℕ) → IsFront rows xs (Some x) → ((k : ℕ) → k < length xs + 1 → slice_index (xs ++ x ∷ []) k < length rows) × ((j k : ℕ) → j < k → k < length xs + 1 → Precedes rows (slice_index (xs ++ x ∷ []) j) (slice_index (xs ++ x ∷ []) k))
+front_push : (rows : List ItemRow) (xs : List ℕ) (x : ℕ) → IsFront rows xs (Some x) →
+    ((k : ℕ) → k < length xs + 1 → slice_index (xs ++ x ∷ []) k < length rows)
+    × ((j k : ℕ) → j < k → k < length xs + 1 → Precedes rows (slice_index (xs ++ x ∷ []) j) (slice_index (xs ++ x ∷ []) k))
 front_push rows xs x h = (in_rows, λ j k lt within. behind j k lt within (cases_eq k (length xs)))
   where
     here : slice_index (xs ++ x ∷ []) (length xs) ≡ x
@@ -180,10 +233,16 @@ IsFront-more rows xs x next h is = record {
 
     go : (o : Option ℕ) → IsSuccessor rows x o → Continues rows (xs ++ x ∷ []) o
     go None last = λ u lt. ⊎_elim (λ found. stands u found) (λ rest. ⊎_elim (λ same. rw same stands_last) (λ after. absurd (last u lt after)) rest) (h.continues.2 u lt)
-    go (Some t) after =
-        (after.0, λ k lt. before t after.1 k (omega (arith, lt, length_push xs x)), λ u lt. ⊎_elim (λ found. inl (stands u found)) (λ rest. ⊎_elim (λ same. inl (rw same stands_last)) (λ behind. inr (after.2 u lt behind)) rest) (h.continues.2 u lt))
+    go (Some t) after = (
+      after.0,
+      λ k lt. before t after.1 k (omega (arith, lt, length_push xs x)),
+      λ u lt. ⊎_elim (λ found. inl (stands u found))
+          (λ rest. ⊎_elim (λ same. inl (rw same stands_last)) (λ behind. inr (after.2 u lt behind)) rest) (h.continues.2 u lt),
+    )
 
-apart : (rows : List ItemRow) (xs : List ℕ) → HasNoLoop rows → ((j k : ℕ) → j < k → k < length xs → Precedes rows (slice_index xs j) (slice_index xs k)) → (j k : ℕ) → j < k → k < length xs → slice_index xs j ≢ slice_index xs k
+apart : (rows : List ItemRow) (xs : List ℕ) → HasNoLoop rows →
+    ((j k : ℕ) → j < k → k < length xs → Precedes rows (slice_index xs j) (slice_index xs k)) → (j k : ℕ) → j < k → k < length xs →
+    slice_index xs j ≢ slice_index xs k
 apart rows xs none sorted j k lt within same =
     Precedes-self rows (slice_index xs k) none (rw same at (sorted j k lt within))
 
@@ -192,7 +251,9 @@ pub IsFront-room : (rows : List ItemRow) (xs : List ℕ) (x : ℕ) → IsTree ro
 IsFront-room rows xs x t h =
     let more = front_push rows xs x h in
     let long = length_push xs x in
-    let fits : length (xs ++ x ∷ []) ≤ length rows = length-apart (length rows) (xs ++ x ∷ []) (λ k lt. more.0 k (omega (arith, lt, long))) (apart rows (xs ++ x ∷ []) (HasNoLoop-tree rows t) (λ j k lt within. more.1 j k lt (omega (arith, within, long)))) in
+    let fits : length (xs ++ x ∷ [])
+    ≤ length rows = length-apart (length rows) (xs ++ x ∷ []) (λ k lt. more.0 k (omega (arith, lt, long)))
+    (apart rows (xs ++ x ∷ []) (HasNoLoop-tree rows t) (λ j k lt within. more.1 j k lt (omega (arith, within, long)))) in
     omega arith
 
 -- the place of a row
@@ -200,7 +261,8 @@ place : (rows : List ItemRow) (xs : List ℕ) → IsFront rows xs None → (u : 
 place rows xs h u (inl lt) = (h.continues u lt).0
 place rows xs h u (inr past) = 0
 
-place-is : (rows : List ItemRow) (xs : List ℕ) (h : IsFront rows xs None) (u : ℕ) (d : (u < length rows) ⊎ (length rows ≤ u)) → u < length rows → (place rows xs h u d < length xs) × (slice_index xs (place rows xs h u d) ≡ u)
+place-is : (rows : List ItemRow) (xs : List ℕ) (h : IsFront rows xs None) (u : ℕ) (d : (u < length rows) ⊎ (length rows ≤ u)) →
+    u < length rows → (place rows xs h u d < length xs) × (slice_index xs (place rows xs h u d) ≡ u)
 unfolding place
 place-is rows xs h u (inl lt) is = ((h.continues u lt).1, (h.continues u lt).2)
 place-is rows xs h u (inr past) is = absurd (omega arith)
@@ -231,7 +293,10 @@ IsPreorder-front rows xs r t h = record {
   every = h.continues;
   once = apart rows xs none h.sorted;
   before = λ k p lt e. behind k p lt e (h.continues p (r (slice_index xs k) p (h.range k lt) e));
-  together = λ j k m le high within below. ⊎_elim (λ lt. ⊎_elim (λ less. between j k m lt less within below (h.sorted j k lt (omega arith))) (λ ge. let same : k ≡ m = omega arith in rw same below) (cases_lt k m)) (λ ge. let same : k ≡ j = omega arith in rw same (IsBelow-self rows (slice_index xs j))) (cases_lt j k);
+  together = λ j k m le high within
+      below. ⊎_elim (λ lt. ⊎_elim (λ less. between j k m lt less within below (h.sorted j k lt (omega arith)))
+      (λ ge. let same : k ≡ m = omega arith in rw same below) (cases_lt k m)) (λ ge. let same : k ≡ j = omega arith in
+      rw same (IsBelow-self rows (slice_index xs j))) (cases_lt j k);
   in_row_order = λ j k p lt within ej ek. ordered j k p lt within ej ek (cases_order (slice_index xs j) (slice_index xs k));
 }
   where
@@ -249,14 +314,38 @@ IsPreorder-front rows xs r t h = record {
         (λ order. ⊎_elim (λ less. (j, less, is)) (λ gt. absurd (never k j gt within (rw is (inl under)))) order)
         (cases_order j k)
 
-    between : (j k m : ℕ) → j < k → k < m → m < length xs → IsBelow rows (slice_index xs m) (slice_index xs j) → Precedes rows (slice_index xs j) (slice_index xs k) → IsBelow rows (slice_index xs k) (slice_index xs j)
+    between : (j k m : ℕ) → j < k → k < m → m < length xs → IsBelow rows (slice_index xs m) (slice_index xs j) →
+        Precedes rows (slice_index xs j) (slice_index xs k) → IsBelow rows (slice_index xs k) (slice_index xs j)
     between j k m lt less within below (inl under) = IsBelow-under rows (slice_index xs k) (slice_index xs j) under
     between j k m lt less within below (inr t) =
-        absurd (never k m less within (inr (record { earlier = t.earlier; later = t.later; parent = t.parent; below_earlier = IsBelow-trans rows (slice_index xs m) (slice_index xs j) t.earlier below t.below_earlier; below_later = t.below_later; parent_earlier = t.parent_earlier; parent_later = t.parent_later; order = t.order })))
+        absurd (never k m less within (inr
+        (record {
+          earlier = t.earlier;
+          later = t.later;
+          parent = t.parent;
+          below_earlier = IsBelow-trans rows (slice_index xs m) (slice_index xs j) t.earlier below t.below_earlier;
+          below_later = t.below_later;
+          parent_earlier = t.parent_earlier;
+          parent_later = t.parent_later;
+          order = t.order;
+        })))
 
-    ordered : (j k p : ℕ) → j < k → k < length xs → parent_of rows (slice_index xs j) ≡ Some p → parent_of rows (slice_index xs k) ≡ Some p → (slice_index xs j ≡ slice_index xs k) ⊎ ((slice_index xs j < slice_index xs k) ⊎ (slice_index xs k < slice_index xs j)) → slice_index xs j < slice_index xs k
+    ordered : (j k p : ℕ) → j < k → k < length xs → parent_of rows (slice_index xs j) ≡ Some p →
+        parent_of rows (slice_index xs k) ≡ Some p →
+        (slice_index xs j ≡ slice_index xs k) ⊎ ((slice_index xs j < slice_index xs k) ⊎ (slice_index xs k < slice_index xs j)) →
+        slice_index xs j < slice_index xs k
     ordered j k p lt within ej ek (inl same) =
         absurd (apart rows xs none h.sorted j k lt within same)
     ordered j k p lt within ej ek (inr (inl less)) = less
     ordered j k p lt within ej ek (inr (inr more)) =
-        absurd (never j k lt within (inr (record { earlier = slice_index xs k; later = slice_index xs j; parent = p; below_earlier = IsBelow-self rows (slice_index xs k); below_later = IsBelow-self rows (slice_index xs j); parent_earlier = ek; parent_later = ej; order = more })))
+        absurd (never j k lt within (inr
+        (record {
+          earlier = slice_index xs k;
+          later = slice_index xs j;
+          parent = p;
+          below_earlier = IsBelow-self rows (slice_index xs k);
+          below_later = IsBelow-self rows (slice_index xs j);
+          parent_earlier = ek;
+          parent_later = ej;
+          order = more;
+        })))

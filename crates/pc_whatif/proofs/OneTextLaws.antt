@@ -42,7 +42,8 @@ timed_text project editing text x = record {
   told = x.told;
 }
 
-one_times_answer : (project : Project) (editing : Editing) (text other : List ℕ) → HasSoundParts project → IsTimesText (project_as project editing) text → IsTimesText (project_as project editing) other → text ≡ other
+one_times_answer : (project : Project) (editing : Editing) (text other : List ℕ) → HasSoundParts project →
+    IsTimesText (project_as project editing) text → IsTimesText (project_as project editing) other → text ≡ other
 one_times_answer project editing text other parts x y =
     one_times_text (timed project editing) text other (timed_parts project editing parts) (timed_text project editing text x) (timed_text project editing other y)
 

@@ -78,7 +78,8 @@ module _ {D C O E : Type 0} (means : Meaning) (words : List (String Global)) (de
   session_cut _ (write_fault is) code five = is
 
   -- a deck that is refused and not too long was read to its end
-  pub refused_is_read : (status : Status) → SessionOutcome means words deck edits out err status → answer ≡ code_of status → answer ≡ 1 → OfDeck deck (λ bytes. length bytes ≤ longest_deck → IsReadToEnd deck)
+  pub refused_is_read : (status : Status) → SessionOutcome means words deck edits out err status → answer ≡ code_of status → answer ≡ 1 →
+      OfDeck deck (λ bytes. length bytes ≤ longest_deck → IsReadToEnd deck)
   refused_is_read _ (heard_out asked is same) code at_1 = absurd (omega (arith, code, at_1))
   refused_is_read _ (too_long asked is same) code at_1 = absurd (omega (arith, code, at_1))
   refused_is_read _ (deck_refused is same also) code at_1 = refusal_reads IsFault deck is.fault is.refusal
@@ -88,7 +89,8 @@ module _ {D C O E : Type 0} (means : Meaning) (words : List (String Global)) (de
   refused_is_read _ (write_fault is) code at_1 = absurd (omega (arith, code, at_1))
 
   -- a deck that is not refused is accepted
-  pub not_refused_accepts : IsOneWord words → HadNoFault deck → (status : Status) → SessionOutcome means words deck edits out err status → answer ≡ code_of status → OfDeck deck (λ bytes. (RefusedBy bytes → ⊥) → AcceptedBy bytes ⊎ (answer ≡ 3))
+  pub not_refused_accepts : IsOneWord words → HadNoFault deck → (status : Status) → SessionOutcome means words deck edits out err status →
+      answer ≡ code_of status → OfDeck deck (λ bytes. (RefusedBy bytes → ⊥) → AcceptedBy bytes ⊎ (answer ≡ 3))
   not_refused_accepts asked reads _ (heard_out one is same) code = of_one (deck.bytes deck.old) AcceptedBy _ (λ bytes accepted never. inl accepted) is.heard.accepted
   not_refused_accepts asked reads _ (too_long one is same) code = of_one (deck.bytes deck.old) AcceptedBy _ (λ bytes accepted never. inl accepted) is.heard.accepted
   not_refused_accepts asked reads _ (deck_refused is same also) code =
@@ -103,7 +105,8 @@ module _ {D C O E : Type 0} (means : Meaning) (words : List (String Global)) (de
   not_refused_accepts asked reads _ (write_fault (in_usage no_word took same also unused)) code = absurd (no_word asked)
 
   -- a deck with a fault is refused
-  pub refused_deck_ends : IsOneWord words → (status : Status) → SessionOutcome means words deck edits out err status → answer ≡ code_of status → OfDeck deck (λ bytes. RefusedBy bytes → HadNoFault deck → HadNoFault err → (answer ≡ 1) ⊎ (answer ≡ 3))
+  pub refused_deck_ends : IsOneWord words → (status : Status) → SessionOutcome means words deck edits out err status →
+      answer ≡ code_of status → OfDeck deck (λ bytes. RefusedBy bytes → HadNoFault deck → HadNoFault err → (answer ≡ 1) ⊎ (answer ≡ 3))
   refused_deck_ends asked _ (heard_out one is same) code =
       of_one (deck.bytes deck.old) AcceptedBy _ (λ bytes accepted faulty reads takes. absurd (refusal_denied bytes (faulty.0) accepted (faulty.1))) is.heard.accepted
   refused_deck_ends asked _ (too_long one is same) code =
@@ -125,14 +128,18 @@ module _ {D C O E : Type 0} (means : Meaning) (words : List (String Global)) (de
   accepted_deck_ends asked _ (heard_out one is same) code = of_any (deck.bytes deck.old) _ (λ bytes accepted reads also takes. inl code)
   accepted_deck_ends asked _ (too_long one is same) code = of_any (deck.bytes deck.old) _ (λ bytes accepted reads also takes. inr (inr code))
   accepted_deck_ends asked _ (deck_refused is same other) code =
-      of_one (deck.bytes deck.old) (λ bytes. IsFault bytes is.fault) _ (λ bytes faulty accepted reads also takes. absurd (refusal_denied bytes is.fault accepted faulty)) (refusal_is_fault deck is.fault is.refusal)
+      of_one (deck.bytes deck.old) (λ bytes. IsFault bytes is.fault) _
+      (λ bytes faulty accepted reads also takes. absurd (refusal_denied bytes is.fault accepted faulty))
+      (refusal_is_fault deck is.fault is.refusal)
   accepted_deck_ends asked _ (usage no_word took same also unused) code = absurd (no_word asked)
   accepted_deck_ends asked _ (no_memory one left same other) code = of_any (deck.bytes deck.old) _ (λ bytes accepted reads also takes. inr (inl code))
   accepted_deck_ends asked _ (read_fault one (deck_unread rose few unread unused) same) code = of_any (deck.bytes deck.old) _ (λ bytes accepted reads also takes. absurd (reads rose))
   accepted_deck_ends asked _ (read_fault one (edits_unread is) same) code = of_any (deck.bytes deck.old) _ (λ bytes accepted reads also takes. absurd (also is.fault))
   accepted_deck_ends asked _ (write_fault (in_answers one is same)) code = of_any (deck.bytes deck.old) _ (λ bytes accepted reads also takes. absurd (takes is.answered.took.fault))
   accepted_deck_ends asked _ (write_fault (in_refusal is same other)) code =
-      of_one (deck.bytes deck.old) (λ bytes. IsFault bytes is.fault) _ (λ bytes faulty accepted reads also takes. absurd (refusal_denied bytes is.fault accepted faulty)) (refusal_is_fault deck is.fault is.refusal)
+      of_one (deck.bytes deck.old) (λ bytes. IsFault bytes is.fault) _
+      (λ bytes faulty accepted reads also takes. absurd (refusal_denied bytes is.fault accepted faulty))
+      (refusal_is_fault deck is.fault is.refusal)
   accepted_deck_ends asked _ (write_fault (in_usage no_word took same also unused)) code = absurd (no_word asked)
 
   -- from edits that are left alone nothing is taken
@@ -150,7 +157,9 @@ module _ {D C O E : Type 0} (means : Meaning) (words : List (String Global)) (de
   long_edits_end takes _ (usage no_word took same also unused) code = untouched_taken (answer ≡ 8) also
   long_edits_end takes _ (no_memory one left same other) code = untouched_taken (answer ≡ 8) left
   long_edits_end takes _ (read_fault one (deck_unread rose few unread unused) same) code = untouched_taken (answer ≡ 8) unread
-  long_edits_end takes _ (read_fault one (edits_unread is) same) code = few_taken INPUT_LIMIT (edits.bytes edits.old) (edits.bytes edits.new) is.heard.answered.bytes (answer ≡ 8) is.heard.answered.taken is.short
+  long_edits_end takes _ (read_fault one (edits_unread is) same) code =
+      few_taken INPUT_LIMIT (edits.bytes edits.old) (edits.bytes edits.new) is.heard.answered.bytes
+      (answer ≡ 8) is.heard.answered.taken is.short
   long_edits_end takes _ (write_fault (in_answers one is same)) code = absurd (takes is.answered.took.fault)
   long_edits_end takes _ (write_fault (in_refusal is same other)) code = untouched_taken (answer ≡ 8) same
   long_edits_end takes _ (write_fault (in_usage no_word took same also unused)) code = untouched_taken (answer ≡ 8) also

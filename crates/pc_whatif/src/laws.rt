@@ -13,8 +13,10 @@ ghost use Rattle.pc_whatif.specs.Standing.{AnswersByJournal, editing_of, journal
 /// After lines the project is that of the deck with the edits of the journal applied in order: those that were accepted and not
 /// taken back. And what answers the lines answers each on the project with the edits that then stand.
 pub fn edits_stand_in_order()
-    ensures stands { (project : Project) (lines : List (List ℕ)) → Stands project (journal_of project empty lines) (editing_of (begun project) lines) }
-    ensures answers { (project : Project) (lines : List (List ℕ)) (text : List ℕ) → AnswersLines project lines text → AnswersByJournal project empty lines text }
+    ensures stands { (project : Project) (lines : List (List ℕ)) →
+        Stands project (journal_of project empty lines) (editing_of (begun project) lines) }
+    ensures answers { (project : Project) (lines : List (List ℕ)) (text : List ℕ) →
+        AnswersLines project lines text → AnswersByJournal project empty lines text }
 {}
 
 /// Lines have one text of answers on the project of a deck.

@@ -20,7 +20,8 @@ pub(crate) fn accept<O: Sink>(out: &mut O) -> Result<(), Failed>
 
 /// Says why the line was refused.
 pub(crate) fn refuse<O: Sink>(reason: Reason, out: &mut O) -> Result<(), Failed>
-    ensures { Writes result (O.taken out.old) (O.taken out.new) (O.faults out.old) (O.faults out.new) (refused_text reason) }
+    ensures { Writes result (O.taken out.old) (O.taken out.new) (O.faults out.old) (O.faults out.new)
+        (refused_text reason) }
 {
     send(out, reply(b"NO ", reason.number()).as_slice())
 }

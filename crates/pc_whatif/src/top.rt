@@ -50,7 +50,8 @@ pub fn session_run<D: Source, C: Source, O: Sink, E: Sink>(
     ensures too_long_only { result ≡ 8 → err.new ≡ err.old }
 
     // 1: the deck is refused, and `err` took the line of its fault. Of the edits nothing was read.
-    ensures refused { result ≡ 1 → IsDeckRefused words.now (side D.left D.faults deck.old deck.new) (side E.taken E.faults err.old err.new) }
+    ensures refused { result ≡ 1 → IsDeckRefused words.now (side D.left D.faults deck.old deck.new)
+        (side E.taken E.faults err.old err.new) }
     ensures refused_read { result ≡ 1 → OfDeck (side D.left D.faults deck.old deck.new)
         (λ bytes. length bytes ≤ longest_deck → IsReadToEnd (side D.left D.faults deck.old deck.new)) }
     ensures refused_only { result ≡ 1 → (edits.new ≡ edits.old) × (out.new ≡ out.old) }
@@ -71,29 +72,35 @@ pub fn session_run<D: Source, C: Source, O: Sink, E: Sink>(
 
     // 5: a fault of `out` or `err` came in the answers, the line of a fault or the usage line.
     ensures write_fault { result ≡ 5 → IsSessionCut AnswersLines words.now (side D.left D.faults deck.old deck.new)
-        (side C.left C.faults edits.old edits.new) (side O.taken O.faults out.old out.new) (side E.taken E.faults err.old err.new) }
+        (side C.left C.faults edits.old edits.new) (side O.taken O.faults out.old out.new)
+        (side E.taken E.faults err.old err.new) }
 
     // Each status but 2 and 5 comes only where there is one word.
     ensures one_word { result ≢ 2 → result ≢ 5 → IsOneWord words.now }
 
     // A deck that is not refused is accepted, as far as it could be read and but for want of memory.
     ensures acceptance { IsOneWord words.now → HadNoFault (side D.left D.faults deck.old deck.new)
-        → OfDeck (side D.left D.faults deck.old deck.new) (λ bytes. (RefusedBy bytes → ⊥) → AcceptedBy bytes ⊎ (result ≡ 3)) }
+        → OfDeck (side D.left D.faults deck.old deck.new) (λ bytes. (RefusedBy bytes → ⊥) →
+        AcceptedBy bytes ⊎ (result ≡ 3)) }
 
     // No deck is both accepted and refused.
     ensures one_verdict { (bytes : List ℕ) → AcceptedBy bytes → RefusedBy bytes → ⊥ }
 
     // Where no fault came, the words and the deck decide, but for want of memory and for the length of the edits.
-    ensures words_refused { (IsOneWord words.now → ⊥) → HadNoFault (side E.taken E.faults err.old err.new) → result ≡ 2 }
-    ensures deck_refused { IsOneWord words.now → OfDeck (side D.left D.faults deck.old deck.new) (λ bytes. RefusedBy bytes
+    ensures words_refused { (IsOneWord words.now → ⊥) → HadNoFault (side E.taken E.faults err.old err.new) →
+        result ≡ 2 }
+    ensures deck_refused { IsOneWord words.now →
+        OfDeck (side D.left D.faults deck.old deck.new) (λ bytes. RefusedBy bytes
         → HadNoFault (side D.left D.faults deck.old deck.new)
         → HadNoFault (side E.taken E.faults err.old err.new) → (result ≡ 1) ⊎ (result ≡ 3)) }
-    ensures deck_accepted { IsOneWord words.now → OfDeck (side D.left D.faults deck.old deck.new) (λ bytes. AcceptedBy bytes
+    ensures deck_accepted { IsOneWord words.now →
+        OfDeck (side D.left D.faults deck.old deck.new) (λ bytes. AcceptedBy bytes
         → HadNoFault (side D.left D.faults deck.old deck.new) → HadNoFault (side C.left C.faults edits.old edits.new)
         → HadNoFault (side O.taken O.faults out.old out.new) → (result ≡ 0) ⊎ ((result ≡ 3) ⊎ (result ≡ 8))) }
 
     // Where more is taken of the edits than they may have, and no fault of `out` came, that is the answer.
-    ensures long_edits { HadNoFault (side O.taken O.faults out.old out.new) → OfBytes (side C.left C.faults edits.old edits.new)
+    ensures long_edits { HadNoFault (side O.taken O.faults out.old out.new) →
+        OfBytes (side C.left C.faults edits.old edits.new)
         (λ before. IfSome (C.left edits.new) (λ after. INPUT_LIMIT + length after < length before → result ≡ 8)) }
 
     // However long the deck is, no more pulls and hardly more bytes than those of the longest deck are taken of it.
@@ -112,7 +119,8 @@ fn session_outcome<D: Source, C: Source, O: Sink, E: Sink>(
     out: &mut O,
     err: &mut E,
 ) -> Status
-    ensures outcome { SessionOutcome AnswersLines words.now (side D.left D.faults deck.old deck.new) (side C.left C.faults edits.old edits.new)
+    ensures outcome { SessionOutcome AnswersLines words.now (side D.left D.faults deck.old deck.new)
+        (side C.left C.faults edits.old edits.new)
         (side O.taken O.faults out.old out.new) (side E.taken E.faults err.old err.new) result }
     ensures deck_turns { TakesPulls (longest_deck + 2) (D.pulls deck.old) (D.pulls deck.new) }
     ensures deck_near { TookAtMost (longest_deck + STREAM_ROOM) (side D.left D.faults deck.old deck.new) }
@@ -125,7 +133,8 @@ fn session_outcome<D: Source, C: Source, O: Sink, E: Sink>(
 
 /// Answers the lines of edits of the project, with all memory taken before the first is read.
 fn hear<C: Source, O: Sink>(alloc: Global, project: &Project, edits: &mut C, out: &mut O) -> Status
-    ensures { Hearing (AnswersLines project.now) (side C.left C.faults edits.old edits.new) (side O.taken O.faults out.old out.new) result }
+    ensures { Hearing (AnswersLines project.now) (side C.left C.faults edits.old edits.new)
+        (side O.taken O.faults out.old out.new) result }
 {
     let Ok(mut session) = Session::begin(alloc, project) else {
         return Status::OutOfMemory;

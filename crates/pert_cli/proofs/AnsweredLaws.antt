@@ -21,7 +21,8 @@ module _ {S O E : Type 0} (words : List (String Global)) (source : Side S) (out 
   is_done _ (write_fault is) code at_0 = absurd (omega (arith, code, at_0))
 
   -- the output took a text that answers the form for which the words ask
-  pub answered : (form : Form) → AskFor form words → (status : Status) → Outcome words source out err status → answer ≡ code_of status → answer ≡ 0 → (text : List ℕ) × IsAnswer form source text × Took out text
+  pub answered : (form : Form) → AskFor form words → (status : Status) → Outcome words source out err status → answer ≡ code_of status →
+      answer ≡ 0 → (text : List ℕ) × IsAnswer form source text × Took out text
   answered form asked status outcome code at_0 =
       let is = is_done status outcome code at_0 in
       (is.text, of_form words (λ f. IsAnswer f source is.text) form is.form asked is.asked is.answer, is.took)

@@ -46,7 +46,9 @@ module _ (form : Form) where
 -- the deck of a form that reads the source
 module _ {S : Type 0} (source : Side S) (form : Form) (reads : ReadsSource form) where
   -- what it has where it is refused
-  refusal_is : (fault : Fault) → IsTurnedDown form source fault → OfDeck source (λ bytes. IsFaultAs (sort_of form) bytes fault) ⊎ ((project : Project) × OfDeck source (λ bytes. IsMadeAs (sort_of form) bytes project) × IsDenial form project fault)
+  refusal_is : (fault : Fault) → IsTurnedDown form source fault →
+      OfDeck source (λ bytes. IsFaultAs (sort_of form) bytes fault)
+      ⊎ ((project : Project) × OfDeck source (λ bytes. IsMadeAs (sort_of form) bytes project) × IsDenial form project fault)
   refusal_is fault (by_deck refusal) =
       inl (refusal_has (IsFaultAs (sort_of form)) source (long_as (sort_of form)) fault (read_refusal source form fault reads refusal))
   refusal_is fault (by_form project has denial) = inr (project, (read_project source form project reads has).is, denial)
@@ -126,7 +128,8 @@ module _ {S O E : Type 0} (words : List (String Global)) (source : Side S) (out 
     not_refused_accepts whole _ (write_fault (in_usage no_form took same also)) is_code = absurd (no_form form asked)
 
     -- an accepted deck of the source is answered
-    pub accepted_ends : (status : Status) → Outcome words source out err status → answer ≡ code_of status → OfDeck source (λ bytes. IsAcceptedFor form bytes → HadNoFault source → HadNoFault out → (answer ≡ 0) ⊎ (answer ≡ 3))
+    pub accepted_ends : (status : Status) → Outcome words source out err status → answer ≡ code_of status →
+        OfDeck source (λ bytes. IsAcceptedFor form bytes → HadNoFault source → HadNoFault out → (answer ≡ 0) ⊎ (answer ≡ 3))
     accepted_ends _ (done is same) is_code = of_any (source.bytes source.old) _ (λ bytes accepted whole takes. inl is_code)
     accepted_ends _ (refused is same) is_code = turned_down_not_accepted source form reads is.fault _ (its_refusal is.form is.fault is.asked is.refusal)
     accepted_ends _ (usage no_form took same also) is_code = absurd (no_form form asked)
@@ -137,7 +140,8 @@ module _ {S O E : Type 0} (words : List (String Global)) (source : Side S) (out 
     accepted_ends _ (write_fault (in_usage no_form took same also)) is_code = absurd (no_form form asked)
 
     -- a refused one is refused
-    pub refused_ends : (status : Status) → Outcome words source out err status → answer ≡ code_of status → OfDeck source (λ bytes. IsRefusedFor form bytes → HadNoFault source → HadNoFault err → (answer ≡ 1) ⊎ (answer ≡ 3))
+    pub refused_ends : (status : Status) → Outcome words source out err status → answer ≡ code_of status →
+        OfDeck source (λ bytes. IsRefusedFor form bytes → HadNoFault source → HadNoFault err → (answer ≡ 1) ⊎ (answer ≡ 3))
     refused_ends _ (done is same) is_code = answered_not_refused source form reads is.text _ (its_answer is.form is.text is.asked is.answer)
     refused_ends _ (refused is same) is_code = of_any (source.bytes source.old) _ (λ bytes faulty whole takes. inl is_code)
     refused_ends _ (usage no_form took same also) is_code = absurd (no_form form asked)
@@ -195,7 +199,8 @@ module _ {S O E : Type 0} (words : List (String Global)) (source : Side S) (out 
     own_refused_ends _ (write_fault (in_usage no_form took same also)) is_code faulty takes = absurd (no_form form asked)
 
 -- a run that ended with 5 was cut
-pub five_is_cut : {S O E : Type 0} (words : List (String Global)) (source : Side S) (out : Side O) (err : Side E) (answer : ℕ) (status : Status) → Outcome words source out err status → answer ≡ code_of status → answer ≡ 5 → IsCut words source out err
+pub five_is_cut : {S O E : Type 0} (words : List (String Global)) (source : Side S) (out : Side O) (err : Side E) (answer : ℕ)
+    (status : Status) → Outcome words source out err status → answer ≡ code_of status → answer ≡ 5 → IsCut words source out err
 five_is_cut words source out err answer _ (done is same) is_code five = absurd (omega (arith, is_code, five))
 five_is_cut words source out err answer _ (refused is same) is_code five = absurd (omega (arith, is_code, five))
 five_is_cut words source out err answer _ (usage no_form took same also) is_code five = absurd (omega (arith, is_code, five))
@@ -204,7 +209,8 @@ five_is_cut words source out err answer _ (read_fault form rose few same also) i
 five_is_cut words source out err answer _ (write_fault cut) is_code five = cut
 
 -- a run that ended with another number than 2 and 5 was asked for a form
-pub ended_asked : {S O E : Type 0} (words : List (String Global)) (source : Side S) (out : Side O) (err : Side E) (answer : ℕ) (status : Status) → Outcome words source out err status → answer ≡ code_of status → answer ≢ 2 → answer ≢ 5 → AskForOne words
+pub ended_asked : {S O E : Type 0} (words : List (String Global)) (source : Side S) (out : Side O) (err : Side E) (answer : ℕ)
+    (status : Status) → Outcome words source out err status → answer ≡ code_of status → answer ≢ 2 → answer ≢ 5 → AskForOne words
 ended_asked words source out err answer _ (done is same) is_code no_usage no_cut = (is.form, is.asked)
 ended_asked words source out err answer _ (refused is same) is_code no_usage no_cut = (is.form, is.asked)
 ended_asked words source out err answer _ (usage no_form took same also) is_code no_usage no_cut = absurd (no_usage is_code)
@@ -213,7 +219,8 @@ ended_asked words source out err answer _ (read_fault form rose few same also) i
 ended_asked words source out err answer _ (write_fault cut) is_code no_usage no_cut = absurd (no_cut is_code)
 
 -- a run that ended with 4 was asked for a form that reads the source
-pub four_is_read : {S O E : Type 0} (words : List (String Global)) (source : Side S) (out : Side O) (err : Side E) (answer : ℕ) (status : Status) → Outcome words source out err status → answer ≡ code_of status → answer ≡ 4 → AskToRead words
+pub four_is_read : {S O E : Type 0} (words : List (String Global)) (source : Side S) (out : Side O) (err : Side E) (answer : ℕ)
+    (status : Status) → Outcome words source out err status → answer ≡ code_of status → answer ≡ 4 → AskToRead words
 four_is_read words source out err answer _ (done is same) is_code four = absurd (omega (arith, is_code, four))
 four_is_read words source out err answer _ (refused is same) is_code four = absurd (omega (arith, is_code, four))
 four_is_read words source out err answer _ (usage no_form took same also) is_code four = absurd (omega (arith, is_code, four))

@@ -82,7 +82,8 @@ module _ {S : Type 0} (source : Side S) (form : Form) where
   own_gives (Ok project) deck own left is = project_owned deck own left is
   own_gives (Err none) deck own left is = tt
 
-  pub own_lacks : (result : Result Project NoProject) (deck : List ℕ) → IsOwnDeck form deck → IsUntouched source → IfErr result (IsNoProjectBy (IsFaultAs (sort_of form)) deck) → IfErr result (HasNoProjectFor form source)
+  pub own_lacks : (result : Result Project NoProject) (deck : List ℕ) → IsOwnDeck form deck → IsUntouched source →
+      IfErr result (IsNoProjectBy (IsFaultAs (sort_of form)) deck) → IfErr result (HasNoProjectFor form source)
   own_lacks (Ok project) deck own left why = tt
   own_lacks (Err (Refused fault)) deck own left why = (why.0, refusal_owned deck own left why.1)
   own_lacks (Err ReadFault) deck own left never = absurd never

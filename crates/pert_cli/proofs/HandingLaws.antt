@@ -25,7 +25,8 @@ Replies-denial form project out err status told fault same denial said unused = 
 
 -- an answer that was put together, if there was memory, is a text that is asked for
 pub of_built : {A E X : Type 0} (built : Result A E) (IsFor : A → Type 0) (text_of : A → List ℕ) (IsText : List ℕ → Type 0) (out : Side X) (status : Status)
-    → ((a : A) → IsFor a → IsText (text_of a)) → IfOk built IsFor → IfOk built (λ a. Answers (λ text. text ≡ text_of a) out status) → OnErr built (Answers (λ text. ⊥) out status) → Answers IsText out status
+    → ((a : A) → IsFor a → IsText (text_of a)) → IfOk built IsFor → IfOk built (λ a. Answers (λ text. text ≡ text_of a) out status) →
+    OnErr built (Answers (λ text. ⊥) out status) → Answers IsText out status
 of_built (Ok a) IsFor text_of IsText out status right is written none =
     Answers-weaker (λ text. text ≡ text_of a) IsText out status (λ text same. subst IsText (sym same) (right a is)) written
 of_built (Err e) IsFor text_of IsText out status right is written none =

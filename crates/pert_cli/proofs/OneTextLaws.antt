@@ -49,5 +49,6 @@ of_parts Arrows project text other has parts x y = x.is ∙ sym y.is
 of_parts _ project text other has parts x y = absurd has
 
 -- two texts that answer such a form for the project of a deck are one
-pub one_text : (bytes : List ℕ) (project : Project) (form : Form) (text other : List ℕ) → IsMadeAs (sort_of form) bytes project → HasOneText form → IsTextOf form project text → IsTextOf form project other → text ≡ other
+pub one_text : (bytes : List ℕ) (project : Project) (form : Form) (text other : List ℕ) → IsMadeAs (sort_of form) bytes project →
+    HasOneText form → IsTextOf form project text → IsTextOf form project other → text ≡ other
 one_text bytes project form text other is has x y = of_parts form project text other has (parts_as (sort_of form) bytes project is) x y

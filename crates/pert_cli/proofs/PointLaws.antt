@@ -25,19 +25,23 @@ pub told_of-outside : (net : PricedNetwork) (limit : ℕ) (fault : Fault) → Is
 told_of-outside net limit fault out = subst IsTold (sym out.is) refl
 
 -- the range of a network that is another
-pub range_of : (net other : PricedNetwork) (shortest longest : ℕ) → net ≡ other → IsAllCrashLength net.network net.terms shortest → IsAllNormalLength net.network net.terms longest → IsRange other shortest longest
+pub range_of : (net other : PricedNetwork) (shortest longest : ℕ) → net ≡ other → IsAllCrashLength net.network net.terms shortest →
+    IsAllNormalLength net.network net.terms longest → IsRange other shortest longest
 range_of net other shortest longest same crash normal =
     subst (λ (n : PricedNetwork). IsRange n shortest longest) same (record { all_crash = crash; all_normal = normal })
 
 -- the text of a schedule of least cost for the length answers `point`
-pub point_reply : (project : Project) (limit : ℕ) (printed : Printed) (text : List ℕ) → IsCheapestFor (priced_in project) limit printed → text ≡ printed_text project printed → IsReply (Point limit) project text
+pub point_reply : (project : Project) (limit : ℕ) (printed : Printed) (text : List ℕ) → IsCheapestFor (priced_in project) limit printed →
+    text ≡ printed_text project printed → IsReply (Point limit) project text
 point_reply project limit printed text right is = record {
   right = record { printed = printed; right = right; is = is };
   fits = λ fault. within_not_outside (priced_in project) limit fault right.within;
 }
 
 -- so does the text of one with the outlook of the items at its durations answer `outlook`
-pub outlook_reply : (project : Project) (limit : ℕ) (printed : Printed) (outlook : TheOutlook) (text : List ℕ) → IsCheapestFor (priced_in project) limit printed → IsOutlook project printed.durations outlook → TellsTop project printed.durations outlook
+pub outlook_reply : (project : Project) (limit : ℕ) (printed : Printed) (outlook : TheOutlook) (text : List ℕ) →
+    IsCheapestFor (priced_in project) limit printed → IsOutlook project printed.durations outlook →
+    TellsTop project printed.durations outlook
     → text ≡ printed_text project printed ++ outlook_text project outlook → IsReply (Outlook limit) project text
 outlook_reply project limit printed outlook text right at top is = record {
   right = record {

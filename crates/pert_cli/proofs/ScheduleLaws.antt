@@ -31,7 +31,10 @@ normals-durations net terms are = record {
 }
 
 -- the longest sums of the normal durations, with their cost, are the schedule at the all-normal length
-pub normal_schedule : (project : Project) (printed : Printed) → IsPlanned project → printed.durations ≡ normals project.terms → AreEarly project.network (normals project.terms) printed.times → IsLongest project.network (normals project.terms) printed.length → printed.cost ≡ cost_of project.terms (knees_of project.terms project.pieces) (slice_index (normals project.terms)) → IsNormalSchedule project printed
+pub normal_schedule : (project : Project) (printed : Printed) → IsPlanned project → printed.durations ≡ normals project.terms →
+    AreEarly project.network (normals project.terms) printed.times → IsLongest project.network (normals project.terms) printed.length →
+    printed.cost ≡ cost_of project.terms (knees_of project.terms project.pieces) (slice_index (normals project.terms)) →
+    IsNormalSchedule project printed
 normal_schedule project printed planned normal early longest cost = record {
   time_each = early.one_each;
   duration_each = ap length normal ∙ (normals-lengths project planned).one_each;
@@ -41,10 +44,15 @@ normal_schedule project printed planned normal early longest cost = record {
   schedule = subst (λ durations. IsSchedule project.network project.terms printed.length (slice_index durations) (slice_index printed.times)) (sym normal)
       (all_normal_schedule project.network project.terms (slice_index printed.times) printed.length planned.in_range planned.sound planned.terms early.each longest);
   cost = ap (λ durations. cost_of project.terms (knees_of project.terms project.pieces) (slice_index durations)) normal ∙ sym cost;
-  least = (all_normal_least_cost project.network project.terms (knees_of project.terms project.pieces) (slice_index printed.times) printed.length printed.cost planned.in_range planned.sound planned.terms early.each longest (cost ∙ cost_of-normals project.terms (knees_of project.terms project.pieces))).least;
+  least = (all_normal_least_cost project.network project.terms (knees_of project.terms project.pieces)
+      (slice_index printed.times) printed.length printed.cost planned.in_range planned.sound planned.terms early.each longest
+      (cost ∙ cost_of-normals project.terms (knees_of project.terms project.pieces))).least;
 }
 
 -- the text of a printed schedule, from its parts
-pub printed_text-is : (project : Project) (printed : Printed) (total cost : ℕ) (events activities : List (List ℕ)) (times durations : List ℕ) → total ≡ printed.length → cost ≡ printed.cost → events ≡ project.events → times ≡ printed.times → activities ≡ project.activities → durations ≡ printed.durations → schedule_text total cost events times activities durations ≡ printed_text project printed
+pub printed_text-is : (project : Project) (printed : Printed) (total cost : ℕ) (events activities : List (List ℕ))
+    (times durations : List ℕ) → total ≡ printed.length → cost ≡ printed.cost → events ≡ project.events → times ≡ printed.times →
+    activities ≡ project.activities → durations ≡ printed.durations →
+    schedule_text total cost events times activities durations ≡ printed_text project printed
 printed_text-is project printed total cost events activities times durations same_total same_cost same_events same_times same_activities same_durations =
     λ i. schedule_text (same_total i) (same_cost i) (same_events i) (same_times i) (same_activities i) (same_durations i)

@@ -65,7 +65,8 @@ pub record IsAskedBy (form : Form) (words : List (List ℕ)) : Type 0 where
 
 -- the names of the forms, in the order of the usage line
 abbrev pub form_names : List (List ℕ)
-form_names = codes "check" ∷ codes "normal" ∷ codes "times" ∷ codes "summary" ∷ codes "value" ∷ codes "curve" ∷ codes "certify" ∷ codes "point L" ∷ codes "outlook L" ∷ codes "bench N" ∷ codes "migrate" ∷ codes "optimum" ∷ codes "arrows" ∷ codes "load P" ∷ []
+form_names = codes "check" ∷ codes "normal" ∷ codes "times" ∷ codes "summary" ∷ codes "value" ∷ codes "curve" ∷ codes "certify" ∷ codes
+    "point L" ∷ codes "outlook L" ∷ codes "bench N" ∷ codes "migrate" ∷ codes "optimum" ∷ codes "arrows" ∷ codes "load P" ∷ []
 
 -- the text answers the form: `check` with the project's code and the counts of its cards, `normal` with the schedule at
 -- the all-normal length, `times` with the times of the events and the critical path, `summary` with what the accounts add up

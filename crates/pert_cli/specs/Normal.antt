@@ -24,7 +24,8 @@ pub record IsNormalSchedule (project : Project) (printed : Printed) : Type 0 whe
   pub early : (e : ℕ) → e < project.network.events → IsEarly project.network (normals project.terms) e (slice_index printed.times e)
   pub schedule : IsSchedule project.network project.terms printed.length (slice_index printed.durations) (slice_index printed.times)
   pub cost : cost_of project.terms (knees_of project.terms project.pieces) (slice_index printed.durations) ≡ printed.cost
-  pub least : (durations times : ℕ → ℕ) → IsSchedule project.network project.terms printed.length durations times → printed.cost ≤ cost_of project.terms (knees_of project.terms project.pieces) durations
+  pub least : (durations times : ℕ → ℕ) → IsSchedule project.network project.terms printed.length durations times →
+      printed.cost ≤ cost_of project.terms (knees_of project.terms project.pieces) durations
 
 -- the text of a printed schedule
 abbrev pub printed_text : Project → Printed → List ℕ

@@ -22,7 +22,8 @@ pub(crate) trait Answer {
     /// Writes the text and flushes the output, without memory.
     fn write_to<O: Sink>(&mut self, project: &Project, out: &mut O) -> Result<(), Failed>
         requires { IsFor self.old project.now }
-        ensures { Writes result (O.taken out.old) (O.taken out.new) (O.faults out.old) (O.faults out.new) (text self.old project.now) };
+        ensures { Writes result (O.taken out.old) (O.taken out.new) (O.faults out.old) (O.faults out.new)
+            (text self.old project.now) };
 }
 
 /// Writes the answer, unless there was no memory to put it together.
@@ -32,7 +33,8 @@ pub(crate) fn deliver<A: Answer + Drop, O: Sink>(
     out: &mut O,
 ) -> Status
     requires { ForOk built (λ answer. A.IsFor answer project.now) }
-    ensures built { IfOk built (λ answer. Answers (λ text. text ≡ A.text answer project.now) (side O.taken O.faults out.old out.new) result) }
+    ensures built { IfOk built (λ answer. Answers (λ text. text ≡ A.text answer project.now)
+        (side O.taken O.faults out.old out.new) result) }
     ensures none { OnErr built (Answers (λ text. ⊥) (side O.taken O.faults out.old out.new) result) }
 {
     let Ok(answer) = built else {

@@ -55,7 +55,12 @@ impl Model for CheapestSchedule {
 
     ghost Value = { Printed };
 
-    ghost view = { λ s. record { length = s.total; cost = s.cost; times = s.times.items; durations = s.durations.items } };
+    ghost view = { λ s. record {
+      length = s.total;
+      cost = s.cost;
+      times = s.times.items;
+      durations = s.durations.items;
+    } };
 }
 
 impl CheapestSchedule {
@@ -104,7 +109,8 @@ impl CheapestSchedule {
         requires { IsCheapest (priced_in project.now) self.now }
         ensures whole { IsWhole result }
         ensures text { text_of result ≡ printed_text project.now self.now }
-        ensures plan { plan_of result ≡ plan_text project.now.events self.now.times project.now.activities self.now.durations }
+        ensures plan { plan_of result ≡ plan_text project.now.events self.now.times project.now.activities
+            self.now.durations }
     {
         Schedule {
             length: self.total,
@@ -152,7 +158,8 @@ fn fill<L: Ledger>(
     requires to_come { IsToCome solver.old limit }
     requires places { HasPlaces solver.old.net times.old durations.old }
     requires blank { IsBlankOf L.name L.parts blank.name blank.parts }
-    ensures { IsCheapest solver.old.net (record { length = limit; cost = result; times = times.new; durations = durations.new }) }
+    ensures { IsCheapest solver.old.net
+        (record { length = limit; cost = result; times = times.new; durations = durations.new }) }
 {
     let mut steps = Steps::<L>::new(blank);
     point_at(solver, limit, times, durations, &mut steps)

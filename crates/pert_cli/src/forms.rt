@@ -198,7 +198,8 @@ impl Form {
         err: &mut E,
     ) -> Status
         requires { IsNumbered self }
-        ensures { Replies self project.now (side O.taken O.faults out.old out.new) (side E.taken E.faults err.old err.new) result }
+        ensures { Replies self project.now (side O.taken O.faults out.old out.new)
+            (side E.taken E.faults err.old err.new) result }
     {
         let room = self.room_of(alloc, deck);
         match self {

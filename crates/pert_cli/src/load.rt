@@ -29,7 +29,8 @@ pub(crate) fn answer<O: Sink, E: Sink>(
     err: &mut E,
 ) -> Status
     requires { IsNumbered (Load days) }
-    ensures { Replies (Load days) project.now (side O.taken O.faults out.old out.new) (side E.taken E.faults err.old err.new) result }
+    ensures { Replies (Load days) project.now (side O.taken O.faults out.old out.new)
+        (side E.taken E.faults err.old err.new) result }
 {
     let Ok(page) = Page::with_room(alloc, PAGE_ROOM) else {
         return Status::OutOfMemory;

@@ -68,7 +68,8 @@ impl OptimumAnswer {
 }
 
 impl Answer for OptimumAnswer {
-    ghost IsFor = { λ answer project. (answer.page ≡ fresh) × IsOptimumWith (priced_in project) project.time_terms answer.best answer.schedule };
+    ghost IsFor = { λ answer project. (answer.page ≡ fresh)
+        × IsOptimumWith (priced_in project) project.time_terms answer.best answer.schedule };
 
     ghost text = { λ answer project. optimum_text project answer.best answer.schedule };
 
@@ -101,7 +102,8 @@ fn solve(
     region: Region,
     terms: &TimeTerms,
 ) -> Result<(Best, CheapestSchedule), AllocError>
-    requires region { 8 * net.now.network.events + 6 * length net.now.network.arcs + 2 * length net.now.pieces + 16 ≤ free_of region }
+    requires region { 8 * net.now.network.events + 6 * length net.now.network.arcs + 2 * length net.now.pieces + 16
+        ≤ free_of region }
     requires terms { AreTimeTerms terms.now }
     ensures { IfOk result (λ found. IsOptimumWith net.now terms.now found.0 found.1) }
 {

@@ -28,7 +28,8 @@ pub(crate) fn answer<O: Sink, E: Sink>(
     out: &mut O,
     err: &mut E,
 ) -> Status
-    ensures { Replies (Outlook limit) project.now (side O.taken O.faults out.old out.new) (side E.taken E.faults err.old err.new) result }
+    ensures { Replies (Outlook limit) project.now (side O.taken O.faults out.old out.new)
+        (side E.taken E.faults err.old err.new) result }
 {
     let schedule = match CheapestSchedule::for_length(alloc, project, limit) {
         Ok(schedule) => schedule,
@@ -49,7 +50,8 @@ struct OutlookAnswer {
 }
 
 impl Answer for OutlookAnswer {
-    ghost IsFor = { λ answer project. IsCheapest (priced_in project) answer.schedule × IsOutlookFor project answer.report };
+    ghost IsFor = { λ answer project. IsCheapest (priced_in project) answer.schedule
+        × IsOutlookFor project answer.report };
 
     ghost text = { λ answer project. printed_text project answer.schedule ++ outlook_text project answer.report };
 

@@ -28,7 +28,8 @@ pub(crate) fn answer<O: Sink, E: Sink>(
     out: &mut O,
     err: &mut E,
 ) -> Status
-    ensures { Replies (Point limit) project.now (side O.taken O.faults out.old out.new) (side E.taken E.faults err.old err.new) result }
+    ensures { Replies (Point limit) project.now (side O.taken O.faults out.old out.new)
+        (side E.taken E.faults err.old err.new) result }
 {
     let Ok(page) = Page::with_room(alloc, PAGE_ROOM) else {
         return Status::OutOfMemory;

@@ -22,7 +22,12 @@ impl Model for NormalSchedule {
 
     ghost Value = { Printed };
 
-    ghost view = { λ s. record { length = s.found.length; cost = s.cost; times = s.found.times; durations = s.durations.items } };
+    ghost view = { λ s. record {
+      length = s.found.length;
+      cost = s.cost;
+      times = s.found.times;
+      durations = s.durations.items;
+    } };
 }
 
 impl NormalSchedule {

@@ -48,7 +48,8 @@ pub fn run<S: Source, O: Sink, E: Sink>(
     ensures statuses { result ≤ 5 }
 
     // 0: the words ask for a form, its deck was read to its end, deck and form accept it, and `out` took the form's answer.
-    ensures done { result ≡ 0 → IsDone words.now (side S.left S.faults source.old source.new) (side O.taken O.faults out.old out.new) }
+    ensures done { result ≡ 0 → IsDone words.now (side S.left S.faults source.old source.new)
+        (side O.taken O.faults out.old out.new) }
     ensures done_only { result ≡ 0 → err.new ≡ err.old }
 
     // The headline: at 0 for `certify`, `out` took the whole time-cost curve of the accepted deck's project. For every length
@@ -68,7 +69,8 @@ pub fn run<S: Source, O: Sink, E: Sink>(
         (TookArrows (side O.taken O.faults out.old out.new)) }
 
     // 1: the words ask for a form, its deck or the form refuses with a fault, and `err` took the line of the fault.
-    ensures refused { result ≡ 1 → IsRefused words.now (side S.left S.faults source.old source.new) (side E.taken E.faults err.old err.new) }
+    ensures refused { result ≡ 1 → IsRefused words.now (side S.left S.faults source.old source.new)
+        (side E.taken E.faults err.old err.new) }
     ensures refused_read { result ≡ 1 → AskToRead words.now → OfDeck (side S.left S.faults source.old source.new)
         (λ bytes. length bytes ≤ longest_deck → IsReadToEnd (side S.left S.faults source.old source.new)) }
     ensures refused_only { result ≡ 1 → out.new ≡ out.old }
@@ -97,19 +99,22 @@ pub fn run<S: Source, O: Sink, E: Sink>(
     ensures form { result ≢ 2 → result ≢ 5 → AskForOne words.now }
 
     // A deck that is not refused is accepted, as far as it could be read and but for want of memory.
-    ensures acceptance { (form : TheForm) → AskFor form words.now → ReadsSource form → HadNoFault (side S.left S.faults source.old source.new)
+    ensures acceptance { (form : TheForm) → AskFor form words.now → ReadsSource form →
+        HadNoFault (side S.left S.faults source.old source.new)
         → OfDeck (side S.left S.faults source.old source.new)
         (λ bytes. (RefusedAs (sort_of form) bytes → ⊥) → AcceptedAs (sort_of form) bytes ⊎ (result ≡ 3)) }
 
     // An accepted deck has one answer to each form that does not print a schedule of least cost, of which there may be several.
     ensures one_text { (form : TheForm) (bytes : List ℕ) (project : TheProject) (text other : List ℕ) → HasOneText form
-        → IsMadeAs (sort_of form) bytes project → IsTextOf form project text → IsTextOf form project other → text ≡ other }
+        → IsMadeAs (sort_of form) bytes project → IsTextOf form project text → IsTextOf form project other →
+        text ≡ other }
 
     // No deck is both accepted and refused.
     ensures one_verdict { (sort : TheSort) (bytes : List ℕ) → AcceptedAs sort bytes → RefusedAs sort bytes → ⊥ }
 
     // A form that has a deck of its own reads nothing.
-    ensures unread { (form : TheForm) (deck : List ℕ) → AskFor form words.now → IsOwnDeck form deck → source.new ≡ source.old }
+    ensures unread { (form : TheForm) (deck : List ℕ) → AskFor form words.now → IsOwnDeck form deck →
+        source.new ≡ source.old }
 
     // However long the source is, no more pulls and hardly more bytes than those of the longest deck are taken of it.
     ensures turns { TakesPulls (longest_deck + 2) (S.pulls source.old) (S.pulls source.new) }
@@ -125,9 +130,11 @@ pub fn run<S: Source, O: Sink, E: Sink>(
         → OfDeck (side S.left S.faults source.old source.new) (λ bytes. IsRefusedFor form bytes
         → HadNoFault (side S.left S.faults source.old source.new)
         → HadNoFault (side E.taken E.faults err.old err.new) → (result ≡ 1) ⊎ (result ≡ 3)) }
-    ensures own_accepted { (form : TheForm) (deck : List ℕ) → AskFor form words.now → IsOwnDeck form deck → IsAcceptedFor form deck
+    ensures own_accepted { (form : TheForm) (deck : List ℕ) → AskFor form words.now → IsOwnDeck form deck →
+        IsAcceptedFor form deck
         → HadNoFault (side O.taken O.faults out.old out.new) → (result ≡ 0) ⊎ (result ≡ 3) }
-    ensures own_refused { (form : TheForm) (deck : List ℕ) → AskFor form words.now → IsOwnDeck form deck → IsRefusedFor form deck
+    ensures own_refused { (form : TheForm) (deck : List ℕ) → AskFor form words.now → IsOwnDeck form deck →
+        IsRefusedFor form deck
         → HadNoFault (side E.taken E.faults err.old err.new) → (result ≡ 1) ⊎ (result ≡ 3) }
 {
     outcome(alloc, words, source, out, err).code()

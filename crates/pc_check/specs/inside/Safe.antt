@@ -61,6 +61,7 @@ pub record IsRenewed (old new : List Passed) (a flows costs : ℕ) : Type 0 wher
 pub record AddsAct (net : PricedNetwork) (old : Tally) (duration : ℕ) (flows : List ℕ) (new : Tally) : Type 0 where
   pub rest : new ≡ record old { acts = old.acts + 1; rows = new.rows; inflow = new.inflow; outflow = new.outflow; spent = new.spent; forward = new.forward; backward = new.backward; stops = new.stops }
   pub row : IsRenewed old.rows.items new.rows.items old.acts (flow_sum flows) (activity_cost net.terms (knees_in net) old.acts duration)
-  pub forward : new.forward ≡ old.forward + (if is_forward net.network.arcs (stretch_of old).moves old.acts then rises_above net.network (knees_in net) (stretch_of old) (span (stretch_of old)) old.acts else 0)
+  pub forward : new.forward ≡ old.forward + (if is_forward net.network.arcs (stretch_of old).moves old.acts
+      then rises_above net.network (knees_in net) (stretch_of old) (span (stretch_of old)) old.acts else 0)
   pub backward : new.backward ≡ old.backward + (if is_backward net.network.arcs (stretch_of old).moves old.acts then rises_above net.network (knees_in net) (stretch_of old) 0 old.acts else 0)
   pub stops : new.stops ≡ (old.stops || stops_in net (stretch_of old) old.acts)

@@ -9,7 +9,8 @@ use Rattle.pc_model.specs.Schedule.{IsAllCrashLength}
 use Rattle.pc_model.specs.Cost.{Knees, IsLeastCost, IsPriced}
 use Rattle.pc_curve_laws.specs.Segment.{Segment, IsSegment}
 use Rattle.pc_curve_laws.specs.Cover.{Joins, IsLong, IsLongUnlessAlone, IsFront, IsCovering}
-use Rattle.pc_curve_laws.specs.Curve.{IsTurn, IsBreak, Breakpoint, IsBreakpoint, breakpoint_at, AreBreakpoints, Meet, AreBreakpointsAbove, upper_point, lower_point, corners_after, corners_of, breakpoints_of}
+use Rattle.pc_curve_laws.specs.Curve.{IsTurn, IsBreak, Breakpoint, IsBreakpoint, breakpoint_at, AreBreakpoints, Meet}
+use Rattle.pc_curve_laws.specs.Curve.{AreBreakpointsAbove, upper_point, lower_point, corners_after, corners_of, breakpoints_of}
 use Rattle.pc_curve_laws.specs.Worked.{point}
 use Rattle.pc_curve_laws.proofs.Segments.Covering.{joins-first, all-long, crash_walk_at_last}
 use Rattle.pc_curve_laws.proofs.Curves.Turns.{IsCurve, LiesOn, straight, upper_costs, turns, turned, is_curve, lies_on}

@@ -12,7 +12,8 @@ use Rattle.pc_model.specs.Schedule.{IsSchedule, lesser_of}
 use Rattle.pc_model.specs.Cost.{Knees, activity_cost, cost_of, IsPriced}
 use Rattle.pc_curve_laws.specs.Flow.{whole_flow, IsFlow, promise}
 use Rattle.pc_curve_laws.specs.Tight.{IsSlackAtKnee, IsTight, AreTight}
-use Rattle.pc_curve_laws.specs.Segment.{Segment, span, fall_of, times_for, durations_for, cost_for, head_at, tail_at, IsStill, IsRightSegment, is_forward, is_backward, rises_above, forward_rises, backward_rises, IsRight}
+use Rattle.pc_curve_laws.specs.Segment.{Segment, span, fall_of, times_for, durations_for, cost_for, head_at, tail_at, IsStill}
+use Rattle.pc_curve_laws.specs.Segment.{IsRightSegment, is_forward, is_backward, rises_above, forward_rises, backward_rises, IsRight}
 use Rattle.pc_model.proofs.Sums.{sum_to-same, sum_to-zero}
 use Rattle.pc_curve_laws.proofs.Flows.Balance.{crossing}
 use Rattle.pc_curve_laws.proofs.Flows.Duality.{weak_duality, tight_schedule, tight_promise}
@@ -157,7 +158,8 @@ module _ (net : Network) (terms : List Term) (knees : Knees) (priced : IsPriced 
       record {
         starts = omega arith;
         tight = λ a inside.
-            tight_shifted terms knees a (tail_at net.arcs seg x a) (head_at net.arcs seg x a) (times_for seg limit (from_of net.arcs a)) (times_for seg limit (to_of net.arcs a)) (seg.flow a) (seg.beside a)
+            tight_shifted terms knees a (tail_at net.arcs seg x a) (head_at net.arcs seg x a) (times_for seg limit (from_of net.arcs a))
+            (times_for seg limit (to_of net.arcs a)) (seg.flow a) (seg.beside a)
             (omega (
               arith,
               falls_within x (omega arith) (from_of net.arcs a) (priced.range.from_in a inside),

@@ -132,7 +132,11 @@ module _ (s : Stair) where
               at.3,
               sum_to-mono (suc at.0) s.count (λ k. if nat_lt gap (s.knee k) then s.rise k else 0) (omega (arith, at.1)),
               sum_to-le (suc at.0) s.rise (λ k. if nat_lt gap (s.knee k) then s.rise k else 0)
-                  (λ j l. omega (arith, cond-true (nat_lt gap (s.knee j)) (s.rise j) 0 (lt-ltb gap (s.knee j) (omega (arith, unit-at x at.0 at.1 at.2 at.3, falling.ordered j at.0 (omega arith) at.1))))),
+                  (λ j l. omega (
+                    arith,
+                    cond-true (nat_lt gap (s.knee j)) (s.rise j) 0
+                        (lt-ltb gap (s.knee j) (omega (arith, unit-at x at.0 at.1 at.2 at.3, falling.ordered j at.0 (omega arith) at.1))),
+                  )),
             ))
           ]
           | inr short ↦ short

@@ -29,9 +29,11 @@ pub middle_stuck : IsStairStuck small_net small_terms (knees_of small_terms smal
 middle_stuck = record {
   start_rests = refl;
   end_moves = refl;
-  forward = each3 (λ a. is_forward small_net.arcs small_2.moves a ≡ true → next_unit small_terms (knees_of small_terms small_pieces) (slice_index (5 ∷ 5 ∷ 0 ∷ [])) a < gap_of small_net.arcs small_2.time a)
+  forward = each3 (λ a. is_forward small_net.arcs small_2.moves a ≡ true →
+      next_unit small_terms (knees_of small_terms small_pieces) (slice_index (5 ∷ 5 ∷ 0 ∷ [])) a < gap_of small_net.arcs small_2.time a)
       (λ forward. absurd (cc)) (λ forward. omega arith) (λ forward. omega arith);
-  backward = each3 (λ a. is_backward small_net.arcs small_2.moves a ≡ true → 0 < (slice_index (5 ∷ 5 ∷ 0 ∷ [])) a → gap_of small_net.arcs small_2.time a < last_unit small_terms (knees_of small_terms small_pieces) (slice_index (5 ∷ 5 ∷ 0 ∷ [])) a)
+  backward = each3 (λ a. is_backward small_net.arcs small_2.moves a ≡ true → 0 < (slice_index (5 ∷ 5 ∷ 0 ∷ [])) a →
+      gap_of small_net.arcs small_2.time a < last_unit small_terms (knees_of small_terms small_pieces) (slice_index (5 ∷ 5 ∷ 0 ∷ [])) a)
       (λ backward. absurd (cc)) (λ backward. absurd (cc)) (λ backward. absurd (cc));
 }
 
@@ -40,9 +42,13 @@ middle_fall = record {
   stuck = middle_stuck;
   stops = (2, omega arith, inl (record { forward = refl; meets = refl }));
   least = record {
-    forward = each3 (λ a. is_forward small_net.arcs small_2.moves a ≡ true → next_unit small_terms (knees_of small_terms small_pieces) (slice_index (5 ∷ 5 ∷ 0 ∷ [])) a + 1 ≤ gap_of small_net.arcs small_2.time a)
+    forward = each3 (λ a. is_forward small_net.arcs small_2.moves a ≡ true →
+        next_unit small_terms (knees_of small_terms small_pieces) (slice_index (5 ∷ 5 ∷ 0 ∷ [])) a + 1
+        ≤ gap_of small_net.arcs small_2.time a)
         (λ forward. absurd (cc)) (λ forward. omega arith) (λ forward. omega arith);
-    backward = each3 (λ a. is_backward small_net.arcs small_2.moves a ≡ true → 0 < (slice_index (5 ∷ 5 ∷ 0 ∷ [])) a → gap_of small_net.arcs small_2.time a + 1 ≤ last_unit small_terms (knees_of small_terms small_pieces) (slice_index (5 ∷ 5 ∷ 0 ∷ [])) a)
+    backward = each3 (λ a. is_backward small_net.arcs small_2.moves a ≡ true → 0 < (slice_index (5 ∷ 5 ∷ 0 ∷ [])) a →
+        gap_of small_net.arcs small_2.time a + 1
+        ≤ last_unit small_terms (knees_of small_terms small_pieces) (slice_index (5 ∷ 5 ∷ 0 ∷ [])) a)
         (λ backward. absurd (cc)) (λ backward. absurd (cc)) (λ backward. absurd (cc));
   };
 }

@@ -122,8 +122,11 @@ impl Draft {
     /// Takes the next card, of a kind that is known, or answers its fault.
     pub(crate) fn keep(&mut self, place: &Place, fields: &Row) -> Result<(), DeckError>
         ensures kept { OnOk result (self.new ≡ with_card self.old place.now.kind place.now.row fields.now) }
-        ensures sound { OnOk result (fault_at place.now (count_in self.old place.now.kind) (codes_in self.old place.now.kind) fields.now ≡ None) }
-        ensures fault { IfErr result (Refuses (λ fault. fault_at place.now (count_in self.old place.now.kind) (codes_in self.old place.now.kind) fields.now ≡ Some fault)) }
+        ensures sound { OnOk result (fault_at place.now (count_in self.old place.now.kind)
+            (codes_in self.old place.now.kind) fields.now ≡ None) }
+        ensures fault { IfErr result (Refuses
+            (λ fault. fault_at place.now (count_in self.old place.now.kind)
+            (codes_in self.old place.now.kind) fields.now ≡ Some fault)) }
     {
         // By `return`, so that each answer is made where the caller wants it, and none is copied there.
         match place.kind {

@@ -1,6 +1,7 @@
 -- What an outlook is made from.
 use Rattle.std.specs.Prelude.{◌≡◌, ◌⊎◌, ℕ, ◌+◌, ◌*◌, ◌<◌, ◌≤◌, ◌^◌, Bool, false, IsTrue, ◌↔◌, ℤ, pos, ◌+ℤ◌, ◌-ℤ◌, unsigned_abs, List, length, slice_index, slice_index_or}
 use Rattle.pc_model.specs.declared.limits.TheConstants.{MAX_ACCOUNTS, MAX_COST}
+use Rattle.pc_wbs.specs.declared.row.ItemRow.{ItemRow}
 use Rattle.pc_accounts.specs.declared.entry.Entry.{Entry}
 use Rattle.pc_accounts.specs.declared.rows.AcctRow.{AcctRow}
 use Rattle.pc_accounts.specs.Amounts.{item_of}
@@ -10,7 +11,7 @@ use Rattle.pc_rollup.specs.inside.Totals.{placed_at}
 use Rattle.pc_figures.specs.declared.figures.Figure.TheVariants.{Budget}
 use Rattle.pc_figures.specs.declared.outlook.OutlookAmounts.{OutlookAmounts}
 use Rattle.pc_figures.specs.Figures.{figure_at}
-use Rattle.pc_figures.specs.Outlook.{HasActivity, amounts_at}
+use Rattle.pc_figures.specs.Outlook.{HasActivity, IsRest, IsWork, amounts_at}
 
 -- of the first n activities, whether one stands on item x
 abbrev pub HasActivityTo : List ℕ → ℕ → ℕ → Type 0
@@ -41,6 +42,16 @@ pub record AreSpare (places : List ℕ) (accounts : List AcctRow) (entries : Lis
 pub record ArePlacedCosts (places costs : List ℕ) (n : ℕ) (placed : List Placed) : Type 0 where
   pub one_each : length placed ≡ n
   pub each : (a : ℕ) → a < n → placed_at placed a ≡ record { item = slice_index places a; amount = pos (slice_index costs a) }
+
+-- for each item what the activities cost together that stand on it or below it
+pub record AreWorks (tree : List ItemRow) (places : List ℕ) (cost : ℕ → ℕ) (works : List ℤ) : Type 0 where
+  pub one_each : length works ≡ length tree
+  pub each : (y : ℕ) → y < length tree → IsWork tree places cost y (amount_at works y)
+
+-- for each item the budgets together of the accounts on it or below it whose package has no activities
+pub record AreRests (tree : List ItemRow) (places : List ℕ) (accounts : List AcctRow) (entries : List Entry) (rests : List ℤ) : Type 0 where
+  pub one_each : length rests ≡ length tree
+  pub each : (y : ℕ) → y < length tree → IsRest tree places accounts entries y (amount_at rests y)
 
 -- the amounts of an item from its budget, its work and its rest
 pub record AreAdded (allowed work rest : ℤ) (amounts : OutlookAmounts) : Type 0 where

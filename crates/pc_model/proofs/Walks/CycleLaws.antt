@@ -38,7 +38,8 @@ IsWalk-passed arcs e f (suc i) (a ∷ walk) walked below =
     (walked.0, walked.1, IsWalk-passed arcs (to_of arcs a) f i walk walked.2 (omega arith))
 
 -- the events along a walk in a network are its events
-pub passed_below : (net : Network) → IsInRange net → (e f : ℕ) (walk : List ℕ) → IsWalk net.arcs e walk f → e < net.events → (k : ℕ) → k < length (passed net.arcs e walk) → slice_index (passed net.arcs e walk) k < net.events
+pub passed_below : (net : Network) → IsInRange net → (e f : ℕ) (walk : List ℕ) → IsWalk net.arcs e walk f → e < net.events → (k : ℕ) →
+    k < length (passed net.arcs e walk) → slice_index (passed net.arcs e walk) k < net.events
 passed_below net ranged e f [] walked known zero below = known
 passed_below net ranged e f [] walked known (suc k) below = absurd (omega arith)
 passed_below net ranged e f (a ∷ walk) walked known zero below = known
@@ -63,7 +64,9 @@ cycle_or_once arcs e f (a ∷ walk) walked =
         let round : IsWalk arcs (to_of arcs a) (take stands.0 walk) e = subst (IsWalk arcs (to_of arcs a) (take stands.0 walk)) stands.2 front in
         (a ∷ take stands.0 walk, ((λ none. cc), (e, (walked.0, walked.1, round))))
 
-    extend : IsOnce (passed arcs (to_of arcs a) walk) → ((j : ℕ) → j < length (passed arcs (to_of arcs a) walk) → slice_index (passed arcs (to_of arcs a) walk) j ≢ e) → IsOnce (passed arcs e (a ∷ walk))
+    extend : IsOnce (passed arcs (to_of arcs a) walk) →
+        ((j : ℕ) → j < length (passed arcs (to_of arcs a) walk) → slice_index (passed arcs (to_of arcs a) walk) j ≢ e) →
+        IsOnce (passed arcs e (a ∷ walk))
     extend once none zero zero before below = absurd (omega arith)
     extend once none zero (suc k) before below = λ same. none k (omega arith) (sym same)
     extend once none (suc j) zero before below = absurd (omega arith)
@@ -72,7 +75,13 @@ cycle_or_once arcs e f (a ∷ walk) walked =
 -- a walk of as many activities as there are events has a cycle
 pub long_walk_has_cycle : (net : Network) → IsInRange net → (e f : ℕ) (walk : List ℕ) → IsWalk net.arcs e walk f → e < net.events → net.events ≤ length walk → HasCycle net.arcs
 long_walk_has_cycle net ranged e f walk walked known long =
-    ⊎_elim (λ cycle. cycle) (λ once. absurd (omega (arith, length-passed net.arcs e walk, room_below (passed net.arcs e walk) net.events (passed_below net ranged e f walk walked known) once))) (cycle_or_once net.arcs e f walk walked)
+    ⊎_elim (λ cycle. cycle) (λ once. absurd
+    (omega (
+      arith,
+      length-passed net.arcs e walk,
+      room_below (passed net.arcs e walk) net.events (passed_below net ranged e f walk walked known) once,
+    )))
+    (cycle_or_once net.arcs e f walk walked)
 
 -- what stands in a list is a member of it
 member_from_stands : (xs : List ℕ) (q : ℕ) → StandsBelow xs (length xs) q → is_member nat_eq xs q ≡ true
@@ -85,7 +94,15 @@ all_stand xs n stand =
     omega (arith, length-range_with_len 0 n, length-le_from_is_member nat_eq_equiv (range_with_len 0 n) xs apart within)
   where
     apart : IsDistinct nat_eq (range_with_len 0 n)
-    apart = IsDistinct-from_apart nat_eq (range_with_len 0 n) (λ i j d before below. ne_eqb _ _ (λ same. omega (arith, length-range_with_len 0 n, get_or-range_with_len 0 n i d (omega (arith, length-range_with_len 0 n)), get_or-range_with_len 0 n j d (omega (arith, length-range_with_len 0 n)), same)))
+    apart = IsDistinct-from_apart nat_eq (range_with_len 0 n)
+        (λ i j d before below. ne_eqb _ _
+        (λ same. omega (
+          arith,
+          length-range_with_len 0 n,
+          get_or-range_with_len 0 n i d (omega (arith, length-range_with_len 0 n)),
+          get_or-range_with_len 0 n j d (omega (arith, length-range_with_len 0 n)),
+          same,
+        )))
 
     within : (q : ℕ) → is_member nat_eq (range_with_len 0 n) q ≡ true → is_member nat_eq xs q ≡ true
     within q is =
@@ -99,6 +116,7 @@ pub stand_or_misses : (xs : List ℕ) (n : ℕ) → ((v : ℕ) → v < n → Sta
 stand_or_misses xs zero = inl (λ v below. absurd (omega arith))
 stand_or_misses xs (suc n) =
     ⊎_elim
-    (λ stand. ⊎_elim (λ here. inl (λ v below. ⊎_elim (λ same. subst (StandsBelow xs (length xs)) (sym same) here) (λ other. stand v (omega arith)) (cases_eq v n))) (λ none. inr (n, omega arith, none)) (stands_or_not xs (length xs) n))
+    (λ stand. ⊎_elim (λ here. inl (λ v below. ⊎_elim (λ same. subst (StandsBelow xs (length xs)) (sym same) here)
+    (λ other. stand v (omega arith)) (cases_eq v n))) (λ none. inr (n, omega arith, none)) (stands_or_not xs (length xs) n))
     (λ missing. inr (missing.0, omega (arith, missing.1), missing.2))
     (stand_or_misses xs n)

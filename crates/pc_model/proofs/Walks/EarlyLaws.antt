@@ -16,7 +16,8 @@ early_at_start net sound lengths n early =
     omega (arith, ap (walk_sum lengths) (closed_walk_is_empty net sound net.start walk walked))
 
 -- the greatest sums to an activity's two events leave it its length
-pub early_fits : (net : Network) (lengths : List ℕ) (a : ℕ) → a < length net.arcs → (begins ends : ℕ) → IsEarly net lengths (from_of net.arcs a) begins → IsEarly net lengths (to_of net.arcs a) ends → begins + slice_index lengths a ≤ ends
+pub early_fits : (net : Network) (lengths : List ℕ) (a : ℕ) → a < length net.arcs → (begins ends : ℕ) →
+    IsEarly net lengths (from_of net.arcs a) begins → IsEarly net lengths (to_of net.arcs a) ends → begins + slice_index lengths a ≤ ends
 early_fits net lengths a below begins ends early_from early_to =
     let (walk, walked, sums) = early_from.attained in
     omega (arith, walk_sum-push lengths walk a, early_to.bound (walk_sum lengths (walk ++ a ∷ [])) (walk ++ a ∷ [], IsWalk-push net.arcs net.start _ walk a walked below refl, refl))

@@ -1,5 +1,6 @@
 -- Numbers that stand in a list, and lists of the numbers below a bound that have a property.
-use Rattle.std.proofs.Common.{◌≡◌, ℕ, ◌+◌, ◌<◌, ◌≤◌, zero, suc, List, [], ◌∷◌, ◌++◌, length, slice_index, take, Bool, true, false, cond, eqb, refl, sym, ◌∙◌, ap, subst, ⊎_elim, arith, eq-eqb, add-zero, length-take}
+use Rattle.std.proofs.Common.{◌≡◌, ℕ, ◌+◌, ◌<◌, ◌≤◌, zero, suc, List, [], ◌∷◌, ◌++◌, length, slice_index, take, Bool, true}
+use Rattle.std.proofs.Common.{false, cond, eqb, refl, sym, ◌∙◌, ap, subst, ⊎_elim, arith, eq-eqb, add-zero, length-take}
 use Rattle.std.proofs.lemmas.Bool.{cases_eq, ne_eqb}
 use Rattle.std.proofs.lemmas.List.{get_or_append_left, get_or_push, length_push, take_more, take_all, append-nil}
 use Rattle.pc_model.specs.Greatest.{StandsBelow, places}

@@ -30,7 +30,9 @@ room_below xs n below once =
     omega (arith, length-range_with_len 0 n, length-le_from_is_member nat_eq_equiv xs (range_with_len 0 n) apart within)
   where
     apart : IsDistinct nat_eq xs
-    apart = IsDistinct-from_apart nat_eq xs (λ i j d before in_list. ne_eqb _ _ (λ same. once i j before in_list (sym (get_or_default xs i d 0 (omega arith)) ∙ same ∙ get_or_default xs j d 0 in_list)))
+    apart = IsDistinct-from_apart nat_eq xs
+        (λ i j d before in_list. ne_eqb _ _
+        (λ same. once i j before in_list (sym (get_or_default xs i d 0 (omega arith)) ∙ same ∙ get_or_default xs j d 0 in_list)))
 
     within : (q : ℕ) → is_member nat_eq xs q ≡ true → is_member nat_eq (range_with_len 0 n) q ≡ true
     within q is =
@@ -57,7 +59,8 @@ stands_in_order net order ordered e below =
         once (suc j) (suc k) before in_list = ordered.part.once j k (omega arith) (omega arith)
 
 -- along a walk that ends at place k of an order the places rise, by one at least for each activity
-pub places_rise : (net : Network) (order : List ℕ) → IsPartOrder net order → (e f k : ℕ) (walk : List ℕ) → IsWalk net.arcs e walk f → k < length order → slice_index order k ≡ f → (j : ℕ) × (j + length walk ≤ k) × (slice_index order j ≡ e)
+pub places_rise : (net : Network) (order : List ℕ) → IsPartOrder net order → (e f k : ℕ) (walk : List ℕ) → IsWalk net.arcs e walk f →
+    k < length order → slice_index order k ≡ f → (j : ℕ) × (j + length walk ≤ k) × (slice_index order j ≡ e)
 places_rise net order part e f k [] walked in_order at = (k, omega arith, at ∙ sym walked)
 places_rise net order part e f k (a ∷ walk) walked in_order at =
     let (i, rises, at_i) = places_rise net order part (to_of net.arcs a) f k walk walked.2 in_order at in

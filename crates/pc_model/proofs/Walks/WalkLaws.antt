@@ -40,7 +40,9 @@ split_walk_at arcs e f (suc k) (a ∷ walk) whole =
     (m, (whole.0, whole.1, front), back)
 
 -- a walk is empty and stays where it began, or it has a last activity
-pub last_of_walk : (arcs : List Arc) (e f : ℕ) (walk : List ℕ) → IsWalk arcs e walk f → ((walk ≡ []) × (e ≡ f)) ⊎ ((front : List ℕ) × (a : ℕ) × (walk ≡ front ++ a ∷ []) × (a < length arcs) × IsWalk arcs e front (from_of arcs a) × (to_of arcs a ≡ f))
+pub last_of_walk : (arcs : List Arc) (e f : ℕ) (walk : List ℕ) → IsWalk arcs e walk f →
+    ((walk ≡ []) × (e ≡ f)) ⊎ ((front : List ℕ) × (a : ℕ) × (walk ≡ front ++ a ∷ []) × (a < length arcs)
+    × IsWalk arcs e front (from_of arcs a) × (to_of arcs a ≡ f))
 last_of_walk arcs e f [] walked = inl (refl, walked)
 last_of_walk arcs e f (a ∷ walk) walked =
     ⊎_elim (λ (empty, ends). inr ([], a, ap (λ (w : List ℕ). a ∷ w) empty, walked.0, sym walked.1, ends))
@@ -53,13 +55,17 @@ walk_end_unique arcs e f g [] to_f to_g = sym to_f ∙ to_g
 walk_end_unique arcs e f g (a ∷ walk) to_f to_g = walk_end_unique arcs (to_of arcs a) f g walk to_f.2 to_g.2
 
 -- times that leave each activity its length between its two events rise along a walk by the walk's sum at least
-pub times_bound_walk : (arcs : List Arc) (lengths : List ℕ) (times : ℕ → ℕ) → ((a : ℕ) → a < length arcs → times (from_of arcs a) + slice_index lengths a ≤ times (to_of arcs a)) → (e f : ℕ) (walk : List ℕ) → IsWalk arcs e walk f → times e + walk_sum lengths walk ≤ times f
+pub times_bound_walk : (arcs : List Arc) (lengths : List ℕ) (times : ℕ → ℕ) →
+    ((a : ℕ) → a < length arcs → times (from_of arcs a) + slice_index lengths a ≤ times (to_of arcs a)) → (e f : ℕ) (walk : List ℕ) →
+    IsWalk arcs e walk f → times e + walk_sum lengths walk ≤ times f
 times_bound_walk arcs lengths times fits e f [] walked = omega (arith, ap times walked)
 times_bound_walk arcs lengths times fits e f (a ∷ walk) walked =
     omega (arith, fits a walked.0, ap times walked.1, times_bound_walk arcs lengths times fits (to_of arcs a) f walk walked.2)
 
 -- tails that leave each activity its length between its two events fall along a walk by the walk's sum at least
-pub tails_bound_walk : (arcs : List Arc) (lengths : List ℕ) (tails : ℕ → ℕ) → ((a : ℕ) → a < length arcs → slice_index lengths a + tails (to_of arcs a) ≤ tails (from_of arcs a)) → (e f : ℕ) (walk : List ℕ) → IsWalk arcs e walk f → walk_sum lengths walk + tails f ≤ tails e
+pub tails_bound_walk : (arcs : List Arc) (lengths : List ℕ) (tails : ℕ → ℕ) →
+    ((a : ℕ) → a < length arcs → slice_index lengths a + tails (to_of arcs a) ≤ tails (from_of arcs a)) → (e f : ℕ) (walk : List ℕ) →
+    IsWalk arcs e walk f → walk_sum lengths walk + tails f ≤ tails e
 tails_bound_walk arcs lengths tails fits e f [] walked = omega (arith, ap tails walked)
 tails_bound_walk arcs lengths tails fits e f (a ∷ walk) walked =
     omega (arith, fits a walked.0, ap tails walked.1, tails_bound_walk arcs lengths tails fits (to_of arcs a) f walk walked.2)
@@ -69,7 +75,8 @@ pub greatest_unique : (P : ℕ → Type 0) (m n : ℕ) → IsGreatest P m → Is
 greatest_unique P m n by_m by_n = omega (arith, by_m.bound n by_n.attained, by_n.bound m by_m.attained)
 
 -- where no activity is longer than a limit, a walk's sum is at most the limit for each of its activities
-pub walk_sum-bound : (arcs : List Arc) (lengths : List ℕ) (limit : ℕ) → ((a : ℕ) → a < length arcs → slice_index lengths a ≤ limit) → (e f : ℕ) (walk : List ℕ) → IsWalk arcs e walk f → walk_sum lengths walk ≤ length walk * limit
+pub walk_sum-bound : (arcs : List Arc) (lengths : List ℕ) (limit : ℕ) → ((a : ℕ) → a < length arcs → slice_index lengths a ≤ limit) →
+    (e f : ℕ) (walk : List ℕ) → IsWalk arcs e walk f → walk_sum lengths walk ≤ length walk * limit
 walk_sum-bound arcs lengths limit small e f [] walked = omega arith
 walk_sum-bound arcs lengths limit small e f (a ∷ walk) walked =
     omega (arith, small a walked.0, walk_sum-bound arcs lengths limit small (to_of arcs a) f walk walked.2)

@@ -122,7 +122,8 @@ small_all_crash = record {
 }
   where
     fits : (a : ℕ) → a < 3 → slice_index (0 ∷ 2 ∷ 5 ∷ []) (from_of small_net.arcs a) + slice_index (crashes small_terms) a ≤ slice_index (0 ∷ 2 ∷ 5 ∷ []) (to_of small_net.arcs a)
-    fits = each3 (λ a. slice_index (0 ∷ 2 ∷ 5 ∷ []) (from_of small_net.arcs a) + slice_index (crashes small_terms) a ≤ slice_index (0 ∷ 2 ∷ 5 ∷ []) (to_of small_net.arcs a)) (omega arith) (omega arith) (omega arith)
+    fits = each3 (λ a. slice_index (0 ∷ 2 ∷ 5 ∷ []) (from_of small_net.arcs a) + slice_index (crashes small_terms) a
+        ≤ slice_index (0 ∷ 2 ∷ 5 ∷ []) (to_of small_net.arcs a)) (omega arith) (omega arith) (omega arith)
 
 -- the normal durations with these times are a schedule for 9 units
 pub small_schedule : IsSchedule small_net small_terms 9 (normal_of small_terms) small_times
@@ -154,6 +155,7 @@ small_least_cost_at_8 = record {
       enough = each3 (λ a. crash_of small_terms a ≤ slice_index (3 ∷ 5 ∷ 7 ∷ []) a) (omega arith) (omega arith) (omega arith);
       within = each3 (λ a. slice_index (3 ∷ 5 ∷ 7 ∷ []) a ≤ normal_of small_terms a) (omega arith) (omega arith) (omega arith);
       starts = refl;
-      fits = each3 (λ a. slice_index (0 ∷ 3 ∷ 8 ∷ []) (from_of small_net.arcs a) + slice_index (3 ∷ 5 ∷ 7 ∷ []) a ≤ slice_index (0 ∷ 3 ∷ 8 ∷ []) (to_of small_net.arcs a)) (omega arith) (omega arith) (omega arith);
+      fits = each3 (λ a. slice_index (0 ∷ 3 ∷ 8 ∷ []) (from_of small_net.arcs a) + slice_index (3 ∷ 5 ∷ 7 ∷ []) a
+          ≤ slice_index (0 ∷ 3 ∷ 8 ∷ []) (to_of small_net.arcs a)) (omega arith) (omega arith) (omega arith);
       ends = omega arith;
     }

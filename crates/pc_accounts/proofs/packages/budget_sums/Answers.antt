@@ -9,5 +9,13 @@ pub overflow_add-index_mut : goal.overflow_add-index_mut
 overflow_add-index_mut c =
     let i = c.loop-account.account-index in
     let known = c.requires.items i c.loop-account-test.true in
-    let read : slice_index c.loop-account.sums.items (item_of c.args.accounts.now i) ≡ c.index_mut.result.now = get_or_default c.loop-account.sums.items (item_of c.args.accounts.now i) 0 c.index_mut.result.now (omega (arith, known, c.loop-account.invariant.one_each)) ∙ sym c.index_mut.ensures.value in
-    omega (arith, read, budgets_fit c.args.items c.args.accounts.now i (item_of c.args.accounts.now i) c.loop-account.sums.items c.requires.budgets c.loop-account.invariant (omega arith) known, c.requires.budgets i c.loop-account-test.true)
+    let read : slice_index c.loop-account.sums.items (item_of c.args.accounts.now i)
+    ≡ c.index_mut.result.now = get_or_default c.loop-account.sums.items (item_of c.args.accounts.now i) 0 c.index_mut.result.now
+    (omega (arith, known, c.loop-account.invariant.one_each)) ∙ sym c.index_mut.ensures.value in
+    omega (
+      arith,
+      read,
+      budgets_fit c.args.items c.args.accounts.now i
+          (item_of c.args.accounts.now i) c.loop-account.sums.items c.requires.budgets c.loop-account.invariant (omega arith) known,
+      c.requires.budgets i c.loop-account-test.true,
+    )

@@ -8,6 +8,8 @@ pub loop-row-preserved : goal.loop-row-preserved
 loop-row-preserved c =
     let row = c.index-togos-row.result in
     elim c.if-le.branch [
-      | then-le w ↦ rw (w.latest-is, w.later.ensures) (latest_step _ _ _ _ _ row w.index.result.now c.requires.togos c.loop-row.invariant c.loop-row-test.true c.index-togos-row.is (sym (is_le-int row.day c.args.as_of) ∙ sym c.le.ensures ∙ w.if-le.true) w.index.ensures)
+      | then-le w ↦ rw (w.latest-is, w.later.ensures)
+          (latest_step _ _ _ _ _ row w.index.result.now c.requires.togos c.loop-row.invariant c.loop-row-test.true c.index-togos-row.is
+          (sym (is_le-int row.day c.args.as_of) ∙ sym c.le.ensures ∙ w.if-le.true) w.index.ensures)
       | else-le w ↦ rw w.latest-is (latest_skip _ _ _ _ _ row c.loop-row.invariant c.loop-row-test.true c.index-togos-row.is (sym (is_le-int row.day c.args.as_of) ∙ sym c.le.ensures ∙ w.if-le.false))
     ]

@@ -7,7 +7,8 @@ loop-second-init c = IsSeen-none _ _ c.new-seen.ensures.empty
 
 pub loop-second-preserved : goal.loop-second-preserved
 loop-second-preserved c =
-    seen_step _ _ c.index-togos-second.result c.loop-second.seen c.insert.new.self c.loop-second.invariant c.loop-second-test.true c.index-togos-second.is (sym c.in_ok-first.ensures.old ∙ c.in_default.is) c.in_ok-first.ensures.updates
+    seen_step _ _ c.index-togos-second.result c.loop-second.seen c.insert.new.self c.loop-second.invariant c.loop-second-test.true
+    c.index-togos-second.is (sym c.in_ok-first.ensures.old ∙ c.in_default.is) c.in_ok-first.ensures.updates
 
 pub returns-in-Some-clause-refused : goal.returns-in-Some-clause-refused
 returns-in-Some-clause-refused c =

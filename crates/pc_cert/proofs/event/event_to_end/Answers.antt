@@ -4,7 +4,8 @@ use Rattle.pc_cert.proofs.event.event_to_end.Goals as goal
 
 pub overflow_sub-used : goal.overflow_sub-used
 overflow_sub-used c =
-    (read_behind (length c.bytes.result.now + 6) c.args.piece.now c.in_ok-time.rest.now c.in_ok-moves.rest.now c.in_ok-time.time c.in_ok-moves.moves c.in_ok-time.ensures.text c.in_ok-moves.ensures).within
+    (read_behind (length c.bytes.result.now + 6) c.args.piece.now c.in_ok-time.rest.now c.in_ok-moves.rest.now c.in_ok-time.time
+    c.in_ok-moves.moves c.in_ok-time.ensures.text c.in_ok-moves.ensures).within
 
 pub returns : goal.returns
 returns c =

@@ -11,7 +11,9 @@ use Rattle.pc_certify.proofs.segment.put_acts.Given as goal
 
 abbrev pub invariant-loop-a : goal.invariant-loop-a
 invariant-loop-a g l = record {
-  text : Gathers (desk g.O.Sink.taken g.O.Sink.faults l.fn.page l.fn.sink) l.fn.gathered (desk g.O.Sink.taken g.O.Sink.faults l.page l.sink) l.gathered (text_of (listed l.a (act_line l.net (g.V.SegmentView.segment l.view))));
+  text : Gathers (desk g.O.Sink.taken g.O.Sink.faults l.fn.page l.fn.sink) l.fn.gathered
+      (desk g.O.Sink.taken g.O.Sink.faults l.page l.sink) l.gathered
+      (text_of (listed l.a (act_line l.net (g.V.SegmentView.segment l.view))));
   codes : (a : ℕ) → a < l.a → IsCode (code_at l.net.activities a);
   rows : AreActsSpelled l.net l.rows.items;
 }

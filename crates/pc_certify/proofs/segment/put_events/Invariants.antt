@@ -11,7 +11,9 @@ use Rattle.pc_certify.proofs.segment.put_events.Given as goal
 
 abbrev pub invariant-loop-e : goal.invariant-loop-e
 invariant-loop-e g l = record {
-  text : Gathers (desk g.O.Sink.taken g.O.Sink.faults l.fn.page l.fn.sink) l.fn.gathered (desk g.O.Sink.taken g.O.Sink.faults l.page l.sink) l.gathered (text_of (listed l.e (event_line l.net (g.V.SegmentView.segment l.view))));
+  text : Gathers (desk g.O.Sink.taken g.O.Sink.faults l.fn.page l.fn.sink) l.fn.gathered
+      (desk g.O.Sink.taken g.O.Sink.faults l.page l.sink) l.gathered
+      (text_of (listed l.e (event_line l.net (g.V.SegmentView.segment l.view))));
   codes : (e : ℕ) → e < l.e → IsCode (code_at l.net.events e);
   rows : AreEventsSpelled l.net l.rows.items;
 }

@@ -14,6 +14,8 @@ returns g c =
     let down = c.put_segments.ensures in
     let put = Adds-as _ (text_ends net normal.path crash.path down.segments) (down.text ⨾ c.put_end.ensures) in (
       text_of (document_lines net normal.path crash.path down.segments),
-      certificate net normal crash c.requires.walks _ _ down (c.written_is_certified.ensures.text _ _ _ (complete net normal crash c.requires.walks _ _ down) (document_fits net normal.path crash.path down.segments down.head_fits down.fit)),
+      certificate net normal crash c.requires.walks _ _ down
+          (c.written_is_certified.ensures.text _ _ _ (complete net normal crash c.requires.walks _ _ down)
+          (document_fits net normal.path crash.path down.segments down.head_fits down.fit)),
       c.finish.ensures.text (desk g.O.Sink.taken g.O.Sink.faults c.args.page.now c.args.sink.now) _ c.requires.fresh put,
     )

@@ -17,7 +17,12 @@ exchange-requires-clause-there c =
     let to : c.to-to.result ≡ place tally.acts = c.to-to.ensures.event ∙ ap (λ n. to_of n.arcs tally.acts) c.net.ensures.network in
     let there : place tally.acts < net.network.events = omega (arith, c.to-to.ensures.known, to, ap (λ n. n.events) c.net.ensures.network) in
     let row = row_read tally.acts c.index.result.now c.requires.safe.rows c.requires.known c.index.ensures in
-    omega (arith, ap (λ (r : Passed). r.flow) row, ap (slice_index tally.inflow.items) to, is_in_sum net tally.rows.items place tally.acts tally.inflow.items c.requires.known there c.requires.safe.inflow)
+    omega (
+      arith,
+      ap (λ (r : Passed). r.flow) row,
+      ap (slice_index tally.inflow.items) to,
+      is_in_sum net tally.rows.items place tally.acts tally.inflow.items c.requires.known there c.requires.safe.inflow,
+    )
 
 pub exchange-requires-clause-small : goal.exchange-requires-clause-small
 exchange-requires-clause-small c =
@@ -37,7 +42,12 @@ exchange-requires-2-clause-there c =
     let from : c.from-from.result ≡ place tally.acts = c.from-from.ensures.event ∙ ap (λ n. from_of n.arcs tally.acts) c.net-2.ensures.network in
     let there : place tally.acts < net.network.events = omega (arith, c.from-from.ensures.known, from, ap (λ n. n.events) c.net-2.ensures.network) in
     let row = row_read tally.acts c.index.result.now c.requires.safe.rows c.requires.known c.index.ensures in
-    omega (arith, ap (λ (r : Passed). r.flow) row, ap (slice_index tally.outflow.items) from, is_in_sum net tally.rows.items place tally.acts tally.outflow.items c.requires.known there c.requires.safe.outflow)
+    omega (
+      arith,
+      ap (λ (r : Passed). r.flow) row,
+      ap (slice_index tally.outflow.items) from,
+      is_in_sum net tally.rows.items place tally.acts tally.outflow.items c.requires.known there c.requires.safe.outflow,
+    )
 
 pub exchange-requires-2-clause-small : goal.exchange-requires-2-clause-small
 exchange-requires-2-clause-small c =
@@ -57,7 +67,13 @@ overflow_sub-tally c =
 
 pub overflow_add-tally : goal.overflow_add-tally
 overflow_add-tally c =
-    let few : length c.args.net.now.network.arcs ≤ MAX_ACTIVITIES = omega (arith, c.activities-few.ensures.limit, c.activities-few.ensures.activities, ap (λ n. length n.arcs) c.net-3.ensures.network) in
+    let few : length c.args.net.now.network.arcs
+    ≤ MAX_ACTIVITIES = omega (
+      arith,
+      c.activities-few.ensures.limit,
+      c.activities-few.ensures.activities,
+      ap (λ n. length n.arcs) c.net-3.ensures.network,
+    ) in
     omega (arith, few, c.requires.safe.spent, cost_small c.requires.safe.rows, c.requires.passed.cheap)
 
 pub returns-clause-safe : goal.returns-clause-safe

@@ -7,7 +7,13 @@ pub judge-requires-clause-fits : goal.judge-requires-clause-fits
 judge-requires-clause-fits c = λ none.
     let passes : Passes c.args.net.now c.args.line.now c.args.kept.now c.args.behind = record { goes = c.requires.goes; passes = none } in
     let events : c.args.net.now.network.events ≤ MAX_EVENTS = omega (arith, c.events-events.ensures.limit, c.events-events.ensures.events, ap (λ n. n.events) c.net.ensures.network) in
-    let activities : length c.args.net.now.network.arcs ≤ MAX_ACTIVITIES = omega (arith, c.activities-activities.ensures.limit, c.activities-activities.ensures.activities, ap (λ n. length n.arcs) c.net-2.ensures.network) in
+    let activities : length c.args.net.now.network.arcs
+    ≤ MAX_ACTIVITIES = omega (
+      arith,
+      c.activities-activities.ensures.limit,
+      c.activities-activities.ensures.activities,
+      ap (λ n. length n.arcs) c.net-2.ensures.network,
+    ) in
     may_be_added c.args.net.now c.args.line.now c.args.kept.now c.args.behind c.requires.bounded passes events activities
 
 pub returns-in-None-clause-advances : goal.returns-in-None-clause-advances

@@ -31,7 +31,8 @@ loop-ends-preserved c =
     let some : 0 < used = omega (arith, c.if-used-eq0.false) in
     let events : net.network.events ≤ MAX_EVENTS = omega (arith, c.events-events.ensures.limit, c.events-events.ensures.events, ap (λ n. n.events) c.net.ensures.network) in
     let activities : length net.network.arcs ≤ MAX_ACTIVITIES = omega (arith, c.activities-activities.ensures.limit, c.activities-activities.ensures.activities, ap (λ n. length n.arcs) c.net-2.ensures.network) in
-    subst (λ t. IsAlong net c.args.piece.now t c.args.reader.now c.args.kept.now c.add_told-used.new.kept c.add_told-used.new.place (c.loop-ends.count + 1)) (sym (take_all _ (drop used rest) (omega (arith, length-drop used rest))))
+    subst (λ t. IsAlong net c.args.piece.now t c.args.reader.now c.args.kept.now c.add_told-used.new.kept c.add_told-used.new.place
+    (c.loop-ends.count + 1)) (sym (take_all _ (drop used rest) (omega (arith, length-drop used rest))))
     (along_more used events activities c.loop-ends.invariant (c.add_told-used.ensures.adds some) c.add_told-used.ensures.safe)
 
 pub go_on-requires : goal.go_on-requires

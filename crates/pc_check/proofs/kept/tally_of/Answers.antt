@@ -17,8 +17,12 @@ returns-clause-safe c =
       leaving = ap length (c.in_ok-vec-2.ensures.items_if_clones_equal (λ y is. cc)) ∙ length-replicate c.events-events.result 0 ∙ events;
       acts = omega arith;
       rows = c.in_ok-none_passed.ensures.passed;
-      inflow = no_sums (to_of net.network.arcs) c.in_ok-vec.field-0.items nothing (λ e lt. ap (λ xs. slice_index xs e) (c.in_ok-vec.ensures.items_if_clones_equal (λ y is. cc)) ∙ get_or-replicate c.events-events.result e 0 0 (omega (arith, lt, events)));
-      outflow = no_sums (from_of net.network.arcs) c.in_ok-vec-2.field-0.items nothing (λ e lt. ap (λ xs. slice_index xs e) (c.in_ok-vec-2.ensures.items_if_clones_equal (λ y is. cc)) ∙ get_or-replicate c.events-events.result e 0 0 (omega (arith, lt, events)));
+      inflow = no_sums (to_of net.network.arcs) c.in_ok-vec.field-0.items nothing
+          (λ e lt. ap (λ xs. slice_index xs e) (c.in_ok-vec.ensures.items_if_clones_equal (λ y is. cc))
+          ∙ get_or-replicate c.events-events.result e 0 0 (omega (arith, lt, events)));
+      outflow = no_sums (from_of net.network.arcs) c.in_ok-vec-2.field-0.items nothing
+          (λ e lt. ap (λ xs. slice_index xs e) (c.in_ok-vec-2.ensures.items_if_clones_equal (λ y is. cc))
+          ∙ get_or-replicate c.events-events.result e 0 0 (omega (arith, lt, events)));
       spent = no_cost nothing;
       forward = omega arith;
       backward = omega arith;

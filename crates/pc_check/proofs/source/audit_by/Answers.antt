@@ -21,13 +21,16 @@ pub returns-then-n-eq0-clause-stops : goal.returns-then-n-eq0-clause-stops
 returns-then-n-eq0-clause-stops g c =
     let piece = take c.in-Ok.n c.pull.new.buffer in
     let given : length piece ≡ c.in-Ok.n = length-take-le c.in-Ok.n c.pull.new.buffer (omega (arith, c.in-Ok.ensures.fits, c.pull.auto.buffer)) in
-    settled_at_end g.C.Source.left g.C.Source.pulls c.args.source.now c.loop-n.source c.pull.new.self c.loop-n.invariant piece c.in-Ok.ensures.bytes c.in-Ok.ensures.pulled c.finish.result _ (omega (arith, given, c.if-n-eq0.true)) c.finish.ensures
+    settled_at_end g.C.Source.left g.C.Source.pulls c.args.source.now c.loop-n.source c.pull.new.self c.loop-n.invariant piece
+    c.in-Ok.ensures.bytes c.in-Ok.ensures.pulled c.finish.result _ (omega (arith, given, c.if-n-eq0.true)) c.finish.ensures
 
 pub returns-in-Some-clause-stops : goal.returns-in-Some-clause-stops
 returns-in-Some-clause-stops g c =
     let piece = take c.in-Ok.n c.pull.new.buffer in
     let given : length piece ≡ c.in-Ok.n = length-take-le c.in-Ok.n c.pull.new.buffer (omega (arith, c.in-Ok.ensures.fits, c.pull.auto.buffer)) in
-    settled_in_piece g.C.Source.left g.C.Source.pulls c.args.source.now c.loop-n.source c.pull.new.self c.loop-n.invariant piece c.in-Ok.ensures.bytes c.in-Ok.ensures.pulled c.in-Some.fail _ (omega (arith, given, c.in-Ok.ensures.fits, c.loop-n.auto.buffer, c.requires.room)) c.in-Some.ensures.fails
+    settled_in_piece g.C.Source.left g.C.Source.pulls c.args.source.now c.loop-n.source c.pull.new.self c.loop-n.invariant piece
+    c.in-Ok.ensures.bytes c.in-Ok.ensures.pulled c.in-Some.fail _
+    (omega (arith, given, c.in-Ok.ensures.fits, c.loop-n.auto.buffer, c.requires.room)) c.in-Some.ensures.fails
 
 pub loop-n-preserved : goal.loop-n-preserved
 loop-n-preserved g c =

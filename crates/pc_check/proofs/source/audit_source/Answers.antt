@@ -20,7 +20,9 @@ returns-clause-turns g c =
 
 pub returns-clause-stops : goal.returns-clause-stops
 returns-clause-stops g c =
-    subst (λ n. IfOk c.audit_by.result (λ verdict. IsSettled n verdict STREAM_ROOM g.C.Source.left g.C.Source.pulls c.args.source.now c.audit_by.new.source)) c.in-Ok.ensures.net c.audit_by.ensures.stops
+    subst (λ n. IfOk c.audit_by.result
+    (λ verdict. IsSettled n verdict STREAM_ROOM g.C.Source.left g.C.Source.pulls c.args.source.now c.audit_by.new.source))
+    c.in-Ok.ensures.net c.audit_by.ensures.stops
 
 pub returns-clause-own_turns : goal.returns-clause-own_turns
 returns-clause-own_turns g c =

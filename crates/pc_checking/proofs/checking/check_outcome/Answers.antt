@@ -13,7 +13,8 @@ returns-in-Ok-clause-outcome g c =
 
 pub returns-in-Ok-clause-turns : goal.returns-in-Ok-clause-turns
 returns-in-Ok-clause-turns g c =
-    of_each_project (g.D.Source.left c.args.deck.now) c.in-Ok.project (λ (p : Project). TakesPulls (most_bytes (priced_in p) + 1) (g.C.Source.pulls c.args.cert.now) (g.C.Source.pulls c.check.new.cert))
+    of_each_project (g.D.Source.left c.args.deck.now) c.in-Ok.project
+    (λ (p : Project). TakesPulls (most_bytes (priced_in p) + 1) (g.C.Source.pulls c.args.cert.now) (g.C.Source.pulls c.check.new.cert))
     c.in-Ok.ensures.project.has.is c.check.ensures.turns
 
 pub returns-in-Ok-clause-own_turns : goal.returns-in-Ok-clause-own_turns

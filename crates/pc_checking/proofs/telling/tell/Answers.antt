@@ -5,7 +5,9 @@ use Rattle.pc_checking.proofs.telling.tell.Goals as goal
 
 pub returns-in-Ok : goal.returns-in-Ok
 returns-in-Ok g c =
-    told c.status_for.result c.status_for.ensures (subst (Took (side g.O.Sink.taken g.O.Sink.faults c.args.out.now c.send.new.sink)) (c.as_slice.ensures.value ∙ c.verdict_line.ensures) c.in-Ok.ensures.ok)
+    told c.status_for.result c.status_for.ensures
+    (subst (Took (side g.O.Sink.taken g.O.Sink.faults c.args.out.now c.send.new.sink))
+    (c.as_slice.ensures.value ∙ c.verdict_line.ensures) c.in-Ok.ensures.ok)
 
 pub returns-in-Err : goal.returns-in-Err
 returns-in-Err g c =

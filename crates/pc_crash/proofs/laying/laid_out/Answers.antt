@@ -12,7 +12,8 @@ use Rattle.pc_crash.proofs.LaidLaws.{AreLaid-push}
 use Rattle.pc_crash.proofs.laying.laid_out.Goals as goal
 
 -- a group that was read has the pieces of its activity
-group-read : (pieces : List PieceRow) (groups : List (ArrayVec PieceRow)) (group : ArrayVec PieceRow) (items : List PieceRow) (n a : ℕ) → AreGroups pieces n groups → a < n → items ≡ group.items → group ≡ get_or groups a group → items ≡ pieces_of pieces a
+group-read : (pieces : List PieceRow) (groups : List (ArrayVec PieceRow)) (group : ArrayVec PieceRow) (items : List PieceRow) (n a : ℕ) →
+    AreGroups pieces n groups → a < n → items ≡ group.items → group ≡ get_or groups a group → items ≡ pieces_of pieces a
 group-read pieces groups group items n a all inside is read =
     is ∙ ap (λ (g : ArrayVec PieceRow). g.items) (get_or_read groups a group (omega (arith, all.one_each)) read (record { items = [] })) ∙ all.each a inside
 

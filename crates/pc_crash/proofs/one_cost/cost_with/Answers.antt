@@ -13,11 +13,17 @@ overflow_add-cost c =
 
 pub loop-piece-init : goal.loop-piece-init
 loop-piece-init c =
-    IsSummed-start c.args.term c.args.pieces.now c.requires c.args.duration _ _ (ap (λ x. c.args.term.cost + c.args.term.slope * x) c.saturating_sub-saved.ensures) (ap (λ x. c.args.term.crash + x) c.units-left.ensures)
+    IsSummed-start c.args.term c.args.pieces.now c.requires c.args.duration _ _
+    (ap (λ x. c.args.term.cost + c.args.term.slope * x) c.saturating_sub-saved.ensures)
+    (ap (λ x. c.args.term.crash + x) c.units-left.ensures)
 
 pub overflow_sub-rise : goal.overflow_sub-rise
 overflow_sub-rise c =
-    omega (arith, next-rises c.args.term c.args.pieces.now c.requires c.args.duration c.loop-piece.piece-index c.loop-piece.cost c.loop-piece.knee c.loop-piece.slope c.loop-piece.invariant c.loop-piece-test.true)
+    omega (
+      arith,
+      next-rises c.args.term c.args.pieces.now c.requires c.args.duration c.loop-piece.piece-index c.loop-piece.cost
+          c.loop-piece.knee c.loop-piece.slope c.loop-piece.invariant c.loop-piece-test.true,
+    )
 
 pub overflow_mul-cost-in-loop-piece : goal.overflow_mul-cost-in-loop-piece
 overflow_mul-cost-in-loop-piece c =
@@ -39,11 +45,17 @@ overflow_add-cost-in-loop-piece c =
 
 pub overflow_sub-knee : goal.overflow_sub-knee
 overflow_sub-knee c =
-    omega (arith, next-left c.args.term c.args.pieces.now c.requires c.args.duration c.loop-piece.piece-index c.loop-piece.cost c.loop-piece.knee c.loop-piece.slope c.loop-piece.invariant c.loop-piece-test.true)
+    omega (
+      arith,
+      next-left c.args.term c.args.pieces.now c.requires c.args.duration c.loop-piece.piece-index c.loop-piece.cost
+          c.loop-piece.knee c.loop-piece.slope c.loop-piece.invariant c.loop-piece-test.true,
+    )
 
 pub loop-piece-preserved : goal.loop-piece-preserved
 loop-piece-preserved c =
-    rw c.saturating_sub-below.ensures (IsSummed-more c.args.term c.args.pieces.now c.requires c.args.duration c.loop-piece.piece-index c.loop-piece.cost c.loop-piece.knee c.loop-piece.slope c.loop-piece.invariant c.loop-piece-test.true)
+    rw c.saturating_sub-below.ensures
+    (IsSummed-more c.args.term c.args.pieces.now c.requires c.args.duration c.loop-piece.piece-index c.loop-piece.cost c.loop-piece.knee
+    c.loop-piece.slope c.loop-piece.invariant c.loop-piece-test.true)
 
 pub returns : goal.returns
 returns c =

@@ -12,7 +12,8 @@ record Reckoned (start t days number : ℤ) : Type 0 where
   is : number ≡ start +ℤ days
   rounded : IsRoundedUp t days
 
-reckoned : (start from t days : ℤ) → from ≡ to_z w32 (of_z w32 start) → IsPrintedDay start → neg_ℤ (pos (2 ^ 40)) <ℤ t → t <ℤ pos (2 ^ 40) → IsRoundedUp (to_z w64 (of_z w64 t)) days → IsWithin (2 ^ 40) days
+reckoned : (start from t days : ℤ) → from ≡ to_z w32 (of_z w32 start) → IsPrintedDay start → neg_ℤ (pos (2 ^ 40)) <ℤ t → t <ℤ pos (2 ^ 40) →
+    IsRoundedUp (to_z w64 (of_z w64 t)) days → IsWithin (2 ^ 40) days
     → Reckoned start t days (to_z w64 (of_z w64 (to_z w64 (of_z w64 from) +ℤ to_z w64 (of_z w64 days))))
 reckoned start from t days same printed early late up within =
     let fits : FitsSigned w64 t = omega (arith, signed_arith) in
@@ -24,7 +25,15 @@ returns-then-number-lt-FIRST-clause-none c =
     let days = c.whole_days.result in
     let facts = reckoned start c.from.result c.args.t days c.from.ensures c.start.invariant c.requires.early c.requires.late c.whole_days.ensures.rounded c.whole_days.ensures.within in
     let number = facts.is in
-    let beyond : ((start +ℤ days) <ℤ neg_ℤ (pos 25_567)) ⊎ (pos 2_932_896 <ℤ (start +ℤ days)) = elim c.then-number-lt-FIRST.branch [ then-number-lt-FIRST-via-then-number-lt-FIRST w ↦ inl (let low = rw number at w.if-number-lt-FIRST.true in omega (arith, signed_arith, low)) | then-number-lt-FIRST-via-else-number-lt-FIRST+then-number-gt-LAST w ↦ inr (let high = rw number at w.if-number-gt-LAST.true in omega (arith, signed_arith, high)) ] in
+    let beyond : ((start +ℤ days) <ℤ neg_ℤ (pos 25_567))
+    ⊎ (pos 2_932_896 <ℤ (start +ℤ days)) =
+    elim c.then-number-lt-FIRST.branch [
+      | then-number-lt-FIRST-via-then-number-lt-FIRST w ↦
+          inl (let low = rw number at w.if-number-lt-FIRST.true in
+          omega (arith, signed_arith, low))
+      | then-number-lt-FIRST-via-else-number-lt-FIRST+then-number-gt-LAST w ↦
+          inr (let high = rw number at w.if-number-gt-LAST.true in omega (arith, signed_arith, high))
+    ] in
     λ none day h k. out_of_print start days c.args.t day facts.rounded (rw (← c.start.view_is) at h) k beyond
 
 pub returns-clause-after : goal.returns-clause-after

@@ -40,4 +40,8 @@ returns c =
     let facts = made date c.day.inside.number c.from.result c.from.ensures c.in-Ok.ensures.value c.day.invariant in
     let spelled = c.spelled.ensures ∙ ap (λ y. date_text (unsigned_abs y) date.month date.day) (to_z-of_z w16 date.year facts.fits) in
     let names = NamesDay-date c.spelled.result date.year date.month date.day c.args.day facts.is_civil facts.low spelled (facts.is ∙ c.day.view_is) in
-    record { named = names; text = text_of-day c.spelled.result c.args.day (rw (← c.day.view_is) c.day.invariant) names; back = λ text is. NamesDay-same c.spelled.result text c.args.day names (NamesDay-read text c.args.day is) }
+    record {
+      named = names;
+      text = text_of-day c.spelled.result c.args.day (rw (← c.day.view_is) c.day.invariant) names;
+      back = λ text is. NamesDay-same c.spelled.result text c.args.day names (NamesDay-read text c.args.day is);
+    }

@@ -49,7 +49,8 @@ returns-in_default c =
     let year = c.year_of-year.ensures in
     let month = c.number_at-month.ensures in
     let day = c.number_at-day.ensures in
-    let refused : has_day c.year_of-year.result c.number_at-month.result c.number_at-day.result ≡ true → ⊥ = λ has. false≢true (c.in_default.ensures.succeeds.1 (casts_from_test _ _ _ year.bound month.bound day.bound has)) in
+    let refused : has_day c.year_of-year.result c.number_at-month.result c.number_at-day.result ≡ true →
+    ⊥ = λ has. false≢true (c.in_default.ensures.succeeds.1 (casts_from_test _ _ _ year.bound month.bound day.bound has)) in
     let none : is_date text ≡ false = and_right _ _ (false_from_ne_true _ (λ has. refused (rw (year.number, month.number, day.number) has))) in
     let is = sym (day_of-shape text none) in
     record { reading = is; day = day_clause text _ is; years = years_clause text _ is; shape = shape_clause text _ is }
@@ -91,6 +92,8 @@ returns c =
     let e = epoch_day-casts c.in-Ok.date _ _ _ year.bound month.bound day.bound c.in-Ok.ensures.value in
     let fits : FitsSigned w32 c.to_unix_epoch_day.result = omega (arith, signed_arith) in
     let n = to_z-of_z w32 c.to_unix_epoch_day.result fits ∙ c.to_unix_epoch_day.ensures.value ∙ ap epoch_day c.to_plain.ensures ∙ e in
-    let shown = n ∙ ap (λ y. days_from_civil (pos y) c.number_at-month.result c.number_at-day.result) year.number ∙ ap (λ m. days_from_civil (pos (year_of text)) m c.number_at-day.result) month.number ∙ ap (λ d. days_from_civil (pos (year_of text)) (number_at text 5) d) day.number in
+    let shown = n ∙ ap (λ y. days_from_civil (pos y) c.number_at-month.result c.number_at-day.result) year.number
+    ∙ ap (λ m. days_from_civil (pos (year_of text)) m c.number_at-day.result) month.number
+    ∙ ap (λ d. days_from_civil (pos (year_of text)) (number_at text 5) d) day.number in
     let is = ap Ok shown ∙ sym (day_of-day text date inside) in
     record { reading = is; day = day_clause text _ is; years = years_clause text _ is; shape = shape_clause text _ is }

@@ -9,7 +9,8 @@ use Rattle.pc_edits.proofs.further.further_of.Goals as goal
 pub overflow_add-result : goal.overflow_add-result
 overflow_add-result c =
     let inside : c.args.a < length c.args.net.now.terms = omega (arith, c.requires.activity, c.requires.terms.one_each) in
-    let small = AreSmallKnees-of c.args.net.now.network c.args.net.now.terms c.args.net.now.pieces c.requires.terms c.requires.limits c.requires.pieces c.requires.piece_limits c.args.a inside c.knees-knees.result c.knees-knees.ensures in
+    let small = AreSmallKnees-of c.args.net.now.network c.args.net.now.terms c.args.net.now.pieces c.requires.terms c.requires.limits
+    c.requires.pieces c.requires.piece_limits c.args.a inside c.knees-knees.result c.knees-knees.ensures in
     omega (arith, small.gentle 1 (omega arith), c.requires.limits.gentle c.args.a inside, ap (λ (t : Term). t.slope) c.term-term.ensures)
 
 pub returns : goal.returns

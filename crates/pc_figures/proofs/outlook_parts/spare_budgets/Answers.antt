@@ -15,8 +15,11 @@ loop-b-preserved c =
     let known : x < length c.args.marks.now = c.requires.on_items b c.loop-b-test.true in
     let fits : SFits w64 c.spare_budget.result = search rules in
     let same : to_z w64 (of_z w64 c.spare_budget.result) ≡ c.spare_budget.result = to_z-of_z w64 c.spare_budget.result fits in
-    let is = spare_is c.args.places.now c.args.accounts.now c.args.entries.now b x c.args.marks.now _ c.spare_budget.result c.requires.marks refl known refl c.spare_budget.ensures.some c.spare_budget.ensures.none in
-    spare_more _ _ _ _ _ _ _ c.loop-b.invariant c.in_ok-push.ensures.items (subst (λ (z : ℤ). IsSpare c.args.places.now c.args.accounts.now c.args.entries.now b z) (sym same) is) (rw same c.spare_budget.ensures.small)
+    let is = spare_is c.args.places.now c.args.accounts.now c.args.entries.now b x c.args.marks.now _ c.spare_budget.result c.requires.marks
+    refl known refl c.spare_budget.ensures.some c.spare_budget.ensures.none in
+    spare_more _ _ _ _ _ _ _ c.loop-b.invariant c.in_ok-push.ensures.items
+    (subst (λ (z : ℤ). IsSpare c.args.places.now c.args.accounts.now c.args.entries.now b z) (sym same) is)
+    (rw same c.spare_budget.ensures.small)
 
 pub returns-clause-spare : goal.returns-clause-spare
 returns-clause-spare c = spare_all _ _ _ _ _ (omega arith) c.loop-b.invariant

@@ -13,7 +13,9 @@ loop-a-preserved c =
     let value = amount_at c.args.values.now c.loop-a.a in
     let fits_value : SFits w64 value = search rules in
     let fits : SFits w64 c.overrun.result = search rules in
-    let same : to_z w64 (of_z w64 c.overrun.result) ≡ overrun_at c.args.entries.now c.args.values.now c.loop-a.a = to_z-of_z w64 c.overrun.result fits ∙ (rw (to_z-of_z w64 value fits_value) at c.overrun.ensures) in
+    let same : to_z w64 (of_z w64 c.overrun.result)
+    ≡ overrun_at c.args.entries.now c.args.values.now c.loop-a.a = to_z-of_z w64 c.overrun.result fits
+    ∙ (rw (to_z-of_z w64 value fits_value) at c.overrun.ensures) in
     let small = c.requires.values c.loop-a.a in
     amounts_more _ _ _ _ _ _ c.loop-a.invariant c.loop-a-test.true c.in_ok-push.ensures.items same (omega (arith, ints, small, ap unsigned_abs same))
 

@@ -22,9 +22,11 @@ loop-a-preserved c =
     let is : IsProgress c.args.places.now c.args.states.now (length c.args.places.now) x c.index.result.now = rw read (c.in_ok-progress.ensures.each x known) in
     let fits : SFits w64 c.value.result = search rules in
     let same : to_z w64 (of_z w64 c.value.result) ≡ pos (value_of c.unwrap_or-finished.result entry) = to_z-of_z w64 c.value.result fits ∙ c.value.ensures.value in
-    let worth = value_is c.args.places.now c.args.states.now c.args.accounts.now c.args.entries.now a x c.index.result.now (value_of c.unwrap_or-finished.result entry) refl is (ap (λ (b : Bool). value_of b entry) c.unwrap_or-finished.ensures) in
+    let worth = value_is c.args.places.now c.args.states.now c.args.accounts.now c.args.entries.now a x c.index.result.now
+    (value_of c.unwrap_or-finished.result entry) refl is (ap (λ (b : Bool). value_of b entry) c.unwrap_or-finished.ensures) in
     let bound : unsigned_abs (to_z w64 (of_z w64 c.value.result)) ≤ MAX_COST = rw (to_z-of_z w64 c.value.result fits) c.value.ensures.small in
-    values_more _ _ _ _ _ _ _ _ c.loop-a.invariant c.in_ok-push.ensures.items (subst (λ (z : ℤ). IsValueOf c.args.places.now c.args.states.now c.args.accounts.now c.args.entries.now a z) (sym same) worth) bound
+    values_more _ _ _ _ _ _ _ _ c.loop-a.invariant c.in_ok-push.ensures.items
+    (subst (λ (z : ℤ). IsValueOf c.args.places.now c.args.states.now c.args.accounts.now c.args.entries.now a z) (sym same) worth) bound
 
 pub returns-clause-values : goal.returns-clause-values
 returns-clause-values c = values_all _ _ _ _ _ _ (omega arith) c.loop-a.invariant

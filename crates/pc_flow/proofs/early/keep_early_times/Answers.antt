@@ -16,17 +16,23 @@ latest_arrival-time-requires-clause-small c =
 pub latest_arrival-time-requires-clause-before : goal.latest_arrival-time-requires-clause-before
 latest_arrival-time-requires-clause-before c =
     let order = rw c.net-shape.ensures.network at c.order-e-items.ensures in
-    early-before c.args.net.now.network (durations_at c.args.net.now.terms c.args.pace) c.order-e-items.result.now order.order c.args.board.now c.loop-e.board c.loop-e.e-index c.loop-e.invariant (omega arith)
+    early-before c.args.net.now.network
+    (durations_at c.args.net.now.terms c.args.pace) c.order-e-items.result.now order.order c.args.board.now c.loop-e.board
+    c.loop-e.e-index c.loop-e.invariant (omega arith)
 
 pub loop-e-preserved : goal.loop-e-preserved
 loop-e-preserved c =
     let order = rw c.net-shape.ensures.network at c.order-e-items.ensures in
-    early-more c.args.net.now.network (durations_at c.args.net.now.terms c.args.pace) c.order-e-items.result.now order.order c.args.board.now c.loop-e.board _ c.loop-e.e-index _ c.loop-e.invariant (omega arith) c.latest_arrival-time.ensures c.set_time.ensures
+    early-more c.args.net.now.network
+    (durations_at c.args.net.now.terms c.args.pace) c.order-e-items.result.now order.order c.args.board.now c.loop-e.board _
+    c.loop-e.e-index _ c.loop-e.invariant (omega arith) c.latest_arrival-time.ensures c.set_time.ensures
 
 pub returns-clause-times : goal.returns-clause-times
 returns-clause-times c =
     let order = rw c.net-shape.ensures.network at c.order-e-items.ensures in
-    early-all c.args.net.now.network (durations_at c.args.net.now.terms c.args.pace) c.order-e-items.result.now order.order c.args.board.now c.loop-e.board c.loop-e.e-index c.loop-e.invariant (omega arith)
+    early-all c.args.net.now.network
+    (durations_at c.args.net.now.terms c.args.pace) c.order-e-items.result.now order.order c.args.board.now c.loop-e.board
+    c.loop-e.e-index c.loop-e.invariant (omega arith)
 
 pub returns-clause-limit : goal.returns-clause-limit
 returns-clause-limit c =
@@ -37,4 +43,6 @@ returns-clause-limit c =
     let small = small_times c.args.net.now.network c.order-e-items.result.now (durations_at c.args.net.now.terms c.args.pace) order.in_range order.sound order.order
     few (durations-short c.args.net.now.network c.args.net.now.terms c.args.pace priced.terms_fit c.net-shape.ensures.limits) in
     λ e known.
-    small.fits e _ known (early-all c.args.net.now.network (durations_at c.args.net.now.terms c.args.pace) c.order-e-items.result.now order.order c.args.board.now c.loop-e.board c.loop-e.e-index c.loop-e.invariant (omega arith) e known)
+    small.fits e _ known (early-all c.args.net.now.network
+    (durations_at c.args.net.now.terms c.args.pace) c.order-e-items.result.now order.order c.args.board.now c.loop-e.board
+    c.loop-e.e-index c.loop-e.invariant (omega arith) e known)

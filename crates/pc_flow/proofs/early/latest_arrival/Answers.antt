@@ -23,7 +23,10 @@ overflow_add-kept_time c =
 pub loop-a-preserved : goal.loop-a-preserved
 loop-a-preserved c =
     let event = rw c.net-shape.ensures.network at c.from.ensures.event in
-    rw (c.max-latest.ensures, ord_max-nat) (arrival-more c.args.net.now.network (durations_at c.args.net.now.terms c.args.pace) (kept_time c.args.board.now) _ _ _ _ c.loop-a.invariant (omega (arith, c.kept_time.ensures, c.duration.ensures, ap (kept_time c.args.board.now) event)))
+    rw (c.max-latest.ensures, ord_max-nat)
+    (arrival-more c.args.net.now.network (durations_at c.args.net.now.terms c.args.pace)
+    (kept_time c.args.board.now) _ _ _ _ c.loop-a.invariant
+    (omega (arith, c.kept_time.ensures, c.duration.ensures, ap (kept_time c.args.board.now) event)))
 
 pub returns : goal.returns
 returns c =

@@ -44,8 +44,10 @@ loop-k-preserved c =
     let within : c.loop-k.k < c.args.periods = omega (arith, c.min-end.ensures, c.from.ensures) in
     let small = still_small c.args.rows c.args.periods c.args.entry.now c.args.width c.loop-k.k c.args.cells.now c.loop-k.cells c.loop-k.invariant.cells c.requires.known c.requires.room within in
     record {
-      cells = added_more c.args.rows c.args.periods c.args.entry.now c.args.width c.loop-k.k c.args.cells.now c.loop-k.cells c.share-by.result c.loop-k.so_far _ c.loop-k.invariant.cells c.requires.known c.loop-k.invariant.so_far c.share-by.ensures.share
-          (grown (amount_at c.loop-k.cells (c.loop-k.k * c.args.rows + c.args.entry.now.row)) (c.share-by.result - c.loop-k.so_far) small (omega (arith, c.share-by.ensures.most, c.requires.spread.amount)));
+      cells = added_more c.args.rows c.args.periods c.args.entry.now c.args.width c.loop-k.k c.args.cells.now c.loop-k.cells
+          c.share-by.result c.loop-k.so_far _ c.loop-k.invariant.cells c.requires.known c.loop-k.invariant.so_far c.share-by.ensures.share
+          (grown (amount_at c.loop-k.cells (c.loop-k.k * c.args.rows + c.args.entry.now.row)) (c.share-by.result - c.loop-k.so_far) small
+          (omega (arith, c.share-by.ensures.most, c.requires.spread.amount)));
       so_far = c.share-by.ensures.share;
     }
 

@@ -41,4 +41,6 @@ returns-clause-levels c =
     let same : leaves ≡ c.args.leaves.now = c.leaves.view_is in
     let so_far = fields_are c.args.tree.now leaves c.args.leaves.now c.loop-k.k c.loop-k.cells.items same c.loop-k.invariant in
     let are : IsItemTable c.args.tree.now leaves (record { rows = length c.args.tree.now; periods = leaves.periods; cells = c.loop-k.cells.items }) = items_are c.args.tree.now leaves c.loop-k.k c.loop-k.cells.items (omega arith) so_far in
-    rw c.len-rows.ensures.len (levels_add_up c.args.tree.now leaves (record { rows = length c.args.tree.now; periods = leaves.periods; cells = c.loop-k.cells.items }) c.len-rows.ensures.in_range c.len-rows.ensures.tree are)
+    rw c.len-rows.ensures.len (levels_add_up c.args.tree.now leaves
+    (record { rows = length c.args.tree.now; periods = leaves.periods; cells = c.loop-k.cells.items }) c.len-rows.ensures.in_range
+    c.len-rows.ensures.tree are)

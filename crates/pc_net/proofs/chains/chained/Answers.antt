@@ -22,6 +22,7 @@ loop-i-preserved c =
     let below : i < length xs = omega (arith, length-events_of c.args.side c.args.arcs.now) in
     let is : slice_index xs i ≡ x = events_of_at c.args.side c.args.arcs.now i (omega arith) ∙ sym c.event_of-event.ensures in
     let known : x < c.args.events = omega (arith, c.event_of-event.ensures, event_known c.args.side c.args.arcs.now c.args.events i c.requires.in_range (omega arith)) in
-    let here : AreChains xs c.args.events (i + 1) c.loop-i.heads.items c.loop-i.nexts.items = subst (λ n. AreChains xs c.args.events n c.loop-i.heads.items c.loop-i.nexts.items) (omega arith) c.loop-i.invariant in
+    let here : AreChains xs c.args.events (i + 1) c.loop-i.heads.items c.loop-i.nexts.items =
+    subst (λ n. AreChains xs c.args.events n c.loop-i.heads.items c.loop-i.nexts.items) (omega arith) c.loop-i.invariant in
     let read : c.index.result.now ≡ slice_index c.loop-i.heads.items x = get_or_read c.loop-i.heads.items x _ (omega (arith, c.loop-i.invariant.heads_len)) c.index.ensures 0 in
     rw read (AreChains-step xs c.args.events i x c.loop-i.heads.items c.loop-i.nexts.items here below is known)

@@ -11,9 +11,19 @@ loop-a-preserved-then-index c =
     let arcs = c.args.graph.now.arcs in
     let labels = c.in_ok-labels.labels.items in
     let sized = c.in_ok-labels.ensures.sized in
-    let from_label : c.index.result.now ≡ slice_index labels (from_of arcs c.loop-a.a) = get_or_read labels c.from.result _ (omega (arith, c.from.ensures.known, sized, c.in_ok-labels.labels.ok.0)) c.index.ensures 0 ∙ ap (slice_index labels) c.from.ensures.event in
-    let to_label : c.index-in-loop-a.result.now ≡ slice_index labels (to_of arcs c.loop-a.a) = get_or_read labels c.to.result _ (omega (arith, c.to.ensures.known, sized, c.in_ok-labels.labels.ok.0)) c.index-in-loop-a.ensures 0 ∙ ap (slice_index labels) c.to.ensures.event in
-    (c.loop-a.invariant.0, below_more (λ b. LiesOnCycle arcs b → ⊥) c.loop-a.a c.loop-a.invariant.1 (apart_off_cycle arcs labels c.loop-a.a c.in_ok-labels.ensures.never_falls (λ same. c.if-index.true (from_label ∙ same ∙ sym to_label))))
+    let from_label : c.index.result.now
+    ≡ slice_index labels (from_of arcs c.loop-a.a) =
+    get_or_read labels c.from.result _ (omega (arith, c.from.ensures.known, sized, c.in_ok-labels.labels.ok.0)) c.index.ensures 0
+    ∙ ap (slice_index labels) c.from.ensures.event in
+    let to_label : c.index-in-loop-a.result.now
+    ≡ slice_index labels (to_of arcs c.loop-a.a) =
+    get_or_read labels c.to.result _ (omega (arith, c.to.ensures.known, sized, c.in_ok-labels.labels.ok.0)) c.index-in-loop-a.ensures 0
+    ∙ ap (slice_index labels) c.to.ensures.event in (
+      c.loop-a.invariant.0,
+      below_more (λ b. LiesOnCycle arcs b → ⊥) c.loop-a.a c.loop-a.invariant.1
+          (apart_off_cycle arcs labels c.loop-a.a c.in_ok-labels.ensures.never_falls
+          (λ same. c.if-index.true (from_label ∙ same ∙ sym to_label))),
+    )
 
 pub returns-then-index-ne0 : goal.returns-then-index-ne0
 returns-then-index-ne0 c =

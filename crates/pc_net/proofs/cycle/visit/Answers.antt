@@ -8,13 +8,25 @@ use Rattle.pc_net.proofs.cycle.visit.Goals as goal
 use Rattle.pc_net.proofs.cycle.visit.Goals.{then-index-eq0+in_ok-push, else-index-eq0}
 
 -- the activities listed at the event that was read are those that end where the step at this place begins
-entering : (net : Network) (steps : List ℕ) (at step event : ℕ) (xs : List ℕ) → at < length steps → step ≡ slice_index_or steps at step → event ≡ from_of net.arcs step → IsListed (λ b. to_of net.arcs b ≡ event) (length net.arcs) xs → IsListed (λ b. to_of net.arcs b ≡ from_of net.arcs (slice_index steps at)) (length net.arcs) xs
+entering : (net : Network) (steps : List ℕ) (at step event : ℕ) (xs : List ℕ) → at < length steps → step ≡ slice_index_or steps at step →
+    event ≡ from_of net.arcs step → IsListed (λ b. to_of net.arcs b ≡ event) (length net.arcs) xs →
+    IsListed (λ b. to_of net.arcs b ≡ from_of net.arcs (slice_index steps at)) (length net.arcs) xs
 entering net steps at step event xs queued read is listed =
     subst (λ (e : ℕ). IsListed (λ b. to_of net.arcs b ≡ e) (length net.arcs) xs) (is ∙ ap (from_of net.arcs) (get_or_read steps at step queued read 0)) listed
 
 pub overflow_cast-len : goal.overflow_cast-len
 overflow_cast-len c =
-    omega (arith, c.len.ensures, c.in_ok-push.ensures.len, c.loop-step.steps.ok.0, c.loop-step.ranks.ok.0, IsSearch-short c.args.graph.now c.args.a c.loop-step.steps.items c.loop-step.ranks.items c.args.at c.loop-step.invariant.1.search, c.loop-step.invariant.1.search.ranks_len, c.loop-step.invariant.0, c.requires.few)
+    omega (
+      arith,
+      c.len.ensures,
+      c.in_ok-push.ensures.len,
+      c.loop-step.steps.ok.0,
+      c.loop-step.ranks.ok.0,
+      IsSearch-short c.args.graph.now c.args.a c.loop-step.steps.items c.loop-step.ranks.items c.args.at c.loop-step.invariant.1.search,
+      c.loop-step.invariant.1.search.ranks_len,
+      c.loop-step.invariant.0,
+      c.requires.few,
+    )
 
 pub loop-step-preserved : goal.loop-step-preserved
 loop-step-preserved c =
@@ -31,7 +43,12 @@ loop-step-preserved c =
       | then-index-eq0+in_ok-push w ↦
           let b = slice_index c.in_arcs-step-items.result.now j in
           let rank : w.len.result ≡ length steps + 1 = omega (arith, w.len.ensures, w.in_ok-push.ensures.len, c.loop-step.steps.ok.0) in
-          let found = IsVisit-find net c.args.a steps ranks c.args.at _ _ j visit b v refl at_j.0 at_j.1 (sym c.from-before.ensures.event) c.from-before.ensures.known (sym read ∙ w.if-index-eq0.true) in
+          let found = IsVisit-find net c.args.a steps ranks c.args.at _ _ j visit b v refl at_j.0 at_j.1
+          (sym c.from-before.ensures.event) c.from-before.ensures.known (sym read ∙ w.if-index-eq0.true) in
           rw (w.steps-is, w.ranks-is) (rw (w.in_ok-push.ensures.items, rank) (c.loop-step.invariant.0, found))
-      | else-index-eq0 w ↦ rw (w.steps-is, w.ranks-is) (c.loop-step.invariant.0, IsVisit-skip net c.args.a steps ranks c.args.at _ _ j visit (λ none. w.if-index-eq0.false (read ∙ ap (slice_index ranks) c.from-before.ensures.event ∙ none)))
+      | else-index-eq0 w ↦ rw (w.steps-is, w.ranks-is) (
+        c.loop-step.invariant.0,
+        IsVisit-skip net c.args.a steps ranks c.args.at _ _ j visit
+            (λ none. w.if-index-eq0.false (read ∙ ap (slice_index ranks) c.from-before.ensures.event ∙ none)),
+      )
     ]

@@ -8,7 +8,9 @@ use Rattle.pc_net.proofs.labels.cross.Goals as goal
 use Rattle.pc_net.proofs.labels.cross.Goals.{then-index-eq0+in_ok-push, else-index-eq0}
 
 -- the activities listed at the event that was read are those at this place
-leaving : (net : Network) (reached : List ℕ) (at event : ℕ) (xs : List ℕ) → at < length reached → event ≡ slice_index_or reached at event → IsListed (λ a. from_of net.arcs a ≡ event) (length net.arcs) xs → IsListed (λ a. from_of net.arcs a ≡ slice_index reached at) (length net.arcs) xs
+leaving : (net : Network) (reached : List ℕ) (at event : ℕ) (xs : List ℕ) → at < length reached → event ≡ slice_index_or reached at event →
+    IsListed (λ a. from_of net.arcs a ≡ event) (length net.arcs) xs →
+    IsListed (λ a. from_of net.arcs a ≡ slice_index reached at) (length net.arcs) xs
 leaving net reached at event xs queued read listed =
     subst (λ (e : ℕ). IsListed (λ a. from_of net.arcs a ≡ e) (length net.arcs) xs) (get_or_read reached at event queued read 0) listed
 
@@ -21,8 +23,13 @@ loop-a-preserved c =
     let next = c.to-next.result in
     let read : c.index-in-loop-a.result.now ≡ slice_index labels next = get_or_read labels next _ (omega (arith, c.to-next.ensures.known, spreading.spread.labels_len)) c.index-in-loop-a.ensures 0 in
     elim c.if-index-eq0.branch [
-      | then-index-eq0+in_ok-push w ↦ rw (w.reached-is, w.labels-is) (rw w.in_ok-push.ensures.items (IsSpreading-push net c.args.label reached labels c.args.at _ _ c.loop-a.a-index next spreading (sym c.to-next.ensures.event) c.to-next.ensures.known (sym read ∙ w.if-index-eq0.true)))
-      | else-index-eq0 w ↦ rw (w.reached-is, w.labels-is) (IsSpreading-skip net c.args.label reached labels c.args.at _ _ c.loop-a.a-index spreading (λ none. w.if-index-eq0.false (read ∙ ap (slice_index labels) c.to-next.ensures.event ∙ none)))
+      | then-index-eq0+in_ok-push w ↦
+          rw (w.reached-is, w.labels-is) (rw w.in_ok-push.ensures.items
+          (IsSpreading-push net c.args.label reached labels c.args.at _ _ c.loop-a.a-index next spreading
+          (sym c.to-next.ensures.event) c.to-next.ensures.known (sym read ∙ w.if-index-eq0.true)))
+      | else-index-eq0 w ↦ rw (w.reached-is, w.labels-is)
+          (IsSpreading-skip net c.args.label reached labels c.args.at _ _ c.loop-a.a-index spreading
+          (λ none. w.if-index-eq0.false (read ∙ ap (slice_index labels) c.to-next.ensures.event ∙ none)))
     ]
 
 pub returns : goal.returns

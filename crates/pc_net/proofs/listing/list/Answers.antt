@@ -39,7 +39,9 @@ pub events-preserved : goal.events-preserved
 events-preserved c =
     let xs = events_of c.args.side c.args.arcs.now in
     let x = c.events.head-index in
-    let more : c.chain.items.items ≡ c.events.items.items ++ places x 0 xs = IsFollowed-end xs x c.chain.at c.events.items.items c.chain.items.items c.chain.invariant (omega (arith, length-events_of c.args.side c.args.arcs.now)) in
+    let more : c.chain.items.items ≡ c.events.items.items ++ places x 0 xs =
+    IsFollowed-end xs x c.chain.at c.events.items.items c.chain.items.items c.chain.invariant
+    (omega (arith, length-events_of c.args.side c.args.arcs.now)) in
     let pushed = AreListed-push xs x c.events.items.items c.events.starts.items (places x 0 xs) c.events.invariant refl in
     let count : c.len.result ≡ length c.chain.items.items = omega (arith, c.len.ensures, c.chain.items.ok.0) in
     rw (c.in_ok-push-3.ensures.items, count, more) pushed

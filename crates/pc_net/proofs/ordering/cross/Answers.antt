@@ -8,7 +8,9 @@ use Rattle.pc_net.proofs.ordering.cross.Goals as goal
 use Rattle.pc_net.proofs.ordering.cross.Goals.{then-index-eq0+in_ok-push, else-index-eq0}
 
 -- the activities listed at the event that was read are those at this place of the queue
-leaving : (net : Network) (order : List ℕ) (at event : ℕ) (xs : List ℕ) → at < length order → event ≡ slice_index_or order at event → IsListed (λ a. from_of net.arcs a ≡ event) (length net.arcs) xs → IsListed (λ a. from_of net.arcs a ≡ slice_index order at) (length net.arcs) xs
+leaving : (net : Network) (order : List ℕ) (at event : ℕ) (xs : List ℕ) → at < length order → event ≡ slice_index_or order at event →
+    IsListed (λ a. from_of net.arcs a ≡ event) (length net.arcs) xs →
+    IsListed (λ a. from_of net.arcs a ≡ slice_index order at) (length net.arcs) xs
 leaving net order at event xs queued read listed =
     subst (λ (e : ℕ). IsListed (λ a. from_of net.arcs a ≡ e) (length net.arcs) xs) (get_or_read order at event queued read 0) listed
 
@@ -18,8 +20,15 @@ overflow_sub-index_mut c =
     let listed = leaving net c.args.order.now.items c.args.at _ _ (omega (arith, c.args.order.now.ok.0)) c.index.ensures c.out_arcs-a-items.ensures.listed in
     let missing = c.loop-a.missing.items in
     let next = c.to-next.result in
-    let read : c.index_mut.result.now ≡ slice_index missing next = get_or_read missing next _ (omega (arith, c.to-next.ensures.known, c.loop-a.invariant.waiting.missing_len)) c.index_mut.ensures.value 0 in
-    omega (arith, read, IsCrossing-entered net c.loop-a.order.items missing c.args.at _ _ c.loop-a.a-index listed c.loop-a.invariant c.loop-a-test.true _ next refl (sym c.to-next.ensures.event) c.to-next.ensures.known)
+    let read : c.index_mut.result.now
+    ≡ slice_index missing next = get_or_read missing next _
+    (omega (arith, c.to-next.ensures.known, c.loop-a.invariant.waiting.missing_len)) c.index_mut.ensures.value 0 in
+    omega (
+      arith,
+      read,
+      IsCrossing-entered net c.loop-a.order.items missing c.args.at _ _ c.loop-a.a-index listed c.loop-a.invariant
+          c.loop-a-test.true _ next refl (sym c.to-next.ensures.event) c.to-next.ensures.known,
+    )
 
 pub loop-a-preserved : goal.loop-a-preserved
 loop-a-preserved c =
@@ -34,8 +43,13 @@ loop-a-preserved c =
     let rest : c.index-in-loop-a.result.now ≡ less =
     get_or_read (slice_set missing next less) next _ (omega (arith, length-set missing next less)) c.index-in-loop-a.ensures 0 ∙ get_or-set_same missing next less 0 next_in in
     elim c.if-index-eq0.branch [
-      | then-index-eq0+in_ok-push w ↦ rw (w.order-is, read) (rw w.in_ok-push.ensures.items (IsCrossing-push net c.loop-a.order.items missing c.args.at _ _ c.loop-a.a-index listed c.loop-a.invariant c.loop-a-test.true a next refl (sym c.to-next.ensures.event) c.to-next.ensures.known (omega (arith, rest, read, w.if-index-eq0.true))))
-      | else-index-eq0 w ↦ rw (w.order-is, read) (IsCrossing-cross net c.loop-a.order.items missing c.args.at _ _ c.loop-a.a-index listed c.loop-a.invariant c.loop-a-test.true a next refl (sym c.to-next.ensures.event) c.to-next.ensures.known (λ none. w.if-index-eq0.false (omega (arith, rest, read, none))))
+      | then-index-eq0+in_ok-push w ↦
+          rw (w.order-is, read) (rw w.in_ok-push.ensures.items
+          (IsCrossing-push net c.loop-a.order.items missing c.args.at _ _ c.loop-a.a-index listed c.loop-a.invariant c.loop-a-test.true a
+          next refl (sym c.to-next.ensures.event) c.to-next.ensures.known (omega (arith, rest, read, w.if-index-eq0.true))))
+      | else-index-eq0 w ↦ rw (w.order-is, read)
+          (IsCrossing-cross net c.loop-a.order.items missing c.args.at _ _ c.loop-a.a-index listed c.loop-a.invariant c.loop-a-test.true a
+          next refl (sym c.to-next.ensures.event) c.to-next.ensures.known (λ none. w.if-index-eq0.false (omega (arith, rest, read, none))))
     ]
 
 pub returns : goal.returns

@@ -7,7 +7,9 @@ use Rattle.pc_net.proofs.ordering.ordered.Goals as goal
 pub loop-at-init : goal.loop-at-init
 loop-at-init c =
     let counts = c.in_ok-missing.missing.items in
-    let listed : IsListed (λ v. slice_index counts v ≡ 0) (length counts) c.in_ok-order.order.items = subst (λ xs. IsListed (λ v. slice_index xs v ≡ 0) (length xs) c.in_ok-order.order.items) c.deref.ensures.value c.in_ok-order.ensures in
+    let listed : IsListed (λ v. slice_index counts v ≡ 0) (length counts) c.in_ok-order.order.items =
+    subst (λ xs. IsListed (λ v. slice_index xs v ≡ 0) (length xs) c.in_ok-order.order.items) c.deref.ensures.value c.in_ok-order.ensures
+    in
     IsQueue-start c.args.graph.now counts c.in_ok-order.order.items c.in_ok-missing.ensures.counts listed
 
 pub loop-at-smaller : goal.loop-at-smaller

@@ -13,7 +13,9 @@ loop-a-preserved c =
     let deck = c.args.cards.now in
     let inside : c.loop-a.a < length deck.accounts = omega (arith, c.loop-a-test.true, ap length c.accounts-card-items.ensures.cards) in
     let card = rw c.accounts-card-items.ensures.cards at c.card-item.is in
-    branch_more deck (λ (card : AcctCard). card.row) (λ card. card.item) deck.accounts c.args.tree.now _ c.loop-a.a c.card-item.result c.loop-a.fault c.branch_fault.result _ c.requires.tree inside card
+    branch_more deck (λ (card : AcctCard). card.row)
+    (λ card. card.item) deck.accounts c.args.tree.now _ c.loop-a.a c.card-item.result c.loop-a.fault c.branch_fault.result _
+    c.requires.tree inside card
     (account_item deck c.args.accounts.now c.loop-a.a c.card-item.result c.requires.accounts inside card) c.loop-a.invariant c.branch_fault.ensures c.earliest-fault.ensures
 
 pub returns : goal.returns

@@ -16,7 +16,8 @@ use Rattle.pc_project.proofs.RefusalLaws.{refused_by_net}
 use Rattle.pc_project.proofs.network.net_of.Goals as goal
 
 -- the arcs of the placements are those of the cards
-arcs_are : (deck : Deck) (arcs : List Arc) (placements : List Placement) → arcs ≡ map (λ placement. placement.arc) placements → placements ≡ map (placement_of deck) deck.acts → arcs ≡ map (arc_of deck) deck.acts
+arcs_are : (deck : Deck) (arcs : List Arc) (placements : List Placement) → arcs ≡ map (λ placement. placement.arc) placements →
+    placements ≡ map (placement_of deck) deck.acts → arcs ≡ map (arc_of deck) deck.acts
 arcs_are deck arcs placements is same =
     is ∙ (ap (map (λ placement. placement.arc)) same ∙ map-map (λ placement. placement.arc) (placement_of deck) deck.acts)
 
@@ -36,30 +37,35 @@ build-requires-clause-few_activities c =
 pub build-requires-clause-in_range : goal.build-requires-clause-in_range
 build-requires-clause-in_range c =
     subst IsInRange
-    (sym (net_is c.args.cards.now c.args.numbers.now _ c.deref-2.result.now c.deref.result.now c.requires.numbers (ap length c.events.ensures.cards) (c.deref-2.ensures.value ∙ c.in_ok-arcs.ensures) c.deref.ensures.value))
+    (sym (net_is c.args.cards.now c.args.numbers.now _ c.deref-2.result.now c.deref.result.now c.requires.numbers
+    (ap length c.events.ensures.cards) (c.deref-2.ensures.value ∙ c.in_ok-arcs.ensures) c.deref.ensures.value))
     (network_of-in_range c.args.cards.now c.requires.numbers.faultless)
 
 pub returns-in-Ok-clause-network : goal.returns-in-Ok-clause-network
 returns-in-Ok-clause-network c =
     c.in-Ok.ensures.network
-    ∙ net_is c.args.cards.now c.args.numbers.now _ c.deref-2.result.now c.deref.result.now c.requires.numbers (ap length c.events.ensures.cards) (c.deref-2.ensures.value ∙ c.in_ok-arcs.ensures) c.deref.ensures.value
+    ∙ net_is c.args.cards.now c.args.numbers.now _ c.deref-2.result.now c.deref.result.now c.requires.numbers
+    (ap length c.events.ensures.cards) (c.deref-2.ensures.value ∙ c.in_ok-arcs.ensures) c.deref.ensures.value
 
 pub returns-in-Ok-clause-sound : goal.returns-in-Ok-clause-sound
 returns-in-Ok-clause-sound c =
     subst IsSound
-    (net_is c.args.cards.now c.args.numbers.now _ c.deref-2.result.now c.deref.result.now c.requires.numbers (ap length c.events.ensures.cards) (c.deref-2.ensures.value ∙ c.in_ok-arcs.ensures) c.deref.ensures.value)
+    (net_is c.args.cards.now c.args.numbers.now _ c.deref-2.result.now c.deref.result.now c.requires.numbers
+    (ap length c.events.ensures.cards) (c.deref-2.ensures.value ∙ c.in_ok-arcs.ensures) c.deref.ensures.value)
     c.in-Ok.ensures.sound
 
 pub fault_of-requires : goal.fault_of-requires
 fault_of-requires c =
     subst (λ net. IsRefusal net c.in-Err.error)
-    (net_is c.args.cards.now c.args.numbers.now _ c.deref-2.result.now c.deref.result.now c.requires.numbers (ap length c.events.ensures.cards) (c.deref-2.ensures.value ∙ c.in_ok-arcs.ensures) c.deref.ensures.value)
+    (net_is c.args.cards.now c.args.numbers.now _ c.deref-2.result.now c.deref.result.now c.requires.numbers
+    (ap length c.events.ensures.cards) (c.deref-2.ensures.value ∙ c.in_ok-arcs.ensures) c.deref.ensures.value)
     c.in-Err.ensures.refused
 
 pub returns-clause-refused : goal.returns-clause-refused
 returns-clause-refused c =
     refused_by_net c.args.cards.now c.in-Err.error c.fault_of.result c.requires.numbers.faultless c.requires.tree
     (subst (λ net. IsRefusal net c.in-Err.error)
-    (net_is c.args.cards.now c.args.numbers.now _ c.deref-2.result.now c.deref.result.now c.requires.numbers (ap length c.events.ensures.cards) (c.deref-2.ensures.value ∙ c.in_ok-arcs.ensures) c.deref.ensures.value)
+    (net_is c.args.cards.now c.args.numbers.now _ c.deref-2.result.now c.deref.result.now c.requires.numbers
+    (ap length c.events.ensures.cards) (c.deref-2.ensures.value ∙ c.in_ok-arcs.ensures) c.deref.ensures.value)
     c.in-Err.ensures.refused)
     c.fault_of.ensures

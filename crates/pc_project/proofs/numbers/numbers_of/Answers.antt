@@ -32,4 +32,6 @@ returns-in-Ok-Some-clause-first c =
 pub returns-in-Err-default-clause-first : goal.returns-in-Err-default-clause-first
 returns-in-Err-default-clause-first c =
     let deck = c.args.cards.now in
-    subst (IsFirstIn (HasMisfit deck)) (sym c.earlier_of.ensures) (first_of_cards deck (Some c.in-Err-default.first) c.in_ok-found.found.fault c.in-Err-default.ensures.first c.in_ok-found.ensures.first)
+    subst (IsFirstIn (HasMisfit deck)) (sym c.earlier_of.ensures)
+    (first_of_cards deck (Some c.in-Err-default.first) c.in_ok-found.found.fault c.in-Err-default.ensures.first
+    c.in_ok-found.ensures.first)

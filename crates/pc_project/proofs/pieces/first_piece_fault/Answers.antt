@@ -11,7 +11,8 @@ use Rattle.pc_project.proofs.pieces.first_piece_fault.Goals as goal
 
 pub loop-i-init : goal.loop-i-init
 loop-i-init c = record {
-  runs = AreRuns-start c.args.cards.now.acts (pieces_in c.args.cards.now) c.in_ok-runs.runs.items (c.in_ok-runs.ensures ∙ ap (map (λ act. record { count = 0; slope = act.slope; units = 0 })) c.acts-acts.ensures.cards);
+  runs = AreRuns-start c.args.cards.now.acts (pieces_in c.args.cards.now) c.in_ok-runs.runs.items
+      (c.in_ok-runs.ensures ∙ ap (map (λ act. record { count = 0; slope = act.slope; units = 0 })) c.acts-acts.ensures.cards);
   first = first_of_none (HasPieceFaultAt c.args.cards.now);
 }
 
@@ -42,4 +43,5 @@ loop-i-preserved c =
 pub returns : goal.returns
 returns c =
     let deck = c.args.cards.now in
-    first_of_all (HasPieceFaultAt deck) c.loop-i.i (length deck.pieces) c.loop-i.fault (omega (arith, c.loop-i-test.false, c.loop-i.auto.i-end, ap length c.pieces-card-items.ensures.cards)) c.loop-i.invariant.first
+    first_of_all (HasPieceFaultAt deck) c.loop-i.i (length deck.pieces) c.loop-i.fault
+    (omega (arith, c.loop-i-test.false, c.loop-i.auto.i-end, ap length c.pieces-card-items.ensures.cards)) c.loop-i.invariant.first

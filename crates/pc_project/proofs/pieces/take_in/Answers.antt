@@ -38,4 +38,5 @@ returns-clause-fault c =
     let run = run_read c.args.runs.now.items piece.activity c.index-run.result.now (omega (arith, c.requires.known, c.requires.one_each)) c.index-run.ensures in
     let term = term_read acts piece.activity c.index-acts-activity.result known c.index-acts-activity.is in
     subst (λ (r : Run). IsFirstIn (HasFlaw (term_at (map term_of acts) piece.activity) r.count r.slope r.units piece card.row card.activity) c.flaw-fault.result) run
-    (subst (λ t. IsFirstIn (HasFlaw t c.index-run.result.now.count c.index-run.result.now.slope c.index-run.result.now.units piece card.row card.activity) c.flaw-fault.result) term c.flaw-fault.ensures)
+    (subst (λ t. IsFirstIn (HasFlaw t c.index-run.result.now.count c.index-run.result.now.slope c.index-run.result.now.units piece card.row
+    card.activity) c.flaw-fault.result) term c.flaw-fault.ensures)

@@ -9,5 +9,7 @@ pub returns : goal.returns
 unfolding summary_text
 returns g c =
     let heading = c.args.project.now.heading in
-    Adds-as (dated_line (codes "SUMMARY ") heading.code heading.as_of) (ap (λ (k : List ℕ). dated_line (codes "SUMMARY ") k c.as_of.result) c.code.ensures ∙ ap (λ (d : ℤ). dated_line (codes "SUMMARY ") heading.code d) c.as_of.ensures) c.put_dated.ensures
+    Adds-as (dated_line (codes "SUMMARY ") heading.code heading.as_of)
+    (ap (λ (k : List ℕ). dated_line (codes "SUMMARY ") k c.as_of.result) c.code.ensures
+    ∙ ap (λ (d : ℤ). dated_line (codes "SUMMARY ") heading.code d) c.as_of.ensures) c.put_dated.ensures
     ⨾ c.put.ensures ⨾ c.put_rows.ensures ⨾ c.put_rows-2.ensures

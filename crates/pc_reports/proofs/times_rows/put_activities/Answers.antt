@@ -17,14 +17,17 @@ loop-i-preserved g c =
     let shown = g.V.TimesView.shown c.args.view.now in
     let inside : c.loop-i.i < length c.activity_codes-code-items.result.now = omega (arith, c.loop-i-test.true) in
     let code : c.code-item.result ≡ slice_index_or project.activities c.loop-i.i [] =
-    get_or_read c.activity_codes-code-items.result.now c.loop-i.i c.code-item.result inside c.code-item.is [] ∙ ap (λ codes. slice_index_or codes c.loop-i.i []) c.activity_codes-code-items.ensures.codes in
+    get_or_read c.activity_codes-code-items.result.now c.loop-i.i c.code-item.result inside c.code-item.is []
+    ∙ ap (λ codes. slice_index_or codes c.loop-i.i []) c.activity_codes-code-items.ensures.codes in
     let kept : to_z w64 (of_z w64 c.activity_slack-slack.result) ≡ c.activity_slack-slack.result = search rules in
     Adds-line c.loop-i.i (activity_row (as_shown project shown) shown.times) c.loop-i.invariant
-    (Adds-as (activity_row (as_shown project shown) shown.times c.loop-i.i) (activity_cells-same code c.expected.ensures c.variance.ensures (kept ∙ c.activity_slack-slack.ensures)) c.put_activity.ensures)
+    (Adds-as (activity_row (as_shown project shown) shown.times c.loop-i.i)
+    (activity_cells-same code c.expected.ensures c.variance.ensures (kept ∙ c.activity_slack-slack.ensures)) c.put_activity.ensures)
 
 pub returns : goal.returns
 returns g c =
     let project = c.args.project.now in
     let shown = g.V.TimesView.shown c.args.view.now in
     let all : c.loop-i.i ≡ length project.activities = omega (arith, c.loop-i-test.false, c.loop-i.auto, ap length c.activity_codes-code-items.ensures.codes) in
-    c.put.ensures ⨾ Adds-as (texts_to (length project.activities) (activity_row (as_shown project shown) shown.times)) (ap (λ n. texts_to n (activity_row (as_shown project shown) shown.times)) all) c.loop-i.invariant
+    c.put.ensures ⨾ Adds-as (texts_to (length project.activities) (activity_row (as_shown project shown) shown.times))
+    (ap (λ n. texts_to n (activity_row (as_shown project shown) shown.times)) all) c.loop-i.invariant

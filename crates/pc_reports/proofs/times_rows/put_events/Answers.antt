@@ -30,4 +30,5 @@ returns g c =
     let project = c.args.project.now in
     let shown = g.V.TimesView.shown c.args.view.now in
     let all : c.loop-e.e ≡ length project.events = omega (arith, c.loop-e-test.false, c.loop-e.auto, ap length c.event_codes-code-items.ensures.codes) in
-    c.put.ensures ⨾ Adds-as (texts_to (length project.events) (event_row (as_shown project shown) shown.times)) (ap (λ n. texts_to n (event_row (as_shown project shown) shown.times)) all) c.loop-e.invariant
+    c.put.ensures ⨾ Adds-as (texts_to (length project.events) (event_row (as_shown project shown) shown.times))
+    (ap (λ n. texts_to n (event_row (as_shown project shown) shown.times)) all) c.loop-e.invariant

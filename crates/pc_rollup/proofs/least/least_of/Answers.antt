@@ -18,7 +18,10 @@ pub loop-item-preserved-in-Some-parent : goal.loop-item-preserved-in-Some-parent
 loop-item-preserved-in-Some-parent c =
     let order = order_of c.into_iter-item-iterator.result in
     let same : order ≡ c.preorder.result.now = cc in
-    rw (length_push c.loop-item.yielded c.in-Some.field-0, c.lesser.ensures) (least_taken c.args.tree.now order (length c.loop-item.yielded) c.in-Some-parent.parent c.args.placed.now c.loop-item.least.items c.in-Some.field-0.now c.index.result.now c.index-in-Some-parent.result.now (record {
+    rw (length_push c.loop-item.yielded c.in-Some.field-0, c.lesser.ensures)
+    (least_taken c.args.tree.now order
+    (length c.loop-item.yielded) c.in-Some-parent.parent c.args.placed.now c.loop-item.least.items c.in-Some.field-0.now
+    c.index.result.now c.index-in-Some-parent.result.now (record {
       ranged = c.preorder.ensures.in_range;
       preorder = order_is c.args.tree.now order c.preorder.result.now same c.preorder.ensures.order;
       so_far = c.loop-item.invariant;
@@ -31,7 +34,8 @@ loop-item-preserved-in-Some-parent c =
 pub loop-item-preserved : goal.loop-item-preserved
 loop-item-preserved c =
     rw (length_push c.loop-item.yielded c.in-Some.field-0) (least_top c.args.tree.now _ _ c.args.placed.now c.loop-item.least.items c.in-Some.field-0.now c.loop-item.invariant
-    (place_of_turn c.into_iter-item-iterator.result _ _ c.loop-item.yielded c.loop-item.yielded_by _ c.next.ensures.steps c.in-Some.field-0 c.in-Some.is) (sym c.parent.ensures.parent ∙ c.in_default.is))
+    (place_of_turn c.into_iter-item-iterator.result _ _ c.loop-item.yielded c.loop-item.yielded_by _ c.next.ensures.steps c.in-Some.field-0
+    c.in-Some.is) (sym c.parent.ensures.parent ∙ c.in_default.is))
 
 pub returns : goal.returns
 returns c =

@@ -15,5 +15,7 @@ returns-then-own-level-2 c = (
 pub returns-else-own-level-2 : goal.returns-else-own-level-2
 returns-else-own-level-2 c = (
   λ is. absurd (no_less _ _ c.if-own-level-2.false is),
-  λ line. absurd (⊎_elim (λ at. c.if-own-level.false (HasLevel-same _ _ _ _ c.level-own.ensures.level at)) (λ (leaf, (high, (at, less))). let same = HasLevel-same _ _ _ _ c.level-own.ensures.level at in let low = c.if-own-level-2.false in omega arith) line),
+  λ line. absurd (⊎_elim (λ at. c.if-own-level.false (HasLevel-same _ _ _ _ c.level-own.ensures.level at))
+      (λ (leaf, (high, (at, less))). let same = HasLevel-same _ _ _ _ c.level-own.ensures.level at in let low = c.if-own-level-2.false in
+      omega arith) line),
 )

@@ -15,8 +15,14 @@ pub loop-item-preserved : goal.loop-item-preserved
 loop-item-preserved c =
     let item = slice_index c.preorder-item-items.result.now c.loop-item.item-index in
     elim c.if-has_line.branch [
-      | then-has_line+in_ok-push w ↦ rw (w.lines-is, w.in_ok-push.ensures.items) (lines_more c.args.tree.now _ c.loop-item.item-index c.args.level c.args.totals.now c.loop-item.lines.items _ c.loop-item-test.true refl (let fits : SFits w64 w.total-amount.result = search rules in to_z-of_z w64 w.total-amount.result fits ∙ w.total-amount.ensures) (c.has_line.ensures.0 w.if-has_line.true) c.loop-item.invariant)
-      | else-has_line w ↦ rw w.lines-is (lines_skip c.args.tree.now _ c.loop-item.item-index c.args.level c.args.totals.now c.loop-item.lines.items (λ line. no_line _ w.if-has_line.false (c.has_line.ensures.1 line)) c.loop-item.invariant)
+      | then-has_line+in_ok-push w ↦ rw (w.lines-is, w.in_ok-push.ensures.items)
+          (lines_more c.args.tree.now _ c.loop-item.item-index c.args.level c.args.totals.now c.loop-item.lines.items _
+          c.loop-item-test.true refl (let fits : SFits w64 w.total-amount.result = search rules in
+          to_z-of_z w64 w.total-amount.result fits ∙ w.total-amount.ensures)
+          (c.has_line.ensures.0 w.if-has_line.true) c.loop-item.invariant)
+      | else-has_line w ↦ rw w.lines-is
+          (lines_skip c.args.tree.now _ c.loop-item.item-index c.args.level c.args.totals.now c.loop-item.lines.items
+          (λ line. no_line _ w.if-has_line.false (c.has_line.ensures.1 line)) c.loop-item.invariant)
     ]
 
 pub returns-clause-lines : goal.returns-clause-lines

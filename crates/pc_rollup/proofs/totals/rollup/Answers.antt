@@ -30,7 +30,9 @@ overflow_add-index_mut c =
 
 pub loop-item-preserved-in-Some-parent : goal.loop-item-preserved-in-Some-parent
 loop-item-preserved-in-Some-parent c =
-    rw (length_push c.loop-item.yielded c.in-Some.field-0) (turn_taken c.args.tree.now _ _ c.in-Some-parent.parent c.args.leaf_amounts.now c.loop-item.totals.items c.in-Some.field-0.now c.index_mut.result.now c.index.result.now (record {
+    rw (length_push c.loop-item.yielded c.in-Some.field-0)
+    (turn_taken c.args.tree.now _ _ c.in-Some-parent.parent c.args.leaf_amounts.now c.loop-item.totals.items c.in-Some.field-0.now
+    c.index_mut.result.now c.index.result.now (record {
       so_far = c.loop-item.invariant;
       place = place_of_turn c.into_iter-item-iterator.result _ _ c.loop-item.yielded c.loop-item.yielded_by _ c.next.ensures.steps c.in-Some.field-0 c.in-Some.is;
       up = sym c.in-Some-parent.ensures.parent;
@@ -41,7 +43,8 @@ loop-item-preserved-in-Some-parent c =
 pub loop-item-preserved : goal.loop-item-preserved
 loop-item-preserved c =
     rw (length_push c.loop-item.yielded c.in-Some.field-0) (top_taken c.args.tree.now _ _ c.args.leaf_amounts.now c.loop-item.totals.items c.in-Some.field-0.now c.loop-item.invariant
-    (place_of_turn c.into_iter-item-iterator.result _ _ c.loop-item.yielded c.loop-item.yielded_by _ c.next.ensures.steps c.in-Some.field-0 c.in-Some.is) (sym c.parent.ensures.parent ∙ c.in_default.is))
+    (place_of_turn c.into_iter-item-iterator.result _ _ c.loop-item.yielded c.loop-item.yielded_by _ c.next.ensures.steps c.in-Some.field-0
+    c.in-Some.is) (sym c.parent.ensures.parent ∙ c.in_default.is))
 
 pub returns : goal.returns
 returns c =

@@ -10,7 +10,9 @@ lent items rows amounts read P count same sums = subst (λ (xs : List ℤ). P ro
 pub rollup-requires-clause-at_leaves : goal.rollup-requires-clause-at_leaves
 rollup-requires-clause-at_leaves c =
     amounts_at_leaves c.args.tree.now c.args.placed.now c.deref.result.now c.requires.on_leaves
-    (lent c.len.result (length c.args.tree.now) c.in_ok-amounts.amounts.items c.deref.result.now (λ n xs. AreAmountsOf n c.args.placed.now (length c.args.placed.now) xs) c.len.ensures.len c.deref.ensures.value c.in_ok-amounts.ensures.amounts)
+    (lent c.len.result (length c.args.tree.now) c.in_ok-amounts.amounts.items c.deref.result.now
+    (λ n xs. AreAmountsOf n c.args.placed.now (length c.args.placed.now) xs) c.len.ensures.len c.deref.ensures.value
+    c.in_ok-amounts.ensures.amounts)
 
 -- what follows from an answer follows where there is one
 if_answered : {T E : Type 0} (r : Result T E) (P Q : T → Type 0) → ((v : T) → P v → Q v) → IfOk r P → IfOk r Q
@@ -19,7 +21,9 @@ if_answered (Err e) P Q follows is = is
 
 pub returns-clause-totals : goal.returns-clause-totals
 returns-clause-totals c =
-    let sums = lent c.len.result (length c.args.tree.now) c.in_ok-amounts.amounts.items c.deref.result.now (λ n xs. AreAmountsOf n c.args.placed.now (length c.args.placed.now) xs) c.len.ensures.len c.deref.ensures.value c.in_ok-amounts.ensures.amounts in
+    let sums = lent c.len.result (length c.args.tree.now) c.in_ok-amounts.amounts.items c.deref.result.now
+    (λ n xs. AreAmountsOf n c.args.placed.now (length c.args.placed.now) xs) c.len.ensures.len c.deref.ensures.value
+    c.in_ok-amounts.ensures.amounts in
     if_answered c.rollup.result _ _ (λ totals rolled. totals_are c.args.tree.now c.args.placed.now c.deref.result.now totals.items c.requires.on_leaves sums rolled) c.rollup.ensures
 
 pub returns-clause-rolled : goal.returns-clause-rolled

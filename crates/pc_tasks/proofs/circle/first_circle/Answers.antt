@@ -14,12 +14,18 @@ returns-in-Ok c = λ cycle is.
 
 pub unreachable-requires : goal.unreachable-requires
 unreachable-requires c =
-    not_entered c.args.tasks c.args.afters.now c.deref.result.now (c.deref.ensures.value ∙ c.in_ok-arcs.ensures) (c.wide_arrows_have_the_cycles.ensures.firm c.args.tasks c.args.afters.now c.requires.among c.requires.some) _ (rw c.in-Err-StartEntered.field-0-is at c.in-Err-StartEntered.ensures.refused)
+    not_entered c.args.tasks c.args.afters.now c.deref.result.now (c.deref.ensures.value ∙ c.in_ok-arcs.ensures)
+    (c.wide_arrows_have_the_cycles.ensures.firm c.args.tasks c.args.afters.now c.requires.among c.requires.some) _
+    (rw c.in-Err-StartEntered.field-0-is at c.in-Err-StartEntered.ensures.refused)
 
 pub unreachable-requires-in-Err-EndLeft : goal.unreachable-requires-in-Err-EndLeft
 unreachable-requires-in-Err-EndLeft c =
-    not_left c.args.tasks c.args.afters.now c.deref.result.now (c.deref.ensures.value ∙ c.in_ok-arcs.ensures) (c.wide_arrows_have_the_cycles.ensures.firm c.args.tasks c.args.afters.now c.requires.among c.requires.some) _ (rw c.in-Err-EndLeft.field-0-is at c.in-Err-EndLeft.ensures.refused)
+    not_left c.args.tasks c.args.afters.now c.deref.result.now (c.deref.ensures.value ∙ c.in_ok-arcs.ensures)
+    (c.wide_arrows_have_the_cycles.ensures.firm c.args.tasks c.args.afters.now c.requires.among c.requires.some) _
+    (rw c.in-Err-EndLeft.field-0-is at c.in-Err-EndLeft.ensures.refused)
 
 pub unreachable-requires-in-Err-Dangling : goal.unreachable-requires-in-Err-Dangling
 unreachable-requires-in-Err-Dangling c =
-    none_dangles c.args.tasks c.args.afters.now c.deref.result.now (c.deref.ensures.value ∙ c.in_ok-arcs.ensures) (c.wide_arrows_have_the_cycles.ensures.firm c.args.tasks c.args.afters.now c.requires.among c.requires.some) _ _ (rw c.in-Err-Dangling.field-0-is at c.in-Err-Dangling.ensures.refused)
+    none_dangles c.args.tasks c.args.afters.now c.deref.result.now (c.deref.ensures.value ∙ c.in_ok-arcs.ensures)
+    (c.wide_arrows_have_the_cycles.ensures.firm c.args.tasks c.args.afters.now c.requires.among c.requires.some) _ _
+    (rw c.in-Err-Dangling.field-0-is at c.in-Err-Dangling.ensures.refused)

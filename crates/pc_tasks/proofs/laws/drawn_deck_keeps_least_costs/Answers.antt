@@ -57,6 +57,9 @@ returns-clause-schedules c deck limit can sound = (
 
 pub returns-clause-costs : goal.returns-clause-costs
 returns-clause-costs c deck limit cost can sound = (
-  (λ least. drawn_cost deck can limit cost (c.arrows_keep_least_costs.ensures.drawn (task_terms deck) (task_pieces deck) (afters_in deck) limit cost (afters-among deck can) (pieces-known deck can) (sound_arrows deck can sound) least)),
-  (λ least. c.arrows_keep_least_costs.ensures.read (task_terms deck) (task_pieces deck) (afters_in deck) limit cost (afters-among deck can) (pieces-known deck can) (sound_arrows deck can sound) (cost_drawn deck can limit cost least)),
+  (λ least. drawn_cost deck can limit cost
+      (c.arrows_keep_least_costs.ensures.drawn (task_terms deck) (task_pieces deck) (afters_in deck) limit cost (afters-among deck can)
+      (pieces-known deck can) (sound_arrows deck can sound) least)),
+  (λ least. c.arrows_keep_least_costs.ensures.read (task_terms deck) (task_pieces deck) (afters_in deck) limit cost (afters-among deck can)
+      (pieces-known deck can) (sound_arrows deck can sound) (cost_drawn deck can limit cost least)),
 )

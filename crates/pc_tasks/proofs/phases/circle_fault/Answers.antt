@@ -31,7 +31,8 @@ pub told-requires-clause-known : goal.told-requires-clause-known
 told-requires-clause-known c =
     let deck = c.args.cards.now in
     subst (All (λ task. task < length deck.tasks)) (sym c.deref.ensures.value)
-    (circle-known (length deck.tasks) c.args.afters.now c.in-Some.circle.items (rows-among deck c.args.afters.now (can_be_drawn deck c.requires.faultless c.tasks-tasks.ensures.within) c.requires.afters)
+    (circle-known (length deck.tasks) c.args.afters.now c.in-Some.circle.items
+    (rows-among deck c.args.afters.now (can_be_drawn deck c.requires.faultless c.tasks-tasks.ensures.within) c.requires.afters)
     (rw c.in-Some.is at c.in_ok-circle.ensures))
 
 pub returns-in-None : goal.returns-in-None

@@ -15,10 +15,14 @@ loop-tail-preserved c = late_more _ _ _ _ _ _ c.loop-tail-test.true c.loop-tail.
 
 pub returns-clause-times : goal.returns-clause-times
 returns-clause-times c =
-    let whole : c.loop-tail.times.items ≡ map (λ n. c.args.by -ℤ pos n) c.in_ok-tails.tails.items = late_all _ _ _ _ _ _ (to_z-of_z _ _ c.ranges.by) c.deref-tail-items.ensures.value (omega arith) c.loop-tail.invariant in
+    let whole : c.loop-tail.times.items
+    ≡ map (λ n. c.args.by -ℤ pos n) c.in_ok-tails.tails.items =
+    late_all _ _ _ _ _ _ (to_z-of_z _ _ c.ranges.by) c.deref-tail-items.ensures.value (omega arith) c.loop-tail.invariant in
     subst (λ (times : List ℤ). AreLate c.args.net.now c.args.lengths.now c.args.by times) (sym whole) (late_from_tails _ _ _ _ c.in_ok-tails.ensures.tails)
 
 pub returns-clause-limit : goal.returns-clause-limit
 returns-clause-limit c =
-    let whole : c.loop-tail.times.items ≡ map (λ n. c.args.by -ℤ pos n) c.in_ok-tails.tails.items = late_all _ _ _ _ _ _ (to_z-of_z _ _ c.ranges.by) c.deref-tail-items.ensures.value (omega arith) c.loop-tail.invariant in
+    let whole : c.loop-tail.times.items
+    ≡ map (λ n. c.args.by -ℤ pos n) c.in_ok-tails.tails.items =
+    late_all _ _ _ _ _ _ (to_z-of_z _ _ c.ranges.by) c.deref-tail-items.ensures.value (omega arith) c.loop-tail.invariant in
     subst (λ (times : List ℤ). All (IsUpTo c.args.by) times) (sym whole) (late_limit _ _ c.in_ok-tails.ensures.limit)

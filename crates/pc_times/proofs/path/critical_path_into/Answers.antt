@@ -14,7 +14,8 @@ use Rattle.pc_times.proofs.path.critical_path_into.Goals as goal
 
 -- one activity more is put behind the walk
 put_next : (net : Network) (lengths times tails path : List ℕ) (count event a put next : ℕ) → HasBoundedWalks net lengths → AreEarly net lengths times → AreTails net lengths tails
-    → length path ≡ net.events → count < length path → IsPickedTo net lengths times tails (take count path) event → IsFirst (HasNoSlack net lengths times tails event) a → put ≡ a → next ≡ to_of net.arcs a
+    → length path ≡ net.events → count < length path → IsPickedTo net lengths times tails (take count path) event →
+    IsFirst (HasNoSlack net lengths times tails event) a → put ≡ a → next ≡ to_of net.arcs a
     → (count + 1 < length path) × IsPickedTo net lengths times tails (take (count + 1) (set path count put)) next
 put_next net lengths times tails path count event a put next walks early late places within picked first is at =
     let grown = picked_to_next net lengths times tails walks.ranged early late (take count path) event a picked first in
@@ -48,7 +49,8 @@ loop-a-preserved c =
     let order = c.order-order.ensures in
     let walks = has_bounded_walks c.args.net.now c.order-order.result.now c.args.lengths.now order.in_range order.sound order.order (omega arith) c.requires.lengths in
     let next =
-    put_next c.args.net.now c.args.lengths.now c.args.times.now c.args.tails.now c.loop-a.path c.loop-a.count c.loop-a.event c.in-Some.a c.from.result c.to-event.result walks c.requires.times c.requires.tails
+    put_next c.args.net.now c.args.lengths.now c.args.times.now c.args.tails.now c.loop-a.path c.loop-a.count c.loop-a.event c.in-Some.a
+    c.from.result c.to-event.result walks c.requires.times c.requires.tails
     c.loop-a.invariant.places c.loop-a.invariant.within c.loop-a.invariant.picked c.in-Some.ensures.found c.from.ensures c.to-event.ensures.event in
     record {
       places = omega (arith, length-set c.loop-a.path c.loop-a.count c.from.result, c.loop-a.invariant.places);

@@ -22,4 +22,7 @@ overflow_add-times-in-loop-a c =
 pub returns-then-times-event-clause-found : goal.returns-then-times-event-clause-found
 returns-then-times-event-clause-found c =
     let (in_arcs, begins) = c.out_arcs-a-items.ensures.listed.each c.loop-a.a-index (omega arith) in
-    first_listed (HasNoSlack c.args.net.now c.args.lengths.now c.args.times.now c.args.tails.now c.args.event) _ _ _ (from_of c.args.net.now.arcs) _ (λ a met. (met.0, met.1)) c.out_arcs-a-items.ensures.listed (omega arith) (in_arcs, begins, omega (arith, c.loop-a.invariant.end_time, ap (slice_index c.args.tails.now) c.to.ensures.event)) c.loop-a.invariant.none
+    first_listed (HasNoSlack c.args.net.now c.args.lengths.now c.args.times.now c.args.tails.now c.args.event) _ _ _
+    (from_of c.args.net.now.arcs) _ (λ a met. (met.0, met.1)) c.out_arcs-a-items.ensures.listed (omega arith)
+    (in_arcs, begins, omega (arith, c.loop-a.invariant.end_time, ap (slice_index c.args.tails.now) c.to.ensures.event))
+    c.loop-a.invariant.none

@@ -14,7 +14,12 @@ loop-a-preserved c =
 
 pub loop-a-smaller : goal.loop-a-smaller
 loop-a-smaller c =
-    omega (arith, c.requires.walks.short _ _ c.loop-a.path.items c.loop-a.invariant.in_range c.loop-a.invariant.walked, ap length c.in_ok-push.ensures.items, length_push c.loop-a.path.items c.in-Some.a)
+    omega (
+      arith,
+      c.requires.walks.short _ _ c.loop-a.path.items c.loop-a.invariant.in_range c.loop-a.invariant.walked,
+      ap length c.in_ok-push.ensures.items,
+      length_push c.loop-a.path.items c.in-Some.a,
+    )
 
 pub returns-clause-picked : goal.returns-clause-picked
 returns-clause-picked c =

@@ -119,7 +119,8 @@ loop-solver-preserved g c =
     let under : c.stop_in-stop.result ≤ (present next).lower = omega (arith, c.if-stop-lower.false, c.lower-in-loop-solver.ensures) in
     let so_far = c.loop-solver.invariant in
     record {
-      way = subst (λ n. HasComeDown terms from next n) (sym c.slope-slope.ensures) (next-way terms from stop c.loop-solver.gain c.loop-solver.invariant.way next down c.stop_in-stop.result stops under);
+      way = subst (λ n. HasComeDown terms from next n) (sym c.slope-slope.ensures)
+          (next-way terms from stop c.loop-solver.gain c.loop-solver.invariant.way next down c.stop_in-stop.result stops under);
       counted = looks-join from stop next so_far.way.same so_far.way.further c.next_segment.ensures.further _ _ _ so_far.counted c.next_segment.ensures.counted;
     }
 

@@ -11,7 +11,8 @@ early_there c =
     has-early c.args.net.now c.args.spans.now c.args.region.now c.write.new.self c.early_into.new.times c.requires.laid c.requires.early
     c.early_into.ensures.times.one_each (c.write.ensures 2 c.requires.laid.live.early)
 
-tails_there : (c : After-write-2) → HasEarly c.args.spans.now c.args.region.now c.write.new.self → HasTails c.args.spans.now c.args.region.now c.write-2.new.self c.early_into.new.times c.tails_into.new.tails
+tails_there : (c : After-write-2) → HasEarly c.args.spans.now c.args.region.now c.write.new.self →
+    HasTails c.args.spans.now c.args.region.now c.write-2.new.self c.early_into.new.times c.tails_into.new.tails
 tails_there c here =
     has-tails c.args.net.now c.args.spans.now c.args.region.now c.write.new.self c.early_into.new.times c.requires.laid c.requires.early
     c.early_into.ensures.times.one_each (c.write.ensures 2 c.requires.laid.live.early)

@@ -7,4 +7,7 @@ pub unreachable-requires : goal.unreachable-requires
 unreachable-requires c =
     let rows = c.args.rows.now in
     let deep = c.in-None.ensures.none in
-    c.requires.no_loop deep.0 (climb-range rows _ c.args.item deep.0 c.requires.in_range c.requires.item deep.1, IsOnLoop-end rows _ c.args.item deep.0 c.requires.in_range c.requires.item (omega arith) deep.1)
+    c.requires.no_loop deep.0 (
+      climb-range rows _ c.args.item deep.0 c.requires.in_range c.requires.item deep.1,
+      IsOnLoop-end rows _ c.args.item deep.0 c.requires.in_range c.requires.item (omega arith) deep.1,
+    )

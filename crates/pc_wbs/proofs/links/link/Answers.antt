@@ -18,4 +18,5 @@ returns-clause-nexts c =
     let child : parent_of rows c.args.item ≡ Some parent = sym c.parent_of.ensures ∙ c.in-Some.is in
     let known = c.requires.in_range c.args.item parent c.requires.item child in
     let read : c.index.result.now ≡ link_at firsts parent = c.index.ensures ∙ get_or_default firsts parent c.index.result.now None (omega (arith, c.requires.firsts.one_each, known)) in
-    subst (λ (o : Option ℕ). AreNextSiblings rows c.args.item (set c.args.nexts.now.items c.args.item o)) (sym read) (nexts_more _ _ _ _ _ child c.requires.item known c.requires.firsts c.requires.nexts)
+    subst (λ (o : Option ℕ). AreNextSiblings rows c.args.item (set c.args.nexts.now.items c.args.item o)) (sym read)
+    (nexts_more _ _ _ _ _ child c.requires.item known c.requires.firsts c.requires.nexts)

@@ -7,12 +7,17 @@ use Rattle.pc_wbs.proofs.loops.loop_from.Goals.{in_default-via-in-Some+else-pare
 pub loop-step-preserved : goal.loop-step-preserved
 loop-step-preserved c =
     let e : parent_of c.args.rows.now c.loop-step.at ≡ Some c.in-Some.parent = sym c.parent_of.ensures ∙ c.in-Some.is in
-    rw c.in_ok-push.ensures.items (IsOnTheWay-more c.args.rows.now c.args.start c.loop-step._step c.loop-step.found.items c.loop-step.at c.in-Some.parent c.requires.in_range c.loop-step.invariant e c.if-parent-start.true)
+    rw c.in_ok-push.ensures.items (IsOnTheWay-more c.args.rows.now c.args.start c.loop-step._step c.loop-step.found.items
+    c.loop-step.at c.in-Some.parent c.requires.in_range c.loop-step.invariant e c.if-parent-start.true)
 
 back : (c : goal.After-new) → parent_of c.args.rows.now c.loop-step.at ≡ Some c.args.start
 back c =
     let z = loop-parent c.args.rows.now c.args.start c.loop-step._step c.loop-step.found.items c.loop-step.at c.requires.looped c.loop-step.invariant in
-    elim c.in_default.branch [ in_default-via-in-Some+else-parent-start w ↦ sym c.parent_of.ensures ∙ w.in-Some.is ∙ ap Some w.if-parent-start.false | in_default-via-in_default w ↦ absurd (w.in_default.not-Some z.0 (c.parent_of.ensures ∙ z.1)) ]
+    elim c.in_default.branch [
+      | in_default-via-in-Some+else-parent-start w ↦ sym c.parent_of.ensures ∙ w.in-Some.is
+          ∙ ap Some w.if-parent-start.false
+      | in_default-via-in_default w ↦ absurd (w.in_default.not-Some z.0 (c.parent_of.ensures ∙ z.1))
+    ]
 
 pub returns-in_default : goal.returns-in_default
 returns-in_default c =

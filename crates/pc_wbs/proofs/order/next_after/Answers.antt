@@ -20,4 +20,5 @@ returns c =
     let inside : c.args.item < length firsts = omega (arith, c.requires.item, c.requires.firsts.one_each) in
     let link : link_at firsts c.args.item ≡ None = link-read firsts c.args.item c.index.result.now inside c.index.ensures ∙ c.in_default.is in
     let childless : IsFirstChild rows c.args.item 0 None = rw link at (c.requires.firsts.first c.args.item c.requires.item) in
-    IsSuccessor-beside rows c.args.links.now.nexts.items c.args.item c.next_beside.result c.requires.in_range c.requires.item c.requires.nexts childless (rw c.deref.ensures.value at c.next_beside.ensures)
+    IsSuccessor-beside rows c.args.links.now.nexts.items c.args.item c.next_beside.result c.requires.in_range c.requires.item
+    c.requires.nexts childless (rw c.deref.ensures.value at c.next_beside.ensures)

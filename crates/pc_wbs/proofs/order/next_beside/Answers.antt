@@ -17,8 +17,13 @@ pub loop-climbed-preserved : goal.loop-climbed-preserved
 loop-climbed-preserved c =
     let rows = c.args.rows.now in
     let here = c.loop-climbed.invariant in
-    let e : parent_of rows c.loop-climbed.at ≡ Some c.in-Some-parent_of.parent = sym c.parent_of.ensures ∙ c.in-Some-parent_of.is in
-    (climb-more rows c.loop-climbed._climbed c.args.item c.loop-climbed.at here.0 ∙ e, c.requires.in_range _ _ here.1 e, λ j z lt h. ⊎_elim (λ less. here.2 j z less h) (λ ge. same_row rows c.args.nexts.now j c.loop-climbed._climbed c.args.item z c.loop-climbed.at (omega arith) h here.0 c.in_default.is) (cases_lt j c.loop-climbed._climbed))
+    let e : parent_of rows c.loop-climbed.at ≡ Some c.in-Some-parent_of.parent = sym c.parent_of.ensures ∙ c.in-Some-parent_of.is in (
+      climb-more rows c.loop-climbed._climbed c.args.item c.loop-climbed.at here.0 ∙ e,
+      c.requires.in_range _ _ here.1 e,
+      λ j z lt h. ⊎_elim (λ less. here.2 j z less h)
+          (λ ge. same_row rows c.args.nexts.now j c.loop-climbed._climbed c.args.item z c.loop-climbed.at (omega arith) h here.0
+          c.in_default.is) (cases_lt j c.loop-climbed._climbed),
+    )
 
 pub unreachable-requires : goal.unreachable-requires
 unreachable-requires c =

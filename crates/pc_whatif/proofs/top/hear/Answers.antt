@@ -24,6 +24,8 @@ returns g c =
     let mean : (lines : List (List ℕ)) (text : List ℕ) → Answered Says session lines text c.talk.new.talker → AnswersLines project lines text =
     λ lines text h. subst (λ (e : Editing). AreAnswers project e lines text) c.in-Ok.ensures.editing
     (subst (λ (p : Project). AreAnswers p session.editing lines text) c.in-Ok.ensures.project (answers_of session c.talk.new.talker lines text h)) in
-    subst (λ (status : Status). Hearing (AnswersLines project) (side g.C.Source.left g.C.Source.faults c.args.edits.now c.talk.new.source) (side g.O.Sink.taken g.O.Sink.faults c.args.out.now c.talk.new.out) status)
+    subst (λ (status : Status). Hearing (AnswersLines project) (side g.C.Source.left g.C.Source.faults c.args.edits.now c.talk.new.source)
+    (side g.O.Sink.taken g.O.Sink.faults c.args.out.now c.talk.new.out) status)
     (sym c.status_of.ensures)
-    (heard Says g.C.Source.left g.C.Source.faults g.O.Sink.taken g.O.Sink.faults session c.talk.new.talker c.args.edits.now c.talk.new.source c.args.out.now c.talk.new.out (AnswersLines project) mean c.talk.result c.talk.ensures)
+    (heard Says g.C.Source.left g.C.Source.faults g.O.Sink.taken g.O.Sink.faults session c.talk.new.talker c.args.edits.now
+    c.talk.new.source c.args.out.now c.talk.new.out (AnswersLines project) mean c.talk.result c.talk.ensures)

@@ -16,7 +16,9 @@ pub returns-clause-write_fault : goal.returns-clause-write_fault
 returns-clause-write_fault g c = session_cut AnswersLines c.args.words.now _ _ _ _ c.code.result c.session_outcome.result c.session_outcome.ensures.outcome c.code.ensures
 
 pub returns-clause-acceptance : goal.returns-clause-acceptance
-returns-clause-acceptance g c = λ asked reads. not_refused_accepts AnswersLines c.args.words.now _ _ _ _ c.code.result asked reads c.session_outcome.result c.session_outcome.ensures.outcome c.code.ensures
+returns-clause-acceptance g c =
+    λ asked reads. not_refused_accepts AnswersLines c.args.words.now _ _ _ _ c.code.result asked reads c.session_outcome.result
+    c.session_outcome.ensures.outcome c.code.ensures
 
 pub returns-clause-deck_refused : goal.returns-clause-deck_refused
 returns-clause-deck_refused g c = λ asked. refused_deck_ends AnswersLines c.args.words.now _ _ _ _ c.code.result asked c.session_outcome.result c.session_outcome.ensures.outcome c.code.ensures

@@ -11,5 +11,7 @@ pub returns : goal.returns
 returns g c =
     let o = g.O.Sink in
     let project = c.args.project.now in
-    of_built c.build.result (λ answer. (answer.page ≡ fresh) × IsNormalSchedule project answer.schedule) (λ answer. printed_text project answer.schedule) (IsReply Normal project) (side o.taken o.faults c.args.out.now c.deliver.new.out) c.deliver.result
+    of_built c.build.result (λ answer. (answer.page ≡ fresh) × IsNormalSchedule project answer.schedule)
+    (λ answer. printed_text project answer.schedule) (IsReply Normal project)
+    (side o.taken o.faults c.args.out.now c.deliver.new.out) c.deliver.result
     (λ answer is. record { right = record { printed = answer.schedule; right = is.1; is = refl }; fits = λ fault denied. denied }) c.build.ensures c.deliver.ensures.built c.deliver.ensures.none

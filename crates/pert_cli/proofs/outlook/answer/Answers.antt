@@ -18,7 +18,8 @@ returns g c =
     let at = subst (λ (durations : List ℕ). IsOutlook project durations report) c.durations.ensures c.in-Ok-build.ensures.outlook in
     let top = subst (λ (durations : List ℕ). TellsTop project durations report) c.durations.ensures c.in-Ok-build.ensures.top in
     answers
-    (Answers-weaker (λ (text : List ℕ). text ≡ printed_text project schedule ++ outlook_text project report) (IsReply (Outlook c.args.limit) project) (side g.O.Sink.taken g.O.Sink.faults c.args.out.now c.hand.new.out) c.hand.result
+    (Answers-weaker (λ (text : List ℕ). text ≡ printed_text project schedule ++ outlook_text project report)
+    (IsReply (Outlook c.args.limit) project) (side g.O.Sink.taken g.O.Sink.faults c.args.out.now c.hand.new.out) c.hand.result
     (λ text same. outlook_reply project c.args.limit schedule report text c.in-Ok.ensures.cheapest at top same) c.hand.ensures)
     refl
 

@@ -10,5 +10,8 @@ pub returns : goal.returns
 returns g c =
     let o = g.O.Sink in
     let project = c.args.project.now in
-    of_built c.build.result (λ report. IsSummary project report × ChargesCountOnce project report) (summary_text project) (IsReply Summary project) (side o.taken o.faults c.args.out.now c.deliver.new.out) c.deliver.result
-    (λ report is. record { right = record { summary = report; are = is.0; once = is.1; told = refl }; fits = λ fault denied. denied }) (both_ok c.build.result (IsSummary project) (ChargesCountOnce project) c.build.ensures.summary c.build.ensures.once) c.deliver.ensures.built c.deliver.ensures.none
+    of_built c.build.result (λ report. IsSummary project report × ChargesCountOnce project report) (summary_text project)
+    (IsReply Summary project) (side o.taken o.faults c.args.out.now c.deliver.new.out) c.deliver.result
+    (λ report is. record { right = record { summary = report; are = is.0; once = is.1; told = refl }; fits = λ fault denied. denied })
+    (both_ok c.build.result (IsSummary project) (ChargesCountOnce project) c.build.ensures.summary c.build.ensures.once)
+    c.deliver.ensures.built c.deliver.ensures.none

@@ -22,7 +22,9 @@ returns-in-Ok-clause-outcome g c =
 
 pub returns-in-Err-clause-outcome : goal.returns-in-Err-clause-outcome
 returns-in-Err-clause-outcome g c =
-    write_fault (in_usage c.in_default.ensures.none (subst (TookFront (side g.E.Sink.taken g.E.Sink.faults c.args.err.now c.send.new.sink)) (c.as_slice.ensures.value ∙ c.usage.ensures) c.in-Err.ensures.err) refl refl)
+    write_fault (in_usage c.in_default.ensures.none
+    (subst (TookFront (side g.E.Sink.taken g.E.Sink.faults c.args.err.now c.send.new.sink))
+    (c.as_slice.ensures.value ∙ c.usage.ensures) c.in-Err.ensures.err) refl refl)
 
 pub returns-in-Ok-project_for-clause-outcome : goal.returns-in-Ok-project_for-clause-outcome
 returns-in-Ok-project_for-clause-outcome g c =

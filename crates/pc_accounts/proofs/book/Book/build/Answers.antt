@@ -4,7 +4,8 @@ use Rattle.pc_accounts.proofs.book.Book.build.Goals as goal
 
 pub returns-clause-entries : goal.returns-clause-entries
 returns-clause-entries c =
-    entries_of _ _ _ _ c.in_ok-actuals.actuals.items c.in_ok-latest.latest.items _ c.in_ok-actuals.ensures c.in_ok-latest.ensures (let made = c.in_ok-entries.ensures in rw (c.deref.ensures.value, c.deref-2.ensures.value) at made)
+    entries_of _ _ _ _ c.in_ok-actuals.actuals.items c.in_ok-latest.latest.items _ c.in_ok-actuals.ensures c.in_ok-latest.ensures
+    (let made = c.in_ok-entries.ensures in rw (c.deref.ensures.value, c.deref-2.ensures.value) at made)
 
 pub returns-clause-whole : goal.returns-clause-whole
 returns-clause-whole c =

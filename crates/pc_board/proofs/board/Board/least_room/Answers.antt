@@ -24,7 +24,9 @@ loop-least-smaller c =
     omega (
       arith,
       ap (rank_of c.args.self.now) c.near-e.ensures,
-      c.requires.back.before c.loop-least.e (way-known c.args.self.now c.args.end c.loop-least.invariant.0 c.loop-least.e c.loop-least.invariant.1.way) (omega (arith, c.loop-least-test.true, c.rank.ensures)),
+      c.requires.back.before c.loop-least.e
+          (way-known c.args.self.now c.args.end c.loop-least.invariant.0 c.loop-least.e c.loop-least.invariant.1.way)
+          (omega (arith, c.loop-least-test.true, c.rank.ensures)),
     )
 
 pub returns : goal.returns

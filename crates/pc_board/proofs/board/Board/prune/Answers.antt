@@ -33,7 +33,9 @@ loop-i-preserved c =
           )
       | else-is_held w ↦
           let why : (room_of t c.queued-e.result ≡ 0) ⊎ (rank_of t (near_of t c.queued-e.result) ≡ 0) =
-          not_held (room_of t c.queued-e.result) (rank_of t (near_of t c.queued-e.result)) (λ both. let yes : c.is_held.result ≡ true = c.is_held.ensures.1 both in let no : c.is_held.result ≡ false = w.if-is_held.false in cc) in
+          not_held (room_of t c.queued-e.result) (rank_of t (near_of t c.queued-e.result))
+          (λ both. let yes : c.is_held.result ≡ true = c.is_held.ensures.1 both in
+          let no : c.is_held.result ≡ false = w.if-is_held.false in cc) in
           rw (w.self-is, w.kept-is, w.gone-is, w.seen-is) (
           pruning-loses_at s t w.lose_at.new.self c.loop-i.i c.loop-i.kept c.loop-i.gone c.loop-i.seen c.queued-e.result c.requires.ranked c.requires.back
           below some_place c.loop-i.invariant c.queued-e.ensures why w.lose_at.ensures w.less_one_below-seen.result

@@ -14,4 +14,5 @@ returns c k is =
     vector-written c.self.inside.cells c.deref_mut.result.now c.write_range.new.cells c.args.s.place (c.args.s.place + length c.args.numbers.now) c.args.numbers.now
     c.deref_mut.ensures.value c.deref_mut.ensures.len c.write_range.ensures in
     region-written c.self.inside c.args.self.now c.self.view_is c.self.invariant (with_items c.self.inside.cells c.write_range.new.cells).items k c.args.s c.args.numbers.now is
-    (subst (λ n. IsRangeWritten c.self.inside.cells.items (with_items c.self.inside.cells c.write_range.new.cells).items c.args.s.place (c.args.s.place + n) c.args.numbers.now) c.requires.one_each written)
+    (subst (λ n. IsRangeWritten c.self.inside.cells.items (with_items c.self.inside.cells c.write_range.new.cells).items c.args.s.place
+    (c.args.s.place + n) c.args.numbers.now) c.requires.one_each written)

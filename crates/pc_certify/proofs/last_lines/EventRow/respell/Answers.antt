@@ -13,7 +13,13 @@ cut-requires c =
 pub add_number-requires : goal.add_number-requires
 add_number-requires c =
     let n = length c.bytes.result.now + 6 in
-    let within : n ≤ length c.args.self.now.spelling = omega (arith, ap length c.bytes.ensures.value, ap length c.requires.text, event_long c.args.code.now c.args.self.now.time c.args.self.now.moves) in
+    let within : n ≤ length c.args.self.now.spelling =
+    omega (
+      arith,
+      ap length c.bytes.ensures.value,
+      ap length c.requires.text,
+      event_long c.args.code.now c.args.self.now.time c.args.self.now.moves,
+    ) in
     omega (arith, ap length c.cut.ensures, length-take-le n c.args.self.now.spelling within, ap length c.bytes.ensures.value, short_code c.args.code.now c.requires.code_is)
 
 pub returns-clause-spells : goal.returns-clause-spells

@@ -12,4 +12,5 @@ returns-clause-fails c =
     let nothing : c.take_rows-used.result ≡ 0 = omega (arith, c.if-used-gt0.false) in
     let same : audit_of c.take_rows-used.new.reader c.take_rows-used.new.self ≡ c.args.self.now =
     ap (λ r. audit_of r c.take_rows-used.new.self) (c.take_rows-used.ensures.same_reader nothing) ∙ ap (audit_of c.self.inside.reader) (c.take_rows-used.ensures.same nothing) ∙ c.self.view_is in
-    subst (λ (a : Auditing). IfErr c.step_anew.result (λ fail. (text more : List ℕ) → HasRead text a → IsFailing a.checker.net (text ++ (c.args.piece.now ++ more)) fail)) same c.step_anew.ensures.fails
+    subst (λ (a : Auditing). IfErr c.step_anew.result (λ fail. (text more : List ℕ) → HasRead text a →
+    IsFailing a.checker.net (text ++ (c.args.piece.now ++ more)) fail)) same c.step_anew.ensures.fails

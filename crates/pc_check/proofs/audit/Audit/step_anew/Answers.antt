@@ -38,7 +38,9 @@ returns-in-Some-take_known-clause-fails c = λ text more h.
     let before : HasRead text old = subst (λ a. HasRead text a) (sym c.self.view_is) h in
     let line : c.feed_known.new.known.line ≡ Some c.in-Some.line.now = sym c.in-Some.ensures in
     subst (λ (a : Auditing). IsFailing a.checker.net (text ++ (c.args.piece.now ++ more)) c.in-Some-take_known.fail) c.self.view_is
-    (line_fails text more c.args.piece.now (take c.in-Ok.used c.args.piece.now) (drop c.in-Ok.used c.args.piece.now) old c.feed_known.new.self c.take_known.new.self (before.lines ++ c.in-Some.line.now ∷ []) c.in-Some-take_known.fail
+    (line_fails text more c.args.piece.now (take c.in-Ok.used c.args.piece.now)
+    (drop c.in-Ok.used c.args.piece.now) old c.feed_known.new.self c.take_known.new.self
+    (before.lines ++ c.in-Some.line.now ∷ []) c.in-Some-take_known.fail
     (take-append-drop c.in-Ok.used c.args.piece.now)
     c.in-Ok.ensures.kept
     (subst (λ l. StandsFor c.feed_known.new.self (before.lines ++ line_list l) (text ++ take c.in-Ok.used c.args.piece.now)) line (c.in-Ok.ensures.stands before.lines text before.read))

@@ -14,7 +14,9 @@ pub returns-in-None-clause-stands : goal.returns-in-None-clause-stands
 returns-in-None-clause-stands c = λ lines h.
     let none = c.in_default.is in
     let before = is_going c.self.inside.net.now c.self.inside.kept c.self.inside.fail lines none (subst (λ s. StandsFor s lines) (sym c.self.view_is) h) in
-    still_going c.self.inside.net.now c.advance.new.kept c.self.inside.fail _ none (goes_on c.args.line.now c.self.invariant.safe (when_none c.self.inside.fail none c.self.invariant.bounded) c.in-None.ensures.reason c.in-None.ensures.advances before)
+    still_going c.self.inside.net.now c.advance.new.kept c.self.inside.fail _ none
+    (goes_on c.args.line.now c.self.invariant.safe
+    (when_none c.self.inside.fail none c.self.invariant.bounded) c.in-None.ensures.reason c.in-None.ensures.advances before)
 
 pub returns-in-None-clause-left : goal.returns-in-None-clause-left
 returns-in-None-clause-left c =
@@ -26,4 +28,6 @@ returns-in-Some-advance-clause-stands c = λ lines h.
     let before = is_going c.self.inside.net.now c.self.inside.kept c.self.inside.fail lines none (subst (λ s. StandsFor s lines) (sym c.self.view_is) h) in
     let bounded = when_none c.self.inside.fail none c.self.invariant.bounded in
     let goes = when_none c.self.inside.fail none (subst (λ (s : Checking). IfNone s.fail (next s.kept.place c.args.line.now ≡ Some c.args.behind)) (sym c.self.view_is) c.requires.goes) in
-    fails c.args.line.now c.args.behind c.in-Some-advance.reason (c.advance.new.kept.lines + 1) c.self.invariant.safe bounded goes c.in-Some-advance.ensures.reason (ap (λ k. k.lines + 1) c.in-Some-advance.ensures.same) before
+    fails c.args.line.now c.args.behind c.in-Some-advance.reason
+    (c.advance.new.kept.lines + 1) c.self.invariant.safe bounded goes c.in-Some-advance.ensures.reason
+    (ap (λ k. k.lines + 1) c.in-Some-advance.ensures.same) before

@@ -16,7 +16,10 @@ price_of-requires c =
     rw c.part.ensures (AreSmallKnees-of s.net.now (priced_network s).terms s.pieces.items w.terms w.limits w.pieces w.piece_limits c.args.a read.known _ read.knees)
 
 -- what was added up is the activity's cost
-summed : (c : goal.After-price_of) → (c.index-row.result.now.term.cost + c.price_of.result ≡ activity_cost c.args.self.now.terms (knees_in c.args.self.now) c.args.a c.args.duration) × (activity_cost c.args.self.now.terms (knees_in c.args.self.now) c.args.a c.args.duration ≤ 11000000000000)
+summed : (c : goal.After-price_of) →
+    (c.index-row.result.now.term.cost + c.price_of.result
+    ≡ activity_cost c.args.self.now.terms (knees_in c.args.self.now) c.args.a c.args.duration)
+    × (activity_cost c.args.self.now.terms (knees_in c.args.self.now) c.args.a c.args.duration ≤ 11000000000000)
 summed c =
     let s = c.self.inside in
     let w = c.self.invariant.whole in
@@ -24,7 +27,13 @@ summed c =
     let read = activity-read s c.args.a c.index-row.result.now c.self.invariant known c.index-row.ensures in
     let knees : AreKneesOf (knees_in (priced_network s)) c.args.a c.part.result.now = rw c.part.ensures read.knees in
     rw (← c.self.view_is) (
-      omega (arith, ap (λ term. term.cost) read.is.term, c.price_of.ensures, price-of s.net.now (priced_network s).terms s.pieces.items w.terms w.limits w.pieces w.piece_limits c.args.a read.known c.part.result.now c.args.duration knees),
+      omega (
+        arith,
+        ap (λ term. term.cost) read.is.term,
+        c.price_of.ensures,
+        price-of s.net.now (priced_network s).terms s.pieces.items w.terms w.limits w.pieces w.piece_limits c.args.a read.known
+            c.part.result.now c.args.duration knees,
+      ),
       activity_cost-most s.net.now (priced_network s).terms s.pieces.items w.terms w.limits w.pieces w.piece_limits c.args.a read.known c.args.duration,
     )
 

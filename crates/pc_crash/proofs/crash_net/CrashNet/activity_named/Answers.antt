@@ -4,7 +4,9 @@ use Rattle.pc_crash.proofs.crash_net.CrashNet.activity_named.Goals as goal
 
 pub returns-in_err-a-clause-unknown : goal.returns-in_err-a-clause-unknown
 returns-in_err-a-clause-unknown c =
-    rw (c.from_residual.ensures, ← c.self.view_is) (λ a inside. code-missing c.self.inside.activities c.args.code.now (sym c.in_err-a.ensures) a (omega (arith, c.self.invariant.whole.activities.one_each)))
+    rw (c.from_residual.ensures, ← c.self.view_is)
+    (λ a inside. code-missing c.self.inside.activities c.args.code.now (sym c.in_err-a.ensures) a
+    (omega (arith, c.self.invariant.whole.activities.one_each)))
 
 pub returns-clause-named : goal.returns-clause-named
 returns-clause-named c =

@@ -17,8 +17,12 @@ returns c =
     let known : a < length s.net.now.arcs = omega arith in
     let row = row-read s a c.index.result.now c.self.invariant known c.index.ensures in
     let arcs = ap (λ n. n.network.arcs) c.self.view_is in
-    let ends : slice_index times c.index.result.now.arc.to ≡ slice_index times (to_of c.args.self.now.network.arcs a) = ap (λ arc. slice_index times arc.to) row.arc ∙ ap (λ xs. slice_index times (to_of xs a)) arcs in
-    let begins : slice_index times c.index.result.now.arc.from ≡ slice_index times (from_of c.args.self.now.network.arcs a) = ap (λ arc. slice_index times arc.from) row.arc ∙ ap (λ xs. slice_index times (from_of xs a)) arcs in
+    let ends : slice_index times c.index.result.now.arc.to
+    ≡ slice_index times (to_of c.args.self.now.network.arcs a) = ap (λ arc. slice_index times arc.to) row.arc
+    ∙ ap (λ xs. slice_index times (to_of xs a)) arcs in
+    let begins : slice_index times c.index.result.now.arc.from
+    ≡ slice_index times (from_of c.args.self.now.network.arcs a) = ap (λ arc. slice_index times arc.from) row.arc
+    ∙ ap (λ xs. slice_index times (from_of xs a)) arcs in
     let events = ap (λ n. n.network.events) c.self.view_is in
     let ranges = c.self.invariant.whole.in_range in
     let late = c.requires.small c.index.result.now.arc.to (omega (arith, ap (λ arc. arc.to) row.arc, ranges.to_in a known)) in

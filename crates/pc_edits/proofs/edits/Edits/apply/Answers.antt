@@ -15,7 +15,9 @@ use Rattle.pc_edits.proofs.edits.Edits.apply.Goals as goal
 was : (c : goal.After-push_back) → c.replaced-was.result ≡ replaced c.args.edit.now.change (term_at c.self.inside.net.terms c.in_ok-a.a) (estimates_at c.self.inside.estimates.items c.in_ok-a.a)
 was c =
     c.replaced-was.ensures
-    ∙ (λ i. replaced c.args.edit.now.change (c.term.ensures i) (get_or_read c.self.inside.estimates.items c.in_ok-a.a c.index.result.now (omega (arith, c.in_ok-a.ensures.known, c.self.invariant.editing.fit.estimates_each)) c.index.ensures no_estimates i))
+    ∙ (λ i. replaced c.args.edit.now.change (c.term.ensures i)
+    (get_or_read c.self.inside.estimates.items c.in_ok-a.a c.index.result.now
+    (omega (arith, c.in_ok-a.ensures.known, c.self.invariant.editing.fit.estimates_each)) c.index.ensures no_estimates i))
 
 pub invariant_of-self : goal.invariant_of-self
 invariant_of-self c =
@@ -46,4 +48,5 @@ pub returns-clause-standing : goal.returns-clause-standing
 returns-clause-standing c =
     λ project journal stands.
     subst (λ (e : Edits). Stands project (noted journal c.args.edit.now) e.editing) (sym (returns-clause-changed c))
-    (Stands-edited project journal c.args.self.now.editing c.args.edit.now c.in_ok-a.a (ap (λ (e : Edits). activity_named e.editing.net c.args.edit.now.act) (sym c.self.view_is) ∙ c.in_ok-a.ensures.named) stands)
+    (Stands-edited project journal c.args.self.now.editing c.args.edit.now c.in_ok-a.a
+    (ap (λ (e : Edits). activity_named e.editing.net c.args.edit.now.act) (sym c.self.view_is) ∙ c.in_ok-a.ensures.named) stands)

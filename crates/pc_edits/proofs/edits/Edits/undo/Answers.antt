@@ -32,4 +32,6 @@ pub returns-clause-standing : goal.returns-clause-standing
 returns-clause-standing c =
     λ project journal stands.
     subst (λ (e : Edits). Stands project (taken_back journal) e.editing) (sym (returns-clause-changed c))
-    (Stands-undone project journal c.args.self.now.editing (undo_some c.self.inside c.args.self.now c.self.view_is c.self.invariant c.requires c.in-Some.kept (sym c.pop_back.ensures.value ∙ c.in-Some.is)) stands)
+    (Stands-undone project journal c.args.self.now.editing
+    (undo_some c.self.inside c.args.self.now c.self.view_is c.self.invariant c.requires c.in-Some.kept
+    (sym c.pop_back.ensures.value ∙ c.in-Some.is)) stands)

@@ -3,7 +3,10 @@ use Rattle.pc_figures.proofs.summary.Summary.of.Goals as goal
 
 pub returns-clause-once : goal.returns-clause-once
 returns-clause-once c = record {
-  one_line = λ level a some lt. let (y, (inside, line, at, only)) = c.each_leaf_has_one_line.ensures.one c.args.tree.now level (item_of c.args.accounts.now a) c.in_ok-outline_of.ensures.ranged c.in_ok-outline_of.ensures.sound some (c.requires.on_tree.known a lt) (c.requires.on_tree.leaves a lt) in (y, (inside, line, at, only));
+  one_line = λ level a some lt. let (y, (inside, line, at, only)) =
+      c.each_leaf_has_one_line.ensures.one c.args.tree.now level
+      (item_of c.args.accounts.now a) c.in_ok-outline_of.ensures.ranged c.in_ok-outline_of.ensures.sound some
+      (c.requires.on_tree.known a lt) (c.requires.on_tree.leaves a lt) in (y, (inside, line, at, only));
   budget = c.in_ok-column_of.ensures.whole;
   actual = c.in_ok-column_of-2.ensures.whole;
   to_go = c.in_ok-column_of-3.ensures.whole;

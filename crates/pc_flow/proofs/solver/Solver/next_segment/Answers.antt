@@ -88,4 +88,5 @@ returns-clause-gentle g c =
     let decides = rw (← c.self.view_is) at c.has_ended.ensures in
     let going = not_ended _ (course_of c.self.inside) decides c.if-has_ended.false in
     rw (c.search_on-labelling.ensures.net, c.descend.ensures.net)
-    (slope-most _ (on_course-after (course_of c.self.inside) c.self.invariant.on_course c.descend.new.search.board c.descend.ensures.descended c.search_on-labelling.new.search.board _ _ searched going))
+    (slope-most _ (on_course-after (course_of c.self.inside) c.self.invariant.on_course c.descend.new.search.board
+    c.descend.ensures.descended c.search_on-labelling.new.search.board _ _ searched going))

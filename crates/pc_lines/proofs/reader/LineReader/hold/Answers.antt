@@ -12,7 +12,8 @@ returns c =
     length-take-le (a.to - a.from) (drop a.from a.buffer.items) (omega (arith, length-drop a.from a.buffer.items, c.self.invariant.room, c.self.invariant.to)) in
     let room : c.args.count ≤ a.to - a.from = omega (arith, kept, c.requires, ap (λ (r : Reading). length r.ahead) c.self.view_is) in
     let piece : c.copy_from_slice.new.self ≡ take much (drop a.from a.buffer.items) =
-    c.copy_from_slice.ensures.after ∙ ap (λ l. take (a.from + much - a.from) (drop a.from l)) c.deref.ensures.value ∙ ap (λ n. take n (drop a.from a.buffer.items)) (let n : a.from + much - a.from ≡ much = omega arith in n) in
+    c.copy_from_slice.ensures.after ∙ ap (λ l. take (a.from + much - a.from) (drop a.from l)) c.deref.ensures.value
+    ∙ ap (λ n. take n (drop a.from a.buffer.items)) (let n : a.from + much - a.from ≡ much = omega arith in n) in
     let with_line : List ℕ → Reading = λ (line : List ℕ). record { line = line; ahead = take (a.to - a.from) (drop a.from a.buffer.items); taken = a.taken } in
     ap with_line (held-more a.cells a.buffer.items c.copy_from_slice.new.self LINE_ROOM a.held a.from a.to c.args.count much
     c.self.invariant.cells c.self.invariant.held c.self.invariant.from (omega (arith, c.self.invariant.room, c.self.invariant.to)) room c.min-kept.ensures piece)

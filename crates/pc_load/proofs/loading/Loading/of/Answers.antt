@@ -10,7 +10,9 @@ use Rattle.pc_load.proofs.LoadingLaws.{resources_add_up, resources_have_parts}
 use Rattle.pc_load.proofs.loading.Loading.of.Goals as goal
 
 -- so many periods hold the project
-periods_are : (project : Project) (days have end : ℕ) (times : List ℕ) → IsPlanned project → AreEarly project.network project.expected times → end ≡ get_or times project.network.end end → have ≡ periods_for days end → ArePeriods project days have
+periods_are : (project : Project) (days have end : ℕ) (times : List ℕ) → IsPlanned project →
+    AreEarly project.network project.expected times → end ≡ get_or times project.network.end end → have ≡ periods_for days end →
+    ArePeriods project days have
 periods_are project days have end times planned early read is =
     let inside : project.network.end < length times = omega (arith, early.one_each, planned.in_range.end_in) in
     let at : end ≡ slice_index times project.network.end = read ∙ get_or_default times project.network.end end 0 inside in
@@ -21,7 +23,9 @@ periods_are project days have end times planned early read is =
     }
 
 -- and the last of them ends behind its end
-ends_before : (project : Project) (days have end : ℕ) (times : List ℕ) → 1 ≤ days → IsPlanned project → AreEarly project.network project.expected times → end ≡ get_or times project.network.end end → have ≡ periods_for days end → slice_index times project.network.end < 6 * days * have
+ends_before : (project : Project) (days have end : ℕ) (times : List ℕ) → 1 ≤ days → IsPlanned project →
+    AreEarly project.network project.expected times → end ≡ get_or times project.network.end end → have ≡ periods_for days end →
+    slice_index times project.network.end < 6 * days * have
 ends_before project days have end times some planned early read is =
     let inside : project.network.end < length times = omega (arith, early.one_each, planned.in_range.end_in) in
     let at : end ≡ slice_index times project.network.end = read ∙ get_or_default times project.network.end end 0 inside in
@@ -49,7 +53,9 @@ returns-clause-loading c =
     let are = periods_are project c.args.days have c.index.result.now times c.net.ensures.planned early read c.periods_for-have.ensures in
     let reached : AreTimes project times = record { early = early; small = λ e lt. c.in_ok-times.ensures.limit e 0 lt } in
     let whole = ends_before project c.args.days have c.index.result.now times c.requires.least c.net.ensures.planned early read c.periods_for-have.ensures in
-    let taken = resources_have_parts project times c.in_ok-taken.taken.items (6 * c.args.days) have _ (rw (← c.deref.ensures.value) c.in_ok-taken.ensures.loads) (rw (← c.resource_count.ensures.count, ← c.deref-3.ensures.value) c.in_ok-build.ensures.table) in
+    let taken = resources_have_parts project times c.in_ok-taken.taken.items (6 * c.args.days) have _
+    (rw (← c.deref.ensures.value) c.in_ok-taken.ensures.loads)
+    (rw (← c.resource_count.ensures.count, ← c.deref-3.ensures.value) c.in_ok-build.ensures.table) in
     record {
       of_days = refl;
       preorder = rw (c.in_ok-from_slice.ensures.items, ← c.tree.ensures.tree) c.preorder.ensures.order;

@@ -16,7 +16,9 @@ returns c =
     let period : c.args.k < table.periods = subst (λ (t : Table). c.args.k < t.periods) (sym same) c.requires.period in
     let place = place_within table.rows table.periods c.args.k c.args.row period row in
     let whole = c.self.invariant.whole in
-    let read : c.index.result.now ≡ amount_in table c.args.row c.args.k = c.index.ensures ∙ get_or_default table.cells (c.args.k * table.rows + c.args.row) c.index.result.now (pos 0) (omega arith) ∙ sym (read_cell table.rows table.cells c.args.k c.args.row row) in
+    let read : c.index.result.now ≡ amount_in table c.args.row c.args.k = c.index.ensures
+    ∙ get_or_default table.cells (c.args.k * table.rows + c.args.row) c.index.result.now (pos 0) (omega arith)
+    ∙ sym (read_cell table.rows table.cells c.args.k c.args.row row) in
     let natural = c.self.invariant.natural c.args.row c.args.k row period in
     let fits : SFits w64 c.index.result.now = search rules in
     let value : c.unsigned_abs.result ≡ unsigned_abs c.index.result.now = c.unsigned_abs.ensures.value ∙ ap unsigned_abs (to_z-of_z w64 c.index.result.now fits) in

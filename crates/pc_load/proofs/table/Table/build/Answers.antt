@@ -14,15 +14,22 @@ loop-entry-init c =
 
 pub add-requires-clause-room : goal.add-requires-clause-room
 add-requires-clause-room c =
-    rw c.deref_mut.ensures.value (summed_room c.args.rows c.args.periods c.args.entries.now c.args.width c.loop-entry.entry-index (row_of c.args.entries.now c.loop-entry.entry-index) c.loop-entry.cells.items c.requires.entries (c.requires.entries.known c.loop-entry.entry-index c.loop-entry-test.true) c.loop-entry.invariant)
+    rw c.deref_mut.ensures.value (summed_room c.args.rows c.args.periods c.args.entries.now c.args.width c.loop-entry.entry-index
+    (row_of c.args.entries.now c.loop-entry.entry-index) c.loop-entry.cells.items c.requires.entries
+    (c.requires.entries.known c.loop-entry.entry-index c.loop-entry-test.true) c.loop-entry.invariant)
 
 pub loop-entry-preserved : goal.loop-entry-preserved
 loop-entry-preserved c =
-    let same : IsAdded c.args.rows c.args.periods (entry_at c.args.entries.now c.loop-entry.entry-index) c.args.width c.loop-entry.cells.items c.add.new.cells = rw (← c.deref_mut.ensures.value) c.add.ensures in
+    let same : IsAdded c.args.rows c.args.periods
+    (entry_at c.args.entries.now c.loop-entry.entry-index) c.args.width c.loop-entry.cells.items c.add.new.cells =
+    rw (← c.deref_mut.ensures.value) c.add.ensures in
     let long = c.deref_mut.ensures.len in
     let one_each = same.one_each in
-    let kept : take c.loop-entry.cells.len (c.add.new.cells ++ drop (length c.add.new.cells) c.loop-entry.cells.items) ≡ c.add.new.cells = take_at c.add.new.cells (drop (length c.add.new.cells) c.loop-entry.cells.items) c.loop-entry.cells.len (omega (arith, ap (λ (l : List ℤ). length l) c.deref_mut.ensures.value)) in
-    rw kept (summed_more c.args.rows c.args.periods c.args.entries.now c.args.width c.loop-entry.entry-index c.loop-entry.cells.items c.add.new.cells c.requires.entries c.loop-entry-test.true c.loop-entry.invariant same)
+    let kept : take c.loop-entry.cells.len (c.add.new.cells ++ drop (length c.add.new.cells) c.loop-entry.cells.items)
+    ≡ c.add.new.cells = take_at c.add.new.cells (drop (length c.add.new.cells) c.loop-entry.cells.items) c.loop-entry.cells.len
+    (omega (arith, ap (λ (l : List ℤ). length l) c.deref_mut.ensures.value)) in
+    rw kept (summed_more c.args.rows c.args.periods c.args.entries.now c.args.width c.loop-entry.entry-index c.loop-entry.cells.items
+    c.add.new.cells c.requires.entries c.loop-entry-test.true c.loop-entry.invariant same)
 
 pub invariant_of-result : goal.invariant_of-result
 invariant_of-result c =

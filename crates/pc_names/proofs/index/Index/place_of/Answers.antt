@@ -59,7 +59,9 @@ returns-then-count-lt2 c =
 pub returns-then-taken-eq0 : goal.returns-then-taken-eq0
 returns-then-taken-eq0 c =
     let index = c.args.self.now in
-    let at = slot-read index c.args.code.now c.len-count.result c.slot_of-slot.result c.index.result.now (c.len-count.ensures ∙ index.slots.ok.0) c.slot_of-slot.ensures.value c.index.ensures (omega (arith, c.slot_of-slot.ensures.within)) in
+    let at = slot-read index c.args.code.now c.len-count.result c.slot_of-slot.result c.index.result.now
+    (c.len-count.ensures ∙ index.slots.ok.0) c.slot_of-slot.ensures.value c.index.ensures
+    (omega (arith, c.slot_of-slot.ensures.within)) in
     sym (nowhere-free _ c.args.code.now index c.requires.indexed (at ∙ c.if-taken-eq0.true))
 
 pub returns-then-are_same : goal.returns-then-are_same
@@ -75,7 +77,8 @@ returns-then-beside-eq0 c =
     let codes = c.args.codes.now in
     let full = c.len-count.ensures ∙ index.slots.ok.0 in
     let (own, differs) = own-other codes c.args.code.now index c.requires.indexed c.len-count.result c.slot_of-slot.result full c.slot_of-slot.ensures.value (omega (arith, c.slot_of-slot.ensures.within)) c.index.result.now c.index-codes-taken.result _ c.index.ensures c.if-taken-eq0.false c.index-codes-taken.is c.are_same.ensures c.if-are_same.false in
-    let near = beside-read index c.args.code.now c.len-count.result c.slot_of-slot.result c.index-2.result.now full c.slot_of-slot.ensures.value c.index-2.ensures (omega (arith, c.slot_of-slot.ensures.within)) in
+    let near = beside-read index c.args.code.now c.len-count.result c.slot_of-slot.result c.index-2.result.now full
+    c.slot_of-slot.ensures.value c.index-2.ensures (omega (arith, c.slot_of-slot.ensures.within)) in
     sym (nowhere-beside codes c.args.code.now index c.requires.indexed _ own differs (near ∙ c.if-beside-eq0.true))
 
 pub returns-then-are_same-2 : goal.returns-then-are_same-2
@@ -98,6 +101,8 @@ returns-in-None c =
     let codes = c.args.codes.now in
     let full = c.len-count.ensures ∙ index.slots.ok.0 in
     let (own, differs) = own-other codes c.args.code.now index c.requires.indexed c.len-count.result c.slot_of-slot.result full c.slot_of-slot.ensures.value (omega (arith, c.slot_of-slot.ensures.within)) c.index.result.now c.index-codes-taken.result _ c.index.ensures c.if-taken-eq0.false c.index-codes-taken.is c.are_same.ensures c.if-are_same.false in
-    let (near, differs_too) = beside-other codes c.args.code.now index c.requires.indexed c.len-count.result c.slot_of-slot.result full c.slot_of-slot.ensures.value (omega (arith, c.slot_of-slot.ensures.within)) c.index-2.result.now c.index-codes-beside.result _ c.index-2.ensures c.if-beside-eq0.false c.index-codes-beside.is c.are_same-2.ensures c.if-are_same-2.false in
+    let (near, differs_too) = beside-other codes c.args.code.now index c.requires.indexed c.len-count.result c.slot_of-slot.result full
+    c.slot_of-slot.ensures.value (omega (arith, c.slot_of-slot.ensures.within)) c.index-2.result.now c.index-codes-beside.result _
+    c.index-2.ensures c.if-beside-eq0.false c.index-codes-beside.is c.are_same-2.ensures c.if-are_same-2.false in
     sym (nowhere-crowded codes c.args.code.now index c.requires.indexed _ _ own differs near differs_too
     (ap (crowded_at index) (sym c.number.ensures.value) ∙ (sym c.get.ensures.value ∙ ap option_copied c.in-None.is)))

@@ -16,7 +16,8 @@ forecast-requires-clause-as_of c = omega (arith, c.as_of_time-as_of.ensures.smal
 
 pub dates_of-requires : goal.dates_of-requires
 dates_of-requires c =
-    rw c.deref.ensures.value (all_soon c.args.project.now c.as_of_time-as_of.result c.in_ok-expected.expected c.in_ok-times.times.items c.net-net.ensures.planned c.as_of_time-as_of.ensures.small c.as_of_time-as_of.ensures.time
+    rw c.deref.ensures.value (all_soon c.args.project.now c.as_of_time-as_of.result c.in_ok-expected.expected c.in_ok-times.times.items
+    c.net-net.ensures.planned c.as_of_time-as_of.ensures.small c.as_of_time-as_of.ensures.time
     (rw (← c.net-net.ensures.network) c.in_ok-times.ensures.ordered)
     (rw (← c.net-net.ensures.network, ← c.expected-expected.ensures.expected, ← c.states.ensures.states) c.in_ok-expected.ensures.forecast)
     c.in_ok-times.ensures.times)
@@ -48,7 +49,8 @@ returns c = record {
 
 pub invariant_of-result : goal.invariant_of-result
 invariant_of-result c = record {
-  times = all_soon c.args.project.now c.as_of_time-as_of.result c.in_ok-expected.expected c.in_ok-times.times.items c.net-net.ensures.planned c.as_of_time-as_of.ensures.small c.as_of_time-as_of.ensures.time
+  times = all_soon c.args.project.now c.as_of_time-as_of.result c.in_ok-expected.expected c.in_ok-times.times.items
+      c.net-net.ensures.planned c.as_of_time-as_of.ensures.small c.as_of_time-as_of.ensures.time
       (rw (← c.net-net.ensures.network) c.in_ok-times.ensures.ordered)
       (rw (← c.net-net.ensures.network, ← c.expected-expected.ensures.expected, ← c.states.ensures.states) c.in_ok-expected.ensures.forecast)
       c.in_ok-times.ensures.times;

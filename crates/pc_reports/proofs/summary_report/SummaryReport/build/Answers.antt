@@ -22,7 +22,9 @@ returns-clause-summary c =
     rw (← c.tree.ensures.tree, ← c.accounts.ensures.accounts, ← c.book.ensures.entries, ← c.entries-entries.ensures.entries) c.in_ok-of.ensures.summary
 
 -- what the entries of a project come to is what its accounts and charges do
-of_project : (project : Project) (summary : Summary) → AreMoney (length project.accounts) project.charges → AreEntriesOf project.accounts project.charges project.togos project.heading.as_of project.entries → CountsOnce project.tree project.accounts (entry_of_all project.entries) summary → ChargesCountOnce project summary
+of_project : (project : Project) (summary : Summary) → AreMoney (length project.accounts) project.charges →
+    AreEntriesOf project.accounts project.charges project.togos project.heading.as_of project.entries →
+    CountsOnce project.tree project.accounts (entry_of_all project.entries) summary → ChargesCountOnce project summary
 of_project project summary known are once =
     subst (λ (whole : Entry). CountsOnce project.tree project.accounts whole summary)
     (entries_are_project project.accounts project.charges project.togos project.heading.as_of project.entries known are)

@@ -34,5 +34,6 @@ invariant_of-self g c = (c.write_times.ensures.fresh, c.self.invariant.1)
 
 pub returns-clause-text : goal.returns-clause-text
 returns-clause-text g c =
-    subst (λ times. Writes c.write_times.result (g.O.Sink.taken c.args.sink.now) (g.O.Sink.taken c.write_times.new.sink) (g.O.Sink.faults c.args.sink.now) (g.O.Sink.faults c.write_times.new.sink) (times_text c.args.project.now times))
+    subst (λ times. Writes c.write_times.result (g.O.Sink.taken c.args.sink.now) (g.O.Sink.taken c.write_times.new.sink)
+    (g.O.Sink.faults c.args.sink.now) (g.O.Sink.faults c.write_times.new.sink) (times_text c.args.project.now times))
     c.self.view_is c.write_times.ensures.text

@@ -35,4 +35,13 @@ slack-slack-requires g c =
 pub returns : goal.returns
 returns g c =
     let t = c.args.self.now in
-    Adds-as (worth_row t.project.now t.earned.now c.args.i) (rw (c.item_code-code.ensures, c.of_item-amounts.ensures, c.slack-slack.ensures, c.item_title-title.ensures, c.worth.ensures, c.forecasts.ensures, c.row-row.ensures) refl) c.put_worth.ensures
+    Adds-as (worth_row t.project.now t.earned.now c.args.i)
+    (rw (
+      c.item_code-code.ensures,
+      c.of_item-amounts.ensures,
+      c.slack-slack.ensures,
+      c.item_title-title.ensures,
+      c.worth.ensures,
+      c.forecasts.ensures,
+      c.row-row.ensures,
+    ) refl) c.put_worth.ensures

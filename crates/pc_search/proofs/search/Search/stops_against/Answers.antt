@@ -15,14 +15,20 @@ stop_against-requires-clause-falling c =
 
 pub stop_against-requires-clause-fits : goal.stop_against-requires-clause-fits
 stop_against-requires-clause-fits c =
-    let gap : c.resting_time.result - c.falling_time.result ≡ time_of c.args.self.now.board c.args.to - time_of c.args.self.now.board c.args.from = (ap (λ n. n - c.falling_time.result) c.resting_time.ensures ∙ ap (λ n. time_of c.args.self.now.board c.args.to - n) c.falling_time.ensures) in
+    let gap : c.resting_time.result - c.falling_time.result
+    ≡ time_of c.args.self.now.board c.args.to - time_of c.args.self.now.board c.args.from =
+    (ap (λ n. n - c.falling_time.result) c.resting_time.ensures
+    ∙ ap (λ n. time_of c.args.self.now.board c.args.to - n) c.falling_time.ensures) in
     rw (gap, c.flow.ensures) (
     seen-on c.args.self.now.net.now c.args.self.now.board c.args.a c.args.from c.args.to c.args.crash c.args.knees.now c.requires.known c.requires.seen c.requires.board.stairs
     )
 
 pub returns : goal.returns
 returns c =
-    let gap : c.resting_time.result - c.falling_time.result ≡ time_of c.args.self.now.board c.args.to - time_of c.args.self.now.board c.args.from = (ap (λ n. n - c.falling_time.result) c.resting_time.ensures ∙ ap (λ n. time_of c.args.self.now.board c.args.to - n) c.falling_time.ensures) in
+    let gap : c.resting_time.result - c.falling_time.result
+    ≡ time_of c.args.self.now.board c.args.to - time_of c.args.self.now.board c.args.from =
+    (ap (λ n. n - c.falling_time.result) c.resting_time.ensures
+    ∙ ap (λ n. time_of c.args.self.now.board c.args.to - n) c.falling_time.ensures) in
     stops-against c.args.self.now.net.now c.args.self.now.board c.args.a c.args.from c.args.to c.args.crash c.args.knees.now c.requires.known c.requires.seen c.requires.board.stairs
     c.stop_against.result (c.resting_time.result - c.falling_time.result) c.flow.result
     (gap ∙ seen-gap c.args.self.now.net.now c.args.self.now.board c.args.a c.args.from c.args.to c.args.crash c.args.knees.now c.requires.known c.requires.seen c.requires.board.stairs)

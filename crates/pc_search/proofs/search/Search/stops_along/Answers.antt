@@ -15,14 +15,20 @@ stop_along-requires-clause-falling c =
 
 pub stop_along-requires-clause-fits : goal.stop_along-requires-clause-fits
 stop_along-requires-clause-fits c =
-    let gap : c.falling_time.result - c.resting_time.result ≡ time_of c.args.self.now.board c.args.to - time_of c.args.self.now.board c.args.from = (ap (λ n. n - c.resting_time.result) c.falling_time.ensures ∙ ap (λ n. time_of c.args.self.now.board c.args.to - n) c.resting_time.ensures) in
+    let gap : c.falling_time.result - c.resting_time.result
+    ≡ time_of c.args.self.now.board c.args.to - time_of c.args.self.now.board c.args.from =
+    (ap (λ n. n - c.resting_time.result) c.falling_time.ensures
+    ∙ ap (λ n. time_of c.args.self.now.board c.args.to - n) c.resting_time.ensures) in
     rw (gap, c.flow.ensures) (
     seen-on c.args.self.now.net.now c.args.self.now.board c.args.a c.args.from c.args.to c.args.crash c.args.knees.now c.requires.known c.requires.seen c.requires.board.stairs
     )
 
 pub returns : goal.returns
 returns c =
-    let gap : c.falling_time.result - c.resting_time.result ≡ time_of c.args.self.now.board c.args.to - time_of c.args.self.now.board c.args.from = (ap (λ n. n - c.resting_time.result) c.falling_time.ensures ∙ ap (λ n. time_of c.args.self.now.board c.args.to - n) c.resting_time.ensures) in
+    let gap : c.falling_time.result - c.resting_time.result
+    ≡ time_of c.args.self.now.board c.args.to - time_of c.args.self.now.board c.args.from =
+    (ap (λ n. n - c.resting_time.result) c.falling_time.ensures
+    ∙ ap (λ n. time_of c.args.self.now.board c.args.to - n) c.resting_time.ensures) in
     stops-along c.args.self.now.net.now c.args.self.now.board c.args.a c.args.from c.args.to c.args.crash c.args.knees.now c.requires.known c.requires.seen c.requires.board.stairs
     c.stop_along.result (c.falling_time.result - c.resting_time.result) c.flow.result
     (gap ∙ seen-gap c.args.self.now.net.now c.args.self.now.board c.args.a c.args.from c.args.to c.args.crash c.args.knees.now c.requires.known c.requires.seen c.requires.board.stairs)

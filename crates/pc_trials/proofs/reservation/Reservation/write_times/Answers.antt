@@ -63,7 +63,8 @@ returns-clause-text g c = λ changed is.
     let times = (shown_by r by).times in (
       times_text changed times,
       record { times = times; are = times-are project changed r by c.requires.fits c.requires.standing is by_is; told = refl },
-      subst (λ text. Writes c.write_times.result (g.O.Sink.taken c.args.sink.now) (g.O.Sink.taken c.write_times.new.sink) (g.O.Sink.faults c.args.sink.now) (g.O.Sink.faults c.write_times.new.sink) text)
+      subst (λ text. Writes c.write_times.result (g.O.Sink.taken c.args.sink.now) (g.O.Sink.taken c.write_times.new.sink)
+          (g.O.Sink.faults c.args.sink.now) (g.O.Sink.faults c.write_times.new.sink) text)
           (ap (λ s. times_text (as_shown project s) s.times) same ∙ text-same project changed r by is)
           c.write_times.ensures.text,
     )

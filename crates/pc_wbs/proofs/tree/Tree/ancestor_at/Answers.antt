@@ -22,5 +22,7 @@ returns-clause-at_level c = record {
   where
     at : (own : ℕ) → c.level-own.result ≡ own → HasLevel c.args.self.now c.loop-step.at (min c.args.level own)
     at own same =
-        let last : c.level-own.result - (c.loop-step._step - c.args.level) ≡ min c.args.level own = ⊎_elim (λ short. let still = c.loop-step.invariant.3 short in omega arith) (λ deep. let ends = c.loop-step.auto._step-end deep in omega arith) (cases_lt c.level-own.result c.args.level) in
+        let last : c.level-own.result - (c.loop-step._step - c.args.level)
+        ≡ min c.args.level own = ⊎_elim (λ short. let still = c.loop-step.invariant.3 short in omega arith)
+        (λ deep. let ends = c.loop-step.auto._step-end deep in omega arith) (cases_lt c.level-own.result c.args.level) in
         rw last at c.loop-step.invariant.0

@@ -21,14 +21,23 @@ longest-requires c =
 pub returns : goal.returns
 returns c =
     let lengths = c.deref.ensures.value ∙ (c.in_ok-durations.ensures ∙ ap normals c.activity_terms.ensures.terms) in
-    normal_schedule c.args.project.now (record { length = c.in_ok-found.found.length; cost = c.cost_of-cost.result; times = c.in_ok-found.found.times; durations = c.in_ok-durations.durations.items }) c.net.ensures.planned
+    normal_schedule c.args.project.now
+    (record {
+      length = c.in_ok-found.found.length;
+      cost = c.cost_of-cost.result;
+      times = c.in_ok-found.found.times;
+      durations = c.in_ok-durations.durations.items;
+    }) c.net.ensures.planned
     (c.in_ok-durations.ensures ∙ ap normals c.activity_terms.ensures.terms)
-    (at (λ net lengths. AreEarly net lengths c.in_ok-found.found.times) c.net.result.now c.args.project.now.network c.deref.result.now (normals c.args.project.now.terms) c.net.ensures.network lengths c.in_ok-found.ensures.times)
-    (at (λ net lengths. IsLongest net lengths c.in_ok-found.found.length) c.net.result.now c.args.project.now.network c.deref.result.now (normals c.args.project.now.terms) c.net.ensures.network lengths c.in_ok-found.ensures.length)
+    (at (λ net lengths. AreEarly net lengths c.in_ok-found.found.times) c.net.result.now c.args.project.now.network c.deref.result.now
+    (normals c.args.project.now.terms) c.net.ensures.network lengths c.in_ok-found.ensures.times)
+    (at (λ net lengths. IsLongest net lengths c.in_ok-found.found.length) c.net.result.now c.args.project.now.network c.deref.result.now
+    (normals c.args.project.now.terms) c.net.ensures.network lengths c.in_ok-found.ensures.length)
     (c.cost_of-cost.ensures.cost
     ∙ ap (λ terms. cost_of terms (knees_of terms c.in_ok-priced.field-0.pieces) (slice_index c.deref-2.result.now)) c.in_ok-priced.ensures.terms
     ∙ ap (λ pieces. cost_of c.args.project.now.terms (knees_of c.args.project.now.terms pieces) (slice_index c.deref-2.result.now)) c.in_ok-priced.ensures.pieces
-    ∙ ap (λ durations. cost_of c.args.project.now.terms (knees_of c.args.project.now.terms c.args.project.now.pieces) (slice_index durations)) (c.deref-2.ensures.value ∙ (c.in_ok-durations.ensures ∙ ap normals c.activity_terms.ensures.terms)))
+    ∙ ap (λ durations. cost_of c.args.project.now.terms (knees_of c.args.project.now.terms c.args.project.now.pieces)
+    (slice_index durations)) (c.deref-2.ensures.value ∙ (c.in_ok-durations.ensures ∙ ap normals c.activity_terms.ensures.terms)))
 
 pub cost_of-cost-requires : goal.cost_of-cost-requires
 cost_of-cost-requires c =

@@ -14,7 +14,8 @@ returns-clause-put c =
     let card = c.args.self in
     let days : c.bytes-5.result.now ≡ decimal (unwrap_or card.directed 0) = c.bytes-5.ensures ∙ (c.digits-days.ensures.value ∙ ap decimal c.unwrap_or.ensures) in
     let directed : c.where_so.result.now ≡ number_text card.directed =
-    c.where_so.ensures ∙ (ap (λ (b : Bool). if b then c.bytes-5.result.now else []) c.is_some.ensures ∙ (ap (λ (bytes : List ℕ). if is_some card.directed then bytes else []) days ∙ number_text-is card.directed)) in
+    c.where_so.ensures ∙ (ap (λ (b : Bool). if b then c.bytes-5.result.now else []) c.is_some.ensures
+    ∙ (ap (λ (bytes : List ℕ). if is_some card.directed then bytes else []) days ∙ number_text-is card.directed)) in
     subst (λ (fields : List (List ℕ)). OnOk c.put.result (c.put.new.self ≡ c.args.text.now ++ record_text fields))
     (λ i. c.word.ensures.word i
     ∷ c.bytes.ensures.value i ∷ c.bytes-2.ensures.value i ∷ c.bytes-3.ensures.value i
