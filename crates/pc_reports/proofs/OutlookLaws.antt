@@ -1,12 +1,14 @@
 -- The costs of activities one after another, and what they make of the outlook.
-use Rattle.std.proofs.Common.{◌≡◌, ℕ, ◌+◌, ◌*◌, ◌<◌, ◌≤◌, ◌^◌, List, [], ◌∷◌, ◌++◌, length, slice_index, sym, ap, ◌∙◌, subst, arith}
+use Rattle.std.proofs.Common.{◌≡◌, ℕ, ◌+◌, ◌*◌, ◌<◌, ◌≤◌, ◌^◌, List, [], ◌∷◌, ◌++◌, length, slice_index, refl, sym, ap, ◌∙◌, subst, arith}
 use Rattle.std.specs.Prelude.{ℤ}
 use Rattle.std.proofs.lemmas.List.{length_push}
 use Rattle.pc_model.specs.declared.limits.TheConstants.{MAX_ACTIVITIES}
 use Rattle.pc_model.specs.Cost.{activity_cost, cost_of}
+use Rattle.pc_model.specs.Network.{Network}
 use Rattle.pc_model.specs.Pieces.{knees_of}
 use Rattle.pc_model.specs.Sums.{sum_to}
 use Rattle.pc_model.proofs.Sums.{sum_to-most, sum_to-same}
+use Rattle.pc_crash.specs.Priced.{PricedNetwork, knees_in}
 use Rattle.pc_crash.specs.declared.costing.TheConstants.{MAX_ACTIVITY_COST}
 use Rattle.pc_project.specs.Project.{Project}
 use Rattle.pc_figures.specs.Outlook.{Outlook, IsOutlookOf, IsWholeOutlook, amounts_at}
@@ -14,30 +16,42 @@ use Rattle.pc_figures.specs.inside.Outlook.{HasWholeAtTop}
 use Rattle.pc_figures.proofs.PushLaws.{each_more}
 use Rattle.pc_figures.proofs.OutlookLaws.{outlook_alike}
 use Rattle.pc_reports.specs.OutlookText.{IsOutlook, cost_at}
-use Rattle.pc_reports.specs.inside.OutlookText.{AreCostsAt, TellsTop}
+use Rattle.pc_reports.specs.inside.OutlookText.{AreCostsAt, AreCostsIn, TellsTop}
 
 -- the costs of the first n activities, none of them too great
-pub record AreCostsTo (project : Project) (durations : List ℕ) (n : ℕ) (costs : List ℕ) : Type 0 where
-  pub are : AreCostsAt project durations n costs
+pub record AreCostsTo (net : PricedNetwork) (durations : List ℕ) (n : ℕ) (costs : List ℕ) : Type 0 where
+  pub are : AreCostsIn net durations n costs
   pub small : (a : ℕ) → a < n → slice_index costs a ≤ MAX_ACTIVITY_COST
 
 -- one cost more
-pub costs_more : (project : Project) (durations : List ℕ) (n : ℕ) (costs more : List ℕ) (next : ℕ) → AreCostsTo project durations n costs →
-    more ≡ costs ++ next ∷ [] → next ≡ cost_at project durations n → next ≤ MAX_ACTIVITY_COST → AreCostsTo project durations (n + 1) more
-costs_more project durations n costs more next so_far pushed is bound =
-    subst (AreCostsTo project durations (n + 1)) (sym pushed) (record {
+pub costs_more : (net : PricedNetwork) (durations : List ℕ) (n : ℕ) (costs more : List ℕ) (next : ℕ) → AreCostsTo net durations n costs →
+    more ≡ costs ++ next ∷ [] → next ≡ activity_cost net.terms (knees_in net) n (slice_index durations n) → next ≤ MAX_ACTIVITY_COST →
+    AreCostsTo net durations (n + 1) more
+costs_more net durations n costs more next so_far pushed is bound =
+    subst (AreCostsTo net durations (n + 1)) (sym pushed) (record {
       are = record {
         one_each = omega (arith, length_push costs next, so_far.are.one_each);
-        each = each_more (λ a x. x ≡ cost_at project durations a) costs next 0 n so_far.are.one_each so_far.are.each is;
+        each = each_more (λ a x. x ≡ activity_cost net.terms (knees_in net) a (slice_index durations a)) costs next 0 n so_far.are.one_each so_far.are.each is;
       };
       small = each_more (λ a x. x ≤ MAX_ACTIVITY_COST) costs next 0 n so_far.are.one_each so_far.small bound;
     })
 
 -- together they fit
-pub costs_fit : (project : Project) (durations : List ℕ) (n : ℕ) (costs : List ℕ) → n ≤ MAX_ACTIVITIES → AreCostsTo project durations n costs → sum_to (length costs) (slice_index costs) ≤ 2 ^ 60
-costs_fit project durations n costs few so_far =
+pub costs_fit : (net : PricedNetwork) (durations : List ℕ) (n : ℕ) (costs : List ℕ) → n ≤ MAX_ACTIVITIES → AreCostsTo net durations n costs → sum_to (length costs) (slice_index costs) ≤ 2 ^ 60
+costs_fit net durations n costs few so_far =
     let most = sum_to-most (length costs) MAX_ACTIVITY_COST (slice_index costs) (λ a lt. so_far.small a (omega (arith, so_far.are.one_each))) in
     omega (arith, so_far.are.one_each)
+
+-- the costs in a project's network are the project's
+pub costs_told : (project : Project) (net : PricedNetwork) (durations costs : List ℕ) → net.network ≡ project.network → net.terms ≡ project.terms →
+    net.pieces ≡ project.pieces → AreCostsIn net durations (length net.network.arcs) costs →
+    AreCostsAt project durations (length project.network.arcs) costs
+costs_told project net durations costs network terms pieces are =
+    let same = ap (λ (n : Network). length n.arcs) network in
+    record {
+      one_each = are.one_each ∙ same;
+      each = λ a lt. are.each a (omega (arith, same)) ∙ rw (terms, pieces) refl;
+    }
 
 -- the outlook at these costs is that at these durations
 pub outlook_told : (project : Project) (durations costs : List ℕ) (outlook : Outlook) →

@@ -4,5 +4,6 @@ pub mod Schedule
 pub mod Times
 pub mod View
 pub mod TimesInside
+pub mod Earned
 pub mod EarnedInside
 pub mod OutlookText

@@ -2,6 +2,7 @@
 ghost use Rattle.std.specs.Prelude.{◌≡◌, ◌<◌, length, IfOk};
 ghost use Rattle.pc_reports.specs.Earned.{IsEarned};
 ghost use Rattle.pc_figures.specs.Outline.{row_at};
+ghost use Rattle.pc_figures.specs.Worth.{IsWorthOf};
 
 use crate::forecasts::Forecasts;
 use pc_figures::{OutlineRow, Worth, outline_of};
@@ -30,12 +31,10 @@ impl Earned {
     pub(crate) fn of(alloc: Global, project: &Project) -> Result<Earned, AllocError>
         ensures { IfOk result (IsEarned project.now) }
     {
-        let entries = project.book().entries();
-        let (tree, places, states) = (project.tree(), project.places(), project.states());
         Ok(Earned {
             forecasts: Forecasts::of(alloc, project)?,
-            outline: outline_of(alloc, tree)?,
-            worth: Worth::of(alloc, tree, places, states, project.accounts(), entries)?,
+            outline: outline_of(alloc, project.tree())?,
+            worth: worth_of(alloc, project)?,
         })
     }
 
@@ -67,4 +66,14 @@ impl Earned {
     {
         self.outline[k]
     }
+}
+
+/// What the work of each item of the project is worth.
+fn worth_of(alloc: Global, project: &Project) -> Result<Worth, AllocError>
+    ensures { IfOk result (IsWorthOf project.now.tree project.now.places project.now.states project.now.accounts
+        project.now.entries) }
+{
+    let entries = project.book().entries();
+    let (tree, places, states) = (project.tree(), project.places(), project.states());
+    Worth::of(alloc, tree, places, states, project.accounts(), entries)
 }

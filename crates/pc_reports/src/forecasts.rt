@@ -1,17 +1,17 @@
 //! When the events are expected, and how long the work of each item can wait.
-ghost use Rattle.std.specs.Prelude.{◌≡◌, ℕ, ◌<◌, ◌≤◌, ◌^◌, pos, unsigned_abs, List, length, slice_index, slice_index_or, IfOk, OnOk, []};
+ghost use Rattle.std.specs.Prelude.{◌≡◌, ◌<◌, ◌≤◌, ◌^◌, pos, unsigned_abs, length, slice_index, slice_index_or, IfOk, []};
 ghost use Rattle.std.specs.List.{All};
-ghost use Rattle.pc_model.specs.Network.{IsOrder};
 ghost use Rattle.pc_times.specs.declared.TheConstants.{MAX_TIME};
 ghost use Rattle.pc_rollup.specs.Least.{least_at};
+ghost use Rattle.pc_figures.specs.Slacks.{AreLeastSlacks, slack_at};
 ghost use Rattle.pc_reports.specs.Earned.{AreForecasts, AreLateFor};
+ghost use Rattle.pc_reports.specs.inside.Earned.{IsForecastOf};
 
 use crate::dates::{DATE_LENGTH, dates_of};
-use crate::times::end_to_meet;
+use crate::times::late_to_meet;
 use pc_figures::least_slacks;
-use pc_net::Net;
 use pc_project::Project;
-use pc_times::{Forecast, early, forecast, late};
+use pc_times::{Forecast, early, forecast};
 use std::alloc::{AllocError, Global};
 use std::marker::Model;
 
@@ -44,18 +44,22 @@ impl Forecasts {
     pub(crate) fn of(alloc: Global, project: &Project) -> Result<Forecasts, AllocError>
         ensures { IfOk result (AreForecasts project.now) }
     {
-        let as_of = project.as_of_time();
-        let (net, expected) = (project.net(), project.expected());
-        let expected = forecast(alloc, net, expected, project.states(), as_of)?;
+        let expected = forecast_of(alloc, project)?;
+        Forecasts::told(alloc, project, &expected)
+    }
+
+    /// What there is to tell where the project is expected to go so.
+    fn told(alloc: Global, project: &Project, expected: &Forecast) -> Result<Forecasts, AllocError>
+        requires { IsForecastOf project.now expected.now }
+        ensures { IfOk result (AreForecasts project.now) }
+    {
         let late = late_times(alloc, project)?;
-        let times = event_times(alloc, net, &expected)?;
-        let dates = dates_of(alloc, project.start_day(), &times)?;
-        let (tree, places) = (project.tree(), project.places());
+        let times = event_times(alloc, project, expected)?;
         Ok(Forecasts {
-            slacks: least_slacks(alloc, tree, places, net, &late, &expected)?,
+            dates: dates_of(alloc, project.start_day(), &times)?,
+            slacks: item_slacks(alloc, project, &late, expected)?,
             times,
             late,
-            dates,
         })
     }
 
@@ -94,24 +98,53 @@ impl Forecasts {
     }
 }
 
+/// When the events of the project are expected, and when its activities are to be finished.
+fn forecast_of(alloc: Global, project: &Project) -> Result<Forecast, AllocError>
+    ensures { IfOk result (IsForecastOf project.now) }
+{
+    let as_of = project.as_of_time();
+    let (net, lengths) = (project.net(), project.expected());
+    forecast(alloc, net, lengths, project.states(), as_of)
+}
+
 /// When each event must be reached at the latest, so that the end can be met.
 fn late_times(alloc: Global, project: &Project) -> Result<Vec<i64>, AllocError>
     ensures late { IfOk result (λ late. AreLateFor project.now late.items) }
     ensures limit { IfOk result (λ late. All (λ time. unsigned_abs time ≤ MAX_TIME) late.items) }
 {
-    let (net, expected) = (project.net(), project.expected());
-    let reached = early(alloc, net, expected)?;
-    let by = end_to_meet(project.directed(), reached[net.end() as usize]);
-    let latest = late(alloc, net, expected, by)?;
-    Ok(latest)
+    let net = project.net();
+    let reached = early(alloc, net, project.expected())?;
+    late_to_meet(alloc, project, reached[net.end() as usize])
+}
+
+/// For each item the least forecast slack of the activities that stand on it or below it.
+fn item_slacks(
+    alloc: Global,
+    project: &Project,
+    late: &[i64],
+    expected: &Forecast,
+) -> Result<Vec<Option<i64>>, AllocError>
+    requires finish_each { length expected.now.finishes ≡ length project.now.network.arcs }
+    requires late_each { length late.now ≡ project.now.network.events }
+    requires limit { All (λ time. unsigned_abs time ≤ MAX_TIME) late.now }
+    ensures { IfOk result (λ slacks. AreLeastSlacks project.now.tree project.now.places
+        (slack_at project.now.network late.now expected.now.finishes) slacks.items) }
+{
+    let (tree, places) = (project.tree(), project.places());
+    least_slacks(alloc, tree, places, project.net(), late, expected)
 }
 
 /// When each event is expected, in card order.
-fn event_times(alloc: Global, net: &Net, expected: &Forecast) -> Result<Vec<u64>, AllocError>
-    requires { length expected.now.times ≡ net.now.events }
+fn event_times(
+    alloc: Global,
+    project: &Project,
+    expected: &Forecast,
+) -> Result<Vec<u64>, AllocError>
+    requires { IsForecastOf project.now expected.now }
     ensures times { IfOk result (λ times. times.items ≡ expected.now.times) }
-    ensures ordered { OnOk result ((order : List ℕ) × IsOrder net.now order) }
+    ensures soon { IfOk result (λ times. All (λ time. time < 2 ^ 40) times.items) }
 {
+    let net = project.net();
     let mut times = Vec::with_capacity(alloc, net.order().len())?;
     for e in 0..net.events() {
         times.push(expected.time(e))?;

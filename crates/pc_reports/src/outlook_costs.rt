@@ -1,8 +1,9 @@
 //! What the activities of a project cost at given durations.
 ghost use Rattle.std.specs.Prelude.{◌≡◌, ◌≤◌, ◌^◌, length, slice_index, IfOk};
 ghost use Rattle.pc_model.specs.Sums.{sum_to};
-ghost use Rattle.pc_reports.specs.inside.OutlookText.{AreCostsAt};
+ghost use Rattle.pc_reports.specs.inside.OutlookText.{AreCostsAt, AreCostsIn};
 
+use pc_crash::CrashNet;
 use pc_project::Project;
 use std::alloc::{AllocError, Global};
 
@@ -19,6 +20,15 @@ pub(crate) fn costs_at(
     ensures fit { IfOk result (λ costs. sum_to (length costs.items) (slice_index costs.items) ≤ 2 ^ 60) }
 {
     let net = project.priced(alloc)?;
+    costs_in(alloc, &net, durations)
+}
+
+/// What each activity of a network costs at its duration.
+fn costs_in(alloc: Global, net: &CrashNet<'_>, durations: &[u64]) -> Result<Vec<u64>, AllocError>
+    requires { length durations.now ≡ length net.now.network.arcs }
+    ensures costs { IfOk result (λ costs. AreCostsIn net.now durations.now (length net.now.network.arcs) costs.items) }
+    ensures fit { IfOk result (λ costs. sum_to (length costs.items) (slice_index costs.items) ≤ 2 ^ 60) }
+{
     let mut costs = Vec::with_capacity(alloc, durations.len())?;
     for a in 0..net.net().activities() {
         costs.push(net.activity_cost(a, durations[a as usize]))?;

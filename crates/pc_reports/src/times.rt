@@ -4,6 +4,7 @@ ghost use Rattle.std.specs.List.{All};
 ghost use Rattle.std.specs.Option.{ForSome};
 ghost use Rattle.pc_model.specs.declared.limits.TheConstants.{MAX_DIRECTED, MAX_EVENTS};
 ghost use Rattle.pc_times.specs.declared.TheConstants.{MAX_TIME};
+ghost use Rattle.pc_times.specs.Late.{AreLate};
 ghost use Rattle.pc_reports.specs.Times.{IsTimes, end_to_meet};
 ghost use Rattle.pc_reports.specs.inside.Times.{AreSmall};
 
@@ -40,8 +41,7 @@ impl Times {
         ensures small { IfOk result AreSmall }
     {
         let longest = longest(alloc, project.net(), project.expected())?;
-        let by = end_to_meet(project.directed(), longest.length());
-        let late = late(alloc, project.net(), project.expected(), by)?;
+        let late = late_to_meet(alloc, project, longest.length())?;
         Ok(Times { longest, late })
     }
 
@@ -70,6 +70,21 @@ impl Times {
     {
         self.longest.path()
     }
+}
+
+/// When each event must be reached at the latest, so that the end can be met.
+pub(crate) fn late_to_meet(
+    alloc: Global,
+    project: &Project,
+    reached: u64,
+) -> Result<Vec<i64>, AllocError>
+    requires { reached ≤ MAX_TIME }
+    ensures late { IfOk result (λ late. AreLate project.now.network project.now.expected
+        (end_to_meet project.now.heading.directed reached) late.items) }
+    ensures limit { IfOk result (λ late. All (λ time. unsigned_abs time ≤ MAX_TIME) late.items) }
+{
+    let by = end_to_meet(project.directed(), reached);
+    late(alloc, project.net(), project.expected(), by)
 }
 
 /// When the end is to be met: the directed number of days, or else when it is reached.

@@ -1,7 +1,8 @@
 -- The text of the outlook: what the items are going to cost at given durations of the activities.
 -- Here is what no clause of a top call and no law reaches.
 use Rattle.std.specs.Prelude.{◌≡◌, ℕ, ◌<◌, List, length, slice_index}
-use Rattle.pc_model.specs.Cost.{cost_of}
+use Rattle.pc_crash.specs.Priced.{PricedNetwork, knees_in}
+use Rattle.pc_model.specs.Cost.{activity_cost, cost_of}
 use Rattle.pc_model.specs.Pieces.{knees_of}
 use Rattle.pc_wbs.specs.Climb.{IsTop}
 use Rattle.pc_project.specs.Project.{Project}
@@ -12,6 +13,11 @@ use Rattle.pc_reports.specs.OutlookText.{cost_at, IsOutlook}
 pub record AreCostsAt (project : Project) (durations : List ℕ) (n : ℕ) (costs : List ℕ) : Type 0 where
   pub one_each : length costs ≡ n
   pub each : (a : ℕ) → a < n → slice_index costs a ≡ cost_at project durations a
+
+-- the costs are those of the first n activities of a network at their durations
+pub record AreCostsIn (net : PricedNetwork) (durations : List ℕ) (n : ℕ) (costs : List ℕ) : Type 0 where
+  pub one_each : length costs ≡ n
+  pub each : (a : ℕ) → a < n → slice_index costs a ≡ activity_cost net.terms (knees_in net) a (slice_index durations a)
 
 -- the outlook is the project's at some durations
 pub record IsOutlookFor (project : Project) (outlook : Outlook) : Type 0 where

@@ -1,20 +1,9 @@
-use Rattle.std.proofs.Common.{◌≡◌, ℕ, length, refl, ap, ◌∙◌, subst, arith}
-use Rattle.pc_model.specs.Network.{Network}
-use Rattle.pc_reports.specs.OutlookText.{cost_at}
-use Rattle.pc_reports.specs.inside.OutlookText.{AreCostsAt}
-use Rattle.pc_reports.proofs.OutlookLaws.{costs_more, costs_fit}
+use Rattle.pc_figures.proofs.PushLaws.{if_answered}
+use Rattle.pc_reports.proofs.OutlookLaws.{costs_told}
 use Rattle.pc_reports.proofs.outlook_costs.costs_at.Goals as goal
-
-pub loop-a-preserved : goal.loop-a-preserved
-loop-a-preserved c =
-    let is : c.activity_cost.result ≡ cost_at c.args.project.now c.args.durations.now c.loop-a.a =
-    c.activity_cost.ensures.cost ∙ rw (c.in_ok-net.ensures.terms, c.in_ok-net.ensures.pieces) refl in
-    costs_more _ _ _ _ _ _ c.loop-a.invariant c.in_ok-push.ensures.items is c.activity_cost.ensures.limit
 
 pub returns-clause-costs : goal.returns-clause-costs
 returns-clause-costs c =
-    let same = ap (λ (net : Network). length net.arcs) (c.net-2.ensures.network ∙ c.in_ok-net.ensures.network) in
-    subst (λ (n : ℕ). AreCostsAt c.args.project.now c.args.durations.now n c.loop-a.costs.items) (omega (arith, same)) c.loop-a.invariant.are
-
-pub returns-clause-fit : goal.returns-clause-fit
-returns-clause-fit c = costs_fit c.args.project.now c.args.durations.now c.loop-a.a c.loop-a.costs.items (omega arith) c.loop-a.invariant
+    if_answered c.costs_in.result _ _
+    (λ costs are. costs_told _ _ _ _ c.in_ok-net.ensures.network c.in_ok-net.ensures.terms c.in_ok-net.ensures.pieces are)
+    c.costs_in.ensures.costs

@@ -1,5 +1,0 @@
-use Rattle.pc_reports.proofs.OutlookLaws.{AreCostsTo}
-use Rattle.pc_reports.proofs.outlook_costs.costs_at.Given as goal
-
-abbrev pub invariant-loop-a : goal.invariant-loop-a
-invariant-loop-a l = AreCostsTo l.project l.durations l.a l.costs.items
