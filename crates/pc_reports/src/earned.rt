@@ -32,8 +32,8 @@ impl Earned {
         ensures { IfOk result (IsEarned project.now) }
     {
         Ok(Earned {
-            forecasts: Forecasts::of(alloc, project)?,
             outline: outline_of(alloc, project.tree())?,
+            forecasts: Forecasts::of(alloc, project)?,
             worth: worth_of(alloc, project)?,
         })
     }

@@ -9,6 +9,12 @@ use Rattle.pc_reports.specs.inside.View.{as_shown}
 use Rattle.pc_reports.proofs.RowLaws.{event_cells-same}
 use Rattle.pc_reports.proofs.times_rows.put_events.Goals as goal
 
+pub early-early-requires : goal.early-early-requires
+early-early-requires g c = omega (arith, c.loop-e-test.true, c.requires.early_each, c.event_codes-code-items.ensures.each)
+
+pub late-late-requires : goal.late-late-requires
+late-late-requires g c = omega (arith, c.loop-e-test.true, c.requires.late_each, c.event_codes-code-items.ensures.each)
+
 pub loop-e-init : goal.loop-e-init
 loop-e-init g c = Adds-nil (desk g.O.Sink.taken g.O.Sink.faults c.put.new.self c.put.new.sink)
 

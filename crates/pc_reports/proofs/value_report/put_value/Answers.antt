@@ -19,3 +19,9 @@ returns g c =
     (ap (λ (f : Forecasts). texts_to (length project.events) (forecast_row project f)) c.forecasts-forecasts.ensures)
     c.put_rows.ensures)
     ⨾ (c.put-2.ensures ⨾ c.put_rows-2.ensures)
+
+pub put_rows-requires : goal.put_rows-requires
+put_rows-requires g c = rw c.forecasts-forecasts.ensures c.requires.forecasts
+
+pub put_rows-requires-2 : goal.put_rows-requires-2
+put_rows-requires-2 g c = c.requires

@@ -1,10 +1,24 @@
-use Rattle.std.proofs.Common.{ap, arith}
+use Rattle.std.proofs.Common.{◌≡◌, ℕ, slice_index, ap, subst, sym, ◌∙◌, arith}
 use Rattle.pc_model.specs.Network.{Network}
+use Rattle.pc_times.specs.Late.{AreLate}
+use Rattle.pc_reports.specs.Times.{end_to_meet}
 use Rattle.pc_reports.specs.inside.Times.{AreSmall}
 use Rattle.pc_reports.proofs.times.Times.of.Goals as goal
 
 pub longest-requires : goal.longest-requires
 longest-requires c = rw (c.net.ensures.network, c.expected.ensures.expected) c.net.ensures.planned.lengths
+
+pub returns-clause-times : goal.returns-clause-times
+returns-clause-times c =
+    let project = c.args.project.now in
+    let found = c.in_ok-longest.longest in
+    let end : c.length.result ≡ slice_index found.times project.network.end = c.length.ensures ∙ sym c.in_ok-longest.ensures.end_time
+    ∙ ap (λ (n : Network). slice_index found.times n.end) c.net.ensures.network in
+    record {
+      early = rw (← c.net.ensures.network, ← c.expected.ensures.expected) c.in_ok-longest.ensures.times;
+      late = subst (λ (n : ℕ). AreLate project.network project.expected (end_to_meet project.heading.directed n) c.in_ok-late.late.items) end c.in_ok-late.ensures.late;
+      path = rw (← c.net.ensures.network, ← c.expected.ensures.expected) c.in_ok-longest.ensures.picked;
+    }
 
 pub returns-clause-small : goal.returns-clause-small
 returns-clause-small c = record {

@@ -1,7 +1,11 @@
-use Rattle.std.proofs.Common.{ap}
+use Rattle.std.proofs.Common.{ap, subst, sym}
 use Rattle.pc_page.proofs.PageLaws.{Adds-as}
+use Rattle.pc_reports.specs.Earned.{IsEarned}
 use Rattle.pc_reports.specs.ValueText.{value_text}
 use Rattle.pc_reports.proofs.value_report.ValueReport.write.Goals as goal
+
+pub put_value-requires : goal.put_value-requires
+put_value-requires g c = subst (IsEarned c.args.project.now) (sym c.self.view_is) c.requires
 
 pub returns-clause-text : goal.returns-clause-text
 returns-clause-text g c =
