@@ -15,5 +15,6 @@ mod BranchLaws
 mod DisorderLaws
 mod FigureLaws
 mod StateLaws
+mod CardPlaces
 pub mod SoundLaws
 pub mod OneProjectLaws

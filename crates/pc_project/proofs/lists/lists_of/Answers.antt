@@ -2,9 +2,12 @@ use Rattle.std.proofs.Common.{◌∙◌, ◌≤◌, ap, map, sym, subst}
 use Rattle.std.specs.Prelude.{All}
 use Rattle.std.proofs.lemmas.Simd.{map-map}
 use Rattle.pc_model.specs.declared.limits.TheConstants.{MAX_UNIT_DAYS}
+use Rattle.pc_times.specs.Estimates.{expected_time, variance_of}
 use Rattle.pc_deck.specs.inside.Act.{IsActWithin}
 use Rattle.pc_deck.specs.declared.kinds.project.ProjectCard.{ProjectCard}
 use Rattle.pc_deck.proofs.NumberLemmas.{acts-within, project-within}
+use Rattle.pc_project.specs.Misfit.{IsInOrder}
+use Rattle.pc_project.specs.Project.{term_of}
 use Rattle.pc_project.specs.inside.Project.{placement_of}
 use Rattle.pc_project.proofs.lists.lists_of.Goals as goal
 
@@ -29,3 +32,24 @@ variances-requires-clause-unit c =
 pub variances-requires-clause-within : goal.variances-requires-clause-within
 variances-requires-clause-within c =
     subst (All IsActWithin) (sym c.acts-acts.ensures.cards) (acts-within c.args.cards.now c.acts-acts.ensures.within)
+
+pub expected_times-requires-clause-ordered : goal.expected_times-requires-clause-ordered
+expected_times-requires-clause-ordered c = subst (All IsInOrder) (sym c.acts-acts.ensures.cards) c.requires.ordered
+
+pub variances-requires-clause-ordered : goal.variances-requires-clause-ordered
+variances-requires-clause-ordered c = subst (All IsInOrder) (sym c.acts-acts.ensures.cards) c.requires.ordered
+
+pub returns-clause-terms : goal.returns-clause-terms
+returns-clause-terms c = c.in_ok-terms.ensures ∙ ap (map term_of) c.acts-acts.ensures.cards
+
+pub returns-clause-expected : goal.returns-clause-expected
+returns-clause-expected c =
+    c.in_ok-expected_times.ensures
+    ∙ (ap (map (λ act. expected_time act.opt act.likely act.pess c.project.result.now.unit_days)) c.acts-acts.ensures.cards
+    ∙ ap (λ (card : ProjectCard). map (λ act. expected_time act.opt act.likely act.pess card.unit_days) c.args.cards.now.acts) c.project.ensures.card)
+
+pub returns-clause-variances : goal.returns-clause-variances
+returns-clause-variances c =
+    c.in_ok-variances.ensures
+    ∙ (ap (map (λ act. variance_of act.opt act.pess c.project.result.now.unit_days)) c.acts-acts.ensures.cards
+    ∙ ap (λ (card : ProjectCard). map (λ act. variance_of act.opt act.pess card.unit_days) c.args.cards.now.acts) c.project.ensures.card)
