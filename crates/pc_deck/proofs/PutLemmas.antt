@@ -8,7 +8,7 @@ use Rattle.pc_faults.specs.declared.kind.Kind.{Kind}
 use Rattle.pc_faults.specs.declared.kind.Kind.TheVariants.{Project, AsOf, Terms, Wbs, Event, Act, Piece, Acct, Charge, ToGo, Status, Res, Load, End}
 use Rattle.pc_deck.specs.Deck.{Deck}
 use Rattle.pc_deck.specs.Text.{deck_text, records_of, settled}
-use Rattle.pc_deck.specs.inside.Text.{further_text, lead_text, lists_text, work_text}
+use Rattle.pc_deck.specs.inside.Text.{lead_text, lists_text}
 
 -- nothing more
 pub put-none : (text : List ℕ) → text ≡ text ++ records_text []
@@ -28,26 +28,21 @@ put-some row got cards old new end more same is then =
     ∙ (append_assoc old (records_text (map row cards)) (records_text more)
     ∙ ap (λ text. old ++ text) (sym (flat_map-append record_text (map row cards) more))))
 
--- the text of some kinds and of further ones
-apart : (deck : Deck) (some more : List Kind) →
-    records_text (flat_map (records_of (settled deck)) (some ++ more))
-    ≡ records_text (flat_map (records_of (settled deck)) some) ++ records_text (flat_map (records_of (settled deck)) more)
-apart deck some more =
-    ap records_text (flat_map-append (records_of (settled deck)) some more)
-    ∙ flat_map-append record_text (flat_map (records_of (settled deck)) some) (flat_map (records_of (settled deck)) more)
-
--- the text of the lists in two parts
-pub two_texts : (deck : Deck) → lists_text deck ≡ work_text deck ++ further_text deck
-two_texts deck = apart deck (Wbs ∷ Event ∷ Act ∷ Piece ∷ Acct ∷ []) (Charge ∷ ToGo ∷ Status ∷ Res ∷ Load ∷ [])
-
 -- the text of a deck in three parts
 pub whole_text : (deck : Deck) → deck_text deck ≡ lead_text deck ++ (lists_text deck ++ record_text (word_of End ∷ []))
 whole_text deck =
-    apart deck lead (lists ++ End ∷ [])
-    ∙ ap (λ text. lead_text deck ++ text) (apart deck lists (End ∷ []) ∙ ap (λ text. lists_text deck ++ text) (append-nil (record_text (word_of End ∷ []))))
+    apart lead (lists ++ End ∷ [])
+    ∙ ap (λ text. lead_text deck ++ text) (apart lists (End ∷ []) ∙ ap (λ text. lists_text deck ++ text) (append-nil (record_text (word_of End ∷ []))))
   where
     lead : List Kind
     lead = Project ∷ AsOf ∷ Terms ∷ []
 
     lists : List Kind
     lists = Wbs ∷ Event ∷ Act ∷ Piece ∷ Acct ∷ Charge ∷ ToGo ∷ Status ∷ Res ∷ Load ∷ []
+
+    apart : (some more : List Kind) →
+        records_text (flat_map (records_of (settled deck)) (some ++ more))
+        ≡ records_text (flat_map (records_of (settled deck)) some) ++ records_text (flat_map (records_of (settled deck)) more)
+    apart some more =
+        ap records_text (flat_map-append (records_of (settled deck)) some more)
+        ∙ flat_map-append record_text (flat_map (records_of (settled deck)) some) (flat_map (records_of (settled deck)) more)

@@ -1,7 +1,7 @@
 //! Writing the text of a deck.
 ghost use Rattle.std.specs.Prelude.{◌≡◌, ◌++◌, IfOk, OnOk};
 ghost use Rattle.pc_deck.specs.Text.{deck_text, says_nothing, settled_terms};
-ghost use Rattle.pc_deck.specs.inside.Text.{further_text, lead_text, lists_text, work_text};
+ghost use Rattle.pc_deck.specs.inside.Text.{lead_text, lists_text};
 
 use crate::cards::Cards;
 use crate::kinds::{AsOfCard, ProjectCard, TermsCard};
@@ -75,26 +75,11 @@ impl Cards {
     fn put_lists(&self, text: &mut RowWriter) -> Result<(), AllocError>
         ensures { OnOk result (text.new ≡ text.old ++ lists_text self.now) }
     {
-        self.put_work(text)?;
-        self.put_further(text)
-    }
-
-    /// Puts the cards of the work: items, events, activities, pieces and accounts.
-    fn put_work(&self, text: &mut RowWriter) -> Result<(), AllocError>
-        ensures { OnOk result (text.new ≡ text.old ++ work_text self.now) }
-    {
         put_cards(self.items(), Kind::Wbs, text)?;
         put_cards(self.events(), Kind::Event, text)?;
         put_cards(self.acts(), Kind::Act, text)?;
         put_cards(self.pieces(), Kind::Piece, text)?;
         put_cards(self.accounts(), Kind::Acct, text)?;
-        Ok(())
-    }
-
-    /// Puts the cards of what was spent and done, and of resources.
-    fn put_further(&self, text: &mut RowWriter) -> Result<(), AllocError>
-        ensures { OnOk result (text.new ≡ text.old ++ further_text self.now) }
-    {
         put_cards(self.charges(), Kind::Charge, text)?;
         put_cards(self.togos(), Kind::ToGo, text)?;
         put_cards(self.statuses(), Kind::Status, text)?;

@@ -12,10 +12,3 @@ lead_text deck = records_text (flat_map (records_of (settled deck)) (Project ∷
 
 abbrev pub lists_text : Deck → List ℕ
 lists_text deck = records_text (flat_map (records_of (settled deck)) (Wbs ∷ Event ∷ Act ∷ Piece ∷ Acct ∷ Charge ∷ ToGo ∷ Status ∷ Res ∷ Load ∷ []))
-
--- the text of the cards of the work, and that of what was spent and done and of resources
-abbrev pub work_text : Deck → List ℕ
-work_text deck = records_text (flat_map (records_of (settled deck)) (Wbs ∷ Event ∷ Act ∷ Piece ∷ Acct ∷ []))
-
-abbrev pub further_text : Deck → List ℕ
-further_text deck = records_text (flat_map (records_of (settled deck)) (Charge ∷ ToGo ∷ Status ∷ Res ∷ Load ∷ []))
