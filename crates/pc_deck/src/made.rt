@@ -82,7 +82,7 @@ impl Cards {
 
 impl CardLists {
     ghost use Rattle.pc_deck.specs.inside.Kinds.{no_lists};
-    ghost use Rattle.pc_deck.specs.inside.Made.{AreNamedOnce, lists_of, work_of};
+    ghost use Rattle.pc_deck.specs.inside.Made.{AreNamedOnce, lists_of};
 
     /// Adds the cards of a plan to lists that have none. After an error the lists are of no more use.
     fn add_plan(&mut self, plan: &PlanLists) -> Result<(), AllocError>
@@ -90,32 +90,13 @@ impl CardLists {
         requires differ { AreNamedOnce plan.now }
         ensures { OnOk result (self.new ≡ lists_of plan.now) }
     {
-        self.add_work(plan)?;
-        self.add_further(plan)
-    }
-
-    /// Adds the items, events, activities, pieces and accounts of a plan to lists that have no cards.
-    fn add_work(&mut self, plan: &PlanLists) -> Result<(), AllocError>
-        requires empty { self.old ≡ no_lists }
-        requires differ { AreNamedOnce plan.now }
-        ensures { OnOk result (self.new ≡ work_of plan.now) }
-    {
+        self.as_of = Once::of(plan.as_of);
+        self.terms = Once::of(plan.terms);
         self.items.add_all(plan.items)?;
         self.events.add_all(plan.events)?;
         self.acts.add_all(plan.acts)?;
         self.pieces.add_all(plan.pieces)?;
         self.accounts.add_all(plan.accounts)?;
-        Ok(())
-    }
-
-    /// Adds the other cards of a plan to lists that have these.
-    fn add_further(&mut self, plan: &PlanLists) -> Result<(), AllocError>
-        requires begun { self.old ≡ work_of plan.now }
-        requires differ { AreNamedOnce plan.now }
-        ensures { OnOk result (self.new ≡ lists_of plan.now) }
-    {
-        self.as_of = Once::of(plan.as_of);
-        self.terms = Once::of(plan.terms);
         self.charges.add_all(plan.charges)?;
         self.togos.add_all(plan.togos)?;
         self.statuses.add_all(plan.statuses)?;

@@ -1,6 +1,6 @@
 //! Writing the text of a deck.
 ghost use Rattle.std.specs.Prelude.{◌≡◌, ◌++◌, IfOk, OnOk};
-ghost use Rattle.pc_deck.specs.Text.{deck_text, says_nothing, settled_terms};
+ghost use Rattle.pc_deck.specs.Text.{deck_text, settled_terms};
 ghost use Rattle.pc_deck.specs.inside.Text.{lead_text, lists_text};
 
 use crate::cards::Cards;
@@ -27,17 +27,10 @@ impl Cards {
         ensures { IfOk result (λ text. text.items ≡ deck_text self.now) }
     {
         let mut text = RowWriter::with_room(room, self.usual_length())?;
-        self.put_all(&mut text)?;
+        self.put_lead(&mut text)?;
+        self.put_lists(&mut text)?;
+        text.put(&[Kind::End.word()])?;
         text.finish()
-    }
-
-    /// Puts all cards.
-    fn put_all(&self, text: &mut RowWriter) -> Result<(), AllocError>
-        ensures { OnOk result (text.new ≡ text.old ++ deck_text self.now) }
-    {
-        self.put_lead(text)?;
-        self.put_lists(text)?;
-        text.put(&[Kind::End.word()])
     }
 
     /// About as many bytes as the text has, so that its room seldom grows.
@@ -94,16 +87,9 @@ fn settled_terms(terms: Option<TermsCard>) -> Option<TermsCard>
     ensures { result ≡ settled_terms terms }
 {
     let card = terms?;
-    if says_nothing(&card) {
+    if card.overhead == 0 && card.target == 0 && card.bonus == 0 && card.penalty == 0 {
         None
     } else {
         Some(card)
     }
-}
-
-/// Whether the four numbers of a TERMS card are 0.
-fn says_nothing(terms: &TermsCard) -> bool
-    ensures { result ≡ says_nothing terms.now }
-{
-    terms.overhead == 0 && terms.target == 0 && terms.bonus == 0 && terms.penalty == 0
 }

@@ -3,7 +3,6 @@
 use Rattle.std.specs.Prelude.{[], map}
 use Rattle.pc_model.specs.Codes.{IsNamedOnce}
 use Rattle.pc_deck.specs.Deck.{Deck}
-use Rattle.pc_deck.specs.inside.Kinds.{no_lists}
 use Rattle.pc_deck.specs.declared.kinds.CardLists.{CardLists}
 use Rattle.pc_deck.specs.declared.kinds.project.ProjectCard.{ProjectCard}
 use Rattle.pc_deck.specs.declared.made.PlanLists.{PlanLists}
@@ -25,16 +24,6 @@ lists_of plan = record {
   statuses = plan.statuses.now;
   resources = plan.resources.now;
   loads = plan.loads.now;
-}
-
--- the lists that have of a plan its items, events, activities, pieces and accounts, and no other cards
-abbrev pub work_of : PlanLists → CardLists
-work_of plan = record no_lists {
-  items = plan.items.now;
-  events = plan.events.now;
-  acts = plan.acts.now;
-  pieces = plan.pieces.now;
-  accounts = plan.accounts.now;
 }
 
 -- the plan that has this PROJECT card and these lists

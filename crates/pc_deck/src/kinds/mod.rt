@@ -1,7 +1,6 @@
 //! The kinds of cards, a file for each or for two whose cards have the same fields, and the table of them: the word of each kind,
 //! its list, and its limit in decks of each sort.
-ghost use Rattle.std.specs.Prelude.{◌≡◌, [], ◌∷◌, None, Some, OnOk, IfErr};
-ghost use Rattle.pc_faults.specs.declared.kind.Kind.TheVariants as kind;
+ghost use Rattle.std.specs.Prelude.{◌≡◌, None, Some, OnOk, IfErr};
 ghost use Rattle.pc_faults.specs.inside.First.{Refuses};
 ghost use Rattle.pc_deck.specs.Kinds.{kind_of, kind_among, first_kinds, work_kinds, further_kinds, limit_of};
 
@@ -160,13 +159,6 @@ pub fn kind_of(sort: Sort, field: &[u8]) -> Option<Kind>
     if field == b"CHARGE".as_slice() {
         return Some(Kind::Charge);
     }
-    other_kind(sort, field)
-}
-
-/// The kind that a field names, each word tried in turn.
-fn other_kind(sort: Sort, field: &[u8]) -> Option<Kind>
-    ensures { result ≡ kind_of sort field.now }
-{
     if let Some(kind) = first_kind(field) {
         return Some(kind);
     }
@@ -210,16 +202,6 @@ fn work_kind(sort: Sort, field: &[u8]) -> Option<Kind>
 fn further_kind(field: &[u8]) -> Option<Kind>
     ensures { result ≡ kind_among further_kinds field.now }
 {
-    if let Some(kind) = money_kind(field) {
-        return Some(kind);
-    }
-    last_kind(field)
-}
-
-/// The kind that a field names, of those of pieces and money.
-fn money_kind(field: &[u8]) -> Option<Kind>
-    ensures { result ≡ kind_among (kind.Piece ∷ kind.Acct ∷ kind.Charge ∷ kind.ToGo ∷ []) field.now }
-{
     if field == b"PIECE".as_slice() {
         Some(Kind::Piece)
     } else if field == b"ACCT".as_slice() {
@@ -228,16 +210,7 @@ fn money_kind(field: &[u8]) -> Option<Kind>
         Some(Kind::Charge)
     } else if field == b"TOGO".as_slice() {
         Some(Kind::ToGo)
-    } else {
-        None
-    }
-}
-
-/// The kind that a field names, of those that come last.
-fn last_kind(field: &[u8]) -> Option<Kind>
-    ensures { result ≡ kind_among (kind.Status ∷ kind.Res ∷ kind.Load ∷ kind.End ∷ []) field.now }
-{
-    if field == b"STATUS".as_slice() {
+    } else if field == b"STATUS".as_slice() {
         Some(Kind::Status)
     } else if field == b"RES".as_slice() {
         Some(Kind::Res)
