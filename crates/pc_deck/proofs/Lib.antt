@@ -19,4 +19,5 @@ pub mod TitleLemmas
 pub mod LengthLemmas
 pub mod OrderLemmas
 pub mod TextLaws
+pub mod EffortLemmas
 pub mod AgainLemmas
