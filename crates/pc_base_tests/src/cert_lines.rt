@@ -1,6 +1,5 @@
 //! Lines as they are spelled, and the order in which they come.
 use pc_cert::{CertLine, Place, line_len};
-use std::test::Fail;
 
 /// The numbers that a line says, in order, and 0 where it says fewer than six; a bit is 0 or 1.
 fn numbers(line: &CertLine) -> [u64; 6] {
@@ -42,70 +41,84 @@ fn code(line: &CertLine) -> Option<&[u8]> {
     }
 }
 
-#[test]
-fn lines_are_read(rt: HostRuntime) -> Result<(), Fail> {
-    let cases: [(&[u8], Option<&[u8]>, [u64; 6]); 8] = [
-        (b"CERT 2 E1 3 4", Some(b"E1"), [2, 3, 4, 0, 0, 0]),
-        (b"NORMAL", None, [0; 6]),
-        (b"STEP A.9_z-", Some(b"A.9_z-"), [0; 6]),
-        (b"SEGMENT 9 7 45 3", None, [9, 7, 45, 3, 0, 0]),
-        (b"EVENT M 4 1", Some(b"M"), [4, 1, 0, 0, 0, 0]),
-        (b"ACT A 2 3 0", Some(b"A"), [2, 3, 0, 0, 0, 0]),
-        (
-            b"ACT B 5 5 10 999999999999999999",
-            Some(b"B"),
-            [5, 5, 10, 999_999_999_999_999_999, 0, 0],
-        ),
-        (b"END", None, [0; 6]),
-    ];
-    for (bytes, word, says) in cases {
-        let line = CertLine::read(bytes).ok_or("a line")?;
-        assert_eq!(rt; code(&line), word);
-        assert_eq!(rt; numbers(&line), says);
+// Lines, with the code and the numbers of each.
+const LINES_READ: [(&[u8], Option<&[u8]>, [u64; 6]); 8] = [
+    (b"CERT 2 E1 3 4", Some(b"E1"), [2, 3, 4, 0, 0, 0]),
+    (b"NORMAL", None, [0; 6]),
+    (b"STEP A.9_z-", Some(b"A.9_z-"), [0; 6]),
+    (b"SEGMENT 9 7 45 3", None, [9, 7, 45, 3, 0, 0]),
+    (b"EVENT M 4 1", Some(b"M"), [4, 1, 0, 0, 0, 0]),
+    (b"ACT A 2 3 0", Some(b"A"), [2, 3, 0, 0, 0, 0]),
+    (
+        b"ACT B 5 5 10 999999999999999999",
+        Some(b"B"),
+        [5, 5, 10, 999_999_999_999_999_999, 0, 0],
+    ),
+    (b"END", None, [0; 6]),
+];
+
+// Whether these bytes are a line with this code and these numbers.
+fn is_read(bytes: &[u8], word: Option<&[u8]>, says: [u64; 6]) -> bool {
+    match CertLine::read(bytes) {
+        Some(line) => code(&line) == word && numbers(&line) == says,
+        None => false,
     }
-    Ok(())
 }
 
 #[test]
+fn lines_are_read(rt: HostRuntime) {
+    for (bytes, word, says) in LINES_READ {
+        assert!(rt; is_read(bytes, word, says), "{says:?}");
+    }
+}
+
+// Texts, and whether each is a line.
+const TEXTS: [(&[u8], bool); 20] = [
+    (b"", false),
+    (b"ACT A 4 3", false),
+    (b"ACT A 4 3 0", true),
+    (b"ACT A 4 1 2 3 4 5 6", true),
+    (b"ACT A 4 1 2 3 4 5 6 7", false),
+    (b"ACT  A 4 3 0", false),
+    (b"ACT A 04 3 0", false),
+    (b"ACT A 4 3 0 ", false),
+    (b"ACT A 4 3\t0", false),
+    (b"act A 4 3 0", false),
+    (b"EVENT M 4 0", true),
+    (b"EVENT M 4 2", false),
+    (b"EVENT M -4 1", false),
+    (b"CERT 1 E1 3 3", true),
+    (b"CERT 3 E1 3 3", false),
+    (b"SEGMENT 1000000000000000000 7 45 3", false),
+    (b"CLOSE", true),
+    (b"CLOSE ", false),
+    (b"END\r", false),
+    (b"STEP A B", false),
+];
+
+#[test]
 fn nothing_else_is_a_line(rt: HostRuntime) {
-    let cases: [(&[u8], bool); 20] = [
-        (b"", false),
-        (b"ACT A 4 3", false),
-        (b"ACT A 4 3 0", true),
-        (b"ACT A 4 1 2 3 4 5 6", true),
-        (b"ACT A 4 1 2 3 4 5 6 7", false),
-        (b"ACT  A 4 3 0", false),
-        (b"ACT A 04 3 0", false),
-        (b"ACT A 4 3 0 ", false),
-        (b"ACT A 4 3\t0", false),
-        (b"act A 4 3 0", false),
-        (b"EVENT M 4 0", true),
-        (b"EVENT M 4 2", false),
-        (b"EVENT M -4 1", false),
-        (b"CERT 1 E1 3 3", true),
-        (b"CERT 3 E1 3 3", false),
-        (b"SEGMENT 1000000000000000000 7 45 3", false),
-        (b"CLOSE", true),
-        (b"CLOSE ", false),
-        (b"END\r", false),
-        (b"STEP A B", false),
-    ];
-    for (bytes, is) in cases {
+    for (bytes, is) in TEXTS {
         assert_eq!(rt; CertLine::read(bytes).is_some(), is);
     }
 }
 
+// Where the first line ends of a hundred bytes of which none ends a line, then the last one, the thirty-sixth and the first; and of
+// no bytes.
+fn ends() -> [usize; 5] {
+    let mut text = [b'x'; 100];
+    let open = line_len(&text);
+    text[99] = b'\n';
+    let last = line_len(&text);
+    text[35] = b'\n';
+    let middle = line_len(&text);
+    text[0] = b'\n';
+    [open, last, middle, line_len(&text), line_len(b"")]
+}
+
 #[test]
 fn a_line_ends_at_its_first_end(rt: HostRuntime) {
-    let mut text = [b'x'; 100];
-    assert_eq!(rt; line_len(&text), 100);
-    text[99] = b'\n';
-    assert_eq!(rt; line_len(&text), 99);
-    text[35] = b'\n';
-    assert_eq!(rt; line_len(&text), 35);
-    text[0] = b'\n';
-    assert_eq!(rt; line_len(&text), 0);
-    assert_eq!(rt; line_len(b""), 0);
+    assert_eq!(rt; ends(), [100, 99, 35, 0, 0]);
 }
 
 // A line behind those before it, and whether it may stand there.
@@ -129,17 +142,30 @@ const LINES: [(&[u8], bool); 17] = [
     (b"END", false),
 ];
 
-#[test]
-fn lines_come_in_order(rt: HostRuntime) -> Result<(), Fail> {
-    let mut place = Place::Start;
-    for (bytes, may) in LINES {
-        let line = CertLine::read(bytes).ok_or("a line")?;
-        let next = place.next(&line);
-        assert_eq!(rt; next.is_some(), may);
-        if let Some(behind) = next {
-            place = behind;
+// Whether these bytes are a line that may stand at this place, which goes behind it then; none where they are no line.
+fn stands(place: &mut Place, bytes: &[u8]) -> Option<bool> {
+    let line = CertLine::read(bytes)?;
+    let Some(behind) = place.next(&line) else {
+        return Some(false);
+    };
+    *place = behind;
+    Some(true)
+}
+
+// The first of these lines that is not told so at this place and those behind it, or none.
+fn first_wrong(place: &mut Place, lines: &[(&[u8], bool)]) -> Option<usize> {
+    for i in 0..lines.len() {
+        let (bytes, may) = lines[i];
+        if stands(place, bytes) != Some(may) {
+            return Some(i);
         }
     }
+    None
+}
+
+#[test]
+fn lines_come_in_order(rt: HostRuntime) {
+    let mut place = Place::Start;
+    assert_eq!(rt; first_wrong(&mut place, &LINES), None);
     assert!(rt; matches!(place, Place::Ended));
-    Ok(())
 }

@@ -1,52 +1,92 @@
 //! The dates of a deck as day numbers, and what is no date.
 use pc_days::{DayError, date_of_sixths, day_text, days_between, read_day};
-use std::test::Fail;
+
+/// Whether the day of this date is spelled so.
+fn is_spelled(date: &[u8]) -> Option<bool> {
+    let day = read_day(date).ok()?;
+    Some(day_text(day).as_slice() == date)
+}
+
+/// How many days lie between two dates, and whether the first one is the earlier one.
+fn between(first: &[u8], second: &[u8]) -> Option<(i64, bool)> {
+    let (first, second) = (read_day(first).ok()?, read_day(second).ok()?);
+    Some((days_between(first, second), first < second))
+}
+
+// Two dates, how many days lie between them, and whether the first is the earlier one.
+const SPANS: [(&[u8], &[u8], (i64, bool)); 5] = [
+    (b"1970-01-01", b"2024-02-29", (19_782, true)),
+    (b"2024-02-29", b"1970-01-01", (-19_782, false)),
+    (b"1900-01-01", b"1970-01-01", (25_567, true)),
+    (b"1900-01-01", b"2024-02-29", (45_349, true)),
+    (b"2024-02-29", b"2199-12-31", (64_223, true)),
+];
 
 #[test]
-fn reads_the_days_of_a_deck(rt: HostRuntime) -> Result<(), Fail> {
-    let first = read_day(b"1900-01-01")?;
-    let last = read_day(b"2199-12-31")?;
-    let start = read_day(b"1970-01-01")?;
-    let leap = read_day(b"2024-02-29")?;
-    assert_eq!(rt; day_text(leap).as_slice(), b"2024-02-29".as_slice());
-    assert_eq!(rt; day_text(last).as_slice(), b"2199-12-31".as_slice());
-    assert_eq!(rt; days_between(start, leap), 19_782);
-    assert_eq!(rt; days_between(leap, start), -19_782);
-    assert_eq!(rt; days_between(first, start), 25_567);
-    assert!(rt; first < leap && leap < last);
-    Ok(())
+fn reads_the_days_of_a_deck(rt: HostRuntime) {
+    let spelled = [is_spelled(b"2024-02-29"), is_spelled(b"2199-12-31")];
+    assert_eq!(rt; spelled, [Some(true); 2]);
+    for (first, second, span) in SPANS {
+        assert_eq!(rt; between(first, second), Some(span));
+    }
+}
+
+// Fields that are no date.
+const MISSHAPEN: [&[u8]; 8] = [
+    b"",
+    b"2024-1-01",
+    b"2024-01-01 ",
+    b"2024/01/01",
+    b"20x4-01-01",
+    b"2024-00-10",
+    b"2023-02-29",
+    b"2100-02-29",
+];
+
+// Dates that no deck may name.
+const OUTSIDE: [&[u8]; 4] = [b"0000-01-01", b"0000-02-29", b"1899-12-31", b"2200-01-01"];
+
+/// The first of these fields that is not refused for this, or none.
+fn first_other(fields: &[&[u8]], error: DayError) -> Option<usize> {
+    for i in 0..fields.len() {
+        if read_day(fields[i]) != Err(error) {
+            return Some(i);
+        }
+    }
+    None
 }
 
 #[test]
 fn refuses_other_fields(rt: HostRuntime) {
-    let misshapen: [&[u8]; 8] = [
-        b"",
-        b"2024-1-01",
-        b"2024-01-01 ",
-        b"2024/01/01",
-        b"20x4-01-01",
-        b"2024-00-10",
-        b"2023-02-29",
-        b"2100-02-29",
-    ];
-    for field in misshapen {
-        assert_eq!(rt; read_day(field), Err(DayError::Shape));
-    }
-    let outside: [&[u8]; 4] = [b"0000-01-01", b"0000-02-29", b"1899-12-31", b"2200-01-01"];
-    for field in outside {
-        assert_eq!(rt; read_day(field), Err(DayError::Years));
+    assert_eq!(rt; first_other(&MISSHAPEN, DayError::Shape), None);
+    assert_eq!(rt; first_other(&OUTSIDE, DayError::Years), None);
+}
+
+/// How many days behind its start a date is at so many sixths, or none where it is out of print.
+fn days_of_sixths(sixths: i32) -> Option<Option<i64>> {
+    let start = read_day(b"2024-02-28").ok()?;
+    match date_of_sixths(start, i64::from(sixths)) {
+        Some(day) => Some(Some(days_between(start, day))),
+        None => Some(None),
     }
 }
 
+// Sixths of a day behind 2024-02-28, and how many whole days that is, or none where the date is out of print.
+const SIXTHS: [(i32, Option<i64>); 9] = [
+    (-6, Some(-1)),
+    (-5, Some(0)),
+    (0, Some(0)),
+    (1, Some(1)),
+    (6, Some(1)),
+    (7, Some(2)),
+    (13, Some(3)),
+    (18_000_000, None),
+    (-300_000, None),
+];
+
 #[test]
-fn rounds_sixths_up_to_days(rt: HostRuntime) -> Result<(), Fail> {
-    let start = read_day(b"2024-02-28")?;
-    let cases = [(-6, -1), (-5, 0), (0, 0), (1, 1), (6, 1), (7, 2), (13, 3)];
-    for (sixths, days) in cases {
-        let day = date_of_sixths(start, sixths).ok_or("out of print")?;
-        assert_eq!(rt; days_between(start, day), days);
+fn rounds_sixths_up_to_days(rt: HostRuntime) {
+    for (sixths, days) in SIXTHS {
+        assert_eq!(rt; days_of_sixths(sixths), Some(days));
     }
-    assert_eq!(rt; date_of_sixths(start, 18_000_000), None);
-    assert_eq!(rt; date_of_sixths(start, -300_000), None);
-    Ok(())
 }
