@@ -46,11 +46,13 @@ one_more n test more marks t are inside by = record {
 
 -- the task of one more row comes after some other, and some other comes after the one before it
 module _ (n : ℕ) (rows : List AfterRow) (j : ℕ) (d : AfterRow) (marks : List Bool) (inside : j < length rows) where
-  pub after_more : (get_or rows j d).task < n → AreMarks n (comes_after (take j rows)) marks → AreMarks n (comes_after (take (j + 1) rows)) (set marks (get_or rows j d).task true)
+  pub after_more : (get_or rows j d).task < n → AreMarks n (comes_after (take j rows)) marks →
+      AreMarks n (comes_after (take (j + 1) rows)) (set marks (get_or rows j d).task true)
   after_more known are =
       one_more n (comes_after (take j rows)) (comes_after (take (j + 1) rows)) marks (get_or rows j d).task are known (λ i. list_any_more (λ after. after.task == i) rows j d inside)
 
-  pub before_more : (get_or rows j d).before < n → AreMarks n (comes_before (take j rows)) marks → AreMarks n (comes_before (take (j + 1) rows)) (set marks (get_or rows j d).before true)
+  pub before_more : (get_or rows j d).before < n → AreMarks n (comes_before (take j rows)) marks →
+      AreMarks n (comes_before (take (j + 1) rows)) (set marks (get_or rows j d).before true)
   before_more known are =
       one_more n (comes_before (take j rows)) (comes_before (take (j + 1) rows)) marks (get_or rows j d).before are known (λ i. list_any_more (λ after. after.before == i) rows j d inside)
 

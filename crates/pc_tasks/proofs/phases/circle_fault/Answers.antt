@@ -52,9 +52,11 @@ told-requires-clause-some c =
 
 pub returns-in_ok-told-in-Some : goal.returns-in_ok-told-in-Some
 returns-in_ok-told-in-Some c =
-    let deck = c.args.cards.now in
-    (c.in-Some.circle.items, (
-      subst (λ rows. IsFirstTaskCycle rows c.in-Some.circle.items) c.requires.afters (rw c.in-Some.is at c.in_ok-circle.ensures),
-      c.in_ok-told-in-Some.ensures
-      ∙ ap (λ circle. task_cycle (slice_index (task_records deck) (slice_index circle 0)) (codes_at (task_codes deck) circle)) c.deref.ensures.value
-    ))
+    let deck = c.args.cards.now in (
+      c.in-Some.circle.items,
+      (
+        subst (λ rows. IsFirstTaskCycle rows c.in-Some.circle.items) c.requires.afters (rw c.in-Some.is at c.in_ok-circle.ensures),
+        c.in_ok-told-in-Some.ensures
+            ∙ ap (λ circle. task_cycle (slice_index (task_records deck) (slice_index circle 0)) (codes_at (task_codes deck) circle)) c.deref.ensures.value,
+      ),
+    )
