@@ -1,14 +1,16 @@
 -- What one more task or row puts behind what is drawn.
-use Rattle.std.proofs.Common.{◌≡◌, ℕ, suc, ◌+◌, ◌<◌, ◌≤◌, List, [], ◌∷◌, ◌++◌, length, take, get_or, All, sym, ap, ◌∙◌, subst, arith, append_assoc}
+use Rattle.std.proofs.Common.{◌≡◌, ℕ, suc, ◌+◌, ◌<◌, ◌≤◌, List, [], ◌∷◌, ◌++◌, length, map, take, get_or, All, sym, ap, ◌∙◌, subst, arith, append_assoc}
 use Rattle.std.proofs.lemmas.List.{length-take-le, take_more}
 use Rattle.pc_arrows.specs.Arrows.{firsts, lasts}
 use Rattle.pc_arrows.specs.Tasks.{AreAmong}
 use Rattle.pc_arrows.specs.declared.AfterRow.{AfterRow}
+use Rattle.pc_deck.specs.Deck.{Deck}
 use Rattle.pc_deck.specs.declared.kinds.act.ActCard.{ActCard}
 use Rattle.pc_deck.specs.declared.kinds.titled.TitledCard.{TitledCard}
 use Rattle.pc_deck.specs.declared.kinds.task.TaskCard.{TaskCard}
 use Rattle.pc_tasks.specs.Codes.{after_code, begin_code, end_code}
-use Rattle.pc_tasks.specs.Drawn.{after_links, drawn_event, link, task_act, task_acts, task_events}
+use Rattle.pc_tasks.specs.Drawn.{after_links, drawn_event, first_link, last_link, link, links_of, task_act, task_acts, task_events}
+use Rattle.pc_tasks.specs.Lists.{afters_in}
 use Rattle.pc_tasks.proofs.NetworkLemmas.{firsts-below, lasts-below}
 
 task_acts-push : (i : ℕ) (tasks : List TaskCard) (task : TaskCard) → task_acts i (tasks ++ task ∷ []) ≡ task_acts i tasks ++ task_act (i + length tasks) task ∷ []
@@ -91,3 +93,18 @@ put_events tasks front now i begin end inside is begins ends =
     (ap (λ y. task_events 0 (take i tasks) ++ y ∷ end ∷ []) (begins ∙ ap (λ k. drawn_event (begin_code k)) (sym n))
     ∙ (ap (λ y. task_events 0 (take i tasks) ++ drawn_event (begin_code (0 + length (take i tasks))) ∷ y ∷ []) (ends ∙ ap (λ k. drawn_event (end_code k)) (sym n))
     ∙ (sym (task_events-push 0 (take i tasks) (get_or tasks i no_task)) ∙ ap (task_events 0) (sym (take_more tasks i no_task inside)))))))
+
+-- the activities of the tasks and the links are all activities, where those at the two ends are the first and the last tasks
+module _ (deck : Deck) (afters : List AfterRow) (n : ℕ) (heads tails : List ℕ) (all : n ≡ length deck.tasks) (rows : afters ≡ afters_in deck) where
+  pub acts-put : heads ≡ firsts n afters → tails ≡ lasts n afters → (front items : List ActCard) → front ≡ [] →
+      items ≡ front ++ (task_acts 0 deck.tasks ++ (after_links 0 afters ++ (map (first_link deck) heads ++ map (last_link deck) tails))) →
+      items ≡ task_acts 0 deck.tasks ++ links_of deck
+  acts-put first last front items none put =
+      let h : heads ≡ firsts (length deck.tasks) (afters_in deck) = first ∙ (ap (λ m. firsts m afters) all ∙ ap (firsts (length deck.tasks)) rows) in
+      let t : tails ≡ lasts (length deck.tasks) (afters_in deck) = last ∙ (ap (λ m. lasts m afters) all ∙ ap (lasts (length deck.tasks)) rows) in
+      put
+      ∙ (ap (λ xs. xs ++ (task_acts 0 deck.tasks ++ (after_links 0 afters ++ (map (first_link deck) heads ++ map (last_link deck) tails)))) none
+      ∙ (ap (λ xs. task_acts 0 deck.tasks ++ (after_links 0 xs ++ (map (first_link deck) heads ++ map (last_link deck) tails))) rows
+      ∙ (ap (λ xs. task_acts 0 deck.tasks ++ (after_links 0 (afters_in deck) ++ (map (first_link deck) xs ++ map (last_link deck) tails))) h
+      ∙ ap (λ xs. task_acts 0 deck.tasks
+      ++ (after_links 0 (afters_in deck) ++ (map (first_link deck) (firsts (length deck.tasks) (afters_in deck)) ++ map (last_link deck) xs))) t)))

@@ -1,12 +1,15 @@
 -- Marks of tasks, and the numbers without one.
-use Rattle.std.proofs.Common.{◌≡◌, ℕ, ◌+◌, ◌<◌, ◌==◌, ◌||◌, Bool, true, false, cond, List, [], ◌∷◌, ◌++◌, length, get_or, set, refl, sym, ◌∙◌, ap, subst, ⊎_elim, arith}
+use Rattle.std.proofs.Common.{◌≡◌, ℕ, ◌+◌, ◌<◌, ◌==◌, ◌||◌, Bool, true, false, cond, List, [], ◌∷◌, ◌++◌, length, get_or, set, take, refl, sym, ◌∙◌, ap, subst, ⊎_elim, arith}
 use Rattle.std.specs.Prelude.{All, filter, not, replicate}
 use Rattle.std.specs.List.{range_with_len}
 use Rattle.std.proofs.lemmas.Bool.{cases_eq}
 use Rattle.std.proofs.lemmas.Bool.Decides.{nat_tests}
 use Rattle.std.proofs.lemmas.List.{append-nil, get_or-replicate, get_or-set_other, get_or-set_same, length-replicate, length-set, map-id}
 use Rattle.std.proofs.lemmas.List.Elements.{All-from_get_or, All-head, All-tail}
+use Rattle.std.proofs.lemmas.List.Folds.{list_any_more}
 use Rattle.std.proofs.lemmas.List.FromFn.{filter_of_map_range_with_len_more, get_or-range_with_len, length-range_with_len}
+use Rattle.pc_arrows.specs.Arrows.{comes_after, comes_before}
+use Rattle.pc_arrows.specs.declared.AfterRow.{AfterRow}
 use Rattle.pc_tasks.specs.inside.Marks.{AreMarks}
 
 -- no mark is set at first
@@ -40,6 +43,18 @@ one_more n test more marks t are inside by = record {
       ∙ sym (by i ∙ (ap (λ b. test i || b) (other_number t i differs) ∙ or_false (test i)))))
       (cases_eq i t);
 }
+
+-- the task of one more row comes after some other, and some other comes after the one before it
+module _ (n : ℕ) (rows : List AfterRow) (j : ℕ) (d : AfterRow) (marks : List Bool) (inside : j < length rows) where
+  pub after_more : (get_or rows j d).task < n → AreMarks n (comes_after (take j rows)) marks →
+      AreMarks n (comes_after (take (j + 1) rows)) (set marks (get_or rows j d).task true)
+  after_more known are =
+      one_more n (comes_after (take j rows)) (comes_after (take (j + 1) rows)) marks (get_or rows j d).task are known (λ i. list_any_more (λ after. after.task == i) rows j d inside)
+
+  pub before_more : (get_or rows j d).before < n → AreMarks n (comes_before (take j rows)) marks →
+      AreMarks n (comes_before (take (j + 1) rows)) (set marks (get_or rows j d).before true)
+  before_more known are =
+      one_more n (comes_before (take j rows)) (comes_before (take (j + 1) rows)) marks (get_or rows j d).before are known (λ i. list_any_more (λ after. after.before == i) rows j d inside)
 
 -- tests that agree keep the same
 filter-agree : (p q : ℕ → Bool) (xs : List ℕ) → All (λ x. p x ≡ q x) xs → filter p xs ≡ filter q xs

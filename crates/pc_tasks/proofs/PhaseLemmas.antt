@@ -1,5 +1,5 @@
 -- What the fault of a phase says of a deck of tasks.
-use Rattle.std.proofs.Common.{◌≡◌, ℕ, ◌<◌, List, [], ◌∷◌, subst, arith}
+use Rattle.std.proofs.Common.{◌≡◌, ℕ, ◌<◌, List, [], ◌∷◌, length, refl, subst, arith}
 use Rattle.std.specs.Prelude.{All}
 use Rattle.std.proofs.lemmas.List.Elements.{All-cons, All-nil}
 use Rattle.pc_arrows.specs.Cycles.{IsFirstTaskCycle, IsTaskWalk}
@@ -31,3 +31,8 @@ walk_known n afters among s t (v ∷ tasks) (same, u, (j, inside, task_is, befor
 
 pub circle-known : (n : ℕ) (afters : List AfterRow) (tasks : List ℕ) → AreAmong n afters → IsFirstTaskCycle afters tasks → All (λ task. task < n) tasks
 circle-known n afters tasks among first = walk_known n afters among first.cycle.1.0 first.cycle.1.0 tasks first.cycle.1.1
+
+-- and there is some
+pub circle-some : (afters : List AfterRow) (tasks : List ℕ) → IsFirstTaskCycle afters tasks → 0 < length tasks
+circle-some afters [] first = absurd (first.cycle.0 refl)
+circle-some afters (task ∷ tasks) first = omega arith

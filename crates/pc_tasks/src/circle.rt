@@ -28,9 +28,28 @@ pub(crate) fn first_circle(
         ((cycle : List ℕ) → IsTaskCycle afters.now cycle → ⊥)
         (λ cycle. IsFirstTaskCycle afters.now cycle.items)) }
 {
-    wide_arrows_have_the_cycles();
     let arcs = wide_arcs(alloc, tasks, afters)?;
-    match Net::build(alloc, 2 * tasks + 2, 0, 2 * tasks + 1, &arcs) {
+    circle_in(alloc, tasks, afters, &arcs)
+}
+
+/// The tasks of the first circle, which the network of the wide arrows has exactly where there is one.
+fn circle_in(
+    alloc: Global,
+    tasks: u32,
+    afters: &[AfterRow],
+    arcs: &[Arc],
+) -> Result<Option<Vec<u32>>, AllocError>
+    requires some { 0 < tasks }
+    requires few { tasks ≤ MAX_TASKS }
+    requires few_afters { length afters.now ≤ MAX_AFTERS }
+    requires among { AreAmong tasks afters.now }
+    requires wide { arcs.now ≡ (wide_arrows tasks afters.now).arcs }
+    ensures { IfOk result (λ found. MatchOption found
+        ((cycle : List ℕ) → IsTaskCycle afters.now cycle → ⊥)
+        (λ cycle. IsFirstTaskCycle afters.now cycle.items)) }
+{
+    wide_arrows_have_the_cycles();
+    match Net::build(alloc, 2 * tasks + 2, 0, 2 * tasks + 1, arcs) {
         Ok(_) => Ok(None),
         Err(NetError::Cycle(walk)) => Ok(Some(tasks_of(alloc, tasks, walk.as_slice())?)),
         Err(NetError::OutOfMemory) => Err(AllocError),
@@ -49,11 +68,20 @@ fn wide_arcs(alloc: Global, tasks: u32, afters: &[AfterRow]) -> Result<Vec<Arc>,
 {
     let room = 3 * tasks as usize + afters.len();
     let mut arcs = Vec::with_capacity(alloc, room)?;
-    put_tasks(&mut arcs, tasks)?;
-    put_afters(&mut arcs, tasks, afters)?;
-    put_firsts(&mut arcs, tasks)?;
-    put_lasts(&mut arcs, tasks)?;
+    put_arcs(&mut arcs, tasks, afters)?;
     Ok(arcs)
+}
+
+/// Puts the activities of the wide arrows behind others.
+fn put_arcs(arcs: &mut Vec<Arc>, tasks: u32, afters: &[AfterRow]) -> Result<(), AllocError>
+    requires few { tasks ≤ MAX_TASKS }
+    requires among { AreAmong tasks afters.now }
+    ensures { OnOk result (arcs.new.items ≡ arcs.old.items ++ (wide_arrows tasks afters.now).arcs) }
+{
+    put_tasks(arcs, tasks)?;
+    put_afters(arcs, tasks, afters)?;
+    put_firsts(arcs, tasks)?;
+    put_lasts(arcs, tasks)
 }
 
 /// Puts each task behind the activities.

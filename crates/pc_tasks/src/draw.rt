@@ -76,11 +76,29 @@ pub(crate) fn acts_of(
     let tails = lasts(alloc, tasks, afters)?;
     let room = cards.tasks().len() + afters.len() + heads.len() + tails.len();
     let mut acts = Vec::with_capacity(alloc, room)?;
-    put_tasks(&mut acts, cards.tasks())?;
-    put_afters(&mut acts, afters)?;
-    put_firsts(&mut acts, cards, &heads)?;
-    put_lasts(&mut acts, cards, &tails)?;
+    put_acts(&mut acts, cards, afters, &heads, &tails)?;
     Ok(acts)
+}
+
+/// Puts the tasks as activities behind the activities, and then the links.
+fn put_acts(
+    acts: &mut Vec<ActCard>,
+    cards: &TaskCards,
+    afters: &[AfterRow],
+    heads: &[u32],
+    tails: &[u32],
+) -> Result<(), AllocError>
+    requires few { length afters.now ≤ 20_000 }
+    requires among { AreAmong 4_000 afters.now }
+    requires heads { All (λ i. i < 20_000) heads.now }
+    requires tails { All (λ i. i < 20_000) tails.now }
+    ensures { OnOk result (acts.new.items ≡ acts.old.items ++ (task_acts 0 cards.now.tasks
+        ++ (after_links 0 afters.now ++ (map (first_link cards.now) heads.now ++ map (last_link cards.now) tails.now)))) }
+{
+    put_tasks(acts, cards.tasks())?;
+    put_afters(acts, afters)?;
+    put_firsts(acts, cards, heads)?;
+    put_lasts(acts, cards, tails)
 }
 
 /// The activity of a task.

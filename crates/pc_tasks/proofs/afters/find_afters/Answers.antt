@@ -1,12 +1,13 @@
-use Rattle.std.proofs.Common.{◌≡◌, ◌+◌, ◌∙◌, sym, ap, subst, None}
+use Rattle.std.proofs.Common.{◌≡◌, ◌+◌, ◌∙◌, sym, ap, map, subst, None}
 use Rattle.std.specs.Prelude.{Option, Some}
 use Rattle.std.specs.List.{Any}
+use Rattle.std.proofs.lemmas.List.{take_all}
 use Rattle.pc_faults.specs.declared.fault.Fault.{Fault}
 use Rattle.pc_faults.specs.inside.First.{IsFirstIn, earliest}
 use Rattle.pc_tasks.specs.Lists.{after_row}
 use Rattle.pc_tasks.specs.Misfit.{HasAfterFault}
 use Rattle.pc_faults.proofs.FirstLaws.{earliest-none}
-use Rattle.pc_project.proofs.LoopLaws.{IsFirstBefore, first_with, first_without, first_of_all, map_take_more}
+use Rattle.pc_project.proofs.LoopLaws.{IsFirstBefore, first_with, first_without, first_of_all, first_of_none, map_take_more}
 use Rattle.pc_tasks.proofs.afters.find_afters.Goals.{in-Ok+in_ok-push-in-Ok, in-Err}
 use Rattle.pc_tasks.proofs.afters.find_afters.Goals as goal
 
@@ -38,3 +39,11 @@ pub returns-clause-first : goal.returns-clause-first
 returns-clause-first c =
     subst (λ list. IsFirstIn (λ fault. Any (λ card. HasAfterFault c.args.cards.now card fault) list) c.loop-card.fault) c.afters-list.ensures.cards
     (first_of_all (HasAfterFault c.args.cards.now) c.afters-list.result.now c.loop-card.card-index c.loop-card.fault c.loop-card-test.false c.loop-card.invariant.first)
+
+pub loop-card-init : goal.loop-card-init
+loop-card-init c = record { first = first_of_none (HasAfterFault c.args.cards.now) c.afters-list.result.now; rows = λ none. c.in_ok-rows.ensures.items }
+
+pub returns-clause-rows : goal.returns-clause-rows
+returns-clause-rows c = λ none.
+    let rows = map (after_row c.args.cards.now) in
+    c.loop-card.invariant.rows none ∙ (ap rows (take_all c.loop-card.card-index c.afters-list.result.now c.loop-card-test.false) ∙ ap rows c.afters-list.ensures.cards)

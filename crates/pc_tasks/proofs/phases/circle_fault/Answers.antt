@@ -1,12 +1,16 @@
-use Rattle.std.proofs.Common.{◌<◌, length, ap, sym, subst, arith}
-use Rattle.std.specs.Prelude.{All}
+use Rattle.std.proofs.Common.{◌<◌, ◌∙◌, length, ap, sym, subst, arith}
+use Rattle.std.specs.Prelude.{All, slice_index}
 use Rattle.std.proofs.lemmas.List.{length-map}
-use Rattle.pc_arrows.specs.Cycles.{IsTaskCycle}
+use Rattle.pc_arrows.specs.Cycles.{IsFirstTaskCycle, IsTaskCycle}
 use Rattle.pc_arrows.specs.Tasks.{AreAmong}
+use Rattle.pc_deck.specs.Deck.{task_codes}
+use Rattle.pc_faults.specs.Faults.{task_cycle}
+use Rattle.pc_project.specs.Records.{codes_at}
 use Rattle.pc_tasks.specs.Lists.{after_row}
+use Rattle.pc_tasks.specs.Refusal.{task_records}
 use Rattle.pc_tasks.proofs.KeepLemmas.{rows-among}
 use Rattle.pc_tasks.proofs.KnownLemmas.{can_be_drawn}
-use Rattle.pc_tasks.proofs.PhaseLemmas.{circle-known}
+use Rattle.pc_tasks.proofs.PhaseLemmas.{circle-known, circle-some}
 use Rattle.pc_tasks.proofs.WithinLemmas.{few-afters, few-tasks}
 use Rattle.pc_tasks.proofs.phases.circle_fault.Goals as goal
 
@@ -38,3 +42,21 @@ told-requires-clause-known c =
 pub returns-in-None : goal.returns-in-None
 returns-in-None c = λ tasks round.
     (rw c.in-None.is at c.in_ok-circle.ensures) tasks (subst (λ rows. IsTaskCycle rows tasks) (sym c.requires.afters) round)
+
+pub first_circle-requires-clause-some : goal.first_circle-requires-clause-some
+first_circle-requires-clause-some c = omega (arith, ap length c.tasks-tasks.ensures.cards, c.requires.some)
+
+pub told-requires-clause-some : goal.told-requires-clause-some
+told-requires-clause-some c =
+    subst (λ circle. 0 < length circle) (sym c.deref.ensures.value) (circle-some c.args.afters.now c.in-Some.circle.items (rw c.in-Some.is at c.in_ok-circle.ensures))
+
+pub returns-in_ok-told-in-Some : goal.returns-in_ok-told-in-Some
+returns-in_ok-told-in-Some c =
+    let deck = c.args.cards.now in (
+      c.in-Some.circle.items,
+      (
+        subst (λ rows. IsFirstTaskCycle rows c.in-Some.circle.items) c.requires.afters (rw c.in-Some.is at c.in_ok-circle.ensures),
+        c.in_ok-told-in-Some.ensures
+            ∙ ap (λ circle. task_cycle (slice_index (task_records deck) (slice_index circle 0)) (codes_at (task_codes deck) circle)) c.deref.ensures.value,
+      ),
+    )
