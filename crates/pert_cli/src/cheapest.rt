@@ -1,5 +1,5 @@
 //! A schedule of least cost for a length of the project's range.
-ghost use Rattle.std.specs.Prelude.{◌≡◌, ◌≤◌, IfOk, IfErr, IfSome, IfNone};
+ghost use Rattle.std.specs.Prelude.{◌≡◌, ◌≤◌, false, IfOk, IfErr, IfSome, IfNone};
 ghost use Rattle.pc_crash.specs.inside.Steps.{IsBlankOf};
 ghost use Rattle.pc_curve.specs.inside.Points.{HasPlaces, IsToCome};
 ghost use Rattle.pc_faults.specs.inside.FaultText.{IsTold};
@@ -12,7 +12,7 @@ ghost use Rattle.pert_cli.specs.Point.{IsCheapest, IsCheapestFor, IsOutside};
 ghost use Rattle.pert_cli.specs.inside.Point.{HasNoSchedule};
 
 use crate::solving::solver_region;
-use pc_crash::Steps;
+use pc_crash::{CrashNet, Steps};
 use pc_curve::point_at;
 use pc_faults::Fault;
 use pc_flow::Solver;
@@ -23,7 +23,7 @@ use std::marker::{Brand, Model};
 use std::sync::ledger::{Blank, Ledger};
 
 /// Why there is no schedule for a length.
-#[derive(Debug, Drop)]
+#[derive(Drop)]
 pub(crate) enum NoSchedule {
     /// The length lies outside the project's range.
     Outside(Fault),
@@ -74,11 +74,38 @@ impl CheapestSchedule {
         ensures none { IfErr result (HasNoSchedule (priced_in project.now) limit) }
     {
         let net = project.priced(alloc)?;
-        let mut solver = Solver::begin(solver_region(alloc, project)?, &net);
-        if let Some(fault) = outside(&solver, limit) {
+        CheapestSchedule::by_net(alloc, project, &net, limit)
+    }
+
+    /// The same by the network of the project.
+    fn by_net(
+        alloc: Global,
+        project: &Project,
+        net: &CrashNet<'_>,
+        limit: u64,
+    ) -> Result<CheapestSchedule, NoSchedule>
+        requires { net.now ≡ priced_in project.now }
+        ensures cheapest { IfOk result (IsCheapestFor net.now limit) }
+        ensures none { IfErr result (HasNoSchedule net.now limit) }
+    {
+        let mut solver = Solver::begin(solver_region(alloc, project)?, net);
+        CheapestSchedule::by_solver(alloc, &mut solver, limit)
+    }
+
+    /// The same by a solver of the network before its first segment.
+    fn by_solver(
+        alloc: Global,
+        solver: &mut Solver<'_>,
+        limit: u64,
+    ) -> Result<CheapestSchedule, NoSchedule>
+        requires { solver.old.given ≡ false }
+        ensures cheapest { IfOk result (IsCheapestFor solver.old.net limit) }
+        ensures none { IfErr result (HasNoSchedule solver.old.net limit) }
+    {
+        if let Some(fault) = outside(solver, limit) {
             return Err(NoSchedule::Outside(fault));
         }
-        Ok(CheapestSchedule::find(alloc, &mut solver, limit)?)
+        Ok(CheapestSchedule::find(alloc, solver, limit)?)
     }
 
     /// A cheapest schedule for a length, to which the solver of the network comes down.

@@ -6,18 +6,19 @@ ghost use Rattle.pc_edges.specs.inside.Writes.{Writes};
 ghost use Rattle.pc_page.specs.inside.Page.{fresh};
 ghost use Rattle.pert_cli.specs.Handing.{IsReply};
 ghost use Rattle.pert_cli.specs.inside.Handing.{Answers};
+ghost use Rattle.pc_reading.specs.Priced.{priced_in};
 ghost use Rattle.pc_reading.specs.Sides.{side};
 ghost use Rattle.pert_cli.specs.declared.forms.Form.TheVariants.{Curve};
 
 use crate::solving::Workplace;
-use pc_crash::Steps;
+use pc_crash::{CrashNet, Steps};
 use pc_curve::write_curve;
 use pc_edges::{Failed, Sink};
 use pc_flow::Solver;
 use pc_page::Page;
 use pc_project::Project;
 use pc_reading::Status;
-use std::alloc::Global;
+use std::alloc::{AllocError, Global};
 use std::marker::Brand;
 use std::sync::ledger::{Blank, Ledger};
 
@@ -28,15 +29,22 @@ pub(crate) const WORDS: &[u8] = b"curve";
 pub(crate) fn answer<O: Sink>(alloc: Global, project: &Project, out: &mut O) -> Status
     ensures { Answers (IsReply Curve project.now) (side O.taken O.faults out.old out.new) result }
 {
+    match project.priced(alloc) {
+        Ok(net) => answer_by(alloc, project, &net, out),
+        Err(AllocError) => Status::OutOfMemory,
+    }
+}
+
+/// Answers the form by the network of the project.
+fn answer_by<O: Sink>(alloc: Global, project: &Project, net: &CrashNet<'_>, out: &mut O) -> Status
+    requires { net.now ≡ priced_in project.now }
+    ensures { Answers (IsReply Curve project.now) (side O.taken O.faults out.old out.new) result }
+{
     let Ok(place) = Workplace::take(alloc, project) else {
         return Status::OutOfMemory;
     };
-    let Workplace {
-        net,
-        region,
-        mut page,
-    } = place;
-    let mut solver = Solver::begin(region, &net);
+    let Workplace { region, mut page } = place;
+    let mut solver = Solver::begin(region, net);
     match write::<O, Brand>(&mut page, out, &mut solver, Blank::new(1)) {
         Ok(()) => Status::Done,
         Err(Failed) => Status::WriteFault,

@@ -61,7 +61,7 @@ fn append(line: &mut ArrayVec<u8, USAGE_ROOM>, before: &[u8], words: &[u8])
 }
 
 /// What the words can ask for.
-#[derive(Clone, Copy, Debug, PartialEq, Eq)]
+#[derive(Clone, Copy)]
 pub(crate) enum Form {
     /// Whether the deck is accepted, and how many cards of each kind it has.
     Check,

@@ -1,6 +1,5 @@
 //! `optimum`: the length for which the project costs least in all, and a schedule for it.
-ghost use Rattle.std.specs.Prelude.{◌≡◌, ◌+◌, ◌*◌, ◌≤◌, false, length, IfOk};
-ghost use Rattle.pc_cells.specs.inside.Spans.{free_of};
+ghost use Rattle.std.specs.Prelude.{◌≡◌, false, IfOk};
 ghost use Rattle.pc_crash.specs.inside.Steps.{IsBlankOf};
 ghost use Rattle.pc_curve.specs.Points.{curve_in};
 ghost use Rattle.pc_curve.specs.inside.Points.{IsThere};
@@ -17,12 +16,11 @@ ghost use Rattle.pert_cli.specs.declared.forms.Form.TheVariants.{Optimum};
 
 use crate::answer::{Answer, deliver};
 use crate::cheapest::CheapestSchedule;
-use crate::solving::Workplace;
-use pc_cells::Region;
+use crate::solving::solver_region;
 use pc_crash::{CrashNet, Steps};
 use pc_edges::{Failed, Sink};
 use pc_flow::Solver;
-use pc_page::Page;
+use pc_page::{PAGE_ROOM, Page};
 use pc_project::Project;
 use pc_reading::Status;
 use pc_reports::put_plan;
@@ -56,9 +54,8 @@ impl OptimumAnswer {
         ensures optimum { IfOk result (λ answer.
             IsOptimumWith (priced_in project.now) project.now.time_terms answer.best answer.schedule) }
     {
-        let place = Workplace::take(alloc, project)?;
-        let Workplace { net, region, page } = place;
-        let (best, schedule) = solve(alloc, &net, region, &terms_of(project))?;
+        let page = Page::with_room(alloc, PAGE_ROOM)?;
+        let (best, schedule) = optimum_of(alloc, project)?;
         Ok(OptimumAnswer {
             page,
             best,
@@ -94,20 +91,27 @@ fn terms_of(project: &Project) -> TimeTerms
     }
 }
 
-/// The optimum of a network's curve, and a schedule for it. The solver goes down as far as it pays, and the schedule is read
+/// The optimum of a project's curve, and a schedule for it.
+fn optimum_of(alloc: Global, project: &Project) -> Result<(Best, CheapestSchedule), AllocError>
+    ensures { IfOk result (λ found. IsOptimumWith (priced_in project.now) project.now.time_terms found.0 found.1) }
+{
+    let net = project.priced(alloc)?;
+    solve(alloc, project, &net, &terms_of(project))
+}
+
+/// The optimum of the curve of a project's network, and a schedule for it. The solver goes down as far as it pays, and the schedule is read
 /// where it came to.
 fn solve(
     alloc: Global,
+    project: &Project,
     net: &CrashNet<'_>,
-    region: Region,
     terms: &TimeTerms,
 ) -> Result<(Best, CheapestSchedule), AllocError>
-    requires region { 8 * net.now.network.events + 6 * length net.now.network.arcs + 2 * length net.now.pieces + 16
-        ≤ free_of region }
+    requires net { net.now ≡ priced_in project.now }
     requires terms { AreTimeTerms terms.now }
     ensures { IfOk result (λ found. IsOptimumWith net.now terms.now found.0 found.1) }
 {
-    let mut solver = Solver::begin(region, net);
+    let mut solver = Solver::begin(solver_region(alloc, project)?, net);
     let best = find::<Brand>(&mut solver, terms, Blank::new(1));
     let schedule = CheapestSchedule::find(alloc, &mut solver, best.length)?;
     Ok((best, schedule))

@@ -2,36 +2,31 @@
 ghost use Rattle.std.specs.Prelude.{◌≡◌, ◌+◌, ◌*◌, ◌≤◌, length, IfOk};
 ghost use Rattle.pc_cells.specs.inside.Spans.{free_of};
 ghost use Rattle.pc_page.specs.inside.Page.{fresh};
-ghost use Rattle.pc_reading.specs.Priced.{priced_in};
 
 use pc_cells::Region;
-use pc_crash::CrashNet;
 use pc_flow::cells_needed;
 use pc_page::{PAGE_ROOM, Page};
 use pc_project::Project;
 use std::alloc::{AllocError, Global};
 
-/// All memory of a form that solves and writes as it goes: the network whose curve is solved, what a solver of it works in, and
-/// the page.
+/// All memory of a form that solves and writes as it goes, beside the network whose curve is solved: what a solver of it works in,
+/// and the page.
 #[derive(Drop)]
-pub(crate) struct Workplace<'p> {
-    pub(crate) net: CrashNet<'p>,
+pub(crate) struct Workplace {
     pub(crate) region: Region,
     pub(crate) page: Page,
 }
 
-impl<'p> Workplace<'p> {
+impl Workplace {
     /// The memory for the curve of a project. It does not depend on the curve.
-    pub(crate) fn take(alloc: Global, project: &'p Project) -> Result<Workplace<'p>, AllocError>
-        ensures net { IfOk result (λ place. place.net ≡ priced_in project.now) }
-        ensures region { IfOk result (λ place. 8 * place.net.network.events + 6 * length place.net.network.arcs
-            + 2 * length place.net.pieces + 16 ≤ free_of place.region) }
+    pub(crate) fn take(alloc: Global, project: &Project) -> Result<Workplace, AllocError>
+        ensures region { IfOk result (λ place. 8 * project.now.network.events + 6 * length project.now.network.arcs
+            + 2 * length project.now.pieces + 16 ≤ free_of place.region) }
         ensures page { IfOk result (λ place. place.page ≡ fresh) }
     {
         Ok(Workplace {
-            net: project.priced(alloc)?,
-            region: solver_region(alloc, project)?,
             page: Page::with_room(alloc, PAGE_ROOM)?,
+            region: solver_region(alloc, project)?,
         })
     }
 }

@@ -1,14 +1,10 @@
-use Rattle.std.proofs.Common.{◌∙◌, subst}
-use Rattle.pc_crash.specs.Priced.{PricedNetwork}
-use Rattle.pc_bench.specs.Report.{IsBenchText}
+use Rattle.pc_reading.proofs.PricedLaws.{priced_is}
 use Rattle.pert_cli.proofs.bench.answer.Goals as goal
 
-pub returns-in-Ok-write : goal.returns-in-Ok-write
-returns-in-Ok-write g c =
-    let (text, right, written) = c.in-Ok-write.ensures in
-    (text, record { right = subst (λ (net : PricedNetwork). IsBenchText c.args.n net text) (c.begin-solver.ensures.net ∙ c.in-Ok.ensures.net) right; fits = λ fault denied. denied }, written.ok)
+pub answer_by-requires : goal.answer_by-requires
+answer_by-requires g c =
+    let has = c.in-Ok.ensures in
+    priced_is c.in-Ok.net c.args.project.now has.network has.terms has.pieces has.project has.events has.activities
 
-pub returns : goal.returns
-returns g c =
-    let (text, right, written) = c.in-Err.ensures in
-    (text, record { right = subst (λ (net : PricedNetwork). IsBenchText c.args.n net text) (c.begin-solver.ensures.net ∙ c.in-Ok.ensures.net) right; fits = λ fault denied. denied }, written.err)
+pub returns-in-Ok : goal.returns-in-Ok
+returns-in-Ok g c = c.answer_by.ensures

@@ -62,3 +62,27 @@ returns-in-Err-clause-near g c = ([], Consumes-nil (g.S.Source.left c.args.sourc
 
 pub answer-requires : goal.answer-requires
 answer-requires g c = c.in-Some.ensures.form.numbered
+
+pub returns-in-Ok-project_for-clause-turns : goal.returns-in-Ok-project_for-clause-turns
+returns-in-Ok-project_for-clause-turns g c = c.project_for.ensures.turns
+
+pub returns-in-Ok-project_for-clause-near : goal.returns-in-Ok-project_for-clause-near
+returns-in-Ok-project_for-clause-near g c = c.project_for.ensures.near
+
+pub returns-in-Err-Refused-clause-turns : goal.returns-in-Err-Refused-clause-turns
+returns-in-Err-Refused-clause-turns g c = c.project_for.ensures.turns
+
+pub returns-in-Err-Refused-clause-near : goal.returns-in-Err-Refused-clause-near
+returns-in-Err-Refused-clause-near g c = c.project_for.ensures.near
+
+pub returns-in-Err-ReadFault-clause-turns : goal.returns-in-Err-ReadFault-clause-turns
+returns-in-Err-ReadFault-clause-turns g c = c.project_for.ensures.turns
+
+pub returns-in-Err-ReadFault-clause-near : goal.returns-in-Err-ReadFault-clause-near
+returns-in-Err-ReadFault-clause-near g c = c.project_for.ensures.near
+
+pub returns-clause-turns : goal.returns-clause-turns
+returns-clause-turns g c = c.project_for.ensures.turns
+
+pub returns-clause-near : goal.returns-clause-near
+returns-clause-near g c = c.project_for.ensures.near
