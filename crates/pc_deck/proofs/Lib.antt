@@ -19,5 +19,4 @@ pub mod TitleLemmas
 pub mod LengthLemmas
 pub mod OrderLemmas
 pub mod TextLaws
-pub mod EffortLemmas
 pub mod AgainLemmas

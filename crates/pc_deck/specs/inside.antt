@@ -1,6 +1,5 @@
 -- What contracts within and between crates speak of besides what the clauses of the top calls and the laws reach.
 pub mod Act
-pub mod Effort
 pub mod Kinds
 pub mod Text
 pub mod Judged

@@ -1,6 +1,6 @@
 //! Reading the cards of a deck, or its first fault.
-ghost use Rattle.std.specs.Prelude.{◌≡◌, true, ◌≤◌, ◌+◌, length, Ok, Err, All, IfOk, IfErr, OnOk};
-ghost use Rattle.std.specs.Str.{IsUtf8, is_utf8};
+ghost use Rattle.std.specs.Prelude.{◌≡◌, true, ◌≤◌, ◌+◌, length, Ok, Err, IfOk, IfErr, OnOk};
+ghost use Rattle.std.specs.Str.{is_utf8};
 ghost use Rattle.pc_records.specs.Deck.{deck_records};
 ghost use Rattle.pc_faults.specs.inside.First.{Refuses};
 ghost use Rattle.pc_cards.specs.Limits.{longest_deck};
@@ -113,47 +113,14 @@ fn take_all(alloc: Global, bytes: &[u8], draft: &mut Draft) -> Result<u32, DeckE
     ensures fault { IfErr result (Refuses
         (λ fault. read_from draft.old (length (deck_records bytes.now) + 1) (deck_cards bytes.now) ≡ Err fault)) }
 {
-    let mut fields = Row::with_room(alloc, ROW_BYTES, ROW_FIELDS)?;
-    take_cards(alloc, bytes, &mut fields, draft)
-}
-
-/// The same with a row that each card is read into.
-fn take_cards(
-    alloc: Global,
-    bytes: &[u8],
-    fields: &mut Row,
-    draft: &mut Draft,
-) -> Result<u32, DeckError>
-    requires short { length bytes.now ≤ DECK_LIMIT }
-    requires utf8 { is_utf8 bytes.now ≡ true }
-    requires within { IsDraftWithin draft.old }
-    ensures cards { IfOk result (λ end. closed draft.new end
-        ≡ read_from draft.old (length (deck_records bytes.now) + 1) (deck_cards bytes.now)) }
-    ensures within { OnOk result (IsDraftWithin draft.new) }
-    ensures sort { OnOk result (draft.new.sort ≡ draft.old.sort) }
-    ensures fault { IfErr result (Refuses
-        (λ fault. read_from draft.old (length (deck_records bytes.now) + 1) (deck_cards bytes.now) ≡ Err fault)) }
-{
     let mut rows = CardRows::new(alloc, bytes);
-    take_rows(&mut rows, fields, draft)
-}
-
-/// Takes the cards that are left one by one, up to the first fault, and gives the number behind the last record. The loop
-/// only borrows what it works on, and so nothing has to be let go where it ends.
-fn take_rows(rows: &mut CardRows, fields: &mut Row, draft: &mut Draft) -> Result<u32, DeckError>
-    requires text { All (λ card. All IsUtf8 card.1) rows.old.cards }
-    requires within { IsDraftWithin draft.old }
-    ensures cards { IfOk result (λ end. closed draft.new end ≡ read_from draft.old rows.old.end rows.old.cards) }
-    ensures within { OnOk result (IsDraftWithin draft.new) }
-    ensures sort { OnOk result (draft.new.sort ≡ draft.old.sort) }
-    ensures fault { IfErr result (Refuses (λ fault. read_from draft.old rows.old.end rows.old.cards ≡ Err fault)) }
-{
+    let mut fields = Row::with_room(alloc, ROW_BYTES, ROW_FIELDS)?;
     'cards: loop {
-        let row = match rows.next(fields)? {
+        let row = match rows.next(&mut fields)? {
             Next::Card(row) => row,
             Next::End(end) => return Ok(end),
         };
-        if let Err(e) = draft.take(row, fields) {
+        if let Err(e) = draft.take(row, &fields) {
             return Err(e);
         }
     }

@@ -1,6 +1,6 @@
 //! Writing the text of a deck.
 ghost use Rattle.std.specs.Prelude.{◌≡◌, ◌++◌, IfOk, OnOk};
-ghost use Rattle.pc_deck.specs.Text.{deck_text, settled_terms};
+ghost use Rattle.pc_deck.specs.Text.{deck_text, says_nothing, settled_terms};
 ghost use Rattle.pc_deck.specs.inside.Text.{lead_text, lists_text};
 
 use crate::cards::Cards;
@@ -87,9 +87,16 @@ fn settled_terms(terms: Option<TermsCard>) -> Option<TermsCard>
     ensures { result ≡ settled_terms terms }
 {
     let card = terms?;
-    if card.overhead == 0 && card.target == 0 && card.bonus == 0 && card.penalty == 0 {
+    if says_nothing(&card) {
         None
     } else {
         Some(card)
     }
+}
+
+/// Whether the four numbers of a TERMS card are 0.
+fn says_nothing(terms: &TermsCard) -> bool
+    ensures { result ≡ says_nothing terms.now }
+{
+    terms.overhead == 0 && terms.target == 0 && terms.bonus == 0 && terms.penalty == 0
 }

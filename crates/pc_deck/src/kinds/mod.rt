@@ -25,7 +25,6 @@ mod acct;
 mod act;
 mod after;
 mod as_of;
-mod effort;
 mod load;
 mod money;
 mod piece;
@@ -155,10 +154,6 @@ impl Draft {
 pub fn kind_of(sort: Sort, field: &[u8]) -> Option<Kind>
     ensures { result ≡ kind_of sort field.now }
 {
-    // Nearly all cards of a large deck are CHARGE cards. No other kind has their word, so it may be tried first.
-    if field == b"CHARGE".as_slice() {
-        return Some(Kind::Charge);
-    }
     if let Some(kind) = first_kind(field) {
         return Some(kind);
     }

@@ -2,12 +2,12 @@
 ghost use Rattle.std.specs.Prelude.{refl};
 ghost use Rattle.pc_deck.specs.Task.{task_slots, task_of, written_task};
 
-use crate::kinds::effort::read_effort;
 use pc_cards::card::{Card, Coded, Layout};
-use pc_cards::field::{Misfit, read_code, read_given_code, read_title};
+use pc_cards::field::{Misfit, read_amount, read_code, read_given_code, read_title};
 use pc_cards::form::{DURATION, Form, MONEY, SLOPE, Slot};
 use pc_cards::sort::Sort;
 use pc_faults::Kind;
+use pc_model::{MAX_COST, MAX_DURATION, MAX_SLOPE};
 use pc_records::{Row, RowWriter};
 use pc_text::{Code, Title, digits};
 use std::alloc::AllocError;
@@ -61,20 +61,17 @@ impl Card for TaskCard {
     }
 
     fn read(_: Sort, row: u32, fields: &Row) -> Result<TaskCard, Misfit> {
-        let code = read_given_code(fields, 2)?;
-        let item = read_code(fields, 3)?;
-        let effort = read_effort(fields, 4)?;
         Ok(TaskCard {
             row,
-            code,
-            item,
-            opt: effort.opt,
-            likely: effort.likely,
-            pess: effort.pess,
-            normal: effort.normal,
-            crash: effort.crash,
-            cost: effort.cost,
-            slope: effort.slope,
+            code: read_given_code(fields, 2)?,
+            item: read_code(fields, 3)?,
+            opt: read_amount(fields, 4, 0, MAX_DURATION)?,
+            likely: read_amount(fields, 5, 0, MAX_DURATION)?,
+            pess: read_amount(fields, 6, 0, MAX_DURATION)?,
+            normal: read_amount(fields, 7, 0, MAX_DURATION)?,
+            crash: read_amount(fields, 8, 0, MAX_DURATION)?,
+            cost: read_amount(fields, 9, 0, MAX_COST)?,
+            slope: read_amount(fields, 10, 0, MAX_SLOPE)?,
             title: read_title(fields, 11)?,
         })
     }

@@ -1,9 +1,14 @@
-use Rattle.std.proofs.Common.{refl, ◌∙◌}
-use Rattle.pc_deck.proofs.ReadLemmas.{next-text, read_from-kept, sort-kept, within-kept}
-use Rattle.pc_deck.proofs.read.take_rows.Goals as goal
+use Rattle.std.proofs.Common.{All, refl, sym, subst, ◌∙◌}
+use Rattle.pc_deck.proofs.ReadLemmas.{IsTextCard, deck_cards-text, next-text, read_from-kept, sort-kept, within-kept}
+use Rattle.pc_deck.proofs.read.take_all.Goals as goal
 
 pub cards-init : goal.cards-init
-cards-init c = record { says = refl; within = c.requires.within; text = c.requires.text; sort = refl }
+cards-init c = record {
+  says = rw (c.new-rows.ensures.cards, c.new-rows.ensures.end) refl;
+  within = c.requires.within;
+  text = subst (All IsTextCard) (sym c.new-rows.ensures.cards) (deck_cards-text c.args.bytes.now c.requires.utf8);
+  sort = refl;
+}
 
 pub cards-preserved : goal.cards-preserved
 cards-preserved c =
