@@ -163,10 +163,19 @@ impl<C: Card> Listed<C> {
 /// Cards of one kind in card order, no two of them with one code.
 ///
 /// The names are the codes of the cards in the same order, so that the place of a code among them is the card's.
-#[derive(Drop)]
 pub struct Named<C: Coded> {
     cards: Vec<C>,
     names: Names,
+}
+
+impl<C: Coded> Drop for Named<C> {
+    // Written out, so that who lets a list go cites this proof.
+    fn drop(self) {
+        let Named {
+            cards: _cards,
+            names: _names,
+        } = self;
+    }
 }
 
 impl<C: Coded> Model for Named<C> {

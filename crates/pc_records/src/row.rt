@@ -11,9 +11,17 @@ use std::marker::Model;
 /// One record of a deck: a list of fields, each of any bytes.
 ///
 /// [`Rows::next_row`](crate::Rows::next_row) fills it anew for each record and keeps its memory.
-#[derive(Drop)]
 pub struct Row {
     pub(crate) fields: ByteRecord,
+}
+
+impl Drop for Row {
+    // Written out, so that who lets a row go cites this proof.
+    fn drop(self) {
+        let Row {
+            fields: _fields,
+        } = self;
+    }
 }
 
 impl Model for Row {
