@@ -1,5 +1,5 @@
 -- The calendar day by day, and the text of a day.
-use Rattle.std.specs.Prelude.{ℕ, zero, suc, ◌+◌, nat_lt, if◌then◌else◌, List, ℤ, pos, ◌+ℤ◌, unsigned_abs}
+use Rattle.std.specs.Prelude.{ℕ, zero, suc, ◌+◌, nat_lt, ◌&&◌, if◌then◌else◌, List, ℤ, pos, neg_ℤ, ◌+ℤ◌, int_le, unsigned_abs, codes}
 use Rattle.jiff_core.specs.Calendar.{days_in_month}
 use Rattle.pc_days.specs.Dates.{date_text}
 
@@ -29,3 +29,12 @@ calendar_day (suc n) = next_day (calendar_day n)
 abbrev pub text_of_day : ℤ → List ℕ
 text_of_day number =
     let today = calendar_day (unsigned_abs (number +ℤ pos 25_567)) in date_text today.year today.month today.day
+
+-- ten hyphens, in place of a date
+abbrev pub no_date : List ℕ
+no_date = codes "----------"
+
+-- the date of a day, or ten hyphens where it is none of the days that are printed, 1900-01-01 to 9999-12-31
+abbrev pub date_or_none : ℤ → List ℕ
+date_or_none day =
+    if int_le (neg_ℤ (pos 25_567)) day && int_le day (pos 2_932_896) then text_of_day day else no_date

@@ -1,20 +1,12 @@
 -- The text of the report of loads.
-use Rattle.std.specs.Prelude.{◌≡◌, ℕ, ◌*◌, ◌&&◌, ℤ, pos, neg_ℤ, ◌+ℤ◌, int_le, if◌then◌else◌, List, [], ◌∷◌, ◌++◌, length, slice_index, slice_index_or, codes, decimal}
+use Rattle.std.specs.Prelude.{◌≡◌, ℕ, ◌*◌, ℤ, pos, ◌+ℤ◌, int_le, if◌then◌else◌, List, [], ◌∷◌, ◌++◌, length, slice_index, slice_index_or, codes, decimal}
 use Rattle.std.specs.Fmt.{signed_decimal}
-use Rattle.pc_days.specs.Calendar.{text_of_day}
+use Rattle.pc_days.specs.Calendar.{date_or_none}
 use Rattle.pc_edges.specs.Texts.{texts_to}
-use Rattle.pc_page.specs.Cells.{left, right}
+use Rattle.pc_page.specs.Cells.{left, right, row}
 use Rattle.pc_project.specs.Project.{Project}
-use Rattle.pc_reports.specs.Cells.{row}
-use Rattle.pc_reports.specs.Lines.{named_line}
-use Rattle.pc_reports.specs.Times.{no_date}
 use Rattle.pc_load.specs.Loading.{Loading, IsLoading}
 use Rattle.pc_load.specs.Table.{Table, amount_in}
-
--- the date of a day, or ten hyphens where it is none of the days that are printed, 1900-01-01 to 9999-12-31
-abbrev pub date_or_none : ℤ → List ℕ
-date_or_none day =
-    if int_le (neg_ℤ (pos 25_567)) day && int_le day (pos 2_932_896) then text_of_day day else no_date
 
 -- the row of a period: its number and a date
 abbrev pub period_cells : ℕ → List ℕ → List ℕ
@@ -44,7 +36,7 @@ resource_rows project loading i = amount_rows loading.resources (slice_index_or 
 
 -- the project's code and the days of a period
 abbrev pub head_line : List ℕ → ℕ → List ℕ
-head_line code days = named_line (codes "LOAD ") code days
+head_line code days = codes "LOAD " ++ (code ++ (32 ∷ (decimal days ++ 10 ∷ [])))
 
 -- the project's code and the days of a period, a row for each period, a row for each item in preorder and each period in which
 -- it has a part, and the same for each resource in card order

@@ -5,12 +5,12 @@ use Rattle.std.proofs.lemmas.List.{get_or_append_left, get_or-append_right}
 use Rattle.std.proofs.lemmas.Bool.{cases_Bool, true≢false}
 use Rattle.std.proofs.lemmas.Int.{ints}
 use Rattle.std.proofs.Math.Nat.{eq-or-lt_of_le}
-use Rattle.pc_days.specs.Calendar.{text_of_day}
+use Rattle.pc_days.specs.Calendar.{no_date, text_of_day}
 use Rattle.pc_days.specs.Dates.{IsAfterSixths, IsPrintedDay, IsRoundedUp}
 use Rattle.pc_days.proofs.Sixths.{after_sixths, after_sixths-only}
 use Rattle.pc_days.specs.Dates.{NamesDay}
 use Rattle.pc_days.proofs.CalendarLaws.{names_its_day}
-use Rattle.pc_reports.specs.Times.{IsDate, AreDates, date_of, day_after, no_date, printed, past}
+use Rattle.pc_reports.specs.Times.{IsDate, AreDates, date_of, day_after, printed, past}
 
 -- the dates of the first times
 pub record AreDatesTo (start : ℤ) (times : List ℕ) (count : ℕ) (dates : List (List ℕ)) : Type 0 where

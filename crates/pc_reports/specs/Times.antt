@@ -1,6 +1,6 @@
 -- What the report of event times tells.
-use Rattle.std.specs.Prelude.{◌≡◌, ℕ, ◌+◌, ◌*◌, ◌/◌, ◌<◌, ◌&&◌, if◌then◌else◌, ℤ, pos, neg_ℤ, ◌+ℤ◌, int_le, List, [], length, slice_index, slice_index_or, codes, Option, Some, None}
-use Rattle.pc_days.specs.Calendar.{text_of_day}
+use Rattle.std.specs.Prelude.{◌≡◌, ℕ, ◌+◌, ◌*◌, ◌/◌, ◌<◌, ℤ, pos, ◌+ℤ◌, List, [], length, slice_index, slice_index_or, Option, Some, None}
+use Rattle.pc_days.specs.Calendar.{date_or_none, no_date}
 use Rattle.pc_days.specs.Dates.{IsAfterSixths, IsPrintedDay, NamesDay}
 use Rattle.pc_times.specs.Times.{AreEarly}
 use Rattle.pc_times.specs.Late.{AreLate}
@@ -19,10 +19,6 @@ abbrev pub end_to_meet : Option ℕ → ℕ → ℤ
 end_to_meet None reached = pos reached
 end_to_meet (Some days) reached = pos (6 * days)
 
--- ten hyphens, in place of a date
-abbrev pub no_date : List ℕ
-no_date = codes "----------"
-
 -- how the day that is the start and so many sixths of a day, rounded up, is told: by its date, or by ten hyphens where
 -- it is past the days that are printed
 pub data IsDate (start : ℤ) (sixths : ℕ) (text : List ℕ) : Type 0 where
@@ -35,8 +31,7 @@ day_after start sixths = start +ℤ pos ((sixths + 5) / 6)
 
 -- how it is told, as a function
 unfoldable pub date_of : ℤ → ℕ → List ℕ
-date_of start sixths =
-    if int_le (neg_ℤ (pos 25_567)) (day_after start sixths) && int_le (day_after start sixths) (pos 2_932_896) then text_of_day (day_after start sixths) else no_date
+date_of start sixths = date_or_none (day_after start sixths)
 
 -- one date for each time
 pub record AreDates (start : ℤ) (times : List ℕ) (dates : List (List ℕ)) : Type 0 where

@@ -1,9 +1,8 @@
 use Rattle.std.proofs.Common.{◌≡◌, true, refl, ap, ◌∙◌, arith}
 use Rattle.std.specs.Prelude.{ℤ, pos, neg_ℤ, ◌+ℤ◌, int_le}
 use Rattle.std.proofs.lemmas.Int.{ints}
-use Rattle.pc_days.specs.Calendar.{text_of_day}
+use Rattle.pc_days.specs.Calendar.{date_or_none, text_of_day}
 use Rattle.pc_days.specs.Dates.{IsPrintedDay}
-use Rattle.pc_load.specs.LoadText.{date_or_none}
 use Rattle.pc_load.proofs.rows.date_after.Goals as goal
 
 -- a day that is printed has its date
