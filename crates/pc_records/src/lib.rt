@@ -5,10 +5,14 @@
 //! used again for each, so that nothing is allocated per record. [`RowWriter`] writes records into one text.
 #![tactic(auto)]
 
+mod fields;
+mod records;
 mod row;
 mod rows;
 mod writer;
 
+pub use crate::fields::Fields;
+pub use crate::records::Records;
 pub use crate::row::Row;
 pub use crate::rows::Rows;
 pub use crate::writer::RowWriter;
