@@ -5,7 +5,7 @@ ghost use Rattle.pc_records.specs.Deck.{field_at, is_blank};
 
 /// The fields of a record, each of any bytes, whatever keeps them.
 ///
-/// Who reads them by this trait knows nothing of how they are kept, and what stands above knows nothing of `csv`.
+/// Who reads them by this trait knows nothing of how they are kept: no library above it carries the interface of `csv`.
 pub trait Fields {
     // The fields in their order.
     ghost fields: { Self → List (List ℕ) };
