@@ -11,7 +11,7 @@ use crate::field::Misfit;
 use crate::form::Slot;
 use crate::sort::Sort;
 use pc_faults::Kind;
-use pc_records::{Row, RowWriter};
+use pc_records::{Fields, Records};
 use pc_text::Code;
 use std::alloc::AllocError;
 
@@ -45,15 +45,15 @@ pub trait Card: Copy {
         ensures most { result.most ≡ most };
 
     /// The card that a record spells in a deck of the sort, or the first of its fields that is not what it must be there.
-    fn read(sort: Sort, row: u32, fields: &Row) -> Result<Self, Misfit>
-        ensures card { IfOk result (λ card. card ≡ spelled row fields.now) }
-        ensures fit { OnOk result (AllFit (slots sort) fields.now) }
-        ensures misfit { IfErr result (IsFirstMisfit (slots sort) fields.now) };
+    fn read<F: Fields>(sort: Sort, row: u32, fields: &F) -> Result<Self, Misfit>
+        ensures card { IfOk result (λ card. card ≡ spelled row (F.fields fields.now)) }
+        ensures fit { OnOk result (AllFit (slots sort) (F.fields fields.now)) }
+        ensures misfit { IfErr result (IsFirstMisfit (slots sort) (F.fields fields.now)) };
 
     /// Puts the record of the card, which is of the kind, behind a text. After an error nothing of the text is left.
-    fn put(self, kind: Kind, text: &mut RowWriter) -> Result<(), AllocError>
-        ensures put { OnOk result (text.new ≡ text.old ++ record_text (word_of kind ∷ written self)) }
-        ensures stopped { OnErr result (text.new ≡ []) };
+    fn put<R: Records>(self, kind: Kind, text: &mut R) -> Result<(), AllocError>
+        ensures put { OnOk result (R.text text.new ≡ R.text text.old ++ record_text (word_of kind ∷ written self)) }
+        ensures stopped { OnErr result (R.text text.new ≡ []) };
 }
 
 /// A card with a code of its own, which stands in its second field.

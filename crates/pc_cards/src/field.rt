@@ -9,7 +9,7 @@ ghost use Rattle.pc_cards.specs.declared.form.Form.TheVariants as form;
 
 use crate::sort::Sort;
 use pc_days::{Day, DayError, read_day};
-use pc_records::Row;
+use pc_records::Fields;
 use pc_text::{Code, Title, is_title_shape, read_number};
 
 /// What is wrong with a field.
@@ -41,17 +41,17 @@ pub struct Misfit {
 }
 
 /// The field with a number, counted from 1; an empty one past the last.
-fn field_numbered(fields: &Row, number: u8) -> &[u8]
-    ensures { result.now ≡ field_numbered fields.now number }
+fn field_numbered<F: Fields>(fields: &F, number: u8) -> &[u8]
+    ensures { result.now ≡ field_numbered (F.fields fields.now) number }
 {
     fields.field(usize::from(number).saturating_sub(1))
 }
 
 /// The code that a field is.
-pub fn read_code(fields: &Row, number: u8) -> Result<Code, Misfit>
-    ensures value { IfOk result (λ code. code ≡ field_numbered fields.now number) }
-    ensures fit { OnOk result (Fits form.Code (field_numbered fields.now number)) }
-    ensures misfit { IfErr result (IsMisfit number form.Code (field_numbered fields.now number)) }
+pub fn read_code<F: Fields>(fields: &F, number: u8) -> Result<Code, Misfit>
+    ensures value { IfOk result (λ code. code ≡ field_numbered (F.fields fields.now) number) }
+    ensures fit { OnOk result (Fits form.Code (field_numbered (F.fields fields.now) number)) }
+    ensures misfit { IfErr result (IsMisfit number form.Code (field_numbered (F.fields fields.now) number)) }
 {
     match Code::read(field_numbered(fields, number)) {
         Some(code) => Ok(code),
@@ -60,10 +60,10 @@ pub fn read_code(fields: &Row, number: u8) -> Result<Code, Misfit>
 }
 
 /// The code that a field is, where it must not begin with `_`.
-pub fn read_given_code(fields: &Row, number: u8) -> Result<Code, Misfit>
-    ensures value { IfOk result (λ code. code ≡ field_numbered fields.now number) }
-    ensures fit { OnOk result (Fits form.GivenCode (field_numbered fields.now number)) }
-    ensures misfit { IfErr result (IsMisfit number form.GivenCode (field_numbered fields.now number)) }
+pub fn read_given_code<F: Fields>(fields: &F, number: u8) -> Result<Code, Misfit>
+    ensures value { IfOk result (λ code. code ≡ field_numbered (F.fields fields.now) number) }
+    ensures fit { OnOk result (Fits form.GivenCode (field_numbered (F.fields fields.now) number)) }
+    ensures misfit { IfErr result (IsMisfit number form.GivenCode (field_numbered (F.fields fields.now) number)) }
 {
     let field = field_numbered(fields, number);
     match Code::read(field) {
@@ -80,10 +80,10 @@ fn is_reserved(field: &[u8]) -> bool
 }
 
 /// The code that a card of a deck of the sort gives to what it stands for.
-pub fn read_own_code(sort: Sort, fields: &Row, number: u8) -> Result<Code, Misfit>
-    ensures value { IfOk result (λ code. code ≡ field_numbered fields.now number) }
-    ensures fit { OnOk result (Fits (own_code sort) (field_numbered fields.now number)) }
-    ensures misfit { IfErr result (IsMisfit number (own_code sort) (field_numbered fields.now number)) }
+pub fn read_own_code<F: Fields>(sort: Sort, fields: &F, number: u8) -> Result<Code, Misfit>
+    ensures value { IfOk result (λ code. code ≡ field_numbered (F.fields fields.now) number) }
+    ensures fit { OnOk result (Fits (own_code sort) (field_numbered (F.fields fields.now) number)) }
+    ensures misfit { IfErr result (IsMisfit number (own_code sort) (field_numbered (F.fields fields.now) number)) }
 {
     match sort {
         Sort::Plan => read_code(fields, number),
@@ -92,10 +92,10 @@ pub fn read_own_code(sort: Sort, fields: &Row, number: u8) -> Result<Code, Misfi
 }
 
 /// The code that a field is, or none where it is empty.
-pub fn read_code_or_none(fields: &Row, number: u8) -> Result<Option<Code>, Misfit>
-    ensures value { IfOk result (λ code. code ≡ code_of (field_numbered fields.now number)) }
-    ensures fit { OnOk result (Fits form.CodeOrNone (field_numbered fields.now number)) }
-    ensures misfit { IfErr result (IsMisfit number form.CodeOrNone (field_numbered fields.now number)) }
+pub fn read_code_or_none<F: Fields>(fields: &F, number: u8) -> Result<Option<Code>, Misfit>
+    ensures value { IfOk result (λ code. code ≡ code_of (field_numbered (F.fields fields.now) number)) }
+    ensures fit { OnOk result (Fits form.CodeOrNone (field_numbered (F.fields fields.now) number)) }
+    ensures misfit { IfErr result (IsMisfit number form.CodeOrNone (field_numbered (F.fields fields.now) number)) }
 {
     let field = field_numbered(fields, number);
     match Code::read(field) {
@@ -106,10 +106,10 @@ pub fn read_code_or_none(fields: &Row, number: u8) -> Result<Option<Code>, Misfi
 }
 
 /// The title that a field is.
-pub fn read_title(fields: &Row, number: u8) -> Result<Title, Misfit>
-    ensures value { IfOk result (λ title. title ≡ field_numbered fields.now number) }
-    ensures fit { OnOk result (Fits form.Title (field_numbered fields.now number)) }
-    ensures misfit { IfErr result (IsMisfit number form.Title (field_numbered fields.now number)) }
+pub fn read_title<F: Fields>(fields: &F, number: u8) -> Result<Title, Misfit>
+    ensures value { IfOk result (λ title. title ≡ field_numbered (F.fields fields.now) number) }
+    ensures fit { OnOk result (Fits form.Title (field_numbered (F.fields fields.now) number)) }
+    ensures misfit { IfErr result (IsMisfit number form.Title (field_numbered (F.fields fields.now) number)) }
 {
     let field = field_numbered(fields, number);
     match Title::read(field) {
@@ -121,10 +121,10 @@ pub fn read_title(fields: &Row, number: u8) -> Result<Title, Misfit>
 
 /// The day whose date a field is. Inlined, since most cards of a large deck have one.
 #[inline(always)]
-pub fn read_date(fields: &Row, number: u8) -> Result<Day, Misfit>
-    ensures value { IfOk result (λ day. day ≡ day_in (field_numbered fields.now number)) }
-    ensures fit { OnOk result (Fits form.Date (field_numbered fields.now number)) }
-    ensures misfit { IfErr result (IsMisfit number form.Date (field_numbered fields.now number)) }
+pub fn read_date<F: Fields>(fields: &F, number: u8) -> Result<Day, Misfit>
+    ensures value { IfOk result (λ day. day ≡ day_in (field_numbered (F.fields fields.now) number)) }
+    ensures fit { OnOk result (Fits form.Date (field_numbered (F.fields fields.now) number)) }
+    ensures misfit { IfErr result (IsMisfit number form.Date (field_numbered (F.fields fields.now) number)) }
 {
     match read_day(field_numbered(fields, number)) {
         Ok(day) => Ok(day),
@@ -135,10 +135,10 @@ pub fn read_date(fields: &Row, number: u8) -> Result<Day, Misfit>
 
 /// The number that a field is, from `least` to `most`. Inlined, since most cards have several of them.
 #[inline(always)]
-pub fn read_amount(fields: &Row, number: u8, least: u64, most: u64) -> Result<u64, Misfit>
-    ensures value { IfOk result (λ amount. amount ≡ number_in (field_numbered fields.now number)) }
-    ensures fit { OnOk result (Fits (form.Number least most) (field_numbered fields.now number)) }
-    ensures misfit { IfErr result (IsMisfit number (form.Number least most) (field_numbered fields.now number)) }
+pub fn read_amount<F: Fields>(fields: &F, number: u8, least: u64, most: u64) -> Result<u64, Misfit>
+    ensures value { IfOk result (λ amount. amount ≡ number_in (field_numbered (F.fields fields.now) number)) }
+    ensures fit { OnOk result (Fits (form.Number least most) (field_numbered (F.fields fields.now) number)) }
+    ensures misfit { IfErr result (IsMisfit number (form.Number least most) (field_numbered (F.fields fields.now) number)) }
 {
     match read_number(field_numbered(fields, number)) {
         Some(amount) if least <= amount && amount <= most => Ok(amount),
@@ -148,15 +148,15 @@ pub fn read_amount(fields: &Row, number: u8, least: u64, most: u64) -> Result<u6
 }
 
 /// The number that a field is, from `least` to `most`, or none where it is empty.
-pub fn read_amount_or_none(
-    fields: &Row,
+pub fn read_amount_or_none<F: Fields>(
+    fields: &F,
     number: u8,
     least: u64,
     most: u64,
 ) -> Result<Option<u64>, Misfit>
-    ensures value { IfOk result (λ amount. amount ≡ number_of (field_numbered fields.now number)) }
-    ensures fit { OnOk result (Fits (form.NumberOrNone least most) (field_numbered fields.now number)) }
-    ensures misfit { IfErr result (IsMisfit number (form.NumberOrNone least most) (field_numbered fields.now number)) }
+    ensures value { IfOk result (λ amount. amount ≡ number_of (field_numbered (F.fields fields.now) number)) }
+    ensures fit { OnOk result (Fits (form.NumberOrNone least most) (field_numbered (F.fields fields.now) number)) }
+    ensures misfit { IfErr result (IsMisfit number (form.NumberOrNone least most) (field_numbered (F.fields fields.now) number)) }
 {
     let field = field_numbered(fields, number);
     match read_number(field) {
@@ -168,10 +168,10 @@ pub fn read_amount_or_none(
 }
 
 /// Whether a field is `F`, where it must be `S` or `F`.
-pub fn read_letter(fields: &Row, number: u8) -> Result<bool, Misfit>
-    ensures value { IfOk result (λ finished. finished ≡ bytes_eq (field_numbered fields.now number) (codes "F")) }
-    ensures fit { OnOk result (Fits form.Letter (field_numbered fields.now number)) }
-    ensures misfit { IfErr result (IsMisfit number form.Letter (field_numbered fields.now number)) }
+pub fn read_letter<F: Fields>(fields: &F, number: u8) -> Result<bool, Misfit>
+    ensures value { IfOk result (λ finished. finished ≡ bytes_eq (field_numbered (F.fields fields.now) number) (codes "F")) }
+    ensures fit { OnOk result (Fits form.Letter (field_numbered (F.fields fields.now) number)) }
+    ensures misfit { IfErr result (IsMisfit number form.Letter (field_numbered (F.fields fields.now) number)) }
 {
     let field = field_numbered(fields, number);
     if field == b"F".as_slice() {

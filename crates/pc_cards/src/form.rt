@@ -8,7 +8,7 @@ use crate::field::{
     read_given_code, read_letter, read_title,
 };
 use pc_model::{MAX_COST, MAX_DURATION, MAX_SLOPE};
-use pc_records::Row;
+use pc_records::Fields;
 
 /// An estimate or a duration, in units.
 pub const DURATION: Form = Form::Number {
@@ -49,9 +49,9 @@ pub enum Form {
 pub type Slot = (u8, Form);
 
 /// What is wrong with the field of a slot, if anything is.
-fn misfit_of(slot: &Slot, fields: &Row) -> Option<Misfit>
-    ensures misfit { IfSome result (IsMisfit slot.now.0 slot.now.1 (field_numbered fields.now slot.now.0)) }
-    ensures fit { IfNone result (Fits slot.now.1 (field_numbered fields.now slot.now.0)) }
+fn misfit_of<F: Fields>(slot: &Slot, fields: &F) -> Option<Misfit>
+    ensures misfit { IfSome result (IsMisfit slot.now.0 slot.now.1 (field_numbered (F.fields fields.now) slot.now.0)) }
+    ensures fit { IfNone result (Fits slot.now.1 (field_numbered (F.fields fields.now) slot.now.0)) }
 {
     let number = slot.0;
     match slot.1 {
@@ -70,8 +70,8 @@ fn misfit_of(slot: &Slot, fields: &Row) -> Option<Misfit>
 
 /// Whether the field of a slot has not the shape of what it must be.
 #[tactic(auto, using(crate::proofs::MisfitLemmas::shape_told))]
-fn is_misshapen(slot: &Slot, fields: &Row) -> bool
-    ensures { result ≡ not (has_shape slot.now.1 (field_numbered fields.now slot.now.0)) }
+fn is_misshapen<F: Fields>(slot: &Slot, fields: &F) -> bool
+    ensures { result ≡ not (has_shape slot.now.1 (field_numbered (F.fields fields.now) slot.now.0)) }
 {
     match misfit_of(slot, fields) {
         Some(misfit) => misfit.flaw.is_of_shape(),
@@ -80,8 +80,8 @@ fn is_misshapen(slot: &Slot, fields: &Row) -> bool
 }
 
 /// The first field that has not the shape of what it must be.
-pub fn first_misshapen<'s>(slots: &'s [Slot], fields: &Row) -> Option<&'s Slot>
-    ensures { option_copied result ≡ first_misshapen slots.now fields.now }
+pub fn first_misshapen<'s, F: Fields>(slots: &'s [Slot], fields: &F) -> Option<&'s Slot>
+    ensures { option_copied result ≡ first_misshapen slots.now (F.fields fields.now) }
 {
     slots.iter().find(|slot| is_misshapen(*slot, fields))
 }

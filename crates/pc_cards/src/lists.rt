@@ -13,7 +13,7 @@ use crate::place::Place;
 use crate::reading::read_card;
 use pc_faults::{DeckError, Fault};
 use pc_names::Names;
-use pc_records::Row;
+use pc_records::Fields;
 use pc_text::Code;
 use std::alloc::{AllocError, Global};
 use std::marker::Model;
@@ -48,14 +48,14 @@ impl<C: Card> Once<C> {
     }
 
     /// Takes the card that a record spells, or answers its fault.
-    pub fn take(&mut self, place: &Place, fields: &Row) -> Result<(), DeckError>
-        ensures kept { OnOk result (self.new ≡ Some (C.spelled place.now.row fields.now)) }
+    pub fn take<F: Fields>(&mut self, place: &Place, fields: &F) -> Result<(), DeckError>
+        ensures kept { OnOk result (self.new ≡ Some (C.spelled place.now.row (F.fields fields.now))) }
         ensures sound { OnOk result (or_else (not_alone place.now (count_once self.old))
-            (fault_of_listed place.now (count_once self.old) C.least C.most (C.slots place.now.sort) fields.now)
+            (fault_of_listed place.now (count_once self.old) C.least C.most (C.slots place.now.sort) (F.fields fields.now))
             ≡ None) }
         ensures fault { IfErr result (Refuses
             (λ fault. or_else (not_alone place.now (count_once self.old))
-            (fault_of_listed place.now (count_once self.old) C.least C.most (C.slots place.now.sort) fields.now)
+            (fault_of_listed place.now (count_once self.old) C.least C.most (C.slots place.now.sort) (F.fields fields.now))
             ≡ Some fault)) }
     {
         let before = self.count();
@@ -116,12 +116,12 @@ impl<C: Card> Listed<C> {
     }
 
     /// Takes the card that a record spells, or answers its fault.
-    pub fn take(&mut self, place: &Place, fields: &Row) -> Result<(), DeckError>
-        ensures kept { OnOk result (self.new ≡ self.old ++ C.spelled place.now.row fields.now ∷ []) }
+    pub fn take<F: Fields>(&mut self, place: &Place, fields: &F) -> Result<(), DeckError>
+        ensures kept { OnOk result (self.new ≡ self.old ++ C.spelled place.now.row (F.fields fields.now) ∷ []) }
         ensures sound { OnOk result (fault_of_listed place.now (length self.old) C.least C.most
-            (C.slots place.now.sort) fields.now ≡ None) }
+            (C.slots place.now.sort) (F.fields fields.now) ≡ None) }
         ensures fault { IfErr result (Refuses
-            (λ fault. fault_of_listed place.now (length self.old) C.least C.most (C.slots place.now.sort) fields.now
+            (λ fault. fault_of_listed place.now (length self.old) C.least C.most (C.slots place.now.sort) (F.fields fields.now)
             ≡ Some fault)) }
     {
         let card = match read_card(place, fields) {
@@ -200,13 +200,13 @@ impl<C: Coded> Named<C> {
     }
 
     /// Takes the card that a record spells, or answers its fault.
-    pub fn take(&mut self, place: &Place, fields: &Row) -> Result<(), DeckError>
-        ensures kept { OnOk result (self.new ≡ self.old ++ C.spelled place.now.row fields.now ∷ []) }
+    pub fn take<F: Fields>(&mut self, place: &Place, fields: &F) -> Result<(), DeckError>
+        ensures kept { OnOk result (self.new ≡ self.old ++ C.spelled place.now.row (F.fields fields.now) ∷ []) }
         ensures sound { OnOk result (fault_of_named place.now (map C.own_code self.old)
-            (length self.old) C.least C.most (C.slots place.now.sort) fields.now ≡ None) }
+            (length self.old) C.least C.most (C.slots place.now.sort) (F.fields fields.now) ≡ None) }
         ensures fault { IfErr result (Refuses
             (λ fault. fault_of_named place.now (map C.own_code self.old) (length self.old) C.least C.most
-            (C.slots place.now.sort) fields.now ≡ Some fault)) }
+            (C.slots place.now.sort) (F.fields fields.now) ≡ Some fault)) }
     {
         let card = match read_card(place, fields) {
             Ok(card) => card,

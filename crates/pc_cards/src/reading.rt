@@ -9,16 +9,16 @@ use crate::field::{Flaw, Misfit};
 use crate::form::{Slot, first_misshapen, slots_behind};
 use crate::place::Place;
 use pc_faults::Fault;
-use pc_records::Row;
+use pc_records::Fields;
 
 /// The card that a record spells, or the fault of its fields (F6 to F8). Each field is read once.
 #[tactic(auto, using(crate::proofs::FindLemmas::no_flaw))]
-pub fn read_card<C: Card>(place: &Place, fields: &Row) -> Result<C, Fault>
-    ensures card { IfOk result (λ card. card ≡ C.spelled place.now.row fields.now) }
-    ensures whole { OnOk result (wrong_fields place.now C.least C.most fields.now ≡ None) }
-    ensures fit { OnOk result (flaw_of_fields place.now.row (C.slots place.now.sort) fields.now ≡ None) }
-    ensures fault { IfErr result (λ fault. or_else (wrong_fields place.now C.least C.most fields.now)
-        (flaw_of_fields place.now.row (C.slots place.now.sort) fields.now) ≡ Some fault) }
+pub fn read_card<C: Card, F: Fields>(place: &Place, fields: &F) -> Result<C, Fault>
+    ensures card { IfOk result (λ card. card ≡ C.spelled place.now.row (F.fields fields.now)) }
+    ensures whole { OnOk result (wrong_fields place.now C.least C.most (F.fields fields.now) ≡ None) }
+    ensures fit { OnOk result (flaw_of_fields place.now.row (C.slots place.now.sort) (F.fields fields.now) ≡ None) }
+    ensures fault { IfErr result (λ fault. or_else (wrong_fields place.now C.least C.most (F.fields fields.now))
+        (flaw_of_fields place.now.row (C.slots place.now.sort) (F.fields fields.now)) ≡ Some fault) }
 {
     let layout = C::layout(place.sort);
     if let Some(fault) = wrong_fields(place, layout.least, layout.most, fields) {
@@ -31,8 +31,13 @@ pub fn read_card<C: Card>(place: &Place, fields: &Row) -> Result<C, Fault>
 }
 
 /// The fault of a card with too few fields, or with too many (F6).
-pub fn wrong_fields(place: &Place, least: usize, most: usize, fields: &Row) -> Option<Fault>
-    ensures { result ≡ wrong_fields place.now least most fields.now }
+pub fn wrong_fields<F: Fields>(
+    place: &Place,
+    least: usize,
+    most: usize,
+    fields: &F,
+) -> Option<Fault>
+    ensures { result ≡ wrong_fields place.now least most (F.fields fields.now) }
 {
     let have = fields.len();
     if have < least {
@@ -46,9 +51,9 @@ pub fn wrong_fields(place: &Place, least: usize, most: usize, fields: &Row) -> O
 
 /// The fault of a card, of whose fields this is the first that is not what it must be. A wrong shape (F7) goes before a
 /// limit (F8), also where the field of a wrong shape stands behind the other: only the fields behind are still to be read.
-fn fault_of_misfit(row: u32, misfit: Misfit, slots: &[Slot], fields: &Row) -> Fault
-    requires { IsFirstMisfit slots.now fields.now misfit }
-    ensures { flaw_of_fields row slots.now fields.now ≡ Some result }
+fn fault_of_misfit<F: Fields>(row: u32, misfit: Misfit, slots: &[Slot], fields: &F) -> Fault
+    requires { IsFirstMisfit slots.now (F.fields fields.now) misfit }
+    ensures { flaw_of_fields row slots.now (F.fields fields.now) ≡ Some result }
 {
     match misfit.flaw {
         Flaw::Shape => Fault::misshapen(row, misfit.number),

@@ -4,6 +4,7 @@ ghost use Rattle.std.specs.Prelude.{◌≡◌, ◌==◌, [], List, ℕ, drop, le
 ghost use Rattle.csv.specs.Records.{fields_of};
 ghost use Rattle.pc_records.specs.Deck.{field_at, is_blank};
 
+use crate::fields::Fields;
 use csv::ByteRecord;
 use std::alloc::{AllocError, Global};
 use std::marker::Model;
@@ -102,5 +103,21 @@ impl Row {
             }
         }
         true
+    }
+}
+
+impl Fields for Row {
+    ghost fields = { λ row. row };
+
+    fn len(&self) -> usize {
+        Row::len(self)
+    }
+
+    fn field(&self, i: usize) -> &[u8] {
+        Row::field(self, i)
+    }
+
+    fn is_blank_from(&self, start: usize) -> bool {
+        Row::is_blank_from(self, start)
     }
 }

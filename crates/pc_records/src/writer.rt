@@ -3,6 +3,7 @@
 ghost use Rattle.std.specs.Prelude.{◌≡◌, ◌++◌, [], map, IfOk, OnOk, OnErr};
 ghost use Rattle.pc_records.specs.Text.{record_text};
 
+use crate::records::Records;
 use csv::{Writer, WriterBuilder};
 use std::alloc::AllocError;
 use std::marker::Model;
@@ -67,5 +68,13 @@ impl RowWriter {
             return Err(AllocError);
         }
         self.writer.into_inner().map_err(|_| AllocError)
+    }
+}
+
+impl Records for RowWriter {
+    ghost text = { λ text. text };
+
+    fn put(&mut self, fields: &[&[u8]]) -> Result<(), AllocError> {
+        RowWriter::put(self, fields)
     }
 }

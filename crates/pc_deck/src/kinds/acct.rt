@@ -8,7 +8,7 @@ use pc_cards::form::{Form, MONEY, Slot};
 use pc_cards::sort::Sort;
 use pc_faults::Kind;
 use pc_model::MAX_COST;
-use pc_records::{Row, RowWriter};
+use pc_records::{Fields, Records};
 use pc_text::{Code, Title, digits};
 use std::alloc::AllocError;
 
@@ -48,7 +48,7 @@ impl Card for AcctCard {
         }
     }
 
-    fn read(_: Sort, row: u32, fields: &Row) -> Result<AcctCard, Misfit> {
+    fn read<F: Fields>(_: Sort, row: u32, fields: &F) -> Result<AcctCard, Misfit> {
         Ok(AcctCard {
             row,
             code: read_code(fields, 2)?,
@@ -58,7 +58,7 @@ impl Card for AcctCard {
         })
     }
 
-    fn put(self, kind: Kind, text: &mut RowWriter) -> Result<(), AllocError> {
+    fn put<R: Records>(self, kind: Kind, text: &mut R) -> Result<(), AllocError> {
         text.put(&[
             kind.word(),
             self.code.bytes(),

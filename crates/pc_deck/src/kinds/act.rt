@@ -8,7 +8,7 @@ use pc_cards::form::{DURATION, Form, MONEY, SLOPE, Slot};
 use pc_cards::sort::Sort;
 use pc_faults::Kind;
 use pc_model::{MAX_COST, MAX_DURATION, MAX_SLOPE};
-use pc_records::{Row, RowWriter};
+use pc_records::{Fields, Records};
 use pc_text::{Code, Title, digits};
 use std::alloc::AllocError;
 
@@ -64,7 +64,7 @@ impl Card for ActCard {
         }
     }
 
-    fn read(_: Sort, row: u32, fields: &Row) -> Result<ActCard, Misfit> {
+    fn read<F: Fields>(_: Sort, row: u32, fields: &F) -> Result<ActCard, Misfit> {
         Ok(ActCard {
             row,
             code: read_code(fields, 2)?,
@@ -82,7 +82,7 @@ impl Card for ActCard {
         })
     }
 
-    fn put(self, kind: Kind, text: &mut RowWriter) -> Result<(), AllocError> {
+    fn put<R: Records>(self, kind: Kind, text: &mut R) -> Result<(), AllocError> {
         text.put(&[
             kind.word(),
             self.code.bytes(),

@@ -6,7 +6,7 @@ use pc_cards::field::{Misfit, read_code};
 use pc_cards::form::{Form, Slot};
 use pc_cards::sort::Sort;
 use pc_faults::Kind;
-use pc_records::{Row, RowWriter};
+use pc_records::{Fields, Records};
 use pc_text::Code;
 use std::alloc::AllocError;
 
@@ -39,7 +39,7 @@ impl Card for AfterCard {
         }
     }
 
-    fn read(_: Sort, row: u32, fields: &Row) -> Result<AfterCard, Misfit> {
+    fn read<F: Fields>(_: Sort, row: u32, fields: &F) -> Result<AfterCard, Misfit> {
         Ok(AfterCard {
             row,
             task: read_code(fields, 2)?,
@@ -47,7 +47,7 @@ impl Card for AfterCard {
         })
     }
 
-    fn put(self, kind: Kind, text: &mut RowWriter) -> Result<(), AllocError> {
+    fn put<R: Records>(self, kind: Kind, text: &mut R) -> Result<(), AllocError> {
         text.put(&[kind.word(), self.task.bytes(), self.before.bytes()])
     }
 }

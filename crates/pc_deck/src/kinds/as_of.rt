@@ -7,7 +7,7 @@ use pc_cards::form::{Form, Slot};
 use pc_cards::sort::Sort;
 use pc_days::{Day, day_text};
 use pc_faults::Kind;
-use pc_records::{Row, RowWriter};
+use pc_records::{Fields, Records};
 use std::alloc::AllocError;
 
 /// The ASOF card: the day that the figures are of.
@@ -38,14 +38,14 @@ impl Card for AsOfCard {
         }
     }
 
-    fn read(_: Sort, row: u32, fields: &Row) -> Result<AsOfCard, Misfit> {
+    fn read<F: Fields>(_: Sort, row: u32, fields: &F) -> Result<AsOfCard, Misfit> {
         Ok(AsOfCard {
             row,
             day: read_date(fields, 2)?,
         })
     }
 
-    fn put(self, kind: Kind, text: &mut RowWriter) -> Result<(), AllocError> {
+    fn put<R: Records>(self, kind: Kind, text: &mut R) -> Result<(), AllocError> {
         let day = day_text(self.day);
         text.put(&[kind.word(), day.as_slice()])
     }

@@ -7,7 +7,7 @@ use pc_cards::form::{Form, MONEY, Slot};
 use pc_cards::sort::Sort;
 use pc_faults::Kind;
 use pc_model::MAX_COST;
-use pc_records::{Row, RowWriter};
+use pc_records::{Fields, Records};
 use pc_text::{Code, digits};
 use std::alloc::AllocError;
 
@@ -41,7 +41,7 @@ impl Card for LoadCard {
         }
     }
 
-    fn read(_: Sort, row: u32, fields: &Row) -> Result<LoadCard, Misfit> {
+    fn read<F: Fields>(_: Sort, row: u32, fields: &F) -> Result<LoadCard, Misfit> {
         Ok(LoadCard {
             row,
             activity: read_code(fields, 2)?,
@@ -50,7 +50,7 @@ impl Card for LoadCard {
         })
     }
 
-    fn put(self, kind: Kind, text: &mut RowWriter) -> Result<(), AllocError> {
+    fn put<R: Records>(self, kind: Kind, text: &mut R) -> Result<(), AllocError> {
         text.put(&[
             kind.word(),
             self.activity.bytes(),

@@ -8,7 +8,7 @@ use pc_cards::sort::Sort;
 use pc_days::{Day, day_text};
 use pc_faults::Kind;
 use pc_model::MAX_COST;
-use pc_records::{Row, RowWriter};
+use pc_records::{Fields, Records};
 use pc_text::{Code, digits};
 use std::alloc::AllocError;
 
@@ -42,7 +42,7 @@ impl Card for MoneyCard {
         }
     }
 
-    fn read(_: Sort, row: u32, fields: &Row) -> Result<MoneyCard, Misfit> {
+    fn read<F: Fields>(_: Sort, row: u32, fields: &F) -> Result<MoneyCard, Misfit> {
         Ok(MoneyCard {
             row,
             account: read_code(fields, 2)?,
@@ -51,7 +51,7 @@ impl Card for MoneyCard {
         })
     }
 
-    fn put(self, kind: Kind, text: &mut RowWriter) -> Result<(), AllocError> {
+    fn put<R: Records>(self, kind: Kind, text: &mut R) -> Result<(), AllocError> {
         let day = day_text(self.day);
         text.put(&[
             kind.word(),

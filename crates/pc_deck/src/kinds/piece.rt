@@ -7,7 +7,7 @@ use pc_cards::form::{Form, SLOPE, Slot};
 use pc_cards::sort::Sort;
 use pc_faults::Kind;
 use pc_model::{MAX_DURATION, MAX_SLOPE};
-use pc_records::{Row, RowWriter};
+use pc_records::{Fields, Records};
 use pc_text::{Code, digits};
 use std::alloc::AllocError;
 
@@ -47,7 +47,7 @@ impl Card for PieceCard {
         }
     }
 
-    fn read(_: Sort, row: u32, fields: &Row) -> Result<PieceCard, Misfit> {
+    fn read<F: Fields>(_: Sort, row: u32, fields: &F) -> Result<PieceCard, Misfit> {
         Ok(PieceCard {
             row,
             activity: read_code(fields, 2)?,
@@ -56,7 +56,7 @@ impl Card for PieceCard {
         })
     }
 
-    fn put(self, kind: Kind, text: &mut RowWriter) -> Result<(), AllocError> {
+    fn put<R: Records>(self, kind: Kind, text: &mut R) -> Result<(), AllocError> {
         text.put(&[
             kind.word(),
             self.activity.bytes(),

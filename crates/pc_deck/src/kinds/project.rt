@@ -11,7 +11,7 @@ use pc_cards::sort::Sort;
 use pc_days::{Day, day_text};
 use pc_faults::Kind;
 use pc_model::{MAX_DIRECTED, MAX_UNIT_DAYS};
-use pc_records::{Row, RowWriter};
+use pc_records::{Fields, Records};
 use pc_text::{Code, Title, digits};
 use std::alloc::AllocError;
 
@@ -97,7 +97,7 @@ impl Card for ProjectCard {
         }
     }
 
-    fn read(sort: Sort, row: u32, fields: &Row) -> Result<ProjectCard, Misfit> {
+    fn read<F: Fields>(sort: Sort, row: u32, fields: &F) -> Result<ProjectCard, Misfit> {
         Ok(ProjectCard {
             row,
             code: read_code(fields, 2)?,
@@ -111,7 +111,7 @@ impl Card for ProjectCard {
         })
     }
 
-    fn put(self, kind: Kind, text: &mut RowWriter) -> Result<(), AllocError> {
+    fn put<R: Records>(self, kind: Kind, text: &mut R) -> Result<(), AllocError> {
         let start_day = day_text(self.start_day);
         let days = digits(self.directed.unwrap_or(0));
         text.put(&[

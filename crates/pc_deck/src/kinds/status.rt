@@ -9,7 +9,7 @@ use pc_cards::form::{Form, Slot};
 use pc_cards::sort::Sort;
 use pc_days::{Day, day_text};
 use pc_faults::Kind;
-use pc_records::{Row, RowWriter};
+use pc_records::{Fields, Records};
 use pc_text::Code;
 use std::alloc::AllocError;
 
@@ -43,7 +43,7 @@ impl Card for StatusCard {
         }
     }
 
-    fn read(_: Sort, row: u32, fields: &Row) -> Result<StatusCard, Misfit> {
+    fn read<F: Fields>(_: Sort, row: u32, fields: &F) -> Result<StatusCard, Misfit> {
         Ok(StatusCard {
             row,
             activity: read_code(fields, 2)?,
@@ -52,7 +52,7 @@ impl Card for StatusCard {
         })
     }
 
-    fn put(self, kind: Kind, text: &mut RowWriter) -> Result<(), AllocError> {
+    fn put<R: Records>(self, kind: Kind, text: &mut R) -> Result<(), AllocError> {
         let day = day_text(self.day);
         text.put(&[
             kind.word(),

@@ -8,7 +8,7 @@ use pc_cards::form::{DURATION, Form, MONEY, SLOPE, Slot};
 use pc_cards::sort::Sort;
 use pc_faults::Kind;
 use pc_model::{MAX_COST, MAX_DURATION, MAX_SLOPE};
-use pc_records::{Row, RowWriter};
+use pc_records::{Fields, Records};
 use pc_text::{Code, Title, digits};
 use std::alloc::AllocError;
 
@@ -60,7 +60,7 @@ impl Card for TaskCard {
         }
     }
 
-    fn read(_: Sort, row: u32, fields: &Row) -> Result<TaskCard, Misfit> {
+    fn read<F: Fields>(_: Sort, row: u32, fields: &F) -> Result<TaskCard, Misfit> {
         Ok(TaskCard {
             row,
             code: read_given_code(fields, 2)?,
@@ -76,7 +76,7 @@ impl Card for TaskCard {
         })
     }
 
-    fn put(self, kind: Kind, text: &mut RowWriter) -> Result<(), AllocError> {
+    fn put<R: Records>(self, kind: Kind, text: &mut R) -> Result<(), AllocError> {
         text.put(&[
             kind.word(),
             self.code.bytes(),

@@ -7,7 +7,7 @@ use pc_cards::form::{Form, Slot};
 use pc_cards::sort::Sort;
 use pc_faults::Kind;
 use pc_model::MAX_TERMS;
-use pc_records::{Row, RowWriter};
+use pc_records::{Fields, Records};
 use pc_text::digits;
 use std::alloc::AllocError;
 
@@ -53,7 +53,7 @@ impl Card for TermsCard {
         }
     }
 
-    fn read(_: Sort, row: u32, fields: &Row) -> Result<TermsCard, Misfit> {
+    fn read<F: Fields>(_: Sort, row: u32, fields: &F) -> Result<TermsCard, Misfit> {
         Ok(TermsCard {
             row,
             overhead: read_amount(fields, 2, 0, MAX_TERMS)?,
@@ -63,7 +63,7 @@ impl Card for TermsCard {
         })
     }
 
-    fn put(self, kind: Kind, text: &mut RowWriter) -> Result<(), AllocError> {
+    fn put<R: Records>(self, kind: Kind, text: &mut R) -> Result<(), AllocError> {
         text.put(&[
             kind.word(),
             digits(self.overhead).bytes(),

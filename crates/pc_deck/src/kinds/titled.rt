@@ -7,7 +7,7 @@ use pc_cards::field::{Misfit, read_code, read_title};
 use pc_cards::form::{Form, Slot};
 use pc_cards::sort::Sort;
 use pc_faults::Kind;
-use pc_records::{Row, RowWriter};
+use pc_records::{Fields, Records};
 use pc_text::{Code, Title};
 use std::alloc::AllocError;
 
@@ -40,7 +40,7 @@ impl Card for TitledCard {
         }
     }
 
-    fn read(_: Sort, row: u32, fields: &Row) -> Result<TitledCard, Misfit> {
+    fn read<F: Fields>(_: Sort, row: u32, fields: &F) -> Result<TitledCard, Misfit> {
         Ok(TitledCard {
             row,
             code: read_code(fields, 2)?,
@@ -48,7 +48,7 @@ impl Card for TitledCard {
         })
     }
 
-    fn put(self, kind: Kind, text: &mut RowWriter) -> Result<(), AllocError> {
+    fn put<R: Records>(self, kind: Kind, text: &mut R) -> Result<(), AllocError> {
         text.put(&[kind.word(), self.code.bytes(), self.title.bytes()])
     }
 }

@@ -7,7 +7,7 @@ use pc_cards::field::{Misfit, read_code_or_none, read_own_code, read_title};
 use pc_cards::form::{Form, Slot};
 use pc_cards::sort::Sort;
 use pc_faults::Kind;
-use pc_records::{Row, RowWriter};
+use pc_records::{Fields, Records};
 use pc_text::{Code, Title};
 use std::alloc::AllocError;
 
@@ -52,7 +52,7 @@ impl Card for ItemCard {
         }
     }
 
-    fn read(sort: Sort, row: u32, fields: &Row) -> Result<ItemCard, Misfit> {
+    fn read<F: Fields>(sort: Sort, row: u32, fields: &F) -> Result<ItemCard, Misfit> {
         Ok(ItemCard {
             row,
             code: read_own_code(sort, fields, 2)?,
@@ -61,7 +61,7 @@ impl Card for ItemCard {
         })
     }
 
-    fn put(self, kind: Kind, text: &mut RowWriter) -> Result<(), AllocError> {
+    fn put<R: Records>(self, kind: Kind, text: &mut R) -> Result<(), AllocError> {
         let parent = match &self.parent {
             Some(code) => code.bytes(),
             None => b"".as_slice(),

@@ -5,17 +5,17 @@ use Rattle.pc_cards.proofs.MisfitLemmas.{misshapen_first, misshapen_behind, limi
 use Rattle.pc_cards.proofs.reading.fault_of_misfit.Goals as goal
 
 pub returns-in-Shape : goal.returns-in-Shape
-returns-in-Shape c =
-    misshapen_first c.args.row c.args.slots.now c.args.fields.now c.args.misfit c.requires c.in-Shape.is ∙ ap Some (sym c.misshapen.ensures)
+returns-in-Shape g c =
+    misshapen_first c.args.row c.args.slots.now (g.F.Fields.fields c.args.fields.now) c.args.misfit c.requires c.in-Shape.is ∙ ap Some (sym c.misshapen.ensures)
 
 pub returns-in-Some : goal.returns-in-Some
-returns-in-Some c =
-    misshapen_behind c.args.row c.args.slots.now c.args.fields.now c.args.misfit c.in-Some.slot.now c.requires c.in-Limit.is
-    (ap (λ slots. first_misshapen slots c.args.fields.now) (sym c.slots_behind.ensures) ∙ sym c.first_misshapen.ensures ∙ ap option_copied c.in-Some.is)
+returns-in-Some g c =
+    misshapen_behind c.args.row c.args.slots.now (g.F.Fields.fields c.args.fields.now) c.args.misfit c.in-Some.slot.now c.requires c.in-Limit.is
+    (ap (λ slots. first_misshapen slots (g.F.Fields.fields c.args.fields.now)) (sym c.slots_behind.ensures) ∙ sym c.first_misshapen.ensures ∙ ap option_copied c.in-Some.is)
     ∙ ap Some (sym c.misshapen-in-Some.ensures)
 
 pub returns-in-None : goal.returns-in-None
-returns-in-None c =
-    limit_passed c.args.row c.args.slots.now c.args.fields.now c.args.misfit c.requires c.in-Limit.is
-    (ap (λ slots. first_misshapen slots c.args.fields.now) (sym c.slots_behind.ensures) ∙ sym c.first_misshapen.ensures ∙ ap option_copied c.in-None.is)
+returns-in-None g c =
+    limit_passed c.args.row c.args.slots.now (g.F.Fields.fields c.args.fields.now) c.args.misfit c.requires c.in-Limit.is
+    (ap (λ slots. first_misshapen slots (g.F.Fields.fields c.args.fields.now)) (sym c.slots_behind.ensures) ∙ sym c.first_misshapen.ensures ∙ ap option_copied c.in-None.is)
     ∙ ap Some (sym c.over_limit.ensures)

@@ -4,6 +4,6 @@ use Rattle.pc_records.specs.Text.{record_text}
 use Rattle.pc_deck.proofs.kinds.as_of.AsOfCardCard.put.Goals as goal
 
 pub returns-clause-put : goal.returns-clause-put
-returns-clause-put c =
-    subst (λ (fields : List (List ℕ)). OnOk c.put.result (c.put.new.self ≡ c.args.text.now ++ record_text fields))
+returns-clause-put g c =
+    subst (λ (fields : List (List ℕ)). OnOk c.put.result (g.R.Records.text c.put.new.self ≡ g.R.Records.text c.args.text.now ++ record_text fields))
     (λ i. c.word.ensures.word i ∷ (c.as_slice.ensures ∙ c.day_text-day.ensures.text) i ∷ []) c.put.ensures.put
