@@ -29,8 +29,8 @@ returns-clause-filled g c =
       taken = c.in_ok-n.ensures.bytes;
       length_is = length-take-le c.in_ok-n.n c.pull.new.buffer (omega (arith, c.in_ok-n.ensures.fits));
       ahead =
-          ap (take (c.min-self-inside.result - 0)) items
-          ∙ ap (λ n. take n c.pull.new.buffer) (omega (arith, c.min-self-inside.ensures, taken))
+          ap (take _) items
+          ∙ ap (λ n. take n c.pull.new.buffer) (omega (arith, taken))
           ∙ sym (take-of_take (INPUT_LIMIT - c.args.self.now.taken) c.in_ok-n.n c.pull.new.buffer);
       same = ap (λ (r : Reading). r.line) c.self.view_is;
       counted = ap (λ n. n + c.in_ok-n.n) taken;
