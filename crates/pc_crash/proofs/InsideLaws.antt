@@ -1,5 +1,5 @@
 -- What the fields of a priced network say of one activity, and that they are made well.
-use Rattle.std.proofs.Common.{◌≡◌, ℕ, ◌<◌, List, length, map, get_or, sym, ◌∙◌, subst, arith}
+use Rattle.std.proofs.Common.{◌≡◌, ℕ, ◌<◌, List, length, map, get_or, sym, ◌∙◌, ap, subst, arith}
 use Rattle.std.proofs.lemmas.List.{get_or_read, length-map, take_all}
 use Rattle.pc_model.specs.declared.Arc.{Arc}
 use Rattle.pc_model.specs.declared.Knee.{Knee}
@@ -10,7 +10,7 @@ use Rattle.pc_crash.specs.declared.laying.Row.{Row}
 use Rattle.pc_crash.specs.inside.CrashNets.{priced_network, IsWholeInside}
 use Rattle.pc_crash.specs.inside.KneeLists.{AreKneesOf}
 use Rattle.pc_crash.specs.inside.Laid.{AreLaid, IsRowOf, part_of}
-use Rattle.pc_crash.specs.Priced.{knees_in}
+use Rattle.pc_crash.specs.Priced.{PricedNetwork, knees_in}
 use Rattle.pc_crash.proofs.KneeListLaws.{AreKneesOf-knee_list}
 
 -- a row stands for each activity
@@ -25,6 +25,16 @@ row-read s a row is inside read =
     subst (IsRowOf s.net.now.arcs (priced_network s).terms s.pieces.items s.layout.knees.items a)
     (sym (get_or_read s.layout.rows.items a row here read (record { arc = record { from = 0; to = 0 }; term = record { normal = 0; crash = 0; cost = 0; slope = 0 }; first = 0; count = 0 })))
     (is.laid.each a here)
+
+-- an activity's row names two events of the network
+pub ends-within : (s : Inside) (net : PricedNetwork) (view : priced_network s ≡ net) (is : IsWholeInside s) (a : ℕ) → a < length net.network.arcs →
+    (row : Row) → row ≡ get_or s.layout.rows.items a row → (row.arc.to < net.network.events) × (row.arc.from < net.network.events)
+ends-within s net view is a known row read =
+    let inside : a < length s.net.now.arcs = omega (arith, ap (λ (n : PricedNetwork). length n.network.arcs) view) in
+    let found = row-read s a row is inside read in
+    let events = ap (λ (n : PricedNetwork). n.network.events) view in
+    let ranges = is.whole.in_range in
+    (omega (arith, ap (λ (arc : Arc). arc.to) found.arc, ranges.to_in a inside), omega (arith, ap (λ (arc : Arc). arc.from) found.arc, ranges.from_in a inside))
 
 -- the knees of a row are those of its activity
 pub knees-read : (s : Inside) (a : ℕ) (row : Row) →

@@ -25,7 +25,6 @@ use std::sync::ledger::Ledger;
 /// A sound network with what its activities may last and cost, and what its events and activities are called.
 ///
 /// Events and activities are numbered in card order from 0.
-#[derive(Drop)]
 pub struct CrashNet<'n> {
     pub(crate) net: &'n Net,
     pub(crate) layout: Layout,
@@ -33,6 +32,20 @@ pub struct CrashNet<'n> {
     project: Code,
     events: Vec<Code>,
     activities: Names,
+}
+
+impl<'n> Drop for CrashNet<'n> {
+    // Written out, so that who lets a network go cites this proof.
+    fn drop(self) {
+        let CrashNet {
+            net: _net,
+            layout: _layout,
+            pieces: _pieces,
+            project: _project,
+            events: _events,
+            activities: _activities,
+        } = self;
+    }
 }
 
 impl<'n> Model for CrashNet<'n> {

@@ -23,10 +23,19 @@ pub(crate) struct Row {
 }
 
 /// What is known of each activity, and the knees of all of them one after another.
-#[derive(Drop)]
 pub(crate) struct Layout {
     pub(crate) rows: Vec<Row>,
     pub(crate) knees: Vec<Knee>,
+}
+
+impl Drop for Layout {
+    // Written out, so that who lets a layout go cites this proof.
+    fn drop(self) {
+        let Layout {
+            rows: _rows,
+            knees: _knees,
+        } = self;
+    }
 }
 
 /// The activities of a network laid out with their terms and knees. Linear in activities and pieces.

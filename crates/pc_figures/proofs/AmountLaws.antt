@@ -4,10 +4,9 @@ use Rattle.std.specs.Prelude.{ℤ, pos, unsigned_abs, sum_by}
 use Rattle.std.proofs.lemmas.List.{length_push}
 use Rattle.std.proofs.lemmas.List.Sums.{sum_by_push, sum_by_more}
 use Rattle.std.proofs.Math.Seq.{take-length}
-use Rattle.pc_model.specs.declared.limits.TheConstants.{MAX_ACCOUNTS, MAX_CHARGES, MAX_COST}
+use Rattle.pc_model.specs.declared.limits.TheConstants.{MAX_COST}
 use Rattle.pc_accounts.specs.declared.entry.Entry.{Entry}
 use Rattle.pc_accounts.specs.Entries.{entry_at, AreSmall}
-use Rattle.pc_rollup.specs.Totals.{amount_at}
 use Rattle.pc_accounts.specs.Entries.{IsSmall}
 use Rattle.std.proofs.lemmas.Int.{ints}
 use Rattle.pc_figures.specs.declared.figures.Figure.{Figure}

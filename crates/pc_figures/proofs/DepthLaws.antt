@@ -1,5 +1,5 @@
 -- All columns of a tree have as many levels.
-use Rattle.std.proofs.Common.{◌≡◌, ℕ, ◌≤◌, List, length, arith}
+use Rattle.std.proofs.Common.{◌≡◌, ℕ, List, length, arith}
 use Rattle.std.specs.Prelude.{ℤ}
 use Rattle.pc_wbs.specs.declared.row.ItemRow.{ItemRow}
 use Rattle.pc_wbs.specs.Climb.{IsDepth}

@@ -10,23 +10,22 @@ use Rattle.pc_wbs.proofs.OnePreorderLaws.{one_preorder}
 use Rattle.pc_accounts.specs.declared.rows.AcctRow.{AcctRow}
 use Rattle.pc_accounts.specs.declared.entry.Entry.{Entry}
 use Rattle.pc_accounts.specs.Amounts.{item_of}
-use Rattle.pc_rollup.specs.Lines.{sum_of}
 use Rattle.pc_rollup.specs.Totals.{amount_at}
 use Rattle.pc_rollup.specs.Least.{IsLeastOver, least_at}
 use Rattle.pc_rollup.proofs.SumLaws.{IsSumOver-only}
 use Rattle.pc_times.specs.declared.state.ActState.{ActState}
 use Rattle.pc_figures.specs.declared.figures.Figure.TheVariants.{Budget, Actual, ToGo, Latest, Overrun}
 use Rattle.pc_figures.specs.declared.outline.OutlineRow.{OutlineRow}
-use Rattle.pc_figures.specs.Columns.{AreOnTree, AreItemSums, AreLevelSums, Column, IsColumn, IsLevelSum}
+use Rattle.pc_figures.specs.Columns.{AreOnTree, AreItemSums, Column, IsColumn, IsLevelSum}
 use Rattle.pc_figures.specs.inside.Columns.{IsTotal}
 use Rattle.pc_figures.specs.Figures.{figure_at}
 use Rattle.pc_figures.specs.Outline.{AreInOrder, IsOutline, row_at}
-use Rattle.pc_figures.specs.Packages.{AreValues, IsValueOf, overrun_at}
+use Rattle.pc_figures.specs.Packages.{IsValueOf, overrun_at}
 use Rattle.pc_figures.specs.Slacks.{AreLeastSlacks}
 use Rattle.pc_figures.specs.Summary.{IsSummaryOf, Summary}
 use Rattle.pc_figures.specs.Worth.{IsWorthOf, Worth}
 use Rattle.pc_figures.proofs.DepthLaws.{levels_same}
-use Rattle.pc_figures.proofs.SumLaws.{item_sums_alike, lines_are_whole}
+use Rattle.pc_figures.proofs.SumLaws.{lines_are_whole}
 
 -- ---- sums by item and by level
 

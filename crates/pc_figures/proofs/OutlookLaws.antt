@@ -1,7 +1,7 @@
 -- How an outlook is made of what activities cost and of the budgets of packages without activities.
-use Rattle.std.proofs.Common.{◌≡◌, ◌≢◌, ℕ, zero, suc, ◌+◌, ◌*◌, ◌<◌, ◌≤◌, ◌^◌, ◌⊎◌, inl, inr, ⊎_elim, Bool, true, false, IsTrue, ◌↔◌, List, [], ◌∷◌, ◌++◌}
+use Rattle.std.proofs.Common.{◌≡◌, ◌≢◌, ℕ, zero, suc, ◌+◌, ◌*◌, ◌<◌, ◌≤◌, ◌^◌, inl, inr, ⊎_elim, Bool, true, false, IsTrue, ◌↔◌, List, [], ◌∷◌, ◌++◌}
 use Rattle.std.proofs.Common.{length, slice_index, set, refl, sym, ap, ◌∙◌, subst, get_or-set_same, get_or-set_other, length-set, add-one, arith}
-use Rattle.std.specs.Prelude.{ℤ, pos, ◌+ℤ◌, ◌-ℤ◌, unsigned_abs, sum_by}
+use Rattle.std.specs.Prelude.{ℤ, pos, ◌+ℤ◌, unsigned_abs, sum_by}
 use Rattle.std.proofs.lemmas.Bool.{cases_eq, cases_lt}
 use Rattle.std.proofs.lemmas.Int.{ints}
 use Rattle.std.proofs.lemmas.List.{length_push, get_or_past}
@@ -10,24 +10,23 @@ use Rattle.pc_model.specs.declared.limits.TheConstants.{MAX_ACCOUNTS, MAX_COST}
 use Rattle.pc_model.specs.Sums.{sum_to}
 use Rattle.pc_model.proofs.Sums.{sum_to-most}
 use Rattle.pc_wbs.specs.declared.row.ItemRow.{ItemRow}
-use Rattle.pc_wbs.specs.Climb.{AreInRange, IsBelow, IsLeaf, IsOnlyTop, IsTop, IsTree}
+use Rattle.pc_wbs.specs.Climb.{AreInRange, IsBelow, IsLeaf, IsTree}
 use Rattle.pc_wbs.proofs.OrderLaws.{IsBelow-top}
 use Rattle.pc_accounts.specs.declared.entry.Entry.{Entry}
 use Rattle.pc_accounts.specs.declared.rows.AcctRow.{AcctRow}
 use Rattle.pc_accounts.specs.Amounts.{item_of}
-use Rattle.pc_accounts.specs.Entries.{AreSmall, entry_at}
+use Rattle.pc_accounts.specs.Entries.{AreSmall}
 use Rattle.pc_rollup.specs.declared.totals.Placed.{Placed}
 use Rattle.pc_rollup.specs.Sums.{IsSumOver}
 use Rattle.pc_rollup.specs.Totals.{amount_at}
-use Rattle.pc_rollup.specs.inside.Totals.{placed_at, place_of, amount_of, AreOnLeaves, AreTotalsOf}
-use Rattle.pc_rollup.proofs.SumLaws.{IsSumOver-bound, IsSumOver-only, IsSumOver-part, IsSumOver-same}
+use Rattle.pc_rollup.specs.inside.Totals.{place_of, amount_of, AreOnLeaves, AreTotalsOf}
+use Rattle.pc_rollup.proofs.SumLaws.{IsSumOver-bound, IsSumOver-part, IsSumOver-same}
 use Rattle.pc_figures.specs.declared.figures.Figure.TheVariants.{Budget}
-use Rattle.pc_figures.specs.declared.outline.OutlineRow.{OutlineRow}
 use Rattle.pc_figures.specs.declared.outlook.OutlookAmounts.{OutlookAmounts}
 use Rattle.pc_figures.specs.Columns.{AreItemSums, AreOnTree, IsItemSum}
 use Rattle.pc_figures.specs.Figures.{figure_at}
 use Rattle.pc_figures.specs.Outline.{IsOutline}
-use Rattle.pc_figures.specs.Outlook.{Outlook, AreAmountsOf, HasActivity, IsOutlookOf, IsRest, IsWholeOutlook, IsWork, amounts_at}
+use Rattle.pc_figures.specs.Outlook.{Outlook, AreAmountsOf, HasActivity, IsOutlookOf, IsRest, IsWork, amounts_at}
 use Rattle.pc_figures.specs.inside.Outlook.{HasWholeAtTop, StandOnLeaves}
 use Rattle.pc_figures.specs.inside.OutlookParts.{AreAdded, AreAddedTo, AreMarked, ArePlacedCosts, AreRests, AreSpare, AreWorks, CanBeAdded, HasActivityTo, IsSpare, mark_at}
 use Rattle.pc_figures.proofs.PushLaws.{each_more}

@@ -1,6 +1,6 @@
 -- The least slacks by item, from the slack of each activity.
 use Rattle.std.proofs.Common.{◌≡◌, ℕ, ◌+◌, ◌<◌, List, [], ◌∷◌, ◌++◌, length, slice_index, Option, Some, None, sym, ap, ◌∙◌, subst, arith}
-use Rattle.std.specs.Prelude.{ℤ, pos, ◌≤ℤ◌}
+use Rattle.std.specs.Prelude.{ℤ, pos}
 use Rattle.std.proofs.lemmas.Int.{ints}
 use Rattle.std.proofs.lemmas.List.{length_push}
 use Rattle.pc_wbs.specs.declared.row.ItemRow.{ItemRow}
@@ -8,7 +8,7 @@ use Rattle.pc_wbs.specs.Climb.{IsBelow}
 use Rattle.pc_rollup.specs.declared.totals.Placed.{Placed}
 use Rattle.pc_rollup.specs.Least.{IsLeastOver, least_at}
 use Rattle.pc_rollup.specs.inside.Least.{AreLeastOf}
-use Rattle.pc_rollup.specs.inside.Totals.{placed_at, place_of, amount_of}
+use Rattle.pc_rollup.specs.inside.Totals.{place_of, amount_of}
 use Rattle.pc_figures.specs.Slacks.{AreLeastSlacks}
 use Rattle.pc_figures.specs.inside.Slacks.{ArePlacedSlacks}
 use Rattle.pc_figures.proofs.PushLaws.{each_more}

@@ -1,5 +1,5 @@
 -- Amounts of accounts as they are summed.
-use Rattle.std.proofs.Common.{◌≡◌, ℕ, zero, suc, ◌+◌, ◌<◌, ◌≤◌, ◌*◌, ◌^◌, inl, inr, List, [], ◌∷◌, ◌++◌, length, take, sym, ap, ◌∙◌, subst, arith}
+use Rattle.std.proofs.Common.{◌≡◌, ℕ, zero, suc, ◌+◌, ◌<◌, ◌≤◌, inl, inr, List, [], ◌∷◌, ◌++◌, length, take, sym, ap, ◌∙◌, subst, arith}
 use Rattle.std.specs.Prelude.{ℤ, pos, ◌+ℤ◌, unsigned_abs, sum_by}
 use Rattle.std.proofs.lemmas.List.{length_push}
 use Rattle.std.proofs.Math.Seq.{take-length}
@@ -13,7 +13,7 @@ use Rattle.pc_rollup.specs.declared.levels.LevelLine.{LevelLine}
 use Rattle.pc_rollup.specs.Lines.{line_at, AreLevelLines, sum_of}
 use Rattle.pc_rollup.specs.Sums.{IsSumOver}
 use Rattle.pc_rollup.specs.Totals.{amount_at}
-use Rattle.pc_rollup.specs.inside.Totals.{placed_at, place_of, amount_of, AreTotalsOf}
+use Rattle.pc_rollup.specs.inside.Totals.{place_of, amount_of, AreTotalsOf}
 use Rattle.pc_rollup.proofs.SumLaws.{IsSumOver-same, unsigned_abs-add}
 use Rattle.pc_rollup.proofs.WholeLaws.{lines_sum}
 use Rattle.pc_figures.specs.Columns.{AreOnTree, AreItemSums, Column, IsColumn, IsLevelSum, AreLevelSums, AddUpTo}

@@ -19,10 +19,19 @@ use std::alloc::{AllocError, Global};
 use std::marker::Model;
 
 /// A column of a report: an amount for each item, and for each level from the first on.
-#[derive(Debug, Drop)]
 pub(crate) struct Column {
     items: Vec<i64>,
     levels: Vec<i64>,
+}
+
+impl Drop for Column {
+    // Written out, so that who lets a column go cites this proof.
+    fn drop(self) {
+        let Column {
+            items: _items,
+            levels: _levels,
+        } = self;
+    }
 }
 
 impl Model for Column {

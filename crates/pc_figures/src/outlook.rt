@@ -30,10 +30,19 @@ pub struct OutlookAmounts {
 ///
 /// What it is going to cost is what its activities cost at their durations, and the budgets of its accounts in packages
 /// without activities.
-#[derive(Debug, Drop)]
 pub struct Outlook {
     outline: Vec<OutlineRow>,
     amounts: Vec<OutlookAmounts>,
+}
+
+impl Drop for Outlook {
+    // Written out, so that who lets an outlook go cites this proof.
+    fn drop(self) {
+        let Outlook {
+            outline: _outline,
+            amounts: _amounts,
+        } = self;
+    }
 }
 
 impl Model for Outlook {

@@ -37,7 +37,6 @@ pub struct SummaryAmounts {
 
 /// For each item, and for each level, what may be spent, what was spent, what is to go, what it will have cost, and the
 /// overrun.
-#[derive(Drop)]
 pub struct Summary {
     outline: Vec<OutlineRow>,
     budget: Column,
@@ -45,6 +44,20 @@ pub struct Summary {
     to_go: Column,
     latest: Column,
     overrun: Column,
+}
+
+impl Drop for Summary {
+    // Written out, so that who lets a summary go cites this proof.
+    fn drop(self) {
+        let Summary {
+            outline: _outline,
+            budget: _budget,
+            actual: _actual,
+            to_go: _to_go,
+            latest: _latest,
+            overrun: _overrun,
+        } = self;
+    }
 }
 
 impl Model for Summary {

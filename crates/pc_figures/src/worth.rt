@@ -28,12 +28,23 @@ pub struct WorthAmounts {
 }
 
 /// For each item what may be spent, what was spent, what the work is worth, and by how much more was spent than that.
-#[derive(Debug, Drop)]
 pub struct Worth {
     budget: Vec<i64>,
     actual: Vec<i64>,
     value: Vec<i64>,
     overrun: Vec<i64>,
+}
+
+impl Drop for Worth {
+    // Written out, so that who lets them go cites this proof.
+    fn drop(self) {
+        let Worth {
+            budget: _budget,
+            actual: _actual,
+            value: _value,
+            overrun: _overrun,
+        } = self;
+    }
 }
 
 impl Model for Worth {

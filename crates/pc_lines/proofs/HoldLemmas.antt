@@ -7,7 +7,7 @@ use borrow.Rule.Slice.PartMut.{put_mid}
 use native.Mathlib.Numerals.{unary_clauses}
 
 -- a front of a front
-take-of_take : (n count : ℕ) (xs : List ℕ) → take n (take count xs) ≡ take (min count n) xs
+pub take-of_take : (n count : ℕ) (xs : List ℕ) → take n (take count xs) ≡ take (min count n) xs
 take-of_take zero zero xs = refl
 take-of_take zero (suc count) xs = simp unary_clauses
 take-of_take (suc n) zero xs = simp unary_clauses

@@ -6,7 +6,7 @@ use Rattle.pc_model.specs.Pieces.{pieces_of, units_of}
 use Rattle.pc_model.specs.Schedule.{term_at}
 use Rattle.pc_crash.specs.inside.Groups.{AreGroups}
 use Rattle.pc_crash.specs.inside.KneeLists.{knee_list}
-use Rattle.pc_crash.specs.inside.Laid.{IsRising}
+use Rattle.pc_crash.specs.inside.Laid.{AreLaid, IsRising}
 use Rattle.pc_crash.proofs.KneeListLaws.{IsRising-from_slopes, length-knee_list, units-most}
 use Rattle.pc_crash.proofs.LaidLaws.{AreLaid-push}
 use Rattle.pc_crash.proofs.laying.laid_out.Goals as goal
@@ -50,3 +50,17 @@ loop-a-preserved c =
     (omega (arith, length-knee_list (term_at terms a) c.as_slice-group.result.now))
     (omega (arith, c.as_slice-group.ensures.fits))
     (ap (knee_list (term_at terms a)) group))
+
+pub returns-clause-sound : goal.returns-clause-sound
+returns-clause-sound c = c.activities-a-end.ensures.sound
+
+pub returns-clause-in_range : goal.returns-clause-in_range
+returns-clause-in_range c = c.activities-a-end.ensures.in_range
+
+pub returns-clause-laid : goal.returns-clause-laid
+returns-clause-laid c =
+    let all : c.loop-a.a ≡ length c.args.terms.now = omega (arith, c.activities-a-end.ensures.activities, c.requires.terms.one_each) in
+    subst (λ n. AreLaid c.args.net.now.arcs c.args.terms.now c.args.pieces.now n c.loop-a.rows.items c.loop-a.knees.items) all c.loop-a.invariant
+
+pub index-requires : goal.index-requires
+index-requires c = omega (arith, c.in_ok-groups.ensures.one_each, c.activities-a-end.ensures.activities, c.requires.terms.one_each)

@@ -1,6 +1,5 @@
-use Rattle.std.proofs.Common.{◌≡◌, ◌∙◌, List, sym, subst, arith}
+use Rattle.std.proofs.Common.{◌∙◌, List, sym, subst, arith}
 use Rattle.pc_model.specs.declared.PieceRow.{PieceRow}
-use Rattle.pc_model.specs.Pieces.{pieces_of}
 use Rattle.pc_model.specs.Schedule.{term_at}
 use Rattle.pc_crash.specs.inside.OwnPieces.{AreOwnPieces}
 use Rattle.pc_crash.proofs.OwnPieceLaws.{added-most}

@@ -1,7 +1,6 @@
-use Rattle.std.proofs.Common.{◌≡◌, length, ◌∙◌, sym, subst, arith, FitsSigned, to_z, of_z, w64, rules, refl}
+use Rattle.std.proofs.Common.{◌≡◌, length, ◌∙◌, sym, subst, arith, FitsSigned, to_z, of_z, w64, rules}
 use Rattle.std.proofs.lemmas.Int.{to_z-of_z}
 use mir.Val.{SFits}
-use Rattle.std.specs.Prelude.{ℤ}
 use Rattle.pc_wbs.specs.Climb.{IsDepth}
 use Rattle.pc_rollup.specs.Lines.{sum_of}
 use Rattle.pc_rollup.specs.Totals.{amount_at}

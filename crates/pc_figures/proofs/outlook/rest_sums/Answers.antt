@@ -1,4 +1,4 @@
-use Rattle.std.proofs.Common.{◌∙◌, sym, arith}
+use Rattle.std.proofs.Common.{arith}
 use Rattle.pc_figures.proofs.OutlookLaws.{rests_add, rests_are}
 use Rattle.pc_figures.proofs.PushLaws.{if_answered}
 use Rattle.pc_figures.proofs.outlook.rest_sums.Goals as goal

@@ -1,5 +1,5 @@
-use Rattle.std.proofs.Common.{◌≡◌, ◌<◌, ◌^◌, ℕ, length, slice_index, refl, arith, to_z, of_z, w64, rules}
-use Rattle.std.specs.Prelude.{ℤ, pos}
+use Rattle.std.proofs.Common.{◌<◌, ◌^◌, length, slice_index, refl, arith, w64, rules}
+use Rattle.std.specs.Prelude.{pos}
 use Rattle.std.proofs.lemmas.Int.{fits_signed_from_abs, to_z-of_z}
 use mir.Val.{SFits}
 use Rattle.pc_model.proofs.Sums.{sum_to-bound}

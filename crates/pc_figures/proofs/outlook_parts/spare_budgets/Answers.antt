@@ -1,11 +1,10 @@
-use Rattle.std.proofs.Common.{◌≡◌, ◌<◌, ◌≤◌, Bool, false, ℕ, length, refl, arith, sym, ap, ◌∙◌, subst, to_z, of_z, w64, rules}
-use Rattle.std.specs.Prelude.{ℤ, pos, unsigned_abs}
+use Rattle.std.proofs.Common.{◌≡◌, ◌<◌, length, refl, arith, sym, subst, to_z, of_z, w64, rules}
+use Rattle.std.specs.Prelude.{ℤ}
 use Rattle.std.proofs.lemmas.Int.{to_z-of_z}
 use mir.Val.{SFits}
-use Rattle.pc_model.specs.declared.limits.TheConstants.{MAX_COST}
 use Rattle.pc_accounts.specs.Amounts.{item_of}
 use Rattle.pc_figures.specs.inside.OutlookParts.{IsSpare}
-use Rattle.pc_figures.proofs.OutlookLaws.{spare_is, spare_more, spare_all, spare_fit}
+use Rattle.pc_figures.proofs.OutlookLaws.{spare_is, spare_more, spare_all}
 use Rattle.pc_figures.proofs.outlook_parts.spare_budgets.Goals as goal
 
 pub loop-b-preserved : goal.loop-b-preserved

@@ -1,4 +1,4 @@
-use Rattle.std.proofs.Common.{◌≡◌, ◌∙◌, ◌<◌, None, length, slice_index, refl, arith}
+use Rattle.std.proofs.Common.{◌≡◌, ◌∙◌, ◌<◌, None, slice_index, refl, arith}
 use Rattle.std.proofs.lemmas.List.{get_or_default}
 use Rattle.pc_figures.specs.inside.Packages.{progress_at}
 use Rattle.pc_figures.proofs.ValueLaws.{progress_more}

@@ -1,13 +1,11 @@
-use Rattle.std.proofs.Common.{◌≡◌, ℕ, ◌+◌, ◌<◌, ◌≤◌, List, length, take, set, refl, subst, ap, arith}
+use Rattle.std.proofs.Common.{◌≡◌, ℕ, ◌+◌, ◌<◌, List, length, take, set, arith}
 use Rattle.std.proofs.lemmas.List.{length-take-le, length-set, take_more_set}
 use Rattle.pc_model.specs.Greatest.{IsFirst}
-use Rattle.pc_model.specs.Network.{Network, IsOrder, IsInRange, IsSound}
+use Rattle.pc_model.specs.Network.{Network}
 use Rattle.pc_model.specs.Walk.{to_of}
-use Rattle.pc_model.specs.declared.limits.TheConstants.{MAX_EVENTS}
 use Rattle.pc_times.specs.inside.Passes.{HasBoundedWalks, HasNoSlack}
-use Rattle.pc_times.specs.Times.{AreEarly, AreLengths}
+use Rattle.pc_times.specs.Times.{AreEarly}
 use Rattle.pc_times.specs.inside.Times.{AreTails}
-use Rattle.pc_times.specs.Picked.{IsPickedWalk}
 use Rattle.pc_times.proofs.PickedLaws.{IsPickedTo, picked_to_start, picked_to_next, end_when_none_without_slack, picked_at_end}
 use Rattle.pc_times.proofs.TimesLaws.{has_bounded_walks}
 use Rattle.pc_times.proofs.path.critical_path_into.Goals as goal

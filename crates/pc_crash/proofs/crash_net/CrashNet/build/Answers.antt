@@ -1,3 +1,4 @@
+use Rattle.std.proofs.Common.{refl}
 use Rattle.pc_crash.proofs.InsideLaws.{terms-laid}
 use Rattle.pc_crash.proofs.crash_net.CrashNet.build.Goals as goal
 
@@ -20,3 +21,32 @@ invariant_of-result c =
       };
       laid = rw (terms, pieces, c.in_ok-laid_out.ensures.laid.one_each) c.in_ok-laid_out.ensures.laid;
     }
+
+pub laid_out-requires-clause-terms : goal.laid_out-requires-clause-terms
+laid_out-requires-clause-terms c = c.requires.terms
+
+pub laid_out-requires-clause-limits : goal.laid_out-requires-clause-limits
+laid_out-requires-clause-limits c = c.requires.limits
+
+pub laid_out-requires-clause-pieces : goal.laid_out-requires-clause-pieces
+laid_out-requires-clause-pieces c = c.requires.pieces
+
+pub of-requires : goal.of-requires
+of-requires c = c.requires.activities.once
+
+pub returns-clause-network : goal.returns-clause-network
+returns-clause-network c = refl
+
+pub returns-clause-terms : goal.returns-clause-terms
+returns-clause-terms c =
+    let layout = c.in_ok-laid_out.field-0 in
+    terms-laid c.args.net.now.arcs c.args.terms.now c.args.pieces.now layout.rows.items layout.knees.items c.in_ok-laid_out.ensures.laid
+
+pub returns-clause-pieces : goal.returns-clause-pieces
+returns-clause-pieces c = c.in_ok-from_slice.ensures.items
+
+pub returns-clause-events : goal.returns-clause-events
+returns-clause-events c = c.in_ok-from_slice-2.ensures.items
+
+pub returns-clause-activities : goal.returns-clause-activities
+returns-clause-activities c = c.in_ok-of.ensures

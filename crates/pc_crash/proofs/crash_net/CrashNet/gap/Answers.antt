@@ -1,12 +1,45 @@
 use Rattle.std.proofs.Common.{◌≡◌, ℕ, ◌^◌, ◌<◌, pos, ◌-ℤ◌, to_z, of_z, w64, length, slice_index, ◌∙◌, ap, arith}
 use Rattle.std.proofs.lemmas.Int.{ints}
 use Rattle.pc_model.specs.Walk.{from_of, to_of}
-use Rattle.pc_crash.proofs.InsideLaws.{row-read}
+use Rattle.pc_crash.proofs.InsideLaws.{row-read, rows-each, ends-within}
 use Rattle.pc_crash.proofs.crash_net.CrashNet.gap.Goals as goal
 
 -- times below the bound have a difference that fits
 minus : (x y : ℕ) → x < 10 ^ 18 → y < 10 ^ 18 → to_z w64 (of_z w64 (to_z w64 x -ℤ to_z w64 y)) ≡ pos x -ℤ pos y
 minus x y late early = omega (arith, ints)
+
+pub index-requires : goal.index-requires
+index-requires c = omega (arith, rows-each c.self.inside c.self.invariant, ap (λ n. length n.network.arcs) c.self.view_is)
+
+pub bounds-times-arc : goal.bounds-times-arc
+bounds-times-arc c =
+    let ends = ends-within c.self.inside c.args.self.now c.self.view_is c.self.invariant c.args.a c.requires.activity c.index.result.now c.index.ensures in
+    omega (arith, c.requires.one_each)
+
+pub overflow_cast-result-2 : goal.overflow_cast-result-2
+overflow_cast-result-2 c =
+    let ends = ends-within c.self.inside c.args.self.now c.self.view_is c.self.invariant c.args.a c.requires.activity c.index.result.now c.index.ensures in
+    omega (arith, c.requires.small c.index.result.now.arc.to (omega (arith, c.requires.one_each)))
+
+pub bounds-times-arc-2 : goal.bounds-times-arc-2
+bounds-times-arc-2 c =
+    let ends = ends-within c.self.inside c.args.self.now c.self.view_is c.self.invariant c.args.a c.requires.activity c.index.result.now c.index.ensures in
+    omega (arith, c.requires.one_each)
+
+pub overflow_cast-result-4 : goal.overflow_cast-result-4
+overflow_cast-result-4 c =
+    let ends = ends-within c.self.inside c.args.self.now c.self.view_is c.self.invariant c.args.a c.requires.activity c.index.result.now c.index.ensures in
+    omega (arith, c.requires.small c.index.result.now.arc.from (omega (arith, c.requires.one_each)))
+
+pub overflow_sub-result : goal.overflow_sub-result
+overflow_sub-result c =
+    let ends = ends-within c.self.inside c.args.self.now c.self.view_is c.self.invariant c.args.a c.requires.activity c.index.result.now c.index.ensures in
+    omega (
+      arith,
+      ints,
+      c.requires.small c.index.result.now.arc.to (omega (arith, c.requires.one_each)),
+      c.requires.small c.index.result.now.arc.from (omega (arith, c.requires.one_each)),
+    )
 
 pub returns : goal.returns
 returns c =

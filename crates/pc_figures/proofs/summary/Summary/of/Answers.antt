@@ -13,3 +13,13 @@ returns-clause-once c = record {
   latest = c.in_ok-column_of-4.ensures.whole;
   overrun = c.in_ok-column_of-5.ensures.whole;
 }
+
+pub returns-clause-summary : goal.returns-clause-summary
+returns-clause-summary c = record {
+  outline = c.in_ok-outline_of.ensures.outline;
+  budget = c.in_ok-column_of.ensures.column;
+  actual = c.in_ok-column_of-2.ensures.column;
+  to_go = c.in_ok-column_of-3.ensures.column;
+  latest = c.in_ok-column_of-4.ensures.column;
+  overrun = c.in_ok-column_of-5.ensures.column;
+}

@@ -1,4 +1,3 @@
-use Rattle.std.proofs.Common.{ap, ◌∙◌}
 use Rattle.pc_figures.proofs.worth.Worth.of.Goals as goal
 
 pub item_sums-requires-clause-one_each : goal.item_sums-requires-clause-one_each
