@@ -184,7 +184,7 @@ best_at-requires-clause-small_gain g c =
     let small = (c.next_segment.ensures.next c.loop-solver-test.true).small.slope in
     elim c.if-stop-upper.branch [
       | then-stop-upper w ↦ omega (arith, w.gain-is, c.slope-slope.ensures, small)
-      | else-stop-upper w ↦ omega (arith, w.gain-is, c.loop-solver.invariant.way.small)
+      | else-stop-upper w ↦ omega (arith, w.gain-is, c.slope-slope.ensures, small, c.loop-solver.invariant.way.small)
     ]
 
 pub returns-then-stop-lower-clause-there : goal.returns-then-stop-lower-clause-there
@@ -221,3 +221,18 @@ pub returns-clause-further : goal.returns-clause-further
 returns-clause-further g c =
     further-joins c.args.solver.now c.next_segment.new.self c.best_at-2.new.solver
     (further-joins c.args.solver.now c.loop-solver.solver c.next_segment.new.self c.loop-solver.invariant.way.further c.next_segment.ensures.further) c.best_at-2.ensures.further
+
+pub slope-slope-requires : goal.slope-slope-requires
+slope-slope-requires g c = (c.next_segment.ensures.next c.loop-solver-test.true).given
+
+pub lower-requires : goal.lower-requires
+lower-requires g c = (c.next_segment.ensures.next c.loop-solver-test.true).given
+
+pub upper-requires : goal.upper-requires
+upper-requires g c = (c.next_segment.ensures.next c.loop-solver-test.true).given
+
+pub lower-requires-in-loop-solver : goal.lower-requires-in-loop-solver
+lower-requires-in-loop-solver g c = (c.next_segment.ensures.next c.loop-solver-test.true).given
+
+pub upper-requires-then-stop-lower : goal.upper-requires-then-stop-lower
+upper-requires-then-stop-lower g c = (c.next_segment.ensures.next c.loop-solver-test.true).given

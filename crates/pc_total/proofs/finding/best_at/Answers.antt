@@ -64,20 +64,5 @@ above_at-requires-clause-length g c = omega (arith, c.requires.to_come.within, c
 pub above_at-requires-clause-small : goal.above_at-requires-clause-small
 above_at-requires-clause-small g c = c.requires.small_gain
 
-pub returns-clause-there : goal.returns-clause-there
-returns-clause-there g c = c.cost_at-direct.ensures.there
-
-pub returns-clause-same : goal.returns-clause-same
-returns-clause-same g c = c.cost_at-direct.ensures.same
-
-pub returns-clause-further : goal.returns-clause-further
-returns-clause-further g c = c.cost_at-direct.ensures.further
-
-pub returns-clause-counted : goal.returns-clause-counted
-returns-clause-counted g c = c.cost_at-direct.ensures.counted
-
-pub returns-clause-gentle : goal.returns-clause-gentle
-returns-clause-gentle g c = c.cost_at-direct.ensures.gentle
-
 pub returns-clause-range : goal.returns-clause-range
 returns-clause-range g c = c.given-given.ensures.range
