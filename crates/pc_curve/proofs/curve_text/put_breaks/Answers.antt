@@ -31,7 +31,7 @@ loop-point-preserved g c =
     }
 
 pub next-requires : goal.next-requires
-next-requires g c = c.loop-point.invariant.put.place
+next-requires g c = record { place = c.loop-point.invariant.put.place }
 
 pub loop-point-smaller : goal.loop-point-smaller
 loop-point-smaller g c =
