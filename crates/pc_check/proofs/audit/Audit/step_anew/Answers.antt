@@ -1,6 +1,6 @@
 use Rattle.std.specs.Prelude.{IfNone, IsNone}
 use Rattle.pc_cert.specs.Grammar.{next}
-use Rattle.std.proofs.Common.{◌≡◌, ◌<◌, [], ◌∷◌, ◌++◌, take, drop, Some, None, refl, sym, ap, subst, ◌∙◌, arith, append-nil}
+use Rattle.std.proofs.Common.{◌≡◌, ◌<◌, [], ◌∷◌, ◌++◌, take, drop, Some, None, refl, sym, ap, subst, ◌∙◌, append-nil}
 use Rattle.std.proofs.lemmas.List.{take-append-drop}
 use Rattle.pc_cert.specs.inside.Reader.{StandsFor}
 use Rattle.pc_cert.specs.inside.Fed.{line_list}
