@@ -9,12 +9,22 @@ use std::marker::Model;
 
 /// A fixed number of cells with a `u64` each, and the spans of them that are live: the first begins at the first cell, and
 /// each later one where the one before ends.
-#[derive(Drop)]
 pub struct Region {
     cells: Vec<u64>,
     /// Where each live span begins and then where the next one will; what stands behind these `count + 1` means nothing.
     starts: Vec<usize>,
     count: usize,
+}
+
+impl Drop for Region {
+    // Written out, so that who lets one go cites this proof.
+    fn drop(self) {
+        let Region {
+            cells: _cells,
+            starts: _starts,
+            count: _count,
+        } = self;
+    }
 }
 
 impl Model for Region {

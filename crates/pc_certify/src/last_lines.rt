@@ -33,11 +33,21 @@ pub struct ActRow {
 ///
 /// What they say in the next segment is compared with what they say now, so that a line that comes again is put as it stands.
 /// Beside them is the room where they are gathered for the page.
-#[derive(Drop)]
 pub struct LastLines {
     pub(crate) events: Vec<EventRow>,
     pub(crate) acts: Vec<ActRow>,
     pub(crate) gathered: Gathered,
+}
+
+impl Drop for LastLines {
+    // Written out, so that who lets them go cites this proof.
+    fn drop(self) {
+        let LastLines {
+            events: _events,
+            acts: _acts,
+            gathered: _gathered,
+        } = self;
+    }
 }
 
 impl LastLines {

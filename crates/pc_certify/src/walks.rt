@@ -8,10 +8,19 @@ use pc_times::{Longest, longest};
 use std::alloc::{AllocError, Global};
 
 /// The critical paths of a network at normal and at crash durations.
-#[derive(Drop)]
 pub(crate) struct Walks {
     pub(crate) normal: Longest,
     pub(crate) crash: Longest,
+}
+
+impl Drop for Walks {
+    // Written out, so that who lets them go cites this proof.
+    fn drop(self) {
+        let Walks {
+            normal: _normal,
+            crash: _crash,
+        } = self;
+    }
 }
 
 impl Walks {

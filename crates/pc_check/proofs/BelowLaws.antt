@@ -1,5 +1,5 @@
 -- Tests of each number below a count, and of some.
-use Rattle.std.proofs.Common.{◌≡◌, ℕ, ◌<◌, zero, suc, Bool, true, false, ◌&&◌, ◌||◌, refl, sym, arith, ◌⊎◌, inl, inr, subst}
+use Rattle.std.proofs.Common.{◌≡◌, ℕ, ◌+◌, ◌<◌, zero, suc, Bool, true, false, ◌&&◌, ◌||◌, refl, sym, arith, ◌⊎◌, inl, inr, subst}
 use Rattle.std.proofs.lemmas.Bool.{cases_eq}
 use Rattle.pc_check.specs.Known.{each_below, some_below}
 
@@ -11,6 +11,10 @@ pub and_parts : (a b : Bool) → (a && b) ≡ true → (a ≡ true) × (b ≡ tr
 and_parts true b h = (refl, h)
 and_parts false b h = absurd cc
 
+both : (a b : Bool) → a ≡ true → b ≡ true → (a && b) ≡ true
+both true b first second = second
+both false b first second = absurd cc
+
 or_true : (b : Bool) → (b || true) ≡ true
 or_true true = refl
 or_true false = refl
@@ -18,6 +22,9 @@ or_true false = refl
 pub or_parts : (a b : Bool) → (a || b) ≡ true → (a ≡ true) ⊎ (b ≡ true)
 or_parts true b h = inl refl
 or_parts false b h = inr h
+
+pub each_below-more : (n : ℕ) (test : ℕ → Bool) → each_below n test ≡ true → test n ≡ true → each_below (n + 1) test ≡ true
+each_below-more n test before last = let next : suc n ≡ n + 1 = omega arith in subst (λ m. each_below m test ≡ true) next (both (each_below n test) (test n) before last)
 
 pub each_below-fails : (n : ℕ) (test : ℕ → Bool) (k : ℕ) → k < n → test k ≡ false → each_below n test ≡ false
 each_below-fails zero test k lt fails = absurd (omega arith)

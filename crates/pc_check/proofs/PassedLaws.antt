@@ -1,5 +1,5 @@
 -- What passed last of an activity, and why it passes again.
-use Rattle.std.proofs.Common.{◌≡◌, ◌≢◌, ℕ, ◌+◌, ◌<◌, ◌≤◌, zero, suc, Bool, true, false, not, ◌||◌, List, [], length, replicate, set, None, refl, sym, ap, subst, ◌∙◌, arith, ⊎_elim}
+use Rattle.std.proofs.Common.{◌≡◌, ◌≢◌, ℕ, ◌+◌, ◌<◌, ◌≤◌, zero, suc, Bool, true, false, not, ◌&&◌, ◌||◌, List, [], length, replicate, set, None, refl, sym, ap, subst, ◌∙◌, arith, ⊎_elim}
 use Rattle.std.specs.Prelude.{◌==◌, nat_lt, slice_index, slice_index_or, if◌then◌else◌}
 use Rattle.std.proofs.lemmas.Bool.{cases_eq, eq-eqb, eqb-true, le-leb, le-ltb}
 use Rattle.std.proofs.lemmas.List.{get_or_default, get_or-replicate, get_or-set_same, get_or-set_other, length-replicate, length-set}
@@ -7,12 +7,12 @@ use Rattle.pc_model.specs.declared.Knee.{Knee}
 use Rattle.pc_model.specs.inside.Pieces.{knee_at}
 use Rattle.pc_model.specs.Schedule.{normal_of, crash_of, lesser_of}
 use Rattle.pc_model.specs.Walk.{from_of, to_of}
-use Rattle.pc_curve_laws.specs.Segment.{head_at, tail_at}
+use Rattle.pc_curve_laws.specs.Segment.{head_at, span, tail_at}
 use Rattle.pc_crash.specs.inside.KneeLists.{AreKneesOf}
 use Rattle.pc_crash.specs.Priced.{PricedNetwork, knees_in}
 use Rattle.pc_cert.specs.declared.line.CertLine.TheVariants.{Act}
 use Rattle.pc_cert.specs.inside.Known.{HasText, IsTextOf}
-use Rattle.pc_check.specs.Conditions.{conditions, has_act_code, has_duration, is_slack_in}
+use Rattle.pc_check.specs.Conditions.{conditions, has_act_code, has_duration, has_room, is_slack_in, keeps_rises}
 use Rattle.pc_check.specs.inside.Crossings.{IsStill}
 use Rattle.pc_check.specs.Failures.{first_failing}
 use Rattle.pc_check.specs.Known.{Known, each_below, frame}
@@ -171,6 +171,17 @@ lasts_at_most net known code duration flows none =
     let behind_room = (holds_first _ _ _ behind_code).1 in
     let lasts = (and_parts _ _ (holds_first _ _ _ behind_room).0).0 in
     omega (arith, eqb-true duration (lesser_of net.network net.terms known.time known.acts) lasts)
+
+-- and no flow of it is above its rise
+pub rises_kept : (net : PricedNetwork) (known : Known) (code : List ℕ) (duration : ℕ) (flows : List ℕ) →
+    first_failing (conditions net known (Act code duration flows)) ≡ None → keeps_rises net known.acts flows ≡ true
+rises_kept net known code duration flows none =
+    let a = known.acts in
+    let seg = frame known in
+    let behind_code = (holds_first (has_act_code net a code flows) _ 4 none).1 in
+    let behind_room = (holds_first (has_room net seg 0 a && has_room net seg (span seg) a) _ 6 behind_code).1 in
+    let behind_duration = (holds_first (has_duration net known a duration) _ 7 behind_room).1 in
+    (holds_first (keeps_rises net a flows) _ 8 behind_duration).0
 
 pub again_passes : {net : PricedNetwork} {known : Known} {passed : Passed} (code : List ℕ) →
     has_act_code net known.acts code passed.flows ≡ true → ComesAgain net known passed → HasPassed net known.acts passed

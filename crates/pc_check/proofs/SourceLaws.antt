@@ -9,7 +9,8 @@ use Rattle.pc_edges.proofs.PullLaws.{TakesPulls-then, TakesPulls-none, TakesPull
 use Rattle.pc_check.specs.declared.fail.Fail.{Fail}
 use Rattle.pc_check.specs.declared.fail.Verdict.{Verdict}
 use Rattle.pc_check.specs.Texts.{IsFailing, Finds}
-use Rattle.pc_check.specs.declared.fail.Verdict.TheVariants.{No}
+use Rattle.pc_check.specs.declared.fail.Verdict.TheVariants.{Yes, No}
+use Rattle.pc_check.specs.inside.Certified.{OnYes}
 use Rattle.pc_check.specs.inside.Auditing.{Auditing, HasRead, IsGoing, bytes_left}
 use Rattle.pc_check.specs.Stops.{HasNoFailure, IsSettled, IsUnsettled}
 use Rattle.pc_check.proofs.AuditLaws.{reading, checking}
@@ -21,6 +22,13 @@ pub with_anything : (left left_after : Option (List ℕ)) (bytes : List ℕ) (P 
 with_anything None left_after bytes P taken holds = tt
 with_anything (Some all) None bytes P taken holds = absurd taken
 with_anything (Some all) (Some rest) bytes P taken holds = subst P (sym taken) (holds rest)
+
+-- ---- verdicts
+
+-- what holds anyway holds on a yes
+pub on_any : (verdict : Verdict) (P : Type 0) → P → OnYes verdict P
+on_any (Yes segments) P is = is
+on_any (No line reason) P is = tt
 
 -- ---- between two pulls
 

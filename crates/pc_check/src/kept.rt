@@ -31,7 +31,6 @@ pub struct Kept {
 ///
 /// The sums of flows and of the cost stay from one segment to the next, since most activities do: an activity changes them where its
 /// line does. So they are those of the segment once all its activities have come.
-#[derive(Drop)]
 pub struct Tally {
     pub(crate) upper: u64,
     pub(crate) lower: u64,
@@ -51,6 +50,28 @@ pub struct Tally {
     pub(crate) forward: u128,
     pub(crate) backward: u128,
     pub(crate) stops: bool,
+}
+
+impl Drop for Tally {
+    // Written out, so that who lets one go cites this proof.
+    fn drop(self) {
+        let Tally {
+            upper: _upper,
+            lower: _lower,
+            cost: _cost,
+            slope: _slope,
+            times: _times,
+            moves: _moves,
+            acts: _acts,
+            rows: _rows,
+            inflow: _inflow,
+            outflow: _outflow,
+            spent: _spent,
+            forward: _forward,
+            backward: _backward,
+            stops: _stops,
+        } = self;
+    }
 }
 
 /// What is kept before the first line.

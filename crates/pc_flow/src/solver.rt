@@ -22,7 +22,6 @@ use std::marker::Model;
 /// It keeps a time for each event and a flow along each activity, which show that the durations that these times allow are
 /// a cheapest schedule for the present length. Each segment comes from the one before: the labels that a search gave last
 /// still stand after the fall.
-#[derive(Drop)]
 pub struct Solver<'n> {
     pub(crate) search: Search<'n>,
     pub(crate) longest: u64,
@@ -31,6 +30,21 @@ pub struct Solver<'n> {
     pub(crate) slope: u64,
     pub(crate) fall: u64,
     pub(crate) given: bool,
+}
+
+impl<'n> Drop for Solver<'n> {
+    // Written out, so that who lets one go cites this proof.
+    fn drop(self) {
+        let Solver {
+            search: _search,
+            longest: _longest,
+            shortest: _shortest,
+            cost: _cost,
+            slope: _slope,
+            fall: _fall,
+            given: _given,
+        } = self;
+    }
 }
 
 impl<'n> Model for Solver<'n> {
@@ -125,7 +139,16 @@ impl<'n> Solver<'n> {
     pub fn close(self) -> Region
         ensures { result ≡ self.entry.board.home }
     {
-        self.search.board.close()
+        let Solver {
+            search,
+            longest: _longest,
+            shortest: _shortest,
+            cost: _cost,
+            slope: _slope,
+            fall: _fall,
+            given: _given,
+        } = self;
+        search.board.close()
     }
 }
 

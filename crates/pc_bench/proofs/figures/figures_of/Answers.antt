@@ -1,5 +1,6 @@
-use Rattle.std.proofs.Common.{◌≡◌, ◌∙◌, inl, inr, true≢false, refl, sym, subst, arith}
+use Rattle.std.proofs.Common.{◌≡◌, ◌∙◌, inl, inr, true, true≢false, refl, sym, subst, arith}
 use Rattle.std.proofs.lemmas.Bool.{cases_lt}
+use Rattle.pc_flow.specs.Courses.{Course}
 use Rattle.pc_flow.specs.inside.Courses.{HasEnded, present}
 use Rattle.pc_flow.proofs.LookLaws.{same-joins, further-joins, looks-join}
 use Rattle.pc_curve.specs.Points.{curve_in}
@@ -104,3 +105,34 @@ pub returns-clause-counted : goal.returns-clause-counted
 returns-clause-counted g c =
     looks-join c.args.solver.now c.loop-solver.solver c.next_segment.new.self c.loop-solver.invariant.same c.loop-solver.invariant.further
     c.next_segment.ensures.further _ _ _ c.loop-solver.invariant.counted c.next_segment.ensures.counted
+
+pub first_tally-tally-requires-clause-given : goal.first_tally-tally-requires-clause-given
+first_tally-tally-requires-clause-given g c = c.first_segment.ensures.next.given
+
+pub cost-longest_cost-requires : goal.cost-longest_cost-requires
+cost-longest_cost-requires g c = c.first_segment.ensures.next.given
+
+pub next_tally-tally-requires-clause-given : goal.next_tally-tally-requires-clause-given
+next_tally-tally-requires-clause-given g c = (c.next_segment.ensures.next c.loop-solver-test.true).given
+
+pub returns-clause-same : goal.returns-clause-same
+returns-clause-same g c = same-joins c.args.solver.now c.loop-solver.solver c.next_segment.new.self c.loop-solver.invariant.same c.next_segment.ensures.same
+
+pub returns-clause-further : goal.returns-clause-further
+returns-clause-further g c =
+    further-joins c.args.solver.now c.loop-solver.solver c.next_segment.new.self c.loop-solver.invariant.further c.next_segment.ensures.further
+
+pub first_tally-tally-requires-clause-small : goal.first_tally-tally-requires-clause-small
+first_tally-tally-requires-clause-small g c =
+    let net = c.args.solver.now.net in
+    let from = c.args.solver.now in
+    let longest = c.longest-longest.result in
+    let shortest = c.shortest-shortest.result in
+    let along : IsAlong net longest shortest from =
+    record { same_net = refl; same_longest = sym c.longest-longest.ensures.longest; same_shortest = sym c.shortest-shortest.ensures.shortest } in
+    (tally-begins net (rw c.net.ensures at c.net-net.ensures).priced longest shortest c.longest-longest.ensures.limit from c.first_segment.new.solver along
+    c.first_segment.ensures.same c.first_segment.ensures.next c.requires c.longest-longest.ensures.all_normal).numbers
+
+pub cost_at_lower-requires-clause-given : goal.cost_at_lower-requires-clause-given
+cost_at_lower-requires-clause-given g c =
+    subst (λ (s : Course). s.given ≡ true) (sym (c.next_segment.ensures.unchanged c.loop-solver-test.false)) c.loop-solver.invariant.tallied.given

@@ -1,4 +1,4 @@
-use Rattle.std.proofs.Common.{◌+◌, ◌<◌, ◌≤◌, drop, length, refl, sym, ap, subst, arith}
+use Rattle.std.proofs.Common.{◌+◌, ◌<◌, ◌≤◌, drop, length, refl, sym, ap, subst, ◌∙◌, arith}
 use Rattle.std.proofs.lemmas.List.{take_all, length-drop}
 use Rattle.pc_model.specs.declared.limits.TheConstants.{MAX_EVENTS, MAX_ACTIVITIES}
 use Rattle.pc_check.specs.inside.Again.{acts_at}
@@ -62,3 +62,15 @@ pub returns-clause-safe : goal.returns-clause-safe
 returns-clause-safe c =
     let it = along_ends c.go_on.new.self c.pass_same-used.new.place (acts_at c.args.kept.now c.loop-used.a) c.loop-used.invariant (c.pass_same-used.ensures.same_place (omega (arith, c.if-used-eq0.true))) refl c.go_on.ensures in
     it.safe
+
+pub pass_same-used-requires-clause-rows : goal.pass_same-used-requires-clause-rows
+pass_same-used-requires-clause-rows c = c.requires.safe.rows
+
+pub pass_same-used-requires-clause-count : goal.pass_same-used-requires-clause-count
+pass_same-used-requires-clause-count c = c.activities-activities.ensures.activities ∙ ap (λ n. length n.arcs) c.net-2.ensures.network
+
+pub returns-then-not-is_between-clause-bounded : goal.returns-then-not-is_between-clause-bounded
+returns-then-not-is_between-clause-bounded c = c.requires.bounded
+
+pub returns-then-not-is_between-clause-safe : goal.returns-then-not-is_between-clause-safe
+returns-then-not-is_between-clause-safe c = c.requires.safe

@@ -2,8 +2,8 @@ use Rattle.std.proofs.Common.{◌≡◌, ◌≢◌, ◌<◌, ◌≤◌, ◌⊎�
 use Rattle.pc_flow.specs.Courses.{lower_of}
 use Rattle.pc_flow.specs.inside.Courses.{present, HasEnded}
 use Rattle.pc_curve.specs.inside.Points.{IsThere}
-use Rattle.pc_flow.proofs.LookLaws.{further-joins, looks-none, looks-join}
-use Rattle.pc_curve.proofs.CurveLaws.{priced-there, IsOnTheWay, way-begins, way-there, way-ends, ends-place, way-lower, way-goes_on, way-turns}
+use Rattle.pc_flow.proofs.LookLaws.{same-joins, further-joins, looks-none, looks-join}
+use Rattle.pc_curve.proofs.CurveLaws.{priced-there, IsOnTheWay, way-begins, way-there, way-ends, ends-place, way-lower, way-goes_on, way-turns, turns-place}
 use Rattle.pc_curve.proofs.breaks.next_turn.Goals.{else-slope-via-then-slope+else-upper-last, else-slope-via-else-slope}
 use Rattle.pc_curve.proofs.breaks.next_turn.Goals as goal
 
@@ -123,3 +123,43 @@ returns-clause-counted g c =
 pub returns-clause-further : goal.returns-clause-further
 returns-clause-further g c =
     further-joins c.args.solver.now c.loop-solver.solver c.next_segment.new.self c.loop-solver.invariant.way.further c.next_segment.ensures.further
+
+pub break_at_upper-requires : goal.break_at_upper-requires
+break_at_upper-requires g c = (c.next_segment.ensures.next c.loop-solver-test.true).given
+
+pub returns-then-upper-last-clause-place : goal.returns-then-upper-last-clause-place
+returns-then-upper-last-clause-place g c =
+    let from = c.args.solver.now in
+    let priced = priced-there c.net.result.now from (sym c.net.ensures) c.net-net.ensures.priced in
+    let stop = c.loop-solver.solver in
+    let next = c.next_segment.new.self in
+    let going : HasEnded stop → ⊥ = λ ended. true≢false (sym c.loop-solver-test.true ∙ c.next_segment.ensures.ended.1 ended) in
+    let below : (present next).upper < c.args.last = omega (arith, c.if-upper-last.true, c.upper.ensures) in
+    turns-place from c.args.last priced c.requires.place.within stop c.loop-solver.invariant.way next c.next_segment.ensures.same c.next_segment.ensures.further
+    (c.next_segment.ensures.next c.loop-solver-test.true) going c.break_at_upper.result below c.break_at_upper.ensures.length
+
+pub returns-then-upper-last-clause-same : goal.returns-then-upper-last-clause-same
+returns-then-upper-last-clause-same g c =
+    same-joins c.args.solver.now c.loop-solver.solver c.next_segment.new.self c.loop-solver.invariant.way.same c.next_segment.ensures.same
+
+pub returns-then-upper-last-clause-gentle : goal.returns-then-upper-last-clause-gentle
+returns-then-upper-last-clause-gentle g c = c.next_segment.ensures.gentle
+
+pub returns-clause-same : goal.returns-clause-same
+returns-clause-same g c =
+    same-joins c.args.solver.now c.loop-solver.solver c.next_segment.new.self c.loop-solver.invariant.way.same c.next_segment.ensures.same
+
+pub returns-clause-gentle : goal.returns-clause-gentle
+returns-clause-gentle g c = c.next_segment.ensures.gentle
+
+pub slope-slope-requires : goal.slope-slope-requires
+slope-slope-requires g c = c.requires.place.given
+
+pub slope-requires : goal.slope-requires
+slope-requires g c = (c.next_segment.ensures.next c.loop-solver-test.true).given
+
+pub upper-requires : goal.upper-requires
+upper-requires g c = (c.next_segment.ensures.next c.loop-solver-test.true).given
+
+pub slope-slope-requires-in-loop-solver : goal.slope-slope-requires-in-loop-solver
+slope-slope-requires-in-loop-solver g c = (c.next_segment.ensures.next c.loop-solver-test.true).given

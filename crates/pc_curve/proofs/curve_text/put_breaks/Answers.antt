@@ -1,8 +1,8 @@
-use Rattle.std.proofs.Common.{subst, sym, arith}
+use Rattle.std.proofs.Common.{◌<◌, subst, sym, arith}
 use Rattle.pc_page.specs.inside.Puts.{desk}
 use Rattle.pc_flow.proofs.LookLaws.{further-stays, further-joins, looks-none, looks-join}
 use Rattle.pc_curve.specs.inside.Breaks.{StandsAt, StandsBy}
-use Rattle.pc_curve.proofs.TextLaws.{ArePutTo, put-begins, put-more}
+use Rattle.pc_curve.proofs.TextLaws.{ArePutTo, still_to_come, fewer, put-begins, put-more}
 use Rattle.pc_curve.proofs.curve_text.put_breaks.Goals as goal
 
 pub loop-point-init : goal.loop-point-init
@@ -29,3 +29,12 @@ loop-point-preserved g c =
       counted = looks-join c.args.solver.now c.loop-point.solver c.next.new.solver so_far.put.same so_far.further c.in-Some.ensures.further _ _ _ so_far.counted
           c.in-Some.ensures.counted;
     }
+
+pub next-requires : goal.next-requires
+next-requires g c = record { place = c.loop-point.invariant.put.place }
+
+pub loop-point-smaller : goal.loop-point-smaller
+loop-point-smaller g c =
+    let place : StandsAt c.in-Some.point.length c.next.new.solver = subst (λ last. StandsBy last c.next.new.solver) c.in-Some.ensures.last c.in-Some.ensures.place in
+    subst (λ last. still_to_come c.next.new.solver last < still_to_come c.loop-point.solver c.loop-point.breaks) (sym c.in-Some.ensures.last)
+    (fewer c.loop-point.solver c.next.new.solver c.loop-point.breaks c.in-Some.point c.in-Some.ensures.next c.in-Some.ensures.same place)

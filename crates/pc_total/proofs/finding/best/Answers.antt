@@ -172,3 +172,67 @@ returns-clause-best g c =
     let last = c.next_segment.new.self in
     let way = (end_there g (goal.at.returns-clause-best g c).After-shortest-shortest).0 in
     best-there terms from last c.best_at-2.result way.same c.best_at-2.ensures.best
+
+pub best_at-requires-clause-terms : goal.best_at-requires-clause-terms
+best_at-requires-clause-terms g c = c.requires.terms
+
+pub best_at-requires-clause-small : goal.best_at-requires-clause-small
+best_at-requires-clause-small g c = rw c.slope-slope.ensures (c.next_segment.ensures.next c.loop-solver-test.true).small.slope
+
+pub best_at-requires-clause-small_gain : goal.best_at-requires-clause-small_gain
+best_at-requires-clause-small_gain g c =
+    let small = (c.next_segment.ensures.next c.loop-solver-test.true).small.slope in
+    elim c.if-stop-upper.branch [
+      | then-stop-upper w ↦ omega (arith, w.gain-is, c.slope-slope.ensures, small)
+      | else-stop-upper w ↦ omega (arith, w.gain-is, c.slope-slope.ensures, small, c.loop-solver.invariant.way.small)
+    ]
+
+pub returns-then-stop-lower-clause-there : goal.returns-then-stop-lower-clause-there
+returns-then-stop-lower-clause-there g c = c.best_at.ensures.there
+
+pub returns-then-stop-lower-clause-same : goal.returns-then-stop-lower-clause-same
+returns-then-stop-lower-clause-same g c =
+    same-joins c.args.solver.now c.next_segment.new.self c.best_at.new.solver
+    (same-joins c.args.solver.now c.loop-solver.solver c.next_segment.new.self c.loop-solver.invariant.way.same c.next_segment.ensures.same) c.best_at.ensures.same
+
+pub returns-then-stop-lower-clause-further : goal.returns-then-stop-lower-clause-further
+returns-then-stop-lower-clause-further g c =
+    further-joins c.args.solver.now c.next_segment.new.self c.best_at.new.solver
+    (further-joins c.args.solver.now c.loop-solver.solver c.next_segment.new.self c.loop-solver.invariant.way.further c.next_segment.ensures.further) c.best_at.ensures.further
+
+pub best_at-requires-2-clause-terms : goal.best_at-requires-2-clause-terms
+best_at-requires-2-clause-terms g c = c.requires.terms
+
+pub best_at-requires-2-clause-small : goal.best_at-requires-2-clause-small
+best_at-requires-2-clause-small g c = omega arith
+
+pub best_at-requires-2-clause-small_gain : goal.best_at-requires-2-clause-small_gain
+best_at-requires-2-clause-small_gain g c = c.loop-solver.invariant.way.small
+
+pub returns-clause-there : goal.returns-clause-there
+returns-clause-there g c = c.best_at-2.ensures.there
+
+pub returns-clause-same : goal.returns-clause-same
+returns-clause-same g c =
+    same-joins c.args.solver.now c.next_segment.new.self c.best_at-2.new.solver
+    (same-joins c.args.solver.now c.loop-solver.solver c.next_segment.new.self c.loop-solver.invariant.way.same c.next_segment.ensures.same) c.best_at-2.ensures.same
+
+pub returns-clause-further : goal.returns-clause-further
+returns-clause-further g c =
+    further-joins c.args.solver.now c.next_segment.new.self c.best_at-2.new.solver
+    (further-joins c.args.solver.now c.loop-solver.solver c.next_segment.new.self c.loop-solver.invariant.way.further c.next_segment.ensures.further) c.best_at-2.ensures.further
+
+pub slope-slope-requires : goal.slope-slope-requires
+slope-slope-requires g c = (c.next_segment.ensures.next c.loop-solver-test.true).given
+
+pub lower-requires : goal.lower-requires
+lower-requires g c = (c.next_segment.ensures.next c.loop-solver-test.true).given
+
+pub upper-requires : goal.upper-requires
+upper-requires g c = (c.next_segment.ensures.next c.loop-solver-test.true).given
+
+pub lower-requires-in-loop-solver : goal.lower-requires-in-loop-solver
+lower-requires-in-loop-solver g c = (c.next_segment.ensures.next c.loop-solver-test.true).given
+
+pub upper-requires-then-stop-lower : goal.upper-requires-then-stop-lower
+upper-requires-then-stop-lower g c = (c.next_segment.ensures.next c.loop-solver-test.true).given

@@ -42,3 +42,27 @@ returns-clause-best g c =
     (omega (arith, ints, small, c.time_cost-time.ensures, dear, earned))
     (rw c.shortest-shortest.ensures.shortest at c.below_at.ensures.none) (rw c.shortest-shortest.ensures.shortest at c.below_at.ensures.above) c.below_at.ensures.differs
     (rw c.longest-longest.ensures.longest at c.above_at.ensures.none) (rw c.longest-longest.ensures.longest at c.above_at.ensures.below) c.above_at.ensures.differs
+
+pub time_cost-time-requires-clause-terms : goal.time_cost-time-requires-clause-terms
+time_cost-time-requires-clause-terms g c = c.requires.terms
+
+pub time_cost-time-requires-clause-length : goal.time_cost-time-requires-clause-length
+time_cost-time-requires-clause-length g c = omega (arith, c.requires.to_come.within, c.longest-longest.ensures.longest, c.longest-longest.ensures.limit)
+
+pub below_at-requires-clause-terms : goal.below_at-requires-clause-terms
+below_at-requires-clause-terms g c = c.requires.terms
+
+pub below_at-requires-clause-small : goal.below_at-requires-clause-small
+below_at-requires-clause-small g c = c.requires.small
+
+pub above_at-requires-clause-terms : goal.above_at-requires-clause-terms
+above_at-requires-clause-terms g c = c.requires.terms
+
+pub above_at-requires-clause-length : goal.above_at-requires-clause-length
+above_at-requires-clause-length g c = omega (arith, c.requires.to_come.within, c.longest-longest.ensures.longest, c.longest-longest.ensures.limit)
+
+pub above_at-requires-clause-small : goal.above_at-requires-clause-small
+above_at-requires-clause-small g c = c.requires.small_gain
+
+pub returns-clause-range : goal.returns-clause-range
+returns-clause-range g c = c.given-given.ensures.range

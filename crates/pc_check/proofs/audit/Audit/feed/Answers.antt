@@ -1,6 +1,6 @@
-use Rattle.std.proofs.Common.{sym, subst, arith}
+use Rattle.std.proofs.Common.{sym, subst, ◌∙◌, arith}
 use Rattle.std.proofs.lemmas.List.{take_all, length-drop}
-use Rattle.pc_check.proofs.FeedLaws.{IsFeeding, more, fails_in_rest}
+use Rattle.pc_check.proofs.FeedLaws.{IsFeeding, begun, more, fails_in_rest}
 use Rattle.pc_check.proofs.audit.Audit.feed.Goals as goal
 
 pub loop-rest-preserved : goal.loop-rest-preserved
@@ -10,3 +10,21 @@ loop-rest-preserved c =
 
 pub returns-in-Err-clause-fails : goal.returns-in-Err-clause-fails
 returns-in-Err-clause-fails c = fails_in_rest c.in-Err.fail c.loop-rest.invariant c.in-Err.ensures.fails
+
+pub loop-rest-init : goal.loop-rest-init
+loop-rest-init c = begun c.args.self.now c.args.piece.now c.requires.going c.requires.read
+
+pub step-requires-clause-read : goal.step-requires-clause-read
+step-requires-clause-read c = c.loop-rest.invariant.read
+
+pub step-requires-clause-going : goal.step-requires-clause-going
+step-requires-clause-going c = c.loop-rest.invariant.going
+
+pub returns-in-Err-clause-net : goal.returns-in-Err-clause-net
+returns-in-Err-clause-net c = c.step.ensures.net ∙ c.loop-rest.invariant.net
+
+pub returns-clause-going : goal.returns-clause-going
+returns-clause-going c = c.loop-rest.invariant.going
+
+pub returns-clause-net : goal.returns-clause-net
+returns-clause-net c = c.loop-rest.invariant.net

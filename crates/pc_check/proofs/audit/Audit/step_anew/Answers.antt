@@ -1,12 +1,12 @@
-use Rattle.std.specs.Prelude.{IfNone}
+use Rattle.std.specs.Prelude.{IfNone, IsNone}
 use Rattle.pc_cert.specs.Grammar.{next}
-use Rattle.std.proofs.Common.{◌≡◌, [], ◌∷◌, ◌++◌, take, drop, Some, sym, subst, ◌∙◌}
+use Rattle.std.proofs.Common.{◌≡◌, ◌<◌, [], ◌∷◌, ◌++◌, take, drop, Some, None, refl, sym, ap, subst, ◌∙◌, append-nil}
 use Rattle.std.proofs.lemmas.List.{take-append-drop}
 use Rattle.pc_cert.specs.inside.Reader.{StandsFor}
 use Rattle.pc_cert.specs.inside.Fed.{line_list}
 use Rattle.pc_check.specs.Texts.{IsFailing}
-use Rattle.pc_check.specs.inside.Auditing.{Auditing, HasRead, IsGoing}
-use Rattle.pc_check.proofs.AuditLaws.{malformed_fails, may_take, line_fails}
+use Rattle.pc_check.specs.inside.Auditing.{Auditing, HasRead, IsGoing, bytes_left}
+use Rattle.pc_check.proofs.AuditLaws.{malformed_fails, may_take, line_fails, less_behind_piece, less_behind_line}
 use Rattle.pc_check.proofs.audit.Audit.step_anew.Goals as goal
 
 pub returns-in-Err-clause-fails : goal.returns-in-Err-clause-fails
@@ -47,3 +47,62 @@ returns-in-Some-take_known-clause-fails c = λ text more h.
     c.take_known.ensures.net
     (sym c.take_known.ensures.fail ∙ c.in-Some-take_known.is)
     (c.take_known.ensures.stands before.lines before.checked))
+
+pub returns-in-None-clause-within : goal.returns-in-None-clause-within
+returns-in-None-clause-within c = c.in-Ok.ensures.within
+
+pub returns-in-None-clause-net : goal.returns-in-None-clause-net
+returns-in-None-clause-net c = ap (λ (a : Auditing). a.checker.net) c.self.view_is
+
+pub returns-in-None-clause-going : goal.returns-in-None-clause-going
+returns-in-None-clause-going c =
+    let going : IsGoing (record { reader = c.self.inside.reader; checker = c.self.inside.checker }) = subst (λ a. IsGoing a) (sym c.self.view_is) c.requires.going in
+    record { well_formed = c.in-Ok.ensures.kept; no_fail = going.no_fail; few = going.few; short = c.feed_known.ensures.short }
+
+pub returns-in-None-clause-goes_on : goal.returns-in-None-clause-goes_on
+returns-in-None-clause-goes_on c = λ text h.
+    let old : Auditing = record { reader = c.self.inside.reader; checker = c.self.inside.checker } in
+    let before : HasRead text old = subst (λ a. HasRead text a) (sym c.self.view_is) h in
+    let none : c.feed_known.new.known.line ≡ None = sym c.in-None.ensures in
+    record {
+      lines = before.lines;
+      read = subst (λ ls. StandsFor c.feed_known.new.self ls (text ++ take c.in-Ok.used c.args.piece.now)) (append-nil before.lines)
+          (subst (λ l. StandsFor c.feed_known.new.self (before.lines ++ line_list l) (text ++ take c.in-Ok.used c.args.piece.now)) none (c.in-Ok.ensures.stands before.lines text before.read));
+      checked = before.checked;
+    }
+
+pub returns-in-None-clause-left : goal.returns-in-None-clause-left
+returns-in-None-clause-left c =
+    let old : Auditing = record { reader = c.self.inside.reader; checker = c.self.inside.checker } in
+    let new : Auditing = record { reader = c.feed_known.new.self; checker = c.self.inside.checker } in
+    let going : IsGoing old = subst (λ a. IsGoing a) (sym c.self.view_is) c.requires.going in
+    let none : c.feed_known.new.known.line ≡ None = sym c.in-None.ensures in
+    subst (λ a. bytes_left new < bytes_left a) c.self.view_is
+    (less_behind_piece old new c.args.piece.now going c.requires.some refl (c.in-Ok.ensures.held (subst (λ l. IsNone l) (sym none) refl)))
+
+pub returns-in-None-take_known-clause-within : goal.returns-in-None-take_known-clause-within
+returns-in-None-take_known-clause-within c = c.in-Ok.ensures.within
+
+pub returns-in-None-take_known-clause-net : goal.returns-in-None-take_known-clause-net
+returns-in-None-take_known-clause-net c = c.take_known.ensures.net ∙ ap (λ (a : Auditing). a.checker.net) c.self.view_is
+
+pub returns-in-Some-take_known-clause-net : goal.returns-in-Some-take_known-clause-net
+returns-in-Some-take_known-clause-net c = c.take_known.ensures.net ∙ ap (λ (a : Auditing). a.checker.net) c.self.view_is
+
+pub returns-in-None-take_known-clause-left : goal.returns-in-None-take_known-clause-left
+returns-in-None-take_known-clause-left c =
+    let old : Auditing = record { reader = c.self.inside.reader; checker = c.self.inside.checker } in
+    let new : Auditing = record { reader = c.feed_known.new.self; checker = c.take_known.new.self } in
+    let going : IsGoing old = subst (λ a. IsGoing a) (sym c.self.view_is) c.requires.going in
+    subst (λ a. bytes_left new < bytes_left a) c.self.view_is (less_behind_line old new going c.in-None-take_known.ensures.left)
+
+pub returns-in-None-take_known-clause-goes_on : goal.returns-in-None-take_known-clause-goes_on
+returns-in-None-take_known-clause-goes_on c = λ text h.
+    let old : Auditing = record { reader = c.self.inside.reader; checker = c.self.inside.checker } in
+    let before : HasRead text old = subst (λ a. HasRead text a) (sym c.self.view_is) h in
+    let line : c.feed_known.new.known.line ≡ Some c.in-Some.line.now = sym c.in-Some.ensures in
+    record {
+      lines = before.lines ++ c.in-Some.line.now ∷ [];
+      read = subst (λ l. StandsFor c.feed_known.new.self (before.lines ++ line_list l) (text ++ take c.in-Ok.used c.args.piece.now)) line (c.in-Ok.ensures.stands before.lines text before.read);
+      checked = c.take_known.ensures.stands before.lines before.checked;
+    }

@@ -1,5 +1,7 @@
 use Rattle.std.proofs.Common.{◌≡◌, ℕ, length, replicate, refl, sym, ◌∙◌, ap, subst, arith}
 use Rattle.std.proofs.lemmas.List.{length-replicate}
+use Rattle.pc_cells.specs.Spans.{Cells}
+use Rattle.pc_cells.specs.inside.Spans.{span_at}
 use Rattle.pc_trials.specs.inside.Reserved.{IsFor}
 use Rattle.pc_trials.specs.inside.Laid.{IsLaidIn}
 use Rattle.pc_trials.proofs.OpenLaws.{IsOpened, laid-2, is-opened}
@@ -85,3 +87,52 @@ returns-clause-free c =
       c.events-events.ensures.events,
       c.activities-activities.ensures.activities,
     )
+
+pub cells_needed-requires-clause-events : goal.cells_needed-requires-clause-events
+cells_needed-requires-clause-events c = c.events-events.ensures.limit
+
+pub cells_needed-requires-clause-activities : goal.cells_needed-requires-clause-activities
+cells_needed-requires-clause-activities c = c.activities-activities.ensures.limit
+
+pub cells_needed-requires-clause-pieces : goal.cells_needed-requires-clause-pieces
+cells_needed-requires-clause-pieces c = c.requires.pieces
+
+pub take_spans-spans-requires-clause-events : goal.take_spans-spans-requires-clause-events
+take_spans-spans-requires-clause-events c = omega (arith, c.events-events.ensures.events, c.activities-activities.ensures.in_range.start_in)
+
+pub take_spans-spans-requires-clause-none : goal.take_spans-spans-requires-clause-none
+take_spans-spans-requires-clause-none c = ap (λ (r : Cells). r.spans) c.in_ok-region.ensures
+
+pub take_spans-spans-requires-clause-room : goal.take_spans-spans-requires-clause-room
+take_spans-spans-requires-clause-room c = omega (arith, ap (λ (r : Cells). r.capacity) c.in_ok-region.ensures, c.cells_needed.ensures)
+
+pub write-requires-clause-live : goal.write-requires-clause-live
+write-requires-clause-live c = (0, c.take_spans-spans.ensures.spans.expected)
+
+pub write-requires-clause-one_each : goal.write-requires-clause-one_each
+write-requires-clause-one_each c =
+    omega (
+      arith,
+      c.take_spans-spans.ensures.spans.expected.extends,
+      ap (λ (r : Cells). length (span_at r.spans 0)) c.take_spans-spans.ensures.region,
+      length-replicate {A = ℕ} c.activities-activities.result 0,
+      c.requires.lengths.one_each,
+      c.activities-activities.ensures.activities,
+    )
+
+pub write-requires-2-clause-one_each : goal.write-requires-2-clause-one_each
+write-requires-2-clause-one_each c =
+    omega (
+      arith,
+      c.take_spans-spans.ensures.spans.variances.extends,
+      ap (λ (r : Cells). length (span_at r.spans 1)) c.take_spans-spans.ensures.region,
+      length-replicate {A = ℕ} c.activities-activities.result 0,
+      c.requires.variance_each,
+      c.activities-activities.ensures.activities,
+    )
+
+pub returns-clause-fits : goal.returns-clause-fits
+returns-clause-fits c = c.renew.ensures.fits
+
+pub returns-clause-standing : goal.returns-clause-standing
+returns-clause-standing c = c.renew.ensures.standing
