@@ -1,12 +1,12 @@
 use Rattle.std.proofs.Common.{length, sym, ◌∙◌, ap, subst}
 use Rattle.std.proofs.lemmas.List.{length-map}
-use Rattle.pc_wbs.specs.Climb.{AreInRange}
+use Rattle.pc_wbs.specs.Climb.{AreInRange, IsTree}
+use Rattle.pc_faults.specs.inside.First.{Refuses}
 use Rattle.pc_project.specs.Project.{row_of, rows_of}
 use Rattle.pc_project.specs.Refusal.{IsTreeFault}
-use Rattle.pc_faults.specs.inside.First.{Refuses}
 use Rattle.pc_project.proofs.FitLaws.{rows_of-in_range}
 use Rattle.pc_project.proofs.RefusalLaws.{refused_by_tree}
-use Rattle.pc_project.proofs.tree.tree_of.Goals as goal
+use Rattle.pc_project.proofs.phases.frame_of.Goals as goal
 
 pub tree_between-requires-clause-each : goal.tree_between-requires-clause-each
 tree_between-requires-clause-each c =
@@ -22,3 +22,26 @@ returns-in-Err-clause-refused c =
     refused_by_tree c.args.cards.now c.in-Err.error c.requires.faultless
     (subst (λ items. Refuses (IsTreeFault items (rows_of c.args.cards.now)) c.in-Err.error) c.items.ensures.cards
     (subst (λ rows. Refuses (IsTreeFault c.items.result.now rows) c.in-Err.error) (c.deref.ensures.value ∙ c.requires.rows) c.in-Err.ensures.refused))
+
+pub net_of-requires-clause-tree : goal.net_of-requires-clause-tree
+net_of-requires-clause-tree c = subst IsTree (c.deref.ensures.value ∙ c.requires.rows) c.in-Ok.ensures.tree
+
+pub progress_of-requires-clause-plan : goal.progress_of-requires-clause-plan
+progress_of-requires-clause-plan c = record {
+  cards = c.requires.faultless;
+  tree = subst IsTree (c.deref.ensures.value ∙ c.requires.rows) c.in-Ok.ensures.tree;
+  sound = c.in-Ok-net_of.ensures.sound;
+}
+
+pub progress_of-requires-clause-tree : goal.progress_of-requires-clause-tree
+progress_of-requires-clause-tree c = c.in-Ok.ensures.rows ∙ (c.deref.ensures.value ∙ c.requires.rows)
+
+pub lists_of-requires-clause-plan : goal.lists_of-requires-clause-plan
+lists_of-requires-clause-plan c = record {
+  cards = c.requires.faultless;
+  tree = subst IsTree (c.deref.ensures.value ∙ c.requires.rows) c.in-Ok.ensures.tree;
+  sound = c.in-Ok-net_of.ensures.sound;
+}
+
+pub returns-in-Ok-lists_of-clause-tree : goal.returns-in-Ok-lists_of-clause-tree
+returns-in-Ok-lists_of-clause-tree c = c.in-Ok.ensures.rows ∙ (c.deref.ensures.value ∙ c.requires.rows)
