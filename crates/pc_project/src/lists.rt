@@ -4,7 +4,6 @@ ghost use Rattle.pc_model.specs.declared.limits.TheConstants.{MAX_UNIT_DAYS};
 ghost use Rattle.pc_times.specs.Estimates.{expected_time, variance_of};
 ghost use Rattle.pc_deck.specs.Deck.{act_codes, event_codes};
 ghost use Rattle.pc_deck.specs.inside.Act.{IsActWithin};
-ghost use Rattle.pc_deck.specs.Within.{IsWithinLimits};
 ghost use Rattle.pc_project.specs.Misfit.{IsInOrder};
 ghost use Rattle.pc_project.specs.Project.{expected_of, place_of, term_of, variance_in};
 ghost use Rattle.pc_project.specs.inside.Project.{placement_of};
@@ -47,7 +46,6 @@ impl Lists {
         ensures terms { OnOk result (self.new.terms.items ≡ map term_of cards.now.acts) }
         ensures expected { OnOk result (self.new.expected.items ≡ map (expected_of cards.now) cards.now.acts) }
         ensures variances { OnOk result (self.new.variances.items ≡ map (variance_in cards.now) cards.now.acts) }
-        ensures within { IsWithinLimits cards.now }
     {
         let acts = cards.acts();
         let unit_days = cards.project().unit_days;

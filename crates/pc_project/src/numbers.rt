@@ -1,5 +1,5 @@
 //! The numbers of all that the cards name, or the first fault of any card.
-ghost use Rattle.std.specs.Prelude.{◌≡◌, None, IfOk, IfErr, []};
+ghost use Rattle.std.specs.Prelude.{◌≡◌, None, IfOk, IfErr, OnOk, []};
 ghost use Rattle.pc_deck.specs.Within.{IsWithinLimits};
 ghost use Rattle.pc_faults.specs.First.{IsFirst};
 ghost use Rattle.pc_faults.specs.inside.First.{IsFirstIn, Refuses};
@@ -86,7 +86,7 @@ impl FoundLists {
         requires statuses { self.old.figures.statuses.items ≡ [] }
         ensures first { IfOk result (IsFirstIn (HasListedFault cards.now)) }
         ensures lists { IfOk result (λ fault. fault ≡ None → AreListsOf cards.now self.new) }
-        ensures within { IsWithinLimits cards.now }
+        ensures within { OnOk result (IsWithinLimits cards.now) }
     {
         let row = look_up_all(cards, cards.items(), &mut self.rows)?;
         let act = look_up_all(cards, cards.acts(), &mut self.placements)?;

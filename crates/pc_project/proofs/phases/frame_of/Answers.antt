@@ -45,3 +45,42 @@ lists_of-requires-clause-plan c = record {
 
 pub returns-in-Ok-lists_of-clause-tree : goal.returns-in-Ok-lists_of-clause-tree
 returns-in-Ok-lists_of-clause-tree c = c.in-Ok.ensures.rows ∙ (c.deref.ensures.value ∙ c.requires.rows)
+
+pub returns-in-Ok-lists_of-clause-makes : goal.returns-in-Ok-lists_of-clause-makes
+returns-in-Ok-lists_of-clause-makes c = c.in-Ok-lists_of.ensures.makes
+
+pub returns-in-Ok-lists_of-clause-events : goal.returns-in-Ok-lists_of-clause-events
+returns-in-Ok-lists_of-clause-events c = c.in-Ok-lists_of.ensures.events
+
+pub returns-in-Ok-lists_of-clause-activities : goal.returns-in-Ok-lists_of-clause-activities
+returns-in-Ok-lists_of-clause-activities c = c.in-Ok-lists_of.ensures.activities
+
+pub returns-in-Ok-lists_of-clause-places : goal.returns-in-Ok-lists_of-clause-places
+returns-in-Ok-lists_of-clause-places c = c.in-Ok-lists_of.ensures.places
+
+pub returns-in-Ok-lists_of-clause-terms : goal.returns-in-Ok-lists_of-clause-terms
+returns-in-Ok-lists_of-clause-terms c = c.in-Ok-lists_of.ensures.terms
+
+pub returns-in-Ok-lists_of-clause-expected : goal.returns-in-Ok-lists_of-clause-expected
+returns-in-Ok-lists_of-clause-expected c = c.in-Ok-lists_of.ensures.expected
+
+pub returns-in-Ok-lists_of-clause-variances : goal.returns-in-Ok-lists_of-clause-variances
+returns-in-Ok-lists_of-clause-variances c = c.in-Ok-lists_of.ensures.variances
+
+pub returns-in-Ok-lists_of-clause-entries : goal.returns-in-Ok-lists_of-clause-entries
+returns-in-Ok-lists_of-clause-entries c = c.in-Ok-progress_of.ensures.entries
+
+pub returns-in-Ok-lists_of-clause-states : goal.returns-in-Ok-lists_of-clause-states
+returns-in-Ok-lists_of-clause-states c = c.in-Ok-progress_of.ensures.states
+
+pub returns-in-Ok-lists_of-clause-network : goal.returns-in-Ok-lists_of-clause-network
+returns-in-Ok-lists_of-clause-network c = c.in-Ok-net_of.ensures.network
+
+pub returns-in-Err-net_of-clause-refused : goal.returns-in-Err-net_of-clause-refused
+returns-in-Err-net_of-clause-refused c = c.in-Err-net_of.ensures.refused
+
+pub returns-in-Err-progress_of-clause-refused : goal.returns-in-Err-progress_of-clause-refused
+returns-in-Err-progress_of-clause-refused c = c.in-Err-progress_of.ensures.refused
+
+pub returns-in-Err-lists_of-clause-refused : goal.returns-in-Err-lists_of-clause-refused
+returns-in-Err-lists_of-clause-refused c = c.in-Err-lists_of.ensures.refused
