@@ -20,10 +20,10 @@ impl<'p> Edits<'p> {
         ensures standing { IfOk result (λ edits. Stands project.now empty edits.editing) }
     {
         Ok(Edits {
-            net: project.priced(alloc)?,
             estimates: estimates_of(alloc, project)?,
             unit_days: project.unit_days(),
             kept: HeapCircularBuffer::with_capacity(alloc, MAX_KEPT)?,
+            net: project.priced(alloc)?,
             aside: None,
         })
     }

@@ -21,7 +21,6 @@ pub const MAX_KEPT: usize = 1_000;
 ///
 /// All memory is taken at the beginning. A term may be on trial for one activity: then the network has it, and all else is as
 /// if it had not.
-#[derive(Drop)]
 pub struct Edits<'p> {
     pub(crate) net: CrashNet<'p>,
     pub(crate) estimates: Vec<Estimates>,
@@ -29,6 +28,19 @@ pub struct Edits<'p> {
     pub(crate) kept: HeapCircularBuffer<Kept>,
     /// The term whose place a trial has taken.
     pub(crate) aside: Option<ActTerm>,
+}
+
+impl<'p> Drop for Edits<'p> {
+    // Written out, so that who lets edits go cites this proof.
+    fn drop(self) {
+        let Edits {
+            net: _net,
+            estimates: _estimates,
+            unit_days: _unit_days,
+            kept: _kept,
+            aside: _aside,
+        } = self;
+    }
 }
 
 impl<'p> Model for Edits<'p> {

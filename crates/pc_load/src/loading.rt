@@ -16,7 +16,7 @@ use std::marker::Model;
 pub const MAX_DAYS: u64 = 3_660;
 
 /// Why there is no report of loads.
-#[derive(Debug, Drop)]
+#[derive(Drop)]
 pub enum NoLoad {
     /// There would be so many periods, more than `MAX_PERIODS`.
     TooMany(u64),
@@ -35,12 +35,23 @@ impl From<AllocError> for NoLoad {
 }
 
 /// What a project spends by item and takes by resource in periods of so many days, and the order in which the items are told.
-#[derive(Debug, Drop)]
 pub struct Loading {
     days: u64,
     order: Vec<u32>,
     items: Table,
     resources: Table,
+}
+
+impl Drop for Loading {
+    // Written out, so that who lets a loading go cites this proof.
+    fn drop(self) {
+        let Loading {
+            days: _days,
+            order: _order,
+            items: _items,
+            resources: _resources,
+        } = self;
+    }
 }
 
 impl Model for Loading {

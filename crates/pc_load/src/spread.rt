@@ -4,7 +4,7 @@ ghost use Rattle.pc_load.specs.Share.{part, share};
 ghost use Rattle.pc_load.specs.inside.Share.{IsSpread};
 
 /// An amount that comes evenly over some time. All times are in sixths of a day from the project's start.
-#[derive(Clone, Copy, Debug, PartialEq, Eq)]
+#[derive(Clone, Copy)]
 pub struct Spread {
     /// When it begins.
     pub begin: u64,

@@ -18,7 +18,7 @@ use std::marker::Model;
 pub const MAX_PERIODS: u32 = 400;
 
 /// A spread amount, and the row of a table that it counts on.
-#[derive(Clone, Copy, Debug, PartialEq, Eq)]
+#[derive(Clone, Copy)]
 pub struct LoadRow {
     pub row: u32,
     pub spread: Spread,
@@ -26,7 +26,7 @@ pub struct LoadRow {
 
 /// An amount for each row in each period, counted from 0. In memory the rows of one period stand together, as the sums over
 /// items want them.
-#[derive(Debug, Drop)]
+#[derive(Drop)]
 pub struct Table {
     rows: u32,
     periods: u32,

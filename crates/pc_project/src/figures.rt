@@ -1,5 +1,5 @@
 //! The cards that give figures, looked up: accounts, charges, amounts to go and statuses.
-ghost use Rattle.std.specs.Prelude.{◌≡◌, IfOk, None};
+ghost use Rattle.std.specs.Prelude.{◌≡◌, IfOk, None, []};
 ghost use Rattle.pc_faults.specs.inside.First.{IsFirstIn};
 ghost use Rattle.pc_project.specs.Misfit.{HasFigureFault};
 ghost use Rattle.pc_project.specs.inside.Numbered.{AreFiguresOf};
@@ -9,7 +9,7 @@ use pc_accounts::{AcctRow, MoneyRow};
 use pc_deck::Cards;
 use pc_faults::{Fault, earliest};
 use pc_status::StatusRow;
-use std::alloc::{AllocError, Global};
+use std::alloc::AllocError;
 
 /// What the cards that give figures say, with numbers for what they name; one for each card, in card order.
 #[derive(Drop)]
@@ -20,32 +20,22 @@ pub(crate) struct Figures {
     pub statuses: Vec<StatusRow>,
 }
 
-/// The figures, as far as their cards have no fault, and the first of their faults.
-#[derive(Drop)]
-pub(crate) struct FoundFigures {
-    pub figures: Figures,
-    pub fault: Option<Fault>,
-}
-
-/// Looks up what each card that gives figures names.
-pub(crate) fn figures_of(alloc: Global, cards: &Cards) -> Result<FoundFigures, AllocError>
-    ensures first { IfOk result (λ found. IsFirstIn (HasFigureFault cards.now) found.fault) }
-    ensures figures { IfOk result (λ found. found.fault ≡ None → AreFiguresOf cards.now found.figures) }
-{
-    let accounts = look_up_all(alloc, cards, cards.accounts())?;
-    let charges = look_up_all(alloc, cards, cards.charges())?;
-    let togos = look_up_all(alloc, cards, cards.togos())?;
-    let statuses = look_up_all(alloc, cards, cards.statuses())?;
-    let of_spent = earliest(accounts.fault, charges.fault);
-    let of_rest = earliest(togos.fault, statuses.fault);
-    let fault = earliest(of_spent, of_rest);
-    Ok(FoundFigures {
-        figures: Figures {
-            accounts: accounts.numbers,
-            charges: charges.numbers,
-            togos: togos.numbers,
-            statuses: statuses.numbers,
-        },
-        fault,
-    })
+impl Figures {
+    /// Looks up what each card that gives figures names, as far as they have no fault, and answers the first of their faults.
+    pub(crate) fn look_up(&mut self, cards: &Cards) -> Result<Option<Fault>, AllocError>
+        requires accounts { self.old.accounts.items ≡ [] }
+        requires charges { self.old.charges.items ≡ [] }
+        requires togos { self.old.togos.items ≡ [] }
+        requires statuses { self.old.statuses.items ≡ [] }
+        ensures first { IfOk result (IsFirstIn (HasFigureFault cards.now)) }
+        ensures figures { IfOk result (λ fault. fault ≡ None → AreFiguresOf cards.now self.new) }
+    {
+        let account = look_up_all(cards, cards.accounts(), &mut self.accounts)?;
+        let charge = look_up_all(cards, cards.charges(), &mut self.charges)?;
+        let togo = look_up_all(cards, cards.togos(), &mut self.togos)?;
+        let status = look_up_all(cards, cards.statuses(), &mut self.statuses)?;
+        let of_spent = earliest(account, charge);
+        let of_rest = earliest(togo, status);
+        Ok(earliest(of_spent, of_rest))
+    }
 }

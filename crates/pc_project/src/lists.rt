@@ -1,10 +1,9 @@
 //! The lists of a project, each in card order.
-ghost use Rattle.std.specs.Prelude.{◌≡◌, ◌≤◌, All, map, IfOk};
+ghost use Rattle.std.specs.Prelude.{◌≡◌, ◌≤◌, All, map, IfOk, OnOk};
 ghost use Rattle.pc_model.specs.declared.limits.TheConstants.{MAX_UNIT_DAYS};
 ghost use Rattle.pc_times.specs.Estimates.{expected_time, variance_of};
 ghost use Rattle.pc_deck.specs.Deck.{act_codes, event_codes};
 ghost use Rattle.pc_deck.specs.inside.Act.{IsActWithin};
-ghost use Rattle.pc_deck.specs.Within.{IsWithinLimits};
 ghost use Rattle.pc_project.specs.Misfit.{IsInOrder};
 ghost use Rattle.pc_project.specs.Project.{expected_of, place_of, term_of, variance_in};
 ghost use Rattle.pc_project.specs.inside.Project.{placement_of};
@@ -31,32 +30,33 @@ pub(crate) struct Lists {
     pub variances: Vec<u64>,
 }
 
-/// The lists of the cards.
-pub(crate) fn lists_of(
-    alloc: Global,
-    cards: &Cards,
-    placements: &[Placement],
-) -> Result<Lists, AllocError>
-    requires ordered { All IsInOrder cards.now.acts }
-    requires placements { placements.now ≡ map (placement_of cards.now) cards.now.acts }
-    ensures events { IfOk result (λ lists. lists.events.items ≡ event_codes cards.now) }
-    ensures activities { IfOk result (λ lists. lists.activities.items ≡ act_codes cards.now) }
-    ensures places { IfOk result (λ lists. lists.places.items ≡ map (place_of cards.now) cards.now.acts) }
-    ensures terms { IfOk result (λ lists. lists.terms.items ≡ map term_of cards.now.acts) }
-    ensures expected { IfOk result (λ lists. lists.expected.items ≡ map (expected_of cards.now) cards.now.acts) }
-    ensures variances { IfOk result (λ lists. lists.variances.items ≡ map (variance_in cards.now) cards.now.acts) }
-    ensures within { IsWithinLimits cards.now }
-{
-    let acts = cards.acts();
-    let unit_days = cards.project().unit_days;
-    Ok(Lists {
-        events: codes_of_events(alloc, cards)?,
-        activities: codes_of_acts(alloc, cards)?,
-        places: places(alloc, placements)?,
-        terms: terms(alloc, acts)?,
-        expected: expected_times(alloc, acts, unit_days)?,
-        variances: variances(alloc, acts, unit_days)?,
-    })
+impl Lists {
+    /// Takes the lists of the cards in place of what it has.
+    pub(crate) fn fill(
+        &mut self,
+        alloc: Global,
+        cards: &Cards,
+        placements: &[Placement],
+    ) -> Result<(), AllocError>
+        requires ordered { All IsInOrder cards.now.acts }
+        requires placements { placements.now ≡ map (placement_of cards.now) cards.now.acts }
+        ensures events { OnOk result (self.new.events.items ≡ event_codes cards.now) }
+        ensures activities { OnOk result (self.new.activities.items ≡ act_codes cards.now) }
+        ensures places { OnOk result (self.new.places.items ≡ map (place_of cards.now) cards.now.acts) }
+        ensures terms { OnOk result (self.new.terms.items ≡ map term_of cards.now.acts) }
+        ensures expected { OnOk result (self.new.expected.items ≡ map (expected_of cards.now) cards.now.acts) }
+        ensures variances { OnOk result (self.new.variances.items ≡ map (variance_in cards.now) cards.now.acts) }
+    {
+        let acts = cards.acts();
+        let unit_days = cards.project().unit_days;
+        self.events = codes_of_events(alloc, cards)?;
+        self.activities = codes_of_acts(alloc, cards)?;
+        self.places = places(alloc, placements)?;
+        self.terms = terms(alloc, acts)?;
+        self.expected = expected_times(alloc, acts, unit_days)?;
+        self.variances = variances(alloc, acts, unit_days)?;
+        Ok(())
+    }
 }
 
 /// The codes of the events.

@@ -1,12 +1,12 @@
 //! The numbers of all that the cards name, or the first fault of any card.
-ghost use Rattle.std.specs.Prelude.{◌≡◌, None, IfOk, IfErr};
+ghost use Rattle.std.specs.Prelude.{◌≡◌, None, IfOk, IfErr, OnOk, []};
 ghost use Rattle.pc_deck.specs.Within.{IsWithinLimits};
 ghost use Rattle.pc_faults.specs.First.{IsFirst};
 ghost use Rattle.pc_faults.specs.inside.First.{IsFirstIn, Refuses};
 ghost use Rattle.pc_project.specs.Misfit.{HasListedFault, HasMisfit};
 ghost use Rattle.pc_project.specs.inside.Numbered.{AreListsOf, AreNumbersOf};
 
-use crate::figures::{Figures, figures_of};
+use crate::figures::Figures;
 use crate::load::LoadItem;
 use crate::placed::{Ends, Placement, ends_of};
 use crate::refers::look_up_all;
@@ -31,7 +31,7 @@ pub(crate) struct Numbers {
     pub figures: Figures,
 }
 
-/// What the cards that stand in lists name, by numbers, as far as they have no fault, and the first of their faults.
+/// What the cards that stand in lists name, by numbers, as far as they have no fault.
 #[derive(Drop)]
 pub(crate) struct FoundLists {
     pub rows: Vec<ItemRow>,
@@ -39,7 +39,6 @@ pub(crate) struct FoundLists {
     pub pieces: Vec<PieceRow>,
     pub loads: Vec<LoadItem>,
     pub figures: Figures,
-    pub fault: Option<Fault>,
 }
 
 /// Looks up once what each card names, or answers the first fault of any card (F13 to F19, F41).
@@ -47,8 +46,20 @@ pub(crate) fn numbers_of(alloc: Global, cards: &Cards) -> Result<Numbers, DeckEr
     ensures numbers { IfOk result (AreNumbersOf cards.now) }
     ensures first { IfErr result (Refuses (IsFirst (HasMisfit cards.now))) }
 {
-    let found = lists_in(alloc, cards)?;
-    match (ends_of(cards), found.fault) {
+    let mut found = FoundLists {
+        rows: Vec::new(alloc),
+        placements: Vec::new(alloc),
+        pieces: Vec::new(alloc),
+        loads: Vec::new(alloc),
+        figures: Figures {
+            accounts: Vec::new(alloc),
+            charges: Vec::new(alloc),
+            togos: Vec::new(alloc),
+            statuses: Vec::new(alloc),
+        },
+    };
+    let of_lists = found.look_up(cards)?;
+    match (ends_of(cards), of_lists) {
         (Ok(ends), None) => Ok(Numbers {
             ends,
             rows: found.rows,
@@ -62,27 +73,29 @@ pub(crate) fn numbers_of(alloc: Global, cards: &Cards) -> Result<Numbers, DeckEr
     }
 }
 
-/// Looks up what each card of a list names.
-fn lists_in(alloc: Global, cards: &Cards) -> Result<FoundLists, AllocError>
-    ensures first { IfOk result (λ found. IsFirstIn (HasListedFault cards.now) found.fault) }
-    ensures lists { IfOk result (λ found. found.fault ≡ None → AreListsOf cards.now found) }
-    ensures within { IsWithinLimits cards.now }
-{
-    let rows = look_up_all(alloc, cards, cards.items())?;
-    let acts = look_up_all(alloc, cards, cards.acts())?;
-    let pieces = look_up_all(alloc, cards, cards.pieces())?;
-    let loads = look_up_all(alloc, cards, cards.loads())?;
-    let figures = figures_of(alloc, cards)?;
-    let of_acts = earliest(rows.fault, acts.fault);
-    let of_parts = earliest(pieces.fault, loads.fault);
-    let of_both = earliest(of_acts, of_parts);
-    let fault = earliest(of_both, figures.fault);
-    Ok(FoundLists {
-        rows: rows.numbers,
-        placements: acts.numbers,
-        pieces: pieces.numbers,
-        loads: loads.numbers,
-        figures: figures.figures,
-        fault,
-    })
+impl FoundLists {
+    /// Looks up what each card of a list names, and answers the first fault of these cards.
+    fn look_up(&mut self, cards: &Cards) -> Result<Option<Fault>, AllocError>
+        requires rows { self.old.rows.items ≡ [] }
+        requires placements { self.old.placements.items ≡ [] }
+        requires pieces { self.old.pieces.items ≡ [] }
+        requires loads { self.old.loads.items ≡ [] }
+        requires accounts { self.old.figures.accounts.items ≡ [] }
+        requires charges { self.old.figures.charges.items ≡ [] }
+        requires togos { self.old.figures.togos.items ≡ [] }
+        requires statuses { self.old.figures.statuses.items ≡ [] }
+        ensures first { IfOk result (IsFirstIn (HasListedFault cards.now)) }
+        ensures lists { IfOk result (λ fault. fault ≡ None → AreListsOf cards.now self.new) }
+        ensures within { OnOk result (IsWithinLimits cards.now) }
+    {
+        let row = look_up_all(cards, cards.items(), &mut self.rows)?;
+        let act = look_up_all(cards, cards.acts(), &mut self.placements)?;
+        let piece = look_up_all(cards, cards.pieces(), &mut self.pieces)?;
+        let load = look_up_all(cards, cards.loads(), &mut self.loads)?;
+        let figure = self.figures.look_up(cards)?;
+        let of_acts = earliest(row, act);
+        let of_parts = earliest(piece, load);
+        let of_both = earliest(of_acts, of_parts);
+        Ok(earliest(of_both, figure))
+    }
 }

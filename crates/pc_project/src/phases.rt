@@ -1,6 +1,8 @@
 //! From the cards of a deck to its project, phase by phase.
-ghost use Rattle.std.specs.Prelude.{◌≡◌, length, IfOk, IfErr, OnOk};
+ghost use Rattle.std.specs.Prelude.{◌≡◌, length, map, IfOk, IfErr, OnOk};
 ghost use Rattle.pc_accounts.specs.Amounts.{AreEntriesOf};
+ghost use Rattle.pc_accounts.specs.Entries.{AreSmall};
+ghost use Rattle.pc_deck.specs.Deck.{act_codes, event_codes};
 ghost use Rattle.pc_faults.specs.declared.fault.Fault.{Fault};
 ghost use Rattle.pc_faults.specs.inside.First.{Refuses};
 ghost use Rattle.pc_project.specs.DisorderFaults.{as_of_in};
@@ -9,25 +11,24 @@ ghost use Rattle.pc_project.specs.inside.Numbered.{AreNumbersOf};
 ghost use Rattle.pc_project.specs.inside.Parts.{project_with};
 ghost use Rattle.pc_project.specs.Planned.{IsPlanned};
 ghost use Rattle.pc_project.specs.PieceFaults.{HasNoPieceFault};
-ghost use Rattle.pc_project.specs.Project.{accounts_in, charges_in, network_of, rows_of, statuses_in, togos_in};
+ghost use Rattle.pc_project.specs.Project.{accounts_in, charges_in, expected_of, network_of, place_of, rows_of, statuses_in};
+ghost use Rattle.pc_project.specs.Project.{term_of, togos_in, variance_in};
 ghost use Rattle.pc_project.specs.Refusal.{HasSoundFigures, HasSoundPlan, IsRefusedWith, MakesProject};
 ghost use Rattle.pc_project.specs.TermsFaults.{HasTermsFault};
 
-use crate::lists::lists_of;
+use crate::lists::Lists;
 use crate::network::net_of;
 use crate::numbers::{Numbers, numbers_of};
 use crate::pieces::first_piece_fault;
 use crate::plan::Plan;
 use crate::progress::{Progress, progress_of};
 use crate::project::Project;
-use crate::tree::tree_of;
-use pc_accounts::Book;
+use crate::tree::tree_between;
 use pc_deck::Cards;
 use pc_faults::{DeckError, Fault};
 use pc_net::Net;
-use pc_times::ActState;
 use pc_wbs::Tree;
-use std::alloc::{AllocError, Global};
+use std::alloc::Global;
 
 /// The project of the cards, or the first fault that keeps them from making one: of the cards one by one, or else of
 /// the tree of their items, or else of the network of their activities, or else of the items that activities and accounts
@@ -46,8 +47,16 @@ pub fn project_of(alloc: Global, cards: Cards) -> Result<Project, DeckError>
     }
 }
 
-/// What the cards come to, or the first fault that keeps them from making a project: one phase after another, each of which
-/// may take it that those before it found no fault, and answers its own first one.
+/// What cards come to beside what they name.
+#[derive(Drop)]
+struct Frame {
+    tree: Tree,
+    net: Net,
+    progress: Progress,
+    lists: Lists,
+}
+
+/// What the cards come to, or the first fault that keeps them from making a project.
 fn plan_of(alloc: Global, cards: &Cards) -> Result<Plan, DeckError>
     ensures plan { IfOk result (λ plan. IsPlanned (project_with cards.now plan)) }
     ensures refused { IfErr result (Refuses (IsRefusedWith cards.now)) }
@@ -56,24 +65,95 @@ fn plan_of(alloc: Global, cards: &Cards) -> Result<Plan, DeckError>
         Ok(numbers) => numbers,
         Err(error) => return Err(error),
     };
-    let tree = match tree_of(alloc, cards, &numbers) {
+    match frame_of(alloc, cards, &numbers) {
+        Ok(frame) => Ok(Plan {
+            net: frame.net,
+            tree: frame.tree,
+            lists: frame.lists,
+            pieces: numbers.pieces,
+            loads: numbers.loads,
+            figures: numbers.figures,
+            book: frame.progress.book,
+            states: frame.progress.states,
+        }),
+        Err(error) => Err(error),
+    }
+}
+
+/// What the cards come to around what they name, or the first fault that keeps them from making a project: one phase after
+/// another, each of which may take it that those before it found no fault, and answers its own first one.
+fn frame_of(alloc: Global, cards: &Cards, numbers: &Numbers) -> Result<Frame, DeckError>
+    requires { AreNumbersOf cards.now numbers.now }
+    ensures makes { OnOk result (MakesProject cards.now) }
+    ensures tree { IfOk result (λ frame. frame.tree ≡ rows_of cards.now) }
+    ensures network { IfOk result (λ frame. frame.net ≡ network_of cards.now) }
+    ensures entries { IfOk result (λ frame. AreEntriesOf (accounts_in cards.now) (charges_in cards.now)
+        (togos_in cards.now) (as_of_in cards.now) frame.progress.book) }
+    ensures small { IfOk result (λ frame. AreSmall frame.progress.book) }
+    ensures states { IfOk result (λ frame. AreStatesOf cards.now.project.start_day (statuses_in cards.now)
+        (length cards.now.acts) frame.progress.states.items) }
+    ensures events { IfOk result (λ frame. frame.lists.events.items ≡ event_codes cards.now) }
+    ensures activities { IfOk result (λ frame. frame.lists.activities.items ≡ act_codes cards.now) }
+    ensures places { IfOk result (λ frame. frame.lists.places.items ≡ map (place_of cards.now) cards.now.acts) }
+    ensures terms { IfOk result (λ frame. frame.lists.terms.items ≡ map term_of cards.now.acts) }
+    ensures expected { IfOk result (λ frame. frame.lists.expected.items
+        ≡ map (expected_of cards.now) cards.now.acts) }
+    ensures variances { IfOk result (λ frame. frame.lists.variances.items
+        ≡ map (variance_in cards.now) cards.now.acts) }
+    ensures refused { IfErr result (Refuses (IsRefusedWith cards.now)) }
+{
+    let tree = match tree_between(alloc, cards.items(), &numbers.rows) {
         Ok(tree) => tree,
         Err(error) => return Err(error),
     };
-    let net = match net_of(alloc, cards, &numbers) {
+    let net = match net_of(alloc, cards, numbers) {
         Ok(net) => net,
         Err(error) => return Err(error),
     };
-    let progress = match progress_of(alloc, cards, &numbers, &tree) {
+    let progress = match progress_of(alloc, cards, numbers, &tree) {
         Ok(progress) => progress,
         Err(error) => return Err(error),
     };
-    if let Err(error) = check_costs(alloc, cards, &numbers) {
+    // What the book keeps to.
+    let _entries = progress.book.entries();
+    match lists_of(alloc, cards, numbers) {
+        Ok(lists) => Ok(Frame {
+            tree,
+            net,
+            progress,
+            lists,
+        }),
+        Err(error) => Err(error),
+    }
+}
+
+/// The lists of a project with sound figures, or the first fault of its pieces, or else of the terms of time (F33 to F36).
+fn lists_of(alloc: Global, cards: &Cards, numbers: &Numbers) -> Result<Lists, DeckError>
+    requires plan { HasSoundPlan cards.now }
+    requires figures { HasSoundFigures cards.now }
+    requires numbers { AreNumbersOf cards.now numbers.now }
+    ensures makes { OnOk result (MakesProject cards.now) }
+    ensures events { IfOk result (λ lists. lists.events.items ≡ event_codes cards.now) }
+    ensures activities { IfOk result (λ lists. lists.activities.items ≡ act_codes cards.now) }
+    ensures places { IfOk result (λ lists. lists.places.items ≡ map (place_of cards.now) cards.now.acts) }
+    ensures terms { IfOk result (λ lists. lists.terms.items ≡ map term_of cards.now.acts) }
+    ensures expected { IfOk result (λ lists. lists.expected.items ≡ map (expected_of cards.now) cards.now.acts) }
+    ensures variances { IfOk result (λ lists. lists.variances.items ≡ map (variance_in cards.now) cards.now.acts) }
+    ensures refused { IfErr result (Refuses (IsRefusedWith cards.now)) }
+{
+    if let Err(error) = check_costs(alloc, cards, numbers) {
         return Err(error);
     }
-    let Progress { book, states } = progress;
-    match planned(alloc, cards, numbers, tree, net, book, states) {
-        Ok(plan) => Ok(plan),
+    let mut lists = Lists {
+        events: Vec::new(alloc),
+        activities: Vec::new(alloc),
+        places: Vec::new(alloc),
+        terms: Vec::new(alloc),
+        expected: Vec::new(alloc),
+        variances: Vec::new(alloc),
+    };
+    match lists.fill(alloc, cards, &numbers.placements) {
+        Ok(()) => Ok(lists),
         Err(_) => Err(DeckError::OutOfMemory),
     }
 }
@@ -96,37 +176,4 @@ fn check_costs(alloc: Global, cards: &Cards, numbers: &Numbers) -> Result<(), De
         }
         _ => Ok(()),
     }
-}
-
-/// What cards come to that make a project, around its tree, its network, its book and its states.
-fn planned(
-    alloc: Global,
-    cards: &Cards,
-    numbers: Numbers,
-    tree: Tree,
-    net: Net,
-    book: Book,
-    states: Vec<ActState>,
-) -> Result<Plan, AllocError>
-    requires makes { MakesProject cards.now }
-    requires numbers { AreNumbersOf cards.now numbers }
-    requires tree { tree ≡ rows_of cards.now }
-    requires network { net ≡ network_of cards.now }
-    requires entries { AreEntriesOf (accounts_in cards.now) (charges_in cards.now) (togos_in cards.now)
-        (as_of_in cards.now) book }
-    requires states { AreStatesOf cards.now.project.start_day (statuses_in cards.now)
-        (length cards.now.acts) states.items }
-    ensures { IfOk result (λ plan. IsPlanned (project_with cards.now plan)) }
-{
-    let lists = lists_of(alloc, cards, &numbers.placements)?;
-    Ok(Plan {
-        net,
-        tree,
-        lists,
-        pieces: numbers.pieces,
-        loads: numbers.loads,
-        figures: numbers.figures,
-        book,
-        states,
-    })
 }

@@ -1,5 +1,5 @@
 //! Cards that name other cards by their codes.
-ghost use Rattle.std.specs.Prelude.{◌≡◌, ℕ, IfOk, IfErr, OnOk, None, map, take};
+ghost use Rattle.std.specs.Prelude.{◌≡◌, ℕ, IfOk, IfErr, OnOk, None, map, take, []};
 ghost use Rattle.std.specs.List.{Any};
 ghost use Rattle.pc_deck.specs.Deck.{Deck};
 ghost use Rattle.pc_faults.specs.First.{IsFirst};
@@ -8,7 +8,7 @@ ghost use Rattle.pc_faults.specs.inside.First.{IsFirstIn};
 
 use pc_deck::Cards;
 use pc_faults::{Fault, earliest};
-use std::alloc::{AllocError, Global};
+use std::alloc::AllocError;
 
 /// A card that names other cards by their codes.
 pub(crate) trait Refers: Copy {
@@ -26,25 +26,18 @@ pub(crate) trait Refers: Copy {
         ensures first { IfErr result (IsFirst (HasFault cards.now self.now)) };
 }
 
-/// What cards name, by numbers, as far as they have no fault, and the first of their faults.
-#[derive(Drop)]
-pub(crate) struct LookedUp<N: Copy> {
-    pub(crate) numbers: Vec<N>,
-    pub(crate) fault: Option<Fault>,
-}
-
-/// Looks up what each of the cards names.
+/// Looks up what each of the cards names, by numbers, as far as they have no fault, and answers the first of their faults.
 pub(crate) fn look_up_all<C: Refers>(
-    alloc: Global,
     cards: &Cards,
     list: &[C],
-) -> Result<LookedUp<C::Found>, AllocError>
-    ensures first { IfOk result (λ looked. IsFirstIn
-        (λ fault. Any (λ card. C.HasFault cards.now card fault) list.now) looked.fault) }
-    ensures numbers { IfOk result (λ looked. looked.fault ≡ None →
-        looked.numbers.items ≡ map (C.found_in cards.now) list.now) }
+    numbers: &mut Vec<C::Found>,
+) -> Result<Option<Fault>, AllocError>
+    requires { numbers.old.items ≡ [] }
+    ensures first { IfOk result (λ first. IsFirstIn
+        (λ fault. Any (λ card. C.HasFault cards.now card fault) list.now) first) }
+    ensures numbers { IfOk result (λ first. first ≡ None → numbers.new.items ≡ map (C.found_in cards.now) list.now) }
 {
-    let mut numbers = Vec::with_capacity(alloc, list.len())?;
+    numbers.reserve(list.len())?;
     let mut fault = None;
     for card in list {
         match card.look_up(cards) {
@@ -52,5 +45,5 @@ pub(crate) fn look_up_all<C: Refers>(
             Err(found) => fault = earliest(fault, Some(found)),
         }
     }
-    Ok(LookedUp { numbers, fault })
+    Ok(fault)
 }

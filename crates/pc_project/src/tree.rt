@@ -4,31 +4,15 @@ ghost use Rattle.pc_model.specs.declared.limits.TheConstants.{MAX_ITEMS};
 ghost use Rattle.pc_wbs.specs.Climb.{AreInRange, IsTree};
 ghost use Rattle.pc_wbs.specs.declared.error.TreeError.TheVariants as tree;
 ghost use Rattle.pc_faults.specs.inside.First.{Refuses};
-ghost use Rattle.pc_project.specs.inside.Numbered.{AreNumbersOf};
-ghost use Rattle.pc_project.specs.Project.{rows_of};
-ghost use Rattle.pc_project.specs.Refusal.{IsRefusedWith, IsTreeFault, tree_fault};
+ghost use Rattle.pc_project.specs.Refusal.{IsTreeFault, tree_fault};
 ghost use Rattle.pc_project.specs.inside.Refusal.{IsAbout};
 
 use crate::lists::codes_of_items;
 use crate::named::{codes_at, item_card};
-use crate::numbers::Numbers;
-use pc_deck::{Cards, ItemCard};
+use pc_deck::ItemCard;
 use pc_faults::{DeckError, Fault};
 use pc_wbs::{ItemRow, Tree, TreeError};
 use std::alloc::{AllocError, Global};
-
-/// The tree of the items, or the fault that keeps them from being one (F20 to F23).
-pub(crate) fn tree_of(alloc: Global, cards: &Cards, numbers: &Numbers) -> Result<Tree, DeckError>
-    requires { AreNumbersOf cards.now numbers.now }
-    ensures rows { IfOk result (λ tree. tree ≡ rows_of cards.now) }
-    ensures tree { OnOk result (IsTree (rows_of cards.now)) }
-    ensures refused { IfErr result (Refuses (IsRefusedWith cards.now)) }
-{
-    match tree_between(alloc, cards.items(), &numbers.rows) {
-        Ok(tree) => Ok(tree),
-        Err(error) => Err(error),
-    }
-}
 
 /// The tree of items with these parents, or the fault that keeps them from being one. A deck of any sort has its tree by it.
 pub fn tree_between(alloc: Global, items: &[ItemCard], rows: &[ItemRow]) -> Result<Tree, DeckError>

@@ -12,12 +12,23 @@ use std::marker::Model;
 /// A session on a project: its numbers as they are edited, the times that come of them, and the room in which a trial works.
 ///
 /// All memory is taken when it begins.
-#[derive(Drop)]
 pub struct Session<'p> {
     pub(crate) project: &'p Project,
     pub(crate) edits: Edits<'p>,
     pub(crate) reservation: Reservation,
     pub(crate) page: Page,
+}
+
+impl<'p> Drop for Session<'p> {
+    // Written out, so that who lets sessions go cites this proof.
+    fn drop(self) {
+        let Session {
+            project: _project,
+            edits: _edits,
+            reservation: _reservation,
+            page: _page,
+        } = self;
+    }
 }
 
 impl<'p> Model for Session<'p> {
@@ -42,9 +53,9 @@ impl<'p> Session<'p> {
         let _net = project.net();
         Ok(Session {
             project,
-            edits: Edits::begin(alloc, project)?,
-            reservation: Reservation::begin(alloc, project)?,
             page: Page::with_room(alloc, PAGE_ROOM)?,
+            reservation: Reservation::begin(alloc, project)?,
+            edits: Edits::begin(alloc, project)?,
         })
     }
 

@@ -136,10 +136,10 @@ fn hear<C: Source, O: Sink>(alloc: Global, project: &Project, edits: &mut C, out
     ensures { Hearing (AnswersLines project.now) (side C.left C.faults edits.old edits.new)
         (side O.taken O.faults out.old out.new) result }
 {
-    let Ok(mut session) = Session::begin(alloc, project) else {
+    let Ok(reader) = LineReader::begin(alloc) else {
         return Status::OutOfMemory;
     };
-    let Ok(reader) = LineReader::begin(alloc) else {
+    let Ok(mut session) = Session::begin(alloc, project) else {
         return Status::OutOfMemory;
     };
     status_of(talk(reader, &mut session, edits, out))

@@ -10,12 +10,12 @@ ghost use Rattle.pc_reading.specs.Priced.{priced_in};
 ghost use Rattle.pc_reading.specs.Sides.{side};
 ghost use Rattle.pert_cli.specs.declared.forms.Form.TheVariants.{Curve};
 
-use crate::solving::Workplace;
+use crate::solving::solver_region;
 use pc_crash::{CrashNet, Steps};
 use pc_curve::write_curve;
 use pc_edges::{Failed, Sink};
 use pc_flow::Solver;
-use pc_page::Page;
+use pc_page::{PAGE_ROOM, Page};
 use pc_project::Project;
 use pc_reading::Status;
 use std::alloc::{AllocError, Global};
@@ -40,10 +40,12 @@ fn answer_by<O: Sink>(alloc: Global, project: &Project, net: &CrashNet<'_>, out:
     requires { net.now ≡ priced_in project.now }
     ensures { Answers (IsReply Curve project.now) (side O.taken O.faults out.old out.new) result }
 {
-    let Ok(place) = Workplace::take(alloc, project) else {
+    let Ok(mut page) = Page::with_room(alloc, PAGE_ROOM) else {
         return Status::OutOfMemory;
     };
-    let Workplace { region, mut page } = place;
+    let Ok(region) = solver_region(alloc, project) else {
+        return Status::OutOfMemory;
+    };
     let mut solver = Solver::begin(region, net);
     match write::<O, Brand>(&mut page, out, &mut solver, Blank::new(1)) {
         Ok(()) => Status::Done,

@@ -1,8 +1,8 @@
 //! The table of the forms: what the words can ask for, and what answers it.
 //!
-//! A form has a variant of `Form`, and a line in `usage`, in `of_one_word` or `of_two_words`, and in `answer`; the rest of it
-//! is in a file of its own.
-ghost use Rattle.std.specs.Prelude.{◌≡◌, ◌+◌, ◌≤◌, [], ◌∷◌, ◌++◌, length, IfNone, IfSome};
+//! A form has a variant of `Form`, its name in `usage`, and a line in `of_one_word` or `of_two_words`, and in `answer`; the
+//! rest of it is in a file of its own.
+ghost use Rattle.std.specs.Prelude.{◌≡◌, [], ◌∷◌, IfNone, IfSome};
 ghost use Rattle.pert_cli.specs.FormDeck.{ReadsSource, sort_of};
 ghost use Rattle.pert_cli.specs.Forms.{IsAskedBy, IsNumbered};
 ghost use Rattle.pert_cli.specs.inside.Handing.{Replies};
@@ -15,7 +15,6 @@ use crate::{
     arrows, bench, certify, check, curve, load, migrate, normal, optimum, outlook, point, summary,
     times, value,
 };
-use arrayvec::ArrayVec;
 use pc_bench::MOST_ACTIVITIES;
 use pc_cards::sort::Sort;
 use pc_edges::Sink;
@@ -25,39 +24,12 @@ use pc_reading::Status;
 use pc_text::read_number;
 use std::alloc::Global;
 
-/// The room of the usage line.
-const USAGE_ROOM: usize = 256;
-
-/// The line that names the forms of the command line. It takes no memory.
-pub(crate) fn usage() -> ArrayVec<u8, USAGE_ROOM>
-    ensures { result.items ≡ usage_text }
+/// The line that names the forms of the command line.
+pub(crate) fn usage() -> &'static [u8]
+    ensures { result.now ≡ usage_text }
 {
-    let mut line = ArrayVec::new();
-    append(&mut line, b"usage: pert ", check::WORDS);
-    append(&mut line, b" | ", normal::WORDS);
-    append(&mut line, b" | ", times::WORDS);
-    append(&mut line, b" | ", summary::WORDS);
-    append(&mut line, b" | ", value::WORDS);
-    append(&mut line, b" | ", curve::WORDS);
-    append(&mut line, b" | ", certify::WORDS);
-    append(&mut line, b" | ", point::WORDS);
-    append(&mut line, b" L | ", outlook::WORDS);
-    append(&mut line, b" L | ", bench::WORDS);
-    append(&mut line, b" N | ", migrate::WORDS);
-    append(&mut line, b" | ", optimum::WORDS);
-    append(&mut line, b" | ", arrows::WORDS);
-    append(&mut line, b" | ", load::WORDS);
-    append(&mut line, b" P\n", b"");
-    line
-}
-
-/// Appends the two pieces to the usage line.
-fn append(line: &mut ArrayVec<u8, USAGE_ROOM>, before: &[u8], words: &[u8])
-    requires { length line.old.items + (length before.now + length words.now) ≤ USAGE_ROOM }
-    ensures { line.new.items ≡ line.old.items ++ (before.now ++ words.now) }
-{
-    line.try_extend_from_slice(before).unwrap();
-    line.try_extend_from_slice(words).unwrap();
+    b"usage: pert check | normal | times | summary | value | curve | certify | point L | outlook L \
+      | bench N | migrate | optimum | arrows | load P\n"
 }
 
 /// What the words can ask for.

@@ -154,7 +154,7 @@ fn outcome<S: Source, O: Sink, E: Sink>(
     ensures near { TookAtMost (longest_deck + STREAM_ROOM) (side S.left S.faults source.old source.new) }
 {
     let Some(form) = Form::asked(words) else {
-        return match send(err, usage().as_slice()) {
+        return match send(err, usage()) {
             Ok(()) => Status::Usage,
             Err(Failed) => Status::WriteFault,
         };

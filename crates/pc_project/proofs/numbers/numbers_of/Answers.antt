@@ -10,14 +10,14 @@ use Rattle.pc_project.proofs.numbers.numbers_of.Goals as goal
 pub returns-in-Ok-None-clause-numbers : goal.returns-in-Ok-None-clause-numbers
 returns-in-Ok-None-clause-numbers c =
     let deck = c.args.cards.now in
-    let lists = c.in_ok-found.ensures.lists c.in-Ok-None.is-1 in
+    let lists = c.in_ok-of_lists.ensures.lists c.in-Ok-None.is-1 in
     record {
-      faultless = subst (IsFirstIn (HasMisfit deck)) c.in-Ok-None.is-1 (first_of_cards deck None c.in_ok-found.found.fault c.in-Ok-None.ensures.faultless c.in_ok-found.ensures.first);
-      within = c.in_ok-found.ensures.within;
+      faultless = subst (IsFirstIn (HasMisfit deck)) c.in-Ok-None.is-1 (first_of_cards deck None c.in_ok-of_lists.of_lists c.in-Ok-None.ensures.faultless c.in_ok-of_lists.ensures.first);
+      within = c.in_ok-of_lists.ensures.within;
       start = c.in-Ok-None.ensures.start;
       end = c.in-Ok-None.ensures.end;
       rows = lists.rows;
-      few = omega (arith, ap length lists.rows, length-map deck.items (row_of deck), (c.in_ok-found.ensures.within Wbs).few);
+      few = omega (arith, ap length lists.rows, length-map deck.items (row_of deck), (c.in_ok-of_lists.ensures.within Wbs).few);
       placements = lists.placements;
       pieces = lists.pieces;
       loads = lists.loads;
@@ -27,11 +27,11 @@ returns-in-Ok-None-clause-numbers c =
 pub returns-in-Ok-Some-clause-first : goal.returns-in-Ok-Some-clause-first
 returns-in-Ok-Some-clause-first c =
     let deck = c.args.cards.now in
-    subst (IsFirstIn (HasMisfit deck)) c.in-Ok-Some.is-1 (first_of_cards deck None c.in_ok-found.found.fault c.in-Ok-Some.ensures.faultless c.in_ok-found.ensures.first)
+    subst (IsFirstIn (HasMisfit deck)) c.in-Ok-Some.is-1 (first_of_cards deck None c.in_ok-of_lists.of_lists c.in-Ok-Some.ensures.faultless c.in_ok-of_lists.ensures.first)
 
 pub returns-in-Err-default-clause-first : goal.returns-in-Err-default-clause-first
 returns-in-Err-default-clause-first c =
     let deck = c.args.cards.now in
     subst (IsFirstIn (HasMisfit deck)) (sym c.earlier_of.ensures)
-    (first_of_cards deck (Some c.in-Err-default.first) c.in_ok-found.found.fault c.in-Err-default.ensures.first
-    c.in_ok-found.ensures.first)
+    (first_of_cards deck (Some c.in-Err-default.first) c.in_ok-of_lists.of_lists c.in-Err-default.ensures.first
+    c.in_ok-of_lists.ensures.first)

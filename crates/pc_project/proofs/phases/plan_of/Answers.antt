@@ -1,3 +1,4 @@
+use Rattle.std.proofs.Common.{refl, sym, subst}
 use Rattle.pc_faults.specs.First.{IsFirst}
 use Rattle.pc_faults.specs.declared.fault.DeckError.{DeckError}
 use Rattle.pc_faults.specs.declared.fault.DeckError.TheVariants.{Fault, OutOfMemory}
@@ -5,6 +6,9 @@ use Rattle.pc_faults.specs.inside.First.{Refuses}
 use Rattle.pc_deck.specs.Deck.{Deck}
 use Rattle.pc_project.specs.Misfit.{HasMisfit}
 use Rattle.pc_project.specs.Refusal.{IsRefusedWith, of_cards}
+use Rattle.pc_project.specs.Planned.{IsPlanned}
+use Rattle.pc_project.proofs.FigureLaws.{project_in-figures}
+use Rattle.pc_project.proofs.PlannedLaws.{project_in-is, project_in-planned}
 use Rattle.pc_project.proofs.phases.plan_of.Goals as goal
 
 -- a fault of a card is one with which the deck is refused
@@ -15,23 +19,14 @@ refused_by_card deck OutOfMemory first = first
 pub returns-in-Err-clause-refused : goal.returns-in-Err-clause-refused
 returns-in-Err-clause-refused c = refused_by_card c.args.cards.now c.in-Err.error c.in-Err.ensures.first
 
-pub net_of-requires-clause-tree : goal.net_of-requires-clause-tree
-net_of-requires-clause-tree c = c.in-Ok-tree_of.ensures.tree
-
-pub progress_of-requires-clause-plan : goal.progress_of-requires-clause-plan
-progress_of-requires-clause-plan c =
-    record { cards = c.in-Ok.ensures.numbers.faultless; tree = c.in-Ok-tree_of.ensures.tree; sound = c.in-Ok-net_of.ensures.sound }
-
-pub check_costs-requires-clause-plan : goal.check_costs-requires-clause-plan
-check_costs-requires-clause-plan c =
-    record { cards = c.in-Ok.ensures.numbers.faultless; tree = c.in-Ok-tree_of.ensures.tree; sound = c.in-Ok-net_of.ensures.sound }
-
-pub planned-requires-clause-makes : goal.planned-requires-clause-makes
-planned-requires-clause-makes c = record {
-  cards = c.in-Ok.ensures.numbers.faultless;
-  tree = c.in-Ok-tree_of.ensures.tree;
-  sound = c.in-Ok-net_of.ensures.sound;
-  figures = c.in-Ok-progress_of.ensures.figures;
-  pieces = c.in_default.ensures.pieces;
-  terms = c.in_default.ensures.terms;
-}
+pub returns-in-Ok-frame_of-clause-plan : goal.returns-in-Ok-frame_of-clause-plan
+returns-in-Ok-frame_of-clause-plan c =
+    let deck = c.args.cards.now in
+    let numbers = c.in-Ok.ensures.numbers in
+    let figures = numbers.figures in
+    let frame = c.in-Ok-frame_of.ensures in
+    subst IsPlanned
+    (sym (project_in-is deck _ refl refl frame.network frame.tree frame.events frame.activities frame.places frame.terms frame.expected frame.variances
+    refl refl numbers.pieces refl numbers.loads figures.accounts figures.charges figures.togos figures.statuses refl refl))
+    (project_in-planned deck _ _ frame.makes numbers.within
+    (project_in-figures deck numbers.within frame.makes.cards frame.makes.figures _ _ frame.entries frame.small frame.states))

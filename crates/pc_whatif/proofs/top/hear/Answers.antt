@@ -20,10 +20,10 @@ returns-in_default-begin g c = no_room refl refl
 pub returns : goal.returns
 returns g c =
     let project = c.args.project.now in
-    let session = c.in-Ok.session in
+    let session = c.in-Ok-begin.session in
     let mean : (lines : List (List ℕ)) (text : List ℕ) → Answered Says session lines text c.talk.new.talker → AnswersLines project lines text =
-    λ lines text h. subst (λ (e : Editing). AreAnswers project e lines text) c.in-Ok.ensures.editing
-    (subst (λ (p : Project). AreAnswers p session.editing lines text) c.in-Ok.ensures.project (answers_of session c.talk.new.talker lines text h)) in
+    λ lines text h. subst (λ (e : Editing). AreAnswers project e lines text) c.in-Ok-begin.ensures.editing
+    (subst (λ (p : Project). AreAnswers p session.editing lines text) c.in-Ok-begin.ensures.project (answers_of session c.talk.new.talker lines text h)) in
     subst (λ (status : Status). Hearing (AnswersLines project) (side g.C.Source.left g.C.Source.faults c.args.edits.now c.talk.new.source)
     (side g.O.Sink.taken g.O.Sink.faults c.args.out.now c.talk.new.out) status)
     (sym c.status_of.ensures)

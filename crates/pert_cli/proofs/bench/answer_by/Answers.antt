@@ -4,7 +4,7 @@ use Rattle.pc_bench.specs.Report.{IsBenchText}
 use Rattle.pert_cli.proofs.bench.answer_by.Goals as goal
 
 pub begin-solver-requires : goal.begin-solver-requires
-begin-solver-requires g c = rw c.requires c.in-Ok.ensures.region
+begin-solver-requires g c = rw c.requires c.in-Ok-solver_region.ensures
 
 pub returns-in-Ok-write : goal.returns-in-Ok-write
 returns-in-Ok-write g c =

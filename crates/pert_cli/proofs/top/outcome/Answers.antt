@@ -1,4 +1,4 @@
-use Rattle.std.proofs.Common.{◌+◌, [], refl, sym, subst, ◌∙◌, arith}
+use Rattle.std.proofs.Common.{◌+◌, [], refl, sym, subst, arith}
 use Rattle.pc_faults.specs.declared.fault.Fault.{Fault}
 use Rattle.pc_faults.specs.inside.FaultText.{IsTold}
 use Rattle.pc_reading.specs.inside.Refusing.{Refusal}
@@ -18,13 +18,13 @@ refuse-requires g c =
 
 pub returns-in-Ok-clause-outcome : goal.returns-in-Ok-clause-outcome
 returns-in-Ok-clause-outcome g c =
-    usage c.in_default.ensures.none (subst (Took (side g.E.Sink.taken g.E.Sink.faults c.args.err.now c.send.new.sink)) (c.as_slice.ensures.value ∙ c.usage.ensures) c.in-Ok.ensures.ok) refl refl
+    usage c.in_default.ensures.none (subst (Took (side g.E.Sink.taken g.E.Sink.faults c.args.err.now c.send.new.sink)) c.usage.ensures c.in-Ok.ensures.ok) refl refl
 
 pub returns-in-Err-clause-outcome : goal.returns-in-Err-clause-outcome
 returns-in-Err-clause-outcome g c =
     write_fault (in_usage c.in_default.ensures.none
     (subst (TookFront (side g.E.Sink.taken g.E.Sink.faults c.args.err.now c.send.new.sink))
-    (c.as_slice.ensures.value ∙ c.usage.ensures) c.in-Err.ensures.err) refl refl)
+    c.usage.ensures c.in-Err.ensures.err) refl refl)
 
 pub returns-in-Ok-project_for-clause-outcome : goal.returns-in-Ok-project_for-clause-outcome
 returns-in-Ok-project_for-clause-outcome g c =

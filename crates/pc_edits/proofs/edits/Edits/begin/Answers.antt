@@ -7,7 +7,7 @@ use Rattle.pc_edits.proofs.StandingLaws.{Stands-begun}
 use Rattle.pc_edits.proofs.edits.Edits.begin.Goals as goal
 
 -- the priced network is the project's
-net_is : (c : goal.In_ok-with_capacity) → c.in_ok-priced.field-0 ≡ priced_of c.args.project.now
+net_is : (c : goal.In_ok-priced) → c.in_ok-priced.field-0 ≡ priced_of c.args.project.now
 net_is c = λ i. record {
   network = c.in_ok-priced.ensures.network i;
   terms = c.in_ok-priced.ensures.terms i;
@@ -18,7 +18,7 @@ net_is c = λ i. record {
 }
 
 -- the fields
-abbrev fields : goal.In_ok-with_capacity → Inside
+abbrev fields : goal.In_ok-priced → Inside
 fields c = record { net = c.in_ok-priced.field-0; estimates = c.in_ok-estimates_of.field-0; unit_days = c.unit_days.result; kept = c.in_ok-with_capacity.field-0; aside = None }
 
 pub invariant_of-result : goal.invariant_of-result

@@ -70,3 +70,28 @@ returns-clause-loading c =
       resources_add_up = resources_add_up project times (6 * c.args.days) have _ c.net.ensures.planned reached (omega arith) whole taken;
       levels_add_up = c.in_ok-items_of.ensures.levels;
     }
+
+pub loads-requires : goal.loads-requires
+loads-requires c =
+    let project = c.args.project.now in
+    let early : AreEarly project.network project.expected c.in_ok-times.times.items = rw (← c.net.ensures.network, ← c.expected.ensures.expected) c.in_ok-times.ensures.times in
+    let reached : AreTimes project c.in_ok-times.times.items = record { early = early; small = λ e lt. c.in_ok-times.ensures.limit e 0 lt } in
+    rw c.deref.ensures.value reached
+
+pub items_of-requires-clause-times : goal.items_of-requires-clause-times
+items_of-requires-clause-times c =
+    let project = c.args.project.now in
+    let early : AreEarly project.network project.expected c.in_ok-times.times.items = rw (← c.net.ensures.network, ← c.expected.ensures.expected) c.in_ok-times.ensures.times in
+    let reached : AreTimes project c.in_ok-times.times.items = record { early = early; small = λ e lt. c.in_ok-times.ensures.limit e 0 lt } in
+    rw c.deref-2.ensures.value reached
+
+pub items_of-requires-clause-whole : goal.items_of-requires-clause-whole
+items_of-requires-clause-whole c =
+    let project = c.args.project.now in
+    let times = c.in_ok-times.times.items in
+    let early : AreEarly project.network project.expected times = rw (← c.net.ensures.network, ← c.expected.ensures.expected) c.in_ok-times.ensures.times in
+    let read : c.index.result.now ≡ get_or times project.network.end c.index.result.now = rw (← c.net-2.ensures.network, ← c.end.ensures.end) c.index.ensures in
+    rw c.deref-2.ensures.value (ends_before project c.args.days c.periods_for-have.result c.index.result.now times c.requires.least c.net.ensures.planned early read c.periods_for-have.ensures)
+
+pub build-requires-clause-entries : goal.build-requires-clause-entries
+build-requires-clause-entries c = rw (c.deref-3.ensures.value, c.resource_count.ensures.count) c.in_ok-taken.ensures.entries

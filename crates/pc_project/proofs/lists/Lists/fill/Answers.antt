@@ -9,12 +9,11 @@ use Rattle.pc_deck.proofs.NumberLemmas.{acts-within, project-within}
 use Rattle.pc_project.specs.Misfit.{IsInOrder}
 use Rattle.pc_project.specs.Project.{term_of}
 use Rattle.pc_project.specs.inside.Project.{placement_of}
-use Rattle.pc_project.proofs.lists.lists_of.Goals as goal
+use Rattle.pc_project.proofs.lists.Lists.fill.Goals as goal
 
 pub returns-clause-places : goal.returns-clause-places
 returns-clause-places c =
-    c.in_ok-places.ensures
-    ∙ (ap (map (λ placement. placement.item)) c.requires.placements
+    c.in_ok-self-3.ensures ∙ (ap (map (λ placement. placement.item)) c.requires.placements
     ∙ map-map (λ placement. placement.item) (placement_of c.args.cards.now) c.args.cards.now.acts)
 
 pub expected_times-requires-clause-unit : goal.expected_times-requires-clause-unit
@@ -40,16 +39,16 @@ pub variances-requires-clause-ordered : goal.variances-requires-clause-ordered
 variances-requires-clause-ordered c = subst (All IsInOrder) (sym c.acts-acts.ensures.cards) c.requires.ordered
 
 pub returns-clause-terms : goal.returns-clause-terms
-returns-clause-terms c = c.in_ok-terms.ensures ∙ ap (map term_of) c.acts-acts.ensures.cards
+returns-clause-terms c = c.in_ok-self-4.ensures ∙ ap (map term_of) c.acts-acts.ensures.cards
 
 pub returns-clause-expected : goal.returns-clause-expected
 returns-clause-expected c =
-    c.in_ok-expected_times.ensures
+    c.in_ok-self-5.ensures
     ∙ (ap (map (λ act. expected_time act.opt act.likely act.pess c.project.result.now.unit_days)) c.acts-acts.ensures.cards
     ∙ ap (λ (card : ProjectCard). map (λ act. expected_time act.opt act.likely act.pess card.unit_days) c.args.cards.now.acts) c.project.ensures.card)
 
 pub returns-clause-variances : goal.returns-clause-variances
 returns-clause-variances c =
-    c.in_ok-variances.ensures
+    c.in_ok-self-6.ensures
     ∙ (ap (map (λ act. variance_of act.opt act.pess c.project.result.now.unit_days)) c.acts-acts.ensures.cards
     ∙ ap (λ (card : ProjectCard). map (λ act. variance_of act.opt act.pess card.unit_days) c.args.cards.now.acts) c.project.ensures.card)
