@@ -21,10 +21,19 @@ pub(crate) const MOST: usize = 0xFFFF_FFFE;
 
 /// Where codes stand among others: `slots` has the place of a code and one more, or 0, and `crowded` the place of each code
 /// whose slot and the slot beside it others have, by the code's number.
-#[derive(Drop)]
 pub(crate) struct Index {
     slots: Vec<u32>,
     crowded: BTreeMap<u128, u32>,
+}
+
+impl Drop for Index {
+    // Written out, so that who lets an index go cites this proof.
+    fn drop(self) {
+        let Index {
+            slots: _slots,
+            crowded: _crowded,
+        } = self;
+    }
 }
 
 impl Index {

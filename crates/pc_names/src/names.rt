@@ -10,10 +10,19 @@ use std::alloc::{AllocError, Global};
 use std::marker::Model;
 
 /// Codes in the order in which they were added, no two of them the same.
-#[derive(Drop)]
 pub struct Names {
     codes: Vec<Code>,
     index: Index,
+}
+
+impl Drop for Names {
+    // Written out, so that who lets names go cites this proof.
+    fn drop(self) {
+        let Names {
+            codes: _codes,
+            index: _index,
+        } = self;
+    }
 }
 
 impl Model for Names {

@@ -18,10 +18,19 @@ use std::alloc::Global;
 use std::marker::Model;
 
 /// A sound network, with an order of its events and the activities at each of them.
-#[derive(Drop)]
 pub struct Net {
     graph: Graph,
     order: Vec<u32>,
+}
+
+impl Drop for Net {
+    // Written out, so that who lets a network go cites this proof.
+    fn drop(self) {
+        let Net {
+            graph: _graph,
+            order: _order,
+        } = self;
+    }
 }
 
 impl Model for Net {

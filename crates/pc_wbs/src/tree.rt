@@ -14,13 +14,25 @@ use std::alloc::Global;
 use std::marker::Model;
 
 /// A tree of items, each named by its row. In contracts it is its rows.
-#[derive(Drop)]
 pub struct Tree {
     rows: Vec<ItemRow>,
     levels: Vec<u32>,
     depth: u32,
     firsts: Vec<Option<u32>>,
     order: Vec<u32>,
+}
+
+impl Drop for Tree {
+    // Written out, so that who lets a tree go cites this proof.
+    fn drop(self) {
+        let Tree {
+            rows: _rows,
+            levels: _levels,
+            depth: _depth,
+            firsts: _firsts,
+            order: _order,
+        } = self;
+    }
 }
 
 impl Model for Tree {
