@@ -138,7 +138,8 @@ pub fn read_date<F: Fields>(fields: &F, number: u8) -> Result<Day, Misfit>
 pub fn read_amount<F: Fields>(fields: &F, number: u8, least: u64, most: u64) -> Result<u64, Misfit>
     ensures value { IfOk result (λ amount. amount ≡ number_in (field_numbered (F.fields fields.now) number)) }
     ensures fit { OnOk result (Fits (form.Number least most) (field_numbered (F.fields fields.now) number)) }
-    ensures misfit { IfErr result (IsMisfit number (form.Number least most) (field_numbered (F.fields fields.now) number)) }
+    ensures misfit { IfErr result (IsMisfit number (form.Number least most)
+        (field_numbered (F.fields fields.now) number)) }
 {
     match read_number(field_numbered(fields, number)) {
         Some(amount) if least <= amount && amount <= most => Ok(amount),
@@ -156,7 +157,8 @@ pub fn read_amount_or_none<F: Fields>(
 ) -> Result<Option<u64>, Misfit>
     ensures value { IfOk result (λ amount. amount ≡ number_of (field_numbered (F.fields fields.now) number)) }
     ensures fit { OnOk result (Fits (form.NumberOrNone least most) (field_numbered (F.fields fields.now) number)) }
-    ensures misfit { IfErr result (IsMisfit number (form.NumberOrNone least most) (field_numbered (F.fields fields.now) number)) }
+    ensures misfit { IfErr result (IsMisfit number (form.NumberOrNone least most)
+        (field_numbered (F.fields fields.now) number)) }
 {
     let field = field_numbered(fields, number);
     match read_number(field) {
@@ -169,7 +171,8 @@ pub fn read_amount_or_none<F: Fields>(
 
 /// Whether a field is `F`, where it must be `S` or `F`.
 pub fn read_letter<F: Fields>(fields: &F, number: u8) -> Result<bool, Misfit>
-    ensures value { IfOk result (λ finished. finished ≡ bytes_eq (field_numbered (F.fields fields.now) number) (codes "F")) }
+    ensures value { IfOk result (λ finished. finished
+        ≡ bytes_eq (field_numbered (F.fields fields.now) number) (codes "F")) }
     ensures fit { OnOk result (Fits form.Letter (field_numbered (F.fields fields.now) number)) }
     ensures misfit { IfErr result (IsMisfit number form.Letter (field_numbered (F.fields fields.now) number)) }
 {

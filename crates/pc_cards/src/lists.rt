@@ -51,11 +51,13 @@ impl<C: Card> Once<C> {
     pub fn take<F: Fields>(&mut self, place: &Place, fields: &F) -> Result<(), DeckError>
         ensures kept { OnOk result (self.new ≡ Some (C.spelled place.now.row (F.fields fields.now))) }
         ensures sound { OnOk result (or_else (not_alone place.now (count_once self.old))
-            (fault_of_listed place.now (count_once self.old) C.least C.most (C.slots place.now.sort) (F.fields fields.now))
+            (fault_of_listed place.now (count_once self.old) C.least C.most (C.slots place.now.sort)
+            (F.fields fields.now))
             ≡ None) }
         ensures fault { IfErr result (Refuses
             (λ fault. or_else (not_alone place.now (count_once self.old))
-            (fault_of_listed place.now (count_once self.old) C.least C.most (C.slots place.now.sort) (F.fields fields.now))
+            (fault_of_listed place.now (count_once self.old) C.least C.most (C.slots place.now.sort)
+            (F.fields fields.now))
             ≡ Some fault)) }
     {
         let before = self.count();
@@ -121,8 +123,8 @@ impl<C: Card> Listed<C> {
         ensures sound { OnOk result (fault_of_listed place.now (length self.old) C.least C.most
             (C.slots place.now.sort) (F.fields fields.now) ≡ None) }
         ensures fault { IfErr result (Refuses
-            (λ fault. fault_of_listed place.now (length self.old) C.least C.most (C.slots place.now.sort) (F.fields fields.now)
-            ≡ Some fault)) }
+            (λ fault. fault_of_listed place.now (length self.old) C.least C.most (C.slots place.now.sort)
+            (F.fields fields.now) ≡ Some fault)) }
     {
         let card = match read_card(place, fields) {
             Ok(card) => card,

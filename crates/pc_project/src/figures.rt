@@ -21,7 +21,8 @@ pub(crate) struct Figures {
 }
 
 impl Figures {
-    /// Looks up what each card that gives figures names, as far as they have no fault, and answers the first of their faults.
+    /// Looks up what each card that gives figures names, as far as they have no fault, and answers the first of their
+    /// faults.
     pub(crate) fn look_up(&mut self, cards: &Cards) -> Result<Option<Fault>, AllocError>
         requires accounts { self.old.accounts.items ≡ [] }
         requires charges { self.old.charges.items ≡ [] }

@@ -80,8 +80,8 @@ fn plan_of(alloc: Global, cards: &Cards) -> Result<Plan, DeckError>
     }
 }
 
-/// What the cards come to around what they name, or the first fault that keeps them from making a project: one phase after
-/// another, each of which may take it that those before it found no fault, and answers its own first one.
+/// What the cards come to around what they name, or the first fault that keeps them from making a project: one phase
+/// after another, each of which may take it that those before it found no fault, and answers its own first one.
 fn frame_of(alloc: Global, cards: &Cards, numbers: &Numbers) -> Result<Frame, DeckError>
     requires { AreNumbersOf cards.now numbers.now }
     ensures makes { OnOk result (MakesProject cards.now) }
@@ -127,7 +127,8 @@ fn frame_of(alloc: Global, cards: &Cards, numbers: &Numbers) -> Result<Frame, De
     }
 }
 
-/// The lists of a project with sound figures, or the first fault of its pieces, or else of the terms of time (F33 to F36).
+/// The lists of a project with sound figures, or the first fault of its pieces, or else of the terms of time (F33 to
+/// F36).
 fn lists_of(alloc: Global, cards: &Cards, numbers: &Numbers) -> Result<Lists, DeckError>
     requires plan { HasSoundPlan cards.now }
     requires figures { HasSoundFigures cards.now }

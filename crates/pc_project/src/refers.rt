@@ -26,7 +26,8 @@ pub(crate) trait Refers: Copy {
         ensures first { IfErr result (IsFirst (HasFault cards.now self.now)) };
 }
 
-/// Looks up what each of the cards names, by numbers, as far as they have no fault, and answers the first of their faults.
+/// Looks up what each of the cards names, by numbers, as far as they have no fault, and answers the first of their
+/// faults.
 pub(crate) fn look_up_all<C: Refers>(
     cards: &Cards,
     list: &[C],

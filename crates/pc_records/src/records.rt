@@ -7,7 +7,8 @@ use std::alloc::AllocError;
 
 /// A text that takes records, one behind the other, whatever writes it.
 ///
-/// Who puts records by this trait knows nothing of how they are written: no library above it carries the interface of `csv`.
+/// Who puts records by this trait knows nothing of how they are written: no library above it carries the interface of
+/// `csv`.
 pub trait Records {
     // The text so far.
     ghost text: { Self → List ℕ };

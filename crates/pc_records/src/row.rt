@@ -19,9 +19,7 @@ pub struct Row {
 impl Drop for Row {
     // Written out, so that who lets a row go cites this proof.
     fn drop(self) {
-        let Row {
-            fields: _fields,
-        } = self;
+        let Row { fields: _fields } = self;
     }
 }
 

@@ -1,7 +1,7 @@
 //! The table of the forms: what the words can ask for, and what answers it.
 //!
-//! A form has a variant of `Form`, its name in `usage`, and a line in `of_one_word` or `of_two_words`, and in `answer`; the
-//! rest of it is in a file of its own.
+//! A form has a variant of `Form`, its name in `usage`, and a line in `of_one_word` or `of_two_words`, and in `answer`;
+//! the rest of it is in a file of its own.
 ghost use Rattle.std.specs.Prelude.{◌≡◌, [], ◌∷◌, IfNone, IfSome};
 ghost use Rattle.pert_cli.specs.FormDeck.{ReadsSource, sort_of};
 ghost use Rattle.pert_cli.specs.Forms.{IsAskedBy, IsNumbered};
