@@ -17,7 +17,7 @@ use std::sync::ledger::Blank;
 use thiserror::Error;
 
 /// Why a certificate was not written, or not whole.
-#[derive(Clone, Copy, Debug, PartialEq, Eq, Hash, Error)]
+#[derive(Clone, Copy, Debug, Error)]
 pub enum CertifyError {
     #[error("the certificate could not be written")]
     WriteFault,

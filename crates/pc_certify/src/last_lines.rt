@@ -14,7 +14,7 @@ use std::alloc::{AllocError, Global};
 const FLOWS_ROOM: usize = MAX_FLOWS * NUMBER_ROOM;
 
 /// The line of an event: what it says, and how it is spelled.
-#[derive(Debug, Drop)]
+#[derive(Drop)]
 pub struct EventRow {
     pub(crate) time: u64,
     pub(crate) moves: bool,
@@ -22,7 +22,7 @@ pub struct EventRow {
 }
 
 /// The line of an activity: its duration and its whole flow, which makes the flows that the line says, and how it is spelled.
-#[derive(Debug, Drop)]
+#[derive(Drop)]
 pub struct ActRow {
     pub(crate) duration: u64,
     pub(crate) whole: u64,

@@ -20,7 +20,7 @@ pub(crate) const NUMBER_ROOM: usize = 21;
 const SHORT: usize = 32;
 
 /// A line and its end, word by word.
-#[derive(Debug, Drop)]
+#[derive(Drop)]
 pub struct Spelling {
     cells: [u8; ROOM],
     len: usize,

@@ -15,7 +15,7 @@ pub use limits::{
 };
 
 /// An activity's place in the network: the events where it begins and ends, numbered in card order from 0.
-#[derive(Clone, Copy, Debug, PartialEq, Eq, Hash)]
+#[derive(Clone, Copy)]
 pub struct Arc {
     pub from: u32,
     pub to: u32,
@@ -25,7 +25,7 @@ pub struct Arc {
 ///
 /// The activity costs `cost` at its normal duration, and `slope` more for each unit by which it is shortened; where
 /// its cost has further pieces, `slope` holds for the first of these units alone.
-#[derive(Clone, Copy, Debug, PartialEq, Eq, Hash)]
+#[derive(Clone, Copy, Debug, PartialEq, Eq)]
 pub struct Term {
     pub normal: u64,
     pub crash: u64,
@@ -37,7 +37,7 @@ pub struct Term {
 ///
 /// The pieces of an activity follow one another in their order, below the units to which its own slope applies, down to
 /// its crash duration.
-#[derive(Clone, Copy, Debug, Default, PartialEq, Eq, Hash)]
+#[derive(Clone, Copy, Default)]
 pub struct PieceRow {
     pub activity: u32,
     pub units: u64,
@@ -45,7 +45,7 @@ pub struct PieceRow {
 }
 
 /// A knee of an activity's cost: a duration, in units, and by how much a unit less costs more below it than above.
-#[derive(Clone, Copy, Debug, PartialEq, Eq, Hash)]
+#[derive(Clone, Copy, Debug, PartialEq, Eq)]
 pub struct Knee {
     pub at: u64,
     pub rise: u64,
@@ -56,7 +56,7 @@ pub struct Knee {
 ///
 /// A project of length L costs `overhead` · L for its time, and `penalty` more for each unit by which L is above the target,
 /// or `bonus` less for each unit by which it is below. Each number is at most `MAX_TERMS`, and the bonus at most the penalty.
-#[derive(Clone, Copy, Debug, PartialEq, Eq, Hash)]
+#[derive(Clone, Copy)]
 pub struct TimeTerms {
     pub overhead: u64,
     /// The length, in units, from which on an end is late.

@@ -102,7 +102,8 @@ impl Names {
 
     /// The codes, in order.
     pub fn as_slice(&self) -> &[Code]
-        ensures { result.now ≡ self.now }
+        ensures codes { result.now ≡ self.now }
+        ensures apart { IsNamedOnce result.now }
     {
         self.codes.as_slice()
     }

@@ -19,7 +19,7 @@ pub const PAGE_ROOM: usize = STREAM_ROOM;
 /// nothing more is pushed, and `finish` answers the failure.
 ///
 /// All pieces of one text go to one sink, which is lent at each of them.
-#[derive(Debug, Drop)]
+#[derive(Drop)]
 pub struct Page {
     bytes: Vec<u8>,
     room: usize,

@@ -24,7 +24,7 @@ pub fn rollup(alloc: Global, tree: &Tree, leaf_amounts: &[i64]) -> Result<Vec<i6
 }
 
 /// An amount that stands on an item, as an account's budget does.
-#[derive(Clone, Copy, Debug, PartialEq, Eq)]
+#[derive(Clone, Copy)]
 pub struct Placed {
     pub item: u32,
     pub amount: i64,

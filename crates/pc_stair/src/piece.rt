@@ -7,7 +7,7 @@ use pc_model::Knee;
 
 /// The units of flow that run on arcs of one length, which is in units of time: those from `below` up to but not with
 /// `above`, numbered from 0. The units on the crash duration have no end, and `above` is then `u64::MAX`.
-#[derive(Clone, Copy, Debug, PartialEq, Eq, Hash)]
+#[derive(Clone, Copy, Debug, PartialEq, Eq)]
 pub struct Piece {
     pub length: u64,
     pub below: u64,

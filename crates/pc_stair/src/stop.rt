@@ -7,7 +7,7 @@ use crate::piece::piece_of;
 use pc_model::Knee;
 
 /// After how many units of a change of its gap an activity stops, and by how many units its flow may change there.
-#[derive(Clone, Copy, Debug, PartialEq, Eq, Hash)]
+#[derive(Clone, Copy, Debug, PartialEq, Eq)]
 pub struct Stop {
     pub after: u64,
     pub room: u64,
