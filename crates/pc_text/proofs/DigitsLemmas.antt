@@ -58,6 +58,32 @@ last {most} {n} {rest} {start} {cells} w few =
     written start (48 + rest) cells some (omega (arith, w.within, w.full))
     ∙ sym (w.whole ∙ ap (λ front. front ++ drop start cells) (decimal_digit rest few))
 
+-- there is room for two digits
+pub room_for_two : {most n rest start : ℕ} {cells : List ℕ} → IsWritten most n rest start cells → rest < 10 ^ 64 → 10 ≤ rest → 2 ≤ start
+room_for_two {start = start} w small more =
+    let behind : 1 ≤ start - 1 = room_left (next w small more) (omega arith) in
+    omega arith
+
+-- two digits that are written are the last two of the rest
+pub next_two : {most n rest start : ℕ} {cells : List ℕ} → IsWritten most n rest start cells → rest < 10 ^ 64 → 100 ≤ rest →
+    IsWritten most n (rest / 100) (start - 2) (set (set cells (start - 1) (48 + rest % 100 % 10)) (start - 2) (48 + rest % 100 / 10))
+next_two {rest = rest} {start = start} w small more =
+    let less : rest / 100 ≡ rest / 10 / 10 = omega arith in
+    let before : start - 2 ≡ start - 1 - 1 = omega arith in
+    let one : rest % 100 % 10 ≡ rest % 10 = omega arith in
+    let ten : rest % 100 / 10 ≡ rest / 10 % 10 = omega arith in
+    rw (less, before, one, ten) (next (next w small (omega arith)) (omega arith) (omega arith))
+
+-- a rest of one digit ends the work, and so does one of two
+pub last_one : {most n rest start : ℕ} {cells : List ℕ} → IsWritten most n rest start cells → rest < 10 → drop (start - 1) (set cells (start - 1) (48 + rest % 10)) ≡ decimal n
+last_one {rest = rest} w few =
+    let one : rest % 10 ≡ rest = omega arith in
+    rw one (last w few)
+
+pub last_two : {most n rest start : ℕ} {cells : List ℕ} → IsWritten most n rest start cells → 10 ≤ rest → rest < 100 →
+    drop (start - 1 - 1) (set (set cells (start - 1) (48 + rest % 10)) (start - 1 - 1) (48 + rest / 10)) ≡ decimal n
+last_two w more few = last (next w (omega arith) more) (omega arith)
+
 -- fewer than 20 digits leave a cell before them
 pub room_for_sign : (n start : ℕ) (cells : List ℕ) → n < 10 ^ 19 → length cells ≡ 20 → start ≤ 20 → drop start cells ≡ decimal n → 1 ≤ start
 room_for_sign n start cells small full within whole =

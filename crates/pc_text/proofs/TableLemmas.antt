@@ -1,7 +1,7 @@
 -- The table of the bytes of codes is held against the definition at each of the 256 bytes, by computing.
-use Rattle.std.proofs.Common.{◌≡◌, ℕ, zero, suc, ◌<◌, Bool, true, false, ◌&&◌, not, nat_eq, get_or, List, refl, arith, inl, inr}
+use Rattle.std.proofs.Common.{◌≡◌, ℕ, zero, suc, ◌+◌, ◌*◌, ◌/◌, ◌%◌, ◌<◌, Bool, true, false, ◌&&◌, not, nat_eq, if◌then◌else◌, get_or, List, refl, arith, inl, inr}
 use Rattle.std.specs.Bool.{beq}
-use Rattle.std.proofs.lemmas.Bool.{cases_eq}
+use Rattle.std.proofs.lemmas.Bool.{cases_eq, eqb-true}
 use Rattle.pc_text.specs.Code.{is_code_byte}
 
 -- the two tests agree below n
@@ -27,3 +27,21 @@ pub from_table : (table : List ℕ) (b : ℕ) → b < 256
     → agree_below (λ k. not (nat_eq (get_or table k 0) 44)) is_code_byte 256 ≡ true
     → not (nat_eq (get_or table b 0) 44) ≡ is_code_byte b
 from_table table b lt h = agree_at _ _ 256 h b lt
+
+-- the same table has the byte itself where it may stand in a code, and a comma elsewhere
+pub byte_from : (table : List ℕ) (b : ℕ) → b < 256
+    → agree_below (λ k. nat_eq (get_or table k 0) (if is_code_byte k then k else 44)) (λ k. true) 256 ≡ true
+    → get_or table b 0 ≡ (if is_code_byte b then b else 44)
+byte_from table b lt h = eqb-true _ _ (agree_at _ (λ k. true) 256 h b lt)
+
+-- a table of two digits for each number below 100 has the first of them at an even place
+pub tens_from : (table : List ℕ) (n : ℕ) → n < 100
+    → agree_below (λ k. nat_eq (get_or table (2 * k) 0) (48 + k / 10)) (λ k. true) 100 ≡ true
+    → get_or table (2 * n) 0 ≡ 48 + n / 10
+tens_from table n lt h = eqb-true _ _ (agree_at _ (λ k. true) 100 h n lt)
+
+-- and the second behind it
+pub ones_from : (table : List ℕ) (n : ℕ) → n < 100
+    → agree_below (λ k. nat_eq (get_or table (2 * k + 1) 0) (48 + k % 10)) (λ k. true) 100 ≡ true
+    → get_or table (2 * n + 1) 0 ≡ 48 + n % 10
+ones_from table n lt h = eqb-true _ _ (agree_at _ (λ k. true) 100 h n lt)

@@ -1,5 +1,5 @@
 //! Codes: the short names of projects, events, items, activities and accounts.
-ghost use Rattle.std.specs.Prelude.{◌≡◌, ◌≤◌, [], ◌∷◌, IsTrue, Some, refl, nat_eq, length};
+ghost use Rattle.std.specs.Prelude.{◌≡◌, ◌≤◌, [], ◌∷◌, IsTrue, Some, if◌then◌else◌, refl, not, nat_eq, length};
 ghost use Rattle.std.specs.Ordering.{nat_cmp};
 ghost use Rattle.std.specs.Cmp.{partial_equiv_from_equiv};
 ghost use Rattle.std.specs.Cmp.Lexicographic.{pointwise, slice_cmp, nat_list_eq_equiv, nat_list_cmp_total, texts_ties, texts_po};
@@ -118,21 +118,39 @@ fn has_code_bytes(field: &[u8]) -> bool
     field.iter().all(|byte| is_code_byte(*byte))
 }
 
-/// The bytes with zeros behind them, where each may stand in a code. One pass tests and copies them.
+/// The bytes with zeros behind them, where each may stand in a code.
 fn cells_of(field: &[u8]) -> Option<[u8; LIMIT]>
     requires { length field.now ≤ 16 }
     ensures { result ≡ cells_of field.now }
 {
     let mut cells = [0; LIMIT];
-    // One count for both, since nearly all that a deck has goes through here.
+    // No early end: what may not stand in a code is a comma in the cells, and these are tested all at once.
     for i in 0..field.len() {
-        let byte = field[i];
-        if !is_code_byte(byte) {
-            return None;
-        }
-        cells[i] = byte;
+        cells[i] = code_byte(field[i]);
     }
-    Some(cells)
+    if has_no_comma(&cells) {
+        Some(cells)
+    } else {
+        None
+    }
+}
+
+/// The byte where it may stand in a code, and a comma where it may not.
+fn code_byte(byte: u8) -> u8
+    ensures { result ≡ (if is_code_byte byte then byte else 44) }
+{
+    CODE_BYTES[byte as usize]
+}
+
+/// Whether none of the cells is a comma.
+fn has_no_comma(cells: &[u8; LIMIT]) -> bool
+    ensures { result ≡ list_all (λ cell. not (nat_eq cell 44)) cells.now }
+{
+    let mut has_no_comma = true;
+    for cell in cells {
+        has_no_comma = has_no_comma & (*cell != b',');
+    }
+    has_no_comma
 }
 
 /// Whether the cells of two codes are the same.

@@ -1,5 +1,5 @@
 //! The decimal form of a number, in the value itself.
-ghost use Rattle.std.specs.Prelude.{◌≡◌, ◌≤◌, decimal, length};
+ghost use Rattle.std.specs.Prelude.{◌≡◌, ◌+◌, ◌<◌, ◌≤◌, ◌/◌, ◌%◌, decimal, length};
 ghost use Rattle.std.specs.Fmt.{signed_decimal};
 
 use std::marker::Model;
@@ -39,25 +39,56 @@ impl<const N: usize> Decimal<N> {
     }
 }
 
-/// The decimal form of a number without a sign, which takes at most so many bytes. It is divided as numbers of its own type are.
+/// The two digits of each number below 100, from 00 on.
+static PAIRS: [u8; 200] = *b"\
+    0001020304050607080910111213141516171819\
+    2021222324252627282930313233343536373839\
+    4041424344454647484950515253545556575859\
+    6061626364656667686970717273747576777879\
+    8081828384858687888990919293949596979899";
+
+/// The first of the two digits of a number.
+fn tens(number: usize) -> u8
+    requires { number < 100 }
+    ensures { result ≡ 48 + number / 10 }
+{
+    PAIRS[2 * number]
+}
+
+/// The second of the two digits of a number.
+fn ones(number: usize) -> u8
+    requires { number < 100 }
+    ensures { result ≡ 48 + number % 10 }
+{
+    PAIRS[2 * number + 1]
+}
+
+/// The decimal form of a number without a sign, which takes at most so many bytes. It is divided as numbers of its own type are, and
+/// two digits at a time.
 macro_rules! unsigned {
     ($n:expr, $most:expr) => {{
         let mut cells = [0; $most];
         let mut start = $most;
         let mut rest = $n;
-        while rest >= 10 {
-            start -= 1;
-            cells[start] = b'0' + (rest % 10) as u8;
-            rest /= 10;
+        while rest >= 100 {
+            let pair = (rest % 100) as usize;
+            rest /= 100;
+            cells[start - 1] = ones(pair);
+            cells[start - 2] = tens(pair);
+            start -= 2;
         }
+        let pair = rest as usize;
         start -= 1;
-        cells[start] = b'0' + rest as u8;
+        cells[start] = ones(pair);
+        if rest >= 10 {
+            start -= 1;
+            cells[start] = tens(pair);
+        }
         Decimal { cells, start }
     }};
 }
 
 /// The decimal form of a number.
-#[tactic(auto, using(crate::proofs::DigitsLemmas::room_left, crate::proofs::DigitsLemmas::last))]
 pub(crate) fn of_unsigned(n: u64) -> Decimal<MOST>
     ensures { result ≡ decimal n }
 {
@@ -65,7 +96,6 @@ pub(crate) fn of_unsigned(n: u64) -> Decimal<MOST>
 }
 
 /// The decimal form of a number that may be too great for 64 bits.
-#[tactic(auto, using(crate::proofs::DigitsLemmas::room_left, crate::proofs::DigitsLemmas::last))]
 pub(crate) fn of_wide(n: u128) -> Decimal<MOST_WIDE>
     ensures { result ≡ decimal n }
 {

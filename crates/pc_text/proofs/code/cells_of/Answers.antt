@@ -1,15 +1,19 @@
-use Rattle.std.proofs.Common.{ap, sym, ◌∙◌}
-use Rattle.pc_text.specs.Code.{is_code_byte}
-use Rattle.pc_text.proofs.CodeLemmas.{one_more_copied, others_decide}
-use Rattle.std.proofs.Common.{set, get_or}
+use Rattle.std.proofs.Common.{◌≡◌, ◌∙◌, true, false, length, sym, arith}
+use Rattle.pc_text.proofs.CodeLemmas.{one_more_looked_up, looked_through}
 use Rattle.pc_text.proofs.code.cells_of.Goals as goal
 
 pub loop-i-preserved : goal.loop-i-preserved
 loop-i-preserved c =
     let field = c.args.field.now in
     let i = c.loop-i.i in
-    let below = c.loop-i-test.true in
-    let passes = sym c.is_code_byte.ensures ∙ c.if-not-is_code_byte.false in (
-      ap (λ cells. set cells i (get_or field i 0)) c.loop-i.invariant.0 ∙ one_more_copied field i below c.requires,
-      others_decide is_code_byte field i below passes ∙ c.loop-i.invariant.1,
-    )
+    rw (c.code_byte.ensures, c.loop-i.invariant) (one_more_looked_up field i c.loop-i-test.true c.requires)
+
+pub returns-then-has_no_comma : goal.returns-then-has_no_comma
+returns-then-has_no_comma c =
+    let end : c.loop-i.i ≡ length c.args.field.now = omega (arith, c.loop-i-test.false, c.loop-i.auto.i-end) in
+    looked_through c.args.field.now c.loop-i.cells c.loop-i.i true c.loop-i.invariant end (sym c.if-has_no_comma.true ∙ c.has_no_comma.ensures)
+
+pub returns-else-has_no_comma : goal.returns-else-has_no_comma
+returns-else-has_no_comma c =
+    let end : c.loop-i.i ≡ length c.args.field.now = omega (arith, c.loop-i-test.false, c.loop-i.auto.i-end) in
+    looked_through c.args.field.now c.loop-i.cells c.loop-i.i false c.loop-i.invariant end (sym c.if-has_no_comma.false ∙ c.has_no_comma.ensures)
