@@ -1,7 +1,9 @@
 -- The first fault of the cards that a loop has passed.
 use Rattle.std.proofs.Common.{◌≡◌, ℕ, ◌+◌, ◌<◌, ◌≤◌, List, [], length, get_or, take, map, ◌∷◌, ◌++◌, Option, Some, None, sym, ap, ◌∙◌, inl, inr, subst}
 use Rattle.std.specs.List.{Any}
+use Rattle.std.specs.Prelude.{All}
 use Rattle.std.proofs.lemmas.List.{take_all, take_more, map_push}
+use Rattle.std.proofs.lemmas.List.Elements.{All-get_or}
 use Rattle.pc_faults.specs.First.{IsFirst}
 use Rattle.pc_faults.specs.declared.fault.Fault.{Fault}
 use Rattle.pc_faults.specs.inside.First.{IsFirstIn, earliest}
@@ -56,3 +58,7 @@ map_take_more f xs i x y ys within is before here =
     sym (ap (map f) (take_more xs i x within)
     ∙ (map_push f (take i xs) (get_or xs i x)
     ∙ (ap (λ z. map f (take i xs) ++ z ∷ []) (ap f (sym is) ∙ sym here) ∙ ap (λ zs. zs ++ y ∷ []) (sym before))))
+
+-- what holds of all cards holds of the one that stands at a place
+pub held_by_card : {X : Type 0} (P : X → Type 0) (xs : List X) (i : ℕ) (x : X) → i < length xs → x ≡ get_or xs i x → All P xs → P x
+held_by_card P xs i x within is all = subst P (sym is) (All-get_or P xs i x within all)

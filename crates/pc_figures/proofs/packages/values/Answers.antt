@@ -11,6 +11,9 @@ use Rattle.pc_figures.specs.inside.Packages.{IsProgress, progress_at}
 use Rattle.pc_figures.proofs.ValueLaws.{value_is, values_more, values_all, values_small, values_fit}
 use Rattle.pc_figures.proofs.packages.values.Goals as goal
 
+pub index-requires : goal.index-requires
+index-requires c = omega (arith, c.requires.on_items c.loop-a.a c.loop-a-test.true, c.in_ok-progress.ensures.one_each, c.in_ok-progress.progress.ok.0)
+
 pub loop-a-preserved : goal.loop-a-preserved
 loop-a-preserved c =
     let a = c.loop-a.a in

@@ -6,6 +6,21 @@ use Rattle.pc_net.proofs.LabelLaws.{apart_off_cycle}
 use Rattle.pc_net.proofs.SearchLaws.{off_cycle, way_round, IsFirstCycle-from_round}
 use Rattle.pc_net.proofs.cycle.first_cycle.Goals as goal
 
+pub index-requires : goal.index-requires
+index-requires c = omega (arith, c.from.ensures.known, c.in_ok-labels.ensures.sized, c.in_ok-labels.labels.ok.0)
+
+pub index-requires-in-loop-a : goal.index-requires-in-loop-a
+index-requires-in-loop-a c = omega (arith, c.to.ensures.known, c.in_ok-labels.ensures.sized, c.in_ok-labels.labels.ok.0)
+
+pub search-requires-clause-sized : goal.search-requires-clause-sized
+search-requires-clause-sized c = c.loop-a.invariant.0
+
+pub search-requires-clause-few : goal.search-requires-clause-few
+search-requires-clause-few c = omega (arith, c.loop-a.invariant.0, c.events.ensures.events, c.events.ensures.limit)
+
+pub index-requires-in-loop-a-2 : goal.index-requires-in-loop-a-2
+index-requires-in-loop-a-2 c = omega (arith, c.to-in-loop-a.ensures.known, c.search.ensures.sized)
+
 pub loop-a-preserved-then-index : goal.loop-a-preserved-then-index
 loop-a-preserved-then-index c =
     let arcs = c.args.graph.now.arcs in

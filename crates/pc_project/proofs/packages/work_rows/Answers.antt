@@ -1,6 +1,7 @@
 use Rattle.std.proofs.Common.{◌<◌, ◌∙◌, length, map, ap, arith}
-use Rattle.std.proofs.lemmas.List.{take_all}
+use Rattle.std.proofs.lemmas.List.{length-map, take_all}
 use Rattle.pc_project.specs.Project.{work_of}
+use Rattle.pc_project.specs.inside.Project.{placement_of}
 use Rattle.pc_project.proofs.BranchLaws.{act_work}
 use Rattle.pc_project.proofs.LoopLaws.{map_take_more}
 use Rattle.pc_project.proofs.packages.work_rows.Goals as goal
@@ -20,3 +21,8 @@ returns c =
     let deck = c.args.cards.now in
     c.loop-a.invariant
     ∙ ap (map (work_of deck)) (take_all c.loop-a.a deck.acts (omega (arith, c.loop-a-test.false, ap length c.acts-acts.ensures.cards)))
+
+pub bounds-placements-a : goal.bounds-placements-a
+bounds-placements-a c =
+    let deck = c.args.cards.now in
+    omega (arith, ap length c.requires, length-map deck.acts (placement_of deck), c.loop-a-test.true, ap length c.acts-acts.ensures.cards)

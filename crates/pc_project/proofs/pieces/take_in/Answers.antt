@@ -1,4 +1,4 @@
-use Rattle.std.proofs.Common.{◌≡◌, ◌<◌, ℕ, List, length, get_or, map, sym, ap, ◌∙◌, subst, arith}
+use Rattle.std.proofs.Common.{◌≡◌, ◌<◌, ℕ, List, length, get_or, map, slice_set, sym, ap, ◌∙◌, subst, arith}
 use Rattle.std.proofs.lemmas.List.{get_or-map, get_or_read, length-map}
 use Rattle.pc_deck.specs.declared.kinds.act.ActCard.{ActCard}
 use Rattle.pc_model.specs.declared.Term.{Term}
@@ -6,7 +6,7 @@ use Rattle.pc_model.specs.Schedule.{term_at}
 use Rattle.pc_faults.specs.inside.First.{IsFirstIn}
 use Rattle.pc_project.specs.PieceFaults.{HasFlaw}
 use Rattle.pc_project.specs.Project.{term_of}
-use Rattle.pc_project.specs.inside.Runs.{run_at}
+use Rattle.pc_project.specs.inside.Runs.{run_at, run_with}
 use Rattle.pc_project.specs.declared.pieces.Run.{Run}
 use Rattle.pc_project.proofs.pieces.take_in.Goals as goal
 
@@ -40,3 +40,15 @@ returns-clause-fault c =
     subst (λ (r : Run). IsFirstIn (HasFlaw (term_at (map term_of acts) piece.activity) r.count r.slope r.units piece card.row card.activity) c.flaw-fault.result) run
     (subst (λ t. IsFirstIn (HasFlaw t c.index-run.result.now.count c.index-run.result.now.slope c.index-run.result.now.units piece card.row
     card.activity) c.flaw-fault.result) term c.flaw-fault.ensures)
+
+pub index-run-requires : goal.index-run-requires
+index-run-requires c = omega (arith, c.requires.known, c.requires.one_each)
+
+pub index_mut-requires : goal.index_mut-requires
+index_mut-requires c = omega (arith, c.requires.known, c.requires.one_each)
+
+pub returns-clause-runs : goal.returns-clause-runs
+returns-clause-runs c =
+    let piece = c.args.piece in
+    let run = run_read c.args.runs.now.items piece.activity c.index-run.result.now (omega (arith, c.requires.known, c.requires.one_each)) c.index-run.ensures in
+    ap (λ (r : Run). slice_set c.args.runs.now.items piece.activity (run_with r piece)) run

@@ -52,3 +52,9 @@ returns-clause-variances c =
     c.in_ok-self-6.ensures
     ∙ (ap (map (λ act. variance_of act.opt act.pess c.project.result.now.unit_days)) c.acts-acts.ensures.cards
     ∙ ap (λ (card : ProjectCard). map (λ act. variance_of act.opt act.pess card.unit_days) c.args.cards.now.acts) c.project.ensures.card)
+
+pub returns-clause-events : goal.returns-clause-events
+returns-clause-events c = c.in_ok-self.ensures
+
+pub returns-clause-activities : goal.returns-clause-activities
+returns-clause-activities c = c.in_ok-self-2.ensures

@@ -34,3 +34,6 @@ returns-clause-lists c = λ none.
       loads = c.in_ok-load.ensures.numbers of_parts.1 ∙ ap (map (load_of deck)) c.loads.ensures.cards;
       figures = c.in_ok-figure.ensures.figures both.1;
     }
+
+pub returns-clause-within : goal.returns-clause-within
+returns-clause-within c = c.acts.ensures.within
