@@ -5,10 +5,11 @@ use Rattle.std.specs.Prelude.{slice_index}
 use Rattle.std.proofs.lemmas.Bool.{cases_eq, eq-eqb, ne_eqb}
 use Rattle.std.proofs.Math.Seq.{take-length}
 use Rattle.std.proofs.lemmas.List.{get_or_default}
+use Rattle.pc_model.specs.Greatest.{IsFirst}
 use Rattle.pc_model.specs.declared.limits.TheConstants.{MAX_COST, MAX_ACTIVITIES}
 use Rattle.pc_accounts.specs.declared.rows.AcctRow.{AcctRow}
 use Rattle.pc_accounts.specs.declared.rows.WorkRow.{WorkRow}
-use Rattle.pc_accounts.specs.Amounts.{AreBudgets}
+use Rattle.pc_accounts.specs.Amounts.{AreBudgets, item_of, budget_of}
 use Rattle.pc_accounts.specs.Packages.{budgets_of, costs_of, work_at, IsUneven}
 use Rattle.pc_accounts.specs.inside.Packages.{AreWork}
 use Rattle.pc_accounts.specs.inside.Parts.{option_at, AreBudgetSums, CostBelow, AreCostSums}
@@ -19,6 +20,34 @@ pub budgets_fit : (items : ℕ) (accounts : List AcctRow) (i item : ℕ) (sums :
     AreBudgetSums items accounts i sums → i ≤ length accounts → item < items → slice_index sums item ≤ i * MAX_COST
 budgets_fit items accounts i item sums small so_far within lt =
     omega (arith, so_far.each item lt, part_le (λ (row : AcctRow). row.budget) (λ row. row.item == item) accounts (record { item = 0; budget = 0 }) MAX_COST i within small)
+
+-- an account's budget is added to its item
+pub AreBudgetSums-more : (items : ℕ) (accounts : List AcctRow) (i : ℕ) (sums : List ℕ) → item_of accounts i < items →
+    AreBudgetSums items accounts i sums → i < length accounts →
+    AreBudgetSums items accounts (i + 1) (set sums (item_of accounts i) (slice_index sums (item_of accounts i) + budget_of accounts i))
+AreBudgetSums-more items accounts i sums known so_far h = record {
+  one_each = length-set sums own _ ∙ so_far.one_each;
+  each = λ item lt. ⊎_elim (λ e. subst (λ k. slice_index (set sums own sum) k ≡ budgets_of (take (i + 1) accounts) k) e here) (λ ne. there item lt ne) (cases_eq own item);
+}
+  where
+    own : ℕ
+    own = item_of accounts i
+
+    sum : ℕ
+    sum = slice_index sums own + budget_of accounts i
+
+    more : (item : ℕ) → budgets_of (take (i + 1) accounts) item ≡ budgets_of (take i accounts) item + cond (own == item) (budget_of accounts i) 0
+    more item = part_more (λ (row : AcctRow). row.budget) (λ row. row.item == item) accounts i (record { item = 0; budget = 0 }) h
+
+    here : slice_index (set sums own sum) own ≡ budgets_of (take (i + 1) accounts) own
+    here =
+        let put : slice_index (set sums own sum) own ≡ sum = get_or-set_same sums own sum 0 (omega (arith, known, so_far.one_each)) in
+        omega (arith, put, so_far.each own known, more own, ap (λ (b : Bool). cond b (budget_of accounts i) 0) (eq-eqb own own refl))
+
+    there : (item : ℕ) → item < items → own ≢ item → slice_index (set sums own sum) item ≡ budgets_of (take (i + 1) accounts) item
+    there item lt ne =
+        let other : slice_index (set sums own sum) item ≡ slice_index sums item = get_or-set_other sums own item sum 0 (λ e. ne (sym e)) in
+        omega (arith, other, so_far.each item lt, more item, ap (λ (b : Bool). cond b (budget_of accounts i) 0) (ne_eqb own item ne))
 
 -- one activity more
 cost_more : (work : List WorkRow) (item i : ℕ) → i < length work → costs_of (take (i + 1) work) item ≡ costs_of (take i work) item + cond ((work_at work i).item == item) (work_at work i).cost 0
@@ -98,3 +127,16 @@ even_here accounts work items i budgets costs o sum a b lt read read_sum same ((
     by_option (Some cost) is =
         let has : CostBelow work i (length work) (Some cost) = subst (CostBelow work i (length work)) is cost_at in
         differ (sym budget_at ∙ sym (same cost is) ∙ has.1 ∙ ap (λ (xs : List WorkRow). costs_of xs i) (take-length work))
+
+-- an item whose sums were read and differ is the first uneven one, where none before it is
+pub uneven_here : (accounts : List AcctRow) (work : List WorkRow) (items i : ℕ) (budgets : List ℕ) (costs : List (Option ℕ)) (sum cost : ℕ) →
+    AreBudgetSums items accounts (length accounts) budgets → AreCostSums items work (length work) costs → i < items →
+    Some cost ≡ get_or costs i (Some cost) → sum ≡ get_or budgets i sum → cost ≢ sum → ((j : ℕ) → j < i → IsUneven accounts work j → ⊥) →
+    IsFirst (IsUneven accounts work) i × (sum ≡ budgets_of accounts i) × (cost ≡ costs_of work i)
+uneven_here accounts work items i budgets costs sum cost a b lt read read_sum differ first =
+    let at : option_at costs i ≡ Some cost = get_or_default costs i None (Some cost) (omega (arith, b.one_each)) ∙ sym read in
+    let has : CostBelow work i (length work) (Some cost) = subst (CostBelow work i (length work)) at (b.each i lt) in
+    let spent : cost ≡ costs_of work i = has.1 ∙ ap (λ (xs : List WorkRow). costs_of xs i) (take-length work) in
+    let there : slice_index budgets i ≡ sum = get_or_default budgets i 0 sum (omega (arith, a.one_each)) ∙ sym read_sum in
+    let given : sum ≡ budgets_of accounts i = sym there ∙ a.each i lt ∙ ap (λ (xs : List AcctRow). budgets_of xs i) (take-length accounts) in
+    (record { holds = ((has.0.0, has.0.1.0, has.0.1.1), λ same. differ (spent ∙ sym same ∙ sym given)); first = first }, given, spent)

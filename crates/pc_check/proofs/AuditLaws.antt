@@ -101,3 +101,18 @@ pub less_behind_line : (old new : Auditing) → IsGoing old → lines_left new.c
 less_behind_line old new going less =
     let more : lines_left new.checker.net new.checker.kept + 1 ≤ lines_left old.checker.net old.checker.kept = omega arith in
     omega (arith, mul-le-mul_right 192 more, going.short)
+
+same_in_some : (p q : Place) → Some p ≡ Some q → p ≡ q
+same_in_some p q e = cc
+
+-- the reader and the checker stand at the same place, behind as many lines
+pub same_place : {text : List ℕ} {audit : Auditing} → IsGoing audit → HasRead text audit → audit.reader.place ≡ audit.checker.kept.place
+same_place {text} {audit} going h =
+    same_in_some audit.reader.place audit.checker.kept.place
+    (sym (reading audit.reader h.lines text going.well_formed h.read).led.order ∙ (checking audit.checker h.lines going.no_fail h.checked).order)
+
+pub same_count : {text : List ℕ} {audit : Auditing} → IsGoing audit → HasRead text audit → audit.reader.lines ≡ audit.checker.kept.lines
+same_count {text} {audit} going h =
+    let read = reading audit.reader h.lines text going.well_formed h.read in
+    let checked = checking audit.checker h.lines going.no_fail h.checked in
+    omega (arith, read.count, checked.count)

@@ -1,13 +1,15 @@
 -- What a yes proves.
-use Rattle.std.proofs.Common.{◌≡◌, List, length, Some, None, ap, ◌∙◌}
+use Rattle.std.proofs.Common.{◌≡◌, List, length, Some, None, ap, subst, ◌∙◌}
 use Rattle.std.specs.Prelude.{IfNone}
 use Rattle.pc_model.specs.Cost.{IsPriced}
 use Rattle.pc_cert.specs.declared.line.CertLine.{CertLine}
 use Rattle.pc_cert.specs.declared.place.Place.TheVariants.{Ended}
 use Rattle.pc_crash.specs.Priced.{knees_in}
 use Rattle.pc_check.specs.Certified.{segments_of}
-use Rattle.pc_check.specs.inside.Certified.{AreCurve}
-use Rattle.pc_check.specs.inside.Checking.{Checking, StandsFor}
+use Rattle.pc_check.specs.declared.fail.Fail.{Fail}
+use Rattle.pc_check.specs.declared.fail.Verdict.TheVariants.{No}
+use Rattle.pc_check.specs.inside.Certified.{AreCurve, Finds}
+use Rattle.pc_check.specs.inside.Checking.{Checking, Stands, StandsFor}
 use Rattle.pc_check.proofs.TakeLaws.{is_going, when_none}
 use Rattle.pc_check.proofs.GoodLines.{curve_of}
 
@@ -17,3 +19,7 @@ pub curve_at_yes : (s : Checking) (lines : List CertLine) → s.fail ≡ None �
 curve_at_yes s lines none ended priced named h =
     let going = is_going s.net s.kept s.fail lines none h in
     curve_of s.net lines priced named (record { whole = going.order ∙ ap Some (when_none s.fail none ended); none = going.none })
+
+-- what a no says
+pub finds_at_no : (s : Checking) (lines : List CertLine) (fail : Fail) → s.fail ≡ Some fail → StandsFor s lines → Finds s.net lines (No fail.line fail.reason)
+finds_at_no s lines fail is h = subst (λ f. Stands s.net s.kept f lines) is h

@@ -1,4 +1,4 @@
-use Rattle.std.proofs.Common.{◌≡◌, ◌<◌, ◌≤◌, length, set, ap, subst, ◌∙◌, arith}
+use Rattle.std.proofs.Common.{◌≡◌, ◌<◌, ◌≤◌, length, set, refl, ap, subst, ◌∙◌, arith}
 use Rattle.std.specs.Prelude.{slice_index}
 use Rattle.pc_model.specs.declared.limits.TheConstants.{MAX_ACTIVITIES}
 use Rattle.pc_model.specs.Walk.{from_of, to_of}
@@ -8,6 +8,21 @@ use Rattle.pc_check.specs.inside.Safe.{IsExchanged}
 use Rattle.pc_check.proofs.PassedLaws.{passed_with, row_read, row_renewed}
 use Rattle.pc_check.proofs.SumLaws.{sums_exchanged, is_in_sum, sum_small, cost_exchanged, cost_in_sum, cost_small}
 use Rattle.pc_check.proofs.adding.renew.Goals as goal
+
+pub index-requires : goal.index-requires
+index-requires c = omega (arith, c.requires.known, c.requires.safe.rows.one_each)
+
+pub index-requires-2 : goal.index-requires-2
+index-requires-2 c = omega (arith, c.requires.known, c.requires.safe.rows.one_each)
+
+pub index_mut-requires : goal.index_mut-requires
+index_mut-requires c = omega (arith, c.requires.known, c.requires.safe.rows.one_each)
+
+pub exchange-requires-clause-known : goal.exchange-requires-clause-known
+exchange-requires-clause-known c = omega (arith, c.to-to.ensures.known, c.requires.safe.entering, ap (λ n. n.events) c.net.ensures.network)
+
+pub exchange-requires-2-clause-known : goal.exchange-requires-2-clause-known
+exchange-requires-2-clause-known c = omega (arith, c.from-from.ensures.known, c.requires.safe.leaving, ap (λ n. n.events) c.net-2.ensures.network)
 
 pub exchange-requires-clause-there : goal.exchange-requires-clause-there
 exchange-requires-clause-there c =
@@ -75,6 +90,12 @@ overflow_add-tally c =
       ap (λ n. length n.arcs) c.net-3.ensures.network,
     ) in
     omega (arith, few, c.requires.safe.spent, cost_small c.requires.safe.rows, c.requires.passed.cheap)
+
+pub returns-clause-row : goal.returns-clause-row
+returns-clause-row c = row_renewed c.args.tally.now.acts c.args.passed c.requires.safe.rows c.requires.known
+
+pub returns-clause-rest : goal.returns-clause-rest
+returns-clause-rest c = refl
 
 pub returns-clause-safe : goal.returns-clause-safe
 returns-clause-safe c =

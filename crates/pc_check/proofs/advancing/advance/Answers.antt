@@ -1,7 +1,50 @@
-use Rattle.std.proofs.Common.{◌≤◌, length, refl, sym, ap, ◌∙◌, arith}
+use Rattle.std.proofs.Common.{◌^◌, ◌<◌, ◌≤◌, length, refl, sym, ap, subst, ◌∙◌, arith}
 use Rattle.pc_model.specs.declared.limits.TheConstants.{MAX_EVENTS, MAX_ACTIVITIES}
-use Rattle.pc_check.proofs.BoundLaws.{Passes, bounded_behind, fewer_behind, may_be_added}
+use Rattle.pc_check.specs.inside.Bounds.{IsBounded}
+use Rattle.pc_check.proofs.BoundLaws.{Passes, bounded_behind, fewer_behind, may_be_added, lines_few, lines_kept}
 use Rattle.pc_check.proofs.advancing.advance.Goals as goal
+
+pub judge-requires-clause-safe : goal.judge-requires-clause-safe
+judge-requires-clause-safe c = c.requires.safe
+
+pub judge-requires-clause-known : goal.judge-requires-clause-known
+judge-requires-clause-known c = c.requires.known
+
+pub returns-in-Some-clause-reason : goal.returns-in-Some-clause-reason
+returns-in-Some-clause-reason c = sym c.in-Some.is ∙ c.judge.ensures.reason
+
+pub returns-in-Some-clause-same : goal.returns-in-Some-clause-same
+returns-in-Some-clause-same c = c.in-Some.ensures.same
+
+pub returns-in-Some-clause-bounded : goal.returns-in-Some-clause-bounded
+returns-in-Some-clause-bounded c = subst (λ k. IsBounded c.args.net.now k) (sym c.in-Some.ensures.same) c.requires.bounded
+
+pub returns-in-Some-clause-few : goal.returns-in-Some-clause-few
+returns-in-Some-clause-few c = subst (λ k. k.lines < 2 ^ 63) (sym c.in-Some.ensures.same)
+    (lines_few c.requires.bounded (omega (arith, c.events-events.ensures.limit, c.events-events.ensures.events, ap (λ n. n.events) c.net.ensures.network))
+    (omega (arith, c.activities-activities.ensures.limit, c.activities-activities.ensures.activities, ap (λ n. length n.arcs) c.net-2.ensures.network)))
+
+pub returns-in-Some-clause-safe : goal.returns-in-Some-clause-safe
+returns-in-Some-clause-safe c = c.judge.ensures.safe
+
+pub overflow_add-kept : goal.overflow_add-kept
+overflow_add-kept c =
+    let few = lines_few c.requires.bounded (omega (arith, c.events-events.ensures.limit, c.events-events.ensures.events, ap (λ n. n.events) c.net.ensures.network))
+    (omega (arith, c.activities-activities.ensures.limit, c.activities-activities.ensures.activities, ap (λ n. length n.arcs) c.net-2.ensures.network)) in
+    omega (arith, few, lines_kept _ _ _ _ c.in-None.ensures.added)
+
+pub returns-in-None-clause-reason : goal.returns-in-None-clause-reason
+returns-in-None-clause-reason c = sym c.in-None.is ∙ c.judge.ensures.reason
+
+pub returns-in-None-clause-few : goal.returns-in-None-clause-few
+returns-in-None-clause-few c =
+    let passes : Passes c.args.net.now c.args.line.now c.args.kept.now c.args.behind = record { goes = c.requires.goes; passes = sym c.judge.ensures.reason ∙ c.in-None.is } in
+    lines_few (bounded_behind c.judge.new.kept c.requires.bounded passes c.in-None.ensures.added)
+    (omega (arith, c.events-events.ensures.limit, c.events-events.ensures.events, ap (λ n. n.events) c.net.ensures.network))
+    (omega (arith, c.activities-activities.ensures.limit, c.activities-activities.ensures.activities, ap (λ n. length n.arcs) c.net-2.ensures.network))
+
+pub returns-in-None-clause-safe : goal.returns-in-None-clause-safe
+returns-in-None-clause-safe c = c.judge.ensures.safe
 
 pub judge-requires-clause-fits : goal.judge-requires-clause-fits
 judge-requires-clause-fits c = λ none.

@@ -74,3 +74,29 @@ returns-then-not-is_between-clause-bounded c = c.requires.bounded
 
 pub returns-then-not-is_between-clause-safe : goal.returns-then-not-is_between-clause-safe
 returns-then-not-is_between-clause-safe c = c.requires.safe
+
+pub returns-then-not-is_between-clause-same_kept : goal.returns-then-not-is_between-clause-same_kept
+returns-then-not-is_between-clause-same_kept c = λ nothing. refl
+
+pub returns-then-not-is_between-clause-same_reader : goal.returns-then-not-is_between-clause-same_reader
+returns-then-not-is_between-clause-same_reader c = λ nothing. refl
+
+pub returns-then-not-is_between-clause-takes : goal.returns-then-not-is_between-clause-takes
+returns-then-not-is_between-clause-takes c = λ some. absurd (omega (arith, some))
+
+pub pass_same-used-requires-clause-times : goal.pass_same-used-requires-clause-times
+pass_same-used-requires-clause-times c = omega (arith, c.if-len-fronts.false, c.requires.fronts.one_each, c.len.ensures)
+
+pub pass_same-used-requires-clause-moves : goal.pass_same-used-requires-clause-moves
+pass_same-used-requires-clause-moves c = omega (arith, c.if-len-fronts.false, c.requires.fronts.one_each, c.len.ensures, c.requires.bounded.moves)
+
+pub pass_same-used-requires-clause-later : goal.pass_same-used-requires-clause-later
+pass_same-used-requires-clause-later c = c.if-kept-eq0.false
+
+pub pass_same-used-requires-clause-long : goal.pass_same-used-requires-clause-long
+pass_same-used-requires-clause-long c = λ same. c.if-kept.false (sym same)
+
+pub overflow_add-a : goal.overflow_add-a
+overflow_add-a c =
+    omega (arith, c.pass_same-used.ensures.known (omega (arith, c.if-used-eq0.false)), c.activities-activities.ensures.limit, c.activities-activities.ensures.activities,
+    ap (λ n. length n.arcs) c.net-2.ensures.network)

@@ -1,4 +1,4 @@
-use Rattle.std.proofs.Common.{◌+◌, ◌<◌, ◌≤◌, drop, length, sym, ap, subst, arith}
+use Rattle.std.proofs.Common.{◌+◌, ◌<◌, ◌≤◌, drop, length, refl, sym, ap, subst, arith}
 use Rattle.std.proofs.lemmas.List.{take_all, length-drop}
 use Rattle.pc_model.specs.declared.limits.TheConstants.{MAX_EVENTS, MAX_ACTIVITIES}
 use Rattle.pc_check.proofs.AlongLaws.{IsAlong, along_begins, along_ends, along_more}
@@ -68,3 +68,24 @@ pub returns-clause-safe : goal.returns-clause-safe
 returns-clause-safe c =
     let it = along_ends c.go_on.new.self c.add_told-used.new.place c.add_told-used.new.kept c.loop-ends.invariant (c.add_told-used.ensures.same_place (omega (arith, c.if-used-eq0.true))) (c.add_told-used.ensures.same_kept (omega (arith, c.if-used-eq0.true))) c.go_on.ensures in
     it.safe
+
+pub returns-then-not-is_between-clause-same_kept : goal.returns-then-not-is_between-clause-same_kept
+returns-then-not-is_between-clause-same_kept c = λ nothing. refl
+
+pub returns-then-not-is_between-clause-same_reader : goal.returns-then-not-is_between-clause-same_reader
+returns-then-not-is_between-clause-same_reader c = λ nothing. refl
+
+pub returns-then-not-is_between-clause-takes : goal.returns-then-not-is_between-clause-takes
+returns-then-not-is_between-clause-takes c = λ some. absurd (omega (arith, some))
+
+pub returns-then-not-is_between-clause-bounded : goal.returns-then-not-is_between-clause-bounded
+returns-then-not-is_between-clause-bounded c = c.requires.bounded
+
+pub returns-then-not-is_between-clause-safe : goal.returns-then-not-is_between-clause-safe
+returns-then-not-is_between-clause-safe c = c.requires.safe
+
+pub add_told-used-requires-clause-ends : goal.add_told-used-requires-clause-ends
+add_told-used-requires-clause-ends c = c.ends_of-ends.ensures
+
+pub add_told-used-requires-clause-fronts : goal.add_told-used-requires-clause-fronts
+add_told-used-requires-clause-fronts c = c.requires.fronts

@@ -1,6 +1,7 @@
 use Rattle.std.proofs.Common.{sym, subst, ◌∙◌, arith}
+use Rattle.std.proofs.lemmas.Bool.{eqb-true, eqb-false}
 use Rattle.std.proofs.lemmas.List.{take_all, length-drop}
-use Rattle.pc_check.proofs.FeedLaws.{IsFeeding, begun, more, fails_in_rest}
+use Rattle.pc_check.proofs.FeedLaws.{IsFeeding, begun, more, fails_in_rest, ended, ended_less}
 use Rattle.pc_check.proofs.audit.Audit.feed.Goals as goal
 
 pub loop-rest-preserved : goal.loop-rest-preserved
@@ -28,3 +29,12 @@ returns-clause-going c = c.loop-rest.invariant.going
 
 pub returns-clause-net : goal.returns-clause-net
 returns-clause-net c = c.loop-rest.invariant.net
+
+pub step-requires-clause-some : goal.step-requires-clause-some
+step-requires-clause-some c = omega (arith, eqb-false _ _ (sym c.loop-rest-test.ensures))
+
+pub returns-clause-goes_on : goal.returns-clause-goes_on
+returns-clause-goes_on c = ended c.loop-rest.invariant (eqb-true _ _ (sym c.loop-rest-test.ensures))
+
+pub returns-clause-left : goal.returns-clause-left
+returns-clause-left c = ended_less c.loop-rest.invariant (eqb-true _ _ (sym c.loop-rest-test.ensures))

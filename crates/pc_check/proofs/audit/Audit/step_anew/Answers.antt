@@ -1,12 +1,12 @@
-use Rattle.std.specs.Prelude.{IfNone, IsNone}
+use Rattle.std.specs.Prelude.{IfNone, IsNone, IsSome}
 use Rattle.pc_cert.specs.Grammar.{next}
-use Rattle.std.proofs.Common.{◌≡◌, ◌<◌, [], ◌∷◌, ◌++◌, take, drop, Some, None, refl, sym, ap, subst, ◌∙◌, append-nil}
+use Rattle.std.proofs.Common.{◌≡◌, ◌<◌, [], ◌∷◌, ◌++◌, take, drop, Some, None, refl, sym, ap, subst, ◌∙◌, arith, append-nil}
 use Rattle.std.proofs.lemmas.List.{take-append-drop}
 use Rattle.pc_cert.specs.inside.Reader.{StandsFor}
 use Rattle.pc_cert.specs.inside.Fed.{line_list}
 use Rattle.pc_check.specs.Texts.{IsFailing}
 use Rattle.pc_check.specs.inside.Auditing.{Auditing, HasRead, IsGoing, bytes_left}
-use Rattle.pc_check.proofs.AuditLaws.{malformed_fails, may_take, line_fails, less_behind_piece, less_behind_line}
+use Rattle.pc_check.proofs.AuditLaws.{malformed_fails, may_feed, may_take, line_fails, less_behind_piece, less_behind_line}
 use Rattle.pc_check.proofs.audit.Audit.step_anew.Goals as goal
 
 pub returns-in-Err-clause-fails : goal.returns-in-Err-clause-fails
@@ -106,3 +106,31 @@ returns-in-None-take_known-clause-goes_on c = λ text h.
       read = subst (λ l. StandsFor c.feed_known.new.self (before.lines ++ line_list l) (text ++ take c.in-Ok.used c.args.piece.now)) line (c.in-Ok.ensures.stands before.lines text before.read);
       checked = c.take_known.ensures.stands before.lines before.checked;
     }
+
+pub feed_known-requires : goal.feed_known-requires
+feed_known-requires c =
+    let old : Auditing = record { reader = c.self.inside.reader; checker = c.self.inside.checker } in
+    let going : IsGoing old = subst (λ a. IsGoing a) (sym c.self.view_is) c.requires.going in
+    let before : HasRead c.requires.read.0 old = subst (λ a. HasRead c.requires.read.0 a) (sym c.self.view_is) c.requires.read.1 in
+    may_feed c.requires.read.0 old before going
+
+pub returns-in-Err-clause-net : goal.returns-in-Err-clause-net
+returns-in-Err-clause-net c = ap (λ (a : Auditing). a.checker.net) c.self.view_is
+
+pub returns-in-None-clause-some : goal.returns-in-None-clause-some
+returns-in-None-clause-some c =
+    let none : c.feed_known.new.known.line ≡ None = sym c.in-None.ensures in
+    omega (arith, c.requires.some, c.in-Ok.ensures.no_line (subst (λ l. IsNone l) (sym none) refl))
+
+pub returns-in-None-take_known-clause-some : goal.returns-in-None-take_known-clause-some
+returns-in-None-take_known-clause-some c =
+    let line : c.feed_known.new.known.line ≡ Some c.in-Some.line.now = sym c.in-Some.ensures in
+    (c.in-Ok.ensures.one_line (subst (λ l. IsSome l) (sym line) refl)).0
+
+pub returns-in-None-take_known-clause-going : goal.returns-in-None-take_known-clause-going
+returns-in-None-take_known-clause-going c = record {
+  well_formed = c.in-Ok.ensures.kept;
+  no_fail = sym c.take_known.ensures.fail ∙ c.in-None-take_known.is;
+  few = c.in-None-take_known.ensures.few;
+  short = c.feed_known.ensures.short;
+}

@@ -1,5 +1,5 @@
-use Rattle.std.proofs.Common.{◌≡◌, ◌+◌, ◌<◌, Some, sym, ap, subst, ◌∙◌}
-use Rattle.pc_check.specs.inside.Bounds.{lines_left}
+use Rattle.std.proofs.Common.{◌≡◌, ◌+◌, ◌<◌, Some, refl, sym, ap, subst, ◌∙◌, arith}
+use Rattle.pc_check.specs.inside.Bounds.{IsBounded, lines_left}
 use Rattle.std.specs.Prelude.{IfNone}
 use Rattle.pc_cert.specs.Grammar.{next}
 use Rattle.pc_check.specs.inside.Checking.{Checking, StandsFor}
@@ -31,3 +31,44 @@ returns-in-Some-advance-clause-stands c = λ lines h.
     fails c.args.line.now c.args.behind c.in-Some-advance.reason
     (c.advance.new.kept.lines + 1) c.self.invariant.safe bounded goes c.in-Some-advance.ensures.reason
     (ap (λ k. k.lines + 1) c.in-Some-advance.ensures.same) before
+
+pub advance-requires-clause-safe : goal.advance-requires-clause-safe
+advance-requires-clause-safe c = c.self.invariant.safe
+
+pub advance-requires-clause-bounded : goal.advance-requires-clause-bounded
+advance-requires-clause-bounded c = when_none c.self.inside.fail c.in_default.is c.self.invariant.bounded
+
+pub advance-requires-clause-known : goal.advance-requires-clause-known
+advance-requires-clause-known c = c.requires.known
+
+pub advance-requires-clause-goes : goal.advance-requires-clause-goes
+advance-requires-clause-goes c =
+    when_none c.self.inside.fail c.in_default.is (subst (λ (s : Checking). IfNone s.fail (next s.kept.place c.args.line.now ≡ Some c.args.behind)) (sym c.self.view_is) c.requires.goes)
+
+pub invariant_of-self : goal.invariant_of-self
+invariant_of-self c = record {
+  safe = c.advance.ensures.safe;
+  bounded = subst (λ f. IfNone f (IsBounded c.self.inside.net.now c.advance.new.kept)) (sym c.in_default.is) c.advance.ensures.bounded;
+  fronts = c.self.invariant.fronts;
+}
+
+pub invariant_of-self-in-Some-advance : goal.invariant_of-self-in-Some-advance
+invariant_of-self-in-Some-advance c = record { safe = c.advance.ensures.safe; bounded = tt; fronts = c.self.invariant.fronts }
+
+pub overflow_add-fail : goal.overflow_add-fail
+overflow_add-fail c = omega (arith, c.advance.ensures.few)
+
+pub returns-in-Some-clause-net : goal.returns-in-Some-clause-net
+returns-in-Some-clause-net c = refl
+
+pub returns-in-None-clause-net : goal.returns-in-None-clause-net
+returns-in-None-clause-net c = ap (λ (s : Checking). s.net) c.self.view_is
+
+pub returns-in-None-clause-fail : goal.returns-in-None-clause-fail
+returns-in-None-clause-fail c = sym c.in_default.is
+
+pub returns-in-None-clause-few : goal.returns-in-None-clause-few
+returns-in-None-clause-few c = c.advance.ensures.few
+
+pub returns-in-Some-advance-clause-net : goal.returns-in-Some-advance-clause-net
+returns-in-Some-advance-clause-net c = ap (λ (s : Checking). s.net) c.self.view_is
