@@ -84,9 +84,6 @@ returns-then-n-eq0-clause-count g c = omega (arith, c.loop-n.invariant.no_fault,
 pub returns-then-n-eq0-clause-turns : goal.returns-then-n-eq0-clause-turns
 returns-then-n-eq0-clause-turns g c = pulls_and_one c.loop-n.invariant _ c.in-Ok.ensures.pulled
 
-pub returns-in-Some-clause-no_fault : goal.returns-in-Some-clause-no_fault
-returns-in-Some-clause-no_fault g c = c.in-Ok.ensures.no_fault ∙ c.loop-n.invariant.no_fault
-
 pub returns-in-Some-clause-count : goal.returns-in-Some-clause-count
 returns-in-Some-clause-count g c = omega (arith, c.loop-n.invariant.no_fault, c.pull.ensures.count)
 
