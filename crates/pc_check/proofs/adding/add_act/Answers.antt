@@ -12,13 +12,27 @@ renew-requires-clause-passed c = c.requires.passed
 
 pub overflow_add-tally : goal.overflow_add-tally
 overflow_add-tally c =
-    omega (arith, c.renew.ensures.safe.forward, c.renew.ensures.safe.acts, c.activities-few.ensures.limit, c.activities-few.ensures.activities,
-    ap (λ n. length n.arcs) c.net.ensures.network, c.cut_of-cut.ensures.small_forward)
+    omega (
+      arith,
+      c.renew.ensures.safe.forward,
+      c.renew.ensures.safe.acts,
+      c.activities-few.ensures.limit,
+      c.activities-few.ensures.activities,
+      ap (λ n. length n.arcs) c.net.ensures.network,
+      c.cut_of-cut.ensures.small_forward,
+    )
 
 pub overflow_add-tally-2 : goal.overflow_add-tally-2
 overflow_add-tally-2 c =
-    omega (arith, c.renew.ensures.safe.backward, c.renew.ensures.safe.acts, c.activities-few.ensures.limit, c.activities-few.ensures.activities,
-    ap (λ n. length n.arcs) c.net.ensures.network, c.cut_of-cut.ensures.small_backward)
+    omega (
+      arith,
+      c.renew.ensures.safe.backward,
+      c.renew.ensures.safe.acts,
+      c.activities-few.ensures.limit,
+      c.activities-few.ensures.activities,
+      ap (λ n. length n.arcs) c.net.ensures.network,
+      c.cut_of-cut.ensures.small_backward,
+    )
 
 pub overflow_add-tally-3 : goal.overflow_add-tally-3
 overflow_add-tally-3 c = omega (arith, c.renew.ensures.safe.acts, c.activities-few.ensures.limit, c.activities-few.ensures.activities, ap (λ n. length n.arcs) c.net.ensures.network)

@@ -98,5 +98,10 @@ pass_same-used-requires-clause-long c = λ same. c.if-kept.false (sym same)
 
 pub overflow_add-a : goal.overflow_add-a
 overflow_add-a c =
-    omega (arith, c.pass_same-used.ensures.known (omega (arith, c.if-used-eq0.false)), c.activities-activities.ensures.limit, c.activities-activities.ensures.activities,
-    ap (λ n. length n.arcs) c.net-2.ensures.network)
+    omega (
+      arith,
+      c.pass_same-used.ensures.known (omega (arith, c.if-used-eq0.false)),
+      c.activities-activities.ensures.limit,
+      c.activities-activities.ensures.activities,
+      ap (λ n. length n.arcs) c.net-2.ensures.network,
+    )
