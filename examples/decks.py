@@ -7,7 +7,7 @@ HOLIDAY = re.compile(r"(\d{4}-\d\d-\d\d)(?:\.\.(\d{4}-\d\d-\d\d))?(?:[\s,;].*)?"
 CALENDAR_HELP = """\
 Calendar: the weekdays of --weekdays are worked, except for the days in the file of --holidays. Each line of that file is a date
 (2024-12-25) or a range (2024-12-24..2024-12-31), with a name after a space or comma if you like. Empty lines and text after # are
-passed over. A holiday on a weekday that is free anyway changes nothing. If the start date is a free day, work begins on the first
+ignored. A holiday on a weekday that is free anyway changes nothing. If the start date is a free day, work begins on the first
 working day after it."""
 
 
@@ -73,10 +73,10 @@ class Deck:
         number = next((k for k, record in enumerate(self.records, 1) if any(record)), 1)
         if project[0] != "PROJECT" or len(project) < 8:
             raise Refused(f"{name}: record {number}: the first card is not a PROJECT card with 8 fields")
-        self.code, self.begin, self.end, start, units = project[1:6]
-        self.title, self.start = project[7], day_of(start)
+        self.code, _, self.end, start, units = project[1:6]
+        self.start = day_of(start)
         if self.start is None:
-            raise Refused(f"{name}: record {number}: the start date {start!r} is no date such as 2024-03-04")
+            raise Refused(f"{name}: record {number}: the start date {start!r} is not a date such as 2024-03-04")
         if not re.fullmatch("[1-7]", units):
             raise Refused(f"{name}: record {number}: unit_days is {units!r}, not 1 to 7")
         self.unit_days = int(units)
@@ -129,7 +129,7 @@ def weekdays_of(text):
     for part in text.lower().split(","):
         first, _, last = part.strip().partition("-")
         if first not in WEEKDAYS or (last or first) not in WEEKDAYS:
-            raise Refused(f"--weekdays {text}: {part.strip()!r} is no weekday such as mon, and no range such as mon-fri")
+            raise Refused(f"--weekdays {text}: {part.strip()!r} is not a weekday such as mon or a range such as mon-fri")
         first, last = WEEKDAYS.index(first), WEEKDAYS.index(last or first)
         days |= {(first + k) % 7 for k in range((last - first) % 7 + 1)}
     return days
@@ -144,7 +144,7 @@ def holidays_of(name):
         match = HOLIDAY.fullmatch(line)
         first, last = (day_of(match[1]), day_of(match[2] or match[1])) if match else (None, None)
         if line and not (first and last and first <= last):
-            raise Refused(f"{name}: line {number}: {line!r} is no date such as 2024-12-25 and no range such as 2024-12-24..2024-12-31")
+            raise Refused(f"{name}: line {number}: {line!r} is not a date such as 2024-12-25 or a range such as 2024-12-24..2024-12-31")
         if line:
             days |= {first + datetime.timedelta(k) for k in range((last - first).days + 1)}
     return days

@@ -13,7 +13,7 @@ import argparse, csv, datetime, io, math, re
 from decks import CALENDAR_HELP, Calendar, Deck, Refused, add_calendar_options, deliver, read_text, run, run_pert, working_calendar
 
 RULES = """\
-Columns: START is the first day and END the day on whose morning the work is done, so the last day of work is the working day before
+Columns: START is the first day and END the day on whose morning the work is done, so the last day of work is the one before
 END. A part of a day counts as a complete one, as in the reports. DAYS and SLACK are days of work, or of the calendar without --working.
 SLACK is how long the activity can wait: for times as `pert` prints it, otherwise from the printed start on, so that all durations
 stay and the end of the project does too. Rows come in the order of the deck.
@@ -114,12 +114,12 @@ def rows_of(deck, report, no_dummies):
     lines = [line.rstrip("\r") for line in report.lstrip("\ufeff").split("\n")]
     head = next((line for line in lines if re.match(r"(TIMES \S+|LENGTH \d+)$", line)), "")
     if not all(act[2] in events and act[3] in events for act in acts.values()) or deck.end not in events:
-        raise Refused(f"{deck.name}: an activity names no event of the deck; `pert check` has more")
+        raise Refused(f"{deck.name}: an activity names an event that the deck does not have; run `pert check`")
     control = next((code for code, act in acts.items() if re.search(r"[\x00-\x1f\x7f]", act[12])), None)
     if control is not None:
-        raise Refused(f"{deck.name}: the title of {control} has a line break or another control character; `pert check` has more")
+        raise Refused(f"{deck.name}: the title of {control} has a line break or another control character; run `pert check`")
     if not head:
-        raise Refused("the report is none of times, normal, point, outlook and optimum")
+        raise Refused("the report is not one of times, normal, point, outlook and optimum")
     if head.startswith("TIMES") and head != f"TIMES {deck.code}":
         raise Refused(f"the report begins with {head!r}: it is not of the project {deck.code}")
     rows = (rows_of_times if head.startswith("TIMES") else rows_of_schedule)(deck, acts, events, lines)

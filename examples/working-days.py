@@ -11,8 +11,8 @@ import argparse, datetime, re
 from decks import CALENDAR_HELP, Deck, Refused, add_calendar_options, day_of, deliver, put, read_text, run, working_calendar
 
 RULES = """\
-Decks: `pert` counts every day. In a deck whose durations are working days, a date therefore has to be the start date and as many days
-as there are working days before it, and this script writes such dates. It changes nothing else: quotes, line ends, empty rows and
+Decks: `pert` counts every day. If the durations of a deck are working days, each date has to be a count too: the start date
+and one day for each working day before the date. This script writes such dates. It changes nothing else: quotes, line ends, empty rows and
 record numbers stay. Give it your deck, with real dates, each time: it cannot see that dates are counts already. Decks of tasks are
 taken too, before or after `pert arrows`. `directed` and all lengths are counts already; --count tells you those of a date.
 
@@ -25,8 +25,8 @@ dates) and changes DATE of events, the dates of periods, the as-of date of the f
 their widths. Codes and titles that look like dates stay. Numbers (TE, SLACK, FORECAST, lengths) stay counts of working days.
 A day after 9999-12-31 becomes ten hyphens.
 
-Left out: a row with a date that is none; of two TOGO cards of an account on one working day, the earlier one, which the later one
-replaces; and with --back, dates in lines that are part of no report, for example after `grep`. Each is named on standard error. Then
+Left out: a row whose date is missing or not a date; of two TOGO cards of an account on one working day, the earlier one, which the later one
+replaces; and with --back, dates in lines that are not part of a report, for example after `grep`. Each is named on standard error. Then
 nothing is written and the status is 1, unless --partial is given: it leaves such dates as they are, and such TOGO cards empty."""
 PLACES = {"ASOF": 1, "CHARGE": 2, "TOGO": 2, "STATUS": 3}
 DATE = r"(\d{4}-\d\d-\d\d)"
@@ -52,7 +52,10 @@ class Counts:
 
     def back(self, text):
         """Returns the day of the calendar that a date of a report stands for, as text."""
-        day = datetime.date.fromisoformat(text)
+        try:
+            day = datetime.date.fromisoformat(text)
+        except ValueError:
+            raise Refused(f"standard input: {text} is not a day of the calendar, so this is not a report of pert")
         return text if day < self.start else self.calendar.text((day - self.start).days)
 
     def back_as_of(self, text):
@@ -70,7 +73,7 @@ def count_deck(deck, counts):
         field = card[place] if place < len(card) else None
         day = day_of(field) if field is not None else None
         if day is None:
-            told = "has no date" if field is None else f"has the date {field!r}, which is no date such as 2024-03-04"
+            told = "has no date" if field is None else f"has the date {field!r}, which is not a date such as 2024-03-04"
             left_out.append(f"record {number}: {card[0]} {told}")
             continue
         date = counts.of(day)
@@ -114,7 +117,7 @@ def back_report(text, counts):
         elif part == "none" and line.startswith("PROJECT,"):
             raise Refused("standard input: this is a deck and not a report; --back is for reports")
         elif part != "report" and re.search(rf"\b{DATE}(?:$| )" if part == "none" else rf" {DATE}$", line, re.ASCII):
-            left_out.append(f"line {number}: {line!r} is part of no report; give --back the complete report, and select lines after it")
+            left_out.append(f"line {number}: {line!r} is not part of a report; give --back the complete report, and select lines after it")
         lines.append(line)
     return "\n".join(lines), left_out
 
@@ -135,7 +138,7 @@ def main():
     if options.count:
         day = day_of(options.count)
         if day is None or day < deck.start:
-            raise Refused(f"--count {options.count}: no date from the start date {deck.start} on")
+            raise Refused(f"--count {options.count}: not a date on or after the start date {deck.start}")
         put(f"{counts.calendar.count(day)}\n")
         return 0
     text, left_out = back_report(read_text("-"), counts) if options.back else count_deck(deck, counts)
