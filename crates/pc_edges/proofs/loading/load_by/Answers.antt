@@ -16,20 +16,3 @@ returns-in_default-extend_from_slice-clause-too_long g c =
     let given : length now ≡ c.in-Ok.n = length-take-le c.in-Ok.n c.pull.new.buffer (omega (arith, c.in-Ok.ensures.fits, c.pull.auto.buffer)) in
     (c.loop-n.bytes.items ++ now, Consumes-trans _ _ _ _ _ c.loop-n.invariant.taken c.in-Ok.ensures.bytes, (λ is. absurd (cc), λ more. absurd (omega (arith, len, given, more))))
 
-pub returns-then-limit-len-clause-near : goal.returns-then-limit-len-clause-near
-returns-then-limit-len-clause-near g c =
-    let now = take c.in-Ok.n c.pull.new.buffer in
-    let given : length now ≡ c.in-Ok.n = length-take-le c.in-Ok.n c.pull.new.buffer (omega (arith, c.in-Ok.ensures.fits, c.pull.auto.buffer)) in (
-      c.loop-n.bytes.items ++ now,
-      Consumes-trans _ _ _ _ _ c.loop-n.invariant.taken c.in-Ok.ensures.bytes,
-      omega (arith, length-append c.loop-n.bytes.items now, given, c.in-Ok.ensures.fits, c.loop-n.auto.buffer, c.loop-n.invariant.within, c.requires),
-    )
-
-pub returns-in_default-extend_from_slice-clause-near : goal.returns-in_default-extend_from_slice-clause-near
-returns-in_default-extend_from_slice-clause-near g c =
-    let now = take c.in-Ok.n c.pull.new.buffer in
-    let given : length now ≡ c.in-Ok.n = length-take-le c.in-Ok.n c.pull.new.buffer (omega (arith, c.in-Ok.ensures.fits, c.pull.auto.buffer)) in (
-      c.loop-n.bytes.items ++ now,
-      Consumes-trans _ _ _ _ _ c.loop-n.invariant.taken c.in-Ok.ensures.bytes,
-      omega (arith, length-append c.loop-n.bytes.items now, given, c.in-Ok.ensures.fits, c.loop-n.auto.buffer, c.loop-n.invariant.within, c.requires),
-    )
