@@ -30,8 +30,8 @@ TakesPulls-one_more j k a b more p = TakesPulls-more (j + 1) (k + 1) a b (omega 
 
 module _ {X : Type 0} (limit room : ℕ) (left : X → Option (List ℕ)) (pulls : X → Option ℕ) where
   -- nothing is read
-  pub IsReadWithin-none : (a : X) → IsReadWithin limit room left pulls a a
-  IsReadWithin-none a = record {
+  pub IsReadWithin_none : (a : X) → IsReadWithin limit room left pulls a a
+  IsReadWithin_none a = record {
     before = a;
     front = [];
     last = [];
@@ -45,12 +45,12 @@ module _ {X : Type 0} (limit room : ℕ) (left : X → Option (List ℕ)) (pulls
 
   module _ (old new : X) (is : IsReadWithin limit room left pulls old new) where
     -- there is at most one pull for each byte within the limit, and one more
-    pub IsReadWithin-turns : TakesPulls (limit + 1) (pulls old) (pulls new)
-    IsReadWithin-turns =
+    pub IsReadWithin_turns : TakesPulls (limit + 1) (pulls old) (pulls new)
+    IsReadWithin_turns =
         TakesPulls-more (length is.front + 1) (limit + 1) (pulls old) (pulls new) (omega (arith, is.within))
         (TakesPulls-then (length is.front) 1 (pulls old) (pulls is.before) (pulls new) is.turns is.once)
 
     -- at most the bytes of one pull are taken past the limit
-    pub IsReadWithin-near : (bytes : List ℕ) × Consumes (left old) (left new) bytes × (length bytes ≤ limit + room)
-    IsReadWithin-near =
+    pub IsReadWithin_near : (bytes : List ℕ) × Consumes (left old) (left new) bytes × (length bytes ≤ limit + room)
+    IsReadWithin_near =
         (is.front ++ is.last, Consumes-trans _ _ _ _ _ is.came is.pulled, omega (arith, length-append is.front is.last, is.within, is.short))

@@ -3,6 +3,7 @@ ghost use Rattle.std.specs.Prelude.{◌≡◌, ℕ, List, ◌^◌, ◌<◌, ◌�
 ghost use Rattle.std.specs.Io.KnownBytes.{Consumes, IsAtEnd};
 ghost use Rattle.pc_edges.specs.Faults.{Rose};
 ghost use Rattle.pc_edges.specs.Pulls.{IsReadWithin};
+ghost use Rattle.pc_edges.specs.inside.Loading.{LoadsWithin};
 
 use crate::Source;
 use std::alloc::Global;
@@ -60,10 +61,8 @@ fn load_by<S: Source>(
     ensures within { IfOk result (λ v. vec_len v ≤ limit) }
     ensures no_fault { OnOk result (S.faults source.new ≡ S.faults source.old) }
     ensures fault { IsErrOf result LoadError.ReadFault → Rose (S.faults source.old) (S.faults source.new) }
-    ensures too_long { (bytes : List ℕ) × Consumes (S.left source.old) (S.left source.new) bytes
-        × (IsErrOf result LoadError.TooLong ↔ (limit < length bytes)) }
     ensures count { S.faults source.old ≤ S.faults source.new }
-    ensures stops { IsReadWithin limit STREAM_ROOM S.left S.pulls source.old source.new }
+    ensures loads { LoadsWithin (IsErrOf result LoadError.TooLong) limit STREAM_ROOM S.left S.pulls source.old source.new }
 {
     let mut bytes = Vec::new(alloc);
     loop {
