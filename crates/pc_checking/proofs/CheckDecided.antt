@@ -6,7 +6,7 @@ use Rattle.pc_faults.specs.declared.fault.Fault.{Fault}
 use Rattle.pc_check.specs.declared.fail.Verdict.TheVariants.{Yes, No}
 use Rattle.pc_reading.specs.declared.status.Status.{Status}
 use Rattle.pc_reading.specs.inside.Status.{code_of}
-use Rattle.pc_checking.specs.Certificate.{HasVerdict, Certifies, ProvesCurve, IsSettledFor, failing_text}
+use Rattle.pc_checking.specs.Certificate.{HasVerdict, Certifies, ProvesCurve}
 use Rattle.pc_checking.specs.CheckOutcome.{OfBoth, IsChecked, IsCheckCut, deck_unread, cert_unread, in_verdict, in_refusal, in_check_usage}
 use Rattle.pc_checking.specs.inside.CheckOutcome.{CheckOutcome, certified, not_certified, deck_refused, check_usage, no_memory, read_fault, write_fault}
 use Rattle.pc_reading.specs.OneWord.{IsOneWord}
@@ -65,17 +65,6 @@ module _ {D C O E : Type 0} (words : List (String Global)) (deck : Side D) (cert
   found_failing _ (no_memory asked left same also) code at_6 = absurd (omega (arith, code, at_6))
   found_failing _ (read_fault asked unread same also) code at_6 = absurd (omega (arith, code, at_6))
   found_failing _ (write_fault is) code at_6 = absurd (omega (arith, code, at_6))
-
-  -- and pulled nothing behind it
-  pub stops_there : (status : Status) → CheckOutcome words deck cert out err status → answer ≡ code_of status → answer ≡ 6 →
-      (line reason : ℕ) × Took out (failing_text line reason) × OfDeck deck (λ bytes. IsSettledFor bytes cert (No line reason))
-  stops_there _ (certified segments is read same) code at_6 = absurd (omega (arith, code, at_6))
-  stops_there _ (not_certified line reason is same) code at_6 = (line, reason, is.took, is.settled)
-  stops_there _ (deck_refused is same also) code at_6 = absurd (omega (arith, code, at_6))
-  stops_there _ (check_usage no_word took same also unused) code at_6 = absurd (omega (arith, code, at_6))
-  stops_there _ (no_memory asked left same also) code at_6 = absurd (omega (arith, code, at_6))
-  stops_there _ (read_fault asked unread same also) code at_6 = absurd (omega (arith, code, at_6))
-  stops_there _ (write_fault is) code at_6 = absurd (omega (arith, code, at_6))
 
   -- a check that ended with 0 found a certificate that proves the whole curve
   pub headline : (status : Status) → CheckOutcome words deck cert out err status → answer ≡ code_of status → answer ≡ 0 → OfBoth deck cert ProvesCurve

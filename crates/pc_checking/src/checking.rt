@@ -3,18 +3,18 @@ ghost use Rattle.std.specs.Prelude.{◌≡◌, ◌≢◌, ℕ, List, ◌+◌, �
 ghost use Rattle.pc_check.specs.declared.fail.Verdict.{Verdict as TheVerdict};
 ghost use Rattle.pc_check.specs.declared.fail.Verdict.TheVariants.{Yes, No};
 ghost use Rattle.pc_deck.specs.Limits.{longest_deck};
-ghost use Rattle.pc_edges.specs.Pulls.{TakesPulls};
+ghost use Rattle.pc_edges.specs.Pulls.{IsReadWithin, TakesPulls};
 ghost use Rattle.pc_edges.specs.declared.loading.TheConstants.{STREAM_ROOM};
 ghost use Rattle.pc_check.specs.Auditing.{most_bytes};
 ghost use Rattle.pc_check.specs.OwnLines.{KeepsToOwnLines};
 ghost use Rattle.pc_project.specs.Project.{Project as TheProject};
-ghost use Rattle.pc_checking.specs.Certificate.{IsSettledFor, KeepsToOwnLinesFor, check_usage_text, failing_text, Certifies, FailsAsCertificate, HasVerdict, ProvesCurve};
+ghost use Rattle.pc_checking.specs.Certificate.{KeepsToOwnLinesFor, check_usage_text, Certifies, FailsAsCertificate, HasVerdict, ProvesCurve};
 ghost use Rattle.pc_checking.specs.inside.Certificate.{Answered};
 ghost use Rattle.pc_checking.specs.CheckOutcome.{IsChecked, IsCheckCut, IsUnread, OfBoth};
 ghost use Rattle.pc_checking.specs.inside.CheckOutcome.{CheckOutcome};
 ghost use Rattle.pc_reading.specs.OneWord.{IsDeckRefused, IsOneWord};
 ghost use Rattle.pc_reading.specs.Priced.{priced_in};
-ghost use Rattle.pc_reading.specs.Sides.{pulled_side, side, HadNoFault, IsReadToEnd, OfDeck, Took, TookAtMost};
+ghost use Rattle.pc_reading.specs.Sides.{pulled_side, side, HadNoFault, IsReadToEnd, OfDeck, Took};
 ghost use Rattle.pc_reading.specs.Verdict.{AcceptedBy, IsProjectOf, RefusedBy};
 
 use crate::telling::tell;
@@ -55,15 +55,11 @@ pub fn check_run<D: Source, C: Source, O: Sink, E: Sink>(
     // length what is read from it is a cheapest schedule.
     ensures headline { result ≡ 0 → OfBoth (side D.left D.faults deck.old deck.new) (pulled_side C.left C.faults C.pulls cert.old cert.new) ProvesCurve }
 
-    // 6: the deck is accepted, the certificate has a first failing point, and `out` took the line that names it.
+    // 6: the deck is accepted, the certificate has a first failing point, and `out` took the line that names it. Nothing of the certificate
+    // is pulled after the pull in which that point's line ends (`settled`). (`write_fault` says the same of a verdict that is cut.)
     ensures not_certified { result ≡ 6 → (line reason : ℕ) × IsChecked words.now (side D.left D.faults deck.old deck.new)
         (pulled_side C.left C.faults C.pulls cert.old cert.new) (side O.taken O.faults out.old out.new) (No line reason) }
     ensures not_certified_only { result ≡ 6 → err.new ≡ err.old }
-
-    // Nothing of the certificate is pulled behind the pull in which that point's line ends. (`write_fault` says the same of a verdict
-    // that is cut.)
-    ensures stops { result ≡ 6 → (line reason : ℕ) × Took (side O.taken O.faults out.old out.new) (failing_text line reason)
-        × OfDeck (side D.left D.faults deck.old deck.new) (λ bytes. IsSettledFor bytes (pulled_side C.left C.faults C.pulls cert.old cert.new) (No line reason)) }
 
     // 1: the deck is refused, and `err` took the line of its fault. Of the certificate nothing was read.
     ensures refused { result ≡ 1 → IsDeckRefused words.now (side D.left D.faults deck.old deck.new) (side E.taken E.faults err.old err.new) }
@@ -115,9 +111,8 @@ pub fn check_run<D: Source, C: Source, O: Sink, E: Sink>(
         → HadNoFault (side D.left D.faults deck.old deck.new) → HadNoFault (pulled_side C.left C.faults C.pulls cert.old cert.new)
         → HadNoFault (side O.taken O.faults out.old out.new) → (result ≡ 6) ⊎ (result ≡ 3)) }
 
-    // However long the deck is, no more pulls and hardly more bytes than those of the longest deck are taken of it.
-    ensures deck_turns { TakesPulls (longest_deck + 2) (D.pulls deck.old) (D.pulls deck.new) }
-    ensures deck_near { TookAtMost (longest_deck + STREAM_ROOM) (side D.left D.faults deck.old deck.new) }
+    // However long the deck is, nothing of it is pulled after the pull that passes the longest deck, ends it or fails.
+    ensures deck_stops { IsReadWithin longest_deck STREAM_ROOM D.left D.pulls deck.old deck.new }
 
     // However long the certificate is, the pulls from it are bounded by the deck's project, and by the certificate's own first upper
     // end: by the lines of the header and the walks, of as many segments as that is long, or of one where it is 0, and two more.
@@ -144,8 +139,7 @@ fn check_outcome<D: Source, C: Source, O: Sink, E: Sink>(
         → TakesPulls (most_bytes (priced_in project) + 1) (C.pulls cert.old) (C.pulls cert.new)) }
     ensures own_turns { OfBoth (side D.left D.faults deck.old deck.new) (pulled_side C.left C.faults C.pulls cert.old cert.new)
         (KeepsToOwnLinesFor (C.pulls cert.old) (C.pulls cert.new)) }
-    ensures deck_turns { TakesPulls (longest_deck + 2) (D.pulls deck.old) (D.pulls deck.new) }
-    ensures deck_near { TookAtMost (longest_deck + STREAM_ROOM) (side D.left D.faults deck.old deck.new) }
+    ensures deck_stops { IsReadWithin longest_deck STREAM_ROOM D.left D.pulls deck.old deck.new }
 {
     match project_named(alloc, words, USAGE, deck, err) {
         Ok(project) => check(alloc, &project, cert, out),

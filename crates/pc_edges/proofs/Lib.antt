@@ -1,3 +1,4 @@
 pub mod Writing
 pub mod PullLaws
+mod LoadingLaws
 mod Copying

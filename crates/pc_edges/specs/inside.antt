@@ -1,5 +1,6 @@
 -- What contracts within and between crates speak of besides what the clauses of the top calls and the laws reach.
 pub mod Writes
+pub mod Loading
 pub mod Supply
 pub mod Intake
 pub mod MemSource

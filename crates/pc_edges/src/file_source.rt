@@ -9,10 +9,23 @@ use std::rt::Files;
 /// A source that reads a file, whose bytes no contract can tell.
 ///
 /// Each error of a read is a fault. A file that could not be opened has a fault at each pull on a buffer with room.
+///
+/// The file is closed at its end. A process that started with standard input closed may get descriptor 0 for the file; a later read of
+/// standard input then fails, and does not go on in the file.
 #[derive(Drop)]
 pub struct FileSource {
-    file: Option<File>,
+    state: State,
     faults: u64,
+}
+
+/// What a pull finds.
+#[derive(Drop)]
+enum State {
+    Open(File),
+    /// The end was read.
+    Ended,
+    /// The file could not be opened, or there is none.
+    Missing,
 }
 
 impl FileSource {
@@ -21,7 +34,20 @@ impl FileSource {
         ensures faults { ⟦<FileSource as Source>⟧.faults result ≡ 0 }
     {
         FileSource {
-            file: File::open(files, path).ok(),
+            state: match File::open(files, path) {
+                Ok(file) => State::Open(file),
+                Err(_) => State::Missing,
+            },
+            faults: 0,
+        }
+    }
+
+    /// A source without a file. It opens nothing, and has a fault at each pull on a buffer with room.
+    pub fn missing() -> FileSource
+        ensures faults { ⟦<FileSource as Source>⟧.faults result ≡ 0 }
+    {
+        FileSource {
+            state: State::Missing,
             faults: 0,
         }
     }
@@ -34,11 +60,16 @@ impl Source for FileSource {
         if buffer.is_empty() {
             return Ok(0);
         }
-        let read = match &mut self.file {
-            Some(file) => file.read(buffer).ok(),
-            None => None,
+        let read = match &mut self.state {
+            State::Open(file) => file.read(buffer).ok(),
+            State::Ended => Some(0),
+            State::Missing => None,
         };
         match read {
+            Some(0) => {
+                self.state = State::Ended;
+                Ok(0)
+            }
             Some(n) => Ok(n),
             None => {
                 self.faults = self.faults.saturating_add(1);

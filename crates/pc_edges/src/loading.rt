@@ -1,8 +1,9 @@
 //! Reading a source to its end.
-ghost use Rattle.std.specs.Prelude.{◌≡◌, ℕ, List, ◌+◌, ◌^◌, ◌<◌, ◌≤◌, ◌↔◌, length, vec_len, IfOk, OnOk, IsErrOf};
+ghost use Rattle.std.specs.Prelude.{◌≡◌, ℕ, List, ◌^◌, ◌<◌, ◌≤◌, ◌↔◌, length, vec_len, IfOk, OnOk, IsErrOf};
 ghost use Rattle.std.specs.Io.KnownBytes.{Consumes, IsAtEnd};
 ghost use Rattle.pc_edges.specs.Faults.{Rose};
-ghost use Rattle.pc_edges.specs.Pulls.{TakesPulls};
+ghost use Rattle.pc_edges.specs.Pulls.{IsReadWithin};
+ghost use Rattle.pc_edges.specs.inside.Loading.{LoadsWithin};
 
 use crate::Source;
 use std::alloc::Global;
@@ -25,7 +26,7 @@ pub const STREAM_ROOM: usize = 65_536;
 /// All bytes of `source` up to its end, where there are at most `limit`.
 ///
 /// Each byte is copied once from the buffer that is pulled into. Each pull but the last gives a byte at least, so there are
-/// at most `limit + 2` of them.
+/// at most `limit + 1` of them.
 pub fn load<S: Source>(alloc: Global, source: &mut S, limit: usize) -> Result<Vec<u8>, LoadError>
     requires { limit < 2 ^ 32 }
     ensures all { IfOk result (λ v. Consumes (S.left source.old) (S.left source.new) v.items) }
@@ -36,11 +37,10 @@ pub fn load<S: Source>(alloc: Global, source: &mut S, limit: usize) -> Result<Ve
     ensures fault { IsErrOf result LoadError.ReadFault → Rose (S.faults source.old) (S.faults source.new) }
     ensures too_long { (bytes : List ℕ) × Consumes (S.left source.old) (S.left source.new) bytes
         × (IsErrOf result LoadError.TooLong ↔ (limit < length bytes)) }
-    // nothing is pulled behind the pull that passes the limit
-    ensures near { (bytes : List ℕ) × Consumes (S.left source.old) (S.left source.new) bytes
-        × (length bytes ≤ limit + STREAM_ROOM) }
     ensures count { S.faults source.old ≤ S.faults source.new }
-    ensures turns { TakesPulls (limit + 2) (S.pulls source.old) (S.pulls source.new) }
+
+    // nothing is pulled after the pull that passes the limit, ends the input or fails
+    ensures stops { IsReadWithin limit STREAM_ROOM S.left S.pulls source.old source.new }
 {
     let Ok(mut buffer) = vec![in alloc; 0u8; STREAM_ROOM] else {
         return Err(LoadError::OutOfMemory);
@@ -61,12 +61,8 @@ fn load_by<S: Source>(
     ensures within { IfOk result (λ v. vec_len v ≤ limit) }
     ensures no_fault { OnOk result (S.faults source.new ≡ S.faults source.old) }
     ensures fault { IsErrOf result LoadError.ReadFault → Rose (S.faults source.old) (S.faults source.new) }
-    ensures too_long { (bytes : List ℕ) × Consumes (S.left source.old) (S.left source.new) bytes
-        × (IsErrOf result LoadError.TooLong ↔ (limit < length bytes)) }
-    ensures near { (bytes : List ℕ) × Consumes (S.left source.old) (S.left source.new) bytes
-        × (length bytes ≤ limit + STREAM_ROOM) }
     ensures count { S.faults source.old ≤ S.faults source.new }
-    ensures turns { TakesPulls (limit + 2) (S.pulls source.old) (S.pulls source.new) }
+    ensures loads { LoadsWithin (IsErrOf result LoadError.TooLong) limit STREAM_ROOM S.left S.pulls source.old source.new }
 {
     let mut bytes = Vec::new(alloc);
     loop {

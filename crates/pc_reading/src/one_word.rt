@@ -1,10 +1,10 @@
 //! From the one word of a call, the name of a deck, to the deck's project.
-ghost use Rattle.std.specs.Prelude.{◌+◌, IfOk, IfErr};
+ghost use Rattle.std.specs.Prelude.{IfOk, IfErr};
 ghost use Rattle.pc_deck.specs.Limits.{longest_deck};
-ghost use Rattle.pc_edges.specs.Pulls.{TakesPulls};
+ghost use Rattle.pc_edges.specs.Pulls.{IsReadWithin};
 ghost use Rattle.pc_edges.specs.declared.loading.TheConstants.{STREAM_ROOM};
 ghost use Rattle.pc_reading.specs.inside.OneWord.{EndsWithout, IsProjectNamed};
-ghost use Rattle.pc_reading.specs.Sides.{side, TookAtMost};
+ghost use Rattle.pc_reading.specs.Sides.{side};
 
 use crate::reading::{NoProject, read_project};
 use crate::refusing::refuse;
@@ -28,8 +28,7 @@ pub fn project_named<D: Source, E: Sink>(
         (side E.taken E.faults err.old err.new)) }
     ensures none { IfErr result (EndsWithout words.now usage.now (side D.left D.faults deck.old deck.new)
         (side E.taken E.faults err.old err.new)) }
-    ensures turns { TakesPulls (longest_deck + 2) (D.pulls deck.old) (D.pulls deck.new) }
-    ensures near { TookAtMost (longest_deck + STREAM_ROOM) (side D.left D.faults deck.old deck.new) }
+    ensures stops { IsReadWithin longest_deck STREAM_ROOM D.left D.pulls deck.old deck.new }
 {
     if words.len() != 1 {
         return match send(err, usage) {

@@ -1,11 +1,11 @@
 //! From a deck to its project, or to why there is none.
-ghost use Rattle.std.specs.Prelude.{◌≡◌, ◌+◌, ◌≤◌, length, IfOk, IfErr};
-ghost use Rattle.pc_edges.specs.Pulls.{TakesPulls};
+ghost use Rattle.std.specs.Prelude.{◌≡◌, ◌≤◌, length, IfOk, IfErr};
+ghost use Rattle.pc_edges.specs.Pulls.{IsReadWithin};
 ghost use Rattle.pc_edges.specs.declared.loading.TheConstants.{STREAM_ROOM};
 ghost use Rattle.pc_faults.specs.inside.First.{Refuses};
 ghost use Rattle.pc_deck.specs.Limits.{longest_deck};
 ghost use Rattle.pc_reading.specs.inside.Reading.{HasNoDeck, HasNoProject, HasProject, IsNoProjectOf, IsWholeDeck, lacking};
-ghost use Rattle.pc_reading.specs.Sides.{side, TookAtMost};
+ghost use Rattle.pc_reading.specs.Sides.{side};
 ghost use Rattle.pc_reading.specs.Verdict.{IsFault, IsProjectOf};
 
 use pc_deck::{DECK_LIMIT, read_cards};
@@ -29,9 +29,8 @@ pub fn read_deck<S: Source>(alloc: Global, source: &mut S) -> Result<Vec<u8>, No
     ensures deck { IfOk result (λ bytes. IsWholeDeck (side S.left S.faults source.old source.new) bytes.items) }
     ensures none { IfErr result (HasNoDeck (side S.left S.faults source.old source.new)) }
 
-    // However long the source is, no more pulls and hardly more bytes than those of the longest deck are taken of it.
-    ensures turns { TakesPulls (longest_deck + 2) (S.pulls source.old) (S.pulls source.new) }
-    ensures near { TookAtMost (longest_deck + STREAM_ROOM) (side S.left S.faults source.old source.new) }
+    // However long the source is, nothing is pulled after the pull that passes the longest deck, ends the input or fails.
+    ensures stops { IsReadWithin longest_deck STREAM_ROOM S.left S.pulls source.old source.new }
 {
     match load(alloc, source, DECK_LIMIT) {
         Ok(bytes) => Ok(bytes),
@@ -45,8 +44,7 @@ pub fn read_deck<S: Source>(alloc: Global, source: &mut S) -> Result<Vec<u8>, No
 pub fn read_project<S: Source>(alloc: Global, source: &mut S) -> Result<Project, NoProject>
     ensures project { IfOk result (HasProject (side S.left S.faults source.old source.new)) }
     ensures none { IfErr result (HasNoProject (side S.left S.faults source.old source.new)) }
-    ensures turns { TakesPulls (longest_deck + 2) (S.pulls source.old) (S.pulls source.new) }
-    ensures near { TookAtMost (longest_deck + STREAM_ROOM) (side S.left S.faults source.old source.new) }
+    ensures stops { IsReadWithin longest_deck STREAM_ROOM S.left S.pulls source.old source.new }
 {
     match read_deck(alloc, source) {
         Ok(bytes) => project_in(alloc, &bytes),

@@ -1,4 +1,5 @@
 //! The words that a program was started with.
+ghost use Rattle.std.specs.Prelude.{◌≡◌, ◌↔◌, length, IsSome};
 
 use std::alloc::AllocError;
 use std::env;
@@ -14,10 +15,12 @@ pub fn words_of<R: Env + AllocGlobal>(rt: &R) -> Result<Vec<String>, AllocError>
     }
 }
 
-/// The name of the deck: the first word, or the empty name where there is none.
-pub fn deck_name(words: &[String]) -> &str {
-    match words.first() {
-        Some(word) => word.as_str(),
-        None => "",
+/// The name of the deck: the only word. `None` if there is not exactly one word, and then no file is to be opened.
+pub fn deck_name(words: &[String]) -> Option<&str>
+    ensures { IsSome result ↔ (length words.now ≡ 1) }
+{
+    match words {
+        [word] => Some(word.as_str()),
+        _ => None,
     }
 }

@@ -30,7 +30,7 @@ fn time_costs(rt: HostRuntime) -> Result<(), Fail> {
         overhead: 1,
         target: 10,
         bonus: 5,
-        penalty: 5,
+        penalty: 3,
     };
     assert_eq!(rt; time_cost(&TERMS, 9), 66);
     assert_eq!(rt; time_cost(&TERMS, 6), 24);

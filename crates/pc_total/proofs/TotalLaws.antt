@@ -8,6 +8,7 @@ use Rattle.std.proofs.lemmas.Bool.{cases_lt, lt-ltb, le-ltb, cond-true, cond-fal
 use Rattle.pc_model.specs.declared.TimeTerms.{TimeTerms}
 use Rattle.pc_model.specs.TimeCost.{AreTimeTerms, time_cost_of}
 use Rattle.pc_flow.specs.declared.early.TheConstants.{MAX_LENGTH}
+use Rattle.pc_total.specs.TermsOfTime.{AreTermsOfTime}
 use Rattle.pc_total.specs.Totals.{IsOptimum, IsTotal}
 use Rattle.pc_total.specs.Bests.{HaveSigns, IsAbove, IsBelow}
 use Rattle.pc_total.specs.inside.Stops.{unit_cost}
@@ -162,8 +163,12 @@ module _ (terms : TimeTerms) where
 products-small : (a b m n : ℕ) → a ≤ m → b ≤ n → a * b ≤ m * n
 products-small a b m n few some = omega (arith, mul-le-mul_left a some, mul-le-mul_right n few)
 
+-- terms whose bonus is at most the penalty are within the limits
+pub within-limits : {terms : TimeTerms} → AreTimeTerms terms → AreTermsOfTime terms
+within-limits are = record { overhead = are.overhead; target = are.target; bonus = omega (arith, are.bonus, are.penalty); penalty = are.penalty }
+
 -- what the time of a length costs is small
-module _ (terms : TimeTerms) (are : AreTimeTerms terms) (n : ℕ) (small : n ≤ MAX_LENGTH) where
+module _ (terms : TimeTerms) (are : AreTermsOfTime terms) (n : ℕ) (small : n ≤ MAX_LENGTH) where
   pub dear-small : terms.overhead * n + terms.penalty * (n - terms.target) ≤ 2 * 10 ^ 18
   dear-small =
       omega (
@@ -176,5 +181,5 @@ module _ (terms : TimeTerms) (are : AreTimeTerms terms) (n : ℕ) (small : n ≤
   earned-small =
       omega (
         arith,
-        products-small terms.bonus (terms.target - n) (10 ^ 9) (10 ^ 9) (omega (arith, are.bonus, are.penalty)) (omega (arith, are.target)),
+        products-small terms.bonus (terms.target - n) (10 ^ 9) (10 ^ 9) (omega (arith, are.bonus)) (omega (arith, are.target)),
       )

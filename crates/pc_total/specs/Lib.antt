@@ -1,3 +1,4 @@
+pub mod TermsOfTime
 pub mod Totals
 pub mod Bests
 pub mod BestText

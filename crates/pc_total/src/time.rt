@@ -2,6 +2,7 @@
 ghost use Rattle.std.specs.Prelude.{◌≡◌, ◌<◌, ◌≤◌, if◌then◌else◌, nat_lt};
 ghost use Rattle.pc_model.specs.TimeCost.{AreTimeTerms, time_cost_of};
 ghost use Rattle.pc_flow.specs.declared.early.TheConstants.{MAX_LENGTH};
+ghost use Rattle.pc_total.specs.TermsOfTime.{AreTermsOfTime};
 ghost use Rattle.pc_total.specs.inside.Stops.{unit_cost};
 
 use pc_flow::MAX_LENGTH;
@@ -10,9 +11,9 @@ use pc_model::TimeTerms;
 /// What the time of a project of this length costs: the overhead of each unit, and the penalty of each unit above the target,
 /// less the bonus of each unit below it. It is negative where the bonus outweighs the overhead.
 ///
-/// The length is at most 1,000,000,000 units.
+/// The length is at most 1,000,000,000 units, and so is each of the terms. The bonus may be above the penalty.
 pub fn time_cost(terms: &TimeTerms, length: u64) -> i64
-    requires terms { AreTimeTerms terms.now }
+    requires terms { AreTermsOfTime terms.now }
     requires length { length ≤ MAX_LENGTH }
     ensures { result ≡ time_cost_of terms.now length }
 {

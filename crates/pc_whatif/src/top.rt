@@ -1,11 +1,11 @@
 //! The top call of the program that answers what-if lines.
 ghost use Rattle.std.specs.Prelude.{◌≡◌, ◌≢◌, ℕ, List, ◌+◌, ◌<◌, ◌≤◌, ◌⊎◌, length, IfSome};
 ghost use Rattle.pc_deck.specs.Limits.{longest_deck};
-ghost use Rattle.pc_edges.specs.Pulls.{TakesPulls};
+ghost use Rattle.pc_edges.specs.Pulls.{IsReadWithin};
 ghost use Rattle.pc_edges.specs.declared.loading.TheConstants.{STREAM_ROOM};
 ghost use Rattle.pc_lines.specs.declared.reader.TheConstants.{INPUT_LIMIT};
 ghost use Rattle.pc_reading.specs.OneWord.{IsDeckRefused, IsOneWord};
-ghost use Rattle.pc_reading.specs.Sides.{side, HadNoFault, IsReadToEnd, OfBytes, OfDeck, Took, TookAtMost};
+ghost use Rattle.pc_reading.specs.Sides.{side, HadNoFault, IsReadToEnd, OfBytes, OfDeck, Took};
 ghost use Rattle.pc_reading.specs.Verdict.{AcceptedBy, RefusedBy};
 ghost use Rattle.pc_whatif.specs.Heard.{session_usage_text, IsHeardOut, IsHeardTooLong};
 ghost use Rattle.pc_whatif.specs.inside.Hearing.{Hearing, status_of};
@@ -103,9 +103,8 @@ pub fn session_run<D: Source, C: Source, O: Sink, E: Sink>(
         OfBytes (side C.left C.faults edits.old edits.new)
         (λ before. IfSome (C.left edits.new) (λ after. INPUT_LIMIT + length after < length before → result ≡ 8)) }
 
-    // However long the deck is, no more pulls and hardly more bytes than those of the longest deck are taken of it.
-    ensures deck_turns { TakesPulls (longest_deck + 2) (D.pulls deck.old) (D.pulls deck.new) }
-    ensures deck_near { TookAtMost (longest_deck + STREAM_ROOM) (side D.left D.faults deck.old deck.new) }
+    // However long the deck is, nothing of it is pulled after the pull that passes the longest deck, ends it or fails.
+    ensures deck_stops { IsReadWithin longest_deck STREAM_ROOM D.left D.pulls deck.old deck.new }
 {
     session_outcome(alloc, words, deck, edits, out, err).code()
 }
@@ -122,8 +121,7 @@ fn session_outcome<D: Source, C: Source, O: Sink, E: Sink>(
     ensures outcome { SessionOutcome AnswersLines words.now (side D.left D.faults deck.old deck.new)
         (side C.left C.faults edits.old edits.new)
         (side O.taken O.faults out.old out.new) (side E.taken E.faults err.old err.new) result }
-    ensures deck_turns { TakesPulls (longest_deck + 2) (D.pulls deck.old) (D.pulls deck.new) }
-    ensures deck_near { TookAtMost (longest_deck + STREAM_ROOM) (side D.left D.faults deck.old deck.new) }
+    ensures deck_stops { IsReadWithin longest_deck STREAM_ROOM D.left D.pulls deck.old deck.new }
 {
     match project_named(alloc, words, USAGE, deck, err) {
         Ok(project) => hear(alloc, &project, edits, out),

@@ -1,12 +1,12 @@
 //! From the deck that a form speaks of to its project, or to why there is none.
-ghost use Rattle.std.specs.Prelude.{◌+◌, ◌≤◌, length, IfOk, IfErr};
+ghost use Rattle.std.specs.Prelude.{◌≤◌, length, IfOk, IfErr};
 ghost use Rattle.pc_bench.specs.Deck.{bench_text};
 ghost use Rattle.pc_deck.specs.Limits.{longest_deck};
-ghost use Rattle.pc_edges.specs.Pulls.{TakesPulls};
+ghost use Rattle.pc_edges.specs.Pulls.{IsReadWithin};
 ghost use Rattle.pc_edges.specs.declared.loading.TheConstants.{STREAM_ROOM};
 ghost use Rattle.pc_reading.specs.Reading.{HasProjectBy};
 ghost use Rattle.pc_reading.specs.inside.Reading.{HasNoProjectBy, IsNoProjectBy, IsNoProjectOf};
-ghost use Rattle.pc_reading.specs.Sides.{side, TookAtMost};
+ghost use Rattle.pc_reading.specs.Sides.{side};
 ghost use Rattle.pc_reading.specs.Verdict.{IsProjectOf};
 ghost use Rattle.pert_cli.specs.Tasks.{IsDrawnOf, IsTasksFault};
 ghost use Rattle.pert_cli.specs.Verdicts.{IsFaultAs, IsMadeAs};
@@ -34,8 +34,7 @@ pub(crate) fn project_for<S: Source>(
     requires { IsNumbered form }
     ensures project { IfOk result (HasProjectFor form (side S.left S.faults source.old source.new)) }
     ensures none { IfErr result (HasNoProjectFor form (side S.left S.faults source.old source.new)) }
-    ensures turns { TakesPulls (longest_deck + 2) (S.pulls source.old) (S.pulls source.new) }
-    ensures near { TookAtMost (longest_deck + STREAM_ROOM) (side S.left S.faults source.old source.new) }
+    ensures stops { IsReadWithin longest_deck STREAM_ROOM S.left S.pulls source.old source.new }
 {
     match form.bench() {
         Some(n) => bench_project(alloc, n),
@@ -52,8 +51,7 @@ fn read_as<S: Source>(
 ) -> Result<Project, NoProject>
     ensures project { IfOk result (HasProjectBy (IsMadeAs sort) (side S.left S.faults source.old source.new)) }
     ensures none { IfErr result (HasNoProjectBy (IsFaultAs sort) (side S.left S.faults source.old source.new)) }
-    ensures turns { TakesPulls (longest_deck + 2) (S.pulls source.old) (S.pulls source.new) }
-    ensures near { TookAtMost (longest_deck + STREAM_ROOM) (side S.left S.faults source.old source.new) }
+    ensures stops { IsReadWithin longest_deck STREAM_ROOM S.left S.pulls source.old source.new }
 {
     match read_deck(alloc, source) {
         Ok(bytes) => {

@@ -1,8 +1,8 @@
 //! The top call.
-ghost use Rattle.std.specs.Prelude.{◌≡◌, ◌≢◌, ℕ, ◌+◌, List, ◌≤◌, ◌⊎◌, length};
+ghost use Rattle.std.specs.Prelude.{◌≡◌, ◌≢◌, ℕ, List, ◌≤◌, ◌⊎◌, length};
 ghost use Rattle.pc_cards.specs.declared.sort.Sort.{Sort as TheSort};
 ghost use Rattle.pc_deck.specs.Limits.{longest_deck};
-ghost use Rattle.pc_edges.specs.Pulls.{TakesPulls};
+ghost use Rattle.pc_edges.specs.Pulls.{IsReadWithin};
 ghost use Rattle.pc_edges.specs.declared.loading.TheConstants.{STREAM_ROOM};
 ghost use Rattle.pert_cli.specs.declared.forms.Form.{Form as TheForm};
 ghost use Rattle.pert_cli.specs.declared.forms.Form.TheVariants.{Arrows, Certify, Migrate};
@@ -116,9 +116,8 @@ pub fn run<S: Source, O: Sink, E: Sink>(
     ensures unread { (form : TheForm) (deck : List ℕ) → AskFor form words.now → IsOwnDeck form deck →
         source.new ≡ source.old }
 
-    // However long the source is, no more pulls and hardly more bytes than those of the longest deck are taken of it.
-    ensures turns { TakesPulls (longest_deck + 2) (S.pulls source.old) (S.pulls source.new) }
-    ensures near { TookAtMost (longest_deck + STREAM_ROOM) (side S.left S.faults source.old source.new) }
+    // However long the source is, nothing is pulled after the pull that passes the longest deck, ends the input or fails.
+    ensures stops { IsReadWithin longest_deck STREAM_ROOM S.left S.pulls source.old source.new }
 
     // Where no fault came, the words and the deck decide, but for want of memory: the deck of the source, or the form's own.
     ensures words_refused { AskForNone words.now → HadNoFault (side E.taken E.faults err.old err.new) → result ≡ 2 }
@@ -150,8 +149,7 @@ fn outcome<S: Source, O: Sink, E: Sink>(
 ) -> Status
     ensures outcome { Outcome words.now (side S.left S.faults source.old source.new)
         (side O.taken O.faults out.old out.new) (side E.taken E.faults err.old err.new) result }
-    ensures turns { TakesPulls (longest_deck + 2) (S.pulls source.old) (S.pulls source.new) }
-    ensures near { TookAtMost (longest_deck + STREAM_ROOM) (side S.left S.faults source.old source.new) }
+    ensures stops { IsReadWithin longest_deck STREAM_ROOM S.left S.pulls source.old source.new }
 {
     let Some(form) = Form::asked(words) else {
         return match send(err, usage()) {

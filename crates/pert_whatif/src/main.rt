@@ -14,7 +14,10 @@ fn main(rt: HostRuntime) -> ExitCode {
     let Ok(words) = words_of(&rt) else {
         return ExitCode::from(Status::OutOfMemory.code());
     };
-    let mut deck = FileSource::at(&rt, deck_name(&words));
+    let mut deck = match deck_name(&words) {
+        Some(name) => FileSource::at(&rt, name),
+        None => FileSource::missing(),
+    };
     let mut edits = ReadSource::new(rt.stdin());
     let mut out = WriteSink::new(rt.stdout());
     let mut err = WriteSink::new(rt.stderr());

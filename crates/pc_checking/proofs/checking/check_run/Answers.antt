@@ -1,5 +1,5 @@
 use Rattle.pc_checking.proofs.CheckLaws.{one_finding, one_verdict}
-use Rattle.pc_checking.proofs.CheckDecided.{found_certified, found_failing, stops_there, headline, check_cut, not_refused_accepts, refused_deck_ends, right_ends, wrong_ends}
+use Rattle.pc_checking.proofs.CheckDecided.{found_certified, found_failing, headline, check_cut, not_refused_accepts, refused_deck_ends, right_ends, wrong_ends}
 use Rattle.pc_reading.proofs.VerdictLaws.{not_both}
 use Rattle.pc_checking.proofs.checking.check_run.Goals as goal
 
@@ -8,9 +8,6 @@ returns-clause-certified g c = found_certified c.args.words.now _ _ _ _ c.code.r
 
 pub returns-clause-not_certified : goal.returns-clause-not_certified
 returns-clause-not_certified g c = found_failing c.args.words.now _ _ _ _ c.code.result c.check_outcome.result c.check_outcome.ensures.outcome c.code.ensures
-
-pub returns-clause-stops : goal.returns-clause-stops
-returns-clause-stops g c = stops_there c.args.words.now _ _ _ _ c.code.result c.check_outcome.result c.check_outcome.ensures.outcome c.code.ensures
 
 pub returns-clause-headline : goal.returns-clause-headline
 returns-clause-headline g c = headline c.args.words.now _ _ _ _ c.code.result c.check_outcome.result c.check_outcome.ensures.outcome c.code.ensures

@@ -1,5 +1,8 @@
 use Rattle.std.proofs.Common.{refl, subst, arith}
 use Rattle.pc_faults.specs.declared.fault.Fault.{Fault}
+use Rattle.pc_deck.specs.Limits.{longest_deck}
+use Rattle.pc_edges.specs.declared.loading.TheConstants.{STREAM_ROOM}
+use Rattle.pc_edges.proofs.PullLaws.{IsReadWithin_none}
 use Rattle.pc_reading.specs.inside.OneWord.{not_one_word, no_memory, deck_unread, usage_cut}
 use Rattle.pc_reading.specs.inside.Refusing.{Refusal}
 use Rattle.pc_reading.specs.Sides.{side}
@@ -8,6 +11,12 @@ use Rattle.pc_reading.proofs.one_word.project_named.Goals as goal
 
 pub returns-in-Ok-clause-none : goal.returns-in-Ok-clause-none
 returns-in-Ok-clause-none g c = not_one_word (λ one. absurd (omega (arith, one, c.if-words-ne1.true))) c.in-Ok.ensures.ok refl
+
+pub returns-in-Ok-clause-stops : goal.returns-in-Ok-clause-stops
+returns-in-Ok-clause-stops g c = IsReadWithin_none longest_deck STREAM_ROOM g.D.Source.left g.D.Source.pulls c.args.deck.now
+
+pub returns-in-Err-clause-stops : goal.returns-in-Err-clause-stops
+returns-in-Err-clause-stops g c = IsReadWithin_none longest_deck STREAM_ROOM g.D.Source.left g.D.Source.pulls c.args.deck.now
 
 pub returns-in-Err-clause-none : goal.returns-in-Err-clause-none
 returns-in-Err-clause-none g c = usage_cut (λ one. absurd (omega (arith, one, c.if-words-ne1.true))) c.in-Err.ensures.err refl

@@ -3,7 +3,7 @@ use Rattle.std.proofs.lemmas.Int.{ints}
 use Rattle.pc_flow.specs.declared.early.TheConstants.{MAX_LENGTH}
 use Rattle.pc_curve.specs.Points.{curve_in}
 use Rattle.pc_total.proofs.LeastLaws.{curve-convex, least-small}
-use Rattle.pc_total.proofs.TotalLaws.{dear-small, earned-small}
+use Rattle.pc_total.proofs.TotalLaws.{dear-small, earned-small, within-limits}
 use Rattle.pc_total.proofs.SignLaws.{best-is}
 use Rattle.pc_total.proofs.finding.best_at.Goals as goal
 
@@ -23,8 +23,8 @@ overflow_add-result g c =
       ints,
       least-small c.args.solver.now.net known.priced known.limits known.pieces known.piece_limits c.args.length c.cost_at-direct.result c.cost_at-direct.ensures.least,
       c.time_cost-time.ensures,
-      dear-small terms c.requires.terms c.args.length limit,
-      earned-small terms c.requires.terms c.args.length limit,
+      dear-small terms (within-limits c.requires.terms) c.args.length limit,
+      earned-small terms (within-limits c.requires.terms) c.args.length limit,
     )
 
 pub returns-clause-best : goal.returns-clause-best
@@ -34,8 +34,8 @@ returns-clause-best g c =
     let from = c.args.solver.now in
     let limit : c.args.length ≤ MAX_LENGTH = omega (arith, c.requires.to_come.within, c.longest-longest.ensures.longest, c.longest-longest.ensures.limit) in
     let small = least-small from.net known.priced known.limits known.pieces known.piece_limits c.args.length c.cost_at-direct.result c.cost_at-direct.ensures.least in
-    let dear = dear-small terms c.requires.terms c.args.length limit in
-    let earned = earned-small terms c.requires.terms c.args.length limit in
+    let dear = dear-small terms (within-limits c.requires.terms) c.args.length limit in
+    let earned = earned-small terms (within-limits c.requires.terms) c.args.length limit in
     best-is terms (curve_in from.net) (curve-convex from.net known.priced) c.requires.terms.bonus from.shortest from.longest c.args.slope c.args.gain _
     c.requires.to_come.above c.requires.to_come.within c.requires.stop c.cost_at-direct.ensures.least
     (omega (arith, ints, c.time_cost-time.ensures, dear, earned))
@@ -44,7 +44,7 @@ returns-clause-best g c =
     (rw c.longest-longest.ensures.longest at c.above_at.ensures.none) (rw c.longest-longest.ensures.longest at c.above_at.ensures.below) c.above_at.ensures.differs
 
 pub time_cost-time-requires-clause-terms : goal.time_cost-time-requires-clause-terms
-time_cost-time-requires-clause-terms g c = c.requires.terms
+time_cost-time-requires-clause-terms g c = within-limits c.requires.terms
 
 pub time_cost-time-requires-clause-length : goal.time_cost-time-requires-clause-length
 time_cost-time-requires-clause-length g c = omega (arith, c.requires.to_come.within, c.longest-longest.ensures.longest, c.longest-longest.ensures.limit)

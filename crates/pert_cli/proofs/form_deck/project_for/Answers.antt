@@ -1,4 +1,4 @@
-use Rattle.std.proofs.Common.{◌+◌, [], refl, ap, arith, subst, sym}
+use Rattle.std.proofs.Common.{refl, ap, subst, sym}
 use Rattle.std.specs.Prelude.{IfErr, IfOk}
 use Rattle.pc_bench.specs.Deck.{bench_text}
 use Rattle.pc_cards.specs.declared.sort.Sort.{Sort}
@@ -9,9 +9,9 @@ use Rattle.pc_reading.specs.Reading.{HasProjectBy}
 use Rattle.pc_reading.specs.inside.Reading.{HasNoProjectBy, IsNoProjectBy}
 use Rattle.pc_reading.specs.Sides.{side}
 use Rattle.pert_cli.proofs.FormDeckLaws.{own_gives, own_lacks, read_gives, read_lacks}
-use Rattle.std.proofs.KnownBytes.{Consumes-nil}
 use Rattle.pc_deck.specs.Limits.{longest_deck}
-use Rattle.pc_edges.proofs.PullLaws.{TakesPulls-none}
+use Rattle.pc_edges.specs.declared.loading.TheConstants.{STREAM_ROOM}
+use Rattle.pc_edges.proofs.PullLaws.{IsReadWithin_none}
 use Rattle.pert_cli.proofs.form_deck.project_for.Goals as goal
 
 pub returns-in-Some-clause-project : goal.returns-in-Some-clause-project
@@ -26,11 +26,8 @@ returns-in-Some-clause-none g c =
     own_lacks (side g.S.Source.left g.S.Source.faults c.args.source.now c.args.source.now) c.args.form c.bench_project.result (bench_text n) (ap own_deck c.in-Some.ensures.own) refl
     (subst (λ (form : Form). IfErr c.bench_project.result (IsNoProjectBy (IsFaultAs (sort_of form)) (bench_text n))) (sym c.in-Some.ensures.own) c.bench_project.ensures.none)
 
-pub returns-in-Some-clause-turns : goal.returns-in-Some-clause-turns
-returns-in-Some-clause-turns g c = TakesPulls-none (longest_deck + 2) (g.S.Source.pulls c.args.source.now)
-
-pub returns-in-Some-clause-near : goal.returns-in-Some-clause-near
-returns-in-Some-clause-near g c = ([], Consumes-nil (g.S.Source.left c.args.source.now), omega arith)
+pub returns-in-Some-clause-stops : goal.returns-in-Some-clause-stops
+returns-in-Some-clause-stops g c = IsReadWithin_none longest_deck STREAM_ROOM g.S.Source.left g.S.Source.pulls c.args.source.now
 
 pub returns-in-None-clause-project : goal.returns-in-None-clause-project
 returns-in-None-clause-project g c =

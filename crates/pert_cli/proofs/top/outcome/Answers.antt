@@ -1,4 +1,4 @@
-use Rattle.std.proofs.Common.{◌+◌, [], refl, sym, subst, arith}
+use Rattle.std.proofs.Common.{refl, sym, subst}
 use Rattle.pc_faults.specs.declared.fault.Fault.{Fault}
 use Rattle.pc_faults.specs.inside.FaultText.{IsTold}
 use Rattle.pc_reading.specs.inside.Refusing.{Refusal}
@@ -6,9 +6,9 @@ use Rattle.pc_reading.specs.Sides.{side, Took, TookFront}
 use Rattle.pert_cli.specs.Outcome.{in_usage}
 use Rattle.pert_cli.specs.inside.Outcome.{usage, no_memory, read_fault, write_fault}
 use Rattle.pert_cli.proofs.OutcomeLaws.{after_refusal, after_reply}
-use Rattle.std.proofs.KnownBytes.{Consumes-nil}
 use Rattle.pc_deck.specs.Limits.{longest_deck}
-use Rattle.pc_edges.proofs.PullLaws.{TakesPulls-none}
+use Rattle.pc_edges.specs.declared.loading.TheConstants.{STREAM_ROOM}
+use Rattle.pc_edges.proofs.PullLaws.{IsReadWithin_none}
 use Rattle.pert_cli.proofs.top.outcome.Goals as goal
 
 pub refuse-requires : goal.refuse-requires
@@ -48,41 +48,23 @@ returns-clause-outcome g c =
 pub project_for-requires : goal.project_for-requires
 project_for-requires g c = c.in-Some.ensures.form.numbered
 
-pub returns-in-Ok-clause-turns : goal.returns-in-Ok-clause-turns
-returns-in-Ok-clause-turns g c = TakesPulls-none (longest_deck + 2) (g.S.Source.pulls c.args.source.now)
+pub returns-in-Ok-clause-stops : goal.returns-in-Ok-clause-stops
+returns-in-Ok-clause-stops g c = IsReadWithin_none longest_deck STREAM_ROOM g.S.Source.left g.S.Source.pulls c.args.source.now
 
-pub returns-in-Ok-clause-near : goal.returns-in-Ok-clause-near
-returns-in-Ok-clause-near g c = ([], Consumes-nil (g.S.Source.left c.args.source.now), omega arith)
-
-pub returns-in-Err-clause-turns : goal.returns-in-Err-clause-turns
-returns-in-Err-clause-turns g c = TakesPulls-none (longest_deck + 2) (g.S.Source.pulls c.args.source.now)
-
-pub returns-in-Err-clause-near : goal.returns-in-Err-clause-near
-returns-in-Err-clause-near g c = ([], Consumes-nil (g.S.Source.left c.args.source.now), omega arith)
+pub returns-in-Err-clause-stops : goal.returns-in-Err-clause-stops
+returns-in-Err-clause-stops g c = IsReadWithin_none longest_deck STREAM_ROOM g.S.Source.left g.S.Source.pulls c.args.source.now
 
 pub answer-requires : goal.answer-requires
 answer-requires g c = c.in-Some.ensures.form.numbered
 
-pub returns-in-Ok-project_for-clause-turns : goal.returns-in-Ok-project_for-clause-turns
-returns-in-Ok-project_for-clause-turns g c = c.project_for.ensures.turns
+pub returns-in-Ok-project_for-clause-stops : goal.returns-in-Ok-project_for-clause-stops
+returns-in-Ok-project_for-clause-stops g c = c.project_for.ensures.stops
 
-pub returns-in-Ok-project_for-clause-near : goal.returns-in-Ok-project_for-clause-near
-returns-in-Ok-project_for-clause-near g c = c.project_for.ensures.near
+pub returns-in-Err-Refused-clause-stops : goal.returns-in-Err-Refused-clause-stops
+returns-in-Err-Refused-clause-stops g c = c.project_for.ensures.stops
 
-pub returns-in-Err-Refused-clause-turns : goal.returns-in-Err-Refused-clause-turns
-returns-in-Err-Refused-clause-turns g c = c.project_for.ensures.turns
+pub returns-in-Err-ReadFault-clause-stops : goal.returns-in-Err-ReadFault-clause-stops
+returns-in-Err-ReadFault-clause-stops g c = c.project_for.ensures.stops
 
-pub returns-in-Err-Refused-clause-near : goal.returns-in-Err-Refused-clause-near
-returns-in-Err-Refused-clause-near g c = c.project_for.ensures.near
-
-pub returns-in-Err-ReadFault-clause-turns : goal.returns-in-Err-ReadFault-clause-turns
-returns-in-Err-ReadFault-clause-turns g c = c.project_for.ensures.turns
-
-pub returns-in-Err-ReadFault-clause-near : goal.returns-in-Err-ReadFault-clause-near
-returns-in-Err-ReadFault-clause-near g c = c.project_for.ensures.near
-
-pub returns-clause-turns : goal.returns-clause-turns
-returns-clause-turns g c = c.project_for.ensures.turns
-
-pub returns-clause-near : goal.returns-clause-near
-returns-clause-near g c = c.project_for.ensures.near
+pub returns-clause-stops : goal.returns-clause-stops
+returns-clause-stops g c = c.project_for.ensures.stops

@@ -51,8 +51,5 @@ returns-clause-migrated g c = takes_same_project c.args.words.now _ _ _ c.code.r
 pub returns-clause-drawn : goal.returns-clause-drawn
 returns-clause-drawn g c = takes_arrows c.args.words.now _ _ _ c.code.result c.outcome.result c.outcome.ensures.outcome c.code.ensures
 
-pub returns-clause-turns : goal.returns-clause-turns
-returns-clause-turns g c = c.outcome.ensures.turns
-
-pub returns-clause-near : goal.returns-clause-near
-returns-clause-near g c = c.outcome.ensures.near
+pub returns-clause-stops : goal.returns-clause-stops
+returns-clause-stops g c = c.outcome.ensures.stops
