@@ -1,10 +1,14 @@
-"""Checks the certificate of a project's time-cost curve, and shares nothing with pert and pert_check.
+#!/usr/bin/env python3
+"""Checks the certificate of a project's time-cost curve. Shares nothing with pert and pert_check.
 
     python3 check.py DECK < CERTIFICATE
 
-It prints `certified N` and ends with 0, or `not certified line K reason R` and ends with 6: K is the first line at which something
-is wrong, R the condition that fails there (docs/certificate.md), or 0 where the line is malformed or missing. The deck is taken as
-it stands; whether it is in order, `pert check` says.
+Prints `certified N` and ends with 0, or prints `not certified line K reason R` and ends with 6: K is the first line at which
+something is wrong, R the condition that fails there (docs/certificate.md), or 0 if the line is malformed or missing. A deck that
+cannot be used ends it with one line on standard error: status 1 if a card is wrong, 4 if the file cannot be read.
+
+Of the deck it tests what a certificate depends on: known kinds of cards, PROJECT first and END last, codes, numbers, no code
+twice, events and activities that are there, durations and pieces in order. Everything else is left to `pert check`.
 """
 import csv, re, sys
 
@@ -15,10 +19,27 @@ SEGMENT = f"SEGMENT {NUMBER} {NUMBER} {NUMBER} {NUMBER}"
 EVENT = f"EVENT {CODE} {NUMBER} ([01])"
 ACT = f"ACT {CODE} {NUMBER}((?: (?:0|[1-9][0-9]{{0,17}})){{2,6}})"
 
+KINDS = "PROJECT ASOF TERMS WBS EVENT ACT PIECE ACCT CHARGE TOGO STATUS RES LOAD END".split()
+
+class Refused(Exception):  # with what is wrong with the deck
+    pass
+
+def code(record, card, field):
+    if len(card) <= field or not re.fullmatch(CODE, card[field]):
+        raise Refused(f"record {record}: field {field + 1} is not a code")
+    return card[field]
+
+def number(record, card, field):
+    if len(card) <= field or not re.fullmatch("0|[1-9][0-9]{0,12}", card[field]):
+        raise Refused(f"record {record}: field {field + 1} is not a number")
+    return int(card[field])
+
 class Activity:
-    def __init__(self, card):
-        self.code, self.start, self.end = card[1:4]
-        self.normal, self.crash, self.cost, self.slope = map(int, card[8:12])
+    def __init__(self, record, card):
+        self.code, self.start, self.end = (code(record, card, field) for field in (1, 2, 3))
+        self.normal, self.crash, self.cost, self.slope = (number(record, card, field) for field in (8, 9, 10, 11))
+        if self.crash > self.normal:
+            raise Refused(f"record {record}: the crash duration is above the normal one")
         self.pieces = []
 
     def knees(self):
@@ -32,15 +53,45 @@ class Activity:
 class Deck:
     def __init__(self, name):
         with open(name, encoding="utf-8-sig", newline="") as file:
-            cards = [card for card in csv.reader(file) if any(card)]
-        self.code, self.start, self.end = cards[0][1:4]
-        self.events = [card[1] for card in cards if card[0] == "EVENT"]
-        self.activities = [Activity(card) for card in cards if card[0] == "ACT"]
-        self.named = {a.code: a for a in self.activities}
-        for card in cards:
-            if card[0] == "PIECE":
-                self.named[card[1]].pieces.append((int(card[2]), int(card[3])))
+            cards = [(at, card) for at, card in enumerate((record for record in csv.reader(file) if record), 1) if any(card)]
+        if not cards or cards[0][1][0] != "PROJECT" or cards[-1][1][0] != "END":
+            raise Refused("the first card is not PROJECT, or the last one not END")
+        self.events, self.named, self.items = {}, {}, set()
+        for at, card in cards:
+            if card[0] not in KINDS:
+                raise Refused(f"record {at}: unknown kind of card")
+            if card[0] == "EVENT":
+                self.once(at, self.events, code(at, card, 1), None)
+            elif card[0] == "ACT":
+                self.once(at, self.named, code(at, card, 1), Activity(at, card))
+            elif card[0] == "WBS":
+                self.items.add(code(at, card, 1))
+        first = cards[0]
+        self.code, self.start, self.end = (code(*first, field) for field in (1, 2, 3))
+        self.activities = list(self.named.values())
+        self.known(1, self.events, self.start), self.known(1, self.events, self.end)
+        for at, card in cards:
+            if card[0] == "ACT":
+                for event in card[2:4]:
+                    self.known(at, self.events, event)
+                self.known(at, self.items, code(at, card, 4))
+            elif card[0] == "PIECE":
+                self.known(at, self.named, code(at, card, 1))
+                self.named[card[1]].pieces.append((number(at, card, 2), number(at, card, 3)))
+        for a in self.activities:
+            slopes = [a.slope] + [slope for _, slope in a.pieces]
+            if sorted(set(slopes)) != slopes and a.pieces or a.pieces and sum(units for units, _ in a.pieces) >= a.normal - a.crash:
+                raise Refused(f"the pieces of {a.code} do not rise, or leave nothing to its first slope")
         self.version = 2 if any(a.pieces for a in self.activities) else 1
+
+    def once(self, at, table, key, value):
+        if key in table:
+            raise Refused(f"record {at}: {key} stands twice")
+        table[key] = value
+
+    def known(self, at, table, key):
+        if key not in table:
+            raise Refused(f"record {at}: {key} is on no card")
 
 class Wrong(Exception):  # with the number of the condition, or 0
     pass
@@ -141,10 +192,25 @@ def check(deck, lines):
     ask(0, lines.stream.read(1) == b"")
     return segments
 
-if __name__ == "__main__":
+def main(words):
+    if len(words) != 1 or words == ["--help"]:
+        print(__doc__.strip(), file=sys.stdout if words == ["--help"] else sys.stderr)
+        return 0 if words == ["--help"] else 2
+    try:
+        deck = Deck(words[0])
+    except Refused as refused:
+        print(f"check.py: {words[0]}: {refused}", file=sys.stderr)
+        return 1
+    except (OSError, UnicodeDecodeError, csv.Error) as error:
+        print(f"check.py: {words[0]} cannot be read: {error}", file=sys.stderr)
+        return 4
     lines = Lines(sys.stdin.buffer)
     try:
-        print("certified", check(Deck(sys.argv[1]), lines))
+        print("certified", check(deck, lines))
     except Wrong as wrong:
         print("not certified line", lines.count, "reason", wrong.args[0])
-        sys.exit(6)
+        return 6
+    return 0
+
+if __name__ == "__main__":
+    sys.exit(main(sys.argv[1:]))

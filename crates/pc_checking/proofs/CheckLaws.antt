@@ -28,7 +28,7 @@ use Rattle.pc_reading.specs.inside.Reading.{HasProject}
 use Rattle.pc_reading.specs.Sides.{Side, IsUntouched, Took}
 use Rattle.pc_reading.specs.Verdict.{IsProjectOf, AcceptedBy}
 use Rattle.pc_check.proofs.HeadlineLaws.{prints_whole_curve}
-use Rattle.pc_reading.proofs.PricedLaws.{is_named, is_priced}
+use Rattle.pc_reading.proofs.PricedLaws.{is_named, is_priced, priced_as}
 use Rattle.pc_reading.proofs.VerdictLaws.{one_project}
 
 -- ---- verdicts
@@ -59,9 +59,10 @@ one_finding bytes text (No line reason) (No number cause) a b =
 -- a certified certificate proves the whole curve
 pub curve_of : (bytes text : List ℕ) (segments : ℕ) → HasVerdict bytes text (Yes segments) → ProvesCurve bytes text
 curve_of bytes text segments h = record {
-  project = h.project;
-  accepted = h.accepted;
-  prints = prints_whole_curve (priced_in h.project) text segments (is_priced bytes h.project h.accepted) (is_named bytes h.project h.accepted) h.finds;
+  deck = h.accepted.deck;
+  accepted = h.accepted.accepted;
+  prints = rw (← priced_as h.accepted.deck h.project h.accepted.is)
+      (prints_whole_curve (priced_in h.project) text segments (is_priced bytes h.project h.accepted) (is_named bytes h.project h.accepted) h.finds);
 }
 
 -- ---- bytes of two sources

@@ -8,10 +8,11 @@ use Rattle.pc_check.specs.Texts.{Finds}
 use Rattle.pc_check.specs.Headline.{PrintsWholeCurve}
 use Rattle.pc_check.specs.Stops.{IsSettled, IsUnsettled}
 use Rattle.pc_check.specs.OwnLines.{KeepsToOwnLines}
+use Rattle.pc_deck.specs.Deck.{Deck}
 use Rattle.pc_project.specs.Project.{Project}
-use Rattle.pc_reading.specs.Priced.{priced_in}
+use Rattle.pc_reading.specs.Priced.{priced_in, priced_of}
 use Rattle.pc_reading.specs.Sides.{Side}
-use Rattle.pc_reading.specs.Verdict.{IsProjectOf}
+use Rattle.pc_reading.specs.Verdict.{IsAccepted, IsProjectOf}
 
 -- ---- lines
 
@@ -49,11 +50,11 @@ Certifies deck text = (segments : ℕ) × HasVerdict deck text (Yes segments)
 abbrev pub FailsAsCertificate : List ℕ → List ℕ → Type 0
 FailsAsCertificate deck text = (line reason : ℕ) × HasVerdict deck text (No line reason)
 
--- the deck is accepted, and the text says the whole time-cost curve of its project
-pub record ProvesCurve (deck text : List ℕ) : Type 0 where
-  pub project : Project
-  pub accepted : IsProjectOf deck project
-  pub prints : PrintsWholeCurve (priced_in project) text
+-- the bytes are those of an accepted deck, and the text says the whole time-cost curve of its network
+pub record ProvesCurve (bytes text : List ℕ) : Type 0 where
+  pub deck : Deck
+  pub accepted : IsAccepted bytes deck
+  pub prints : PrintsWholeCurve (priced_of deck) text
 
 -- ---- what a check leaves
 

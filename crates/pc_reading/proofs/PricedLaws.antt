@@ -1,5 +1,5 @@
 -- The priced network of a project, from its parts.
-use Rattle.std.proofs.Common.{◌≡◌, ℕ, List, length, refl}
+use Rattle.std.proofs.Common.{◌≡◌, ℕ, List, length, refl, ap}
 use Rattle.pc_model.specs.Network.{Network}
 use Rattle.pc_model.specs.declared.PieceRow.{PieceRow}
 use Rattle.pc_model.specs.declared.Term.{Term}
@@ -8,7 +8,9 @@ use Rattle.pc_model.proofs.Costs.PieceLaws.{pieces_fit}
 use Rattle.pc_crash.specs.Priced.{PricedNetwork, knees_in}
 use Rattle.pc_project.specs.Project.{Project}
 use Rattle.pc_project.proofs.SoundLaws.{sound_parts}
-use Rattle.pc_reading.specs.Priced.{priced_in}
+use Rattle.pc_deck.specs.Deck.{Deck}
+use Rattle.pc_project.specs.Figures.{IsProjectOfDeck}
+use Rattle.pc_reading.specs.Priced.{priced_in, priced_of}
 use Rattle.pc_reading.specs.Verdict.{IsProjectOf}
 
 abbrev of_fields : Network → List Term → List PieceRow → List ℕ → List (List ℕ) → List (List ℕ) → PricedNetwork
@@ -38,3 +40,7 @@ is_priced bytes project is =
 -- and names its activities
 pub is_named : (bytes : List ℕ) (project : Project) → IsProjectOf bytes project → length project.activities ≡ length project.network.arcs
 is_named bytes project is = (sound_parts is.deck project is.accepted.makes is.is).activity_codes
+
+-- the priced network of a deck's project is that of the deck
+pub priced_as : (deck : Deck) (project : Project) → IsProjectOfDeck deck project → priced_in project ≡ priced_of deck
+priced_as deck project is = ap priced_in is.lists

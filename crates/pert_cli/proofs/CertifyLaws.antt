@@ -5,7 +5,7 @@ use Rattle.std.specs.declared.alloc.Global.{Global}
 use Rattle.pc_project.specs.Project.{Project}
 use Rattle.pc_certify.specs.Certificate.{IsCertificate}
 use Rattle.pc_check.proofs.HeadlineLaws.{prints_whole_curve}
-use Rattle.pc_reading.proofs.PricedLaws.{is_named, is_priced}
+use Rattle.pc_reading.proofs.PricedLaws.{is_named, is_priced, priced_as}
 use Rattle.pert_cli.specs.declared.forms.Form.TheVariants.{Certify}
 use Rattle.pc_reading.specs.declared.status.Status.{Status}
 use Rattle.pc_reading.specs.inside.Status.{code_of}
@@ -22,11 +22,12 @@ of_deck : {X : Type 0} (left : Option (List ℕ)) (out : Side X) (project : Proj
     → IfSome left (λ bytes. IsProjectOf bytes project) → IfSome left (TookWholeCurve out)
 of_deck None out project text took is accepted = tt
 of_deck (Some bytes) out project text took is accepted = record {
-  project = project;
-  accepted = accepted;
+  deck = accepted.deck;
+  accepted = accepted.accepted;
   text = text;
   took = took;
-  prints = prints_whole_curve (priced_in project) text _ (is_priced bytes project accepted) (is_named bytes project accepted) is.certified;
+  prints = rw (← priced_as accepted.deck project accepted.is)
+      (prints_whole_curve (priced_in project) text _ (is_priced bytes project accepted) (is_named bytes project accepted) is.certified);
 }
 
 module _ {S O E : Type 0} (words : List (String Global)) (source : Side S) (out : Side O) (err : Side E) (answer : ℕ) where

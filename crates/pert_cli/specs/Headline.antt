@@ -1,16 +1,16 @@
 -- What the program exists for: the whole time-cost curve of an accepted deck, printed with what proves it.
 use Rattle.std.specs.Prelude.{ℕ, List}
 use Rattle.pc_check.specs.Headline.{PrintsWholeCurve}
-use Rattle.pc_project.specs.Project.{Project}
-use Rattle.pc_reading.specs.Priced.{priced_in}
+use Rattle.pc_deck.specs.Deck.{Deck}
+use Rattle.pc_reading.specs.Priced.{priced_of}
 use Rattle.pc_reading.specs.Sides.{Side, Took}
-use Rattle.pc_reading.specs.Verdict.{IsProjectOf}
+use Rattle.pc_reading.specs.Verdict.{IsAccepted}
 
--- the deck is accepted, and the output took a text that prints the whole time-cost curve of its project: for every length
--- from the all-crash to the all-normal length a schedule of that length, what it costs, that none costs less, and why
-pub record TookWholeCurve {X : Type 0} (out : Side X) (deck : List ℕ) : Type 0 where
-  pub project : Project
-  pub accepted : IsProjectOf deck project
+-- the bytes are those of an accepted deck, and the output took a text that prints the whole time-cost curve of its network: for every
+-- length from the all-crash to the all-normal length a schedule of that length, what it costs, that none costs less, and why
+pub record TookWholeCurve {X : Type 0} (out : Side X) (bytes : List ℕ) : Type 0 where
+  pub deck : Deck
+  pub accepted : IsAccepted bytes deck
   pub text : List ℕ
   pub took : Took out text
-  pub prints : PrintsWholeCurve (priced_in project) text
+  pub prints : PrintsWholeCurve (priced_of deck) text
