@@ -1,4 +1,5 @@
 # make              proves all crates and builds the programs into bin/ (half an hour the first time, on four processors, see README.md)
+# make try          runs pert with the words FORM on the deck DECK in about a minute, before anything is proved (FORM='point 6')
 # make check        runs the gate (every proof, edit, test and program) and the acceptance cases
 # make install      copies programs, manual pages, docs, examples and completion below $(PREFIX)
 # make uninstall    takes them away again
@@ -35,6 +36,12 @@ out/built: $(SOURCES)
 	@for program in $(PROGRAMS); do cp "crates/$$program/out/$$program" "bin/$$program" || exit 1; done
 	@touch $@
 	@echo "built $(PROGRAMS:%=bin/%)"
+
+# A first answer without a proof. Nothing that this builds is kept, installed or packed.
+FORM ?= times
+DECK ?= examples/shed.csv
+try:
+	@tools/try $(FORM) <"$(DECK)"
 
 check:
 	.ci/run
@@ -75,4 +82,4 @@ soak:
 clean:
 	rm -rf bin out crates/*/out
 
-.PHONY: all check install uninstall dist soak clean
+.PHONY: all try check install uninstall dist soak clean
