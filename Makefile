@@ -12,10 +12,12 @@ PREFIX ?= /usr/local
 PLACE ?= $(PREFIX)
 MINUTES ?= 30
 PROGRAMS := pert pert_check pert_whatif
-SECTION1 := pert.1 pert_check.1 pert_whatif.1
-PAGES := README.md $(wildcard docs/*.md)
-PICTURES := $(wildcard docs/*.svg)
-EXAMPLES := $(wildcard examples/*)
+# What is installed is listed, so that no stray file is: tests/docs/files compares the list with what git tracks.
+INSTALLED := $(shell cat tools/installed 2>/dev/null)
+SECTION1 := $(patsubst docs/man/%,%,$(filter docs/man/%.1,$(INSTALLED)))
+PAGES := README.md $(filter docs/%.md,$(INSTALLED))
+PICTURES := $(filter docs/%.svg,$(INSTALLED))
+EXAMPLES := $(filter examples/%,$(INSTALLED))
 
 VERSION := $(shell cat VERSION)
 SOURCES := crates.txt VERSION Makefile tools/prove \
@@ -46,10 +48,17 @@ try:
 check:
 	.ci/run
 
-# A page that is installed names this version and this place, and takes the programs from the path in its commands.
-SHOWN := sed -e 's/@VERSION@/$(VERSION)/' -e 's:@DOC@:$(PLACE)/share/doc/pert:g' -e '/^    \$$ /s:bin/pert:pert:g'
+# A page that is installed names this version and this place, and takes the programs from the path in its commands. `\`, `&` and `:` are
+# escaped, since they mean something in what sed puts in.
+QUOTED = $(subst ','\'',$(PLACE)/share/doc/pert)
+SHOWN = sed -e 's/@VERSION@/$(VERSION)/' -e "s:@DOC@:$$(printf '%s' '$(QUOTED)' | sed 's/[\\&:]/\\&/g'):g" -e '/^    \$$ /s:bin/pert:pert:g'
 
-install: all
+# A prefix with one of these characters would not get through the commands below.
+placed:
+	@case '$(subst ','\'',$(ROOT) $(PLACE))' in *[\"\`\$$\\]*) echo 'make: PREFIX must not have any of the characters " ` $$ \' >&2; exit 1 ;; esac
+	@[ -n "$(INSTALLED)" ] || { echo "make: tools/installed, the list of what is installed, is missing" >&2; exit 1; }
+
+install: placed all
 	install -d "$(ROOT)/bin" "$(MAN)/man1" "$(MAN)/man5" "$(DOC)/docs" "$(DOC)/examples" "$(COMPLETIONS)"
 	install -m 755 $(PROGRAMS:%=bin/%) "$(ROOT)/bin"
 	for page in $(SECTION1); do $(SHOWN) "docs/man/$$page" >"$(MAN)/man1/$$page" || exit 1; done
@@ -60,7 +69,7 @@ install: all
 	chmod 644 $(SECTION1:%="$(MAN)/man1/%") "$(MAN)/man5/pert-deck.5" $(PAGES:%="$(DOC)/%")
 	for program in $(PROGRAMS); do install -m 644 tools/completion.bash "$(COMPLETIONS)/$$program" || exit 1; done
 
-uninstall:
+uninstall: placed
 	rm -f $(PROGRAMS:%="$(ROOT)/bin/%") $(SECTION1:%="$(MAN)/man1/%") "$(MAN)/man5/pert-deck.5" $(PROGRAMS:%="$(COMPLETIONS)/%")
 	rm -rf "$(DOC)"
 
@@ -82,4 +91,4 @@ soak:
 clean:
 	rm -rf bin out crates/*/out
 
-.PHONY: all try check install uninstall dist soak clean
+.PHONY: all placed try check install uninstall dist soak clean
