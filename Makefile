@@ -4,7 +4,7 @@
 # make install      copies programs, manual pages, docs, examples and completion below $(PREFIX)
 # make uninstall    takes them away again
 # make dist         packs them into one archive in out/, for offices that have no kit: the same bytes from the same sources
-# make soak         tries generated decks, certificates and failing memory for MINUTES minutes (SEED=.. repeats a run)
+# make soak         tries generated decks, certificates and failing memory for MINUTES minutes (SEED=.. repeats a run), then the edits of tests/edits/
 # make clean        removes all that was built
 
 PREFIX ?= /usr/local
@@ -15,7 +15,7 @@ PROGRAMS := pert pert_check pert_whatif
 # What is installed is listed, so that no stray file is: tests/docs/files compares the list with what git tracks.
 INSTALLED := $(shell cat tools/installed 2>/dev/null)
 SECTION1 := $(patsubst docs/man/%,%,$(filter docs/man/%.1,$(INSTALLED)))
-PAGES := README.md $(filter docs/%.md,$(INSTALLED))
+PAGES := README.md CONTRIBUTING.md CHANGELOG.md $(filter docs/%.md,$(INSTALLED))
 PICTURES := $(filter docs/%.svg,$(INSTALLED))
 EXAMPLES := $(filter examples/%,$(INSTALLED))
 
