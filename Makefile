@@ -1,9 +1,10 @@
 # make              proves all crates and builds the programs into bin/ (half an hour the first time, on four processors, see README.md)
+# make try          runs pert with the words FORM on the deck DECK in about a minute, before anything is proved (FORM='point 6')
 # make check        runs the gate (every proof, edit, test and program) and the acceptance cases
 # make install      copies programs, manual pages, docs, examples and completion below $(PREFIX)
 # make uninstall    takes them away again
 # make dist         packs them into one archive in out/, for offices that have no kit: the same bytes from the same sources
-# make soak         tries generated decks, certificates and failing memory for MINUTES minutes (SEED=.. repeats a run)
+# make soak         tries generated decks, certificates and failing memory for MINUTES minutes (SEED=.. repeats a run), then the edits of tests/edits/
 # make clean        removes all that was built
 
 PREFIX ?= /usr/local
@@ -11,10 +12,12 @@ PREFIX ?= /usr/local
 PLACE ?= $(PREFIX)
 MINUTES ?= 30
 PROGRAMS := pert pert_check pert_whatif
-SECTION1 := pert.1 pert_check.1 pert_whatif.1
-PAGES := README.md $(wildcard docs/*.md)
-PICTURES := $(wildcard docs/*.svg)
-EXAMPLES := $(wildcard examples/*)
+# What is installed is listed, so that no stray file is: tests/docs/files compares the list with what git tracks.
+INSTALLED := $(shell cat tools/installed 2>/dev/null)
+SECTION1 := $(patsubst docs/man/%,%,$(filter docs/man/%.1,$(INSTALLED)))
+PAGES := README.md CONTRIBUTING.md CHANGELOG.md $(filter docs/%.md,$(INSTALLED))
+PICTURES := $(filter docs/%.svg,$(INSTALLED))
+EXAMPLES := $(filter examples/%,$(INSTALLED))
 
 VERSION := $(shell cat VERSION)
 SOURCES := crates.txt VERSION Makefile tools/prove \
@@ -36,13 +39,26 @@ out/built: $(SOURCES)
 	@touch $@
 	@echo "built $(PROGRAMS:%=bin/%)"
 
+# A first answer without a proof. Nothing that this builds is kept, installed or packed.
+FORM ?= times
+DECK ?= examples/shed.csv
+try:
+	@tools/try $(FORM) <"$(DECK)"
+
 check:
 	.ci/run
 
-# A page that is installed names this version and this place, and takes the programs from the path in its commands.
-SHOWN := sed -e 's/@VERSION@/$(VERSION)/' -e 's:@DOC@:$(PLACE)/share/doc/pert:g' -e '/^    \$$ /s:bin/pert:pert:g'
+# A page that is installed names this version and this place, and takes the programs from the path in its commands. `\`, `&` and `:` are
+# escaped, since they mean something in what sed puts in.
+QUOTED = $(subst ','\'',$(PLACE)/share/doc/pert)
+SHOWN = sed -e 's/@VERSION@/$(VERSION)/' -e "s:@DOC@:$$(printf '%s' '$(QUOTED)' | sed 's/[\\&:]/\\&/g'):g" -e '/^    \$$ /s:bin/pert:pert:g'
 
-install: all
+# A prefix with one of these characters would not get through the commands below.
+placed:
+	@case '$(subst ','\'',$(ROOT) $(PLACE))' in *[\"\`\$$\\]*) echo 'make: PREFIX must not have any of the characters " ` $$ \' >&2; exit 1 ;; esac
+	@[ -n "$(INSTALLED)" ] || { echo "make: tools/installed, the list of what is installed, is missing" >&2; exit 1; }
+
+install: placed all
 	install -d "$(ROOT)/bin" "$(MAN)/man1" "$(MAN)/man5" "$(DOC)/docs" "$(DOC)/examples" "$(COMPLETIONS)"
 	install -m 755 $(PROGRAMS:%=bin/%) "$(ROOT)/bin"
 	for page in $(SECTION1); do $(SHOWN) "docs/man/$$page" >"$(MAN)/man1/$$page" || exit 1; done
@@ -53,7 +69,7 @@ install: all
 	chmod 644 $(SECTION1:%="$(MAN)/man1/%") "$(MAN)/man5/pert-deck.5" $(PAGES:%="$(DOC)/%")
 	for program in $(PROGRAMS); do install -m 644 tools/completion.bash "$(COMPLETIONS)/$$program" || exit 1; done
 
-uninstall:
+uninstall: placed
 	rm -f $(PROGRAMS:%="$(ROOT)/bin/%") $(SECTION1:%="$(MAN)/man1/%") "$(MAN)/man5/pert-deck.5" $(PROGRAMS:%="$(COMPLETIONS)/%")
 	rm -rf "$(DOC)"
 
@@ -75,4 +91,4 @@ soak:
 clean:
 	rm -rf bin out crates/*/out
 
-.PHONY: all check install uninstall dist soak clean
+.PHONY: all placed try check install uninstall dist soak clean
