@@ -1,0 +1,43 @@
+"""Finds and runs the programs `pert`, `pert_check` and `pert_whatif` for the scripts of this folder."""
+import argparse
+import os
+import shutil
+import subprocess
+from pathlib import Path
+
+
+class Refused(Exception):
+    """What a program or a script refuses: the line for standard error, and the status to end with."""
+
+    def __init__(self, line, status=1):
+        super().__init__(line)
+        self.status = status
+
+
+def find(name, folder=None):
+    """Returns the path of a program: in `folder` if one is given, else in bin/ next to the folder of this script, else on the PATH."""
+    here = Path(__file__).resolve().parent.parent / "bin"
+    found = shutil.which(name, path=os.fspath(folder or here)) or (None if folder else shutil.which(name))
+    if not found:
+        places = folder or f"{here} or on the PATH"
+        raise Refused(f"no program {name} in {places}; build it with `make`, or name its folder with --bin")
+    return os.path.abspath(found)
+
+
+def run(command, text):
+    """Runs a program with `text` as its standard input and returns what it prints. Its fault line, if it has one, is raised as it is."""
+    try:
+        done = subprocess.run(command, input=text, capture_output=True)
+    except OSError as reason:
+        raise Refused(f"{command[0]}: {reason.strerror}")
+    if done.returncode:
+        line = done.stderr.decode(errors="replace").strip() or done.stdout.decode(errors="replace").strip()
+        raise Refused(line or f"{command[0]} ended with the status {done.returncode}", max(done.returncode, 1))
+    return done.stdout.decode()
+
+
+def whole(text):
+    """The type of an option that is a whole number."""
+    if not text.isascii() or not text.isdigit():
+        raise argparse.ArgumentTypeError(f"{text!r} is not a whole number")
+    return int(text)
