@@ -8,7 +8,7 @@ use Rattle.std.proofs.lemmas.Bool.{cases_lt, lt-ltb, le-ltb, cond-true, cond-fal
 use Rattle.pc_model.specs.declared.TimeTerms.{TimeTerms}
 use Rattle.pc_model.specs.TimeCost.{AreTimeTerms, time_cost_of}
 use Rattle.pc_flow.specs.declared.early.TheConstants.{MAX_LENGTH}
-use Rattle.pc_total.specs.TermsOfTime.{AreTermsOfTime}
+use Rattle.pc_total.specs.inside.TermsOfTime.{AreTermsOfTime}
 use Rattle.pc_total.specs.Totals.{IsOptimum, IsTotal}
 use Rattle.pc_total.specs.Bests.{HaveSigns, IsAbove, IsBelow}
 use Rattle.pc_total.specs.inside.Stops.{unit_cost}

@@ -1,4 +1,3 @@
-pub mod TermsOfTime
 pub mod Totals
 pub mod Bests
 pub mod BestText

@@ -2,7 +2,7 @@
 ghost use Rattle.std.specs.Prelude.{◌≡◌, ◌<◌, ◌≤◌, if◌then◌else◌, nat_lt};
 ghost use Rattle.pc_model.specs.TimeCost.{AreTimeTerms, time_cost_of};
 ghost use Rattle.pc_flow.specs.declared.early.TheConstants.{MAX_LENGTH};
-ghost use Rattle.pc_total.specs.TermsOfTime.{AreTermsOfTime};
+ghost use Rattle.pc_total.specs.inside.TermsOfTime.{AreTermsOfTime};
 ghost use Rattle.pc_total.specs.inside.Stops.{unit_cost};
 
 use pc_flow::MAX_LENGTH;

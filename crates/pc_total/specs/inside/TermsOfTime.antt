@@ -1,4 +1,5 @@
 -- The limits of the terms of time, whatever their order.
+-- Here is what no clause of a top call and no law reaches.
 use Rattle.std.specs.Prelude.{◌≤◌}
 use Rattle.pc_model.specs.declared.TimeTerms.{TimeTerms}
 use Rattle.pc_model.specs.declared.limits.TheConstants.{MAX_TERMS}
