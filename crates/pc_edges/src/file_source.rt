@@ -1,18 +1,20 @@
 //! A source over a file.
 ghost use Rattle.std.specs.Prelude.{◌≡◌};
 
-use crate::{Failed, Source};
+use crate::{FIXED_KEY, Failed, Source};
 use std::fs::File;
 use std::io::Read;
 use std::rt::Files;
 
 /// A source that reads a file, whose bytes no contract can tell.
 ///
-/// Each error of a read is a fault. A file that could not be opened has a fault at each pull on a buffer with room.
+/// Each error of a read is a fault. A file that could not be opened, or a source whose key could not be drawn, has a fault at each
+/// pull on a buffer with room.
 #[derive(Drop)]
 pub struct FileSource {
     file: Option<File>,
     faults: u64,
+    key: u128,
 }
 
 impl FileSource {
@@ -23,6 +25,17 @@ impl FileSource {
         FileSource {
             file: File::open(files, path).ok(),
             faults: 0,
+            key: FIXED_KEY,
+        }
+    }
+
+    /// Returns this source with the key that [`draw_key`](crate::draw_key) drew.
+    pub fn with_key(self, key: Option<u128>) -> FileSource
+        ensures faults { ⟦<FileSource as Source>⟧.faults result ≡ ⟦<FileSource as Source>⟧.faults self }
+    {
+        match key {
+            Some(key) => FileSource { key, ..self },
+            None => FileSource { file: None, ..self },
         }
     }
 }
@@ -45,5 +58,9 @@ impl Source for FileSource {
                 Err(Failed)
             }
         }
+    }
+
+    fn key(&self) -> u128 {
+        self.key
     }
 }
