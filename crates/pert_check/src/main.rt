@@ -1,12 +1,12 @@
 //! `pert_check`: reads a deck from the file that its word names and a certificate from standard input, and writes to standard
 //! output whether the certificate is right.
 //!
-//! The program only collects its words, makes the adapters of the file and the real streams, and calls
+//! The program only collects its words, draws a key by chance, makes the adapters of the file and the real streams, and calls
 //! [`pc_checking::check_run`], whose answer is its status.
 #![tactic(auto)]
 
 use pc_checking::check_run;
-use pc_edges::{FileSource, ReadSource, WriteSink};
+use pc_edges::{FileSource, ReadSource, WriteSink, draw_key};
 use pc_reading::{Status, deck_name, words_of};
 use std::process::ExitCode;
 
@@ -14,7 +14,7 @@ fn main(rt: HostRuntime) -> ExitCode {
     let Ok(words) = words_of(&rt) else {
         return ExitCode::from(Status::OutOfMemory.code());
     };
-    let mut deck = FileSource::at(&rt, deck_name(&words));
+    let mut deck = FileSource::at(&rt, deck_name(&words)).with_key(draw_key(&rt));
     let mut cert = ReadSource::new(rt.stdin());
     let mut out = WriteSink::new(rt.stdout());
     let mut err = WriteSink::new(rt.stderr());
