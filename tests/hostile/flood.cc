@@ -1,10 +1,10 @@
-// Makes codes that a table of slots cannot tell apart: their hashes end in the same bits.
+// Writes codes that a table cannot tell apart if its hash has the fixed key.
 //
-//     flood COUNT BITS     so many codes of 16 bytes, a line each, whose hashes all end in BITS zeros
+//     flood COUNT BITS     writes COUNT codes of 16 bytes, one a line, whose hashes all end in BITS zeros
 //
-// The hash is that of `pc_names` for the 16 cells of a code: of two words of 8 bytes the second is multiplied by a fixed number and joined
-// to the first by xor, this multiplied by the same number to 128 bits, and the two halves joined by xor. Codes are tried one after the
-// other.
+// The hash is that of `pc_names` with the key of a source that draws none (`FIXED_KEY`): `FoldHasher` over the key, the 16 cells of the
+// code, and the key again, and the two halves of these 64 bits joined by xor, as `IndexSet` takes them. A program that draws its key by
+// chance takes no longer for these codes than for others.
 #include <cstdint>
 #include <cstdio>
 #include <cstdlib>
@@ -14,16 +14,24 @@ static const char LETTERS[] = "0123456789ABCDEFGHIJKLMNOPQRSTUVWXYZabcdefghijklm
 static const int BASE = sizeof LETTERS - 1;
 static const char FRONT[] = "FLOOD-OF";
 
+static const uint64_t KEY_LOW = 0x13198a2e03707344, KEY_HIGH = 0x243f6a8885a308d3;
+static const uint64_t INITIAL = 0x243f6a8885a308d3, MULTIPLIER = 0x9e3779b97f4a7c15;
+
 static uint64_t word_of(const char *bytes) {
     uint64_t word;
     std::memcpy(&word, bytes, 8);
     return word;
 }
 
-static uint64_t hash(uint64_t low, uint64_t high) {
-    const uint64_t MULTIPLIER = 0x9e3779b97f4a7c15;
-    unsigned __int128 product = (unsigned __int128)(low ^ high * MULTIPLIER) * MULTIPLIER;
+// The state of a `FoldHasher` after 16 bytes more.
+static uint64_t written(uint64_t state, uint64_t low, uint64_t high) {
+    unsigned __int128 product = (unsigned __int128)(low ^ (state + 16)) * (high ^ MULTIPLIER);
     return (uint64_t)product ^ (uint64_t)(product >> 64);
+}
+
+static uint32_t hash(uint64_t begun, uint64_t low, uint64_t high) {
+    uint64_t whole = written(written(begun, low, high), KEY_LOW, KEY_HIGH);
+    return (uint32_t)(whole ^ whole >> 32);
 }
 
 // The next text of 7 letters, and whether there is one.
@@ -44,15 +52,15 @@ int main(int argc, char **argv) {
         return 1;
     }
     long count = std::atol(argv[1]);
-    uint64_t mask = ((uint64_t)1 << std::atoi(argv[2])) - 1;
-    uint64_t low = word_of(FRONT);
+    uint32_t mask = ((uint32_t)1 << std::atoi(argv[2])) - 1;
+    uint64_t begun = written(INITIAL, KEY_LOW, KEY_HIGH), low = word_of(FRONT);
     char letters[9] = "0000000";
     int digits[7] = {0};
     do {
         // The eighth letter is the highest byte of the second word.
         uint64_t seven = word_of(letters);
         for (int last = 0; last < BASE && count > 0; last++) {
-            if ((hash(low, seven | (uint64_t)LETTERS[last] << 56) & mask) == 0) {
+            if ((hash(begun, low, seven | (uint64_t)LETTERS[last] << 56) & mask) == 0) {
                 std::printf("%s%s%c\n", FRONT, letters, LETTERS[last]);
                 count--;
             }

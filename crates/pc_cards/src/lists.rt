@@ -191,13 +191,13 @@ impl<C: Coded> Model for Named<C> {
 }
 
 impl<C: Coded> Named<C> {
-    /// No cards.
-    pub fn new(alloc: Global) -> Self
+    /// No cards. The key is that of the hash by which their codes are looked up.
+    pub fn new(alloc: Global, key: u128) -> Self
         ensures { result ≡ [] }
     {
         Named {
             cards: Vec::new(alloc),
-            names: Names::new(alloc),
+            names: Names::new(alloc, key),
         }
     }
 
@@ -268,5 +268,10 @@ impl<C: Coded> Named<C> {
         ensures { result ≡ position (pointwise nat_eq code.now) (map C.own_code self.now) }
     {
         self.names.place_of(code)
+    }
+
+    /// Returns the key of the hash by which codes are looked up.
+    pub fn key(&self) -> u128 {
+        self.names.key()
     }
 }

@@ -77,6 +77,11 @@ impl<S: DeckSort> CardsOf<S> {
         &self.deck.project
     }
 
+    /// Returns the key of the hash by which cards are looked up by their codes.
+    pub(crate) fn key(&self) -> u128 {
+        self.deck.lists.items.key()
+    }
+
     /// The ASOF card, where there is one.
     pub fn as_of(&self) -> Option<AsOfCard>
         ensures card { result ≡ self.now.as_of }

@@ -30,14 +30,14 @@ impl Draft {
     ghost use Rattle.pc_deck.specs.Within.{IsWithin};
     ghost use Rattle.pc_deck.specs.inside.Within.{IsDraftWithin};
 
-    /// No cards.
-    pub fn new(alloc: Global, sort: Sort) -> Draft
+    /// No cards. The key is that of the hash by which cards are looked up by their codes.
+    pub fn new(alloc: Global, key: u128, sort: Sort) -> Draft
         ensures { result ≡ no_cards sort }
     {
         Draft {
             sort,
             project: Once::new(),
-            lists: CardLists::new(alloc),
+            lists: CardLists::new(alloc, key),
             has_ended: false,
         }
     }

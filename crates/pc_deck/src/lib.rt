@@ -25,4 +25,4 @@ pub use crate::kinds::{
 };
 pub use crate::limits::DECK_LIMIT;
 pub use crate::made::PlanLists;
-pub use crate::read::{read_cards, read_tasks};
+pub use crate::read::{read_cards, read_cards_by, read_tasks, read_tasks_by};

@@ -31,16 +31,17 @@ pub struct PlanLists<'a> {
 }
 
 impl Cards {
-    /// The plan that has these cards. A card is found by its code as in a plan that was read.
+    /// The plan that has these cards. A card is found by its code as in a plan that was read, by a hash with this key.
     pub fn of_lists(
         alloc: Global,
+        key: u128,
         project: &ProjectCard,
         plan: &PlanLists,
     ) -> Result<Cards, AllocError>
         requires { IsWithinLimits (plan_of project.now plan.now) }
         ensures { IfOk result (λ cards. cards ≡ plan_of project.now plan.now) }
     {
-        let mut lists = CardLists::new(alloc);
+        let mut lists = CardLists::new(alloc, key);
         match lists.add_plan(plan) {
             Ok(()) => Ok(Cards::of(DeckCards {
                 project: *project,
@@ -51,7 +52,7 @@ impl Cards {
     }
 
     /// The plan that is drawn of a deck of tasks: with these items, events and activities, and all other cards of the deck but
-    /// those of tasks.
+    /// those of tasks. Its key is the deck's.
     pub fn drawn_of(
         alloc: Global,
         tasks: &TaskCards,
@@ -76,7 +77,7 @@ impl Cards {
             resources: tasks.resources(),
             loads: tasks.loads(),
         };
-        Cards::of_lists(alloc, tasks.project(), &plan)
+        Cards::of_lists(alloc, tasks.key(), tasks.project(), &plan)
     }
 }
 

@@ -20,6 +20,7 @@ use crate::limits::DECK_LIMIT;
 use pc_cards::rows::{CardRows, Next};
 use pc_cards::sort::Sort;
 use pc_faults::{DeckError, NOT_UTF8};
+use pc_names::key_of_bytes;
 use pc_records::Row;
 use std::alloc::Global;
 use std::str;
@@ -34,7 +35,8 @@ const ROW_FIELDS: usize = 64;
 /// that record the fault with the least number. That there is no END card counts as a fault of the record behind the
 /// last.
 ///
-/// One pass reads the deck, up to the first fault.
+/// One pass reads the deck, up to the first fault, and another makes the key of the hash by which cards are looked up: a digest of
+/// the bytes. [`read_cards_by`] saves that pass if you have a key.
 pub fn read_cards(alloc: Global, bytes: &[u8]) -> Result<Cards, DeckError>
     requires { length bytes.now ≤ longest_deck }
     ensures accepted { IfOk result (IsDeckOf bytes.now) }
@@ -42,7 +44,20 @@ pub fn read_cards(alloc: Global, bytes: &[u8]) -> Result<Cards, DeckError>
     ensures titles { IfOk result AreTitlesText }
     ensures first { IfErr result (Refuses (IsCardRefusal bytes.now)) }
 {
-    match read_deck(alloc, Sort::Plan, bytes) {
+    read_cards_by(alloc, key_of_bytes(bytes), bytes)
+}
+
+/// Reads the cards of a plan as [`read_cards`] does, with this key of the hash by which cards are looked up.
+///
+/// The key changes nothing but the time. Draw it by chance if others write the deck.
+pub fn read_cards_by(alloc: Global, key: u128, bytes: &[u8]) -> Result<Cards, DeckError>
+    requires { length bytes.now ≤ longest_deck }
+    ensures accepted { IfOk result (IsDeckOf bytes.now) }
+    ensures within { IfOk result IsWithinLimits }
+    ensures titles { IfOk result AreTitlesText }
+    ensures first { IfErr result (Refuses (IsCardRefusal bytes.now)) }
+{
+    match read_deck(alloc, key, Sort::Plan, bytes) {
         Ok(deck) => Ok(Cards::of(deck)),
         Err(e) => Err(e),
     }
@@ -56,14 +71,25 @@ pub fn read_tasks(alloc: Global, bytes: &[u8]) -> Result<TaskCards, DeckError>
     ensures titles { IfOk result AreTitlesText }
     ensures first { IfErr result (Refuses (IsRefusalAs sorts.Tasks bytes.now)) }
 {
-    match read_deck(alloc, Sort::Tasks, bytes) {
+    read_tasks_by(alloc, key_of_bytes(bytes), bytes)
+}
+
+/// Reads the cards of a deck of tasks as [`read_tasks`] does, with this key, as [`read_cards_by`] has one.
+pub fn read_tasks_by(alloc: Global, key: u128, bytes: &[u8]) -> Result<TaskCards, DeckError>
+    requires { length bytes.now ≤ longest_deck }
+    ensures accepted { IfOk result (IsReadAs sorts.Tasks bytes.now) }
+    ensures within { IfOk result (IsWithin sorts.Tasks) }
+    ensures titles { IfOk result AreTitlesText }
+    ensures first { IfErr result (Refuses (IsRefusalAs sorts.Tasks bytes.now)) }
+{
+    match read_deck(alloc, key, Sort::Tasks, bytes) {
         Ok(deck) => Ok(TaskCards::of(deck)),
         Err(e) => Err(e),
     }
 }
 
 /// Reads the cards of a deck of the sort, or answers its first fault.
-fn read_deck(alloc: Global, sort: Sort, bytes: &[u8]) -> Result<DeckCards, DeckError>
+fn read_deck(alloc: Global, key: u128, sort: Sort, bytes: &[u8]) -> Result<DeckCards, DeckError>
     requires { length bytes.now ≤ longest_deck }
     ensures accepted { IfOk result (IsReadAs sort bytes.now) }
     ensures within { IfOk result (IsWithin sort) }
@@ -73,7 +99,7 @@ fn read_deck(alloc: Global, sort: Sort, bytes: &[u8]) -> Result<DeckCards, DeckE
     if !is_utf8(bytes) {
         return Err(DeckError::Fault(NOT_UTF8));
     }
-    cards_of(alloc, sort, bytes)
+    cards_of(alloc, key, sort, bytes)
 }
 
 fn is_utf8(bytes: &[u8]) -> bool
@@ -83,14 +109,14 @@ fn is_utf8(bytes: &[u8]) -> bool
 }
 
 /// The cards of a deck of the sort that is UTF-8, or its first fault.
-fn cards_of(alloc: Global, sort: Sort, bytes: &[u8]) -> Result<DeckCards, DeckError>
+fn cards_of(alloc: Global, key: u128, sort: Sort, bytes: &[u8]) -> Result<DeckCards, DeckError>
     requires short { length bytes.now ≤ DECK_LIMIT }
     requires utf8 { is_utf8 bytes.now ≡ true }
     ensures cards { IfOk result (λ cards. cards_of sort bytes.now ≡ Ok cards) }
     ensures within { IfOk result (IsWithin sort) }
     ensures fault { IfErr result (Refuses (λ fault. cards_of sort bytes.now ≡ Err fault)) }
 {
-    let mut draft = Draft::new(alloc, sort);
+    let mut draft = Draft::new(alloc, key, sort);
     let end = match take_all(alloc, bytes, &mut draft) {
         Ok(end) => end,
         Err(e) => return Err(e),

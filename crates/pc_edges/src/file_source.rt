@@ -1,14 +1,15 @@
 //! A source over a file.
 ghost use Rattle.std.specs.Prelude.{◌≡◌};
 
-use crate::{Failed, Source};
+use crate::{FIXED_KEY, Failed, Source};
 use std::fs::File;
 use std::io::Read;
 use std::rt::Files;
 
 /// A source that reads a file, whose bytes no contract can tell.
 ///
-/// Each error of a read is a fault. A file that could not be opened has a fault at each pull on a buffer with room.
+/// Each error of a read is a fault. A file that could not be opened, or a source whose key could not be drawn, has a fault at each
+/// pull on a buffer with room.
 ///
 /// The file is closed at its end. A process that started with standard input closed may get descriptor 0 for the file; a later read of
 /// standard input then fails, and does not go on in the file.
@@ -16,6 +17,7 @@ use std::rt::Files;
 pub struct FileSource {
     state: State,
     faults: u64,
+    key: u128,
 }
 
 /// What a pull finds.
@@ -49,6 +51,20 @@ impl FileSource {
         FileSource {
             state: State::Missing,
             faults: 0,
+            key: FIXED_KEY,
+        }
+    }
+
+    /// Returns this source with the key that [`draw_key`](crate::draw_key) drew.
+    pub fn with_key(self, key: Option<u128>) -> FileSource
+        ensures faults { ⟦<FileSource as Source>⟧.faults result ≡ ⟦<FileSource as Source>⟧.faults self }
+    {
+        match key {
+            Some(key) => FileSource { key, ..self },
+            None => FileSource {
+                state: State::Missing,
+                ..self
+            },
         }
     }
 }
@@ -76,5 +92,9 @@ impl Source for FileSource {
                 Err(Failed)
             }
         }
+    }
+
+    fn key(&self) -> u128 {
+        self.key
     }
 }

@@ -6,6 +6,7 @@
 #![tactic(auto)]
 
 mod file_source;
+mod key;
 mod loading;
 mod mem_sink;
 mod mem_source;
@@ -18,6 +19,7 @@ mod sure_source;
 mod write_sink;
 
 pub use file_source::FileSource;
+pub use key::{FIXED_KEY, draw_key};
 pub use loading::{LoadError, STREAM_ROOM, load};
 pub use mem_sink::MemSink;
 pub use mem_source::MemSource;

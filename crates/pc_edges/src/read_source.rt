@@ -1,16 +1,17 @@
 //! A source over std's `Read`.
 ghost use Rattle.std.specs.Prelude.{◌≡◌};
 
-use crate::{Failed, Source};
+use crate::{FIXED_KEY, Failed, Source};
 use std::io::Read;
 
 /// A source that reads from `R`, and tells its bytes where `R` does: standard input and files don't.
 ///
-/// Each error of a read is a fault.
+/// Each error of a read is a fault. A source whose key could not be drawn has a fault at each pull on a buffer with room.
 #[derive(Drop)]
 pub struct ReadSource<R> {
     inner: R,
     faults: u64,
+    key: Option<u128>,
 }
 
 impl<R: Read> ReadSource<R> {
@@ -18,7 +19,21 @@ impl<R: Read> ReadSource<R> {
         ensures left { ⟦<ReadSource<R> as Source>⟧.left result ≡ R.remaining inner }
         ensures faults { ⟦<ReadSource<R> as Source>⟧.faults result ≡ 0 }
     {
-        ReadSource { inner, faults: 0 }
+        ReadSource {
+            inner,
+            faults: 0,
+            key: Some(FIXED_KEY),
+        }
+    }
+
+    /// Returns this source with the key that [`draw_key`](crate::draw_key) drew.
+    pub fn with_key(self, key: Option<u128>) -> ReadSource<R>
+    where
+        R: Drop,
+        ensures left { ⟦<ReadSource<R> as Source>⟧.left result ≡ ⟦<ReadSource<R> as Source>⟧.left self }
+        ensures faults { ⟦<ReadSource<R> as Source>⟧.faults result ≡ ⟦<ReadSource<R> as Source>⟧.faults self }
+    {
+        ReadSource { key, ..self }
     }
 }
 
@@ -31,6 +46,10 @@ impl<R: Read> Source for ReadSource<R> {
         if buffer.is_empty() {
             return Ok(0);
         }
+        if self.key.is_none() {
+            self.faults = self.faults.saturating_add(1);
+            return Err(Failed);
+        }
         match self.inner.read(buffer) {
             Ok(n) => Ok(n),
             Err(_) => {
@@ -38,5 +57,9 @@ impl<R: Read> Source for ReadSource<R> {
                 Err(Failed)
             }
         }
+    }
+
+    fn key(&self) -> u128 {
+        self.key.unwrap_or(FIXED_KEY)
     }
 }

@@ -4,6 +4,8 @@ ghost use Rattle.std.specs.Io.KnownBytes.{Consumes, Keeps, IsAtEnd};
 ghost use Rattle.pc_edges.specs.Faults.{Rose};
 ghost use Rattle.pc_edges.specs.Pulls.{TakesPulls};
 
+use crate::key::FIXED_KEY;
+
 /// A pull, a push or a flush that failed: a fault of the source or the sink, whose count of faults rose.
 #[derive(Clone, Copy, Debug, PartialEq, Eq, Hash)]
 pub struct Failed;
@@ -34,4 +36,12 @@ pub trait Source {
         ensures kept { OnErr result (Keeps (left self.old) (left self.new)) }
         ensures count { faults self.old ≤ faults self.new }
         ensures pulled { TakesPulls 1 (pulls self.old) (pulls self.new) };
+
+    /// Returns the key of the hash by which names in these bytes are looked up.
+    ///
+    /// The key changes how long a look-up takes, never what it returns. A source whose bytes others choose has a key that was drawn
+    /// by chance, so that no choice of names makes look-ups slow.
+    fn key(&self) -> u128 {
+        FIXED_KEY
+    }
 }

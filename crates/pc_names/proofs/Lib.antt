@@ -1,3 +1,2 @@
 pub mod OnceLaws
 pub mod PlaceLaws
-mod IndexLaws

@@ -1,18 +1,26 @@
 -- Codes of which none stands twice.
-use Rattle.std.proofs.Common.{◌≡◌, ◌≢◌, ℕ, ◌+◌, ◌<◌, true, false, nat_eq, List, [], ◌∷◌, ◌++◌, length, take, get_or, ◌⊎◌, inl, inr, sym, ◌∙◌, ⊎_elim, arith, length-append}
+use Rattle.std.proofs.Common.{◌≡◌, ◌≢◌, ℕ, ◌+◌, ◌<◌, Bool, true, false, not, nat_eq, List, [], ◌∷◌, ◌++◌, length, take, get_or, ◌⊎◌, inl, inr, sym, ap, ◌∙◌, ⊎_elim, arith, length-append}
 use Rattle.std.proofs.lemmas.Bool.{cases_Bool}
-use Rattle.std.proofs.lemmas.List.{get_or_append_left, get_or-take, length-take}
+use Rattle.std.proofs.lemmas.List.{get_or_append_left, get_or-take, length-take, take_more, get_or_default}
 use Rattle.std.proofs.Math.Seq.{get_or-append_seam}
 use Rattle.std.proofs.lemmas.List.Elements.{All-from_get_or}
 use Rattle.std.proofs.lemmas.List.Folds.{list_any_at, list_any_none}
+use Rattle.std.proofs.lemmas.Map.Keys.{apart_from_distinct}
 use Rattle.std.proofs.lemmas.Cmp.{nat_list_eq_equiv}
 use Rattle.std.specs.Cmp.Lexicographic.{pointwise, same_text}
-use Rattle.std.specs.List.{list_any}
+use Rattle.std.specs.List.{list_any, IsDistinct}
 use Rattle.pc_model.specs.Codes.{code_at, IsNamedOnce}
 
 -- no code stands twice where there is none
 pub IsNamedOnce-nil : IsNamedOnce []
 IsNamedOnce-nil = λ j k before within same. omega arith
+
+-- no code stands twice where no two are found to be equal
+pub IsNamedOnce-distinct : (codes : List (List ℕ)) → IsDistinct (pointwise nat_eq) codes → IsNamedOnce codes
+IsNamedOnce-distinct codes distinct = λ j k before within same.
+    let apart = apart_from_distinct (pointwise nat_eq) codes j k [] distinct before within in
+    let itself : pointwise nat_eq (code_at codes j) (code_at codes k) ≡ true = rw same (nat_list_eq_equiv.refl (code_at codes k)) in
+    cc
 
 -- a code that is not among those stands at none of their places
 pub absent : (codes : List (List ℕ)) (code : List ℕ) (j : ℕ) → list_any (pointwise nat_eq code) codes ≡ false → j < length codes → code_at codes j ≢ code
@@ -57,3 +65,11 @@ not_before codes k once inside =
       where
         get-taken : (i : ℕ) → i < k → get_or (take k codes) i [] ≡ code_at codes i
         get-taken i h = get_or-take k codes i [] h
+
+-- one more of these codes is added to those before it
+pub one_more_added : (codes so_far next : List (List ℕ)) (i : ℕ) (code : List ℕ) (is_new : Bool) → IsNamedOnce codes → so_far ≡ take i codes → i < length codes
+    → code ≡ get_or codes i code → is_new ≡ not (list_any (pointwise nat_eq code) so_far) → (is_new ≡ true → next ≡ so_far ++ code ∷ []) → next ≡ take (i + 1) codes
+one_more_added codes so_far next i code is_new once is within at told added =
+    let here : code ≡ code_at codes i = at ∙ get_or_default codes i code [] within in
+    let none : list_any (pointwise nat_eq code) so_far ≡ false = rw (is, here) (not_before codes i once within) in
+    added (told ∙ ap not none) ∙ (ap (λ front. front ++ code ∷ []) is ∙ (ap (λ (c : List ℕ). take i codes ++ c ∷ []) here ∙ sym (take_more codes i [] within)))

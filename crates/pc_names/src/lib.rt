@@ -1,11 +1,12 @@
 //! Codes, no two of them the same, each found by its bytes.
 //!
-//! A code has a slot in a table, by a hash of its bytes. Where another code has taken that slot, it stands in the slot beside it, and
-//! where that is taken too, in an ordered map. The hash is fixed, so somebody may choose codes that all have one slot: then each is
-//! found in the ordered map, in as many steps as any codes would take there, and never by going through the others.
+//! The codes are looked up in an [`IndexSet`](indexmap::IndexSet) whose hash has a key. Whoever does not know the key cannot choose
+//! codes that crowd one place of the table. The key changes how long a call takes, never what it returns.
 #![tactic(auto)]
 
-mod index;
+mod hash;
+mod key;
 mod names;
 
+pub use key::{key_of_bytes, key_of_codes};
 pub use names::Names;

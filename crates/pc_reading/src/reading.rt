@@ -8,7 +8,7 @@ ghost use Rattle.pc_reading.specs.inside.Reading.{HasNoDeck, HasNoProject, HasPr
 ghost use Rattle.pc_reading.specs.Sides.{side};
 ghost use Rattle.pc_reading.specs.Verdict.{IsFault, IsProjectOf};
 
-use pc_deck::{DECK_LIMIT, read_cards};
+use pc_deck::{DECK_LIMIT, read_cards_by};
 use pc_edges::{LoadError, Source, load};
 use pc_faults::{DeckError, Fault, TOO_LONG};
 use pc_project::{Project, project_of};
@@ -40,27 +40,28 @@ pub fn read_deck<S: Source>(alloc: Global, source: &mut S) -> Result<Vec<u8>, No
     }
 }
 
-/// Reads a plan to its end, and gives its project. It pulls as [`read_deck`] does.
+/// Reads a plan to its end, and gives its project. It pulls as [`read_deck`] does, and cards are looked up by the source's key.
 pub fn read_project<S: Source>(alloc: Global, source: &mut S) -> Result<Project, NoProject>
     ensures project { IfOk result (HasProject (side S.left S.faults source.old source.new)) }
     ensures none { IfErr result (HasNoProject (side S.left S.faults source.old source.new)) }
     ensures stops { IsReadWithin longest_deck STREAM_ROOM S.left S.pulls source.old source.new }
 {
+    let key = source.key();
     match read_deck(alloc, source) {
-        Ok(bytes) => project_in(alloc, &bytes),
+        Ok(bytes) => project_in(alloc, key, &bytes),
         Err(why) => Err(why),
     }
 }
 
-/// The project of these bytes, which are a whole plan.
-pub fn project_in(alloc: Global, bytes: &[u8]) -> Result<Project, NoProject>
+/// The project of these bytes, which are a whole plan. The key is that of the hash by which cards are looked up.
+pub fn project_in(alloc: Global, key: u128, bytes: &[u8]) -> Result<Project, NoProject>
     ensures project { IfOk result (IsProjectOf bytes.now) }
     ensures none { IfErr result (IsNoProjectOf bytes.now) }
 {
     if bytes.len() > DECK_LIMIT {
         return Err(NoProject::Refused(TOO_LONG));
     }
-    match project_or_fault(alloc, bytes) {
+    match project_or_fault(alloc, key, bytes) {
         Ok(project) => Ok(project),
         Err(error) => Err(NoProject::of(error)),
     }
@@ -79,12 +80,12 @@ impl NoProject {
 }
 
 /// The project of a deck that is not too long, or the fault with which the deck is refused.
-fn project_or_fault(alloc: Global, bytes: &[u8]) -> Result<Project, DeckError>
+fn project_or_fault(alloc: Global, key: u128, bytes: &[u8]) -> Result<Project, DeckError>
     requires { length bytes.now ≤ longest_deck }
     ensures accepted { IfOk result (IsProjectOf bytes.now) }
     ensures refused { IfErr result (Refuses (IsFault bytes.now)) }
 {
-    match read_cards(alloc, bytes) {
+    match read_cards_by(alloc, key, bytes) {
         Ok(cards) => project_of(alloc, cards),
         Err(e) => Err(e),
     }

@@ -1,12 +1,12 @@
 //! `pert_check`: reads a deck from the file that its word names and a certificate from standard input, and writes to standard
 //! output whether the certificate is right.
 //!
-//! The program only collects its words, makes the adapters of the file and the real streams, and calls
+//! The program only collects its words, draws a key by chance, makes the adapters of the file and the real streams, and calls
 //! [`pc_checking::check_run`], whose answer is its status.
 #![tactic(auto)]
 
 use pc_checking::check_run;
-use pc_edges::{FileSource, ReadSource, WriteSink};
+use pc_edges::{FileSource, ReadSource, WriteSink, draw_key};
 use pc_reading::{Status, deck_name, words_of};
 use std::process::ExitCode;
 
@@ -17,7 +17,8 @@ fn main(rt: HostRuntime) -> ExitCode {
     let mut deck = match deck_name(&words) {
         Some(name) => FileSource::at(&rt, name),
         None => FileSource::missing(),
-    };
+    }
+    .with_key(draw_key(&rt));
     let mut cert = ReadSource::new(rt.stdin());
     let mut out = WriteSink::new(rt.stdout());
     let mut err = WriteSink::new(rt.stderr());

@@ -18,7 +18,7 @@ use crate::forms::Form;
 use crate::tasks::drawn_or_fault;
 use pc_bench::{MOST_ACTIVITIES, bench_deck};
 use pc_cards::sort::Sort;
-use pc_edges::Source;
+use pc_edges::{FIXED_KEY, Source};
 use pc_project::Project;
 use pc_reading::{NoProject, project_in, read_deck};
 use std::alloc::Global;
@@ -53,9 +53,10 @@ fn read_as<S: Source>(
     ensures none { IfErr result (HasNoProjectBy (IsFaultAs sort) (side S.left S.faults source.old source.new)) }
     ensures stops { IsReadWithin longest_deck STREAM_ROOM S.left S.pulls source.old source.new }
 {
+    let key = source.key();
     match read_deck(alloc, source) {
         Ok(bytes) => {
-            let project = project_as(alloc, sort, &bytes);
+            let project = project_as(alloc, key, sort, &bytes);
             *deck = bytes;
             project
         }
@@ -63,25 +64,25 @@ fn read_as<S: Source>(
     }
 }
 
-/// The project of a deck of the sort that is not too long.
-fn project_as(alloc: Global, sort: Sort, bytes: &[u8]) -> Result<Project, NoProject>
+/// The project of a deck of the sort that is not too long, whose cards are looked up by this key.
+fn project_as(alloc: Global, key: u128, sort: Sort, bytes: &[u8]) -> Result<Project, NoProject>
     requires { length bytes.now ≤ longest_deck }
     ensures project { IfOk result (IsMadeAs sort bytes.now) }
     ensures none { IfErr result (IsNoProjectBy (IsFaultAs sort) bytes.now) }
 {
     match sort {
-        Sort::Plan => project_in(alloc, bytes),
-        Sort::Tasks => drawn_in(alloc, bytes),
+        Sort::Plan => project_in(alloc, key, bytes),
+        Sort::Tasks => drawn_in(alloc, key, bytes),
     }
 }
 
 /// The project of the plan that is drawn of the tasks of a deck that is not too long.
-fn drawn_in(alloc: Global, bytes: &[u8]) -> Result<Project, NoProject>
+fn drawn_in(alloc: Global, key: u128, bytes: &[u8]) -> Result<Project, NoProject>
     requires { length bytes.now ≤ longest_deck }
     ensures project { IfOk result (IsDrawnOf bytes.now) }
     ensures none { IfErr result (IsNoProjectBy IsTasksFault bytes.now) }
 {
-    match drawn_or_fault(alloc, bytes) {
+    match drawn_or_fault(alloc, key, bytes) {
         Ok(project) => Ok(project),
         Err(error) => Err(NoProject::of(error)),
     }
@@ -97,5 +98,5 @@ fn bench_project(alloc: Global, n: u64) -> Result<Project, NoProject>
     let Ok(deck) = bench_deck(alloc, n) else {
         return Err(NoProject::OutOfMemory);
     };
-    project_in(alloc, &deck)
+    project_in(alloc, FIXED_KEY, &deck)
 }

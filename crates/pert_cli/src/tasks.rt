@@ -4,19 +4,19 @@ ghost use Rattle.pc_deck.specs.Limits.{longest_deck};
 ghost use Rattle.pc_faults.specs.inside.First.{Refuses};
 ghost use Rattle.pert_cli.specs.Tasks.{IsDrawnOf, IsTasksFault};
 
-use pc_deck::read_tasks;
+use pc_deck::read_tasks_by;
 use pc_faults::DeckError;
 use pc_project::Project;
 use pc_tasks::drawn_project;
 use std::alloc::Global;
 
 /// The project of the plan that is drawn of the tasks of a deck that is not too long, or the fault with which the deck is refused.
-pub(crate) fn drawn_or_fault(alloc: Global, bytes: &[u8]) -> Result<Project, DeckError>
+pub(crate) fn drawn_or_fault(alloc: Global, key: u128, bytes: &[u8]) -> Result<Project, DeckError>
     requires { length bytes.now ≤ longest_deck }
     ensures accepted { IfOk result (IsDrawnOf bytes.now) }
     ensures refused { IfErr result (Refuses (IsTasksFault bytes.now)) }
 {
-    match read_tasks(alloc, bytes) {
+    match read_tasks_by(alloc, key, bytes) {
         Ok(tasks) => drawn_project(alloc, &tasks),
         Err(e) => Err(e),
     }

@@ -7,7 +7,7 @@ use std::test::Fail;
 
 // Words, a deck, and how many pulls read it: the last of them finds its end. The words ask for each form, for lengths that the deck
 // does not have, and for nothing; the last deck is none.
-const RUNS: [(&[&str], &str, u64); 27] = [
+pub(crate) const RUNS: [(&[&str], &str, u64); 27] = [
     (&["check"], WHOLE, 4),
     (&["normal"], WHOLE, 4),
     (&["times"], WHOLE, 4),

@@ -11,6 +11,8 @@ mod edges;
 #[cfg(test)]
 mod flushes;
 #[cfg(test)]
+mod keys;
+#[cfg(test)]
 mod runs;
 #[cfg(test)]
 mod sessions;

@@ -1,6 +1,6 @@
 //! What the tests share: a small deck with its answers, and what a program leaves of edges in memory of which a call fails.
 
-use pc_edges::{MemSink, MemSource};
+use pc_edges::{MemSink, MemSource, Source};
 use pc_whatif::session_run;
 use pert_cli::{check_run, run};
 use std::alloc::{AllocError, Global};
@@ -194,11 +194,11 @@ pub(crate) fn left_by(alloc: Global, task: &Task<'_>, edges: Edges) -> Result<Le
 }
 
 /// The status of a call on its two inputs and its two outputs.
-fn status_of(
+pub(crate) fn status_of<D: Source>(
     alloc: Global,
     call: Call,
     words: &[String],
-    deck: &mut MemSource,
+    deck: &mut D,
     second: &mut MemSource,
     out: &mut MemSink,
     err: &mut MemSink,

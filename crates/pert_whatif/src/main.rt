@@ -1,11 +1,11 @@
 //! `pert_whatif`: reads a deck from the file that its word names and lines from standard input, and writes to standard
 //! output an answer to each line, before it reads more.
 //!
-//! The program only collects its words, makes the adapters of the file and the real streams, and calls
+//! The program only collects its words, draws a key by chance, makes the adapters of the file and the real streams, and calls
 //! [`pc_whatif::session_run`], whose answer is its status.
 #![tactic(auto)]
 
-use pc_edges::{FileSource, ReadSource, WriteSink};
+use pc_edges::{FileSource, ReadSource, WriteSink, draw_key};
 use pc_reading::{Status, deck_name, words_of};
 use pc_whatif::session_run;
 use std::process::ExitCode;
@@ -17,7 +17,8 @@ fn main(rt: HostRuntime) -> ExitCode {
     let mut deck = match deck_name(&words) {
         Some(name) => FileSource::at(&rt, name),
         None => FileSource::missing(),
-    };
+    }
+    .with_key(draw_key(&rt));
     let mut edits = ReadSource::new(rt.stdin());
     let mut out = WriteSink::new(rt.stdout());
     let mut err = WriteSink::new(rt.stderr());

@@ -92,24 +92,24 @@ impl Drop for CardLists {
 impl CardLists {
     ghost use Rattle.pc_deck.specs.inside.Kinds.{no_lists};
 
-    /// No cards.
-    pub fn new(alloc: Global) -> CardLists
+    /// No cards. The key is that of the hash by which cards are looked up by their codes.
+    pub fn new(alloc: Global, key: u128) -> CardLists
         ensures { result ≡ no_lists }
     {
         CardLists {
             as_of: Once::new(),
             terms: Once::new(),
-            items: Named::new(alloc),
-            events: Named::new(alloc),
-            acts: Named::new(alloc),
-            tasks: Named::new(alloc),
+            items: Named::new(alloc, key),
+            events: Named::new(alloc, key),
+            acts: Named::new(alloc, key),
+            tasks: Named::new(alloc, key),
             afters: Listed::new(alloc),
             pieces: Listed::new(alloc),
-            accounts: Named::new(alloc),
+            accounts: Named::new(alloc, key),
             charges: Listed::new(alloc),
             togos: Listed::new(alloc),
             statuses: Listed::new(alloc),
-            resources: Named::new(alloc),
+            resources: Named::new(alloc, key),
             loads: Listed::new(alloc),
         }
     }

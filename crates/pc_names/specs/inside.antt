@@ -1,3 +1,0 @@
--- What contracts within and between crates speak of besides what the clauses of the top calls and the laws reach.
-pub mod Index
-pub mod Inside

@@ -1,0 +1,68 @@
+//! A hash of codes that has a key.
+ghost use Rattle.std.specs.Prelude.{fold};
+ghost use Rattle.std.specs.Hash as fed;
+ghost use Rattle.std.specs.Hash.FoldHasher as folding;
+
+use std::hash::{BuildHasher, FoldHasher, Hasher};
+
+/// Makes the hashers of one table. All of them have the same key.
+#[derive(Clone, Copy)]
+pub(crate) struct CodeHash {
+    begun: FoldHasher,
+    key: u128,
+}
+
+impl CodeHash {
+    /// The hash with this key.
+    pub(crate) fn new(key: u128) -> CodeHash {
+        let mut begun = FoldHasher::default();
+        begun.write_u128(key);
+        CodeHash { begun, key }
+    }
+
+    /// Returns the key.
+    pub(crate) fn key(&self) -> u128 {
+        self.key
+    }
+}
+
+impl BuildHasher for CodeHash {
+    type Hasher = CodeHasher;
+
+    ghost build_hasher = { λ hash. record { inner = hash.begun; key = hash.key } };
+
+    fn build_hasher(&self) -> CodeHasher {
+        CodeHasher {
+            inner: self.begun,
+            key: self.key,
+        }
+    }
+}
+
+/// Hashes the key, what is written, and the key again.
+///
+/// The key before a code hides which codes meet in the state. The key after it hides which states meet in a place of the table:
+/// without it, codes that differ only in a few bits would share the bits that choose the place, whatever the key is.
+#[derive(Clone, Copy)]
+pub(crate) struct CodeHasher {
+    inner: FoldHasher,
+    key: u128,
+}
+
+impl Hasher for CodeHasher {
+    ghost write = { λ hasher bytes. record hasher { inner = folding.write hasher.inner bytes } };
+
+    ghost finish = { λ hasher. folding.finish (fold folding.write hasher.inner (fed.u128 hasher.key)) };
+
+    #[inline(always)]
+    fn finish(&self) -> u64 {
+        let mut last = self.inner;
+        last.write_u128(self.key);
+        last.finish()
+    }
+
+    #[inline(always)]
+    fn write(&mut self, bytes: &[u8]) {
+        self.inner.write(bytes);
+    }
+}

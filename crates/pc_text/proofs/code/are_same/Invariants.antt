@@ -1,8 +1,0 @@
-use Rattle.std.proofs.Common.{◌≡◌, ◌&&◌, drop}
-use Rattle.std.specs.Prelude.{nat_eq}
-use Rattle.std.specs.Cmp.Lexicographic.{pointwise}
-use Rattle.pc_text.proofs.code.are_same.Given as goal
-
--- all cells are the same where those so far and those behind them are
-abbrev pub invariant-loop-i : goal.invariant-loop-i
-invariant-loop-i l = pointwise nat_eq l.one l.other ≡ (l.are_same && pointwise nat_eq (drop l.i l.one) (drop l.i l.other))
