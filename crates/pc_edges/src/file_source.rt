@@ -41,6 +41,7 @@ impl FileSource {
                 Err(_) => State::Missing,
             },
             faults: 0,
+            key: FIXED_KEY,
         }
     }
 
