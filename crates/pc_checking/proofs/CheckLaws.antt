@@ -15,7 +15,7 @@ use Rattle.pc_check.proofs.OnceLaws.{one_failure}
 use Rattle.pc_edges.proofs.PullLaws.{TakesPulls-none}
 use Rattle.pc_project.specs.Project.{Project}
 use Rattle.pc_reading.specs.declared.status.Status.{Status}
-use Rattle.pc_reading.specs.Priced.{priced_in}
+use Rattle.pc_reading.specs.Priced.{priced_in, priced_of}
 use Rattle.pc_reading.specs.OneWord.{IsOneWord}
 use Rattle.pc_reading.specs.inside.OneWord.{EndsWithout}
 use Rattle.pc_reading.specs.inside.OneWord as ends
@@ -27,9 +27,12 @@ use Rattle.pc_checking.specs.inside.CheckOutcome.{CheckOutcome, certified, not_c
 use Rattle.pc_reading.specs.inside.Reading.{HasProject}
 use Rattle.pc_reading.specs.Sides.{Side, IsUntouched, Took}
 use Rattle.pc_reading.specs.Verdict.{IsProjectOf, AcceptedBy}
+use Rattle.pc_check.specs.Headline.{PrintsWholeCurve}
+use Rattle.pc_crash.specs.Priced.{PricedNetwork}
 use Rattle.pc_check.proofs.HeadlineLaws.{prints_whole_curve}
 use Rattle.pc_reading.proofs.PricedLaws.{is_named, is_priced, priced_as}
 use Rattle.pc_reading.proofs.VerdictLaws.{one_project}
+use Rattle.pc_checking.proofs.OnceLaws.{whole_once}
 
 -- ---- verdicts
 
@@ -58,12 +61,15 @@ one_finding bytes text (No line reason) (No number cause) a b =
 
 -- a certified certificate proves the whole curve
 pub curve_of : (bytes text : List ℕ) (segments : ℕ) → HasVerdict bytes text (Yes segments) → ProvesCurve bytes text
-curve_of bytes text segments h = record {
-  deck = h.accepted.deck;
-  accepted = h.accepted.accepted;
-  prints = rw (← priced_as h.accepted.deck h.project h.accepted.is)
-      (prints_whole_curve (priced_in h.project) text segments (is_priced bytes h.project h.accepted) (is_named bytes h.project h.accepted) h.finds);
-}
+curve_of bytes text segments h =
+    let prints : PrintsWholeCurve (priced_of h.accepted.deck) text = subst (λ (net : PricedNetwork). PrintsWholeCurve net text) (priced_as h.accepted.deck h.project h.accepted.is)
+        (prints_whole_curve (priced_in h.project) text segments (is_priced bytes h.project h.accepted) (is_named bytes h.project h.accepted) h.finds) in
+    record {
+      deck = h.accepted.deck;
+      accepted = h.accepted.accepted;
+      prints = prints;
+      once = λ others is. whole_once prints.lines others text prints.whole is;
+    }
 
 -- ---- bytes of two sources
 

@@ -29,3 +29,12 @@ pub record IsDeckText (project : Project) (text : List ℕ) : Type 0 where
   pub made : IsProjectOfDeck (written project.deck) (migrated project)
   pub same : SayTheSame project.deck (written project.deck)
   pub again : deck_text (written project.deck) ≡ text
+
+-- the text of the deck is accepted: it is not too long, it is read as a deck that says the same, and that makes a project. A project of the
+-- deck is that of its text, but for the deck that it keeps
+pub record IsKeptByText (deck : Deck) : Type 0 where
+  pub short : length (deck_text deck) ≤ longest_deck
+  pub cards : IsDeckOf (deck_text deck) (written deck)
+  pub makes : MakesProject (written deck)
+  pub same : SayTheSame deck (written deck)
+  pub made : (project : Project) → IsProjectOfDeck deck project → IsProjectOfDeck (written deck) (migrated project)

@@ -2,5 +2,7 @@
 #![tactic(auto)]
 
 mod text;
+mod text_laws;
 
 pub use crate::text::deck_text_of;
+pub use crate::text_laws::text_makes_the_project;

@@ -1,15 +1,18 @@
 -- What answers `certify` prints the whole time-cost curve.
-use Rattle.std.proofs.Common.{◌≡◌, ℕ, List, Option, Some, None, refl}
+use Rattle.std.proofs.Common.{◌≡◌, ℕ, List, Option, Some, None, refl, subst}
 use Rattle.std.specs.Prelude.{IfSome, String}
 use Rattle.std.specs.declared.alloc.Global.{Global}
 use Rattle.pc_project.specs.Project.{Project}
 use Rattle.pc_certify.specs.Certificate.{IsCertificate}
 use Rattle.pc_check.proofs.HeadlineLaws.{prints_whole_curve}
+use Rattle.pc_check.specs.Headline.{PrintsWholeCurve}
+use Rattle.pc_checking.proofs.OnceLaws.{whole_once}
+use Rattle.pc_crash.specs.Priced.{PricedNetwork}
 use Rattle.pc_reading.proofs.PricedLaws.{is_named, is_priced, priced_as}
 use Rattle.pert_cli.specs.declared.forms.Form.TheVariants.{Certify}
 use Rattle.pc_reading.specs.declared.status.Status.{Status}
 use Rattle.pc_reading.specs.inside.Status.{code_of}
-use Rattle.pc_reading.specs.Priced.{priced_in}
+use Rattle.pc_reading.specs.Priced.{priced_in, priced_of}
 use Rattle.pert_cli.proofs.AnsweredLaws.{answered}
 use Rattle.pert_cli.proofs.FormDeckLaws.{read_project}
 use Rattle.pert_cli.specs.Words.{AskFor}
@@ -21,14 +24,17 @@ use Rattle.pert_cli.specs.inside.Outcome.{Outcome}
 of_deck : {X : Type 0} (left : Option (List ℕ)) (out : Side X) (project : Project) (text : List ℕ) → Took out text → IsCertificate (priced_in project) text
     → IfSome left (λ bytes. IsProjectOf bytes project) → IfSome left (TookWholeCurve out)
 of_deck None out project text took is accepted = tt
-of_deck (Some bytes) out project text took is accepted = record {
-  deck = accepted.deck;
-  accepted = accepted.accepted;
-  text = text;
-  took = took;
-  prints = rw (← priced_as accepted.deck project accepted.is)
-      (prints_whole_curve (priced_in project) text _ (is_priced bytes project accepted) (is_named bytes project accepted) is.certified);
-}
+of_deck (Some bytes) out project text took is accepted =
+    let prints : PrintsWholeCurve (priced_of accepted.deck) text = subst (λ (net : PricedNetwork). PrintsWholeCurve net text) (priced_as accepted.deck project accepted.is)
+        (prints_whole_curve (priced_in project) text _ (is_priced bytes project accepted) (is_named bytes project accepted) is.certified) in
+    record {
+      deck = accepted.deck;
+      accepted = accepted.accepted;
+      text = text;
+      took = took;
+      prints = prints;
+      once = λ others also. whole_once prints.lines others text prints.whole also;
+    }
 
 module _ {S O E : Type 0} (words : List (String Global)) (source : Side S) (out : Side O) (err : Side E) (answer : ℕ) where
   -- where a run for `certify` ended with 0, the output took the whole curve
