@@ -12,7 +12,10 @@ fn spans_are_taken_and_given_back(rt: HostRuntime) -> Result<(), AllocError> {
         Err(_) => panic!(rt; "no room for 4"),
     };
     region.fill(first, 7);
-    let second = region.take_free(5);
+    let second = match region.take(5) {
+        Ok(span) => span,
+        Err(_) => panic!(rt; "no room for 5"),
+    };
     region.set(second, 4, 9);
     assert_eq!(rt; region.get(first, 3), 7);
     assert_eq!(rt; (region.get(second, 3), region.get(second, 4)), (0, 9));
@@ -26,5 +29,9 @@ fn spans_are_taken_and_given_back(rt: HostRuntime) -> Result<(), AllocError> {
     assert!(rt; region.is_mark(mark));
     region.release_to(mark);
     assert_eq!(rt; region.free(), 1);
+    assert_eq!(rt; region.list(first), [7; 4].as_slice());
+    assert_eq!(rt; region.list(second), [1, 2, 3, 4, 5].as_slice());
+    let last = region.take_free(1);
+    assert_eq!(rt; region.list(last), [0].as_slice());
     Ok(())
 }
