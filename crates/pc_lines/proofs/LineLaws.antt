@@ -84,7 +84,7 @@ pub lines_of-are : (lines : List (List ℕ)) (rest : List ℕ) → AreOpen lines
 lines_of-are lines rest p q = rw (whole_lines-are lines rest p q, open_line-is lines rest p q) refl
 
 -- lines at the front of a text are its first lines, however the text goes on
-whole_lines-front : (lines : List (List ℕ)) (rest : List ℕ) → AreOpen lines → whole_lines (text_of lines ++ rest) ≡ lines ++ whole_lines rest
+pub whole_lines-front : (lines : List (List ℕ)) (rest : List ℕ) → AreOpen lines → whole_lines (text_of lines ++ rest) ≡ lines ++ whole_lines rest
 whole_lines-front [] rest p = refl
 whole_lines-front (line ∷ lines) rest p =
     ap (lines_behind []) (append_assoc line (10 ∷ text_of lines) rest)

@@ -1,14 +1,17 @@
 -- The steps of a reader of lines.
-use Rattle.std.proofs.Common.{◌≡◌, ◌≢◌, ℕ, ◌+◌, ◌-◌, ◌<◌, ◌≤◌, List, [], ◌∷◌, ◌++◌, length, take, drop, Option, sym, ap}
+use Rattle.std.proofs.Common.{◌≡◌, ◌≢◌, ℕ, ◌+◌, ◌-◌, ◌<◌, ◌≤◌, List, [], ◌∷◌, ◌++◌, length, take, drop, Option, refl, sym, ap}
 use Rattle.std.proofs.Common.{◌∙◌, subst, arith, append_assoc, append-nil, length-append, Contains, get_or, zero, suc}
 use Rattle.std.proofs.lemmas.List.{take_all, drop_all, length-take, nil_from_length}
 use Rattle.std.proofs.Math.Seq.{take-append-add}
 use Rattle.std.proofs.KnownBytes.{Consumes-nil, Consumes-trans, Consumes-kept}
 use Rattle.std.specs.Io.KnownBytes.{Consumes, Keeps, IsAtEnd}
+use Rattle.pc_edges.specs.Pulls.{TakesPulls}
+use Rattle.pc_edges.specs.declared.loading.TheConstants.{STREAM_ROOM}
+use Rattle.pc_edges.proofs.PullLaws.{TakesPulls-then, TakesPulls-more, TakesPulls-none}
 use Rattle.pc_lines.specs.declared.reader.TheConstants.{INPUT_LIMIT, LINE_ROOM}
 use Rattle.pc_lines.specs.Lines.{last_line, lines_of, whole_lines}
 use Rattle.pc_lines.specs.inside.Lines.{line_len, text_of, IsOpen, AreOpen}
-use Rattle.pc_lines.specs.inside.Reading.{Reading, kept, StandsFor, bytes_left, TookAll, TookLine, IsFilled, Gave, GaveLast, GaveAll, FailedBehind, PassedLimit}
+use Rattle.pc_lines.specs.inside.Reading.{Reading, kept, StandsFor, bytes_left, TookAll, TookLine, IsFilled, HasPulled, no_pull, some_pulls, Gave, GaveLast, GaveAll, FailedBehind, PassedLimit}
 use Rattle.pc_lines.proofs.HoldLemmas.{take-of_cut}
 use Rattle.pc_lines.proofs.LineLaws.{line_len-splits, line_len-open, IsOpen-append, text_of-more, AreOpen-more, whole_lines-are, lines_of-are, last_line-some}
 
@@ -68,15 +71,33 @@ begins {lines} {bytes} left start now h is = record {
   count = ap (λ (r : Reading). r.taken) is ∙ h.count ∙ ap length (sym (append-nil bytes));
 }
 
+-- what was pulled since the lines were given
+pub record IsUnder {X : Type 0} (left : X → Option (List ℕ)) (pulls : X → Option ℕ) (source source_now : X) (lines : List (List ℕ)) (bytes : List ℕ) (reading : Reading) : Type 0 where
+  pub within : IsWithin lines bytes (left source) (left source_now) reading
+  pub each : TakesPulls (length within.more) (pulls source) (pulls source_now)
+  pub pulled : HasPulled left pulls source source_now lines bytes
+
+pub begins_under : {X : Type 0} (left : X → Option (List ℕ)) (pulls : X → Option ℕ) (source : X) {lines : List (List ℕ)} {bytes : List ℕ} (start now : Reading) → StandsFor start lines bytes
+    → now ≡ record start { line = [] } → IsUnder left pulls source source lines bytes now
+unfolding begins
+begins_under left pulls source start now h is = record {
+  within = begins (left source) start now h is;
+  each = TakesPulls-none 0 (pulls source);
+  pulled = no_pull refl;
+}
+
 -- a line ends in the bytes ahead
-pub gives : {lines : List (List ℕ)} {bytes : List ℕ} {left left_now : Option (List ℕ)} {old : Reading} (new : Reading) (front : List ℕ)
-    → IsWithin lines bytes left left_now old → TookLine old new front → Gave lines bytes left left_now new
-gives {lines} {bytes} {old = old} new front h took =
+pub gives : {X : Type 0} {left : X → Option (List ℕ)} {pulls : X → Option ℕ} {source source_now : X} {lines : List (List ℕ)} {bytes : List ℕ} {old : Reading} (new : Reading) (front : List ℕ)
+    → IsUnder left pulls source source_now lines bytes old → TookLine old new front → Gave left pulls source source_now lines bytes new
+gives {lines = lines} {bytes = bytes} {old = old} new front u took =
+    let h = u.within in
     let line = h.part ++ front in
     record {
       line = line;
       more = h.more;
       taken = h.taken;
+      each = u.each;
+      pulled = u.pulled;
       is = took.kept_is ∙ ap (λ l. kept (l ++ front)) h.is ∙ take-of_cut LINE_ROOM h.part front;
       stands = record {
         whole =
@@ -103,6 +124,11 @@ goes_on {lines} {old = old} new h took = record {
   is = took.kept_is ∙ ap (λ l. kept (l ++ old.ahead)) h.is ∙ take-of_cut LINE_ROOM h.part old.ahead;
   count = took.same ∙ h.count;
 }
+
+pub goes_on_under : {X : Type 0} {left : X → Option (List ℕ)} {pulls : X → Option ℕ} {source source_now : X} {lines : List (List ℕ)} {bytes : List ℕ} {old : Reading} (new : Reading)
+    → IsUnder left pulls source source_now lines bytes old → TookAll old new → IsUnder left pulls source source_now lines bytes new
+unfolding goes_on
+goes_on_under new u took = record { within = goes_on new u.within took; each = u.each; pulled = u.pulled }
 
 -- of all bytes that were pulled before and those that are pulled now, the ones within the limit
 within_limit : (limit : ℕ) (bytes more : List ℕ) → length bytes ≤ limit → take limit (bytes ++ more) ≡ bytes ++ take (limit - length bytes) more
@@ -139,6 +165,29 @@ fills {lines} {bytes} left_after {old} new count h nothing fits f =
       count = f.counted ∙ ap (λ n. n + count) h.count ∙ ap (λ n. length all + n) (sym f.length_is) ∙ sym (length-append all f.more) ∙ ap length (append_assoc bytes h.more f.more);
     }
 
+-- one pull more: the lines are all whole ones before it
+pub pulls_once : {X : Type 0} {left : X → Option (List ℕ)} {pulls : X → Option ℕ} {source source_now : X} {lines : List (List ℕ)} {bytes : List ℕ} (source_after : X) {reading : Reading}
+    → IsUnder left pulls source source_now lines bytes reading → reading.ahead ≡ [] → reading.taken ≤ INPUT_LIMIT
+    → (last : List ℕ) → Consumes (left source_now) (left source_after) last → length last ≤ STREAM_ROOM → TakesPulls 1 (pulls source_now) (pulls source_after)
+    → HasPulled left pulls source source_after lines bytes
+pulls_once {source_now = source_now} {lines = lines} source_after u nothing fits last taken room once =
+    let h = u.within in
+    some_pulls source_now h.more last h.taken (omega (arith, h.count, fits)) u.each taken room once
+    (ap whole_lines (short_whole h nothing fits) ∙ whole_lines-are lines h.part h.ends h.no_end)
+
+-- and it gives some bytes
+pub fills_under : {X : Type 0} {left : X → Option (List ℕ)} {pulls : X → Option ℕ} {source source_now : X} {lines : List (List ℕ)} {bytes : List ℕ} (source_after : X) {old : Reading} (new : Reading) (count : ℕ)
+    → IsUnder left pulls source source_now lines bytes old → old.ahead ≡ [] → old.taken ≤ INPUT_LIMIT → IsFilled old new (left source_now) (left source_after) count
+    → TakesPulls 1 (pulls source_now) (pulls source_after) → 0 < count → IsUnder left pulls source source_after lines bytes new
+unfolding fills
+fills_under {left = left} {pulls = pulls} {source = source} {source_now = source_now} source_after new count u nothing fits f once some = record {
+  within = fills (left source_after) new count u.within nothing fits f;
+  each = TakesPulls-more (length u.within.more + 1) (length (u.within.more ++ f.more)) (pulls source) (pulls source_after)
+      (omega (arith, length-append u.within.more f.more, f.length_is, some))
+      (TakesPulls-then (length u.within.more) 1 (pulls source) (pulls source_now) (pulls source_after) u.each once);
+  pulled = pulls_once source_after u nothing fits f.more f.taken f.room once;
+}
+
 -- no byte is pulled
 pub fills_nothing : {old new : Reading} {left left_after : Option (List ℕ)} (count : ℕ) → IsFilled old new left left_after count → count ≡ 0 → new.ahead ≡ []
 fills_nothing {old} {new} count f none =
@@ -149,52 +198,62 @@ fills_nothing {old} {new} count f none =
 part_empty : (part line : List ℕ) → line ≡ kept part → length line ≡ 0 → part ≡ []
 part_empty part line is none = nil_from_length part (omega (arith, ap length is, length-take LINE_ROOM part, none))
 
-pub ends_all : {lines : List (List ℕ)} {bytes : List ℕ} {left left_now : Option (List ℕ)} {reading : Reading} → IsWithin lines bytes left left_now reading
-    → reading.ahead ≡ [] → reading.taken ≤ INPUT_LIMIT → IsAtEnd left_now → length reading.line ≡ 0 → GaveAll lines bytes left left_now
-ends_all {lines} {bytes} {reading = reading} h nothing fits end none =
+pub ends_all : {X : Type 0} {left : X → Option (List ℕ)} {pulls : X → Option ℕ} {source source_now : X} {lines : List (List ℕ)} {bytes : List ℕ} {reading : Reading}
+    → IsWithin lines bytes (left source) (left source_now) reading → HasPulled left pulls source source_now lines bytes
+    → reading.ahead ≡ [] → reading.taken ≤ INPUT_LIMIT → IsAtEnd (left source_now) → length reading.line ≡ 0 → GaveAll left pulls source source_now lines bytes
+ends_all {lines = lines} {bytes = bytes} {reading = reading} h pulled nothing fits end none =
     let empty : h.part ≡ [] = part_empty h.part reading.line h.is none in
     record {
       more = h.more;
       taken = h.taken;
+      pulled = pulled;
       end = end;
       short = omega (arith, h.count, fits);
       all = ap lines_of (short_whole h nothing fits) ∙ lines_of-are lines h.part h.ends h.no_end ∙ ap (λ l. lines ++ last_line l) empty ∙ append-nil lines;
     }
 
-pub ends_last : {lines : List (List ℕ)} {bytes : List ℕ} {left left_now : Option (List ℕ)} {reading : Reading} → IsWithin lines bytes left left_now reading
-    → reading.ahead ≡ [] → reading.taken ≤ INPUT_LIMIT → IsAtEnd left_now → length reading.line ≢ 0 → GaveLast lines bytes left left_now reading
-ends_last {lines} {bytes} {reading = reading} h nothing fits end some =
+pub ends_last : {X : Type 0} {left : X → Option (List ℕ)} {pulls : X → Option ℕ} {source source_now : X} {lines : List (List ℕ)} {bytes : List ℕ} {reading : Reading}
+    → IsWithin lines bytes (left source) (left source_now) reading → HasPulled left pulls source source_now lines bytes
+    → reading.ahead ≡ [] → reading.taken ≤ INPUT_LIMIT → IsAtEnd (left source_now) → length reading.line ≢ 0 → GaveLast left pulls source source_now lines bytes reading
+ends_last {lines = lines} {bytes = bytes} {reading = reading} h pulled nothing fits end some =
     let full : h.part ≢ [] = λ empty. some (ap length (h.is ∙ ap kept empty)) in
     record {
       line = h.part;
       more = h.more;
       taken = h.taken;
+      pulled = pulled;
       end = end;
       short = omega (arith, h.count, fits);
       is = h.is;
       all = ap lines_of (short_whole h nothing fits) ∙ lines_of-are lines h.part h.ends h.no_end ∙ ap (λ l. lines ++ l) (last_line-some h.part full);
     }
 
-pub fails : {lines : List (List ℕ)} {bytes : List ℕ} {left left_now : Option (List ℕ)} (left_after : Option (List ℕ)) {reading : Reading}
-    → IsWithin lines bytes left left_now reading → reading.ahead ≡ [] → reading.taken ≤ INPUT_LIMIT → Keeps left_now left_after
-    → FailedBehind lines bytes left left_after
-fails {lines} {bytes} left_after h nothing fits keeps = record {
-  more = h.more;
-  taken = Consumes-kept _ _ _ h.more h.taken keeps;
-  short = omega (arith, h.count, fits);
-  all = ap whole_lines (short_whole h nothing fits) ∙ whole_lines-are lines h.part h.ends h.no_end;
-}
+pub fails : {X : Type 0} {left : X → Option (List ℕ)} {pulls : X → Option ℕ} {source source_now : X} {lines : List (List ℕ)} {bytes : List ℕ} (source_after : X) {reading : Reading}
+    → IsUnder left pulls source source_now lines bytes reading → reading.ahead ≡ [] → reading.taken ≤ INPUT_LIMIT → Keeps (left source_now) (left source_after)
+    → TakesPulls 1 (pulls source_now) (pulls source_after) → FailedBehind left pulls source source_after lines bytes
+fails {left = left} {source_now = source_now} {lines = lines} {bytes = bytes} source_after u nothing fits keeps once =
+    let h = u.within in
+    record {
+      more = h.more;
+      taken = Consumes-kept _ _ _ h.more h.taken keeps;
+      pulled = pulls_once source_after u nothing fits [] (Consumes-kept _ _ _ [] (Consumes-nil (left source_now)) keeps) (omega arith) once;
+      short = omega (arith, h.count, fits);
+      all = ap whole_lines (short_whole h nothing fits) ∙ whole_lines-are lines h.part h.ends h.no_end;
+    }
 
-pub passes : {lines : List (List ℕ)} {bytes : List ℕ} {left left_now : Option (List ℕ)} {reading : Reading} → IsWithin lines bytes left left_now reading
-    → reading.ahead ≡ [] → INPUT_LIMIT < reading.taken → PassedLimit lines bytes left left_now
-passes {lines} {bytes} h nothing long = record {
-  more = h.more;
-  taken = h.taken;
-  long = omega (arith, h.count, long);
-  all =
-      ap whole_lines (h.whole ∙ ap (λ l. text_of lines ++ (h.part ++ l)) nothing ∙ ap (λ l. text_of lines ++ l) (append-nil h.part))
-      ∙ whole_lines-are lines h.part h.ends h.no_end;
-}
+pub passes : {X : Type 0} {left : X → Option (List ℕ)} {pulls : X → Option ℕ} {source source_now : X} {lines : List (List ℕ)} {bytes : List ℕ} {reading : Reading}
+    → IsUnder left pulls source source_now lines bytes reading → reading.ahead ≡ [] → INPUT_LIMIT < reading.taken → PassedLimit left pulls source source_now lines bytes
+passes {lines = lines} {bytes = bytes} u nothing long =
+    let h = u.within in
+    record {
+      more = h.more;
+      taken = h.taken;
+      pulled = u.pulled;
+      long = omega (arith, h.count, long);
+      all =
+          ap whole_lines (h.whole ∙ ap (λ l. text_of lines ++ (h.part ++ l)) nothing ∙ ap (λ l. text_of lines ++ l) (append-nil h.part))
+          ∙ whole_lines-are lines h.part h.ends h.no_end;
+    }
 
 -- ---- how much is left
 
@@ -219,8 +278,8 @@ open_lacks bytes h has = lacks_at bytes h (has.0) (has.1) (has.2)
 
 -- ---- what a step keeps before it ends
 
-pub record Keeping {S : Type 0} (start now : Reading) (left : S → Option (List ℕ)) (faults : S → ℕ) (source source_now : S) : Type 0 where
-  pub within : (lines : List (List ℕ)) (bytes : List ℕ) → StandsFor start lines bytes → IsWithin lines bytes (left source) (left source_now) now
+pub record Keeping {S : Type 0} (start now : Reading) (left : S → Option (List ℕ)) (pulls : S → Option ℕ) (faults : S → ℕ) (source source_now : S) : Type 0 where
+  pub under : (lines : List (List ℕ)) (bytes : List ℕ) → StandsFor start lines bytes → IsUnder left pulls source source_now lines bytes now
   pub unpulled : Contains start.ahead 10 → (source_now ≡ source) × (now.ahead ≡ start.ahead)
   pub less : bytes_left now ≤ bytes_left start
   pub no_fault : faults source_now ≡ faults source

@@ -1,6 +1,7 @@
 //! The reader of lines.
 ghost use Rattle.std.specs.Prelude.{◌≡◌, ℕ, ◌+◌, ◌<◌, ◌≤◌, ◌-◌, List, [], ◌++◌, length, take, drop, Ok, IfOk, OnOk, OnErr, IsErrOf, Contains};
 ghost use Rattle.pc_edges.specs.Faults.{Rose};
+ghost use Rattle.pc_edges.specs.Pulls.{TakesPulls};
 ghost use Rattle.pc_lines.specs.inside.Reading.{Reading, StandsFor, Stepped, TakesLine, Filled, bytes_left};
 
 use crate::line_end::line_len;
@@ -83,7 +84,7 @@ impl LineReader {
     pub fn next<S: Source>(&mut self, source: &mut S) -> Result<Next, LineError>
         // a reader that gave these lines of these bytes gives the next line of them and of the bytes that were pulled behind them
         ensures stepped { (lines : List (List ℕ)) (bytes : List ℕ) → StandsFor self.old lines bytes
-            → Stepped lines bytes (S.left source.old) (S.left source.new) self.new result }
+            → Stepped S.left S.pulls source.old source.new lines bytes self.new result }
         // nothing is pulled while a whole line is there
         ensures unpulled { Contains self.old.ahead 10 → (source.new ≡ source.old) × (result ≡ Ok Next.Line) }
         ensures left { IfOk result (λ next. next ≡ Next.Line → bytes_left self.new < bytes_left self.old) }
@@ -183,6 +184,7 @@ impl LineReader {
         ensures no_fault { OnOk result (S.faults source.new ≡ S.faults source.old) }
         ensures failed { OnErr result (Rose (S.faults source.old) (S.faults source.new)) }
         ensures count { S.faults source.old ≤ S.faults source.new }
+        ensures once { TakesPulls 1 (S.pulls source.old) (S.pulls source.new) }
     {
         let n = source.pull(self.buffer.as_mut_slice())?;
         self.from = 0;

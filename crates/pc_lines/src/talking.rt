@@ -2,6 +2,7 @@
 ghost use Rattle.std.specs.Prelude.{◌≡◌, ℕ, List, []};
 ghost use Rattle.pc_edges.specs.inside.Writes.{Writes};
 ghost use Rattle.pc_lines.specs.inside.Reading.{StandsFor};
+ghost use Rattle.pc_lines.specs.Taken.{IsTakenWithin};
 ghost use Rattle.pc_lines.specs.inside.Talk.{Ends};
 
 use crate::reader::{LineError, LineReader, Next};
@@ -41,8 +42,9 @@ pub fn talk<T: Answers, C: Source, O: Sink>(
     out: &mut O,
 ) -> Result<(), TalkError>
     requires { StandsFor reader [] [] }
-    ensures { Ends T.Says C.left C.faults O.taken O.faults talker.old talker.new source.old source.new out.old
-        out.new result }
+    ensures ends { Ends T.Says C.left C.faults C.pulls O.taken O.faults talker.old talker.new source.old
+        source.new out.old out.new result }
+    ensures within { IsTakenWithin C.left C.pulls source.old source.new }
 {
     loop {
         match reader.next(source) {

@@ -1,6 +1,8 @@
 -- What a reader of lines stands for, and what a step leaves.
 use Rattle.std.specs.Prelude.{◌≡◌, ℕ, ◌+◌, ◌-◌, ◌<◌, ◌≤◌, List, [], ◌∷◌, ◌++◌, length, take, Bool, true, false, Option, Result, Ok, Err}
 use Rattle.std.specs.Io.KnownBytes.{Consumes, IsAtEnd, Keeps}
+use Rattle.pc_edges.specs.Pulls.{TakesPulls}
+use Rattle.pc_edges.specs.declared.loading.TheConstants.{STREAM_ROOM}
 use Rattle.pc_edges.specs.declared.source.Failed.{Failed}
 use Rattle.pc_lines.specs.declared.reader.Next.{Next}
 use Rattle.pc_lines.specs.declared.reader.Next.TheVariants.{Line, Last, End}
@@ -33,53 +35,68 @@ bytes_left reading = (INPUT_LIMIT - reading.taken) + length reading.ahead
 
 -- ---- what a step leaves
 
--- one more line is given
-pub record Gave (lines : List (List ℕ)) (bytes : List ℕ) (left left_after : Option (List ℕ)) (reading : Reading) : Type 0 where
-  pub line : List ℕ
-  pub more : List ℕ
-  pub taken : Consumes left left_after more
-  pub is : reading.line ≡ kept line
-  pub stands : StandsFor reading (lines ++ line ∷ []) (bytes ++ more)
+-- what a step of a reader pulls that gave these lines of these bytes: nothing; or some bytes, up to the last pull at least one for each
+-- pull, and before the last pull no other line was whole
+pub data HasPulled {X : Type 0} (left : X → Option (List ℕ)) (pulls : X → Option ℕ) (source source_after : X) (lines : List (List ℕ)) (bytes : List ℕ) : Type 0 where
+  no_pull : source_after ≡ source → HasPulled left pulls source source_after lines bytes
+  some_pulls : (before : X) (more last : List ℕ) → Consumes (left source) (left before) more → length (bytes ++ more) ≤ INPUT_LIMIT → TakesPulls (length more) (pulls source) (pulls before)
+      → Consumes (left before) (left source_after) last → length last ≤ STREAM_ROOM → TakesPulls 1 (pulls before) (pulls source_after)
+      → whole_lines (bytes ++ more) ≡ lines → HasPulled left pulls source source_after lines bytes
 
--- the input ended, and the one line that was not given yet has no end
-pub record GaveLast (lines : List (List ℕ)) (bytes : List ℕ) (left left_after : Option (List ℕ)) (reading : Reading) : Type 0 where
-  pub line : List ℕ
-  pub more : List ℕ
-  pub taken : Consumes left left_after more
-  pub end : IsAtEnd left_after
-  pub short : length (bytes ++ more) ≤ INPUT_LIMIT
-  pub is : reading.line ≡ kept line
-  pub all : lines_of (bytes ++ more) ≡ lines ++ line ∷ []
+module _ {X : Type 0} (left : X → Option (List ℕ)) (pulls : X → Option ℕ) (source source_after : X) (lines : List (List ℕ)) (bytes : List ℕ) where
+  -- one more line is given, and each pull gave a byte at least
+  pub record Gave (reading : Reading) : Type 0 where
+    pub line : List ℕ
+    pub more : List ℕ
+    pub taken : Consumes (left source) (left source_after) more
+    pub each : TakesPulls (length more) (pulls source) (pulls source_after)
+    pub pulled : HasPulled left pulls source source_after lines bytes
+    pub is : reading.line ≡ kept line
+    pub stands : StandsFor reading (lines ++ line ∷ []) (bytes ++ more)
 
--- the input ended, and all its lines were given
-pub record GaveAll (lines : List (List ℕ)) (bytes : List ℕ) (left left_after : Option (List ℕ)) : Type 0 where
-  pub more : List ℕ
-  pub taken : Consumes left left_after more
-  pub end : IsAtEnd left_after
-  pub short : length (bytes ++ more) ≤ INPUT_LIMIT
-  pub all : lines_of (bytes ++ more) ≡ lines
+  -- the input ended, and the one line that was not given yet has no end
+  pub record GaveLast (reading : Reading) : Type 0 where
+    pub line : List ℕ
+    pub more : List ℕ
+    pub taken : Consumes (left source) (left source_after) more
+    pub pulled : HasPulled left pulls source source_after lines bytes
+    pub end : IsAtEnd (left source_after)
+    pub short : length (bytes ++ more) ≤ INPUT_LIMIT
+    pub is : reading.line ≡ kept line
+    pub all : lines_of (bytes ++ more) ≡ lines ++ line ∷ []
 
--- a pull failed, and all whole lines were given
-pub record FailedBehind (lines : List (List ℕ)) (bytes : List ℕ) (left left_after : Option (List ℕ)) : Type 0 where
-  pub more : List ℕ
-  pub taken : Consumes left left_after more
-  pub short : length (bytes ++ more) ≤ INPUT_LIMIT
-  pub all : whole_lines (bytes ++ more) ≡ lines
+  -- the input ended, and all its lines were given
+  pub record GaveAll : Type 0 where
+    pub more : List ℕ
+    pub taken : Consumes (left source) (left source_after) more
+    pub pulled : HasPulled left pulls source source_after lines bytes
+    pub end : IsAtEnd (left source_after)
+    pub short : length (bytes ++ more) ≤ INPUT_LIMIT
+    pub all : lines_of (bytes ++ more) ≡ lines
 
--- more bytes were pulled than an input may have, and all whole lines among the first of them were given
-pub record PassedLimit (lines : List (List ℕ)) (bytes : List ℕ) (left left_after : Option (List ℕ)) : Type 0 where
-  pub more : List ℕ
-  pub taken : Consumes left left_after more
-  pub long : INPUT_LIMIT < length (bytes ++ more)
-  pub all : whole_lines (take INPUT_LIMIT (bytes ++ more)) ≡ lines
+  -- a pull failed, and all whole lines were given
+  pub record FailedBehind : Type 0 where
+    pub more : List ℕ
+    pub taken : Consumes (left source) (left source_after) more
+    pub pulled : HasPulled left pulls source source_after lines bytes
+    pub short : length (bytes ++ more) ≤ INPUT_LIMIT
+    pub all : whole_lines (bytes ++ more) ≡ lines
 
--- what a step leaves of a reader that gave these lines of these bytes
-abbrev pub Stepped : List (List ℕ) → List ℕ → Option (List ℕ) → Option (List ℕ) → Reading → Result Next LineError → Type 0
-Stepped lines bytes left left_after reading (Ok Line) = Gave lines bytes left left_after reading
-Stepped lines bytes left left_after reading (Ok Last) = GaveLast lines bytes left left_after reading
-Stepped lines bytes left left_after reading (Ok End) = GaveAll lines bytes left left_after
-Stepped lines bytes left left_after reading (Err ReadFault) = FailedBehind lines bytes left left_after
-Stepped lines bytes left left_after reading (Err TooLong) = PassedLimit lines bytes left left_after
+  -- more bytes were pulled than an input may have, and all whole lines among the first of them were given
+  pub record PassedLimit : Type 0 where
+    pub more : List ℕ
+    pub taken : Consumes (left source) (left source_after) more
+    pub pulled : HasPulled left pulls source source_after lines bytes
+    pub long : INPUT_LIMIT < length (bytes ++ more)
+    pub all : whole_lines (take INPUT_LIMIT (bytes ++ more)) ≡ lines
+
+  -- what a step leaves of a reader that gave these lines of these bytes
+  abbrev pub Stepped : Reading → Result Next LineError → Type 0
+  Stepped reading (Ok Line) = Gave reading
+  Stepped reading (Ok Last) = GaveLast reading
+  Stepped reading (Ok End) = GaveAll
+  Stepped reading (Err ReadFault) = FailedBehind
+  Stepped reading (Err TooLong) = PassedLimit
 
 -- ---- within a step
 
@@ -105,6 +122,7 @@ pub record IsFilled (old new : Reading) (left left_after : Option (List ℕ)) (c
   pub more : List ℕ
   pub taken : Consumes left left_after more
   pub length_is : length more ≡ count
+  pub room : length more ≤ STREAM_ROOM
   pub ahead : new.ahead ≡ take (INPUT_LIMIT - old.taken) more
   pub same : new.line ≡ old.line
   pub counted : new.taken ≡ old.taken + count

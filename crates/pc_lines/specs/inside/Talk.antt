@@ -5,6 +5,7 @@ use Rattle.pc_edges.specs.Faults.{Rose}
 use Rattle.pc_edges.specs.Writes.{Wrote, Stopped}
 use Rattle.pc_lines.specs.declared.reader.TheConstants.{INPUT_LIMIT}
 use Rattle.pc_lines.specs.Lines.{whole_lines, lines_of}
+use Rattle.pc_lines.specs.Taken.{AreFirst, IsTakenForLast}
 use Rattle.pc_lines.specs.inside.Reading.{kept}
 use Rattle.pc_lines.specs.declared.talking.TalkError.{TalkError}
 use Rattle.pc_lines.specs.declared.talking.TalkError.TheVariants.{ReadFault, WriteFault, TooLong}
@@ -19,14 +20,15 @@ Talks {T} says old (line ∷ lines) text new =
 abbrev pub Answered : {T : Type 0} → (T → List ℕ → List ℕ → T → Type 0) → T → List (List ℕ) → List ℕ → T → Type 0
 Answered says old lines text new = Talks says old (map kept lines) text new
 
-module _ {T C O : Type 0} (says : T → List ℕ → List ℕ → T → Type 0) (left : C → Option (List ℕ)) (source_faults : C → ℕ)
+module _ {T C O : Type 0} (says : T → List ℕ → List ℕ → T → Type 0) (left : C → Option (List ℕ)) (source_faults : C → ℕ) (pulls : C → Option ℕ)
     (taken : O → Option (List ℕ)) (sink_faults : O → ℕ) (talker talker_after : T) (source source_after : C) (out out_after : O) where
-  -- the source was read to its end, its bytes lie within the limit, and all its lines were answered
+  -- the source was read to its end without a fault, its bytes lie within the limit, and all its lines were answered
   pub record IsDone : Type 0 where
     pub bytes : List ℕ
     pub text : List ℕ
     pub read : Consumes (left source) (left source_after) bytes
     pub end : IsAtEnd (left source_after)
+    pub no_fault : source_faults source_after ≡ source_faults source
     pub short : length bytes ≤ INPUT_LIMIT
     pub answered : Answered says talker (lines_of bytes) text talker_after
     pub wrote : Wrote (taken out) (taken out_after) (sink_faults out) (sink_faults out_after) text
@@ -41,23 +43,28 @@ module _ {T C O : Type 0} (says : T → List ℕ → List ℕ → T → Type 0) 
     pub answered : Answered says talker (whole_lines bytes) text talker_after
     pub wrote : Wrote (taken out) (taken out_after) (sink_faults out) (sink_faults out_after) text
 
-  -- more bytes were taken than an input may have, and all whole lines among the first of them were answered
+  -- more bytes were taken than an input may have, without a fault, and all whole lines among the first of them were answered
   pub record IsTooLong : Type 0 where
     pub bytes : List ℕ
     pub text : List ℕ
     pub read : Consumes (left source) (left source_after) bytes
+    pub no_fault : source_faults source_after ≡ source_faults source
     pub long : INPUT_LIMIT < length bytes
     pub answered : Answered says talker (whole_lines (take INPUT_LIMIT bytes)) text talker_after
     pub wrote : Wrote (taken out) (taken out_after) (sink_faults out) (sink_faults out_after) text
 
-  -- a fault of the sink came when it had taken a front of the answers to the first lines of the bytes that were taken
+  -- a fault of the sink came when it had taken a front of the answers to the first lines of the bytes that were taken, each of them whole
+  -- unless the source was read to its end; and nothing was pulled behind the last of them
   pub record IsCut : Type 0 where
     pub bytes : List ℕ
     pub text : List ℕ
     pub lines : List (List ℕ)
     pub others : List (List ℕ)
     pub read : Consumes (left source) (left source_after) bytes
+    pub no_fault : source_faults source_after ≡ source_faults source
     pub first : lines_of (take INPUT_LIMIT bytes) ≡ lines ++ others
+    pub are_first : AreFirst (left source_after) bytes lines
+    pub at_once : IsTakenForLast left pulls source source_after lines
     pub answered : Answered says talker lines text talker_after
     pub stopped : Stopped (taken out) (taken out_after) (sink_faults out) (sink_faults out_after) text
 

@@ -28,6 +28,7 @@ returns-clause-filled g c =
       more = take c.in_ok-n.n c.pull.new.buffer;
       taken = c.in_ok-n.ensures.bytes;
       length_is = length-take-le c.in_ok-n.n c.pull.new.buffer (omega (arith, c.in_ok-n.ensures.fits));
+      room = omega (arith, length-take-le c.in_ok-n.n c.pull.new.buffer (omega (arith, c.in_ok-n.ensures.fits)), c.in_ok-n.ensures.fits, c.self.invariant.room);
       ahead =
           ap (take _) items
           ∙ ap (λ n. take n c.pull.new.buffer) (omega (arith, taken))
