@@ -78,7 +78,7 @@ module _ (project : Project) (parts : HasSoundParts project) where
   one_answer editing (Some ask.Curve) text other x y = one_curve_text editing.net text other x y
   one_answer editing (Some (ask.Try trial)) text other x y = one_trial editing trial text other x y
 
-  one_text_of : (editing : Editing) (lines : List (List ℕ)) (text other : List ℕ) → AreAnswers project editing lines text → AreAnswers project editing lines other → text ≡ other
+  pub one_text_of : (editing : Editing) (lines : List (List ℕ)) (text other : List ℕ) → AreAnswers project editing lines text → AreAnswers project editing lines other → text ≡ other
   one_text_of editing [] text other x y = x ∙ sym y
   one_text_of editing (line ∷ lines) text other x y =
       x.2

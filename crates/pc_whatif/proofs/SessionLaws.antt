@@ -1,17 +1,19 @@
 -- How the parts of a session make its outcome.
-use Rattle.std.proofs.Common.{ℕ, List, Option, Result, Ok, Err}
+use Rattle.std.proofs.Common.{◌≡◌, ℕ, List, Option, Result, Ok, Err, sym, subst}
 use Rattle.std.specs.Prelude.{IfSome, String}
 use Rattle.std.specs.declared.alloc.Global.{Global}
 use Rattle.pc_project.specs.Project.{Project}
 use Rattle.pc_lines.specs.declared.talking.TalkError.{TalkError}
 use Rattle.pc_lines.specs.declared.talking.TalkError.TheVariants as talk
 use Rattle.pc_lines.specs.inside.Talk.{Answered, Ends}
+use Rattle.pc_lines.specs.Taken.{IsTakenWithin}
+use Rattle.pc_lines.proofs.TalkLaws.{taken_none}
 use Rattle.pc_reading.specs.declared.status.Status.{Status}
 use Rattle.pc_reading.specs.OneWord.{IsOneWord}
 use Rattle.pc_reading.specs.inside.OneWord.{EndsWithout}
 use Rattle.pc_reading.specs.inside.OneWord as ends
 use Rattle.pc_reading.specs.inside.Reading.{HasProject}
-use Rattle.pc_reading.specs.Sides.{Side, side, IsUntouched}
+use Rattle.pc_reading.specs.Sides.{Side, side, pulled_side, IsUntouched}
 use Rattle.pc_reading.specs.Verdict.{AcceptedBy, IsProjectOf}
 use Rattle.pc_reading.proofs.SideLaws.{of_one}
 use Rattle.pc_whatif.specs.Heard.{Meaning, AnswersOn, HasAnswered, IsHeard, session_usage_text}
@@ -21,12 +23,12 @@ use Rattle.pc_whatif.specs.inside.SessionOutcome.{SessionOutcome, heard_out, too
 
 -- ---- what a talk comes to
 
-module _ {T C O : Type 0} (says : T → List ℕ → List ℕ → T → Type 0) (left : C → Option (List ℕ)) (source_faults : C → ℕ)
+module _ {T C O : Type 0} (says : T → List ℕ → List ℕ → T → Type 0) (left : C → Option (List ℕ)) (source_faults : C → ℕ) (pulls : C → Option ℕ)
     (taken : O → Option (List ℕ)) (sink_faults : O → ℕ) (talker talker_after : T) (source source_after : C) (out out_after : O)
     (answers : List (List ℕ) → List ℕ → Type 0) (mean : (lines : List (List ℕ)) (text : List ℕ) → Answered says talker lines text talker_after → answers lines text) where
-  pub heard : (result : Result (Unit {0}) TalkError) → Ends says left source_faults taken sink_faults talker talker_after source source_after out out_after result
-      → Hearing answers (side left source_faults source source_after) (side taken sink_faults out out_after) (status_of result)
-  heard (Ok done) h = all (record { bytes = h.bytes; taken = h.read; text = h.text; answers_are = mean _ _ h.answered; took = h.wrote }) h.end h.short
+  pub heard : (result : Result (Unit {0}) TalkError) → Ends says left source_faults pulls taken sink_faults talker talker_after source source_after out out_after result
+      → Hearing answers (pulled_side left source_faults pulls source source_after) (side taken sink_faults out out_after) (status_of result)
+  heard (Ok done) h = all (record { bytes = h.bytes; taken = h.read; text = h.text; answers_are = mean _ _ h.answered; took = h.wrote }) h.end h.no_fault h.short
   heard (Err talk.ReadFault) h = unread (record { bytes = h.bytes; taken = h.read; text = h.text; answers_are = mean _ _ h.answered; took = h.wrote }) h.fault h.short
   heard (Err talk.WriteFault) h = cut (record {
     bytes = h.bytes;
@@ -34,11 +36,14 @@ module _ {T C O : Type 0} (says : T → List ℕ → List ℕ → T → Type 0) 
     lines = h.lines;
     others = h.others;
     first = h.first;
+    are_first = h.are_first;
+    at_once = h.at_once;
+    no_fault = h.no_fault;
     text = h.text;
     answers_are = mean _ _ h.answered;
     took = h.stopped;
   })
-  heard (Err talk.TooLong) h = passed (record { bytes = h.bytes; taken = h.read; text = h.text; answers_are = mean _ _ h.answered; took = h.wrote }) h.long
+  heard (Err talk.TooLong) h = passed (record { bytes = h.bytes; taken = h.read; text = h.text; answers_are = mean _ _ h.answered; took = h.wrote }) h.no_fault h.long
 
 -- ---- outcomes
 
@@ -69,8 +74,8 @@ module _ {D C O E : Type 0} (means : Meaning) (words : List (String Global)) (de
   -- the deck is accepted, and lines were answered on its project
   pub after_hearing : (project : Project) (status : Status) → IsOneWord words → HasProject deck project → IsUntouched err → Hearing (means project) edits out status
       → SessionOutcome means words deck edits out err status
-  after_hearing project _ asked has same (all h end short) = heard_out asked (record { heard = heard_on project _ has h; end = end; short = short }) same
-  after_hearing project _ asked has same (passed h long) = too_long asked (record { heard = heard_on project _ has h; long = long }) same
+  after_hearing project _ asked has same (all h end no_fault short) = heard_out asked (record { heard = heard_on project _ has h; end = end; no_fault = no_fault; short = short }) same
+  after_hearing project _ asked has same (passed h no_fault long) = too_long asked (record { heard = heard_on project _ has h; no_fault = no_fault; long = long }) same
   after_hearing project _ asked has same (unread h fault short) = read_fault asked (edits_unread (record { heard = heard_on project _ has h; fault = fault; short = short })) same
   after_hearing project _ asked has same (cut h) = write_fault (in_answers asked (record {
     read = has.read;
@@ -81,6 +86,9 @@ module _ {D C O E : Type 0} (means : Meaning) (words : List (String Global)) (de
       lines = h.lines;
       others = h.others;
       first = h.first;
+      are_first = h.are_first;
+      at_once = h.at_once;
+      no_fault = h.no_fault;
       text = h.text;
       answers_are = answers_on means (deck.bytes deck.old) project h.lines h.text has.is h.answers_are;
       took = h.took;
@@ -96,3 +104,7 @@ module _ {D C O E : Type 0} (means : Meaning) (words : List (String Global)) (de
   after_no_project _ (ends.deck_unread asked rose few same) unread_edits unused = read_fault asked (deck_unread rose few unread_edits unused) same
   after_no_project _ (ends.refusal_cut is) unread_edits unused = write_fault (in_refusal is unread_edits unused)
   after_no_project _ (ends.usage_cut no_word took same) unread_edits unused = write_fault (in_usage no_word took same unread_edits unused)
+
+-- from edits that are left alone nothing is taken
+pub none_taken_of : {C : Type 0} (left : C → Option (List ℕ)) (pulls : C → Option ℕ) (old new : C) → new ≡ old → IsTakenWithin left pulls old new
+none_taken_of left pulls old new same = subst (IsTakenWithin left pulls old) (sym same) (taken_none left pulls old).taken

@@ -3,6 +3,7 @@ use Rattle.std.specs.Prelude.{◌≡◌, ℕ, ◌<◌, ◌≤◌, List, [], ◌�
 use Rattle.std.specs.Io.KnownBytes.{Consumes}
 use Rattle.pc_lines.specs.declared.reader.TheConstants.{INPUT_LIMIT}
 use Rattle.pc_lines.specs.Lines.{lines_of, whole_lines}
+use Rattle.pc_lines.specs.Taken.{AreFirst, IsTakenForLast}
 use Rattle.pc_project.specs.Project.{Project}
 use Rattle.pc_reading.specs.Sides.{Side, HadFault, IsReadToEnd, OfDeck, Took, TookFront}
 use Rattle.pc_reading.specs.Verdict.{AcceptedBy, IsProjectOf}
@@ -10,6 +11,10 @@ use Rattle.pc_reading.specs.Verdict.{AcceptedBy, IsProjectOf}
 -- the line that says which words are asked for
 abbrev pub session_usage_text : List ℕ
 session_usage_text = codes "usage: pert_whatif DECK" ++ 10 ∷ []
+
+-- no call failed: the count of faults is the one that it was
+abbrev pub HadSteadyFaults : {X : Type 0} → Side X → Type 0
+HadSteadyFaults s = s.faults s.new ≡ s.faults s.old
 
 -- which text answers lines, one after the other, on a project
 abbrev pub Meaning : Type 1
@@ -29,13 +34,17 @@ pub record HasAnswered {C O : Type 0} (answers : List (List ℕ) → List ℕ �
   pub answers_are : answers (lines bytes) text
   pub took : Took out text
 
--- a fault of the output came when it had taken a front of the answers to the first lines of the bytes that were taken
+-- a fault of the output came when it had taken a front of the answers to the first lines of the bytes that were taken: to whole ones,
+-- unless the edits were read to their end. No pull of the edits failed, and none came behind the one in which the last of these lines ended
 pub record HasAnsweredSome {C O : Type 0} (answers : List (List ℕ) → List ℕ → Type 0) (edits : Side C) (out : Side O) : Type 0 where
   pub bytes : List ℕ
   pub taken : Consumes (edits.bytes edits.old) (edits.bytes edits.new) bytes
   pub lines : List (List ℕ)
   pub others : List (List ℕ)
   pub first : lines_of (take INPUT_LIMIT bytes) ≡ lines ++ others
+  pub are_first : AreFirst (edits.bytes edits.new) bytes lines
+  pub at_once : IsTakenForLast edits.bytes edits.pulls edits.old edits.new lines
+  pub no_fault : HadSteadyFaults edits
   pub text : List ℕ
   pub answers_are : answers lines text
   pub took : TookFront out text
@@ -54,15 +63,17 @@ pub record IsHeard {D C O : Type 0} (means : Meaning) (deck : Side D) (edits : S
 abbrev pub first_lines : List ℕ → List (List ℕ)
 first_lines bytes = whole_lines (take INPUT_LIMIT bytes)
 
--- the edits were read to their end and lie within the limit, and all their lines were answered
+-- the edits were read to their end, without a fault, and lie within the limit, and all their lines were answered
 pub record IsHeardOut {D C O : Type 0} (means : Meaning) (deck : Side D) (edits : Side C) (out : Side O) : Type 0 where
   pub heard : IsHeard means deck edits out lines_of
   pub end : IsReadToEnd edits
+  pub no_fault : HadSteadyFaults edits
   pub short : length heard.answered.bytes ≤ INPUT_LIMIT
 
--- more bytes of the edits were taken than edits may have, and the whole lines among the first of them were answered
+-- more bytes of the edits were taken than edits may have, without a fault, and the whole lines among the first of them were answered
 pub record IsHeardTooLong {D C O : Type 0} (means : Meaning) (deck : Side D) (edits : Side C) (out : Side O) : Type 0 where
   pub heard : IsHeard means deck edits out first_lines
+  pub no_fault : HadSteadyFaults edits
   pub long : INPUT_LIMIT < length heard.answered.bytes
 
 -- the edits could not be read on, and the whole lines before were answered

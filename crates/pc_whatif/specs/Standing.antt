@@ -7,7 +7,7 @@ use Rattle.pc_edits.specs.declared.ask.Ask.TheVariants as ask
 use Rattle.pc_edits.specs.Editing.{Editing}
 use Rattle.pc_edits.specs.Reading.{ask_of}
 use Rattle.pc_edits.specs.Refusal.{edit_refusal, undo_refusal}
-use Rattle.pc_edits.specs.Standing.{Journal, noted, taken_back, standing_of}
+use Rattle.pc_edits.specs.Standing.{Journal, empty, noted, taken_back, standing_of}
 use Rattle.pc_whatif.specs.Planning.{IsAnswer, editing_after}
 
 -- the journal after a line: an edit that is accepted is noted, an UNDO that is accepted takes the latest back, and all else leaves it as
@@ -37,3 +37,7 @@ AnswersByJournal project journal [] text = text ≡ []
 AnswersByJournal project journal (line ∷ lines) text =
     (first : List ℕ) × (rest : List ℕ) × (text ≡ first ++ rest) × IsAnswer project (standing_of project journal) (ask_of line) first
     × AnswersByJournal project (journal_after project journal (ask_of line)) lines rest
+
+-- and they are those on the project of a deck, on which at first no edit stands
+abbrev pub AnswersInOrder : Project → List (List ℕ) → List ℕ → Type 0
+AnswersInOrder project lines text = AnswersByJournal project empty lines text

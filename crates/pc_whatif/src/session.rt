@@ -1,6 +1,8 @@
 //! A session.
-ghost use Rattle.std.specs.Prelude.{◌≡◌, IfOk};
+ghost use Rattle.std.specs.Prelude.{◌≡◌, length, IfOk};
 ghost use Rattle.pc_edits.specs.Editing.{begun};
+ghost use Rattle.pc_trials.specs.inside.Trials.{trial_cells};
+ghost use Rattle.pc_whatif.specs.inside.Planning.{IsRenewed};
 
 use pc_edits::Edits;
 use pc_page::{PAGE_ROOM, Page};
@@ -48,6 +50,9 @@ impl<'p> Session<'p> {
     pub fn begin(alloc: Global, project: &'p Project) -> Result<Session<'p>, AllocError>
         ensures project { IfOk result (λ session. session.project ≡ project.now) }
         ensures editing { IfOk result (λ session. session.editing ≡ begun project.now) }
+        ensures standing { IfOk result (λ session. IsRenewed session.project session.editing session.reserved) }
+        ensures cells { IfOk result (λ session. session.reserved.free ≡
+            trial_cells project.now.network.events (length project.now.network.arcs) (length project.now.pieces)) }
     {
         // What the project keeps to.
         let _net = project.net();

@@ -3,15 +3,17 @@ ghost use Rattle.std.specs.Prelude.{◌≡◌, ◌≢◌, ℕ, List, ◌+◌, �
 ghost use Rattle.pc_deck.specs.Limits.{longest_deck};
 ghost use Rattle.pc_edges.specs.Pulls.{TakesPulls};
 ghost use Rattle.pc_edges.specs.declared.loading.TheConstants.{STREAM_ROOM};
+ghost use Rattle.pc_lines.specs.Taken.{IsTakenWithin};
 ghost use Rattle.pc_lines.specs.declared.reader.TheConstants.{INPUT_LIMIT};
 ghost use Rattle.pc_reading.specs.OneWord.{IsDeckRefused, IsOneWord};
-ghost use Rattle.pc_reading.specs.Sides.{side, HadNoFault, IsReadToEnd, OfBytes, OfDeck, Took, TookAtMost};
+ghost use Rattle.pc_reading.specs.Sides.{side, pulled_side, HadNoFault, IsReadToEnd, OfBytes, OfDeck, Took, TookAtMost};
 ghost use Rattle.pc_reading.specs.Verdict.{AcceptedBy, RefusedBy};
-ghost use Rattle.pc_whatif.specs.Heard.{session_usage_text, IsHeardOut, IsHeardTooLong};
+ghost use Rattle.pc_whatif.specs.Heard.{session_usage_text, AnswersOn, IsHeardOut, IsHeardTooLong};
 ghost use Rattle.pc_whatif.specs.inside.Hearing.{Hearing, status_of};
 ghost use Rattle.pc_whatif.specs.SessionOutcome.{IsSessionCut, IsUnread};
 ghost use Rattle.pc_whatif.specs.inside.SessionOutcome.{SessionOutcome};
 ghost use Rattle.pc_whatif.specs.Planning.{AnswersLines};
+ghost use Rattle.pc_whatif.specs.Standing.{AnswersInOrder};
 
 use crate::session::Session;
 use pc_edges::{Sink, Source};
@@ -41,12 +43,12 @@ pub fn session_run<D: Source, C: Source, O: Sink, E: Sink>(
     // 0: the deck is accepted, the edits were read to their end, and `out` took the answers to all their lines, each by the project that
     // the lines before it leave
     ensures heard { result ≡ 0 → IsHeardOut AnswersLines (side D.left D.faults deck.old deck.new)
-        (side C.left C.faults edits.old edits.new) (side O.taken O.faults out.old out.new) }
+        (pulled_side C.left C.faults C.pulls edits.old edits.new) (side O.taken O.faults out.old out.new) }
     ensures heard_only { result ≡ 0 → err.new ≡ err.old }
 
     // 8: the deck is accepted, more was taken of the edits than they may have, and `out` took the answers to the whole lines within that
     ensures too_long { result ≡ 8 → IsHeardTooLong AnswersLines (side D.left D.faults deck.old deck.new)
-        (side C.left C.faults edits.old edits.new) (side O.taken O.faults out.old out.new) }
+        (pulled_side C.left C.faults C.pulls edits.old edits.new) (side O.taken O.faults out.old out.new) }
     ensures too_long_only { result ≡ 8 → err.new ≡ err.old }
 
     // 1: the deck is refused, and `err` took the line of its fault. Of the edits nothing was read.
@@ -67,12 +69,12 @@ pub fn session_run<D: Source, C: Source, O: Sink, E: Sink>(
 
     // 4: the deck could not be read; or the edits, whose whole lines before that were answered
     ensures read_fault { result ≡ 4 → IsUnread AnswersLines (side D.left D.faults deck.old deck.new)
-        (side C.left C.faults edits.old edits.new) (side O.taken O.faults out.old out.new) }
+        (pulled_side C.left C.faults C.pulls edits.old edits.new) (side O.taken O.faults out.old out.new) }
     ensures read_fault_only { result ≡ 4 → err.new ≡ err.old }
 
     // 5: a fault of `out` or `err` came in the answers, the line of a fault or the usage line.
     ensures write_fault { result ≡ 5 → IsSessionCut AnswersLines words.now (side D.left D.faults deck.old deck.new)
-        (side C.left C.faults edits.old edits.new) (side O.taken O.faults out.old out.new)
+        (pulled_side C.left C.faults C.pulls edits.old edits.new) (side O.taken O.faults out.old out.new)
         (side E.taken E.faults err.old err.new) }
 
     // Each status but 2 and 5 comes only where there is one word.
@@ -95,17 +97,29 @@ pub fn session_run<D: Source, C: Source, O: Sink, E: Sink>(
         → HadNoFault (side E.taken E.faults err.old err.new) → (result ≡ 1) ⊎ (result ≡ 3)) }
     ensures deck_accepted { IsOneWord words.now →
         OfDeck (side D.left D.faults deck.old deck.new) (λ bytes. AcceptedBy bytes
-        → HadNoFault (side D.left D.faults deck.old deck.new) → HadNoFault (side C.left C.faults edits.old edits.new)
+        → HadNoFault (side D.left D.faults deck.old deck.new) → HadNoFault (pulled_side C.left C.faults C.pulls edits.old edits.new)
         → HadNoFault (side O.taken O.faults out.old out.new) → (result ≡ 0) ⊎ ((result ≡ 3) ⊎ (result ≡ 8))) }
 
     // Where more is taken of the edits than they may have, and no fault of `out` came, that is the answer.
     ensures long_edits { HadNoFault (side O.taken O.faults out.old out.new) →
-        OfBytes (side C.left C.faults edits.old edits.new)
+        OfBytes (pulled_side C.left C.faults C.pulls edits.old edits.new)
         (λ before. IfSome (C.left edits.new) (λ after. INPUT_LIMIT + length after < length before → result ≡ 8)) }
+
+    // What lines are answered with hangs on the deck and on the lines alone: not on how they came, nor on anything else.
+    ensures one_text { (bytes : List ℕ) (lines : List (List ℕ)) (text other : List ℕ) → AnswersOn AnswersLines bytes lines text
+        → AnswersOn AnswersLines bytes lines other → text ≡ other }
+
+    // Each of them is answered on the deck's project with the edits that then stand applied in order: those that were accepted and not taken
+    // back.
+    ensures in_order { (bytes : List ℕ) (lines : List (List ℕ)) (text : List ℕ) → AnswersOn AnswersLines bytes lines text
+        → AnswersOn AnswersInOrder bytes lines text }
 
     // However long the deck is, no more pulls and hardly more bytes than those of the longest deck are taken of it.
     ensures deck_turns { TakesPulls (longest_deck + 2) (D.pulls deck.old) (D.pulls deck.new) }
     ensures deck_near { TookAtMost (longest_deck + STREAM_ROOM) (side D.left D.faults deck.old deck.new) }
+
+    // However long the edits are, reading stops at the pull that passes their limit, ends them or fails.
+    ensures edits_stop { IsTakenWithin C.left C.pulls edits.old edits.new }
 {
     session_outcome(alloc, words, deck, edits, out, err).code()
 }
@@ -120,10 +134,11 @@ fn session_outcome<D: Source, C: Source, O: Sink, E: Sink>(
     err: &mut E,
 ) -> Status
     ensures outcome { SessionOutcome AnswersLines words.now (side D.left D.faults deck.old deck.new)
-        (side C.left C.faults edits.old edits.new)
+        (pulled_side C.left C.faults C.pulls edits.old edits.new)
         (side O.taken O.faults out.old out.new) (side E.taken E.faults err.old err.new) result }
     ensures deck_turns { TakesPulls (longest_deck + 2) (D.pulls deck.old) (D.pulls deck.new) }
     ensures deck_near { TookAtMost (longest_deck + STREAM_ROOM) (side D.left D.faults deck.old deck.new) }
+    ensures edits_stop { IsTakenWithin C.left C.pulls edits.old edits.new }
 {
     match project_named(alloc, words, USAGE, deck, err) {
         Ok(project) => hear(alloc, &project, edits, out),
@@ -133,8 +148,9 @@ fn session_outcome<D: Source, C: Source, O: Sink, E: Sink>(
 
 /// Answers the lines of edits of the project, with all memory taken before the first is read.
 fn hear<C: Source, O: Sink>(alloc: Global, project: &Project, edits: &mut C, out: &mut O) -> Status
-    ensures { Hearing (AnswersLines project.now) (side C.left C.faults edits.old edits.new)
+    ensures hearing { Hearing (AnswersLines project.now) (pulled_side C.left C.faults C.pulls edits.old edits.new)
         (side O.taken O.faults out.old out.new) result }
+    ensures edits_stop { IsTakenWithin C.left C.pulls edits.old edits.new }
 {
     let Ok(reader) = LineReader::begin(alloc) else {
         return Status::OutOfMemory;

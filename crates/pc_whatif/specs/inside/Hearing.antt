@@ -7,12 +7,12 @@ use Rattle.pc_lines.specs.declared.talking.TalkError.TheVariants as talk
 use Rattle.pc_reading.specs.declared.status.Status.{Status}
 use Rattle.pc_reading.specs.declared.status.Status.TheVariants.{Done, OutOfMemory, ReadFault, WriteFault, TooLong}
 use Rattle.pc_reading.specs.Sides.{Side, HadFault, IsReadToEnd, IsUntouched}
-use Rattle.pc_whatif.specs.Heard.{HasAnswered, HasAnsweredSome, first_lines}
+use Rattle.pc_whatif.specs.Heard.{HadSteadyFaults, HasAnswered, HasAnsweredSome, first_lines}
 
 -- how it ends
 pub data Hearing {C O : Type 0} (answers : List (List ℕ) → List ℕ → Type 0) (edits : Side C) (out : Side O) : Status → Type 0 where
-  all : (h : HasAnswered answers edits out lines_of) → IsReadToEnd edits → length h.bytes ≤ INPUT_LIMIT → Hearing answers edits out Done
-  passed : (h : HasAnswered answers edits out first_lines) → INPUT_LIMIT < length h.bytes → Hearing answers edits out TooLong
+  all : (h : HasAnswered answers edits out lines_of) → IsReadToEnd edits → HadSteadyFaults edits → length h.bytes ≤ INPUT_LIMIT → Hearing answers edits out Done
+  passed : (h : HasAnswered answers edits out first_lines) → HadSteadyFaults edits → INPUT_LIMIT < length h.bytes → Hearing answers edits out TooLong
   unread : (h : HasAnswered answers edits out whole_lines) → HadFault edits → length h.bytes ≤ INPUT_LIMIT → Hearing answers edits out ReadFault
   cut : HasAnsweredSome answers edits out → Hearing answers edits out WriteFault
   no_room : IsUntouched edits → IsUntouched out → Hearing answers edits out OutOfMemory

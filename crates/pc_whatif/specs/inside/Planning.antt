@@ -25,12 +25,21 @@ pub record Planning : Type 0 where
 
 -- ---- what a line leaves
 
--- the line was answered with the text, and the session is as after it: of its spans only an accepted edit or UNDO changes the lists, and no
--- line changes how many cells are free
+-- the standing times are those of the project as it is edited, from scratch: its expected times and variances, the greatest sums of these to
+-- each event and from it to the end, and the critical path
+pub record IsRenewed (project : Project) (editing : Editing) (reserved : Reserved) : Type 0 where
+  pub fits : IsFor project.network reserved
+  pub standing : IsStanding project.network reserved
+  pub expected : reserved.expected ≡ expected_times editing.unit_days editing.estimates
+  pub variances_are : reserved.variances ≡ variances editing.unit_days editing.estimates
+
+-- the line was answered with the text, and the session is as after it: its standing times are those of the project as it is now, of its
+-- spans only an accepted edit or UNDO changes the lists, and no line changes how many cells are free
 pub record IsAnswered (old : Planning) (asked : Option Ask) (text : List ℕ) (new : Planning) : Type 0 where
   pub answer : IsAnswer old.project old.editing asked text
   pub project : new.project ≡ old.project
   pub editing : new.editing ≡ editing_after old.editing asked
+  pub standing : IsRenewed new.project new.editing new.reserved
   pub lists : (text ≡ ok_text → ⊥) → new ≡ old
   pub cells : new.reserved.free ≡ old.reserved.free
 
@@ -72,10 +81,3 @@ pub record IsChangedAt (project : Project) (editing : Editing) (a : ℕ) (reserv
   pub activity : a < length project.network.arcs
   pub expected : expected_times editing.unit_days editing.estimates ≡ slice_set reserved.expected a (expected_by editing.unit_days (estimates_at editing.estimates a))
   pub variances_are : variances editing.unit_days editing.estimates ≡ slice_set reserved.variances a (variance_by editing.unit_days (estimates_at editing.estimates a))
-
--- the standing times are those of the project as it is edited
-pub record IsRenewed (project : Project) (editing : Editing) (reserved : Reserved) : Type 0 where
-  pub fits : IsFor project.network reserved
-  pub standing : IsStanding project.network reserved
-  pub expected : reserved.expected ≡ expected_times editing.unit_days editing.estimates
-  pub variances_are : reserved.variances ≡ variances editing.unit_days editing.estimates

@@ -1,5 +1,6 @@
 use Rattle.pc_whatif.specs.Planning.{AnswersLines}
 use Rattle.pc_reading.proofs.VerdictLaws.{not_both}
+use Rattle.pc_whatif.proofs.DeckTextLaws.{one_text_on, in_order_on}
 use Rattle.pc_whatif.proofs.SessionDecided.{ended, went_on, not_read, refused_is_read, session_cut, not_refused_accepts, refused_deck_ends, accepted_deck_ends, long_edits_end}
 use Rattle.pc_whatif.proofs.top.session_run.Goals as goal
 
@@ -34,3 +35,9 @@ returns-clause-refused_read g c = refused_is_read AnswersLines c.args.words.now 
 
 pub returns-clause-one_verdict : goal.returns-clause-one_verdict
 returns-clause-one_verdict g c = λ bytes accepted refused. not_both bytes accepted.0 refused.0 accepted.1 refused.1
+
+pub returns-clause-one_text : goal.returns-clause-one_text
+returns-clause-one_text g c = one_text_on
+
+pub returns-clause-in_order : goal.returns-clause-in_order
+returns-clause-in_order g c = in_order_on

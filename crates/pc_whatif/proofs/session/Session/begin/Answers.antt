@@ -18,3 +18,10 @@ invariant_of-result c =
       room = omega (arith, c.in_ok-begin.ensures.free);
       page = c.in_ok-with_room.ensures;
     }
+
+pub returns-clause-standing : goal.returns-clause-standing
+returns-clause-standing c =
+    let project = c.args.project.now in
+    let editing : c.in_ok-begin-2.field-0.editing ≡ begun project = ap (λ (e : Edits). e.editing) c.in_ok-begin-2.ensures.begun in
+    subst (λ (e : Editing). IsRenewed project e c.in_ok-begin.field-0) (sym editing)
+    (begun_renewed project c.net-net.ensures.planned c.in_ok-begin.field-0 c.in_ok-begin.ensures.fits c.in_ok-begin.ensures.standing)

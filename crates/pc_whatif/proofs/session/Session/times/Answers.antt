@@ -10,4 +10,4 @@ pub returns : goal.returns
 returns g c =
     let a = c.self.inside in
     let written = c.write_times.ensures.text (project_as a.project.now a.edits.editing) (changed_to a.project.now a.edits.editing a.reservation c.self.invariant.renewed) in
-    (written.0, stays_as c.args.self.now (planning_of a) (Some asks.Times) (written.0) c.self.view_is (written.1) refl, written.2)
+    (written.0, stays_as c.args.self.now (planning_of a) (Some asks.Times) (written.0) c.self.view_is c.self.invariant.renewed (written.1) refl, written.2)

@@ -10,7 +10,7 @@ use Rattle.pc_curve.specs.Range.{IsWithin}
 use Rattle.pc_whatif.specs.Planning.{IsTrialText, refused}
 use Rattle.pc_whatif.specs.inside.Planning.{Planning}
 use Rattle.pc_whatif.specs.Texts.{cost_text, refused_text}
-use Rattle.pc_whatif.proofs.AnswerLaws.{stays, tried_out, trial_costs, trial_outside}
+use Rattle.pc_whatif.proofs.AnswerLaws.{standing_as, stays, tried_out, trial_costs, trial_outside}
 use Rattle.pc_whatif.proofs.session.Session.try_out.Goals as goal
 
 pub returns-in-Err-clause-answered : goal.returns-in-Err-clause-answered
@@ -18,7 +18,7 @@ returns-in-Err-clause-answered g c =
     let trial = c.args.trial.now in
     let text = refused_text c.in-Err.reason in (
       text,
-      stays c.args.self.now (Some (asks.Try trial)) text
+      stays c.args.self.now (Some (asks.Try trial)) text (standing_as _ c.args.self.now c.self.view_is c.self.invariant.renewed)
           (subst (λ (p : Planning). IsTrialText p.editing trial text) c.self.view_is (refused c.in-Err.reason c.in-Err.ensures.refused refl)) refl,
       c.refuse.ensures,
     )
@@ -33,7 +33,7 @@ returns-in_default-clause-answered g c =
     let is : IsTrialText a.edits.editing trial text =
     trial_outside a.edits.editing trial c.in-Ok.tried c.in-Ok.ensures.accepted c.in-Ok.ensures.activity c.in-Ok.ensures.term
     (λ within. false≢true (c.in_default.ensures.within.1 (subst (λ (n : PricedNetwork). IsWithin n trial.length) (sym net) within))) in
-    (text, tried_out c.args.self.now a.project.now a.edits.editing c.end_trial.new.self.editing _ _ trial text editing c.least_cost-cost.ensures.kept c.self.view_is is, c.refuse-in_default.ensures)
+    (text, tried_out c.args.self.now a.project.now a.edits.editing c.end_trial.new.self.editing _ _ trial text editing c.least_cost-cost.ensures.kept c.self.invariant.renewed c.self.view_is is, c.refuse-in_default.ensures)
 
 pub returns-clause-answered : goal.returns-clause-answered
 returns-clause-answered g c =
@@ -46,4 +46,4 @@ returns-clause-answered g c =
     trial_costs a.edits.editing trial c.in-Ok.tried c.in-Some.cost c.in-Ok.ensures.accepted c.in-Ok.ensures.activity c.in-Ok.ensures.term
     (subst (λ (n : PricedNetwork). IsWithin n trial.length) net (c.in-Some.ensures.within.0 refl))
     (subst (λ (n : PricedNetwork). curve_in n trial.length c.in-Some.cost) net c.in-Some.ensures.least) in
-    (text, tried_out c.args.self.now a.project.now a.edits.editing c.end_trial.new.self.editing _ _ trial text editing c.least_cost-cost.ensures.kept c.self.view_is is, c.tell_cost.ensures)
+    (text, tried_out c.args.self.now a.project.now a.edits.editing c.end_trial.new.self.editing _ _ trial text editing c.least_cost-cost.ensures.kept c.self.invariant.renewed c.self.view_is is, c.tell_cost.ensures)
