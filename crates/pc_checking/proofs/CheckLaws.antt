@@ -30,6 +30,7 @@ use Rattle.pc_reading.specs.Verdict.{IsProjectOf, AcceptedBy}
 use Rattle.pc_check.proofs.HeadlineLaws.{prints_whole_curve}
 use Rattle.pc_reading.proofs.PricedLaws.{is_named, is_priced}
 use Rattle.pc_reading.proofs.VerdictLaws.{one_project}
+use Rattle.pc_checking.proofs.OnceLaws.{whole_once}
 
 -- ---- verdicts
 
@@ -58,11 +59,14 @@ one_finding bytes text (No line reason) (No number cause) a b =
 
 -- a certified certificate proves the whole curve
 pub curve_of : (bytes text : List ℕ) (segments : ℕ) → HasVerdict bytes text (Yes segments) → ProvesCurve bytes text
-curve_of bytes text segments h = record {
-  project = h.project;
-  accepted = h.accepted;
-  prints = prints_whole_curve (priced_in h.project) text segments (is_priced bytes h.project h.accepted) (is_named bytes h.project h.accepted) h.finds;
-}
+curve_of bytes text segments h =
+    let prints = prints_whole_curve (priced_in h.project) text segments (is_priced bytes h.project h.accepted) (is_named bytes h.project h.accepted) h.finds in
+    record {
+      project = h.project;
+      accepted = h.accepted;
+      prints = prints;
+      once = λ others is. whole_once prints.lines others text prints.whole is;
+    }
 
 -- ---- bytes of two sources
 

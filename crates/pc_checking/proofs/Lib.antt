@@ -1,2 +1,3 @@
+pub mod OnceLaws
 mod CheckLaws
 mod CheckDecided

@@ -1,10 +1,12 @@
 -- Certificates of a deck's project, and what is said of them.
-use Rattle.std.specs.Prelude.{ℕ, List, [], ◌∷◌, ◌++◌, codes, decimal, Option}
+use Rattle.std.specs.Prelude.{◌≡◌, ℕ, List, [], ◌∷◌, ◌++◌, codes, decimal, Option}
 use Rattle.pc_crash.specs.Priced.{PricedNetwork}
 use Rattle.pc_check.specs.declared.fail.Verdict.{Verdict}
 use Rattle.pc_check.specs.declared.fail.Verdict.TheVariants.{Yes, No}
 use Rattle.pc_edges.specs.declared.loading.TheConstants.{STREAM_ROOM}
 use Rattle.pc_check.specs.Texts.{Finds}
+use Rattle.pc_cert.specs.declared.line.CertLine.{CertLine}
+use Rattle.pc_cert.specs.Reader.{IsWhole}
 use Rattle.pc_check.specs.Headline.{PrintsWholeCurve}
 use Rattle.pc_check.specs.Stops.{IsSettled, IsUnsettled}
 use Rattle.pc_check.specs.OwnLines.{KeepsToOwnLines}
@@ -49,11 +51,13 @@ Certifies deck text = (segments : ℕ) × HasVerdict deck text (Yes segments)
 abbrev pub FailsAsCertificate : List ℕ → List ℕ → Type 0
 FailsAsCertificate deck text = (line reason : ℕ) × HasVerdict deck text (No line reason)
 
--- the deck is accepted, and the text says the whole time-cost curve of its project
+-- the deck is accepted, and the text says the whole time-cost curve of its project; it is the text of no other lines, so these are what it
+-- says
 pub record ProvesCurve (deck text : List ℕ) : Type 0 where
   pub project : Project
   pub accepted : IsProjectOf deck project
   pub prints : PrintsWholeCurve (priced_in project) text
+  pub once : (others : List CertLine) → IsWhole others text → others ≡ prints.lines
 
 -- ---- what a check leaves
 
