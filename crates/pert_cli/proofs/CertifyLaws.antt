@@ -5,6 +5,7 @@ use Rattle.std.specs.declared.alloc.Global.{Global}
 use Rattle.pc_project.specs.Project.{Project}
 use Rattle.pc_certify.specs.Certificate.{IsCertificate}
 use Rattle.pc_check.proofs.HeadlineLaws.{prints_whole_curve}
+use Rattle.pc_checking.proofs.OnceLaws.{whole_once}
 use Rattle.pc_reading.proofs.PricedLaws.{is_named, is_priced}
 use Rattle.pert_cli.specs.declared.forms.Form.TheVariants.{Certify}
 use Rattle.pc_reading.specs.declared.status.Status.{Status}
@@ -21,13 +22,16 @@ use Rattle.pert_cli.specs.inside.Outcome.{Outcome}
 of_deck : {X : Type 0} (left : Option (List ℕ)) (out : Side X) (project : Project) (text : List ℕ) → Took out text → IsCertificate (priced_in project) text
     → IfSome left (λ bytes. IsProjectOf bytes project) → IfSome left (TookWholeCurve out)
 of_deck None out project text took is accepted = tt
-of_deck (Some bytes) out project text took is accepted = record {
-  project = project;
-  accepted = accepted;
-  text = text;
-  took = took;
-  prints = prints_whole_curve (priced_in project) text _ (is_priced bytes project accepted) (is_named bytes project accepted) is.certified;
-}
+of_deck (Some bytes) out project text took is accepted =
+    let prints = prints_whole_curve (priced_in project) text _ (is_priced bytes project accepted) (is_named bytes project accepted) is.certified in
+    record {
+      project = project;
+      accepted = accepted;
+      text = text;
+      took = took;
+      prints = prints;
+      once = λ others also. whole_once prints.lines others text prints.whole also;
+    }
 
 module _ {S O E : Type 0} (words : List (String Global)) (source : Side S) (out : Side O) (err : Side E) (answer : ℕ) where
   -- where a run for `certify` ended with 0, the output took the whole curve
