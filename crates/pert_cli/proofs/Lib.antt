@@ -12,4 +12,5 @@ mod MigrateLaws
 mod OptimumLaws
 mod PointLaws
 mod LoadLaws
+mod OneLoadLaws
 mod OneTextLaws

@@ -1,5 +1,5 @@
 -- An accepted deck has one text of each of these forms.
-use Rattle.std.proofs.Common.{◌≡◌, ℕ, List, slice_index, refl, sym, ap, ◌∙◌, arith}
+use Rattle.std.proofs.Common.{◌≡◌, ℕ, List, slice_index, refl, sym, ap, ◌∙◌, subst, arith}
 use Rattle.std.proofs.lemmas.List.{ext_get_or}
 use Rattle.pc_model.specs.Cost.{cost_of}
 use Rattle.pc_model.specs.Pieces.{knees_of}
@@ -11,12 +11,13 @@ use Rattle.pc_project.proofs.SoundLaws.{HasSoundParts}
 use Rattle.pc_reading.specs.Priced.{priced_in}
 use Rattle.pc_reports.proofs.OneTextLaws.{one_summary_text, one_times_text, one_value_text}
 use Rattle.pert_cli.specs.declared.forms.Form.{Form}
-use Rattle.pert_cli.specs.declared.forms.Form.TheVariants.{Check, Normal, Times, Summary, Value, Curve, Bench, Migrate, Arrows}
+use Rattle.pert_cli.specs.declared.forms.Form.TheVariants.{Check, Normal, Times, Summary, Value, Curve, Bench, Migrate, Arrows, Load}
 use Rattle.pert_cli.specs.FormDeck.{sort_of}
 use Rattle.pert_cli.specs.Forms.{HasOneText, IsTextOf}
 use Rattle.pert_cli.specs.Verdicts.{IsMadeAs}
 use Rattle.pert_cli.specs.Normal.{IsNormalSchedule, IsNormalText, Printed, printed_text}
-use Rattle.pert_cli.proofs.VerdictLaws.{parts_as}
+use Rattle.pert_cli.proofs.OneLoadLaws.{one_load_text}
+use Rattle.pert_cli.proofs.VerdictLaws.{one_project_as, parts_as}
 
 abbrev make_printed : ℕ → ℕ → List ℕ → List ℕ → Printed
 make_printed l c t d = record { length = l; cost = c; times = t; durations = d }
@@ -46,9 +47,12 @@ of_parts Curve project text other has parts x y = one_curve_text (priced_in proj
 of_parts (Bench n) project text other has parts x y = one_bench_text n (priced_in project) text other parts.terms x y
 of_parts Migrate project text other has parts x y = x.is ∙ sym y.is
 of_parts Arrows project text other has parts x y = x.is ∙ sym y.is
+of_parts (Load days) project text other has parts x y = one_load_text project days text other parts x y
 of_parts _ project text other has parts x y = absurd has
 
 -- two texts that answer such a form for the project of a deck are one
-pub one_text : (bytes : List ℕ) (project : Project) (form : Form) (text other : List ℕ) → IsMadeAs (sort_of form) bytes project →
-    HasOneText form → IsTextOf form project text → IsTextOf form project other → text ≡ other
-one_text bytes project form text other is has x y = of_parts form project text other has (parts_as (sort_of form) bytes project is) x y
+pub one_text : (bytes : List ℕ) (project other_project : Project) (form : Form) (text other : List ℕ) → IsMadeAs (sort_of form) bytes project → IsMadeAs (sort_of form) bytes other_project →
+    HasOneText form → IsTextOf form project text → IsTextOf form other_project other → text ≡ other
+one_text bytes project other_project form text other is also has x y =
+    of_parts form project text other has (parts_as (sort_of form) bytes project is) x
+    (subst (λ (p : Project). IsTextOf form p other) (one_project_as (sort_of form) bytes other_project project also is) y)

@@ -92,7 +92,7 @@ IsTextOf Optimum project text = IsOptimumText project text
 IsTextOf Arrows project text = IsDeckText project text
 IsTextOf (Load days) project text = IsLoadText project days text
 
--- a project has one text that answers the form; of least schedules, and of certificates, there may be several
+-- a deck has one text that answers the form; of least schedules, and of certificates, there may be several
 abbrev pub HasOneText : Form → Type 0
 HasOneText Check = ⊤
 HasOneText Normal = ⊤
@@ -103,6 +103,7 @@ HasOneText Curve = ⊤
 HasOneText (Bench n) = ⊤
 HasOneText Migrate = ⊤
 HasOneText Arrows = ⊤
+HasOneText (Load days) = ⊤
 HasOneText _ = ⊥
 
 -- the form refuses the project with the fault: `point` and `outlook` where the length lies outside the range of the project,

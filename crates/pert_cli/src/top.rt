@@ -104,10 +104,11 @@ pub fn run<S: Source, O: Sink, E: Sink>(
         → OfDeck (side S.left S.faults source.old source.new)
         (λ bytes. (RefusedAs (sort_of form) bytes → ⊥) → AcceptedAs (sort_of form) bytes ⊎ (result ≡ 3)) }
 
-    // An accepted deck has one answer to each form that does not print a schedule of least cost, of which there may be several.
-    ensures one_text { (form : TheForm) (bytes : List ℕ) (project : TheProject) (text other : List ℕ) → HasOneText form
-        → IsMadeAs (sort_of form) bytes project → IsTextOf form project text → IsTextOf form project other →
-        text ≡ other }
+    // An accepted deck has one answer to each form that does not print a schedule of least cost, of which there may be several: two texts
+    // that answer for projects of the same bytes are one.
+    ensures one_text { (form : TheForm) (bytes : List ℕ) (project other_project : TheProject) (text other : List ℕ) →
+        HasOneText form → IsMadeAs (sort_of form) bytes project → IsMadeAs (sort_of form) bytes other_project
+        → IsTextOf form project text → IsTextOf form other_project other → text ≡ other }
 
     // No deck is both accepted and refused.
     ensures one_verdict { (sort : TheSort) (bytes : List ℕ) → AcceptedAs sort bytes → RefusedAs sort bytes → ⊥ }

@@ -19,7 +19,7 @@ pub returns-clause-acceptance : goal.returns-clause-acceptance
 returns-clause-acceptance g c = λ form asked reads whole. not_refused_accepts c.args.words.now _ _ _ c.code.result form asked reads whole c.outcome.result c.outcome.ensures.outcome c.code.ensures
 
 pub returns-clause-one_text : goal.returns-clause-one_text
-returns-clause-one_text g c = λ form bytes project text other has is. one_text bytes project form text other is has
+returns-clause-one_text g c = λ form bytes project other_project text other has is also. one_text bytes project other_project form text other is also has
 
 pub returns-clause-one_verdict : goal.returns-clause-one_verdict
 returns-clause-one_verdict g c = λ sort bytes. accepted_not_refused sort bytes
