@@ -18,3 +18,5 @@ pub mod KnownLemmas
 pub mod KeepLemmas
 pub mod PhaseLemmas
 pub mod VerdictLaws
+mod TreeLemmas
+mod SoundLemmas

@@ -1,5 +1,5 @@
 -- Where a code stands among codes.
-use Rattle.std.proofs.Common.{◌≡◌, ◌≢◌, ℕ, zero, suc, ◌+◌, ◌<◌, true, false, cond, nat_eq, List, [], ◌∷◌, ◌++◌, length, Option, Some, None, refl, sym, ◌∙◌, ap, arith}
+use Rattle.std.proofs.Common.{◌≡◌, ◌≢◌, ℕ, zero, suc, ◌+◌, ◌<◌, ◌≤◌, Bool, true, false, cond, nat_eq, List, [], ◌∷◌, ◌++◌, length, Option, Some, None, refl, sym, ◌∙◌, ap, subst, arith}
 use Rattle.std.specs.Prelude.{IsSome, unwrap_or, nat_lt, not}
 use Rattle.std.specs.Cmp.Lexicographic.{pointwise, bytes_decides}
 use Rattle.std.specs.List.{position_or_len}
@@ -55,3 +55,19 @@ found-before code codes more known =
     (get_or_append_left codes more [] i inside ∙ sym ((bytes_decides code (code_at codes i)).0 passes))
     (λ j below same. false≢true (sym (before j below) ∙ is_same code (code_at codes j) (sym (get_or_append_left codes more [] j (omega (arith, below, inside))) ∙ same)))
     ∙ sym at
+
+-- a code that stands somewhere is found
+place-below : (code : List ℕ) (codes : List (List ℕ)) (k : ℕ) → k < length codes → code_at codes k ≡ code → position_or_len (pointwise nat_eq code) codes ≤ k
+place-below code [] k inside is = absurd (omega (arith, inside))
+place-below code (c ∷ cs) zero inside is = omega (arith, ap (λ b. cond (not b) (1 + position_or_len (pointwise nat_eq code) cs) 0) (is_same code c is))
+place-below code (c ∷ cs) (suc k) inside is = by (pointwise nat_eq code c) refl (place-below code cs k (omega (arith, inside)) is)
+  where
+    by : (test : Bool) → pointwise nat_eq code c ≡ test → position_or_len (pointwise nat_eq code) cs ≤ k → position_or_len (pointwise nat_eq code) (c ∷ cs) ≤ suc k
+    by true at rest = omega (arith, ap (λ b. cond (not b) (1 + position_or_len (pointwise nat_eq code) cs) 0) at)
+    by false at rest = omega (arith, ap (λ b. cond (not b) (1 + position_or_len (pointwise nat_eq code) cs) 0) at, rest)
+
+pub found-there : (code : List ℕ) (codes : List (List ℕ)) (k : ℕ) → k < length codes → code_at codes k ≡ code → IsSome (named_among codes code)
+found-there code codes k inside is =
+    let at = position_or_len (pointwise nat_eq code) codes in
+    let some : named_among codes code ≡ Some at = cond-true (nat_lt at (length codes)) (Some at) None (lt-ltb at (length codes) (omega (arith, place-below code codes k inside is, inside))) in
+    subst IsSome (sym some) refl

@@ -9,15 +9,19 @@ ghost use Rattle.pc_model.specs.Pieces.{knees_of};
 ghost use Rattle.pc_model.specs.Schedule.{HasSchedule};
 ghost use Rattle.pc_arrows.specs.Arrows.{arrow_terms, arrows};
 ghost use Rattle.pc_arrows.specs.Tasks.{HasTaskSchedule, IsLeastTaskCost};
-ghost use Rattle.pc_project.specs.Project.{network_of, pieces_in, terms_in};
+ghost use Rattle.pc_project.specs.Figures.{IsProjectOfDeck};
+ghost use Rattle.pc_project.specs.Project.{Project, network_of, pieces_in, terms_in};
+ghost use Rattle.pc_project.specs.Refusal.{HasSoundPlan};
 ghost use Rattle.pc_deck.specs.Deck.{Deck};
 ghost use Rattle.pc_cards.specs.declared.sort.Sort.TheVariants.{Tasks};
 ghost use Rattle.pc_deck.specs.Within.{IsWithin, IsWithinLimits};
 ghost use Rattle.pc_tasks.specs.Drawn.{drawn};
 ghost use Rattle.pc_tasks.specs.Known.{CanBeDrawn};
+ghost use Rattle.pc_tasks.specs.Refusal.{HasSoundTasks};
+ghost use Rattle.pc_tasks.specs.Text.{KeepsTasks};
 ghost use Rattle.pc_tasks.specs.Lists.{afters_in, task_pieces, task_terms};
 
-use pc_arrows::arrow_laws::{arrows_keep_least_costs, arrows_keep_schedules};
+use pc_arrows::arrow_laws::{arrows_are_sound, arrows_keep_least_costs, arrows_keep_schedules};
 
 /// The deck that is drawn has the arrows of the tasks: their network, what they may last and cost, and the pieces of their costs.
 pub fn drawn_deck_has_the_arrows()
@@ -31,6 +35,17 @@ pub fn drawn_deck_has_the_arrows()
 pub fn drawn_deck_is_within_limits()
     ensures { (deck : Deck) → IsWithin Tasks deck → CanBeDrawn deck → IsWithinLimits (drawn deck) }
 {}
+
+/// The deck that is drawn of tasks without faults is a sound plan: no card of it by itself is wrong, its items are a tree, and its network is
+/// sound. So it has none of the faults F13 to F27 and F41, and its project keeps the schedules of the tasks and their least costs.
+pub fn drawn_deck_is_sound()
+    ensures sound { (deck : Deck) → IsWithin Tasks deck → HasSoundTasks deck → HasSoundPlan (drawn deck) }
+    ensures keeps { (deck : Deck) (project : Project) → IsWithin Tasks deck → HasSoundTasks deck →
+        IsProjectOfDeck (drawn deck) project → KeepsTasks deck project }
+{
+    arrows_are_sound();
+    drawn_deck_keeps_least_costs();
+}
 
 /// For every length there is a schedule of the tasks exactly where there is one of the deck that is drawn, and the least cost of the one is that of
 /// the other.
