@@ -148,7 +148,7 @@ module _ (deck : Deck) (within : IsWithin Tasks deck) (none : HasNoMisfit deck) 
   HasNoTaskFault task = (fault : Fault) → HasTaskFault deck task fault → ⊥
 
   not_below : (a b : ℕ) → (a < b → ⊥) → b ≤ a
-  not_below a b never_below = elim (cases_lt a b) [ | inl less ↦ absurd (never_below less) | inr more ↦ more ]
+  not_below a b never_below = elim (cases_lt a b) [ inl less ↦ absurd (never_below less) | inr more ↦ more ]
 
   task-sound : (i : ℕ) (task : TaskCard) → i < n → HasNoTaskFault task → IsSoundAct (task_act i task)
   task-sound i task inside faultless =
