@@ -230,6 +230,9 @@ class Report:
         if self.deck.days == 0:
             self.has_plan = True
             return
+        if self.deck.days > LONGEST_PERIOD:
+            self.missing.append(f"Planned value and SPI: as-of is day {self.deck.days}, and a period has at most {LONGEST_PERIOD} days.")
+            return
         try:
             planned = self.read_load(self.deck.days).items
         except Refused as reason:
