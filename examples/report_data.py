@@ -86,12 +86,12 @@ class Deck:
 
 def extra_cost(activity, duration):
     """Returns what an activity costs at a duration, beyond its cost at the normal one: the slope, then its pieces."""
-    saved, sum_ = activity.normal - duration, 0
+    saved, extra = activity.normal - duration, 0
     first = activity.normal - activity.crash - sum(units for units, _ in activity.pieces)
     for units, slope in [(first, activity.slope), *activity.pieces]:
-        sum_ += min(saved, units) * slope
+        extra += min(saved, units) * slope
         saved -= min(saved, units)
-    return sum_
+    return extra
 
 
 class Report:
