@@ -86,12 +86,12 @@ class Deck:
 
 def extra_cost(activity, duration):
     """Returns what an activity costs at a duration, beyond its cost at the normal one: the slope, then its pieces."""
-    saved, sum_ = activity.normal - duration, 0
+    saved, extra = activity.normal - duration, 0
     first = activity.normal - activity.crash - sum(units for units, _ in activity.pieces)
     for units, slope in [(first, activity.slope), *activity.pieces]:
-        sum_ += min(saved, units) * slope
+        extra += min(saved, units) * slope
         saved -= min(saved, units)
-    return sum_
+    return extra
 
 
 class Report:
@@ -229,6 +229,9 @@ class Report:
         """What was planned to be spent by as-of is the first period of the load, if a period is as long as the project has run."""
         if self.deck.days == 0:
             self.has_plan = True
+            return
+        if self.deck.days > LONGEST_PERIOD:
+            self.missing.append(f"Planned value and SPI: as-of is day {self.deck.days}, and a period has at most {LONGEST_PERIOD} days.")
             return
         try:
             planned = self.read_load(self.deck.days).items

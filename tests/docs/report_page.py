@@ -77,7 +77,7 @@ def plain(cell):
 
 def rows(page, label):
     """The rows of a table, without the heading: the code, and the other cells as the programs write them."""
-    return [[row[0].split()[0], *map(plain, row[1:])] for row in page.tables.get(label, []) if row and row[0].split()[0] not in
+    return [[plain(row[0].split()[0]), *map(plain, row[1:])] for row in page.tables.get(label, []) if row and row[0].split()[0] not in
             ("Activity", "Item", "Event", "Period", "Length,")]
 
 
@@ -137,7 +137,8 @@ class Checks:
             self.ask(code in shown and [shown[code][1], shown[code][3]] == wanted, f"activity {code}: {shown.get(code)}, the program says {wanted}")
         curve = [line.split() for line in self.pert("curve")]
         self.same(rows(self.page, "Breakpoints of the curve"), curve, "curve")
-        items = [line.split()[:7] for line in self.pert("summary")[2:] if line.split()[0] != "LEVEL" and line.split()[0] != "_links"]
+        count = sum(card[0] == "WBS" for card in self.cards)
+        items = [line.split()[:7] for line in self.pert("summary")[2:2 + count] if line.split()[0] != "_links"]
         if any(card[0] == "ACCT" for card in self.cards):
             self.same(rows(self.page, "Cost by item"), [[row[0], *row[2:]] for row in items], "summary")
         pairs = {name: [plain(cell) for cell in cells] for name, cells in self.page.pairs.items()}
@@ -165,23 +166,31 @@ class Checks:
         self.ask(said in self.page.words, f"no line {said!r}")
 
     def load(self):
-        period = re.search(r"pert load (\d+)</code>: periods", self.text).group(1)
+        period = re.search(r"pert load (\d+)</code>: periods", self.text)
+        if not period:
+            self.ask("Load by period: F40 " in self.text, "no load, and no reason")
+            return
+        period = period.group(1)
         report, top = [line.split() for line in self.pert("load", period)], next(card[1] for card in self.cards if card[0] == "WBS")
         resources = [card[1] for card in self.cards if card[0] == "RES"]
         middle = report.index(["RESOURCES"])
-        part = {(words[0], words[1]): words[2] for words in report[:middle] if words[0] == top}
+        part = {(words[0], words[1]): words[2] for words in report[:middle] if len(words) == 3 and words[0] == top}
         part.update({(words[0], words[1], "taken"): words[2] for words in report[middle + 1:]})
         wanted = [[k, date, part.get((top, k), "0"), *(part.get((code, k, "taken"), "0") for code in resources)]
-                  for kind, k, date in (words for words in report if len(words) == 3 and words[0] == "PERIOD" and words[2][4] == "-")]
+                  for _, k, date in report[1:report.index(["ITEMS"])]]
         self.same(rows(self.page, "Load by period"), wanted, "load")
 
     def value(self, events, pairs):
         as_of = next(card[1] for card in self.cards if card[0] == "ASOF")
         gone = (datetime.date.fromisoformat(as_of) - datetime.date.fromisoformat(self.cards[0][4])).days
-        planned = {words[0]: words[2] for words in map(str.split, self.pert("load", gone) if gone else []) if words[1:2] == ["0"]}
+        try:
+            planned, none = {words[0]: words[2] for words in map(str.split, self.pert("load", gone) if gone else []) if words[1:2] == ["0"]}, "0"
+        except subprocess.CalledProcessError:
+            planned, none = {}, "-"
+            self.ask("Planned value and SPI: " in self.text, "no planned value, and no reason")
         report = [line.split() for line in self.pert("value")[2:]]
         ratio = lambda part, of: f"{int(part) / int(of):.2f}" if int(of) else "-"
-        wanted = [[code, budget, planned.get(code, "0"), actual, value, ratio(value, actual), "-" if slack == "-" else tenths(int(slack))]
+        wanted = [[code, budget, planned.get(code, none), actual, value, ratio(value, actual), "-" if slack == "-" else tenths(int(slack))]
                   for code, _, budget, actual, value, _, slack, *_ in report[events + 1:] if code != "_links"]
         self.same([row[:6] + [row[7]] for row in rows(self.page, "Value by item")], wanted, "value")
         forecast = next(row[3] for row in report[:events] if row[0] == self.cards[0][3])
