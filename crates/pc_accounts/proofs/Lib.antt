@@ -6,3 +6,4 @@ mod PackageLaws
 mod EntryLaws
 pub mod WholeLaws
 pub mod OneBookLaws
+pub mod lemmas

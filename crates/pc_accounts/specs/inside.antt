@@ -3,3 +3,4 @@ pub mod Entries
 pub mod Second
 pub mod Packages
 pub mod Parts
+pub mod status

@@ -7,6 +7,7 @@ mod entry;
 mod error;
 mod packages;
 mod rows;
+pub mod status;
 mod togos;
 
 pub use book::Book;

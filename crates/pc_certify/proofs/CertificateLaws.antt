@@ -4,7 +4,7 @@ use Rattle.pc_model.specs.Network.{Network, IsLongest}
 use Rattle.pc_model.proofs.Walks.WalkLaws.{greatest_unique}
 use Rattle.pc_cert.specs.Text.{text_of}
 use Rattle.pc_crash.specs.Priced.{PricedNetwork}
-use Rattle.pc_page.specs.inside.Puts.{Desk}
+use Rattle.pc_edges.specs.inside.page.Puts.{Desk}
 use Rattle.pc_times.specs.inside.Picked.{LongestWalk}
 use Rattle.pc_certify.specs.Document.{document_lines}
 use Rattle.pc_certify.specs.inside.Complete.{IsComplete, IsThrough}

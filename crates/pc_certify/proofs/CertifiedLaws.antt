@@ -7,8 +7,8 @@ use Rattle.std.specs.List.{AllByRecursion as ByRecursion, flat_map}
 use Rattle.std.specs.Prelude.{map, All}
 use Rattle.pc_model.specs.declared.Arc.{Arc}
 use Rattle.pc_model.specs.Walk.{to_of, IsWalk}
-use Rattle.pc_curve_laws.specs.Segment.{Segment}
-use Rattle.pc_curve_laws.specs.Cover.{Joins, segment_at}
+use Rattle.pc_laws.specs.Segment.{Segment}
+use Rattle.pc_laws.specs.Cover.{Joins, segment_at}
 use Rattle.pc_cert.specs.Text.{text_of, AllFit}
 use Rattle.pc_cert.proofs.TextLaws.{text_of-append, AllFit-append}
 use Rattle.pc_crash.specs.Priced.{PricedNetwork}

@@ -7,8 +7,8 @@ use Rattle.pc_model.specs.Sums.{sum_to, at_event}
 use Rattle.pc_model.specs.Walk.{from_of, to_of}
 use Rattle.pc_model.specs.Cost.{IsPriced, activity_cost}
 use Rattle.pc_model.proofs.Sums.{sum_to-same}
-use Rattle.pc_curve_laws.specs.Segment.{Segment, IsSegment, StopsAtLower, StopsAtCrash, FallsToKnee, RisesToKnee, forward_rises, backward_rises}
-use Rattle.pc_curve_laws.specs.Flow.{whole_flow}
+use Rattle.pc_laws.specs.Segment.{Segment, IsSegment, StopsAtLower, StopsAtCrash, FallsToKnee, RisesToKnee, forward_rises, backward_rises}
+use Rattle.pc_laws.specs.Flow.{whole_flow}
 use Rattle.pc_crash.specs.Priced.{PricedNetwork, knees_in}
 use Rattle.pc_check.specs.Draft.{ActRow, Part, Draft}
 use Rattle.pc_check.specs.Known.{some_below}

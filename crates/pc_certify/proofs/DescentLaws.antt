@@ -3,16 +3,16 @@ use Rattle.std.proofs.Common.{◌≡◌, ℕ, ◌<◌, Bool, true, false, List, 
 use Rattle.std.specs.Prelude.{if◌then◌else◌, ◌+◌, ◌-◌, ◌≤◌}
 use Rattle.std.proofs.lemmas.Bool.{cases_Bool, cases_lt}
 use Rattle.pc_model.specs.Schedule.{normal_of, IsAllNormalLength, IsAllCrashLength}
-use Rattle.pc_curve_laws.specs.Segment.{Segment, IsSegment}
-use Rattle.pc_curve_laws.specs.Cover.{IsFront}
-use Rattle.pc_curve_laws.proofs.Segments.Covering.{front_begins, front_grows}
+use Rattle.pc_laws.specs.Segment.{Segment, IsSegment}
+use Rattle.pc_laws.specs.Cover.{IsFront}
+use Rattle.pc_laws.proofs.Segments.Covering.{front_begins, front_grows}
 use Rattle.pc_crash.specs.Priced.{PricedNetwork, knees_in}
 use Rattle.pc_flow.specs.Courses.{Course, upper_of, lower_of, IsSameCurve}
 use Rattle.pc_flow.specs.inside.Courses.{present, HasEnded, IsNext, HasSmallNumbers as IsSmallBelow}
 use Rattle.pc_certify.specs.inside.Document.{HasSmallNumbers}
 use Rattle.pc_certify.specs.inside.Descent.{IsAlong, IsAtTop, CanBeSpelled}
 use Rattle.pc_cert.specs.Text.{text_of}
-use Rattle.pc_page.specs.inside.Puts.{Desk, Adds}
+use Rattle.pc_edges.specs.inside.page.Puts.{Desk, Adds}
 use Rattle.pc_certify.specs.Complete.{begun_lines}
 
 -- the segments are a front of the curve down to the lower end of the present one; where this is above the all-crash length,

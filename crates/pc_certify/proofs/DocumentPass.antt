@@ -8,9 +8,9 @@ use Rattle.std.specs.Prelude.{map, nat_lt, ◌==◌}
 use Rattle.pc_model.specs.declared.Term.{Term}
 use Rattle.pc_model.specs.Cost.{IsPriced}
 use Rattle.pc_model.specs.Schedule.{normals, crashes}
-use Rattle.pc_curve_laws.specs.Segment.{Segment, IsSegment}
-use Rattle.pc_curve_laws.specs.Cover.{Joins, IsLong, IsFront}
-use Rattle.pc_curve_laws.proofs.Segments.Covering.{joins-first}
+use Rattle.pc_laws.specs.Segment.{Segment, IsSegment}
+use Rattle.pc_laws.specs.Cover.{Joins, IsLong, IsFront}
+use Rattle.pc_laws.proofs.Segments.Covering.{joins-first}
 use Rattle.pc_cert.specs.declared.line.CertLine.TheVariants.{Segment as SegmentLine, Normal, Crash, End}
 use Rattle.pc_crash.specs.Priced.{PricedNetwork, knees_in}
 use Rattle.pc_crash.specs.inside.Priced.{AreNames}

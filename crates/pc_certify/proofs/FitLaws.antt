@@ -5,7 +5,7 @@ use Rattle.std.specs.Prelude.{map, if◌then◌else◌}
 use Rattle.pc_model.specs.Codes.{code_at}
 use Rattle.pc_model.specs.Cost.{IsPriced}
 use Rattle.pc_model.specs.Pieces.{ArePieces}
-use Rattle.pc_curve_laws.specs.Segment.{Segment as Stretch}
+use Rattle.pc_laws.specs.Segment.{Segment as Stretch}
 use Rattle.pc_crash.specs.Priced.{PricedNetwork, knees_in}
 use Rattle.pc_cert.specs.declared.line.CertLine.{CertLine}
 use Rattle.pc_cert.specs.declared.line.CertLine.TheVariants.{Close}

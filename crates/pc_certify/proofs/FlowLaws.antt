@@ -1,7 +1,7 @@
 -- The flows of an activity are those that its whole flow makes.
 use Rattle.std.proofs.Common.{◌≡◌, ℕ, ◌<◌, [], ◌∷◌, ◌++◌, sym}
-use Rattle.pc_curve_laws.specs.Segment.{Segment}
-use Rattle.pc_curve_laws.specs.Stair.{stair_of, knee_flow, crash_flow}
+use Rattle.pc_laws.specs.Segment.{Segment}
+use Rattle.pc_laws.specs.Stair.{stair_of, knee_flow, crash_flow}
 use Rattle.pc_crash.specs.Priced.{PricedNetwork, knees_in}
 use Rattle.pc_certify.specs.Document.{flows_along}
 use Rattle.pc_certify.specs.inside.Spelled.{filled_along}

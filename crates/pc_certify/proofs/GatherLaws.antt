@@ -3,8 +3,8 @@ use Rattle.std.proofs.Common.{◌≡◌, ℕ, ◌+◌, ◌≤◌, List, [], ◌+
 use Rattle.std.proofs.Common.{append_assoc, append-nil, length-drop, length-take-le, take-add, take-take, take_at, drop_at}
 use Rattle.std.proofs.lemmas.Slice.{take-put_mid}
 use borrow.Rule.Slice.PartMut.{put_mid, same_len_mid}
-use Rattle.pc_page.specs.inside.Puts.{Desk, Adds}
-use Rattle.pc_page.proofs.PageLaws.{Adds-nil, Adds-then, Adds-as}
+use Rattle.pc_edges.specs.inside.page.Puts.{Desk, Adds}
+use Rattle.pc_edges.proofs.lemmas.page.PageLaws.{Adds-nil, Adds-then, Adds-as}
 use Rattle.pc_certify.specs.inside.Gathers.{Gathers, IsPlaced}
 
 -- nothing was put

@@ -6,8 +6,8 @@ use Rattle.std.specs.Prelude.{◌==◌, nat_lt, nat_le, bytes_eq, slice_index}
 use Rattle.pc_model.specs.Codes.{code_at}
 use Rattle.pc_model.specs.Network.{Network}
 use Rattle.pc_model.specs.Schedule.{normal_of, crash_of, lesser_of}
-use Rattle.pc_curve_laws.specs.Tight.{IsSlackAtKnee, IsSlack}
-use Rattle.pc_curve_laws.specs.Segment.{span, head_at, tail_at}
+use Rattle.pc_laws.specs.Tight.{IsSlackAtKnee, IsSlack}
+use Rattle.pc_laws.specs.Segment.{span, head_at, tail_at}
 use Rattle.pc_crash.specs.Priced.{PricedNetwork, knees_in}
 use Rattle.pc_cert.specs.declared.line.CertLine.TheVariants.{Event, Act, Close}
 use Rattle.pc_check.specs.Known.{Known, each_below, frame}

@@ -6,7 +6,7 @@ use Rattle.std.specs.List.{flat_map}
 use Rattle.std.specs.Prelude.{◌==◌, nat_lt, if◌then◌else◌}
 use Rattle.pc_model.specs.Codes.{code_at}
 use Rattle.pc_model.specs.Pieces.{pieces_of}
-use Rattle.pc_curve_laws.specs.Segment.{Segment as Stretch}
+use Rattle.pc_laws.specs.Segment.{Segment as Stretch}
 use Rattle.pc_cert.specs.declared.line.CertLine.{CertLine}
 use Rattle.pc_cert.specs.declared.line.CertLine.TheVariants.{Normal, Step, Crash, Close}
 use Rattle.pc_cert.specs.declared.place.Shape.{Shape}

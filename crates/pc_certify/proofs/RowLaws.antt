@@ -4,8 +4,8 @@ use Rattle.std.proofs.lemmas.Bool.{cases_eq}
 use Rattle.std.specs.Prelude.{slice_index}
 use Rattle.pc_model.specs.Network.{IsInRange}
 use Rattle.pc_model.specs.Schedule.{normal_of, crash_of}
-use Rattle.pc_curve_laws.specs.Tight.{IsSlack}
-use Rattle.pc_curve_laws.specs.Segment.{Segment, span, head_at, tail_at, IsRightSegment}
+use Rattle.pc_laws.specs.Tight.{IsSlack}
+use Rattle.pc_laws.specs.Segment.{Segment, span, head_at, tail_at, IsRightSegment}
 use Rattle.pc_crash.specs.Priced.{PricedNetwork, knees_in}
 use Rattle.pc_check.specs.Draft.{event_at, act_at, EventRow, ActRow, Part}
 use Rattle.pc_check.proofs.GoodRows.{IsRightEvent, IsRightAct}

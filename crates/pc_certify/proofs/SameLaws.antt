@@ -5,7 +5,7 @@ use Rattle.pc_model.specs.Sums.{sum_to}
 use Rattle.pc_model.specs.Walk.{from_of, to_of}
 use Rattle.pc_model.specs.Network.{IsInRange}
 use Rattle.pc_model.specs.Schedule.{normal_of, crash_of, lesser_of}
-use Rattle.pc_curve_laws.specs.Segment.{Segment, span, head_at, tail_at, is_forward, is_backward}
+use Rattle.pc_laws.specs.Segment.{Segment, span, head_at, tail_at, is_forward, is_backward}
 use Rattle.pc_crash.specs.Priced.{PricedNetwork, knees_in}
 use Rattle.pc_check.specs.Known.{some_below}
 use Rattle.pc_check.specs.Segments.{stops_in}

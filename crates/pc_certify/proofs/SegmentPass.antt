@@ -4,7 +4,7 @@ use Rattle.std.specs.Prelude.{◌==◌}
 use Rattle.pc_model.specs.Codes.{code_at}
 use Rattle.pc_model.specs.Cost.{IsPriced}
 use Rattle.pc_model.specs.Schedule.{normal_of}
-use Rattle.pc_curve_laws.specs.Segment.{Segment, IsSegment}
+use Rattle.pc_laws.specs.Segment.{Segment, IsSegment}
 use Rattle.pc_cert.specs.declared.line.CertLine.TheVariants.{Event, Act, Close}
 use Rattle.pc_crash.specs.Priced.{PricedNetwork, knees_in}
 use Rattle.pc_check.specs.Draft.{Part, Draft}

@@ -14,11 +14,11 @@ use Rattle.pc_model.proofs.Sums.{sum_to-le, sum_to-times, sum_to-bound}
 use Rattle.pc_model.proofs.Schedules.Durations.{normals-at, crashes-at}
 use Rattle.pc_model.proofs.Walks.WalkLaws.{times_bound_walk, walk_sum-bound}
 use Rattle.pc_model.proofs.Walks.OrderLaws.{walk_is_short}
-use Rattle.pc_curve_laws.specs.Segment.{Segment, IsRightSegment, IsSegment, is_forward, rises_above, span, head_at, tail_at, forward_rises}
-use Rattle.pc_curve_laws.specs.Cover.{Joins}
-use Rattle.pc_curve_laws.specs.Flow.{whole_flow}
-use Rattle.pc_curve_laws.proofs.Flows.Bounds.{flow_at_most, last_slope-small, last_slopes-small}
-use Rattle.pc_curve_laws.proofs.Segments.Readings.{cut_rises, tight_upper}
+use Rattle.pc_laws.specs.Segment.{Segment, IsRightSegment, IsSegment, is_forward, rises_above, span, head_at, tail_at, forward_rises}
+use Rattle.pc_laws.specs.Cover.{Joins}
+use Rattle.pc_laws.specs.Flow.{whole_flow}
+use Rattle.pc_laws.proofs.Flows.Bounds.{flow_at_most, last_slope-small, last_slopes-small}
+use Rattle.pc_laws.proofs.Segments.Readings.{cut_rises, tight_upper}
 use Rattle.pc_crash.specs.Priced.{PricedNetwork, knees_in, ArePiecesWithinLimits}
 use Rattle.pc_crash.specs.Terms.{AreWithinLimits}
 use Rattle.pc_certify.specs.inside.Document.{HasSmallNumbers}

@@ -1,7 +1,7 @@
 -- The certificate of a network, as it is written.
 use Rattle.std.specs.Prelude.{◌≡◌, ℕ, List, length}
 use Rattle.pc_model.specs.Schedule.{normals, crashes}
-use Rattle.pc_curve_laws.specs.Segment.{Segment}
+use Rattle.pc_laws.specs.Segment.{Segment}
 use Rattle.pc_cert.specs.Text.{text_of}
 use Rattle.pc_crash.specs.Priced.{PricedNetwork}
 use Rattle.pc_times.specs.Picked.{IsPickedWalk}

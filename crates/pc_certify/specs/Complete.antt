@@ -1,7 +1,7 @@
 -- The lines of a certificate of which some segments are written.
 use Rattle.std.specs.Prelude.{ℕ, List, ◌++◌}
 use Rattle.std.specs.List.{flat_map}
-use Rattle.pc_curve_laws.specs.Segment.{Segment}
+use Rattle.pc_laws.specs.Segment.{Segment}
 use Rattle.pc_crash.specs.Priced.{PricedNetwork}
 use Rattle.pc_cert.specs.declared.line.CertLine.{CertLine}
 use Rattle.pc_certify.specs.Document.{head_lines, segment_lines}

@@ -1,6 +1,6 @@
 //! What is written is certified.
 ghost use Rattle.std.specs.Prelude.{◌≡◌, ℕ, List, length, All};
-ghost use Rattle.pc_curve_laws.specs.Segment.{Segment};
+ghost use Rattle.pc_laws.specs.Segment.{Segment};
 ghost use Rattle.pc_cert.specs.Text.{text_of, AllFit};
 ghost use Rattle.pc_crash.specs.Priced.{PricedNetwork};
 ghost use Rattle.pc_check.specs.Certified.{segments_of};

@@ -1,10 +1,10 @@
 //! The end of a certificate.
-ghost use Rattle.pc_page.specs.inside.Puts.{Puts};
+ghost use Rattle.pc_edges.specs.inside.page.Puts.{Puts};
 ghost use Rattle.pc_cert.specs.Text.{text_of};
 ghost use Rattle.pc_certify.specs.Document.{end_lines};
 
 use pc_edges::Sink;
-use pc_page::Page;
+use pc_edges::page::Page;
 
 /// Puts the last line. What is on the page has still to be finished.
 pub fn put_end<O: Sink>(page: &mut Page, sink: &mut O)

@@ -1,6 +1,6 @@
 //! The head of a certificate.
 ghost use Rattle.std.specs.Prelude.{◌≡◌, ◌<◌, [], ◌∷◌, All, length};
-ghost use Rattle.pc_page.specs.inside.Puts.{Puts};
+ghost use Rattle.pc_edges.specs.inside.page.Puts.{Puts};
 ghost use Rattle.pc_cert.specs.Text.{text_of, AllFit};
 ghost use Rattle.pc_cert.specs.declared.line.CertLine.TheVariants.{Step};
 ghost use Rattle.pc_certify.specs.Document.{first_line, head_lines, steps, version_of};
@@ -8,7 +8,7 @@ ghost use Rattle.pc_certify.specs.Document.{first_line, head_lines, steps, versi
 use crate::words::{put_code, put_number};
 use pc_crash::CrashNet;
 use pc_edges::Sink;
-use pc_page::Page;
+use pc_edges::page::Page;
 use pc_text::Code;
 
 /// Puts the head: the first line, the steps of the normal walk, and those of the crash walk. Walks are given by their

@@ -1,6 +1,6 @@
 //! The lines of a segment.
 ghost use Rattle.std.specs.Prelude.{◌≡◌, ℕ, ◌<◌, [], ◌∷◌, length};
-ghost use Rattle.pc_page.specs.inside.Puts.{Puts, desk};
+ghost use Rattle.pc_edges.specs.inside.page.Puts.{Puts, desk};
 ghost use Rattle.pc_text.specs.Fields.{IsCode};
 ghost use Rattle.pc_cert.specs.Text.{text_of, AllFit};
 ghost use Rattle.pc_model.specs.Codes.{code_at};
@@ -15,7 +15,7 @@ use crate::last_lines::{ActRow, EventRow, LastLines};
 use crate::words::put_number;
 use pc_crash::{CrashNet, SegmentView};
 use pc_edges::Sink;
-use pc_page::Page;
+use pc_edges::page::Page;
 
 /// Puts a segment: its ends, its cost and its slope, a line for each event and one for each activity, in card order, and
 /// its last line. A line that says what it said in the segment that was put last is put as it was spelled there. Linear in events,

@@ -1,6 +1,6 @@
 //! The text of what is written.
 ghost use Rattle.std.specs.Prelude.{◌≡◌, ℕ, List, [], ◌∷◌, ◌++◌, All};
-ghost use Rattle.pc_curve_laws.specs.Segment.{Segment};
+ghost use Rattle.pc_laws.specs.Segment.{Segment};
 ghost use Rattle.pc_cert.specs.declared.line.CertLine.{CertLine};
 ghost use Rattle.pc_cert.specs.Text.{text_of, AllFit};
 ghost use Rattle.pc_crash.specs.Priced.{PricedNetwork};

@@ -1,11 +1,11 @@
 //! Words of a line.
 ghost use Rattle.std.specs.Prelude.{◌≡◌, [], decimal, true};
 ghost use Rattle.pc_text.specs.Code.{is_code};
-ghost use Rattle.pc_page.specs.inside.Puts.{Puts};
+ghost use Rattle.pc_edges.specs.inside.page.Puts.{Puts};
 ghost use Rattle.pc_text.specs.Fields.{spaced};
 
 use pc_edges::Sink;
-use pc_page::Page;
+use pc_edges::page::Page;
 use pc_text::Code;
 
 /// Puts a space and the code.

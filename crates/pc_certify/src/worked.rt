@@ -1,6 +1,6 @@
 //! Certificates worked by hand, to see that the words mean what they should and can be met.
 ghost use Rattle.std.specs.Prelude.{◌≡◌, [], ◌∷◌};
-ghost use Rattle.pc_curve_laws.specs.Worked.{small_1, small_segments};
+ghost use Rattle.pc_laws.specs.Worked.{small_1, small_segments};
 ghost use Rattle.pc_cert.specs.Text.{text_of};
 ghost use Rattle.pc_certify.specs.Document.{document_lines};
 ghost use Rattle.pc_certify.specs.Complete.{begun_lines};
@@ -24,5 +24,5 @@ pub fn small_decks_are_written()
         ≡ begun_in_pieces }
     ensures complete { IsComplete small_deck_in_pieces along_a_and_b along_a_and_b small_segments }
 {
-    pc_curve_laws::worked_laws::pieces_are_worked();
+    pc_laws::worked_laws::pieces_are_worked();
 }

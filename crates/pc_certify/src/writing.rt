@@ -1,8 +1,8 @@
 //! The text of a certificate, segment by segment.
 ghost use Rattle.std.specs.Prelude.{◌≡◌, ℕ, List};
 ghost use Rattle.pc_edges.specs.inside.Writes.{Writes};
-ghost use Rattle.pc_page.specs.inside.Page.{fresh};
-ghost use Rattle.pc_page.specs.inside.Puts.{desk};
+ghost use Rattle.pc_edges.specs.inside.page.Page.{fresh};
+ghost use Rattle.pc_edges.specs.inside.page.Puts.{desk};
 ghost use Rattle.pc_crash.specs.inside.Steps.{IsBlankOf};
 ghost use Rattle.pc_certify.specs.Certificate.{IsCertificate};
 ghost use Rattle.pc_certify.specs.inside.Descent.{IsAtTop, IsPutDown};
@@ -16,9 +16,9 @@ use crate::last_lines::LastLines;
 use crate::segment::put_segment;
 use crate::walks::Walks;
 use pc_crash::{CrashNet, Steps};
+use pc_edges::page::Page;
 use pc_edges::{Failed, Sink};
 use pc_flow::Solver;
-use pc_page::Page;
 use std::sync::ledger::{Blank, Ledger};
 
 /// Writes the certificate, without memory. The steps of the solver are counted in a ledger of their own.

@@ -5,7 +5,7 @@ use Rattle.pc_model.specs.declared.Knee.{Knee}
 use Rattle.pc_model.specs.Sums.{sum_to}
 use Rattle.pc_model.specs.Schedule.{crash_of}
 use Rattle.pc_model.specs.Cost.{Knees}
-use Rattle.pc_curve_laws.specs.Segment.{Segment}
+use Rattle.pc_laws.specs.Segment.{Segment}
 use Rattle.pc_crash.specs.inside.KneeLists.{AreKneesOf}
 use Rattle.pc_crash.specs.Priced.{PricedNetwork, knees_in}
 use Rattle.pc_check.specs.declared.gaps.Crossing.{Crossing}

@@ -1,6 +1,6 @@
 -- What is said with one step or row more, and what of a segment is said before its activities come.
 use Rattle.std.specs.Prelude.{ℕ, Bool, List, [], ◌∷◌, ◌++◌, if◌then◌else◌}
-use Rattle.pc_curve_laws.specs.Segment.{Segment}
+use Rattle.pc_laws.specs.Segment.{Segment}
 use Rattle.pc_check.specs.Draft.{EventRow, ActRow, Part, Draft, event_at}
 
 -- a segment of which nothing has come

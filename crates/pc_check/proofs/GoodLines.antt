@@ -9,9 +9,9 @@ use Rattle.std.specs.Prelude.{◌==◌, fold}
 use Rattle.pc_model.specs.Walk.{IsSumOfWalk}
 use Rattle.pc_model.specs.Schedule.{normal_of, normals}
 use Rattle.pc_model.specs.Cost.{IsPriced}
-use Rattle.pc_curve_laws.specs.Segment.{IsSegment}
-use Rattle.pc_curve_laws.specs.Cover.{IsFront, IsCovering}
-use Rattle.pc_curve_laws.proofs.Segments.Covering.{front_begins, front_grows, begins_longest, covers_shortest, read_right}
+use Rattle.pc_laws.specs.Segment.{IsSegment}
+use Rattle.pc_laws.specs.Cover.{IsFront, IsCovering}
+use Rattle.pc_laws.proofs.Segments.Covering.{front_begins, front_grows, begins_longest, covers_shortest, read_right}
 use Rattle.pc_crash.specs.Priced.{PricedNetwork, knees_in}
 use Rattle.pc_cert.specs.Grammar.{next}
 use Rattle.pc_cert.specs.Text.{ran}

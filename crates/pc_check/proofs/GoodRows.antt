@@ -4,8 +4,8 @@ use Rattle.std.proofs.lemmas.Bool.{eqb-true, eq-eqb, lt-ltb, ne_eqb, leb-true}
 use Rattle.std.specs.Prelude.{◌==◌, nat_lt, nat_le, slice_index}
 use Rattle.pc_model.specs.Network.{Network}
 use Rattle.pc_model.specs.Schedule.{normal_of, crash_of, lesser_of}
-use Rattle.pc_curve_laws.specs.Tight.{IsSlackAtKnee, IsSlack}
-use Rattle.pc_curve_laws.specs.Segment.{Segment, span, head_at, tail_at, HasRoomAt}
+use Rattle.pc_laws.specs.Tight.{IsSlackAtKnee, IsSlack}
+use Rattle.pc_laws.specs.Segment.{Segment, span, head_at, tail_at, HasRoomAt}
 use Rattle.pc_crash.specs.Priced.{PricedNetwork, knees_in}
 use Rattle.pc_cert.specs.declared.line.CertLine.TheVariants.{Event, Act}
 use Rattle.pc_check.specs.Draft.{EventRow, ActRow}

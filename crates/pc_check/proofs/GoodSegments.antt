@@ -6,7 +6,7 @@ use Rattle.std.specs.Prelude.{◌==◌, ◌-ℤ◌}
 use Rattle.pc_model.specs.Sums.{sum_to, at_event}
 use Rattle.pc_model.specs.Walk.{from_of, to_of}
 use Rattle.pc_model.specs.Cost.{IsPriced, activity_cost}
-use Rattle.pc_curve_laws.specs.Segment.{Segment, IsSegment, StopsAtLower}
+use Rattle.pc_laws.specs.Segment.{Segment, IsSegment, StopsAtLower}
 use Rattle.pc_crash.specs.Priced.{PricedNetwork, knees_in}
 use Rattle.pc_cert.specs.declared.line.CertLine.TheVariants.{Close}
 use Rattle.pc_check.specs.Draft.{Part, Draft, event_at, act_at}

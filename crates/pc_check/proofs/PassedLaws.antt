@@ -7,7 +7,7 @@ use Rattle.pc_model.specs.declared.Knee.{Knee}
 use Rattle.pc_model.specs.inside.Pieces.{knee_at}
 use Rattle.pc_model.specs.Schedule.{normal_of, crash_of, lesser_of}
 use Rattle.pc_model.specs.Walk.{from_of, to_of}
-use Rattle.pc_curve_laws.specs.Segment.{head_at, span, tail_at}
+use Rattle.pc_laws.specs.Segment.{head_at, span, tail_at}
 use Rattle.pc_crash.specs.inside.KneeLists.{AreKneesOf}
 use Rattle.pc_crash.specs.Priced.{PricedNetwork, knees_in}
 use Rattle.pc_cert.specs.declared.line.CertLine.TheVariants.{Act}

@@ -8,7 +8,7 @@ use Rattle.pc_model.specs.inside.Pieces.{knee_at}
 use Rattle.pc_model.specs.Schedule.{crash_of}
 use Rattle.pc_model.specs.Walk.{from_of, to_of}
 use Rattle.pc_crash.specs.Priced.{PricedNetwork, knees_in}
-use Rattle.pc_curve_laws.specs.Segment.{Segment, span, head_at, tail_at, is_forward, is_backward}
+use Rattle.pc_laws.specs.Segment.{Segment, span, head_at, tail_at, is_forward, is_backward}
 use Rattle.pc_check.specs.Conditions.{has_room, is_slack, is_slack_in}
 use Rattle.pc_check.specs.inside.Crossings.{IsCrossing, IsStill}
 use Rattle.pc_check.specs.declared.gaps.Crossing.{Crossing}

@@ -1,6 +1,6 @@
 -- The segments that a certificate's lines say.
 use Rattle.std.specs.Prelude.{List, map}
-use Rattle.pc_curve_laws.specs.Segment.{Segment}
+use Rattle.pc_laws.specs.Segment.{Segment}
 use Rattle.pc_cert.specs.declared.line.CertLine.{CertLine}
 use Rattle.pc_crash.specs.Priced.{PricedNetwork}
 use Rattle.pc_check.specs.Draft.{draft_of}

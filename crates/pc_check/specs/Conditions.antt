@@ -7,7 +7,7 @@ use Rattle.pc_crash.specs.Priced.{PricedNetwork, knees_in}
 use Rattle.pc_cert.specs.declared.line.CertLine.{CertLine}
 use Rattle.pc_cert.specs.declared.line.CertLine.TheVariants.{Head, Segment, Event, Act, Close, End}
 use Rattle.pc_check.specs.Walks.{is_through}
-use Rattle.pc_curve_laws.specs.Segment.{Segment as Stretch, span, head_at, tail_at}
+use Rattle.pc_laws.specs.Segment.{Segment as Stretch, span, head_at, tail_at}
 use Rattle.pc_check.specs.Known.{Known, each_below, frame}
 use Rattle.pc_check.specs.KneeTests.{is_slack_at_knee}
 

@@ -1,7 +1,7 @@
 -- The whole time-cost curve of a network, as the text of a certificate says it.
 use Rattle.std.specs.Prelude.{ℕ, ◌≤◌, List}
 use Rattle.pc_model.specs.Schedule.{IsAllNormalLength, IsAllCrashLength}
-use Rattle.pc_curve_laws.specs.Cover.{Joins, IsReadRight}
+use Rattle.pc_laws.specs.Cover.{Joins, IsReadRight}
 use Rattle.pc_cert.specs.declared.line.CertLine.{CertLine}
 use Rattle.pc_cert.specs.Reader.{IsWhole}
 use Rattle.pc_crash.specs.Priced.{PricedNetwork, knees_in}

@@ -1,6 +1,6 @@
 -- What the conditions ask of the lines that have come.
 use Rattle.std.specs.Prelude.{ℕ, zero, suc, Bool, true, false, ◌&&◌, ◌||◌, Option}
-use Rattle.pc_curve_laws.specs.Segment.{Segment}
+use Rattle.pc_laws.specs.Segment.{Segment}
 use Rattle.pc_check.specs.declared.walk.Reached.{Reached}
 
 -- whether each number below a count passes a test

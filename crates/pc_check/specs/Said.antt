@@ -3,8 +3,8 @@ use Rattle.std.specs.Prelude.{ℕ, nat_lt, true, false, length, if◌then◌else
 use Rattle.pc_model.specs.Sums.{sum_to, at_event}
 use Rattle.pc_model.specs.Walk.{from_of, to_of}
 use Rattle.pc_model.specs.Cost.{activity_cost}
-use Rattle.pc_curve_laws.specs.Segment.{Segment, span, is_forward, is_backward, rises_above}
-use Rattle.pc_curve_laws.specs.Flow.{whole_flow}
+use Rattle.pc_laws.specs.Segment.{Segment, span, is_forward, is_backward, rises_above}
+use Rattle.pc_laws.specs.Flow.{whole_flow}
 use Rattle.pc_crash.specs.Priced.{PricedNetwork, knees_in}
 use Rattle.pc_check.specs.Draft.{Part, Draft}
 use Rattle.pc_check.specs.Segments.{segment_in, stops_in}

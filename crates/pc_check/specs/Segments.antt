@@ -1,7 +1,7 @@
 -- The segment that the rows of a part make.
 use Rattle.std.specs.Prelude.{ℕ, ◌+◌, ◌==◌, Bool, ◌&&◌, ◌||◌, nat_lt, slice_index}
 use Rattle.pc_model.specs.Schedule.{crash_of}
-use Rattle.pc_curve_laws.specs.Segment.{Segment, span, head_at, tail_at, is_forward, is_backward}
+use Rattle.pc_laws.specs.Segment.{Segment, span, head_at, tail_at, is_forward, is_backward}
 use Rattle.pc_crash.specs.Priced.{PricedNetwork, knees_in}
 use Rattle.pc_check.specs.Known.{some_below}
 use Rattle.pc_check.specs.Draft.{Part, event_at, act_at}

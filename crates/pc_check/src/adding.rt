@@ -1,6 +1,6 @@
 //! Adding a line to what is kept of a segment.
 ghost use Rattle.std.specs.Prelude.{◌≡◌, ◌+◌, ◌^◌, ◌<◌, ◌≤◌, ◌++◌, ◌∷◌, [], length, slice_index, vec_len, if◌then◌else◌};
-ghost use Rattle.pc_curve_laws.specs.Segment.{is_forward, is_backward, rises_above, span};
+ghost use Rattle.pc_laws.specs.Segment.{is_forward, is_backward, rises_above, span};
 ghost use Rattle.pc_crash.specs.Priced.{knees_in};
 ghost use Rattle.pc_check.specs.inside.Kept.{stretch_of};
 ghost use Rattle.pc_check.specs.inside.KneeTests.{rises_over};

@@ -3,7 +3,7 @@ ghost use Rattle.std.specs.Prelude.{◌≡◌, ℕ, ◌+◌, ◌^◌, ◌<◌, �
 ghost use Rattle.pc_check.specs.inside.Additions.{IsAct};
 ghost use Rattle.pc_check.specs.Conditions.{condition, conditions, has_head, has_joined_ends, is_code_at, has_act_code, has_duration, has_room, keeps_rises, is_slack, is_slack_in};
 ghost use Rattle.pc_check.specs.Failures.{first_failing};
-ghost use Rattle.pc_curve_laws.specs.Segment.{span};
+ghost use Rattle.pc_laws.specs.Segment.{span};
 ghost use Rattle.pc_crash.specs.Priced.{knees_in};
 ghost use Rattle.pc_check.specs.inside.Crossings.{IsCrossing};
 ghost use Rattle.pc_check.specs.inside.Kept.{known_by, stretch_of};

@@ -1,7 +1,7 @@
 //! A segment of the time-cost curve as its parts, wherever they are kept.
 ghost use Rattle.std.specs.Prelude.{◌≡◌, ℕ, ◌<◌, ◌≤◌, length};
-ghost use Rattle.pc_curve_laws.specs.Segment.{Segment};
-ghost use Rattle.pc_curve_laws.specs.Stair.{stair_of, knee_flow, crash_flow};
+ghost use Rattle.pc_laws.specs.Segment.{Segment};
+ghost use Rattle.pc_laws.specs.Stair.{stair_of, knee_flow, crash_flow};
 ghost use Rattle.pc_crash.specs.Priced.{PricedNetwork, knees_in};
 
 /// One segment of the time-cost curve of a network, where one is there.

@@ -2,10 +2,10 @@
 use Rattle.std.proofs.Common.{◌≡◌, ◌≢◌, ℕ, ◌<◌, ◌≤◌, ◌⊎◌, true, false, Option, Some, None, inl, inr, sym, ◌∙◌, ap, subst, arith}
 use Rattle.std.proofs.lemmas.Bool.{cases_lt}
 use Rattle.pc_model.specs.Cost.{IsPriced}
-use Rattle.pc_curve_laws.specs.Segment.{cost_for, IsRight}
-use Rattle.pc_curve_laws.specs.Curve.{Breakpoint}
-use Rattle.pc_curve_laws.proofs.Curves.Turns.{IsCurve, LiesOn, is_curve, lies_on}
-use Rattle.pc_curve_laws.proofs.Segments.Readings.{right_at}
+use Rattle.pc_laws.specs.Segment.{cost_for, IsRight}
+use Rattle.pc_laws.specs.Curve.{Breakpoint}
+use Rattle.pc_laws.proofs.Curves.Turns.{IsCurve, LiesOn, is_curve, lies_on}
+use Rattle.pc_laws.proofs.Segments.Readings.{right_at}
 use Rattle.pc_crash.specs.Priced.{PricedNetwork, knees_in}
 use Rattle.pc_flow.specs.Courses.{Course, upper_of, lower_of, IsSameCurve, IsFurther}
 use Rattle.pc_flow.specs.inside.Courses.{present, IsOnCurve, HasEnded, IsNext}

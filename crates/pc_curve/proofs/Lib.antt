@@ -6,3 +6,4 @@ mod ReadLaws
 mod TextLaws
 pub mod OneTextLaws
 pub mod RangeLaws
+pub mod lemmas

@@ -2,7 +2,7 @@
 use Rattle.std.proofs.Common.{◌≡◌, ℕ, ◌+◌, ◌<◌, ◌≤◌, ◌⊎◌, zero, suc, List, [], ◌∷◌, ◌++◌, length, Option, Some, None, inl, inr, refl, sym, ◌∙◌, ap, subst, arith}
 use Rattle.std.proofs.lemmas.Bool.{cases_lt}
 use Rattle.std.proofs.lemmas.List.{length_push}
-use Rattle.pc_curve_laws.specs.Curve.{IsBreak, Breakpoint, IsBreakpoint, breakpoint_at, AreBreakpoints}
+use Rattle.pc_laws.specs.Curve.{IsBreak, Breakpoint, IsBreakpoint, breakpoint_at, AreBreakpoints}
 use Rattle.pc_curve.specs.Breaks.{IsAhead, IsNextBreakpoint, AreBreakpointsTo}
 
 -- the earlier points of a list with one more, and the last one

@@ -2,8 +2,8 @@
 use Rattle.std.proofs.Common.{◌≡◌, ℕ, List, sym, ap, ◌∙◌, subst}
 use Rattle.pc_model.proofs.Costs.LeastCost.{unique}
 use Rattle.pc_model.proofs.Walks.WalkLaws.{greatest_unique}
-use Rattle.pc_curve_laws.specs.Curve.{Breakpoint, AreBreakpoints}
-use Rattle.pc_curve_laws.proofs.Curves.OneList.{one_list}
+use Rattle.pc_laws.specs.Curve.{Breakpoint, AreBreakpoints}
+use Rattle.pc_laws.proofs.Curves.OneList.{one_list}
 use Rattle.pc_crash.specs.Priced.{PricedNetwork, knees_in}
 use Rattle.pc_curve.specs.CurveText.{IsCurveText, curve_text}
 use Rattle.pc_curve.specs.Points.{curve_in}

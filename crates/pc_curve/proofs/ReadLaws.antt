@@ -10,7 +10,7 @@ use Rattle.pc_model.specs.Schedule.{normal_of, lesser_of, IsSchedule}
 use Rattle.pc_model.specs.Cost.{IsPriced, cost_of}
 use Rattle.pc_model.proofs.Costs.NormalCost.{cost_of-same}
 use Rattle.pc_model.specs.Pieces.{ArePieces}
-use Rattle.pc_curve_laws.specs.Segment.{Segment, times_for, durations_for, cost_for, IsRight}
+use Rattle.pc_laws.specs.Segment.{Segment, times_for, durations_for, cost_for, IsRight}
 use Rattle.pc_crash.specs.Priced.{PricedNetwork, knees_in, ArePiecesWithinLimits}
 use Rattle.pc_crash.specs.Terms.{AreWithinLimits}
 use Rattle.pc_crash.proofs.CostLaws.{cost_of-most}

@@ -2,11 +2,11 @@
 use Rattle.std.proofs.Common.{◌≡◌, ℕ, ◌+◌, ◌<◌, List, [], ◌∷◌, ◌++◌, Option, Some, None, sym, ◌∙◌, ap, subst, arith}
 use Rattle.std.proofs.lemmas.List.{append_assoc, append-nil}
 use Rattle.pc_crash.specs.Priced.{PricedNetwork}
-use Rattle.pc_page.specs.inside.Puts.{Desk, Adds}
-use Rattle.pc_page.proofs.PageLaws.{Adds-nil, Adds-then, Adds-as}
+use Rattle.pc_edges.specs.inside.page.Puts.{Desk, Adds}
+use Rattle.pc_edges.proofs.lemmas.page.PageLaws.{Adds-nil, Adds-then, Adds-as}
 use Rattle.pc_flow.specs.Courses.{Course, IsSameCurve}
 use Rattle.pc_flow.proofs.LookLaws.{same-stays, same-joins}
-use Rattle.pc_curve_laws.specs.Curve.{Breakpoint, AreBreakpoints}
+use Rattle.pc_laws.specs.Curve.{Breakpoint, AreBreakpoints}
 use Rattle.pc_curve.specs.declared.breaks.Break.{Break}
 use Rattle.pc_curve.specs.Points.{curve_in}
 use Rattle.pc_curve.specs.Breaks.{IsNextBreakpoint, AreBreakpointsTo}

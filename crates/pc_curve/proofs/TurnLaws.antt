@@ -1,9 +1,9 @@
 -- Where a curve breaks below a length, along the segments that lie on it.
 use Rattle.std.proofs.Common.{◌≡◌, ◌≢◌, ℕ, ◌-◌, ◌*◌, ◌<◌, ◌≤◌, ◌⊎◌, Some, None, inl, inr, sym, subst, ap, arith}
 use Rattle.std.proofs.lemmas.Bool.{cases_lt, cases_eq}
-use Rattle.pc_curve_laws.specs.Segment.{Segment, cost_for}
-use Rattle.pc_curve_laws.specs.Curve.{IsTurn, IsBreak, Breakpoint, Meet, upper_point, lower_point}
-use Rattle.pc_curve_laws.proofs.Curves.Turns.{IsCurve, LiesOn, straight, upper_costs, turns, turned}
+use Rattle.pc_laws.specs.Segment.{Segment, cost_for}
+use Rattle.pc_laws.specs.Curve.{IsTurn, IsBreak, Breakpoint, Meet, upper_point, lower_point}
+use Rattle.pc_laws.proofs.Curves.Turns.{IsCurve, LiesOn, straight, upper_costs, turns, turned}
 use Rattle.pc_curve.specs.Breaks.{IsNextBreakpoint}
 
 -- the segment comes down from a length, below which the curve does not break above its lower end

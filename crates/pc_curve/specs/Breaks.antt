@@ -1,6 +1,6 @@
 -- The breakpoints of a curve one after another, from the longest length down.
 use Rattle.std.specs.Prelude.{◌≡◌, ℕ, ◌<◌, ◌≤◌, ⊤, List, length, Option, Some, None}
-use Rattle.pc_curve_laws.specs.Curve.{IsBreak, Breakpoint, IsBreakpoint, breakpoint_at}
+use Rattle.pc_laws.specs.Curve.{IsBreak, Breakpoint, IsBreakpoint, breakpoint_at}
 
 -- a length below that of the breakpoint that was given last; every one, where none was given
 abbrev pub IsAhead : Option ℕ → ℕ → Type 0

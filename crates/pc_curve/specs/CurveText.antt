@@ -1,7 +1,7 @@
 -- The text of a time-cost curve: a line for each of its breakpoints.
 use Rattle.std.specs.Prelude.{◌≡◌, ℕ, List, [], ◌∷◌, ◌++◌, Option, Some, None, codes, decimal}
 use Rattle.pc_model.specs.Schedule.{IsAllNormalLength, IsAllCrashLength}
-use Rattle.pc_curve_laws.specs.Curve.{Breakpoint, AreBreakpoints}
+use Rattle.pc_laws.specs.Curve.{Breakpoint, AreBreakpoints}
 use Rattle.pc_crash.specs.Priced.{PricedNetwork}
 use Rattle.pc_curve.specs.Points.{curve_in}
 

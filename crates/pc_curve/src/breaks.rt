@@ -1,9 +1,9 @@
 //! The breakpoints of the curve, one after another.
 ghost use Rattle.std.specs.Prelude.{◌≡◌, ◌+◌, ◌<◌, ◌≤◌, ◌≢◌, ◌↔◌, Some, None, true, IsNone, IfSome, IfNone};
-ghost use Rattle.pc_curve_laws.specs.Segment.{Holds, cost_for};
+ghost use Rattle.pc_laws.specs.Segment.{Holds, cost_for};
 ghost use Rattle.pc_flow.specs.Courses.{lower_of, IsSameCurve, IsFurther, most_looks};
 ghost use Rattle.pc_flow.specs.inside.Courses.{present};
-ghost use Rattle.pc_search.specs.Labelling.{slopes_in};
+ghost use Rattle.pc_flow.specs.search.Labelling.{slopes_in};
 ghost use Rattle.pc_curve.specs.inside.Points.{IsThere};
 ghost use Rattle.pc_curve.specs.inside.Breaks.{IsNextBreak, StandsAt, StandsBy};
 

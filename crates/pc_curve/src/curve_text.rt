@@ -1,19 +1,19 @@
 //! The breakpoints of a curve, a line each.
 ghost use Rattle.std.specs.Prelude.{◌≡◌, ◌+◌, ◌≤◌, ℕ, List, false};
 ghost use Rattle.pc_edges.specs.inside.Writes.{Writes};
-ghost use Rattle.pc_curve_laws.specs.Curve.{Breakpoint, AreBreakpoints};
+ghost use Rattle.pc_laws.specs.Curve.{Breakpoint, AreBreakpoints};
 ghost use Rattle.pc_flow.specs.Courses.{IsSameCurve, IsFurther, most_looks};
-ghost use Rattle.pc_page.specs.inside.Page.{fresh};
-ghost use Rattle.pc_page.specs.inside.Puts.{Puts};
+ghost use Rattle.pc_edges.specs.inside.page.Page.{fresh};
+ghost use Rattle.pc_edges.specs.inside.page.Puts.{Puts};
 ghost use Rattle.pc_curve.specs.Points.{curve_in};
 ghost use Rattle.pc_curve.specs.inside.Breaks.{point_of};
 ghost use Rattle.pc_curve.specs.CurveText.{IsCurveText, curve_text, break_line, slope_text};
 
 use crate::breaks::{Break, Breaks};
 use pc_crash::Steps;
+use pc_edges::page::Page;
 use pc_edges::{Failed, Sink};
 use pc_flow::Solver;
-use pc_page::Page;
 use std::sync::ledger::Ledger;
 
 /// Writes the breakpoints of the curve of a solver's network and flushes the sink: for each, from the all-normal length down,

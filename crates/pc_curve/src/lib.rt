@@ -2,6 +2,7 @@
 //! the breakpoints: the line of each is put as soon as it is known, so that no memory is taken for the list.
 #![tactic(auto)]
 
+pub mod bench;
 mod breaks;
 mod curve_text;
 mod list_laws;

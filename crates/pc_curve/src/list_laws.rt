@@ -1,6 +1,6 @@
 //! Why breakpoints that come one after another are the whole list.
 ghost use Rattle.std.specs.Prelude.{◌≡◌, ℕ, ◌≤◌, List, [], ◌∷◌, ◌++◌, Option, Some, None};
-ghost use Rattle.pc_curve_laws.specs.Curve.{Breakpoint, AreBreakpoints};
+ghost use Rattle.pc_laws.specs.Curve.{Breakpoint, AreBreakpoints};
 ghost use Rattle.pc_crash.specs.Priced.{PricedNetwork};
 ghost use Rattle.pc_curve.specs.Points.{curve_in};
 ghost use Rattle.pc_curve.specs.Breaks.{IsNextBreakpoint, AreBreakpointsTo};

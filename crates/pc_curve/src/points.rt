@@ -3,11 +3,11 @@ ghost use Rattle.std.specs.Prelude.{◌≡◌, ◌+◌, ◌<◌, ◌≤◌, ℕ,
 ghost use Rattle.pc_model.specs.Schedule.{IsSchedule, lesser_of};
 ghost use Rattle.pc_model.specs.Walk.{from_of, to_of};
 ghost use Rattle.pc_model.specs.Cost.{cost_of};
-ghost use Rattle.pc_curve_laws.specs.Segment.{Holds, times_for};
+ghost use Rattle.pc_laws.specs.Segment.{Holds, times_for};
 ghost use Rattle.pc_crash.specs.Priced.{knees_in};
 ghost use Rattle.pc_flow.specs.Courses.{lower_of, IsSameCurve, IsFurther, most_looks};
 ghost use Rattle.pc_flow.specs.inside.Courses.{present};
-ghost use Rattle.pc_search.specs.Labelling.{slopes_in};
+ghost use Rattle.pc_flow.specs.search.Labelling.{slopes_in};
 ghost use Rattle.pc_curve.specs.Points.{curve_in};
 ghost use Rattle.pc_curve.specs.inside.Points.{IsToCome, IsThere, HasPlaces, AreTimesRead, AreDurationsRead};
 

@@ -1,9 +1,9 @@
 //! What is read from the segment of a solver that holds a length.
 ghost use Rattle.std.specs.Prelude.{◌≡◌, ◌+◌, ◌≤◌, ◌↔◌, true, false, IsTrue};
-ghost use Rattle.pc_curve_laws.specs.Segment.{Holds, cost_for};
+ghost use Rattle.pc_laws.specs.Segment.{Holds, cost_for};
 ghost use Rattle.pc_flow.specs.Courses.{lower_of, IsSameCurve, IsFurther, IsLevel, most_looks};
 ghost use Rattle.pc_flow.specs.inside.Courses.{present, IsOnCurve};
-ghost use Rattle.pc_search.specs.Labelling.{slopes_in};
+ghost use Rattle.pc_flow.specs.search.Labelling.{slopes_in};
 ghost use Rattle.pc_curve.specs.Points.{curve_in};
 ghost use Rattle.pc_curve.specs.inside.Points.{IsToCome, IsThere};
 

@@ -2,3 +2,4 @@ pub mod Writing
 pub mod PullLaws
 mod LoadingLaws
 mod Copying
+pub mod lemmas

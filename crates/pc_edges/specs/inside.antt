@@ -5,3 +5,5 @@ pub mod Supply
 pub mod Intake
 pub mod MemSource
 pub mod MemSink
+pub mod page
+pub mod lines

@@ -7,9 +7,11 @@
 
 mod file_source;
 mod key;
+pub mod lines;
 mod loading;
 mod mem_sink;
 mod mem_source;
+pub mod page;
 mod pushing;
 mod read_source;
 mod sink;

@@ -4,17 +4,17 @@ use Rattle.std.specs.Prelude.{◌&&◌}
 use Rattle.std.proofs.lemmas.Bool.{cases_Bool, cases_lt, lt-ltb}
 use Rattle.pc_model.specs.Schedule.{lesser_of}
 use Rattle.pc_model.specs.Cost.{cost_of}
-use Rattle.pc_curve_laws.specs.Segment.{fall_of, IsSegment}
-use Rattle.pc_curve_laws.specs.State.{segment_of}
-use Rattle.pc_curve_laws.specs.Steps.{filled_state}
-use Rattle.pc_curve_laws.proofs.Stairs.StairStates.{stair-within_range, stair-fall_in_range, stair-fall_positive, stair-segment, stair-level_segment, stair-times_within, stair-cost}
+use Rattle.pc_laws.specs.Segment.{fall_of, IsSegment}
+use Rattle.pc_laws.specs.State.{segment_of}
+use Rattle.pc_laws.specs.Steps.{filled_state}
+use Rattle.pc_laws.proofs.Stairs.StairStates.{stair-within_range, stair-fall_in_range, stair-fall_positive, stair-segment, stair-level_segment, stair-times_within, stair-cost}
 use Rattle.pc_crash.specs.Priced.{knees_in}
 use Rattle.pc_crash.proofs.CostLaws.{cost_of-most}
-use Rattle.pc_board.specs.Sheets.{Sheet, time_of, rank_of, flow_of}
-use Rattle.pc_search.specs.inside.Choosing.{moving}
-use Rattle.pc_search.specs.Labelling.{slopes_in}
-use Rattle.pc_search.specs.inside.Labelling.{slope_at, IsStateWith, MayFall}
-use Rattle.pc_search.proofs.StateLaws.{IsKnown, slopes-small, value-bounded, flow-bounded}
+use Rattle.pc_flow.specs.board.Sheets.{Sheet, time_of, rank_of, flow_of}
+use Rattle.pc_flow.specs.inside.search.Choosing.{moving}
+use Rattle.pc_flow.specs.search.Labelling.{slopes_in}
+use Rattle.pc_flow.specs.inside.search.Labelling.{slope_at, IsStateWith, MayFall}
+use Rattle.pc_flow.proofs.lemmas.search.StateLaws.{IsKnown, slopes-small, value-bounded, flow-bounded}
 use Rattle.pc_flow.specs.Courses.{Course, upper_of, lower_of}
 use Rattle.pc_flow.specs.inside.Courses.{moves_at, present, IsOnCurve, IsOnCourse, HasSmallNumbers}
 

@@ -11,8 +11,8 @@ use Rattle.pc_model.specs.Schedule.{AreTerms}
 use Rattle.pc_model.proofs.Schedules.Durations.{normals-at, crashes-at, crash-normal}
 use Rattle.pc_model.proofs.Walks.WalkLaws.{IsWalk-push, walk_sum-push, last_of_walk, walk_sum-bound}
 use Rattle.pc_model.proofs.Walks.OrderLaws.{walk_is_short, stands_in_order}
-use Rattle.pc_board.specs.Sheets.{Sheet, kept_time}
-use Rattle.pc_board.specs.inside.Moves.{SetsTime}
+use Rattle.pc_flow.specs.board.Sheets.{Sheet, kept_time}
+use Rattle.pc_flow.specs.inside.board.Moves.{SetsTime}
 use Rattle.pc_crash.specs.Terms.{AreWithinLimits}
 use Rattle.pc_flow.specs.declared.pace.Pace.{Pace}
 use Rattle.pc_flow.specs.declared.pace.Pace.TheVariants.{Crash, Normal}

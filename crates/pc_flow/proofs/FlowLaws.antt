@@ -2,9 +2,9 @@
 use Rattle.std.proofs.Common.{◌≡◌, ℕ, ◌<◌, List, length, refl}
 use Rattle.pc_model.specs.declared.Knee.{Knee}
 use Rattle.pc_model.specs.Schedule.{crash_of}
-use Rattle.pc_curve_laws.specs.Stair.{Stair, IsSameStair, stair_of, knee_flow, crash_flow}
-use Rattle.pc_curve_laws.proofs.Stairs.SameStair.{same-knee_flow, same-crash_flow}
-use Rattle.pc_stair.specs.inside.Rows.{stair}
+use Rattle.pc_laws.specs.Stair.{Stair, IsSameStair, stair_of, knee_flow, crash_flow}
+use Rattle.pc_laws.proofs.Stairs.SameStair.{same-knee_flow, same-crash_flow}
+use Rattle.pc_flow.specs.inside.stair.Rows.{stair}
 use Rattle.pc_crash.specs.inside.KneeLists.{AreKneesOf}
 use Rattle.pc_crash.specs.Priced.{PricedNetwork, knees_in}
 

@@ -4,3 +4,4 @@ mod FlowLaws
 pub mod LookLaws
 mod NextLaws
 pub mod OpeningLaws
+pub mod lemmas

@@ -2,7 +2,7 @@
 use Rattle.std.proofs.Common.{◌≡◌, ℕ, ◌+◌, ◌-◌, ◌*◌, ◌≤◌, length, refl, sym, ◌∙◌, ap, arith}
 use Rattle.std.proofs.Math.Nat.{mul-add, mul-le-mul_left}
 use Rattle.pc_crash.specs.Priced.{PricedNetwork}
-use Rattle.pc_search.specs.Labelling.{slopes_in}
+use Rattle.pc_flow.specs.search.Labelling.{slopes_in}
 use Rattle.pc_flow.specs.Courses.{Course, lower_of, IsLevel, IsSameCurve, IsFurther, most_looks, all_looks}
 
 pub same-stays : (c : Course) → IsSameCurve c c

@@ -7,13 +7,13 @@ use Rattle.pc_model.specs.Walk.{from_of, to_of}
 use Rattle.pc_model.specs.Schedule.{normal_of, lesser_of}
 use Rattle.pc_model.specs.Cost.{cost_of}
 use Rattle.pc_model.proofs.Costs.NormalCost.{cost_of-same}
-use Rattle.pc_curve_laws.specs.Segment.{fall_of}
+use Rattle.pc_laws.specs.Segment.{fall_of}
 use Rattle.pc_crash.specs.Priced.{PricedNetwork, knees_in}
-use Rattle.pc_board.specs.Sheets.{Sheet, time_of, rank_of, flow_of}
-use Rattle.pc_search.specs.inside.Growing.{AreListed}
-use Rattle.pc_search.specs.inside.Choosing.{moving}
-use Rattle.pc_search.specs.Labelling.{length_at}
-use Rattle.pc_search.specs.inside.Labelling.{slope_at, IsBetween, HasFallen}
+use Rattle.pc_flow.specs.board.Sheets.{Sheet, time_of, rank_of, flow_of}
+use Rattle.pc_flow.specs.inside.search.Growing.{AreListed}
+use Rattle.pc_flow.specs.inside.search.Choosing.{moving}
+use Rattle.pc_flow.specs.search.Labelling.{length_at}
+use Rattle.pc_flow.specs.inside.search.Labelling.{slope_at, IsBetween, HasFallen}
 use Rattle.pc_flow.specs.Courses.{Course, upper_of, lower_of, IsLevel, IsSameCurve, IsFurther, most_looks}
 use Rattle.pc_flow.specs.inside.Courses.{IsOnCourse, HasEnded, IsNext}
 use Rattle.pc_flow.specs.inside.Descents.{HasDescended, HasSearched}

@@ -14,23 +14,23 @@ use Rattle.pc_model.proofs.Schedules.Durations.{normals-at, crash-normal}
 use Rattle.pc_model.proofs.Costs.NormalCost.{cost_of-same}
 use Rattle.pc_model.proofs.Costs.PieceLaws.{normal_cost}
 use Rattle.pc_model.proofs.Walks.PlaceLaws.{zero-at}
-use Rattle.pc_curve_laws.specs.Steps.{IsStairOptimal}
-use Rattle.pc_curve_laws.proofs.Stairs.OnStair.{knees_fall}
-use Rattle.pc_curve_laws.proofs.Stairs.StairStates.{stair-opening_state}
-use Rattle.pc_curve_laws.proofs.Flows.Bounds.{last_slope-small}
-use Rattle.pc_curve_laws.proofs.States.Opening.{normal_lesser}
+use Rattle.pc_laws.specs.Steps.{IsStairOptimal}
+use Rattle.pc_laws.proofs.Stairs.OnStair.{knees_fall}
+use Rattle.pc_laws.proofs.Stairs.StairStates.{stair-opening_state}
+use Rattle.pc_laws.proofs.Flows.Bounds.{last_slope-small}
+use Rattle.pc_laws.proofs.States.Opening.{normal_lesser}
 use Rattle.pc_crash.specs.Priced.{PricedNetwork, knees_in, ArePiecesWithinLimits}
 use Rattle.pc_crash.specs.Terms.{AreWithinLimits}
-use Rattle.pc_board.specs.Sheets.{Sheet, kept_time, time_of, rank_of, flow_of}
-use Rattle.pc_board.specs.inside.Sheets.{queue_of, slot_of, clear_sheet}
-use Rattle.pc_board.specs.inside.Labelling.{HasStep, HaveRoom, AreTimes, IsRanked}
-use Rattle.pc_board.specs.inside.Moves.{StartsAt}
-use Rattle.pc_board.proofs.AfterPruning.{time-labelled, time-unlabelled}
-use Rattle.pc_search.specs.inside.Searches.{IsSearch, IsOnStairs, IsWaiting}
-use Rattle.pc_search.specs.inside.Growing.{IsScanned, IsMet, AreListed}
-use Rattle.pc_search.specs.Labelling.{length_at}
-use Rattle.pc_search.specs.inside.Labelling.{slope_at, IsStateWith, IsBetween}
-use Rattle.pc_search.proofs.StateLaws.{state-own}
+use Rattle.pc_flow.specs.board.Sheets.{Sheet, kept_time, time_of, rank_of, flow_of}
+use Rattle.pc_flow.specs.inside.board.Sheets.{queue_of, slot_of, clear_sheet}
+use Rattle.pc_flow.specs.inside.board.Labelling.{HasStep, HaveRoom, AreTimes, IsRanked}
+use Rattle.pc_flow.specs.inside.board.Moves.{StartsAt}
+use Rattle.pc_flow.proofs.lemmas.board.AfterPruning.{time-labelled, time-unlabelled}
+use Rattle.pc_flow.specs.inside.search.Searches.{IsSearch, IsOnStairs, IsWaiting}
+use Rattle.pc_flow.specs.inside.search.Growing.{IsScanned, IsMet, AreListed}
+use Rattle.pc_flow.specs.search.Labelling.{length_at}
+use Rattle.pc_flow.specs.inside.search.Labelling.{slope_at, IsStateWith, IsBetween}
+use Rattle.pc_flow.proofs.lemmas.search.StateLaws.{state-own}
 use Rattle.pc_flow.specs.declared.early.TheConstants.{MAX_LENGTH}
 use Rattle.pc_flow.specs.Courses.{Course, IsLevel}
 use Rattle.pc_flow.specs.inside.Courses.{IsOnCourse}

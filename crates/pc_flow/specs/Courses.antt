@@ -1,8 +1,8 @@
 -- A solver on its way down the curve.
 use Rattle.std.specs.Prelude.{◌≡◌, ℕ, ◌+◌, ◌-◌, ◌*◌, ◌≤◌, Bool, length}
 use Rattle.pc_crash.specs.Priced.{PricedNetwork}
-use Rattle.pc_board.specs.Sheets.{Sheet, flow_of}
-use Rattle.pc_search.specs.Labelling.{length_at, slopes_in}
+use Rattle.pc_flow.specs.board.Sheets.{Sheet, flow_of}
+use Rattle.pc_flow.specs.search.Labelling.{length_at, slopes_in}
 
 -- a network and a board, the all-normal and the all-crash length, and of the present segment its cost and slope, how far
 -- its lower end lies below the upper one, and whether there is one

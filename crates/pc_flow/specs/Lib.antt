@@ -1,2 +1,4 @@
 pub mod Courses
+pub mod board
+pub mod search
 pub mod inside

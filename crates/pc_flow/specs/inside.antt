@@ -4,3 +4,6 @@ pub mod Courses
 pub mod Solvers
 pub mod Openings
 pub mod Descents
+pub mod stair
+pub mod board
+pub mod search

@@ -1,12 +1,12 @@
 //! The times of the events on a board, from the durations of the activities.
 ghost use Rattle.std.specs.Prelude.{◌≡◌, ◌<◌, ◌≤◌, ℕ, length};
 ghost use Rattle.pc_model.specs.Network.{IsEarly};
-ghost use Rattle.pc_board.specs.Sheets.{Sheet, kept_time};
-ghost use Rattle.pc_board.specs.inside.Labelling.{IsFor};
+ghost use Rattle.pc_flow.specs.board.Sheets.{Sheet, kept_time};
+ghost use Rattle.pc_flow.specs.inside.board.Labelling.{IsFor};
 ghost use Rattle.pc_flow.specs.inside.Paces.{durations_at, HasSmallTimes, AreEarlyBefore};
 
+use crate::board::Board;
 use crate::pace::Pace;
-use pc_board::Board;
 use pc_crash::CrashNet;
 
 /// The greatest length of a project, in units: no walk has more than 10,000 activities, each of at most 100,000 units.

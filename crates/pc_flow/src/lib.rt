@@ -2,11 +2,14 @@
 //! (Kelley 1961, Fulkerson 1961), in one region of memory that the caller took before.
 #![tactic(auto)]
 
+pub mod board;
 mod early;
 pub mod look_laws;
 mod opening;
 mod pace;
+pub mod search;
 mod solver;
+pub mod stair;
 mod stepping;
 mod viewing;
 

@@ -1,6 +1,6 @@
 //! How often a solver looks at its network in all.
 ghost use Rattle.std.specs.Prelude.{◌≡◌, ◌+◌, ◌≤◌};
-ghost use Rattle.pc_search.specs.Labelling.{slopes_in};
+ghost use Rattle.pc_flow.specs.search.Labelling.{slopes_in};
 ghost use Rattle.pc_flow.specs.Courses.{Course, IsLevel, IsSameCurve, IsFurther, lower_of, most_looks, all_looks};
 
 /// The looks of the segments add up, and those of one solver on its way down, from before its first segment, are at most four

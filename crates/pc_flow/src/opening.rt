@@ -2,12 +2,12 @@
 ghost use Rattle.std.specs.Prelude.{◌≡◌, ◌+◌, ◌*◌, ◌≤◌, length};
 ghost use Rattle.pc_model.specs.Schedule.{IsAllCrashLength};
 ghost use Rattle.pc_cells.specs.inside.Spans.{free_of};
-ghost use Rattle.pc_board.specs.Sheets.{kept_time};
+ghost use Rattle.pc_flow.specs.board.Sheets.{kept_time};
 ghost use Rattle.pc_flow.specs.inside.Openings.{IsOpened};
 
+use crate::board::Board;
 use crate::early::keep_early_times;
 use crate::pace::Pace;
-use pc_board::Board;
 use pc_cells::Region;
 use pc_crash::CrashNet;
 

@@ -5,15 +5,15 @@ ghost use Rattle.pc_model.specs.Sums.{sum_to};
 ghost use Rattle.pc_model.specs.Schedule.{base_cost_of, IsAllNormalLength, IsAllCrashLength};
 ghost use Rattle.pc_flow.specs.declared.early.TheConstants.{MAX_LENGTH};
 ghost use Rattle.pc_cells.specs.inside.Spans.{free_of};
-ghost use Rattle.pc_search.specs.Labelling.{slopes_in};
+ghost use Rattle.pc_flow.specs.search.Labelling.{slopes_in};
 ghost use Rattle.pc_flow.specs.Courses.{IsLevel, lower_of};
 ghost use Rattle.pc_flow.specs.inside.Courses.{IsOnCurve};
 
 use crate::early::MAX_LENGTH;
 use crate::opening::open_board;
+use crate::search::Search;
 use pc_cells::Region;
 use pc_crash::CrashNet;
-use pc_search::Search;
 use std::marker::Model;
 
 /// The segments of the time-cost curve of a network, one after another, from the all-normal length down to the all-crash

@@ -1,16 +1,16 @@
 //! One segment after another.
 ghost use Rattle.std.specs.Prelude.{◌≡◌, ◌+◌, ◌*◌, ◌<◌, ◌↔◌, ◌≤◌, length, IsTrue, IsFalse};
 ghost use Rattle.pc_model.specs.Schedule.{IsAllCrashLength};
-ghost use Rattle.pc_search.specs.inside.Growing.{AreListed};
-ghost use Rattle.pc_search.specs.Labelling.{slopes_in};
-ghost use Rattle.pc_search.specs.inside.Labelling.{IsBetween, MayFall};
+ghost use Rattle.pc_flow.specs.inside.search.Growing.{AreListed};
+ghost use Rattle.pc_flow.specs.search.Labelling.{slopes_in};
+ghost use Rattle.pc_flow.specs.inside.search.Labelling.{IsBetween, MayFall};
 ghost use Rattle.pc_flow.specs.Courses.{IsSameCurve, IsFurther, most_looks};
 ghost use Rattle.pc_flow.specs.inside.Courses.{IsNext, HasEnded};
 ghost use Rattle.pc_flow.specs.inside.Descents.{HasDescended, HasSearched};
 
+use crate::search::{Labelling, Search};
 use crate::solver::Solver;
 use pc_crash::{SegmentView, Steps};
-use pc_search::{Labelling, Search};
 use std::sync::ledger::Ledger;
 
 impl<'n> Solver<'n> {

@@ -3,8 +3,8 @@ ghost use Rattle.std.specs.Prelude.{◌≡◌, true};
 ghost use Rattle.pc_flow.specs.inside.Courses.{present};
 
 use crate::solver::Solver;
+use crate::stair::{beside, flow_at};
 use pc_crash::SegmentView;
-use pc_stair::{beside, flow_at};
 
 impl<'n> SegmentView for Solver<'n> {
     ghost IsPresent = { λ solver. solver.given ≡ true };

@@ -2,7 +2,7 @@
 use Rattle.std.proofs.Common.{◌≡◌, ℕ, ◌+◌, ◌<◌, ◌≤◌, List, [], ◌∷◌, ◌++◌, length, slice_index, ap, sym, ◌∙◌, subst, arith}
 use Rattle.std.proofs.lemmas.List.{length_push}
 use Rattle.std.proofs.lemmas.List.Elements.{All-get_or}
-use Rattle.pc_figures.proofs.PushLaws.{each_more}
+use Rattle.pc_rollup.proofs.lemmas.figures.PushLaws.{each_more}
 use Rattle.pc_model.specs.declared.limits.TheConstants.{MAX_COST}
 use Rattle.pc_model.specs.Walk.{from_of}
 use Rattle.pc_project.specs.Planned.{IsLoad, IsPlanned}

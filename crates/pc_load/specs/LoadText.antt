@@ -3,7 +3,7 @@ use Rattle.std.specs.Prelude.{◌≡◌, ℕ, ◌*◌, ℤ, pos, ◌+ℤ◌, int
 use Rattle.std.specs.Fmt.{signed_decimal}
 use Rattle.pc_days.specs.Calendar.{date_or_none}
 use Rattle.pc_edges.specs.Texts.{texts_to}
-use Rattle.pc_page.specs.Cells.{left, right, row}
+use Rattle.pc_edges.specs.page.Cells.{left, right, row}
 use Rattle.pc_project.specs.Project.{Project}
 use Rattle.pc_load.specs.Loading.{Loading, IsLoading}
 use Rattle.pc_load.specs.Table.{Table, amount_in}

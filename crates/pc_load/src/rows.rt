@@ -1,7 +1,7 @@
 //! The rows of the report of loads.
 ghost use Rattle.std.specs.Prelude.{◌≡◌, ◌*◌, ◌+◌, ◌<◌, ◌≤◌, pos, ◌+ℤ◌, length, slice_index_or, []};
 ghost use Rattle.pc_days.specs.Calendar.{date_or_none};
-ghost use Rattle.pc_page.specs.inside.Puts.{Puts};
+ghost use Rattle.pc_edges.specs.inside.page.Puts.{Puts};
 ghost use Rattle.pc_load.specs.inside.Loading.{IsReadyFor};
 ghost use Rattle.pc_load.specs.LoadText.{amount_row, amount_rows, item_rows, period_cells, period_row, resource_rows};
 ghost use Rattle.pc_load.specs.Table.{amount_in};
@@ -11,7 +11,7 @@ use crate::loading::Loading;
 use crate::table::Table;
 use pc_days::{Day, date_of_sixths, day_text};
 use pc_edges::Sink;
-use pc_page::{Page, Rows, put_rows};
+use pc_edges::page::{Page, Rows, put_rows};
 use pc_project::Project;
 use pc_text::Code;
 

@@ -1,15 +1,15 @@
 //! The text of the report of loads.
 ghost use Rattle.std.specs.Prelude.{◌≡◌};
 ghost use Rattle.pc_edges.specs.inside.Writes.{Writes};
-ghost use Rattle.pc_page.specs.inside.Page.{fresh};
-ghost use Rattle.pc_page.specs.inside.Puts.{Puts};
+ghost use Rattle.pc_edges.specs.inside.page.Page.{fresh};
+ghost use Rattle.pc_edges.specs.inside.page.Puts.{Puts};
 ghost use Rattle.pc_load.specs.inside.Loading.{IsReadyFor};
 ghost use Rattle.pc_load.specs.LoadText.{head_line, load_text};
 
 use crate::loading::Loading;
 use crate::rows::{ItemRows, PeriodRows, ResourceRows};
+use pc_edges::page::{Page, put_rows};
 use pc_edges::{Failed, Sink};
-use pc_page::{Page, put_rows};
 use pc_project::Project;
 
 /// Writes the report of a project's loads, and flushes the sink: a row for each period, then for each item and for each resource

@@ -9,8 +9,8 @@ use Rattle.pc_faults.specs.First.{IsFirst}
 use Rattle.pc_faults.specs.declared.fault.Fault.{Fault}
 use Rattle.pc_faults.specs.declared.status.StatusFault.{StatusFault}
 use Rattle.pc_faults.specs.declared.status.StatusFault.TheVariants.{Second, Early, Late, NoStart, FinishFirst}
-use Rattle.pc_status.specs.Statuses.{AreInOrder, HasReason, IsInOrder, IsReason, place_of}
-use Rattle.pc_status.specs.declared.row.StatusRow.{StatusRow}
+use Rattle.pc_accounts.specs.status.Statuses.{AreInOrder, HasReason, IsInOrder, IsReason, place_of}
+use Rattle.pc_accounts.specs.declared.status.row.StatusRow.{StatusRow}
 use Rattle.pc_project.specs.DisorderFaults.{HasDisorder, HasNoDisorder, HasStatusDisorder, IsEarlyAsOf, as_of_in, of_as_of, of_status}
 use Rattle.pc_faults.specs.inside.First.{IsFirstIn, earliest}
 use Rattle.pc_project.specs.Project.{as_of_day, statuses_in}

@@ -19,8 +19,8 @@ use Rattle.pc_deck.specs.declared.kinds.money.MoneyCard.{MoneyCard}
 use Rattle.pc_deck.specs.declared.kinds.status.StatusCard.{StatusCard}
 use Rattle.pc_deck.proofs.NumberLemmas.{accounts-within, acts-within, charges-within, togos-within}
 use Rattle.pc_model.specs.declared.limits.TheConstants.{MAX_COST}
-use Rattle.pc_status.specs.Statuses.{AreKnown, status_at}
-use Rattle.pc_status.specs.declared.row.StatusRow.{StatusRow}
+use Rattle.pc_accounts.specs.status.Statuses.{AreKnown, status_at}
+use Rattle.pc_accounts.specs.declared.status.row.StatusRow.{StatusRow}
 use Rattle.pc_times.specs.declared.state.ActState.{ActState}
 use Rattle.pc_wbs.specs.Climb.{IsLeaf}
 use Rattle.pc_project.specs.DisorderFaults.{as_of_in}

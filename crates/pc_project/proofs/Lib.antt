@@ -18,3 +18,4 @@ mod StateLaws
 mod CardPlaces
 pub mod SoundLaws
 pub mod OneProjectLaws
+pub mod lemmas

@@ -3,8 +3,8 @@ use Rattle.std.proofs.Common.{◌≡◌, ◌<◌, ◌+◌, ℕ, List, [], ◌∷
 use Rattle.std.specs.Prelude.{ℤ}
 use Rattle.std.proofs.lemmas.Bool.{cases_lt}
 use Rattle.std.proofs.lemmas.List.{get_or_append_left, get_or_push, length_push}
-use Rattle.pc_status.specs.Statuses.{IsStateOf}
-use Rattle.pc_status.specs.declared.row.StatusRow.{StatusRow}
+use Rattle.pc_accounts.specs.status.Statuses.{IsStateOf}
+use Rattle.pc_accounts.specs.declared.status.row.StatusRow.{StatusRow}
 use Rattle.pc_times.specs.Forecast.{IsSmallState, state_at}
 use Rattle.pc_times.specs.declared.state.ActState.{ActState}
 use Rattle.pc_times.specs.declared.state.ActState.TheVariants.{Waiting}

@@ -8,8 +8,8 @@ use Rattle.pc_accounts.specs.declared.rows.WorkRow.{WorkRow}
 use Rattle.pc_deck.specs.Deck.{Deck}
 use Rattle.pc_model.specs.declared.Term.{Term}
 use Rattle.pc_model.specs.declared.limits.TheConstants.{MAX_ACCOUNTS, MAX_CHARGES, MAX_TOGOS}
-use Rattle.pc_status.specs.Statuses.{IsStateOf}
-use Rattle.pc_status.specs.declared.row.StatusRow.{StatusRow}
+use Rattle.pc_accounts.specs.status.Statuses.{IsStateOf}
+use Rattle.pc_accounts.specs.declared.status.row.StatusRow.{StatusRow}
 use Rattle.pc_times.specs.Forecast.{IsSmallState, state_at}
 use Rattle.pc_times.specs.declared.state.ActState.{ActState}
 use Rattle.pc_wbs.specs.Climb.{IsLeaf}

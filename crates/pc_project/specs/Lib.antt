@@ -9,6 +9,7 @@ pub mod PieceFaults
 pub mod TermsFaults
 pub mod Refusal
 pub mod Planned
+pub mod deck_text
 pub mod inside
 pub use Rattle.pc_model.specs.Network
 pub use Rattle.pc_model.specs.Schedule

@@ -12,7 +12,7 @@ use Rattle.pc_wbs.specs.Climb.{IsLeaf, IsTree}
 use Rattle.pc_accounts.specs.Amounts.{AreEntriesOf}
 use Rattle.pc_accounts.specs.Entries.{AreSmall}
 use Rattle.pc_accounts.specs.Packages.{IsUneven}
-use Rattle.pc_status.specs.Statuses.{AreInOrder, AreKnown}
+use Rattle.pc_accounts.specs.status.Statuses.{AreInOrder, AreKnown}
 use Rattle.pc_times.specs.Forecast.{AreStates}
 use Rattle.pc_times.specs.Times.{AreLengths}
 use Rattle.pc_model.specs.declared.limits.TheConstants.{MAX_COST, MAX_DIRECTED, MAX_EVENTS, MAX_ITEMS, MAX_LOADS, MAX_RESOURCES, MAX_STATUSES, MAX_UNIT_DAYS, MAX_VARIANCE}

@@ -8,7 +8,7 @@ use Rattle.pc_model.specs.declared.Arc.{Arc}
 use Rattle.pc_model.specs.declared.PieceRow.{PieceRow}
 use Rattle.pc_model.specs.declared.Term.{Term}
 use Rattle.pc_model.specs.Network.{Network}
-use Rattle.pc_status.specs.declared.row.StatusRow.{StatusRow}
+use Rattle.pc_accounts.specs.declared.status.row.StatusRow.{StatusRow}
 use Rattle.pc_times.specs.Estimates.{expected_time, variance_of}
 use Rattle.pc_times.specs.declared.state.ActState.{ActState}
 use Rattle.pc_wbs.specs.declared.row.ItemRow.{ItemRow}

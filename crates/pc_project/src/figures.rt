@@ -5,10 +5,10 @@ ghost use Rattle.pc_project.specs.Misfit.{HasFigureFault};
 ghost use Rattle.pc_project.specs.inside.Numbered.{AreFiguresOf};
 
 use crate::refers::look_up_all;
+use pc_accounts::status::StatusRow;
 use pc_accounts::{AcctRow, MoneyRow};
 use pc_deck::Cards;
 use pc_faults::{Fault, earliest};
-use pc_status::StatusRow;
 use std::alloc::AllocError;
 
 /// What the cards that give figures say, with numbers for what they name; one for each card, in card order.

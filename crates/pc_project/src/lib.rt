@@ -5,6 +5,7 @@
 
 mod activity;
 mod costing;
+pub mod deck_text;
 mod estimates;
 mod figures;
 mod heading;

@@ -7,11 +7,11 @@ ghost use Rattle.pc_project.specs.Misfit.{HasProjectFault, IsInOrder};
 
 use crate::load::LoadItem;
 use crate::refers::Refers;
+use pc_accounts::status::StatusRow;
 use pc_accounts::{AcctRow, MoneyRow};
 use pc_deck::{AcctCard, ActCard, Cards, ItemCard, LoadCard, MoneyCard, PieceCard, StatusCard};
 use pc_faults::Fault;
 use pc_model::{Arc, PieceRow};
-use pc_status::StatusRow;
 use pc_wbs::ItemRow;
 
 /// Where an activity stands: between which events, and at which item.

@@ -1,7 +1,7 @@
 //! The project as one value.
 ghost use Rattle.std.specs.Prelude.{◌≡◌, ◌^◌, ◌<◌, ◌≤◌, length, slice_index_or, []};
 ghost use Rattle.pc_model.specs.declared.limits.TheConstants.{MAX_UNIT_DAYS};
-ghost use Rattle.pc_status.specs.Statuses.{IsSixths};
+ghost use Rattle.pc_accounts.specs.status.Statuses.{IsSixths};
 ghost use Rattle.pc_times.specs.Forecast.{state_at};
 ghost use Rattle.pc_project.specs.Planned.{IsPlanned};
 ghost use Rattle.pc_project.specs.inside.Project.{activity_at};
@@ -11,12 +11,12 @@ use crate::heading::Counts;
 use crate::load::LoadItem;
 use crate::plan::Plan;
 use crate::statuses::as_of;
+use pc_accounts::status::StatusRow;
 use pc_accounts::{AcctRow, Book, MoneyRow};
 use pc_days::{Day, days_between};
 use pc_deck::Cards;
 use pc_model::{PieceRow, Term};
 use pc_net::Net;
-use pc_status::StatusRow;
 use pc_text::{Code, Title};
 use pc_times::ActState;
 use pc_wbs::Tree;

@@ -2,17 +2,17 @@
 ghost use Rattle.std.specs.Prelude.{◌≡◌, length, IfOk, IfErr, OnOk};
 ghost use Rattle.pc_faults.specs.First.{IsFirst};
 ghost use Rattle.pc_faults.specs.inside.First.{IsFirstIn, Refuses};
-ghost use Rattle.pc_status.specs.Statuses.{AreInOrder};
+ghost use Rattle.pc_accounts.specs.status.Statuses.{AreInOrder};
 ghost use Rattle.pc_project.specs.DisorderFaults.{HasDisorder, HasNoDisorder, HasStatusDisorder, IsEarlyAsOf, as_of_in};
 ghost use Rattle.pc_project.specs.Figures.{AreStatesOf};
 ghost use Rattle.pc_project.specs.inside.Numbered.{AreNumbersOf};
 ghost use Rattle.pc_project.specs.Project.{statuses_in};
 
 use crate::numbers::Numbers;
+use pc_accounts::status::Log;
 use pc_days::Day;
 use pc_deck::Cards;
 use pc_faults::{DeckError, Fault, StatusFault, earliest};
-use pc_status::Log;
 use pc_times::ActState;
 use std::alloc::{AllocError, Global};
 

@@ -8,17 +8,17 @@ use Rattle.pc_days.proofs.Reading.{NamesDay-same}
 use Rattle.pc_days.proofs.Sixths.{one_day}
 use Rattle.pc_model.specs.Network.{Network}
 use Rattle.pc_model.proofs.Walks.WalkLaws.{greatest_unique}
-use Rattle.pc_status.specs.Statuses.{IsSixths}
+use Rattle.pc_accounts.specs.status.Statuses.{IsSixths}
 use Rattle.pc_times.specs.Forecast.{Expected, IsForecast}
 use Rattle.pc_times.specs.Late.{AreLate, IsLate}
 use Rattle.pc_times.specs.Times.{AreEarly}
 use Rattle.pc_times.proofs.OneForecastLaws.{one_forecast}
 use Rattle.pc_times.proofs.PickedWalks.{picked_walk_unique}
-use Rattle.pc_figures.specs.declared.outline.OutlineRow.{OutlineRow}
-use Rattle.pc_figures.specs.Columns.{AreOnTree}
-use Rattle.pc_figures.specs.Slacks.{AreLeastSlacks, slack_at}
-use Rattle.pc_figures.specs.Worth.{Worth}
-use Rattle.pc_figures.proofs.OnceLaws.{one_outline, one_slacks, one_summary, one_worth}
+use Rattle.pc_rollup.specs.declared.figures.outline.OutlineRow.{OutlineRow}
+use Rattle.pc_rollup.specs.figures.Columns.{AreOnTree}
+use Rattle.pc_rollup.specs.figures.Slacks.{AreLeastSlacks, slack_at}
+use Rattle.pc_rollup.specs.figures.Worth.{Worth}
+use Rattle.pc_rollup.proofs.lemmas.figures.OnceLaws.{one_outline, one_slacks, one_summary, one_worth}
 use Rattle.pc_project.proofs.SoundLaws.{HasSoundParts}
 use Rattle.pc_project.specs.Project.{Project}
 use Rattle.pc_reports.specs.Earned.{AreForecasts, AreLateFor, Earned, Forecasts, IsEarned}

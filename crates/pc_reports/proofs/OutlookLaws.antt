@@ -11,10 +11,10 @@ use Rattle.pc_model.proofs.Sums.{sum_to-most, sum_to-same}
 use Rattle.pc_crash.specs.Priced.{PricedNetwork, knees_in}
 use Rattle.pc_crash.specs.declared.costing.TheConstants.{MAX_ACTIVITY_COST}
 use Rattle.pc_project.specs.Project.{Project}
-use Rattle.pc_figures.specs.Outlook.{Outlook, IsOutlookOf, IsWholeOutlook, amounts_at}
-use Rattle.pc_figures.specs.inside.Outlook.{HasWholeAtTop}
-use Rattle.pc_figures.proofs.PushLaws.{each_more}
-use Rattle.pc_figures.proofs.OutlookLaws.{outlook_alike}
+use Rattle.pc_rollup.specs.figures.Outlook.{Outlook, IsOutlookOf, IsWholeOutlook, amounts_at}
+use Rattle.pc_rollup.specs.inside.figures.Outlook.{HasWholeAtTop}
+use Rattle.pc_rollup.proofs.lemmas.figures.PushLaws.{each_more}
+use Rattle.pc_rollup.proofs.lemmas.figures.OutlookLaws.{outlook_alike}
 use Rattle.pc_reports.specs.OutlookText.{IsOutlook, cost_at}
 use Rattle.pc_reports.specs.inside.OutlookText.{AreCostsAt, AreCostsIn, TellsTop}
 

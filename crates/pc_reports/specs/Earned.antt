@@ -1,15 +1,15 @@
 -- What the report of the value of work tells.
 use Rattle.std.specs.Prelude.{◌≡◌, ℕ, ◌<◌, ℤ, pos, ◌-ℤ◌, List, length, slice_index, slice_index_or, Option}
-use Rattle.pc_status.specs.Statuses.{IsSixths}
+use Rattle.pc_accounts.specs.status.Statuses.{IsSixths}
 use Rattle.pc_times.specs.Forecast.{Expected, IsForecast}
 use Rattle.pc_times.specs.Late.{AreLate}
 use Rattle.pc_times.specs.Times.{AreEarly}
 use Rattle.pc_project.specs.Project.{Project}
-use Rattle.pc_figures.specs.declared.outline.OutlineRow.{OutlineRow}
-use Rattle.pc_figures.specs.Outline.{IsOutline}
-use Rattle.pc_figures.specs.Slacks.{AreLeastSlacks, slack_at}
+use Rattle.pc_rollup.specs.declared.figures.outline.OutlineRow.{OutlineRow}
+use Rattle.pc_rollup.specs.figures.Outline.{IsOutline}
+use Rattle.pc_rollup.specs.figures.Slacks.{AreLeastSlacks, slack_at}
 use Rattle.pc_reports.specs.Times.{AreDates, end_to_meet}
-use Rattle.pc_figures.specs.Worth.{Worth, IsWorthOf}
+use Rattle.pc_rollup.specs.figures.Worth.{Worth, IsWorthOf}
 
 -- for each event when it is expected and when it must be at the latest, in sixths of a day from the start, and the date of
 -- when it is expected; and for each item the least forecast slack of the activities that stand on it or below it

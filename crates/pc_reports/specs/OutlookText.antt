@@ -4,11 +4,11 @@ use Rattle.std.specs.Fmt.{signed_decimal}
 use Rattle.pc_model.specs.Cost.{activity_cost}
 use Rattle.pc_model.specs.Pieces.{knees_of}
 use Rattle.pc_edges.specs.Texts.{texts_to}
-use Rattle.pc_page.specs.Cells.{left, right, row}
+use Rattle.pc_edges.specs.page.Cells.{left, right, row}
 use Rattle.pc_project.specs.Project.{Project}
-use Rattle.pc_figures.specs.declared.outlook.OutlookAmounts.{OutlookAmounts}
-use Rattle.pc_figures.specs.Outline.{row_at}
-use Rattle.pc_figures.specs.Outlook.{Outlook, IsOutlookOf, amounts_at}
+use Rattle.pc_rollup.specs.declared.figures.outlook.OutlookAmounts.{OutlookAmounts}
+use Rattle.pc_rollup.specs.figures.Outline.{row_at}
+use Rattle.pc_rollup.specs.figures.Outlook.{Outlook, IsOutlookOf, amounts_at}
 
 -- the words above the items
 abbrev pub outlook_head : List ℕ

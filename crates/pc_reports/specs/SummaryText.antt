@@ -2,13 +2,13 @@
 use Rattle.std.specs.Prelude.{◌≡◌, ℕ, ◌+◌, ℤ, List, [], ◌∷◌, ◌++◌, length, slice_index_or, codes, decimal}
 use Rattle.std.specs.Fmt.{signed_decimal}
 use Rattle.pc_edges.specs.Texts.{texts_to}
-use Rattle.pc_page.specs.Cells.{left, right, row}
+use Rattle.pc_edges.specs.page.Cells.{left, right, row}
 use Rattle.pc_accounts.specs.Amounts.{entry_of_project}
 use Rattle.pc_project.specs.Project.{Project}
-use Rattle.pc_figures.specs.declared.summary.SummaryAmounts.{SummaryAmounts}
+use Rattle.pc_rollup.specs.declared.figures.summary.SummaryAmounts.{SummaryAmounts}
 use Rattle.pc_reports.specs.Lines.{dated_line}
-use Rattle.pc_figures.specs.Outline.{row_at}
-use Rattle.pc_figures.specs.Summary.{Summary, IsSummaryOf, CountsOnce, item_amounts, level_amounts}
+use Rattle.pc_rollup.specs.figures.Outline.{row_at}
+use Rattle.pc_rollup.specs.figures.Summary.{Summary, IsSummaryOf, CountsOnce, item_amounts, level_amounts}
 
 -- the words above the items
 abbrev pub summary_head : List ℕ

@@ -4,7 +4,7 @@ use Rattle.std.specs.Fmt.{signed_decimal}
 use Rattle.pc_edges.specs.Texts.{texts_to}
 use Rattle.pc_model.specs.Walk.{from_of, to_of, walk_sum}
 use Rattle.pc_project.specs.Project.{Project}
-use Rattle.pc_page.specs.Cells.{left, right, row}
+use Rattle.pc_edges.specs.page.Cells.{left, right, row}
 use Rattle.pc_reports.specs.Lines.{code_line, number_line}
 use Rattle.pc_reports.specs.Times.{Times, IsTimes, date_of}
 

@@ -2,14 +2,14 @@
 use Rattle.std.specs.Prelude.{◌≡◌, ℕ, ℤ, pos, ◌-ℤ◌, List, [], ◌∷◌, ◌++◌, length, slice_index, slice_index_or, codes, decimal, Option, Some, None}
 use Rattle.std.specs.Fmt.{signed_decimal}
 use Rattle.pc_edges.specs.Texts.{texts_to}
-use Rattle.pc_page.specs.Cells.{left, right, row}
+use Rattle.pc_edges.specs.page.Cells.{left, right, row}
 use Rattle.pc_project.specs.Project.{Project}
 use Rattle.pc_rollup.specs.Least.{least_at}
-use Rattle.pc_figures.specs.declared.worth.WorthAmounts.{WorthAmounts}
+use Rattle.pc_rollup.specs.declared.figures.worth.WorthAmounts.{WorthAmounts}
 use Rattle.pc_reports.specs.Earned.{Earned, Forecasts, IsEarned}
 use Rattle.pc_reports.specs.Lines.{dated_line}
-use Rattle.pc_figures.specs.Outline.{row_at}
-use Rattle.pc_figures.specs.Worth.{worth_amounts}
+use Rattle.pc_rollup.specs.figures.Outline.{row_at}
+use Rattle.pc_rollup.specs.figures.Worth.{worth_amounts}
 
 -- the words above the events
 abbrev pub forecast_head : List ℕ

@@ -1,9 +1,9 @@
 //! The cells that the rows of items have in common.
-ghost use Rattle.pc_page.specs.inside.Puts.{Puts};
+ghost use Rattle.pc_edges.specs.inside.page.Puts.{Puts};
 ghost use Rattle.pc_reports.specs.inside.Cells.{amount_cell, level_cell, title_cell};
 
 use pc_edges::Sink;
-use pc_page::Page;
+use pc_edges::page::Page;
 use pc_text::Title;
 
 /// Puts a space and a level.

@@ -1,13 +1,13 @@
 //! The text that tells that a deck is accepted.
 ghost use Rattle.std.specs.Prelude.{◌≡◌};
 ghost use Rattle.pc_edges.specs.inside.Writes.{Writes};
-ghost use Rattle.pc_page.specs.inside.Page.{fresh};
-ghost use Rattle.pc_page.specs.inside.Puts.{Puts};
+ghost use Rattle.pc_edges.specs.inside.page.Page.{fresh};
+ghost use Rattle.pc_edges.specs.inside.page.Puts.{Puts};
 ghost use Rattle.pc_reports.specs.Check.{check_text, counts_text};
 
 use crate::lines::{put_code, put_number};
+use pc_edges::page::Page;
 use pc_edges::{Failed, Sink};
-use pc_page::Page;
 use pc_project::{Counts, Project};
 
 /// Writes the project's code and how many cards of each kind its deck has, and flushes the sink.

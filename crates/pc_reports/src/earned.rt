@@ -1,12 +1,12 @@
 //! What the report of the value of work tells.
 ghost use Rattle.std.specs.Prelude.{◌≡◌, ◌<◌, length, IfOk};
 ghost use Rattle.pc_reports.specs.Earned.{IsEarned};
-ghost use Rattle.pc_figures.specs.Outline.{row_at};
-ghost use Rattle.pc_figures.specs.Worth.{IsWorthOf};
+ghost use Rattle.pc_rollup.specs.figures.Outline.{row_at};
+ghost use Rattle.pc_rollup.specs.figures.Worth.{IsWorthOf};
 
 use crate::forecasts::Forecasts;
-use pc_figures::{OutlineRow, Worth, outline_of};
 use pc_project::Project;
+use pc_rollup::figures::{OutlineRow, Worth, outline_of};
 use std::alloc::{AllocError, Global};
 use std::marker::Model;
 

@@ -3,14 +3,14 @@ ghost use Rattle.std.specs.Prelude.{◌≡◌, ◌<◌, ◌≤◌, ◌^◌, pos,
 ghost use Rattle.std.specs.List.{All};
 ghost use Rattle.pc_times.specs.declared.TheConstants.{MAX_TIME};
 ghost use Rattle.pc_rollup.specs.Least.{least_at};
-ghost use Rattle.pc_figures.specs.Slacks.{AreLeastSlacks, slack_at};
+ghost use Rattle.pc_rollup.specs.figures.Slacks.{AreLeastSlacks, slack_at};
 ghost use Rattle.pc_reports.specs.Earned.{AreForecasts, AreLateFor};
 ghost use Rattle.pc_reports.specs.inside.Earned.{IsForecastOf};
 
 use crate::dates::{DATE_LENGTH, dates_of};
 use crate::times::late_to_meet;
-use pc_figures::least_slacks;
 use pc_project::Project;
+use pc_rollup::figures::least_slacks;
 use pc_times::{Forecast, early, forecast};
 use std::alloc::{AllocError, Global};
 use std::marker::Model;

@@ -1,10 +1,10 @@
 //! Short lines of reports.
-ghost use Rattle.pc_page.specs.inside.Puts.{Puts};
+ghost use Rattle.pc_edges.specs.inside.page.Puts.{Puts};
 ghost use Rattle.pc_reports.specs.Lines.{code_line, dated_line, number_line, named_line};
 
 use pc_days::{Day, day_text};
 use pc_edges::Sink;
-use pc_page::Page;
+use pc_edges::page::Page;
 use pc_text::Code;
 
 /// Puts the word, the code, and the end of the line.

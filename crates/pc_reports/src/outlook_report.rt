@@ -1,7 +1,7 @@
 //! The outlook: what the items are going to cost at given durations of the activities.
 ghost use Rattle.std.specs.Prelude.{◌≡◌, ◌++◌, length, IfOk};
 ghost use Rattle.pc_edges.specs.inside.Writes.{Writes};
-ghost use Rattle.pc_page.specs.inside.Puts.{Puts};
+ghost use Rattle.pc_edges.specs.inside.page.Puts.{Puts};
 ghost use Rattle.pc_reports.specs.OutlookText.{IsOutlook, outlook_text};
 ghost use Rattle.pc_reports.specs.inside.OutlookText.{IsOutlookFor, TellsTop};
 ghost use Rattle.pc_reports.specs.inside.Schedule.{text_of, IsWhole};
@@ -9,10 +9,10 @@ ghost use Rattle.pc_reports.specs.inside.Schedule.{text_of, IsWhole};
 use crate::outlook_costs::costs_at;
 use crate::outlook_rows::OutlookRows;
 use crate::schedule::{Schedule, put_schedule};
+use pc_edges::page::{PAGE_ROOM, Page, put_rows};
 use pc_edges::{Failed, Sink};
-use pc_figures::Outlook;
-use pc_page::{PAGE_ROOM, Page, put_rows};
 use pc_project::Project;
+use pc_rollup::figures::Outlook;
 use std::alloc::{AllocError, Global};
 use std::marker::Model;
 
@@ -31,8 +31,8 @@ pub struct OutlookReport {
 
 impl Model for OutlookReport {
     ghost use Rattle.std.specs.Prelude.{◌≡◌};
-    ghost use Rattle.pc_page.specs.inside.Page.{fresh};
-    ghost use Rattle.pc_figures.specs.Outlook.{Outlook};
+    ghost use Rattle.pc_edges.specs.inside.page.Page.{fresh};
+    ghost use Rattle.pc_rollup.specs.figures.Outlook.{Outlook};
 
     ghost Value = { Outlook };
 

@@ -1,14 +1,14 @@
 //! The rows of the outlook.
 ghost use Rattle.std.specs.Prelude.{length};
-ghost use Rattle.pc_page.specs.inside.Puts.{Puts};
+ghost use Rattle.pc_edges.specs.inside.page.Puts.{Puts};
 ghost use Rattle.pc_reports.specs.OutlookText.{outlook_cells, outlook_row};
 ghost use Rattle.pc_reports.specs.inside.OutlookText.{IsOutlookFor};
 
 use crate::cells::{put_amount_cell, put_level_cell, put_title_cell};
 use pc_edges::Sink;
-use pc_figures::{Outlook, OutlookAmounts};
-use pc_page::{Page, Rows};
+use pc_edges::page::{Page, Rows};
 use pc_project::Project;
+use pc_rollup::figures::{Outlook, OutlookAmounts};
 use pc_text::{Code, Title};
 
 /// A row for each item, in preorder.

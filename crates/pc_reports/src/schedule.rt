@@ -1,14 +1,14 @@
 //! The text of a schedule.
 ghost use Rattle.std.specs.Prelude.{◌≡◌, length};
 ghost use Rattle.pc_edges.specs.inside.Writes.{Writes};
-ghost use Rattle.pc_page.specs.inside.Page.{fresh};
-ghost use Rattle.pc_page.specs.inside.Puts.{Puts};
+ghost use Rattle.pc_edges.specs.inside.page.Page.{fresh};
+ghost use Rattle.pc_edges.specs.inside.page.Puts.{Puts};
 ghost use Rattle.pc_reports.specs.Lines.{line_at};
 ghost use Rattle.pc_reports.specs.inside.Schedule.{plan_of, text_of, IsWhole};
 
 use crate::lines::{put_named, put_number};
+use pc_edges::page::{Page, Rows, put_rows};
 use pc_edges::{Failed, Sink};
-use pc_page::{Page, Rows, put_rows};
 use pc_text::Code;
 
 /// A schedule as it is printed: its length and its cost, a time for each event, and a duration for each activity, in

@@ -1,15 +1,15 @@
 //! The management summary.
 ghost use Rattle.std.specs.Prelude.{◌≡◌, IfOk};
 ghost use Rattle.pc_edges.specs.inside.Writes.{Writes};
-ghost use Rattle.pc_page.specs.inside.Puts.{Puts};
+ghost use Rattle.pc_edges.specs.inside.page.Puts.{Puts};
 ghost use Rattle.pc_reports.specs.SummaryText.{IsSummary, ChargesCountOnce, summary_text};
 
 use crate::lines::put_dated;
 use crate::summary_rows::{ItemRows, LevelRows};
+use pc_edges::page::{PAGE_ROOM, Page, put_rows};
 use pc_edges::{Failed, Sink};
-use pc_figures::Summary;
-use pc_page::{PAGE_ROOM, Page, put_rows};
 use pc_project::Project;
+use pc_rollup::figures::Summary;
 use std::alloc::{AllocError, Global};
 use std::marker::Model;
 
@@ -28,8 +28,8 @@ pub struct SummaryReport {
 
 impl Model for SummaryReport {
     ghost use Rattle.std.specs.Prelude.{◌≡◌};
-    ghost use Rattle.pc_page.specs.inside.Page.{fresh};
-    ghost use Rattle.pc_figures.specs.Summary.{Summary};
+    ghost use Rattle.pc_edges.specs.inside.page.Page.{fresh};
+    ghost use Rattle.pc_rollup.specs.figures.Summary.{Summary};
 
     ghost Value = { Summary };
 

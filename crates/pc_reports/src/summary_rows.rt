@@ -1,13 +1,13 @@
 //! The rows of the management summary.
 ghost use Rattle.std.specs.Prelude.{◌≡◌, length};
-ghost use Rattle.pc_page.specs.inside.Puts.{Puts};
+ghost use Rattle.pc_edges.specs.inside.page.Puts.{Puts};
 ghost use Rattle.pc_reports.specs.SummaryText.{IsSummary, item_cells, item_row, level_cells, level_row};
 
 use crate::cells::{put_amount_cell, put_level_cell, put_title_cell};
 use pc_edges::Sink;
-use pc_figures::{Summary, SummaryAmounts};
-use pc_page::{Page, Rows};
+use pc_edges::page::{Page, Rows};
 use pc_project::Project;
+use pc_rollup::figures::{Summary, SummaryAmounts};
 use pc_text::{Code, Title};
 
 /// A row for each item, in preorder.

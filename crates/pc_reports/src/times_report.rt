@@ -1,7 +1,7 @@
 //! The report of event times.
 ghost use Rattle.std.specs.Prelude.{◌≡◌, IfOk};
 ghost use Rattle.pc_edges.specs.inside.Writes.{Writes};
-ghost use Rattle.pc_page.specs.inside.Page.{fresh};
+ghost use Rattle.pc_edges.specs.inside.page.Page.{fresh};
 ghost use Rattle.pc_reports.specs.Times.{IsTimes};
 ghost use Rattle.pc_reports.specs.TimesText.{times_text};
 ghost use Rattle.pc_reports.specs.inside.View.{IsShownOf, as_shown};
@@ -10,8 +10,8 @@ use crate::lines::put_code;
 use crate::times::Times;
 use crate::times_rows::{put_activities, put_events, put_path};
 use crate::view::{Reported, TimesView};
+use pc_edges::page::{PAGE_ROOM, Page};
 use pc_edges::{Failed, Sink};
-use pc_page::{PAGE_ROOM, Page};
 use pc_project::Project;
 use std::alloc::{AllocError, Global};
 use std::marker::Model;
@@ -27,7 +27,7 @@ pub struct TimesReport {
 
 impl Model for TimesReport {
     ghost use Rattle.std.specs.Prelude.{◌≡◌};
-    ghost use Rattle.pc_page.specs.inside.Page.{fresh};
+    ghost use Rattle.pc_edges.specs.inside.page.Page.{fresh};
     ghost use Rattle.pc_reports.specs.Times.{Times};
     ghost use Rattle.pc_reports.specs.inside.Times.{AreSmall};
 

@@ -1,6 +1,6 @@
 //! The rows of the report of event times.
 ghost use Rattle.std.specs.Prelude.{◌≡◌, ◌<◌, ◌^◌, length, unsigned_abs};
-ghost use Rattle.pc_page.specs.inside.Puts.{Puts};
+ghost use Rattle.pc_edges.specs.inside.page.Puts.{Puts};
 ghost use Rattle.pc_reports.specs.TimesText.{event_table, event_cells, activity_table, activity_cells, activity_slack, critical_text};
 ghost use Rattle.pc_reports.specs.inside.View.{IsShownOf, as_shown};
 
@@ -8,7 +8,7 @@ use crate::dates::{DATE_LENGTH, date_text};
 use crate::lines::{put_code, put_number};
 use crate::view::TimesView;
 use pc_edges::Sink;
-use pc_page::Page;
+use pc_edges::page::Page;
 use pc_project::Project;
 use pc_text::Code;
 use pc_times::slack;

@@ -1,15 +1,15 @@
 //! The report of the value of work.
 ghost use Rattle.std.specs.Prelude.{◌≡◌, IfOk};
 ghost use Rattle.pc_edges.specs.inside.Writes.{Writes};
-ghost use Rattle.pc_page.specs.inside.Puts.{Puts};
+ghost use Rattle.pc_edges.specs.inside.page.Puts.{Puts};
 ghost use Rattle.pc_reports.specs.Earned.{IsEarned};
 ghost use Rattle.pc_reports.specs.ValueText.{value_text};
 
 use crate::earned::Earned;
 use crate::lines::put_dated;
 use crate::value_rows::{ForecastRows, WorthRows};
+use pc_edges::page::{PAGE_ROOM, Page, put_rows};
 use pc_edges::{Failed, Sink};
-use pc_page::{PAGE_ROOM, Page, put_rows};
 use pc_project::Project;
 use std::alloc::{AllocError, Global};
 use std::marker::Model;
@@ -33,7 +33,7 @@ pub struct ValueReport {
 
 impl Model for ValueReport {
     ghost use Rattle.std.specs.Prelude.{◌≡◌};
-    ghost use Rattle.pc_page.specs.inside.Page.{fresh};
+    ghost use Rattle.pc_edges.specs.inside.page.Page.{fresh};
     ghost use Rattle.pc_reports.specs.Earned.{Earned};
 
     ghost Value = { Earned };

@@ -1,7 +1,7 @@
 //! The rows of the report of the value of work.
 ghost use Rattle.std.specs.Prelude.{◌≡◌, ◌<◌, ◌≤◌, ◌^◌, length, unsigned_abs};
-ghost use Rattle.pc_page.specs.Cells.{right};
-ghost use Rattle.pc_page.specs.inside.Puts.{Puts};
+ghost use Rattle.pc_edges.specs.page.Cells.{right};
+ghost use Rattle.pc_edges.specs.inside.page.Puts.{Puts};
 ghost use Rattle.pc_times.specs.declared.TheConstants.{MAX_TIME};
 ghost use Rattle.pc_reports.specs.Earned.{AreForecasts, IsEarned};
 ghost use Rattle.pc_reports.specs.ValueText.{forecast_cells, forecast_row, slack_text, worth_cells, worth_row};
@@ -10,9 +10,9 @@ use crate::cells::{put_amount_cell, put_level_cell, put_title_cell};
 use crate::earned::Earned;
 use crate::forecasts::Forecasts;
 use pc_edges::Sink;
-use pc_figures::WorthAmounts;
-use pc_page::{Page, Rows};
+use pc_edges::page::{Page, Rows};
 use pc_project::Project;
+use pc_rollup::figures::WorthAmounts;
 use pc_text::{Code, Title};
 use pc_times::slack;
 

@@ -5,3 +5,4 @@ mod BackLaws
 pub mod PlacedLaws
 mod LineLaws
 pub mod WholeLaws
+pub mod lemmas

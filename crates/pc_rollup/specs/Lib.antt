@@ -2,4 +2,5 @@ pub mod Sums
 pub mod Totals
 pub mod Lines
 pub mod Least
+pub mod figures
 pub mod inside

@@ -1,9 +1,9 @@
 -- What one more task or row puts behind what is drawn.
 use Rattle.std.proofs.Common.{◌≡◌, ℕ, suc, ◌+◌, ◌<◌, ◌≤◌, List, [], ◌∷◌, ◌++◌, length, map, take, get_or, All, sym, ap, ◌∙◌, subst, arith, append_assoc}
 use Rattle.std.proofs.lemmas.List.{length-take-le, take_more}
-use Rattle.pc_arrows.specs.Arrows.{firsts, lasts}
-use Rattle.pc_arrows.specs.Tasks.{AreAmong}
-use Rattle.pc_arrows.specs.declared.AfterRow.{AfterRow}
+use Rattle.pc_tasks.specs.network.Arrows.{firsts, lasts}
+use Rattle.pc_tasks.specs.network.Tasks.{AreAmong}
+use Rattle.pc_tasks.specs.declared.network.AfterRow.{AfterRow}
 use Rattle.pc_deck.specs.Deck.{Deck}
 use Rattle.pc_deck.specs.declared.kinds.act.ActCard.{ActCard}
 use Rattle.pc_deck.specs.declared.kinds.titled.TitledCard.{TitledCard}

@@ -3,8 +3,8 @@ use Rattle.std.proofs.Common.{◌≡◌, ℕ, ◌<◌, [], length, get_or, sym, 
 use Rattle.std.specs.Prelude.{All}
 use Rattle.std.proofs.lemmas.List.{get_or-map, length-map}
 use Rattle.pc_model.specs.declared.PieceRow.{PieceRow}
-use Rattle.pc_arrows.specs.Arrows.{arrows}
-use Rattle.pc_arrows.specs.Tasks.{AreAmong, after_at}
+use Rattle.pc_tasks.specs.network.Arrows.{arrows}
+use Rattle.pc_tasks.specs.network.Tasks.{AreAmong, after_at}
 use Rattle.pc_project.specs.Project.{network_of}
 use Rattle.pc_deck.specs.declared.kinds.after.AfterCard.{AfterCard}
 use Rattle.pc_deck.specs.Deck.{Deck}

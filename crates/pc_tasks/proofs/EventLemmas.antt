@@ -3,9 +3,9 @@ use Rattle.std.proofs.Common.{◌≡◌, ℕ, zero, suc, ◌+◌, ◌*◌, ◌^�
 use Rattle.std.specs.Prelude.{unwrap_or}
 use Rattle.std.proofs.lemmas.List.{get_or_append_left, get_or_push, length-append, length-map, map-append}
 use Rattle.pc_model.specs.Codes.{code_at, IsNamedOnce}
-use Rattle.pc_arrows.specs.Arrows.{begin_event, end_event, last_event}
-use Rattle.pc_arrows.proofs.Outer.{IsEvent, event_of}
-use Rattle.pc_arrows.proofs.Outer.IsEvent.{at_start, at_begin, at_end, at_last}
+use Rattle.pc_tasks.specs.network.Arrows.{begin_event, end_event, last_event}
+use Rattle.pc_tasks.proofs.lemmas.network.Outer.{IsEvent, event_of}
+use Rattle.pc_tasks.proofs.lemmas.network.Outer.IsEvent.{at_start, at_begin, at_end, at_last}
 use Rattle.pc_deck.specs.Deck.{Deck, event_codes, named_among, number_among}
 use Rattle.pc_deck.specs.declared.kinds.titled.TitledCard.{TitledCard}
 use Rattle.pc_deck.specs.declared.kinds.task.TaskCard.{TaskCard}

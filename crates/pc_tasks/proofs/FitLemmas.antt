@@ -6,8 +6,8 @@ use Rattle.std.proofs.lemmas.Bool.{and_parts, cond-true}
 use Rattle.std.proofs.lemmas.List.Elements.{All-append, All-cons, All-head, All-nil, All-tail}
 use Rattle.std.proofs.lemmas.Str.{IsUtf8-nil}
 use Rattle.std.proofs.lemmas.List.{length-map}
-use Rattle.pc_arrows.specs.Arrows.{firsts, lasts}
-use Rattle.pc_arrows.specs.declared.AfterRow.{AfterRow}
+use Rattle.pc_tasks.specs.network.Arrows.{firsts, lasts}
+use Rattle.pc_tasks.specs.declared.network.AfterRow.{AfterRow}
 use Rattle.pc_cards.specs.Forms.{Fits, is_reserved}
 use Rattle.pc_cards.specs.declared.form.Form.TheVariants as form
 use Rattle.pc_cards.specs.declared.sort.Sort.TheVariants.{Plan, Tasks}

@@ -4,8 +4,8 @@ use Rattle.std.specs.Prelude.{◌↔◌}
 use Rattle.pc_model.specs.Cost.{IsLeastCost}
 use Rattle.pc_model.specs.Pieces.{knees_of}
 use Rattle.pc_model.specs.Schedule.{HasSchedule}
-use Rattle.pc_arrows.specs.declared.AfterRow.{AfterRow}
-use Rattle.pc_arrows.specs.Tasks.{AreAmong, HasTaskSchedule, IsLeastTaskCost}
+use Rattle.pc_tasks.specs.declared.network.AfterRow.{AfterRow}
+use Rattle.pc_tasks.specs.network.Tasks.{AreAmong, HasTaskSchedule, IsLeastTaskCost}
 use Rattle.pc_cards.specs.declared.sort.Sort.TheVariants.{Tasks}
 use Rattle.pc_deck.specs.Deck.{Deck}
 use Rattle.pc_deck.specs.Made.{drawn_with}

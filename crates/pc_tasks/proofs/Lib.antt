@@ -20,3 +20,4 @@ pub mod PhaseLemmas
 pub mod VerdictLaws
 mod TreeLemmas
 mod SoundLemmas
+pub mod lemmas

@@ -8,8 +8,8 @@ use Rattle.std.proofs.lemmas.List.{append-nil, get_or-replicate, get_or-set_othe
 use Rattle.std.proofs.lemmas.List.Elements.{All-from_get_or, All-head, All-tail}
 use Rattle.std.proofs.lemmas.List.Folds.{list_any_more}
 use Rattle.std.proofs.lemmas.List.FromFn.{filter_of_map_range_with_len_more, get_or-range_with_len, length-range_with_len}
-use Rattle.pc_arrows.specs.Arrows.{comes_after, comes_before}
-use Rattle.pc_arrows.specs.declared.AfterRow.{AfterRow}
+use Rattle.pc_tasks.specs.network.Arrows.{comes_after, comes_before}
+use Rattle.pc_tasks.specs.declared.network.AfterRow.{AfterRow}
 use Rattle.pc_tasks.specs.inside.Marks.{AreMarks}
 
 -- no mark is set at first

@@ -7,8 +7,8 @@ use Rattle.std.proofs.lemmas.List.Elements.{All-filter, All-from_get_or, All-hea
 use Rattle.std.proofs.lemmas.List.FromFn.{get_or-range_with_len, length-range_with_len}
 use Rattle.pc_model.specs.declared.Arc.{Arc}
 use Rattle.pc_model.specs.Network.{Network}
-use Rattle.pc_arrows.specs.declared.AfterRow.{AfterRow}
-use Rattle.pc_arrows.specs.Arrows.{after_arc, arrows, begin_event, comes_after, comes_before, end_event, first_arc, firsts, last_arc, last_event, lasts, links, task_arc}
+use Rattle.pc_tasks.specs.declared.network.AfterRow.{AfterRow}
+use Rattle.pc_tasks.specs.network.Arrows.{after_arc, arrows, begin_event, comes_after, comes_before, end_event, first_arc, firsts, last_arc, last_event, lasts, links, task_arc}
 use Rattle.pc_project.specs.Project.{arc_of, network_of}
 use Rattle.pc_deck.specs.declared.kinds.after.AfterCard.{AfterCard}
 use Rattle.pc_deck.specs.declared.kinds.task.TaskCard.{TaskCard}

@@ -5,7 +5,7 @@ use Rattle.std.specs.List.{range_with_len}
 use Rattle.std.proofs.lemmas.Bool.{cases_lt}
 use Rattle.std.proofs.lemmas.List.{get_or_append_left, get_or-append_right, get_or-map, length-append, length-map}
 use Rattle.std.proofs.lemmas.List.FromFn.{get_or-range_with_len, length-range_with_len}
-use Rattle.pc_arrows.proofs.Kept.{AreOnce}
+use Rattle.pc_tasks.proofs.lemmas.network.Kept.{AreOnce}
 use Rattle.pc_model.specs.Codes.{code_at, IsNamedOnce}
 use Rattle.pc_tasks.specs.Codes.{drawn_code}
 use Rattle.pc_tasks.proofs.CodeLemmas.{drawn_code-letter, drawn_code-number}

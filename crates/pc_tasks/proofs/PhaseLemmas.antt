@@ -2,9 +2,9 @@
 use Rattle.std.proofs.Common.{◌≡◌, ℕ, ◌<◌, List, [], ◌∷◌, length, refl, subst, arith}
 use Rattle.std.specs.Prelude.{All}
 use Rattle.std.proofs.lemmas.List.Elements.{All-cons, All-nil}
-use Rattle.pc_arrows.specs.Cycles.{IsFirstTaskCycle, IsTaskWalk}
-use Rattle.pc_arrows.specs.Tasks.{AreAmong}
-use Rattle.pc_arrows.specs.declared.AfterRow.{AfterRow}
+use Rattle.pc_tasks.specs.network.Cycles.{IsFirstTaskCycle, IsTaskWalk}
+use Rattle.pc_tasks.specs.network.Tasks.{AreAmong}
+use Rattle.pc_tasks.specs.declared.network.AfterRow.{AfterRow}
 use Rattle.pc_deck.specs.Deck.{Deck}
 use Rattle.pc_faults.specs.inside.First.{Refuses}
 use Rattle.pc_faults.specs.declared.fault.DeckError.{DeckError}

@@ -5,8 +5,8 @@ use Rattle.std.specs.List.{Any}
 use Rattle.std.proofs.lemmas.Bool.{cases_lt, false≢true}
 use Rattle.std.proofs.lemmas.List.{get_or-map, get_or_push, length-append, length-map, map-append}
 use Rattle.std.proofs.lemmas.List.Elements.{All-append, All-cons, All-head, All-nil, All-tail}
-use Rattle.pc_arrows.specs.Arrows.{arrows, firsts, lasts}
-use Rattle.pc_arrows.specs.declared.AfterRow.{AfterRow}
+use Rattle.pc_tasks.specs.network.Arrows.{arrows, firsts, lasts}
+use Rattle.pc_tasks.specs.declared.network.AfterRow.{AfterRow}
 use Rattle.pc_cards.specs.declared.sort.Sort.TheVariants.{Tasks}
 use Rattle.pc_faults.specs.declared.kind.Kind.TheVariants.{Wbs}
 use Rattle.pc_deck.specs.Deck.{Deck, act_codes, event_codes, item_codes, named_among, number_among, task_codes}

@@ -7,9 +7,9 @@ use Rattle.std.proofs.lemmas.List.{get_or-map, length-append, length-map, map-ap
 use Rattle.std.proofs.lemmas.List.Elements.{All-append, All-cons, All-nil, All-head, All-tail}
 use Rattle.std.proofs.lemmas.List.Filters.{length-filter_both}
 use Rattle.std.proofs.lemmas.List.FromFn.{get_or-range_with_len, length-range_with_len}
-use Rattle.pc_arrows.specs.Arrows.{comes_after, comes_before, firsts, lasts}
-use Rattle.pc_arrows.specs.declared.AfterRow.{AfterRow}
-use Rattle.pc_arrows.proofs.Kept.{AreOnce-filter}
+use Rattle.pc_tasks.specs.network.Arrows.{comes_after, comes_before, firsts, lasts}
+use Rattle.pc_tasks.specs.declared.network.AfterRow.{AfterRow}
+use Rattle.pc_tasks.proofs.lemmas.network.Kept.{AreOnce-filter}
 use Rattle.pc_cards.specs.Forms.{is_reserved}
 use Rattle.pc_cards.specs.declared.sort.Sort.TheVariants.{Plan, Tasks}
 use Rattle.pc_faults.specs.declared.kind.Kind.TheVariants.{Project, AsOf, Terms, Wbs, Event, Act, Task, After, Piece, Acct, Charge, ToGo, Status, Res, Load, End}

@@ -1,8 +1,8 @@
 -- The deck of arrows that is drawn of a deck of tasks: an activity for each task, between two events of its own, and links that take no
 -- time and cost nothing. All other cards are kept, and each card that is kept or drawn of a TASK card stands at the record where it stood.
 use Rattle.std.specs.Prelude.{ℕ, ◌+◌, List, [], ◌∷◌, ◌++◌, length, map, find, is_none, Option, Some, None}
-use Rattle.pc_arrows.specs.Arrows.{firsts, lasts}
-use Rattle.pc_arrows.specs.declared.AfterRow.{AfterRow}
+use Rattle.pc_tasks.specs.network.Arrows.{firsts, lasts}
+use Rattle.pc_tasks.specs.declared.network.AfterRow.{AfterRow}
 use Rattle.pc_deck.specs.Deck.{Deck}
 use Rattle.pc_deck.specs.Made.{drawn_with}
 use Rattle.pc_deck.specs.declared.kinds.act.ActCard.{ActCard}

@@ -5,4 +5,5 @@ pub mod Known
 pub mod Misfit
 pub mod Refusal
 pub mod Text
+pub mod network
 pub mod inside

@@ -4,7 +4,7 @@
 -- (F28 to F31, F33 to F36), and they are those of the plan that is drawn, in which each card stands at its own record.
 use Rattle.std.specs.Prelude.{◌≡◌, ℕ, ◌<◌, List, [], length, map, slice_index}
 use Rattle.pc_wbs.specs.Climb.{IsTree}
-use Rattle.pc_arrows.specs.Cycles.{IsFirstTaskCycle, IsTaskCycle}
+use Rattle.pc_tasks.specs.network.Cycles.{IsFirstTaskCycle, IsTaskCycle}
 use Rattle.pc_deck.specs.Deck.{Deck, task_codes}
 use Rattle.pc_faults.specs.Faults.{childless_top, no_task, task_cycle}
 use Rattle.pc_faults.specs.First.{IsFirst}

@@ -3,7 +3,7 @@ use Rattle.std.specs.Prelude.{◌↔◌, ℕ}
 use Rattle.pc_model.specs.Cost.{IsLeastCost}
 use Rattle.pc_model.specs.Pieces.{knees_of}
 use Rattle.pc_model.specs.Schedule.{HasSchedule}
-use Rattle.pc_arrows.specs.Tasks.{HasTaskSchedule, IsLeastTaskCost}
+use Rattle.pc_tasks.specs.network.Tasks.{HasTaskSchedule, IsLeastTaskCost}
 use Rattle.pc_deck.specs.Deck.{Deck}
 use Rattle.pc_project.specs.Figures.{IsProjectOfDeck}
 use Rattle.pc_project.specs.Project.{Project}

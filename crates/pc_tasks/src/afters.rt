@@ -7,7 +7,7 @@ ghost use Rattle.pc_faults.specs.inside.First.{IsFirstIn};
 ghost use Rattle.pc_tasks.specs.Lists.{after_row, afters_in};
 ghost use Rattle.pc_tasks.specs.Misfit.{HasAfterFault};
 
-use pc_arrows::AfterRow;
+use crate::network::AfterRow;
 use pc_deck::{AfterCard, TaskCards};
 use pc_faults::{Fault, earliest};
 use std::alloc::{AllocError, Global};

@@ -11,11 +11,11 @@ ghost use Rattle.pc_deck.specs.Within.{IsWithin};
 
 use crate::draw::{acts_of, events_of, items_of};
 use crate::laws::drawn_deck_keeps_least_costs;
+use crate::network::AfterRow;
 use crate::phases::sound_rows;
-use pc_arrows::AfterRow;
 use pc_deck::{Cards, TaskCards};
-use pc_deck_text::deck_text_of;
 use pc_faults::DeckError;
+use pc_project::deck_text::deck_text_of;
 use pc_project::{Project, project_of};
 use std::alloc::{AllocError, Global};
 

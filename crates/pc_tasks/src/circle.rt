@@ -1,13 +1,13 @@
 //! Whether tasks wait for each other in a circle.
 ghost use Rattle.std.specs.Prelude.{◌≡◌, ◌++◌, ◌<◌, ◌≤◌, ℕ, List, length, map, IfOk, MatchOption, OnOk};
 ghost use Rattle.std.specs.List.{range_with_len};
-ghost use Rattle.pc_arrows.specs.Arrows.{after_arc, first_arc, last_arc, task_arc, tasks_of, wide_arrows};
-ghost use Rattle.pc_arrows.specs.Cycles.{IsFirstTaskCycle, IsTaskCycle};
-ghost use Rattle.pc_arrows.specs.Tasks.{AreAmong};
+ghost use Rattle.pc_tasks.specs.network.Arrows.{after_arc, first_arc, last_arc, task_arc, tasks_of, wide_arrows};
+ghost use Rattle.pc_tasks.specs.network.Cycles.{IsFirstTaskCycle, IsTaskCycle};
+ghost use Rattle.pc_tasks.specs.network.Tasks.{AreAmong};
 ghost use Rattle.pc_deck.specs.declared.limits.TheConstants.{MAX_AFTERS, MAX_TASKS};
 
-use pc_arrows::AfterRow;
-use pc_arrows::arrow_laws::wide_arrows_have_the_cycles;
+use crate::network::AfterRow;
+use crate::network::arrow_laws::wide_arrows_have_the_cycles;
 use pc_model::Arc;
 use pc_net::{Net, NetError};
 use std::alloc::{AllocError, Global};

@@ -7,8 +7,8 @@ ghost use Rattle.pc_model.specs.Cost.{IsLeastCost};
 ghost use Rattle.pc_model.specs.Network.{IsSound};
 ghost use Rattle.pc_model.specs.Pieces.{knees_of};
 ghost use Rattle.pc_model.specs.Schedule.{HasSchedule};
-ghost use Rattle.pc_arrows.specs.Arrows.{arrow_terms, arrows};
-ghost use Rattle.pc_arrows.specs.Tasks.{HasTaskSchedule, IsLeastTaskCost};
+ghost use Rattle.pc_tasks.specs.network.Arrows.{arrow_terms, arrows};
+ghost use Rattle.pc_tasks.specs.network.Tasks.{HasTaskSchedule, IsLeastTaskCost};
 ghost use Rattle.pc_project.specs.Figures.{IsProjectOfDeck};
 ghost use Rattle.pc_project.specs.Project.{Project, network_of, pieces_in, terms_in};
 ghost use Rattle.pc_project.specs.Refusal.{HasSoundPlan};
@@ -21,7 +21,9 @@ ghost use Rattle.pc_tasks.specs.Refusal.{HasSoundTasks};
 ghost use Rattle.pc_tasks.specs.Text.{KeepsTasks};
 ghost use Rattle.pc_tasks.specs.Lists.{afters_in, task_pieces, task_terms};
 
-use pc_arrows::arrow_laws::{arrows_are_sound, arrows_keep_least_costs, arrows_keep_schedules};
+use crate::network::arrow_laws::{
+    arrows_are_sound, arrows_keep_least_costs, arrows_keep_schedules,
+};
 
 /// The deck that is drawn has the arrows of the tasks: their network, what they may last and cost, and the pieces of their costs.
 pub fn drawn_deck_has_the_arrows()

@@ -11,6 +11,7 @@ mod faulty;
 pub mod laws;
 mod links;
 mod misfits;
+pub mod network;
 mod phases;
 mod rows;
 mod tree;

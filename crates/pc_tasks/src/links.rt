@@ -1,11 +1,11 @@
 //! The tasks that links join to the start and to the end.
 ghost use Rattle.std.specs.Prelude.{◌≡◌, ◌<◌, ◌^◌, false, not, filter, length, slice_index_or, IfOk};
-ghost use Rattle.pc_arrows.specs.Arrows.{comes_after, comes_before, firsts, lasts};
-ghost use Rattle.pc_arrows.specs.Tasks.{AreAmong};
+ghost use Rattle.pc_tasks.specs.network.Arrows.{comes_after, comes_before, firsts, lasts};
+ghost use Rattle.pc_tasks.specs.network.Tasks.{AreAmong};
 ghost use Rattle.std.specs.List.{range_with_len};
 ghost use Rattle.pc_tasks.specs.inside.Marks.{AreMarks};
 
-use pc_arrows::AfterRow;
+use crate::network::AfterRow;
 use std::alloc::{AllocError, Global};
 
 /// The tasks that come after none, in their order. Linear in tasks and rows.

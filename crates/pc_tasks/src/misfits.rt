@@ -9,7 +9,7 @@ ghost use Rattle.pc_tasks.specs.Misfit.{HasAfterFault, HasMisfit, HasNoMisfit};
 use crate::afters::find_afters;
 use crate::card_faults::ends_fault;
 use crate::faulty::first_fault;
-use pc_arrows::AfterRow;
+use crate::network::AfterRow;
 use pc_deck::TaskCards;
 use pc_faults::{DeckError, Fault, earliest};
 use std::alloc::Global;

@@ -1,6 +1,6 @@
 //! The phases in which a deck of tasks is judged.
 ghost use Rattle.std.specs.Prelude.{◌≡◌, ◌<◌, ℕ, List, All, length, slice_index, IfOk, IfErr, MatchOption, OnOk};
-ghost use Rattle.pc_arrows.specs.Cycles.{IsTaskCycle};
+ghost use Rattle.pc_tasks.specs.network.Cycles.{IsTaskCycle};
 ghost use Rattle.pc_deck.specs.Deck.{task_codes};
 ghost use Rattle.pc_faults.specs.Faults.{task_cycle};
 ghost use Rattle.pc_faults.specs.declared.fault.Fault.{Fault as ADeckFault};
@@ -12,8 +12,8 @@ ghost use Rattle.pc_tasks.specs.Refusal.{HasLoneTop, HasSoundItems, HasSoundTask
 
 use crate::circle::first_circle;
 use crate::misfits::look_up;
+use crate::network::AfterRow;
 use crate::tree::tree_of;
-use pc_arrows::AfterRow;
 use pc_deck::TaskCards;
 use pc_faults::{DeckError, Fault};
 use pc_project::codes_at;

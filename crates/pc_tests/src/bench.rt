@@ -3,11 +3,11 @@ ghost use Rattle.std.specs.Prelude.{◌≡◌, [], length, IfSome};
 ghost use Rattle.pc_crash.specs.inside.Steps.{IsBlankOf};
 
 use crate::curves::solver;
-use pc_bench::{bench_deck, write_bench};
 use pc_crash::{CrashNet, Steps, Term};
+use pc_curve::bench::{bench_deck, write_bench};
 use pc_edges::MemSink;
+use pc_edges::page::Page;
 use pc_net::{Arc, Net};
-use pc_page::Page;
 use pc_text::Code;
 use std::alloc::{AllocError, Global};
 use std::marker::Brand;

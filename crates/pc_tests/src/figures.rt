@@ -1,9 +1,9 @@
 //! What the items of a small deck add up to: an activity that has begun in one package, and another package without activities.
 use crate::projects::asked;
-use pc_figures::{
+use pc_project::Project;
+use pc_rollup::figures::{
     OutlineRow, Outlook, OutlookAmounts, Summary, SummaryAmounts, Worth, WorthAmounts,
 };
-use pc_project::Project;
 use std::alloc::Global;
 use std::test::Fail;
 

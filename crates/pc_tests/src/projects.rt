@@ -3,7 +3,7 @@ ghost use Rattle.std.specs.Prelude.{◌≤◌, length};
 
 use crate::figures::{Figures, figures_of};
 use pc_deck::read_cards;
-use pc_deck_text::deck_text_of;
+use pc_project::deck_text::deck_text_of;
 use pc_project::{Project, project_of};
 use std::alloc::{AllocError, Global};
 

@@ -1,6 +1,6 @@
 //! A schedule as it is printed, and what a sink that is full or fails leaves of it.
+use pc_edges::page::Page;
 use pc_edges::{Failed, MemSink};
-use pc_page::Page;
 use pc_reports::{Schedule, write_schedule};
 use pc_text::Code;
 use std::alloc::Global;

@@ -4,10 +4,10 @@ ghost use Rattle.std.specs.Prelude.{◌≡◌, length};
 ghost use Rattle.pc_crash.specs.inside.Steps.{IsBlankOf};
 
 use crate::small::{small_net, small_priced};
-use pc_board::Board;
 use pc_cells::Region;
 use pc_crash::{CrashNet, Steps};
-use pc_search::{Search, Way};
+use pc_flow::board::Board;
+use pc_flow::search::{Search, Way};
 use std::alloc::{AllocError, Global};
 use std::marker::Brand;
 use std::sync::ledger::{Blank, Ledger};

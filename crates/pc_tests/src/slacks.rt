@@ -2,7 +2,7 @@
 ghost use Rattle.std.specs.Prelude.{◌≡◌, length, IfSome};
 
 use crate::small::small_net;
-use pc_figures::least_slacks;
+use pc_rollup::figures::least_slacks;
 use pc_times::ActState::{Finished, Started, Waiting};
 use pc_times::forecast;
 use pc_wbs::{ItemRow, Tree};

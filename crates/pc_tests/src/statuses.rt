@@ -1,9 +1,9 @@
 //! Statuses in each kind of disorder.
 ghost use Rattle.std.specs.Prelude.{◌≡◌, ◌<◌};
 
+use pc_accounts::status::{Log, StatusRow};
 use pc_days::{Day, read_day};
 use pc_faults::StatusFault;
-use pc_status::{Log, StatusRow};
 use std::alloc::Global;
 
 /// What is said of an activity on a day.

@@ -5,8 +5,8 @@ use Rattle.std.proofs.Math.Nat.{mul-add}
 use Rattle.std.proofs.lemmas.Bool.{cases_Bool, cases_lt}
 use Rattle.pc_model.specs.declared.TimeTerms.{TimeTerms}
 use Rattle.pc_model.specs.Cost.{IsPriced}
-use Rattle.pc_curve_laws.specs.Segment.{Segment, cost_for}
-use Rattle.pc_curve_laws.proofs.Curves.Turns.{LiesOn, lies_on}
+use Rattle.pc_laws.specs.Segment.{Segment, cost_for}
+use Rattle.pc_laws.proofs.Curves.Turns.{LiesOn, lies_on}
 use Rattle.pc_crash.specs.Priced.{PricedNetwork, knees_in}
 use Rattle.pc_flow.specs.Courses.{Course, upper_of, lower_of, IsSameCurve, IsFurther}
 use Rattle.pc_flow.specs.inside.Courses.{present, HasEnded, IsNext}

@@ -2,7 +2,7 @@
 ghost use Rattle.std.specs.Prelude.{◌≡◌, ◌+◌, ◌^◌, ◌≤◌, ◌<◌, false};
 ghost use Rattle.pc_model.specs.TimeCost.{AreTimeTerms};
 ghost use Rattle.pc_flow.specs.Courses.{IsFurther, IsSameCurve, all_looks, lower_of, most_looks};
-ghost use Rattle.pc_search.specs.Labelling.{slopes_in};
+ghost use Rattle.pc_flow.specs.search.Labelling.{slopes_in};
 ghost use Rattle.pc_curve.specs.Points.{curve_in};
 ghost use Rattle.pc_curve.specs.inside.Points.{IsThere, IsToCome};
 ghost use Rattle.pc_total.specs.Bests.{IsBest};

@@ -1,12 +1,12 @@
 //! What is printed of an optimum.
 ghost use Rattle.std.specs.Prelude.{decimal};
 ghost use Rattle.std.specs.Fmt.{signed_decimal};
-ghost use Rattle.pc_page.specs.inside.Puts.{Puts};
+ghost use Rattle.pc_edges.specs.inside.page.Puts.{Puts};
 ghost use Rattle.pc_total.specs.BestText.{best_text, difference, line};
 
 use crate::optimum::Best;
 use pc_edges::Sink;
-use pc_page::Page;
+use pc_edges::page::Page;
 use pc_text::Code;
 
 /// Puts the lines of the optimum of a project with this code on a page, on which more may follow: its length, the least cost

@@ -10,20 +10,20 @@ use Rattle.pc_curve.specs.Points.{curve_in}
 use Rattle.pc_model.specs.declared.Term.{Term}
 use Rattle.pc_model.specs.Schedule.{term_at}
 use Rattle.pc_project.specs.Project.{Project}
-use Rattle.pc_edits.specs.declared.ask.Ask.{Ask}
-use Rattle.pc_edits.specs.declared.ask.Ask.TheVariants as ask
-use Rattle.pc_edits.specs.declared.ask.Edit.{Edit}
-use Rattle.pc_edits.specs.declared.ask.Trial.{Trial}
-use Rattle.pc_edits.specs.declared.reason.Reason.{Reason}
-use Rattle.pc_edits.specs.declared.reason.Reason.TheVariants.{NothingToUndo, OutsideRange}
-use Rattle.pc_edits.specs.declared.trying.ActTerm.{ActTerm}
-use Rattle.pc_edits.specs.Editing.{Editing, activity_named, edited, undone, editing_with, net_trying}
-use Rattle.pc_edits.specs.Plans.{Plan, term_tried}
-use Rattle.pc_edits.specs.Refusal.{edit_refusal, undo_refusal, trial_refusal}
-use Rattle.pc_lines.specs.inside.Talk.{Answered}
-use Rattle.pc_lines.specs.inside.Reading.{kept}
+use Rattle.pc_whatif.specs.declared.edits.ask.Ask.{Ask}
+use Rattle.pc_whatif.specs.declared.edits.ask.Ask.TheVariants as ask
+use Rattle.pc_whatif.specs.declared.edits.ask.Edit.{Edit}
+use Rattle.pc_whatif.specs.declared.edits.ask.Trial.{Trial}
+use Rattle.pc_whatif.specs.declared.edits.reason.Reason.{Reason}
+use Rattle.pc_whatif.specs.declared.edits.reason.Reason.TheVariants.{NothingToUndo, OutsideRange}
+use Rattle.pc_whatif.specs.declared.edits.trying.ActTerm.{ActTerm}
+use Rattle.pc_whatif.specs.edits.Editing.{Editing, activity_named, edited, undone, editing_with, net_trying}
+use Rattle.pc_whatif.specs.edits.Plans.{Plan, term_tried}
+use Rattle.pc_whatif.specs.edits.Refusal.{edit_refusal, undo_refusal, trial_refusal}
+use Rattle.pc_edges.specs.inside.lines.Talk.{Answered}
+use Rattle.pc_edges.specs.inside.lines.Reading.{kept}
 use Rattle.pc_curve.specs.Range.{IsWithin}
-use Rattle.pc_trials.specs.inside.Reserved.{Reserved}
+use Rattle.pc_whatif.specs.inside.trials.Reserved.{Reserved}
 use Rattle.pc_whatif.specs.Planning.{IsAnswer, IsTrialText, outside, costs, AreAnswers, editing_after, net_tried}
 use Rattle.pc_whatif.specs.inside.Planning.{Planning, IsAnswered, IsRenewed, Says}
 use Rattle.pc_whatif.specs.Texts.{ok_text, refused_text, cost_text, verdict_text}

@@ -3,16 +3,16 @@ use Rattle.std.proofs.Common.{◌≡◌, ℕ, zero, suc, ◌<◌, List, [], ◌�
 use Rattle.std.specs.Prelude.{◌==◌, if◌then◌else◌}
 use Rattle.std.specs.Option.{option_map_or}
 use Rattle.pc_project.specs.Project.{Project}
-use Rattle.pc_edits.specs.declared.ask.Ask.{Ask}
-use Rattle.pc_edits.specs.declared.ask.Ask.TheVariants as ask
-use Rattle.pc_edits.specs.declared.ask.Edit.{Edit}
-use Rattle.pc_edits.specs.declared.reason.Reason.{Reason}
-use Rattle.pc_edits.specs.declared.reason.Reason.TheVariants.{NothingToUndo, UnknownActivity}
-use Rattle.pc_edits.specs.Editing.{Editing, activity_named, begun, edited, undone}
-use Rattle.pc_edits.specs.Reading.{ask_of}
-use Rattle.pc_edits.specs.Refusal.{edit_refusal, undo_refusal}
-use Rattle.pc_edits.specs.Standing.{Journal, Stands, empty, noted, taken_back}
-use Rattle.pc_edits.proofs.StandingLaws.{Stands-begun, Stands-edited, Stands-undone}
+use Rattle.pc_whatif.specs.declared.edits.ask.Ask.{Ask}
+use Rattle.pc_whatif.specs.declared.edits.ask.Ask.TheVariants as ask
+use Rattle.pc_whatif.specs.declared.edits.ask.Edit.{Edit}
+use Rattle.pc_whatif.specs.declared.edits.reason.Reason.{Reason}
+use Rattle.pc_whatif.specs.declared.edits.reason.Reason.TheVariants.{NothingToUndo, UnknownActivity}
+use Rattle.pc_whatif.specs.edits.Editing.{Editing, activity_named, begun, edited, undone}
+use Rattle.pc_whatif.specs.edits.Reading.{ask_of}
+use Rattle.pc_whatif.specs.edits.Refusal.{edit_refusal, undo_refusal}
+use Rattle.pc_whatif.specs.edits.Standing.{Journal, Stands, empty, noted, taken_back}
+use Rattle.pc_whatif.proofs.lemmas.edits.StandingLaws.{Stands-begun, Stands-edited, Stands-undone}
 use Rattle.pc_whatif.specs.Planning.{IsAnswer, AreAnswers, AnswersLines, editing_after}
 use Rattle.pc_whatif.specs.Standing.{journal_after, journal_of, editing_of, AnswersByJournal}
 use Rattle.pc_whatif.proofs.AnswerLaws.{undone_same}

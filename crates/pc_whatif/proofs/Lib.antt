@@ -6,3 +6,4 @@ pub mod OneTextLaws
 pub mod DeckTextLaws
 pub mod SessionLaws
 pub mod SessionDecided
+pub mod lemmas

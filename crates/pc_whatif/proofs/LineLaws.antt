@@ -2,9 +2,9 @@
 use Rattle.std.proofs.Common.{◌≡◌, ℕ, ◌<◌, List, length, None, inl, inr, sym, ap, ◌∙◌, arith, refl}
 use Rattle.std.proofs.lemmas.Bool.{cases_lt, lt-ltb}
 use Rattle.std.proofs.lemmas.List.{take_all, length-take-le}
-use Rattle.pc_edits.specs.declared.ask.TheConstants.{MAX_LINE}
-use Rattle.pc_edits.specs.Reading.{ask_of}
-use Rattle.pc_lines.specs.inside.Reading.{kept}
+use Rattle.pc_whatif.specs.declared.edits.ask.TheConstants.{MAX_LINE}
+use Rattle.pc_whatif.specs.edits.Reading.{ask_of}
+use Rattle.pc_edges.specs.inside.lines.Reading.{kept}
 
 too_long : (line : List ℕ) → MAX_LINE < length line → ask_of line ≡ None
 unfolding ask_of

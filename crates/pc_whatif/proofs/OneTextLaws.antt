@@ -2,11 +2,11 @@
 use Rattle.std.proofs.Common.{◌≡◌, ℕ, List, [], ◌∷◌, ◌++◌, Option, Some, None, sym, ap, ◌∙◌, subst}
 use Rattle.pc_curve.proofs.OneTextLaws.{one_cost, one_curve_text}
 use Rattle.pc_curve.specs.Points.{curve_in}
-use Rattle.pc_edits.specs.declared.ask.Ask.{Ask}
-use Rattle.pc_edits.specs.declared.ask.Ask.TheVariants as ask
-use Rattle.pc_edits.specs.declared.ask.Trial.{Trial}
-use Rattle.pc_edits.specs.Editing.{Editing, begun}
-use Rattle.pc_edits.specs.Reading.{ask_of}
+use Rattle.pc_whatif.specs.declared.edits.ask.Ask.{Ask}
+use Rattle.pc_whatif.specs.declared.edits.ask.Ask.TheVariants as ask
+use Rattle.pc_whatif.specs.declared.edits.ask.Trial.{Trial}
+use Rattle.pc_whatif.specs.edits.Editing.{Editing, begun}
+use Rattle.pc_whatif.specs.edits.Reading.{ask_of}
 use Rattle.pc_project.proofs.SoundLaws.{HasSoundParts, sound_parts}
 use Rattle.pc_project.specs.Planned.{IsPlanned}
 use Rattle.pc_project.specs.Project.{Project}

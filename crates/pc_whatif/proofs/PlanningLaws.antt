@@ -7,11 +7,11 @@ use Rattle.pc_deck.specs.Deck.{Deck}
 use Rattle.pc_deck.specs.declared.kinds.act.ActCard.{ActCard}
 use Rattle.pc_project.specs.Planned.{IsPlanned}
 use Rattle.pc_project.specs.Project.{Project, expected_of, variance_in}
-use Rattle.pc_edits.specs.Editing.{Editing, begun}
-use Rattle.pc_edits.specs.inside.Editing.{ChangesOnly}
-use Rattle.pc_edits.specs.Plans.{estimates_at, estimates_in, expected_times, variances}
-use Rattle.pc_trials.specs.inside.Reserved.{Reserved, IsFor, IsStandingOf, IsChangedTo, expected_by, variance_by}
-use Rattle.pc_trials.specs.inside.Trials.{HasRoom, trial_cells}
+use Rattle.pc_whatif.specs.edits.Editing.{Editing, begun}
+use Rattle.pc_whatif.specs.inside.edits.Editing.{ChangesOnly}
+use Rattle.pc_whatif.specs.edits.Plans.{estimates_at, estimates_in, expected_times, variances}
+use Rattle.pc_whatif.specs.inside.trials.Reserved.{Reserved, IsFor, IsStandingOf, IsChangedTo, expected_by, variance_by}
+use Rattle.pc_whatif.specs.inside.trials.Trials.{HasRoom, trial_cells}
 use Rattle.pc_whatif.specs.Planning.{project_as}
 use Rattle.pc_whatif.specs.inside.Planning.{IsChangedAt, IsEditionOf, IsRenewed}
 

@@ -5,15 +5,15 @@ use Rattle.std.specs.declared.alloc.Global.{Global}
 use Rattle.std.specs.Io.KnownBytes.{Consumes}
 use Rattle.pc_deck.specs.Limits.{longest_deck}
 use Rattle.pc_faults.specs.declared.fault.Fault.{Fault}
-use Rattle.pc_lines.specs.declared.reader.TheConstants.{INPUT_LIMIT}
-use Rattle.pc_reading.specs.declared.status.Status.{Status}
-use Rattle.pc_reading.specs.inside.Status.{code_of}
-use Rattle.pc_reading.specs.OneWord.{IsOneWord}
-use Rattle.pc_reading.specs.Sides.{Side, HadNoFault, IsReadToEnd, IsUntouched, OfBytes, OfDeck}
-use Rattle.pc_reading.specs.Verdict.{AcceptedBy, RefusedBy, IsFault}
-use Rattle.pc_reading.proofs.ReadingLaws.{refusal_is_fault, refusal_reads}
-use Rattle.pc_reading.proofs.SideLaws.{of_any, of_one}
-use Rattle.pc_reading.proofs.VerdictLaws.{not_both}
+use Rattle.pc_edges.specs.declared.lines.reader.TheConstants.{INPUT_LIMIT}
+use Rattle.pc_shell.specs.declared.status.Status.{Status}
+use Rattle.pc_shell.specs.inside.Status.{code_of}
+use Rattle.pc_shell.specs.OneWord.{IsOneWord}
+use Rattle.pc_shell.specs.Sides.{Side, HadNoFault, IsReadToEnd, IsUntouched, OfBytes, OfDeck}
+use Rattle.pc_shell.specs.Verdict.{AcceptedBy, RefusedBy, IsFault}
+use Rattle.pc_shell.proofs.ReadingLaws.{refusal_is_fault, refusal_reads}
+use Rattle.pc_shell.proofs.SideLaws.{of_any, of_one}
+use Rattle.pc_shell.proofs.VerdictLaws.{not_both}
 use Rattle.pc_whatif.specs.Heard.{Meaning, IsHeardOut, IsHeardTooLong}
 use Rattle.pc_whatif.specs.SessionOutcome.{IsUnread, IsSessionCut, deck_unread, edits_unread, in_answers, in_refusal, in_usage}
 use Rattle.pc_whatif.specs.inside.SessionOutcome.{SessionOutcome, heard_out, too_long, deck_refused, usage, no_memory, read_fault, write_fault}

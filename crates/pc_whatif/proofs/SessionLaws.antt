@@ -3,19 +3,19 @@ use Rattle.std.proofs.Common.{◌≡◌, ℕ, List, Option, Result, Ok, Err, sym
 use Rattle.std.specs.Prelude.{IfSome, String}
 use Rattle.std.specs.declared.alloc.Global.{Global}
 use Rattle.pc_project.specs.Project.{Project}
-use Rattle.pc_lines.specs.declared.talking.TalkError.{TalkError}
-use Rattle.pc_lines.specs.declared.talking.TalkError.TheVariants as talk
-use Rattle.pc_lines.specs.inside.Talk.{Answered, Ends}
-use Rattle.pc_lines.specs.Taken.{IsTakenWithin}
-use Rattle.pc_lines.proofs.TalkLaws.{taken_none}
-use Rattle.pc_reading.specs.declared.status.Status.{Status}
-use Rattle.pc_reading.specs.OneWord.{IsOneWord}
-use Rattle.pc_reading.specs.inside.OneWord.{EndsWithout}
-use Rattle.pc_reading.specs.inside.OneWord as ends
-use Rattle.pc_reading.specs.inside.Reading.{HasProject}
-use Rattle.pc_reading.specs.Sides.{Side, side, pulled_side, IsUntouched}
-use Rattle.pc_reading.specs.Verdict.{AcceptedBy, IsProjectOf}
-use Rattle.pc_reading.proofs.SideLaws.{of_one}
+use Rattle.pc_edges.specs.declared.lines.talking.TalkError.{TalkError}
+use Rattle.pc_edges.specs.declared.lines.talking.TalkError.TheVariants as talk
+use Rattle.pc_edges.specs.inside.lines.Talk.{Answered, Ends}
+use Rattle.pc_edges.specs.lines.Taken.{IsTakenWithin}
+use Rattle.pc_edges.proofs.lemmas.lines.TalkLaws.{taken_none}
+use Rattle.pc_shell.specs.declared.status.Status.{Status}
+use Rattle.pc_shell.specs.OneWord.{IsOneWord}
+use Rattle.pc_shell.specs.inside.OneWord.{EndsWithout}
+use Rattle.pc_shell.specs.inside.OneWord as ends
+use Rattle.pc_shell.specs.inside.Reading.{HasProject}
+use Rattle.pc_shell.specs.Sides.{Side, side, pulled_side, IsUntouched}
+use Rattle.pc_shell.specs.Verdict.{AcceptedBy, IsProjectOf}
+use Rattle.pc_shell.proofs.SideLaws.{of_one}
 use Rattle.pc_whatif.specs.Heard.{Meaning, AnswersOn, HasAnswered, IsHeard, session_usage_text}
 use Rattle.pc_whatif.specs.inside.Hearing.{Hearing, all, passed, unread, cut, no_room, status_of}
 use Rattle.pc_whatif.specs.SessionOutcome.{deck_unread, edits_unread, in_answers, in_refusal, in_usage}

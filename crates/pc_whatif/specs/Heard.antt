@@ -1,12 +1,12 @@
 -- Lines that were heard on a deck's project, and their answers.
 use Rattle.std.specs.Prelude.{◌≡◌, ℕ, ◌<◌, ◌≤◌, List, [], ◌∷◌, ◌++◌, length, take, codes}
 use Rattle.std.specs.Io.KnownBytes.{Consumes}
-use Rattle.pc_lines.specs.declared.reader.TheConstants.{INPUT_LIMIT}
-use Rattle.pc_lines.specs.Lines.{lines_of, whole_lines}
-use Rattle.pc_lines.specs.Taken.{AreFirst, IsTakenForLast}
+use Rattle.pc_edges.specs.declared.lines.reader.TheConstants.{INPUT_LIMIT}
+use Rattle.pc_edges.specs.lines.Lines.{lines_of, whole_lines}
+use Rattle.pc_edges.specs.lines.Taken.{AreFirst, IsTakenForLast}
 use Rattle.pc_project.specs.Project.{Project}
-use Rattle.pc_reading.specs.Sides.{Side, HadFault, IsReadToEnd, OfDeck, Took, TookFront}
-use Rattle.pc_reading.specs.Verdict.{AcceptedBy, IsProjectOf}
+use Rattle.pc_shell.specs.Sides.{Side, HadFault, IsReadToEnd, OfDeck, Took, TookFront}
+use Rattle.pc_shell.specs.Verdict.{AcceptedBy, IsProjectOf}
 
 -- the line that says which words are asked for
 abbrev pub session_usage_text : List ℕ

@@ -3,6 +3,7 @@ pub mod Planning
 pub mod Standing
 pub mod Heard
 pub mod SessionOutcome
+pub mod edits
 pub mod inside
 pub use Rattle.pc_edges.specs.Faults
 pub use Rattle.pc_edges.specs.Writes

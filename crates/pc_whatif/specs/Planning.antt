@@ -7,15 +7,15 @@ use Rattle.pc_curve.specs.CurveText.{IsCurveText}
 use Rattle.pc_curve.specs.Points.{curve_in}
 use Rattle.pc_project.specs.Project.{Project}
 use Rattle.pc_reports.specs.TimesText.{IsTimesText}
-use Rattle.pc_edits.specs.declared.ask.Ask.{Ask}
-use Rattle.pc_edits.specs.declared.ask.Ask.TheVariants as ask
-use Rattle.pc_edits.specs.declared.ask.Trial.{Trial}
-use Rattle.pc_edits.specs.declared.reason.Reason.{Reason}
-use Rattle.pc_edits.specs.declared.reason.Reason.TheVariants.{Form, OutsideRange}
-use Rattle.pc_edits.specs.Editing.{Editing, activity_named, begun, edited, undone, net_trying}
-use Rattle.pc_edits.specs.Plans.{expected_times, variances, term_tried}
-use Rattle.pc_edits.specs.Reading.{ask_of}
-use Rattle.pc_edits.specs.Refusal.{edit_refusal, undo_refusal, trial_refusal}
+use Rattle.pc_whatif.specs.declared.edits.ask.Ask.{Ask}
+use Rattle.pc_whatif.specs.declared.edits.ask.Ask.TheVariants as ask
+use Rattle.pc_whatif.specs.declared.edits.ask.Trial.{Trial}
+use Rattle.pc_whatif.specs.declared.edits.reason.Reason.{Reason}
+use Rattle.pc_whatif.specs.declared.edits.reason.Reason.TheVariants.{Form, OutsideRange}
+use Rattle.pc_whatif.specs.edits.Editing.{Editing, activity_named, begun, edited, undone, net_trying}
+use Rattle.pc_whatif.specs.edits.Plans.{expected_times, variances, term_tried}
+use Rattle.pc_whatif.specs.edits.Reading.{ask_of}
+use Rattle.pc_whatif.specs.edits.Refusal.{edit_refusal, undo_refusal, trial_refusal}
 use Rattle.pc_curve.specs.Range.{IsWithin}
 use Rattle.pc_whatif.specs.Texts.{refused_text, cost_text, verdict_text}
 

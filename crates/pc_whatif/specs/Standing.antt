@@ -2,12 +2,12 @@
 use Rattle.std.specs.Prelude.{◌≡◌, ℕ, List, [], ◌∷◌, ◌++◌, Option, Some, None}
 use Rattle.std.specs.Option.{option_map_or}
 use Rattle.pc_project.specs.Project.{Project}
-use Rattle.pc_edits.specs.declared.ask.Ask.{Ask}
-use Rattle.pc_edits.specs.declared.ask.Ask.TheVariants as ask
-use Rattle.pc_edits.specs.Editing.{Editing}
-use Rattle.pc_edits.specs.Reading.{ask_of}
-use Rattle.pc_edits.specs.Refusal.{edit_refusal, undo_refusal}
-use Rattle.pc_edits.specs.Standing.{Journal, empty, noted, taken_back, standing_of}
+use Rattle.pc_whatif.specs.declared.edits.ask.Ask.{Ask}
+use Rattle.pc_whatif.specs.declared.edits.ask.Ask.TheVariants as ask
+use Rattle.pc_whatif.specs.edits.Editing.{Editing}
+use Rattle.pc_whatif.specs.edits.Reading.{ask_of}
+use Rattle.pc_whatif.specs.edits.Refusal.{edit_refusal, undo_refusal}
+use Rattle.pc_whatif.specs.edits.Standing.{Journal, empty, noted, taken_back, standing_of}
 use Rattle.pc_whatif.specs.Planning.{IsAnswer, editing_after}
 
 -- the journal after a line: an edit that is accepted is noted, an UNDO that is accepted takes the latest back, and all else leaves it as

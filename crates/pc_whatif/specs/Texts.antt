@@ -1,7 +1,7 @@
 -- Short answers.
 use Rattle.std.specs.Prelude.{ℕ, List, [], ◌∷◌, ◌++◌, Option, Some, None, codes, decimal}
-use Rattle.pc_edits.specs.declared.reason.Reason.{Reason}
-use Rattle.pc_edits.specs.Reasons.{reason_number}
+use Rattle.pc_whatif.specs.declared.edits.reason.Reason.{Reason}
+use Rattle.pc_whatif.specs.edits.Reasons.{reason_number}
 
 -- the line was accepted
 abbrev pub ok_text : List ℕ

@@ -3,3 +3,5 @@ pub mod Planning
 pub mod Inside
 pub mod Hearing
 pub mod SessionOutcome
+pub mod edits
+pub mod trials

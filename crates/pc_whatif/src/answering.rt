@@ -1,16 +1,16 @@
 //! Answers to lines.
 ghost use Rattle.std.specs.Prelude.{◌≡◌, ℕ, List, None, Some};
 ghost use Rattle.pc_edges.specs.inside.Writes.{Writes};
-ghost use Rattle.pc_edits.specs.Reading.{ask_of};
-ghost use Rattle.pc_edits.specs.declared.ask.Ask.TheVariants as asks;
+ghost use Rattle.pc_whatif.specs.edits.Reading.{ask_of};
+ghost use Rattle.pc_whatif.specs.declared.edits.ask.Ask.TheVariants as asks;
 ghost use Rattle.pc_whatif.specs.inside.Planning.{IsAnswered, LooksOver, LooksToAnswer, LooksToTry};
 
+use crate::edits::{Ask, Edit, Reason, Trial};
 use crate::renewing::renew;
 use crate::replies::{accept, refuse, tell_cost};
 use crate::session::Session;
 use pc_crash::Steps;
 use pc_edges::{Failed, Sink};
-use pc_edits::{Ask, Edit, Reason, Trial};
 use std::sync::ledger::Ledger;
 
 impl Session<'_> {

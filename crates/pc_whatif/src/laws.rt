@@ -3,8 +3,8 @@
 //! Each public function does nothing: its contract is a law, proved once, and a caller that calls it has the law as a fact.
 
 ghost use Rattle.std.specs.Prelude.{◌≡◌, ℕ, List};
-ghost use Rattle.pc_edits.specs.Editing.{begun};
-ghost use Rattle.pc_edits.specs.Standing.{Stands, empty};
+ghost use Rattle.pc_whatif.specs.edits.Editing.{begun};
+ghost use Rattle.pc_whatif.specs.edits.Standing.{Stands, empty};
 ghost use Rattle.pc_project.specs.Planned.{IsPlanned};
 ghost use Rattle.pc_project.specs.Project.{Project};
 ghost use Rattle.pc_whatif.specs.Planning.{AnswersLines};

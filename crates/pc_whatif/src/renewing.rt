@@ -1,11 +1,11 @@
 //! The times of a project that was edited.
 ghost use Rattle.std.specs.Prelude.{◌≡◌};
-ghost use Rattle.pc_edits.specs.inside.Editing.{IsEditing};
+ghost use Rattle.pc_whatif.specs.inside.edits.Editing.{IsEditing};
 ghost use Rattle.pc_whatif.specs.inside.Planning.{IsChangedAt, IsEditionOf, IsRenewed};
 
-use pc_edits::Edits;
+use crate::edits::Edits;
+use crate::trials::Reservation;
 use pc_project::Project;
-use pc_trials::Reservation;
 
 /// Makes the standing times those of the numbers as they are now, where they are already but for the estimates of one activity. A few
 /// passes over the network.

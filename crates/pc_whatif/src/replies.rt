@@ -3,9 +3,9 @@ ghost use Rattle.std.specs.Prelude.{◌≡◌, ◌+◌, ◌≤◌, ◌++◌, [],
 ghost use Rattle.pc_edges.specs.inside.Writes.{Writes};
 ghost use Rattle.pc_whatif.specs.Texts.{ok_text, refused_text, cost_text};
 
+use crate::edits::Reason;
 use arrayvec::ArrayVec;
 use pc_edges::{Failed, Sink, push_all};
-use pc_edits::Reason;
 use pc_text::digits;
 
 /// The room of a short answer.

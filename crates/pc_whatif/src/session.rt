@@ -1,13 +1,13 @@
 //! A session.
 ghost use Rattle.std.specs.Prelude.{◌≡◌, length, IfOk};
-ghost use Rattle.pc_edits.specs.Editing.{begun};
-ghost use Rattle.pc_trials.specs.inside.Trials.{trial_cells};
+ghost use Rattle.pc_whatif.specs.edits.Editing.{begun};
+ghost use Rattle.pc_whatif.specs.inside.trials.Trials.{trial_cells};
 ghost use Rattle.pc_whatif.specs.inside.Planning.{IsRenewed};
 
-use pc_edits::Edits;
-use pc_page::{PAGE_ROOM, Page};
+use crate::edits::Edits;
+use crate::trials::Reservation;
+use pc_edges::page::{PAGE_ROOM, Page};
 use pc_project::Project;
-use pc_trials::Reservation;
 use std::alloc::{AllocError, Global};
 use std::marker::Model;
 

@@ -2,13 +2,13 @@
 ghost use Rattle.std.specs.Prelude.{◌≡◌, ℕ, List};
 ghost use Rattle.pc_crash.specs.inside.Steps.{IsBlankOf};
 ghost use Rattle.pc_edges.specs.inside.Writes.{Writes};
-ghost use Rattle.pc_edits.specs.Reading.{ask_of};
+ghost use Rattle.pc_whatif.specs.edits.Reading.{ask_of};
 ghost use Rattle.pc_whatif.specs.inside.Planning.{IsAnswered, Says};
 
 use crate::session::Session;
 use pc_crash::Steps;
+use pc_edges::lines::Answers;
 use pc_edges::{Failed, Sink};
-use pc_lines::Answers;
 use std::marker::Brand;
 use std::sync::ledger::{Blank, Ledger};
 

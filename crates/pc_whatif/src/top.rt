@@ -3,11 +3,11 @@ ghost use Rattle.std.specs.Prelude.{◌≡◌, ◌≢◌, ℕ, List, ◌+◌, �
 ghost use Rattle.pc_deck.specs.Limits.{longest_deck};
 ghost use Rattle.pc_edges.specs.Pulls.{IsReadWithin};
 ghost use Rattle.pc_edges.specs.declared.loading.TheConstants.{STREAM_ROOM};
-ghost use Rattle.pc_lines.specs.Taken.{IsTakenWithin};
-ghost use Rattle.pc_lines.specs.declared.reader.TheConstants.{INPUT_LIMIT};
-ghost use Rattle.pc_reading.specs.OneWord.{IsDeckRefused, IsOneWord};
-ghost use Rattle.pc_reading.specs.Sides.{side, pulled_side, HadNoFault, IsReadToEnd, OfBytes, OfDeck, Took};
-ghost use Rattle.pc_reading.specs.Verdict.{AcceptedBy, RefusedBy};
+ghost use Rattle.pc_edges.specs.lines.Taken.{IsTakenWithin};
+ghost use Rattle.pc_edges.specs.declared.lines.reader.TheConstants.{INPUT_LIMIT};
+ghost use Rattle.pc_shell.specs.OneWord.{IsDeckRefused, IsOneWord};
+ghost use Rattle.pc_shell.specs.Sides.{side, pulled_side, HadNoFault, IsReadToEnd, OfBytes, OfDeck, Took};
+ghost use Rattle.pc_shell.specs.Verdict.{AcceptedBy, RefusedBy};
 ghost use Rattle.pc_whatif.specs.Heard.{session_usage_text, AnswersOn, IsHeardOut, IsHeardTooLong};
 ghost use Rattle.pc_whatif.specs.inside.Hearing.{Hearing, status_of};
 ghost use Rattle.pc_whatif.specs.SessionOutcome.{IsSessionCut, IsUnread};
@@ -16,10 +16,10 @@ ghost use Rattle.pc_whatif.specs.Planning.{AnswersLines};
 ghost use Rattle.pc_whatif.specs.Standing.{AnswersInOrder};
 
 use crate::session::Session;
+use pc_edges::lines::{LineReader, TalkError, talk};
 use pc_edges::{Sink, Source};
-use pc_lines::{LineReader, TalkError, talk};
 use pc_project::Project;
-use pc_reading::{Status, project_named};
+use pc_shell::{Status, project_named};
 use std::alloc::Global;
 
 /// The line that says which words are asked for.

@@ -2,12 +2,12 @@
 //! output whether the certificate is right.
 //!
 //! The program only collects its words, draws a key by chance, makes the adapters of the file and the real streams, and calls
-//! [`pc_checking::check_run`], whose answer is its status.
+//! [`pc_audit::check_run`], whose answer is its status.
 #![tactic(auto)]
 
-use pc_checking::check_run;
+use pc_audit::check_run;
 use pc_edges::{FileSource, ReadSource, WriteSink, draw_key};
-use pc_reading::{Status, deck_name, words_of};
+use pc_shell::{Status, deck_name, words_of};
 use std::process::ExitCode;
 
 fn main(rt: HostRuntime) -> ExitCode {

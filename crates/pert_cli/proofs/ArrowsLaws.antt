@@ -2,11 +2,11 @@
 use Rattle.std.proofs.Common.{◌≡◌, ℕ, List, Option, Some, None, refl}
 use Rattle.std.specs.Prelude.{IfSome, String}
 use Rattle.std.specs.declared.alloc.Global.{Global}
-use Rattle.pc_deck_text.specs.Written.{IsDeckText}
+use Rattle.pc_project.specs.deck_text.Written.{IsDeckText}
 use Rattle.pc_project.specs.Project.{Project}
-use Rattle.pc_reading.specs.declared.status.Status.{Status}
-use Rattle.pc_reading.specs.inside.Status.{code_of}
-use Rattle.pc_reading.specs.Sides.{Side, OfDeck, Took}
+use Rattle.pc_shell.specs.declared.status.Status.{Status}
+use Rattle.pc_shell.specs.inside.Status.{code_of}
+use Rattle.pc_shell.specs.Sides.{Side, OfDeck, Took}
 use Rattle.pert_cli.specs.declared.forms.Form.TheVariants.{Arrows}
 use Rattle.pert_cli.specs.Arrows.{TookArrows}
 use Rattle.pert_cli.specs.inside.Outcome.{Outcome}

@@ -6,19 +6,19 @@ use Rattle.pc_project.specs.Project.{Project}
 use Rattle.pc_certify.specs.Certificate.{IsCertificate}
 use Rattle.pc_check.proofs.HeadlineLaws.{prints_whole_curve}
 use Rattle.pc_check.specs.Headline.{PrintsWholeCurve}
-use Rattle.pc_checking.proofs.OnceLaws.{whole_once}
+use Rattle.pc_audit.proofs.OnceLaws.{whole_once}
 use Rattle.pc_crash.specs.Priced.{PricedNetwork}
-use Rattle.pc_reading.proofs.PricedLaws.{is_named, is_priced, priced_as}
+use Rattle.pc_shell.proofs.PricedLaws.{is_named, is_priced, priced_as}
 use Rattle.pert_cli.specs.declared.forms.Form.TheVariants.{Certify}
-use Rattle.pc_reading.specs.declared.status.Status.{Status}
-use Rattle.pc_reading.specs.inside.Status.{code_of}
-use Rattle.pc_reading.specs.Priced.{priced_in, priced_of}
+use Rattle.pc_shell.specs.declared.status.Status.{Status}
+use Rattle.pc_shell.specs.inside.Status.{code_of}
+use Rattle.pc_shell.specs.Priced.{priced_in, priced_of}
 use Rattle.pert_cli.proofs.AnsweredLaws.{answered}
 use Rattle.pert_cli.proofs.FormDeckLaws.{read_project}
 use Rattle.pert_cli.specs.Words.{AskFor}
 use Rattle.pert_cli.specs.Headline.{TookWholeCurve}
-use Rattle.pc_reading.specs.Sides.{Side, OfDeck, Took}
-use Rattle.pc_reading.specs.Verdict.{IsProjectOf}
+use Rattle.pc_shell.specs.Sides.{Side, OfDeck, Took}
+use Rattle.pc_shell.specs.Verdict.{IsProjectOf}
 use Rattle.pert_cli.specs.inside.Outcome.{Outcome}
 
 of_deck : {X : Type 0} (left : Option (List ℕ)) (out : Side X) (project : Project) (text : List ℕ) → Took out text → IsCertificate (priced_in project) text
@@ -26,7 +26,7 @@ of_deck : {X : Type 0} (left : Option (List ℕ)) (out : Side X) (project : Proj
 of_deck None out project text took is accepted = tt
 of_deck (Some bytes) out project text took is accepted =
     let prints : PrintsWholeCurve (priced_of accepted.deck) text = subst (λ (net : PricedNetwork). PrintsWholeCurve net text) (priced_as accepted.deck project accepted.is)
-        (prints_whole_curve (priced_in project) text _ (is_priced bytes project accepted) (is_named bytes project accepted) is.certified) in
+    (prints_whole_curve (priced_in project) text _ (is_priced bytes project accepted) (is_named bytes project accepted) is.certified) in
     record {
       deck = accepted.deck;
       accepted = accepted.accepted;

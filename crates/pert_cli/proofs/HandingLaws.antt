@@ -3,10 +3,10 @@ use Rattle.std.proofs.Common.{◌≡◌, ℕ, List, Result, Ok, Err, subst, sym}
 use Rattle.std.specs.Prelude.{IfOk, OnErr}
 use Rattle.pc_faults.specs.declared.fault.Fault.{Fault}
 use Rattle.pc_project.specs.Project.{Project}
-use Rattle.pc_reading.specs.declared.status.Status.{Status}
-use Rattle.pc_reading.specs.declared.status.Status.TheVariants.{Done, OutOfMemory, WriteFault}
-use Rattle.pc_reading.specs.inside.Refusing.{Refusal}
-use Rattle.pc_reading.specs.Sides.{Side, IsUntouched}
+use Rattle.pc_shell.specs.declared.status.Status.{Status}
+use Rattle.pc_shell.specs.declared.status.Status.TheVariants.{Done, OutOfMemory, WriteFault}
+use Rattle.pc_shell.specs.inside.Refusing.{Refusal}
+use Rattle.pc_shell.specs.Sides.{Side, IsUntouched}
 use Rattle.pert_cli.specs.Forms.{IsDenial}
 use Rattle.pert_cli.specs.inside.Handing.{Answers, Replies, denies}
 use Rattle.pert_cli.specs.declared.forms.Form.{Form}

@@ -3,13 +3,13 @@ use Rattle.std.proofs.Common.{◌≡◌, ℕ, List, Option, Some, None, refl, ap
 use Rattle.std.specs.Prelude.{IfSome, String}
 use Rattle.std.specs.declared.alloc.Global.{Global}
 use Rattle.pc_deck.specs.Text.{deck_text}
-use Rattle.pc_deck_text.specs.Written.{IsDeckText, migrated, written}
+use Rattle.pc_project.specs.deck_text.Written.{IsDeckText, migrated, written}
 use Rattle.pc_project.specs.Project.{Project}
-use Rattle.pc_reading.specs.declared.status.Status.{Status}
-use Rattle.pc_reading.specs.inside.Status.{code_of}
-use Rattle.pc_reading.specs.Sides.{Side, OfDeck, Took}
-use Rattle.pc_reading.specs.Verdict.{IsProjectOf}
-use Rattle.pc_reading.proofs.VerdictLaws.{one_project}
+use Rattle.pc_shell.specs.declared.status.Status.{Status}
+use Rattle.pc_shell.specs.inside.Status.{code_of}
+use Rattle.pc_shell.specs.Sides.{Side, OfDeck, Took}
+use Rattle.pc_shell.specs.Verdict.{IsProjectOf}
+use Rattle.pc_shell.proofs.VerdictLaws.{one_project}
 use Rattle.pert_cli.specs.declared.forms.Form.TheVariants.{Migrate}
 use Rattle.pert_cli.specs.Migrate.{TookDeckOf, TookSameProject}
 use Rattle.pert_cli.specs.inside.Outcome.{Outcome}

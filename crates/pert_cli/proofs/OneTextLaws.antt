@@ -4,11 +4,11 @@ use Rattle.std.proofs.lemmas.List.{ext_get_or}
 use Rattle.pc_model.specs.Cost.{cost_of}
 use Rattle.pc_model.specs.Pieces.{knees_of}
 use Rattle.pc_model.proofs.Walks.WalkLaws.{greatest_unique}
-use Rattle.pc_bench.proofs.OneTextLaws.{one_bench_text}
+use Rattle.pc_curve.proofs.lemmas.bench.OneTextLaws.{one_bench_text}
 use Rattle.pc_curve.proofs.OneTextLaws.{one_curve_text}
 use Rattle.pc_project.specs.Project.{Project}
 use Rattle.pc_project.proofs.SoundLaws.{HasSoundParts}
-use Rattle.pc_reading.specs.Priced.{priced_in}
+use Rattle.pc_shell.specs.Priced.{priced_in}
 use Rattle.pc_reports.proofs.OneTextLaws.{one_summary_text, one_times_text, one_value_text}
 use Rattle.pert_cli.specs.declared.forms.Form.{Form}
 use Rattle.pert_cli.specs.declared.forms.Form.TheVariants.{Check, Normal, Times, Summary, Value, Curve, Bench, Migrate, Arrows, Load}

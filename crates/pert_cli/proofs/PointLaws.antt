@@ -5,11 +5,11 @@ use Rattle.pc_faults.specs.inside.FaultText.{IsTold}
 use Rattle.pc_crash.specs.Priced.{PricedNetwork}
 use Rattle.pc_model.specs.Schedule.{IsAllCrashLength, IsAllNormalLength}
 use Rattle.pc_project.specs.Project.{Project}
-use Rattle.pc_figures.specs.Outlook.{amounts_at, IsWholeOutlook, Outlook as TheOutlook}
+use Rattle.pc_rollup.specs.figures.Outlook.{amounts_at, IsWholeOutlook, Outlook as TheOutlook}
 use Rattle.pc_reports.specs.OutlookText.{IsOutlook, outlook_text}
 use Rattle.pc_reports.specs.inside.OutlookText.{TellsTop}
 use Rattle.pert_cli.specs.declared.forms.Form.TheVariants.{Point, Outlook}
-use Rattle.pc_reading.specs.Priced.{priced_in}
+use Rattle.pc_shell.specs.Priced.{priced_in}
 use Rattle.pert_cli.specs.Handing.{IsReply}
 use Rattle.pert_cli.specs.Normal.{Printed, printed_text}
 use Rattle.pc_curve.specs.Range.{IsRange, IsWithin}

@@ -16,8 +16,8 @@ use Rattle.pc_faults.specs.declared.fault.DeckError.TheVariants as error
 use Rattle.pc_faults.specs.declared.fault.Fault.{Fault}
 use Rattle.pc_project.specs.Project.{Project}
 use Rattle.pc_project.proofs.SoundLaws.{HasSoundParts, sound_parts}
-use Rattle.pc_reading.specs.Verdict as plans
-use Rattle.pc_reading.proofs.VerdictLaws as plans_are
+use Rattle.pc_shell.specs.Verdict as plans
+use Rattle.pc_shell.proofs.VerdictLaws as plans_are
 use Rattle.pc_tasks.specs.Drawn.{drawn}
 use Rattle.pc_tasks.specs.Refusal.{IsTasksRefusedWith}
 use Rattle.pc_tasks.specs.Text.{IsDrawnProject}

@@ -1,10 +1,10 @@
 -- What `arrows` leaves: a deck of the plan that is drawn of the tasks, by which nothing of their schedules and costs is lost.
 use Rattle.std.specs.Prelude.{ℕ, List}
 use Rattle.pc_deck.specs.Deck.{Deck}
-use Rattle.pc_deck_text.specs.Written.{migrated}
+use Rattle.pc_project.specs.deck_text.Written.{migrated}
 use Rattle.pc_project.specs.Figures.{IsProjectOfDeck}
 use Rattle.pc_project.specs.Project.{Project}
-use Rattle.pc_reading.specs.Sides.{Side}
+use Rattle.pc_shell.specs.Sides.{Side}
 use Rattle.pc_tasks.specs.Drawn.{drawn}
 use Rattle.pc_tasks.specs.Text.{KeepsTasks}
 use Rattle.pert_cli.specs.Migrate.{TookDeckOf}

@@ -1,15 +1,15 @@
 -- Which deck a form speaks of: that of the source, or one of its own, for which nothing is read; and of which sort it is.
 use Rattle.std.specs.Prelude.{◌≡◌, ℕ, List, Option, Some, None, String}
 use Rattle.std.specs.declared.alloc.Global.{Global}
-use Rattle.pc_bench.specs.Deck.{bench_text}
+use Rattle.pc_curve.specs.bench.Deck.{bench_text}
 use Rattle.pc_cards.specs.declared.sort.Sort.{Sort}
 use Rattle.pc_cards.specs.declared.sort.Sort.TheVariants.{Plan, Tasks}
 use Rattle.pc_faults.specs.declared.fault.Fault.{Fault}
 use Rattle.pc_project.specs.Project.{Project}
 use Rattle.pert_cli.specs.declared.forms.Form.{Form}
 use Rattle.pert_cli.specs.declared.forms.Form.TheVariants.{Check, Normal, Times, Summary, Value, Curve, Certify, Point, Outlook, Bench, Migrate, Optimum, Arrows, Load}
-use Rattle.pc_reading.specs.Sides.{Side, IsUntouched}
-use Rattle.pc_reading.specs.Reading.{HasProjectBy, HasRefusalBy}
+use Rattle.pc_shell.specs.Sides.{Side, IsUntouched}
+use Rattle.pc_shell.specs.Reading.{HasProjectBy, HasRefusalBy}
 use Rattle.pert_cli.specs.Verdicts.{IsFaultAs, IsMadeAs}
 use Rattle.pert_cli.specs.Words.{AskFor}
 

@@ -6,17 +6,17 @@ use Rattle.pc_reports.specs.Check.{check_text}
 use Rattle.pc_reports.specs.SummaryText.{IsSummaryText}
 use Rattle.pc_reports.specs.TimesText.{IsTimesText}
 use Rattle.pc_reports.specs.ValueText.{IsValueText}
-use Rattle.pc_bench.specs.Report.{IsBenchText}
-use Rattle.pc_bench.specs.declared.deck.TheConstants.{MOST_ACTIVITIES}
+use Rattle.pc_curve.specs.bench.Report.{IsBenchText}
+use Rattle.pc_curve.specs.declared.bench.deck.TheConstants.{MOST_ACTIVITIES}
 use Rattle.pc_certify.specs.Certificate.{IsCertificate}
 use Rattle.pc_curve.specs.CurveText.{IsCurveText}
 use Rattle.pc_load.specs.LoadText.{IsLoadText}
 use Rattle.pc_load.specs.declared.loading.TheConstants.{MAX_DAYS}
 use Rattle.pc_project.specs.Project.{Project}
-use Rattle.pc_deck_text.specs.Written.{IsDeckText}
+use Rattle.pc_project.specs.deck_text.Written.{IsDeckText}
 use Rattle.pert_cli.specs.declared.forms.Form.{Form}
 use Rattle.pert_cli.specs.declared.forms.Form.TheVariants.{Check, Normal, Times, Summary, Value, Curve, Certify, Point, Outlook, Bench, Migrate, Optimum, Arrows, Load}
-use Rattle.pc_reading.specs.Priced.{priced_in}
+use Rattle.pc_shell.specs.Priced.{priced_in}
 use Rattle.pert_cli.specs.Load.{IsTooLong}
 use Rattle.pert_cli.specs.Normal.{IsNormalText}
 use Rattle.pert_cli.specs.Optimum.{IsOptimumText}

@@ -1,10 +1,10 @@
 -- What `migrate` leaves: a deck of the same project, which is its own text.
 use Rattle.std.specs.Prelude.{◌≡◌, ℕ, List}
-use Rattle.pc_deck_text.specs.Same.{SayTheSame}
-use Rattle.pc_deck_text.specs.Written.{IsDeckText, migrated}
+use Rattle.pc_project.specs.deck_text.Same.{SayTheSame}
+use Rattle.pc_project.specs.deck_text.Written.{IsDeckText, migrated}
 use Rattle.pc_project.specs.Project.{Project}
-use Rattle.pc_reading.specs.Sides.{Side, Took}
-use Rattle.pc_reading.specs.Verdict.{IsProjectOf}
+use Rattle.pc_shell.specs.Sides.{Side, Took}
+use Rattle.pc_shell.specs.Verdict.{IsProjectOf}
 
 -- the output took a text that is an accepted deck, of version 2: its project is this one, but for the deck that it keeps, and the two
 -- decks say the same; and whatever `migrate` writes of the text is the text again

@@ -1,10 +1,10 @@
 -- The answer to `outlook L`: a schedule of least cost for a length, and what each item costs by it.
 use Rattle.std.specs.Prelude.{◌≡◌, ℕ, List, ◌++◌}
-use Rattle.pc_figures.specs.Outlook.{Outlook, amounts_at, IsWholeOutlook}
+use Rattle.pc_rollup.specs.figures.Outlook.{Outlook, amounts_at, IsWholeOutlook}
 use Rattle.pc_project.specs.Project.{Project}
 use Rattle.pc_reports.specs.OutlookText.{IsOutlook, outlook_text}
 use Rattle.pc_wbs.specs.Climb.{IsTop}
-use Rattle.pc_reading.specs.Priced.{priced_in}
+use Rattle.pc_shell.specs.Priced.{priced_in}
 use Rattle.pert_cli.specs.Normal.{Printed, printed_text}
 use Rattle.pert_cli.specs.Point.{IsCheapestFor}
 

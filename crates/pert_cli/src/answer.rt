@@ -4,11 +4,11 @@ ghost use Rattle.std.specs.Result.{ForOk};
 ghost use Rattle.pc_edges.specs.inside.Writes.{Writes};
 ghost use Rattle.pc_project.specs.Project.{Project as TheProject};
 ghost use Rattle.pert_cli.specs.inside.Handing.{Answers};
-ghost use Rattle.pc_reading.specs.Sides.{side};
+ghost use Rattle.pc_shell.specs.Sides.{side};
 
 use pc_edges::{Failed, Sink};
 use pc_project::Project;
-use pc_reading::Status;
+use pc_shell::Status;
 use std::alloc::AllocError;
 
 /// An answer of the program that was put together with all the memory that it takes.

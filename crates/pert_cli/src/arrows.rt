@@ -1,14 +1,14 @@
 //! `arrows`: the plan of arrows that is drawn of a deck of tasks, in its one form.
 ghost use Rattle.pert_cli.specs.Handing.{IsReply};
 ghost use Rattle.pert_cli.specs.inside.Handing.{Answers};
-ghost use Rattle.pc_reading.specs.Sides.{side};
+ghost use Rattle.pc_shell.specs.Sides.{side};
 ghost use Rattle.pert_cli.specs.declared.forms.Form.TheVariants.{Arrows};
 
 use crate::answer::deliver;
 use crate::migrate::DeckText;
 use pc_edges::Sink;
 use pc_project::Project;
-use pc_reading::Status;
+use pc_shell::Status;
 
 /// The words of the form.
 pub(crate) const WORDS: &[u8] = b"arrows";

@@ -1,23 +1,23 @@
 //! `bench N`: figures of the time-cost curve of the benchmark's deck with N activities.
 ghost use Rattle.std.specs.Prelude.{◌≡◌, ℕ, List, false};
 ghost use Rattle.pc_crash.specs.inside.Steps.{IsBlankOf};
-ghost use Rattle.pc_bench.specs.Report.{IsBenchText};
+ghost use Rattle.pc_curve.specs.bench.Report.{IsBenchText};
 ghost use Rattle.pc_edges.specs.inside.Writes.{Writes};
-ghost use Rattle.pc_page.specs.inside.Page.{fresh};
+ghost use Rattle.pc_edges.specs.inside.page.Page.{fresh};
 ghost use Rattle.pert_cli.specs.Handing.{IsReply};
 ghost use Rattle.pert_cli.specs.inside.Handing.{Answers};
-ghost use Rattle.pc_reading.specs.Priced.{priced_in};
-ghost use Rattle.pc_reading.specs.Sides.{side};
+ghost use Rattle.pc_shell.specs.Priced.{priced_in};
+ghost use Rattle.pc_shell.specs.Sides.{side};
 ghost use Rattle.pert_cli.specs.declared.forms.Form.TheVariants.{Bench};
 
 use crate::solving::solver_region;
-use pc_bench::write_bench;
 use pc_crash::{CrashNet, Steps};
+use pc_curve::bench::write_bench;
+use pc_edges::page::{PAGE_ROOM, Page};
 use pc_edges::{Failed, Sink};
 use pc_flow::Solver;
-use pc_page::{PAGE_ROOM, Page};
 use pc_project::Project;
-use pc_reading::Status;
+use pc_shell::Status;
 use std::alloc::{AllocError, Global};
 use std::marker::Brand;
 use std::sync::ledger::{Blank, Ledger};

@@ -2,8 +2,8 @@
 ghost use Rattle.std.specs.Prelude.{◌≡◌};
 ghost use Rattle.pert_cli.specs.Handing.{IsReply};
 ghost use Rattle.pert_cli.specs.inside.Handing.{Answers};
-ghost use Rattle.pc_reading.specs.Priced.{priced_in};
-ghost use Rattle.pc_reading.specs.Sides.{side};
+ghost use Rattle.pc_shell.specs.Priced.{priced_in};
+ghost use Rattle.pc_shell.specs.Sides.{side};
 ghost use Rattle.pert_cli.specs.declared.forms.Form.TheVariants.{Certify};
 
 use crate::solving::solver_region;
@@ -11,7 +11,7 @@ use pc_certify::CertifyError;
 use pc_crash::CrashNet;
 use pc_edges::Sink;
 use pc_project::Project;
-use pc_reading::Status;
+use pc_shell::Status;
 use std::alloc::{AllocError, Global};
 
 /// The words of the form.

@@ -5,7 +5,7 @@ ghost use Rattle.pc_curve.specs.inside.Points.{HasPlaces, IsToCome};
 ghost use Rattle.pc_faults.specs.inside.FaultText.{IsTold};
 ghost use Rattle.pc_reports.specs.Schedule.{plan_text};
 ghost use Rattle.pc_reports.specs.inside.Schedule.{plan_of, text_of, IsWhole};
-ghost use Rattle.pc_reading.specs.Priced.{priced_in};
+ghost use Rattle.pc_shell.specs.Priced.{priced_in};
 ghost use Rattle.pert_cli.specs.Normal.{printed_text};
 ghost use Rattle.pc_curve.specs.Range.{IsWithin};
 ghost use Rattle.pert_cli.specs.Point.{IsCheapest, IsCheapestFor, IsOutside};

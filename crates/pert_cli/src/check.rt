@@ -1,18 +1,18 @@
 //! `check`: that the deck is accepted, and how many cards of each kind it has.
 ghost use Rattle.std.specs.Prelude.{◌≡◌, IfOk};
-ghost use Rattle.pc_page.specs.inside.Page.{fresh};
+ghost use Rattle.pc_edges.specs.inside.page.Page.{fresh};
 ghost use Rattle.pc_reports.specs.Check.{check_text};
 ghost use Rattle.pert_cli.specs.Handing.{IsReply};
 ghost use Rattle.pert_cli.specs.inside.Handing.{Answers};
-ghost use Rattle.pc_reading.specs.Sides.{side};
+ghost use Rattle.pc_shell.specs.Sides.{side};
 ghost use Rattle.pert_cli.specs.declared.forms.Form.TheVariants.{Check};
 
 use crate::answer::{Answer, deliver};
+use pc_edges::page::{PAGE_ROOM, Page};
 use pc_edges::{Failed, Sink};
-use pc_page::{PAGE_ROOM, Page};
 use pc_project::Project;
-use pc_reading::Status;
 use pc_reports::write_check;
+use pc_shell::Status;
 use std::alloc::{AllocError, Global};
 
 /// The words of the form.

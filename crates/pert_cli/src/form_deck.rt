@@ -1,13 +1,13 @@
 //! From the deck that a form speaks of to its project, or to why there is none.
 ghost use Rattle.std.specs.Prelude.{◌≤◌, length, IfOk, IfErr};
-ghost use Rattle.pc_bench.specs.Deck.{bench_text};
+ghost use Rattle.pc_curve.specs.bench.Deck.{bench_text};
 ghost use Rattle.pc_deck.specs.Limits.{longest_deck};
 ghost use Rattle.pc_edges.specs.Pulls.{IsReadWithin};
 ghost use Rattle.pc_edges.specs.declared.loading.TheConstants.{STREAM_ROOM};
-ghost use Rattle.pc_reading.specs.Reading.{HasProjectBy};
-ghost use Rattle.pc_reading.specs.inside.Reading.{HasNoProjectBy, IsNoProjectBy, IsNoProjectOf};
-ghost use Rattle.pc_reading.specs.Sides.{side};
-ghost use Rattle.pc_reading.specs.Verdict.{IsProjectOf};
+ghost use Rattle.pc_shell.specs.Reading.{HasProjectBy};
+ghost use Rattle.pc_shell.specs.inside.Reading.{HasNoProjectBy, IsNoProjectBy, IsNoProjectOf};
+ghost use Rattle.pc_shell.specs.Sides.{side};
+ghost use Rattle.pc_shell.specs.Verdict.{IsProjectOf};
 ghost use Rattle.pert_cli.specs.Tasks.{IsDrawnOf, IsTasksFault};
 ghost use Rattle.pert_cli.specs.Verdicts.{IsFaultAs, IsMadeAs};
 ghost use Rattle.pert_cli.specs.FormDeck.{HasProjectFor};
@@ -16,11 +16,11 @@ ghost use Rattle.pert_cli.specs.Forms.{IsNumbered};
 
 use crate::forms::Form;
 use crate::tasks::drawn_or_fault;
-use pc_bench::{MOST_ACTIVITIES, bench_deck};
 use pc_cards::sort::Sort;
+use pc_curve::bench::{MOST_ACTIVITIES, bench_deck};
 use pc_edges::{FIXED_KEY, Source};
 use pc_project::Project;
-use pc_reading::{NoProject, project_in, read_deck};
+use pc_shell::{NoProject, project_in, read_deck};
 use std::alloc::Global;
 
 /// The project of the deck that a form speaks of: its own, and then nothing is read, or that of the source, whose bytes are left in

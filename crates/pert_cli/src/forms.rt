@@ -6,7 +6,7 @@ ghost use Rattle.std.specs.Prelude.{◌≡◌, [], ◌∷◌, IfNone, IfSome};
 ghost use Rattle.pert_cli.specs.FormDeck.{ReadsSource, sort_of};
 ghost use Rattle.pert_cli.specs.Forms.{IsAskedBy, IsNumbered};
 ghost use Rattle.pert_cli.specs.inside.Handing.{Replies};
-ghost use Rattle.pc_reading.specs.Sides.{side};
+ghost use Rattle.pc_shell.specs.Sides.{side};
 ghost use Rattle.pert_cli.specs.declared.forms.Form.{Form as TheForm};
 ghost use Rattle.pert_cli.specs.declared.forms.Form.TheVariants.{Bench};
 ghost use Rattle.pert_cli.specs.Words.{AskFor, AskForNone, usage_text};
@@ -15,12 +15,12 @@ use crate::{
     arrows, bench, certify, check, curve, load, migrate, normal, optimum, outlook, point, summary,
     times, value,
 };
-use pc_bench::MOST_ACTIVITIES;
 use pc_cards::sort::Sort;
+use pc_curve::bench::MOST_ACTIVITIES;
 use pc_edges::Sink;
 use pc_load::MAX_DAYS;
 use pc_project::Project;
-use pc_reading::Status;
+use pc_shell::Status;
 use pc_text::read_number;
 use std::alloc::Global;
 

@@ -25,4 +25,4 @@ mod top;
 mod value;
 
 pub use crate::top::run;
-pub use pc_checking::check_run;
+pub use pc_audit::check_run;

@@ -2,19 +2,19 @@
 ghost use Rattle.std.specs.Prelude.{◌≡◌};
 ghost use Rattle.pc_load.specs.inside.Loading.{IsReadyFor};
 ghost use Rattle.pc_load.specs.LoadText.{load_text};
-ghost use Rattle.pc_page.specs.inside.Page.{fresh};
+ghost use Rattle.pc_edges.specs.inside.page.Page.{fresh};
 ghost use Rattle.pert_cli.specs.Forms.{IsNumbered};
 ghost use Rattle.pert_cli.specs.inside.Handing.{Replies};
-ghost use Rattle.pc_reading.specs.Sides.{side};
+ghost use Rattle.pc_shell.specs.Sides.{side};
 ghost use Rattle.pert_cli.specs.declared.forms.Form.TheVariants.{Load};
 
 use crate::answer::{Answer, hand};
+use pc_edges::page::{PAGE_ROOM, Page};
 use pc_edges::{Failed, Sink};
 use pc_faults::Fault;
 use pc_load::{Loading, NoLoad, write_load};
-use pc_page::{PAGE_ROOM, Page};
 use pc_project::Project;
-use pc_reading::{Status, refuse};
+use pc_shell::{Status, refuse};
 use std::alloc::Global;
 
 /// The first word of the form; the second is the number of days.

@@ -1,16 +1,16 @@
 //! `migrate`: the deck in its one form.
 ghost use Rattle.std.specs.Prelude.{IfOk};
-ghost use Rattle.pc_deck_text.specs.Written.{IsDeckText};
-ghost use Rattle.pc_reading.specs.Sides.{side};
+ghost use Rattle.pc_project.specs.deck_text.Written.{IsDeckText};
+ghost use Rattle.pc_shell.specs.Sides.{side};
 ghost use Rattle.pert_cli.specs.Handing.{IsReply};
 ghost use Rattle.pert_cli.specs.inside.Handing.{Answers};
 ghost use Rattle.pert_cli.specs.declared.forms.Form.TheVariants.{Migrate};
 
 use crate::answer::{Answer, deliver};
-use pc_deck_text::deck_text_of;
 use pc_edges::{Failed, Sink};
 use pc_project::Project;
-use pc_reading::{Status, send};
+use pc_project::deck_text::deck_text_of;
+use pc_shell::{Status, send};
 use std::alloc::AllocError;
 
 /// The words of the form.

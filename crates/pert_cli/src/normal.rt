@@ -1,19 +1,19 @@
 //! `normal`: the schedule at the all-normal length.
 ghost use Rattle.std.specs.Prelude.{◌≡◌, IfOk};
-ghost use Rattle.pc_page.specs.inside.Page.{fresh};
+ghost use Rattle.pc_edges.specs.inside.page.Page.{fresh};
 ghost use Rattle.pert_cli.specs.Handing.{IsReply};
 ghost use Rattle.pert_cli.specs.inside.Handing.{Answers};
 ghost use Rattle.pert_cli.specs.Normal.{IsNormalSchedule, printed_text};
-ghost use Rattle.pc_reading.specs.Sides.{side};
+ghost use Rattle.pc_shell.specs.Sides.{side};
 ghost use Rattle.pert_cli.specs.declared.forms.Form.TheVariants.{Normal};
 
 use crate::answer::{Answer, deliver};
 use crate::schedule::NormalSchedule;
+use pc_edges::page::{PAGE_ROOM, Page};
 use pc_edges::{Failed, Sink};
-use pc_page::{PAGE_ROOM, Page};
 use pc_project::Project;
-use pc_reading::Status;
 use pc_reports::{Schedule, write_schedule};
+use pc_shell::Status;
 use std::alloc::{AllocError, Global};
 
 /// The words of the form.

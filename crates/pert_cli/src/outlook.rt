@@ -2,19 +2,19 @@
 ghost use Rattle.std.specs.Prelude.{◌++◌};
 ghost use Rattle.pc_reports.specs.OutlookText.{outlook_text};
 ghost use Rattle.pc_reports.specs.inside.OutlookText.{IsOutlookFor};
-ghost use Rattle.pc_reading.specs.Priced.{priced_in};
+ghost use Rattle.pc_shell.specs.Priced.{priced_in};
 ghost use Rattle.pert_cli.specs.inside.Handing.{Replies};
 ghost use Rattle.pert_cli.specs.Normal.{printed_text};
 ghost use Rattle.pert_cli.specs.Point.{IsCheapest};
-ghost use Rattle.pc_reading.specs.Sides.{side};
+ghost use Rattle.pc_shell.specs.Sides.{side};
 ghost use Rattle.pert_cli.specs.declared.forms.Form.TheVariants.{Outlook};
 
 use crate::answer::{Answer, hand};
 use crate::cheapest::{CheapestSchedule, NoSchedule};
 use pc_edges::{Failed, Sink};
 use pc_project::Project;
-use pc_reading::{Status, refuse};
 use pc_reports::OutlookReport;
+use pc_shell::{Status, refuse};
 use std::alloc::Global;
 
 /// The first word of the form; the second is the length.

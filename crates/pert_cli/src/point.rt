@@ -1,20 +1,20 @@
 //! `point L`: a schedule of least cost for the length L.
 ghost use Rattle.std.specs.Prelude.{◌≡◌};
-ghost use Rattle.pc_page.specs.inside.Page.{fresh};
-ghost use Rattle.pc_reading.specs.Priced.{priced_in};
+ghost use Rattle.pc_edges.specs.inside.page.Page.{fresh};
+ghost use Rattle.pc_shell.specs.Priced.{priced_in};
 ghost use Rattle.pert_cli.specs.inside.Handing.{Replies};
 ghost use Rattle.pert_cli.specs.Normal.{printed_text};
 ghost use Rattle.pert_cli.specs.Point.{IsCheapest};
-ghost use Rattle.pc_reading.specs.Sides.{side};
+ghost use Rattle.pc_shell.specs.Sides.{side};
 ghost use Rattle.pert_cli.specs.declared.forms.Form.TheVariants.{Point};
 
 use crate::answer::{Answer, hand};
 use crate::cheapest::{CheapestSchedule, NoSchedule};
+use pc_edges::page::{PAGE_ROOM, Page};
 use pc_edges::{Failed, Sink};
-use pc_page::{PAGE_ROOM, Page};
 use pc_project::Project;
-use pc_reading::{Status, refuse};
 use pc_reports::write_schedule;
+use pc_shell::{Status, refuse};
 use std::alloc::Global;
 
 /// The first word of the form; the second is the length.

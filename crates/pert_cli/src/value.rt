@@ -3,14 +3,14 @@ ghost use Rattle.pc_reports.specs.Earned.{IsEarned};
 ghost use Rattle.pc_reports.specs.ValueText.{value_text};
 ghost use Rattle.pert_cli.specs.Handing.{IsReply};
 ghost use Rattle.pert_cli.specs.inside.Handing.{Answers};
-ghost use Rattle.pc_reading.specs.Sides.{side};
+ghost use Rattle.pc_shell.specs.Sides.{side};
 ghost use Rattle.pert_cli.specs.declared.forms.Form.TheVariants.{Value};
 
 use crate::answer::{Answer, deliver};
 use pc_edges::{Failed, Sink};
 use pc_project::Project;
-use pc_reading::Status;
 use pc_reports::ValueReport;
+use pc_shell::Status;
 use std::alloc::Global;
 
 /// The words of the form.

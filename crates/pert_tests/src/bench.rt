@@ -1,7 +1,7 @@
 //! The benchmark: its figures, that it reads nothing, and the certificates of its decks.
 
 use crate::testing::{Edges, SMALL, Task, USAGE, check_of, left_by, run_of};
-use pc_bench::{MOST_ACTIVITIES, bench_deck};
+use pc_curve::bench::{MOST_ACTIVITIES, bench_deck};
 use std::alloc::{AllocError, Global};
 use std::test::Fail;
 

@@ -6,7 +6,7 @@
 #![tactic(auto)]
 
 use pc_edges::{FileSource, ReadSource, WriteSink, draw_key};
-use pc_reading::{Status, deck_name, words_of};
+use pc_shell::{Status, deck_name, words_of};
 use pc_whatif::session_run;
 use std::process::ExitCode;
 

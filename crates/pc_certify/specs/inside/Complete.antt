@@ -4,8 +4,8 @@ use Rattle.std.specs.Prelude.{◌≡◌, ℕ, List}
 use Rattle.pc_model.specs.Walk.{IsWalk, walk_sum}
 use Rattle.pc_model.specs.Network.{Network}
 use Rattle.pc_model.specs.Schedule.{normals, crashes}
-use Rattle.pc_curve_laws.specs.Segment.{Segment}
-use Rattle.pc_curve_laws.specs.Cover.{IsFront}
+use Rattle.pc_laws.specs.Segment.{Segment}
+use Rattle.pc_laws.specs.Cover.{IsFront}
 use Rattle.pc_crash.specs.Priced.{PricedNetwork, knees_in}
 
 -- the walk leads from the start to the end, and its lengths add up to a number

@@ -2,11 +2,11 @@
 -- Here is what no clause of a top call and no law reaches.
 use Rattle.std.specs.Prelude.{◌≡◌, ℕ, false, List, All}
 use Rattle.pc_model.specs.Schedule.{IsAllNormalLength, IsAllCrashLength}
-use Rattle.pc_curve_laws.specs.Segment.{Segment}
-use Rattle.pc_curve_laws.specs.Cover.{IsFront}
+use Rattle.pc_laws.specs.Segment.{Segment}
+use Rattle.pc_laws.specs.Cover.{IsFront}
 use Rattle.pc_cert.specs.Text.{text_of, AllFit}
 use Rattle.pc_crash.specs.Priced.{PricedNetwork, knees_in}
-use Rattle.pc_page.specs.inside.Puts.{Desk, Adds}
+use Rattle.pc_edges.specs.inside.page.Puts.{Desk, Adds}
 use Rattle.pc_certify.specs.Document.{head_lines, segment_lines}
 use Rattle.pc_certify.specs.Complete.{begun_lines}
 use Rattle.pc_flow.specs.Courses.{Course, lower_of}

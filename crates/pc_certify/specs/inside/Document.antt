@@ -1,7 +1,7 @@
 -- The lines of a certificate: what its writer says of a network, of two walks along it, and of the segments of its curve.
 -- Here is what no clause of a top call and no law reaches.
 use Rattle.std.specs.Prelude.{ℕ, ◌<◌, length}
-use Rattle.pc_curve_laws.specs.Segment.{Segment as Stretch}
+use Rattle.pc_laws.specs.Segment.{Segment as Stretch}
 use Rattle.pc_crash.specs.Priced.{PricedNetwork, knees_in}
 use Rattle.pc_cert.specs.Lines.{IsSmall}
 

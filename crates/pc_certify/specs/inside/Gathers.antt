@@ -1,6 +1,6 @@
 -- Lines that go on to a page many at a time.
 use Rattle.std.specs.Prelude.{◌≡◌, ℕ, ◌+◌, List, ◌++◌, length, take}
-use Rattle.pc_page.specs.inside.Puts.{Desk, Adds}
+use Rattle.pc_edges.specs.inside.page.Puts.{Desk, Adds}
 
 -- a text was put behind lines that were gathered: a front of both was put on the page, and the rest is gathered now
 pub record Gathers (old : Desk) (before : List ℕ) (new : Desk) (after : List ℕ) (text : List ℕ) : Type 0 where

@@ -1,7 +1,7 @@
 -- Segments that say the same of a network.
 use Rattle.std.specs.Prelude.{◌≡◌, ℕ, ◌<◌, List, length}
-use Rattle.pc_curve_laws.specs.Segment.{Segment}
-use Rattle.pc_curve_laws.specs.Cover.{segment_at}
+use Rattle.pc_laws.specs.Segment.{Segment}
+use Rattle.pc_laws.specs.Cover.{segment_at}
 use Rattle.pc_crash.specs.Priced.{PricedNetwork, knees_in}
 
 -- two segments say the same of the events and the activities of a network

@@ -1,7 +1,7 @@
 -- The lines of a segment as they were spelled last.
 use Rattle.std.specs.Prelude.{◌≡◌, ℕ, ◌<◌, false, List, [], ◌∷◌, ◌++◌, length, slice_index_or}
 use Rattle.pc_model.specs.Codes.{code_at}
-use Rattle.pc_curve_laws.specs.Stair.{stair_of, knee_flow, crash_flow}
+use Rattle.pc_laws.specs.Stair.{stair_of, knee_flow, crash_flow}
 use Rattle.pc_crash.specs.Priced.{PricedNetwork, knees_in}
 use Rattle.pc_cert.specs.declared.line.CertLine.TheVariants.{Event, Act}
 use Rattle.pc_text.specs.Fields.{IsCode}

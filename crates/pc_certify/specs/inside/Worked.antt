@@ -3,8 +3,8 @@
 use Rattle.std.specs.Prelude.{List, ℕ, [], ◌∷◌, ◌++◌, codes}
 use Rattle.std.specs.List.{flat_map}
 use Rattle.pc_model.specs.Worked.{small_net, small_terms, small_pieces}
-use Rattle.pc_curve_laws.specs.Segment.{Segment}
-use Rattle.pc_curve_laws.specs.Worked.{listed}
+use Rattle.pc_laws.specs.Segment.{Segment}
+use Rattle.pc_laws.specs.Worked.{listed}
 use Rattle.pc_crash.specs.Priced.{PricedNetwork}
 
 -- the deck with one slope each

@@ -2,8 +2,8 @@
 -- Here is what no clause of a top call and no law reaches.
 use Rattle.std.specs.Prelude.{◌≡◌, ℕ, ◌≤◌, List, length, Some, None}
 use Rattle.pc_model.specs.Schedule.{IsAllNormalLength, IsAllCrashLength}
-use Rattle.pc_curve_laws.specs.Segment.{Segment}
-use Rattle.pc_curve_laws.specs.Cover.{IsCovering, IsReadRight}
+use Rattle.pc_laws.specs.Segment.{Segment}
+use Rattle.pc_laws.specs.Cover.{IsCovering, IsReadRight}
 use Rattle.pc_cert.specs.declared.line.CertLine.{CertLine}
 use Rattle.pc_cert.specs.declared.place.Place.TheVariants.{Start, Ended}
 use Rattle.pc_cert.specs.Text.{ran}

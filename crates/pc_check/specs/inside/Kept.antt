@@ -1,6 +1,6 @@
 -- What a checker keeps, as what is known of the lines that have come.
 use Rattle.std.specs.Prelude.{false, length, slice_index, slice_index_or}
-use Rattle.pc_curve_laws.specs.Segment.{Segment}
+use Rattle.pc_laws.specs.Segment.{Segment}
 use Rattle.pc_check.specs.declared.kept.Kept.{Kept}
 use Rattle.pc_check.specs.declared.kept.Tally.{Tally}
 use Rattle.pc_check.specs.Known.{Known}

@@ -3,7 +3,7 @@ use Rattle.std.specs.Prelude.{◌≡◌, ℕ, ◌+◌, ◌*◌, ◌^◌, ◌<◌
 use Rattle.pc_model.specs.Cost.{activity_cost}
 use Rattle.pc_model.specs.Sums.{sum_to, at_event}
 use Rattle.pc_model.specs.Walk.{from_of, to_of}
-use Rattle.pc_curve_laws.specs.Segment.{span, is_forward, is_backward, rises_above}
+use Rattle.pc_laws.specs.Segment.{span, is_forward, is_backward, rises_above}
 use Rattle.pc_crash.specs.Priced.{PricedNetwork, knees_in}
 use Rattle.pc_check.specs.declared.kept.Tally.{Tally}
 use Rattle.pc_check.specs.declared.passed.Passed.{Passed}

@@ -1,7 +1,7 @@
 -- The breakpoints of a curve one after another, from the longest length down.
 -- Here is what no clause of a top call and no law reaches.
 use Rattle.std.specs.Prelude.{◌≡◌, ℕ, ◌≤◌, true, false, Option, Some, None}
-use Rattle.pc_curve_laws.specs.Curve.{Breakpoint}
+use Rattle.pc_laws.specs.Curve.{Breakpoint}
 use Rattle.pc_curve.specs.declared.breaks.Break.{Break}
 use Rattle.pc_flow.specs.Courses.{Course, upper_of, lower_of}
 use Rattle.pc_curve.specs.Points.{curve_in}

@@ -1,7 +1,7 @@
 -- A schedule for a length, read from a solver.
 -- Here is what no clause of a top call and no law reaches.
 use Rattle.std.specs.Prelude.{◌≡◌, ℕ, ◌<◌, ◌≤◌, true, List, length, slice_index}
-use Rattle.pc_curve_laws.specs.Segment.{Segment, Holds, times_for, durations_for}
+use Rattle.pc_laws.specs.Segment.{Segment, Holds, times_for, durations_for}
 use Rattle.pc_crash.specs.Priced.{PricedNetwork}
 use Rattle.pc_flow.specs.Courses.{Course, upper_of}
 use Rattle.pc_flow.specs.inside.Courses.{present, IsOnCurve}

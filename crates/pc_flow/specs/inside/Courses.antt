@@ -5,14 +5,14 @@ use Rattle.pc_model.specs.Schedule.{normal_of, lesser_of, IsAllNormalLength, IsA
 use Rattle.pc_model.specs.Network.{IsOrder}
 use Rattle.pc_model.specs.Cost.{IsPriced, cost_of}
 use Rattle.pc_model.specs.Pieces.{ArePieces}
-use Rattle.pc_curve_laws.specs.Segment.{Segment, IsSegment}
-use Rattle.pc_curve_laws.specs.State.{segment_of}
-use Rattle.pc_curve_laws.specs.Steps.{filled_state}
+use Rattle.pc_laws.specs.Segment.{Segment, IsSegment}
+use Rattle.pc_laws.specs.State.{segment_of}
+use Rattle.pc_laws.specs.Steps.{filled_state}
 use Rattle.pc_crash.specs.Priced.{PricedNetwork, knees_in, ArePiecesWithinLimits}
 use Rattle.pc_crash.specs.Terms.{AreWithinLimits}
-use Rattle.pc_board.specs.Sheets.{Sheet, time_of, rank_of, flow_of}
-use Rattle.pc_search.specs.inside.Growing.{AreListed}
-use Rattle.pc_search.specs.inside.Labelling.{slope_at, IsBetween, MayFall}
+use Rattle.pc_flow.specs.board.Sheets.{Sheet, time_of, rank_of, flow_of}
+use Rattle.pc_flow.specs.inside.search.Growing.{AreListed}
+use Rattle.pc_flow.specs.inside.search.Labelling.{slope_at, IsBetween, MayFall}
 use Rattle.pc_flow.specs.declared.early.TheConstants.{MAX_LENGTH}
 use Rattle.pc_flow.specs.Courses.{Course, upper_of, lower_of, IsLevel}
 

@@ -1,9 +1,9 @@
 -- The two parts of the way from one segment to the next.
 use Rattle.std.specs.Prelude.{◌≡◌, ℕ, ◌<◌, ◌≤◌}
 use Rattle.pc_crash.specs.Priced.{PricedNetwork}
-use Rattle.pc_board.specs.Sheets.{Sheet}
-use Rattle.pc_search.specs.Labelling.{length_at}
-use Rattle.pc_search.specs.inside.Labelling.{HasFallen, HasLabelled}
+use Rattle.pc_flow.specs.board.Sheets.{Sheet}
+use Rattle.pc_flow.specs.search.Labelling.{length_at}
+use Rattle.pc_flow.specs.inside.search.Labelling.{HasFallen, HasLabelled}
 
 -- the events without a label have fallen, or there was nothing to fall
 pub record HasDescended (net : PricedNetwork) (s t : Sheet) (fall : ℕ) : Type 0 where

@@ -4,8 +4,8 @@ use Rattle.pc_cells.specs.Spans.{Cells}
 use Rattle.pc_model.specs.Network.{IsEarly}
 use Rattle.pc_model.specs.Schedule.{normals}
 use Rattle.pc_crash.specs.Priced.{PricedNetwork}
-use Rattle.pc_board.specs.Sheets.{Sheet, kept_time, rank_of}
-use Rattle.pc_board.specs.inside.Sheets.{queue_of, clear_sheet}
+use Rattle.pc_flow.specs.board.Sheets.{Sheet, kept_time, rank_of}
+use Rattle.pc_flow.specs.inside.board.Sheets.{queue_of, clear_sheet}
 use Rattle.pc_flow.specs.declared.early.TheConstants.{MAX_LENGTH}
 
 -- the start alone has a label, and each event its time where all durations are normal; nothing flows and none waits

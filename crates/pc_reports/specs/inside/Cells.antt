@@ -2,7 +2,7 @@
 -- Here is what no clause of a top call and no law reaches.
 use Rattle.std.specs.Prelude.{ℕ, ℤ, List, [], ◌∷◌, ◌++◌, decimal}
 use Rattle.std.specs.Fmt.{signed_decimal}
-use Rattle.pc_page.specs.Cells.{right}
+use Rattle.pc_edges.specs.page.Cells.{right}
 
 -- a cell behind others, with the space before it: the level of an item, an amount, and the title that ends the line
 abbrev pub level_cell : ℕ → List ℕ

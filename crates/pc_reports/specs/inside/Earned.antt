@@ -1,7 +1,7 @@
 -- What the report of the value of work tells.
 -- Here is what no clause of a top call and no law reaches.
 use Rattle.std.specs.Prelude.{ℕ, ◌<◌, ◌^◌}
-use Rattle.pc_status.specs.Statuses.{IsSixths}
+use Rattle.pc_accounts.specs.status.Statuses.{IsSixths}
 use Rattle.pc_times.specs.Forecast.{Expected, IsForecast}
 use Rattle.pc_project.specs.Project.{Project}
 

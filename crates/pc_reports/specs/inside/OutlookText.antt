@@ -6,7 +6,7 @@ use Rattle.pc_model.specs.Cost.{activity_cost, cost_of}
 use Rattle.pc_model.specs.Pieces.{knees_of}
 use Rattle.pc_wbs.specs.Climb.{IsTop}
 use Rattle.pc_project.specs.Project.{Project}
-use Rattle.pc_figures.specs.Outlook.{Outlook, IsWholeOutlook, amounts_at}
+use Rattle.pc_rollup.specs.figures.Outlook.{Outlook, IsWholeOutlook, amounts_at}
 use Rattle.pc_reports.specs.OutlookText.{cost_at, IsOutlook}
 
 -- the costs are those of the first n activities at their durations

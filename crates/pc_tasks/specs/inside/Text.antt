@@ -2,7 +2,7 @@
 -- Here is what no clause of a top call and no law reaches.
 use Rattle.std.specs.Prelude.{ℕ, List}
 use Rattle.pc_deck.specs.Deck.{Deck}
-use Rattle.pc_deck_text.specs.Written.{IsDeckText}
+use Rattle.pc_project.specs.deck_text.Written.{IsDeckText}
 use Rattle.pc_project.specs.Project.{Project}
 use Rattle.pc_tasks.specs.Drawn.{drawn}
 use Rattle.pc_tasks.specs.Text.{IsDrawnProject}

@@ -1,12 +1,12 @@
 -- How the answering of lines on a project ends.
 use Rattle.std.specs.Prelude.{ℕ, ◌<◌, ◌≤◌, List, length, Result, Ok, Err}
-use Rattle.pc_lines.specs.declared.reader.TheConstants.{INPUT_LIMIT}
-use Rattle.pc_lines.specs.Lines.{lines_of, whole_lines}
-use Rattle.pc_lines.specs.declared.talking.TalkError.{TalkError}
-use Rattle.pc_lines.specs.declared.talking.TalkError.TheVariants as talk
-use Rattle.pc_reading.specs.declared.status.Status.{Status}
-use Rattle.pc_reading.specs.declared.status.Status.TheVariants.{Done, OutOfMemory, ReadFault, WriteFault, TooLong}
-use Rattle.pc_reading.specs.Sides.{Side, HadFault, IsReadToEnd, IsUntouched}
+use Rattle.pc_edges.specs.declared.lines.reader.TheConstants.{INPUT_LIMIT}
+use Rattle.pc_edges.specs.lines.Lines.{lines_of, whole_lines}
+use Rattle.pc_edges.specs.declared.lines.talking.TalkError.{TalkError}
+use Rattle.pc_edges.specs.declared.lines.talking.TalkError.TheVariants as talk
+use Rattle.pc_shell.specs.declared.status.Status.{Status}
+use Rattle.pc_shell.specs.declared.status.Status.TheVariants.{Done, OutOfMemory, ReadFault, WriteFault, TooLong}
+use Rattle.pc_shell.specs.Sides.{Side, HadFault, IsReadToEnd, IsUntouched}
 use Rattle.pc_whatif.specs.Heard.{HadSteadyFaults, HasAnswered, HasAnsweredSome, first_lines}
 
 -- how it ends

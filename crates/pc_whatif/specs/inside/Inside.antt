@@ -1,7 +1,7 @@
 -- What contracts see of a session, by what it keeps.
 use Rattle.std.specs.Prelude.{◌≡◌, ◌≤◌, length, None}
-use Rattle.pc_page.specs.inside.Page.{fresh}
-use Rattle.pc_trials.specs.inside.Trials.{trial_cells}
+use Rattle.pc_edges.specs.inside.page.Page.{fresh}
+use Rattle.pc_whatif.specs.inside.trials.Trials.{trial_cells}
 use Rattle.pc_whatif.specs.declared.session.Session.TheInside.{Inside}
 use Rattle.pc_whatif.specs.inside.Planning.{Planning, IsEditionOf, IsRenewed}
 

@@ -3,17 +3,17 @@
 use Rattle.std.specs.Prelude.{◌≡◌, ℕ, ◌+◌, ◌-◌, ◌<◌, ◌≤◌, List, length, slice_set, Option, Some, None}
 use Rattle.pc_crash.specs.Priced.{PricedNetwork}
 use Rattle.pc_project.specs.Project.{Project}
-use Rattle.pc_edits.specs.declared.ask.Ask.{Ask}
-use Rattle.pc_edits.specs.declared.ask.Ask.TheVariants as ask
-use Rattle.pc_edits.specs.declared.ask.Trial.{Trial}
-use Rattle.pc_edits.specs.declared.reason.Reason.{Reason}
-use Rattle.pc_edits.specs.Editing.{Editing, activity_named}
-use Rattle.pc_edits.specs.Plans.{estimates_at, expected_times, variances}
-use Rattle.pc_edits.specs.Reading.{ask_of}
-use Rattle.pc_edits.specs.Refusal.{trial_refusal}
-use Rattle.pc_trials.specs.inside.Reserved.{Reserved, IsFor, IsStanding, expected_by, variance_by}
+use Rattle.pc_whatif.specs.declared.edits.ask.Ask.{Ask}
+use Rattle.pc_whatif.specs.declared.edits.ask.Ask.TheVariants as ask
+use Rattle.pc_whatif.specs.declared.edits.ask.Trial.{Trial}
+use Rattle.pc_whatif.specs.declared.edits.reason.Reason.{Reason}
+use Rattle.pc_whatif.specs.edits.Editing.{Editing, activity_named}
+use Rattle.pc_whatif.specs.edits.Plans.{estimates_at, expected_times, variances}
+use Rattle.pc_whatif.specs.edits.Reading.{ask_of}
+use Rattle.pc_whatif.specs.edits.Refusal.{trial_refusal}
+use Rattle.pc_whatif.specs.inside.trials.Reserved.{Reserved, IsFor, IsStanding, expected_by, variance_by}
 use Rattle.pc_curve.specs.Range.{IsRange}
-use Rattle.pc_trials.specs.inside.Trials.{looks_over}
+use Rattle.pc_whatif.specs.inside.trials.Trials.{looks_over}
 use Rattle.pc_whatif.specs.Texts.{ok_text}
 use Rattle.pc_whatif.specs.Planning.{net_tried, refused, IsAnswer, editing_after}
 

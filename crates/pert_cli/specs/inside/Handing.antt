@@ -4,11 +4,11 @@ use Rattle.std.specs.Prelude.{ℕ, List}
 use Rattle.pc_faults.specs.declared.fault.Fault.{Fault}
 use Rattle.pc_project.specs.Project.{Project}
 use Rattle.pert_cli.specs.declared.forms.Form.{Form}
-use Rattle.pc_reading.specs.declared.status.Status.{Status}
-use Rattle.pc_reading.specs.declared.status.Status.TheVariants.{Done, OutOfMemory, WriteFault}
+use Rattle.pc_shell.specs.declared.status.Status.{Status}
+use Rattle.pc_shell.specs.declared.status.Status.TheVariants.{Done, OutOfMemory, WriteFault}
 use Rattle.pert_cli.specs.Forms.{IsDenial}
-use Rattle.pc_reading.specs.inside.Refusing.{Refusal}
-use Rattle.pc_reading.specs.Sides.{Side, IsUntouched, Took, TookFront}
+use Rattle.pc_shell.specs.inside.Refusing.{Refusal}
+use Rattle.pc_shell.specs.Sides.{Side, IsUntouched, Took, TookFront}
 use Rattle.pert_cli.specs.Handing.{IsReply}
 
 -- a text that answers was written, or there was no memory for it, or a fault of the sink came in it

@@ -2,7 +2,7 @@ use Rattle.std.proofs.Common.{◌≡◌, ◌∷◌, [], true, ◌∙◌, subst, 
 use Rattle.pc_text.specs.Code.{is_code}
 use Rattle.pc_cert.specs.declared.line.CertLine.TheVariants.{Head}
 use Rattle.pc_cert.specs.Text.{text_of}
-use Rattle.pc_page.proofs.PageLaws.{Adds-as, ◌⨾◌}
+use Rattle.pc_edges.proofs.lemmas.page.PageLaws.{Adds-as, ◌⨾◌}
 use Rattle.pc_certify.proofs.WordLaws.{head_words}
 use Rattle.pc_certify.proofs.FitLaws.{is_version}
 use Rattle.pc_certify.proofs.head.put_first_line.Goals as goal

@@ -1,7 +1,7 @@
 use Rattle.std.proofs.Common.{◌∷◌}
 use Rattle.pc_cert.specs.declared.line.CertLine.TheVariants.{Normal, Crash}
 use Rattle.pc_cert.proofs.TextLaws.{AllFit-append}
-use Rattle.pc_page.proofs.PageLaws.{Adds-as, ◌⨾◌}
+use Rattle.pc_edges.proofs.lemmas.page.PageLaws.{Adds-as, ◌⨾◌}
 use Rattle.pc_certify.specs.Document.{first_line, steps}
 use Rattle.pc_certify.proofs.WordLaws.{text_of-headed}
 use Rattle.pc_certify.proofs.head.put_head.Goals as goal

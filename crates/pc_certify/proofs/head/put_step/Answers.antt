@@ -1,4 +1,4 @@
-use Rattle.pc_page.proofs.PageLaws.{Adds-as, ◌⨾◌}
+use Rattle.pc_edges.proofs.lemmas.page.PageLaws.{Adds-as, ◌⨾◌}
 use Rattle.pc_certify.proofs.WordLaws.{step_words}
 use Rattle.pc_certify.proofs.head.put_step.Goals as goal
 

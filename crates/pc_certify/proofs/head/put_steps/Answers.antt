@@ -3,7 +3,7 @@ use Rattle.std.proofs.lemmas.List.{take_more}
 use Rattle.pc_model.specs.Codes.{code_at}
 use Rattle.pc_cert.specs.declared.line.CertLine.TheVariants.{Step}
 use Rattle.pc_cert.specs.Text.{AllFit, text_of}
-use Rattle.pc_page.proofs.PageLaws.{Adds-as, ◌⨾◌}
+use Rattle.pc_edges.proofs.lemmas.page.PageLaws.{Adds-as, ◌⨾◌}
 use Rattle.pc_certify.proofs.WordLaws.{text_of-map}
 use Rattle.pc_certify.proofs.FitLaws.{AllFit-map}
 use Rattle.pc_certify.proofs.head.put_steps.Goals as goal

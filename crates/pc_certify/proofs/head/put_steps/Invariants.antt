@@ -1,6 +1,6 @@
 use Rattle.std.proofs.Common.{take}
 use Rattle.pc_cert.specs.Text.{text_of, AllFit}
-use Rattle.pc_page.specs.inside.Puts.{Puts}
+use Rattle.pc_edges.specs.inside.page.Puts.{Puts}
 use Rattle.pc_certify.specs.Document.{steps}
 use Rattle.pc_certify.proofs.head.put_steps.Given as goal
 

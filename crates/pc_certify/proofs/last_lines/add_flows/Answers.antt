@@ -1,5 +1,5 @@
 use Rattle.std.proofs.Common.{◌≡◌, ◌+◌, [], ◌∷◌, ◌++◌, length, decimal, ap, ◌∙◌, append_assoc, add-one, arith}
-use Rattle.pc_curve_laws.specs.Stair.{Stair, stair_of, reach, knee_flow, crash_flow}
+use Rattle.pc_laws.specs.Stair.{Stair, stair_of, reach, knee_flow, crash_flow}
 use Rattle.pc_crash.specs.Priced.{knees_in}
 use Rattle.pc_text.specs.Fields.{spaced}
 use Rattle.pc_cert.specs.Lines.{numbers}

@@ -1,5 +1,5 @@
 use Rattle.std.proofs.Common.{◌≡◌, ◌+◌, ◌*◌, ◌-◌, ◌≤◌, ◌++◌, length}
-use Rattle.pc_curve_laws.specs.Stair.{reach, stair_of, knee_flow}
+use Rattle.pc_laws.specs.Stair.{reach, stair_of, knee_flow}
 use Rattle.pc_crash.specs.Priced.{knees_in}
 use Rattle.pc_cert.specs.Lines.{numbers}
 use Rattle.pc_certify.specs.Listed.{listed}

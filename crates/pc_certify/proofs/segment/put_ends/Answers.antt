@@ -1,7 +1,7 @@
 use Rattle.std.proofs.Common.{◌∷◌, [], ◌∙◌}
 use Rattle.pc_cert.specs.declared.line.CertLine.TheVariants.{Segment}
 use Rattle.pc_cert.specs.Text.{text_of}
-use Rattle.pc_page.proofs.PageLaws.{Adds-as, ◌⨾◌}
+use Rattle.pc_edges.proofs.lemmas.page.PageLaws.{Adds-as, ◌⨾◌}
 use Rattle.pc_certify.proofs.WordLaws.{segment_words}
 use Rattle.pc_certify.proofs.segment.put_ends.Goals as goal
 

@@ -1,5 +1,5 @@
 use Rattle.std.proofs.Common.{below_more, arith}
-use Rattle.pc_page.specs.inside.Puts.{desk}
+use Rattle.pc_edges.specs.inside.page.Puts.{desk}
 use Rattle.pc_certify.proofs.GatherLaws.{Gathers-nil, Gathers-as, Gathers-then}
 use Rattle.pc_certify.specs.Document.{event_line}
 use Rattle.pc_certify.proofs.WordLaws.{text_of-more}

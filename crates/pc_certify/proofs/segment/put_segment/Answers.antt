@@ -1,6 +1,6 @@
 use Rattle.std.proofs.Common.{length}
 use Rattle.pc_cert.specs.declared.line.CertLine.TheVariants.{Close}
-use Rattle.pc_page.proofs.PageLaws.{Adds-as, ◌⨾◌}
+use Rattle.pc_edges.proofs.lemmas.page.PageLaws.{Adds-as, ◌⨾◌}
 use Rattle.pc_certify.specs.Listed.{listed}
 use Rattle.pc_certify.specs.Document.{ends_line, event_line, act_line}
 use Rattle.pc_certify.proofs.WordLaws.{text_of-between}

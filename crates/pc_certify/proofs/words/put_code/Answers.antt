@@ -1,5 +1,5 @@
 use Rattle.std.proofs.Common.{append-nil, sym, ◌∙◌}
-use Rattle.pc_page.proofs.PageLaws.{Adds-as, ◌⨾◌}
+use Rattle.pc_edges.proofs.lemmas.page.PageLaws.{Adds-as, ◌⨾◌}
 use Rattle.pc_certify.proofs.words.put_code.Goals as goal
 
 pub returns-clause-text : goal.returns-clause-text

@@ -1,6 +1,6 @@
 use Rattle.std.proofs.Common.{append-nil, sym}
 use Rattle.std.specs.Prelude.{decimal}
-use Rattle.pc_page.proofs.PageLaws.{Adds-as, ◌⨾◌}
+use Rattle.pc_edges.proofs.lemmas.page.PageLaws.{Adds-as, ◌⨾◌}
 use Rattle.pc_certify.proofs.words.put_number.Goals as goal
 
 pub returns : goal.returns

@@ -1,7 +1,7 @@
 use Rattle.std.proofs.Common.{◌≡◌, true, false, [], ◌∷◌, ◌++◌, sym, ◌∙◌}
 use Rattle.std.proofs.lemmas.List.Elements.{All-nil, All-push}
 use Rattle.pc_cert.specs.Text.{AllFit}
-use Rattle.pc_page.proofs.PageLaws.{Adds-as, ◌⨾◌}
+use Rattle.pc_edges.proofs.lemmas.page.PageLaws.{Adds-as, ◌⨾◌}
 use Rattle.pc_certify.specs.Document.{segment_lines}
 use Rattle.pc_certify.proofs.CertifiedLaws.{text_begins, text_goes_on, walk_known}
 use Rattle.pc_flow.specs.inside.Courses.{present, HasEnded}

@@ -1,4 +1,4 @@
-use Rattle.pc_page.specs.inside.Puts.{desk}
+use Rattle.pc_edges.specs.inside.page.Puts.{desk}
 use Rattle.pc_certify.proofs.DescentLaws.{IsPut, still_to_come}
 use Rattle.pc_certify.specs.inside.Spelled.{AreEventsSpelled, AreActsSpelled}
 use Rattle.pc_certify.proofs.writing.put_segments.Given as goal

@@ -1,6 +1,6 @@
 use Rattle.pc_cert.specs.Text.{text_of}
-use Rattle.pc_page.specs.inside.Puts.{desk}
-use Rattle.pc_page.proofs.PageLaws.{Adds-as, ◌⨾◌}
+use Rattle.pc_edges.specs.inside.page.Puts.{desk}
+use Rattle.pc_edges.proofs.lemmas.page.PageLaws.{Adds-as, ◌⨾◌}
 use Rattle.pc_certify.specs.Document.{document_lines}
 use Rattle.pc_certify.proofs.CertifiedLaws.{text_ends, document_fits}
 use Rattle.pc_certify.proofs.CertificateLaws.{complete, certificate}

@@ -1,5 +1,5 @@
 use Rattle.std.proofs.Common.{sym, ap, ◌∙◌}
-use Rattle.pc_curve_laws.specs.Segment.{head_at}
+use Rattle.pc_laws.specs.Segment.{head_at}
 use Rattle.pc_check.specs.Conditions.{is_slack_in}
 use Rattle.pc_check.specs.inside.Kept.{stretch_of}
 use Rattle.pc_check.proofs.StillLaws.{stands_still, still_slack}

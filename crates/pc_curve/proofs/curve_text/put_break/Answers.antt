@@ -1,4 +1,4 @@
-use Rattle.pc_page.proofs.PageLaws.{◌▸◌}
+use Rattle.pc_edges.proofs.lemmas.page.PageLaws.{◌▸◌}
 use Rattle.pc_curve.proofs.curve_text.put_break.Goals as goal
 
 pub returns : goal.returns

@@ -1,5 +1,5 @@
 use Rattle.std.proofs.Common.{◌<◌, subst, sym, arith}
-use Rattle.pc_page.specs.inside.Puts.{desk}
+use Rattle.pc_edges.specs.inside.page.Puts.{desk}
 use Rattle.pc_flow.proofs.LookLaws.{further-stays, further-joins, looks-none, looks-join}
 use Rattle.pc_curve.specs.inside.Breaks.{StandsAt, StandsBy}
 use Rattle.pc_curve.proofs.TextLaws.{ArePutTo, still_to_come, fewer, put-begins, put-more}

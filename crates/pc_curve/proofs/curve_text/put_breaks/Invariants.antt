@@ -1,5 +1,5 @@
 use Rattle.std.proofs.Common.{◌+◌, ◌≤◌}
-use Rattle.pc_page.specs.inside.Puts.{desk}
+use Rattle.pc_edges.specs.inside.page.Puts.{desk}
 use Rattle.pc_flow.specs.Courses.{IsFurther, most_looks}
 use Rattle.pc_curve.proofs.TextLaws.{ArePutTo, still_to_come}
 use Rattle.pc_curve.proofs.curve_text.put_breaks.Given as goal

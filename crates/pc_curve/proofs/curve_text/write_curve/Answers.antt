@@ -1,6 +1,6 @@
 use Rattle.std.proofs.Common.{refl, subst}
 use Rattle.pc_model.specs.Schedule.{IsAllNormalLength, IsAllCrashLength}
-use Rattle.pc_page.specs.inside.Puts.{desk}
+use Rattle.pc_edges.specs.inside.page.Puts.{desk}
 use Rattle.pc_curve.specs.CurveText.{curve_text}
 use Rattle.pc_curve.proofs.curve_text.write_curve.Goals as goal
 

@@ -1,5 +1,5 @@
 use Rattle.std.proofs.Common.{◌≡◌, ℕ, ◌<◌, slice_index}
-use Rattle.pc_curve_laws.specs.Segment.{times_for}
+use Rattle.pc_laws.specs.Segment.{times_for}
 use Rattle.pc_flow.specs.inside.Courses.{present}
 use Rattle.pc_curve.proofs.points.read_times.Given as goal
 

@@ -1,5 +1,5 @@
 use Rattle.std.proofs.Common.{◌≡◌, ◌+◌, ◌-◌, ◌*◌, ◌≤◌, refl, sym, ap, subst, arith}
-use Rattle.pc_curve_laws.specs.Segment.{cost_for}
+use Rattle.pc_laws.specs.Segment.{cost_for}
 use Rattle.pc_flow.specs.inside.Courses.{present}
 use Rattle.pc_curve.specs.Points.{curve_in}
 use Rattle.pc_curve.proofs.ReadLaws.{reading-small, read-least}

@@ -1,6 +1,6 @@
 use Rattle.std.proofs.Common.{◌≡◌, length, ap, subst, arith}
 use Rattle.pc_model.proofs.Walks.PlaceLaws.{ord_max-nat}
-use Rattle.pc_board.specs.Sheets.{kept_time}
+use Rattle.pc_flow.specs.board.Sheets.{kept_time}
 use Rattle.pc_flow.specs.inside.Paces.{durations_at}
 use Rattle.pc_flow.proofs.EarlyTimes.{IsArrivalOf, arrival-more, early-from_arrival}
 use Rattle.pc_flow.proofs.early.latest_arrival.Goals as goal

@@ -1,4 +1,4 @@
-use Rattle.pc_board.specs.Sheets.{kept_time}
+use Rattle.pc_flow.specs.board.Sheets.{kept_time}
 use Rattle.pc_flow.specs.inside.Paces.{durations_at}
 use Rattle.pc_flow.proofs.EarlyTimes.{IsArrivalOf}
 use Rattle.pc_flow.proofs.early.latest_arrival.Given as goal

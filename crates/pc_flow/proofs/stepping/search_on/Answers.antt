@@ -1,11 +1,11 @@
 use Rattle.std.proofs.Common.{◌+◌, ◌*◌, ◌<◌, ◌≤◌, length, refl, ap, arith}
 use Rattle.std.proofs.Math.Nat.{mul-le-mul_left}
-use Rattle.pc_curve_laws.proofs.Stairs.StairStates.{stair-fall_positive}
+use Rattle.pc_laws.proofs.Stairs.StairStates.{stair-fall_positive}
 use Rattle.pc_crash.specs.Priced.{knees_in}
-use Rattle.pc_board.specs.Sheets.{time_of, flow_of}
-use Rattle.pc_search.specs.inside.Choosing.{moving}
-use Rattle.pc_search.specs.Labelling.{length_at}
-use Rattle.pc_search.specs.inside.Labelling.{slope_at}
+use Rattle.pc_flow.specs.board.Sheets.{time_of, flow_of}
+use Rattle.pc_flow.specs.inside.search.Choosing.{moving}
+use Rattle.pc_flow.specs.search.Labelling.{length_at}
+use Rattle.pc_flow.specs.inside.search.Labelling.{slope_at}
 use Rattle.pc_flow.proofs.stepping.search_on.Goals as goal
 
 pub returns-then-time-shortest-clause-counted : goal.returns-then-time-shortest-clause-counted

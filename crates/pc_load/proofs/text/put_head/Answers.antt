@@ -1,5 +1,5 @@
 use Rattle.std.proofs.Common.{◌∙◌}
-use Rattle.pc_page.proofs.PageLaws.{◌▸◌, Adds-as}
+use Rattle.pc_edges.proofs.lemmas.page.PageLaws.{◌▸◌, Adds-as}
 use Rattle.pc_load.proofs.text.put_head.Goals as goal
 
 pub returns : goal.returns

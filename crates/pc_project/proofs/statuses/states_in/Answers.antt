@@ -1,6 +1,6 @@
 use Rattle.std.proofs.Common.{◌∙◌, sym, subst}
 use Rattle.std.proofs.lemmas.List.{length-map}
-use Rattle.pc_status.specs.Statuses.{AreInOrder}
+use Rattle.pc_accounts.specs.status.Statuses.{AreInOrder}
 use Rattle.pc_project.specs.DisorderFaults.{HasDisorder, as_of_in}
 use Rattle.pc_faults.specs.inside.First.{IsFirstIn}
 use Rattle.pc_project.specs.Project.{status_of}

@@ -1,7 +1,7 @@
 use Rattle.std.proofs.Common.{◌∙◌, length, ap, arith}
 use Rattle.std.proofs.lemmas.List.{length-map}
 use Rattle.pc_faults.specs.declared.kind.Kind.TheVariants.{Status}
-use Rattle.pc_status.specs.Statuses.{status_at}
+use Rattle.pc_accounts.specs.status.Statuses.{status_at}
 use Rattle.pc_project.specs.Project.{status_of}
 use Rattle.pc_project.proofs.FigureLaws.{are_known}
 use Rattle.pc_project.proofs.statuses.states_of.Goals as goal

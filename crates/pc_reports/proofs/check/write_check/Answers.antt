@@ -1,5 +1,5 @@
 use Rattle.std.proofs.Common.{codes, ap}
-use Rattle.pc_page.proofs.PageLaws.{◌⨾◌, Adds-as}
+use Rattle.pc_edges.proofs.lemmas.page.PageLaws.{◌⨾◌, Adds-as}
 use Rattle.pc_reports.specs.Lines.{code_line}
 use Rattle.pc_reports.specs.Check.{counts_text}
 use Rattle.pc_reports.proofs.check.write_check.Goals as goal

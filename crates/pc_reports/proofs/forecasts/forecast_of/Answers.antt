@@ -1,5 +1,5 @@
 use Rattle.std.proofs.Common.{arith}
-use Rattle.pc_figures.proofs.PushLaws.{if_answered}
+use Rattle.pc_rollup.proofs.lemmas.figures.PushLaws.{if_answered}
 use Rattle.pc_reports.proofs.forecasts.forecast_of.Goals as goal
 
 pub forecast-requires : goal.forecast-requires

@@ -1,6 +1,6 @@
 use Rattle.std.proofs.Common.{◌≡◌, ℕ, List, slice_index, ap, subst, ◌∙◌, arith}
 use Rattle.std.proofs.lemmas.List.{get_or_default}
-use Rattle.pc_figures.proofs.PushLaws.{if_answered}
+use Rattle.pc_rollup.proofs.lemmas.figures.PushLaws.{if_answered}
 use Rattle.pc_model.specs.Network.{Network}
 use Rattle.pc_times.specs.Late.{AreLate}
 use Rattle.pc_times.specs.Times.{AreEarly}

@@ -1,4 +1,4 @@
-use Rattle.pc_page.proofs.PageLaws.{◌▸◌, Adds-as}
+use Rattle.pc_edges.proofs.lemmas.page.PageLaws.{◌▸◌, Adds-as}
 use Rattle.pc_reports.proofs.lines.put_code.Goals as goal
 
 pub returns : goal.returns

@@ -1,4 +1,4 @@
-use Rattle.pc_figures.proofs.PushLaws.{if_answered}
+use Rattle.pc_rollup.proofs.lemmas.figures.PushLaws.{if_answered}
 use Rattle.pc_reports.proofs.OutlookLaws.{costs_told}
 use Rattle.pc_reports.proofs.outlook_costs.costs_at.Goals as goal
 

@@ -1,5 +1,5 @@
 use Rattle.std.proofs.Common.{arith}
-use Rattle.pc_figures.proofs.PushLaws.{if_answered}
+use Rattle.pc_rollup.proofs.lemmas.figures.PushLaws.{if_answered}
 use Rattle.pc_reports.proofs.OutlookLaws.{outlook_told, top_told}
 use Rattle.pc_reports.proofs.outlook_report.outlook_at.Goals as goal
 

@@ -1,4 +1,4 @@
-use Rattle.pc_page.proofs.PageLaws.{◌⨾◌}
+use Rattle.pc_edges.proofs.lemmas.page.PageLaws.{◌⨾◌}
 use Rattle.pc_reports.specs.OutlookText.{outlook_text}
 use Rattle.pc_reports.proofs.outlook_report.put_outlook.Goals as goal
 

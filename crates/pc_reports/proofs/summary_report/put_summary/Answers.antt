@@ -1,6 +1,6 @@
 use Rattle.std.proofs.Common.{ℕ, List, codes, ap, ◌∙◌}
 use Rattle.std.specs.Prelude.{ℤ}
-use Rattle.pc_page.proofs.PageLaws.{◌⨾◌, Adds-as}
+use Rattle.pc_edges.proofs.lemmas.page.PageLaws.{◌⨾◌, Adds-as}
 use Rattle.pc_reports.specs.Lines.{dated_line}
 use Rattle.pc_reports.specs.SummaryText.{summary_text}
 use Rattle.pc_reports.proofs.summary_report.put_summary.Goals as goal

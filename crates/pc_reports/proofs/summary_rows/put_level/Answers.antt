@@ -1,5 +1,5 @@
 use Rattle.std.proofs.Common.{rules}
-use Rattle.pc_page.proofs.PageLaws.{◌▸◌, Adds-as}
+use Rattle.pc_edges.proofs.lemmas.page.PageLaws.{◌▸◌, Adds-as}
 use Rattle.pc_reports.specs.inside.Cells.{amount_cell}
 use Rattle.pc_reports.proofs.summary_rows.put_level.Goals as goal
 

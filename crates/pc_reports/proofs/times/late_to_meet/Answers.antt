@@ -3,7 +3,7 @@ use Rattle.std.specs.Prelude.{ℤ, pos, ◌≤ℤ◌, unsigned_abs}
 use Rattle.std.proofs.lemmas.Int.{ints, to_z-of_z}
 use mir.Val.{SFits}
 use Rattle.pc_model.specs.Network.{Network}
-use Rattle.pc_figures.proofs.PushLaws.{if_answered}
+use Rattle.pc_rollup.proofs.lemmas.figures.PushLaws.{if_answered}
 use Rattle.pc_times.specs.declared.TheConstants.{MAX_TIME}
 use Rattle.pc_times.specs.Late.{AreLate}
 use Rattle.pc_times.specs.inside.Late.{IsUpTo}

@@ -1,6 +1,6 @@
 use Rattle.std.proofs.Common.{codes, ap}
-use Rattle.pc_page.specs.inside.Puts.{desk}
-use Rattle.pc_page.proofs.PageLaws.{◌⨾◌, Adds-as}
+use Rattle.pc_edges.specs.inside.page.Puts.{desk}
+use Rattle.pc_edges.proofs.lemmas.page.PageLaws.{◌⨾◌, Adds-as}
 use Rattle.pc_reports.specs.Lines.{code_line}
 use Rattle.pc_reports.specs.TimesText.{times_text}
 use Rattle.pc_reports.specs.inside.View.{as_shown}

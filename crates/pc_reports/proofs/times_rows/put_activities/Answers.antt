@@ -1,8 +1,8 @@
 use Rattle.std.proofs.Common.{◌≡◌, ◌<◌, [], length, slice_index_or, ap, ◌∙◌, to_z, of_z, w64, arith, rules}
 use Rattle.std.proofs.lemmas.List.{get_or_read}
 use Rattle.pc_edges.specs.Texts.{texts_to}
-use Rattle.pc_page.specs.inside.Puts.{desk}
-use Rattle.pc_page.proofs.PageLaws.{◌⨾◌, Adds-as, Adds-line, Adds-nil}
+use Rattle.pc_edges.specs.inside.page.Puts.{desk}
+use Rattle.pc_edges.proofs.lemmas.page.PageLaws.{◌⨾◌, Adds-as, Adds-line, Adds-nil}
 use Rattle.pc_reports.specs.TimesText.{activity_row}
 use Rattle.pc_reports.specs.inside.View.{as_shown}
 use Rattle.pc_reports.proofs.RowLaws.{activity_cells-same}

@@ -1,7 +1,7 @@
 use Rattle.std.proofs.Common.{ap, pos, ◌-ℤ◌, rules}
 use Rattle.std.specs.Fmt.{signed_decimal}
-use Rattle.pc_page.specs.Cells.{left, right}
-use Rattle.pc_page.proofs.PageLaws.{◌▸◌, Adds-as}
+use Rattle.pc_edges.specs.page.Cells.{left, right}
+use Rattle.pc_edges.proofs.lemmas.page.PageLaws.{◌▸◌, Adds-as}
 use Rattle.pc_reports.proofs.times_rows.put_event.Goals as goal
 
 pub returns : goal.returns

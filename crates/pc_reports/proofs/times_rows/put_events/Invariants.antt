@@ -1,5 +1,5 @@
 use Rattle.pc_edges.specs.Texts.{texts_to}
-use Rattle.pc_page.specs.inside.Puts.{Puts}
+use Rattle.pc_edges.specs.inside.page.Puts.{Puts}
 use Rattle.pc_reports.specs.TimesText.{event_row}
 use Rattle.pc_reports.specs.inside.View.{as_shown}
 use Rattle.pc_reports.proofs.times_rows.put_events.Given as goal

@@ -3,8 +3,8 @@ use Rattle.std.proofs.lemmas.List.{get_or_read, take_all}
 use Rattle.pc_edges.specs.Texts.{texts_to}
 use Rattle.pc_model.specs.declared.limits.TheConstants.{MAX_VARIANCE}
 use Rattle.pc_model.specs.Walk.{walk_sum}
-use Rattle.pc_page.specs.inside.Puts.{desk}
-use Rattle.pc_page.proofs.PageLaws.{◌⨾◌, Adds-as, Adds-line, Adds-nil}
+use Rattle.pc_edges.specs.inside.page.Puts.{desk}
+use Rattle.pc_edges.proofs.lemmas.page.PageLaws.{◌⨾◌, Adds-as, Adds-line, Adds-nil}
 use Rattle.pc_reports.specs.Lines.{code_line, number_line}
 use Rattle.pc_reports.specs.TimesText.{critical_row}
 use Rattle.pc_reports.specs.inside.View.{as_shown}

@@ -2,7 +2,7 @@ use Rattle.std.proofs.Common.{◌≡◌, ◌-◌, ◌*◌, ◌≤◌, length, ta
 use Rattle.pc_edges.specs.Texts.{texts_to}
 use Rattle.pc_model.specs.Walk.{walk_sum}
 use Rattle.pc_model.specs.declared.limits.TheConstants.{MAX_VARIANCE}
-use Rattle.pc_page.specs.inside.Puts.{Puts}
+use Rattle.pc_edges.specs.inside.page.Puts.{Puts}
 use Rattle.pc_reports.specs.TimesText.{critical_row}
 use Rattle.pc_reports.specs.inside.View.{as_shown}
 use Rattle.pc_reports.proofs.times_rows.put_path.Given as goal

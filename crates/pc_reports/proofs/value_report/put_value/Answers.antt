@@ -1,7 +1,7 @@
 use Rattle.std.proofs.Common.{ℕ, List, length, codes, ap, ◌∙◌}
 use Rattle.std.specs.Prelude.{ℤ}
 use Rattle.pc_edges.specs.Texts.{texts_to}
-use Rattle.pc_page.proofs.PageLaws.{◌⨾◌, Adds-as}
+use Rattle.pc_edges.proofs.lemmas.page.PageLaws.{◌⨾◌, Adds-as}
 use Rattle.pc_reports.specs.Earned.{Forecasts}
 use Rattle.pc_reports.specs.Lines.{dated_line}
 use Rattle.pc_reports.specs.ValueText.{forecast_row, value_text}

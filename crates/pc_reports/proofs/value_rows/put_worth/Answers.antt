@@ -1,6 +1,6 @@
 use Rattle.std.proofs.Common.{ap, rules}
-use Rattle.pc_page.specs.Cells.{left}
-use Rattle.pc_page.proofs.PageLaws.{◌▸◌, Adds-as}
+use Rattle.pc_edges.specs.page.Cells.{left}
+use Rattle.pc_edges.proofs.lemmas.page.PageLaws.{◌▸◌, Adds-as}
 use Rattle.pc_reports.specs.inside.Cells.{amount_cell}
 use Rattle.pc_reports.proofs.value_rows.put_worth.Goals as goal
 

@@ -1,7 +1,7 @@
 use Rattle.std.proofs.Common.{◌∙◌, ◌++◌, ap, map, refl, arith}
 use Rattle.std.proofs.lemmas.List.{take_all}
-use Rattle.pc_arrows.specs.Arrows.{after_arc}
-use Rattle.pc_arrows.specs.Tasks.{after_at}
+use Rattle.pc_tasks.specs.network.Arrows.{after_arc}
+use Rattle.pc_tasks.specs.network.Tasks.{after_at}
 use Rattle.pc_tasks.proofs.PutLemmas.{put_place}
 use Rattle.pc_tasks.proofs.circle.put_afters.Goals as goal
 

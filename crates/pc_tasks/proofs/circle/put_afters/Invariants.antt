@@ -1,5 +1,5 @@
 use Rattle.std.proofs.Common.{◌≡◌, ◌++◌, map, take}
-use Rattle.pc_arrows.specs.Arrows.{after_arc}
+use Rattle.pc_tasks.specs.network.Arrows.{after_arc}
 use Rattle.pc_tasks.proofs.circle.put_afters.Given as goal
 
 abbrev pub invariant-loop-after : goal.invariant-loop-after

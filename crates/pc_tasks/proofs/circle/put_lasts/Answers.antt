@@ -1,5 +1,5 @@
 use Rattle.std.proofs.Common.{◌∙◌, refl}
-use Rattle.pc_arrows.specs.Arrows.{last_arc}
+use Rattle.pc_tasks.specs.network.Arrows.{last_arc}
 use Rattle.pc_tasks.proofs.PutLemmas.{put_number}
 use Rattle.pc_tasks.proofs.circle.put_lasts.Goals as goal
 

@@ -1,5 +1,5 @@
 use Rattle.std.proofs.Common.{◌∙◌, refl}
-use Rattle.pc_arrows.specs.Arrows.{task_arc}
+use Rattle.pc_tasks.specs.network.Arrows.{task_arc}
 use Rattle.pc_tasks.proofs.PutLemmas.{put_number}
 use Rattle.pc_tasks.proofs.circle.put_tasks.Goals as goal
 

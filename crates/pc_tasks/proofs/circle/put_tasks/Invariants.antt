@@ -1,6 +1,6 @@
 use Rattle.std.proofs.Common.{◌≡◌, ◌++◌, map}
 use Rattle.std.specs.List.{range_with_len}
-use Rattle.pc_arrows.specs.Arrows.{task_arc}
+use Rattle.pc_tasks.specs.network.Arrows.{task_arc}
 use Rattle.pc_tasks.proofs.circle.put_tasks.Given as goal
 
 abbrev pub invariant-loop-i : goal.invariant-loop-i

@@ -1,5 +1,5 @@
 use Rattle.std.proofs.Common.{◌∙◌, ap}
-use Rattle.pc_arrows.specs.Tasks.{after_at}
+use Rattle.pc_tasks.specs.network.Tasks.{after_at}
 use Rattle.pc_tasks.specs.Codes.{after_code, end_code}
 use Rattle.pc_tasks.specs.Drawn.{link}
 use Rattle.pc_tasks.proofs.DrawLemmas.{put_row}

@@ -1,5 +1,5 @@
 use Rattle.std.proofs.Common.{subst}
-use Rattle.pc_arrows.specs.Tasks.{AreAmong}
+use Rattle.pc_tasks.specs.network.Tasks.{AreAmong}
 use Rattle.pc_tasks.specs.Lists.{afters_in}
 use Rattle.pc_tasks.proofs.DrawnLemmas.{afters-among, tasks-terms}
 use Rattle.pc_tasks.proofs.KeepLemmas.{keeps_tasks}

@@ -5,7 +5,7 @@ use Rattle.pc_model.specs.Pieces.{knees_of}
 use Rattle.pc_model.specs.Schedule.{HasSchedule}
 use Rattle.pc_model.specs.declared.PieceRow.{PieceRow}
 use Rattle.pc_model.specs.declared.Term.{Term}
-use Rattle.pc_arrows.specs.Arrows.{arrow_terms, arrows}
+use Rattle.pc_tasks.specs.network.Arrows.{arrow_terms, arrows}
 use Rattle.pc_project.specs.Project.{network_of, pieces_in, terms_in}
 use Rattle.pc_deck.specs.Deck.{Deck}
 use Rattle.pc_tasks.specs.Drawn.{drawn}

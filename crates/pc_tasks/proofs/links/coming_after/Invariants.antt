@@ -1,5 +1,5 @@
 use Rattle.std.proofs.Common.{take}
-use Rattle.pc_arrows.specs.Arrows.{comes_after}
+use Rattle.pc_tasks.specs.network.Arrows.{comes_after}
 use Rattle.pc_tasks.specs.inside.Marks.{AreMarks}
 use Rattle.pc_tasks.proofs.links.coming_after.Given as goal
 

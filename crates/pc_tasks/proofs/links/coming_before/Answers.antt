@@ -1,6 +1,6 @@
 use Rattle.std.proofs.Common.{subst}
 use Rattle.std.proofs.lemmas.List.{take_all}
-use Rattle.pc_arrows.specs.Arrows.{comes_before}
+use Rattle.pc_tasks.specs.network.Arrows.{comes_before}
 use Rattle.pc_tasks.specs.inside.Marks.{AreMarks}
 use Rattle.pc_tasks.proofs.MarkLemmas.{before_more}
 use Rattle.pc_tasks.proofs.links.coming_before.Goals as goal

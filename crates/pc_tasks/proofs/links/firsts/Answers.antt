@@ -1,7 +1,7 @@
 use Rattle.std.proofs.Common.{◌∙◌, ap, false, length}
 use Rattle.std.specs.Prelude.{filter, not, slice_index_or}
 use Rattle.std.specs.List.{range_with_len}
-use Rattle.pc_arrows.specs.Arrows.{comes_after}
+use Rattle.pc_tasks.specs.network.Arrows.{comes_after}
 use Rattle.pc_tasks.proofs.MarkLemmas.{unmarked-fail}
 use Rattle.pc_tasks.proofs.links.firsts.Goals as goal
 

@@ -1,8 +1,8 @@
 use Rattle.std.proofs.Common.{◌<◌, ◌∙◌, length, ap, sym, subst, arith}
 use Rattle.std.specs.Prelude.{All, slice_index}
 use Rattle.std.proofs.lemmas.List.{length-map}
-use Rattle.pc_arrows.specs.Cycles.{IsFirstTaskCycle, IsTaskCycle}
-use Rattle.pc_arrows.specs.Tasks.{AreAmong}
+use Rattle.pc_tasks.specs.network.Cycles.{IsFirstTaskCycle, IsTaskCycle}
+use Rattle.pc_tasks.specs.network.Tasks.{AreAmong}
 use Rattle.pc_deck.specs.Deck.{task_codes}
 use Rattle.pc_faults.specs.Faults.{task_cycle}
 use Rattle.pc_project.specs.Records.{codes_at}

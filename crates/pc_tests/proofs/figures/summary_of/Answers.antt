@@ -1,5 +1,5 @@
 use Rattle.std.proofs.Common.{arith}
-use Rattle.pc_figures.proofs.DepthLaws.{levels_same}
+use Rattle.pc_rollup.proofs.lemmas.figures.DepthLaws.{levels_same}
 use Rattle.pc_tests.proofs.figures.summary_of.Goals as goal
 
 pub of-requires : goal.of-requires

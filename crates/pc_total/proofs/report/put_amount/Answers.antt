@@ -1,6 +1,6 @@
 use Rattle.std.proofs.Common.{rules}
 use Rattle.std.specs.Fmt.{signed_decimal}
-use Rattle.pc_page.proofs.PageLaws.{◌▸◌, Adds-as}
+use Rattle.pc_edges.proofs.lemmas.page.PageLaws.{◌▸◌, Adds-as}
 use Rattle.pc_total.proofs.report.put_amount.Goals as goal
 
 pub returns : goal.returns

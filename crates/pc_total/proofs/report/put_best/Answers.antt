@@ -1,7 +1,7 @@
 use Rattle.std.proofs.Common.{rules}
 use Rattle.std.specs.Prelude.{codes}
 use Rattle.std.specs.Fmt.{signed_decimal}
-use Rattle.pc_page.proofs.PageLaws.{◌⨾◌, Adds-as}
+use Rattle.pc_edges.proofs.lemmas.page.PageLaws.{◌⨾◌, Adds-as}
 use Rattle.pc_total.specs.BestText.{line}
 use Rattle.pc_total.proofs.report.put_best.Goals as goal
 

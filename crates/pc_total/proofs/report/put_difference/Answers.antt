@@ -1,4 +1,4 @@
-use Rattle.pc_page.proofs.PageLaws.{◌▸◌}
+use Rattle.pc_edges.proofs.lemmas.page.PageLaws.{◌▸◌}
 use Rattle.pc_total.proofs.report.put_difference.Goals as goal
 
 pub returns-in-None : goal.returns-in-None

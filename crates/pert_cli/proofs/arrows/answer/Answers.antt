@@ -1,7 +1,7 @@
-use Rattle.pc_deck_text.specs.Written.{IsDeckText}
+use Rattle.pc_project.specs.deck_text.Written.{IsDeckText}
 use Rattle.pert_cli.specs.declared.forms.Form.TheVariants.{Arrows}
 use Rattle.pert_cli.specs.Handing.{IsReply}
-use Rattle.pc_reading.specs.Sides.{side}
+use Rattle.pc_shell.specs.Sides.{side}
 use Rattle.pert_cli.proofs.HandingLaws.{of_built}
 use Rattle.pert_cli.proofs.arrows.answer.Goals as goal
 

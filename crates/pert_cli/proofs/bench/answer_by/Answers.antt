@@ -1,6 +1,6 @@
 use Rattle.std.proofs.Common.{◌∙◌, subst}
 use Rattle.pc_crash.specs.Priced.{PricedNetwork}
-use Rattle.pc_bench.specs.Report.{IsBenchText}
+use Rattle.pc_curve.specs.bench.Report.{IsBenchText}
 use Rattle.pert_cli.proofs.bench.answer_by.Goals as goal
 
 pub begin-solver-requires : goal.begin-solver-requires

@@ -1,4 +1,4 @@
-use Rattle.pc_reading.proofs.PricedLaws.{priced_is}
+use Rattle.pc_shell.proofs.PricedLaws.{priced_is}
 use Rattle.pert_cli.proofs.curve.answer.Goals as goal
 
 pub answer_by-requires : goal.answer_by-requires

@@ -1,6 +1,6 @@
 use Rattle.std.proofs.Common.{subst, sym}
-use Rattle.pc_reading.specs.inside.Reading.{IsNoProjectBy}
-use Rattle.pc_reading.proofs.ReadingLaws.{lacks_by}
+use Rattle.pc_shell.specs.inside.Reading.{IsNoProjectBy}
+use Rattle.pc_shell.proofs.ReadingLaws.{lacks_by}
 use Rattle.pert_cli.specs.Tasks.{IsTasksFault}
 use Rattle.pert_cli.proofs.VerdictLaws.{told_of-tasks}
 use Rattle.pert_cli.proofs.form_deck.drawn_in.Goals as goal

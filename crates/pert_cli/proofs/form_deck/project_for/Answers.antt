@@ -1,13 +1,13 @@
 use Rattle.std.proofs.Common.{refl, ap, subst, sym}
 use Rattle.std.specs.Prelude.{IfErr, IfOk}
-use Rattle.pc_bench.specs.Deck.{bench_text}
+use Rattle.pc_curve.specs.bench.Deck.{bench_text}
 use Rattle.pc_cards.specs.declared.sort.Sort.{Sort}
 use Rattle.pert_cli.specs.FormDeck.{own_deck, sort_of}
 use Rattle.pert_cli.specs.Verdicts.{IsFaultAs, IsMadeAs}
 use Rattle.pert_cli.specs.declared.forms.Form.{Form}
-use Rattle.pc_reading.specs.Reading.{HasProjectBy}
-use Rattle.pc_reading.specs.inside.Reading.{HasNoProjectBy, IsNoProjectBy}
-use Rattle.pc_reading.specs.Sides.{side}
+use Rattle.pc_shell.specs.Reading.{HasProjectBy}
+use Rattle.pc_shell.specs.inside.Reading.{HasNoProjectBy, IsNoProjectBy}
+use Rattle.pc_shell.specs.Sides.{side}
 use Rattle.pert_cli.proofs.FormDeckLaws.{own_gives, own_lacks, read_gives, read_lacks}
 use Rattle.pc_deck.specs.Limits.{longest_deck}
 use Rattle.pc_edges.specs.declared.loading.TheConstants.{STREAM_ROOM}

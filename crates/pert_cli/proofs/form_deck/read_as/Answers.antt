@@ -1,8 +1,8 @@
 use Rattle.std.proofs.Common.{List, ℕ, subst}
 use Rattle.std.specs.Prelude.{IfErr, IfOk}
-use Rattle.pc_reading.specs.inside.Reading.{IsNoProjectBy}
-use Rattle.pc_reading.specs.Sides.{side}
-use Rattle.pc_reading.proofs.ReadingLaws.{unread_lacks, whole_has, whole_lacks}
+use Rattle.pc_shell.specs.inside.Reading.{IsNoProjectBy}
+use Rattle.pc_shell.specs.Sides.{side}
+use Rattle.pc_shell.proofs.ReadingLaws.{unread_lacks, whole_has, whole_lacks}
 use Rattle.pert_cli.specs.Verdicts.{IsFaultAs, IsMadeAs}
 use Rattle.pert_cli.proofs.form_deck.read_as.Goals as goal
 

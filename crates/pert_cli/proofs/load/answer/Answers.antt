@@ -4,7 +4,7 @@ use Rattle.pc_load.specs.LoadText.{load_text}
 use Rattle.pert_cli.specs.declared.forms.Form.TheVariants.{Load}
 use Rattle.pert_cli.specs.Handing.{IsReply}
 use Rattle.pert_cli.specs.inside.Handing.{answers, denies}
-use Rattle.pc_reading.specs.Sides.{side}
+use Rattle.pc_shell.specs.Sides.{side}
 use Rattle.pert_cli.proofs.HandingLaws.{Answers-weaker}
 use Rattle.pert_cli.proofs.LoadLaws.{load_reply}
 use Rattle.pert_cli.proofs.load.answer.Goals as goal

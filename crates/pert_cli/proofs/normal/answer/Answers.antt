@@ -1,9 +1,9 @@
 use Rattle.std.proofs.Common.{◌≡◌, refl}
-use Rattle.pc_page.specs.inside.Page.{fresh}
+use Rattle.pc_edges.specs.inside.page.Page.{fresh}
 use Rattle.pert_cli.specs.declared.forms.Form.TheVariants.{Normal}
 use Rattle.pert_cli.specs.Handing.{IsReply}
 use Rattle.pert_cli.specs.Normal.{IsNormalSchedule, printed_text}
-use Rattle.pc_reading.specs.Sides.{side}
+use Rattle.pc_shell.specs.Sides.{side}
 use Rattle.pert_cli.proofs.HandingLaws.{of_built}
 use Rattle.pert_cli.proofs.normal.answer.Goals as goal
 

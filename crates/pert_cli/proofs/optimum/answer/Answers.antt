@@ -1,8 +1,8 @@
 use Rattle.std.proofs.Common.{refl}
-use Rattle.pc_reading.specs.Priced.{priced_in}
+use Rattle.pc_shell.specs.Priced.{priced_in}
 use Rattle.pert_cli.specs.Handing.{IsReply}
 use Rattle.pert_cli.specs.Optimum.{IsOptimumWith, optimum_text}
-use Rattle.pc_reading.specs.Sides.{side}
+use Rattle.pc_shell.specs.Sides.{side}
 use Rattle.pert_cli.specs.declared.forms.Form.TheVariants.{Optimum}
 use Rattle.pert_cli.proofs.HandingLaws.{of_built}
 use Rattle.pert_cli.proofs.optimum.answer.Goals as goal

@@ -1,4 +1,4 @@
-use Rattle.pc_reading.proofs.PricedLaws.{priced_is}
+use Rattle.pc_shell.proofs.PricedLaws.{priced_is}
 use Rattle.pert_cli.proofs.OptimumLaws.{optimum-there}
 use Rattle.pert_cli.proofs.optimum.optimum_of.Goals as goal
 

@@ -5,7 +5,7 @@ use Rattle.pert_cli.specs.declared.forms.Form.TheVariants.{Outlook}
 use Rattle.pert_cli.specs.Handing.{IsReply}
 use Rattle.pert_cli.specs.inside.Handing.{answers}
 use Rattle.pert_cli.specs.Normal.{printed_text}
-use Rattle.pc_reading.specs.Sides.{side}
+use Rattle.pc_shell.specs.Sides.{side}
 use Rattle.pert_cli.proofs.HandingLaws.{Answers-weaker, Replies-denial}
 use Rattle.pert_cli.proofs.PointLaws.{outlook_reply}
 use Rattle.pert_cli.proofs.outlook.answer.Goals as goal

@@ -3,7 +3,7 @@ use Rattle.pert_cli.specs.declared.forms.Form.TheVariants.{Point}
 use Rattle.pert_cli.specs.Handing.{IsReply}
 use Rattle.pert_cli.specs.inside.Handing.{answers}
 use Rattle.pert_cli.specs.Normal.{printed_text}
-use Rattle.pc_reading.specs.Sides.{side}
+use Rattle.pc_shell.specs.Sides.{side}
 use Rattle.pert_cli.proofs.HandingLaws.{Answers-weaker, Replies-denial}
 use Rattle.pert_cli.proofs.PointLaws.{point_reply}
 use Rattle.pert_cli.proofs.point.answer.Goals as goal

@@ -2,7 +2,7 @@ use Rattle.std.proofs.Common.{refl}
 use Rattle.pc_reports.specs.SummaryText.{ChargesCountOnce, IsSummary, summary_text}
 use Rattle.pert_cli.specs.declared.forms.Form.TheVariants.{Summary}
 use Rattle.pert_cli.specs.Handing.{IsReply}
-use Rattle.pc_reading.specs.Sides.{side}
+use Rattle.pc_shell.specs.Sides.{side}
 use Rattle.pert_cli.proofs.HandingLaws.{both_ok, of_built}
 use Rattle.pert_cli.proofs.summary.answer.Goals as goal
 

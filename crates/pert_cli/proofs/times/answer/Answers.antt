@@ -3,7 +3,7 @@ use Rattle.pc_reports.specs.Times.{IsTimes}
 use Rattle.pc_reports.specs.TimesText.{times_text}
 use Rattle.pert_cli.specs.declared.forms.Form.TheVariants.{Times}
 use Rattle.pert_cli.specs.Handing.{IsReply}
-use Rattle.pc_reading.specs.Sides.{side}
+use Rattle.pc_shell.specs.Sides.{side}
 use Rattle.pert_cli.proofs.HandingLaws.{of_built}
 use Rattle.pert_cli.proofs.times.answer.Goals as goal
 

@@ -3,7 +3,7 @@ use Rattle.pc_reports.specs.Earned.{IsEarned}
 use Rattle.pc_reports.specs.ValueText.{value_text}
 use Rattle.pert_cli.specs.declared.forms.Form.TheVariants.{Value}
 use Rattle.pert_cli.specs.Handing.{IsReply}
-use Rattle.pc_reading.specs.Sides.{side}
+use Rattle.pc_shell.specs.Sides.{side}
 use Rattle.pert_cli.proofs.HandingLaws.{of_built}
 use Rattle.pert_cli.proofs.value.answer.Goals as goal
 

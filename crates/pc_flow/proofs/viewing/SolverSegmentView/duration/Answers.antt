@@ -1,5 +1,5 @@
 use Rattle.std.proofs.Common.{ap, arith}
-use Rattle.pc_board.specs.Sheets.{time_of}
+use Rattle.pc_flow.specs.board.Sheets.{time_of}
 use Rattle.pc_flow.proofs.viewing.SolverSegmentView.duration.Goals as goal
 
 pub overflow_sub-ends : goal.overflow_sub-ends

@@ -1,6 +1,6 @@
 use Rattle.std.proofs.Common.{◌∙◌, arith}
 use Rattle.pc_model.specs.Schedule.{crash_of}
-use Rattle.pc_board.specs.Sheets.{flow_of}
+use Rattle.pc_flow.specs.board.Sheets.{flow_of}
 use Rattle.pc_flow.proofs.FlowLaws.{knee-flow, beside-flow}
 use Rattle.pc_flow.proofs.viewing.SolverSegmentView.flow.Goals as goal
 

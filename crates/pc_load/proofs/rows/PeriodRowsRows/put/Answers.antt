@@ -1,5 +1,5 @@
 use Rattle.std.proofs.Common.{ap}
-use Rattle.pc_page.proofs.PageLaws.{Adds-as}
+use Rattle.pc_edges.proofs.lemmas.page.PageLaws.{Adds-as}
 use Rattle.pc_load.specs.LoadText.{period_cells, period_row}
 use Rattle.pc_load.proofs.rows.PeriodRowsRows.put.Goals as goal
 

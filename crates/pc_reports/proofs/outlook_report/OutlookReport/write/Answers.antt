@@ -1,5 +1,5 @@
 use Rattle.std.proofs.Common.{ap}
-use Rattle.pc_page.proofs.PageLaws.{Adds-as}
+use Rattle.pc_edges.proofs.lemmas.page.PageLaws.{Adds-as}
 use Rattle.pc_reports.specs.OutlookText.{outlook_text}
 use Rattle.pc_reports.proofs.outlook_report.OutlookReport.write.Goals as goal
 

@@ -1,6 +1,6 @@
 use Rattle.std.proofs.Common.{refl, arith}
-use Rattle.pc_page.proofs.PageLaws.{Adds-as}
-use Rattle.pc_figures.proofs.OutlineLaws.{row_known}
+use Rattle.pc_edges.proofs.lemmas.page.PageLaws.{Adds-as}
+use Rattle.pc_rollup.proofs.lemmas.figures.OutlineLaws.{row_known}
 use Rattle.pc_reports.specs.OutlookText.{outlook_row}
 use Rattle.pc_reports.specs.inside.OutlookText.{IsOutlookFor}
 use Rattle.pc_reports.proofs.outlook_rows.OutlookRowsRows.put.Goals as goal

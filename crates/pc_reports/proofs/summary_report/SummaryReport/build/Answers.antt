@@ -3,7 +3,7 @@ use Rattle.pc_accounts.specs.declared.entry.Entry.{Entry}
 use Rattle.pc_accounts.specs.Amounts.{AreEntriesOf, AreMoney}
 use Rattle.pc_accounts.specs.inside.Entries.{entry_of_all}
 use Rattle.pc_accounts.proofs.WholeLaws.{entries_are_project}
-use Rattle.pc_figures.specs.Summary.{Summary, CountsOnce}
+use Rattle.pc_rollup.specs.figures.Summary.{Summary, CountsOnce}
 use Rattle.pc_project.specs.Project.{Project}
 use Rattle.pc_reports.specs.SummaryText.{ChargesCountOnce}
 use Rattle.pc_reports.proofs.summary_report.SummaryReport.build.Goals as goal

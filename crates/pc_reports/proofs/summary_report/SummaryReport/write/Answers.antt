@@ -1,5 +1,5 @@
 use Rattle.std.proofs.Common.{ap}
-use Rattle.pc_page.proofs.PageLaws.{Adds-as}
+use Rattle.pc_edges.proofs.lemmas.page.PageLaws.{Adds-as}
 use Rattle.pc_reports.specs.SummaryText.{summary_text}
 use Rattle.pc_reports.proofs.summary_report.SummaryReport.write.Goals as goal
 

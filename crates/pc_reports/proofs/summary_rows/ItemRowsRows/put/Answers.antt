@@ -1,7 +1,7 @@
 use Rattle.std.proofs.Common.{refl, arith}
-use Rattle.pc_page.proofs.PageLaws.{Adds-as}
-use Rattle.pc_figures.specs.Summary.{IsSummaryOf}
-use Rattle.pc_figures.proofs.OutlineLaws.{row_known}
+use Rattle.pc_edges.proofs.lemmas.page.PageLaws.{Adds-as}
+use Rattle.pc_rollup.specs.figures.Summary.{IsSummaryOf}
+use Rattle.pc_rollup.proofs.lemmas.figures.OutlineLaws.{row_known}
 use Rattle.pc_reports.specs.SummaryText.{item_row}
 use Rattle.pc_reports.proofs.summary_rows.ItemRowsRows.put.Goals as goal
 

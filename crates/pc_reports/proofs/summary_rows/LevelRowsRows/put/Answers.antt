@@ -1,7 +1,7 @@
 use Rattle.std.proofs.Common.{refl, arith}
-use Rattle.pc_page.proofs.PageLaws.{Adds-as}
-use Rattle.pc_figures.specs.Summary.{IsSummaryOf}
-use Rattle.pc_figures.proofs.DepthLaws.{levels_same}
+use Rattle.pc_edges.proofs.lemmas.page.PageLaws.{Adds-as}
+use Rattle.pc_rollup.specs.figures.Summary.{IsSummaryOf}
+use Rattle.pc_rollup.proofs.lemmas.figures.DepthLaws.{levels_same}
 use Rattle.pc_reports.specs.SummaryText.{level_row}
 use Rattle.pc_reports.proofs.summary_rows.LevelRowsRows.put.Goals as goal
 

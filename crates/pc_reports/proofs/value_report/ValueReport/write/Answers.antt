@@ -1,5 +1,5 @@
 use Rattle.std.proofs.Common.{ap, subst, sym}
-use Rattle.pc_page.proofs.PageLaws.{Adds-as}
+use Rattle.pc_edges.proofs.lemmas.page.PageLaws.{Adds-as}
 use Rattle.pc_reports.specs.Earned.{IsEarned}
 use Rattle.pc_reports.specs.ValueText.{value_text}
 use Rattle.pc_reports.proofs.value_report.ValueReport.write.Goals as goal

@@ -1,6 +1,6 @@
 use Rattle.std.proofs.Common.{refl, arith}
-use Rattle.pc_page.proofs.PageLaws.{Adds-as}
-use Rattle.pc_figures.proofs.OutlineLaws.{row_known}
+use Rattle.pc_edges.proofs.lemmas.page.PageLaws.{Adds-as}
+use Rattle.pc_rollup.proofs.lemmas.figures.OutlineLaws.{row_known}
 use Rattle.pc_reports.specs.ValueText.{worth_row}
 use Rattle.pc_reports.proofs.value_rows.WorthRowsRows.put.Goals as goal
 

@@ -1,6 +1,6 @@
 use Rattle.std.proofs.Common.{◌≡◌, ap, sym, subst, arith}
-use Rattle.pc_edits.specs.Editing.{Editing, begun}
-use Rattle.pc_edits.specs.inside.Editing.{Edits}
+use Rattle.pc_whatif.specs.edits.Editing.{Editing, begun}
+use Rattle.pc_whatif.specs.inside.edits.Editing.{Edits}
 use Rattle.pc_whatif.specs.inside.Planning.{IsEditionOf, IsRenewed}
 use Rattle.pc_whatif.proofs.PlanningLaws.{begun_edition, begun_renewed}
 use Rattle.pc_whatif.proofs.session.Session.begin.Goals as goal

@@ -1,5 +1,5 @@
 use Rattle.std.proofs.Common.{Some, refl}
-use Rattle.pc_edits.specs.declared.ask.Ask.TheVariants as asks
+use Rattle.pc_whatif.specs.declared.edits.ask.Ask.TheVariants as asks
 use Rattle.pc_whatif.specs.inside.Inside.{planning_of}
 use Rattle.pc_whatif.specs.Planning.{project_as}
 use Rattle.pc_whatif.proofs.AnswerLaws.{stays_as}

@@ -2,10 +2,10 @@ use Rattle.std.proofs.Common.{◌≡◌, Some, refl, sym, ap, ◌∙◌, subst}
 use Rattle.std.proofs.lemmas.Bool.{false≢true}
 use Rattle.pc_crash.specs.Priced.{PricedNetwork}
 use Rattle.pc_curve.specs.Points.{curve_in}
-use Rattle.pc_edits.specs.declared.ask.Ask.TheVariants as asks
-use Rattle.pc_edits.specs.declared.reason.Reason.TheVariants.{OutsideRange}
-use Rattle.pc_edits.specs.Editing.{net_trying}
-use Rattle.pc_edits.specs.inside.Editing.{Edits, net_in}
+use Rattle.pc_whatif.specs.declared.edits.ask.Ask.TheVariants as asks
+use Rattle.pc_whatif.specs.declared.edits.reason.Reason.TheVariants.{OutsideRange}
+use Rattle.pc_whatif.specs.edits.Editing.{net_trying}
+use Rattle.pc_whatif.specs.inside.edits.Editing.{Edits, net_in}
 use Rattle.pc_curve.specs.Range.{IsWithin}
 use Rattle.pc_whatif.specs.Planning.{IsTrialText, refused}
 use Rattle.pc_whatif.specs.inside.Planning.{Planning}

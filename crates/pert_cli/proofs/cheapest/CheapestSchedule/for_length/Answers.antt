@@ -1,7 +1,7 @@
 use Rattle.std.proofs.Common.{subst}
 use Rattle.std.specs.Prelude.{IfErr, IfOk}
 use Rattle.pc_crash.specs.Priced.{PricedNetwork}
-use Rattle.pc_reading.proofs.PricedLaws.{priced_is}
+use Rattle.pc_shell.proofs.PricedLaws.{priced_is}
 use Rattle.pert_cli.specs.Point.{IsCheapestFor}
 use Rattle.pert_cli.specs.inside.Point.{HasNoSchedule}
 use Rattle.pert_cli.proofs.cheapest.CheapestSchedule.for_length.Goals as goal

@@ -1,6 +1,6 @@
 use Rattle.std.proofs.Common.{List, ℕ, ap}
-use Rattle.pc_page.specs.inside.Puts.{desk}
-use Rattle.pc_page.proofs.PageLaws.{◌⨾◌, Adds-as}
+use Rattle.pc_edges.specs.inside.page.Puts.{desk}
+use Rattle.pc_edges.proofs.lemmas.page.PageLaws.{◌⨾◌, Adds-as}
 use Rattle.pc_total.specs.BestText.{best_text}
 use Rattle.pert_cli.specs.Optimum.{optimum_text}
 use Rattle.pert_cli.proofs.optimum.OptimumAnswerAnswer.write_to.Goals as goal

@@ -1,6 +1,0 @@
-use Rattle.std.proofs.Common.{length}
-use Rattle.pc_base_tests.proofs.records.spelled.Given as goal
-
--- each turn takes one record
-abbrev pub decreases-rows : goal.decreases-rows
-decreases-rows l = length l.rows

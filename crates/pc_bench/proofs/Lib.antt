@@ -1,6 +1,0 @@
-mod ActivityLaws
-mod DeckLaws
-mod SumLaws
-mod CountLaws
-mod TallyLaws
-pub mod OneTextLaws

@@ -1,5 +1,0 @@
-use Rattle.pc_page.proofs.PageLaws.{◌▸◌}
-use Rattle.pc_bench.proofs.report.put_figures.Goals as goal
-
-pub returns : goal.returns
-returns g c = c.put_count.ensures ▸ c.put_point.ensures ▸ c.put_point-2.ensures ▸ c.put_count-2.ensures ▸ c.put_count-3.ensures

@@ -1,5 +1,0 @@
-use Rattle.pc_page.proofs.PageLaws.{◌▸◌}
-use Rattle.pc_bench.proofs.report.put_point.Goals as goal
-
-pub returns : goal.returns
-returns g c = c.put.ensures ▸ c.put_number.ensures ▸ c.put-2.ensures ▸ c.put_wide.ensures ▸ c.put-3.ensures

@@ -1,6 +1,0 @@
-pub mod Draws
-pub mod Recipe
-pub mod Deck
-pub mod Figures
-pub mod Report
-pub mod inside

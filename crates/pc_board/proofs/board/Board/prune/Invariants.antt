@@ -1,5 +1,0 @@
-use Rattle.pc_board.proofs.PruningLaws.{IsPruning}
-use Rattle.pc_board.proofs.board.Board.prune.Given as goal
-
-abbrev pub invariant-loop-i : goal.invariant-loop-i
-invariant-loop-i l = IsPruning l.initial.self l.self l.i l.kept l.gone l.seen

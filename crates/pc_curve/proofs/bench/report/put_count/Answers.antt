@@ -1,0 +1,5 @@
+use Rattle.pc_edges.proofs.lemmas.page.PageLaws.{◌▸◌}
+use Rattle.pc_curve.proofs.bench.report.put_count.Goals as goal
+
+pub returns : goal.returns
+returns g c = c.put.ensures ▸ c.put_wide.ensures ▸ c.put-2.ensures

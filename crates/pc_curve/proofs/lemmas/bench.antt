@@ -1,0 +1,6 @@
+pub mod ActivityLaws
+pub mod DeckLaws
+pub mod SumLaws
+pub mod CountLaws
+pub mod TallyLaws
+pub mod OneTextLaws

@@ -1,0 +1,5 @@
+pub mod Draws
+pub mod Recipe
+pub mod Deck
+pub mod Figures
+pub mod Report

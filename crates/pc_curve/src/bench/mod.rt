@@ -1,0 +1,11 @@
+//! The benchmark: a deck that is the same on every machine, and what is said of its time-cost curve.
+
+mod activity;
+mod deck;
+mod draws;
+mod figures;
+mod report;
+
+pub use deck::{MOST_ACTIVITIES, bench_deck};
+pub use figures::{Figures, figures_of};
+pub use report::write_bench;

@@ -1,0 +1,91 @@
+//! What the benchmark prints.
+ghost use Rattle.std.specs.Prelude.{◌≡◌, ◌+◌, ◌≤◌, ℕ, List, decimal, false};
+ghost use Rattle.pc_edges.specs.inside.Writes.{Writes};
+ghost use Rattle.pc_flow.specs.Courses.{IsFurther, IsSameCurve, most_looks};
+ghost use Rattle.pc_edges.specs.inside.page.Page.{fresh};
+ghost use Rattle.pc_edges.specs.inside.page.Puts.{Puts};
+ghost use Rattle.pc_curve.specs.bench.Report.{IsBenchText, bench_text, count_line, point_line};
+
+use crate::bench::figures::{Figures, figures_of};
+use pc_crash::Steps;
+use pc_edges::page::Page;
+use pc_edges::{Failed, Sink};
+use pc_flow::Solver;
+use pc_text::wide;
+use std::sync::ledger::Ledger;
+
+/// Writes what the benchmark of `n` activities says of the curve of a solver's network and flushes the sink: the all-normal and the
+/// all-crash length, each with its least cost, the number of breakpoints, and the sum of the least costs of all lengths.
+///
+/// The solver goes from before its first segment to the last one: at most four looks at each activity for each unit by which
+/// the slope rises or the lower end comes down. It takes no memory.
+pub fn write_bench<O: Sink, L: Ledger>(
+    page: &mut Page,
+    sink: &mut O,
+    n: u64,
+    solver: &mut Solver<'_>,
+    steps: &mut Steps<L>,
+) -> Result<(), Failed>
+    requires fresh { page.old ≡ fresh }
+    requires before { solver.old.given ≡ false }
+    ensures text { (text : List ℕ) × IsBenchText n solver.old.net text
+        × Writes result (O.taken sink.old) (O.taken sink.new) (O.faults sink.old) (O.faults sink.new) text }
+    ensures fresh { page.new ≡ fresh }
+    ensures same { IsSameCurve solver.old solver.new }
+    ensures further { IsFurther solver.old solver.new }
+    ensures counted { steps.new ≤ steps.old + most_looks solver.old solver.new }
+{
+    let figures = figures_of(solver, steps);
+    put_figures(page, sink, n, &figures);
+    page.finish(sink)
+}
+
+/// Puts the lines of the figures.
+fn put_figures<O: Sink>(page: &mut Page, sink: &mut O, n: u64, figures: &Figures)
+    ensures { Puts O.taken O.faults page.old sink.old page.new sink.new (bench_text n figures.now) }
+{
+    put_count(page, sink, b"BENCH ", n as u128);
+    put_point(
+        page,
+        sink,
+        b"NORMAL ",
+        figures.longest,
+        figures.longest_cost as u128,
+    );
+    put_point(
+        page,
+        sink,
+        b"CRASH ",
+        figures.shortest,
+        figures.shortest_cost,
+    );
+    put_count(page, sink, b"BREAKS ", figures.breaks as u128);
+    put_count(page, sink, b"SUM ", figures.sum);
+}
+
+/// Puts the line of a number.
+fn put_count<O: Sink>(page: &mut Page, sink: &mut O, name: &[u8], count: u128)
+    ensures { Puts O.taken O.faults page.old sink.old page.new sink.new (count_line name.now count) }
+{
+    page.put(sink, name);
+    put_wide(page, sink, count);
+    page.put(sink, b"\n");
+}
+
+/// Puts the line of a length and its cost.
+fn put_point<O: Sink>(page: &mut Page, sink: &mut O, name: &[u8], length: u64, cost: u128)
+    ensures { Puts O.taken O.faults page.old sink.old page.new sink.new (point_line name.now length cost) }
+{
+    page.put(sink, name);
+    page.put_number(sink, length);
+    page.put(sink, b" ");
+    put_wide(page, sink, cost);
+    page.put(sink, b"\n");
+}
+
+/// Puts the decimal form of a number.
+fn put_wide<O: Sink>(page: &mut Page, sink: &mut O, number: u128)
+    ensures { Puts O.taken O.faults page.old sink.old page.new sink.new (decimal number) }
+{
+    page.put(sink, wide(number).bytes());
+}

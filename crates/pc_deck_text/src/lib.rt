@@ -1,8 +1,0 @@
-//! The text of a project's deck: the one form in which a deck is kept, compared and read again.
-#![tactic(auto)]
-
-mod text;
-mod text_laws;
-
-pub use crate::text::deck_text_of;
-pub use crate::text_laws::text_makes_the_project;

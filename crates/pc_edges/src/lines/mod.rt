@@ -1,0 +1,9 @@
+//! The lines of a source, one after the other, however the pieces are cut in which it gives its bytes; and a talk, in which each line is
+//! answered on a sink before the next is pulled.
+
+mod line_end;
+mod reader;
+mod talking;
+
+pub use crate::lines::reader::{INPUT_LIMIT, LINE_LIMIT, LineError, LineReader, Next};
+pub use crate::lines::talking::{Answers, TalkError, talk};

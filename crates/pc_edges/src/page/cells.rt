@@ -1,0 +1,65 @@
+//! Cells of a row, which spaces fill to a width.
+ghost use Rattle.std.specs.Prelude.{◌≡◌, ◌≤◌, decimal, length};
+ghost use Rattle.std.specs.Fmt.{signed_decimal};
+ghost use Rattle.pc_text.specs.Line.{spaces};
+ghost use Rattle.pc_edges.specs.page.Cells.{left, right};
+ghost use Rattle.pc_edges.specs.inside.page.Puts.{Puts};
+
+use crate::Sink;
+use crate::page::page::Page;
+use pc_text::{digits, signed};
+
+/// The widest cell.
+const MAX_WIDTH: usize = 64;
+
+/// A cell of spaces.
+const SPACES: &[u8] = b"                                                                ";
+
+impl Page {
+    /// Puts the piece at the left of a cell of this width. A longer piece stands whole.
+    #[inline]
+    pub fn put_left<O: Sink>(&mut self, sink: &mut O, width: usize, piece: &[u8])
+        requires { width ≤ MAX_WIDTH }
+        ensures { Puts O.taken O.faults self.old sink.old self.new sink.new (left width piece.now) }
+    {
+        self.put(sink, piece);
+        self.put_spaces(sink, width.saturating_sub(piece.len()));
+    }
+
+    /// Puts the piece at the right of a cell of this width. A longer piece stands whole.
+    #[inline]
+    pub fn put_right<O: Sink>(&mut self, sink: &mut O, width: usize, piece: &[u8])
+        requires { width ≤ MAX_WIDTH }
+        ensures { Puts O.taken O.faults self.old sink.old self.new sink.new (right width piece.now) }
+    {
+        self.put_spaces(sink, width.saturating_sub(piece.len()));
+        self.put(sink, piece);
+    }
+
+    /// Puts the decimal form of a number at the right of a cell.
+    #[inline]
+    pub fn put_number_right<O: Sink>(&mut self, sink: &mut O, width: usize, number: u64)
+        requires { width ≤ MAX_WIDTH }
+        ensures { Puts O.taken O.faults self.old sink.old self.new sink.new (right width (decimal number)) }
+    {
+        self.put_right(sink, width, digits(number).bytes());
+    }
+
+    /// Puts the decimal form of a number, with `-` before a negative one, at the right of a cell.
+    #[inline]
+    pub fn put_signed_right<O: Sink>(&mut self, sink: &mut O, width: usize, number: i64)
+        requires { width ≤ MAX_WIDTH }
+        ensures { Puts O.taken O.faults self.old sink.old self.new sink.new (right width (signed_decimal number)) }
+    {
+        self.put_right(sink, width, signed(number).bytes());
+    }
+
+    /// Puts so many spaces.
+    #[inline]
+    fn put_spaces<O: Sink>(&mut self, sink: &mut O, count: usize)
+        requires { count ≤ MAX_WIDTH }
+        ensures { Puts O.taken O.faults self.old sink.old self.new sink.new (spaces count) }
+    {
+        self.put(sink, &SPACES[..count]);
+    }
+}

@@ -1,5 +1,0 @@
-use Rattle.pc_edits.proofs.InsideLaws.{net_in-is}
-use Rattle.pc_edits.proofs.edits.Edits.net.Goals as goal
-
-pub returns-clause-net : goal.returns-clause-net
-returns-clause-net c = rw (← c.self.view_is) (net_in-is c.self.inside)

@@ -1,8 +1,0 @@
-pub mod Fields
-pub mod Reading
-pub mod Reasons
-pub mod Plans
-pub mod Editing
-pub mod Refusal
-pub mod Standing
-pub mod inside

@@ -1,9 +1,0 @@
-pub mod Outline
-pub mod Columns
-pub mod Figures
-pub mod Summary
-pub mod Packages
-pub mod Worth
-pub mod Slacks
-pub mod Outlook
-pub mod inside

@@ -1,0 +1,9 @@
+pub mod AfterEntering
+pub mod AfterPruning
+pub mod AfterRaising
+pub mod BoardLaws
+pub mod ClearLaws
+pub mod PruningLaws
+pub mod RaisingLaws
+pub mod RoomLaws
+pub mod TakenLaws

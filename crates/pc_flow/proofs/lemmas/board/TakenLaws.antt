@@ -1,0 +1,105 @@
+-- The columns of a board, taken one after another.
+use Rattle.std.proofs.Common.{◌≡◌, ℕ, ◌+◌, List, [], ◌∷◌, ◌++◌, length, replicate, refl, sym, ◌∙◌, ap, subst, append_assoc}
+use Rattle.std.proofs.lemmas.List.{length-append, append-nil}
+use Rattle.pc_cells.specs.declared.span.Span.{Span}
+use Rattle.pc_cells.specs.Spans.{Cells}
+use Rattle.pc_cells.specs.inside.Spans.{IsSpan, IsTaken}
+use Rattle.pc_cells.proofs.LiveLaws.{live-append}
+use Rattle.pc_flow.specs.declared.board.columns.Column.{Column}
+use Rattle.pc_flow.specs.declared.board.columns.Column.TheVariants.{Time, Rank, Queue, Step, Against, Near, Room, Lost, Flow, Waiting, Slot}
+use Rattle.pc_flow.specs.inside.board.Taken.{AreColumnsTaken}
+use Rattle.pc_flow.specs.inside.board.Places.{place_of, span_of}
+
+-- the region with more spans
+abbrev with_more : Cells → List (List ℕ) → Cells
+with_more region more = record { capacity = region.capacity; spans = region.spans ++ more }
+
+abbrev made : ℕ → List (List ℕ) → Cells
+made capacity spans = record { capacity = capacity; spans = spans }
+
+-- one more span behind some that were taken
+taken-after : (home was now : Cells) (before : List (List ℕ)) (len : ℕ) (s : Span) → was ≡ with_more home before → IsTaken was now len s
+    → now ≡ with_more home (before ++ replicate len 0 ∷ [])
+taken-after home was now before len s at taken =
+    taken.region
+    ∙ ap (λ (r : Cells). with_more r (replicate len 0 ∷ [])) at
+    ∙ ap (λ ys. made home.capacity ys) (append_assoc home.spans before (replicate len 0 ∷ []))
+
+-- it is live when all are taken
+span-after : (home was now end : Cells) (before rest : List (List ℕ)) (len k : ℕ) (s : Span) → was ≡ with_more home before → length before ≡ k
+    → IsTaken was now len s → end ≡ with_more home (before ++ replicate len 0 ∷ rest) → IsSpan end.spans (length home.spans + k) s
+span-after home was now end before rest len k s at size taken all =
+    subst (λ n. IsSpan end.spans n s) count (subst (λ ys. IsSpan ys (length was.spans) s) spans (live-append now.spans rest (length was.spans) s taken.span))
+  where
+    count : length was.spans ≡ length home.spans + k
+    count = ap (λ (r : Cells). length r.spans) at ∙ length-append home.spans before ∙ ap (λ n. length home.spans + n) size
+
+    spans : now.spans ++ rest ≡ end.spans
+    spans =
+        ap (λ (r : Cells). r.spans ++ rest) (taken-after home was now before len s at taken)
+        ∙ append_assoc home.spans (before ++ replicate len 0 ∷ []) rest
+        ∙ ap (λ ys. home.spans ++ ys) (append_assoc before (replicate len 0 ∷ []) rest)
+        ∙ sym (ap (λ (r : Cells). r.spans) all)
+
+module _ (events activities : ℕ) (r0 r1 r2 r3 r4 r5 r6 r7 r8 r9 r10 r11 : Cells) (time rank queue step against near room lost flow waiting slot : Span)
+    (taken_time : IsTaken r0 r1 events time)
+    (taken_rank : IsTaken r1 r2 events rank)
+    (taken_queue : IsTaken r2 r3 events queue)
+    (taken_step : IsTaken r3 r4 events step)
+    (taken_against : IsTaken r4 r5 events against)
+    (taken_near : IsTaken r5 r6 events near)
+    (taken_room : IsTaken r6 r7 events room)
+    (taken_lost : IsTaken r7 r8 events lost)
+    (taken_flow : IsTaken r8 r9 activities flow)
+    (taken_waiting : IsTaken r9 r10 activities waiting)
+    (taken_slot : IsTaken r10 r11 activities slot) where
+  at_0 : r0 ≡ with_more r0 []
+  at_0 = ap (λ ys. made r0.capacity ys) (sym (append-nil r0.spans))
+
+  at_1 : r1 ≡ with_more r0 (replicate events 0 ∷ [])
+  at_1 = taken-after r0 r0 r1 [] events time at_0 taken_time
+
+  at_2 : r2 ≡ with_more r0 (replicate events 0 ∷ replicate events 0 ∷ [])
+  at_2 = taken-after r0 r1 r2 (replicate events 0 ∷ []) events rank at_1 taken_rank
+
+  at_3 : r3 ≡ with_more r0 (replicate events 0 ∷ replicate events 0 ∷ replicate events 0 ∷ [])
+  at_3 = taken-after r0 r2 r3 (replicate events 0 ∷ replicate events 0 ∷ []) events queue at_2 taken_queue
+
+  at_4 : r4 ≡ with_more r0 (replicate events 0 ∷ replicate events 0 ∷ replicate events 0 ∷ replicate events 0 ∷ [])
+  at_4 = taken-after r0 r3 r4 (replicate events 0 ∷ replicate events 0 ∷ replicate events 0 ∷ []) events step at_3 taken_step
+
+  at_5 : r5 ≡ with_more r0 (replicate events 0 ∷ replicate events 0 ∷ replicate events 0 ∷ replicate events 0 ∷ replicate events 0 ∷ [])
+  at_5 = taken-after r0 r4 r5 (replicate events 0 ∷ replicate events 0 ∷ replicate events 0 ∷ replicate events 0 ∷ []) events against at_4 taken_against
+
+  at_6 : r6 ≡ with_more r0 (replicate events 0 ∷ replicate events 0 ∷ replicate events 0 ∷ replicate events 0 ∷ replicate events 0 ∷ replicate events 0 ∷ [])
+  at_6 = taken-after r0 r5 r6 (replicate events 0 ∷ replicate events 0 ∷ replicate events 0 ∷ replicate events 0 ∷ replicate events 0 ∷ []) events near at_5 taken_near
+
+  at_7 : r7 ≡ with_more r0 (replicate events 0 ∷ replicate events 0 ∷ replicate events 0 ∷ replicate events 0 ∷ replicate events 0 ∷ replicate events 0 ∷ replicate events 0 ∷ [])
+  at_7 = taken-after r0 r6 r7 (replicate events 0 ∷ replicate events 0 ∷ replicate events 0 ∷ replicate events 0 ∷ replicate events 0 ∷ replicate events 0 ∷ []) events room at_6 taken_room
+
+  at_8 : r8 ≡ with_more r0 (replicate events 0 ∷ replicate events 0 ∷ replicate events 0 ∷ replicate events 0 ∷ replicate events 0 ∷ replicate events 0 ∷ replicate events 0 ∷ replicate events 0 ∷ [])
+  at_8 = taken-after r0 r7 r8 (replicate events 0 ∷ replicate events 0 ∷ replicate events 0 ∷ replicate events 0 ∷ replicate events 0 ∷ replicate events 0 ∷ replicate events 0 ∷ []) events lost at_7 taken_lost
+
+  at_9 : r9 ≡ with_more r0 (replicate events 0 ∷ replicate events 0 ∷ replicate events 0 ∷ replicate events 0 ∷ replicate events 0 ∷ replicate events 0 ∷ replicate events 0 ∷ replicate events 0 ∷ replicate activities 0 ∷ [])
+  at_9 = taken-after r0 r8 r9 (replicate events 0 ∷ replicate events 0 ∷ replicate events 0 ∷ replicate events 0 ∷ replicate events 0 ∷ replicate events 0 ∷ replicate events 0 ∷ replicate events 0 ∷ []) activities flow at_8 taken_flow
+
+  at_10 : r10 ≡ with_more r0 (replicate events 0 ∷ replicate events 0 ∷ replicate events 0 ∷ replicate events 0 ∷ replicate events 0 ∷ replicate events 0 ∷ replicate events 0 ∷ replicate events 0 ∷ replicate activities 0 ∷ replicate activities 0 ∷ [])
+  at_10 = taken-after r0 r9 r10 (replicate events 0 ∷ replicate events 0 ∷ replicate events 0 ∷ replicate events 0 ∷ replicate events 0 ∷ replicate events 0 ∷ replicate events 0 ∷ replicate events 0 ∷ replicate activities 0 ∷ []) activities waiting at_9 taken_waiting
+
+  at_11 : r11 ≡ with_more r0 (replicate events 0 ∷ replicate events 0 ∷ replicate events 0 ∷ replicate events 0 ∷ replicate events 0 ∷ replicate events 0 ∷ replicate events 0 ∷ replicate events 0 ∷ replicate activities 0 ∷ replicate activities 0 ∷ replicate activities 0 ∷ [])
+  at_11 = taken-after r0 r10 r11 (replicate events 0 ∷ replicate events 0 ∷ replicate events 0 ∷ replicate events 0 ∷ replicate events 0 ∷ replicate events 0 ∷ replicate events 0 ∷ replicate events 0 ∷ replicate activities 0 ∷ replicate activities 0 ∷ []) activities slot at_10 taken_slot
+
+  pub columns-taken : AreColumnsTaken r0 r11 events activities (record { time = time; rank = rank; queue = queue; step = step; against = against; near = near; room = room; lost = lost; flow = flow; waiting = waiting; slot = slot })
+  columns-taken = record { region = at_11; spans = spans } where
+    spans : (column : Column) → IsSpan r11.spans (length r0.spans + place_of column) (span_of (record { time = time; rank = rank; queue = queue; step = step; against = against; near = near; room = room; lost = lost; flow = flow; waiting = waiting; slot = slot }) column)
+    spans Time = span-after r0 r0 r1 r11 [] (replicate events 0 ∷ replicate events 0 ∷ replicate events 0 ∷ replicate events 0 ∷ replicate events 0 ∷ replicate events 0 ∷ replicate events 0 ∷ replicate activities 0 ∷ replicate activities 0 ∷ replicate activities 0 ∷ []) events 0 time at_0 refl taken_time at_11
+    spans Rank = span-after r0 r1 r2 r11 (replicate events 0 ∷ []) (replicate events 0 ∷ replicate events 0 ∷ replicate events 0 ∷ replicate events 0 ∷ replicate events 0 ∷ replicate events 0 ∷ replicate activities 0 ∷ replicate activities 0 ∷ replicate activities 0 ∷ []) events 1 rank at_1 refl taken_rank at_11
+    spans Queue = span-after r0 r2 r3 r11 (replicate events 0 ∷ replicate events 0 ∷ []) (replicate events 0 ∷ replicate events 0 ∷ replicate events 0 ∷ replicate events 0 ∷ replicate events 0 ∷ replicate activities 0 ∷ replicate activities 0 ∷ replicate activities 0 ∷ []) events 2 queue at_2 refl taken_queue at_11
+    spans Step = span-after r0 r3 r4 r11 (replicate events 0 ∷ replicate events 0 ∷ replicate events 0 ∷ []) (replicate events 0 ∷ replicate events 0 ∷ replicate events 0 ∷ replicate events 0 ∷ replicate activities 0 ∷ replicate activities 0 ∷ replicate activities 0 ∷ []) events 3 step at_3 refl taken_step at_11
+    spans Against = span-after r0 r4 r5 r11 (replicate events 0 ∷ replicate events 0 ∷ replicate events 0 ∷ replicate events 0 ∷ []) (replicate events 0 ∷ replicate events 0 ∷ replicate events 0 ∷ replicate activities 0 ∷ replicate activities 0 ∷ replicate activities 0 ∷ []) events 4 against at_4 refl taken_against at_11
+    spans Near = span-after r0 r5 r6 r11 (replicate events 0 ∷ replicate events 0 ∷ replicate events 0 ∷ replicate events 0 ∷ replicate events 0 ∷ []) (replicate events 0 ∷ replicate events 0 ∷ replicate activities 0 ∷ replicate activities 0 ∷ replicate activities 0 ∷ []) events 5 near at_5 refl taken_near at_11
+    spans Room = span-after r0 r6 r7 r11 (replicate events 0 ∷ replicate events 0 ∷ replicate events 0 ∷ replicate events 0 ∷ replicate events 0 ∷ replicate events 0 ∷ []) (replicate events 0 ∷ replicate activities 0 ∷ replicate activities 0 ∷ replicate activities 0 ∷ []) events 6 room at_6 refl taken_room at_11
+    spans Lost = span-after r0 r7 r8 r11 (replicate events 0 ∷ replicate events 0 ∷ replicate events 0 ∷ replicate events 0 ∷ replicate events 0 ∷ replicate events 0 ∷ replicate events 0 ∷ []) (replicate activities 0 ∷ replicate activities 0 ∷ replicate activities 0 ∷ []) events 7 lost at_7 refl taken_lost at_11
+    spans Flow = span-after r0 r8 r9 r11 (replicate events 0 ∷ replicate events 0 ∷ replicate events 0 ∷ replicate events 0 ∷ replicate events 0 ∷ replicate events 0 ∷ replicate events 0 ∷ replicate events 0 ∷ []) (replicate activities 0 ∷ replicate activities 0 ∷ []) activities 8 flow at_8 refl taken_flow at_11
+    spans Waiting = span-after r0 r9 r10 r11 (replicate events 0 ∷ replicate events 0 ∷ replicate events 0 ∷ replicate events 0 ∷ replicate events 0 ∷ replicate events 0 ∷ replicate events 0 ∷ replicate events 0 ∷ replicate activities 0 ∷ []) (replicate activities 0 ∷ []) activities 9 waiting at_9 refl taken_waiting at_11
+    spans Slot = span-after r0 r10 r11 r11 (replicate events 0 ∷ replicate events 0 ∷ replicate events 0 ∷ replicate events 0 ∷ replicate events 0 ∷ replicate events 0 ∷ replicate events 0 ∷ replicate events 0 ∷ replicate activities 0 ∷ replicate activities 0 ∷ []) [] activities 10 slot at_10 refl taken_slot at_11

@@ -1,0 +1,17 @@
+pub mod AgainLaws
+pub mod ChoosingLaws
+pub mod CrossLaws
+pub mod DegreeLaws
+pub mod EnterLaws
+pub mod FallenLaws
+pub mod GrowLaws
+pub mod GrowingLaws
+pub mod KeptLaws
+pub mod LabelLaws
+pub mod RaiseLaws
+pub mod RaisedLaws
+pub mod StandLaws
+pub mod StateLaws
+pub mod StepLaws
+pub mod StopLaws
+pub mod VisitLaws

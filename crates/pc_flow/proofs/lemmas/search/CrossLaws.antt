@@ -1,0 +1,105 @@
+-- An activity that labels may cross: it waits for a fall, or its far event enters.
+use Rattle.std.proofs.Common.{◌≡◌, ◌≢◌, ℕ, List, ◌<◌, ◌≤◌, Some, true, false, length, sym, ◌∙◌, ap, subst, inl, inr, arith}
+use Rattle.std.proofs.lemmas.Bool.{cases_eq}
+use Rattle.pc_model.specs.declared.Knee.{Knee}
+use Rattle.pc_flow.specs.declared.stair.stop.Stop.{Stop}
+use Rattle.pc_crash.specs.Priced.{PricedNetwork}
+use Rattle.pc_flow.specs.board.Sheets.{Sheet, kept_time, rank_of}
+use Rattle.pc_flow.specs.inside.board.Sheets.{slot_of}
+use Rattle.pc_flow.specs.inside.board.Moves.{WaitsOnce, EntersAt}
+use Rattle.pc_flow.specs.inside.board.Labelling.{HaveRoom}
+use Rattle.pc_flow.proofs.lemmas.board.AfterEntering.{IsNewStep, queue-room}
+use Rattle.pc_flow.specs.declared.search.way.Way.{Way}
+use Rattle.pc_flow.specs.declared.search.way.Way.TheVariants.{Along, Against}
+use Rattle.pc_flow.specs.inside.search.Searches.{IsSearch, IsSeen, MayGoAlong, MayGoAgainst, IsWay, StopsAlong, StopsAgainst, StopsAfter, StopsLater, IsVisited}
+use Rattle.pc_flow.proofs.lemmas.search.VisitLaws.{visited-still, visited-waits}
+use Rattle.pc_flow.proofs.lemmas.search.EnterLaws.{visited-enters}
+
+module _ (net : PricedNetwork) (s : Sheet) (a : ℕ) (search : IsSearch net s) (known : a < length net.network.arcs) (room : HaveRoom s) where
+  activity : a < s.activities
+  activity = omega (arith, known, search.fits.activities)
+
+  -- labels may cross it only the one way
+  pub stops-later : (way : Way) (stop : Stop) → IsWay net s a (Some way) → StopsAfter net s a way stop → 0 < stop.after → StopsLater net s a
+  stops-later Along stop may stops some = record {
+    along = λ along. omega (arith, stops.after, some);
+    against = λ against. absurd (omega (arith, may.to, against.to));
+  }
+  stops-later Against stop may stops some = record {
+    along = λ along. absurd (omega (arith, may.from, along.from));
+    against = λ against. omega (arith, stops.after, some);
+  }
+
+  -- it waits, or did so before
+  pub crossed-waits : (t : Sheet) → StopsLater net s a → (slot_of s a ≢ 0 → t ≡ s) → (slot_of s a ≡ 0 → WaitsOnce s t a) → IsVisited net s t a
+  crossed-waits t later stays waits =
+      elim (cases_eq (slot_of s a) 0) [
+        | inl none ↦ visited-waits net s t a search activity none (waits none) room later
+        | inr had ↦
+            let slot : 0 < slot_of s a = omega (arith, had) in
+            subst (λ u. IsVisited net s u a) (sym (stays had)) (visited-still net s a search room (record {
+              along = λ along. (slot, later.along along);
+              against = λ against. (slot, later.against against);
+            }))
+      ]
+
+  module _ (from to crash : ℕ) (knees : List Knee) (seen : IsSeen net a from to crash knees) where
+    pub from-known : from < s.events
+    from-known = omega (arith, seen.begins, search.in_range.from_in a known, search.fits.events)
+
+    pub to-known : to < s.events
+    to-known = omega (arith, seen.ends, search.in_range.to_in a known, search.fits.events)
+
+    -- the event where it ends enters
+    module _ (stop : Stop) (may : MayGoAlong net s a) (stops : StopsAlong net s a stop) where
+      pub to-none : rank_of s to ≡ 0
+      to-none = ap (rank_of s) seen.ends ∙ may.to
+
+      pub to-room : s.count < s.events
+      to-room = queue-room s to search.ranked to-known to-none
+
+      pub to-deep : s.fallen ≤ kept_time s to
+      to-deep = search.times.deep to to-known to-none
+
+      to-new : IsNewStep net.network s to a false from stop.room
+      to-new = record {
+        unlabelled = to-none;
+        known = to-known;
+        near_known = from-known;
+        near_labelled = omega (arith, ap (rank_of s) seen.begins, may.from);
+        activity = activity;
+        some = stops.some;
+        along = λ is. (sym seen.begins, sym seen.ends, stops.small);
+        back = λ is. cc;
+      }
+
+      pub crossed-along : (t : Sheet) → stop.after ≡ 0 → EntersAt s t to a false from stop.room → IsVisited net s t a
+      crossed-along t now entered =
+          visited-enters net s t to a false from stop.room search known to-new entered (λ is. stops.room now) (λ is. cc) room
+
+    -- the event where it begins enters
+    module _ (stop : Stop) (may : MayGoAgainst net s a) (stops : StopsAgainst net s a stop) where
+      pub from-none : rank_of s from ≡ 0
+      from-none = ap (rank_of s) seen.begins ∙ may.from
+
+      pub from-room : s.count < s.events
+      from-room = queue-room s from search.ranked from-known from-none
+
+      pub from-deep : s.fallen ≤ kept_time s from
+      from-deep = search.times.deep from from-known from-none
+
+      from-new : IsNewStep net.network s from a true to stop.room
+      from-new = record {
+        unlabelled = from-none;
+        known = from-known;
+        near_known = to-known;
+        near_labelled = omega (arith, ap (rank_of s) seen.ends, may.to);
+        activity = activity;
+        some = stops.some;
+        along = λ is. cc;
+        back = λ is. (sym seen.begins, sym seen.ends, stops.within);
+      }
+
+      pub crossed-against : (t : Sheet) → stop.after ≡ 0 → EntersAt s t from a true to stop.room → IsVisited net s t a
+      crossed-against t now entered =
+          visited-enters net s t from a true to stop.room search known from-new entered (λ is. cc) (λ is. stops.room now) room

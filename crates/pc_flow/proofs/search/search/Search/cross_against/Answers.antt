@@ -1,0 +1,19 @@
+use Rattle.std.proofs.Common.{arith}
+use Rattle.pc_flow.specs.declared.search.way.Way.TheVariants.{Against}
+use Rattle.pc_flow.proofs.lemmas.search.CrossLaws.{stops-later, from-room, crossed-against}
+use Rattle.pc_flow.proofs.search.search.Search.cross_against.Goals as goal
+
+pub wait-requires-clause-later : goal.wait-requires-clause-later
+wait-requires-clause-later c =
+    stops-later c.args.self.now.net.now c.args.self.now.board c.args.a c.requires.search c.requires.known c.requires.room
+    Against c.stops_against-stop.result c.requires.way c.stops_against-stop.ensures c.if-stop-gt0.true
+
+pub enter-requires-clause-room : goal.enter-requires-clause-room
+enter-requires-clause-room c =
+    from-room c.args.self.now.net.now c.args.self.now.board c.args.a c.requires.search c.requires.known c.requires.room c.args.from c.args.to c.args.crash c.args.knees.now c.requires.seen
+    c.stops_against-stop.result c.requires.way c.stops_against-stop.ensures
+
+pub returns-clause-visited : goal.returns-clause-visited
+returns-clause-visited c =
+    crossed-against c.args.self.now.net.now c.args.self.now.board c.args.a c.requires.search c.requires.known c.requires.room c.args.from c.args.to c.args.crash c.args.knees.now c.requires.seen
+    c.stops_against-stop.result c.requires.way c.stops_against-stop.ensures c.enter.new.self (omega (arith, c.if-stop-gt0.false)) c.enter.ensures

@@ -1,0 +1,19 @@
+use Rattle.std.proofs.Common.{arith}
+use Rattle.pc_flow.specs.declared.search.way.Way.TheVariants.{Along}
+use Rattle.pc_flow.proofs.lemmas.search.CrossLaws.{stops-later, to-room, crossed-along}
+use Rattle.pc_flow.proofs.search.search.Search.cross_along.Goals as goal
+
+pub wait-requires-clause-later : goal.wait-requires-clause-later
+wait-requires-clause-later c =
+    stops-later c.args.self.now.net.now c.args.self.now.board c.args.a c.requires.search c.requires.known c.requires.room
+    Along c.stops_along-stop.result c.requires.way c.stops_along-stop.ensures c.if-stop-gt0.true
+
+pub enter-requires-clause-room : goal.enter-requires-clause-room
+enter-requires-clause-room c =
+    to-room c.args.self.now.net.now c.args.self.now.board c.args.a c.requires.search c.requires.known c.requires.room c.args.from c.args.to c.args.crash c.args.knees.now c.requires.seen
+    c.stops_along-stop.result c.requires.way c.stops_along-stop.ensures
+
+pub returns-clause-visited : goal.returns-clause-visited
+returns-clause-visited c =
+    crossed-along c.args.self.now.net.now c.args.self.now.board c.args.a c.requires.search c.requires.known c.requires.room c.args.from c.args.to c.args.crash c.args.knees.now c.requires.seen
+    c.stops_along-stop.result c.requires.way c.stops_along-stop.ensures c.enter.new.self (omega (arith, c.if-stop-gt0.false)) c.enter.ensures

@@ -1,0 +1,80 @@
+-- What a search promises of many activities at once.
+use Rattle.std.specs.Prelude.{◌≡◌, ℕ, ◌+◌, ◌<◌, ◌≤◌, ◌⊎◌, length}
+use Rattle.pc_model.specs.Greatest.{places}
+use Rattle.pc_model.specs.Walk.{from_of, to_of}
+use Rattle.pc_net.specs.Networks.{events_from, events_to}
+use Rattle.pc_crash.specs.Priced.{PricedNetwork}
+use Rattle.pc_flow.specs.board.Sheets.{Sheet, time_of, rank_of}
+use Rattle.pc_flow.specs.inside.board.Sheets.{lost_of, slot_of}
+use Rattle.pc_flow.specs.inside.board.Labelling.{HaveRoom}
+use Rattle.pc_flow.specs.inside.search.Searches.{IsSearch, MayGoAlong, MayGoAgainst, IsSettled, grown_as, Grows}
+
+-- activity a begins or ends at event e
+abbrev pub IsAt : PricedNetwork → ℕ → ℕ → Type 0
+IsAt net e a = (from_of net.network.arcs a ≡ e) ⊎ (to_of net.network.arcs a ≡ e)
+
+-- how many activities begin at event e and end there, in all
+abbrev pub degree : PricedNetwork → ℕ → ℕ
+degree net e = length (places e 0 (events_from net.network.arcs)) + length (places e 0 (events_to net.network.arcs))
+
+-- an end of activity a has a label
+abbrev pub IsReached : PricedNetwork → Sheet → ℕ → Type 0
+IsReached net s a = (0 < rank_of s (from_of net.network.arcs a)) ⊎ (0 < rank_of s (to_of net.network.arcs a))
+
+-- event e has a label and was scanned
+pub record IsScanned (s : Sheet) (e : ℕ) : Type 0 where
+  pub labelled : 0 < rank_of s e
+  pub within : rank_of s e ≤ s.head
+
+-- an end of activity a was scanned
+abbrev pub IsMet : PricedNetwork → Sheet → ℕ → Type 0
+IsMet net s a = IsScanned s (from_of net.network.arcs a) ⊎ IsScanned s (to_of net.network.arcs a)
+
+-- of the activities at scanned events those wait that labels may cross
+pub record AreListed (net : PricedNetwork) (s : Sheet) : Type 0 where
+  pub along : (a : ℕ) → a < length net.network.arcs → IsMet net s a → MayGoAlong net s a → 0 < slot_of s a
+  pub against : (a : ℕ) → a < length net.network.arcs → IsMet net s a → MayGoAgainst net s a → 0 < slot_of s a
+
+-- and they stop only after a fall
+abbrev pub AreSettled : PricedNetwork → Sheet → Type 0
+AreSettled net s = (a : ℕ) → a < length net.network.arcs → IsMet net s a → IsSettled net s a
+
+-- the search went on from board s to board t, and has settled those of these activities of which an end had a label
+pub record GoesOn (net : PricedNetwork) (these : ℕ → Type 0) (s t : Sheet) : Type 0 where
+  pub grows : Grows s t
+  pub search : IsSearch net t
+  pub room : HaveRoom t
+  pub settled : (a : ℕ) → a < length net.network.arcs → these a → IsReached net s a → IsSettled net t a
+
+-- the search went on to the activities that waited, and all at scanned events are settled
+pub record HasSettled (net : PricedNetwork) (s t : Sheet) : Type 0 where
+  pub grows : Grows s t
+  pub search : IsSearch net t
+  pub room : HaveRoom t
+  pub settled : AreSettled net t
+
+-- the search went on until the end had a label or all events with one were scanned
+pub record HasGrown (net : PricedNetwork) (s t : Sheet) : Type 0 where
+  pub grows : Grows (record s { head = t.head }) t
+  pub head : s.head ≤ t.head
+  pub search : IsSearch net t
+  pub room : HaveRoom t
+  pub settled : AreSettled net t
+  pub ended : (0 < rank_of t net.network.end) ⊎ (t.head ≡ t.count)
+
+-- board s with the labels of board t, with those that it lost, and with its waiting activities
+abbrev pub relabelled : Sheet → Sheet → Sheet
+relabelled s t = record (grown_as s t) { lost = t.lost; head = t.head }
+
+-- after a raising the labels without room were taken off, and the search went on from the others; times and flows are as
+-- they were
+pub record HasLookedAgain (net : PricedNetwork) (s t : Sheet) : Type 0 where
+  pub rest : t ≡ relabelled s t
+  pub time : (e : ℕ) → e < s.events → time_of t e ≡ time_of s e
+  pub search : IsSearch net t
+  pub room : HaveRoom t
+  pub settled : AreSettled net t
+
+-- activity a begins or ends at one of the first `gone` events that lost their labels
+abbrev pub IsAtLost : PricedNetwork → Sheet → ℕ → ℕ → Type 0
+IsAtLost net s gone a = (k : ℕ) × (k < gone) × IsAt net (lost_of s k) a

@@ -1,0 +1,155 @@
+-- The search for steps with room on the board of a priced network.
+use Rattle.std.specs.Prelude.{◌≡◌, ℕ, ◌+◌, ◌-◌, ◌^◌, ◌<◌, ◌≤◌, Option, Some, None, List, length}
+use Rattle.pc_model.specs.declared.limits.TheConstants.{MAX_ACTIVITIES}
+use Rattle.pc_model.specs.Walk.{from_of, to_of}
+use Rattle.pc_model.specs.Network.{IsInRange}
+use Rattle.pc_model.specs.declared.Knee.{Knee}
+use Rattle.pc_model.specs.Schedule.{crash_of, gap_of}
+use Rattle.pc_laws.specs.Stair.{Stair, IsFalling, stair_of, full_reach, unit_length, IsOnStair}
+use Rattle.pc_flow.specs.declared.stair.stop.Stop.{Stop}
+use Rattle.pc_crash.specs.inside.KneeLists.{AreKneesOf}
+use Rattle.pc_crash.specs.Priced.{PricedNetwork, knees_in}
+use Rattle.pc_flow.specs.board.Sheets.{Sheet, time_of, rank_of, flow_of}
+use Rattle.pc_flow.specs.inside.board.Sheets.{queue_of, step_of, against_of, room_of, waiting_of, slot_of}
+use Rattle.pc_flow.specs.inside.board.Moves.{with_labels}
+use Rattle.pc_flow.specs.inside.board.Labelling.{HasStep, IsRanked, IsRankedBack, HaveSteps, HaveRoom, AreTimes, IsFor, AreJoined}
+use Rattle.pc_flow.specs.declared.search.way.Way.{Way}
+use Rattle.pc_flow.specs.declared.search.way.Way.TheVariants.{Along, Against}
+
+-- the staircase of activity a
+abbrev pub stair_at : PricedNetwork → ℕ → Stair
+stair_at net a = stair_of net.terms (knees_in net) a
+
+-- the gap of activity a
+abbrev pub gap_at : PricedNetwork → Sheet → ℕ → ℕ
+gap_at net s a = gap_of net.network.arcs (time_of s) a
+
+-- on which arc the next unit of activity a runs, and on which the last one does
+abbrev pub next_at : PricedNetwork → Sheet → ℕ → ℕ
+next_at net s a = unit_length (stair_at net a) (flow_of s a)
+
+abbrev pub last_at : PricedNetwork → Sheet → ℕ → ℕ
+last_at net s a = unit_length (stair_at net a) (flow_of s a - 1)
+
+-- the activities that wait stand on the list, each once, at the place that its slot says
+pub record IsWaiting (s : Sheet) : Type 0 where
+  pub few : s.len ≤ s.activities
+  pub range : (k : ℕ) → k < s.len → waiting_of s k < s.activities
+  pub placed : (k : ℕ) → k < s.len → slot_of s (waiting_of s k) ≡ k + 1
+  pub within : (a : ℕ) → a < s.activities → slot_of s a ≤ s.len
+  pub listed : (a : ℕ) → a < s.activities → 0 < slot_of s a → waiting_of s (slot_of s a - 1) ≡ a
+
+-- each activity has a falling staircase with numbers that fit, no activity ends before it begins, and its flow stands on
+-- the staircase at its gap
+pub record IsOnStairs (net : PricedNetwork) (s : Sheet) : Type 0 where
+  pub falling : (a : ℕ) → a < length net.network.arcs → IsFalling (stair_at net a)
+  pub reach : (a : ℕ) → a < length net.network.arcs → full_reach (stair_at net a) < 2 ^ 64
+  pub ahead : (a : ℕ) → a < length net.network.arcs → time_of s (from_of net.network.arcs a) ≤ time_of s (to_of net.network.arcs a)
+  pub on : (a : ℕ) → a < length net.network.arcs → IsOnStair (stair_at net a) (gap_at net s a) (flow_of s a)
+  pub small : (a : ℕ) → a < length net.network.arcs → flow_of s a + 1 < 2 ^ 64
+
+-- the board is for the network, and on it the flows stand on the staircases at times that fit
+pub record IsPricedBoard (net : PricedNetwork) (s : Sheet) : Type 0 where
+  pub in_range : IsInRange net.network
+  pub fits : IsFor net.network s
+  pub times : AreTimes s
+  pub stairs : IsOnStairs net s
+
+-- what the room of each step leads to stands on the staircase too
+pub record AreLed (net : PricedNetwork) (s : Sheet) : Type 0 where
+  pub along : (e : ℕ) → e < s.events → HasStep s e → against_of s e ≡ 0 →
+      IsOnStair (stair_at net (step_of s e)) (gap_at net s (step_of s e)) (flow_of s (step_of s e) + room_of s e)
+  pub against : (e : ℕ) → e < s.events → HasStep s e → 0 < against_of s e →
+      IsOnStair (stair_at net (step_of s e)) (gap_at net s (step_of s e)) (flow_of s (step_of s e) - room_of s e)
+
+-- what stays true of a board while events are labelled
+pub record IsSearch (net : PricedNetwork) (s : Sheet) : Type 0 where
+  pub in_range : IsInRange net.network
+  pub few : length net.network.arcs ≤ MAX_ACTIVITIES
+  pub fits : IsFor net.network s
+  pub ranked : IsRanked s
+  pub start : queue_of s 0 ≡ net.network.start
+  pub back : IsRankedBack s
+  pub steps : HaveSteps s
+  pub times : AreTimes s
+  pub joined : AreJoined net.network s
+  pub waiting : IsWaiting s
+  pub stairs : IsOnStairs net s
+  pub led : AreLed net s
+
+-- labels may cross activity a along it, or against it
+pub record MayGoAlong (net : PricedNetwork) (s : Sheet) (a : ℕ) : Type 0 where
+  pub from : 0 < rank_of s (from_of net.network.arcs a)
+  pub to : rank_of s (to_of net.network.arcs a) ≡ 0
+
+pub record MayGoAgainst (net : PricedNetwork) (s : Sheet) (a : ℕ) : Type 0 where
+  pub from : rank_of s (from_of net.network.arcs a) ≡ 0
+  pub to : 0 < rank_of s (to_of net.network.arcs a)
+  pub some : 0 < flow_of s a
+
+-- neither
+pub record IsQuiet (net : PricedNetwork) (s : Sheet) (a : ℕ) : Type 0 where
+  pub along : MayGoAlong net s a → ⊥
+  pub against : MayGoAgainst net s a → ⊥
+
+abbrev pub IsWay : PricedNetwork → Sheet → ℕ → Option Way → Type 0
+IsWay net s a (Some Along) = MayGoAlong net s a
+IsWay net s a (Some Against) = MayGoAgainst net s a
+IsWay net s a None = IsQuiet net s a
+
+-- activity a begins and ends at these events, and has this crash duration and these knees
+pub record IsSeen (net : PricedNetwork) (a from to crash : ℕ) (knees : List Knee) : Type 0 where
+  pub begins : from ≡ from_of net.network.arcs a
+  pub ends : to ≡ to_of net.network.arcs a
+  pub lasts : crash ≡ crash_of net.terms a
+  pub bends : AreKneesOf (knees_in net) a knees
+
+-- after so much of a fall the gap is the next unit's arc; where that is now, the room leads to a flow on the staircase
+pub record StopsAlong (net : PricedNetwork) (s : Sheet) (a : ℕ) (stop : Stop) : Type 0 where
+  pub after : stop.after + next_at net s a ≡ gap_at net s a
+  pub some : 0 < stop.room
+  pub small : flow_of s a + stop.room < 2 ^ 64
+  pub room : stop.after ≡ 0 → IsOnStair (stair_at net a) (gap_at net s a) (flow_of s a + stop.room)
+
+-- after so much of a fall the gap is the last unit's arc
+pub record StopsAgainst (net : PricedNetwork) (s : Sheet) (a : ℕ) (stop : Stop) : Type 0 where
+  pub after : gap_at net s a + stop.after ≡ last_at net s a
+  pub some : 0 < stop.room
+  pub within : stop.room ≤ flow_of s a
+  pub room : stop.after ≡ 0 → IsOnStair (stair_at net a) (gap_at net s a) (flow_of s a - stop.room)
+
+abbrev pub StopsAfter : PricedNetwork → Sheet → ℕ → Way → Stop → Type 0
+StopsAfter net s a Along stop = StopsAlong net s a stop
+StopsAfter net s a Against stop = StopsAgainst net s a stop
+
+-- where labels may cross activity a, it stops only after a fall
+pub record StopsLater (net : PricedNetwork) (s : Sheet) (a : ℕ) : Type 0 where
+  pub along : MayGoAlong net s a → next_at net s a < gap_at net s a
+  pub against : MayGoAgainst net s a → gap_at net s a < last_at net s a
+
+-- where labels may cross activity a it waits, and it stops only after a fall
+pub record IsSettled (net : PricedNetwork) (s : Sheet) (a : ℕ) : Type 0 where
+  pub along : MayGoAlong net s a → (0 < slot_of s a) × (next_at net s a < gap_at net s a)
+  pub against : MayGoAgainst net s a → (0 < slot_of s a) × (gap_at net s a < last_at net s a)
+
+-- board s with the labels and the waiting activities of board t
+abbrev pub grown_as : Sheet → Sheet → Sheet
+grown_as s t = record (with_labels s t) { waiting = t.waiting; slot = t.slot; len = t.len }
+
+-- labels were given and activities have begun to wait; times and flows are as they were
+pub record Grows (s t : Sheet) : Type 0 where
+  pub rest : t ≡ grown_as s t
+  pub labelled : (e : ℕ) → 0 < rank_of s e → rank_of t e ≡ rank_of s e
+  pub time : (e : ℕ) → e < s.events → time_of t e ≡ time_of s e
+  pub waits : (a : ℕ) → 0 < slot_of s a → slot_of t a ≡ slot_of s a
+  pub queue : (k : ℕ) → k < s.count → queue_of t k ≡ queue_of s k
+  pub waiting : (k : ℕ) → k < s.len → waiting_of t k ≡ waiting_of s k
+  pub count : s.count ≤ t.count
+  pub len : s.len ≤ t.len
+
+-- activity a was visited
+pub record IsVisited (net : PricedNetwork) (s t : Sheet) (a : ℕ) : Type 0 where
+  pub grows : Grows s t
+  pub search : IsSearch net t
+  pub room : HaveRoom t
+  pub settled : IsSettled net t a

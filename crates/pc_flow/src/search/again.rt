@@ -1,0 +1,51 @@
+//! The search after a raising.
+ghost use Rattle.std.specs.Prelude.{◌≡◌, ◌+◌, ◌*◌, ◌<◌, ◌≤◌, ℕ, length};
+ghost use Rattle.pc_model.specs.Sums.{sum_to};
+ghost use Rattle.pc_flow.specs.board.Sheets.{Sheet};
+ghost use Rattle.pc_flow.specs.inside.board.Sheets.{lost_of};
+ghost use Rattle.pc_flow.specs.inside.board.Labelling.{HaveRoom};
+ghost use Rattle.pc_flow.specs.inside.search.Searches.{IsSearch};
+ghost use Rattle.pc_flow.specs.inside.search.Growing.{degree, AreSettled, GoesOn, IsAtLost, HasLookedAgain};
+
+use crate::search::search::Search;
+use pc_crash::Steps;
+use pc_net::degree_laws::each_activity_stands_once;
+use std::sync::ledger::Ledger;
+
+impl<'n> Search<'n> {
+    /// After a raising, takes off the labels whose steps have no room, and scans the events that lost theirs; where these
+    /// are more than the others that were scanned, has those scanned again instead. At most two looks for each activity.
+    pub fn look_again<L: Ledger>(&mut self, steps: &mut Steps<L>)
+        requires search { IsSearch self.old.net.now self.old.board }
+        requires settled { AreSettled self.old.net.now self.old.board }
+        ensures net { self.new.net.now ≡ self.old.net.now }
+        ensures counted { steps.new ≤ steps.old + 2 * length self.old.net.now.network.arcs }
+        ensures again { HasLookedAgain self.old.net.now self.old.board self.new.board }
+    {
+        each_activity_stands_once();
+        let gone = self.board.prune();
+        if gone > self.board.head() {
+            self.board.scan_anew();
+        } else {
+            self.scan_lost(gone, steps);
+        }
+    }
+
+    // Scans the events that lost their labels.
+    fn scan_lost<L: Ledger>(&mut self, gone: u32, steps: &mut Steps<L>)
+        requires search { IsSearch self.old.net.now self.old.board }
+        requires room { HaveRoom self.old.board }
+        requires few { gone ≤ self.old.board.events }
+        requires known { (k : ℕ) → k < gone → lost_of self.old.board k < self.old.board.events }
+        ensures net { self.new.net.now ≡ self.old.net.now }
+        ensures counted { steps.new ≡ steps.old + sum_to gone
+            (λ k. degree self.old.net.now (lost_of self.old.board k)) }
+        ensures goes_on { GoesOn self.old.net.now
+            (IsAtLost self.old.net.now self.old.board gone) self.old.board self.new.board }
+    {
+        for i in 0..gone {
+            let e = self.board.lost(i);
+            self.scan(e, steps);
+        }
+    }
+}

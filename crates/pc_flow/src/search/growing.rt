@@ -1,0 +1,77 @@
+//! Labels that are given along steps with room, from event to event.
+ghost use Rattle.std.specs.Prelude.{◌≡◌, ◌+◌, ◌*◌, ◌<◌, ◌≤◌, ℕ, length, slice_index};
+ghost use Rattle.pc_model.specs.Greatest.{StandsBelow};
+ghost use Rattle.pc_flow.specs.inside.board.Labelling.{HaveRoom};
+ghost use Rattle.pc_flow.specs.inside.search.Searches.{IsSearch};
+ghost use Rattle.pc_flow.specs.inside.search.Growing.{IsAt, degree, AreListed, AreSettled, GoesOn, HasSettled, HasGrown};
+
+use crate::search::search::Search;
+use pc_crash::Steps;
+use pc_net::degree_laws::each_activity_stands_once;
+use std::sync::ledger::Ledger;
+
+impl<'n> Search<'n> {
+    /// Visits all activities at an event. One look for each.
+    #[inline(always)]
+    pub fn scan<L: Ledger>(&mut self, e: u32, steps: &mut Steps<L>)
+        requires known { e < self.old.net.now.network.events }
+        requires search { IsSearch self.old.net.now self.old.board }
+        requires room { HaveRoom self.old.board }
+        ensures net { self.new.net.now ≡ self.old.net.now }
+        ensures counted { steps.new ≡ steps.old + degree self.old.net.now e }
+        ensures goes_on { GoesOn self.old.net.now (IsAt self.old.net.now e) self.old.board self.new.board }
+    {
+        let net = self.net.net();
+        self.visit_all(net.out_arcs(e), steps);
+        self.visit_all(net.in_arcs(e), steps);
+    }
+
+    // Visits these activities.
+    #[inline(always)]
+    fn visit_all<L: Ledger>(&mut self, activities: &[u32], steps: &mut Steps<L>)
+        requires known { (k : ℕ) → k < length activities.now →
+            slice_index activities.now k < length self.old.net.now.network.arcs }
+        requires search { IsSearch self.old.net.now self.old.board }
+        requires room { HaveRoom self.old.board }
+        ensures net { self.new.net.now ≡ self.old.net.now }
+        ensures counted { steps.new ≡ steps.old + length activities.now }
+        ensures goes_on { GoesOn self.old.net.now
+            (StandsBelow activities.now (length activities.now)) self.old.board self.new.board }
+    {
+        for a in activities {
+            self.visit(*a, steps);
+        }
+    }
+
+    /// Visits the activities that wait, which still do so. One look for each.
+    pub fn settle<L: Ledger>(&mut self, steps: &mut Steps<L>)
+        requires search { IsSearch self.old.net.now self.old.board }
+        requires room { HaveRoom self.old.board }
+        requires listed { AreListed self.old.net.now self.old.board }
+        ensures net { self.new.net.now ≡ self.old.net.now }
+        ensures counted { steps.new ≡ steps.old + self.old.board.len }
+        ensures settled { HasSettled self.old.net.now self.old.board self.new.board }
+    {
+        for i in 0..self.board.len() {
+            let a = self.board.waiting(i);
+            self.visit(a, steps);
+        }
+    }
+
+    /// Scans events with a label until the end has one or none is left. At most two looks for each activity.
+    pub fn grow<L: Ledger>(&mut self, steps: &mut Steps<L>)
+        requires search { IsSearch self.old.net.now self.old.board }
+        requires room { HaveRoom self.old.board }
+        requires settled { AreSettled self.old.net.now self.old.board }
+        ensures net { self.new.net.now ≡ self.old.net.now }
+        ensures counted { steps.new ≤ steps.old + 2 * length self.old.net.now.network.arcs }
+        ensures grown { HasGrown self.old.net.now self.old.board self.new.board }
+    {
+        let end = self.net.net().end();
+        while self.board.head() < self.board.count() && self.board.rank(end) == 0 {
+            let e = self.board.next_to_scan();
+            self.scan(e, steps);
+        }
+        each_activity_stands_once();
+    }
+}

@@ -1,0 +1,16 @@
+//! The search for steps with room: from the events that have a label, others are labelled along activities where more can
+//! flow and against those where less can (Fulkerson 1961).
+
+mod again;
+mod choosing;
+mod falling;
+mod growing;
+mod labelling;
+mod raising;
+mod search;
+mod visiting;
+mod way;
+
+pub use labelling::Labelling;
+pub use search::Search;
+pub use way::Way;

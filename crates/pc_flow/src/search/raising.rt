@@ -1,0 +1,25 @@
+//! The flow raised where the labels reach the end.
+ghost use Rattle.std.specs.Prelude.{◌≡◌, ◌<◌};
+ghost use Rattle.pc_flow.specs.board.Sheets.{rank_of};
+ghost use Rattle.pc_flow.specs.inside.search.Growing.{AreSettled};
+ghost use Rattle.pc_flow.specs.inside.search.Labelling.{IsBetween, IsAboveAllCrash, HasRaised};
+
+use crate::search::search::Search;
+
+impl<'n> Search<'n> {
+    /// Raises the flow along the steps that led to the end, as far as they have room, and says by how much. No look.
+    pub fn raise(&mut self) -> u64
+        requires between { IsBetween self.old.net.now self.old.board }
+        requires above { IsAboveAllCrash self.old.net.now self.old.board }
+        requires settled { AreSettled self.old.net.now self.old.board }
+        requires reached { 0 < rank_of self.old.board self.old.net.now.network.end }
+        ensures net { self.new.net.now ≡ self.old.net.now }
+        ensures raised { HasRaised self.old.net.now self.old.board self.new.board result }
+    {
+        let net = self.net.net();
+        // With an order of the events, no activity has more flow than the value.
+        let _order = net.order();
+        let end = net.end();
+        self.board.raise(end)
+    }
+}

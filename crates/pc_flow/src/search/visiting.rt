@@ -1,0 +1,154 @@
+//! An activity looked at, and the event at its far end labelled where its step has room.
+ghost use Rattle.std.specs.Prelude.{◌≡◌, ◌+◌, ◌<◌, ◌≤◌, ◌^◌, length};
+ghost use Rattle.pc_model.specs.Walk.{from_of, to_of};
+ghost use Rattle.pc_crash.specs.inside.Looks.{IsLookAt};
+ghost use Rattle.pc_model.specs.Network.{IsInRange};
+ghost use Rattle.pc_flow.specs.inside.board.Labelling.{HaveRoom, IsFor};
+ghost use Rattle.pc_flow.specs.inside.search.Searches.{IsSearch, IsSeen, IsPricedBoard, IsWay, MayGoAlong, MayGoAgainst, StopsAlong, StopsAgainst, StopsAfter, StopsLater, IsVisited};
+
+use crate::search::search::Search;
+use crate::search::way::Way;
+use crate::stair::{Knee, Stop, stop_against, stop_along};
+use pc_crash::{Look, Steps};
+use std::sync::ledger::Ledger;
+
+impl<'n> Search<'n> {
+    /// Which way the labels may cross an activity: along it from where it begins, or against it from where it ends where
+    /// something flows.
+    pub fn way(&self, a: u32, look: &Look) -> Option<Way>
+        requires known { a < length self.now.net.now.network.arcs }
+        requires look { IsLookAt self.now.net.now a look.now }
+        requires in_range { IsInRange self.now.net.now.network }
+        requires fits { IsFor self.now.net.now.network self.now.board }
+        ensures { IsWay self.now.net.now self.now.board a result }
+    {
+        let from = self.board.rank(look.from) > 0;
+        let to = self.board.rank(look.to) > 0;
+        if from {
+            if to { None } else { Some(Way::Along) }
+        } else if to && self.board.flow(a) > 0 {
+            Some(Way::Against)
+        } else {
+            None
+        }
+    }
+
+    /// After how much of a fall an activity stops that the labels may cross this way, and what room its step has where that
+    /// is 0.
+    #[inline(always)]
+    pub fn stop(&self, a: u32, look: &Look, way: Way) -> Stop
+        requires known { a < length self.now.net.now.network.arcs }
+        requires look { IsLookAt self.now.net.now a look.now }
+        requires board { IsPricedBoard self.now.net.now self.now.board }
+        requires way { IsWay self.now.net.now self.now.board a (Some way) }
+        ensures { StopsAfter self.now.net.now self.now.board a way result }
+    {
+        let knees = look.knees.as_slice();
+        match way {
+            Way::Along => self.stops_along(a, look.from, look.to, look.crash, knees),
+            Way::Against => self.stops_against(a, look.from, look.to, look.crash, knees),
+        }
+    }
+
+    // The stop of an activity that labels may cross along it.
+    #[inline(always)]
+    fn stops_along(&self, a: u32, from: u32, to: u32, crash: u64, knees: &[Knee]) -> Stop
+        requires known { a < length self.now.net.now.network.arcs }
+        requires seen { IsSeen self.now.net.now a from to crash knees.now }
+        requires board { IsPricedBoard self.now.net.now self.now.board }
+        requires way { MayGoAlong self.now.net.now self.now.board a }
+        ensures { StopsAlong self.now.net.now self.now.board a result }
+    {
+        let gap = self.board.falling_time(to) - self.board.resting_time(from);
+        stop_along(knees, crash, gap, self.board.flow(a))
+    }
+
+    // The stop of an activity that labels may cross against it.
+    #[inline(always)]
+    fn stops_against(&self, a: u32, from: u32, to: u32, crash: u64, knees: &[Knee]) -> Stop
+        requires known { a < length self.now.net.now.network.arcs }
+        requires seen { IsSeen self.now.net.now a from to crash knees.now }
+        requires board { IsPricedBoard self.now.net.now self.now.board }
+        requires way { MayGoAgainst self.now.net.now self.now.board a }
+        ensures { StopsAgainst self.now.net.now self.now.board a result }
+    {
+        let gap = self.board.resting_time(to) - self.board.falling_time(from);
+        stop_against(knees, crash, gap, self.board.flow(a))
+    }
+
+    /// Labels the far event of an activity where its step has room, and else has the activity wait for a fall. One look.
+    ///
+    /// Most of the activities that a search comes to, labels may not cross. So only the test stands in the loops that call
+    /// this, and the rest is a call with what the look told.
+    #[inline(always)]
+    pub fn visit<L: Ledger>(&mut self, a: u32, steps: &mut Steps<L>)
+        requires known { a < length self.old.net.now.network.arcs }
+        requires search { IsSearch self.old.net.now self.old.board }
+        requires room { HaveRoom self.old.board }
+        ensures net { self.new.net.now ≡ self.old.net.now }
+        ensures counted { steps.new ≡ steps.old + 1 }
+        ensures visited { IsVisited self.old.net.now self.old.board self.new.board a }
+    {
+        let look = self.net.look(a, steps);
+        let way = match self.way(a, &look) {
+            Some(way) => way,
+            None => return,
+        };
+        let knees = look.knees.as_slice();
+        match way {
+            Way::Along => self.cross_along(a, look.from, look.to, look.crash, knees),
+            Way::Against => self.cross_against(a, look.from, look.to, look.crash, knees),
+        }
+    }
+
+    // Labels the event where an activity ends that labels may cross along it, or has the activity wait.
+    #[inline(never)]
+    fn cross_along(&mut self, a: u32, from: u32, to: u32, crash: u64, knees: &[Knee])
+        requires known { a < length self.old.net.now.network.arcs }
+        requires seen { IsSeen self.old.net.now a from to crash knees.now }
+        requires search { IsSearch self.old.net.now self.old.board }
+        requires room { HaveRoom self.old.board }
+        requires way { MayGoAlong self.old.net.now self.old.board a }
+        ensures net { self.new.net.now ≡ self.old.net.now }
+        ensures visited { IsVisited self.old.net.now self.old.board self.new.board a }
+    {
+        let stop = self.stops_along(a, from, to, crash, knees);
+        if stop.after > 0 {
+            self.wait(a);
+            return;
+        }
+        self.board.enter(to, a, false, from, stop.room);
+    }
+
+    // Labels the event where an activity begins that labels may cross against it, or has the activity wait.
+    #[inline(never)]
+    fn cross_against(&mut self, a: u32, from: u32, to: u32, crash: u64, knees: &[Knee])
+        requires known { a < length self.old.net.now.network.arcs }
+        requires seen { IsSeen self.old.net.now a from to crash knees.now }
+        requires search { IsSearch self.old.net.now self.old.board }
+        requires room { HaveRoom self.old.board }
+        requires way { MayGoAgainst self.old.net.now self.old.board a }
+        ensures net { self.new.net.now ≡ self.old.net.now }
+        ensures visited { IsVisited self.old.net.now self.old.board self.new.board a }
+    {
+        let stop = self.stops_against(a, from, to, crash, knees);
+        if stop.after > 0 {
+            self.wait(a);
+            return;
+        }
+        self.board.enter(from, a, true, to, stop.room);
+    }
+
+    // Has an activity wait that stops only after a fall.
+    #[inline(always)]
+    fn wait(&mut self, a: u32)
+        requires known { a < length self.old.net.now.network.arcs }
+        requires search { IsSearch self.old.net.now self.old.board }
+        requires room { HaveRoom self.old.board }
+        requires later { StopsLater self.old.net.now self.old.board a }
+        ensures net { self.new.net.now ≡ self.old.net.now }
+        ensures visited { IsVisited self.old.net.now self.old.board self.new.board a }
+    {
+        self.board.wait(a);
+    }
+}

@@ -1,5 +1,0 @@
-pub mod LineLaws
-mod RunLemmas
-mod HoldLemmas
-mod StepLemmas
-pub mod TalkLaws

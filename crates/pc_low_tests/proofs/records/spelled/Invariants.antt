@@ -1,0 +1,6 @@
+use Rattle.std.proofs.Common.{length}
+use Rattle.pc_low_tests.proofs.records.spelled.Given as goal
+
+-- each turn takes one record
+abbrev pub decreases-rows : goal.decreases-rows
+decreases-rows l = length l.rows

@@ -1,0 +1,263 @@
+-- Decks that say the same make a project alike: each fault of one is, at another record, a fault of the other.
+use Rattle.std.proofs.Common.{◌≡◌, ℕ, ℤ, ◌<◌, ◌<ℤ◌, List, length, get_or, map, Option, Some, None, refl, sym, ap, subst, ◌∙◌, arith}
+use Rattle.std.specs.Prelude.{IsSome}
+use Rattle.std.specs.List.{Any}
+use Rattle.std.proofs.lemmas.Int.{ints}
+use Rattle.std.proofs.lemmas.List.{get_or-map, get_or_default}
+use Rattle.pc_accounts.specs.Packages.{IsUneven}
+use Rattle.pc_accounts.specs.Second.{IsRepeated}
+use Rattle.pc_model.specs.Network.{IsSound}
+use Rattle.pc_model.specs.declared.PieceRow.{PieceRow}
+use Rattle.pc_model.specs.declared.Term.{Term}
+use Rattle.pc_accounts.specs.status.Statuses.{IsReason}
+use Rattle.pc_wbs.specs.Climb.{IsLeaf, IsTree}
+use Rattle.pc_faults.specs.declared.fault.Fault.{Fault}
+use Rattle.pc_deck.specs.declared.kinds.acct.AcctCard.{AcctCard}
+use Rattle.pc_deck.specs.declared.kinds.act.ActCard.{ActCard}
+use Rattle.pc_deck.specs.declared.kinds.as_of.AsOfCard.{AsOfCard}
+use Rattle.pc_deck.specs.declared.kinds.load.LoadCard.{LoadCard}
+use Rattle.pc_deck.specs.declared.kinds.money.MoneyCard.{MoneyCard}
+use Rattle.pc_deck.specs.declared.kinds.piece.PieceCard.{PieceCard}
+use Rattle.pc_deck.specs.declared.kinds.status.StatusCard.{StatusCard}
+use Rattle.pc_deck.specs.declared.kinds.terms.TermsCard.{TermsCard}
+use Rattle.pc_deck.specs.declared.kinds.wbs.ItemCard.{ItemCard}
+use Rattle.pc_deck.specs.Deck.{Deck, account_codes, act_codes, event_codes, item_codes, named_among, number_among, resource_codes}
+use Rattle.pc_project.specs.DisorderFaults.{HasDisorder, IsDisorderAt, IsEarlyAsOf, as_of_in, of_as_of, of_status}
+use Rattle.pc_project.specs.Misfit.{HasAccountFault, HasActFault, HasFigureFault, HasItemFault, HasListedFault, HasLoadFault, HasMisfit}
+use Rattle.pc_project.specs.Misfit.{HasMoneyFault, HasNoMisfit, HasPieceCardFault, HasProjectFault, HasStatusFault, IsInOrder}
+use Rattle.pc_project.specs.Misfit as has
+use Rattle.pc_project.specs.PackageFaults.{HasLeafFault, StandsOnBranch, of_account, of_act}
+use Rattle.pc_project.specs.PieceFaults.{HasFlaw, HasFlawAt, HasPieceFault, none_left, not_rising, one_too_many}
+use Rattle.pc_project.specs.Project.{accounts_in, as_of_day, pieces_in, rows_of, statuses_in, terms_in, time_terms_of, work_in}
+use Rattle.pc_project.specs.Refusal.{HasNoSecondToGo, HasSoundFigures, IsEven, MakesProject}
+use Rattle.pc_project.specs.TermsFaults.{HasTermsFault, bonus_above}
+use Rattle.pc_model.specs.declared.TimeTerms.{TimeTerms}
+use Rattle.pc_project.specs.deck_text.Same.{SayTheSame, account_said, act_said, item_said, load_said, money_said, piece_said, status_said}
+use Rattle.pc_project.proofs.lemmas.deck_text.SameLaws.{length_said, same_accounts, same_accounts_in, same_acts, same_events, same_item_number, same_items, same_network}
+use Rattle.pc_project.proofs.lemmas.deck_text.SameLaws.{same_pieces, same_resources, same_rows, same_start_day, same_statuses, same_terms, same_togos, same_work}
+
+-- what holds of some element of one list holds of the element at that place of the other, where a function makes them one
+Any-said : {X : Type 0} (said : X → X) (P Q : X → Type 0) (xs ys : List X) → map said xs ≡ map said ys → ((x y : X) → said x ≡ said y → P x → Q y) → Any P xs → Any Q ys
+Any-said said P Q xs ys same over (k, x, within, at, holds) =
+    let inside : k < length ys = omega (arith, within, length_said said xs ys same) in
+    let there : said x ≡ said (get_or ys k x) =
+    ap said (sym at) ∙ sym (get_or-map said xs k x (said x) within) ∙ ap (λ zs. get_or zs k (said x)) same ∙ get_or-map said ys k x (said x) inside in
+    (k, get_or ys k x, inside, get_or_default ys k (get_or ys k x) x inside, over x (get_or ys k x) there holds)
+
+-- some fault of a kind
+abbrev Some-fault : (Fault → Type 0) → Type 0
+Some-fault Has = (fault : Fault) × Has fault
+
+-- a fault of some element is some fault
+Any-fault : {X : Type 0} (Has : X → Fault → Type 0) (xs : List X) → Any (λ x. Some-fault (Has x)) xs → (fault : Fault) × Any (λ x. Has x fault) xs
+Any-fault Has xs (k, x, within, at, (fault, holds)) = (fault, (k, x, within, at, holds))
+
+-- the lists of the first deck are those of the second
+module _ (a b : Deck) (same : SayTheSame a b) where
+  -- a code that is unknown in one deck is unknown in the other
+  no_event : (c d : List ℕ) → c ≡ d → named_among (event_codes a) c ≡ None → named_among (event_codes b) d ≡ None
+  no_event c d is none = (λ i. sym (same_events a b same) i d) ∙ ap (named_among (event_codes a)) (sym is) ∙ none
+
+  an_event : (c d : List ℕ) → c ≡ d → IsSome (named_among (event_codes a) c) → IsSome (named_among (event_codes b) d)
+  an_event c d is known = subst IsSome ((λ i. same_events a b same i c) ∙ ap (named_among (event_codes b)) is) known
+
+  no_item : (c d : List ℕ) → c ≡ d → named_among (item_codes a) c ≡ None → named_among (item_codes b) d ≡ None
+  no_item c d is none = (λ i. sym (same_items a b same) i d) ∙ ap (named_among (item_codes a)) (sym is) ∙ none
+
+  no_act : (c d : List ℕ) → c ≡ d → named_among (act_codes a) c ≡ None → named_among (act_codes b) d ≡ None
+  no_act c d is none = (λ i. sym (same_acts a b same) i d) ∙ ap (named_among (act_codes a)) (sym is) ∙ none
+
+  no_account : (c d : List ℕ) → c ≡ d → named_among (account_codes a) c ≡ None → named_among (account_codes b) d ≡ None
+  no_account c d is none = (λ i. sym (same_accounts a b same) i d) ∙ ap (named_among (account_codes a)) (sym is) ∙ none
+
+  no_resource : (c d : List ℕ) → c ≡ d → named_among (resource_codes a) c ≡ None → named_among (resource_codes b) d ≡ None
+  no_resource c d is none = (λ i. sym (same_resources a b same) i d) ∙ ap (named_among (resource_codes a)) (sym is) ∙ none
+
+  project_fault : (fault : Fault) → HasProjectFault a a.project fault → Some-fault (HasProjectFault b b.project)
+  project_fault fault (has.unknown_start none is) = (_, has.unknown_start (no_event _ _ (ap (λ card. card.start) same.project) none) refl)
+  project_fault fault (has.unknown_end known none is) =
+      (_, has.unknown_end (an_event _ _ (ap (λ card. card.start) same.project) known) (no_event _ _ (ap (λ card. card.end) same.project) none) refl)
+  project_fault fault (has.same_ends one is) = (_, has.same_ends (sym (ap (λ card. card.start) same.project) ∙ one ∙ ap (λ card. card.end) same.project) refl)
+
+  item_fault : (x y : ItemCard) → item_said x ≡ item_said y → Some-fault (HasItemFault a x) → Some-fault (HasItemFault b y)
+  item_fault x y said (fault, has.unknown_parent code at none is) =
+      (_, has.unknown_parent code (sym (ap (λ card. card.parent) said) ∙ at) (no_item code code refl none) refl)
+
+  act_fault : (x y : ActCard) → act_said x ≡ act_said y → Some-fault (HasActFault a x) → Some-fault (HasActFault b y)
+  act_fault x y said (fault, has.unknown_from none is) = (_, has.unknown_from (no_event _ _ (ap (λ card. card.from) said) none) refl)
+  act_fault x y said (fault, has.unknown_to known none is) =
+      (_, has.unknown_to (an_event _ _ (ap (λ card. card.from) said) known) (no_event _ _ (ap (λ card. card.to) said) none) refl)
+  act_fault x y said (fault, has.HasActFault.unknown_item none is) = (_, has.HasActFault.unknown_item (no_item _ _ (ap (λ card. card.item) said) none) refl)
+  act_fault x y said (fault, has.same_events one is) = (_, has.same_events (sym (ap (λ card. card.from) said) ∙ one ∙ ap (λ card. card.to) said) refl)
+  act_fault x y said (fault, has.unordered not is) = (
+    _,
+    has.unordered (λ o. not (record {
+      optimistic = omega (arith, o.optimistic, ap (λ card. card.opt) said, ap (λ card. card.likely) said);
+      pessimistic = omega (arith, o.pessimistic, ap (λ card. card.likely) said, ap (λ card. card.pess) said);
+    })) refl,
+  )
+  act_fault x y said (fault, has.crash_above above is) =
+      (_, has.crash_above (omega (arith, above, ap (λ card. card.normal) said, ap (λ card. card.crash) said)) refl)
+
+  account_fault : (x y : AcctCard) → account_said x ≡ account_said y → Some-fault (HasAccountFault a x) → Some-fault (HasAccountFault b y)
+  account_fault x y said (fault, has.HasAccountFault.unknown_item none is) =
+      (_, has.HasAccountFault.unknown_item (no_item _ _ (ap (λ card. card.item) said) none) refl)
+
+  money_fault : (x y : MoneyCard) → money_said x ≡ money_said y → Some-fault (HasMoneyFault a x) → Some-fault (HasMoneyFault b y)
+  money_fault x y said (fault, has.unknown_account none is) = (_, has.unknown_account (no_account _ _ (ap (λ card. card.account) said) none) refl)
+
+  status_fault : (x y : StatusCard) → status_said x ≡ status_said y → Some-fault (HasStatusFault a x) → Some-fault (HasStatusFault b y)
+  status_fault x y said (fault, has.HasStatusFault.unknown_activity none is) =
+      (_, has.HasStatusFault.unknown_activity (no_act _ _ (ap (λ card. card.activity) said) none) refl)
+
+  piece_fault : (x y : PieceCard) → piece_said x ≡ piece_said y → Some-fault (HasPieceCardFault a x) → Some-fault (HasPieceCardFault b y)
+  piece_fault x y said (fault, has.HasPieceCardFault.unknown_activity none is) =
+      (_, has.HasPieceCardFault.unknown_activity (no_act _ _ (ap (λ card. card.activity) said) none) refl)
+
+  load_fault : (x y : LoadCard) → load_said x ≡ load_said y → Some-fault (HasLoadFault a x) → Some-fault (HasLoadFault b y)
+  load_fault x y said (fault, has.HasLoadFault.unknown_activity none is) =
+      (_, has.HasLoadFault.unknown_activity (no_act _ _ (ap (λ card. card.activity) said) none) refl)
+  load_fault x y said (fault, has.unknown_resource none is) =
+      (_, has.unknown_resource (no_resource _ _ (ap (λ card. card.resource) said) none) refl)
+
+  -- a fault of some card of one list is one of the card at its place in the other
+  list_fault : {X : Type 0} (said : X → X) (Has Other : X → Fault → Type 0) (xs ys : List X) → map said xs ≡ map said ys →
+      ((x y : X) → said x ≡ said y → Some-fault (Has x) → Some-fault (Other y)) → (fault : Fault) → Any (λ x. Has x fault) xs → (told : Fault) × Any (λ y. Other y told) ys
+  list_fault said Has Other xs ys one over fault any =
+      Any-fault Other ys (Any-said said (λ x. Has x fault) (λ y. Some-fault (Other y)) xs ys one (λ x y is h. over x y is (fault, h)) any)
+
+  figure_fault : (fault : Fault) → HasFigureFault a fault → Some-fault (HasFigureFault b)
+  figure_fault fault (has.account any) =
+      let (told, there) = list_fault account_said (HasAccountFault a) (HasAccountFault b) a.accounts b.accounts same.accounts account_fault fault any in (told, has.account there)
+  figure_fault fault (has.charge any) =
+      let (told, there) = list_fault money_said (HasMoneyFault a) (HasMoneyFault b) a.charges b.charges same.charges money_fault fault any in (told, has.charge there)
+  figure_fault fault (has.togo any) =
+      let (told, there) = list_fault money_said (HasMoneyFault a) (HasMoneyFault b) a.togos b.togos same.togos money_fault fault any in (told, has.togo there)
+  figure_fault fault (has.status any) =
+      let (told, there) = list_fault status_said (HasStatusFault a) (HasStatusFault b) a.statuses b.statuses same.statuses status_fault fault any in (told, has.status there)
+
+  listed_fault : (fault : Fault) → HasListedFault a fault → Some-fault (HasListedFault b)
+  listed_fault fault (has.item any) =
+      let (told, there) = list_fault item_said (HasItemFault a) (HasItemFault b) a.items b.items same.items item_fault fault any in (told, has.item there)
+  listed_fault fault (has.act any) =
+      let (told, there) = list_fault act_said (HasActFault a) (HasActFault b) a.acts b.acts same.acts act_fault fault any in (told, has.act there)
+  listed_fault fault (has.piece any) =
+      let (told, there) = list_fault piece_said (HasPieceCardFault a) (HasPieceCardFault b) a.pieces b.pieces same.pieces piece_fault fault any in (told, has.piece there)
+  listed_fault fault (has.load any) =
+      let (told, there) = list_fault load_said (HasLoadFault a) (HasLoadFault b) a.loads b.loads same.loads load_fault fault any in (told, has.load there)
+  listed_fault fault (has.figure h) = let (told, there) = figure_fault fault h in (told, has.figure there)
+
+  misfit : (fault : Fault) → HasMisfit a fault → Some-fault (HasMisfit b)
+  misfit fault (has.project h) = let (told, there) = project_fault fault h in (told, has.project there)
+  misfit fault (has.listed h) = let (told, there) = listed_fault fault h in (told, has.listed there)
+
+  -- what stands on an item with items below it
+  on_branch : (c d : List ℕ) (row other : ℕ) → c ≡ d → (fault : Fault) → StandsOnBranch a row c fault → Some-fault (StandsOnBranch b other d)
+  on_branch c d row other is fault (branch, told) = (
+    _,
+    (
+      λ leaf. branch (subst (IsLeaf (rows_of a)) (sym ((λ i. same_item_number a b same i c) ∙ ap (number_among (item_codes b)) is))
+          (subst (λ rows. IsLeaf rows (number_among (item_codes b) d)) (sym (same_rows a b same)) leaf)),
+      refl,
+    ),
+  )
+
+  leaf_fault : (fault : Fault) → HasLeafFault a fault → Some-fault (HasLeafFault b)
+  leaf_fault fault (of_act any) =
+      let (told, there) = list_fault act_said (λ act. StandsOnBranch a act.row act.item) (λ act. StandsOnBranch b act.row act.item) a.acts b.acts same.acts
+      (λ x y said h. on_branch x.item y.item x.row y.row (ap (λ card. card.item) said) h.0 h.1) fault any in
+      (told, of_act there)
+  leaf_fault fault (of_account any) =
+      let (told, there) = list_fault account_said (λ card. StandsOnBranch a card.row card.item) (λ card. StandsOnBranch b card.row card.item) a.accounts b.accounts same.accounts
+      (λ x y said h. on_branch x.item y.item x.row y.row (ap (λ card. card.item) said) h.0 h.1) fault any in
+      (told, of_account there)
+
+  -- a status in disorder
+  status_disorder : (k : ℕ) (fault : Fault) → IsDisorderAt a k fault → Some-fault (IsDisorderAt b k)
+  status_disorder k fault (reason, (is, told)) = (
+    _,
+    (
+      reason,
+      (
+        subst (λ start. IsReason start (as_of_in b) (statuses_in b) k reason) (same_start_day a b same)
+            (subst (λ day. IsReason a.project.start_day day (statuses_in b) k reason) same.as_of
+            (subst (λ statuses. IsReason a.project.start_day (as_of_in a) statuses k reason) (same_statuses a b same) is)),
+        refl,
+      ),
+    ),
+  )
+
+  -- an as-of before the start
+  early : (card : AsOfCard) (day : ℤ) (there : Option AsOfCard) → b.as_of ≡ there → day ≡ as_of_day b.project.start_day there → card.day ≡ day → card.day <ℤ b.project.start_day →
+      (other : AsOfCard) × (b.as_of ≡ Some other) × (other.day <ℤ b.project.start_day)
+  early card day None at is was before = absurd (omega (arith, ints, is, was, before))
+  early card day (Some other) at is was before = (other, at, omega (arith, ints, is, was, before))
+
+  early_as_of : (fault : Fault) → IsEarlyAsOf a fault → Some-fault (IsEarlyAsOf b)
+  early_as_of fault (card, (at, before, told)) =
+      let day : as_of_day a.project.start_day (Some card) ≡ as_of_in b = ap (as_of_day a.project.start_day) (sym at) ∙ same.as_of in
+      let (other, there, early_there) = early card card.day b.as_of refl day refl (subst (λ start. card.day <ℤ start) (same_start_day a b same) before) in
+      (_, (other, (there, early_there, refl)))
+
+  disorder_there : (fault : Fault) → HasDisorder a fault → Some-fault (HasDisorder b)
+  disorder_there fault (of_as_of h) = let (told, there) = early_as_of fault h in (told, of_as_of there)
+  disorder_there fault (of_status (k, within, at)) =
+      let (told, there) = status_disorder k fault at in
+      (told, of_status (k, omega (arith, within, length_said status_said a.statuses b.statuses same.statuses), there))
+
+  -- the faults of pieces
+  flaw_at : (term : Term) (count slope units : ℕ) (piece : PieceRow) (row other : ℕ) (code name : List ℕ) (fault : Fault) →
+      HasFlaw term count slope units piece row code fault → Some-fault (HasFlaw term count slope units piece other name)
+  flaw_at term count slope units piece row other code name fault (one_too_many many is) = (_, one_too_many many refl)
+  flaw_at term count slope units piece row other code name fault (not_rising low is) = (_, not_rising low refl)
+  flaw_at term count slope units piece row other code name fault (none_left long is) = (_, none_left long refl)
+
+  flawed : (i row other : ℕ) (code name : List ℕ) (fault : Fault) → HasFlawAt (terms_in a) (pieces_in a) i row code fault → Some-fault (HasFlawAt (terms_in b) (pieces_in b) i other name)
+  flawed i row other code name fault h =
+      flaw_at _ _ _ _ _ row other code name fault
+      (subst (λ terms. HasFlawAt terms (pieces_in b) i row code fault) (same_terms a b same)
+      (subst (λ pieces. HasFlawAt (terms_in a) pieces i row code fault) (same_pieces a b same) h))
+
+  piece_there : (fault : Fault) → HasPieceFault a fault → Some-fault (HasPieceFault b)
+  piece_there fault (i, within, h) =
+      let (told, there) = flawed i _ _ _ _ fault h in
+      (told, (i, omega (arith, within, length_said piece_said a.pieces b.pieces same.pieces), there))
+
+  -- a bonus above the penalty
+  bonus_there : (card : TermsCard) (there : Option TermsCard) → b.terms ≡ there → time_terms_of (Some card) ≡ time_terms_of there → card.penalty < card.bonus → Some-fault (HasTermsFault b)
+  bonus_there card None at is above = absurd (omega (arith, above, ap (λ (t : TimeTerms). t.penalty) is, ap (λ (t : TimeTerms). t.bonus) is))
+  bonus_there card (Some other) at is above =
+      (_, bonus_above other at (omega (arith, above, ap (λ (t : TimeTerms). t.penalty) is, ap (λ (t : TimeTerms). t.bonus) is)) refl)
+
+  terms_there : (fault : Fault) → HasTermsFault a fault → Some-fault (HasTermsFault b)
+  terms_there fault (bonus_above card at above told) = bonus_there card b.terms refl (ap time_terms_of (sym at) ∙ same.terms) above
+
+  -- what has no fault in the second deck has none in the first
+  none_of : {A B : Fault → Type 0} → ((fault : Fault) → A fault → Some-fault B) → ((fault : Fault) → B fault → ⊥) → (fault : Fault) → A fault → ⊥
+  none_of over none fault h = let (told, there) = over fault h in none told there
+
+  even_back : IsEven b → IsEven a
+  even_back even item uneven =
+      even item (subst (λ work. IsUneven (accounts_in b) work item) (same_work a b same) (subst (λ accounts. IsUneven accounts (work_in a) item) (same_accounts_in a b same) uneven))
+
+  once_back : HasNoSecondToGo b → HasNoSecondToGo a
+  once_back once k repeated = once k (subst (λ togos. IsRepeated togos k) (same_togos a b same) repeated)
+
+  figures_back : HasSoundFigures b → HasSoundFigures a
+  figures_back sound = record {
+    leaves = none_of leaf_fault sound.leaves;
+    even = even_back sound.even;
+    ordered = none_of disorder_there sound.ordered;
+    once = once_back sound.once;
+  }
+
+  -- where the second deck makes a project the first one does
+  pub makes_again : MakesProject b → MakesProject a
+  makes_again makes = record {
+    cards = none_of misfit makes.cards;
+    tree = subst IsTree (sym (same_rows a b same)) makes.tree;
+    sound = subst IsSound (sym (same_network a b same)) makes.sound;
+    figures = figures_back makes.figures;
+    pieces = none_of piece_there makes.pieces;
+    terms = none_of terms_there makes.terms;
+  }

@@ -1,0 +1,7 @@
+//! The text of a project's deck: the one form in which a deck is kept, compared and read again.
+
+mod text;
+mod text_laws;
+
+pub use crate::deck_text::text::deck_text_of;
+pub use crate::deck_text::text_laws::text_makes_the_project;

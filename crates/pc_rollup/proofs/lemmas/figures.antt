@@ -1,0 +1,10 @@
+pub mod SlackLaws
+pub mod SumLaws
+pub mod ValueLaws
+pub mod AmountLaws
+pub mod FigureLaws
+pub mod OutlineLaws
+pub mod DepthLaws
+pub mod PushLaws
+pub mod OutlookLaws
+pub mod OnceLaws

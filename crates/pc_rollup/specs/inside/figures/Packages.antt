@@ -1,0 +1,23 @@
+-- Which packages are finished, and what the work of each account is worth.
+-- Here is what no clause of a top call and no law reaches.
+use Rattle.std.specs.Prelude.{◌≡◌, ℕ, ◌<◌, Bool, true, false, List, length, slice_index, slice_index_or, Option, Some, None}
+use Rattle.pc_times.specs.declared.state.ActState.{ActState}
+use Rattle.pc_times.specs.Forecast.{state_at}
+use Rattle.pc_rollup.specs.figures.Packages.{IsFinished}
+
+-- of the first n activities, whether all that stand on item x are finished, or none where none stands there
+abbrev pub IsProgress : List ℕ → List ActState → ℕ → ℕ → Option Bool → Type 0
+IsProgress places states n x None = (a : ℕ) → a < n → slice_index places a ≡ x → ⊥
+IsProgress places states n x (Some true) =
+    ((a : ℕ) × ((a < n) × (slice_index places a ≡ x))) × ((a : ℕ) → a < n → slice_index places a ≡ x → IsFinished (state_at states a))
+IsProgress places states n x (Some false) =
+    (a : ℕ) × ((a < n) × (slice_index places a ≡ x) × (IsFinished (state_at states a) → ⊥))
+
+-- an element of a list; none past its end
+abbrev pub progress_at : List (Option Bool) → ℕ → Option Bool
+progress_at progress x = slice_index_or progress x None
+
+-- one for each of so many items
+pub record AreProgress (items : ℕ) (places : List ℕ) (states : List ActState) (n : ℕ) (progress : List (Option Bool)) : Type 0 where
+  pub one_each : length progress ≡ items
+  pub each : (x : ℕ) → x < items → IsProgress places states n x (progress_at progress x)

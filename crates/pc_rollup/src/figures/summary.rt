@@ -1,0 +1,193 @@
+//! What the management summary tells.
+ghost use Rattle.std.specs.Prelude.{◌≡◌, ℕ, ◌+◌, ◌<◌, ◌≤◌, ◌^◌, ℤ, pos, List, length, IfOk};
+ghost use Rattle.pc_wbs.specs.declared.row.ItemRow.{ItemRow};
+ghost use Rattle.pc_wbs.specs.Climb.{AreInRange, IsTree};
+ghost use Rattle.pc_accounts.specs.declared.rows.AcctRow.{AcctRow};
+ghost use Rattle.pc_accounts.specs.declared.rows.MoneyRow.{MoneyRow};
+ghost use Rattle.pc_accounts.specs.declared.entry.Entry.{Entry};
+ghost use Rattle.pc_accounts.specs.Amounts.{all_charged};
+ghost use Rattle.pc_accounts.specs.Entries.{AreSmall};
+ghost use Rattle.pc_accounts.specs.inside.Entries.{entry_of_all};
+ghost use Rattle.pc_rollup.specs.declared.levels.LevelLine.{LevelLine};
+ghost use Rattle.pc_rollup.specs.Lines.{AreLevelLines, sum_of};
+ghost use Rattle.pc_rollup.specs.declared.figures.figures.Figure.TheVariants.{Actual};
+ghost use Rattle.pc_rollup.specs.figures.Columns.{AreOnTree, AreItemSums, IsColumn, AddUpTo};
+ghost use Rattle.pc_rollup.specs.figures.Figures.{figure_of, figure_at};
+ghost use Rattle.pc_rollup.specs.figures.Outline.{row_at};
+ghost use Rattle.pc_rollup.specs.figures.Summary.{IsSummaryOf, AreBooked, CountsOnce, item_amounts, level_amounts};
+
+use crate::each_leaf_has_one_line;
+use crate::figures::column::Column;
+use crate::figures::figures::{Figure, figures};
+use crate::figures::outline::{OutlineRow, outline_of};
+use pc_accounts::{AcctRow, Entry};
+use pc_wbs::Tree;
+use std::alloc::{AllocError, Global};
+use std::marker::Model;
+
+/// The amounts of an item or of a level.
+#[derive(Clone, Copy, Debug, PartialEq, Eq)]
+pub struct SummaryAmounts {
+    pub budget: i64,
+    pub actual: i64,
+    pub to_go: i64,
+    pub latest: i64,
+    pub overrun: i64,
+}
+
+/// For each item, and for each level, what may be spent, what was spent, what is to go, what it will have cost, and the
+/// overrun.
+pub struct Summary {
+    outline: Vec<OutlineRow>,
+    budget: Column,
+    actual: Column,
+    to_go: Column,
+    latest: Column,
+    overrun: Column,
+}
+
+impl Drop for Summary {
+    // Written out, so that who lets a summary go cites this proof.
+    fn drop(self) {
+        let Summary {
+            outline: _outline,
+            budget: _budget,
+            actual: _actual,
+            to_go: _to_go,
+            latest: _latest,
+            overrun: _overrun,
+        } = self;
+    }
+}
+
+impl Model for Summary {
+    ghost use Rattle.pc_rollup.specs.figures.Summary.{Summary};
+
+    ghost Value = { Summary };
+
+    ghost view = { λ s. record {
+      outline = s.outline.items;
+      budget = s.budget;
+      actual = s.actual;
+      to_go = s.to_go;
+      latest = s.latest;
+      overrun = s.overrun;
+    } };
+}
+
+impl Summary {
+    /// The summary of these accounts. It takes time in proportion to accounts, and to items at each level.
+    pub fn of(
+        alloc: Global,
+        tree: &Tree,
+        accounts: &[AcctRow],
+        entries: &[Entry],
+    ) -> Result<Summary, AllocError>
+        requires on_tree { AreOnTree tree.now accounts.now }
+        requires one_each { length entries.now ≡ length accounts.now }
+        requires small { AreSmall entries.now }
+        ensures summary { IfOk result (IsSummaryOf tree.now accounts.now entries.now) }
+        ensures once { IfOk result (CountsOnce tree.now accounts.now (entry_of_all entries.now)) }
+    {
+        each_leaf_has_one_line();
+        Ok(Summary {
+            outline: outline_of(alloc, tree)?,
+            budget: column_of(alloc, tree, accounts, entries, Figure::Budget)?,
+            actual: column_of(alloc, tree, accounts, entries, Figure::Actual)?,
+            to_go: column_of(alloc, tree, accounts, entries, Figure::ToGo)?,
+            latest: column_of(alloc, tree, accounts, entries, Figure::Latest)?,
+            overrun: column_of(alloc, tree, accounts, entries, Figure::Overrun)?,
+        })
+    }
+
+    /// How many items there are.
+    pub fn items(&self) -> usize
+        ensures { result ≡ length self.now.outline }
+    {
+        self.outline.len()
+    }
+
+    /// The `k`-th item, with its level.
+    pub fn row(&self, k: usize) -> OutlineRow
+        requires { k < length self.now.outline }
+        ensures { result ≡ row_at self.now.outline k }
+    {
+        self.outline[k]
+    }
+
+    /// How many levels there are.
+    pub fn depth(&self) -> usize
+        ensures { result ≡ length self.now.budget.levels }
+    {
+        self.budget.depth()
+    }
+
+    /// The amounts of an item.
+    pub fn of_item(&self, item: u32) -> SummaryAmounts
+        requires budget { item < length self.now.budget.items }
+        requires actual { item < length self.now.actual.items }
+        requires to_go { item < length self.now.to_go.items }
+        requires latest { item < length self.now.latest.items }
+        requires overrun { item < length self.now.overrun.items }
+        ensures { result ≡ item_amounts self.now item }
+    {
+        SummaryAmounts {
+            budget: self.budget.item(item),
+            actual: self.actual.item(item),
+            to_go: self.to_go.item(item),
+            latest: self.latest.item(item),
+            overrun: self.overrun.item(item),
+        }
+    }
+
+    /// The amounts of level `k + 1`.
+    pub fn of_level(&self, k: usize) -> SummaryAmounts
+        requires budget { k < length self.now.budget.levels }
+        requires actual { k < length self.now.actual.levels }
+        requires to_go { k < length self.now.to_go.levels }
+        requires latest { k < length self.now.latest.levels }
+        requires overrun { k < length self.now.overrun.levels }
+        ensures amounts { result ≡ level_amounts self.now k }
+        ensures counted { k + 1 < 2 ^ 64 }
+    {
+        SummaryAmounts {
+            budget: self.budget.level(k),
+            actual: self.actual.level(k),
+            to_go: self.to_go.level(k),
+            latest: self.latest.level(k),
+            overrun: self.overrun.level(k),
+        }
+    }
+}
+
+/// The column of one of the amounts.
+fn column_of(
+    alloc: Global,
+    tree: &Tree,
+    accounts: &[AcctRow],
+    entries: &[Entry],
+    figure: Figure,
+) -> Result<Column, AllocError>
+    requires ranged { AreInRange tree.now }
+    requires sound { IsTree tree.now }
+    requires on_tree { AreOnTree tree.now accounts.now }
+    requires one_each { length entries.now ≡ length accounts.now }
+    requires small { AreSmall entries.now }
+    ensures column { IfOk result (IsColumn tree.now accounts.now (figure_at figure entries.now)) }
+    ensures whole { IfOk result (AddUpTo tree.now (figure_of figure (entry_of_all entries.now))) }
+{
+    let amounts = figures(alloc, entries, figure)?;
+    Column::of(alloc, tree, accounts, &amounts)
+}
+
+/// At each level the lines' actuals add up to all charges dated up to as-of: each of these charges counts once, and no other
+/// does.
+///
+/// This function does nothing: its contract is the law.
+pub fn each_charge_counts_once()
+    ensures once { (tree : List ItemRow) (accounts : List AcctRow) (charges togos : List MoneyRow) (as_of : ℤ)
+        (entries : List Entry) (level : ℕ) (totals : List ℤ) (lines : List LevelLine)
+        → AreBooked tree accounts charges togos as_of entries →
+        AreItemSums tree accounts (figure_at Actual entries) totals
+        → 1 ≤ level → AreLevelLines tree level totals lines → sum_of lines ≡ pos (all_charged charges as_of) }
+{}

@@ -1,2 +1,0 @@
-pub mod Labelling
-pub mod inside

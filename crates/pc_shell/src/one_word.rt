@@ -1,0 +1,45 @@
+//! From the one word of a call, the name of a deck, to the deck's project.
+ghost use Rattle.std.specs.Prelude.{IfOk, IfErr};
+ghost use Rattle.pc_deck.specs.Limits.{longest_deck};
+ghost use Rattle.pc_edges.specs.Pulls.{IsReadWithin};
+ghost use Rattle.pc_edges.specs.declared.loading.TheConstants.{STREAM_ROOM};
+ghost use Rattle.pc_shell.specs.inside.OneWord.{EndsWithout, IsProjectNamed};
+ghost use Rattle.pc_shell.specs.Sides.{side};
+
+use crate::reading::{NoProject, read_project};
+use crate::refusing::refuse;
+use crate::sending::send;
+use crate::status::Status;
+use pc_edges::{Failed, Sink, Source};
+use pc_project::Project;
+use std::alloc::Global;
+
+/// The project of the deck that the one word names; or the status with which the call ends for want of it, once `err` was told why: by the
+/// usage line where there is not one word, of which nothing is read, and by the line of the deck's fault. It pulls as
+/// [`read_deck`](crate::read_deck) does.
+pub fn project_named<D: Source, E: Sink>(
+    alloc: Global,
+    words: &[String],
+    usage: &[u8],
+    deck: &mut D,
+    err: &mut E,
+) -> Result<Project, Status>
+    ensures project { IfOk result (IsProjectNamed words.now (side D.left D.faults deck.old deck.new)
+        (side E.taken E.faults err.old err.new)) }
+    ensures none { IfErr result (EndsWithout words.now usage.now (side D.left D.faults deck.old deck.new)
+        (side E.taken E.faults err.old err.new)) }
+    ensures stops { IsReadWithin longest_deck STREAM_ROOM D.left D.pulls deck.old deck.new }
+{
+    if words.len() != 1 {
+        return match send(err, usage) {
+            Ok(()) => Err(Status::Usage),
+            Err(Failed) => Err(Status::WriteFault),
+        };
+    }
+    match read_project(alloc, deck) {
+        Ok(project) => Ok(project),
+        Err(NoProject::Refused(fault)) => Err(refuse(alloc, &fault, err)),
+        Err(NoProject::ReadFault) => Err(Status::ReadFault),
+        Err(NoProject::OutOfMemory) => Err(Status::OutOfMemory),
+    }
+}

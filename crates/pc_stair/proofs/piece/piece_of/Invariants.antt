@@ -1,7 +1,0 @@
-use Rattle.std.proofs.Common.{◌≡◌, ◌≤◌}
-use Rattle.pc_curve_laws.specs.Stair.{reach}
-use Rattle.pc_stair.specs.inside.Rows.{stair}
-use Rattle.pc_stair.proofs.piece.piece_of.Given as goal
-
-abbrev pub invariant-loop-knee : goal.invariant-loop-knee
-invariant-loop-knee l = (l.below ≡ reach (stair l.knees l.crash) l.knee-index) × (l.below ≤ l.unit)

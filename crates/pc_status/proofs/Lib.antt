@@ -1,2 +1,0 @@
-mod StateLaws
-pub mod OneStateLaws

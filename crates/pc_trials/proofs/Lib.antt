@@ -1,6 +1,0 @@
-mod KeptLaws
-mod LaidLaws
-mod OpenLaws
-mod RenewLaws
-mod TimesLaws
-mod TrialLaws

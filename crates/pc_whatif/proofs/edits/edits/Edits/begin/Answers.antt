@@ -1,0 +1,33 @@
+use Rattle.std.proofs.Common.{◌≡◌, None, refl, sym, subst}
+use Rattle.pc_whatif.specs.declared.edits.edits.Edits.TheInside.{Inside}
+use Rattle.pc_whatif.specs.edits.Editing.{priced_of}
+use Rattle.pc_whatif.specs.edits.Standing.{Stands, empty}
+use Rattle.pc_whatif.proofs.lemmas.edits.BegunLaws.{begun_whole, editing_is}
+use Rattle.pc_whatif.proofs.lemmas.edits.StandingLaws.{Stands-begun}
+use Rattle.pc_whatif.proofs.edits.edits.Edits.begin.Goals as goal
+
+-- the priced network is the project's
+net_is : (c : goal.In_ok-priced) → c.in_ok-priced.field-0 ≡ priced_of c.args.project.now
+net_is c = λ i. record {
+  network = c.in_ok-priced.ensures.network i;
+  terms = c.in_ok-priced.ensures.terms i;
+  pieces = c.in_ok-priced.ensures.pieces i;
+  project = c.in_ok-priced.ensures.project i;
+  events = c.in_ok-priced.ensures.events i;
+  activities = c.in_ok-priced.ensures.activities i;
+}
+
+-- the fields
+abbrev fields : goal.In_ok-priced → Inside
+fields c = record { net = c.in_ok-priced.field-0; estimates = c.in_ok-estimates_of.field-0; unit_days = c.unit_days.result; kept = c.in_ok-with_capacity.field-0; aside = None }
+
+pub invariant_of-result : goal.invariant_of-result
+invariant_of-result c =
+    begun_whole c.args.project.now c.in_ok-estimates_of.ensures.planned (fields c)
+    (net_is c) c.in_ok-estimates_of.ensures.estimates c.unit_days.ensures.unit c.in_ok-with_capacity.ensures refl
+
+pub returns-clause-standing : goal.returns-clause-standing
+returns-clause-standing c =
+    subst (Stands c.args.project.now empty)
+    (sym (editing_is c.args.project.now c.in_ok-estimates_of.ensures.planned (fields c) (net_is c) c.in_ok-estimates_of.ensures.estimates c.unit_days.ensures.unit c.in_ok-with_capacity.ensures refl))
+    (Stands-begun c.args.project.now)

@@ -1,0 +1,12 @@
+pub mod FieldLemmas
+pub mod AskLaws
+pub mod NamedLaws
+pub mod FlawLaws
+pub mod PlanLaws
+pub mod JudgeLaws
+pub mod ListLaws
+pub mod KeptLaws
+pub mod InsideLaws
+pub mod StandingLaws
+pub mod BegunLaws
+pub mod EditingLaws

@@ -1,0 +1,91 @@
+-- The numbers of a deck's project fit.
+use Rattle.std.proofs.Common.{◌≡◌, ℕ, ◌<◌, [], length, get_or, None, refl, sym, ◌∙◌, ap, subst, inl, inr, arith}
+use Rattle.std.proofs.lemmas.Bool.{cases_lt}
+use Rattle.std.proofs.lemmas.List.{length-map, get_or-map, get_or_default}
+use Rattle.std.specs.List.{All}
+use Rattle.circular_buffer.specs.Buffer.{Buffer, buffer}
+use Rattle.pc_crash.specs.Priced.{ArePiecesWithinLimits, PricedNetwork}
+use Rattle.pc_crash.specs.inside.Priced.{AreNames}
+use Rattle.pc_deck.specs.inside.Act.{IsActWithin}
+use Rattle.pc_deck.specs.Deck.{Deck}
+use Rattle.pc_deck.specs.declared.kinds.act.ActCard.{ActCard}
+use Rattle.pc_deck.proofs.NumberLemmas.{acts-within}
+use Rattle.pc_faults.specs.declared.fault.Fault.{Fault}
+use Rattle.pc_project.specs.declared.estimates.Estimates.{Estimates}
+use Rattle.pc_project.specs.Misfit as has
+use Rattle.pc_project.specs.Misfit.{HasActFault, HasNoMisfit, act, listed}
+use Rattle.pc_project.specs.Planned.{IsPlanned}
+use Rattle.pc_project.specs.Project.{Project}
+use Rattle.pc_whatif.specs.edits.Plans.{estimates_at, estimates_in}
+use Rattle.pc_whatif.specs.inside.edits.Plans.{AreEstimates}
+use Rattle.pc_whatif.specs.declared.edits.kept.Kept.{Kept}
+use Rattle.pc_whatif.specs.declared.edits.edits.Edits.TheInside.{Inside}
+use Rattle.pc_whatif.specs.declared.edits.edits.TheConstants.{MAX_KEPT}
+use Rattle.pc_whatif.specs.edits.Editing.{begun, priced_of}
+use Rattle.pc_whatif.specs.inside.edits.Editing.{IsEditing}
+use Rattle.pc_whatif.specs.inside.edits.Inside.{IsWholeInside, editing_in, plans_back}
+
+-- a card to read past the end of the cards, where no one looks
+no_act : ActCard
+no_act = record { row = 0; code = []; from = []; to = []; item = []; opt = 0; likely = 0; pess = 0; normal = 0; crash = 0; cost = 0; slope = 0; title = [] }
+
+-- the estimates of a card
+abbrev estimates_of : ActCard → Estimates
+estimates_of card = record { optimistic = card.opt; likely = card.likely; pessimistic = card.pess }
+
+-- they are in order, where the card has no fault
+in_order : (deck : Deck) (card : ActCard) → ((fault : Fault) → HasActFault deck card fault → ⊥) → IsActWithin card → AreEstimates (estimates_of card)
+in_order deck card none within = record {
+  optimistic = elim (cases_lt card.likely card.opt) [ inl above ↦ absurd (none _ (has.unordered (λ o. omega (arith, above, o.optimistic)) refl)) | inr fine ↦ fine ];
+  pessimistic = elim (cases_lt card.pess card.likely) [ inl above ↦ absurd (none _ (has.unordered (λ o. omega (arith, above, o.pessimistic)) refl)) | inr fine ↦ fine ];
+  short = within.pess;
+}
+
+module _ (project : Project) (planned : IsPlanned project) where
+  as_many : length project.deck.acts ≡ length project.network.arcs
+  as_many =
+      sym (ap (λ (p : Project). length p.network.arcs) planned.own.is.lists ∙ length-map project.deck.acts _)
+
+  ordered : (a : ℕ) → a < length project.network.arcs → AreEstimates (estimates_at (estimates_in project.deck) a)
+  ordered a known =
+      let inside : a < length project.deck.acts = omega (arith, known, as_many) in
+      let card : ActCard = get_or project.deck.acts a no_act in
+      subst AreEstimates (sym (get_or-map estimates_of project.deck.acts a no_act (record { optimistic = 0; likely = 0; pessimistic = 0 }) inside))
+      (in_order project.deck (get_or project.deck.acts a no_act)
+      (λ fault h. planned.own.makes.cards fault (listed (act (a, get_or project.deck.acts a no_act, inside, get_or_default project.deck.acts a (get_or project.deck.acts a no_act) no_act inside, h))))
+      (acts-within project.deck planned.own.within a no_act inside))
+
+  pub IsEditing-begun : IsEditing (begun project)
+  IsEditing-begun = record {
+    fit = record {
+      terms = planned.terms;
+      limits = planned.limits;
+      pieces = planned.pieces;
+      estimates_each = length-map project.deck.acts estimates_of ∙ as_many;
+      estimates = ordered;
+    };
+    kept_fit = λ k d inside. absurd (omega arith);
+    few = omega arith;
+    unit_days = planned.unit_days;
+  }
+
+  pub AreNames-begun : AreNames (length project.network.arcs) project.activities
+  AreNames-begun = record { one_each = planned.activity_codes; once = planned.activities_differ }
+
+  -- fields that are the deck's are whole
+  module _ (s : Inside) (net_is : s.net ≡ priced_of project) (estimates_are : s.estimates.items ≡ estimates_in project.deck) (unit_is : s.unit_days ≡ project.heading.unit_days)
+      (kept_is : s.kept ≡ buffer [] MAX_KEPT) (aside_is : s.aside ≡ None) where
+    pub editing_is : editing_in s ≡ begun project
+    editing_is =
+        ap (λ aside. editing_in (record s { aside = aside })) aside_is
+        ∙ (λ i. record { net = net_is i; estimates = estimates_are i; unit_days = unit_is i; kept = plans_back (kept_is i).items (record { terms = (net_is i).terms; estimates = estimates_are i }) })
+
+    pub begun_whole : IsWholeInside s
+    begun_whole = record {
+      editing = subst IsEditing (sym editing_is) IsEditing-begun;
+      names = subst (λ (n : PricedNetwork). AreNames (length n.network.arcs) n.activities) (sym net_is) AreNames-begun;
+      piece_limits = subst (λ (n : PricedNetwork). ArePiecesWithinLimits n.pieces) (sym net_is) planned.piece_limits;
+      room = ap (λ (b : Buffer Kept). b.capacity) kept_is;
+      known = subst (All (λ (k : Kept). k.activity < length s.net.network.arcs)) (sym (ap (λ (b : Buffer Kept). b.items) kept_is)) (λ k d inside. absurd (omega arith));
+      aside_known = λ t is. absurd (let none = aside_is in let some = is in cc);
+    }

@@ -1,0 +1,27 @@
+use Rattle.std.proofs.Common.{length, refl, ap, subst, arith}
+use Rattle.std.specs.Vec.{with_items}
+use Rattle.pc_whatif.specs.inside.trials.Laid.{IsWhole, kept_in}
+use Rattle.pc_whatif.proofs.lemmas.trials.KeptLaws.{region-taken, renewed-whole}
+use Rattle.pc_whatif.proofs.trials.reservation.Reservation.renew.Goals as goal
+
+pub invariant_of-self : goal.invariant_of-self
+invariant_of-self c =
+    let old = c.unwrap-region.result in
+    let new = c.renew_times-self-inside.new.region in
+    let renewed = c.renew_times-self-inside.ensures.renewed in
+    let same = region-taken c.self.inside c.take.result old c.take.ensures.value c.unwrap-region.ensures in
+    record {
+      here = refl;
+      laid = renewed.laid;
+      whole = renewed-whole c.args.net.now c.self.inside.spans old new c.self.inside.steps c.renew_times-self-inside.result
+          (subst (λ region. IsWhole (kept_in region c.self.inside.steps)) same c.self.invariant.whole) renewed;
+      room = omega (
+        arith,
+        (with_items c.self.inside.room c.renew_times-self-inside.new.room).ok.0,
+        c.self.inside.room.ok.0,
+        c.self.invariant.room,
+        ap (λ r. length r.early) c.self.view_is,
+        c.requires.early,
+        renewed.early.one_each,
+      );
+    }

@@ -1,0 +1,57 @@
+use Rattle.std.proofs.Common.{◌≡◌, length, refl, sym, ap, subst, ◌∙◌, arith}
+use Rattle.pc_whatif.specs.inside.trials.Laid.{IsLaidIn, IsWhole, kept_in, list_of, region_of}
+use Rattle.pc_whatif.specs.inside.trials.Reserved.{Reserved, expected_by}
+use Rattle.pc_whatif.proofs.lemmas.trials.KeptLaws.{with_numbers, AreSet, region-taken, laid-set, laid-both, kept-both, early-both, whole-both, variance-small}
+use Rattle.pc_whatif.proofs.trials.reservation.Reservation.set_estimates.Goals as goal
+use Rattle.pc_whatif.proofs.trials.reservation.Reservation.set_estimates.Goals.{Joined-self}
+
+pub set-requires-2-clause-live : goal.set-requires-2-clause-live
+set-requires-2-clause-live c =
+    let spans = c.self.inside.spans in
+    let r0 = c.unwrap-region.result in
+    let same = region-taken c.self.inside c.take.result r0 c.take.ensures.value c.unwrap-region.ensures in
+    let laid = subst (λ region. IsLaidIn region spans) same c.self.invariant.laid in
+    let next = laid-set spans r0 c.set.new.self c.args.a c.expected_sixths-expected.result laid (c.set.ensures 0 laid.live.expected) in
+    (1, next.live.variances)
+
+-- the region that was taken, in which two numbers were set
+taken : (c : Joined-self) → region_of c.self.inside ≡ c.unwrap-region.result
+taken c = region-taken c.self.inside c.take.result c.unwrap-region.result c.take.ensures.value c.unwrap-region.ensures
+
+are_set : (c : Joined-self)
+    → AreSet c.self.inside.spans c.unwrap-region.result c.set.new.self c.set-2.new.self c.args.a c.expected_sixths-expected.result c.variance_36-variance.result
+are_set c =
+    let spans = c.self.inside.spans in
+    let laid = subst (λ region. IsLaidIn region spans) (taken c) c.self.invariant.laid in
+    let expected = c.set.ensures 0 laid.live.expected in
+    let next = laid-set spans c.unwrap-region.result c.set.new.self c.args.a c.expected_sixths-expected.result laid expected in
+    record { laid = laid; expected = expected; variance = c.set-2.ensures 1 next.live.variances }
+
+pub invariant_of-self : goal.invariant_of-self
+invariant_of-self c =
+    let r0 = c.unwrap-region.result in
+    let r2 = c.set-2.new.self in
+    let x = c.expected_sixths-expected.result in
+    let v = c.variance_36-variance.result in
+    let same = taken c in
+    let whole = subst (λ region. IsWhole (kept_in region c.self.inside.steps)) same c.self.invariant.whole in
+    record {
+      here = refl;
+      laid = laid-both c.self.inside.spans r0 c.set.new.self r2 c.args.a x v (are_set c);
+      whole = whole-both c.self.inside.spans r0 c.set.new.self r2 c.args.a x v (are_set c) c.self.inside.steps whole
+          (omega (arith, c.requires.activity, ap (λ r. length r.expected) c.self.view_is, ap (λ region. length (list_of region 0)) same))
+          c.expected_sixths-expected.ensures.limit
+          (omega (arith, c.variance_36-variance.ensures, variance-small c.args.estimates.now.optimistic c.args.estimates.now.pessimistic c.args.unit_days c.requires.limit c.requires.unit));
+      room = c.self.invariant.room ∙ ap (λ region. length (list_of region 2)) same
+          ∙ sym (early-both c.self.inside.spans r0 c.set.new.self r2 c.args.a x v (are_set c));
+    }
+
+pub returns : goal.returns
+returns c =
+    let steps = c.self.inside.steps in
+    let x = c.expected_sixths-expected.result in
+    let v = c.variance_36-variance.result in
+    kept-both c.self.inside.spans c.unwrap-region.result c.set.new.self c.set-2.new.self c.args.a x v (are_set c) steps
+    ∙ ap (λ (r : Reserved). with_numbers r c.args.a x v) (sym (ap (λ region. kept_in region steps) (taken c)) ∙ c.self.view_is)
+    ∙ ap (λ n. with_numbers c.args.self.now c.args.a n v) c.expected_sixths-expected.ensures.value
+    ∙ ap (λ n. with_numbers c.args.self.now c.args.a (expected_by c.args.unit_days c.args.estimates.now) n) c.variance_36-variance.ensures

@@ -1,0 +1,7 @@
+pub mod Fields
+pub mod Reading
+pub mod Reasons
+pub mod Plans
+pub mod Editing
+pub mod Refusal
+pub mod Standing

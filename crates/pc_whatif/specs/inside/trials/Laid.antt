@@ -1,0 +1,104 @@
+-- Where a reservation keeps what it keeps.
+use Rattle.std.specs.Prelude.{◌≡◌, ℕ, ◌<◌, ◌≤◌, List, [], ◌∷◌, length, replicate, take, Some, unwrap_or, slice_index}
+use Rattle.pc_cells.specs.Spans.{Cells}
+use Rattle.pc_cells.specs.inside.Spans.{free_of, span_at, IsSpan}
+use Rattle.pc_model.specs.Network.{Network}
+use Rattle.pc_model.specs.declared.limits.TheConstants.{MAX_VARIANCE}
+use Rattle.pc_times.specs.Picked.{IsPickedWalk}
+use Rattle.pc_times.specs.Times.{AreEarly}
+use Rattle.pc_times.specs.inside.Times.{AreTails}
+use Rattle.pc_times.specs.declared.TheConstants.{MAX_LENGTH, MAX_TIME}
+use Rattle.pc_whatif.specs.declared.trials.reservation.Reservation.TheInside.{Inside}
+use Rattle.pc_whatif.specs.declared.trials.spans.Spans.{Spans}
+use Rattle.pc_whatif.specs.inside.trials.Reserved.{Reserved}
+
+-- the spans are the first five of a region
+pub record AreSpans (lists : List (List ℕ)) (s : Spans) : Type 0 where
+  pub expected : IsSpan lists 0 s.expected
+  pub variances : IsSpan lists 1 s.variances
+  pub early : IsSpan lists 2 s.early
+  pub tails : IsSpan lists 3 s.tails
+  pub places : IsSpan lists 4 s.places
+
+-- Taking them
+
+-- the region has five spans with zeros
+pub record AreSpansTaken (old new : Cells) (events activities : ℕ) (s : Spans) : Type 0 where
+  pub region : new ≡ record {
+    capacity = old.capacity;
+    spans = replicate activities 0 ∷ replicate activities 0 ∷ replicate events 0 ∷ replicate events 0 ∷ replicate events 0 ∷ [];
+  }
+  pub spans : AreSpans new.spans s
+
+-- The fields of a reservation
+
+-- a region without cells
+abbrev pub no_region : Cells
+no_region = record { capacity = 0; spans = [] }
+
+-- the region of the fields
+abbrev pub region_of : Inside → Cells
+region_of r = unwrap_or r.region no_region
+
+-- what stands in the n-th of its spans
+abbrev pub list_of : Cells → ℕ → List ℕ
+list_of region n = span_at region.spans n
+
+-- what a region keeps
+abbrev pub kept_in : Cells → ℕ → Reserved
+kept_in region steps = record {
+  expected = list_of region 0;
+  variances = list_of region 1;
+  early = list_of region 2;
+  tails = list_of region 3;
+  places = list_of region 4;
+  steps = steps;
+  free = free_of region;
+}
+
+-- what the fields keep
+abbrev pub reserved_of : Inside → Reserved
+reserved_of r = kept_in (region_of r) r.steps
+
+-- no number of the list is greater
+abbrev pub AreAtMost : ℕ → List ℕ → Type 0
+AreAtMost most xs = (i : ℕ) → i < length xs → slice_index xs i ≤ most
+
+-- the lists fit together, and no number is too great
+pub record IsWhole (r : Reserved) : Type 0 where
+  pub variances : length r.variances ≡ length r.expected
+  pub tails : length r.tails ≡ length r.early
+  pub places : length r.places ≡ length r.early
+  pub steps : r.steps ≤ length r.places
+  pub small_expected : AreAtMost MAX_LENGTH r.expected
+  pub small_variances : AreAtMost MAX_VARIANCE r.variances
+  pub small_early : AreAtMost MAX_TIME r.early
+  pub small_tails : AreAtMost MAX_TIME r.tails
+
+-- a region has these five spans and no other
+pub record IsLaidIn (region : Cells) (spans : Spans) : Type 0 where
+  pub count : length region.spans ≡ 5
+  pub live : AreSpans region.spans spans
+
+-- the region is there, with its spans; and there is a place for each event's number
+pub record IsLaid (r : Inside) : Type 0 where
+  pub here : r.region ≡ Some (region_of r)
+  pub laid : IsLaidIn (region_of r) r.spans
+  pub whole : IsWhole (reserved_of r)
+  pub room : length r.room.items ≡ length (list_of (region_of r) 2)
+
+-- Renewing
+
+-- the times in the new region are those of the expected times, and all else is as it was
+pub record AreRenewed (net : Network) (spans : Spans) (old new : Cells) (steps : ℕ) : Type 0 where
+  pub laid : IsLaidIn new spans
+  pub expected : list_of new 0 ≡ list_of old 0
+  pub variances : list_of new 1 ≡ list_of old 1
+  pub early : AreEarly net (list_of old 0) (list_of new 2)
+  pub tails : AreTails net (list_of old 0) (list_of new 3)
+  pub path : IsPickedWalk net (list_of old 0) (take steps (list_of new 4))
+  pub places : length (list_of new 4) ≡ net.events
+  pub short : steps < net.events
+  pub free : free_of new ≡ free_of old
+  pub small_early : AreAtMost MAX_TIME (list_of new 2)
+  pub small_tails : AreAtMost MAX_TIME (list_of new 3)

@@ -1,0 +1,18 @@
+-- What a trial finds of the curve of a network.
+use Rattle.std.specs.Prelude.{ℕ, ◌+◌, ◌*◌, ◌≤◌, length}
+use Rattle.pc_crash.specs.Priced.{PricedNetwork}
+use Rattle.pc_flow.specs.search.Labelling.{slopes_in}
+use Rattle.pc_whatif.specs.inside.trials.Reserved.{Reserved}
+
+-- how many cells a trial works in
+abbrev pub trial_cells : ℕ → ℕ → ℕ → ℕ
+trial_cells events activities pieces = 8 * events + 6 * activities + 2 * pieces + 16
+
+-- a trial of the network finds its cells free
+abbrev pub HasRoom : PricedNetwork → Reserved → Type 0
+HasRoom net r = trial_cells net.network.events (length net.network.arcs) (length net.pieces) ≤ r.free
+
+-- how many looks a trial may take at most: four at each activity for each unit by which the slope can rise and the length come
+-- down
+abbrev pub looks_over : PricedNetwork → ℕ → ℕ
+looks_over net units = 4 * length net.network.arcs * (slopes_in net + units)

@@ -1,0 +1,68 @@
+//! What a line of a session asks.
+ghost use Rattle.std.specs.Prelude.{◌≡◌, IfSome, Some};
+ghost use Rattle.pc_whatif.specs.inside.edits.Lines.{Asks};
+ghost use Rattle.pc_whatif.specs.edits.Reading.{ask_of};
+ghost use Rattle.pc_whatif.specs.declared.edits.ask.Ask.{Ask};
+
+use crate::edits::reading::ask_of;
+use pc_project::Estimates;
+use pc_text::Code;
+
+/// The most bytes that a line may have, without its end.
+pub const MAX_LINE: usize = 96;
+
+/// What a line asks.
+#[derive(Clone, Copy)]
+pub enum Ask {
+    /// One of the four edits.
+    Edit(Edit),
+    /// `UNDO`
+    Undo,
+    /// `TIMES`
+    Times,
+    /// `CURVE`
+    Curve,
+    /// `TRY <act> <normal> <crash> <slope> <length>`
+    Try(Trial),
+}
+
+/// An edit: other numbers for one activity.
+#[derive(Clone, Copy)]
+pub struct Edit {
+    pub act: Code,
+    pub change: Change,
+}
+
+/// Which numbers an edit gives an activity: estimates and durations in units, a slope in money for each unit.
+#[derive(Clone, Copy)]
+pub enum Change {
+    /// `ESTIMATE <act> <opt> <likely> <pess>`
+    Estimate(Estimates),
+    /// `NORMAL <act> <n>`
+    Normal(u64),
+    /// `CRASH <act> <n>`
+    Crash(u64),
+    /// `SLOPE <act> <n>`
+    Slope(u64),
+}
+
+/// Three numbers that are tried for one activity, and the length of the project for which a least cost is asked.
+#[derive(Clone, Copy)]
+pub struct Trial {
+    pub act: Code,
+    pub normal: u64,
+    pub crash: u64,
+    pub slope: u64,
+    pub length: u64,
+}
+
+impl Ask {
+    /// What a line, without its end, asks; or none where it has none of the forms or is longer than `MAX_LINE`.
+    pub fn read(line: &[u8]) -> Option<Ask>
+        ensures value { result ≡ ask_of line.now }
+        ensures asked { IfSome result (Asks line.now) }
+        ensures read { (ask : Ask) → Asks line.now ask → result ≡ Some ask }
+    {
+        ask_of(line)
+    }
+}

@@ -1,0 +1,10 @@
+//! What is kept of an edit, so that it can be taken back.
+
+use crate::edits::ask::Change;
+
+/// A kept edit: the activity, and the numbers that it had before.
+#[derive(Clone, Copy)]
+pub(in crate::edits) struct Kept {
+    pub(in crate::edits) activity: u32,
+    pub(in crate::edits) was: Change,
+}

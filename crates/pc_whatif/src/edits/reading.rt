@@ -1,0 +1,136 @@
+//! Reading a line: its first word says what it asks, and its fields are read one after the other.
+ghost use Rattle.std.specs.Prelude.{◌≡◌};
+ghost use Rattle.pc_text.specs.Fields.{alone};
+ghost use Rattle.pc_whatif.specs.edits.Reading.{ask_of, ask_with, estimate_of, amount_of, edit_of, normal_of, crash_of, slope_of, try_of};
+
+use crate::edits::ask::{Ask, Change, Edit, MAX_LINE, Trial};
+use crate::edits::field::number_field;
+use pc_project::Estimates;
+use pc_text::{Code, field, run_len};
+
+/// What a line asks.
+#[tactic(auto, unfolding(crate::specs::edits::Reading::ask_of))]
+pub(in crate::edits) fn ask_of(line: &[u8]) -> Option<Ask>
+    ensures { result ≡ ask_of line.now }
+{
+    if line.len() > MAX_LINE {
+        return None;
+    }
+    let end = run_len(line, b' ');
+    ask_with(&line[..end], &line[end..])
+}
+
+/// The ask with this first word and these fields.
+fn ask_with(word: &[u8], fields: &[u8]) -> Option<Ask>
+    ensures { result ≡ ask_with word.now fields.now }
+{
+    if word == b"TRY".as_slice() {
+        try_of(fields)
+    } else if word == b"ESTIMATE".as_slice() {
+        estimate_of(fields)
+    } else if word == b"NORMAL".as_slice() {
+        normal_of(fields)
+    } else if word == b"CRASH".as_slice() {
+        crash_of(fields)
+    } else if word == b"SLOPE".as_slice() {
+        slope_of(fields)
+    } else if word == b"UNDO".as_slice() {
+        alone(fields, Ask::Undo)
+    } else if word == b"TIMES".as_slice() {
+        alone(fields, Ask::Times)
+    } else if word == b"CURVE".as_slice() {
+        alone(fields, Ask::Curve)
+    } else {
+        None
+    }
+}
+
+/// The ask, where nothing is left behind it.
+fn alone(rest: &[u8], ask: Ask) -> Option<Ask>
+    ensures { result ≡ alone rest.now ask }
+{
+    if rest.is_empty() { Some(ask) } else { None }
+}
+
+/// An edit as an ask.
+fn edit_of(act: Code, change: Change) -> Ask
+    ensures { result ≡ edit_of act change }
+{
+    Ask::Edit(Edit { act, change })
+}
+
+#[tactic(auto, unfolding(crate::specs::edits::Reading::estimate_of, pc_text::specs::Fields::field_by))]
+fn estimate_of(fields: &[u8]) -> Option<Ask>
+    ensures { result ≡ estimate_of fields.now }
+{
+    let (word, rest) = field(fields)?;
+    let act = Code::read(word)?;
+    let (optimistic, rest) = number_field(rest)?;
+    let (likely, rest) = number_field(rest)?;
+    let (pessimistic, rest) = number_field(rest)?;
+    let estimates = Estimates {
+        optimistic,
+        likely,
+        pessimistic,
+    };
+    alone(rest, edit_of(act, Change::Estimate(estimates)))
+}
+
+/// The activity and the one number that the fields are.
+#[tactic(auto, unfolding(crate::specs::edits::Reading::amount_of, pc_text::specs::Fields::field_by))]
+fn amount_of(fields: &[u8]) -> Option<(Code, u64)>
+    ensures { result ≡ amount_of fields.now }
+{
+    let (word, rest) = field(fields)?;
+    let act = Code::read(word)?;
+    let (n, rest) = number_field(rest)?;
+    if rest.is_empty() {
+        Some((act, n))
+    } else {
+        None
+    }
+}
+
+#[tactic(auto, unfolding(crate::specs::edits::Reading::normal_of))]
+fn normal_of(fields: &[u8]) -> Option<Ask>
+    ensures { result ≡ normal_of fields.now }
+{
+    let (act, n) = amount_of(fields)?;
+    Some(edit_of(act, Change::Normal(n)))
+}
+
+#[tactic(auto, unfolding(crate::specs::edits::Reading::crash_of))]
+fn crash_of(fields: &[u8]) -> Option<Ask>
+    ensures { result ≡ crash_of fields.now }
+{
+    let (act, n) = amount_of(fields)?;
+    Some(edit_of(act, Change::Crash(n)))
+}
+
+#[tactic(auto, unfolding(crate::specs::edits::Reading::slope_of))]
+fn slope_of(fields: &[u8]) -> Option<Ask>
+    ensures { result ≡ slope_of fields.now }
+{
+    let (act, n) = amount_of(fields)?;
+    Some(edit_of(act, Change::Slope(n)))
+}
+
+#[tactic(auto, unfolding(crate::specs::edits::Reading::try_of, pc_text::specs::Fields::field_by))]
+fn try_of(fields: &[u8]) -> Option<Ask>
+    ensures { result ≡ try_of fields.now }
+{
+    let (word, rest) = field(fields)?;
+    let act = Code::read(word)?;
+    let (normal, rest) = number_field(rest)?;
+    let (crash, rest) = number_field(rest)?;
+    let (slope, rest) = number_field(rest)?;
+    let (length, rest) = number_field(rest)?;
+    let trial = Trial {
+        act,
+        normal,
+        crash,
+        slope,
+        length,
+    };
+    alone(rest, Ask::Try(trial))
+}

@@ -1,0 +1,289 @@
+//! The reservation of a session.
+ghost use Rattle.std.specs.Prelude.{◌≡◌, ◌+◌, ◌-◌, ◌*◌, ◌<◌, ◌≤◌, ◌↔◌, ℕ, List, length, Some, IfOk, IfSome, IsSome};
+ghost use Rattle.pc_curve.specs.CurveText.{IsCurveText};
+ghost use Rattle.pc_curve.specs.Points.{curve_in};
+ghost use Rattle.pc_edges.specs.inside.Writes.{Writes};
+ghost use Rattle.pc_model.specs.declared.limits.TheConstants.{MAX_ACTIVITIES, MAX_DURATION, MAX_EVENTS, MAX_PIECES, MAX_UNIT_DAYS, MAX_VARIANCE};
+ghost use Rattle.pc_edges.specs.inside.page.Page.{fresh};
+ghost use Rattle.pc_project.specs.Project.{Project as Plan};
+ghost use Rattle.pc_reports.specs.TimesText.{IsTimesText};
+ghost use Rattle.pc_times.specs.Times.{AreLengths};
+ghost use Rattle.pc_times.specs.declared.TheConstants.{MAX_LENGTH, MAX_TIME};
+ghost use Rattle.pc_whatif.specs.inside.trials.Laid.{AreAtMost};
+ghost use Rattle.pc_whatif.specs.inside.trials.Reserved.{IsChangedTo, IsFor, IsStanding, IsStandingOf, path_in, with_estimates, with_times};
+ghost use Rattle.pc_curve.specs.Range.{IsRange, IsWithin};
+ghost use Rattle.pc_whatif.specs.inside.trials.Trials.{HasRoom, looks_over, trial_cells};
+
+use crate::trials::renewing::renew_times;
+use crate::trials::spans::{Spans, take_spans};
+use crate::trials::trial::{trial_cost, trial_curve};
+use crate::trials::view::StandingTimes;
+use pc_cells::Region;
+use pc_crash::{CrashNet, Steps};
+use pc_edges::page::Page;
+use pc_edges::{Failed, Sink};
+use pc_net::Net;
+use pc_project::{Estimates, Project};
+use pc_reports::{end_to_meet, write_times};
+use pc_times::{expected_sixths, variance_36};
+use std::alloc::{AllocError, Global};
+use std::marker::Model;
+use std::sync::ledger::Ledger;
+
+/// All memory that a session needs between two lines, taken at its opening: a region with the standing times in its first
+/// spans, and behind them the cells that a trial works in.
+///
+/// What stands there: for each activity its expected time, in sixths of a day, and the variance of it; for each event its
+/// earliest time and the greatest sum of expected times over the walks from it to the end; and the critical path.
+#[derive(Drop)]
+pub struct Reservation {
+    /// It is there whenever no trial has it.
+    region: Option<Region>,
+    spans: Spans,
+    /// How many activities the critical path has.
+    steps: usize,
+    /// A place for each event: the passes over the network write into it.
+    room: Vec<u64>,
+}
+
+impl Model for Reservation {
+    ghost use Rattle.pc_whatif.specs.inside.trials.Reserved.{Reserved};
+
+    ghost Value = { Reserved };
+
+    ghost use Rattle.pc_whatif.specs.inside.trials.Laid.{IsLaid, reserved_of};
+
+    ghost view = { reserved_of };
+
+    ghost invariant = { IsLaid };
+}
+
+/// How many cells a session needs for so many events, activities and pieces of their costs: those of the standing times, and
+/// those that a trial works in.
+pub fn cells_needed(events: usize, activities: usize, pieces: usize) -> usize
+    requires events { events ≤ MAX_EVENTS }
+    requires activities { activities ≤ MAX_ACTIVITIES }
+    requires pieces { pieces ≤ MAX_PIECES }
+    ensures { result ≡ (2 * activities + 3 * events) + trial_cells events activities pieces }
+{
+    2 * activities + 3 * events + pc_flow::cells_needed(events, activities, pieces)
+}
+
+impl Reservation {
+    /// The reservation for a project, with the times of it as it is. No other call takes memory. Linear in events and
+    /// activities.
+    pub fn begin(alloc: Global, project: &Project) -> Result<Reservation, AllocError>
+        ensures fits { IfOk result (IsFor project.now.network) }
+        ensures standing { IfOk result (IsStandingOf project.now) }
+        ensures free { IfOk result (λ r. r.free ≡
+            trial_cells project.now.network.events (length project.now.network.arcs) (length project.now.pieces)) }
+    {
+        let pieces = project.pieces().len();
+        Reservation::for_lists(
+            alloc,
+            project.net(),
+            pieces,
+            project.expected(),
+            project.variances(),
+        )
+    }
+
+    // The reservation for a network with so many pieces of costs, with these expected times and variances.
+    fn for_lists(
+        alloc: Global,
+        net: &Net,
+        pieces: usize,
+        expected: &[u64],
+        variances: &[u64],
+    ) -> Result<Reservation, AllocError>
+        requires lengths { AreLengths net.now expected.now }
+        requires variance_each { length variances.now ≡ length net.now.arcs }
+        requires variances { AreAtMost MAX_VARIANCE variances.now }
+        requires pieces { pieces ≤ MAX_PIECES }
+        ensures fits { IfOk result (IsFor net.now) }
+        ensures standing { IfOk result (IsStanding net.now) }
+        ensures expected { IfOk result (λ r. r.expected ≡ expected.now) }
+        ensures variances { IfOk result (λ r. r.variances ≡ variances.now) }
+        ensures free { IfOk result (λ r. r.free ≡ trial_cells net.now.events (length net.now.arcs) pieces) }
+    {
+        let events = net.events() as usize;
+        let activities = net.activities() as usize;
+        let mut region = Region::with_cells(alloc, cells_needed(events, activities, pieces))?;
+        let room = vec![in alloc; 0; events]?;
+        let spans = take_spans(&mut region, events, activities);
+        region.write(spans.expected, expected);
+        region.write(spans.variances, variances);
+        let mut reservation = Reservation {
+            region: Some(region),
+            spans,
+            steps: 0,
+            room,
+        };
+        reservation.renew(net);
+        Ok(reservation)
+    }
+
+    /// How many cells of the region are free.
+    pub fn cells(&self) -> usize
+        ensures { result ≡ self.now.free }
+    {
+        present(&self.region).free()
+    }
+
+    /// The expected time of each activity, in sixths of a day.
+    pub fn expected(&self) -> &[u64]
+        ensures list { result.now ≡ self.now.expected }
+        ensures limit { AreAtMost MAX_LENGTH result.now }
+    {
+        present(&self.region).list(self.spans.expected)
+    }
+
+    /// The variance of each activity's time, in thirty-sixths of a square day.
+    pub fn variances(&self) -> &[u64]
+        ensures list { result.now ≡ self.now.variances }
+        ensures limit { AreAtMost MAX_VARIANCE result.now }
+    {
+        present(&self.region).list(self.spans.variances)
+    }
+
+    /// When each event is reached at the earliest, in sixths of a day.
+    pub fn early(&self) -> &[u64]
+        ensures list { result.now ≡ self.now.early }
+        ensures limit { AreAtMost MAX_TIME result.now }
+    {
+        present(&self.region).list(self.spans.early)
+    }
+
+    /// For each event the greatest sum of expected times over the walks from it to the end.
+    pub fn tails(&self) -> &[u64]
+        ensures list { result.now ≡ self.now.tails }
+        ensures limit { AreAtMost MAX_TIME result.now }
+    {
+        present(&self.region).list(self.spans.tails)
+    }
+
+    /// The activities of the critical path, from the start event to the end event.
+    pub fn path(&self) -> &[u64]
+        ensures path { result.now ≡ path_in self.now }
+        ensures short { length result.now ≤ length self.now.places }
+    {
+        &present(&self.region).list(self.spans.places)[..self.steps]
+    }
+
+    /// Gives an activity the expected time and the variance of these estimates, in units of so many days. The times of events
+    /// stay as they are: `renew` follows before they are told.
+    pub fn set_estimates(&mut self, a: u32, estimates: &Estimates, unit_days: u64)
+        requires activity { a < length self.old.expected }
+        requires likely { estimates.now.optimistic ≤ estimates.now.likely }
+        requires pessimistic { estimates.now.likely ≤ estimates.now.pessimistic }
+        requires limit { estimates.now.pessimistic ≤ MAX_DURATION }
+        requires unit { unit_days ≤ MAX_UNIT_DAYS }
+        ensures { self.new ≡ with_estimates self.old a estimates.now unit_days }
+    {
+        let opt = estimates.optimistic;
+        let pess = estimates.pessimistic;
+        let expected = expected_sixths(opt, estimates.likely, pess, unit_days);
+        let variance = variance_36(opt, pess, unit_days);
+        let mut region = self.region.take().unwrap();
+        region.set(self.spans.expected, a as usize, expected);
+        region.set(self.spans.variances, a as usize, variance);
+        self.region = Some(region);
+    }
+
+    /// Renews the times of events and the critical path from the expected times. A few passes over the network.
+    pub fn renew(&mut self, net: &Net)
+        requires { IsFor net.now self.old }
+        ensures standing { IsStanding net.now self.new }
+        ensures fits { IsFor net.now self.new }
+        ensures rest { self.new ≡ with_times self.old self.new.early self.new.tails self.new.places self.new.steps }
+    {
+        let mut region = self.region.take().unwrap();
+        self.steps = renew_times(&mut region, &self.spans, net, &mut self.room);
+        self.region = Some(region);
+    }
+
+    /// Writes the report of event times of the project as it is now, and flushes the sink: the deck's project with what stands
+    /// here in place of its expected times and variances. Linear in events and activities.
+    pub fn write_times<O: Sink>(
+        &self,
+        page: &mut Page,
+        sink: &mut O,
+        project: &Project,
+    ) -> Result<(), Failed>
+        requires fresh { page.old ≡ fresh }
+        requires fits { IsFor project.now.network self.now }
+        requires standing { IsStanding project.now.network self.now }
+        ensures text { (changed : Plan) → IsChangedTo project.now self.now changed →
+            (text : List ℕ) × IsTimesText changed text
+            × Writes result (O.taken sink.old) (O.taken sink.new) (O.faults sink.old) (O.faults sink.new) text }
+        ensures fresh { page.new ≡ fresh }
+    {
+        let net = project.net();
+        // How many activities a project may have, so that each has a small number.
+        let _activities = net.activities();
+        let early = self.early();
+        let by = end_to_meet(project.directed(), early[net.end() as usize]);
+        let view = StandingTimes {
+            expected: self.expected(),
+            variances: self.variances(),
+            early,
+            tails: self.tails(),
+            path: self.path(),
+            by,
+        };
+        write_times(page, sink, project, &view)
+    }
+
+    /// Writes the curve of the network as it is now and flushes the sink. It works in the free cells, which are free again
+    /// when it ends.
+    pub fn write_curve<O: Sink, L: Ledger>(
+        &mut self,
+        page: &mut Page,
+        sink: &mut O,
+        net: &CrashNet<'_>,
+        steps: &mut Steps<L>,
+    ) -> Result<(), Failed>
+        requires fresh { page.old ≡ fresh }
+        requires room { HasRoom net.now self.old }
+        ensures text { (text : List ℕ) × IsCurveText net.now text
+            × Writes result (O.taken sink.old) (O.taken sink.new) (O.faults sink.old) (O.faults sink.new) text }
+        ensures fresh { page.new ≡ fresh }
+        ensures kept { self.new ≡ self.old }
+        ensures counted { (shortest longest : ℕ) → IsRange net.now shortest longest →
+            steps.new ≤ steps.old + looks_over net.now (longest - shortest) }
+    {
+        let region = self.region.take().unwrap();
+        let (region, written) = trial_curve(region, page, sink, net, steps);
+        self.region = Some(region);
+        written
+    }
+
+    /// What a schedule of this length, in units, costs at least; none where the length is outside the network's range. It works
+    /// in the free cells, which are free again when it ends.
+    pub fn least_cost<L: Ledger>(
+        &mut self,
+        net: &CrashNet<'_>,
+        limit: u64,
+        steps: &mut Steps<L>,
+    ) -> Option<u64>
+        requires room { HasRoom net.now self.old }
+        ensures least { IfSome result (curve_in net.now limit) }
+        ensures within { IsSome result ↔ IsWithin net.now limit }
+        ensures kept { self.new ≡ self.old }
+        ensures counted { (shortest longest : ℕ) → IsRange net.now shortest longest →
+            steps.new ≤ steps.old + looks_over net.now (longest - shortest) }
+    {
+        let region = self.region.take().unwrap();
+        let (region, cost) = trial_cost(region, net, limit, steps);
+        self.region = Some(region);
+        cost
+    }
+}
+
+// The region, which is there.
+fn present(region: &Option<Region>) -> &Region
+    requires { IsSome region.now }
+    ensures { region.now ≡ Some result.now }
+{
+    region.as_ref().unwrap()
+}
