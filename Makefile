@@ -16,7 +16,7 @@ PROGRAMS := pert pert_check pert_whatif
 INSTALLED := $(shell cat tools/installed 2>/dev/null)
 SECTION1 := $(patsubst docs/man/%,%,$(filter docs/man/%.1,$(INSTALLED)))
 PAGES := README.md CONTRIBUTING.md CHANGELOG.md $(filter docs/%.md,$(INSTALLED))
-PICTURES := $(filter docs/%.svg,$(INSTALLED))
+PICTURES := $(filter docs/%.png,$(INSTALLED))
 EXAMPLES := $(filter examples/%,$(INSTALLED))
 
 VERSION := $(shell cat VERSION)
