@@ -1,6 +1,7 @@
 # make              proves all crates and builds the programs into bin/ (half an hour the first time, on four processors, see README.md)
 # make try          runs pert with the words FORM on the deck DECK in about a minute, before anything is proved (FORM='point 6')
 # make check        runs the gate (every proof, edit, test and program) and the acceptance cases
+# make reading      writes all definitions behind the promises, in reading order, into out/reading/ (needs python3)
 # make install      copies programs, manual pages, docs, examples and completion below $(PREFIX)
 # make uninstall    takes them away again
 # make dist         packs them into one archive in out/, for offices that have no kit: the same bytes from the same sources
@@ -16,7 +17,7 @@ PROGRAMS := pert pert_check pert_whatif
 INSTALLED := $(shell cat tools/installed 2>/dev/null)
 SECTION1 := $(patsubst docs/man/%,%,$(filter docs/man/%.1,$(INSTALLED)))
 PAGES := README.md CONTRIBUTING.md CHANGELOG.md $(filter docs/%.md,$(INSTALLED))
-PICTURES := $(filter docs/%.svg,$(INSTALLED))
+PICTURES := $(filter docs/%.png,$(INSTALLED))
 EXAMPLES := $(filter examples/%,$(INSTALLED))
 
 VERSION := $(shell cat VERSION)
@@ -48,6 +49,10 @@ try:
 check:
 	.ci/run
 
+reading:
+	@tools/reading-list out/reading
+	@echo "written: out/reading/headline.md and out/reading/rest.md"
+
 # A page that is installed names this version and this place, and takes the programs from the path in its commands. `\`, `&` and `:` are
 # escaped, since they mean something in what sed puts in.
 QUOTED = $(subst ','\'',$(PLACE)/share/doc/pert)
@@ -68,6 +73,8 @@ install: placed all
 	install -m 644 $(EXAMPLES) "$(DOC)/examples"
 	chmod 644 $(SECTION1:%="$(MAN)/man1/%") "$(MAN)/man5/pert-deck.5" $(PAGES:%="$(DOC)/%")
 	for program in $(PROGRAMS); do install -m 644 tools/completion.bash "$(COMPLETIONS)/$$program" || exit 1; done
+	@if [ ! -d crates/pert_cli ]; then :; elif command -v python3 >/dev/null; then tools/reading-list "$(DOC)/reading"; \
+		else echo "make: without python3 the pages of out/reading/ are not installed"; fi
 
 uninstall: placed
 	rm -f $(PROGRAMS:%="$(ROOT)/bin/%") $(SECTION1:%="$(MAN)/man1/%") "$(MAN)/man5/pert-deck.5" $(PROGRAMS:%="$(COMPLETIONS)/%")
@@ -91,4 +98,4 @@ soak:
 clean:
 	rm -rf bin out crates/*/out
 
-.PHONY: all placed try check install uninstall dist soak clean
+.PHONY: all placed try check reading install uninstall dist soak clean

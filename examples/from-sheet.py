@@ -63,6 +63,8 @@ class Progress:
             plan.lose(row, "work", work)
             work = (task.normal, False)
         hours = work[0] * values.hours[plan.unit] / (sum(units for _, units, unit in parts if unit is None) or 1 if row["work"] else 1)
+        if row["work"] and work[0] and not parts:
+            plan.lose(row, "work", "there is no resource that does it")
         for name, units, unit in parts:
             key, quantity = (name, unit or "hours"), units if unit else units * hours
             if quantity <= 0:
@@ -150,7 +152,7 @@ class Progress:
         """Returns the morning that is so many units of work after a morning, or before it; a week's working days are its first ones."""
         values, step = self.plan.values, 1 if units > 0 else -1
         left = math.ceil(abs(units) * values.hours[self.plan.unit] / values.day_hours)
-        while left > 0:
+        while left > 0 and self.start <= day <= self.as_of:
             left -= (day if step > 0 else day - datetime.timedelta(days=1)).weekday() < values.week_days
             day += datetime.timedelta(days=step)
         return day
@@ -171,11 +173,10 @@ class Progress:
 def check_groups(plan):
     """Names the costs of groups that are not the sum of their tasks' costs."""
     for row in plan.sheet.rows:
-        node = getattr(row, "node", None)
-        if hasattr(node, "children") and row["cost"]:
-            cost, total = plan.values.amount(row["cost"]), sum(task.cost for task in node.tasks())
-            if cost not in (0, total):
-                plan.lose(row, "cost", f"the tasks of the group cost {total}; what is over needs a task of its own")
+        for field in ("cost", "actcost") if hasattr(getattr(row, "node", None), "children") else ():
+            total = sum(plan.values.amount(task.row[field]) or 0 for task in row.node.tasks())
+            if row[field] and plan.values.amount(row[field]) not in (0, total):
+                plan.lose(row, field, f"the sum of its tasks is {float(total):.10g}; what is over needs a task of its own")
 
 
 def first_day(plan, options, given, field):
@@ -287,8 +288,7 @@ def main():
         deck, lines = convert(options, data)
     except (OSError, Refused) as reason:
         sys.exit(f"from-sheet: {options.file}: {getattr(reason, 'strerror', None) or reason}")
-    for line in lines:
-        print("from-sheet:", line, file=sys.stderr)
+    sys.stderr.write("".join(f"from-sheet: {line}\n" for line in lines))
     if deck is None:
         return 1
     sys.stdout.buffer.write(deck)

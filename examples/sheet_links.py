@@ -8,6 +8,7 @@ of the task that is led."""
 import collections
 from fractions import Fraction
 from sheet_reading import Refused
+from sheet_values import KINDS
 
 Link = collections.namedtuple("Link", "task end lag origin")  # from the "S" or "F" of a task; the origin is (row, field, text)
 
@@ -120,7 +121,7 @@ class Links:
         self.plan, self.milestones = plan, {}
         field = "pred" if "pred" in plan.sheet.headings or "succ" not in plan.sheet.headings else "succ"
         found = [link for row in plan.sheet.rows if row[field] for link in self.links_of(row, field)]
-        for link in sorted(found, key=lambda link: sum(len(node.tasks()) for node in link[:2] if hasattr(node, "children"))):
+        for link in sorted(found, key=lambda link: max(len(node.tasks()) if hasattr(node, "children") else 0 for node in link[:2])):
             self.take(*link)
         self.tasks = plan.all + list(self.milestones.values())
         self.order, circle = in_order(self.tasks)
@@ -140,8 +141,8 @@ class Links:
             nodes = (getattr(others[0], "node", None) if others else None, getattr(row, "node", None))
             if len(others) != 1:
                 plan.lose(row, field, f"{len(others)} rows have this name" if others else "no row has this number, code or name", text)
-            elif None in nodes:
-                plan.lose(row, field, "one of the rows that it links is not carried over", text)
+            elif None in nodes or kind not in KINDS.values():
+                plan.lose(row, field, "one of the rows that it links is not carried over" if None in nodes else "this is no kind of link", text)
             else:
                 before, after = nodes if field == "pred" else nodes[::-1]
                 wait = self.lag(row, field, text, before, lag)

@@ -121,10 +121,15 @@ class Plan:
 
     def add_group(self, row, above):
         group = row.node = Group(row["name"], above, row, row["wbs"])
-        for field in ("resources", "constraint", "deadline"):
-            if not self.is_none(field, row[field]):
+        self.check_name(row)
+        for field in ("resources", "constraint", "deadline", "crash", "slope", "crashcost"):
+            if not self.is_none(field, row[field]) and (field in ("resources", "constraint", "deadline") or re.search("[1-9]", row[field])):
                 self.lose(row, field, "a group has no such thing in a deck; give it to a task")
         return group
+
+    def check_name(self, row):
+        if len(" ".join(row["name"].split()).encode()) > 80:
+            self.lose(row, "name", "a title has at most 80 bytes; the rest is cut off")
 
     @staticmethod
     def is_none(field, text):
@@ -144,6 +149,7 @@ class Plan:
             if not row["duration"] and not row["likely"]:
                 self.lose(row, "duration", "this row has no duration and no rows below it", f"{row['name']}")
             return None
+        self.check_name(row)
         estimates = self.estimates(row, normal)
         cost = self.amount(row, "cost")
         crash, slope = self.crash(row, normal, cost)

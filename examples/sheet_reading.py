@@ -60,7 +60,7 @@ class Row:
         self.number, self.cells = number, cells
 
     def __getitem__(self, field):
-        return self.cells.get(field, "")
+        return self.cells.get(field) or ""
 
 
 class Sheet:
@@ -187,7 +187,9 @@ def xer_tables(text):
             table, fields = tables.setdefault(cells[0].strip(), []), []
         elif kind == "%F":
             fields = [cell.strip() for cell in cells]
-        elif kind == "%R" and fields:
+        elif kind == "%R" and "".join(cells[len(fields):]).strip():
+            raise Refused(f"line {number}: this row has more cells than its table has fields")
+        elif kind == "%R":
             table.append({**dict.fromkeys(fields, ""), **dict(zip(fields, (cell.strip() for cell in cells))), "at": number})
     return tables
 
@@ -249,7 +251,7 @@ def read_xer(text, project):
             given = [fraction(part[name], part["at"]) for part in mine for name in (sheet.headings[field], *others) if part.get(name)]
             cells[field] = plain_number(sum(given)) if given else ""
         cells["resources"] = []
-        for part in (part for part in mine if part["rsrc_id"] is not None):
+        for part in (part for part in mine if part.get("rsrc_id", "") is not None):
             name, kind = names.get(part.get("rsrc_id"), (part.get("rsrc_id", ""), ""))
             cells["resources"].append((name, plain_number(fraction(part.get("target_qty"), part["at"])), "units" if kind == "RT_Mat" else "hours"))
         return Row(at, {**cells, "level": str(level), "wbs": "", "duration": hours(task.get("target_drtn_hr_cnt"), key, at), "pred": links.get(key, []),

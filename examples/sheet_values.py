@@ -96,11 +96,17 @@ class Values:
         """Returns a duration in units of the deck and whether it is elapsed time, or the reason why it is none."""
         text = re.sub(r"\s*(\?|gesch\.?|est\.?)$", "", text.strip())
         sign, text = (-1, text[1:].strip()) if text[:1] in ("-", "−") else (1, text)
-        one = rf"({QUANTITY})\s*((?:elapsed |fortl\. ?)?[^\W\d_]*)\.?[\s,]*"
-        if not re.fullmatch(f"(?:{one})+", text, re.IGNORECASE):
+        parts = []
+        while text:
+            part = re.match(rf"({QUANTITY})\s*((?:elapsed |fortl\. ?)?[^\W\d_]*)\.?[\s,]*", text, re.IGNORECASE)
+            if not part:
+                break
+            parts.append(part.groups())
+            text = text[part.end():]
+        if text or not parts:
             return "this is no duration"
         total, elapsed = Fraction(0), False
-        for digits, word in re.findall(one, text, re.IGNORECASE):
+        for digits, word in parts:
             number, named = self.number(digits), UNIT_OF.get(word.casefold()) if word else unit or "days"
             if word in ("m", "M"):
                 return f"{word} may be minutes or months: write min or mon"
@@ -169,7 +175,8 @@ def plain(text):
 
 
 def title(text):
-    return " ".join(text.split()).encode()[:80].decode(errors="ignore")
+    """Returns a text as a title: without line breaks, and at most 80 bytes long."""
+    return " ".join("".join(c if c.isprintable() else " " for c in text).split()).encode()[:80].decode(errors="ignore")
 
 
 class Codes:

@@ -28,13 +28,22 @@ impl Session<'_> {
         ensures counted { LooksToAnswer self.old.editing (ask_of line.now) steps.old steps.new }
     {
         match Ask::read(line) {
-            None => refuse(Reason::Form, out),
+            None => self.no_form(out),
             Some(Ask::Edit(edit)) => self.edit(&edit, out),
             Some(Ask::Undo) => self.undo(out),
             Some(Ask::Times) => self.times(out),
             Some(Ask::Curve) => self.curve(out, steps),
             Some(Ask::Try(trial)) => self.try_out(&trial, out, steps),
         }
+    }
+
+    /// A line of no form.
+    fn no_form<O: Sink>(&mut self, out: &mut O) -> Result<(), Failed>
+        ensures { (text : List ℕ) × IsAnswered self.old None text self.new
+            × Writes result (O.taken out.old) (O.taken out.new) (O.faults out.old) (O.faults out.new) text }
+    {
+        let _ = &self.page;
+        refuse(Reason::Form, out)
     }
 
     /// An edit.

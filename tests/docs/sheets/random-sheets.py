@@ -35,6 +35,9 @@ class Node:
     def __init__(self, number, name, level):
         self.number, self.name, self.level, self.inside, self.links = number, name, level, [], []
 
+    def rows(self):
+        return [self] + [row for node in self.inside for row in node.rows()]
+
     def tasks(self):
         return [task for node in self.inside for task in node.tasks()] if self.inside else [self]
 
@@ -96,7 +99,7 @@ def drop_circles(rows):
 def pushed(row, kind):
     """Returns the tasks that a link moves: of a group whose finish is linked, the one that all others in it lead to."""
     tasks = row.tasks()
-    leading = {t for task in tasks for source, k, lag in task.links if k[0] == "F" and lag >= 0 for t in source.tasks()}
+    leading = {task for inner in row.rows()[1:] for source, k, lag in inner.links if k[0] == "F" and lag >= 0 for task in source.tasks()}
     return [task for task in tasks if task not in leading] if kind[1] == "F" and row.inside else tasks
 
 
