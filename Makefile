@@ -9,7 +9,7 @@
 # make clean        removes all that was built
 
 PREFIX ?= /usr/local
-# where the pages say that the documents stand, if that is not where they are copied to
+# where the documents are according to the pages, if that is not where they are copied to
 PLACE ?= $(PREFIX)
 MINUTES ?= 30
 PROGRAMS := pert pert_check pert_whatif

@@ -1,12 +1,12 @@
 #!/usr/bin/env python3
-"""Makes a deck of tasks of a GNOME Planner file, for `pert arrows`.
+"""Makes a deck of tasks from a file of GNOME Planner, for `pert arrows`.
 
     python3 from-planner.py PLAN.planner > tasks.csv
 
-A task becomes a TASK card: T and its number is the code, its name the title, and its days of work are all three estimates and both
-durations, a part of a day counted as a whole one, since Planner knows no shorter duration. A milestone has 0 in place of each number.
-A group becomes an item; tasks that stand beside groups get an item of their own. A link becomes an AFTER card, to and from each task
-of a group, and a wait in a link a task without cost. What a deck of tasks can't say is left out, and told on standard error.
+A task becomes a TASK card. Its code is T and its number, and its name is the title. Its days of work are the three estimates and both durations, with
+a part of a day counted as a complete day, since Planner has no shorter duration. A milestone has 0 in place of each number. A group becomes an item;
+tasks next to groups get an item of their own. A link becomes an AFTER card, and with a group one for each of its tasks; a wait in
+a link becomes a task without cost. What a deck of tasks can't express is left out and reported on standard error.
 """
 import csv, math, re, sys
 import xml.etree.ElementTree as xml
@@ -106,13 +106,15 @@ class Plan:
                 *(["AFTER", *after] for after in self.afters), *(["ACCT", item, item, budgets[item], ""] for item in budgets), ["END"]]
 
 
+if sys.argv[1:] in (["-h"], ["--help"]):
+    sys.exit(print(__doc__.strip()))
 if len(sys.argv) != 2:
     sys.exit("usage: python3 from-planner.py PLAN.planner > tasks.csv")
 try:
     plan = Plan(xml.parse(sys.argv[1]).getroot())
     cards = plan.cards()
 except (OSError, SyntaxError, Refused) as reason:  # what is no XML is a SyntaxError
-    sys.exit(f"from-planner: {sys.argv[1]}: {reason}")
+    sys.exit(f"from-planner: {sys.argv[1]}: {getattr(reason, 'strerror', None) or reason}")
 sys.stdout.reconfigure(encoding="utf-8")
 csv.writer(sys.stdout, lineterminator="\n").writerows(cards)
 for what in plan.left_out:

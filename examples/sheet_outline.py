@@ -244,7 +244,7 @@ class Plan:
 
     def give_items(self):
         """Gives each group its item: (code, code of the item above, title). Tasks next to groups, and those at the top, get an item of
-        their own, since a task stands on an item with none below it."""
+        their own, since a task belongs to an item with none below it."""
         codes, self.items, level, following = Codes(), [], 1, [self.top]
         while following:
             if level > 15:

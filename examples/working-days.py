@@ -42,7 +42,7 @@ class Counts:
         return self.start + datetime.timedelta(count)
 
     def of(self, day):
-        """Returns the date that stands for a day."""
+        """Returns the date in the deck for a day."""
         if day < self.start:
             return day
         count = self.calendar.count(day)
@@ -51,7 +51,7 @@ class Counts:
         return self.date(count)
 
     def back(self, text):
-        """Returns the day of the calendar that a date of a report stands for, as text."""
+        """Returns the day of the calendar for a date of a report, as text."""
         try:
             day = datetime.date.fromisoformat(text)
         except ValueError:

@@ -1,10 +1,10 @@
 #!/usr/bin/env python3
-"""What a what-if session answers, in plain words and slowly: the model that tests/differential/sessions and tests/hostile/sessions ask.
+"""What a what-if session answers, computed plainly and slowly: the model for tests/differential/sessions and tests/hostile/sessions.
 
     tests/differential/session.py DECK <LINES     answers as `pert_whatif DECK` does, for decks with a few activities
 
-A session keeps the deck and the edits that stand. Which line is refused, and why, is said here; what a curve, a report of times or a least
-cost is, the caller says of a deck's text: the programs anew, or the functions `plain_..` below, which try all durations.
+A session keeps the deck and its current edits. This file decides which line is refused, and why. Curves, reports of times and least costs
+of a deck come from the caller: it runs the programs again, or uses the functions `plain_..` below, which try all durations.
 """
 import csv
 import datetime
@@ -70,7 +70,7 @@ class Session:
         self.kept = []
 
     def answer(self, line):
-        """The whole answer to a line, which has no line feed."""
+        """Returns the complete answer to a line, which has no line feed."""
         answer = self.reply(line)
         return answer if isinstance(answer, str) else "NO %d\n" % answer
 
@@ -215,7 +215,7 @@ def plain_times(text):
 
 
 def main():
-    """A stand-in for the program, as far as tests/hostile/sessions asks for it."""
+    """Replaces the program, as far as tests/hostile/sessions needs it."""
     if len(sys.argv) != 2:
         sys.stderr.write("usage: pert_whatif DECK\n")
         sys.exit(2)

@@ -1,10 +1,10 @@
-"""Checks a page of examples/report.py against what the programs print for the deck, and makes a deck of many activities.
+"""Checks a page of examples/report.py against what the programs print for the deck, and generates a deck with many activities.
 
     python3 report_page.py page PAGE DECK BIN [LENGTH]     prints what is wrong with the page, and ends with 1 if anything is
-    python3 report_page.py bars PAGE DECK BIN              only the bars: for the text that a browser has made of the page
-    python3 report_page.py deck COUNT                      prints a deck with so many activities
+    python3 report_page.py bars PAGE DECK BIN              only the bars: for the text that a browser made of the page
+    python3 report_page.py deck COUNT                      prints a deck with this many activities
 
-It reads the reports in a way of its own and shares no code with the page.
+It parses the reports itself and shares no code with the page.
 """
 import csv
 import datetime

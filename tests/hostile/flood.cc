@@ -1,10 +1,10 @@
-// Writes codes that a table cannot tell apart if its hash has the fixed key.
+// Writes codes that collide in a hash table if the hash has the fixed key.
 //
-//     flood COUNT BITS     writes COUNT codes of 16 bytes, one a line, whose hashes all end in BITS zeros
+//     flood COUNT BITS     writes COUNT codes of 16 bytes, one per line, whose hashes all end in BITS zeros
 //
 // The hash is that of `pc_names` with the key of a source that draws none (`FIXED_KEY`): `FoldHasher` over the key, the 16 cells of the
-// code, and the key again, and the two halves of these 64 bits joined by xor, as `IndexSet` takes them. A program that draws its key by
-// chance takes no longer for these codes than for others.
+// code, and the key again. `IndexSet` then joins the two halves of these 64 bits by xor. A program that draws a random key takes no longer
+// for these codes than for others.
 #include <cstdint>
 #include <cstdio>
 #include <cstdlib>

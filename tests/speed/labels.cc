@@ -1,6 +1,6 @@
-// The time-cost curve by the program's own algorithm in plain C++: the labels of one segment still stand in the next, an
-// activity has one flow, and the room of each label's step is kept with it. It stands here so that the program's instructions
-// can be compared with what a C++ compiler makes of the same steps; it looks as often as the program does.
+// Computes the time-cost curve by the program's own algorithm in plain C++: the labels of one segment are kept for the next, an
+// activity has one flow, and the residual capacity of each label's step is kept with it. It is here so that the program's instructions
+// can be compared with what a C++ compiler makes of the same steps; it looks at activities as often as the program does.
 //
 //   labels bench N        the benchmark's deck of N activities; prints what `pert bench N` prints
 //   labels deck FILE      a deck without quotes, of the cards PROJECT, EVENT, ACT and PIECE; prints what `pert curve` prints
@@ -111,7 +111,7 @@ struct Labels {
 
     u64 real(u32 e) const { return rank[e] > 0 ? time[e] : time[e] - fallen; }
 
-    // The length of the arc of this unit of the flow, its first unit, and the one behind its last.
+    // The length of the arc of this unit of the flow, its first unit, and the one after its last.
     void piece(const Activity &a, u64 unit, u64 &size, u64 &below, u64 &above) const {
         below = 0;
         for (u32 k = a.first; k < a.first + a.count; ++k) {

@@ -1,8 +1,8 @@
-// Runs a command as a child of this small process and writes the command's peak memory, in kB, to the file that is named first.
+// Runs a command as a child of this small process and writes the command's peak memory, in kB, to a file.
 //
 //   peak FILE COMMAND WORD..
 //
-// A child begins with the memory of who starts it, and the system keeps that as its peak: so the one who starts it is to be small.
+// A child begins with the memory of its parent, and the system keeps that as its peak, so the parent has to be small.
 #include <stdio.h>
 #include <stdlib.h>
 #include <sys/resource.h>

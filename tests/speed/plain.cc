@@ -1,7 +1,7 @@
-// What a plain program takes for the text of a certificate: a pass for its line ends, and writing its numbers again.
+// Measures how long a plain program takes for the text of a certificate: a pass over its line ends, and writing its numbers again.
 //
-//     plain CERTIFICATE OUT     reads the certificate, tells the processor time of a pass for line ends, keeps each line as its words and
-//                               numbers, writes them to OUT through one buffer, and tells that of the writing
+//     plain CERTIFICATE OUT     reads the certificate and prints the processor time of a pass over its line ends; keeps each line as words and
+//                               numbers, writes them to OUT through one buffer, and prints the processor time of the writing
 //
 // The text that it writes is compared with the one that it read.
 #include <charconv>

@@ -1,4 +1,4 @@
-// The network of a deck for the C++ programs of this folder: of the benchmark's recipe, or of a deck without quotes.
+// The network of a deck for the C++ programs of this folder: by the benchmark's recipe, or from a deck without quotes.
 #include <algorithm>
 #include <cstdint>
 #include <fstream>
@@ -41,7 +41,7 @@ inline Plan bench_plan(std::uint64_t n) {
     return plan;
 }
 
-// A deck of the cards PROJECT, EVENT, ACT and PIECE, in any order behind the first; other cards are passed over.
+// A deck of the cards PROJECT, EVENT, ACT and PIECE, in any order after the first; other cards are ignored.
 inline Plan deck_plan(const char *path) {
     Plan plan;
     std::map<std::string, int> events, activities;

@@ -1,5 +1,5 @@
-// The time-cost curve of a project as the textbook has it (Fulkerson 1961): labels from nothing at each step. It stands here to
-// be compared with the program, in speed and in its answers, and shares nothing with it.
+// Computes the time-cost curve of a project as in the textbook (Fulkerson 1961): labels start from nothing at each step. It is compared with
+// the program, in speed and in answers, and shares no code with it.
 //
 //   textbook bench N        the benchmark's deck of N activities; prints what `pert bench N` prints
 //   textbook deck FILE      a deck without quotes, of the cards PROJECT, EVENT, ACT and PIECE; prints what `pert curve` prints
