@@ -14,3 +14,10 @@ mod PointLaws
 mod LoadLaws
 mod OneLoadLaws
 mod OneTextLaws
+mod FirstOnceLaws
+mod CardOnceLaws
+mod RowsOnceLaws
+mod MisfitOnceLaws
+mod PhaseOnceLaws
+mod TasksOnceLaws
+mod OneFaultLaws

@@ -8,6 +8,7 @@ mod certify;
 mod cheapest;
 mod check;
 mod curve;
+mod fault_laws;
 mod form_deck;
 mod forms;
 mod load;
@@ -24,5 +25,6 @@ mod times;
 mod top;
 mod value;
 
+pub use crate::fault_laws::one_fault;
 pub use crate::top::run;
 pub use pc_audit::check_run;
