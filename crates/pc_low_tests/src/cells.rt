@@ -1,4 +1,6 @@
 //! A region whose spans are taken and given back.
+ghost use Rattle.std.specs.Prelude.{◌≡◌, IsTrue};
+
 use pc_cells::{Region, RegionFull};
 use std::alloc::AllocError;
 use std::rt::HostRuntime;
@@ -23,15 +25,23 @@ fn spans_are_taken_and_given_back(rt: HostRuntime) -> Result<(), AllocError> {
     assert_eq!(rt; region.list(second), [1, 2, 3, 4, 5].as_slice());
     assert_eq!(rt; region.list(first), [7; 4].as_slice());
     assert_eq!(rt; region.take(2), Err(RegionFull { need: 2, free: 1 }));
-    let mark = region.mark();
-    assert!(rt; region.take(1).is_ok());
-    assert_eq!(rt; region.free(), 0);
-    assert!(rt; region.is_mark(mark));
-    region.release_to(mark);
+    assert!(rt; is_last_cell_given_back(&mut region));
     assert_eq!(rt; region.free(), 1);
     assert_eq!(rt; region.list(first), [7; 4].as_slice());
     assert_eq!(rt; region.list(second), [1, 2, 3, 4, 5].as_slice());
     let last = region.take_free(1);
     assert_eq!(rt; region.list(last), [0].as_slice());
     Ok(())
+}
+
+// Takes the last free cell and gives it back; whether both could be done.
+fn is_last_cell_given_back(region: &mut Region) -> bool
+    ensures { IsTrue result → region.new ≡ region.old }
+{
+    let mark = region.mark();
+    if region.take(1).is_err() || region.free() > 0 || !region.is_mark(mark) {
+        return false;
+    }
+    region.release_to(mark);
+    true
 }
