@@ -113,7 +113,7 @@ class Progress:
             task.started = task.finished if task.normal == 0 else started[0]
         for what, day, field, is_missing in (("started", task.started, "start", task.share > 0), ("finished", task.finished, "finish", task.share == 100)):
             if day and not max(self.start, task.started or self.start) <= day <= self.as_of:
-                plan.lose(row, "act" + field if row["act" + field] else field, f"{what} on the morning of {day}, which is not between the start, "
+                plan.lose(row, "act" + field if dates.get("act" + field) else field, f"{what} on the morning of {day}, which is not between the start, "
                           f"{task.started if task.started and what == 'finished' else self.start}, and the as-of date, {self.as_of}")
             elif is_missing and not day:
                 plan.lose(row, "percent", f"there is no date on which the task {what}")

@@ -3,10 +3,14 @@
 
     python3 report.py DECK > report.html
     python3 report.py DECK --length 30 --period 7 --title "House, March" > report.html
+    python3 report.py DECK --working --holidays holidays.txt > report.html
 
 DECK is a deck, or a deck of tasks, which `pert arrows` turns into one. All figures are those that the programs print. A section whose
 cards the deck does not have is left out, and the page says why. A refused deck gives no page: the program's fault line is on standard
 error and the status is 1.
+
+With --working the durations of the deck are working days: give the deck with its real dates, as for working-days.py. Lengths, slack and
+periods are then working days, and dates are days of the calendar.
 """
 import argparse
 import sys
@@ -14,6 +18,7 @@ from html import escape
 from pathlib import Path
 
 sys.dont_write_bytecode = True  # no folder of compiled files among the examples
+import decks
 from programs import Refused, whole
 from report_data import Report
 from report_sections import Sections
@@ -38,7 +43,7 @@ def page(report, title):
 <main>
 {Sections(report).html()}
 </main>
-<footer><p>Amounts are in the deck’s unit of money. Every day of the calendar counts.
+<footer><p>Amounts are in the deck’s unit of money. {"Days are working days." if report.working else "Every day of the calendar counts."}
 Made by <code>report.py</code> from the output of <code>pert</code>.</p></footer>
 </body>
 </html>
@@ -51,14 +56,23 @@ def main():
     parser.add_argument("--length", type=whole, metavar="L", help="show what changes for this length, in units of the deck")
     parser.add_argument("--period", type=whole, metavar="DAYS", help="length of a period of the load, in days (default: at most 26 periods)")
     parser.add_argument("--title", help="title of the page (default: that of the PROJECT card)")
+    parser.add_argument("--working", action="store_true", help="the deck counts working days; --weekdays and --holidays imply it")
+    decks.add_calendar_options(parser)
     parser.add_argument("--bin", metavar="DIR", help="folder of the programs (default: bin/ next to examples/, then the PATH)")
     options = parser.parse_args()
     try:
-        report = Report(options.deck, options.bin, options.length, options.period)
+        working = options if options.working or options.weekdays or options.holidays else None
+        report = Report(options.deck, options.bin, options.length, options.period, working)
         sys.stdout.buffer.write(page(report, options.title).encode())
-    except (Refused, OSError) as reason:
+    except Refused as reason:
         print(reason, file=sys.stderr)
-        return getattr(reason, "status", 1)
+        return reason.status
+    except decks.Refused as reason:
+        print(f"report: {reason}", file=sys.stderr)
+        return 1
+    except OSError as reason:
+        print(f"report: {reason.filename or 'standard input or output'}: {reason.strerror}", file=sys.stderr)
+        return 1
     if not report.is_certified:
         print(f"report: {report.certified}", file=sys.stderr)
     return 0 if report.is_certified else 6

@@ -41,6 +41,15 @@ def value_ticks(low, high, about=5):
     return range(-(-low // step) * step, high + 1, step)
 
 
+def working_ticks(calendar, first, count, most=6):
+    """Returns pairs of a count of working days, from 0 to `count`, and its label: the dates of `date_ticks`."""
+    last = calendar.day(count)
+    if last is None:
+        return date_ticks(first, count, most)
+    found = date_ticks(first, (last - first).days, most)
+    return sorted({calendar.count(first + datetime.timedelta(days=day)): label for day, label in found}.items())
+
+
 def date_ticks(first, count, most=6):
     """Returns at most so many pairs of a day's number, from 0 to `count`, and its label."""
     step = next((step for step in STEPS if count / step <= most), None)
@@ -63,10 +72,10 @@ def date_ticks(first, count, most=6):
 class Gantt:
     """Places times, in sixths of a day, on rows that are as wide as their column: all positions across are percentages."""
 
-    def __init__(self, first, last_sixth, as_of, dense):
+    def __init__(self, calendar, first, last_sixth, as_of, dense):
         self.end, self.height, self.dense = max(last_sixth * 1.03, 6), 13 if dense else 20, dense
         self.as_of = None if as_of is None else self.across(6 * as_of)
-        self.ticks = [(self.across(6 * day), label) for day, label in date_ticks(first, int(self.end // 6))]
+        self.ticks = [(self.across(6 * day), label) for day, label in working_ticks(calendar, first, int(self.end // 6))]
 
     def across(self, sixths):
         return round(100 * sixths / self.end, 2)
@@ -216,13 +225,13 @@ def columns(name, labels, values, wide=True):
     return plot.draw(name, "chart" if wide else "small chart")
 
 
-def value_curves(name, first, planned, history):
+def value_curves(name, calendar, first, planned, history):
     """Planned, spent and earned amounts by day; each line has its own dash and marks, and its last amount at its end."""
     last_day = max(planned[-1][0], history[-1][0], 1)
     most = max(max(y for _, y in planned), max(max(row[1:]) for row in history), 1)
     plot = Plot(860, 320, (0, last_day), (0, most + most // 12), left=84, right=112, bottom=32)
     plot.grid()
-    for day, label in date_ticks(first, last_day, 8):
+    for day, label in working_ticks(calendar, first, last_day, 8):
         plot.below(day, label)
     plot.base()
     today = history[-1][0]

@@ -11,6 +11,7 @@ import tempfile
 from pathlib import Path
 from types import SimpleNamespace
 
+import decks
 from programs import Refused, find, run
 
 LONGEST_PERIOD = 3660  # days
@@ -29,18 +30,13 @@ def rows_of(text):
         return []  # the program says what is wrong with it
 
 
-def after(first, sixths):
-    """Returns the date at so many sixths of a day, a part of a day counted as a whole one, as `times` does."""
-    try:
-        return str(first + datetime.timedelta(days=-(-sixths // 6)))
-    except OverflowError:
-        return "-" * 10
-
-
 class Deck:
-    """The cards of a deck, as `pert migrate` writes them. `kinds` are the kinds of cards that the file has."""
+    """The cards of a deck, as `pert migrate` writes them. `kinds` are the kinds of cards that the file has.
 
-    def __init__(self, text, kinds):
+    If the deck counts working days, its dates are counts. `calendar` and `date` turn them into days of the calendar.
+    """
+
+    def __init__(self, text, kinds, own=None, calendar=None):
         self.rows, self.kinds = rows_of(text), kinds
         _, self.code, self.start, self.end, first, unit, _, self.title, *_ = self.rows[0]
         self.first, self.unit = datetime.date.fromisoformat(first), int(unit)
@@ -66,6 +62,16 @@ class Deck:
             elif kind == "RES":
                 self.resources[fields[0]] = fields[1]
         self.days = (self.as_of - self.first).days
+        self.calendar = calendar or decks.Calendar(self.first)
+        self.as_of = own.as_of if calendar else self.as_of
+
+    def at(self, sixths):
+        """Returns the date at so many sixths of a day, a part of a day counted as a whole one, as `times` does."""
+        return self.calendar.text(-(-sixths // 6))
+
+    def date(self, text):
+        """Returns the day of the calendar for a date that a report prints or a card has."""
+        return text if text[0] == "-" else self.calendar.text((datetime.date.fromisoformat(text) - self.first).days)
 
     def as_of_day(self, day):
         """Returns the deck as it was on an earlier day: later statuses are left out, later charges and amounts to go wait."""
@@ -97,7 +103,7 @@ def extra_cost(activity, duration):
 class Report:
     """Everything that the page shows. `missing` has a line for each section that is left out."""
 
-    def __init__(self, name, folder=None, length=None, period=None):
+    def __init__(self, name, folder=None, length=None, period=None, working=None):
         self.pert, self.pert_check = find("pert", folder), find("pert_check", folder)
         try:
             source = sys.stdin.buffer.read() if name == "-" else Path(name).read_bytes()
@@ -108,7 +114,12 @@ class Report:
         self.text = run([self.pert, "arrows"], source).encode() if self.tasks else source
         run([self.pert, "check"], self.text)
         self.digest = hashlib.sha256(source).hexdigest()
-        self.deck = Deck(run([self.pert, "migrate"], self.text), kinds)
+        self.working, own, calendar = working is not None, None, None
+        if self.working:
+            own = decks.Deck(self.name, source.decode("utf-8-sig", "replace"))
+            calendar = decks.working_calendar(own, working)
+            self.text = self.count(working)
+        self.deck = Deck(run([self.pert, "migrate"], self.text), kinds, own, calendar)
         self.take_times()
         self.take_summary()
         self.take_curve()
@@ -116,6 +127,11 @@ class Report:
         self.take_load(period)
         self.take_value()
         self.certify()
+
+    def count(self, options):
+        """Returns the deck with dates that are counts of working days."""
+        words = [f"--{name}={value}" for name, value in (("weekdays", options.weekdays), ("holidays", options.holidays)) if value]
+        return run([sys.executable, str(Path(__file__).resolve().parent / "working-days.py"), *words], self.text).encode()
 
     def pert_lines(self, *words, text=None):
         return run([self.pert, *map(str, words)], text or self.text).splitlines()
@@ -126,7 +142,7 @@ class Report:
 
     def take_times(self):
         deck, lines = self.deck, self.pert_lines("times")[2:]
-        self.times = {code: SimpleNamespace(at=int(at), latest=int(latest), slack=int(slack), date=date)
+        self.times = {code: SimpleNamespace(at=int(at), latest=int(latest), slack=int(slack), date=deck.date(date))
                       for code, at, latest, slack, date in map(str.split, lines[:len(deck.events)])}
         lines = lines[len(deck.events) + 1:]
         for code, expected, _, slack in map(str.split, lines[:len(deck.activities)]):
@@ -187,7 +203,7 @@ class Report:
     def read_load(self, period):
         """Returns the dates of the periods, and the amounts of each item and of each resource, by period."""
         lines = [line.split() for line in self.pert_lines("load", period)[1:]]
-        dates = [words[2] for words in lines[:next(k for k, words in enumerate(lines) if words == ["ITEMS"])]]
+        dates = [self.deck.date(words[2]) for words in lines[:next(k for k, words in enumerate(lines) if words == ["ITEMS"])]]
         amounts, part = {"items": {}, "resources": {}}, None
         for words in lines[len(dates):]:
             if len(words) == 1:
@@ -198,7 +214,8 @@ class Report:
 
     def take_load(self, period):
         days = -(-self.expected_end.at // 6)
-        own = period or next((p for p in PERIODS if days // p < (15 if p == 1 else 26)), LONGEST_PERIOD)
+        week = len(self.deck.calendar.worked)  # periods are weeks, also of working days
+        own = period or next((p for p in (p // 7 * week or p for p in PERIODS) if days // p < (15 if p == 1 else 26)), LONGEST_PERIOD)
         self.load = None
         try:
             self.load = self.read_load(own)
@@ -217,7 +234,7 @@ class Report:
             return
         lines = self.pert_lines("value")[2:]
         events = [line.split() for line in lines[:len(deck.events)]]
-        self.value = {code: SimpleNamespace(at=int(at), slack=int(slack), date=date) for code, at, slack, date in events}
+        self.value = {code: SimpleNamespace(at=int(at), slack=int(slack), date=deck.date(date)) for code, at, slack, date in events}
         for line in lines[len(deck.events) + 1:]:
             code, _, _, _, value, _, slack = line.split()[:7]
             self.items[code].value, self.items[code].slack = int(value), None if slack == "-" else int(slack)

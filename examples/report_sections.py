@@ -3,7 +3,6 @@ from html import escape
 
 import report_charts as charts
 from report_charts import amount, days, short_date
-from report_data import after
 from report_html import element, lead, named, note, table
 
 DENSE, DENSE_ITEMS = 60, 30  # activities and items from which on rows are thin
@@ -23,7 +22,7 @@ def slack_words(sixths):
 class Sections:
     def __init__(self, report):
         self.r, self.deck = report, report.deck
-        self.word = {1: "day", 7: "week"}.get(self.deck.unit, "unit")
+        self.word = {len(self.deck.calendar.worked): "week", 1: "day"}.get(self.deck.unit, "unit")
         self.items = [item for item in report.items.values() if item.code != "_links"]
         self.planned_earned = {item.code: 0 for item in self.items}
         for item in self.items:
@@ -86,12 +85,12 @@ class Sections:
                 spans[code] = min(begin, activity.begin), max(finish, activity.finish)
         ends = [at for activity in shown for at in (activity.finish, activity.finish + activity.slack)]
         last = max([*ends, r.expected_end.at, 6 * deck.days if r.value else 0])
-        gantt = charts.Gantt(deck.first, last, deck.days if r.value else None, len(shown) > DENSE)
+        gantt = charts.Gantt(deck.calendar, deck.first, last, deck.days if r.value else None, len(shown) > DENSE)
         rows = []
         for item in self.items:
             if item.code not in spans:
                 continue
-            begin, finish = (after(deck.first, at) for at in spans[item.code])
+            begin, finish = (deck.at(at) for at in spans[item.code])
             rows.append(([named(item.code, item.title, item.level), begin, finish, "",
                           gantt.group(f"{item.code} {item.title}: {begin} to {finish}", *spans[item.code])],
                          f"group group{min(item.level, 3)}"))
@@ -107,9 +106,9 @@ class Sections:
 
     def gantt_row(self, gantt, activity, level):
         first, started, finished = self.deck.first, activity.status.get("S"), activity.status.get("F")
-        begin, finish = after(first, activity.begin), after(first, activity.finish)
-        state = f"done {finished}" if finished else f"begun {started}" if started else ""
-        work = ((started - first).days, ((finished or self.deck.as_of) - first).days) if started else None
+        begin, finish = self.deck.at(activity.begin), self.deck.at(activity.finish)
+        state = f"done {self.deck.date(str(finished))}" if finished else f"begun {self.deck.date(str(started))}" if started else ""
+        work = ((started - first).days, (finished - first).days if finished else self.deck.days) if started else None
         slack = f"{days(activity.slack)} days of slack"
         words = [f"{activity.code} {activity.title}: {begin} to {finish}", "critical" if activity.critical else "", slack, state]
         label = named(activity.code, activity.title, level, state)
@@ -193,7 +192,7 @@ class Sections:
         labels = [short_date(r.deck.first.fromisoformat(date)) if date[0] != "-" else f"{k}" for k, date in enumerate(load.dates)]
         none = [0] * len(labels)
         spent = load.items.get(r.top.code, none)
-        length = f'{amount(load.period)} day{"s" if load.period > 1 else ""}'
+        length = f'{amount(load.period)} {"working " if r.working else ""}day{"s" if load.period > 1 else ""}'
         parts = [lead(f"From <code>pert load {load.period}</code>: periods of {length}, each under its first day."),
                  self.figure("To be spent in each period", charts.columns("To be spent in each period", labels, spent))]
         shown = list(self.deck.resources.items())[:MOST_RESOURCES]
@@ -214,7 +213,7 @@ class Sections:
                       "divided by spent, SPI earned divided by planned: below 1.00 the work is dearer, or later, than planned.")]
         if r.load and r.has_plan:
             parts.append(self.figure("Planned, spent and earned by date", charts.value_curves(
-                "Planned, spent and earned by date", self.deck.first, self.plan_points(), r.history)))
+                "Planned, spent and earned by date", self.deck.calendar, self.deck.first, self.plan_points(), r.history)))
         heads = [("Item", ""), ("Budget", "number"), ("Planned", "number"), ("Spent", "number"), ("Earned", "number"), ("CPI", "number"),
                  ("SPI", "number"), ("Slack", "number"), ("Share of the budget", "bars")]
         rows = []

@@ -9,7 +9,7 @@
 """
 import sys
 sys.dont_write_bytecode = True  # leaves no folder among the examples
-import argparse, csv, datetime, io, math, re
+import argparse, csv, datetime, fnmatch, io, math, re
 from decks import CALENDAR_HELP, Calendar, Deck, Refused, add_calendar_options, deliver, read_text, run, run_pert, working_calendar
 
 RULES = """\
@@ -19,7 +19,8 @@ SLACK is how long the activity can wait: for times as `pert` prints it, otherwis
 stay and the end of the project does too. Rows come in the order of the deck.
 
 Decks: a deck of tasks goes through `pert arrows`, and the links that it adds are left out. Every other activity has a row, also a
-dummy (no duration, no cost, no title) unless --no-dummies is given.
+dummy (no duration, no cost, no title) unless --no-dummies is given. --skip leaves out codes that match a pattern: for a deck of
+from-sheet.py, --skip '*.S' --skip '*.w*' leaves out the starts of tasks and the waits for lags.
 
 Formats: `table` has columns that line up; `csv` is UTF-8 with headings, dates such as 2024-03-04 and a decimal point; `ical` is a
 calendar (RFC 5545) with an event of whole days for each activity. Such an event ends after its last day of work and not on the
@@ -211,6 +212,7 @@ def main():
     parser.add_argument("--working", action="store_true", help="the deck counts working days; --weekdays and --holidays imply it")
     add_calendar_options(parser)
     parser.add_argument("--no-dummies", action="store_true", help="without activities that have no duration, no cost and no title")
+    parser.add_argument("--skip", metavar="PATTERN", action="append", default=[], help="without activities whose code matches, such as '*.w*'")
     parser.add_argument("--stamp", metavar="TIME", help="DTSTAMP of the calendar, such as 20240318T070000Z")
     parser.add_argument("--partial", action="store_true", help="write the rest if something has to be left out")
     options = parser.parse_intermixed_args()
@@ -225,7 +227,11 @@ def main():
     working = options.working or options.weekdays or options.holidays
     dates = Dates(working_calendar(deck, options) if working else Calendar(deck.start))
     report = read_text(options.report) if options.report else run_pert(form, deck.text)
-    rows, left_out = rows_of(deck, report, options.no_dummies), []
+    rows, left_out = list(rows_of(deck, report, options.no_dummies)), []
+    for pattern in options.skip:
+        if not any(fnmatch.fnmatchcase(row.code, pattern) for row in rows):
+            raise Refused(f"--skip {pattern}: no code matches")
+    rows = [row for row in rows if not any(fnmatch.fnmatchcase(row.code, pattern) for pattern in options.skip)]
     if options.format == "ical":
         text = calendar(rows, dates, deck, options.stamp or f"{deck.as_of:%Y%m%d}T000000Z", left_out)
     else:

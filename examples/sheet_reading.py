@@ -22,8 +22,8 @@ HEADINGS = {
     "cost": "cost, costs, total cost, budget, budgeted cost, budgeted total cost, normal cost, kosten, gesamtkosten, plankosten, normalkosten",
     "slope": "slope, cost slope, cost per day, crash cost per day, kosten je tag, kosten pro tag, mehrkosten je tag, mehrkosten pro tag",
     "crashcost": "crash cost, crash costs, cost at crash, crashkosten, kosten bei kürzester dauer",
-    "pred": "predecessors, predecessor, after, depends on, dependencies, predecessor details, vorgänger, abhängig von, nach",
-    "succ": "successors, successor, successor details, nachfolger",
+    "pred": "predecessors, predecessor, after, depends on, dependencies, predecessor details, wbs predecessors, vorgänger, psp-vorgänger, abhängig von, nach",
+    "succ": "successors, successor, successor details, wbs successors, nachfolger, psp-nachfolger",
     "resources": "resources, resource names, resource, ressourcen, ressourcennamen, ressource, crew",
     "work": "work, planned work, arbeit, geplante arbeit",
     "percent": "% complete, percent complete, % work complete, complete, progress, physical % complete, % abgeschlossen, abgeschlossen, "
@@ -166,6 +166,8 @@ def read_csv(text, chosen):
     sheet.notes += [f"row {at + 1} above the headings is not read: {' '.join(' '.join(cells).split())!r}"
                     for at, cells in enumerate(rows[:top]) if any(cell.strip() for cell in cells)]
     sheet.notes += [f"column {heading!r} is not read" for heading in unread]
+    if not {"pred", "succ"} & {*columns, *chosen}:
+        sheet.notes.append("the list has no column of predecessors: no task waits for another one; name yours with --column pred=HEADING")
     for at, cells in enumerate(rows[top + 1:], top + 2):
         if any(cell.strip(" \t" + SPACES) for cell in cells):
             name = cells[columns["name"]] if columns["name"] < len(cells) else ""
