@@ -24,20 +24,20 @@ use pc_edges::{Failed, Sink, Source};
 use pc_shell::{NoProject, Status, refuse, send};
 use std::alloc::Global;
 
-/// Does what the words ask for: reads a deck from `source`, writes its answer on `out`, or on `err` why there is none.
+/// Runs `pert`: reads a deck from `source`, writes the answer that the words ask for on `out`, or on `err` why
+/// there is none, and returns the status with which the program ends.
 ///
-/// The words are one of the forms: `check` asks how many cards of each kind an accepted deck has, `normal` for the
-/// schedule at the all-normal length, `times` for the times of the events and the critical path, `summary` for what the
-/// accounts add up to, `value` for the forecast and what the work is worth, `curve` for the breakpoints of the time-cost
-/// curve, `certify` for its certificate, `point L` for a schedule of least cost for the length L, `outlook L` for that and
-/// what each item costs by it, `load P` for what is spent and taken in each period of P days, `migrate` for the deck in its one
-/// form, `arrows` for the plan that is drawn of a deck of tasks, as a deck in that form. `bench N` asks for figures of the curve of
-/// a deck of its own, and reads none. The words come first, then the whole deck, then its faults, then whether the form refuses it
-/// and all memory that the answer needs, then the answer and a flush. The answer of the call is the status with which the program
-/// ends.
+/// The words are one of the forms. `check` counts the cards of an accepted deck. `normal` gives the schedule at the
+/// all-normal length, `times` the times of the events and the critical path, `summary` what the accounts add up to,
+/// `value` the forecast and what the work is worth. `curve` gives the breakpoints of the time-cost curve, `certify`
+/// its certificate, `point L` a schedule of least cost for the length L, `outlook L` that and what each item costs
+/// by it, `optimum` the length with the least total cost and a schedule for it, `load P` what is spent and used in
+/// each period of P days. `migrate` writes the deck in canonical form, `arrows` the plan that is generated from a
+/// deck of tasks, in that form. `bench N` gives figures of the curve of a deck of its own, and reads none.
 ///
-/// The deck is a plan, but for `arrows`: what it means that a deck is accepted, of which project it is the deck and with which fault
-/// it is refused depends on the sort of deck that the form speaks of.
+/// The order is: the words, the complete deck, its faults, whether the form refuses it, all memory that the answer
+/// needs, the answer and a flush. A deck is a plan, except for `arrows`, which reads a deck of tasks: what accepted
+/// and refused mean depends on that.
 pub fn run<S: Source, O: Sink, E: Sink>(
     alloc: Global,
     words: &[String],
