@@ -54,9 +54,10 @@ reading:
 	@echo "written: out/reading/headline.md and out/reading/rest.md"
 
 # A page that is installed names this version and this place, and takes the programs from the path in its commands. `\`, `&` and `:` are
-# escaped, since they mean something in what sed puts in.
+# escaped, since they mean something in what sed puts in. How to build the programs is left out of the installed README.
 QUOTED = $(subst ','\'',$(PLACE)/share/doc/pert)
-SHOWN = sed -e 's/@VERSION@/$(VERSION)/' -e "s:@DOC@:$$(printf '%s' '$(QUOTED)' | sed 's/[\\&:]/\\&/g'):g" -e '/^    \$$ /s:bin/pert:pert:g'
+SHOWN = sed -e 's/@VERSION@/$(VERSION)/' -e "s:@DOC@:$$(printf '%s' '$(QUOTED)' | sed 's/[\\&:]/\\&/g'):g" -e '/^    \$$ /s:bin/pert:pert:g' \
+	-e '/^\#\# Look before you wait$$/,/^\#\# A tour$$/{/^\#\# A tour$$/!d;}'
 
 # A prefix with one of these characters would not get through the commands below.
 placed:
