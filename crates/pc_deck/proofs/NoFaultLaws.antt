@@ -131,7 +131,9 @@ pub is_faultless : (sort : Sort) (bytes : List ℕ) → ((fault : Fault) → Has
 is_faultless sort bytes none = by (is_utf8 bytes) refl
   where
     by : (utf8 : Bool) → is_utf8 bytes ≡ utf8 → IsFaultlessDeck sort bytes
-    by true is =
-        (is, faultless_from sort [] (length (deck_records bytes) + 1) (deck_cards bytes)
-        (λ fault has. none fault (subst (λ (b : Bool). HasFaultWhere sort b bytes fault) (sym is) has)))
+    by true is = (
+      is,
+      faultless_from sort [] (length (deck_records bytes) + 1) (deck_cards bytes)
+          (λ fault has. none fault (subst (λ (b : Bool). HasFaultWhere sort b bytes fault) (sym is) has)),
+    )
     by false is = absurd (none faults.not_utf8 (subst (λ (b : Bool). HasFaultWhere sort b bytes faults.not_utf8) (sym is) refl))

@@ -24,7 +24,8 @@ pub fn text_is_the_deck()
 
 /// The cards of a deck are faultless exactly if the deck has none of the faults F2 to F12, whichever sort of deck it is read as.
 pub fn faultless_decks_have_no_fault()
-    ensures none { (sort : Sort) (bytes : List ℕ) → IsFaultless sort bytes → (fault : Fault) → HasFault sort bytes fault → ⊥ }
+    ensures none { (sort : Sort) (bytes : List ℕ) → IsFaultless sort bytes → (fault : Fault)
+        → HasFault sort bytes fault → ⊥ }
     ensures faultless { (sort : Sort) (bytes : List ℕ) → ((fault : Fault) → HasFault sort bytes fault → ⊥)
         → IsFaultless sort bytes }
 {}
