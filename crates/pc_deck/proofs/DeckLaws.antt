@@ -17,6 +17,7 @@ use Rattle.pc_deck.specs.Read.{IsDeckOf, IsReadAs}
 use Rattle.pc_deck.specs.Refusal.{IsCardRefusal, IsRefusalAs}
 use Rattle.pc_deck.specs.Says.{Says}
 use Rattle.pc_deck.proofs.RefusalLemmas.{none_of-read}
+use Rattle.pc_deck.proofs.NoFaultLaws.{no_fault, is_faultless}
 use Rattle.pc_deck.proofs.SaysLemmas.{says_of-read}
 
 -- the first of a list, or another
@@ -64,7 +65,7 @@ one_deck_as sort bytes deck other is also = said_once _ deck other is.says also.
 
 -- and none where they are refused as one
 pub not_both_as : (sort : Sort) (bytes : List ℕ) (deck : Deck) (fault : Fault) → IsReadAs sort bytes deck → IsRefusalAs sort bytes fault → ⊥
-not_both_as sort bytes deck fault is refused = is.faultless fault refused.holds
+not_both_as sort bytes deck fault is refused = no_fault sort bytes is.faultless fault refused.holds
 
 -- the same of plans
 pub one_deck : (bytes : List ℕ) (deck other : Deck) → IsDeckOf bytes deck → IsDeckOf bytes other → deck ≡ other
@@ -75,5 +76,5 @@ not_both = not_both_as Plan
 
 -- what is answered is the deck
 pub answer_is : (result : Result Deck DeckError) (sort : Sort) (bytes : List ℕ) → is_utf8 bytes ≡ true → IfOk result (λ deck. cards_of sort bytes ≡ Ok deck) → IfOk result (IsReadAs sort bytes)
-answer_is (Ok deck) sort bytes utf8 h = record { says = says_of-read sort bytes deck h; faultless = none_of-read sort bytes deck utf8 h }
+answer_is (Ok deck) sort bytes utf8 h = record { says = says_of-read sort bytes deck h; faultless = is_faultless sort bytes (none_of-read sort bytes deck utf8 h) }
 answer_is (Err error) sort bytes utf8 h = tt

@@ -10,6 +10,7 @@ pub mod SeenLemmas
 pub mod RefusalLemmas
 pub mod ToldLemmas
 pub mod SaysLemmas
+pub mod NoFaultLaws
 pub mod DeckLaws
 pub mod FaultlessLemmas
 pub mod WrittenLemmas

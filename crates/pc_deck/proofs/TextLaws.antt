@@ -1,5 +1,5 @@
 -- The text of a deck within the limits is that deck: its records are those that were written, it is text, and it has no fault.
-use Rattle.std.proofs.Common.{◌≡◌, ℕ, ◌+◌, Bool, true, false, nat_eq, List, [], ◌∷◌, length, map, flat_map, All, refl, sym, ap, ◌∙◌, subst, arith}
+use Rattle.std.proofs.Common.{◌≡◌, ℕ, true, false, nat_eq, List, [], ◌∷◌, map, flat_map, All, refl, sym, ap, ◌∙◌, subst, arith}
 use Rattle.std.specs.List.{enumerate_from, starts_with}
 use Rattle.std.specs.Str.{IsUtf8, is_utf8}
 use Rattle.std.proofs.lemmas.Str.{is_utf8-from_IsUtf8}
@@ -10,15 +10,16 @@ use Rattle.pc_records.proofs.TextFacts.{HasField, deck_records-records_text}
 use Rattle.pc_records.proofs.Utf8Facts.{records_text-text}
 use Rattle.pc_faults.specs.declared.kind.Kind.{Kind}
 use Rattle.pc_cards.specs.declared.sort.Sort.TheVariants.{Plan}
-use Rattle.pc_cards.specs.Cards.{Numbered, cards_from, deck_cards}
+use Rattle.pc_cards.specs.Cards.{cards_from, deck_cards}
 use Rattle.pc_deck.specs.Deck.{Deck, list_of}
 use Rattle.pc_deck.specs.Kinds.{CardOf, kinds}
 use Rattle.pc_deck.specs.Read.{IsDeckOf}
-use Rattle.pc_deck.specs.Refusal.{HasFaultFrom, HasFaultWhere}
+use Rattle.pc_deck.specs.Faultless.{AreFaultless}
 use Rattle.pc_deck.specs.Says.{Says}
 use Rattle.pc_deck.specs.Text.{deck_rows, deck_text, record_of, records_of, renumbered, settled}
 use Rattle.pc_deck.specs.Within.{IsWithinLimits}
 use Rattle.pc_deck.proofs.FaultlessLemmas.{faultless}
+use Rattle.pc_deck.proofs.NoFaultLaws.{faultless_from}
 use Rattle.pc_deck.proofs.OrderLemmas.{rows-in_order}
 use Rattle.pc_deck.proofs.RowsLemmas.{rows-cards, rows-say}
 use Rattle.pc_deck.proofs.WrittenLemmas.{IsWritten, written-settled}
@@ -64,8 +65,9 @@ read-cards deck = ap (cards_from 1) (read-rows deck) ∙ rows-cards deck
 pub deck_text-read : (deck : Deck) → IsWithinLimits deck → IsDeckOf (deck_text deck) (renumbered (settled deck))
 deck_text-read deck limits = record {
   says = subst (λ (rows : List (List (List ℕ))). Says (cards_from 1 rows) (renumbered (settled deck))) (sym (read-rows deck)) (rows-say deck limits);
-  faultless = λ fault has.
-      let plain : HasFaultWhere Plan true (deck_text deck) fault = subst (λ (b : Bool). HasFaultWhere Plan b (deck_text deck) fault) (utf8-text deck limits) has in
-      faultless (enumerate_from 1 (deck_rows deck)) _ fault (rows-in_order deck limits)
-      (subst (λ (cards : List Numbered). HasFaultFrom Plan [] (length (deck_records (deck_text deck)) + 1) cards fault) (read-cards deck) plain);
+  faultless = (
+    utf8-text deck limits,
+    subst (AreFaultless Plan []) (sym (read-cards deck))
+        (faultless_from Plan [] 0 (enumerate_from 1 (deck_rows deck)) (λ fault has. faultless (enumerate_from 1 (deck_rows deck)) 0 fault (rows-in_order deck limits) has)),
+  );
 }

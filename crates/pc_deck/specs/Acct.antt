@@ -1,12 +1,13 @@
 -- ACCT,code,item,budget,title
-use Rattle.std.specs.Prelude.{ℕ, List, [], ◌∷◌, false, true, decimal}
+use Rattle.std.specs.Prelude.{ℕ, List, [], ◌∷◌, decimal}
 use Rattle.pc_records.specs.Deck.{field_at}
 use Rattle.pc_model.specs.declared.limits.TheConstants.{MAX_ACCOUNTS}
-use Rattle.pc_cards.specs.Entry.{Entry, Written, in_both, up_to}
+use Rattle.pc_cards.specs.Entry.{Entry, in_both, up_to}
 use Rattle.pc_cards.specs.Forms.{Slot, money, number_in}
 use Rattle.pc_cards.specs.declared.form.Form.TheVariants as form
 use Rattle.pc_deck.specs.declared.kinds.acct.AcctCard.{AcctCard}
 use Rattle.pc_deck.specs.declared.kinds.CardLists.{CardLists}
+use Rattle.pc_deck.specs.Builders.{named_kind}
 
 -- the fields behind the kind
 abbrev pub account_slots : List Slot
@@ -26,25 +27,8 @@ account_of row fields = record {
 abbrev pub written_account : AcctCard → List (List ℕ)
 written_account account = account.code ∷ account.item ∷ decimal account.budget ∷ account.title ∷ []
 
--- the card in another record
-abbrev pub account_at : ℕ → AcctCard → AcctCard
-account_at row account = record account { row = row }
-
 -- the kind
 abbrev pub account_kind : Entry CardLists
-account_kind = record {
-  Card = AcctCard;
-  spelled = account_of;
-  slots = in_both account_slots;
-  least = 5;
-  most = 5;
-  once = false;
-  held = λ lists. lists.accounts;
-  limit = in_both (up_to MAX_ACCOUNTS);
-  is_coded = true;
-  code = λ account. account.code;
-}
-
--- how its cards are written
-abbrev pub written_account_kind : Written AcctCard
-written_account_kind = record { written = written_account; at_row = account_at }
+account_kind =
+    named_kind account_of (λ account. account.code) (in_both account_slots) 5
+    (λ lists. lists.accounts) (in_both (up_to MAX_ACCOUNTS))

@@ -1,13 +1,14 @@
 -- ACT,code,from,to,item,opt,likely,pess,normal,crash,cost,slope,title
-use Rattle.std.specs.Prelude.{ℕ, List, [], ◌∷◌, false, true, decimal}
+use Rattle.std.specs.Prelude.{ℕ, List, [], ◌∷◌, decimal}
 use Rattle.pc_records.specs.Deck.{field_at}
 use Rattle.pc_model.specs.declared.limits.TheConstants.{MAX_SLOPE, MAX_ACTIVITIES}
-use Rattle.pc_cards.specs.Entry.{Entry, Written, growing, in_both, in_plans}
+use Rattle.pc_cards.specs.Entry.{Entry, growing, in_both, in_plans}
 use Rattle.pc_deck.specs.declared.limits.TheConstants.{SMALL_ACTIVITIES}
 use Rattle.pc_cards.specs.Forms.{Slot, duration, money, number_in}
 use Rattle.pc_cards.specs.declared.form.Form.TheVariants as form
 use Rattle.pc_deck.specs.declared.kinds.act.ActCard.{ActCard}
 use Rattle.pc_deck.specs.declared.kinds.CardLists.{CardLists}
+use Rattle.pc_deck.specs.Builders.{named_kind}
 
 -- the fields behind the kind
 abbrev pub act_slots : List Slot
@@ -41,25 +42,8 @@ written_act act =
     ∷ decimal act.opt ∷ decimal act.likely ∷ decimal act.pess ∷ decimal act.normal ∷ decimal act.crash
     ∷ decimal act.cost ∷ decimal act.slope ∷ act.title ∷ []
 
--- the card in another record
-abbrev pub act_at : ℕ → ActCard → ActCard
-act_at row act = record act { row = row }
-
 -- the kind
 abbrev pub act_kind : Entry CardLists
-act_kind = record {
-  Card = ActCard;
-  spelled = act_of;
-  slots = in_both act_slots;
-  least = 13;
-  most = 13;
-  once = false;
-  held = λ lists. lists.acts;
-  limit = in_plans (growing SMALL_ACTIVITIES MAX_ACTIVITIES);
-  is_coded = true;
-  code = λ act. act.code;
-}
-
--- how its cards are written
-abbrev pub written_act_kind : Written ActCard
-written_act_kind = record { written = written_act; at_row = act_at }
+act_kind =
+    named_kind act_of (λ act. act.code) (in_both act_slots) 13
+    (λ lists. lists.acts) (in_plans (growing SMALL_ACTIVITIES MAX_ACTIVITIES))

@@ -1,12 +1,13 @@
 -- ASOF,date
-use Rattle.std.specs.Prelude.{ℕ, List, [], ◌∷◌, false, true}
+use Rattle.std.specs.Prelude.{ℕ, List, [], ◌∷◌}
 use Rattle.pc_records.specs.Deck.{field_at}
 use Rattle.pc_days.specs.Calendar.{text_of_day}
-use Rattle.pc_cards.specs.Entry.{Entry, Written, in_both, no_code, unlimited}
+use Rattle.pc_cards.specs.Entry.{Entry, in_both}
 use Rattle.pc_cards.specs.Forms.{Slot, day_in}
 use Rattle.pc_cards.specs.declared.form.Form.TheVariants as form
 use Rattle.pc_deck.specs.declared.kinds.as_of.AsOfCard.{AsOfCard}
 use Rattle.pc_deck.specs.declared.kinds.CardLists.{CardLists}
+use Rattle.pc_deck.specs.Builders.{single_kind}
 
 -- the field behind the kind
 abbrev pub as_of_slots : List Slot
@@ -26,19 +27,4 @@ as_of_at row card = record card { row = row }
 
 -- the kind
 abbrev pub as_of_kind : Entry CardLists
-as_of_kind = record {
-  Card = AsOfCard;
-  spelled = as_of_of;
-  slots = in_both as_of_slots;
-  least = 2;
-  most = 2;
-  once = true;
-  held = λ lists. lists.as_of;
-  limit = in_both unlimited;
-  is_coded = false;
-  code = no_code;
-}
-
--- how its cards are written
-abbrev pub written_as_of_kind : Written AsOfCard
-written_as_of_kind = record { written = written_as_of; at_row = as_of_at }
+as_of_kind = single_kind as_of_of (in_both as_of_slots) 2 2 (λ lists. lists.as_of)

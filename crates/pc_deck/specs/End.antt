@@ -1,6 +1,6 @@
 -- END
 use Rattle.std.specs.Prelude.{[], false}
-use Rattle.pc_cards.specs.Entry.{Entry, Written, in_both, no_code, unlimited}
+use Rattle.pc_cards.specs.Entry.{Entry, in_both, no_code, unlimited}
 use Rattle.pc_deck.specs.declared.kinds.CardLists.{CardLists}
 
 -- the kind: a card that says nothing but that it is there
@@ -17,7 +17,3 @@ end_kind = record {
   is_coded = false;
   code = no_code;
 }
-
--- how its cards are written
-abbrev pub written_end_kind : Written (Unit {0})
-written_end_kind = record { written = λ card. []; at_row = λ row card. tt }

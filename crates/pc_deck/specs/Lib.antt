@@ -1,3 +1,4 @@
+pub mod Builders
 pub mod Project
 pub mod AsOf
 pub mod Terms
@@ -19,6 +20,7 @@ pub mod Text
 pub mod Judged
 pub mod Within
 pub mod Refusal
+pub mod Faultless
 pub mod Says
 pub mod Read
 pub mod Made

@@ -1,12 +1,13 @@
 -- LOAD,activity,resource,quantity
-use Rattle.std.specs.Prelude.{ℕ, List, [], ◌∷◌, false, decimal}
+use Rattle.std.specs.Prelude.{ℕ, List, [], ◌∷◌, decimal}
 use Rattle.pc_records.specs.Deck.{field_at}
 use Rattle.pc_model.specs.declared.limits.TheConstants.{MAX_LOADS}
-use Rattle.pc_cards.specs.Entry.{Entry, Written, in_both, no_code, up_to}
+use Rattle.pc_cards.specs.Entry.{Entry, in_both, up_to}
 use Rattle.pc_cards.specs.Forms.{Slot, money, number_in}
 use Rattle.pc_cards.specs.declared.form.Form.TheVariants as form
 use Rattle.pc_deck.specs.declared.kinds.load.LoadCard.{LoadCard}
 use Rattle.pc_deck.specs.declared.kinds.CardLists.{CardLists}
+use Rattle.pc_deck.specs.Builders.{listed_kind}
 
 -- the fields behind the kind
 abbrev pub load_slots : List Slot
@@ -20,25 +21,6 @@ load_of row fields = record { row = row; activity = field_at fields 1; resource 
 abbrev pub written_load : LoadCard → List (List ℕ)
 written_load card = card.activity ∷ card.resource ∷ decimal card.quantity ∷ []
 
--- the card in another record
-abbrev pub load_at : ℕ → LoadCard → LoadCard
-load_at row card = record card { row = row }
-
 -- the kind
 abbrev pub load_kind : Entry CardLists
-load_kind = record {
-  Card = LoadCard;
-  spelled = load_of;
-  slots = in_both load_slots;
-  least = 4;
-  most = 4;
-  once = false;
-  held = λ lists. lists.loads;
-  limit = in_both (up_to MAX_LOADS);
-  is_coded = false;
-  code = no_code;
-}
-
--- how its cards are written
-abbrev pub written_load_kind : Written LoadCard
-written_load_kind = record { written = written_load; at_row = load_at }
+load_kind = listed_kind load_of (in_both load_slots) 4 (λ lists. lists.loads) (in_both (up_to MAX_LOADS))

@@ -1,14 +1,15 @@
 -- CHARGE,account,date,amount and TOGO,account,date,amount
-use Rattle.std.specs.Prelude.{ℕ, List, [], ◌∷◌, false, decimal}
+use Rattle.std.specs.Prelude.{ℕ, List, [], ◌∷◌, decimal}
 use Rattle.pc_records.specs.Deck.{field_at}
 use Rattle.pc_model.specs.declared.limits.TheConstants.{MAX_CHARGES, MAX_TOGOS}
 use Rattle.pc_days.specs.Calendar.{text_of_day}
-use Rattle.pc_cards.specs.Entry.{Entry, Limit, Written, growing, in_both, no_code, up_to}
+use Rattle.pc_cards.specs.Entry.{Entry, growing, in_both, up_to}
 use Rattle.pc_deck.specs.declared.limits.TheConstants.{SMALL_CHARGES}
 use Rattle.pc_cards.specs.Forms.{Slot, money, number_in, day_in}
 use Rattle.pc_cards.specs.declared.form.Form.TheVariants as form
 use Rattle.pc_deck.specs.declared.kinds.money.MoneyCard.{MoneyCard}
 use Rattle.pc_deck.specs.declared.kinds.CardLists.{CardLists}
+use Rattle.pc_deck.specs.Builders.{listed_kind}
 
 -- the fields behind the kind
 abbrev pub money_slots : List Slot
@@ -22,33 +23,12 @@ money_of row fields = record { row = row; account = field_at fields 1; day = day
 abbrev pub written_money : MoneyCard → List (List ℕ)
 written_money card = card.account ∷ text_of_day card.day ∷ decimal card.amount ∷ []
 
--- the card in another record
-abbrev pub money_at : ℕ → MoneyCard → MoneyCard
-money_at row card = record card { row = row }
-
--- a kind of such cards, by where the lists have them and how many there may be
-abbrev pub money_kind : (CardLists → List MoneyCard) → Limit → Entry CardLists
-money_kind held limit = record {
-  Card = MoneyCard;
-  spelled = money_of;
-  slots = in_both money_slots;
-  least = 4;
-  most = 4;
-  once = false;
-  held = held;
-  limit = in_both limit;
-  is_coded = false;
-  code = no_code;
-}
-
 -- the kind CHARGE
 abbrev pub charge_kind : Entry CardLists
-charge_kind = money_kind (λ lists. lists.charges) (growing SMALL_CHARGES MAX_CHARGES)
+charge_kind =
+    listed_kind money_of (in_both money_slots) 4
+    (λ lists. lists.charges) (in_both (growing SMALL_CHARGES MAX_CHARGES))
 
 -- the kind TOGO
 abbrev pub togo_kind : Entry CardLists
-togo_kind = money_kind (λ lists. lists.togos) (up_to MAX_TOGOS)
-
--- how the cards of both are written
-abbrev pub written_money_kind : Written MoneyCard
-written_money_kind = record { written = written_money; at_row = money_at }
+togo_kind = listed_kind money_of (in_both money_slots) 4 (λ lists. lists.togos) (in_both (up_to MAX_TOGOS))

@@ -1,13 +1,14 @@
 -- PIECE,activity,units,slope
-use Rattle.std.specs.Prelude.{ℕ, List, [], ◌∷◌, false, decimal}
+use Rattle.std.specs.Prelude.{ℕ, List, [], ◌∷◌, decimal}
 use Rattle.pc_records.specs.Deck.{field_at}
 use Rattle.pc_model.specs.declared.limits.TheConstants.{MAX_DURATION, MAX_SLOPE, MAX_PIECES}
-use Rattle.pc_cards.specs.Entry.{Entry, Written, growing, in_both, no_code}
+use Rattle.pc_cards.specs.Entry.{Entry, growing, in_both}
 use Rattle.pc_deck.specs.declared.limits.TheConstants.{SMALL_PIECES}
 use Rattle.pc_cards.specs.Forms.{Slot, number_in}
 use Rattle.pc_cards.specs.declared.form.Form.TheVariants as form
 use Rattle.pc_deck.specs.declared.kinds.piece.PieceCard.{PieceCard}
 use Rattle.pc_deck.specs.declared.kinds.CardLists.{CardLists}
+use Rattle.pc_deck.specs.Builders.{listed_kind}
 
 -- the fields behind the kind
 abbrev pub piece_slots : List Slot
@@ -21,25 +22,7 @@ piece_of row fields = record { row = row; activity = field_at fields 1; units = 
 abbrev pub written_piece : PieceCard → List (List ℕ)
 written_piece piece = piece.activity ∷ decimal piece.units ∷ decimal piece.slope ∷ []
 
--- the card in another record
-abbrev pub piece_at : ℕ → PieceCard → PieceCard
-piece_at row piece = record piece { row = row }
-
 -- the kind
 abbrev pub piece_kind : Entry CardLists
-piece_kind = record {
-  Card = PieceCard;
-  spelled = piece_of;
-  slots = in_both piece_slots;
-  least = 4;
-  most = 4;
-  once = false;
-  held = λ lists. lists.pieces;
-  limit = in_both (growing SMALL_PIECES MAX_PIECES);
-  is_coded = false;
-  code = no_code;
-}
-
--- how its cards are written
-abbrev pub written_piece_kind : Written PieceCard
-written_piece_kind = record { written = written_piece; at_row = piece_at }
+piece_kind =
+    listed_kind piece_of (in_both piece_slots) 4 (λ lists. lists.pieces) (in_both (growing SMALL_PIECES MAX_PIECES))

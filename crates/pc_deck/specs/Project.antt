@@ -1,15 +1,16 @@
 -- PROJECT,code,start,end,date,days of a unit,directed end,title,version
-use Rattle.std.specs.Prelude.{ℕ, List, [], ◌∷◌, unwrap_or, false, true, None, decimal}
+use Rattle.std.specs.Prelude.{ℕ, List, [], ◌∷◌, unwrap_or, None, decimal}
 use Rattle.pc_records.specs.Deck.{field_at}
 use Rattle.pc_text.specs.Number.{number_of}
 use Rattle.pc_model.specs.declared.limits.TheConstants.{MAX_DIRECTED, MAX_UNIT_DAYS}
 use Rattle.pc_days.specs.Calendar.{text_of_day}
-use Rattle.pc_cards.specs.Entry.{Entry, Written, in_both, no_code, unlimited}
+use Rattle.pc_cards.specs.Entry.{Entry}
 use Rattle.pc_cards.specs.Forms.{Slot, number_in, day_in, number_text, own_code}
 use Rattle.pc_cards.specs.declared.sort.Sort.{Sort}
 use Rattle.pc_cards.specs.declared.form.Form.TheVariants as form
 use Rattle.pc_deck.specs.declared.kinds.project.ProjectCard.{ProjectCard}
 use Rattle.pc_deck.specs.declared.kinds.CardLists.{CardLists}
+use Rattle.pc_deck.specs.Builders.{single_kind}
 
 -- the fields behind the kind, in decks of a sort; the last one may be missing
 abbrev pub project_slots : Sort → List Slot
@@ -46,19 +47,4 @@ project_at row project = record project { row = row }
 
 -- the kind; its card stands beside the lists
 abbrev pub project_kind : Entry CardLists
-project_kind = record {
-  Card = ProjectCard;
-  spelled = project_of;
-  slots = project_slots;
-  least = 8;
-  most = 9;
-  once = true;
-  held = λ lists. None;
-  limit = in_both unlimited;
-  is_coded = false;
-  code = no_code;
-}
-
--- how its cards are written
-abbrev pub written_project_kind : Written ProjectCard
-written_project_kind = record { written = written_project; at_row = project_at }
+project_kind = single_kind project_of project_slots 8 9 (λ lists. None)

@@ -1,13 +1,14 @@
 -- TASK,code,item,opt,likely,pess,normal,crash,cost,slope,title
-use Rattle.std.specs.Prelude.{ℕ, List, [], ◌∷◌, false, true, decimal}
+use Rattle.std.specs.Prelude.{ℕ, List, [], ◌∷◌, decimal}
 use Rattle.pc_records.specs.Deck.{field_at}
 use Rattle.pc_model.specs.declared.limits.TheConstants.{MAX_SLOPE}
-use Rattle.pc_cards.specs.Entry.{Entry, Written, in_both, in_tasks, up_to}
+use Rattle.pc_cards.specs.Entry.{Entry, in_both, in_tasks, up_to}
 use Rattle.pc_deck.specs.declared.limits.TheConstants.{MAX_TASKS}
 use Rattle.pc_cards.specs.Forms.{Slot, duration, money, number_in}
 use Rattle.pc_cards.specs.declared.form.Form.TheVariants as form
 use Rattle.pc_deck.specs.declared.kinds.task.TaskCard.{TaskCard}
 use Rattle.pc_deck.specs.declared.kinds.CardLists.{CardLists}
+use Rattle.pc_deck.specs.Builders.{named_kind}
 
 -- the fields behind the kind
 abbrev pub task_slots : List Slot
@@ -39,25 +40,7 @@ written_task task =
     ∷ decimal task.opt ∷ decimal task.likely ∷ decimal task.pess ∷ decimal task.normal ∷ decimal task.crash
     ∷ decimal task.cost ∷ decimal task.slope ∷ task.title ∷ []
 
--- the card in another record
-abbrev pub task_at : ℕ → TaskCard → TaskCard
-task_at row task = record task { row = row }
-
 -- the kind
 abbrev pub task_kind : Entry CardLists
-task_kind = record {
-  Card = TaskCard;
-  spelled = task_of;
-  slots = in_both task_slots;
-  least = 11;
-  most = 11;
-  once = false;
-  held = λ lists. lists.tasks;
-  limit = in_tasks (up_to MAX_TASKS);
-  is_coded = true;
-  code = λ task. task.code;
-}
-
--- how its cards are written
-abbrev pub written_task_kind : Written TaskCard
-written_task_kind = record { written = written_task; at_row = task_at }
+task_kind =
+    named_kind task_of (λ task. task.code) (in_both task_slots) 11 (λ lists. lists.tasks) (in_tasks (up_to MAX_TASKS))

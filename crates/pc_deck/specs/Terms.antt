@@ -1,13 +1,14 @@
 -- TERMS,overhead,target,bonus,penalty
-use Rattle.std.specs.Prelude.{ℕ, List, [], ◌∷◌, false, true, decimal}
+use Rattle.std.specs.Prelude.{ℕ, List, [], ◌∷◌, decimal}
 use Rattle.pc_records.specs.Deck.{field_at}
 use Rattle.pc_model.specs.declared.limits.TheConstants.{MAX_TERMS}
-use Rattle.pc_cards.specs.Entry.{Entry, Written, in_both, no_code, unlimited}
+use Rattle.pc_cards.specs.Entry.{Entry, in_both}
 use Rattle.pc_cards.specs.Forms.{Slot, number_in}
 use Rattle.pc_cards.specs.declared.form.Form.{Form}
 use Rattle.pc_cards.specs.declared.form.Form.TheVariants as form
 use Rattle.pc_deck.specs.declared.kinds.terms.TermsCard.{TermsCard}
 use Rattle.pc_deck.specs.declared.kinds.CardLists.{CardLists}
+use Rattle.pc_deck.specs.Builders.{single_kind}
 
 -- one of the four numbers
 abbrev pub term : Form
@@ -37,19 +38,4 @@ terms_at row terms = record terms { row = row }
 
 -- the kind
 abbrev pub terms_kind : Entry CardLists
-terms_kind = record {
-  Card = TermsCard;
-  spelled = terms_of;
-  slots = in_both terms_slots;
-  least = 5;
-  most = 5;
-  once = true;
-  held = λ lists. lists.terms;
-  limit = in_both unlimited;
-  is_coded = false;
-  code = no_code;
-}
-
--- how its cards are written
-abbrev pub written_terms_kind : Written TermsCard
-written_terms_kind = record { written = written_terms; at_row = terms_at }
+terms_kind = single_kind terms_of (in_both terms_slots) 5 5 (λ lists. lists.terms)

@@ -1,14 +1,14 @@
 -- EVENT,code,title and RES,code,title
-use Rattle.std.specs.Prelude.{ℕ, List, [], ◌∷◌, false, true}
+use Rattle.std.specs.Prelude.{ℕ, List, [], ◌∷◌}
 use Rattle.pc_records.specs.Deck.{field_at}
-use Rattle.pc_cards.specs.Entry.{Entry, Limit, Written, growing, in_both, in_plans, up_to}
+use Rattle.pc_cards.specs.Entry.{Entry, growing, in_both, in_plans, up_to}
 use Rattle.pc_deck.specs.declared.limits.TheConstants.{SMALL_EVENTS}
 use Rattle.pc_model.specs.declared.limits.TheConstants.{MAX_EVENTS, MAX_RESOURCES}
 use Rattle.pc_cards.specs.Forms.{Slot}
 use Rattle.pc_cards.specs.declared.form.Form.TheVariants as form
-use Rattle.pc_cards.specs.declared.sort.Sort.{Sort}
 use Rattle.pc_deck.specs.declared.kinds.titled.TitledCard.{TitledCard}
 use Rattle.pc_deck.specs.declared.kinds.CardLists.{CardLists}
+use Rattle.pc_deck.specs.Builders.{named_kind}
 
 -- the fields behind the kind
 abbrev pub titled_slots : List Slot
@@ -22,33 +22,14 @@ titled_of row fields = record { row = row; code = field_at fields 1; title = fie
 abbrev pub written_titled : TitledCard → List (List ℕ)
 written_titled card = card.code ∷ card.title ∷ []
 
--- the card in another record
-abbrev pub titled_at : ℕ → TitledCard → TitledCard
-titled_at row card = record card { row = row }
-
--- a kind of such cards, by where the lists have them and how many there may be
-abbrev pub titled_kind : (CardLists → List TitledCard) → (Sort → Limit) → Entry CardLists
-titled_kind held limit = record {
-  Card = TitledCard;
-  spelled = titled_of;
-  slots = in_both titled_slots;
-  least = 3;
-  most = 3;
-  once = false;
-  held = held;
-  limit = limit;
-  is_coded = true;
-  code = λ card. card.code;
-}
-
 -- the kind EVENT
 abbrev pub event_kind : Entry CardLists
-event_kind = titled_kind (λ lists. lists.events) (in_plans (growing SMALL_EVENTS MAX_EVENTS))
+event_kind =
+    named_kind titled_of (λ card. card.code) (in_both titled_slots) 3
+    (λ lists. lists.events) (in_plans (growing SMALL_EVENTS MAX_EVENTS))
 
 -- the kind RES
 abbrev pub resource_kind : Entry CardLists
-resource_kind = titled_kind (λ lists. lists.resources) (in_both (up_to MAX_RESOURCES))
-
--- how the cards of both are written
-abbrev pub written_titled_kind : Written TitledCard
-written_titled_kind = record { written = written_titled; at_row = titled_at }
+resource_kind =
+    named_kind titled_of (λ card. card.code) (in_both titled_slots) 3
+    (λ lists. lists.resources) (in_both (up_to MAX_RESOURCES))

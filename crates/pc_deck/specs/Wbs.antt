@@ -1,8 +1,8 @@
 -- WBS,code,parent,title; the top item has no parent
-use Rattle.std.specs.Prelude.{ℕ, List, [], ◌∷◌, false, true}
+use Rattle.std.specs.Prelude.{ℕ, List, [], ◌∷◌}
 use Rattle.pc_records.specs.Deck.{field_at}
 use Rattle.pc_text.specs.Code.{code_of}
-use Rattle.pc_cards.specs.Entry.{Entry, Written, by_sort, up_to}
+use Rattle.pc_cards.specs.Entry.{Entry, by_sort, up_to}
 use Rattle.pc_model.specs.declared.limits.TheConstants.{MAX_ITEMS}
 use Rattle.pc_deck.specs.declared.limits.TheConstants.{MAX_TASK_ITEMS}
 use Rattle.pc_cards.specs.Forms.{Slot, code_text, own_code}
@@ -10,6 +10,7 @@ use Rattle.pc_cards.specs.declared.sort.Sort.{Sort}
 use Rattle.pc_cards.specs.declared.form.Form.TheVariants as form
 use Rattle.pc_deck.specs.declared.kinds.wbs.ItemCard.{ItemCard}
 use Rattle.pc_deck.specs.declared.kinds.CardLists.{CardLists}
+use Rattle.pc_deck.specs.Builders.{named_kind}
 
 -- the fields behind the kind, in decks of a sort
 abbrev pub item_slots : Sort → List Slot
@@ -23,25 +24,8 @@ item_of row fields = record { row = row; code = field_at fields 1; parent = code
 abbrev pub written_item : ItemCard → List (List ℕ)
 written_item item = item.code ∷ code_text item.parent ∷ item.title ∷ []
 
--- the card in another record
-abbrev pub item_at : ℕ → ItemCard → ItemCard
-item_at row item = record item { row = row }
-
 -- the kind
 abbrev pub item_kind : Entry CardLists
-item_kind = record {
-  Card = ItemCard;
-  spelled = item_of;
-  slots = item_slots;
-  least = 4;
-  most = 4;
-  once = false;
-  held = λ lists. lists.items;
-  limit = by_sort (up_to MAX_ITEMS) (up_to MAX_TASK_ITEMS);
-  is_coded = true;
-  code = λ item. item.code;
-}
-
--- how its cards are written
-abbrev pub written_item_kind : Written ItemCard
-written_item_kind = record { written = written_item; at_row = item_at }
+item_kind =
+    named_kind item_of (λ item. item.code) item_slots 4
+    (λ lists. lists.items) (by_sort (up_to MAX_ITEMS) (up_to MAX_TASK_ITEMS))

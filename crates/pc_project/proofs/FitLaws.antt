@@ -1,5 +1,5 @@
 -- Cards without faults fit together: the network and the items are within their ranges.
-use Rattle.std.proofs.Common.{◌≡◌, ◌≢◌, ◌<◌, ◌≤◌, ℕ, List, [], length, get_or, sym, ap, subst, ◌∙◌, refl, inl, inr, arith, Option, Some, None}
+use Rattle.std.proofs.Common.{◌≡◌, ◌<◌, ℕ, List, [], length, get_or, sym, ap, subst, ◌∙◌, refl, inl, inr, arith, Option, Some, None}
 use Rattle.std.specs.Prelude.{All, IsSome, option_and_then}
 use Rattle.std.specs.List.{Any}
 use Rattle.std.proofs.lemmas.Bool.{cases_lt}
@@ -20,7 +20,8 @@ use Rattle.pc_deck.specs.declared.kinds.piece.PieceCard.{PieceCard}
 use Rattle.pc_deck.specs.Deck.{Deck, account_codes, act_codes, event_codes, item_codes, named_among, number_among, resource_codes}
 use Rattle.pc_project.specs.Project.{arc_of, network_of, place_of, row_of, rows_of}
 use Rattle.pc_project.specs.Misfit.{HasAccountFault, HasActFault, HasItemFault, HasLoadFault, HasMoneyFault, HasPieceCardFault, HasStatusFault}
-use Rattle.pc_project.specs.Misfit.{HasNoMisfit, IsInOrder, account, act, charge, figure, item, listed, project, status, togo}
+use Rattle.pc_project.specs.Misfit.{HasNoMisfit, account, act, charge, figure, item, listed, project, status, togo}
+use Rattle.pc_project.specs.Makes.{HasEnds, IsSoundAct}
 use Rattle.pc_project.specs.Misfit as has
 use Rattle.pc_project.proofs.NumberLaws.{account_number-within, act_number-within, event_number-within, event_number-apart, item_number-within, resource_number-within}
 
@@ -33,23 +34,8 @@ known_unless (Some i) never = refl
 pub Any-at : {X : Type 0} (P : X → Type 0) (xs : List X) (i : ℕ) (d : X) → i < length xs → P (get_or xs i d) → Any P xs
 Any-at P xs i d within holds = (i, get_or xs i d, within, get_or_default xs i (get_or xs i d) d within, holds)
 
--- the start and the end are two events
-pub record HasEnds (deck : Deck) : Type 0 where
-  pub starts : IsSome (named_among (event_codes deck) deck.project.start)
-  pub ends : IsSome (named_among (event_codes deck) deck.project.end)
-  pub apart : deck.project.start ≢ deck.project.end
-
--- the activity leads from one event to another and stands at an item, with its numbers in order
-pub record Fits (deck : Deck) (card : ActCard) : Type 0 where
-  pub begins : IsSome (named_among (event_codes deck) card.from)
-  pub ends : IsSome (named_among (event_codes deck) card.to)
-  pub placed : IsSome (named_among (item_codes deck) card.item)
-  pub apart : card.from ≢ card.to
-  pub ordered : IsInOrder card
-  pub durations : card.crash ≤ card.normal
-
 module _ (deck : Deck) (none : HasNoMisfit deck) where
-  has_ends : HasEnds deck
+  pub has_ends : HasEnds deck
   has_ends =
       let starts = known_unless (named_among (event_codes deck) deck.project.start) (λ n. none _ (project (has.unknown_start n refl))) in record {
         starts = starts;
@@ -57,7 +43,7 @@ module _ (deck : Deck) (none : HasNoMisfit deck) where
         apart = λ same. none _ (project (has.same_ends same refl));
       }
 
-  fits_at : (card : ActCard) → ((fault : Fault) → HasActFault deck card fault → ⊥) → Fits deck card
+  fits_at : (card : ActCard) → ((fault : Fault) → HasActFault deck card fault → ⊥) → IsSoundAct deck card
   fits_at card out =
       let begins = known_unless (named_among (event_codes deck) card.from) (λ n. out _ (has.unknown_from n refl)) in record {
         begins = begins;
@@ -71,7 +57,7 @@ module _ (deck : Deck) (none : HasNoMisfit deck) where
         durations = elim (cases_lt card.normal card.crash) [ inl above ↦ absurd (out _ (has.crash_above above refl)) | inr fine ↦ fine ];
       }
 
-  pub all_fit : All (Fits deck) deck.acts
+  pub all_fit : All (IsSoundAct deck) deck.acts
   all_fit i d within =
       fits_at (get_or deck.acts i d) (λ fault h. none fault (listed (act (Any-at (λ card. HasActFault deck card fault) deck.acts i d within h))))
 
@@ -84,7 +70,7 @@ no_item = record { row = 0; code = []; parent = None; title = [] }
 
 -- the activity leads from the event that its card names first to the one that it names second
 record IsPlaced (deck : Deck) (a : ℕ) (card : ActCard) : Type 0 where
-  fits : Fits deck card
+  fits : IsSoundAct deck card
   from : from_of (network_of deck).arcs a ≡ number_among (event_codes deck) card.from
   to : to_of (network_of deck).arcs a ≡ number_among (event_codes deck) card.to
 

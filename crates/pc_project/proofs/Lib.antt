@@ -14,6 +14,7 @@ mod PieceSteps
 mod BranchLaws
 mod DisorderLaws
 mod FigureLaws
+pub mod MakesLaws
 mod StateLaws
 mod CardPlaces
 pub mod SoundLaws

@@ -11,6 +11,7 @@ use Rattle.pc_model.specs.Pieces.{pieces_of, slope_in, units_of, ArePieces}
 use Rattle.pc_model.specs.Schedule.{term_at}
 use Rattle.pc_crash.specs.Priced.{piece_at}
 use Rattle.pc_crash.proofs.PieceLaws.{pieces_of-here, pieces_of-elsewhere}
+use Rattle.pc_project.specs.Makes.{IsFlawless}
 use Rattle.pc_project.specs.PieceFaults.{pieces_before}
 
 -- where the k-th piece of activity a among the first n stands, and that those before it are the first k
@@ -53,12 +54,6 @@ place_of pieces a (suc n) k within some =
             here = ap (λ ps. piece_at ps k) same ∙ found.here;
           }
     ]
-
--- the i-th piece has no flaw
-pub record IsFlawless (terms : List Term) (pieces : List PieceRow) (i : ℕ) : Type 0 where
-  pub few : length (pieces_before pieces i) < MAX_PIECES_EACH
-  pub rising : slope_in (term_at terms (piece_at pieces i).activity) (pieces_before pieces i) (length (pieces_before pieces i)) < (piece_at pieces i).slope
-  pub leaving : (term_at terms (piece_at pieces i).activity).crash + (units_of (pieces_before pieces i) + (piece_at pieces i).units) < (term_at terms (piece_at pieces i).activity).normal
 
 module _ (terms : List Term) (pieces : List PieceRow) (none : (i : ℕ) → i < length pieces → IsFlawless terms pieces i) (a : ℕ) where
   abbrev own : List PieceRow

@@ -8,8 +8,8 @@ use Rattle.std.proofs.lemmas.List.{get_or-map, length-map}
 use Rattle.std.proofs.lemmas.List.Elements.{All-from_get_or}
 use Rattle.pc_faults.specs.declared.kind.Kind.TheVariants.{Act, Event, Load, Piece, Res, Wbs}
 use Rattle.pc_model.specs.declared.PieceRow.{PieceRow}
-use Rattle.pc_model.specs.declared.limits.TheConstants.{MAX_DURATION, MAX_PIECES_EACH, MAX_SLOPE, MAX_UNIT_DAYS, MAX_VARIANCE}
-use Rattle.pc_model.specs.Pieces.{ArePieces, slope_in, units_of}
+use Rattle.pc_model.specs.declared.limits.TheConstants.{MAX_DURATION, MAX_SLOPE, MAX_UNIT_DAYS, MAX_VARIANCE}
+use Rattle.pc_model.specs.Pieces.{ArePieces}
 use Rattle.pc_model.specs.Schedule.{AreTerms, term_at}
 use Rattle.pc_crash.specs.Priced.{ArePiecesWithinLimits, piece_at}
 use Rattle.pc_crash.specs.Terms.{AreWithinLimits}
@@ -27,13 +27,14 @@ use Rattle.pc_project.specs.Project.{Project, accounts_in, arc_of, charges_in, c
 use Rattle.pc_project.specs.Project.{place_of, project_in, row_of, rows_of, statuses_in, term_of, terms_in, time_terms_of, togos_in, variance_in}
 use Rattle.pc_project.specs.Misfit.{HasNoMisfit}
 use Rattle.pc_project.specs.declared.load.LoadItem.{LoadItem}
-use Rattle.pc_project.specs.PieceFaults.{HasNoPieceFault, pieces_before, one_too_many, not_rising, none_left}
+use Rattle.pc_project.specs.PieceFaults.{HasNoPieceFault}
 use Rattle.pc_project.specs.TermsFaults.{HasTermsFault, bonus_above}
 use Rattle.pc_faults.specs.declared.fault.Fault.{Fault}
-use Rattle.pc_project.specs.Refusal.{MakesProject}
+use Rattle.pc_project.specs.Refusal.{HasNoFault}
 use Rattle.pc_model.specs.TimeCost.{AreTimeTerms}
 use Rattle.pc_project.specs.Planned.{HasFigures, IsLoad, IsPlanned}
 use Rattle.pc_project.proofs.FitLaws.{all_fit, load_known, network_of-in_range, no_act, piece_activity-within, place_of-within}
+use Rattle.pc_project.proofs.MakesLaws.{flawless, makes_project}
 use Rattle.pc_project.proofs.PieceLaws.{ArePieces-flawless}
 
 -- the card of activity a
@@ -124,17 +125,7 @@ pieces_of_deck deck cards none =
     (λ i within.
     let inside : i < length deck.pieces = omega (arith, within, length-map deck.pieces (piece_of deck)) in
     omega (arith, ap (λ (p : PieceRow). p.activity) (piece_there deck i inside), piece_activity-within deck cards i no_piece inside, length-map deck.acts term_of))
-    (λ i within.
-    let inside : i < length deck.pieces = omega (arith, within, length-map deck.pieces (piece_of deck)) in
-    let a = (piece_at (pieces_in deck) i).activity in
-    let before = pieces_before (pieces_in deck) i in
-    record {
-      few = elim (cases_lt (length before) MAX_PIECES_EACH) [ inl fine ↦ fine | inr many ↦ absurd (none _ (i, inside, one_too_many many refl)) ];
-      rising = elim (cases_lt (slope_in (term_at (terms_in deck) a) before (length before)) (piece_at (pieces_in deck) i).slope)
-          [ inl fine ↦ fine | inr low ↦ absurd (none _ (i, inside, not_rising low refl)) ];
-      leaving = elim (cases_lt ((term_at (terms_in deck) a).crash + (units_of before + (piece_at (pieces_in deck) i).units))
-          (term_at (terms_in deck) a).normal) [ inl fine ↦ fine | inr long ↦ absurd (none _ (i, inside, none_left long refl)) ];
-    })
+    (flawless deck none)
 
 -- they are within their limits
 within_pieces : (deck : Deck) → IsWithinLimits deck → ArePiecesWithinLimits (pieces_in deck)
@@ -171,10 +162,10 @@ time_terms_of_deck deck (Some card) none within is =
     }
 
 -- the project of cards that make one
-pub project_in-planned : (deck : Deck) (entries : List Entry) (states : List ActState) → MakesProject deck → IsWithinLimits deck →
+pub project_in-planned : (deck : Deck) (entries : List Entry) (states : List ActState) → HasNoFault deck → IsWithinLimits deck →
     HasFigures (project_in deck entries states) → IsPlanned (project_in deck entries states)
 project_in-planned deck entries states makes limits figures = record {
-  own = record { within = limits; makes = makes; is = record { lists = refl; entries = figures.entries; states = figures.states } };
+  own = record { within = limits; makes = makes_project deck makes; is = record { lists = refl; entries = figures.entries; states = figures.states } };
   in_range = network_of-in_range deck makes.cards;
   sound = makes.sound;
   tree = makes.tree;

@@ -34,8 +34,10 @@ use Rattle.pc_project.specs.ToGoFaults.{IsFirstSecondToGo}
 use Rattle.pc_project.specs.PieceFaults as piece
 use Rattle.pc_project.specs.PieceFaults.{HasPieceFault}
 use Rattle.pc_project.specs.TermsFaults.{HasTermsFault, bonus_above}
-use Rattle.pc_project.specs.Refusal.{IsTreeFault, tree_fault, net_fault, HasSoundFigures, HasSoundPlan, IsEven, MakesProject, IsRefusedWith}
+use Rattle.pc_project.specs.Makes.{MakesProject}
+use Rattle.pc_project.specs.Refusal.{IsTreeFault, tree_fault, net_fault, HasNoFault, HasSoundFigures, HasSoundPlan, IsEven, IsRefusedWith}
 use Rattle.pc_project.specs.Refusal.{of_cards, of_tree, of_network, of_leaves, of_packages, of_statuses, of_togos, of_pieces, of_terms}
+use Rattle.pc_project.proofs.MakesLaws.{no_faults}
 
 -- want of memory is no fault
 no_fault : (fault : ADeckFault) → OutOfMemory ≡ Fault fault → ⊥
@@ -50,18 +52,22 @@ no_tree items rows fault sound at =
 net_has_fault : (deck : Deck) (e : NetError) (fault : ADeckFault) → net_fault deck e ≡ Fault fault → e ≢ net.OutOfMemory
 net_has_fault deck e fault is same = no_fault fault (sym (ap (net_fault deck) same) ∙ is)
 
--- cards that make a project are not refused
-pub makes_not_refused : (deck : Deck) (fault : ADeckFault) → MakesProject deck → IsRefusedWith deck fault → ⊥
-makes_not_refused deck fault makes (of_cards first) = makes.cards fault first.holds
-makes_not_refused deck fault makes (of_tree cards at) = no_tree deck.items (rows_of deck) fault makes.tree at
-makes_not_refused deck fault makes (of_network cards items e refused is) =
+-- cards in which no phase finds a fault are not refused
+faultless_not_refused : (deck : Deck) (fault : ADeckFault) → HasNoFault deck → IsRefusedWith deck fault → ⊥
+faultless_not_refused deck fault makes (of_cards first) = makes.cards fault first.holds
+faultless_not_refused deck fault makes (of_tree cards at) = no_tree deck.items (rows_of deck) fault makes.tree at
+faultless_not_refused deck fault makes (of_network cards items e refused is) =
     refused_is_not_sound (network_of deck) e refused (net_has_fault deck e fault is) makes.sound
-makes_not_refused deck fault makes (of_leaves plan first) = makes.figures.leaves fault first.holds
-makes_not_refused deck fault makes (of_packages plan leaves (item, (first, is))) = makes.figures.even item first.holds
-makes_not_refused deck fault makes (of_statuses plan leaves even first) = makes.figures.ordered fault first.holds
-makes_not_refused deck fault makes (of_togos plan leaves even ordered (k, (first, is))) = makes.figures.once k first.holds
-makes_not_refused deck fault makes (of_pieces plan figures first) = makes.pieces fault first.holds
-makes_not_refused deck fault makes (of_terms plan figures pieces first) = makes.terms fault first.holds
+faultless_not_refused deck fault makes (of_leaves plan first) = makes.figures.leaves fault first.holds
+faultless_not_refused deck fault makes (of_packages plan leaves (item, (first, is))) = makes.figures.even item first.holds
+faultless_not_refused deck fault makes (of_statuses plan leaves even first) = makes.figures.ordered fault first.holds
+faultless_not_refused deck fault makes (of_togos plan leaves even ordered (k, (first, is))) = makes.figures.once k first.holds
+faultless_not_refused deck fault makes (of_pieces plan figures first) = makes.pieces fault first.holds
+faultless_not_refused deck fault makes (of_terms plan figures pieces first) = makes.terms fault first.holds
+
+-- nor are cards that make a project
+pub makes_not_refused : (deck : Deck) (fault : ADeckFault) → MakesProject deck → IsRefusedWith deck fault → ⊥
+makes_not_refused deck fault makes refused = faultless_not_refused deck fault (no_faults deck makes) refused
 
 -- a fault that is this one can be told where this one can
 pub told : (fault known : ADeckFault) → fault ≡ known → IsTold known → IsTold fault

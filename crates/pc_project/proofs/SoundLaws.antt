@@ -10,10 +10,12 @@ use Rattle.pc_model.specs.Schedule.{AreTerms, term_at}
 use Rattle.pc_wbs.specs.Climb.{AreInRange, IsLeaf, IsTree}
 use Rattle.pc_project.specs.Figures.{IsProjectOfDeck}
 use Rattle.pc_project.specs.Project.{Project, account_of, arc_of, row_of, rows_of, term_of}
-use Rattle.pc_project.specs.Refusal.{MakesProject}
+use Rattle.pc_project.specs.Makes.{MakesProject}
+use Rattle.pc_project.specs.Refusal.{HasNoFault}
 use Rattle.pc_project.proofs.BranchLaws.{account_on_leaf}
 use Rattle.pc_project.proofs.FigureLaws.{account_there, no_account}
 use Rattle.pc_project.proofs.FitLaws.{account_item-within, all_fit, network_of-in_range, no_act, rows_of-in_range}
+use Rattle.pc_project.proofs.MakesLaws.{no_faults}
 use Rattle.pc_project.proofs.PlannedLaws.{pieces_of_deck}
 
 -- the network is sound and the items are a tree; each activity has its code, its term and the pieces of its cost, and each account
@@ -29,8 +31,8 @@ pub record HasSoundParts (project : Project) : Type 0 where
   pub known : (a : ℕ) → a < length project.accounts → item_of project.accounts a < length project.tree
   pub leaves : (a : ℕ) → a < length project.accounts → IsLeaf project.tree (item_of project.accounts a)
 
-pub sound_parts : (deck : Deck) (project : Project) → MakesProject deck → IsProjectOfDeck deck project → HasSoundParts project
-sound_parts deck project makes is =
+parts_of : (deck : Deck) (project : Project) → HasNoFault deck → IsProjectOfDeck deck project → HasSoundParts project
+parts_of deck project makes is =
     subst HasSoundParts (sym is.lists) (record {
       in_range = network_of-in_range deck makes.cards;
       sound = makes.sound;
@@ -54,3 +56,6 @@ sound_parts deck project makes is =
           let inside : a < length deck.accounts = omega (arith, below, length-map deck.accounts (account_of deck)) in
           subst (IsLeaf (rows_of deck)) (sym (ap (λ (r : AcctRow). r.item) (account_there deck a inside))) (account_on_leaf deck makes.figures.leaves a no_account inside);
     })
+
+pub sound_parts : (deck : Deck) (project : Project) → MakesProject deck → IsProjectOfDeck deck project → HasSoundParts project
+sound_parts deck project makes is = parts_of deck project (no_faults deck makes) is

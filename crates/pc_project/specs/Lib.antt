@@ -8,6 +8,7 @@ pub mod ToGoFaults
 pub mod PieceFaults
 pub mod TermsFaults
 pub mod Refusal
+pub mod Makes
 pub mod Planned
 pub mod deck_text
 pub mod inside

@@ -14,9 +14,9 @@ use Rattle.pc_faults.specs.Faults as told
 use Rattle.pc_faults.specs.declared.fault.Fault.{Fault}
 
 -- the estimates are in order
-pub record IsInOrder (act : ActCard) : Type 0 where
-  pub optimistic : act.opt ≤ act.likely
-  pub pessimistic : act.likely ≤ act.pess
+pub record IsInOrder (card : ActCard) : Type 0 where
+  pub optimistic : card.opt ≤ card.likely
+  pub pessimistic : card.likely ≤ card.pess
 
 -- the faults of the PROJECT card
 pub data HasProjectFault (deck : Deck) (card : ProjectCard) (fault : Fault) : Type 0 where

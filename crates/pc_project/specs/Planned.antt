@@ -18,7 +18,7 @@ use Rattle.pc_times.specs.Times.{AreLengths}
 use Rattle.pc_model.specs.declared.limits.TheConstants.{MAX_COST, MAX_DIRECTED, MAX_EVENTS, MAX_ITEMS, MAX_LOADS, MAX_RESOURCES, MAX_STATUSES, MAX_UNIT_DAYS, MAX_VARIANCE}
 use Rattle.pc_deck.specs.Within.{IsWithinLimits}
 use Rattle.pc_project.specs.Figures.{AreAccounts, AreFigures, AreStatesOf, IsProjectOfDeck, work_rows}
-use Rattle.pc_project.specs.Refusal.{MakesProject}
+use Rattle.pc_project.specs.Makes.{MakesProject}
 use Rattle.pc_project.specs.Project.{Project}
 use Rattle.pc_project.specs.declared.load.LoadItem.{LoadItem}
 

@@ -76,10 +76,9 @@ pub record HasSoundFigures (deck : Deck) : Type 0 where
   pub ordered : HasNoDisorder deck
   pub once : HasNoSecondToGo deck
 
--- the cards make a project: no card has a fault, the items are a tree, the network is sound, activities and accounts stand
--- on leaves, packages are even, statuses and as-of are in order, no amount to go is a second one, the pieces of each
--- activity rise and leave units to its first slope, and the bonus is not above the penalty
-pub record MakesProject (deck : Deck) : Type 0 where
+-- no phase finds a fault: no card has one, the items are a tree, the network is sound, activities and accounts stand on leaves, packages
+-- are even, statuses and as-of are in order, no amount to go is a second one, no piece has a fault, and the terms of time have none
+pub record HasNoFault (deck : Deck) : Type 0 where
   pub cards : HasNoMisfit deck
   pub tree : IsTree (rows_of deck)
   pub sound : IsSound (network_of deck)

@@ -10,6 +10,7 @@ mod estimates;
 mod figures;
 mod heading;
 mod kept;
+pub mod laws;
 mod leaves;
 mod lists;
 mod load;

@@ -13,7 +13,8 @@ ghost use Rattle.pc_project.specs.Planned.{IsPlanned};
 ghost use Rattle.pc_project.specs.PieceFaults.{HasNoPieceFault};
 ghost use Rattle.pc_project.specs.Project.{accounts_in, charges_in, expected_of, network_of, place_of, rows_of, statuses_in};
 ghost use Rattle.pc_project.specs.Project.{term_of, togos_in, variance_in};
-ghost use Rattle.pc_project.specs.Refusal.{HasSoundFigures, HasSoundPlan, IsRefusedWith, MakesProject};
+ghost use Rattle.pc_project.specs.Makes.{MakesProject};
+ghost use Rattle.pc_project.specs.Refusal.{HasNoFault, HasSoundFigures, HasSoundPlan, IsRefusedWith};
 ghost use Rattle.pc_project.specs.TermsFaults.{HasTermsFault};
 
 use crate::lists::Lists;
@@ -84,7 +85,7 @@ fn plan_of(alloc: Global, cards: &Cards) -> Result<Plan, DeckError>
 /// after another, each of which may take it that those before it found no fault, and answers its own first one.
 fn frame_of(alloc: Global, cards: &Cards, numbers: &Numbers) -> Result<Frame, DeckError>
     requires { AreNumbersOf cards.now numbers.now }
-    ensures makes { OnOk result (MakesProject cards.now) }
+    ensures makes { OnOk result (HasNoFault cards.now) }
     ensures tree { IfOk result (λ frame. frame.tree ≡ rows_of cards.now) }
     ensures network { IfOk result (λ frame. frame.net ≡ network_of cards.now) }
     ensures entries { IfOk result (λ frame. AreEntriesOf (accounts_in cards.now) (charges_in cards.now)
@@ -133,7 +134,7 @@ fn lists_of(alloc: Global, cards: &Cards, numbers: &Numbers) -> Result<Lists, De
     requires plan { HasSoundPlan cards.now }
     requires figures { HasSoundFigures cards.now }
     requires numbers { AreNumbersOf cards.now numbers.now }
-    ensures makes { OnOk result (MakesProject cards.now) }
+    ensures makes { OnOk result (HasNoFault cards.now) }
     ensures events { IfOk result (λ lists. lists.events.items ≡ event_codes cards.now) }
     ensures activities { IfOk result (λ lists. lists.activities.items ≡ act_codes cards.now) }
     ensures places { IfOk result (λ lists. lists.places.items ≡ map (place_of cards.now) cards.now.acts) }

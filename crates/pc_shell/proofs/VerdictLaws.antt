@@ -41,5 +41,5 @@ not_both bytes deck fault accepted (project_refusal other short cards refused) =
 -- an accepted deck has one project
 pub one_project : (bytes : List ℕ) (project other : Project) → IsProjectOf bytes project → IsProjectOf bytes other → project ≡ other
 one_project bytes project other is also =
-    one_project_of is.deck is.accepted.makes.figures.once project other is.is
+    one_project_of is.deck is.accepted.makes.once project other is.is
     (subst (λ d. IsProjectOfDeck d other) (one_deck bytes also.deck is.deck also.accepted.cards is.accepted.cards) also.is)

@@ -8,7 +8,8 @@ use Rattle.pc_deck.specs.Refusal.{IsCardRefusal}
 use Rattle.pc_faults.specs.Faults.{too_long as fault_too_long}
 use Rattle.pc_project.specs.Figures.{IsProjectOfDeck}
 use Rattle.pc_project.specs.Project.{Project}
-use Rattle.pc_project.specs.Refusal.{MakesProject, IsRefusedWith}
+use Rattle.pc_project.specs.Makes.{MakesProject}
+use Rattle.pc_project.specs.Refusal.{IsRefusedWith}
 
 -- the bytes are the deck of these cards: each kind has what its cards spell, and they have no fault; and they make a project
 pub record IsAccepted (bytes : List ℕ) (deck : Deck) : Type 0 where

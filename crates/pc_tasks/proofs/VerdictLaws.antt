@@ -26,7 +26,7 @@ arrows_not_refused deck fault makes (of_plan sound refused) = makes_not_refused 
 
 -- and they make one project
 pub one_drawn_project : (deck : Deck) (project other : Project) → IsDrawnProject deck project → IsDrawnProject deck other → project ≡ other
-one_drawn_project deck project other is also = one_project_of (drawn deck) is.makes.plan.figures.once project other is.is also.is
+one_drawn_project deck project other is also = one_project_of (drawn deck) is.makes.plan.once project other is.is also.is
 
 told_of-task : (deck : Deck) (card : TaskCard) (fault : ADeckFault) → HasTaskFault deck card fault → IsTold fault
 told_of-task deck card fault (has.unknown_item none is) = told fault _ is refl

@@ -11,7 +11,8 @@ use Rattle.pc_faults.specs.First.{IsFirst}
 use Rattle.pc_faults.specs.declared.fault.Fault.{Fault as ADeckFault}
 use Rattle.pc_project.specs.Project.{rows_of}
 use Rattle.pc_project.specs.Records.{codes_at, item_records}
-use Rattle.pc_project.specs.Refusal.{IsRefusedWith, IsTreeFault, MakesProject}
+use Rattle.pc_project.specs.Makes.{MakesProject}
+use Rattle.pc_project.specs.Refusal.{IsRefusedWith, IsTreeFault}
 use Rattle.pc_tasks.specs.Drawn.{drawn}
 use Rattle.pc_tasks.specs.Lists.{afters_in}
 use Rattle.pc_tasks.specs.Misfit.{HasMisfit, HasNoMisfit}

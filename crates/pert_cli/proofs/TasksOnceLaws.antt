@@ -1,7 +1,6 @@
 -- A deck of tasks that was read is refused with one fault.
 use Rattle.std.proofs.Common.{◌≡◌, ℕ, ◌+◌, ◌<◌, ◌≤◌, Bool, true, false, List, [], ◌∷◌, ◌++◌, length, map, Option, Some, None, All, Result, Ok, Err, if◌then◌else◌, ◌⊎◌, inl, inr, refl, sym, ap, ◌∙◌, subst, arith}
 use Rattle.std.specs.Prelude.{slice_index}
-use Rattle.std.specs.Str.{is_utf8}
 use Rattle.std.proofs.lemmas.List.Elements.{All-append, All-cons, All-head, All-nil, All-tail, All-weaker}
 use Rattle.pc_records.specs.Deck.{deck_records}
 use Rattle.pc_cards.specs.Cards.{Numbered, deck_cards}
@@ -9,7 +8,6 @@ use Rattle.pc_cards.specs.declared.sort.Sort.{Sort}
 use Rattle.pc_deck.specs.Deck.{Deck}
 use Rattle.pc_deck.specs.Kinds.{CardOf, card_of}
 use Rattle.pc_deck.specs.Read.{IsReadAs}
-use Rattle.pc_deck.specs.Refusal.{HasFaultWhere}
 use Rattle.pc_deck.specs.Says.{Says}
 use Rattle.pc_deck.specs.Within.{IsWithin}
 use Rattle.pc_deck.specs.declared.draft.Draft.{Draft}
@@ -20,6 +18,7 @@ use Rattle.pc_deck.specs.inside.Judged.{judge}
 use Rattle.pc_deck.specs.inside.Reading.{and_then, cards_of, closed_with, deck_with, no_cards, read_from, seen_in, with_card}
 use Rattle.pc_deck.specs.inside.Within.{IsDraftWithin}
 use Rattle.pc_deck.proofs.DeckLaws.{said_once}
+use Rattle.pc_deck.proofs.NoFaultLaws.{no_fault}
 use Rattle.pc_deck.proofs.ReadLemmas.{IsTextCard, deck_cards-text}
 use Rattle.pc_deck.proofs.RefusalLemmas.{first_of-read}
 use Rattle.pc_deck.proofs.SaysLemmas.{says_of-read}
@@ -78,15 +77,11 @@ within_from (card ∷ cards) draft end deck text within h =
     by_judgement (Err found) is go h = absurd (let h' = h in cc)
 
 module _ (sort : Sort) (bytes : List ℕ) (deck : Deck) (read : IsReadAs sort bytes deck) where
-  is_text : (utf8 : Bool) → is_utf8 bytes ≡ utf8 → is_utf8 bytes ≡ true
-  is_text true is = is
-  is_text false is = absurd (read.faultless fault.not_utf8 (subst (λ (b : Bool). HasFaultWhere sort b bytes fault.not_utf8) (sym is) refl))
-
   by_result : (result : Result Deck Fault) → cards_of sort bytes ≡ result → IsWithin sort deck
-  by_result (Err found) is = absurd (read.faultless found (first_of-read sort bytes found (is_text (is_utf8 bytes) refl) is).holds)
+  by_result (Err found) is = absurd (no_fault sort bytes read.faultless found (first_of-read sort bytes found read.faultless.0 is).holds)
   by_result (Ok other) is =
       subst (IsWithin sort) (said_once (deck_cards bytes) other deck (says_of-read sort bytes other is) read.says)
-      (within_from (deck_cards bytes) (no_cards sort) (length (deck_records bytes) + 1) other (deck_cards-text bytes (is_text (is_utf8 bytes) refl)) (no_cards_within sort) is)
+      (within_from (deck_cards bytes) (no_cards sort) (length (deck_records bytes) + 1) other (deck_cards-text bytes read.faultless.0) (no_cards_within sort) is)
 
   pub within_read : IsWithin sort deck
   within_read = by_result (cards_of sort bytes) refl

@@ -6,7 +6,7 @@ use Rattle.pc_deck.specs.Read.{IsDeckOf}
 use Rattle.pc_deck.specs.Text.{deck_text, renumbered, settled}
 use Rattle.pc_project.specs.Figures.{IsProjectOfDeck}
 use Rattle.pc_project.specs.Project.{Project}
-use Rattle.pc_project.specs.Refusal.{MakesProject}
+use Rattle.pc_project.specs.Makes.{MakesProject}
 use Rattle.pc_project.specs.deck_text.Same.{SayTheSame}
 
 -- the deck that the text of a deck is: of version 2, with an ASOF card and with a TERMS card where it says something, each card in

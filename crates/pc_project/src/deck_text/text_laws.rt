@@ -6,7 +6,7 @@ ghost use Rattle.pc_deck.specs.Deck.{Deck};
 ghost use Rattle.pc_deck.specs.Within.{IsWithinLimits};
 ghost use Rattle.pc_project.specs.deck_text.Same.{SayTheSame};
 ghost use Rattle.pc_project.specs.deck_text.Written.{IsKeptByText};
-ghost use Rattle.pc_project.specs.Refusal.{MakesProject};
+ghost use Rattle.pc_project.specs.Makes.{MakesProject};
 
 /// The text of a deck that makes a project is accepted, where its lists are within the limits: its cards are read, they say what those of
 /// the deck say, and they make the same project. And decks that say the same make a project alike, whatever the numbers of their records.

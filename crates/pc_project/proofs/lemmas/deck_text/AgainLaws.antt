@@ -29,12 +29,14 @@ use Rattle.pc_project.specs.Misfit as has
 use Rattle.pc_project.specs.PackageFaults.{HasLeafFault, StandsOnBranch, of_account, of_act}
 use Rattle.pc_project.specs.PieceFaults.{HasFlaw, HasFlawAt, HasPieceFault, none_left, not_rising, one_too_many}
 use Rattle.pc_project.specs.Project.{accounts_in, as_of_day, pieces_in, rows_of, statuses_in, terms_in, time_terms_of, work_in}
-use Rattle.pc_project.specs.Refusal.{HasNoSecondToGo, HasSoundFigures, IsEven, MakesProject}
+use Rattle.pc_project.specs.Makes.{MakesProject}
+use Rattle.pc_project.specs.Refusal.{HasNoFault, HasNoSecondToGo, HasSoundFigures, IsEven}
 use Rattle.pc_project.specs.TermsFaults.{HasTermsFault, bonus_above}
 use Rattle.pc_model.specs.declared.TimeTerms.{TimeTerms}
 use Rattle.pc_project.specs.deck_text.Same.{SayTheSame, account_said, act_said, item_said, load_said, money_said, piece_said, status_said}
 use Rattle.pc_project.proofs.lemmas.deck_text.SameLaws.{length_said, same_accounts, same_accounts_in, same_acts, same_events, same_item_number, same_items, same_network}
 use Rattle.pc_project.proofs.lemmas.deck_text.SameLaws.{same_pieces, same_resources, same_rows, same_start_day, same_statuses, same_terms, same_togos, same_work}
+use Rattle.pc_project.proofs.MakesLaws.{makes_project, no_faults}
 
 -- what holds of some element of one list holds of the element at that place of the other, where a function makes them one
 Any-said : {X : Type 0} (said : X → X) (P Q : X → Type 0) (xs ys : List X) → map said xs ≡ map said ys → ((x y : X) → said x ≡ said y → P x → Q y) → Any P xs → Any Q ys
@@ -251,9 +253,8 @@ module _ (a b : Deck) (same : SayTheSame a b) where
     once = once_back sound.once;
   }
 
-  -- where the second deck makes a project the first one does
-  pub makes_again : MakesProject b → MakesProject a
-  makes_again makes = record {
+  faultless_again : HasNoFault b → HasNoFault a
+  faultless_again makes = record {
     cards = none_of misfit makes.cards;
     tree = subst IsTree (sym (same_rows a b same)) makes.tree;
     sound = subst IsSound (sym (same_network a b same)) makes.sound;
@@ -261,3 +262,7 @@ module _ (a b : Deck) (same : SayTheSame a b) where
     pieces = none_of piece_there makes.pieces;
     terms = none_of terms_there makes.terms;
   }
+
+  -- where the second deck makes a project the first one does
+  pub makes_again : MakesProject b → MakesProject a
+  makes_again makes = makes_project a (faultless_again (no_faults b makes))

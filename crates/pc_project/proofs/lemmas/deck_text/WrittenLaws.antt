@@ -11,7 +11,7 @@ use Rattle.pc_deck.proofs.TextLaws.{deck_text-read}
 use Rattle.pc_project.specs.Figures.{IsProjectOfDeck}
 use Rattle.pc_project.specs.Planned.{IsOfItsDeck}
 use Rattle.pc_project.specs.Project.{Project}
-use Rattle.pc_project.specs.Refusal.{MakesProject}
+use Rattle.pc_project.specs.Makes.{MakesProject}
 use Rattle.pc_project.specs.deck_text.Same.{SayTheSame}
 use Rattle.pc_project.specs.deck_text.Written.{IsDeckText, IsKeptByText, migrated, written}
 use Rattle.pc_project.proofs.lemmas.deck_text.AgainLaws.{makes_again}

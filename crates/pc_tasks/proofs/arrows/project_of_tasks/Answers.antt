@@ -1,6 +1,6 @@
 use Rattle.std.proofs.Common.{subst}
 use Rattle.pc_project.specs.Figures.{IsProjectOfDeck}
-use Rattle.pc_project.specs.Refusal.{MakesProject}
+use Rattle.pc_project.specs.Makes.{MakesProject}
 use Rattle.pc_tasks.proofs.KeepLemmas.{keeps_tasks}
 use Rattle.pc_tasks.proofs.KnownLemmas.{can_be_drawn}
 use Rattle.pc_tasks.proofs.PhaseLemmas.{refused_by_plan}

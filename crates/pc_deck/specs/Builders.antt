@@ -1,0 +1,42 @@
+-- How the entry of a kind of cards is made, from what varies among the kinds.
+use Rattle.std.specs.Prelude.{ℕ, List, Option, false, true}
+use Rattle.pc_cards.specs.Entry.{Entry, Limit, in_both, no_code, unlimited}
+use Rattle.pc_cards.specs.Forms.{Slot}
+use Rattle.pc_cards.specs.declared.sort.Sort.{Sort}
+use Rattle.pc_deck.specs.declared.kinds.CardLists.{CardLists}
+
+-- a kind of which a deck may have one card: the card that a record spells, what its fields must be, how many fields it must have and
+-- how many it may have, and where the lists have the card
+abbrev pub single_kind : {C : Type 0} → (ℕ → List (List ℕ) → C) → (Sort → List Slot) → ℕ → ℕ → (CardLists → Option C) → Entry CardLists
+single_kind {C} spelled slots least most held = record {
+  Card = C;
+  spelled = spelled;
+  slots = slots;
+  least = least;
+  most = most;
+  once = true;
+  held = held;
+  limit = in_both unlimited;
+  is_coded = false;
+  code = no_code;
+}
+
+-- a kind of which a deck has a list: the card that a record spells, what its fields must be, how many it has, where the lists have
+-- the cards, and how many there may be
+abbrev pub listed_kind : {C : Type 0} → (ℕ → List (List ℕ) → C) → (Sort → List Slot) → ℕ → (CardLists → List C) → (Sort → Limit) → Entry CardLists
+listed_kind {C} spelled slots width held limit = record {
+  Card = C;
+  spelled = spelled;
+  slots = slots;
+  least = width;
+  most = width;
+  once = false;
+  held = held;
+  limit = limit;
+  is_coded = false;
+  code = no_code;
+}
+
+-- the same of cards with codes of their own; the code stands behind the card that a record spells
+abbrev pub named_kind : {C : Type 0} → (ℕ → List (List ℕ) → C) → (C → List ℕ) → (Sort → List Slot) → ℕ → (CardLists → List C) → (Sort → Limit) → Entry CardLists
+named_kind spelled code slots width held limit = record (listed_kind spelled slots width held limit) { is_coded = true; code = code }

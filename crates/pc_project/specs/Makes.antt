@@ -1,0 +1,73 @@
+-- When the cards of a deck make a project, whatever a fault is called. The law `projects_have_no_fault` says that this is so exactly
+-- if the deck has none of the faults F13 to F31, F33 to F36 and F41.
+use Rattle.std.specs.Prelude.{◌≡◌, ◌≢◌, ℕ, ◌+◌, ◌<◌, ◌≤◌, ◌≤ℤ◌, List, length, All, IsSome, Some}
+use Rattle.pc_model.specs.declared.PieceRow.{PieceRow}
+use Rattle.pc_model.specs.declared.Term.{Term}
+use Rattle.pc_model.specs.declared.limits.TheConstants.{MAX_PIECES_EACH}
+use Rattle.pc_model.specs.Network.{IsSound}
+use Rattle.pc_model.specs.Pieces.{slope_in, units_of}
+use Rattle.pc_model.specs.Schedule.{term_at}
+use Rattle.pc_crash.specs.Priced.{piece_at}
+use Rattle.pc_wbs.specs.Climb.{IsLeaf, IsTree}
+use Rattle.pc_accounts.specs.status.Statuses.{AreInOrder}
+use Rattle.pc_deck.specs.Deck.{Deck, account_codes, act_codes, event_codes, item_codes, named_among, number_among, resource_codes}
+use Rattle.pc_deck.specs.declared.kinds.act.ActCard.{ActCard}
+use Rattle.pc_deck.specs.declared.kinds.terms.TermsCard.{TermsCard}
+use Rattle.pc_project.specs.DisorderFaults.{as_of_in}
+use Rattle.pc_project.specs.Misfit.{IsInOrder}
+use Rattle.pc_project.specs.PieceFaults.{pieces_before}
+use Rattle.pc_project.specs.Project.{network_of, pieces_in, rows_of, statuses_in, terms_in}
+use Rattle.pc_project.specs.Refusal.{HasNoSecondToGo, IsEven}
+
+-- the start and the end are two events
+pub record HasEnds (deck : Deck) : Type 0 where
+  pub starts : IsSome (named_among (event_codes deck) deck.project.start)
+  pub ends : IsSome (named_among (event_codes deck) deck.project.end)
+  pub apart : deck.project.start ≢ deck.project.end
+
+-- the activity leads from one event to another and stands at an item, with its numbers in order
+pub record IsSoundAct (deck : Deck) (card : ActCard) : Type 0 where
+  pub begins : IsSome (named_among (event_codes deck) card.from)
+  pub ends : IsSome (named_among (event_codes deck) card.to)
+  pub placed : IsSome (named_among (item_codes deck) card.item)
+  pub apart : card.from ≢ card.to
+  pub ordered : IsInOrder card
+  pub durations : card.crash ≤ card.normal
+
+-- what each card names is there, and the numbers of activities are in order
+pub record AreSoundCards (deck : Deck) : Type 0 where
+  pub ends : HasEnds deck
+  pub items : All (λ item. (code : List ℕ) → item.parent ≡ Some code → IsSome (named_among (item_codes deck) code)) deck.items
+  pub acts : All (IsSoundAct deck) deck.acts
+  pub pieces : All (λ piece. IsSome (named_among (act_codes deck) piece.activity)) deck.pieces
+  pub loads : All (λ load. IsSome (named_among (act_codes deck) load.activity)) deck.loads
+  pub resources : All (λ load. IsSome (named_among (resource_codes deck) load.resource)) deck.loads
+  pub accounts : All (λ account. IsSome (named_among (item_codes deck) account.item)) deck.accounts
+  pub charges : All (λ charge. IsSome (named_among (account_codes deck) charge.account)) deck.charges
+  pub togos : All (λ togo. IsSome (named_among (account_codes deck) togo.account)) deck.togos
+  pub statuses : All (λ status. IsSome (named_among (act_codes deck) status.activity)) deck.statuses
+
+-- the i-th piece is not one too many of its activity, its slope is above the one before, and with it the pieces leave units to the
+-- activity's first slope
+pub record IsFlawless (terms : List Term) (pieces : List PieceRow) (i : ℕ) : Type 0 where
+  pub few : length (pieces_before pieces i) < MAX_PIECES_EACH
+  pub rising : slope_in (term_at terms (piece_at pieces i).activity) (pieces_before pieces i) (length (pieces_before pieces i))
+      < (piece_at pieces i).slope
+  pub leaving : (term_at terms (piece_at pieces i).activity).crash + (units_of (pieces_before pieces i) + (piece_at pieces i).units)
+      < (term_at terms (piece_at pieces i).activity).normal
+
+-- the cards make a project: each is sound, the items are a tree, the network is sound, activities and accounts stand on leaves,
+-- packages are even, statuses and as-of are in order, no amount to go is a second one, the pieces of each activity rise and leave
+-- units to its first slope, and the bonus is not above the penalty
+pub record MakesProject (deck : Deck) : Type 0 where
+  pub cards : AreSoundCards deck
+  pub tree : IsTree (rows_of deck)
+  pub sound : IsSound (network_of deck)
+  pub leaves : All (λ act. IsLeaf (rows_of deck) (number_among (item_codes deck) act.item)) deck.acts
+  pub accounts : All (λ account. IsLeaf (rows_of deck) (number_among (item_codes deck) account.item)) deck.accounts
+  pub even : IsEven deck
+  pub as_of : deck.project.start_day ≤ℤ as_of_in deck
+  pub ordered : AreInOrder deck.project.start_day (as_of_in deck) (statuses_in deck)
+  pub once : HasNoSecondToGo deck
+  pub pieces : (i : ℕ) → i < length (pieces_in deck) → IsFlawless (terms_in deck) (pieces_in deck) i
+  pub terms : (card : TermsCard) → deck.terms ≡ Some card → card.bonus ≤ card.penalty
