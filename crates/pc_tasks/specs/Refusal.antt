@@ -4,7 +4,7 @@
 -- (F28 to F31, F33 to F36), and they are those of the plan that is drawn, in which each card stands at its own record.
 use Rattle.std.specs.Prelude.{◌≡◌, ℕ, ◌<◌, List, [], length, map, slice_index}
 use Rattle.pc_wbs.specs.Climb.{IsTree}
-use Rattle.pc_tasks.specs.network.Cycles.{IsFirstTaskCycle, IsTaskCycle}
+use Rattle.pc_tasks.specs.network.Cycles.{HasNoTaskCycle, IsFirstTaskCycle}
 use Rattle.pc_deck.specs.Deck.{Deck, task_codes}
 use Rattle.pc_faults.specs.Faults.{childless_top, no_task, task_cycle}
 use Rattle.pc_faults.specs.First.{IsFirst}
@@ -44,7 +44,7 @@ pub record HasSoundItems (deck : Deck) : Type 0 where
 pub record HasSoundTasks (deck : Deck) : Type 0 where
   pub items : HasSoundItems deck
   pub some : 0 < length deck.tasks
-  pub no_cycle : (tasks : List ℕ) → IsTaskCycle (afters_in deck) tasks → ⊥
+  pub no_cycle : HasNoTaskCycle (afters_in deck)
 
 -- the deck of tasks has no fault: its tasks have none, and the plan that is drawn of them makes a project
 pub record MakesArrows (deck : Deck) : Type 0 where

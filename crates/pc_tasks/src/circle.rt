@@ -1,8 +1,8 @@
 //! Whether tasks wait for each other in a circle.
-ghost use Rattle.std.specs.Prelude.{◌≡◌, ◌++◌, ◌<◌, ◌≤◌, ℕ, List, length, map, IfOk, MatchOption, OnOk};
+ghost use Rattle.std.specs.Prelude.{◌≡◌, ◌++◌, ◌<◌, ◌≤◌, length, map, IfOk, MatchOption, OnOk};
 ghost use Rattle.std.specs.List.{range_with_len};
 ghost use Rattle.pc_tasks.specs.network.Arrows.{after_arc, first_arc, last_arc, task_arc, tasks_of, wide_arrows};
-ghost use Rattle.pc_tasks.specs.network.Cycles.{IsFirstTaskCycle, IsTaskCycle};
+ghost use Rattle.pc_tasks.specs.network.Cycles.{HasNoTaskCycle, IsFirstTaskCycle};
 ghost use Rattle.pc_tasks.specs.network.Tasks.{AreAmong};
 ghost use Rattle.pc_deck.specs.declared.limits.TheConstants.{MAX_AFTERS, MAX_TASKS};
 
@@ -25,7 +25,7 @@ pub(crate) fn first_circle(
     requires few_afters { length afters.now ≤ MAX_AFTERS }
     requires among { AreAmong tasks afters.now }
     ensures { IfOk result (λ found. MatchOption found
-        ((cycle : List ℕ) → IsTaskCycle afters.now cycle → ⊥)
+        (HasNoTaskCycle afters.now)
         (λ cycle. IsFirstTaskCycle afters.now cycle.items)) }
 {
     let arcs = wide_arcs(alloc, tasks, afters)?;
@@ -45,7 +45,7 @@ fn circle_in(
     requires among { AreAmong tasks afters.now }
     requires wide { arcs.now ≡ (wide_arrows tasks afters.now).arcs }
     ensures { IfOk result (λ found. MatchOption found
-        ((cycle : List ℕ) → IsTaskCycle afters.now cycle → ⊥)
+        (HasNoTaskCycle afters.now)
         (λ cycle. IsFirstTaskCycle afters.now cycle.items)) }
 {
     wide_arrows_have_the_cycles();

@@ -4,10 +4,10 @@
 
 ghost use Rattle.std.specs.Prelude.{◌≡◌, ◌↔◌, ℕ, length};
 ghost use Rattle.pc_model.specs.Cost.{IsLeastCost};
-ghost use Rattle.pc_model.specs.Network.{IsSound};
 ghost use Rattle.pc_model.specs.Pieces.{knees_of};
 ghost use Rattle.pc_model.specs.Schedule.{HasSchedule};
 ghost use Rattle.pc_tasks.specs.network.Arrows.{arrow_terms, arrows};
+ghost use Rattle.pc_tasks.specs.network.Cycles.{HasNoTaskCycle};
 ghost use Rattle.pc_tasks.specs.network.Tasks.{HasTaskSchedule, IsLeastTaskCost};
 ghost use Rattle.pc_project.specs.Figures.{IsProjectOfDeck};
 ghost use Rattle.pc_project.specs.Project.{Project, network_of, pieces_in, terms_in};
@@ -50,12 +50,12 @@ pub fn drawn_deck_is_sound()
 }
 
 /// For every length there is a schedule of the tasks exactly where there is one of the deck that is drawn, and the least cost of the one is that of
-/// the other.
+/// the other, if no tasks wait for each other in a circle.
 pub fn drawn_deck_keeps_least_costs()
-    ensures schedules { (deck : Deck) (limit : ℕ) → CanBeDrawn deck → IsSound (network_of (drawn deck)) →
+    ensures schedules { (deck : Deck) (limit : ℕ) → CanBeDrawn deck → HasNoTaskCycle (afters_in deck) →
         (HasTaskSchedule (task_terms deck) (afters_in deck) limit
         ↔ HasSchedule (network_of (drawn deck)) (terms_in (drawn deck)) limit) }
-    ensures costs { (deck : Deck) (limit cost : ℕ) → CanBeDrawn deck → IsSound (network_of (drawn deck)) →
+    ensures costs { (deck : Deck) (limit cost : ℕ) → CanBeDrawn deck → HasNoTaskCycle (afters_in deck) →
         (IsLeastTaskCost (task_terms deck) (knees_of (task_terms deck) (task_pieces deck)) (afters_in deck) limit cost
         ↔ IsLeastCost (network_of (drawn deck)) (terms_in (drawn deck))
         (knees_of (terms_in (drawn deck)) (pieces_in (drawn deck))) limit cost) }

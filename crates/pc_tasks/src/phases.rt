@@ -1,6 +1,6 @@
 //! The phases in which a deck of tasks is judged.
-ghost use Rattle.std.specs.Prelude.{◌≡◌, ◌<◌, ℕ, List, All, length, slice_index, IfOk, IfErr, MatchOption, OnOk};
-ghost use Rattle.pc_tasks.specs.network.Cycles.{IsTaskCycle};
+ghost use Rattle.std.specs.Prelude.{◌≡◌, ◌<◌, All, length, slice_index, IfOk, IfErr, MatchOption, OnOk};
+ghost use Rattle.pc_tasks.specs.network.Cycles.{HasNoTaskCycle};
 ghost use Rattle.pc_deck.specs.Deck.{task_codes};
 ghost use Rattle.pc_faults.specs.Faults.{task_cycle};
 ghost use Rattle.pc_faults.specs.declared.fault.Fault.{Fault as ADeckFault};
@@ -92,7 +92,7 @@ fn circle_fault(
     requires some { 0 < length cards.now.tasks }
     requires afters { afters.now ≡ afters_in cards.now }
     ensures { IfOk result (λ found. MatchOption found
-        ((tasks : List ℕ) → IsTaskCycle (afters_in cards.now) tasks → ⊥)
+        (HasNoTaskCycle (afters_in cards.now))
         (IsCycleFault cards.now)) }
 {
     let tasks = cards.tasks();

@@ -17,6 +17,10 @@ IsTaskWalk afters s (v ∷ tasks) t = (v ≡ s) × (u : ℕ) × ComesAfter after
 abbrev pub IsTaskCycle : List AfterRow → List ℕ → Type 0
 IsTaskCycle afters tasks = (tasks ≢ []) × ((s : ℕ) × IsTaskWalk afters s tasks s)
 
+-- no tasks wait for each other in a circle
+abbrev pub HasNoTaskCycle : List AfterRow → Type 0
+HasNoTaskCycle afters = (tasks : List ℕ) → IsTaskCycle afters tasks → ⊥
+
 -- task i is one of those of a cycle
 abbrev pub LiesOnTaskCycle : List AfterRow → ℕ → Type 0
 LiesOnTaskCycle afters i = (tasks : List ℕ) × IsTaskCycle afters tasks × StandsBelow tasks (length tasks) i

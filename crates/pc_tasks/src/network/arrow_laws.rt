@@ -14,7 +14,7 @@ ghost use Rattle.pc_model.specs.Pieces.{knees_of};
 ghost use Rattle.pc_tasks.specs.declared.network.AfterRow.{AfterRow};
 ghost use Rattle.pc_tasks.specs.network.Tasks.{AreAmong, HasTaskSchedule, IsLeastTaskCost};
 ghost use Rattle.pc_tasks.specs.network.Arrows.{arrows, arrow_terms, tasks_of, wide_arrows};
-ghost use Rattle.pc_tasks.specs.network.Cycles.{IsFirstTaskCycle, IsTaskCycle};
+ghost use Rattle.pc_tasks.specs.network.Cycles.{HasNoTaskCycle, IsFirstTaskCycle, IsTaskCycle};
 ghost use Rattle.pc_net.specs.Cycles.{IsFirstCycle};
 ghost use Rattle.pc_net.specs.Firmness.{IsFirm};
 
@@ -22,7 +22,7 @@ ghost use Rattle.pc_net.specs.Firmness.{IsFirm};
 pub fn arrows_are_sound()
     ensures range { (n : ℕ) (afters : List AfterRow) → AreAmong n afters → IsInRange (arrows n afters) }
     ensures sound { (n : ℕ) (afters : List AfterRow) → AreAmong n afters → 0 < n →
-        ((tasks : List ℕ) → IsTaskCycle afters tasks → ⊥) → IsSound (arrows n afters) }
+        HasNoTaskCycle afters → IsSound (arrows n afters) }
 {}
 
 /// The wide arrows of some tasks have no loose end, and a cycle exactly where the tasks have one: the first cycle of the arrows passes the
@@ -36,13 +36,13 @@ pub fn wide_arrows_have_the_cycles()
         (walk : List ℕ) × IsCycle (wide_arrows n afters).arcs walk × (tasks_of n walk ≡ tasks) }
 {}
 
-/// For a length there is a schedule of the tasks exactly where there is one of their arrows.
+/// For a length there is a schedule of the tasks exactly where there is one of their arrows, if no tasks wait for each other in a circle.
 pub fn arrows_keep_schedules()
     ensures drawn { (terms : List Term) (afters : List AfterRow) (limit : ℕ) → AreAmong (length terms) afters →
         HasTaskSchedule terms afters limit →
         HasSchedule (arrows (length terms) afters) (arrow_terms terms afters) limit }
     ensures read { (terms : List Term) (afters : List AfterRow) (limit : ℕ) → AreAmong (length terms) afters →
-        IsSound (arrows (length terms) afters) →
+        HasNoTaskCycle afters →
         HasSchedule (arrows (length terms) afters) (arrow_terms terms afters) limit →
         HasTaskSchedule terms afters limit }
 {}
@@ -51,13 +51,13 @@ pub fn arrows_keep_schedules()
 pub fn arrows_keep_least_costs()
     ensures drawn { (terms : List Term) (pieces : List PieceRow) (afters : List AfterRow) (limit cost : ℕ) →
         AreAmong (length terms) afters →
-        All (λ piece. piece.activity < length terms) pieces → IsSound (arrows (length terms) afters) →
+        All (λ piece. piece.activity < length terms) pieces → HasNoTaskCycle afters →
         IsLeastTaskCost terms (knees_of terms pieces) afters limit cost →
         IsLeastCost (arrows (length terms) afters) (arrow_terms terms afters)
         (knees_of (arrow_terms terms afters) pieces) limit cost }
     ensures read { (terms : List Term) (pieces : List PieceRow) (afters : List AfterRow) (limit cost : ℕ) →
         AreAmong (length terms) afters →
-        All (λ piece. piece.activity < length terms) pieces → IsSound (arrows (length terms) afters) →
+        All (λ piece. piece.activity < length terms) pieces → HasNoTaskCycle afters →
         IsLeastCost (arrows (length terms) afters) (arrow_terms terms afters)
         (knees_of (arrow_terms terms afters) pieces) limit cost →
         IsLeastTaskCost terms (knees_of terms pieces) afters limit cost }

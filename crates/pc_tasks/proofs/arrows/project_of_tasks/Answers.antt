@@ -16,8 +16,8 @@ returns-in-Ok-clause-project c =
       makes = record { sound = c.requires.sound; plan = makes };
       is = is;
       keeps = keeps_tasks deck c.in-Ok.project is
-          (λ limit. c.drawn_deck_keeps_least_costs.ensures.schedules deck limit can makes.sound)
-          (λ limit cost. c.drawn_deck_keeps_least_costs.ensures.costs deck limit cost can makes.sound);
+          (λ limit. c.drawn_deck_keeps_least_costs.ensures.schedules deck limit can c.requires.sound.no_cycle)
+          (λ limit cost. c.drawn_deck_keeps_least_costs.ensures.costs deck limit cost can c.requires.sound.no_cycle);
     }
 
 pub returns-in-Err-clause-refused : goal.returns-in-Err-clause-refused

@@ -16,8 +16,6 @@ returns-clause-sound c = λ deck within sound.
 pub returns-clause-keeps : goal.returns-clause-keeps
 returns-clause-keeps c = λ deck project within sound is.
     let can = can_be_drawn deck sound.items.cards within in
-    let among = subst (λ n. AreAmong n (afters_in deck)) (tasks-terms deck can) (afters-among deck can) in
-    let plan = drawn-sound deck within sound.items.cards sound.items.tree (c.arrows_are_sound.ensures.sound _ (afters_in deck) among sound.some sound.no_cycle) in
     keeps_tasks deck project is
-    (λ limit. c.drawn_deck_keeps_least_costs.ensures.schedules deck limit can plan.sound)
-    (λ limit cost. c.drawn_deck_keeps_least_costs.ensures.costs deck limit cost can plan.sound)
+    (λ limit. c.drawn_deck_keeps_least_costs.ensures.schedules deck limit can sound.no_cycle)
+    (λ limit cost. c.drawn_deck_keeps_least_costs.ensures.costs deck limit cost can sound.no_cycle)

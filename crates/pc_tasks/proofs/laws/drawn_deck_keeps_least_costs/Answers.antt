@@ -1,6 +1,6 @@
 use Rattle.std.proofs.Common.{ℕ, List, length, sym, subst}
 use Rattle.pc_model.specs.Cost.{IsLeastCost}
-use Rattle.pc_model.specs.Network.{IsSound, Network}
+use Rattle.pc_model.specs.Network.{Network}
 use Rattle.pc_model.specs.Pieces.{knees_of}
 use Rattle.pc_model.specs.Schedule.{HasSchedule}
 use Rattle.pc_model.specs.declared.PieceRow.{PieceRow}
@@ -23,9 +23,6 @@ module _ (deck : Deck) (can : CanBeDrawn deck) where
 
   abbrev terms : List Term
   terms = arrow_terms (task_terms deck) (afters_in deck)
-
-  sound_arrows : IsSound (network_of (drawn deck)) → IsSound net
-  sound_arrows sound = subst IsSound (network-arrows deck can) sound
 
   module _ (limit : ℕ) where
     drawn_schedule : HasSchedule net terms limit → HasSchedule (network_of (drawn deck)) (terms_in (drawn deck)) limit
@@ -50,16 +47,16 @@ module _ (deck : Deck) (can : CanBeDrawn deck) where
         (subst (λ t. Least net t (pieces_in (drawn deck)) cost) (terms-are deck) (subst (λ n. Least n (terms_in (drawn deck)) (pieces_in (drawn deck)) cost) (network-arrows deck can) least))
 
 pub returns-clause-schedules : goal.returns-clause-schedules
-returns-clause-schedules c deck limit can sound = (
+returns-clause-schedules c deck limit can acyclic = (
   (λ has. drawn_schedule deck can limit (c.arrows_keep_schedules.ensures.drawn (task_terms deck) (afters_in deck) limit (afters-among deck can) has)),
-  (λ has. c.arrows_keep_schedules.ensures.read (task_terms deck) (afters_in deck) limit (afters-among deck can) (sound_arrows deck can sound) (schedule_drawn deck can limit has)),
+  (λ has. c.arrows_keep_schedules.ensures.read (task_terms deck) (afters_in deck) limit (afters-among deck can) acyclic (schedule_drawn deck can limit has)),
 )
 
 pub returns-clause-costs : goal.returns-clause-costs
-returns-clause-costs c deck limit cost can sound = (
+returns-clause-costs c deck limit cost can acyclic = (
   (λ least. drawn_cost deck can limit cost
       (c.arrows_keep_least_costs.ensures.drawn (task_terms deck) (task_pieces deck) (afters_in deck) limit cost (afters-among deck can)
-      (pieces-known deck can) (sound_arrows deck can sound) least)),
+      (pieces-known deck can) acyclic least)),
   (λ least. c.arrows_keep_least_costs.ensures.read (task_terms deck) (task_pieces deck) (afters_in deck) limit cost (afters-among deck can)
-      (pieces-known deck can) (sound_arrows deck can sound) (cost_drawn deck can limit cost least)),
+      (pieces-known deck can) acyclic (cost_drawn deck can limit cost least)),
 )

@@ -10,16 +10,17 @@ use Rattle.pc_model.specs.declared.Term.{Term}
 use Rattle.pc_model.specs.declared.PieceRow.{PieceRow}
 use Rattle.pc_model.specs.Sums.{sum_to}
 use Rattle.pc_model.specs.Walk.{from_of, to_of}
-use Rattle.pc_model.specs.Network.{IsSound}
 use Rattle.pc_model.specs.Schedule.{IsSchedule}
 use Rattle.pc_model.specs.Cost.{cost_of, activity_cost, IsLeastCost}
 use Rattle.pc_model.specs.Pieces.{pieces_of, knees_of, rise_in, knee_in}
 use Rattle.pc_model.proofs.Sums.{sum_to-same, sum_to-ends}
 use Rattle.pc_model.proofs.Walks.WalkLaws.{times_bound_walk}
 use Rattle.pc_tasks.specs.declared.network.AfterRow.{AfterRow}
+use Rattle.pc_tasks.specs.network.Cycles.{HasNoTaskCycle}
 use Rattle.pc_tasks.specs.network.Tasks.{after_at, AreAmong, IsTaskSchedule, IsLeastTaskCost}
 use Rattle.pc_tasks.specs.network.Arrows.{begin_event, end_event, last_event, after_arc, first_arc, last_arc, comes_before, firsts, lasts, links, arrows, arrow_terms, no_term}
 use Rattle.pc_tasks.proofs.lemmas.network.EventTimes.{event_time, at_begin, at_end, at_last}
+use Rattle.pc_tasks.proofs.lemmas.network.Sound.{to_end}
 use Rattle.pc_tasks.proofs.lemmas.network.Drawing.{drawn, drawn-task, drawn-link, length-arcs, length-terms, length-links, arc-task, arc-link, arc-after, term-task, term-link}
 
 -- pieces of tasks are none of a link's
@@ -115,10 +116,10 @@ module _ (terms : List Term) (afters : List AfterRow) (limit : ℕ) (among : Are
     }
 
   -- and a schedule of the arrows one of the tasks
-  pub read_schedule : IsSound (arrows (length terms) afters) → (durations times : ℕ → ℕ) →
+  pub read_schedule : HasNoTaskCycle afters → (durations times : ℕ → ℕ) →
       IsSchedule (arrows (length terms) afters) (arrow_terms terms afters) limit durations times →
       IsTaskSchedule terms afters limit durations (λ i. times (begin_event i))
-  read_schedule sound durations times is = record {
+  read_schedule acyclic durations times is = record {
     enough = λ i inside. omega (arith, ap (λ term. term.crash) (term-task terms afters i inside), is.enough i (below i inside));
     within = λ i inside. omega (arith, ap (λ term. term.normal) (term-task terms afters i inside), is.within i (below i inside));
     follows = λ j inside. omega (
@@ -139,7 +140,7 @@ module _ (terms : List Term) (afters : List AfterRow) (limit : ℕ) (among : Are
 
       reaches : (i : ℕ) → i < length terms → times (end_event i) ≤ times (last_event (length terms))
       reaches i inside =
-          let (walk, walked) = sound.reaches (end_event i) (omega arith) in
+          let (walk, walked) = to_end n afters among (omega (arith, inside)) acyclic i inside in
           omega (arith, times_bound_walk (arrows n afters).arcs [] times (λ a known. omega (arith, is.fits a known)) (end_event i) (last_event n) walk walked)
 
   -- what durations cost is what those of the tasks cost
@@ -173,20 +174,20 @@ module _ (terms : List Term) (afters : List AfterRow) (limit : ℕ) (among : Are
         sum_to-same n (λ a. activity_cost terms (knees_of terms pieces) a (drawn n durations a)) (λ a. activity_cost terms (knees_of terms pieces) a (durations a))
         (λ a inside. ap (activity_cost terms (knees_of terms pieces) a) (drawn-task n durations a inside))
 
-    pub drawn_least : (cost : ℕ) → IsSound (arrows (length terms) afters) → IsLeastTaskCost terms (knees_of terms pieces) afters limit cost →
+    pub drawn_least : (cost : ℕ) → HasNoTaskCycle afters → IsLeastTaskCost terms (knees_of terms pieces) afters limit cost →
         IsLeastCost (arrows (length terms) afters) (arrow_terms terms afters) (knees_of (arrow_terms terms afters) pieces) limit cost
-    drawn_least cost sound least = record {
+    drawn_least cost acyclic least = record {
       reached = let (durations, begins, is, costs) = least.reached in
           (drawn n durations, event_time n limit begins durations, drawn_schedule durations begins is, same_cost (drawn n durations) ∙ (drawn_cost_of durations ∙ costs));
-      least = λ durations times is. omega (arith, same_cost durations, least.least durations (λ i. times (begin_event i)) (read_schedule sound durations times is));
+      least = λ durations times is. omega (arith, same_cost durations, least.least durations (λ i. times (begin_event i)) (read_schedule acyclic durations times is));
     }
 
-    pub read_least : (cost : ℕ) → IsSound (arrows (length terms) afters) →
+    pub read_least : (cost : ℕ) → HasNoTaskCycle afters →
         IsLeastCost (arrows (length terms) afters) (arrow_terms terms afters) (knees_of (arrow_terms terms afters) pieces) limit cost →
         IsLeastTaskCost terms (knees_of terms pieces) afters limit cost
-    read_least cost sound least = record {
+    read_least cost acyclic least = record {
       reached = let (durations, times, is, costs) = least.reached in
-          (durations, (λ i. times (begin_event i)), read_schedule sound durations times is, sym (same_cost durations) ∙ costs);
+          (durations, (λ i. times (begin_event i)), read_schedule acyclic durations times is, sym (same_cost durations) ∙ costs);
       least = λ durations begins is. omega (
         arith,
         same_cost (drawn n durations),

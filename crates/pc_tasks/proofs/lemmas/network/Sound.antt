@@ -13,7 +13,7 @@ use Rattle.pc_model.proofs.Walks.CycleLaws.{long_walk_has_cycle}
 use Rattle.pc_tasks.specs.declared.network.AfterRow.{AfterRow}
 use Rattle.pc_tasks.specs.network.Tasks.{after_at, AreAmong}
 use Rattle.pc_tasks.specs.network.Arrows.{begin_event, end_event, last_event, task_arc, first_arc, last_arc, comes_after, comes_before, firsts, lasts, arrows}
-use Rattle.pc_tasks.specs.network.Cycles.{ComesAfter, IsTaskCycle}
+use Rattle.pc_tasks.specs.network.Cycles.{ComesAfter, HasNoTaskCycle}
 use Rattle.pc_tasks.proofs.lemmas.network.Kept.{stands_kept}
 use Rattle.pc_tasks.proofs.lemmas.network.Joined as joined
 use Rattle.pc_tasks.proofs.lemmas.network.Cycles.{read_cycle}
@@ -37,7 +37,7 @@ some_after afters i found =
     let at = row_at afters j row inside is in
     (row.task, (j, inside, ap (λ after. after.task) at, ap (λ after. after.before) at ∙ eqb-true row.before i passes))
 
-module _ (n : ℕ) (afters : List AfterRow) (among : AreAmong n afters) (some : 0 < n) (acyclic : (tasks : List ℕ) → IsTaskCycle afters tasks → ⊥) where
+module _ (n : ℕ) (afters : List AfterRow) (among : AreAmong n afters) (some : 0 < n) (acyclic : HasNoTaskCycle afters) where
   abbrev more : List Arc
   more = ends n (firsts n afters) (lasts n afters)
 
@@ -138,7 +138,7 @@ module _ (n : ℕ) (afters : List AfterRow) (among : AreAmong n afters) (some : 
           (IsWalk-append net.arcs (end_event i) (end_event s) (last_event n) walk (a ∷ []) walked (below, ap (λ arc. arc.from) is, ap (λ arc. arc.to) is)))
           (cases_Bool (comes_before afters s))
 
-  to_end : (i : ℕ) → i < n → (walk : List ℕ) × IsWalk (arrows n afters).arcs (end_event i) walk (last_event n)
+  pub to_end : (i : ℕ) → i < n → (walk : List ℕ) × IsWalk (arrows n afters).arcs (end_event i) walk (last_event n)
   to_end i inside = of (forth (2 * n + 2) i inside)
     where
       of : Forth i (2 * n + 2) → (walk : List ℕ) × IsWalk (arrows n afters).arcs (end_event i) walk (last_event n)
