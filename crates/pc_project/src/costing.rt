@@ -14,6 +14,6 @@ impl Project {
         ensures cost { result ≡ activity_cost self.now.terms (knees_of self.now.terms self.now.pieces) a duration }
         ensures limit { result ≤ MAX_ACTIVITY_COST }
     {
-        cost_of_one(&self.plan.lists.terms, &self.plan.pieces, a, duration)
+        cost_of_one(&self.plan.frame.lists.terms, &self.plan.pieces, a, duration)
     }
 }

@@ -25,8 +25,8 @@ pub(crate) fn leaf_fault(cards: &Cards, numbers: &Numbers, tree: &Tree) -> Optio
     requires tree { tree.now ≡ rows_of cards.now }
     ensures { IsFirstIn (HasLeafFault cards.now) result }
 {
-    let of_acts = act_fault(cards, &numbers.placements, tree);
-    let of_accounts = account_fault(cards, &numbers.figures.accounts, tree);
+    let of_acts = act_fault(cards, &numbers.lists.placements, tree);
+    let of_accounts = account_fault(cards, &numbers.lists.figures.accounts, tree);
     earliest(of_acts, of_accounts)
 }
 

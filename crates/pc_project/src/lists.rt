@@ -5,7 +5,8 @@ ghost use Rattle.pc_times.specs.Estimates.{expected_time, variance_of};
 ghost use Rattle.pc_deck.specs.Deck.{act_codes, event_codes};
 ghost use Rattle.pc_deck.specs.inside.Act.{IsActWithin};
 ghost use Rattle.pc_project.specs.Misfit.{IsInOrder};
-ghost use Rattle.pc_project.specs.Project.{expected_of, place_of, term_of, variance_in};
+ghost use Rattle.pc_project.specs.Project.{term_of};
+ghost use Rattle.pc_project.specs.inside.Numbered.{AreProjectLists};
 ghost use Rattle.pc_project.specs.inside.Project.{placement_of};
 ghost use Rattle.pc_project.specs.Records.{codes_among};
 
@@ -40,12 +41,7 @@ impl Lists {
     ) -> Result<(), AllocError>
         requires ordered { All IsInOrder cards.now.acts }
         requires placements { placements.now ≡ map (placement_of cards.now) cards.now.acts }
-        ensures events { OnOk result (self.new.events.items ≡ event_codes cards.now) }
-        ensures activities { OnOk result (self.new.activities.items ≡ act_codes cards.now) }
-        ensures places { OnOk result (self.new.places.items ≡ map (place_of cards.now) cards.now.acts) }
-        ensures terms { OnOk result (self.new.terms.items ≡ map term_of cards.now.acts) }
-        ensures expected { OnOk result (self.new.expected.items ≡ map (expected_of cards.now) cards.now.acts) }
-        ensures variances { OnOk result (self.new.variances.items ≡ map (variance_in cards.now) cards.now.acts) }
+        ensures lists { OnOk result (AreProjectLists cards.now self.new) }
     {
         let acts = cards.acts();
         let unit_days = cards.project().unit_days;

@@ -1,5 +1,5 @@
 //! The cards that a refusal names by their numbers.
-ghost use Rattle.std.specs.Prelude.{◌≡◌, ◌<◌, All, length, map, slice_index, IfOk};
+ghost use Rattle.std.specs.Prelude.{◌≡◌, ◌<◌, All, length, slice_index, IfOk};
 ghost use Rattle.pc_model.specs.Codes.{code_at};
 ghost use Rattle.pc_deck.specs.Deck.{act_codes, event_codes};
 ghost use Rattle.pc_project.specs.Records.{act_records, codes_among, codes_at, event_records, records_among};

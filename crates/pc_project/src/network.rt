@@ -25,7 +25,7 @@ pub(crate) fn net_of(alloc: Global, cards: &Cards, numbers: &Numbers) -> Result<
     ensures sound { OnOk result (IsSound (network_of cards.now)) }
     ensures refused { IfErr result (Refuses (IsRefusedWith cards.now)) }
 {
-    let arcs = arcs(alloc, &numbers.placements)?;
+    let arcs = arcs(alloc, &numbers.lists.placements)?;
     let events = cards.events().len() as u32;
     match Net::build(alloc, events, numbers.ends.start, numbers.ends.end, &arcs) {
         Ok(net) => Ok(net),

@@ -1,7 +1,5 @@
 //! Whether the budgets of each package are the costs of its activities.
-ghost use Rattle.std.specs.Prelude.{◌≡◌, ◌<◌, length, map, IfOk, IfErr, OnOk};
-ghost use Rattle.pc_wbs.specs.Climb.{IsTree};
-ghost use Rattle.pc_accounts.specs.Packages.{IsUneven};
+ghost use Rattle.std.specs.Prelude.{◌≡◌, ◌<◌, map, IfOk, IfErr, OnOk};
 ghost use Rattle.pc_accounts.specs.inside.Packages.{IsFirstUneven};
 ghost use Rattle.pc_faults.specs.inside.First.{Refuses};
 ghost use Rattle.pc_project.specs.Misfit.{HasNoMisfit};
@@ -32,8 +30,8 @@ pub(crate) fn check_packages(
     ensures even { OnOk result (IsEven cards.now) }
     ensures first { IfErr result (Refuses (IsFirstUnevenFault cards.now)) }
 {
-    let work = work_rows(alloc, cards, &numbers.placements)?;
-    match reconcile(alloc, tree, &numbers.figures.accounts, &work) {
+    let work = work_rows(alloc, cards, &numbers.lists.placements)?;
+    match reconcile(alloc, tree, &numbers.lists.figures.accounts, &work) {
         Ok(()) => Ok(()),
         Err(uneven) => Err(fault_of(cards, uneven)),
     }

@@ -19,12 +19,12 @@ impl Project {
     {
         CrashNet::build(
             alloc,
-            &self.plan.net,
-            &self.plan.lists.terms,
+            &self.plan.frame.net,
+            &self.plan.frame.lists.terms,
             &self.plan.pieces,
             self.cards.project().code,
-            &self.plan.lists.events,
-            &self.plan.lists.activities,
+            &self.plan.frame.lists.events,
+            &self.plan.frame.lists.activities,
         )
     }
 }

@@ -92,7 +92,7 @@ impl Project {
         ensures network { result.now ≡ self.now.network }
         ensures planned { IsPlanned self.now }
     {
-        &self.plan.net
+        &self.plan.frame.net
     }
 
     /// The tree of the items.
@@ -100,7 +100,7 @@ impl Project {
         ensures tree { result.now ≡ self.now.tree }
         ensures planned { IsPlanned self.now }
     {
-        &self.plan.tree
+        &self.plan.frame.tree
     }
 
     /// How many cards of each kind the deck has.
@@ -124,7 +124,7 @@ impl Project {
         requires { e < self.now.network.events }
         ensures { result ≡ slice_index_or self.now.events e [] }
     {
-        self.plan.lists.events[e as usize]
+        self.plan.frame.lists.events[e as usize]
     }
 
     /// What is known of an activity.
@@ -132,14 +132,14 @@ impl Project {
         requires { a < length self.now.network.arcs }
         ensures { result ≡ activity_at self.now a }
     {
-        let term = self.plan.lists.terms[a as usize];
+        let term = self.plan.frame.lists.terms[a as usize];
         Activity {
-            code: self.plan.lists.activities[a as usize],
-            from: self.plan.net.from(a),
-            to: self.plan.net.to(a),
-            item: self.plan.lists.places[a as usize],
-            expected: self.plan.lists.expected[a as usize],
-            variance: self.plan.lists.variances[a as usize],
+            code: self.plan.frame.lists.activities[a as usize],
+            from: self.plan.frame.net.from(a),
+            to: self.plan.frame.net.to(a),
+            item: self.plan.frame.lists.places[a as usize],
+            expected: self.plan.frame.lists.expected[a as usize],
+            variance: self.plan.frame.lists.variances[a as usize],
             normal: term.normal,
             crash: term.crash,
             cost: term.cost,
@@ -169,7 +169,7 @@ impl Project {
         ensures each { length result.now ≡ self.now.network.events }
         ensures planned { IsPlanned self.now }
     {
-        &self.plan.lists.events
+        &self.plan.frame.lists.events
     }
 
     /// The codes of the activities.
@@ -178,7 +178,7 @@ impl Project {
         ensures each { length result.now ≡ length self.now.network.arcs }
         ensures planned { IsPlanned self.now }
     {
-        &self.plan.lists.activities
+        &self.plan.frame.lists.activities
     }
 
     /// What each activity may last, in units, and costs.
@@ -186,7 +186,7 @@ impl Project {
         ensures terms { result.now ≡ self.now.terms }
         ensures planned { IsPlanned self.now }
     {
-        &self.plan.lists.terms
+        &self.plan.frame.lists.terms
     }
 
     /// The expected time of each activity, in sixths of a day.
@@ -194,7 +194,7 @@ impl Project {
         ensures expected { result.now ≡ self.now.expected }
         ensures planned { IsPlanned self.now }
     {
-        &self.plan.lists.expected
+        &self.plan.frame.lists.expected
     }
 
     /// The variance of each activity's time, in thirty-sixths of a square day.
@@ -203,7 +203,7 @@ impl Project {
         ensures each { length result.now ≡ length self.now.network.arcs }
         ensures planned { IsPlanned self.now }
     {
-        &self.plan.lists.variances
+        &self.plan.frame.lists.variances
     }
 
     /// The item on which each activity stands.
@@ -211,7 +211,7 @@ impl Project {
         ensures places { result.now ≡ self.now.places }
         ensures planned { IsPlanned self.now }
     {
-        &self.plan.lists.places
+        &self.plan.frame.lists.places
     }
 
     /// The further pieces of the activities' costs.
@@ -290,7 +290,7 @@ impl Project {
         ensures entries { result.now ≡ self.now.entries }
         ensures planned { IsPlanned self.now }
     {
-        &self.plan.book
+        &self.plan.frame.progress.book
     }
 
     /// When activities were begun and ended, as the cards say it.
@@ -306,7 +306,7 @@ impl Project {
         ensures states { result.now ≡ self.now.states }
         ensures planned { IsPlanned self.now }
     {
-        &self.plan.states
+        &self.plan.frame.progress.states
     }
 
     /// How far an activity is, in sixths of a day from the start.
@@ -314,7 +314,7 @@ impl Project {
         requires { a < length self.now.network.arcs }
         ensures { result ≡ state_at self.now.states a }
     {
-        self.plan.states[a as usize]
+        self.plan.frame.progress.states[a as usize]
     }
 
     /// The day that the figures are of, in sixths of a day from the start.

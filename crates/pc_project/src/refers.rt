@@ -1,5 +1,5 @@
 //! Cards that name other cards by their codes.
-ghost use Rattle.std.specs.Prelude.{◌≡◌, ℕ, IfOk, IfErr, OnOk, None, map, take, []};
+ghost use Rattle.std.specs.Prelude.{◌≡◌, IfOk, IfErr, OnOk, None, map, []};
 ghost use Rattle.std.specs.List.{Any};
 ghost use Rattle.pc_deck.specs.Deck.{Deck};
 ghost use Rattle.pc_faults.specs.First.{IsFirst};

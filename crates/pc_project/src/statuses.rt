@@ -39,7 +39,7 @@ pub(crate) fn states_of(
     ensures first { IfErr result (Refuses (IsFirst (HasDisorder cards.now))) }
 {
     let activities = cards.acts().len() as u32;
-    let statuses = Vec::from_slice(alloc, &numbers.figures.statuses)?;
+    let statuses = Vec::from_slice(alloc, &numbers.lists.figures.statuses)?;
     let log = Log::build(alloc, activities, statuses)?;
     states_in(alloc, cards, &log)
 }

@@ -1,10 +1,9 @@
 //! The book of the accounts, or which amount to go is a second one.
-ghost use Rattle.std.specs.Prelude.{◌≡◌, IfOk, IfErr, OnOk};
+ghost use Rattle.std.specs.Prelude.{IfOk, IfErr, OnOk};
 ghost use Rattle.pc_accounts.specs.Amounts.{AreEntriesOf};
 ghost use Rattle.pc_accounts.specs.inside.Second.{IsRefusal};
 ghost use Rattle.pc_faults.specs.inside.First.{Refuses};
 ghost use Rattle.pc_project.specs.DisorderFaults.{as_of_in};
-ghost use Rattle.pc_project.specs.Misfit.{HasNoMisfit};
 ghost use Rattle.pc_project.specs.inside.Numbered.{AreNumbersOf};
 ghost use Rattle.pc_project.specs.Project.{accounts_in, charges_in, togos_in};
 ghost use Rattle.pc_project.specs.Refusal.{HasNoSecondToGo};
@@ -25,7 +24,7 @@ pub(crate) fn book_of(alloc: Global, cards: &Cards, numbers: &Numbers) -> Result
     ensures once { OnOk result (HasNoSecondToGo cards.now) }
     ensures first { IfErr result (Refuses (IsFirstSecondToGo cards.now)) }
 {
-    let figures = &numbers.figures;
+    let figures = &numbers.lists.figures;
     let as_of = as_of(cards);
     match Book::build(
         alloc,
