@@ -1,4 +1,4 @@
-//! The numbers of all that the cards name, or the first fault of any card.
+//! The numbers of everything that the cards name, or the first fault of any card.
 ghost use Rattle.std.specs.Prelude.{◌≡◌, None, IfOk, IfErr, OnOk, []};
 ghost use Rattle.pc_deck.specs.Within.{IsWithinLimits};
 ghost use Rattle.pc_faults.specs.First.{IsFirst};
@@ -37,7 +37,10 @@ pub(crate) struct FoundLists {
     pub figures: Figures,
 }
 
-/// Looks up once what each card names, or answers the first fault of any card (F13 to F19, F41).
+/// Looks up once what each card names.
+///
+/// # Errors
+/// The first fault of any card (F13 to F19, F41), or out of memory.
 pub(crate) fn numbers_of(alloc: Global, cards: &Cards) -> Result<Numbers, DeckError>
     ensures numbers { IfOk result (AreNumbersOf cards.now) }
     ensures first { IfErr result (Refuses (IsFirst (HasMisfit cards.now))) }
@@ -63,7 +66,7 @@ pub(crate) fn numbers_of(alloc: Global, cards: &Cards) -> Result<Numbers, DeckEr
 }
 
 impl FoundLists {
-    /// Looks up what each card of a list names, and answers the first fault of these cards.
+    /// Looks up what each card of a list names, and returns the first fault of these cards.
     fn look_up(&mut self, cards: &Cards) -> Result<Option<Fault>, AllocError>
         requires rows { self.old.rows.items ≡ [] }
         requires placements { self.old.placements.items ≡ [] }

@@ -18,7 +18,10 @@ use pc_faults::{DeckError, Fault};
 use pc_wbs::Tree;
 use std::alloc::{AllocError, Global};
 
-/// Answers the fault of the first uneven package, if there is one (F29).
+/// Checks that the budgets of each package are the costs of its activities.
+///
+/// # Errors
+/// The fault of the first uneven package (F29), or out of memory.
 pub(crate) fn check_packages(
     alloc: Global,
     cards: &Cards,
@@ -37,7 +40,7 @@ pub(crate) fn check_packages(
     }
 }
 
-/// The fault by which an uneven package is told.
+/// Returns the fault that reports an uneven package.
 fn fault_of(cards: &Cards, uneven: Uneven) -> DeckError
     requires faultless { HasNoMisfit cards.now }
     requires first { IsFirstUneven (accounts_in cards.now) (work_in cards.now) uneven }
@@ -56,7 +59,6 @@ fn fault_of(cards: &Cards, uneven: Uneven) -> DeckError
     }
 }
 
-/// The activities' items and costs.
 fn work_rows(
     alloc: Global,
     cards: &Cards,

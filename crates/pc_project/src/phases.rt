@@ -26,12 +26,15 @@ use pc_deck::Cards;
 use pc_faults::{DeckError, Fault};
 use std::alloc::Global;
 
-/// The project of the cards, or the first fault that keeps them from making one: of the cards one by one, or else of
-/// the tree of their items, or else of the network of their activities, or else of the items that activities and accounts
-/// stand on, or else of the budgets of packages, or else of statuses and as-of, or else of second amounts to go, or else of
-/// the pieces of the activities' costs, or else of the terms of time.
+/// Makes the project of the cards, and keeps the cards in it.
 ///
-/// It takes time in proportion to the cards, and keeps them.
+/// Linear in the cards.
+///
+/// # Errors
+/// The first fault of the first phase that has one, or out of memory. The phases are: the cards one by one (F13 to F19,
+/// F41), the tree of the items (F20 to F23), the network of the activities (F24 to F27), the items of activities and
+/// accounts (F28), the budgets of packages (F29), statuses and as-of (F30), second amounts to go (F31), the pieces of
+/// the activities' costs (F33 to F35), and the terms of time (F36).
 pub fn project_of(alloc: Global, cards: Cards) -> Result<Project, DeckError>
     ensures project { IfOk result (IsProjectOfDeck cards) }
     ensures makes { IfOk result (λ _. MakesProject cards) }
@@ -43,7 +46,6 @@ pub fn project_of(alloc: Global, cards: Cards) -> Result<Project, DeckError>
     }
 }
 
-/// What the cards come to, or the first fault that keeps them from making a project.
 fn plan_of(alloc: Global, cards: &Cards) -> Result<Plan, DeckError>
     ensures plan { IfOk result (λ plan. IsPlanned (project_with cards.now plan)) }
     ensures refused { IfErr result (Refuses (IsRefusedWith cards.now)) }
@@ -63,8 +65,7 @@ fn plan_of(alloc: Global, cards: &Cards) -> Result<Plan, DeckError>
     }
 }
 
-/// What the cards come to around what they name, or the first fault that keeps them from making a project: one phase
-/// after another, each of which may take it that those before it found no fault, and answers its own first one.
+/// Goes through the phases after the look-ups. Each phase relies on the earlier ones having found no fault.
 fn frame_of(alloc: Global, cards: &Cards, numbers: &Numbers) -> Result<Frame, DeckError>
     requires { AreNumbersOf cards.now numbers.now }
     ensures makes { OnOk result (MakesProject cards.now) }
@@ -90,7 +91,7 @@ fn frame_of(alloc: Global, cards: &Cards, numbers: &Numbers) -> Result<Frame, De
         Ok(progress) => progress,
         Err(error) => return Err(error),
     };
-    // What the book keeps to.
+    // Called for the bound on each entry (`AreSmall`), which the book's type keeps.
     let _entries = progress.book.entries();
     match lists_of(alloc, cards, numbers) {
         Ok(lists) => Ok(Frame {
@@ -103,8 +104,7 @@ fn frame_of(alloc: Global, cards: &Cards, numbers: &Numbers) -> Result<Frame, De
     }
 }
 
-/// The lists of a project with sound figures, or the first fault of its pieces, or else of the terms of time (F33 to
-/// F36).
+/// Returns the lists of a project with sound figures, or the first fault of its pieces or terms of time (F33 to F36).
 fn lists_of(alloc: Global, cards: &Cards, numbers: &Numbers) -> Result<Lists, DeckError>
     requires plan { HasSoundPlan cards.now }
     requires figures { HasSoundFigures cards.now }
@@ -130,7 +130,7 @@ fn lists_of(alloc: Global, cards: &Cards, numbers: &Numbers) -> Result<Lists, De
     }
 }
 
-/// Answers the first fault of the pieces, or else of the terms of time, of a project with sound figures (F33 to F36).
+/// Checks the pieces, and then the terms of time, of a project with sound figures (F33 to F36).
 fn check_costs(alloc: Global, cards: &Cards, numbers: &Numbers) -> Result<(), DeckError>
     requires plan { HasSoundPlan cards.now }
     requires figures { HasSoundFigures cards.now }
