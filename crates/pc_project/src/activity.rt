@@ -2,15 +2,15 @@
 
 use pc_text::Code;
 
-/// An activity, with numbers for what its card names.
+/// An activity, with the numbers of what its card names.
 #[derive(Clone, Copy)]
 pub struct Activity {
     pub code: Code,
-    /// The event where it begins.
+    /// The number of the event where it begins.
     pub from: u32,
-    /// The event where it ends.
+    /// The number of the event where it ends.
     pub to: u32,
-    /// Its item of the work breakdown structure.
+    /// The number of its item in the work breakdown structure.
     pub item: u32,
     /// The expected time, in sixths of a day.
     pub expected: u64,
@@ -18,10 +18,10 @@ pub struct Activity {
     pub variance: u64,
     /// The normal duration, in units.
     pub normal: u64,
-    /// The least duration, in units.
+    /// The crash duration, in units: the least that it may last.
     pub crash: u64,
-    /// What it costs at its normal duration.
+    /// The cost at its normal duration.
     pub cost: u64,
-    /// What each unit by which it is shortened costs.
+    /// The cost of each unit by which it is shortened, before its pieces begin.
     pub slope: u64,
 }

@@ -7,13 +7,15 @@ use crate::project::Project;
 use pc_crash::{MAX_ACTIVITY_COST, cost_of_one};
 
 impl Project {
-    /// What an activity costs at a duration in units. It takes no memory, and goes over the pieces of all activities: for
-    /// what many activities cost, ask the priced network.
+    /// Returns the cost of an activity at a duration in units.
+    ///
+    /// Takes no memory. Linear in the pieces of all activities: for the costs of many activities, use
+    /// [`Project::priced`].
     pub fn cost_at(&self, a: u32, duration: u64) -> u64
         requires { a < length self.now.network.arcs }
         ensures cost { result ≡ activity_cost self.now.terms (knees_of self.now.terms self.now.pieces) a duration }
         ensures limit { result ≤ MAX_ACTIVITY_COST }
     {
-        cost_of_one(&self.plan.lists.terms, &self.plan.pieces, a, duration)
+        cost_of_one(&self.plan.frame.lists.terms, &self.plan.pieces, a, duration)
     }
 }

@@ -1,6 +1,6 @@
 //! The three estimates of an activity.
 
-/// How long an activity may last, in units: at the best, most likely and at the worst.
+/// The three estimates of an activity's duration, in units.
 #[derive(Clone, Copy)]
 pub struct Estimates {
     pub optimistic: u64,

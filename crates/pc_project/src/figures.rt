@@ -11,7 +11,7 @@ use pc_deck::Cards;
 use pc_faults::{Fault, earliest};
 use std::alloc::AllocError;
 
-/// What the cards that give figures say, with numbers for what they name; one for each card, in card order.
+/// The figures that cards give, with the numbers of what they name: one entry per card, in card order.
 #[derive(Drop)]
 pub(crate) struct Figures {
     pub accounts: Vec<AcctRow>,
@@ -21,8 +21,7 @@ pub(crate) struct Figures {
 }
 
 impl Figures {
-    /// Looks up what each card that gives figures names, as far as they have no fault, and answers the first of their
-    /// faults.
+    /// Looks up what each card that gives figures names, and returns the first fault of these cards.
     pub(crate) fn look_up(&mut self, cards: &Cards) -> Result<Option<Fault>, AllocError>
         requires accounts { self.old.accounts.items ≡ [] }
         requires charges { self.old.charges.items ≡ [] }

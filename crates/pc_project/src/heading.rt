@@ -1,6 +1,6 @@
 //! What a deck says of its project as a whole.
 
-/// How many cards of each kind a deck has.
+/// The number of cards of each kind in a deck.
 #[derive(Clone, Copy)]
 pub struct Counts {
     pub events: u64,

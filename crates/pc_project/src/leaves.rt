@@ -1,4 +1,4 @@
-//! Whether activities and accounts stand on leaves of the tree.
+//! Whether activities and accounts are on leaves of the tree.
 ghost use Rattle.std.specs.Prelude.{◌≡◌, ◌<◌, length, map};
 ghost use Rattle.std.specs.List.{Any};
 ghost use Rattle.pc_wbs.specs.Climb.{IsLeaf};
@@ -18,19 +18,19 @@ use pc_faults::{Fault, earliest};
 use pc_text::Code;
 use pc_wbs::Tree;
 
-/// The first fault of activities and accounts on items that have items below them, if there is one (F28). One pass over
-/// activities and accounts.
+/// Returns the first fault of activities and accounts whose item has items below it, if there is one (F28).
+///
+/// Linear in activities and accounts.
 pub(crate) fn leaf_fault(cards: &Cards, numbers: &Numbers, tree: &Tree) -> Option<Fault>
     requires numbers { AreNumbersOf cards.now numbers.now }
     requires tree { tree.now ≡ rows_of cards.now }
     ensures { IsFirstIn (HasLeafFault cards.now) result }
 {
-    let of_acts = act_fault(cards, &numbers.placements, tree);
-    let of_accounts = account_fault(cards, &numbers.figures.accounts, tree);
+    let of_acts = act_fault(cards, &numbers.lists.placements, tree);
+    let of_accounts = account_fault(cards, &numbers.lists.figures.accounts, tree);
     earliest(of_acts, of_accounts)
 }
 
-/// The first such fault of the activities.
 fn act_fault(cards: &Cards, placements: &[Placement], tree: &Tree) -> Option<Fault>
     requires faultless { HasNoMisfit cards.now }
     requires placements { placements.now ≡ map (placement_of cards.now) cards.now.acts }
@@ -47,7 +47,6 @@ fn act_fault(cards: &Cards, placements: &[Placement], tree: &Tree) -> Option<Fau
     fault
 }
 
-/// The first such fault of the accounts.
 fn account_fault(cards: &Cards, accounts: &[AcctRow], tree: &Tree) -> Option<Fault>
     requires faultless { HasNoMisfit cards.now }
     requires accounts { accounts.now ≡ accounts_in cards.now }
@@ -65,7 +64,7 @@ fn account_fault(cards: &Cards, accounts: &[AcctRow], tree: &Tree) -> Option<Fau
     fault
 }
 
-/// The fault of a card that stands on an item, if the item has items below it.
+/// Returns the fault of a card on this item, if the item has items below it.
 fn branch_fault(tree: &Tree, item: u32, row: u32, code: Code) -> Option<Fault>
     requires { item < length tree.now }
     ensures { IsFirstIn (λ fault. (IsLeaf tree.now item → ⊥) × (fault ≡ not_a_leaf row code)) result }

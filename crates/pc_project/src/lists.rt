@@ -5,7 +5,8 @@ ghost use Rattle.pc_times.specs.Estimates.{expected_time, variance_of};
 ghost use Rattle.pc_deck.specs.Deck.{act_codes, event_codes};
 ghost use Rattle.pc_deck.specs.inside.Act.{IsActWithin};
 ghost use Rattle.pc_project.specs.Misfit.{IsInOrder};
-ghost use Rattle.pc_project.specs.Project.{expected_of, place_of, term_of, variance_in};
+ghost use Rattle.pc_project.specs.Project.{term_of};
+ghost use Rattle.pc_project.specs.inside.Numbered.{AreProjectLists};
 ghost use Rattle.pc_project.specs.inside.Project.{placement_of};
 ghost use Rattle.pc_project.specs.Records.{codes_among};
 
@@ -21,17 +22,17 @@ use std::alloc::{AllocError, Global};
 pub(crate) struct Lists {
     pub events: Vec<Code>,
     pub activities: Vec<Code>,
-    /// The items of the activities.
+    /// The number of each activity's item.
     pub places: Vec<u32>,
     pub terms: Vec<Term>,
     /// The expected times of the activities, in sixths of a day.
     pub expected: Vec<u64>,
-    /// The variances of these times, in thirty-sixths of a square day.
+    /// The variances of these times, in thirty-sixths of a squared day.
     pub variances: Vec<u64>,
 }
 
 impl Lists {
-    /// Takes the lists of the cards in place of what it has.
+    /// Replaces the lists by those of the cards.
     pub(crate) fn fill(
         &mut self,
         alloc: Global,
@@ -40,12 +41,7 @@ impl Lists {
     ) -> Result<(), AllocError>
         requires ordered { All IsInOrder cards.now.acts }
         requires placements { placements.now ≡ map (placement_of cards.now) cards.now.acts }
-        ensures events { OnOk result (self.new.events.items ≡ event_codes cards.now) }
-        ensures activities { OnOk result (self.new.activities.items ≡ act_codes cards.now) }
-        ensures places { OnOk result (self.new.places.items ≡ map (place_of cards.now) cards.now.acts) }
-        ensures terms { OnOk result (self.new.terms.items ≡ map term_of cards.now.acts) }
-        ensures expected { OnOk result (self.new.expected.items ≡ map (expected_of cards.now) cards.now.acts) }
-        ensures variances { OnOk result (self.new.variances.items ≡ map (variance_in cards.now) cards.now.acts) }
+        ensures lists { OnOk result (AreProjectLists cards.now self.new) }
     {
         let acts = cards.acts();
         let unit_days = cards.project().unit_days;
@@ -59,28 +55,26 @@ impl Lists {
     }
 }
 
-/// The codes of the events.
 fn codes_of_events(alloc: Global, cards: &Cards) -> Result<Vec<Code>, AllocError>
     ensures { IfOk result (λ codes. codes.items ≡ event_codes cards.now) }
 {
     cards.events().iter().map(|event| event.code).collect(alloc)
 }
 
-/// The codes of the activities.
+/// Returns the code of each activity, in card order.
 pub(crate) fn codes_of_acts(alloc: Global, cards: &Cards) -> Result<Vec<Code>, AllocError>
     ensures { IfOk result (λ codes. codes.items ≡ act_codes cards.now) }
 {
     cards.acts().iter().map(|act| act.code).collect(alloc)
 }
 
-/// The codes of items.
+/// Returns the code of each item, in card order.
 pub(crate) fn codes_of_items(alloc: Global, items: &[ItemCard]) -> Result<Vec<Code>, AllocError>
     ensures { IfOk result (λ codes. codes.items ≡ codes_among items.now) }
 {
     items.iter().map(|item| item.code).collect(alloc)
 }
 
-/// The items of the activities.
 fn places(alloc: Global, placements: &[Placement]) -> Result<Vec<u32>, AllocError>
     ensures { IfOk result (λ places. places.items ≡ map (λ placement. placement.item) placements.now) }
 {
@@ -90,7 +84,7 @@ fn places(alloc: Global, placements: &[Placement]) -> Result<Vec<u32>, AllocErro
         .collect(alloc)
 }
 
-/// Where the activities begin and end.
+/// Returns the events where each activity begins and ends, in card order.
 pub(crate) fn arcs(alloc: Global, placements: &[Placement]) -> Result<Vec<Arc>, AllocError>
     ensures { IfOk result (λ arcs. arcs.items ≡ map (λ placement. placement.arc) placements.now) }
 {
@@ -100,7 +94,6 @@ pub(crate) fn arcs(alloc: Global, placements: &[Placement]) -> Result<Vec<Arc>, 
         .collect(alloc)
 }
 
-/// What the activities may last and cost.
 fn terms(alloc: Global, acts: &[ActCard]) -> Result<Vec<Term>, AllocError>
     ensures { IfOk result (λ terms. terms.items ≡ map term_of acts.now) }
 {
@@ -114,7 +107,7 @@ fn terms(alloc: Global, acts: &[ActCard]) -> Result<Vec<Term>, AllocError>
         .collect(alloc)
 }
 
-/// The expected times of the activities, in sixths of a day.
+/// Returns the expected time of each activity, in sixths of a day.
 fn expected_times(alloc: Global, acts: &[ActCard], unit_days: u64) -> Result<Vec<u64>, AllocError>
     requires unit { unit_days ≤ MAX_UNIT_DAYS }
     requires ordered { All IsInOrder acts.now }
@@ -129,7 +122,7 @@ fn expected_times(alloc: Global, acts: &[ActCard], unit_days: u64) -> Result<Vec
     Ok(times)
 }
 
-/// The variances of the activities, in thirty-sixths of a square day.
+/// Returns the variance of each activity's time, in thirty-sixths of a squared day.
 fn variances(alloc: Global, acts: &[ActCard], unit_days: u64) -> Result<Vec<u64>, AllocError>
     requires unit { unit_days ≤ MAX_UNIT_DAYS }
     requires ordered { All IsInOrder acts.now }

@@ -1,6 +1,6 @@
 //! The loads of activities on resources.
 
-/// So much of a resource that an activity takes, with numbers for both.
+/// The quantity of a resource that an activity takes, with the numbers of both.
 #[derive(Clone, Copy)]
 pub struct LoadItem {
     pub activity: u32,

@@ -17,7 +17,10 @@ use pc_faults::{DeckError, Fault};
 use pc_net::{Net, NetError};
 use std::alloc::{AllocError, Global};
 
-/// The network of the activities, or the fault that keeps it from being sound (F24 to F27).
+/// Returns the network of the activities.
+///
+/// # Errors
+/// The fault that keeps the network from being sound (F24 to F27), or out of memory.
 pub(crate) fn net_of(alloc: Global, cards: &Cards, numbers: &Numbers) -> Result<Net, DeckError>
     requires numbers { AreNumbersOf cards.now numbers.now }
     requires tree { IsTree (rows_of cards.now) }
@@ -25,7 +28,7 @@ pub(crate) fn net_of(alloc: Global, cards: &Cards, numbers: &Numbers) -> Result<
     ensures sound { OnOk result (IsSound (network_of cards.now)) }
     ensures refused { IfErr result (Refuses (IsRefusedWith cards.now)) }
 {
-    let arcs = arcs(alloc, &numbers.placements)?;
+    let arcs = arcs(alloc, &numbers.lists.placements)?;
     let events = cards.events().len() as u32;
     match Net::build(alloc, events, numbers.ends.start, numbers.ends.end, &arcs) {
         Ok(net) => Ok(net),
@@ -33,7 +36,7 @@ pub(crate) fn net_of(alloc: Global, cards: &Cards, numbers: &Numbers) -> Result<
     }
 }
 
-/// The fault by which a refusal of the network is told.
+/// Returns the fault that reports a refusal of the network.
 fn fault_of(alloc: Global, cards: &Cards, error: NetError) -> DeckError
     requires { IsRefusal (network_of cards.now) error }
     ensures { Refuses (λ fault. net_fault cards.now error ≡ DeckError.Fault fault) result }
@@ -59,7 +62,6 @@ fn fault_of(alloc: Global, cards: &Cards, error: NetError) -> DeckError
     }
 }
 
-/// The fault by which a cycle of activities is told.
 fn fault_of_cycle(alloc: Global, cards: &Cards, acts: &[u32]) -> Result<Fault, AllocError>
     requires some { 0 < length acts.now }
     requires known { All (λ act. act < length cards.now.acts) acts.now }

@@ -1,4 +1,4 @@
-//! The numbers of all that the cards name, or the first fault of any card.
+//! The numbers of everything that the cards name, or the first fault of any card.
 ghost use Rattle.std.specs.Prelude.{◌≡◌, None, IfOk, IfErr, OnOk, []};
 ghost use Rattle.pc_deck.specs.Within.{IsWithinLimits};
 ghost use Rattle.pc_faults.specs.First.{IsFirst};
@@ -20,6 +20,12 @@ use std::alloc::{AllocError, Global};
 #[derive(Drop)]
 pub(crate) struct Numbers {
     pub ends: Ends,
+    pub lists: FoundLists,
+}
+
+/// What the cards that are in lists name, by numbers, as far as they have no fault.
+#[derive(Drop)]
+pub(crate) struct FoundLists {
     /// One for each item, in card order.
     pub rows: Vec<ItemRow>,
     /// One for each activity, in card order.
@@ -31,22 +37,15 @@ pub(crate) struct Numbers {
     pub figures: Figures,
 }
 
-/// What the cards that stand in lists name, by numbers, as far as they have no fault.
-#[derive(Drop)]
-pub(crate) struct FoundLists {
-    pub rows: Vec<ItemRow>,
-    pub placements: Vec<Placement>,
-    pub pieces: Vec<PieceRow>,
-    pub loads: Vec<LoadItem>,
-    pub figures: Figures,
-}
-
-/// Looks up once what each card names, or answers the first fault of any card (F13 to F19, F41).
+/// Looks up once what each card names.
+///
+/// # Errors
+/// The first fault of any card (F13 to F19, F41), or out of memory.
 pub(crate) fn numbers_of(alloc: Global, cards: &Cards) -> Result<Numbers, DeckError>
     ensures numbers { IfOk result (AreNumbersOf cards.now) }
     ensures first { IfErr result (Refuses (IsFirst (HasMisfit cards.now))) }
 {
-    let mut found = FoundLists {
+    let mut lists = FoundLists {
         rows: Vec::new(alloc),
         placements: Vec::new(alloc),
         pieces: Vec::new(alloc),
@@ -58,23 +57,16 @@ pub(crate) fn numbers_of(alloc: Global, cards: &Cards) -> Result<Numbers, DeckEr
             statuses: Vec::new(alloc),
         },
     };
-    let of_lists = found.look_up(cards)?;
+    let of_lists = lists.look_up(cards)?;
     match (ends_of(cards), of_lists) {
-        (Ok(ends), None) => Ok(Numbers {
-            ends,
-            rows: found.rows,
-            placements: found.placements,
-            pieces: found.pieces,
-            loads: found.loads,
-            figures: found.figures,
-        }),
+        (Ok(ends), None) => Ok(Numbers { ends, lists }),
         (Ok(_), Some(fault)) => Err(DeckError::Fault(fault)),
         (Err(first), fault) => Err(DeckError::Fault(earlier_of(first, fault))),
     }
 }
 
 impl FoundLists {
-    /// Looks up what each card of a list names, and answers the first fault of these cards.
+    /// Looks up what each card of a list names, and returns the first fault of these cards.
     fn look_up(&mut self, cards: &Cards) -> Result<Option<Fault>, AllocError>
         requires rows { self.old.rows.items ≡ [] }
         requires placements { self.old.placements.items ≡ [] }

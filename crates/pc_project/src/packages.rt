@@ -1,7 +1,5 @@
 //! Whether the budgets of each package are the costs of its activities.
-ghost use Rattle.std.specs.Prelude.{◌≡◌, ◌<◌, length, map, IfOk, IfErr, OnOk};
-ghost use Rattle.pc_wbs.specs.Climb.{IsTree};
-ghost use Rattle.pc_accounts.specs.Packages.{IsUneven};
+ghost use Rattle.std.specs.Prelude.{◌≡◌, ◌<◌, map, IfOk, IfErr, OnOk};
 ghost use Rattle.pc_accounts.specs.inside.Packages.{IsFirstUneven};
 ghost use Rattle.pc_faults.specs.inside.First.{Refuses};
 ghost use Rattle.pc_project.specs.Misfit.{HasNoMisfit};
@@ -20,7 +18,10 @@ use pc_faults::{DeckError, Fault};
 use pc_wbs::Tree;
 use std::alloc::{AllocError, Global};
 
-/// Answers the fault of the first uneven package, if there is one (F29).
+/// Checks that the budgets of each package are the costs of its activities.
+///
+/// # Errors
+/// The fault of the first uneven package (F29), or out of memory.
 pub(crate) fn check_packages(
     alloc: Global,
     cards: &Cards,
@@ -32,14 +33,14 @@ pub(crate) fn check_packages(
     ensures even { OnOk result (IsEven cards.now) }
     ensures first { IfErr result (Refuses (IsFirstUnevenFault cards.now)) }
 {
-    let work = work_rows(alloc, cards, &numbers.placements)?;
-    match reconcile(alloc, tree, &numbers.figures.accounts, &work) {
+    let work = work_rows(alloc, cards, &numbers.lists.placements)?;
+    match reconcile(alloc, tree, &numbers.lists.figures.accounts, &work) {
         Ok(()) => Ok(()),
         Err(uneven) => Err(fault_of(cards, uneven)),
     }
 }
 
-/// The fault by which an uneven package is told.
+/// Returns the fault that reports an uneven package.
 fn fault_of(cards: &Cards, uneven: Uneven) -> DeckError
     requires faultless { HasNoMisfit cards.now }
     requires first { IsFirstUneven (accounts_in cards.now) (work_in cards.now) uneven }
@@ -58,7 +59,6 @@ fn fault_of(cards: &Cards, uneven: Uneven) -> DeckError
     }
 }
 
-/// The activities' items and costs.
 fn work_rows(
     alloc: Global,
     cards: &Cards,

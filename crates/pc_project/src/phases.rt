@@ -1,19 +1,17 @@
 //! From the cards of a deck to its project, phase by phase.
-ghost use Rattle.std.specs.Prelude.{◌≡◌, length, map, IfOk, IfErr, OnOk};
+ghost use Rattle.std.specs.Prelude.{◌≡◌, length, IfOk, IfErr, OnOk};
 ghost use Rattle.pc_accounts.specs.Amounts.{AreEntriesOf};
 ghost use Rattle.pc_accounts.specs.Entries.{AreSmall};
-ghost use Rattle.pc_deck.specs.Deck.{act_codes, event_codes};
 ghost use Rattle.pc_faults.specs.declared.fault.Fault.{Fault};
 ghost use Rattle.pc_faults.specs.inside.First.{Refuses};
 ghost use Rattle.pc_project.specs.DisorderFaults.{as_of_in};
 ghost use Rattle.pc_project.specs.Figures.{AreStatesOf, IsProjectOfDeck};
-ghost use Rattle.pc_project.specs.inside.Numbered.{AreNumbersOf};
+ghost use Rattle.pc_project.specs.inside.Numbered.{AreNumbersOf, AreProjectLists};
 ghost use Rattle.pc_project.specs.inside.Parts.{project_with};
 ghost use Rattle.pc_project.specs.Planned.{IsPlanned};
 ghost use Rattle.pc_project.specs.PieceFaults.{HasNoPieceFault};
-ghost use Rattle.pc_project.specs.Project.{accounts_in, charges_in, expected_of, network_of, place_of, rows_of, statuses_in};
-ghost use Rattle.pc_project.specs.Project.{term_of, togos_in, variance_in};
 ghost use Rattle.pc_project.specs.Makes.{MakesProject};
+ghost use Rattle.pc_project.specs.Project.{accounts_in, charges_in, network_of, rows_of, statuses_in, togos_in};
 ghost use Rattle.pc_project.specs.Refusal.{HasNoFault, HasSoundFigures, HasSoundPlan, IsRefusedWith};
 ghost use Rattle.pc_project.specs.TermsFaults.{HasTermsFault};
 
@@ -21,22 +19,23 @@ use crate::lists::Lists;
 use crate::network::net_of;
 use crate::numbers::{Numbers, numbers_of};
 use crate::pieces::first_piece_fault;
-use crate::plan::Plan;
-use crate::progress::{Progress, progress_of};
+use crate::plan::{Frame, Plan};
+use crate::progress::progress_of;
 use crate::project::Project;
 use crate::tree::tree_between;
 use pc_deck::Cards;
 use pc_faults::{DeckError, Fault};
-use pc_net::Net;
-use pc_wbs::Tree;
 use std::alloc::Global;
 
-/// The project of the cards, or the first fault that keeps them from making one: of the cards one by one, or else of
-/// the tree of their items, or else of the network of their activities, or else of the items that activities and accounts
-/// stand on, or else of the budgets of packages, or else of statuses and as-of, or else of second amounts to go, or else of
-/// the pieces of the activities' costs, or else of the terms of time.
+/// Makes the project of the cards, and keeps the cards in it.
 ///
-/// It takes time in proportion to the cards, and keeps them.
+/// Linear in the cards.
+///
+/// # Errors
+/// The first fault of the first phase that has one, or out of memory. The phases are: the cards one by one (F13 to F19,
+/// F41), the tree of the items (F20 to F23), the network of the activities (F24 to F27), the items of activities and
+/// accounts (F28), the budgets of packages (F29), statuses and as-of (F30), second amounts to go (F31), the pieces of
+/// the activities' costs (F33 to F35), and the terms of time (F36).
 pub fn project_of(alloc: Global, cards: Cards) -> Result<Project, DeckError>
     ensures project { IfOk result (IsProjectOfDeck cards) }
     ensures makes { IfOk result (λ _. MakesProject cards) }
@@ -48,16 +47,6 @@ pub fn project_of(alloc: Global, cards: Cards) -> Result<Project, DeckError>
     }
 }
 
-/// What cards come to beside what they name.
-#[derive(Drop)]
-struct Frame {
-    tree: Tree,
-    net: Net,
-    progress: Progress,
-    lists: Lists,
-}
-
-/// What the cards come to, or the first fault that keeps them from making a project.
 fn plan_of(alloc: Global, cards: &Cards) -> Result<Plan, DeckError>
     ensures plan { IfOk result (λ plan. IsPlanned (project_with cards.now plan)) }
     ensures refused { IfErr result (Refuses (IsRefusedWith cards.now)) }
@@ -68,21 +57,16 @@ fn plan_of(alloc: Global, cards: &Cards) -> Result<Plan, DeckError>
     };
     match frame_of(alloc, cards, &numbers) {
         Ok(frame) => Ok(Plan {
-            net: frame.net,
-            tree: frame.tree,
-            lists: frame.lists,
-            pieces: numbers.pieces,
-            loads: numbers.loads,
-            figures: numbers.figures,
-            book: frame.progress.book,
-            states: frame.progress.states,
+            frame,
+            pieces: numbers.lists.pieces,
+            loads: numbers.lists.loads,
+            figures: numbers.lists.figures,
         }),
         Err(error) => Err(error),
     }
 }
 
-/// What the cards come to around what they name, or the first fault that keeps them from making a project: one phase
-/// after another, each of which may take it that those before it found no fault, and answers its own first one.
+/// Goes through the phases after the look-ups. Each phase relies on the earlier ones having found no fault.
 fn frame_of(alloc: Global, cards: &Cards, numbers: &Numbers) -> Result<Frame, DeckError>
     requires { AreNumbersOf cards.now numbers.now }
     ensures makes { OnOk result (HasNoFault cards.now) }
@@ -93,17 +77,10 @@ fn frame_of(alloc: Global, cards: &Cards, numbers: &Numbers) -> Result<Frame, De
     ensures small { IfOk result (λ frame. AreSmall frame.progress.book) }
     ensures states { IfOk result (λ frame. AreStatesOf cards.now.project.start_day (statuses_in cards.now)
         (length cards.now.acts) frame.progress.states.items) }
-    ensures events { IfOk result (λ frame. frame.lists.events.items ≡ event_codes cards.now) }
-    ensures activities { IfOk result (λ frame. frame.lists.activities.items ≡ act_codes cards.now) }
-    ensures places { IfOk result (λ frame. frame.lists.places.items ≡ map (place_of cards.now) cards.now.acts) }
-    ensures terms { IfOk result (λ frame. frame.lists.terms.items ≡ map term_of cards.now.acts) }
-    ensures expected { IfOk result (λ frame. frame.lists.expected.items
-        ≡ map (expected_of cards.now) cards.now.acts) }
-    ensures variances { IfOk result (λ frame. frame.lists.variances.items
-        ≡ map (variance_in cards.now) cards.now.acts) }
+    ensures lists { IfOk result (λ frame. AreProjectLists cards.now frame.lists) }
     ensures refused { IfErr result (Refuses (IsRefusedWith cards.now)) }
 {
-    let tree = match tree_between(alloc, cards.items(), &numbers.rows) {
+    let tree = match tree_between(alloc, cards.items(), &numbers.lists.rows) {
         Ok(tree) => tree,
         Err(error) => return Err(error),
     };
@@ -115,7 +92,7 @@ fn frame_of(alloc: Global, cards: &Cards, numbers: &Numbers) -> Result<Frame, De
         Ok(progress) => progress,
         Err(error) => return Err(error),
     };
-    // What the book keeps to.
+    // Called for the bound on each entry (`AreSmall`), which the book's type keeps.
     let _entries = progress.book.entries();
     match lists_of(alloc, cards, numbers) {
         Ok(lists) => Ok(Frame {
@@ -128,19 +105,13 @@ fn frame_of(alloc: Global, cards: &Cards, numbers: &Numbers) -> Result<Frame, De
     }
 }
 
-/// The lists of a project with sound figures, or the first fault of its pieces, or else of the terms of time (F33 to
-/// F36).
+/// Returns the lists of a project with sound figures, or the first fault of its pieces or terms of time (F33 to F36).
 fn lists_of(alloc: Global, cards: &Cards, numbers: &Numbers) -> Result<Lists, DeckError>
     requires plan { HasSoundPlan cards.now }
     requires figures { HasSoundFigures cards.now }
     requires numbers { AreNumbersOf cards.now numbers.now }
     ensures makes { OnOk result (HasNoFault cards.now) }
-    ensures events { IfOk result (λ lists. lists.events.items ≡ event_codes cards.now) }
-    ensures activities { IfOk result (λ lists. lists.activities.items ≡ act_codes cards.now) }
-    ensures places { IfOk result (λ lists. lists.places.items ≡ map (place_of cards.now) cards.now.acts) }
-    ensures terms { IfOk result (λ lists. lists.terms.items ≡ map term_of cards.now.acts) }
-    ensures expected { IfOk result (λ lists. lists.expected.items ≡ map (expected_of cards.now) cards.now.acts) }
-    ensures variances { IfOk result (λ lists. lists.variances.items ≡ map (variance_in cards.now) cards.now.acts) }
+    ensures lists { IfOk result (AreProjectLists cards.now) }
     ensures refused { IfErr result (Refuses (IsRefusedWith cards.now)) }
 {
     if let Err(error) = check_costs(alloc, cards, numbers) {
@@ -154,13 +125,13 @@ fn lists_of(alloc: Global, cards: &Cards, numbers: &Numbers) -> Result<Lists, De
         expected: Vec::new(alloc),
         variances: Vec::new(alloc),
     };
-    match lists.fill(alloc, cards, &numbers.placements) {
+    match lists.fill(alloc, cards, &numbers.lists.placements) {
         Ok(()) => Ok(lists),
         Err(_) => Err(DeckError::OutOfMemory),
     }
 }
 
-/// Answers the first fault of the pieces, or else of the terms of time, of a project with sound figures (F33 to F36).
+/// Checks the pieces, and then the terms of time, of a project with sound figures (F33 to F36).
 fn check_costs(alloc: Global, cards: &Cards, numbers: &Numbers) -> Result<(), DeckError>
     requires plan { HasSoundPlan cards.now }
     requires figures { HasSoundFigures cards.now }
@@ -169,7 +140,7 @@ fn check_costs(alloc: Global, cards: &Cards, numbers: &Numbers) -> Result<(), De
     ensures terms { OnOk result ((fault : Fault) → HasTermsFault cards.now fault → ⊥) }
     ensures refused { IfErr result (Refuses (IsRefusedWith cards.now)) }
 {
-    if let Some(fault) = first_piece_fault(alloc, cards, &numbers.pieces)? {
+    if let Some(fault) = first_piece_fault(alloc, cards, &numbers.lists.pieces)? {
         return Err(DeckError::Fault(fault));
     }
     match cards.terms() {

@@ -1,4 +1,4 @@
-//! The pieces of the activities' costs, or why they are none.
+//! Whether the pieces of the activities' costs have a fault.
 ghost use Rattle.std.specs.Prelude.{◌≡◌, ◌+◌, ◌^◌, ◌<◌, IfOk, map, slice_set};
 ghost use Rattle.pc_faults.specs.inside.First.{IsFirstIn};
 ghost use Rattle.pc_project.specs.Misfit.{HasNoMisfit};
@@ -11,8 +11,8 @@ use pc_faults::{Fault, earliest};
 use pc_model::{MAX_PIECES_EACH, PieceRow};
 use std::alloc::{AllocError, Global};
 
-/// What the pieces of one activity come to, as far as they were read: how many there are, what the last of them costs
-/// for each unit, or else the activity itself, and how many units they have.
+/// The pieces of one activity read so far: how many there are, the slope of the last one (or else of the activity
+/// itself), and the units of all of them.
 #[derive(Clone, Copy)]
 pub(crate) struct Run {
     pub count: usize,
@@ -20,7 +20,7 @@ pub(crate) struct Run {
     pub units: u64,
 }
 
-/// The first fault of the pieces, if they have one (F33 to F35). One pass.
+/// Returns the first fault of the pieces, if they have one (F33 to F35), in one pass.
 pub(crate) fn first_piece_fault(
     alloc: Global,
     cards: &Cards,
@@ -39,7 +39,7 @@ pub(crate) fn first_piece_fault(
     Ok(fault)
 }
 
-/// The first fault of a piece, which a card gives, behind those of its activity that were read; from then on it is one of them.
+/// Returns the first fault of a piece after those of its activity that were read, and adds the piece to them.
 fn take_in(
     runs: &mut Vec<Run>,
     acts: &[ActCard],
@@ -63,7 +63,7 @@ fn take_in(
     fault
 }
 
-/// What the activities come to before any piece.
+/// Returns the run of each activity before any piece was read.
 fn first_runs(alloc: Global, acts: &[ActCard]) -> Result<Vec<Run>, AllocError>
     ensures { IfOk result (λ runs. runs.items
         ≡ map (λ act. record { count = 0; slope = act.slope; units = 0 }) acts.now) }
@@ -77,7 +77,6 @@ fn first_runs(alloc: Global, acts: &[ActCard]) -> Result<Vec<Run>, AllocError>
         .collect(alloc)
 }
 
-/// The first fault of a piece, which a card gives, behind those of its activity that were read.
 fn flaw(act: &ActCard, run: Run, piece: PieceRow, card: &PieceCard) -> Option<Fault>
     requires { act.now.crash + (run.units + piece.units) < 2 ^ 64 }
     ensures { IsFirstIn (HasFlaw (term_of act.now) run.count run.slope run.units piece card.now.row

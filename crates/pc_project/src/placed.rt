@@ -1,4 +1,4 @@
-//! What each kind of card names, looked up, or the card's first fault.
+//! The look-up of what a card names, for each kind of card.
 ghost use Rattle.std.specs.Prelude.{◌≡◌, ◌↔◌, IsTrue, IfOk, IfErr, OnOk};
 ghost use Rattle.pc_faults.specs.First.{IsFirst};
 ghost use Rattle.pc_faults.specs.declared.fault.Fault.{Fault};
@@ -14,7 +14,7 @@ use pc_faults::Fault;
 use pc_model::{Arc, PieceRow};
 use pc_wbs::ItemRow;
 
-/// Where an activity stands: between which events, and at which item.
+/// The place of an activity: its two events and its item.
 #[derive(Clone, Copy)]
 pub(crate) struct Placement {
     pub arc: Arc,
@@ -28,7 +28,7 @@ pub(crate) struct Ends {
     pub end: u32,
 }
 
-/// Looks up the start and the end, or answers the PROJECT card's first fault.
+/// Looks up the start and the end, or returns the PROJECT card's first fault.
 pub(crate) fn ends_of(cards: &Cards) -> Result<Ends, Fault>
     ensures start { IfOk result (λ ends. ends.start ≡ (network_of cards.now).start) }
     ensures end { IfOk result (λ ends. ends.end ≡ (network_of cards.now).end) }
@@ -71,7 +71,6 @@ impl Refers for ItemCard {
     }
 }
 
-/// Whether the estimates of an activity are in order.
 fn is_in_order(act: &ActCard) -> bool
     ensures { IsTrue result ↔ IsInOrder act.now }
 {

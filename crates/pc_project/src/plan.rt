@@ -1,42 +1,40 @@
-//! What is worked out of the cards of a deck.
+//! What is derived from the cards of a deck.
 
 use crate::figures::Figures;
 use crate::lists::Lists;
 use crate::load::LoadItem;
-use pc_accounts::Book;
+use crate::progress::Progress;
 use pc_model::PieceRow;
 use pc_net::Net;
-use pc_times::ActState;
 use pc_wbs::Tree;
 
-/// What the cards of a project come to, with numbers for codes: events, activities, items, accounts and resources are counted
-/// in card order from 0. The lists have one for each card of their kind, in card order; the codes stand apart from their cards
-/// for those who want them in a row.
+/// What is derived from the cards of a project, with numbers in place of codes: events, activities, items, accounts and
+/// resources are counted in card order from 0. Each list has one entry per card of its kind, in card order. Codes are
+/// repeated in lists of their own for callers that take them as slices.
 pub(crate) struct Plan {
-    pub net: Net,
-    pub tree: Tree,
-    pub lists: Lists,
+    pub frame: Frame,
     pub pieces: Vec<PieceRow>,
     pub loads: Vec<LoadItem>,
     pub figures: Figures,
-    /// What each account has come to.
-    pub book: Book,
-    /// How far each activity is.
-    pub states: Vec<ActState>,
+}
+
+/// What the phases after the look-ups give.
+#[derive(Drop)]
+pub(crate) struct Frame {
+    pub tree: Tree,
+    pub net: Net,
+    pub progress: Progress,
+    pub lists: Lists,
 }
 
 impl Drop for Plan {
-    // Written out, so that who lets a plan go cites this proof, and none goes through all its lists again.
+    // Written by hand so that the proof of dropping a plan, with all its lists, is done once, here.
     fn drop(self) {
         let Plan {
-            net: _,
-            tree: _,
-            lists: _,
+            frame: _,
             pieces: _,
             loads: _,
             figures: _,
-            book: _,
-            states: _,
         } = self;
     }
 }

@@ -6,9 +6,12 @@ use pc_crash::CrashNet;
 use std::alloc::{AllocError, Global};
 
 impl Project {
-    /// The network with what its activities may last and cost, for all that asks for the time-cost curve.
+    /// Returns the network with what its activities may last and cost, for everything about the time-cost curve.
     ///
     /// Linear in events, activities and pieces.
+    ///
+    /// # Errors
+    /// Out of memory.
     pub fn priced(&self, alloc: Global) -> Result<CrashNet<'_>, AllocError>
         ensures network { IfOk result (λ priced. priced.network ≡ self.now.network) }
         ensures terms { IfOk result (λ priced. priced.terms ≡ self.now.terms) }
@@ -19,12 +22,12 @@ impl Project {
     {
         CrashNet::build(
             alloc,
-            &self.plan.net,
-            &self.plan.lists.terms,
+            &self.plan.frame.net,
+            &self.plan.frame.lists.terms,
             &self.plan.pieces,
             self.cards.project().code,
-            &self.plan.lists.events,
-            &self.plan.lists.activities,
+            &self.plan.frame.lists.events,
+            &self.plan.frame.lists.activities,
         )
     }
 }

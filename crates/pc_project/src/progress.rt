@@ -1,4 +1,4 @@
-//! What the accounts of a project have come to and how far its activities are, or why that can't be said.
+//! The amounts of a project's accounts and the progress of its activities, or the fault of their cards.
 ghost use Rattle.std.specs.Prelude.{◌≡◌, length, IfOk, IfErr, OnOk};
 ghost use Rattle.pc_accounts.specs.Amounts.{AreEntriesOf};
 ghost use Rattle.pc_faults.specs.inside.First.{Refuses};
@@ -20,15 +20,18 @@ use pc_times::ActState;
 use pc_wbs::Tree;
 use std::alloc::Global;
 
-/// What the accounts of a project have come to, and how far its activities are.
+/// The amounts of a project's accounts, and how far its activities are.
 #[derive(Drop)]
 pub(crate) struct Progress {
     pub book: Book,
+    /// How far each activity is, in card order.
     pub states: Vec<ActState>,
 }
 
-/// The progress of a project with a sound plan, or the first fault of packages, of statuses and as-of, or of amounts to go
-/// (F28 to F31).
+/// Returns the progress of a project with a sound plan.
+///
+/// # Errors
+/// The first fault of leaves, packages, statuses and as-of, or amounts to go (F28 to F31), or out of memory.
 pub(crate) fn progress_of(
     alloc: Global,
     cards: &Cards,

@@ -1,4 +1,4 @@
-//! The project as one value.
+//! A project as one value.
 ghost use Rattle.std.specs.Prelude.{◌≡◌, ◌^◌, ◌<◌, ◌≤◌, length, slice_index_or, []};
 ghost use Rattle.pc_model.specs.declared.limits.TheConstants.{MAX_UNIT_DAYS};
 ghost use Rattle.pc_accounts.specs.status.Statuses.{IsSixths};
@@ -22,16 +22,17 @@ use pc_times::ActState;
 use pc_wbs::Tree;
 use std::marker::Model;
 
-/// What a deck says, with numbers for codes: events, activities and items are counted in card order from 0.
+/// A project: what a deck says, with numbers in place of codes.
 ///
-/// It keeps the cards themselves, so that nothing that they say is lost.
+/// Events, activities, items, accounts and resources are counted in card order from 0. The project keeps the cards
+/// themselves, so that nothing that they say is lost.
 pub struct Project {
     pub(crate) cards: Cards,
     pub(crate) plan: Plan,
 }
 
 impl Drop for Project {
-    // Written out, so that who lets a project go cites this proof.
+    // Written by hand so that the proof of dropping a project is done once, here.
     fn drop(self) {
         let Project { cards: _, plan: _ } = self;
     }
@@ -50,28 +51,28 @@ impl Model for Project {
 }
 
 impl Project {
-    /// The project's code.
+    /// Returns the project's code.
     pub fn code(&self) -> Code
         ensures { result ≡ self.now.heading.code }
     {
         self.cards.project().code
     }
 
-    /// The day on which the project starts.
+    /// Returns the day on which the project starts.
     pub fn start_day(&self) -> Day
         ensures { result ≡ self.now.heading.start_day }
     {
         self.cards.project().start_day
     }
 
-    /// The day that the figures are of: the ASOF card's, or the start day where there is no such card.
+    /// Returns the as-of day: the ASOF card's, or the start day if there is no such card.
     pub fn as_of(&self) -> Day
         ensures { result ≡ self.now.heading.as_of }
     {
         as_of(&self.cards)
     }
 
-    /// How many days a unit is, 1 to 7.
+    /// Returns the number of days in a unit, 1 to 7.
     pub fn unit_days(&self) -> u64
         ensures unit { result ≡ self.now.heading.unit_days }
         ensures within { result ≤ MAX_UNIT_DAYS }
@@ -79,7 +80,7 @@ impl Project {
         self.cards.project().unit_days
     }
 
-    /// The end to be met, in days from the start, where one is given.
+    /// Returns the directed end, in days from the start, if the deck gives one.
     pub fn directed(&self) -> Option<u64>
         ensures directed { result ≡ self.now.heading.directed }
         ensures planned { IsPlanned self.now }
@@ -87,23 +88,23 @@ impl Project {
         self.cards.project().directed
     }
 
-    /// The network of the activities.
+    /// Returns the network of the activities.
     pub fn net(&self) -> &Net
         ensures network { result.now ≡ self.now.network }
         ensures planned { IsPlanned self.now }
     {
-        &self.plan.net
+        &self.plan.frame.net
     }
 
-    /// The tree of the items.
+    /// Returns the tree of the items.
     pub fn tree(&self) -> &Tree
         ensures tree { result.now ≡ self.now.tree }
         ensures planned { IsPlanned self.now }
     {
-        &self.plan.tree
+        &self.plan.frame.tree
     }
 
-    /// How many cards of each kind the deck has.
+    /// Returns the number of cards of each kind.
     pub fn counts(&self) -> Counts
         ensures { result ≡ self.now.counts }
     {
@@ -119,27 +120,27 @@ impl Project {
         }
     }
 
-    /// The code of an event.
+    /// Returns the code of an event.
     pub fn event_code(&self, e: u32) -> Code
         requires { e < self.now.network.events }
         ensures { result ≡ slice_index_or self.now.events e [] }
     {
-        self.plan.lists.events[e as usize]
+        self.plan.frame.lists.events[e as usize]
     }
 
-    /// What is known of an activity.
+    /// Returns an activity's codes, numbers, durations and costs.
     pub fn activity(&self, a: u32) -> Activity
         requires { a < length self.now.network.arcs }
         ensures { result ≡ activity_at self.now a }
     {
-        let term = self.plan.lists.terms[a as usize];
+        let term = self.plan.frame.lists.terms[a as usize];
         Activity {
-            code: self.plan.lists.activities[a as usize],
-            from: self.plan.net.from(a),
-            to: self.plan.net.to(a),
-            item: self.plan.lists.places[a as usize],
-            expected: self.plan.lists.expected[a as usize],
-            variance: self.plan.lists.variances[a as usize],
+            code: self.plan.frame.lists.activities[a as usize],
+            from: self.plan.frame.net.from(a),
+            to: self.plan.frame.net.to(a),
+            item: self.plan.frame.lists.places[a as usize],
+            expected: self.plan.frame.lists.expected[a as usize],
+            variance: self.plan.frame.lists.variances[a as usize],
             normal: term.normal,
             crash: term.crash,
             cost: term.cost,
@@ -147,7 +148,7 @@ impl Project {
         }
     }
 
-    /// The code of an item.
+    /// Returns the code of an item.
     pub fn item_code(&self, i: u32) -> Code
         requires { i < length self.now.tree }
         ensures { result ≡ slice_index_or self.now.items i [] }
@@ -155,7 +156,7 @@ impl Project {
         self.cards.items()[i as usize].code
     }
 
-    /// The title of an item.
+    /// Returns the title of an item.
     pub fn item_title(&self, i: u32) -> &Title
         requires { i < length self.now.tree }
         ensures { result.now ≡ slice_index_or self.now.titles i [] }
@@ -163,58 +164,58 @@ impl Project {
         &self.cards.items()[i as usize].title
     }
 
-    /// The codes of the events.
+    /// Returns the code of each event, in card order.
     pub fn event_codes(&self) -> &[Code]
         ensures codes { result.now ≡ self.now.events }
         ensures each { length result.now ≡ self.now.network.events }
         ensures planned { IsPlanned self.now }
     {
-        &self.plan.lists.events
+        &self.plan.frame.lists.events
     }
 
-    /// The codes of the activities.
+    /// Returns the code of each activity, in card order.
     pub fn activity_codes(&self) -> &[Code]
         ensures codes { result.now ≡ self.now.activities }
         ensures each { length result.now ≡ length self.now.network.arcs }
         ensures planned { IsPlanned self.now }
     {
-        &self.plan.lists.activities
+        &self.plan.frame.lists.activities
     }
 
-    /// What each activity may last, in units, and costs.
+    /// Returns what each activity may last, in units, and costs, in card order.
     pub fn activity_terms(&self) -> &[Term]
         ensures terms { result.now ≡ self.now.terms }
         ensures planned { IsPlanned self.now }
     {
-        &self.plan.lists.terms
+        &self.plan.frame.lists.terms
     }
 
-    /// The expected time of each activity, in sixths of a day.
+    /// Returns the expected time of each activity, in sixths of a day, in card order.
     pub fn expected(&self) -> &[u64]
         ensures expected { result.now ≡ self.now.expected }
         ensures planned { IsPlanned self.now }
     {
-        &self.plan.lists.expected
+        &self.plan.frame.lists.expected
     }
 
-    /// The variance of each activity's time, in thirty-sixths of a square day.
+    /// Returns the variance of each activity's time, in thirty-sixths of a squared day, in card order.
     pub fn variances(&self) -> &[u64]
         ensures variances { result.now ≡ self.now.variances }
         ensures each { length result.now ≡ length self.now.network.arcs }
         ensures planned { IsPlanned self.now }
     {
-        &self.plan.lists.variances
+        &self.plan.frame.lists.variances
     }
 
-    /// The item on which each activity stands.
+    /// Returns the number of each activity's item, in card order.
     pub fn places(&self) -> &[u32]
         ensures places { result.now ≡ self.now.places }
         ensures planned { IsPlanned self.now }
     {
-        &self.plan.lists.places
+        &self.plan.frame.lists.places
     }
 
-    /// The further pieces of the activities' costs.
+    /// Returns the further pieces of the activities' costs, one per PIECE card, in card order.
     pub fn pieces(&self) -> &[PieceRow]
         ensures pieces { result.now ≡ self.now.pieces }
         ensures planned { IsPlanned self.now }
@@ -222,8 +223,8 @@ impl Project {
         &self.plan.pieces
     }
 
-    /// What each unit of the project's length costs, the target, and what each unit before it brings and each unit after it
-    /// costs. All are 0 where the deck has no TERMS card.
+    /// Returns the terms of time: the cost of each unit of the project's length, the target in units, the bonus for
+    /// each unit before the target, and the penalty for each unit after it. All are 0 if the deck has no TERMS card.
     pub fn terms(&self) -> (u64, u64, u64, u64)
         ensures overhead { result.0 ≡ self.now.time_terms.overhead }
         ensures target { result.1 ≡ self.now.time_terms.target }
@@ -237,7 +238,7 @@ impl Project {
         }
     }
 
-    /// How many resources there are.
+    /// Returns the number of resources.
     pub fn resource_count(&self) -> u32
         ensures count { result ≡ length self.now.resources }
         ensures planned { IsPlanned self.now }
@@ -245,7 +246,7 @@ impl Project {
         self.cards.resources().len() as u32
     }
 
-    /// The code of a resource.
+    /// Returns the code of a resource.
     pub fn resource_code(&self, r: u32) -> Code
         requires { r < length self.now.resources }
         ensures { result ≡ slice_index_or self.now.resources r [] }
@@ -253,7 +254,7 @@ impl Project {
         self.cards.resources()[r as usize].code
     }
 
-    /// The loads of the activities on the resources.
+    /// Returns the loads of activities on resources, one per LOAD card, in card order.
     pub fn loads(&self) -> &[LoadItem]
         ensures loads { result.now ≡ self.now.loads }
         ensures planned { IsPlanned self.now }
@@ -261,7 +262,7 @@ impl Project {
         &self.plan.loads
     }
 
-    /// The cost accounts, each on its leaf of the tree.
+    /// Returns the cost accounts, each with its leaf of the tree, in card order.
     pub fn accounts(&self) -> &[AcctRow]
         ensures accounts { result.now ≡ self.now.accounts }
         ensures planned { IsPlanned self.now }
@@ -269,7 +270,7 @@ impl Project {
         &self.plan.figures.accounts
     }
 
-    /// What the accounts were charged, whenever.
+    /// Returns the charges to accounts of all days, in card order.
     pub fn charges(&self) -> &[MoneyRow]
         ensures charges { result.now ≡ self.now.charges }
         ensures planned { IsPlanned self.now }
@@ -277,7 +278,7 @@ impl Project {
         &self.plan.figures.charges
     }
 
-    /// What was to go of the accounts, on each day of which a card says it.
+    /// Returns the amounts to go of accounts on the days for which cards give them, in card order.
     pub fn togos(&self) -> &[MoneyRow]
         ensures togos { result.now ≡ self.now.togos }
         ensures planned { IsPlanned self.now }
@@ -285,15 +286,15 @@ impl Project {
         &self.plan.figures.togos
     }
 
-    /// What each account has spent up to as-of, and what is to go.
+    /// Returns what each account has spent up to as-of, and its amount to go.
     pub fn book(&self) -> &Book
         ensures entries { result.now ≡ self.now.entries }
         ensures planned { IsPlanned self.now }
     {
-        &self.plan.book
+        &self.plan.frame.progress.book
     }
 
-    /// When activities were begun and ended, as the cards say it.
+    /// Returns the days on which activities began and ended, one per STATUS card, in card order.
     pub fn statuses(&self) -> &[StatusRow]
         ensures statuses { result.now ≡ self.now.statuses }
         ensures planned { IsPlanned self.now }
@@ -301,23 +302,23 @@ impl Project {
         &self.plan.figures.statuses
     }
 
-    /// How far each activity is, in sixths of a day from the start.
+    /// Returns how far each activity is, in sixths of a day from the start, in card order.
     pub fn states(&self) -> &[ActState]
         ensures states { result.now ≡ self.now.states }
         ensures planned { IsPlanned self.now }
     {
-        &self.plan.states
+        &self.plan.frame.progress.states
     }
 
-    /// How far an activity is, in sixths of a day from the start.
+    /// Returns how far an activity is, in sixths of a day from the start.
     pub fn state(&self, a: u32) -> ActState
         requires { a < length self.now.network.arcs }
         ensures { result ≡ state_at self.now.states a }
     {
-        self.plan.states[a as usize]
+        self.plan.frame.progress.states[a as usize]
     }
 
-    /// The day that the figures are of, in sixths of a day from the start.
+    /// Returns the as-of day, in sixths of a day from the start.
     pub fn as_of_time(&self) -> u64
         ensures time { IsSixths self.now.heading.start_day self.now.heading.as_of result }
         ensures small { result < 2 ^ 25 }

@@ -1,5 +1,5 @@
 //! Cards that name other cards by their codes.
-ghost use Rattle.std.specs.Prelude.{◌≡◌, ℕ, IfOk, IfErr, OnOk, None, map, take, []};
+ghost use Rattle.std.specs.Prelude.{◌≡◌, IfOk, IfErr, OnOk, None, map, []};
 ghost use Rattle.std.specs.List.{Any};
 ghost use Rattle.pc_deck.specs.Deck.{Deck};
 ghost use Rattle.pc_faults.specs.First.{IsFirst};
@@ -19,15 +19,16 @@ pub(crate) trait Refers: Copy {
 
     ghost HasFault: { Deck → Self → Fault → Type 0 };
 
-    /// Looks up what the card names, or answers the card's first fault.
+    /// Looks up what the card names, or returns the card's first fault.
     fn look_up(&self, cards: &Cards) -> Result<Self::Found, Fault>
         ensures found { IfOk result (λ found. found ≡ found_in cards.now self.now) }
         ensures faultless { OnOk result ((fault : Fault) → HasFault cards.now self.now fault → ⊥) }
         ensures first { IfErr result (IsFirst (HasFault cards.now self.now)) };
 }
 
-/// Looks up what each of the cards names, by numbers, as far as they have no fault, and answers the first of their
-/// faults.
+/// Looks up what each of the cards names, and returns the first fault of these cards.
+///
+/// The numbers are complete only if there is no fault.
 pub(crate) fn look_up_all<C: Refers>(
     cards: &Cards,
     list: &[C],

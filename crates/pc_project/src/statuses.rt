@@ -1,4 +1,4 @@
-//! How far the activities are, or which status is in disorder.
+//! How far the activities are, or the first STATUS card in disorder.
 ghost use Rattle.std.specs.Prelude.{◌≡◌, length, IfOk, IfErr, OnOk};
 ghost use Rattle.pc_faults.specs.First.{IsFirst};
 ghost use Rattle.pc_faults.specs.inside.First.{IsFirstIn, Refuses};
@@ -16,7 +16,7 @@ use pc_faults::{DeckError, Fault, StatusFault, earliest};
 use pc_times::ActState;
 use std::alloc::{AllocError, Global};
 
-/// The day that the figures are of: the ASOF card's, or the start where there is none.
+/// Returns the as-of day: the ASOF card's, or the start day if there is no such card.
 pub(crate) fn as_of(cards: &Cards) -> Day
     ensures { result ≡ as_of_in cards.now }
 {
@@ -26,7 +26,10 @@ pub(crate) fn as_of(cards: &Cards) -> Day
     }
 }
 
-/// How far each activity is, or the first fault of statuses and as-of (F30).
+/// Returns how far each activity is.
+///
+/// # Errors
+/// The first fault of statuses and as-of (F30), or out of memory.
 pub(crate) fn states_of(
     alloc: Global,
     cards: &Cards,
@@ -39,12 +42,11 @@ pub(crate) fn states_of(
     ensures first { IfErr result (Refuses (IsFirst (HasDisorder cards.now))) }
 {
     let activities = cards.acts().len() as u32;
-    let statuses = Vec::from_slice(alloc, &numbers.figures.statuses)?;
+    let statuses = Vec::from_slice(alloc, &numbers.lists.figures.statuses)?;
     let log = Log::build(alloc, activities, statuses)?;
     states_in(alloc, cards, &log)
 }
 
-/// How far each activity is by the log, or the first fault of statuses and as-of.
 fn states_in(alloc: Global, cards: &Cards, log: &Log) -> Result<Vec<ActState>, DeckError>
     requires activities { log.now.activities ≡ length cards.now.acts }
     requires statuses { log.now.statuses ≡ statuses_in cards.now }
@@ -59,7 +61,7 @@ fn states_in(alloc: Global, cards: &Cards, log: &Log) -> Result<Vec<ActState>, D
     }
 }
 
-/// The fault of the ASOF card, where its date is before the start.
+/// Returns the fault of the ASOF card, if its day is before the start.
 fn as_of_fault(cards: &Cards) -> Option<Fault>
     ensures { IsFirstIn (IsEarlyAsOf cards.now) result }
 {
@@ -71,7 +73,6 @@ fn as_of_fault(cards: &Cards) -> Option<Fault>
     }
 }
 
-/// The first fault of the STATUS cards.
 fn status_fault(cards: &Cards, log: &Log) -> Option<Fault>
     requires { log.now.statuses ≡ statuses_in cards.now }
     ensures { IsFirstIn (HasStatusDisorder cards.now) result }
@@ -88,7 +89,7 @@ fn status_fault(cards: &Cards, log: &Log) -> Option<Fault>
     fault
 }
 
-/// How far each activity is by a log in order.
+/// Returns how far each activity is, by a log in order.
 fn states(alloc: Global, cards: &Cards, log: &Log) -> Result<Vec<ActState>, AllocError>
     requires activities { log.now.activities ≡ length cards.now.acts }
     requires in_order { AreInOrder cards.now.project.start_day (as_of_in cards.now) log.now.statuses }

@@ -1,10 +1,9 @@
-//! The book of the accounts, or which amount to go is a second one.
-ghost use Rattle.std.specs.Prelude.{◌≡◌, IfOk, IfErr, OnOk};
+//! The book of the accounts, or the first second amount to go.
+ghost use Rattle.std.specs.Prelude.{IfOk, IfErr, OnOk};
 ghost use Rattle.pc_accounts.specs.Amounts.{AreEntriesOf};
 ghost use Rattle.pc_accounts.specs.inside.Second.{IsRefusal};
 ghost use Rattle.pc_faults.specs.inside.First.{Refuses};
 ghost use Rattle.pc_project.specs.DisorderFaults.{as_of_in};
-ghost use Rattle.pc_project.specs.Misfit.{HasNoMisfit};
 ghost use Rattle.pc_project.specs.inside.Numbered.{AreNumbersOf};
 ghost use Rattle.pc_project.specs.Project.{accounts_in, charges_in, togos_in};
 ghost use Rattle.pc_project.specs.Refusal.{HasNoSecondToGo};
@@ -17,7 +16,10 @@ use pc_deck::Cards;
 use pc_faults::{DeckError, Fault};
 use std::alloc::Global;
 
-/// What each account has come to, or the fault of the first second amount to go of an account and a day (F31).
+/// Returns the book of the accounts.
+///
+/// # Errors
+/// The fault of the first TOGO card whose account and day an earlier one has (F31), or out of memory.
 pub(crate) fn book_of(alloc: Global, cards: &Cards, numbers: &Numbers) -> Result<Book, DeckError>
     requires { AreNumbersOf cards.now numbers.now }
     ensures entries { IfOk result (λ book. AreEntriesOf (accounts_in cards.now) (charges_in cards.now)
@@ -25,7 +27,7 @@ pub(crate) fn book_of(alloc: Global, cards: &Cards, numbers: &Numbers) -> Result
     ensures once { OnOk result (HasNoSecondToGo cards.now) }
     ensures first { IfErr result (Refuses (IsFirstSecondToGo cards.now)) }
 {
-    let figures = &numbers.figures;
+    let figures = &numbers.lists.figures;
     let as_of = as_of(cards);
     match Book::build(
         alloc,
@@ -39,7 +41,7 @@ pub(crate) fn book_of(alloc: Global, cards: &Cards, numbers: &Numbers) -> Result
     }
 }
 
-/// The fault by which a second amount to go is told.
+/// Returns the fault that reports a second amount to go.
 fn fault_of(cards: &Cards, error: BookError) -> DeckError
     requires { IsRefusal (togos_in cards.now) error }
     ensures { Refuses (IsFirstSecondToGo cards.now) result }

@@ -1,4 +1,4 @@
-//! The tree of the items, or why they are none.
+//! The tree of the items, or the fault of their parents.
 ghost use Rattle.std.specs.Prelude.{◌≡◌, ◌<◌, ◌≤◌, All, length, IfOk, IfErr, OnOk};
 ghost use Rattle.pc_model.specs.declared.limits.TheConstants.{MAX_ITEMS};
 ghost use Rattle.pc_wbs.specs.Climb.{AreInRange, IsTree};
@@ -14,7 +14,10 @@ use pc_faults::{DeckError, Fault};
 use pc_wbs::{ItemRow, Tree, TreeError};
 use std::alloc::{AllocError, Global};
 
-/// The tree of items with these parents, or the fault that keeps them from being one. A deck of any sort has its tree by it.
+/// Returns the tree of items with these parents, for a deck of any sort.
+///
+/// # Errors
+/// The first fault of the tree, tried in the order F20 to F23, or out of memory.
 pub fn tree_between(alloc: Global, items: &[ItemCard], rows: &[ItemRow]) -> Result<Tree, DeckError>
     requires each { length rows.now ≡ length items.now }
     requires few { length rows.now ≤ MAX_ITEMS }
@@ -29,7 +32,7 @@ pub fn tree_between(alloc: Global, items: &[ItemCard], rows: &[ItemRow]) -> Resu
     }
 }
 
-/// The fault by which a refusal of the tree is told.
+/// Returns the fault that reports a refusal of the tree.
 fn fault_of(alloc: Global, items: &[ItemCard], error: TreeError) -> DeckError
     requires { IsAbout (length items.now) error }
     ensures { Refuses (λ fault. tree_fault items.now error ≡ DeckError.Fault fault) result }
@@ -52,7 +55,6 @@ fn fault_of(alloc: Global, items: &[ItemCard], error: TreeError) -> DeckError
     }
 }
 
-/// The fault by which a loop of items is told.
 fn fault_of_loop(alloc: Global, items: &[ItemCard], round: &[u32]) -> Result<Fault, AllocError>
     requires some { 0 < length round.now }
     requires known { All (λ item. item < length items.now) round.now }

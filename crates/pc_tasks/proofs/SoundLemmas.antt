@@ -247,7 +247,8 @@ module _ (deck : Deck) (within : IsWithin Tasks deck) (none : HasNoMisfit deck) 
       over : (card : MoneyCard) → HasMoneyFault (drawn deck) card fault → HasMoneyFault deck card fault
       over card (plan.unknown_account m is) = plan.unknown_account m is
   figure-sound fault (plan.status any) =
-      none fault (has.status (any_of (λ (card : StatusCard). HasStatusFault (drawn deck) card fault) (λ card. has.HasNameFault deck card.row card.activity fault) deck.statuses (λ card h. over card h) any))
+      none fault (has.status (any_of (λ (card : StatusCard). HasStatusFault (drawn deck) card fault)
+      (λ card. has.HasNameFault deck card.row card.activity fault) deck.statuses (λ card h. over card h) any))
     where
       over : (card : StatusCard) → HasStatusFault (drawn deck) card fault → has.HasNameFault deck card.row card.activity fault
       over card (plan.HasStatusFault.unknown_activity m is) = has.HasNameFault.unknown_task (act-missing card.activity m) is
@@ -256,7 +257,8 @@ module _ (deck : Deck) (within : IsWithin Tasks deck) (none : HasNoMisfit deck) 
   listed-sound fault items_sound (plan.item any) = items_sound any
   listed-sound fault items_sound (plan.act any) = none_of (λ (act : ActCard). HasActFault (drawn deck) act fault) (drawn deck).acts (λ k d inside h. acts-sound k d inside fault h) any
   listed-sound fault items_sound (plan.piece any) =
-      none fault (has.piece (any_of (λ (card : PieceCard). HasPieceCardFault (drawn deck) card fault) (λ card. has.HasNameFault deck card.row card.activity fault) deck.pieces (λ card h. over card h) any))
+      none fault (has.piece (any_of (λ (card : PieceCard). HasPieceCardFault (drawn deck) card fault)
+      (λ card. has.HasNameFault deck card.row card.activity fault) deck.pieces (λ card h. over card h) any))
     where
       over : (card : PieceCard) → HasPieceCardFault (drawn deck) card fault → has.HasNameFault deck card.row card.activity fault
       over card (plan.HasPieceCardFault.unknown_activity m is) = has.HasNameFault.unknown_task (act-missing card.activity m) is

@@ -12,7 +12,7 @@ use pc_deck::{AfterCard, TaskCards};
 use pc_faults::{Fault, earliest};
 use std::alloc::{AllocError, Global};
 
-/// Which task comes after which, one row for each card that has no fault, in card order, and the first fault of any card.
+/// Which task comes after which: one row per card without a fault, in card order, and the first fault of any card.
 #[derive(Drop)]
 pub(crate) struct FoundAfters {
     pub rows: Vec<AfterRow>,
@@ -37,7 +37,7 @@ pub(crate) fn find_afters(alloc: Global, cards: &TaskCards) -> Result<FoundAfter
     Ok(FoundAfters { rows, fault })
 }
 
-/// The tasks of an AFTER card by their numbers, or the card's first fault.
+/// Returns the tasks of an AFTER card by their numbers, or the card's first fault.
 fn after_row(cards: &TaskCards, card: &AfterCard) -> Result<AfterRow, Fault>
     ensures row { IfOk result (λ row. row ≡ after_row cards.now card.now) }
     ensures faultless { OnOk result ((fault : Fault) → HasAfterFault cards.now card.now fault → ⊥) }

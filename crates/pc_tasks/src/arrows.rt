@@ -1,4 +1,4 @@
-//! The arrows of a deck of tasks, or its first fault.
+//! The plan of arrows that is generated from a deck of tasks, or the first fault of the tasks.
 ghost use Rattle.std.specs.Prelude.{◌≡◌, IfOk, IfErr};
 ghost use Rattle.pc_faults.specs.inside.First.{Refuses};
 ghost use Rattle.pc_tasks.specs.Drawn.{drawn};
@@ -19,9 +19,14 @@ use pc_project::deck_text::deck_text_of;
 use pc_project::{Project, project_of};
 use std::alloc::{AllocError, Global};
 
-/// The project of the plan that is drawn of the tasks, or the first fault that keeps them from one: of the cards one by one, or else of the tree of
-/// their items, or else that no item is below the top, or else that there is no task, or else of tasks that wait for each other in a circle, or else of
-/// the plan.
+/// Generates the plan of the tasks and makes its project.
+///
+/// Linear in the cards.
+///
+/// # Errors
+/// The first fault of the first phase that has one, or out of memory. The phases are: the cards one by one (F14 to F19,
+/// F41), the tree of the items (F20 to F23), a top without an item below it (F37), no task (F39), tasks that wait for
+/// each other in a circle (F38), and the generated plan (F28 to F31, F33 to F36).
 pub fn drawn_project(alloc: Global, cards: &TaskCards) -> Result<Project, DeckError>
     ensures project { IfOk result (IsDrawnProject cards.now) }
     ensures refused { IfErr result (Refuses (IsTasksRefusedWith cards.now)) }
@@ -32,7 +37,10 @@ pub fn drawn_project(alloc: Global, cards: &TaskCards) -> Result<Project, DeckEr
     }
 }
 
-/// The text of the plan that is drawn of the tasks, or the first fault that keeps them from one, as of its project.
+/// Returns the text of the generated plan, in canonical form.
+///
+/// # Errors
+/// As [`drawn_project`].
 pub fn arrows_of(alloc: Global, cards: &TaskCards) -> Result<Vec<u8>, DeckError>
     ensures text { IfOk result (λ text. IsArrowsText cards.now text.items) }
     ensures refused { IfErr result (Refuses (IsTasksRefusedWith cards.now)) }
@@ -47,7 +55,7 @@ pub fn arrows_of(alloc: Global, cards: &TaskCards) -> Result<Vec<u8>, DeckError>
     }
 }
 
-/// The project of the plan that is drawn of tasks without a fault, or the first fault of this plan.
+/// Makes the project of the plan generated from tasks without a fault.
 fn project_of_tasks(
     alloc: Global,
     cards: &TaskCards,
@@ -66,13 +74,14 @@ fn project_of_tasks(
     }
 }
 
-/// The plan that is drawn of tasks without a fault.
+/// Returns the plan generated from tasks without a fault.
 fn drawn_of(alloc: Global, cards: &TaskCards, afters: &[AfterRow]) -> Result<Cards, AllocError>
     requires sound { HasSoundTasks cards.now }
     requires afters { afters.now ≡ afters_in cards.now }
     ensures drawn { IfOk result (λ plan. plan ≡ drawn cards.now) }
     ensures within { IsWithin Tasks cards.now }
 {
+    // Called for the limits of the cards (`IsWithin Tasks`), which their type keeps.
     let _project = cards.project();
     let items = items_of(alloc, cards)?;
     let events = events_of(alloc, cards)?;

@@ -1,4 +1,4 @@
-//! What each kind of card names, looked up: the card's first fault. AFTER cards are looked up elsewhere, since what they name is kept.
+//! The first fault of a card, for each kind of card. AFTER cards are looked up elsewhere, since what they name is kept.
 ghost use Rattle.std.specs.Prelude.{◌↔◌, IsTrue};
 ghost use Rattle.pc_faults.specs.inside.First.{IsFirstIn};
 ghost use Rattle.pc_tasks.specs.Misfit.{HasEndsFault, HasNameFault, IsInOrder};
@@ -10,7 +10,7 @@ use pc_deck::{
 use pc_faults::Fault;
 use pc_text::Code;
 
-/// The fault of the PROJECT card, where the start is the end.
+/// Returns the fault of the PROJECT card, if the start is the end.
 pub(crate) fn ends_fault(cards: &TaskCards) -> Option<Fault>
     ensures { IsFirstIn (HasEndsFault cards.now) result }
 {
@@ -22,7 +22,7 @@ pub(crate) fn ends_fault(cards: &TaskCards) -> Option<Fault>
     }
 }
 
-/// The fault of a card that names a task which is none.
+/// Returns the fault of a card that names a task, if there is no such task.
 fn name_fault(cards: &TaskCards, row: u32, code: Code) -> Option<Fault>
     ensures { IsFirstIn (HasNameFault cards.now row code) result }
 {
@@ -48,7 +48,6 @@ impl Faulty for ItemCard {
     }
 }
 
-/// Whether the estimates of a task are in order.
 fn is_in_order(task: &TaskCard) -> bool
     ensures { IsTrue result ↔ IsInOrder task.now }
 {

@@ -12,7 +12,8 @@ use pc_model::Arc;
 use pc_net::{Net, NetError};
 use std::alloc::{AllocError, Global};
 
-/// The tasks of the first circle, each of which comes after the one before it, and the first after the last; none where there is no circle.
+/// Returns the tasks of the first circle, if there is one: each comes after the one before it, and the first after the
+/// last.
 ///
 /// Linear in the tasks and the rows.
 pub(crate) fn first_circle(
@@ -32,7 +33,7 @@ pub(crate) fn first_circle(
     circle_in(alloc, tasks, afters, &arcs)
 }
 
-/// The tasks of the first circle, which the network of the wide arrows has exactly where there is one.
+/// Finds the first circle by the first cycle of the wide arrows, which they have exactly if there is a circle.
 fn circle_in(
     alloc: Global,
     tasks: u32,
@@ -59,7 +60,7 @@ fn circle_in(
     }
 }
 
-/// The activities of the wide arrows.
+/// Returns the activities of the wide arrows.
 fn wide_arcs(alloc: Global, tasks: u32, afters: &[AfterRow]) -> Result<Vec<Arc>, AllocError>
     requires few { tasks ≤ MAX_TASKS }
     requires few_afters { length afters.now ≤ MAX_AFTERS }
@@ -72,7 +73,6 @@ fn wide_arcs(alloc: Global, tasks: u32, afters: &[AfterRow]) -> Result<Vec<Arc>,
     Ok(arcs)
 }
 
-/// Puts the activities of the wide arrows behind others.
 fn put_arcs(arcs: &mut Vec<Arc>, tasks: u32, afters: &[AfterRow]) -> Result<(), AllocError>
     requires few { tasks ≤ MAX_TASKS }
     requires among { AreAmong tasks afters.now }
@@ -84,7 +84,7 @@ fn put_arcs(arcs: &mut Vec<Arc>, tasks: u32, afters: &[AfterRow]) -> Result<(), 
     put_lasts(arcs, tasks)
 }
 
-/// Puts each task behind the activities.
+/// Appends an activity for each task.
 fn put_tasks(arcs: &mut Vec<Arc>, tasks: u32) -> Result<(), AllocError>
     requires { tasks ≤ MAX_TASKS }
     ensures { OnOk result (arcs.new.items ≡ arcs.old.items ++ map task_arc (range_with_len 0 tasks)) }
@@ -98,7 +98,7 @@ fn put_tasks(arcs: &mut Vec<Arc>, tasks: u32) -> Result<(), AllocError>
     Ok(())
 }
 
-/// Puts a link behind the activities for each row.
+/// Appends a link for each row.
 fn put_afters(arcs: &mut Vec<Arc>, tasks: u32, afters: &[AfterRow]) -> Result<(), AllocError>
     requires few { tasks ≤ MAX_TASKS }
     requires among { AreAmong tasks afters.now }
@@ -113,7 +113,7 @@ fn put_afters(arcs: &mut Vec<Arc>, tasks: u32, afters: &[AfterRow]) -> Result<()
     Ok(())
 }
 
-/// Puts a link from the start to each task behind the activities.
+/// Appends a link from the start to each task.
 fn put_firsts(arcs: &mut Vec<Arc>, tasks: u32) -> Result<(), AllocError>
     requires { tasks ≤ MAX_TASKS }
     ensures { OnOk result (arcs.new.items ≡ arcs.old.items ++ map first_arc (range_with_len 0 tasks)) }
@@ -127,7 +127,7 @@ fn put_firsts(arcs: &mut Vec<Arc>, tasks: u32) -> Result<(), AllocError>
     Ok(())
 }
 
-/// Puts a link from each task to the end behind the activities.
+/// Appends a link from each task to the end.
 fn put_lasts(arcs: &mut Vec<Arc>, tasks: u32) -> Result<(), AllocError>
     requires { tasks ≤ MAX_TASKS }
     ensures { OnOk result (arcs.new.items ≡ arcs.old.items ++ map (last_arc tasks) (range_with_len 0 tasks)) }
@@ -141,7 +141,7 @@ fn put_lasts(arcs: &mut Vec<Arc>, tasks: u32) -> Result<(), AllocError>
     Ok(())
 }
 
-/// The tasks among the activities of a walk.
+/// Returns the tasks among the activities of a walk.
 fn tasks_of(alloc: Global, tasks: u32, walk: &[u32]) -> Result<Vec<u32>, AllocError>
     ensures { IfOk result (λ of. of.items ≡ tasks_of tasks walk.now) }
 {

@@ -1,4 +1,4 @@
-//! The codes of what is drawn of tasks.
+//! The codes of the events, links and item that are generated.
 ghost use Rattle.std.specs.Prelude.{◌≡◌, ◌<◌, ◌≤◌, [], ◌∷◌, true, length};
 ghost use Rattle.pc_text.specs.Code.{is_code_byte};
 ghost use Rattle.pc_tasks.specs.Codes.{after_code, begin_code, drawn_code, end_code, first_code, last_code, links_code};
@@ -6,10 +6,10 @@ ghost use Rattle.pc_tasks.specs.Codes.{after_code, begin_code, drawn_code, end_c
 use arrayvec::ArrayVec;
 use pc_text::{Code, Title, digits};
 
-/// The most bytes that a code has.
+/// The most bytes of a code.
 const LIMIT: usize = 16;
 
-/// `_`, a letter, and the number of the `i`-th from 0, counted from 1.
+/// Returns the code of `_`, a letter and the number `i + 1`.
 fn drawn_code(letter: u8, i: u32) -> Code
     requires letter { is_code_byte letter ≡ true }
     requires small { i < 20_000 }
@@ -23,7 +23,6 @@ fn drawn_code(letter: u8, i: u32) -> Code
     }
 }
 
-/// `_`, a letter and some digits.
 fn spelled(letter: u8, digits: &[u8]) -> ArrayVec<u8, LIMIT>
     requires { length digits.now ≤ 14 }
     ensures { result.items ≡ 95 ∷ letter ∷ digits.now }
@@ -37,7 +36,7 @@ fn spelled(letter: u8, digits: &[u8]) -> ArrayVec<u8, LIMIT>
     text
 }
 
-/// Where a task begins.
+/// Returns the code of the event where a task begins.
 pub(crate) fn begin_code(i: u32) -> Code
     requires { i < 20_000 }
     ensures { result ≡ begin_code i }
@@ -45,7 +44,7 @@ pub(crate) fn begin_code(i: u32) -> Code
     drawn_code(b'b', i)
 }
 
-/// Where a task ends.
+/// Returns the code of the event where a task ends.
 pub(crate) fn end_code(i: u32) -> Code
     requires { i < 20_000 }
     ensures { result ≡ end_code i }
@@ -53,7 +52,7 @@ pub(crate) fn end_code(i: u32) -> Code
     drawn_code(b'e', i)
 }
 
-/// The link of an AFTER card.
+/// Returns the code of the link of an AFTER card.
 pub(crate) fn after_code(j: u32) -> Code
     requires { j < 20_000 }
     ensures { result ≡ after_code j }
@@ -61,7 +60,7 @@ pub(crate) fn after_code(j: u32) -> Code
     drawn_code(b'a', j)
 }
 
-/// The link from the start to where a task begins.
+/// Returns the code of the link from the start to the event where a task begins.
 pub(crate) fn first_code(i: u32) -> Code
     requires { i < 20_000 }
     ensures { result ≡ first_code i }
@@ -69,7 +68,7 @@ pub(crate) fn first_code(i: u32) -> Code
     drawn_code(b's', i)
 }
 
-/// The link from where a task ends to the end.
+/// Returns the code of the link from the event where a task ends to the end.
 pub(crate) fn last_code(i: u32) -> Code
     requires { i < 20_000 }
     ensures { result ≡ last_code i }
@@ -77,7 +76,7 @@ pub(crate) fn last_code(i: u32) -> Code
     drawn_code(b't', i)
 }
 
-/// The item of the links.
+/// Returns the code of the item of the links.
 pub(crate) fn links_code() -> Code
     ensures { result ≡ links_code }
 {
@@ -87,7 +86,7 @@ pub(crate) fn links_code() -> Code
     }
 }
 
-/// The title of what is drawn.
+/// Returns the title of every generated card, which is empty.
 pub(crate) fn no_title() -> Title
     ensures { result ≡ [] }
 {

@@ -1,4 +1,4 @@
-//! The items, the events and the activities of the plan that is drawn of tasks.
+//! The items, the events and the activities of the plan that is generated from tasks.
 ghost use Rattle.std.specs.Prelude.{◌≡◌, ◌++◌, ◌<◌, ◌≤◌, [], ◌∷◌, All, length, map, IfOk, OnOk};
 ghost use Rattle.pc_tasks.specs.network.Tasks.{AreAmong};
 ghost use Rattle.pc_tasks.specs.Drawn.{after_links, drawn_event, events_of, first_link, last_link, link, links_item, links_of, task_act, task_acts, top_code};
@@ -11,7 +11,7 @@ use pc_deck::{ActCard, ItemCard, TaskCard, TaskCards, TitledCard};
 use pc_text::Code;
 use std::alloc::{AllocError, Global};
 
-/// The items, and one for the links below the top.
+/// Returns the items, and one below the top for the links.
 pub(crate) fn items_of(alloc: Global, cards: &TaskCards) -> Result<Vec<ItemCard>, AllocError>
     ensures { IfOk result (λ items. items.items ≡ cards.now.items ++ links_item cards.now ∷ []) }
 {
@@ -25,7 +25,7 @@ pub(crate) fn items_of(alloc: Global, cards: &TaskCards) -> Result<Vec<ItemCard>
     Ok(items)
 }
 
-/// The code of the first item without a parent.
+/// Returns the code of the first item without a parent.
 fn top_code(cards: &TaskCards) -> Option<Code>
     ensures { result ≡ top_code cards.now }
 {
@@ -35,7 +35,7 @@ fn top_code(cards: &TaskCards) -> Option<Code>
     }
 }
 
-/// The start, two events for each task, and the end.
+/// Returns the events: the start, two for each task, and the end.
 pub(crate) fn events_of(alloc: Global, cards: &TaskCards) -> Result<Vec<TitledCard>, AllocError>
     ensures { IfOk result (λ events. events.items ≡ events_of cards.now) }
 {
@@ -50,7 +50,6 @@ pub(crate) fn events_of(alloc: Global, cards: &TaskCards) -> Result<Vec<TitledCa
     Ok(events)
 }
 
-/// An event without a title.
 fn drawn_event(code: Code) -> TitledCard
     ensures { result ≡ drawn_event code }
 {
@@ -61,7 +60,7 @@ fn drawn_event(code: Code) -> TitledCard
     }
 }
 
-/// The tasks as activities, and the links.
+/// Returns the tasks as activities, and then the links.
 pub(crate) fn acts_of(
     alloc: Global,
     cards: &TaskCards,
@@ -80,7 +79,7 @@ pub(crate) fn acts_of(
     Ok(acts)
 }
 
-/// Puts the tasks as activities behind the activities, and then the links.
+/// Appends the tasks as activities, and then the links.
 fn put_acts(
     acts: &mut Vec<ActCard>,
     cards: &TaskCards,
@@ -93,7 +92,8 @@ fn put_acts(
     requires heads { All (λ i. i < 20_000) heads.now }
     requires tails { All (λ i. i < 20_000) tails.now }
     ensures { OnOk result (acts.new.items ≡ acts.old.items ++ (task_acts 0 cards.now.tasks
-        ++ (after_links 0 afters.now ++ (map (first_link cards.now) heads.now ++ map (last_link cards.now) tails.now)))) }
+        ++ (after_links 0 afters.now
+        ++ (map (first_link cards.now) heads.now ++ map (last_link cards.now) tails.now)))) }
 {
     put_tasks(acts, cards.tasks())?;
     put_afters(acts, afters)?;
@@ -101,7 +101,7 @@ fn put_acts(
     put_lasts(acts, cards, tails)
 }
 
-/// The activity of a task.
+/// Returns the activity of a task.
 fn task_act(i: u32, task: &TaskCard) -> ActCard
     requires { i < 20_000 }
     ensures { result ≡ task_act i task.now }
@@ -123,7 +123,7 @@ fn task_act(i: u32, task: &TaskCard) -> ActCard
     }
 }
 
-/// A link from one event to another.
+/// Returns a link, which lasts and costs nothing.
 fn link(code: Code, from: Code, to: Code) -> ActCard
     ensures { result ≡ link code from to }
 {
@@ -144,7 +144,7 @@ fn link(code: Code, from: Code, to: Code) -> ActCard
     }
 }
 
-/// Puts the activity of each task behind the activities.
+/// Appends the activity of each task.
 fn put_tasks(acts: &mut Vec<ActCard>, tasks: &[TaskCard]) -> Result<(), AllocError>
     requires { length tasks.now ≤ 20_000 }
     ensures { OnOk result (acts.new.items ≡ acts.old.items ++ task_acts 0 tasks.now) }
@@ -155,7 +155,7 @@ fn put_tasks(acts: &mut Vec<ActCard>, tasks: &[TaskCard]) -> Result<(), AllocErr
     Ok(())
 }
 
-/// Puts a link behind the activities for each row.
+/// Appends a link for each row.
 fn put_afters(acts: &mut Vec<ActCard>, afters: &[AfterRow]) -> Result<(), AllocError>
     requires few { length afters.now ≤ 20_000 }
     requires among { AreAmong 4_000 afters.now }
@@ -171,7 +171,7 @@ fn put_afters(acts: &mut Vec<ActCard>, afters: &[AfterRow]) -> Result<(), AllocE
     Ok(())
 }
 
-/// Puts a link from the start to each of the tasks behind the activities.
+/// Appends a link from the start to each of these tasks.
 fn put_firsts(acts: &mut Vec<ActCard>, cards: &TaskCards, tasks: &[u32]) -> Result<(), AllocError>
     requires { All (λ i. i < 20_000) tasks.now }
     ensures { OnOk result (acts.new.items ≡ acts.old.items ++ map (first_link cards.now) tasks.now) }
@@ -183,7 +183,7 @@ fn put_firsts(acts: &mut Vec<ActCard>, cards: &TaskCards, tasks: &[u32]) -> Resu
     Ok(())
 }
 
-/// Puts a link from each of the tasks to the end behind the activities.
+/// Appends a link from each of these tasks to the end.
 fn put_lasts(acts: &mut Vec<ActCard>, cards: &TaskCards, tasks: &[u32]) -> Result<(), AllocError>
     requires { All (λ i. i < 20_000) tasks.now }
     ensures { OnOk result (acts.new.items ≡ acts.old.items ++ map (last_link cards.now) tasks.now) }

@@ -1,6 +1,6 @@
-//! That the deck of arrows has the schedules of the tasks, at the same costs.
+//! Laws of the deck that is generated from tasks: it has the schedules of the tasks, at the same costs.
 //!
-//! Each function here does nothing: its contract is the law, proved once, and a caller that calls it has the law as a fact.
+//! Each function here does nothing. Its contract is a law, proved once, and a caller has the law as a fact.
 
 ghost use Rattle.std.specs.Prelude.{◌≡◌, ◌↔◌, ℕ, length};
 ghost use Rattle.pc_model.specs.Cost.{IsLeastCost};
@@ -25,7 +25,8 @@ use crate::network::arrow_laws::{
     arrows_are_sound, arrows_keep_least_costs, arrows_keep_schedules,
 };
 
-/// The deck that is drawn has the arrows of the tasks: their network, what they may last and cost, and the pieces of their costs.
+/// States that the generated deck has the arrows of the tasks: their network, their durations and costs, and the pieces
+/// of their costs.
 pub fn drawn_deck_has_the_arrows()
     ensures network { (deck : Deck) → CanBeDrawn deck →
         network_of (drawn deck) ≡ arrows (length (task_terms deck)) (afters_in deck) }
@@ -33,13 +34,16 @@ pub fn drawn_deck_has_the_arrows()
     ensures pieces { (deck : Deck) → CanBeDrawn deck → pieces_in (drawn deck) ≡ task_pieces deck }
 {}
 
-/// The deck that is drawn is within the limits of a plan.
+/// States that the generated deck is within the limits of a plan.
 pub fn drawn_deck_is_within_limits()
     ensures { (deck : Deck) → IsWithin Tasks deck → CanBeDrawn deck → IsWithinLimits (drawn deck) }
 {}
 
-/// The deck that is drawn of tasks without faults is a sound plan: no card of it by itself is wrong, its items are a tree, and its network is
-/// sound. So it has none of the faults F13 to F27 and F41, and its project keeps the schedules of the tasks and their least costs.
+/// States that the deck generated from tasks without faults is a sound plan: none of its cards has a fault by itself,
+/// its items are a tree, and its network is sound.
+///
+/// So it has none of the faults F13 to F27 and F41, and its project keeps the schedules of the tasks and their least
+/// costs.
 pub fn drawn_deck_is_sound()
     ensures sound { (deck : Deck) → IsWithin Tasks deck → HasSoundTasks deck → HasSoundPlan (drawn deck) }
     ensures keeps { (deck : Deck) (project : Project) → IsWithin Tasks deck → HasSoundTasks deck →
@@ -49,8 +53,8 @@ pub fn drawn_deck_is_sound()
     drawn_deck_keeps_least_costs();
 }
 
-/// For every length there is a schedule of the tasks exactly where there is one of the deck that is drawn, and the least cost of the one is that of
-/// the other, if no tasks wait for each other in a circle.
+/// States that if no tasks wait for each other in a circle, then for every length there is a schedule of the tasks
+/// exactly if there is one of the generated deck, with the same least cost.
 pub fn drawn_deck_keeps_least_costs()
     ensures schedules { (deck : Deck) (limit : ℕ) → CanBeDrawn deck → HasNoTaskCycle (afters_in deck) →
         (HasTaskSchedule (task_terms deck) (afters_in deck) limit

@@ -1,4 +1,4 @@
-//! Decks of tasks: which of them come after which, and the plan of arrows that is drawn of them.
+//! Decks of tasks: which tasks come after which, and the plan of arrows that is generated from them.
 #![tactic(auto)]
 
 mod afters;

@@ -1,4 +1,4 @@
-//! The tasks that links join to the start and to the end.
+//! The tasks that links connect to the start and to the end.
 ghost use Rattle.std.specs.Prelude.{◌≡◌, ◌<◌, ◌^◌, false, not, filter, length, slice_index_or, IfOk};
 ghost use Rattle.pc_tasks.specs.network.Arrows.{comes_after, comes_before, firsts, lasts};
 ghost use Rattle.pc_tasks.specs.network.Tasks.{AreAmong};
@@ -8,7 +8,7 @@ ghost use Rattle.pc_tasks.specs.inside.Marks.{AreMarks};
 use crate::network::AfterRow;
 use std::alloc::{AllocError, Global};
 
-/// The tasks that come after none, in their order. Linear in tasks and rows.
+/// Returns the tasks that come after no other, in card order. Linear in tasks and rows.
 pub(crate) fn firsts(alloc: Global, tasks: u32, afters: &[AfterRow]) -> Result<Vec<u32>, AllocError>
     requires { AreAmong tasks afters.now }
     ensures { IfOk result (λ found. found.items ≡ firsts tasks afters.now) }
@@ -18,7 +18,7 @@ pub(crate) fn firsts(alloc: Global, tasks: u32, afters: &[AfterRow]) -> Result<V
     Ok(found)
 }
 
-/// The tasks that none comes after, in their order. Linear in tasks and rows.
+/// Returns the tasks that no other comes after, in card order. Linear in tasks and rows.
 pub(crate) fn lasts(alloc: Global, tasks: u32, afters: &[AfterRow]) -> Result<Vec<u32>, AllocError>
     requires { AreAmong tasks afters.now }
     ensures { IfOk result (λ found. found.items ≡ lasts tasks afters.now) }
@@ -28,7 +28,7 @@ pub(crate) fn lasts(alloc: Global, tasks: u32, afters: &[AfterRow]) -> Result<Ve
     Ok(found)
 }
 
-/// Whether each task comes after some other.
+/// Returns for each task whether it comes after some other.
 fn coming_after(alloc: Global, tasks: u32, afters: &[AfterRow]) -> Result<Vec<bool>, AllocError>
     requires { AreAmong tasks afters.now }
     ensures { IfOk result (λ marks. AreMarks tasks (comes_after afters.now) marks.items) }
@@ -40,7 +40,7 @@ fn coming_after(alloc: Global, tasks: u32, afters: &[AfterRow]) -> Result<Vec<bo
     Ok(marks)
 }
 
-/// Whether some other comes after each task.
+/// Returns for each task whether some other comes after it.
 fn coming_before(alloc: Global, tasks: u32, afters: &[AfterRow]) -> Result<Vec<bool>, AllocError>
     requires { AreAmong tasks afters.now }
     ensures { IfOk result (λ marks. AreMarks tasks (comes_before afters.now) marks.items) }
@@ -52,7 +52,7 @@ fn coming_before(alloc: Global, tasks: u32, afters: &[AfterRow]) -> Result<Vec<b
     Ok(marks)
 }
 
-/// The numbers that are not marked, in their order.
+/// Returns the numbers without a mark, in their order.
 fn unmarked(alloc: Global, marks: &[bool]) -> Result<Vec<u32>, AllocError>
     requires { length marks.now < 2 ^ 32 }
     ensures { IfOk result (λ found. found.items

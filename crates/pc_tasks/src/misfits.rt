@@ -14,7 +14,10 @@ use pc_deck::TaskCards;
 use pc_faults::{DeckError, Fault, earliest};
 use std::alloc::Global;
 
-/// Looks up once what each card names: which task comes after which, or the first fault of any card (F14 to F19, F41).
+/// Looks up once what each card names, and returns which task comes after which.
+///
+/// # Errors
+/// The first fault of any card (F14 to F19, F41), or out of memory.
 pub(crate) fn look_up(alloc: Global, cards: &TaskCards) -> Result<Vec<AfterRow>, DeckError>
     ensures sound { OnOk result (HasNoMisfit cards.now) }
     ensures afters { IfOk result (λ rows. rows.items ≡ afters_in cards.now) }
@@ -27,7 +30,7 @@ pub(crate) fn look_up(alloc: Global, cards: &TaskCards) -> Result<Vec<AfterRow>,
     }
 }
 
-/// The first fault of any card, where that of the AFTER cards is known.
+/// Returns the first fault of any card, from that of the AFTER cards.
 fn first_misfit(cards: &TaskCards, of_afters: Option<Fault>) -> Option<Fault>
     requires { IsFirstIn (λ fault. Any (λ card. HasAfterFault cards.now card fault) cards.now.afters) of_afters }
     ensures { IsFirstIn (HasMisfit cards.now) result }

@@ -20,7 +20,10 @@ use pc_project::codes_at;
 use pc_text::Code;
 use std::alloc::{AllocError, Global};
 
-/// Which tasks of a deck without a fault come after which, by their numbers, or the first fault of the tasks.
+/// Returns which tasks come after which, by their numbers.
+///
+/// # Errors
+/// The first fault of the tasks, or out of memory.
 pub(crate) fn sound_rows(alloc: Global, cards: &TaskCards) -> Result<Vec<AfterRow>, DeckError>
     ensures rows { IfOk result (λ rows. rows.items ≡ afters_in cards.now) }
     ensures sound { OnOk result (HasSoundTasks cards.now) }
@@ -39,7 +42,7 @@ pub(crate) fn sound_rows(alloc: Global, cards: &TaskCards) -> Result<Vec<AfterRo
     Ok(afters)
 }
 
-/// Answers the first fault of the tree of the items, or else that no item is below its top (F20 to F23, F37).
+/// Checks the tree of the items, and then that an item is below its top (F20 to F23, F37).
 fn check_items(alloc: Global, cards: &TaskCards) -> Result<(), DeckError>
     requires { HasNoMisfit cards.now }
     ensures sound { OnOk result (HasSoundItems cards.now) }
@@ -54,7 +57,7 @@ fn check_items(alloc: Global, cards: &TaskCards) -> Result<(), DeckError>
     }
 }
 
-/// Answers that there is no task, or else the fault of tasks that wait for each other in a circle (F39, F38).
+/// Checks that there is a task, and then that no tasks wait for each other in a circle (F39, F38).
 fn check_tasks(alloc: Global, cards: &TaskCards, afters: &[AfterRow]) -> Result<(), DeckError>
     requires items { HasSoundItems cards.now }
     requires afters { afters.now ≡ afters_in cards.now }
@@ -70,7 +73,7 @@ fn check_tasks(alloc: Global, cards: &TaskCards, afters: &[AfterRow]) -> Result<
     }
 }
 
-/// The fault of a top that is the only item (F37).
+/// Returns the fault of a top that is the only item (F37).
 fn lone_top(cards: &TaskCards) -> Option<Fault>
     ensures { MatchOption result ((fault : ADeckFault) → HasLoneTop cards.now fault → ⊥) (HasLoneTop cards.now) }
 {
@@ -82,7 +85,7 @@ fn lone_top(cards: &TaskCards) -> Option<Fault>
     }
 }
 
-/// The fault of the first tasks that wait for each other in a circle, where there are any (F38).
+/// Returns the fault of the first tasks that wait for each other in a circle, if there are any (F38).
 fn circle_fault(
     alloc: Global,
     cards: &TaskCards,
@@ -102,7 +105,7 @@ fn circle_fault(
     }
 }
 
-/// The fault of a circle of tasks.
+/// Returns the fault that reports a circle of tasks.
 fn told(alloc: Global, cards: &TaskCards, circle: &[u32]) -> Result<Fault, AllocError>
     requires some { 0 < length circle.now }
     requires known { All (λ task. task < length cards.now.tasks) circle.now }
@@ -116,7 +119,6 @@ fn told(alloc: Global, cards: &TaskCards, circle: &[u32]) -> Result<Fault, Alloc
     Ok(Fault::task_cycle(row, names))
 }
 
-/// The record of a task.
 fn task_row(cards: &TaskCards, task: u32) -> u32
     requires { task < length cards.now.tasks }
     ensures { result ≡ slice_index (task_records cards.now) task }
@@ -125,7 +127,6 @@ fn task_row(cards: &TaskCards, task: u32) -> u32
     card.row
 }
 
-/// The codes of the tasks.
 fn codes_of_tasks(alloc: Global, cards: &TaskCards) -> Result<Vec<Code>, AllocError>
     ensures { IfOk result (λ codes. codes.items ≡ task_codes cards.now) }
 {

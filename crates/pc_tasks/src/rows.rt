@@ -8,7 +8,7 @@ use pc_deck::{ItemCard, TaskCards};
 use pc_wbs::ItemRow;
 use std::alloc::{AllocError, Global};
 
-/// The items by the numbers of their parents, in card order.
+/// Returns the items by the numbers of their parents, in card order.
 pub(crate) fn item_rows(alloc: Global, cards: &TaskCards) -> Result<Vec<ItemRow>, AllocError>
     ensures rows { IfOk result (λ rows. rows.items ≡ rows_of cards.now) }
     ensures within { IsWithin Tasks cards.now }
@@ -20,7 +20,6 @@ pub(crate) fn item_rows(alloc: Global, cards: &TaskCards) -> Result<Vec<ItemRow>
     Ok(rows)
 }
 
-/// An item by the number of its parent.
 fn item_row(cards: &TaskCards, item: &ItemCard) -> ItemRow
     ensures { result ≡ row_of cards.now item.now }
 {

@@ -1,4 +1,4 @@
-//! The tree of the items, or why they are none.
+//! The tree of the items, or the fault of their parents.
 ghost use Rattle.std.specs.Prelude.{IfErr, OnOk};
 ghost use Rattle.pc_faults.specs.inside.First.{Refuses};
 ghost use Rattle.pc_project.specs.Project.{rows_of};
@@ -13,7 +13,10 @@ use pc_project::tree_between;
 use pc_wbs::Tree;
 use std::alloc::Global;
 
-/// The tree of the items, or the fault that keeps them from being one (F20 to F23).
+/// Returns the tree of the items.
+///
+/// # Errors
+/// The first fault of the tree (F20 to F23), or out of memory.
 pub(crate) fn tree_of(alloc: Global, cards: &TaskCards) -> Result<Tree, DeckError>
     requires { HasNoMisfit cards.now }
     ensures tree { OnOk result (IsTree (rows_of cards.now)) }

@@ -1,4 +1,4 @@
-//! The text of a project's deck: the one form in which a deck is kept, compared and read again.
+//! The text of a project's deck in canonical form, for keeping, comparing and reading again.
 
 mod text;
 mod text_laws;

@@ -5,11 +5,15 @@ ghost use Rattle.pc_project.specs.deck_text.Written.{IsDeckText};
 use crate::Project;
 use std::alloc::AllocError;
 
-/// The deck of a project in its one form: version 2, the day that its figures are of, a TERMS card where time costs something,
-/// and then its cards kind by kind, each kind in card order, with quotes where they are necessary.
+/// Returns the deck of a project in canonical form.
 ///
-/// What is read of it is the same project, and its text is the same text. Linear in the cards. The text takes the room of what is
-/// let go, as of the deck that the project was read from, and further memory where that is too little.
+/// The deck has version 2, the as-of day, a TERMS card if time costs anything, and then the cards kind by kind, each
+/// kind in card order, with quotes only where they are needed. It is read as the same project, whose text is the same.
+/// Linear in the cards. The text goes into the capacity of `room`, for example the deck's own buffer, and takes further
+/// memory if that is too little.
+///
+/// # Errors
+/// Out of memory.
 pub fn deck_text_of(project: &Project, room: Vec<u8>) -> Result<Vec<u8>, AllocError>
     ensures { IfOk result (λ text. IsDeckText project.now text.items) }
 {

@@ -1,6 +1,6 @@
-//! Why the text of a deck is a deck of the same project, whatever lists it has.
+//! Laws of the text of a deck: it is a deck of the same project.
 //!
-//! Each public function does nothing: its contract is a law, proved once, and a caller that calls it has the law as a fact.
+//! Each public function does nothing. Its contract is a law, proved once, and a caller has the law as a fact.
 
 ghost use Rattle.pc_deck.specs.Deck.{Deck};
 ghost use Rattle.pc_deck.specs.Within.{IsWithinLimits};
@@ -8,8 +8,9 @@ ghost use Rattle.pc_project.specs.deck_text.Same.{SayTheSame};
 ghost use Rattle.pc_project.specs.deck_text.Written.{IsKeptByText};
 ghost use Rattle.pc_project.specs.Makes.{MakesProject};
 
-/// The text of a deck that makes a project is accepted, where its lists are within the limits: its cards are read, they say what those of
-/// the deck say, and they make the same project. And decks that say the same make a project alike, whatever the numbers of their records.
+/// States that the text of a deck within the limits that makes a project is accepted: its cards are read, they say what
+/// the deck's cards say, and they make the same project. Also, of two decks that say the same, whatever the numbers of
+/// their records, one makes a project if the other does.
 pub fn text_makes_the_project()
     ensures kept { (deck : Deck) → IsWithinLimits deck → MakesProject deck → IsKeptByText deck }
     ensures alike { (deck other : Deck) → SayTheSame deck other → MakesProject other → MakesProject deck }

@@ -1,7 +1,6 @@
-//! That the arrows of tasks have the schedules of the tasks, at the same costs.
+//! Laws of the arrows of tasks: they have the schedules of the tasks, at the same costs.
 //!
-//! Each function here does nothing: its contract is the law, proved once, and a caller that calls it has the law
-//! as a fact.
+//! Each function here does nothing. Its contract is a law, proved once, and a caller has the law as a fact.
 
 ghost use Rattle.std.specs.Prelude.{◌≡◌, ◌<◌, ℕ, List, length, All};
 ghost use Rattle.pc_model.specs.declared.PieceRow.{PieceRow};
@@ -18,15 +17,15 @@ ghost use Rattle.pc_tasks.specs.network.Cycles.{HasNoTaskCycle, IsFirstTaskCycle
 ghost use Rattle.pc_net.specs.Cycles.{IsFirstCycle};
 ghost use Rattle.pc_net.specs.Firmness.{IsFirm};
 
-/// The arrows of some tasks that do not wait for each other in a circle are a sound network.
+/// States that the arrows of tasks that do not wait for each other in a circle are a sound network.
 pub fn arrows_are_sound()
     ensures range { (n : ℕ) (afters : List AfterRow) → AreAmong n afters → IsInRange (arrows n afters) }
     ensures sound { (n : ℕ) (afters : List AfterRow) → AreAmong n afters → 0 < n →
         HasNoTaskCycle afters → IsSound (arrows n afters) }
 {}
 
-/// The wide arrows of some tasks have no loose end, and a cycle exactly where the tasks have one: the first cycle of the arrows passes the
-/// first cycle of the tasks.
+/// States that the wide arrows of tasks have no loose end, and a cycle exactly if the tasks have one: the first cycle
+/// of the arrows passes the first cycle of the tasks.
 pub fn wide_arrows_have_the_cycles()
     ensures range { (n : ℕ) (afters : List AfterRow) → AreAmong n afters → IsInRange (wide_arrows n afters) }
     ensures firm { (n : ℕ) (afters : List AfterRow) → AreAmong n afters → 0 < n → IsFirm (wide_arrows n afters) }
@@ -36,7 +35,8 @@ pub fn wide_arrows_have_the_cycles()
         (walk : List ℕ) × IsCycle (wide_arrows n afters).arcs walk × (tasks_of n walk ≡ tasks) }
 {}
 
-/// For a length there is a schedule of the tasks exactly where there is one of their arrows, if no tasks wait for each other in a circle.
+/// States that if no tasks wait for each other in a circle, then for every length there is a schedule of the tasks
+/// exactly if there is one of their arrows.
 pub fn arrows_keep_schedules()
     ensures drawn { (terms : List Term) (afters : List AfterRow) (limit : ℕ) → AreAmong (length terms) afters →
         HasTaskSchedule terms afters limit →
@@ -47,7 +47,7 @@ pub fn arrows_keep_schedules()
         HasTaskSchedule terms afters limit }
 {}
 
-/// And then the least cost of the one is the least cost of the other.
+/// States that the least cost of the tasks is then that of their arrows.
 pub fn arrows_keep_least_costs()
     ensures drawn { (terms : List Term) (pieces : List PieceRow) (afters : List AfterRow) (limit cost : ℕ) →
         AreAmong (length terms) afters →

@@ -1,9 +1,11 @@
-//! Tasks that come after one another, the network of arrows that is drawn of them, and that nothing is lost by drawing it: for every
-//! length there is a schedule of the tasks exactly where there is one of the arrows, at the same costs.
+//! Tasks that come after one another, and the network of arrows that is generated from them.
+//!
+//! Nothing is lost by it: for every length there is a schedule of the tasks exactly if there is one of the arrows, at
+//! the same costs.
 
 pub mod arrow_laws;
 
-/// That a task begins only when another has ended: the numbers of both, counted in card order from 0.
+/// A task and one that must end before it begins, by their numbers, counted in card order from 0.
 #[derive(Clone, Copy, Debug, PartialEq, Eq, Hash)]
 pub struct AfterRow {
     pub task: u32,

@@ -23,15 +23,15 @@ arcs_are deck arcs placements is same =
 
 -- the network of the numbers is that of the cards
 net_is : (deck : Deck) (numbers : Numbers) (events : ℕ) (arcs : List Arc) (placements : List Placement) → AreNumbersOf deck numbers → events ≡ length deck.events
-    → arcs ≡ map (λ placement. placement.arc) placements → placements ≡ numbers.placements.items
+    → arcs ≡ map (λ placement. placement.arc) placements → placements ≡ numbers.lists.placements.items
     → let net : Network = record { events = events; start = numbers.ends.start; end = numbers.ends.end; arcs = arcs } in net ≡ network_of deck
 net_is deck numbers events arcs placements known same is read =
-    network_of-is deck events numbers.ends.start numbers.ends.end arcs same known.start known.end (arcs_are deck arcs placements is (read ∙ known.placements))
+    network_of-is deck events numbers.ends.start numbers.ends.end arcs same known.start known.end (arcs_are deck arcs placements is (read ∙ known.lists.placements))
 
 pub build-requires-clause-few_activities : goal.build-requires-clause-few_activities
 build-requires-clause-few_activities c =
     let deck = c.args.cards.now in
-    let arcs = arcs_are deck c.deref-2.result.now c.deref.result.now (c.deref-2.ensures.value ∙ c.in_ok-arcs.ensures) (c.deref.ensures.value ∙ c.requires.numbers.placements) in
+    let arcs = arcs_are deck c.deref-2.result.now c.deref.result.now (c.deref-2.ensures.value ∙ c.in_ok-arcs.ensures) (c.deref.ensures.value ∙ c.requires.numbers.lists.placements) in
     omega (arith, ap length arcs, length-map deck.acts (arc_of deck), (c.events.ensures.within Act).few)
 
 pub build-requires-clause-in_range : goal.build-requires-clause-in_range

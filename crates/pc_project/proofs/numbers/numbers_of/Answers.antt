@@ -16,12 +16,8 @@ returns-in-Ok-None-clause-numbers c =
       within = c.in_ok-of_lists.ensures.within;
       start = c.in-Ok-None.ensures.start;
       end = c.in-Ok-None.ensures.end;
-      rows = lists.rows;
+      lists = lists;
       few = omega (arith, ap length lists.rows, length-map deck.items (row_of deck), (c.in_ok-of_lists.ensures.within Wbs).few);
-      placements = lists.placements;
-      pieces = lists.pieces;
-      loads = lists.loads;
-      figures = lists.figures;
     }
 
 pub returns-in-Ok-Some-clause-first : goal.returns-in-Ok-Some-clause-first

@@ -11,61 +11,46 @@ use Rattle.pc_project.proofs.phases.frame_of.Goals as goal
 pub tree_between-requires-clause-each : goal.tree_between-requires-clause-each
 tree_between-requires-clause-each c =
     let deck = c.args.cards.now in
-    ap length (c.deref.ensures.value ∙ c.requires.rows) ∙ (length-map deck.items (row_of deck) ∙ sym (ap length c.items.ensures.cards))
+    ap length (c.deref.ensures.value ∙ c.requires.lists.rows) ∙ (length-map deck.items (row_of deck) ∙ sym (ap length c.items.ensures.cards))
 
 pub tree_between-requires-clause-in_range : goal.tree_between-requires-clause-in_range
 tree_between-requires-clause-in_range c =
-    subst AreInRange (sym (c.deref.ensures.value ∙ c.requires.rows)) (rows_of-in_range c.args.cards.now c.requires.faultless)
+    subst AreInRange (sym (c.deref.ensures.value ∙ c.requires.lists.rows)) (rows_of-in_range c.args.cards.now c.requires.faultless)
 
 pub returns-in-Err-clause-refused : goal.returns-in-Err-clause-refused
 returns-in-Err-clause-refused c =
     refused_by_tree c.args.cards.now c.in-Err.error c.requires.faultless
     (subst (λ items. Refuses (IsTreeFault items (rows_of c.args.cards.now)) c.in-Err.error) c.items.ensures.cards
-    (subst (λ rows. Refuses (IsTreeFault c.items.result.now rows) c.in-Err.error) (c.deref.ensures.value ∙ c.requires.rows) c.in-Err.ensures.refused))
+    (subst (λ rows. Refuses (IsTreeFault c.items.result.now rows) c.in-Err.error) (c.deref.ensures.value ∙ c.requires.lists.rows) c.in-Err.ensures.refused))
 
 pub net_of-requires-clause-tree : goal.net_of-requires-clause-tree
-net_of-requires-clause-tree c = subst IsTree (c.deref.ensures.value ∙ c.requires.rows) c.in-Ok.ensures.tree
+net_of-requires-clause-tree c = subst IsTree (c.deref.ensures.value ∙ c.requires.lists.rows) c.in-Ok.ensures.tree
 
 pub progress_of-requires-clause-plan : goal.progress_of-requires-clause-plan
 progress_of-requires-clause-plan c = record {
   cards = c.requires.faultless;
-  tree = subst IsTree (c.deref.ensures.value ∙ c.requires.rows) c.in-Ok.ensures.tree;
+  tree = subst IsTree (c.deref.ensures.value ∙ c.requires.lists.rows) c.in-Ok.ensures.tree;
   sound = c.in-Ok-net_of.ensures.sound;
 }
 
 pub progress_of-requires-clause-tree : goal.progress_of-requires-clause-tree
-progress_of-requires-clause-tree c = c.in-Ok.ensures.rows ∙ (c.deref.ensures.value ∙ c.requires.rows)
+progress_of-requires-clause-tree c = c.in-Ok.ensures.rows ∙ (c.deref.ensures.value ∙ c.requires.lists.rows)
 
 pub lists_of-requires-clause-plan : goal.lists_of-requires-clause-plan
 lists_of-requires-clause-plan c = record {
   cards = c.requires.faultless;
-  tree = subst IsTree (c.deref.ensures.value ∙ c.requires.rows) c.in-Ok.ensures.tree;
+  tree = subst IsTree (c.deref.ensures.value ∙ c.requires.lists.rows) c.in-Ok.ensures.tree;
   sound = c.in-Ok-net_of.ensures.sound;
 }
 
 pub returns-in-Ok-lists_of-clause-tree : goal.returns-in-Ok-lists_of-clause-tree
-returns-in-Ok-lists_of-clause-tree c = c.in-Ok.ensures.rows ∙ (c.deref.ensures.value ∙ c.requires.rows)
+returns-in-Ok-lists_of-clause-tree c = c.in-Ok.ensures.rows ∙ (c.deref.ensures.value ∙ c.requires.lists.rows)
 
 pub returns-in-Ok-lists_of-clause-makes : goal.returns-in-Ok-lists_of-clause-makes
 returns-in-Ok-lists_of-clause-makes c = c.in-Ok-lists_of.ensures.makes
 
-pub returns-in-Ok-lists_of-clause-events : goal.returns-in-Ok-lists_of-clause-events
-returns-in-Ok-lists_of-clause-events c = c.in-Ok-lists_of.ensures.events
-
-pub returns-in-Ok-lists_of-clause-activities : goal.returns-in-Ok-lists_of-clause-activities
-returns-in-Ok-lists_of-clause-activities c = c.in-Ok-lists_of.ensures.activities
-
-pub returns-in-Ok-lists_of-clause-places : goal.returns-in-Ok-lists_of-clause-places
-returns-in-Ok-lists_of-clause-places c = c.in-Ok-lists_of.ensures.places
-
-pub returns-in-Ok-lists_of-clause-terms : goal.returns-in-Ok-lists_of-clause-terms
-returns-in-Ok-lists_of-clause-terms c = c.in-Ok-lists_of.ensures.terms
-
-pub returns-in-Ok-lists_of-clause-expected : goal.returns-in-Ok-lists_of-clause-expected
-returns-in-Ok-lists_of-clause-expected c = c.in-Ok-lists_of.ensures.expected
-
-pub returns-in-Ok-lists_of-clause-variances : goal.returns-in-Ok-lists_of-clause-variances
-returns-in-Ok-lists_of-clause-variances c = c.in-Ok-lists_of.ensures.variances
+pub returns-in-Ok-lists_of-clause-lists : goal.returns-in-Ok-lists_of-clause-lists
+returns-in-Ok-lists_of-clause-lists c = c.in-Ok-lists_of.ensures.lists
 
 pub returns-in-Ok-lists_of-clause-entries : goal.returns-in-Ok-lists_of-clause-entries
 returns-in-Ok-lists_of-clause-entries c = c.in-Ok-progress_of.ensures.entries

@@ -6,7 +6,7 @@ pub fill-requires-clause-ordered : goal.fill-requires-clause-ordered
 fill-requires-clause-ordered c = λ k d within. (all_fit c.args.cards.now c.requires.plan.cards k d within).ordered
 
 pub fill-requires-clause-placements : goal.fill-requires-clause-placements
-fill-requires-clause-placements c = c.deref.ensures.value ∙ c.requires.numbers.placements
+fill-requires-clause-placements c = c.deref.ensures.value ∙ c.requires.numbers.lists.placements
 
 pub returns-in-Ok-clause-makes : goal.returns-in-Ok-clause-makes
 returns-in-Ok-clause-makes c = record {

@@ -23,10 +23,12 @@ pub returns-in-Ok-frame_of-clause-plan : goal.returns-in-Ok-frame_of-clause-plan
 returns-in-Ok-frame_of-clause-plan c =
     let deck = c.args.cards.now in
     let numbers = c.in-Ok.ensures.numbers in
-    let figures = numbers.figures in
+    let found = numbers.lists in
+    let figures = found.figures in
     let frame = c.in-Ok-frame_of.ensures in
+    let lists = frame.lists in
     subst IsPlanned
-    (sym (project_in-is deck _ refl refl frame.network frame.tree frame.events frame.activities frame.places frame.terms frame.expected frame.variances
-    refl refl numbers.pieces refl numbers.loads figures.accounts figures.charges figures.togos figures.statuses refl refl))
+    (sym (project_in-is deck _ refl refl frame.network frame.tree lists.events lists.activities lists.places lists.terms lists.expected lists.variances
+    refl refl found.pieces refl found.loads figures.accounts figures.charges figures.togos figures.statuses refl refl))
     (project_in-planned deck _ _ frame.makes numbers.within
     (project_in-figures deck numbers.within frame.makes.cards frame.makes.figures _ _ frame.entries frame.small frame.states))

@@ -11,11 +11,6 @@ use Rattle.pc_project.specs.Project.{term_of}
 use Rattle.pc_project.specs.inside.Project.{placement_of}
 use Rattle.pc_project.proofs.lists.Lists.fill.Goals as goal
 
-pub returns-clause-places : goal.returns-clause-places
-returns-clause-places c =
-    c.in_ok-self-3.ensures ∙ (ap (map (λ placement. placement.item)) c.requires.placements
-    ∙ map-map (λ placement. placement.item) (placement_of c.args.cards.now) c.args.cards.now.acts)
-
 pub expected_times-requires-clause-unit : goal.expected_times-requires-clause-unit
 expected_times-requires-clause-unit c =
     subst (λ (card : ProjectCard). card.unit_days ≤ MAX_UNIT_DAYS) (sym c.project.ensures.card) (project-within c.args.cards.now c.acts-acts.ensures.within).unit_within
@@ -38,23 +33,23 @@ expected_times-requires-clause-ordered c = subst (All IsInOrder) (sym c.acts-act
 pub variances-requires-clause-ordered : goal.variances-requires-clause-ordered
 variances-requires-clause-ordered c = subst (All IsInOrder) (sym c.acts-acts.ensures.cards) c.requires.ordered
 
-pub returns-clause-terms : goal.returns-clause-terms
-returns-clause-terms c = c.in_ok-self-4.ensures ∙ ap (map term_of) c.acts-acts.ensures.cards
-
-pub returns-clause-expected : goal.returns-clause-expected
-returns-clause-expected c =
-    c.in_ok-self-5.ensures
-    ∙ (ap (map (λ act. expected_time act.opt act.likely act.pess c.project.result.now.unit_days)) c.acts-acts.ensures.cards
-    ∙ ap (λ (card : ProjectCard). map (λ act. expected_time act.opt act.likely act.pess card.unit_days) c.args.cards.now.acts) c.project.ensures.card)
-
-pub returns-clause-variances : goal.returns-clause-variances
-returns-clause-variances c =
-    c.in_ok-self-6.ensures
-    ∙ (ap (map (λ act. variance_of act.opt act.pess c.project.result.now.unit_days)) c.acts-acts.ensures.cards
-    ∙ ap (λ (card : ProjectCard). map (λ act. variance_of act.opt act.pess card.unit_days) c.args.cards.now.acts) c.project.ensures.card)
-
-pub returns-clause-events : goal.returns-clause-events
-returns-clause-events c = c.in_ok-self.ensures
-
-pub returns-clause-activities : goal.returns-clause-activities
-returns-clause-activities c = c.in_ok-self-2.ensures
+pub returns : goal.returns
+returns c =
+    let deck = c.args.cards.now in
+    let acts = c.acts-acts.ensures.cards in
+    let card = c.project.ensures.card in
+    record {
+      lists = record {
+        events = c.in_ok-self.ensures;
+        activities = c.in_ok-self-2.ensures;
+        places = c.in_ok-self-3.ensures ∙ (ap (map (λ placement. placement.item)) c.requires.placements
+            ∙ map-map (λ placement. placement.item) (placement_of deck) deck.acts);
+        terms = c.in_ok-self-4.ensures ∙ ap (map term_of) acts;
+        expected = c.in_ok-self-5.ensures
+            ∙ (ap (map (λ act. expected_time act.opt act.likely act.pess c.project.result.now.unit_days)) acts
+            ∙ ap (λ (card : ProjectCard). map (λ act. expected_time act.opt act.likely act.pess card.unit_days) deck.acts) card);
+        variances = c.in_ok-self-6.ensures
+            ∙ (ap (map (λ act. variance_of act.opt act.pess c.project.result.now.unit_days)) acts
+            ∙ ap (λ (card : ProjectCard). map (λ act. variance_of act.opt act.pess card.unit_days) deck.acts) card);
+      };
+    }
