@@ -19,7 +19,7 @@ use std::sync::ledger::Ledger;
 /// The first word of the form; the second is the number of activities.
 pub(crate) const WORDS: &[u8] = b"bench";
 
-/// Answers the form for the project of its deck.
+/// Answers the form for the project of the benchmark's deck.
 pub(crate) fn answer<O: Sink>(alloc: Global, n: u64, project: &Project, out: &mut O) -> Status
     ensures { Answers (IsReply (Bench n) project.now) (side O.taken O.faults out.old out.new) result }
 {

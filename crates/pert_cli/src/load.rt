@@ -1,4 +1,4 @@
-//! `load P`: what is spent by item and taken by resource in each period of P days.
+//! `load P`: what is spent by item and used by resource in each period of P days.
 ghost use Rattle.pc_load.specs.inside.Loading.{IsReadyFor};
 ghost use Rattle.pc_load.specs.LoadText.{load_text};
 ghost use Rattle.pert_cli.specs.Forms.{IsNumbered};

@@ -21,7 +21,7 @@ use std::alloc::Global;
 /// The first word of the form; the second is the length.
 pub(crate) const WORDS: &[u8] = b"outlook";
 
-/// Answers the form, or refuses the project of which the length is none.
+/// Answers the form, or refuses the project if the length is outside its range.
 pub(crate) fn answer<O: Sink, E: Sink>(
     alloc: Global,
     limit: u64,
