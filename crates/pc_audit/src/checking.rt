@@ -53,16 +53,20 @@ pub fn check_run<D: Source, C: Source, O: Sink, E: Sink>(
 
     // The headline: at 0 the certificate says the whole curve, and for every length between the all-crash and the all-normal
     // length what is read from it is a cheapest schedule.
-    ensures headline { result ≡ 0 → OfBoth (side D.left D.faults deck.old deck.new) (pulled_side C.left C.faults C.pulls cert.old cert.new) ProvesCurve }
+    ensures headline { result ≡ 0 → OfBoth (side D.left D.faults deck.old deck.new)
+        (pulled_side C.left C.faults C.pulls cert.old cert.new) ProvesCurve }
 
     // 6: the deck is accepted, the certificate has a first failing point, and `out` took the line that names it. Nothing of the certificate
     // is pulled after the pull in which that point's line ends (`settled`). (`write_fault` says the same of a verdict that is cut.)
-    ensures not_certified { result ≡ 6 → (line reason : ℕ) × IsChecked words.now (side D.left D.faults deck.old deck.new)
-        (pulled_side C.left C.faults C.pulls cert.old cert.new) (side O.taken O.faults out.old out.new) (No line reason) }
+    ensures not_certified { result ≡ 6 → (line reason : ℕ) × IsChecked words.now
+        (side D.left D.faults deck.old deck.new)
+        (pulled_side C.left C.faults C.pulls cert.old cert.new)
+        (side O.taken O.faults out.old out.new) (No line reason) }
     ensures not_certified_only { result ≡ 6 → err.new ≡ err.old }
 
     // 1: the deck is refused, and `err` took the line of its fault. Of the certificate nothing was read.
-    ensures refused { result ≡ 1 → IsDeckRefused words.now (side D.left D.faults deck.old deck.new) (side E.taken E.faults err.old err.new) }
+    ensures refused { result ≡ 1 → IsDeckRefused words.now (side D.left D.faults deck.old deck.new)
+        (side E.taken E.faults err.old err.new) }
     ensures refused_read { result ≡ 1 → OfDeck (side D.left D.faults deck.old deck.new)
         (λ bytes. length bytes ≤ longest_deck → IsReadToEnd (side D.left D.faults deck.old deck.new)) }
     ensures refused_only { result ≡ 1 → (cert.new ≡ cert.old) × (out.new ≡ out.old) }
@@ -77,11 +81,13 @@ pub fn check_run<D: Source, C: Source, O: Sink, E: Sink>(
     ensures no_memory { result ≡ 3 → (cert.new ≡ cert.old) × (out.new ≡ out.old) × (err.new ≡ err.old) }
 
     // 4: the deck could not be read, of which no more was taken than a deck may have; or the certificate, of which no line had failed.
-    ensures read_fault { result ≡ 4 → IsUnread (side D.left D.faults deck.old deck.new) (pulled_side C.left C.faults C.pulls cert.old cert.new) }
+    ensures read_fault { result ≡ 4 → IsUnread (side D.left D.faults deck.old deck.new)
+        (pulled_side C.left C.faults C.pulls cert.old cert.new) }
     ensures read_fault_only { result ≡ 4 → (out.new ≡ out.old) × (err.new ≡ err.old) }
 
     // 5: a fault of `out` or `err` came in the verdict, the line of a fault or the usage line.
-    ensures write_fault { result ≡ 5 → IsCheckCut words.now (side D.left D.faults deck.old deck.new) (pulled_side C.left C.faults C.pulls cert.old cert.new)
+    ensures write_fault { result ≡ 5 → IsCheckCut words.now (side D.left D.faults deck.old deck.new)
+        (pulled_side C.left C.faults C.pulls cert.old cert.new)
         (side O.taken O.faults out.old out.new) (side E.taken E.faults err.old err.new) }
 
     // Each status but 2 and 5 comes only where there is one word.
@@ -90,25 +96,32 @@ pub fn check_run<D: Source, C: Source, O: Sink, E: Sink>(
     // No certificate is both certified and failing for one deck, each has one first failing point, and no deck is both
     // accepted and refused.
     ensures one_verdict { (bytes text : List ℕ) → Certifies bytes text → FailsAsCertificate bytes text → ⊥ }
-    ensures one_finding { (bytes text : List ℕ) (verdict other : TheVerdict) → HasVerdict bytes text verdict → HasVerdict bytes text other → verdict ≡ other }
+    ensures one_finding { (bytes text : List ℕ) (verdict other : TheVerdict) → HasVerdict bytes text verdict
+        → HasVerdict bytes text other → verdict ≡ other }
     ensures one_deck_verdict { (bytes : List ℕ) → AcceptedBy bytes → RefusedBy bytes → ⊥ }
 
     // A deck that is not refused is accepted, as far as it could be read and but for want of memory.
     ensures acceptance { IsOneWord words.now → HadNoFault (side D.left D.faults deck.old deck.new)
-        → OfDeck (side D.left D.faults deck.old deck.new) (λ bytes. (RefusedBy bytes → ⊥) → AcceptedBy bytes ⊎ (result ≡ 3)) }
+        → OfDeck (side D.left D.faults deck.old deck.new)
+        (λ bytes. (RefusedBy bytes → ⊥) → AcceptedBy bytes ⊎ (result ≡ 3)) }
 
     // Where no fault came, the words, the deck and the certificate decide, but for want of memory.
-    ensures words_refused { (IsOneWord words.now → ⊥) → HadNoFault (side E.taken E.faults err.old err.new) → result ≡ 2 }
-    ensures deck_refused { IsOneWord words.now → OfDeck (side D.left D.faults deck.old deck.new) (λ bytes. RefusedBy bytes
-        → HadNoFault (side D.left D.faults deck.old deck.new)
+    ensures words_refused { (IsOneWord words.now → ⊥) → HadNoFault (side E.taken E.faults err.old err.new)
+        → result ≡ 2 }
+    ensures deck_refused { IsOneWord words.now → OfDeck (side D.left D.faults deck.old deck.new)
+        (λ bytes. RefusedBy bytes → HadNoFault (side D.left D.faults deck.old deck.new)
         → HadNoFault (side E.taken E.faults err.old err.new) → (result ≡ 1) ⊎ (result ≡ 3)) }
-    ensures certificate_right { IsOneWord words.now → OfBoth (side D.left D.faults deck.old deck.new) (pulled_side C.left C.faults C.pulls cert.old cert.new)
+    ensures certificate_right { IsOneWord words.now → OfBoth (side D.left D.faults deck.old deck.new)
+        (pulled_side C.left C.faults C.pulls cert.old cert.new)
         (λ bytes text. Certifies bytes text
-        → HadNoFault (side D.left D.faults deck.old deck.new) → HadNoFault (pulled_side C.left C.faults C.pulls cert.old cert.new)
+        → HadNoFault (side D.left D.faults deck.old deck.new)
+        → HadNoFault (pulled_side C.left C.faults C.pulls cert.old cert.new)
         → HadNoFault (side O.taken O.faults out.old out.new) → (result ≡ 0) ⊎ (result ≡ 3)) }
-    ensures certificate_wrong { IsOneWord words.now → OfBoth (side D.left D.faults deck.old deck.new) (pulled_side C.left C.faults C.pulls cert.old cert.new)
+    ensures certificate_wrong { IsOneWord words.now → OfBoth (side D.left D.faults deck.old deck.new)
+        (pulled_side C.left C.faults C.pulls cert.old cert.new)
         (λ bytes text. AcceptedBy bytes → (Certifies bytes text → ⊥)
-        → HadNoFault (side D.left D.faults deck.old deck.new) → HadNoFault (pulled_side C.left C.faults C.pulls cert.old cert.new)
+        → HadNoFault (side D.left D.faults deck.old deck.new)
+        → HadNoFault (pulled_side C.left C.faults C.pulls cert.old cert.new)
         → HadNoFault (side O.taken O.faults out.old out.new) → (result ≡ 6) ⊎ (result ≡ 3)) }
 
     // However long the deck is, nothing of it is pulled after the pull that passes the longest deck, ends it or fails.
@@ -116,9 +129,11 @@ pub fn check_run<D: Source, C: Source, O: Sink, E: Sink>(
 
     // However long the certificate is, the pulls from it are bounded by the deck's project, and by the certificate's own first upper
     // end: by the lines of the header and the walks, of as many segments as that is long, or of one where it is 0, and two more.
-    ensures turns { OfDeck (side D.left D.faults deck.old deck.new) (λ bytes. (project : TheProject) → IsProjectOf bytes project
+    ensures turns { OfDeck (side D.left D.faults deck.old deck.new)
+        (λ bytes. (project : TheProject) → IsProjectOf bytes project
         → TakesPulls (most_bytes (priced_in project) + 1) (C.pulls cert.old) (C.pulls cert.new)) }
-    ensures own_turns { OfBoth (side D.left D.faults deck.old deck.new) (pulled_side C.left C.faults C.pulls cert.old cert.new)
+    ensures own_turns { OfBoth (side D.left D.faults deck.old deck.new)
+        (pulled_side C.left C.faults C.pulls cert.old cert.new)
         (KeepsToOwnLinesFor (C.pulls cert.old) (C.pulls cert.new)) }
 {
     check_outcome(alloc, words, deck, cert, out, err).code()
@@ -133,11 +148,14 @@ fn check_outcome<D: Source, C: Source, O: Sink, E: Sink>(
     out: &mut O,
     err: &mut E,
 ) -> Status
-    ensures outcome { CheckOutcome words.now (side D.left D.faults deck.old deck.new) (pulled_side C.left C.faults C.pulls cert.old cert.new)
+    ensures outcome { CheckOutcome words.now (side D.left D.faults deck.old deck.new)
+        (pulled_side C.left C.faults C.pulls cert.old cert.new)
         (side O.taken O.faults out.old out.new) (side E.taken E.faults err.old err.new) result }
-    ensures turns { OfDeck (side D.left D.faults deck.old deck.new) (λ bytes. (project : TheProject) → IsProjectOf bytes project
+    ensures turns { OfDeck (side D.left D.faults deck.old deck.new)
+        (λ bytes. (project : TheProject) → IsProjectOf bytes project
         → TakesPulls (most_bytes (priced_in project) + 1) (C.pulls cert.old) (C.pulls cert.new)) }
-    ensures own_turns { OfBoth (side D.left D.faults deck.old deck.new) (pulled_side C.left C.faults C.pulls cert.old cert.new)
+    ensures own_turns { OfBoth (side D.left D.faults deck.old deck.new)
+        (pulled_side C.left C.faults C.pulls cert.old cert.new)
         (KeepsToOwnLinesFor (C.pulls cert.old) (C.pulls cert.new)) }
     ensures deck_stops { IsReadWithin longest_deck STREAM_ROOM D.left D.pulls deck.old deck.new }
 {
@@ -149,9 +167,11 @@ fn check_outcome<D: Source, C: Source, O: Sink, E: Sink>(
 
 /// Checks a certificate of the project, and says on `out` what it is found to be.
 fn check<C: Source, O: Sink>(alloc: Global, project: &Project, cert: &mut C, out: &mut O) -> Status
-    ensures answered { Answered project.now (pulled_side C.left C.faults C.pulls cert.old cert.new) (side O.taken O.faults out.old out.new) result }
+    ensures answered { Answered project.now (pulled_side C.left C.faults C.pulls cert.old cert.new)
+        (side O.taken O.faults out.old out.new) result }
     ensures turns { TakesPulls (most_bytes (priced_in project.now) + 1) (C.pulls cert.old) (C.pulls cert.new) }
-    ensures own_turns { IfSome (C.left cert.old) (λ text. KeepsToOwnLines (priced_in project.now) text (C.pulls cert.old) (C.pulls cert.new)) }
+    ensures own_turns { IfSome (C.left cert.old)
+        (λ text. KeepsToOwnLines (priced_in project.now) text (C.pulls cert.old) (C.pulls cert.new)) }
 {
     let Ok(net) = project.priced(alloc) else {
         return Status::OutOfMemory;
