@@ -1,4 +1,4 @@
-//! The top call of the program that checks a certificate.
+//! The top call of `pert_check`.
 ghost use Rattle.std.specs.Prelude.{◌≡◌, ◌≢◌, ℕ, List, ◌+◌, ◌≤◌, ◌⊎◌, length, IfSome};
 ghost use Rattle.pc_check.specs.declared.fail.Verdict.{Verdict as TheVerdict};
 ghost use Rattle.pc_check.specs.declared.fail.Verdict.TheVariants.{Yes, No};
@@ -24,16 +24,16 @@ use pc_project::Project;
 use pc_shell::{Status, project_named};
 use std::alloc::Global;
 
-/// The line that says which words are asked for.
+/// The usage line.
 const USAGE: &[u8] = b"usage: pert_check DECK\n";
 
-/// Reads a deck from `deck` and a certificate of its project's time-cost curve from `cert`, and says on `out` whether the
-/// certificate is right, or on `err` why that cannot be said.
+/// Runs `pert_check`: reads a deck from `deck` and a certificate of its project's time-cost curve from `cert`, writes
+/// on `out` whether the certificate is right, or on `err` why there is no verdict, and returns the status with which
+/// the program ends.
 ///
-/// There is one word, the deck's name. The words come first, then the whole deck, then its faults, then all memory, then the
-/// certificate, and then the line of the verdict and a flush. The certificate may have any length: it is read in pieces, each
-/// of which is used before the next, and reading stops at the first failing line. The answer of the call is the status with
-/// which the program ends.
+/// There is one word, the deck's name. The order is: the words, the complete deck, its faults, all memory, the
+/// certificate, and then the line of the verdict and a flush. The certificate may have any length: it is read in
+/// pieces, each is used before the next is pulled, and reading stops at the first failing line.
 pub fn check_run<D: Source, C: Source, O: Sink, E: Sink>(
     alloc: Global,
     words: &[String],
@@ -44,20 +44,21 @@ pub fn check_run<D: Source, C: Source, O: Sink, E: Sink>(
 ) -> u8
     ensures statuses { result ≤ 6 }
 
-    // 0: the deck is accepted, the certificate is a certified one of its project, and `out` took the line that says so with
-    // the number of its segments. Both were read to their ends.
+    // 0: the deck is accepted, the certificate is a certified one of its project, and `out` took the line that says so
+    // with the number of its segments. Both were read to their ends.
     ensures certified { result ≡ 0 → (segments : ℕ) × IsChecked words.now (side D.left D.faults deck.old deck.new)
         (pulled_side C.left C.faults C.pulls cert.old cert.new) (side O.taken O.faults out.old out.new) (Yes segments) }
     ensures certified_read { result ≡ 0 → IsReadToEnd (pulled_side C.left C.faults C.pulls cert.old cert.new) }
     ensures certified_only { result ≡ 0 → err.new ≡ err.old }
 
-    // The headline: at 0 the certificate says the whole curve, and for every length between the all-crash and the all-normal
-    // length what is read from it is a cheapest schedule.
+    // The headline: at 0 the certificate says the whole curve, and for every length between the all-crash and the
+    // all-normal length what is read from it is a cheapest schedule.
     ensures headline { result ≡ 0 → OfBoth (side D.left D.faults deck.old deck.new)
         (pulled_side C.left C.faults C.pulls cert.old cert.new) ProvesCurve }
 
-    // 6: the deck is accepted, the certificate has a first failing point, and `out` took the line that names it. Nothing of the certificate
-    // is pulled after the pull in which that point's line ends (`settled`). (`write_fault` says the same of a verdict that is cut.)
+    // 6: the deck is accepted, the certificate has a first failing point, and `out` took the line that names it.
+    // Nothing of the certificate is pulled after the pull in which that point's line ends (`settled`). `write_fault`
+    // promises the same of a truncated verdict.
     ensures not_certified { result ≡ 6 → (line reason : ℕ) × IsChecked words.now
         (side D.left D.faults deck.old deck.new)
         (pulled_side C.left C.faults C.pulls cert.old cert.new)
@@ -80,7 +81,8 @@ pub fn check_run<D: Source, C: Source, O: Sink, E: Sink>(
     // 3: memory ran out, before anything of the certificate was read and before anything was written.
     ensures no_memory { result ≡ 3 → (cert.new ≡ cert.old) × (out.new ≡ out.old) × (err.new ≡ err.old) }
 
-    // 4: the deck could not be read, of which no more was taken than a deck may have; or the certificate, of which no line had failed.
+    // 4: the deck could not be read, of which no more was taken than a deck may have; or the certificate, of which no
+    // line had failed.
     ensures read_fault { result ≡ 4 → IsUnread (side D.left D.faults deck.old deck.new)
         (pulled_side C.left C.faults C.pulls cert.old cert.new) }
     ensures read_fault_only { result ≡ 4 → (out.new ≡ out.old) × (err.new ≡ err.old) }
@@ -127,8 +129,9 @@ pub fn check_run<D: Source, C: Source, O: Sink, E: Sink>(
     // However long the deck is, nothing of it is pulled after the pull that passes the longest deck, ends it or fails.
     ensures deck_stops { IsReadWithin longest_deck STREAM_ROOM D.left D.pulls deck.old deck.new }
 
-    // However long the certificate is, the pulls from it are bounded by the deck's project, and by the certificate's own first upper
-    // end: by the lines of the header and the walks, of as many segments as that is long, or of one where it is 0, and two more.
+    // However long the certificate is, the pulls from it are bounded by the deck's project, and by the certificate's
+    // own first upper end: by the lines of the header and the walks, of as many segments as that is long, or of one if
+    // it is 0, and two more.
     ensures turns { OfDeck (side D.left D.faults deck.old deck.new)
         (λ bytes. (project : TheProject) → IsProjectOf bytes project
         → TakesPulls (most_bytes (priced_in project) + 1) (C.pulls cert.old) (C.pulls cert.new)) }
@@ -139,7 +142,7 @@ pub fn check_run<D: Source, C: Source, O: Sink, E: Sink>(
     check_outcome(alloc, words, deck, cert, out, err).code()
 }
 
-/// Checks a certificate of a deck, and answers how it ended.
+/// Checks a certificate of a deck, and returns how that ended.
 fn check_outcome<D: Source, C: Source, O: Sink, E: Sink>(
     alloc: Global,
     words: &[String],
@@ -165,7 +168,7 @@ fn check_outcome<D: Source, C: Source, O: Sink, E: Sink>(
     }
 }
 
-/// Checks a certificate of the project, and says on `out` what it is found to be.
+/// Checks a certificate of a project and writes the verdict on `out`.
 fn check<C: Source, O: Sink>(alloc: Global, project: &Project, cert: &mut C, out: &mut O) -> Status
     ensures answered { Answered project.now (pulled_side C.left C.faults C.pulls cert.old cert.new)
         (side O.taken O.faults out.old out.new) result }
