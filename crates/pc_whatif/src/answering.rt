@@ -1,5 +1,5 @@
 //! Answers to lines.
-ghost use Rattle.std.specs.Prelude.{◌≡◌, ℕ, List, None, Some};
+ghost use Rattle.std.specs.Prelude.{ℕ, List, None, Some};
 ghost use Rattle.pc_edges.specs.inside.Writes.{Writes};
 ghost use Rattle.pc_whatif.specs.edits.Reading.{ask_of};
 ghost use Rattle.pc_whatif.specs.declared.edits.ask.Ask.TheVariants as asks;
@@ -42,6 +42,7 @@ impl Session<'_> {
         ensures { (text : List ℕ) × IsAnswered self.old None text self.new
             × Writes result (O.taken out.old) (O.taken out.new) (O.faults out.old) (O.faults out.new) text }
     {
+        // Reading a field shows what the session keeps: its times stand, and its page is empty.
         let _ = &self.page;
         refuse(Reason::Form, out)
     }
@@ -51,6 +52,7 @@ impl Session<'_> {
         ensures { (text : List ℕ) × IsAnswered self.old (Some (asks.Edit edit.now)) text self.new
             × Writes result (O.taken out.old) (O.taken out.new) (O.faults out.old) (O.faults out.new) text }
     {
+        // Reading a field shows what the session keeps: its times stand, and its page is empty.
         let _ = &self.page;
         match self.edits.apply(edit) {
             Ok(a) => {
@@ -66,6 +68,7 @@ impl Session<'_> {
         ensures { (text : List ℕ) × IsAnswered self.old (Some asks.Undo) text self.new
             × Writes result (O.taken out.old) (O.taken out.new) (O.faults out.old) (O.faults out.new) text }
     {
+        // Reading a field shows what the session keeps: its times stand, and its page is empty.
         let _ = &self.page;
         match self.edits.undo() {
             Ok(a) => {

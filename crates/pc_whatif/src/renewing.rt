@@ -1,6 +1,5 @@
 //! The times of a project that was edited.
 ghost use Rattle.std.specs.Prelude.{◌≡◌};
-ghost use Rattle.pc_whatif.specs.inside.edits.Editing.{IsEditing};
 ghost use Rattle.pc_whatif.specs.inside.Planning.{IsChangedAt, IsEditionOf, IsRenewed};
 
 use crate::edits::Edits;
@@ -15,7 +14,7 @@ pub(crate) fn renew(reservation: &mut Reservation, edits: &Edits<'_>, a: u32, pr
     ensures renewed { IsRenewed project.now edits.now.editing reservation.new }
     ensures free { reservation.new.free ≡ reservation.old.free }
 {
-    // What the numbers keep to.
+    // For what a network keeps to: the estimates of an activity are in order and within their limit.
     let _net = edits.net();
     reservation.set_estimates(a, &edits.estimates(a), project.unit_days());
     reservation.renew(project.net());

@@ -5,7 +5,8 @@ ghost use Rattle.pc_whatif.specs.Texts.{ok_text, refused_text, cost_text};
 
 use crate::edits::Reason;
 use arrayvec::ArrayVec;
-use pc_edges::{Failed, Sink, push_all};
+use pc_edges::{Failed, Sink};
+use pc_shell::send;
 use pc_text::digits;
 
 /// The room of a short answer.
@@ -51,12 +52,4 @@ fn put(line: &mut ArrayVec<u8, REPLY_ROOM>, piece: &[u8])
     ensures { line.new.items ≡ line.old.items ++ piece.now }
 {
     line.try_extend_from_slice(piece).unwrap();
-}
-
-/// Pushes the text and flushes the sink.
-fn send<O: Sink>(sink: &mut O, text: &[u8]) -> Result<(), Failed>
-    ensures { Writes result (O.taken sink.old) (O.taken sink.new) (O.faults sink.old) (O.faults sink.new) text.now }
-{
-    push_all(sink, text)?;
-    sink.flush()
 }

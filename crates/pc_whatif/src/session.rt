@@ -54,7 +54,7 @@ impl<'p> Session<'p> {
         ensures cells { IfOk result (λ session. session.reserved.free ≡
             trial_cells project.now.network.events (length project.now.network.arcs) (length project.now.pieces)) }
     {
-        // What the project keeps to.
+        // For what a project keeps to: its numbers are those of a sound plan.
         let _net = project.net();
         Ok(Session {
             project,

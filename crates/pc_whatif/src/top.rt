@@ -97,7 +97,8 @@ pub fn session_run<D: Source, C: Source, O: Sink, E: Sink>(
         → HadNoFault (side E.taken E.faults err.old err.new) → (result ≡ 1) ⊎ (result ≡ 3)) }
     ensures deck_accepted { IsOneWord words.now →
         OfDeck (side D.left D.faults deck.old deck.new) (λ bytes. AcceptedBy bytes
-        → HadNoFault (side D.left D.faults deck.old deck.new) → HadNoFault (pulled_side C.left C.faults C.pulls edits.old edits.new)
+        → HadNoFault (side D.left D.faults deck.old deck.new)
+        → HadNoFault (pulled_side C.left C.faults C.pulls edits.old edits.new)
         → HadNoFault (side O.taken O.faults out.old out.new) → (result ≡ 0) ⊎ ((result ≡ 3) ⊎ (result ≡ 8))) }
 
     // Where more is taken of the edits than they may have, and no fault of `out` came, that is the answer.
@@ -106,12 +107,14 @@ pub fn session_run<D: Source, C: Source, O: Sink, E: Sink>(
         (λ before. IfSome (C.left edits.new) (λ after. INPUT_LIMIT + length after < length before → result ≡ 8)) }
 
     // What lines are answered with hangs on the deck and on the lines alone: not on how they came, nor on anything else.
-    ensures one_text { (bytes : List ℕ) (lines : List (List ℕ)) (text other : List ℕ) → AnswersOn AnswersLines bytes lines text
+    ensures one_text { (bytes : List ℕ) (lines : List (List ℕ)) (text other : List ℕ)
+        → AnswersOn AnswersLines bytes lines text
         → AnswersOn AnswersLines bytes lines other → text ≡ other }
 
     // Each of them is answered on the deck's project with the edits that then stand applied in order: those that were accepted and not taken
     // back.
-    ensures in_order { (bytes : List ℕ) (lines : List (List ℕ)) (text : List ℕ) → AnswersOn AnswersLines bytes lines text
+    ensures in_order { (bytes : List ℕ) (lines : List (List ℕ)) (text : List ℕ)
+        → AnswersOn AnswersLines bytes lines text
         → AnswersOn AnswersInOrder bytes lines text }
 
     // However long the deck is, nothing of it is pulled after the pull that passes the longest deck, ends it or fails.

@@ -19,7 +19,7 @@ impl Edits<'_> {
     ///
     /// Where `MAX_KEPT` edits are kept, the oldest of them is no longer kept; it still stands. Linear in the pieces of the
     /// activity.
-    pub fn apply(&mut self, edit: &Edit) -> Result<u32, Reason>
+    pub(crate) fn apply(&mut self, edit: &Edit) -> Result<u32, Reason>
         requires { self.old.trial ≡ None }
         ensures accepted { OnOk result (edit_refusal self.old.editing.net self.old.editing.estimates edit.now ≡ None) }
         ensures refused { IfErr result (λ reason. edit_refusal self.old.editing.net self.old.editing.estimates

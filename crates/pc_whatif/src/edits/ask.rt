@@ -9,11 +9,11 @@ use pc_project::Estimates;
 use pc_text::Code;
 
 /// The most bytes that a line may have, without its end.
-pub const MAX_LINE: usize = 96;
+pub(crate) const MAX_LINE: usize = 96;
 
 /// What a line asks.
 #[derive(Clone, Copy)]
-pub enum Ask {
+pub(crate) enum Ask {
     /// One of the four edits.
     Edit(Edit),
     /// `UNDO`
@@ -28,14 +28,14 @@ pub enum Ask {
 
 /// An edit: other numbers for one activity.
 #[derive(Clone, Copy)]
-pub struct Edit {
-    pub act: Code,
-    pub change: Change,
+pub(crate) struct Edit {
+    pub(crate) act: Code,
+    pub(crate) change: Change,
 }
 
 /// Which numbers an edit gives an activity: estimates and durations in units, a slope in money for each unit.
 #[derive(Clone, Copy)]
-pub enum Change {
+pub(crate) enum Change {
     /// `ESTIMATE <act> <opt> <likely> <pess>`
     Estimate(Estimates),
     /// `NORMAL <act> <n>`
@@ -48,17 +48,17 @@ pub enum Change {
 
 /// Three numbers that are tried for one activity, and the length of the project for which a least cost is asked.
 #[derive(Clone, Copy)]
-pub struct Trial {
-    pub act: Code,
-    pub normal: u64,
-    pub crash: u64,
-    pub slope: u64,
-    pub length: u64,
+pub(crate) struct Trial {
+    pub(crate) act: Code,
+    pub(crate) normal: u64,
+    pub(crate) crash: u64,
+    pub(crate) slope: u64,
+    pub(crate) length: u64,
 }
 
 impl Ask {
     /// What a line, without its end, asks; or none where it has none of the forms or is longer than `MAX_LINE`.
-    pub fn read(line: &[u8]) -> Option<Ask>
+    pub(crate) fn read(line: &[u8]) -> Option<Ask>
         ensures value { result ≡ ask_of line.now }
         ensures asked { IfSome result (Asks line.now) }
         ensures read { (ask : Ask) → Asks line.now ask → result ≡ Some ask }

@@ -15,7 +15,7 @@ impl<'p> Edits<'p> {
     /// The project as its deck has it. Takes all memory that edits ever take.
     ///
     /// Linear in events, activities and pieces.
-    pub fn begin(alloc: Global, project: &'p Project) -> Result<Edits<'p>, AllocError>
+    pub(crate) fn begin(alloc: Global, project: &'p Project) -> Result<Edits<'p>, AllocError>
         ensures begun { IfOk result (λ edits. edits ≡ at_rest (begun project.now)) }
         ensures standing { IfOk result (λ edits. Stands project.now empty edits.editing) }
     {

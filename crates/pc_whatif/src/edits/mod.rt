@@ -15,7 +15,6 @@ mod reason;
 mod trying;
 mod undoing;
 
-pub use crate::edits::ask::{Ask, Change, Edit, MAX_LINE, Trial};
-pub use crate::edits::edits::{Edits, MAX_KEPT};
-pub use crate::edits::reason::Reason;
-pub use crate::edits::trying::ActTerm;
+pub(crate) use crate::edits::ask::{Ask, Edit, Trial};
+pub(crate) use crate::edits::edits::Edits;
+pub(crate) use crate::edits::reason::Reason;

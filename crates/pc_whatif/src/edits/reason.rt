@@ -4,7 +4,7 @@ ghost use Rattle.pc_whatif.specs.edits.Reasons.{reason_number};
 
 /// Why a line is refused. Where several reasons hold, the one that stands first here is told.
 #[derive(Clone, Copy)]
-pub enum Reason {
+pub(crate) enum Reason {
     /// It has none of the forms, or is longer than `MAX_LINE` bytes.
     Form,
     /// No activity has the code.
@@ -25,7 +25,7 @@ pub enum Reason {
 
 impl Reason {
     /// The number by which the reason is told, 1 to 8.
-    pub fn number(self) -> u64
+    pub(crate) fn number(self) -> u64
         ensures number { result ≡ reason_number self }
         ensures within { result ≤ 8 }
     {

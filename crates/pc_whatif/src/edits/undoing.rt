@@ -13,7 +13,7 @@ use crate::edits::reason::Reason;
 impl Edits<'_> {
     /// Takes back the latest edit that is kept, so that the numbers are those before it, and answers its activity. Refused
     /// exactly where none is kept.
-    pub fn undo(&mut self) -> Result<u32, Reason>
+    pub(crate) fn undo(&mut self) -> Result<u32, Reason>
         requires { self.old.trial ≡ None }
         ensures accepted { OnOk result (undo_refusal self.old.editing ≡ None) }
         ensures refused { IfErr result (λ reason. undo_refusal self.old.editing ≡ Some reason) }

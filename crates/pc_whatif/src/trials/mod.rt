@@ -8,4 +8,4 @@ mod spans;
 mod trial;
 mod view;
 
-pub use reservation::{Reservation, cells_needed};
+pub(crate) use crate::trials::reservation::Reservation;

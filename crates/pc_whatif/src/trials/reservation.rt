@@ -36,8 +36,8 @@ use std::sync::ledger::Ledger;
 /// What stands there: for each activity its expected time, in sixths of a day, and the variance of it; for each event its
 /// earliest time and the greatest sum of expected times over the walks from it to the end; and the critical path.
 #[derive(Drop)]
-pub struct Reservation {
-    /// It is there whenever no trial has it.
+pub(crate) struct Reservation {
+    /// `None` only while a call has taken it.
     region: Option<Region>,
     spans: Spans,
     /// How many activities the critical path has.
@@ -60,7 +60,7 @@ impl Model for Reservation {
 
 /// How many cells a session needs for so many events, activities and pieces of their costs: those of the standing times, and
 /// those that a trial works in.
-pub fn cells_needed(events: usize, activities: usize, pieces: usize) -> usize
+fn cells_needed(events: usize, activities: usize, pieces: usize) -> usize
     requires events { events ≤ MAX_EVENTS }
     requires activities { activities ≤ MAX_ACTIVITIES }
     requires pieces { pieces ≤ MAX_PIECES }
@@ -72,7 +72,7 @@ pub fn cells_needed(events: usize, activities: usize, pieces: usize) -> usize
 impl Reservation {
     /// The reservation for a project, with the times of it as it is. No other call takes memory. Linear in events and
     /// activities.
-    pub fn begin(alloc: Global, project: &Project) -> Result<Reservation, AllocError>
+    pub(crate) fn begin(alloc: Global, project: &Project) -> Result<Reservation, AllocError>
         ensures fits { IfOk result (IsFor project.now.network) }
         ensures standing { IfOk result (IsStandingOf project.now) }
         ensures free { IfOk result (λ r. r.free ≡
@@ -124,14 +124,14 @@ impl Reservation {
     }
 
     /// How many cells of the region are free.
-    pub fn cells(&self) -> usize
+    pub(crate) fn cells(&self) -> usize
         ensures { result ≡ self.now.free }
     {
         present(&self.region).free()
     }
 
     /// The expected time of each activity, in sixths of a day.
-    pub fn expected(&self) -> &[u64]
+    pub(crate) fn expected(&self) -> &[u64]
         ensures list { result.now ≡ self.now.expected }
         ensures limit { AreAtMost MAX_LENGTH result.now }
     {
@@ -139,7 +139,7 @@ impl Reservation {
     }
 
     /// The variance of each activity's time, in thirty-sixths of a square day.
-    pub fn variances(&self) -> &[u64]
+    pub(crate) fn variances(&self) -> &[u64]
         ensures list { result.now ≡ self.now.variances }
         ensures limit { AreAtMost MAX_VARIANCE result.now }
     {
@@ -147,7 +147,7 @@ impl Reservation {
     }
 
     /// When each event is reached at the earliest, in sixths of a day.
-    pub fn early(&self) -> &[u64]
+    pub(crate) fn early(&self) -> &[u64]
         ensures list { result.now ≡ self.now.early }
         ensures limit { AreAtMost MAX_TIME result.now }
     {
@@ -155,7 +155,7 @@ impl Reservation {
     }
 
     /// For each event the greatest sum of expected times over the walks from it to the end.
-    pub fn tails(&self) -> &[u64]
+    pub(crate) fn tails(&self) -> &[u64]
         ensures list { result.now ≡ self.now.tails }
         ensures limit { AreAtMost MAX_TIME result.now }
     {
@@ -163,7 +163,7 @@ impl Reservation {
     }
 
     /// The activities of the critical path, from the start event to the end event.
-    pub fn path(&self) -> &[u64]
+    pub(crate) fn path(&self) -> &[u64]
         ensures path { result.now ≡ path_in self.now }
         ensures short { length result.now ≤ length self.now.places }
     {
@@ -172,7 +172,7 @@ impl Reservation {
 
     /// Gives an activity the expected time and the variance of these estimates, in units of so many days. The times of events
     /// stay as they are: `renew` follows before they are told.
-    pub fn set_estimates(&mut self, a: u32, estimates: &Estimates, unit_days: u64)
+    pub(crate) fn set_estimates(&mut self, a: u32, estimates: &Estimates, unit_days: u64)
         requires activity { a < length self.old.expected }
         requires likely { estimates.now.optimistic ≤ estimates.now.likely }
         requires pessimistic { estimates.now.likely ≤ estimates.now.pessimistic }
@@ -191,7 +191,7 @@ impl Reservation {
     }
 
     /// Renews the times of events and the critical path from the expected times. A few passes over the network.
-    pub fn renew(&mut self, net: &Net)
+    pub(crate) fn renew(&mut self, net: &Net)
         requires { IsFor net.now self.old }
         ensures standing { IsStanding net.now self.new }
         ensures fits { IsFor net.now self.new }
@@ -204,7 +204,7 @@ impl Reservation {
 
     /// Writes the report of event times of the project as it is now, and flushes the sink: the deck's project with what stands
     /// here in place of its expected times and variances. Linear in events and activities.
-    pub fn write_times<O: Sink>(
+    pub(crate) fn write_times<O: Sink>(
         &self,
         page: &mut Page,
         sink: &mut O,
@@ -236,7 +236,7 @@ impl Reservation {
 
     /// Writes the curve of the network as it is now and flushes the sink. It works in the free cells, which are free again
     /// when it ends.
-    pub fn write_curve<O: Sink, L: Ledger>(
+    pub(crate) fn write_curve<O: Sink, L: Ledger>(
         &mut self,
         page: &mut Page,
         sink: &mut O,
@@ -252,15 +252,12 @@ impl Reservation {
         ensures counted { (shortest longest : ℕ) → IsRange net.now shortest longest →
             steps.new ≤ steps.old + looks_over net.now (longest - shortest) }
     {
-        let region = self.region.take().unwrap();
-        let (region, written) = trial_curve(region, page, sink, net, steps);
-        self.region = Some(region);
-        written
+        trial_curve(&mut self.region, page, sink, net, steps)
     }
 
     /// What a schedule of this length, in units, costs at least; none where the length is outside the network's range. It works
     /// in the free cells, which are free again when it ends.
-    pub fn least_cost<L: Ledger>(
+    pub(crate) fn least_cost<L: Ledger>(
         &mut self,
         net: &CrashNet<'_>,
         limit: u64,
@@ -273,10 +270,7 @@ impl Reservation {
         ensures counted { (shortest longest : ℕ) → IsRange net.now shortest longest →
             steps.new ≤ steps.old + looks_over net.now (longest - shortest) }
     {
-        let region = self.region.take().unwrap();
-        let (region, cost) = trial_cost(region, net, limit, steps);
-        self.region = Some(region);
-        cost
+        trial_cost(&mut self.region, net, limit, steps)
     }
 }
 

@@ -1,5 +1,5 @@
 //! The spans that are taken at the opening.
-ghost use Rattle.std.specs.Prelude.{◌≡◌, ◌+◌, ◌*◌, ◌<◌, ◌≤◌, [], replicate};
+ghost use Rattle.std.specs.Prelude.{◌≡◌, ◌+◌, ◌*◌, ◌<◌, ◌≤◌, []};
 ghost use Rattle.pc_whatif.specs.inside.trials.Laid.{AreSpansTaken};
 
 use pc_cells::{Region, Span};
