@@ -1,4 +1,4 @@
-//! What-if sessions: lines that edit a project, and lines that ask what it then comes to.
+//! What-if sessions: lines that edit a project, and lines that ask for the times and costs that follow.
 #![tactic(auto)]
 
 mod answering;

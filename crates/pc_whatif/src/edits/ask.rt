@@ -1,4 +1,4 @@
-//! What a line of a session asks.
+//! What a line of a session asks for.
 ghost use Rattle.std.specs.Prelude.{◌≡◌, IfSome, Some};
 ghost use Rattle.pc_whatif.specs.inside.edits.Lines.{Asks};
 ghost use Rattle.pc_whatif.specs.edits.Reading.{ask_of};
@@ -8,10 +8,10 @@ use crate::edits::reading::ask_of;
 use pc_project::Estimates;
 use pc_text::Code;
 
-/// The most bytes that a line may have, without its end.
+/// The most bytes of a line, without its LF.
 pub(crate) const MAX_LINE: usize = 96;
 
-/// What a line asks.
+/// What a line asks for.
 #[derive(Clone, Copy)]
 pub(crate) enum Ask {
     /// One of the four edits.
@@ -26,14 +26,14 @@ pub(crate) enum Ask {
     Try(Trial),
 }
 
-/// An edit: other numbers for one activity.
+/// An edit: new numbers for one activity.
 #[derive(Clone, Copy)]
 pub(crate) struct Edit {
     pub(crate) act: Code,
     pub(crate) change: Change,
 }
 
-/// Which numbers an edit gives an activity: estimates and durations in units, a slope in money for each unit.
+/// The numbers that an edit gives an activity: estimates and durations in units, a slope in money per unit.
 #[derive(Clone, Copy)]
 pub(crate) enum Change {
     /// `ESTIMATE <act> <opt> <likely> <pess>`
@@ -46,7 +46,7 @@ pub(crate) enum Change {
     Slope(u64),
 }
 
-/// Three numbers that are tried for one activity, and the length of the project for which a least cost is asked.
+/// Three numbers to try for one activity, and the project length, in units, whose least cost is asked for.
 #[derive(Clone, Copy)]
 pub(crate) struct Trial {
     pub(crate) act: Code,
@@ -57,7 +57,7 @@ pub(crate) struct Trial {
 }
 
 impl Ask {
-    /// What a line, without its end, asks; or none where it has none of the forms or is longer than `MAX_LINE`.
+    /// Reads a line without its LF. Returns `None` if it has none of the forms or is longer than `MAX_LINE`.
     pub(crate) fn read(line: &[u8]) -> Option<Ask>
         ensures value { result ≡ ask_of line.now }
         ensures asked { IfSome result (Asks line.now) }

@@ -10,25 +10,25 @@ use pc_crash::CrashNet;
 use pc_project::Estimates;
 use std::marker::Model;
 
-/// How many edits are kept, so that UNDO can take them back.
+/// How many edits UNDO can take back.
 pub(crate) const MAX_KEPT: usize = 1_000;
 
-/// A project whose numbers are edited: its priced network and its estimates as they are now, and what takes back the
-/// latest edits.
+/// A project whose numbers are edited: its current priced network and estimates, and the replaced numbers of the latest
+/// edits.
 ///
-/// All memory is taken at the beginning. A term may be on trial for one activity: then the network has it, and all else is as
-/// if it had not.
+/// It takes all its memory when it begins. One activity may have a term on trial: the network then has that term, and
+/// all else is as without it.
 pub(crate) struct Edits<'p> {
     pub(in crate::edits) net: CrashNet<'p>,
     pub(in crate::edits) estimates: Vec<Estimates>,
     pub(in crate::edits) unit_days: u64,
     pub(in crate::edits) kept: HeapCircularBuffer<Kept>,
-    /// The term whose place a trial has taken.
+    /// The term that a trial replaces.
     pub(in crate::edits) aside: Option<ActTerm>,
 }
 
 impl<'p> Drop for Edits<'p> {
-    // Written out, so that who lets edits go cites this proof.
+    // Written by hand, so that the proof of dropping edits is done once, here.
     fn drop(self) {
         let Edits {
             net: _net,
@@ -53,7 +53,7 @@ impl<'p> Model for Edits<'p> {
 }
 
 impl<'p> Edits<'p> {
-    /// The priced network as it is now, with the term on trial where there is one.
+    /// Returns the current priced network, with the term on trial if there is one.
     pub(crate) fn net(&self) -> &CrashNet<'p>
         ensures net { result.now ≡ net_in self.now }
         ensures whole { IsEditing self.now.editing }
@@ -61,7 +61,7 @@ impl<'p> Edits<'p> {
         &self.net
     }
 
-    /// The three estimates of an activity as they are now.
+    /// Returns the current estimates of an activity, in units.
     pub(crate) fn estimates(&self, a: u32) -> Estimates
         requires { a < length self.now.editing.net.network.arcs }
         ensures { result ≡ estimates_at self.now.editing.estimates a }

@@ -1,5 +1,5 @@
-//! What a line of a what-if session asks, and a project whose numbers are edited: which edits are refused and why, and
-//! what UNDO takes back.
+//! What a line of a what-if session asks for, and a project whose numbers are edited: which edits are refused and why,
+//! and what UNDO takes back.
 
 mod applying;
 mod ask;
