@@ -1,3 +1,3 @@
-pub mod OnceLaws
+mod OnceLaws
 mod CheckLaws
 mod CheckDecided

@@ -1,4 +1,4 @@
-//! The top call of the program that checks a certificate.
+//! The top call of `pert_check`.
 ghost use Rattle.std.specs.Prelude.{◌≡◌, ◌≢◌, ℕ, List, ◌+◌, ◌≤◌, ◌⊎◌, length, IfSome};
 ghost use Rattle.pc_check.specs.declared.fail.Verdict.{Verdict as TheVerdict};
 ghost use Rattle.pc_check.specs.declared.fail.Verdict.TheVariants.{Yes, No};
@@ -24,16 +24,16 @@ use pc_project::Project;
 use pc_shell::{Status, project_named};
 use std::alloc::Global;
 
-/// The line that says which words are asked for.
+/// The usage line.
 const USAGE: &[u8] = b"usage: pert_check DECK\n";
 
-/// Reads a deck from `deck` and a certificate of its project's time-cost curve from `cert`, and says on `out` whether the
-/// certificate is right, or on `err` why that cannot be said.
+/// Runs `pert_check`: reads a deck from `deck` and a certificate of its project's time-cost curve from `cert`, writes
+/// on `out` whether the certificate is right, or on `err` why there is no verdict, and returns the status with which
+/// the program ends.
 ///
-/// There is one word, the deck's name. The words come first, then the whole deck, then its faults, then all memory, then the
-/// certificate, and then the line of the verdict and a flush. The certificate may have any length: it is read in pieces, each
-/// of which is used before the next, and reading stops at the first failing line. The answer of the call is the status with
-/// which the program ends.
+/// There is one word, the deck's name. The order is: the words, the complete deck, its faults, all memory, the
+/// certificate, and then the line of the verdict and a flush. The certificate may have any length: it is read in
+/// pieces, each is used before the next is pulled, and reading stops at the first failing line.
 pub fn check_run<D: Source, C: Source, O: Sink, E: Sink>(
     alloc: Global,
     words: &[String],
@@ -44,25 +44,30 @@ pub fn check_run<D: Source, C: Source, O: Sink, E: Sink>(
 ) -> u8
     ensures statuses { result ≤ 6 }
 
-    // 0: the deck is accepted, the certificate is a certified one of its project, and `out` took the line that says so with
-    // the number of its segments. Both were read to their ends.
+    // 0: the deck is accepted, the certificate is a certified one of its project, and `out` took the line that says so
+    // with the number of its segments. Both were read to their ends.
     ensures certified { result ≡ 0 → (segments : ℕ) × IsChecked words.now (side D.left D.faults deck.old deck.new)
         (pulled_side C.left C.faults C.pulls cert.old cert.new) (side O.taken O.faults out.old out.new) (Yes segments) }
     ensures certified_read { result ≡ 0 → IsReadToEnd (pulled_side C.left C.faults C.pulls cert.old cert.new) }
     ensures certified_only { result ≡ 0 → err.new ≡ err.old }
 
-    // The headline: at 0 the certificate says the whole curve, and for every length between the all-crash and the all-normal
-    // length what is read from it is a cheapest schedule.
-    ensures headline { result ≡ 0 → OfBoth (side D.left D.faults deck.old deck.new) (pulled_side C.left C.faults C.pulls cert.old cert.new) ProvesCurve }
+    // The headline: at 0 the certificate says the whole curve, and for every length between the all-crash and the
+    // all-normal length what is read from it is a cheapest schedule.
+    ensures headline { result ≡ 0 → OfBoth (side D.left D.faults deck.old deck.new)
+        (pulled_side C.left C.faults C.pulls cert.old cert.new) ProvesCurve }
 
-    // 6: the deck is accepted, the certificate has a first failing point, and `out` took the line that names it. Nothing of the certificate
-    // is pulled after the pull in which that point's line ends (`settled`). (`write_fault` says the same of a verdict that is cut.)
-    ensures not_certified { result ≡ 6 → (line reason : ℕ) × IsChecked words.now (side D.left D.faults deck.old deck.new)
-        (pulled_side C.left C.faults C.pulls cert.old cert.new) (side O.taken O.faults out.old out.new) (No line reason) }
+    // 6: the deck is accepted, the certificate has a first failing point, and `out` took the line that names it.
+    // Nothing of the certificate is pulled after the pull in which that point's line ends (`settled`). `write_fault`
+    // promises the same of a truncated verdict.
+    ensures not_certified { result ≡ 6 → (line reason : ℕ) × IsChecked words.now
+        (side D.left D.faults deck.old deck.new)
+        (pulled_side C.left C.faults C.pulls cert.old cert.new)
+        (side O.taken O.faults out.old out.new) (No line reason) }
     ensures not_certified_only { result ≡ 6 → err.new ≡ err.old }
 
     // 1: the deck is refused, and `err` took the line of its fault. Of the certificate nothing was read.
-    ensures refused { result ≡ 1 → IsDeckRefused words.now (side D.left D.faults deck.old deck.new) (side E.taken E.faults err.old err.new) }
+    ensures refused { result ≡ 1 → IsDeckRefused words.now (side D.left D.faults deck.old deck.new)
+        (side E.taken E.faults err.old err.new) }
     ensures refused_read { result ≡ 1 → OfDeck (side D.left D.faults deck.old deck.new)
         (λ bytes. length bytes ≤ longest_deck → IsReadToEnd (side D.left D.faults deck.old deck.new)) }
     ensures refused_only { result ≡ 1 → (cert.new ≡ cert.old) × (out.new ≡ out.old) }
@@ -76,12 +81,15 @@ pub fn check_run<D: Source, C: Source, O: Sink, E: Sink>(
     // 3: memory ran out, before anything of the certificate was read and before anything was written.
     ensures no_memory { result ≡ 3 → (cert.new ≡ cert.old) × (out.new ≡ out.old) × (err.new ≡ err.old) }
 
-    // 4: the deck could not be read, of which no more was taken than a deck may have; or the certificate, of which no line had failed.
-    ensures read_fault { result ≡ 4 → IsUnread (side D.left D.faults deck.old deck.new) (pulled_side C.left C.faults C.pulls cert.old cert.new) }
+    // 4: the deck could not be read, of which no more was taken than a deck may have; or the certificate, of which no
+    // line had failed.
+    ensures read_fault { result ≡ 4 → IsUnread (side D.left D.faults deck.old deck.new)
+        (pulled_side C.left C.faults C.pulls cert.old cert.new) }
     ensures read_fault_only { result ≡ 4 → (out.new ≡ out.old) × (err.new ≡ err.old) }
 
     // 5: a fault of `out` or `err` came in the verdict, the line of a fault or the usage line.
-    ensures write_fault { result ≡ 5 → IsCheckCut words.now (side D.left D.faults deck.old deck.new) (pulled_side C.left C.faults C.pulls cert.old cert.new)
+    ensures write_fault { result ≡ 5 → IsCheckCut words.now (side D.left D.faults deck.old deck.new)
+        (pulled_side C.left C.faults C.pulls cert.old cert.new)
         (side O.taken O.faults out.old out.new) (side E.taken E.faults err.old err.new) }
 
     // Each status but 2 and 5 comes only where there is one word.
@@ -90,41 +98,51 @@ pub fn check_run<D: Source, C: Source, O: Sink, E: Sink>(
     // No certificate is both certified and failing for one deck, each has one first failing point, and no deck is both
     // accepted and refused.
     ensures one_verdict { (bytes text : List ℕ) → Certifies bytes text → FailsAsCertificate bytes text → ⊥ }
-    ensures one_finding { (bytes text : List ℕ) (verdict other : TheVerdict) → HasVerdict bytes text verdict → HasVerdict bytes text other → verdict ≡ other }
+    ensures one_finding { (bytes text : List ℕ) (verdict other : TheVerdict) → HasVerdict bytes text verdict
+        → HasVerdict bytes text other → verdict ≡ other }
     ensures one_deck_verdict { (bytes : List ℕ) → AcceptedBy bytes → RefusedBy bytes → ⊥ }
 
     // A deck that is not refused is accepted, as far as it could be read and but for want of memory.
     ensures acceptance { IsOneWord words.now → HadNoFault (side D.left D.faults deck.old deck.new)
-        → OfDeck (side D.left D.faults deck.old deck.new) (λ bytes. (RefusedBy bytes → ⊥) → AcceptedBy bytes ⊎ (result ≡ 3)) }
+        → OfDeck (side D.left D.faults deck.old deck.new)
+        (λ bytes. (RefusedBy bytes → ⊥) → AcceptedBy bytes ⊎ (result ≡ 3)) }
 
     // Where no fault came, the words, the deck and the certificate decide, but for want of memory.
-    ensures words_refused { (IsOneWord words.now → ⊥) → HadNoFault (side E.taken E.faults err.old err.new) → result ≡ 2 }
-    ensures deck_refused { IsOneWord words.now → OfDeck (side D.left D.faults deck.old deck.new) (λ bytes. RefusedBy bytes
-        → HadNoFault (side D.left D.faults deck.old deck.new)
+    ensures words_refused { (IsOneWord words.now → ⊥) → HadNoFault (side E.taken E.faults err.old err.new)
+        → result ≡ 2 }
+    ensures deck_refused { IsOneWord words.now → OfDeck (side D.left D.faults deck.old deck.new)
+        (λ bytes. RefusedBy bytes → HadNoFault (side D.left D.faults deck.old deck.new)
         → HadNoFault (side E.taken E.faults err.old err.new) → (result ≡ 1) ⊎ (result ≡ 3)) }
-    ensures certificate_right { IsOneWord words.now → OfBoth (side D.left D.faults deck.old deck.new) (pulled_side C.left C.faults C.pulls cert.old cert.new)
+    ensures certificate_right { IsOneWord words.now → OfBoth (side D.left D.faults deck.old deck.new)
+        (pulled_side C.left C.faults C.pulls cert.old cert.new)
         (λ bytes text. Certifies bytes text
-        → HadNoFault (side D.left D.faults deck.old deck.new) → HadNoFault (pulled_side C.left C.faults C.pulls cert.old cert.new)
+        → HadNoFault (side D.left D.faults deck.old deck.new)
+        → HadNoFault (pulled_side C.left C.faults C.pulls cert.old cert.new)
         → HadNoFault (side O.taken O.faults out.old out.new) → (result ≡ 0) ⊎ (result ≡ 3)) }
-    ensures certificate_wrong { IsOneWord words.now → OfBoth (side D.left D.faults deck.old deck.new) (pulled_side C.left C.faults C.pulls cert.old cert.new)
+    ensures certificate_wrong { IsOneWord words.now → OfBoth (side D.left D.faults deck.old deck.new)
+        (pulled_side C.left C.faults C.pulls cert.old cert.new)
         (λ bytes text. AcceptedBy bytes → (Certifies bytes text → ⊥)
-        → HadNoFault (side D.left D.faults deck.old deck.new) → HadNoFault (pulled_side C.left C.faults C.pulls cert.old cert.new)
+        → HadNoFault (side D.left D.faults deck.old deck.new)
+        → HadNoFault (pulled_side C.left C.faults C.pulls cert.old cert.new)
         → HadNoFault (side O.taken O.faults out.old out.new) → (result ≡ 6) ⊎ (result ≡ 3)) }
 
     // However long the deck is, nothing of it is pulled after the pull that passes the longest deck, ends it or fails.
     ensures deck_stops { IsReadWithin longest_deck STREAM_ROOM D.left D.pulls deck.old deck.new }
 
-    // However long the certificate is, the pulls from it are bounded by the deck's project, and by the certificate's own first upper
-    // end: by the lines of the header and the walks, of as many segments as that is long, or of one where it is 0, and two more.
-    ensures turns { OfDeck (side D.left D.faults deck.old deck.new) (λ bytes. (project : TheProject) → IsProjectOf bytes project
+    // However long the certificate is, the pulls from it are bounded by the deck's project, and by the certificate's
+    // own first upper end: by the lines of the header and the walks, of as many segments as that is long, or of one if
+    // it is 0, and two more.
+    ensures turns { OfDeck (side D.left D.faults deck.old deck.new)
+        (λ bytes. (project : TheProject) → IsProjectOf bytes project
         → TakesPulls (most_bytes (priced_in project) + 1) (C.pulls cert.old) (C.pulls cert.new)) }
-    ensures own_turns { OfBoth (side D.left D.faults deck.old deck.new) (pulled_side C.left C.faults C.pulls cert.old cert.new)
+    ensures own_turns { OfBoth (side D.left D.faults deck.old deck.new)
+        (pulled_side C.left C.faults C.pulls cert.old cert.new)
         (KeepsToOwnLinesFor (C.pulls cert.old) (C.pulls cert.new)) }
 {
     check_outcome(alloc, words, deck, cert, out, err).code()
 }
 
-/// Checks a certificate of a deck, and answers how it ended.
+/// Checks a certificate of a deck, and returns how that ended.
 fn check_outcome<D: Source, C: Source, O: Sink, E: Sink>(
     alloc: Global,
     words: &[String],
@@ -133,11 +151,14 @@ fn check_outcome<D: Source, C: Source, O: Sink, E: Sink>(
     out: &mut O,
     err: &mut E,
 ) -> Status
-    ensures outcome { CheckOutcome words.now (side D.left D.faults deck.old deck.new) (pulled_side C.left C.faults C.pulls cert.old cert.new)
+    ensures outcome { CheckOutcome words.now (side D.left D.faults deck.old deck.new)
+        (pulled_side C.left C.faults C.pulls cert.old cert.new)
         (side O.taken O.faults out.old out.new) (side E.taken E.faults err.old err.new) result }
-    ensures turns { OfDeck (side D.left D.faults deck.old deck.new) (λ bytes. (project : TheProject) → IsProjectOf bytes project
+    ensures turns { OfDeck (side D.left D.faults deck.old deck.new)
+        (λ bytes. (project : TheProject) → IsProjectOf bytes project
         → TakesPulls (most_bytes (priced_in project) + 1) (C.pulls cert.old) (C.pulls cert.new)) }
-    ensures own_turns { OfBoth (side D.left D.faults deck.old deck.new) (pulled_side C.left C.faults C.pulls cert.old cert.new)
+    ensures own_turns { OfBoth (side D.left D.faults deck.old deck.new)
+        (pulled_side C.left C.faults C.pulls cert.old cert.new)
         (KeepsToOwnLinesFor (C.pulls cert.old) (C.pulls cert.new)) }
     ensures deck_stops { IsReadWithin longest_deck STREAM_ROOM D.left D.pulls deck.old deck.new }
 {
@@ -147,11 +168,13 @@ fn check_outcome<D: Source, C: Source, O: Sink, E: Sink>(
     }
 }
 
-/// Checks a certificate of the project, and says on `out` what it is found to be.
+/// Checks a certificate of a project and writes the verdict on `out`.
 fn check<C: Source, O: Sink>(alloc: Global, project: &Project, cert: &mut C, out: &mut O) -> Status
-    ensures answered { Answered project.now (pulled_side C.left C.faults C.pulls cert.old cert.new) (side O.taken O.faults out.old out.new) result }
+    ensures answered { Answered project.now (pulled_side C.left C.faults C.pulls cert.old cert.new)
+        (side O.taken O.faults out.old out.new) result }
     ensures turns { TakesPulls (most_bytes (priced_in project.now) + 1) (C.pulls cert.old) (C.pulls cert.new) }
-    ensures own_turns { IfSome (C.left cert.old) (λ text. KeepsToOwnLines (priced_in project.now) text (C.pulls cert.old) (C.pulls cert.new)) }
+    ensures own_turns { IfSome (C.left cert.old)
+        (λ text. KeepsToOwnLines (priced_in project.now) text (C.pulls cert.old) (C.pulls cert.new)) }
 {
     let Ok(net) = project.priced(alloc) else {
         return Status::OutOfMemory;

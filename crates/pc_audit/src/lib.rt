@@ -1,4 +1,4 @@
-//! The top call of the program that checks certificates. It owes nothing to what makes them: no crate below this one is one of the
+//! The top call of `pert_check`. It uses nothing of what makes certificates: no crate below this one belongs to the
 //! curve's solver.
 #![tactic(auto)]
 

@@ -1,4 +1,4 @@
-//! Telling what a certificate was found to be.
+//! The line of a verdict on a certificate.
 ghost use Rattle.std.specs.Prelude.{◌≡◌, ◌+◌, ◌≤◌, ◌++◌, length};
 ghost use Rattle.pc_audit.specs.Certificate.{certified_text, failing_text, verdict_text};
 ghost use Rattle.pc_audit.specs.inside.Certificate.{Told, status_for};
@@ -10,10 +10,10 @@ use pc_edges::{Failed, Sink};
 use pc_shell::{Status, send};
 use pc_text::digits;
 
-/// The room of the line.
+/// The capacity of the line, in bytes.
 const VERDICT_ROOM: usize = 80;
 
-/// Says on `out` what the certificate was found to be. It takes no memory.
+/// Writes a verdict on `out` and returns the status. Takes no memory.
 pub(crate) fn tell<O: Sink>(verdict: Verdict, out: &mut O) -> Status
     ensures { Told verdict (side O.taken O.faults out.old out.new) result }
 {
@@ -23,7 +23,7 @@ pub(crate) fn tell<O: Sink>(verdict: Verdict, out: &mut O) -> Status
     }
 }
 
-/// The status of a verdict that was told.
+/// Returns the status of a verdict that was written.
 fn status_for(verdict: Verdict) -> Status
     ensures { result ≡ status_for verdict }
 {
@@ -33,7 +33,7 @@ fn status_for(verdict: Verdict) -> Status
     }
 }
 
-/// The line that says what a certificate was found to be.
+/// Returns the line of a verdict.
 fn verdict_line(verdict: Verdict) -> ArrayVec<u8, VERDICT_ROOM>
     ensures { result.items ≡ verdict_text verdict }
 {
@@ -43,7 +43,7 @@ fn verdict_line(verdict: Verdict) -> ArrayVec<u8, VERDICT_ROOM>
     }
 }
 
-/// The line that says that a certificate with so many segments is certified.
+/// Returns the line for a certified certificate with so many segments.
 fn certified_line(segments: u64) -> ArrayVec<u8, VERDICT_ROOM>
     ensures { result.items ≡ certified_text segments }
 {
@@ -54,7 +54,7 @@ fn certified_line(segments: u64) -> ArrayVec<u8, VERDICT_ROOM>
     line
 }
 
-/// The line that names the first failing point of a certificate.
+/// Returns the line that names the first failing point of a certificate.
 fn failing_line(number: u64, reason: u8) -> ArrayVec<u8, VERDICT_ROOM>
     ensures { result.items ≡ failing_text number reason }
 {
@@ -67,7 +67,7 @@ fn failing_line(number: u64, reason: u8) -> ArrayVec<u8, VERDICT_ROOM>
     line
 }
 
-/// Puts the piece behind what stands in the line.
+/// Appends a piece to the line.
 fn put(line: &mut ArrayVec<u8, VERDICT_ROOM>, piece: &[u8])
     requires { length line.old.items + length piece.now ≤ VERDICT_ROOM }
     ensures { line.new.items ≡ line.old.items ++ piece.now }

@@ -1,5 +1,5 @@
-//! From a source to a project or to why there is none, and what the programs and their top calls share: the words, how a call ends, what
-//! it says where a deck is refused, and how it comes from one word to the project of a deck.
+//! From a source to a project or to why there is none, and what the programs and their top calls share: the words, how
+//! a call ends, the line that refuses a deck, and the way from one word to the project of a deck.
 #![tactic(auto)]
 
 mod one_word;

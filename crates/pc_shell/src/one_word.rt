@@ -14,9 +14,14 @@ use pc_edges::{Failed, Sink, Source};
 use pc_project::Project;
 use std::alloc::Global;
 
-/// The project of the deck that the one word names; or the status with which the call ends for want of it, once `err` was told why: by the
-/// usage line where there is not one word, of which nothing is read, and by the line of the deck's fault. It pulls as
-/// [`read_deck`](crate::read_deck) does.
+/// Returns the project of the deck that the one word names.
+///
+/// It pulls as [`read_deck`](crate::read_deck) does.
+///
+/// # Errors
+///
+/// The status with which the call ends. If there is not exactly one word, nothing is read and `err` gets the usage
+/// line; if the deck is refused, `err` gets the line of its fault.
 pub fn project_named<D: Source, E: Sink>(
     alloc: Global,
     words: &[String],

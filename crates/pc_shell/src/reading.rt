@@ -24,12 +24,17 @@ pub enum NoProject {
     OutOfMemory,
 }
 
-/// Reads a whole deck, of whichever sort, to its end: its bytes, if they are not too many.
+/// Reads a deck of any sort to its end and returns its bytes.
+///
+/// # Errors
+///
+/// `Refused` if the deck is longer than a deck may be, `ReadFault` if the source fails, `OutOfMemory`.
 pub fn read_deck<S: Source>(alloc: Global, source: &mut S) -> Result<Vec<u8>, NoProject>
     ensures deck { IfOk result (λ bytes. IsWholeDeck (side S.left S.faults source.old source.new) bytes.items) }
     ensures none { IfErr result (HasNoDeck (side S.left S.faults source.old source.new)) }
 
-    // However long the source is, nothing is pulled after the pull that passes the longest deck, ends the input or fails.
+    // However long the source is, nothing is pulled after the pull that passes the longest deck, ends the input or
+    // fails.
     ensures stops { IsReadWithin longest_deck STREAM_ROOM S.left S.pulls source.old source.new }
 {
     match load(alloc, source, DECK_LIMIT) {
@@ -40,7 +45,13 @@ pub fn read_deck<S: Source>(alloc: Global, source: &mut S) -> Result<Vec<u8>, No
     }
 }
 
-/// Reads a plan to its end, and gives its project. It pulls as [`read_deck`] does, and cards are looked up by the source's key.
+/// Reads a plan to its end and returns its project.
+///
+/// It pulls as [`read_deck`] does. Cards are looked up by the source's key.
+///
+/// # Errors
+///
+/// `Refused` with the first fault of the deck, `ReadFault` if the source fails, `OutOfMemory`.
 pub fn read_project<S: Source>(alloc: Global, source: &mut S) -> Result<Project, NoProject>
     ensures project { IfOk result (HasProject (side S.left S.faults source.old source.new)) }
     ensures none { IfErr result (HasNoProject (side S.left S.faults source.old source.new)) }
@@ -53,7 +64,11 @@ pub fn read_project<S: Source>(alloc: Global, source: &mut S) -> Result<Project,
     }
 }
 
-/// The project of these bytes, which are a whole plan. The key is that of the hash by which cards are looked up.
+/// Returns the project of a complete plan. `key` is the key of the hash by which cards are looked up.
+///
+/// # Errors
+///
+/// `Refused` with the first fault of the deck, `OutOfMemory`.
 pub fn project_in(alloc: Global, key: u128, bytes: &[u8]) -> Result<Project, NoProject>
     ensures project { IfOk result (IsProjectOf bytes.now) }
     ensures none { IfErr result (IsNoProjectOf bytes.now) }
@@ -68,7 +83,7 @@ pub fn project_in(alloc: Global, key: u128, bytes: &[u8]) -> Result<Project, NoP
 }
 
 impl NoProject {
-    /// Why there is no project of a deck that was read and is refused so.
+    /// Returns why there is no project if a deck was read and then refused.
     pub fn of(error: DeckError) -> NoProject
         ensures { result ≡ lacking error }
     {
@@ -79,7 +94,7 @@ impl NoProject {
     }
 }
 
-/// The project of a deck that is not too long, or the fault with which the deck is refused.
+/// Returns the project of a deck that is not too long.
 fn project_or_fault(alloc: Global, key: u128, bytes: &[u8]) -> Result<Project, DeckError>
     requires { length bytes.now ≤ longest_deck }
     ensures accepted { IfOk result (IsProjectOf bytes.now) }

@@ -1,4 +1,4 @@
-//! Writing the line that says why a deck is refused.
+//! Writing the line that refuses a deck.
 ghost use Rattle.pc_faults.specs.inside.FaultText.{IsTold};
 ghost use Rattle.pc_shell.specs.inside.Refusing.{Refusal};
 ghost use Rattle.pc_shell.specs.Sides.{side};
@@ -9,7 +9,7 @@ use pc_edges::{Failed, Sink};
 use pc_faults::{Fault, fault_line};
 use std::alloc::Global;
 
-/// Says on `err` why the deck is refused: the line of its fault, and a flush.
+/// Writes the line of a fault on `err`, flushes it and returns the status.
 pub fn refuse<E: Sink>(alloc: Global, fault: &Fault, err: &mut E) -> Status
     requires { IsTold fault.now }
     ensures { Refusal fault.now (side E.taken E.faults err.old err.new) result }

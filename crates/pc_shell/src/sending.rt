@@ -1,9 +1,9 @@
-//! Handing a text to a sink.
+//! Writing a text to a sink.
 ghost use Rattle.pc_edges.specs.inside.Writes.{Writes};
 
 use pc_edges::{Failed, Sink, push_all};
 
-/// Pushes the text and flushes the sink. It takes no memory.
+/// Pushes the text and flushes the sink. Takes no memory.
 pub fn send<O: Sink>(sink: &mut O, text: &[u8]) -> Result<(), Failed>
     ensures { Writes result (O.taken sink.old) (O.taken sink.new) (O.faults sink.old) (O.faults sink.new) text.now }
 {

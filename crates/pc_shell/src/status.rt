@@ -2,31 +2,31 @@
 
 ghost use Rattle.std.specs.Prelude.{◌≡◌};
 
-/// The statuses of all top calls, as the programs end with them. Each call has some of them.
+/// How a top call ends. Each call has some of these statuses.
 #[derive(Clone, Copy, Debug, PartialEq, Eq)]
 pub enum Status {
-    /// The answer is whole; of a check, the certificate is certified.
+    /// The complete answer was written; for a check, the certificate is certified.
     Done = 0,
     /// The deck is refused.
     Refused = 1,
-    /// The words are not such as the call asks for.
+    /// The words have none of the forms that the call accepts.
     Usage = 2,
     /// Memory ran out.
     OutOfMemory = 3,
     /// The deck, or what was read after it, could not be read.
     ReadFault = 4,
-    /// The answer, or the line that says why there is none, could not be written.
+    /// The answer, or the line that explains why there is none, could not be written.
     WriteFault = 5,
     /// The certificate has a failing point.
     NotCertified = 6,
-    /// There was more to answer than an input may have.
+    /// The input is longer than an input may be.
     TooLong = 8,
 }
 
 impl Status {
     ghost use Rattle.pc_shell.specs.inside.Status.{code_of};
 
-    /// The number with which the program ends.
+    /// Returns the exit status of the program.
     pub fn code(self) -> u8
         ensures { result ≡ code_of self }
     {

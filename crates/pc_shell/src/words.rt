@@ -6,7 +6,11 @@ use std::env;
 use std::io::ErrorKind;
 use std::rt::Env;
 
-/// The words after the program's name; none where one of them is not UTF-8, since no program asks for such a word.
+/// Returns the words after the program's name, or no words if one of them is not UTF-8: no form has such a word.
+///
+/// # Errors
+///
+/// `AllocError` if memory runs out.
 pub fn words_of<R: Env + AllocGlobal>(rt: &R) -> Result<Vec<String>, AllocError> {
     match env::args(rt) {
         Ok(args) => args.skip(1).collect(rt.alloc()),
@@ -15,7 +19,7 @@ pub fn words_of<R: Env + AllocGlobal>(rt: &R) -> Result<Vec<String>, AllocError>
     }
 }
 
-/// The name of the deck: the only word. `None` if there is not exactly one word, and then no file is to be opened.
+/// Returns the only word, the name of the deck, or `None` if there is not exactly one word: then no file is opened.
 pub fn deck_name(words: &[String]) -> Option<&str>
     ensures { IsSome result ↔ (length words.now ≡ 1) }
 {

@@ -40,11 +40,13 @@ abbrev planning_of : Project → Editing → Reserved → Planning
 planning_of project editing reserved = record { project = project; editing = editing; reserved = reserved }
 
 -- the session stays as it is
-pub stays : (old : Planning) (asked : Option Ask) (text : List ℕ) → IsRenewed old.project old.editing old.reserved → IsAnswer old.project old.editing asked text → old.editing ≡ editing_after old.editing asked → IsAnswered old asked text old
+pub stays : (old : Planning) (asked : Option Ask) (text : List ℕ) → IsRenewed old.project old.editing old.reserved → IsAnswer old.project old.editing asked text
+    → old.editing ≡ editing_after old.editing asked → IsAnswered old asked text old
 stays old asked text standing is same = record { answer = is; project = refl; editing = same; standing = standing; lists = λ other. refl; cells = refl }
 
 -- the same, where the session is the one that it was
-pub stays_as : (old new : Planning) (asked : Option Ask) (text : List ℕ) → new ≡ old → IsRenewed new.project new.editing new.reserved → IsAnswer new.project new.editing asked text → new.editing ≡ editing_after new.editing asked
+pub stays_as : (old new : Planning) (asked : Option Ask) (text : List ℕ) → new ≡ old → IsRenewed new.project new.editing new.reserved → IsAnswer new.project new.editing asked text
+    → new.editing ≡ editing_after new.editing asked
     → IsAnswered old asked text new
 stays_as old new asked text same standing is kept = subst (λ (p : Planning). IsAnswered p asked text new) same (stays new asked text standing is kept)
 
@@ -87,7 +89,8 @@ pub undone_same : (editing : Editing) (reason : Reason) → undo_refusal editing
 undone_same editing reason why =
     nothing_undone editing (nil_from_length editing.kept (eqb-true (length editing.kept) 0 (none_kept (length editing.kept == 0) reason why)))
 
-pub undo_refused : (old : Planning) (reason : Reason) → IsRenewed old.project old.editing old.reserved → undo_refusal old.editing ≡ Some reason → IsAnswered old (Some ask.Undo) (refused_text reason) old
+pub undo_refused : (old : Planning) (reason : Reason) → IsRenewed old.project old.editing old.reserved → undo_refusal old.editing ≡ Some reason
+    → IsAnswered old (Some ask.Undo) (refused_text reason) old
 undo_refused old reason standing why = stays old (Some ask.Undo) (refused_text reason) standing (sym (ap verdict_text why)) (sym (undone_same old.editing reason why))
 
 pub undo_accepted : (old new : Planning) → undo_refusal old.editing ≡ None → new.project ≡ old.project → new.editing ≡ undone old.editing

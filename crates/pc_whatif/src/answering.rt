@@ -1,5 +1,5 @@
-//! Answers to lines.
-ghost use Rattle.std.specs.Prelude.{◌≡◌, ℕ, List, None, Some};
+//! The answers to the lines of a session.
+ghost use Rattle.std.specs.Prelude.{ℕ, List, None, Some};
 ghost use Rattle.pc_edges.specs.inside.Writes.{Writes};
 ghost use Rattle.pc_whatif.specs.edits.Reading.{ask_of};
 ghost use Rattle.pc_whatif.specs.declared.edits.ask.Ask.TheVariants as asks;
@@ -14,9 +14,14 @@ use pc_edges::{Failed, Sink};
 use std::sync::ledger::Ledger;
 
 impl Session<'_> {
-    /// Answers a line, without its end, and flushes the sink. It takes no memory.
+    /// Answers a line and flushes the sink. `line` has no LF.
     ///
-    /// The session is as after the line, whether or not the sink took the answer.
+    /// Takes no memory. The session moves on even if the sink fails. A trial or a curve looks at most four times at
+    /// each activity for each unit by which the slope rises or the length falls; any other line takes a few passes.
+    ///
+    /// # Errors
+    ///
+    /// `Failed` if the sink fails; it then has a prefix of the answer.
     pub fn answer<O: Sink, L: Ledger>(
         &mut self,
         line: &[u8],
@@ -37,20 +42,22 @@ impl Session<'_> {
         }
     }
 
-    /// A line of no form.
+    /// Answers a line that has none of the forms.
     fn no_form<O: Sink>(&mut self, out: &mut O) -> Result<(), Failed>
         ensures { (text : List ℕ) × IsAnswered self.old None text self.new
             × Writes result (O.taken out.old) (O.taken out.new) (O.faults out.old) (O.faults out.new) text }
     {
+        // Reading a field shows what the session keeps: its times stand, and its page is empty.
         let _ = &self.page;
         refuse(Reason::Form, out)
     }
 
-    /// An edit.
+    /// Applies an edit.
     fn edit<O: Sink>(&mut self, edit: &Edit, out: &mut O) -> Result<(), Failed>
         ensures { (text : List ℕ) × IsAnswered self.old (Some (asks.Edit edit.now)) text self.new
             × Writes result (O.taken out.old) (O.taken out.new) (O.faults out.old) (O.faults out.new) text }
     {
+        // Reading a field shows what the session keeps: its times stand, and its page is empty.
         let _ = &self.page;
         match self.edits.apply(edit) {
             Ok(a) => {
@@ -61,11 +68,12 @@ impl Session<'_> {
         }
     }
 
-    /// An UNDO.
+    /// Takes back the latest edit.
     fn undo<O: Sink>(&mut self, out: &mut O) -> Result<(), Failed>
         ensures { (text : List ℕ) × IsAnswered self.old (Some asks.Undo) text self.new
             × Writes result (O.taken out.old) (O.taken out.new) (O.faults out.old) (O.faults out.new) text }
     {
+        // Reading a field shows what the session keeps: its times stand, and its page is empty.
         let _ = &self.page;
         match self.edits.undo() {
             Ok(a) => {
@@ -76,7 +84,7 @@ impl Session<'_> {
         }
     }
 
-    /// TIMES.
+    /// Writes the report of event times.
     fn times<O: Sink>(&mut self, out: &mut O) -> Result<(), Failed>
         ensures { (text : List ℕ) × IsAnswered self.old (Some asks.Times) text self.new
             × Writes result (O.taken out.old) (O.taken out.new) (O.faults out.old) (O.faults out.new) text }
@@ -85,7 +93,7 @@ impl Session<'_> {
             .write_times(&mut self.page, out, self.project)
     }
 
-    /// CURVE.
+    /// Writes the breakpoints of the curve.
     fn curve<O: Sink, L: Ledger>(&mut self, out: &mut O, steps: &mut Steps<L>) -> Result<(), Failed>
         ensures answered { (text : List ℕ) × IsAnswered self.old (Some asks.Curve) text self.new
             × Writes result (O.taken out.old) (O.taken out.new) (O.faults out.old) (O.faults out.new) text }
@@ -95,7 +103,7 @@ impl Session<'_> {
             .write_curve(&mut self.page, out, self.edits.net(), steps)
     }
 
-    /// A trial: its term takes the place of the activity's own for as long as the cost is asked for.
+    /// Tries a term: it replaces the activity's own until the cost is known.
     fn try_out<O: Sink, L: Ledger>(
         &mut self,
         trial: &Trial,

@@ -1,15 +1,15 @@
-//! What-if sessions: lines that edit a project, and lines that ask what it then comes to.
+//! What-if sessions: lines that edit a project, and lines that ask for the times and costs that follow.
 #![tactic(auto)]
 
 mod answering;
-pub mod edits;
+mod edits;
 mod laws;
 mod renewing;
 mod replies;
 mod session;
 mod talker;
 mod top;
-pub mod trials;
+mod trials;
 
 pub use crate::laws::{answers_are_one_text, edits_stand_in_order};
 pub use crate::session::Session;

@@ -1,21 +1,21 @@
-//! The times of a project that was edited.
+//! The times of an edited project.
 ghost use Rattle.std.specs.Prelude.{◌≡◌};
-ghost use Rattle.pc_whatif.specs.inside.edits.Editing.{IsEditing};
 ghost use Rattle.pc_whatif.specs.inside.Planning.{IsChangedAt, IsEditionOf, IsRenewed};
 
 use crate::edits::Edits;
 use crate::trials::Reservation;
 use pc_project::Project;
 
-/// Makes the standing times those of the numbers as they are now, where they are already but for the estimates of one activity. A few
-/// passes over the network.
+/// Updates the standing times after a change of one activity's estimates.
+///
+/// Takes a few passes over the network.
 pub(crate) fn renew(reservation: &mut Reservation, edits: &Edits<'_>, a: u32, project: &Project)
     requires edition { IsEditionOf project.now edits.now.editing }
     requires changed { IsChangedAt project.now edits.now.editing a reservation.old }
     ensures renewed { IsRenewed project.now edits.now.editing reservation.new }
     ensures free { reservation.new.free ≡ reservation.old.free }
 {
-    // What the numbers keep to.
+    // For what a network keeps to: the estimates of an activity are in order and within their limit.
     let _net = edits.net();
     reservation.set_estimates(a, &edits.estimates(a), project.unit_days());
     reservation.renew(project.net());

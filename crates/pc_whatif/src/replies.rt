@@ -5,20 +5,21 @@ ghost use Rattle.pc_whatif.specs.Texts.{ok_text, refused_text, cost_text};
 
 use crate::edits::Reason;
 use arrayvec::ArrayVec;
-use pc_edges::{Failed, Sink, push_all};
+use pc_edges::{Failed, Sink};
+use pc_shell::send;
 use pc_text::digits;
 
-/// The room of a short answer.
+/// The capacity of a short answer, in bytes.
 const REPLY_ROOM: usize = 32;
 
-/// Says that the line was accepted.
+/// Writes that the line was accepted.
 pub(crate) fn accept<O: Sink>(out: &mut O) -> Result<(), Failed>
     ensures { Writes result (O.taken out.old) (O.taken out.new) (O.faults out.old) (O.faults out.new) ok_text }
 {
     send(out, b"OK\n")
 }
 
-/// Says why the line was refused.
+/// Writes the number of the reason for which the line was refused.
 pub(crate) fn refuse<O: Sink>(reason: Reason, out: &mut O) -> Result<(), Failed>
     ensures { Writes result (O.taken out.old) (O.taken out.new) (O.faults out.old) (O.faults out.new)
         (refused_text reason) }
@@ -26,14 +27,14 @@ pub(crate) fn refuse<O: Sink>(reason: Reason, out: &mut O) -> Result<(), Failed>
     send(out, reply(b"NO ", reason.number()).as_slice())
 }
 
-/// Says what a trial costs at least.
+/// Writes the least cost of a trial.
 pub(crate) fn tell_cost<O: Sink>(cost: u64, out: &mut O) -> Result<(), Failed>
     ensures { Writes result (O.taken out.old) (O.taken out.new) (O.faults out.old) (O.faults out.new) (cost_text cost) }
 {
     send(out, reply(b"COST ", cost).as_slice())
 }
 
-/// A word and a number, as a line.
+/// Returns a line with a word and a number.
 fn reply(word: &[u8], number: u64) -> ArrayVec<u8, REPLY_ROOM>
     requires { length word.now ≤ 8 }
     ensures { result.items ≡ word.now ++ (decimal number ++ 10 ∷ []) }
@@ -45,18 +46,10 @@ fn reply(word: &[u8], number: u64) -> ArrayVec<u8, REPLY_ROOM>
     line
 }
 
-/// Puts the piece behind what stands in the line.
+/// Appends a piece to the line.
 fn put(line: &mut ArrayVec<u8, REPLY_ROOM>, piece: &[u8])
     requires { length line.old.items + length piece.now ≤ REPLY_ROOM }
     ensures { line.new.items ≡ line.old.items ++ piece.now }
 {
     line.try_extend_from_slice(piece).unwrap();
-}
-
-/// Pushes the text and flushes the sink.
-fn send<O: Sink>(sink: &mut O, text: &[u8]) -> Result<(), Failed>
-    ensures { Writes result (O.taken sink.old) (O.taken sink.new) (O.faults sink.old) (O.faults sink.new) text.now }
-{
-    push_all(sink, text)?;
-    sink.flush()
 }

@@ -11,9 +11,9 @@ use pc_project::Project;
 use std::alloc::{AllocError, Global};
 use std::marker::Model;
 
-/// A session on a project: its numbers as they are edited, the times that come of them, and the room in which a trial works.
+/// A session on a project: its edited numbers, the times that follow from them, and the memory that a trial works in.
 ///
-/// All memory is taken when it begins.
+/// It takes all its memory when it begins.
 pub struct Session<'p> {
     pub(crate) project: &'p Project,
     pub(crate) edits: Edits<'p>,
@@ -22,7 +22,7 @@ pub struct Session<'p> {
 }
 
 impl<'p> Drop for Session<'p> {
-    // Written out, so that who lets sessions go cites this proof.
+    // Written by hand, so that the proof of dropping a session is done once, here.
     fn drop(self) {
         let Session {
             project: _project,
@@ -46,7 +46,13 @@ impl<'p> Model for Session<'p> {
 }
 
 impl<'p> Session<'p> {
-    /// A session on the project as its deck has it. Linear in events and activities.
+    /// Begins a session on a project as its deck states it.
+    ///
+    /// Linear in events, activities and pieces.
+    ///
+    /// # Errors
+    ///
+    /// `AllocError` if memory runs out.
     pub fn begin(alloc: Global, project: &'p Project) -> Result<Session<'p>, AllocError>
         ensures project { IfOk result (λ session. session.project ≡ project.now) }
         ensures editing { IfOk result (λ session. session.editing ≡ begun project.now) }
@@ -54,7 +60,7 @@ impl<'p> Session<'p> {
         ensures cells { IfOk result (λ session. session.reserved.free ≡
             trial_cells project.now.network.events (length project.now.network.arcs) (length project.now.pieces)) }
     {
-        // What the project keeps to.
+        // For what a project keeps to: its numbers are those of a sound plan.
         let _net = project.net();
         Ok(Session {
             project,
@@ -64,7 +70,7 @@ impl<'p> Session<'p> {
         })
     }
 
-    /// How many cells of the region are free, between two lines.
+    /// Returns the number of free cells of the session's region. No line changes it.
     pub fn cells(&self) -> usize
         ensures { result ≡ self.now.reserved.free }
     {

@@ -1,5 +1,5 @@
-//! A session as one that answers lines of a source.
-ghost use Rattle.std.specs.Prelude.{◌≡◌, ℕ, List};
+//! A session, as the side of a talk that answers.
+ghost use Rattle.std.specs.Prelude.{ℕ, List};
 ghost use Rattle.pc_crash.specs.inside.Steps.{IsBlankOf};
 ghost use Rattle.pc_edges.specs.inside.Writes.{Writes};
 ghost use Rattle.pc_whatif.specs.edits.Reading.{ask_of};
@@ -20,7 +20,7 @@ impl Answers for Session<'_> {
     }
 }
 
-/// Answers a line. The steps of a trial are counted in a ledger of their own.
+/// Answers a line. The steps of the solver are counted in a ledger of their own.
 fn counted<O: Sink, L: Ledger>(
     session: &mut Session<'_>,
     line: &[u8],

@@ -1,4 +1,4 @@
-//! The top call of the program that answers what-if lines.
+//! The top call of `pert_whatif`.
 ghost use Rattle.std.specs.Prelude.{◌≡◌, ◌≢◌, ℕ, List, ◌+◌, ◌<◌, ◌≤◌, ◌⊎◌, length, IfSome};
 ghost use Rattle.pc_deck.specs.Limits.{longest_deck};
 ghost use Rattle.pc_edges.specs.Pulls.{IsReadWithin};
@@ -22,14 +22,14 @@ use pc_project::Project;
 use pc_shell::{Status, project_named};
 use std::alloc::Global;
 
-/// The line that says which words are asked for.
+/// The usage line.
 const USAGE: &[u8] = b"usage: pert_whatif DECK\n";
 
-/// Reads a deck from `deck`, and answers the lines of `edits` on its project, each on `out` before more is pulled; or says on `err` why
-/// there is no project.
+/// Runs `pert_whatif`: reads a deck from `deck` and answers the lines of `edits` on `out`, each before more is pulled,
+/// or writes on `err` why there is no project; returns the status with which the program ends.
 ///
-/// There is one word, the deck's name. The words come first, then the whole deck, then its faults, then all memory, and then the lines,
-/// to their end. The answer of the call is the status with which the program ends.
+/// There is one word, the deck's name. The order is: the words, the complete deck, its faults, all memory, and then the
+/// lines, to their end.
 pub fn session_run<D: Source, C: Source, O: Sink, E: Sink>(
     alloc: Global,
     words: &[String],
@@ -40,13 +40,14 @@ pub fn session_run<D: Source, C: Source, O: Sink, E: Sink>(
 ) -> u8
     ensures statuses { (result ≤ 5) ⊎ (result ≡ 8) }
 
-    // 0: the deck is accepted, the edits were read to their end, and `out` took the answers to all their lines, each by the project that
-    // the lines before it leave
+    // 0: the deck is accepted, the edits were read to their end, and `out` took the answers to all their lines, each by
+    // the project that the lines before it leave.
     ensures heard { result ≡ 0 → IsHeardOut AnswersLines (side D.left D.faults deck.old deck.new)
         (pulled_side C.left C.faults C.pulls edits.old edits.new) (side O.taken O.faults out.old out.new) }
     ensures heard_only { result ≡ 0 → err.new ≡ err.old }
 
-    // 8: the deck is accepted, more was taken of the edits than they may have, and `out` took the answers to the whole lines within that
+    // 8: the deck is accepted, more was taken of the edits than they may have, and `out` took the answers to the
+    // complete lines within that.
     ensures too_long { result ≡ 8 → IsHeardTooLong AnswersLines (side D.left D.faults deck.old deck.new)
         (pulled_side C.left C.faults C.pulls edits.old edits.new) (side O.taken O.faults out.old out.new) }
     ensures too_long_only { result ≡ 8 → err.new ≡ err.old }
@@ -67,7 +68,7 @@ pub fn session_run<D: Source, C: Source, O: Sink, E: Sink>(
     // 3: memory ran out, before anything of the edits was read and before anything was written.
     ensures no_memory { result ≡ 3 → (edits.new ≡ edits.old) × (out.new ≡ out.old) × (err.new ≡ err.old) }
 
-    // 4: the deck could not be read; or the edits, whose whole lines before that were answered
+    // 4: the deck could not be read; or the edits, whose complete lines before that were answered.
     ensures read_fault { result ≡ 4 → IsUnread AnswersLines (side D.left D.faults deck.old deck.new)
         (pulled_side C.left C.faults C.pulls edits.old edits.new) (side O.taken O.faults out.old out.new) }
     ensures read_fault_only { result ≡ 4 → err.new ≡ err.old }
@@ -97,7 +98,8 @@ pub fn session_run<D: Source, C: Source, O: Sink, E: Sink>(
         → HadNoFault (side E.taken E.faults err.old err.new) → (result ≡ 1) ⊎ (result ≡ 3)) }
     ensures deck_accepted { IsOneWord words.now →
         OfDeck (side D.left D.faults deck.old deck.new) (λ bytes. AcceptedBy bytes
-        → HadNoFault (side D.left D.faults deck.old deck.new) → HadNoFault (pulled_side C.left C.faults C.pulls edits.old edits.new)
+        → HadNoFault (side D.left D.faults deck.old deck.new)
+        → HadNoFault (pulled_side C.left C.faults C.pulls edits.old edits.new)
         → HadNoFault (side O.taken O.faults out.old out.new) → (result ≡ 0) ⊎ ((result ≡ 3) ⊎ (result ≡ 8))) }
 
     // Where more is taken of the edits than they may have, and no fault of `out` came, that is the answer.
@@ -105,13 +107,16 @@ pub fn session_run<D: Source, C: Source, O: Sink, E: Sink>(
         OfBytes (pulled_side C.left C.faults C.pulls edits.old edits.new)
         (λ before. IfSome (C.left edits.new) (λ after. INPUT_LIMIT + length after < length before → result ≡ 8)) }
 
-    // What lines are answered with hangs on the deck and on the lines alone: not on how they came, nor on anything else.
-    ensures one_text { (bytes : List ℕ) (lines : List (List ℕ)) (text other : List ℕ) → AnswersOn AnswersLines bytes lines text
+    // The answers depend on the deck and the lines alone, not on how the bytes are cut into pieces, nor on anything
+    // else.
+    ensures one_text { (bytes : List ℕ) (lines : List (List ℕ)) (text other : List ℕ)
+        → AnswersOn AnswersLines bytes lines text
         → AnswersOn AnswersLines bytes lines other → text ≡ other }
 
-    // Each of them is answered on the deck's project with the edits that then stand applied in order: those that were accepted and not taken
-    // back.
-    ensures in_order { (bytes : List ℕ) (lines : List (List ℕ)) (text : List ℕ) → AnswersOn AnswersLines bytes lines text
+    // Each line is answered on the deck's project with the edits applied that stand at that line, in order: those that
+    // were accepted and not taken back.
+    ensures in_order { (bytes : List ℕ) (lines : List (List ℕ)) (text : List ℕ)
+        → AnswersOn AnswersLines bytes lines text
         → AnswersOn AnswersInOrder bytes lines text }
 
     // However long the deck is, nothing of it is pulled after the pull that passes the longest deck, ends it or fails.
@@ -123,7 +128,7 @@ pub fn session_run<D: Source, C: Source, O: Sink, E: Sink>(
     session_outcome(alloc, words, deck, edits, out, err).code()
 }
 
-/// Answers the lines of edits of a deck, and answers how that ended.
+/// Answers the lines of edits of a deck, and returns how that ended.
 fn session_outcome<D: Source, C: Source, O: Sink, E: Sink>(
     alloc: Global,
     words: &[String],
@@ -144,7 +149,7 @@ fn session_outcome<D: Source, C: Source, O: Sink, E: Sink>(
     }
 }
 
-/// Answers the lines of edits of the project, with all memory taken before the first is read.
+/// Answers the lines of edits of a project. Takes all memory before it reads the first line.
 fn hear<C: Source, O: Sink>(alloc: Global, project: &Project, edits: &mut C, out: &mut O) -> Status
     ensures hearing { Hearing (AnswersLines project.now) (pulled_side C.left C.faults C.pulls edits.old edits.new)
         (side O.taken O.faults out.old out.new) result }
@@ -159,7 +164,7 @@ fn hear<C: Source, O: Sink>(alloc: Global, project: &Project, edits: &mut C, out
     status_of(talk(reader, &mut session, edits, out))
 }
 
-/// The status of a talk that ended so.
+/// Returns the status for the end of a talk.
 fn status_of(ended: Result<(), TalkError>) -> Status
     ensures { result ≡ status_of ended }
 {

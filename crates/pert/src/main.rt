@@ -1,7 +1,7 @@
 //! `pert`: reads a deck from standard input and writes what its words ask for to standard output.
 //!
-//! The program only collects its words, draws a key by chance, makes the adapters of the real streams, and calls [`pert_cli::run`], whose
-//! answer is its status.
+//! The program only collects its words, draws a random key, makes the adapters of the real streams and calls
+//! [`pert_cli::run`], which returns its exit status.
 #![tactic(auto)]
 
 use pc_edges::{ReadSource, WriteSink, draw_key};

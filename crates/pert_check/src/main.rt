@@ -1,8 +1,8 @@
-//! `pert_check`: reads a deck from the file that its word names and a certificate from standard input, and writes to standard
-//! output whether the certificate is right.
+//! `pert_check`: reads a deck from the file that its word names and a certificate from standard input, and writes to
+//! standard output whether the certificate is right.
 //!
-//! The program only collects its words, draws a key by chance, makes the adapters of the file and the real streams, and calls
-//! [`pc_audit::check_run`], whose answer is its status.
+//! The program only collects its words, draws a random key, makes the adapters of the file and the real streams and
+//! calls [`pc_audit::check_run`], which returns its exit status.
 #![tactic(auto)]
 
 use pc_audit::check_run;

@@ -1,12 +1,15 @@
 -- What answers `certify` prints the whole time-cost curve.
-use Rattle.std.proofs.Common.{◌≡◌, ℕ, List, Option, Some, None, refl, subst}
+use Rattle.std.proofs.Common.{◌≡◌, ℕ, List, [], Option, Some, None, append-nil, refl, sym, subst, ◌∙◌}
 use Rattle.std.specs.Prelude.{IfSome, String}
 use Rattle.std.specs.declared.alloc.Global.{Global}
 use Rattle.pc_project.specs.Project.{Project}
 use Rattle.pc_certify.specs.Certificate.{IsCertificate}
 use Rattle.pc_check.proofs.HeadlineLaws.{prints_whole_curve}
 use Rattle.pc_check.specs.Headline.{PrintsWholeCurve}
-use Rattle.pc_audit.proofs.OnceLaws.{whole_once}
+use Rattle.pc_cert.proofs.TextLaws.{text_once}
+use Rattle.pc_cert.specs.Reader.{IsWhole}
+use Rattle.pc_cert.specs.Text.{text_of}
+use Rattle.pc_cert.specs.declared.line.CertLine.{CertLine}
 use Rattle.pc_crash.specs.Priced.{PricedNetwork}
 use Rattle.pc_shell.proofs.PricedLaws.{is_named, is_priced, priced_as}
 use Rattle.pert_cli.specs.declared.forms.Form.TheVariants.{Certify}
@@ -21,6 +24,12 @@ use Rattle.pc_shell.specs.Sides.{Side, OfDeck, Took}
 use Rattle.pc_shell.specs.Verdict.{IsProjectOf}
 use Rattle.pert_cli.specs.inside.Outcome.{Outcome}
 
+-- the lines of a complete certificate are those of its text
+lines_once : (lines others : List CertLine) (text : List ℕ) → IsWhole lines text → IsWhole others text → others ≡ lines
+lines_once lines others text is also =
+    (text_once others lines [] [] also.led.fit is.led.fit tt tt
+    (append-nil (text_of others) ∙ (sym also.whole ∙ (is.whole ∙ sym (append-nil (text_of lines)))))).0
+
 of_deck : {X : Type 0} (left : Option (List ℕ)) (out : Side X) (project : Project) (text : List ℕ) → Took out text → IsCertificate (priced_in project) text
     → IfSome left (λ bytes. IsProjectOf bytes project) → IfSome left (TookWholeCurve out)
 of_deck None out project text took is accepted = tt
@@ -33,7 +42,7 @@ of_deck (Some bytes) out project text took is accepted =
       text = text;
       took = took;
       prints = prints;
-      once = λ others also. whole_once prints.lines others text prints.whole also;
+      once = λ others also. lines_once prints.lines others text prints.whole also;
     }
 
 module _ {S O E : Type 0} (words : List (String Global)) (source : Side S) (out : Side O) (err : Side E) (answer : ℕ) where

@@ -37,7 +37,8 @@ made_of project days periods items resources =
     ++ resources
 
 text_of_parts : (project : Project) (loading : Loading)
-    → load_text project loading ≡ made_of project loading.days loading.items.periods (texts_to (length loading.order) (item_rows project loading)) (texts_to (length project.resources) (resource_rows project loading))
+    → load_text project loading ≡ made_of project loading.days loading.items.periods (texts_to (length loading.order) (item_rows project loading))
+    (texts_to (length project.resources) (resource_rows project loading))
 unfolding load_text
 text_of_parts project loading = refl
 
@@ -60,7 +61,8 @@ module _ (project : Project) (days : ℕ) (parts : HasSoundParts project) (s t :
   one_item : (i k : ℕ) → i < length project.tree → k < y.periods → amount_in s.items i k ≡ amount_in t.items i k
   one_item i k known less =
       IsSumOver-only _ _ _ (amount_in s.items i k) (amount_in t.items i k)
-      (subst (λ (times : List ℕ). IsSumOver (λ a. IsBelow project.tree (slice_index project.places a) i) (length project.network.arcs) (λ a. pos (cost_part project times (width_of days) k a)) (amount_in s.items i k))
+      (subst (λ (times : List ℕ). IsSumOver (λ a. IsBelow project.tree (slice_index project.places a) i) (length project.network.arcs)
+      (λ a. pos (cost_part project times (width_of days) k a)) (amount_in s.items i k))
       one_times (x.items.each i k known (omega (arith, less, one_count)))) (y.items.each i k known less)
 
   one_resource : (r k : ℕ) → r < length project.resources → k < y.periods → amount_in s.resources r k ≡ amount_in t.resources r k

@@ -1,6 +1,5 @@
 -- A project's optimum, and a schedule for it.
-use Rattle.std.proofs.Common.{◌≡◌, ℕ, Result, slice_index, sym, subst, arith}
-use Rattle.std.specs.Prelude.{IfOk}
+use Rattle.std.proofs.Common.{◌≡◌, ℕ, slice_index, sym, subst, arith}
 use Rattle.pc_model.specs.declared.TimeTerms.{TimeTerms}
 use Rattle.pc_model.proofs.Costs.LeastCost.{unique}
 use Rattle.pc_crash.specs.Priced.{PricedNetwork, knees_in}
@@ -46,8 +45,8 @@ optimum-with net terms shortest longest best printed range is cheapest at = reco
 }
 
 -- a project's network and terms are those that were solved
-pub optimum-there : {E : Type 0} (project : Project) (net : PricedNetwork) (terms : TimeTerms) (found : Result (Best × Printed) E) → net ≡ priced_in project
-    → terms ≡ project.time_terms → IfOk found (λ f. IsOptimumWith net terms f.0 f.1) → IfOk found (λ f. IsOptimumWith (priced_in project) project.time_terms f.0 f.1)
-optimum-there project net terms found same same_terms is =
-    subst (λ (n : PricedNetwork). IfOk found (λ f. IsOptimumWith n project.time_terms f.0 f.1)) same
-    (subst (λ (t : TimeTerms). IfOk found (λ f. IsOptimumWith net t f.0 f.1)) same_terms is)
+pub optimum-there : (project : Project) (net : PricedNetwork) (terms : TimeTerms) (best : Best) (printed : Printed) → net ≡ priced_in project → terms ≡ project.time_terms
+    → IsOptimumWith net terms best printed → IsOptimumWith (priced_in project) project.time_terms best printed
+optimum-there project net terms best printed same same_terms is =
+    subst (λ (n : PricedNetwork). IsOptimumWith n project.time_terms best printed) same
+    (subst (λ (t : TimeTerms). IsOptimumWith net t best printed) same_terms is)

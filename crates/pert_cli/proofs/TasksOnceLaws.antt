@@ -1,5 +1,6 @@
 -- A deck of tasks that was read is refused with one fault.
-use Rattle.std.proofs.Common.{◌≡◌, ℕ, ◌+◌, ◌<◌, ◌≤◌, Bool, true, false, List, [], ◌∷◌, ◌++◌, length, map, Option, Some, None, All, Result, Ok, Err, if◌then◌else◌, ◌⊎◌, inl, inr, refl, sym, ap, ◌∙◌, subst, arith}
+use Rattle.std.proofs.Common.{◌≡◌, ℕ, ◌+◌, ◌<◌, ◌≤◌, Bool, true, false, List, [], ◌∷◌, ◌++◌}
+use Rattle.std.proofs.Common.{length, map, Option, Some, None, All, Result, Ok, Err, if◌then◌else◌, ◌⊎◌, inl, inr, refl, sym, ap, ◌∙◌, subst, arith}
 use Rattle.std.specs.Prelude.{slice_index}
 use Rattle.std.proofs.lemmas.List.Elements.{All-append, All-cons, All-head, All-nil, All-tail, All-weaker}
 use Rattle.pc_records.specs.Deck.{deck_records}
@@ -54,7 +55,8 @@ use Rattle.pert_cli.proofs.RowsOnceLaws.{HasOwnRows, IsCardFault, IsNamed, IsSpe
 one_deck : (x y : Deck) → ◌≡◌ {A = Result Deck Fault} (Ok x) (Ok y) → x ≡ y
 one_deck x y h = cc
 
-within_closed : (draft : Draft) (end : ℕ) (deck : Deck) → IsDraftWithin draft → (project : Option ProjectCard) → draft.project ≡ project → closed_with draft end project ≡ Ok deck → IsWithin draft.sort deck
+within_closed : (draft : Draft) (end : ℕ) (deck : Deck) → IsDraftWithin draft → (project : Option ProjectCard) → draft.project ≡ project → closed_with draft end project ≡ Ok deck
+    → IsWithin draft.sort deck
 within_closed draft end deck within None is h = absurd (let h' = h in cc)
 within_closed draft end deck within (Some project) is h = by_end draft.has_ended h
   where

@@ -7,7 +7,7 @@ use Rattle.pc_cards.specs.declared.sort.Sort.TheVariants.{Plan, Tasks}
 use Rattle.pc_faults.specs.declared.fault.Fault.{Fault}
 use Rattle.pc_project.specs.Project.{Project}
 use Rattle.pert_cli.specs.declared.forms.Form.{Form}
-use Rattle.pert_cli.specs.declared.forms.Form.TheVariants.{Check, Normal, Times, Summary, Value, Curve, Certify, Point, Outlook, Bench, Migrate, Optimum, Arrows, Load}
+use Rattle.pert_cli.specs.declared.forms.Form.TheVariants.{Arrows, Bench}
 use Rattle.pc_shell.specs.Sides.{Side, IsUntouched}
 use Rattle.pc_shell.specs.Reading.{HasProjectBy, HasRefusalBy}
 use Rattle.pert_cli.specs.Verdicts.{IsFaultAs, IsMadeAs}
@@ -15,37 +15,13 @@ use Rattle.pert_cli.specs.Words.{AskFor}
 
 -- the deck that a form has of its own; the other forms read that of the source
 abbrev pub own_deck : Form → Option (List ℕ)
-own_deck Check = None
-own_deck Normal = None
-own_deck Times = None
-own_deck Summary = None
-own_deck Value = None
-own_deck Curve = None
-own_deck Certify = None
-own_deck (Point limit) = None
-own_deck (Outlook limit) = None
 own_deck (Bench n) = Some (bench_text n)
-own_deck Migrate = None
-own_deck Optimum = None
-own_deck Arrows = None
-own_deck (Load days) = None
+own_deck _ = None
 
 -- the sort of the deck that a form speaks of
 abbrev pub sort_of : Form → Sort
-sort_of Check = Plan
-sort_of Normal = Plan
-sort_of Times = Plan
-sort_of Summary = Plan
-sort_of Value = Plan
-sort_of Curve = Plan
-sort_of Certify = Plan
-sort_of (Point limit) = Plan
-sort_of (Outlook limit) = Plan
-sort_of (Bench n) = Plan
-sort_of Migrate = Plan
-sort_of Optimum = Plan
 sort_of Arrows = Tasks
-sort_of (Load days) = Plan
+sort_of _ = Plan
 
 -- the form reads the source
 abbrev pub ReadsSource : Form → Type 0

@@ -43,20 +43,11 @@ words_of (Load days) = codes "load" ∷ decimal days ∷ []
 -- the number of a form is one that it may have: a length has at most 13 digits, the benchmark's deck 1 to 4,000 activities,
 -- and a period 1 to 3,660 days
 abbrev pub IsNumbered : Form → Type 0
-IsNumbered Check = ⊤
-IsNumbered Normal = ⊤
-IsNumbered Times = ⊤
-IsNumbered Summary = ⊤
-IsNumbered Value = ⊤
-IsNumbered Curve = ⊤
-IsNumbered Certify = ⊤
 IsNumbered (Point limit) = limit < 10 ^ 13
 IsNumbered (Outlook limit) = limit < 10 ^ 13
 IsNumbered (Bench n) = (1 ≤ n) × (n ≤ MOST_ACTIVITIES)
-IsNumbered Migrate = ⊤
-IsNumbered Optimum = ⊤
-IsNumbered Arrows = ⊤
 IsNumbered (Load days) = (1 ≤ days) × (days ≤ MAX_DAYS)
+IsNumbered _ = ⊤
 
 -- the words ask for the form: they are its words, and its number is one that they may have
 pub record IsAskedBy (form : Form) (words : List (List ℕ)) : Type 0 where
@@ -109,17 +100,7 @@ HasOneText _ = ⊥
 -- the form refuses the project with the fault: `point` and `outlook` where the length lies outside the range of the project,
 -- `load` where the project takes too many periods
 abbrev pub IsDenial : Form → Project → Fault → Type 0
-IsDenial Check project fault = ⊥
-IsDenial Normal project fault = ⊥
-IsDenial Times project fault = ⊥
-IsDenial Summary project fault = ⊥
-IsDenial Value project fault = ⊥
-IsDenial Curve project fault = ⊥
-IsDenial Certify project fault = ⊥
 IsDenial (Point limit) project fault = IsOutside (priced_in project) limit fault
 IsDenial (Outlook limit) project fault = IsOutside (priced_in project) limit fault
-IsDenial (Bench n) project fault = ⊥
-IsDenial Migrate project fault = ⊥
-IsDenial Optimum project fault = ⊥
-IsDenial Arrows project fault = ⊥
 IsDenial (Load days) project fault = IsTooLong project days fault
+IsDenial _ project fault = ⊥

@@ -3,3 +3,4 @@ pub mod Point
 pub mod Handing
 pub mod FormDeck
 pub mod Outcome
+pub mod Solving

@@ -1,4 +1,4 @@
-//! `arrows`: the plan of arrows that is drawn of a deck of tasks, in its one form.
+//! `arrows`: the plan of arrows that is generated from a deck of tasks, in canonical form.
 ghost use Rattle.pert_cli.specs.Handing.{IsReply};
 ghost use Rattle.pert_cli.specs.inside.Handing.{Answers};
 ghost use Rattle.pc_shell.specs.Sides.{side};
@@ -13,7 +13,7 @@ use pc_shell::Status;
 /// The words of the form.
 pub(crate) const WORDS: &[u8] = b"arrows";
 
-/// Answers the form for the project of the plan that was drawn.
+/// Answers the form for the project of the generated plan. `room` is memory that the text may use.
 pub(crate) fn answer<O: Sink>(project: &Project, room: Vec<u8>, out: &mut O) -> Status
     ensures { Answers (IsReply Arrows project.now) (side O.taken O.faults out.old out.new) result }
 {

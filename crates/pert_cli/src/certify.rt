@@ -27,7 +27,7 @@ pub(crate) fn answer<O: Sink>(alloc: Global, project: &Project, out: &mut O) -> 
     }
 }
 
-/// Answers the form by the network of the project.
+/// Answers the form by the project's network.
 fn answer_by<O: Sink>(alloc: Global, project: &Project, net: &CrashNet<'_>, out: &mut O) -> Status
     requires { net.now ≡ priced_in project.now }
     ensures { Answers (IsReply Certify project.now) (side O.taken O.faults out.old out.new) result }

@@ -1,19 +1,18 @@
 //! `check`: that the deck is accepted, and how many cards of each kind it has.
-ghost use Rattle.std.specs.Prelude.{◌≡◌, IfOk};
-ghost use Rattle.pc_edges.specs.inside.page.Page.{fresh};
+ghost use Rattle.std.specs.Prelude.{⊤};
 ghost use Rattle.pc_reports.specs.Check.{check_text};
+ghost use Rattle.pc_shell.specs.Sides.{side};
 ghost use Rattle.pert_cli.specs.Handing.{IsReply};
 ghost use Rattle.pert_cli.specs.inside.Handing.{Answers};
-ghost use Rattle.pc_shell.specs.Sides.{side};
 ghost use Rattle.pert_cli.specs.declared.forms.Form.TheVariants.{Check};
 
-use crate::answer::{Answer, deliver};
-use pc_edges::page::{PAGE_ROOM, Page};
+use crate::paged::{Paged, hand_paged};
+use pc_edges::page::Page;
 use pc_edges::{Failed, Sink};
 use pc_project::Project;
 use pc_reports::write_check;
 use pc_shell::Status;
-use std::alloc::{AllocError, Global};
+use std::alloc::Global;
 
 /// The words of the form.
 pub(crate) const WORDS: &[u8] = b"check";
@@ -22,31 +21,24 @@ pub(crate) const WORDS: &[u8] = b"check";
 pub(crate) fn answer<O: Sink>(alloc: Global, project: &Project, out: &mut O) -> Status
     ensures { Answers (IsReply Check project.now) (side O.taken O.faults out.old out.new) result }
 {
-    deliver(CheckAnswer::build(alloc), project, out)
+    hand_paged(alloc, &CardCounts, project, out)
 }
 
-/// The counts of a project's cards, and the page that they are written on.
-#[derive(Drop)]
-struct CheckAnswer {
-    page: Page,
-}
+/// The counts of a project's cards.
+#[derive(Clone, Copy)]
+struct CardCounts;
 
-impl CheckAnswer {
-    fn build(alloc: Global) -> Result<CheckAnswer, AllocError>
-        ensures { IfOk result (λ answer. answer.page ≡ fresh) }
-    {
-        Ok(CheckAnswer {
-            page: Page::with_room(alloc, PAGE_ROOM)?,
-        })
-    }
-}
+impl Paged for CardCounts {
+    ghost IsFor = { λ counts project. ⊤ };
 
-impl Answer for CheckAnswer {
-    ghost IsFor = { λ answer project. answer.page ≡ fresh };
+    ghost text = { λ counts project. check_text project };
 
-    ghost text = { λ answer project. check_text project };
-
-    fn write_to<O: Sink>(&mut self, project: &Project, out: &mut O) -> Result<(), Failed> {
-        write_check(&mut self.page, out, project)
+    fn write_on<O: Sink>(
+        &self,
+        page: &mut Page,
+        project: &Project,
+        out: &mut O,
+    ) -> Result<(), Failed> {
+        write_check(page, out, project)
     }
 }

@@ -1,4 +1,4 @@
-//! From the deck that a form speaks of to its project, or to why there is none.
+//! From the deck of a form to its project, or to why there is none.
 ghost use Rattle.std.specs.Prelude.{◌≤◌, length, IfOk, IfErr};
 ghost use Rattle.pc_curve.specs.bench.Deck.{bench_text};
 ghost use Rattle.pc_deck.specs.Limits.{longest_deck};
@@ -23,8 +23,9 @@ use pc_project::Project;
 use pc_shell::{NoProject, project_in, read_deck};
 use std::alloc::Global;
 
-/// The project of the deck that a form speaks of: its own, and then nothing is read, or that of the source, whose bytes are left in
-/// `deck`, since their room may serve the answer.
+/// Returns the project of a form's deck: its own deck, and then nothing is read, or the source's.
+///
+/// The bytes of the source's deck are left in `deck`, because the answer may use their memory.
 pub(crate) fn project_for<S: Source>(
     alloc: Global,
     form: Form,
@@ -42,7 +43,7 @@ pub(crate) fn project_for<S: Source>(
     }
 }
 
-/// The project of the source's deck, which is read as one of the sort. Its bytes are left in `deck`.
+/// Reads the source's deck as one of a sort and returns its project. Its bytes are left in `deck`.
 fn read_as<S: Source>(
     alloc: Global,
     sort: Sort,
@@ -64,7 +65,7 @@ fn read_as<S: Source>(
     }
 }
 
-/// The project of a deck of the sort that is not too long, whose cards are looked up by this key.
+/// Returns the project of a deck of a sort that is not too long. Cards are looked up by this key.
 fn project_as(alloc: Global, key: u128, sort: Sort, bytes: &[u8]) -> Result<Project, NoProject>
     requires { length bytes.now ≤ longest_deck }
     ensures project { IfOk result (IsMadeAs sort bytes.now) }
@@ -76,7 +77,7 @@ fn project_as(alloc: Global, key: u128, sort: Sort, bytes: &[u8]) -> Result<Proj
     }
 }
 
-/// The project of the plan that is drawn of the tasks of a deck that is not too long.
+/// Returns the project of the plan that is generated from a deck of tasks that is not too long.
 fn drawn_in(alloc: Global, key: u128, bytes: &[u8]) -> Result<Project, NoProject>
     requires { length bytes.now ≤ longest_deck }
     ensures project { IfOk result (IsDrawnOf bytes.now) }
@@ -88,7 +89,7 @@ fn drawn_in(alloc: Global, key: u128, bytes: &[u8]) -> Result<Project, NoProject
     }
 }
 
-/// The project of the benchmark's deck, which is read as any deck is.
+/// Returns the project of the benchmark's deck, which is read like any deck.
 fn bench_project(alloc: Global, n: u64) -> Result<Project, NoProject>
     requires least { 1 ≤ n }
     requires most { n ≤ MOST_ACTIVITIES }

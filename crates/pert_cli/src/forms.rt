@@ -24,7 +24,7 @@ use pc_shell::Status;
 use pc_text::read_number;
 use std::alloc::Global;
 
-/// The line that names the forms of the command line.
+/// Returns the usage line, which names the forms.
 pub(crate) fn usage() -> &'static [u8]
     ensures { result.now ≡ usage_text }
 {
@@ -41,7 +41,7 @@ pub(crate) enum Form {
     Normal,
     /// The times of the events, and the critical path.
     Times,
-    /// What the accounts add up to, by item and by level.
+    /// The totals of the accounts, by item and by level.
     Summary,
     /// The forecast, and what the work is worth.
     Value,
@@ -53,20 +53,20 @@ pub(crate) enum Form {
     Point(u64),
     /// A schedule of least cost for this length, and what each item costs by it.
     Outlook(u64),
-    /// Figures of the curve of the benchmark's deck with so many activities.
+    /// Figures of the curve of the benchmark's deck with this many activities.
     Bench(u64),
-    /// The deck in its one form.
+    /// The deck in canonical form.
     Migrate,
     /// The length for which the project costs least in all, and a schedule for it.
     Optimum,
-    /// The plan of arrows that is drawn of a deck of tasks.
+    /// The plan of arrows that is generated from a deck of tasks.
     Arrows,
-    /// What is spent and taken in each period of so many days.
+    /// What is spent and used in each period of this many days.
     Load(u64),
 }
 
 impl Form {
-    /// The form that the words ask for.
+    /// Returns the form that the words ask for.
     pub(crate) fn asked(words: &[String]) -> Option<Form>
         ensures form { IfSome result (λ form. AskFor form words.now) }
         ensures none { IfNone result (AskForNone words.now) }
@@ -78,7 +78,7 @@ impl Form {
         }
     }
 
-    /// The form of this word alone.
+    /// Returns the form of a single word.
     fn of_one_word(word: &[u8]) -> Option<Form>
         ensures form { IfSome result (λ form. IsAskedBy form (word.now ∷ [])) }
         ensures none { IfNone result ((form : Form) → IsAskedBy form (word.now ∷ []) → ⊥) }
@@ -108,7 +108,7 @@ impl Form {
         }
     }
 
-    /// The form of this word with a number behind it.
+    /// Returns the form of a word and a number.
     fn of_two_words(word: &[u8], number: &[u8]) -> Option<Form>
         ensures form { IfSome result (λ form. IsAskedBy form (word.now ∷ number.now ∷ [])) }
         ensures none { IfNone result ((form : Form) → IsAskedBy form (word.now ∷ number.now ∷ []) → ⊥) }
@@ -130,7 +130,7 @@ impl Form {
         }
     }
 
-    /// How many activities the deck has that the form has of its own; none, where it reads the source's.
+    /// Returns the number of activities of the form's own deck, or `None` if the form reads the source.
     pub(crate) fn bench(self) -> Option<u64>
         ensures own { IfSome result (λ n. self ≡ Bench n) }
         ensures none { IfNone result (ReadsSource self) }
@@ -141,7 +141,7 @@ impl Form {
         }
     }
 
-    /// The sort of the deck that the form speaks of.
+    /// Returns the sort of the form's deck.
     pub(crate) fn sort(self) -> Sort
         ensures { result ≡ sort_of self }
     {
@@ -151,7 +151,7 @@ impl Form {
         }
     }
 
-    /// What is kept of the room of the deck that was read: all of it for an answer that is a deck too, and nothing for any other.
+    /// Returns the memory of the deck that was read if the answer is a deck too, and none for any other answer.
     fn room_of(self, alloc: Global, deck: Vec<u8>) -> Vec<u8> {
         match self {
             Form::Migrate | Form::Arrows => deck,
@@ -159,8 +159,9 @@ impl Form {
         }
     }
 
-    /// Writes on `out` what the form asks for of a project, or on `err` the fault with which it refuses the project. All memory
-    /// is taken before the first byte is written. The bytes of the deck that the project was read from are let go.
+    /// Writes the form's answer for a project on `out`, or on `err` the fault with which the form refuses the project.
+    ///
+    /// Takes all memory before it writes the first byte. Drops the bytes of the deck that was read.
     pub(crate) fn answer<O: Sink, E: Sink>(
         self,
         alloc: Global,

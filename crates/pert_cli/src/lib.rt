@@ -1,4 +1,4 @@
-//! The top call of the program: words and bytes in, bytes and a status out. The call that checks certificates is given on.
+//! The top call of `pert`: words and bytes in, bytes and a status out.
 #![tactic(auto)]
 
 mod answer;
@@ -16,8 +16,9 @@ mod migrate;
 mod normal;
 mod optimum;
 mod outlook;
+mod paged;
 mod point;
-mod schedule;
+mod printed;
 mod solving;
 mod summary;
 mod tasks;
@@ -27,4 +28,3 @@ mod value;
 
 pub use crate::fault_laws::one_fault;
 pub use crate::top::run;
-pub use pc_audit::check_run;

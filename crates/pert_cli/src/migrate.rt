@@ -1,4 +1,4 @@
-//! `migrate`: the deck in its one form.
+//! `migrate`: the deck in canonical form.
 ghost use Rattle.std.specs.Prelude.{IfOk};
 ghost use Rattle.pc_project.specs.deck_text.Written.{IsDeckText};
 ghost use Rattle.pc_shell.specs.Sides.{side};
@@ -16,7 +16,7 @@ use std::alloc::AllocError;
 /// The words of the form.
 pub(crate) const WORDS: &[u8] = b"migrate";
 
-/// Answers the form.
+/// Answers the form. `room` is memory that the text may use.
 pub(crate) fn answer<O: Sink>(project: &Project, room: Vec<u8>, out: &mut O) -> Status
     ensures { Answers (IsReply Migrate project.now) (side O.taken O.faults out.old out.new) result }
 {
@@ -30,7 +30,7 @@ pub(crate) struct DeckText {
 }
 
 impl DeckText {
-    /// Puts the text together in the room of what is let go.
+    /// Builds the text in the memory of `room`.
     pub(crate) fn build(project: &Project, room: Vec<u8>) -> Result<DeckText, AllocError>
         ensures { IfOk result (λ answer. IsDeckText project.now answer.text.items) }
     {

@@ -10,7 +10,8 @@ ghost use Rattle.pc_shell.specs.Sides.{side};
 ghost use Rattle.pert_cli.specs.declared.forms.Form.TheVariants.{Outlook};
 
 use crate::answer::{Answer, hand};
-use crate::cheapest::{CheapestSchedule, NoSchedule};
+use crate::cheapest::{NoSchedule, cheapest_schedule};
+use crate::printed::PrintedSchedule;
 use pc_edges::{Failed, Sink};
 use pc_project::Project;
 use pc_reports::OutlookReport;
@@ -20,7 +21,7 @@ use std::alloc::Global;
 /// The first word of the form; the second is the length.
 pub(crate) const WORDS: &[u8] = b"outlook";
 
-/// Answers the form, or refuses the project of which the length is none.
+/// Answers the form, or refuses the project if the length is outside its range.
 pub(crate) fn answer<O: Sink, E: Sink>(
     alloc: Global,
     limit: u64,
@@ -31,7 +32,7 @@ pub(crate) fn answer<O: Sink, E: Sink>(
     ensures { Replies (Outlook limit) project.now (side O.taken O.faults out.old out.new)
         (side E.taken E.faults err.old err.new) result }
 {
-    let schedule = match CheapestSchedule::for_length(alloc, project, limit) {
+    let schedule = match cheapest_schedule(alloc, project, limit) {
         Ok(schedule) => schedule,
         Err(NoSchedule::Outside(fault)) => return refuse(alloc, &fault, err),
         Err(NoSchedule::OutOfMemory) => return Status::OutOfMemory,
@@ -45,7 +46,7 @@ pub(crate) fn answer<O: Sink, E: Sink>(
 /// A cheapest schedule for a length, and what each item costs by it.
 #[derive(Drop)]
 struct OutlookAnswer {
-    schedule: CheapestSchedule,
+    schedule: PrintedSchedule,
     report: OutlookReport,
 }
 
@@ -56,7 +57,7 @@ impl Answer for OutlookAnswer {
     ghost text = { λ answer project. printed_text project answer.schedule ++ outlook_text project answer.report };
 
     fn write_to<O: Sink>(&mut self, project: &Project, out: &mut O) -> Result<(), Failed> {
-        let schedule = self.schedule.printed(project);
+        let schedule = self.schedule.with_codes(project);
         self.report.write_after(&schedule, project, out)
     }
 }

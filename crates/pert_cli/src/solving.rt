@@ -1,13 +1,73 @@
-//! The memory that solving takes.
-ghost use Rattle.std.specs.Prelude.{◌+◌, ◌*◌, ◌≤◌, length, IfOk};
+//! What a form asks of a solver of the project's curve, and the memory that the solver works in.
+ghost use Rattle.std.specs.Prelude.{◌≡◌, ◌+◌, ◌*◌, ◌≤◌, length, IfOk, OnErr};
 ghost use Rattle.pc_cells.specs.inside.Spans.{free_of};
+ghost use Rattle.pc_crash.specs.inside.Steps.{IsBlankOf};
+ghost use Rattle.pc_project.specs.Project.{Project as TheProject};
+ghost use Rattle.pert_cli.specs.inside.Solving.{IsAtStart};
 
 use pc_cells::Region;
-use pc_flow::cells_needed;
+use pc_crash::Steps;
+use pc_flow::{Solver, cells_needed};
 use pc_project::Project;
 use std::alloc::{AllocError, Global};
+use std::marker::Brand;
+use std::sync::ledger::{Blank, Ledger};
 
-/// The memory that a solver of the project's curve works in, whatever the curve is.
+/// What a form asks of a solver before its first segment. `T` is what it writes on: an output, or nothing.
+pub(crate) trait SolverTask<T> {
+    /// What the solver finds.
+    type Found;
+
+    // What is found for the project, and what the call leaves of what it writes on.
+    ghost HasFound: { Self → TheProject → T → T → Self.Found → Type 0 };
+
+    /// Does the task with a solver of the project's curve.
+    fn run<L: Ledger>(
+        &self,
+        alloc: Global,
+        project: &Project,
+        solver: &mut Solver<'_>,
+        on: &mut T,
+        steps: &mut Steps<L>,
+    ) -> Self::Found
+        requires { IsAtStart project.now solver.old }
+        ensures { HasFound self.now project.now on.old on.new result };
+}
+
+/// Does a task with a solver of the project's curve, in memory that does not depend on the curve.
+pub(crate) fn solve<T, J: SolverTask<T>>(
+    alloc: Global,
+    project: &Project,
+    task: &J,
+    on: &mut T,
+) -> Result<J::Found, AllocError>
+    ensures found { IfOk result (J.HasFound task.now project.now on.old on.new) }
+    ensures none { OnErr result (on.new ≡ on.old) }
+{
+    let net = project.priced(alloc)?;
+    let mut solver = Solver::begin(solver_region(alloc, project)?, &net);
+    let blank = Blank::new(1);
+    Ok(run_counted::<T, J, Brand>(alloc, project, task, &mut solver, on, blank))
+}
+
+/// Does a task. The steps of the solver are counted in a ledger of their own.
+fn run_counted<T, J: SolverTask<T>, L: Ledger>(
+    alloc: Global,
+    project: &Project,
+    task: &J,
+    solver: &mut Solver<'_>,
+    on: &mut T,
+    blank: Blank,
+) -> J::Found
+    requires start { IsAtStart project.now solver.old }
+    requires blank { IsBlankOf L.name L.parts blank.name blank.parts }
+    ensures { J.HasFound task.now project.now on.old on.new result }
+{
+    let mut steps = Steps::<L>::new(blank);
+    task.run(alloc, project, solver, on, &mut steps)
+}
+
+/// Takes the memory that a solver of the project's curve works in, whatever the curve is.
 pub(crate) fn solver_region(alloc: Global, project: &Project) -> Result<Region, AllocError>
     ensures { IfOk result (λ region. 8 * project.now.network.events + 6 * length project.now.network.arcs
         + 2 * length project.now.pieces + 16 ≤ free_of region) }

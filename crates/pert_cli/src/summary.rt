@@ -1,4 +1,4 @@
-//! `summary`: what the accounts add up to, by item and by level.
+//! `summary`: the totals of the accounts, by item and by level.
 ghost use Rattle.pc_reports.specs.SummaryText.{ChargesCountOnce, IsSummary, summary_text};
 ghost use Rattle.pert_cli.specs.Handing.{IsReply};
 ghost use Rattle.pert_cli.specs.inside.Handing.{Answers};

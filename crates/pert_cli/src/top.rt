@@ -47,24 +47,27 @@ pub fn run<S: Source, O: Sink, E: Sink>(
 ) -> u8
     ensures statuses { result ≤ 5 }
 
-    // 0: the words ask for a form, its deck was read to its end, deck and form accept it, and `out` took the form's answer.
+    // 0: the words ask for a form, its deck was read to its end, deck and form accept it, and `out` took the form's
+    // answer.
     ensures done { result ≡ 0 → IsDone words.now (side S.left S.faults source.old source.new)
         (side O.taken O.faults out.old out.new) }
     ensures done_only { result ≡ 0 → err.new ≡ err.old }
 
-    // The headline: at 0 for `certify`, `out` took the whole time-cost curve of the accepted deck's project. For every length
-    // from the all-crash to the all-normal length the durations and event times printed for it are a schedule of that length,
-    // cost what is printed, and no schedule of that length costs less; the printed flow proves this, and the printed cut gives
-    // the slope.
+    // The headline: at 0 for `certify`, `out` took the complete time-cost curve of the accepted deck's project. For
+    // every length from the all-crash to the all-normal length the durations and event times printed for it are a
+    // schedule of that length, cost what is printed, and no schedule of that length costs less; the printed flow proves
+    // this, and the printed cut gives the slope.
     ensures headline { result ≡ 0 → AskFor Certify words.now → OfDeck (side S.left S.faults source.old source.new)
         (TookWholeCurve (side O.taken O.faults out.old out.new)) }
 
-    // At 0 for `migrate`, `out` took a deck that is accepted and has the same project, and of which `migrate` writes the same bytes.
+    // At 0 for `migrate`, `out` took a deck that is accepted and has the same project, and for which `migrate` writes
+    // the same bytes.
     ensures migrated { result ≡ 0 → AskFor Migrate words.now → OfDeck (side S.left S.faults source.old source.new)
         (TookSameProject (side O.taken O.faults out.old out.new)) }
 
-    // At 0 for `arrows`, the deck is an accepted one of tasks, and `out` took a deck that is accepted and has the project of the plan that
-    // is drawn of them: it has a schedule for a length exactly where the tasks have one, and then its least cost is theirs.
+    // At 0 for `arrows`, the deck is an accepted deck of tasks, and `out` took a deck that is accepted and has the
+    // project of the plan generated from them: it has a schedule for a length exactly if the tasks have one, and the
+    // same least cost.
     ensures drawn { result ≡ 0 → AskFor Arrows words.now → OfDeck (side S.left S.faults source.old source.new)
         (TookArrows (side O.taken O.faults out.old out.new)) }
 
@@ -84,8 +87,8 @@ pub fn run<S: Source, O: Sink, E: Sink>(
     // 3: memory ran out, before anything was written.
     ensures no_memory { result ≡ 3 → (out.new ≡ out.old) × (err.new ≡ err.old) }
 
-    // 4: the deck could not be read. It comes only where the words ask for a form that reads it, and where no more of it was taken than
-    // a deck may have.
+    // 4: the deck could not be read. This occurs only if the words ask for a form that reads it, and if no more of it
+    // was taken than a deck may have.
     ensures read_fault { result ≡ 4 → HadFault (side S.left S.faults source.old source.new) }
     ensures read_fault_reads { result ≡ 4 → AskToRead words.now }
     ensures read_fault_within { result ≡ 4 → TookAtMost longest_deck (side S.left S.faults source.old source.new) }
@@ -95,17 +98,17 @@ pub fn run<S: Source, O: Sink, E: Sink>(
     ensures write_fault { result ≡ 5 → IsCut words.now (side S.left S.faults source.old source.new)
         (side O.taken O.faults out.old out.new) (side E.taken E.faults err.old err.new) }
 
-    // Each status but 2 and 5 comes only where the words ask for a form.
+    // Each status but 2 and 5 occurs only if the words ask for a form.
     ensures form { result ≢ 2 → result ≢ 5 → AskForOne words.now }
 
-    // A deck that is not refused is accepted, as far as it could be read and but for want of memory.
+    // A deck that is not refused is accepted, unless it could not be read or memory ran out.
     ensures acceptance { (form : TheForm) → AskFor form words.now → ReadsSource form →
         HadNoFault (side S.left S.faults source.old source.new)
         → OfDeck (side S.left S.faults source.old source.new)
         (λ bytes. (RefusedAs (sort_of form) bytes → ⊥) → AcceptedAs (sort_of form) bytes ⊎ (result ≡ 3)) }
 
-    // An accepted deck has one answer to each form that does not print a schedule of least cost, of which there may be several: two texts
-    // that answer for projects of the same bytes are one.
+    // An accepted deck has one answer to each form that does not print a schedule of least cost, of which there may be
+    // several: two texts that answer for projects of the same bytes are equal.
     ensures one_text { (form : TheForm) (bytes : List ℕ) (project other_project : TheProject) (text other : List ℕ) →
         HasOneText form → IsMadeAs (sort_of form) bytes project → IsMadeAs (sort_of form) bytes other_project
         → IsTextOf form project text → IsTextOf form other_project other → text ≡ other }
@@ -117,10 +120,12 @@ pub fn run<S: Source, O: Sink, E: Sink>(
     ensures unread { (form : TheForm) (deck : List ℕ) → AskFor form words.now → IsOwnDeck form deck →
         source.new ≡ source.old }
 
-    // However long the source is, nothing is pulled after the pull that passes the longest deck, ends the input or fails.
+    // However long the source is, nothing is pulled after the pull that passes the longest deck, ends the input or
+    // fails.
     ensures stops { IsReadWithin longest_deck STREAM_ROOM S.left S.pulls source.old source.new }
 
-    // Where no fault came, the words and the deck decide, but for want of memory: the deck of the source, or the form's own.
+    // If no source or sink fails, the words and the deck decide, unless memory runs out: the deck of the source, or the
+    // form's own.
     ensures words_refused { AskForNone words.now → HadNoFault (side E.taken E.faults err.old err.new) → result ≡ 2 }
     ensures deck_accepted { (form : TheForm) → AskFor form words.now → ReadsSource form
         → OfDeck (side S.left S.faults source.old source.new) (λ bytes. IsAcceptedFor form bytes
@@ -140,7 +145,7 @@ pub fn run<S: Source, O: Sink, E: Sink>(
     outcome(alloc, words, source, out, err).code()
 }
 
-/// Does what the words ask for, and answers how it ended.
+/// Does what the words ask for, and returns how that ended.
 fn outcome<S: Source, O: Sink, E: Sink>(
     alloc: Global,
     words: &[String],

@@ -1,8 +1,9 @@
 //! What the tests share: a small deck with its answers, and what a program leaves of edges in memory of which a call fails.
 
+use pc_audit::check_run;
 use pc_edges::{MemSink, MemSource, Source};
 use pc_whatif::session_run;
-use pert_cli::{check_run, run};
+use pert_cli::run;
 use std::alloc::{AllocError, Global};
 
 /// A deck of three activities: these first cards, its items, events, activities and accounts, and these last cards.

@@ -1,8 +1,8 @@
 //! `pert_whatif`: reads a deck from the file that its word names and lines from standard input, and writes to standard
 //! output an answer to each line, before it reads more.
 //!
-//! The program only collects its words, draws a key by chance, makes the adapters of the file and the real streams, and calls
-//! [`pc_whatif::session_run`], whose answer is its status.
+//! The program only collects its words, draws a random key, makes the adapters of the file and the real streams and
+//! calls [`pc_whatif::session_run`], which returns its exit status.
 #![tactic(auto)]
 
 use pc_edges::{FileSource, ReadSource, WriteSink, draw_key};

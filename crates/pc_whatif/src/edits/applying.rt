@@ -14,12 +14,14 @@ use crate::edits::kept::Kept;
 use crate::edits::reason::Reason;
 
 impl Edits<'_> {
-    /// Puts the numbers of an edit in place and keeps what was there, so that an UNDO would bring it back, and answers the
-    /// activity; or tells why the edit is refused.
+    /// Applies an edit, keeps the replaced numbers for UNDO, and returns the activity.
     ///
-    /// Where `MAX_KEPT` edits are kept, the oldest of them is no longer kept; it still stands. Linear in the pieces of the
-    /// activity.
-    pub fn apply(&mut self, edit: &Edit) -> Result<u32, Reason>
+    /// If `MAX_KEPT` edits are kept, the oldest is kept no longer; it still stands. Linear in the activity's pieces.
+    ///
+    /// # Errors
+    ///
+    /// The first reason against the edit; nothing changes then.
+    pub(crate) fn apply(&mut self, edit: &Edit) -> Result<u32, Reason>
         requires { self.old.trial ≡ None }
         ensures accepted { OnOk result (edit_refusal self.old.editing.net self.old.editing.estimates edit.now ≡ None) }
         ensures refused { IfErr result (λ reason. edit_refusal self.old.editing.net self.old.editing.estimates

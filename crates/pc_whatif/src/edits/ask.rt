@@ -1,4 +1,4 @@
-//! What a line of a session asks.
+//! What a line of a session asks for.
 ghost use Rattle.std.specs.Prelude.{◌≡◌, IfSome, Some};
 ghost use Rattle.pc_whatif.specs.inside.edits.Lines.{Asks};
 ghost use Rattle.pc_whatif.specs.edits.Reading.{ask_of};
@@ -8,12 +8,12 @@ use crate::edits::reading::ask_of;
 use pc_project::Estimates;
 use pc_text::Code;
 
-/// The most bytes that a line may have, without its end.
-pub const MAX_LINE: usize = 96;
+/// The most bytes of a line, without its LF.
+pub(crate) const MAX_LINE: usize = 96;
 
-/// What a line asks.
+/// What a line asks for.
 #[derive(Clone, Copy)]
-pub enum Ask {
+pub(crate) enum Ask {
     /// One of the four edits.
     Edit(Edit),
     /// `UNDO`
@@ -26,16 +26,16 @@ pub enum Ask {
     Try(Trial),
 }
 
-/// An edit: other numbers for one activity.
+/// An edit: new numbers for one activity.
 #[derive(Clone, Copy)]
-pub struct Edit {
-    pub act: Code,
-    pub change: Change,
+pub(crate) struct Edit {
+    pub(crate) act: Code,
+    pub(crate) change: Change,
 }
 
-/// Which numbers an edit gives an activity: estimates and durations in units, a slope in money for each unit.
+/// The numbers that an edit gives an activity: estimates and durations in units, a slope in money per unit.
 #[derive(Clone, Copy)]
-pub enum Change {
+pub(crate) enum Change {
     /// `ESTIMATE <act> <opt> <likely> <pess>`
     Estimate(Estimates),
     /// `NORMAL <act> <n>`
@@ -46,19 +46,19 @@ pub enum Change {
     Slope(u64),
 }
 
-/// Three numbers that are tried for one activity, and the length of the project for which a least cost is asked.
+/// Three numbers to try for one activity, and the project length, in units, whose least cost is asked for.
 #[derive(Clone, Copy)]
-pub struct Trial {
-    pub act: Code,
-    pub normal: u64,
-    pub crash: u64,
-    pub slope: u64,
-    pub length: u64,
+pub(crate) struct Trial {
+    pub(crate) act: Code,
+    pub(crate) normal: u64,
+    pub(crate) crash: u64,
+    pub(crate) slope: u64,
+    pub(crate) length: u64,
 }
 
 impl Ask {
-    /// What a line, without its end, asks; or none where it has none of the forms or is longer than `MAX_LINE`.
-    pub fn read(line: &[u8]) -> Option<Ask>
+    /// Reads a line without its LF. Returns `None` if it has none of the forms or is longer than `MAX_LINE`.
+    pub(crate) fn read(line: &[u8]) -> Option<Ask>
         ensures value { result ≡ ask_of line.now }
         ensures asked { IfSome result (Asks line.now) }
         ensures read { (ask : Ask) → Asks line.now ask → result ≡ Some ask }

@@ -12,10 +12,10 @@ use pc_project::{Estimates, Project};
 use std::alloc::{AllocError, Global};
 
 impl<'p> Edits<'p> {
-    /// The project as its deck has it. Takes all memory that edits ever take.
+    /// Returns a project without edits. Takes all memory that edits ever take.
     ///
     /// Linear in events, activities and pieces.
-    pub fn begin(alloc: Global, project: &'p Project) -> Result<Edits<'p>, AllocError>
+    pub(crate) fn begin(alloc: Global, project: &'p Project) -> Result<Edits<'p>, AllocError>
         ensures begun { IfOk result (λ edits. edits ≡ at_rest (begun project.now)) }
         ensures standing { IfOk result (λ edits. Stands project.now empty edits.editing) }
     {
@@ -29,7 +29,7 @@ impl<'p> Edits<'p> {
     }
 }
 
-/// The estimates of the project's activities.
+/// Returns the estimates of the project's activities, in card order.
 fn estimates_of(alloc: Global, project: &Project) -> Result<Vec<Estimates>, AllocError>
     ensures estimates { IfOk result (λ list. list.items ≡ estimates_in project.now.deck) }
     ensures planned { OnOk result (IsPlanned project.now) }

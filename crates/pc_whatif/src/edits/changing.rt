@@ -1,4 +1,4 @@
-//! Other numbers for an activity.
+//! New numbers for an activity.
 ghost use Rattle.std.specs.Prelude.{◌≡◌, ◌<◌, length, slice_set};
 ghost use Rattle.pc_model.specs.Schedule.{term_at};
 ghost use Rattle.pc_whatif.specs.inside.edits.Inside.{replaced};
@@ -10,7 +10,7 @@ use pc_crash::CrashNet;
 use pc_model::Term;
 use pc_project::Estimates;
 
-/// A term with a change in place.
+/// Returns a term with a change applied.
 pub(in crate::edits) fn term_with(change: &Change, term: Term) -> Term
     ensures { result ≡ term_with change.now term }
 {
@@ -22,7 +22,7 @@ pub(in crate::edits) fn term_with(change: &Change, term: Term) -> Term
     }
 }
 
-/// Estimates with a change in place.
+/// Returns estimates with a change applied.
 pub(in crate::edits) fn estimates_with(change: &Change, estimates: Estimates) -> Estimates
     ensures { result ≡ estimates_with change.now estimates }
 {
@@ -32,7 +32,7 @@ pub(in crate::edits) fn estimates_with(change: &Change, estimates: Estimates) ->
     }
 }
 
-/// The numbers that a change takes the place of.
+/// Returns the numbers that a change replaces.
 pub(in crate::edits) fn replaced(change: &Change, term: &Term, estimates: &Estimates) -> Change
     ensures { result ≡ replaced change.now term.now estimates.now }
 {
@@ -44,7 +44,7 @@ pub(in crate::edits) fn replaced(change: &Change, term: &Term, estimates: &Estim
     }
 }
 
-/// Puts a change of an activity in place.
+/// Applies a change to an activity.
 pub(in crate::edits) fn put(
     net: &mut CrashNet<'_>,
     estimates: &mut [Estimates],

@@ -1,4 +1,4 @@
-//! What the further pieces of an activity's cost ask of its term.
+//! What the further pieces of an activity's cost demand of its term.
 ghost use Rattle.std.specs.Prelude.{◌≡◌, ◌<◌, ◌≤◌, length};
 ghost use Rattle.pc_model.specs.Pieces.{ArePieces, pieces_of};
 ghost use Rattle.pc_model.specs.Schedule.{AreTerms};
@@ -11,14 +11,14 @@ use pc_model::Term;
 
 /// The further pieces of an activity's cost: the slope of the first of them, and the units that they have together.
 ///
-/// They ask for a slope of the activity below the former, and for more units from normal to crash than the latter.
+/// The activity's own slope must be below that slope, and it must have more units from normal to crash than these.
 #[derive(Clone, Copy)]
 pub(in crate::edits) struct Further {
     pub(in crate::edits) slope: u64,
     pub(in crate::edits) units: u64,
 }
 
-/// What the further pieces of an activity ask, where it has some. It takes one look at its knees.
+/// Returns what the further pieces of an activity demand, if it has some. Looks at its knees once.
 pub(in crate::edits) fn further_of(net: &CrashNet<'_>, a: u32) -> Option<Further>
     requires activity { a < length net.now.network.arcs }
     requires terms { AreTerms net.now.network net.now.terms }
@@ -38,7 +38,7 @@ pub(in crate::edits) fn further_of(net: &CrashNet<'_>, a: u32) -> Option<Further
     })
 }
 
-/// Whether a term breaks what the further pieces ask.
+/// Returns whether a term breaks what the further pieces demand.
 pub(in crate::edits) fn is_flawed(term: &Term, further: Option<Further>) -> bool
     requires { term.now.crash ≤ term.now.normal }
     ensures { result ≡ is_flawed term.now further }

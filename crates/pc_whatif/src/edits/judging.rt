@@ -1,4 +1,4 @@
-//! Why numbers of an activity are refused.
+//! Why new numbers of an activity are refused.
 ghost use Rattle.std.specs.Prelude.{◌≡◌, ◌<◌, IfOk, IfErr, IfSome, OnOk, None, Some, length};
 ghost use Rattle.pc_model.specs.Schedule.{term_at};
 ghost use Rattle.pc_crash.specs.Priced.{ArePiecesWithinLimits};
@@ -20,7 +20,7 @@ use pc_model::{MAX_DURATION, MAX_SLOPE, Term};
 use pc_project::Estimates;
 use pc_text::Code;
 
-/// The activity of an edit that is accepted, or why it is refused.
+/// Returns the activity of an edit, or the first reason against the edit.
 pub(in crate::edits) fn judge_edit(
     net: &CrashNet<'_>,
     estimates: &[Estimates],
@@ -48,7 +48,7 @@ pub(in crate::edits) fn judge_edit(
     }
 }
 
-/// The term that an accepted trial gives its activity, or why the trial is refused.
+/// Returns the term that a trial gives its activity, or the first reason against the trial.
 pub(in crate::edits) fn judge_trial(
     net: &CrashNet<'_>,
     estimates: &[Estimates],
@@ -79,7 +79,7 @@ pub(in crate::edits) fn judge_trial(
     }
 }
 
-/// The activity with a code.
+/// Returns the activity with a code.
 fn named(net: &CrashNet<'_>, code: &Code) -> Option<u32>
     requires { AreNames (length net.now.network.arcs) net.now.activities }
     ensures value { result ≡ activity_named net.now code.now }
@@ -88,7 +88,7 @@ fn named(net: &CrashNet<'_>, code: &Code) -> Option<u32>
     net.activity_named(code)
 }
 
-/// The first reason against numbers of an activity with these further pieces, where there is one.
+/// Returns the first reason against numbers of an activity with these further pieces, if there is one.
 fn reason_of(
     over: bool,
     term: &Term,
@@ -110,14 +110,14 @@ fn reason_of(
     }
 }
 
-/// Whether estimates are out of order.
+/// Returns whether estimates are out of order.
 fn are_disordered(estimates: &Estimates) -> bool
     ensures { result ≡ are_disordered estimates.now }
 {
     estimates.likely < estimates.optimistic || estimates.pessimistic < estimates.likely
 }
 
-/// Whether a number of a change is over its limit.
+/// Returns whether a number of a change is over its limit.
 fn is_over(change: &Change) -> bool
     ensures { result ≡ is_over change.now }
 {
@@ -132,14 +132,14 @@ fn is_over(change: &Change) -> bool
     }
 }
 
-/// Whether a number of a trial other than its length is over its limit.
+/// Returns whether a number of a trial other than its length is over its limit.
 fn is_trial_over(trial: &Trial) -> bool
     ensures { result ≡ is_trial_over trial.now }
 {
     MAX_DURATION < trial.normal || MAX_DURATION < trial.crash || MAX_SLOPE < trial.slope
 }
 
-/// A term with the three numbers of a trial in place.
+/// Returns a term with the three numbers of a trial.
 fn term_tried(trial: &Trial, term: Term) -> Term
     ensures { result ≡ term_tried trial.now term }
 {

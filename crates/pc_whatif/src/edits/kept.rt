@@ -1,8 +1,8 @@
-//! What is kept of an edit, so that it can be taken back.
+//! What is kept of an edit for UNDO.
 
 use crate::edits::ask::Change;
 
-/// A kept edit: the activity, and the numbers that it had before.
+/// A kept edit: the activity and the numbers that it had before.
 #[derive(Clone, Copy)]
 pub(in crate::edits) struct Kept {
     pub(in crate::edits) activity: u32,

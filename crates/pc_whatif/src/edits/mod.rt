@@ -1,5 +1,5 @@
-//! What a line of a what-if session asks, and a project whose numbers are edited: which edits are refused and why, and
-//! what UNDO takes back.
+//! What a line of a what-if session asks for, and a project whose numbers are edited: which edits are refused and why,
+//! and what UNDO takes back.
 
 mod applying;
 mod ask;
@@ -15,7 +15,6 @@ mod reason;
 mod trying;
 mod undoing;
 
-pub use crate::edits::ask::{Ask, Change, Edit, MAX_LINE, Trial};
-pub use crate::edits::edits::{Edits, MAX_KEPT};
-pub use crate::edits::reason::Reason;
-pub use crate::edits::trying::ActTerm;
+pub(crate) use crate::edits::ask::{Ask, Edit, Trial};
+pub(crate) use crate::edits::edits::Edits;
+pub(crate) use crate::edits::reason::Reason;

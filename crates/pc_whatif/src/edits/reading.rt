@@ -1,4 +1,4 @@
-//! Reading a line: its first word says what it asks, and its fields are read one after the other.
+//! Reading a line: its first word says what it asks for, and its fields are read one after the other.
 ghost use Rattle.std.specs.Prelude.{◌≡◌};
 ghost use Rattle.pc_text.specs.Fields.{alone};
 ghost use Rattle.pc_whatif.specs.edits.Reading.{ask_of, ask_with, estimate_of, amount_of, edit_of, normal_of, crash_of, slope_of, try_of};
@@ -8,7 +8,7 @@ use crate::edits::field::number_field;
 use pc_project::Estimates;
 use pc_text::{Code, field, run_len};
 
-/// What a line asks.
+/// Returns what a line asks for.
 #[tactic(auto, unfolding(crate::specs::edits::Reading::ask_of))]
 pub(in crate::edits) fn ask_of(line: &[u8]) -> Option<Ask>
     ensures { result ≡ ask_of line.now }
@@ -20,7 +20,7 @@ pub(in crate::edits) fn ask_of(line: &[u8]) -> Option<Ask>
     ask_with(&line[..end], &line[end..])
 }
 
-/// The ask with this first word and these fields.
+/// Returns what a line with this first word and these fields asks for.
 fn ask_with(word: &[u8], fields: &[u8]) -> Option<Ask>
     ensures { result ≡ ask_with word.now fields.now }
 {
@@ -45,14 +45,14 @@ fn ask_with(word: &[u8], fields: &[u8]) -> Option<Ask>
     }
 }
 
-/// The ask, where nothing is left behind it.
+/// Returns the request if nothing is left after it.
 fn alone(rest: &[u8], ask: Ask) -> Option<Ask>
     ensures { result ≡ alone rest.now ask }
 {
     if rest.is_empty() { Some(ask) } else { None }
 }
 
-/// An edit as an ask.
+/// Returns an edit as a request.
 fn edit_of(act: Code, change: Change) -> Ask
     ensures { result ≡ edit_of act change }
 {
@@ -76,7 +76,7 @@ fn estimate_of(fields: &[u8]) -> Option<Ask>
     alone(rest, edit_of(act, Change::Estimate(estimates)))
 }
 
-/// The activity and the one number that the fields are.
+/// Reads fields that are an activity and one number.
 #[tactic(auto, unfolding(crate::specs::edits::Reading::amount_of, pc_text::specs::Fields::field_by))]
 fn amount_of(fields: &[u8]) -> Option<(Code, u64)>
     ensures { result ≡ amount_of fields.now }

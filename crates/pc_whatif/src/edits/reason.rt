@@ -2,10 +2,10 @@
 ghost use Rattle.std.specs.Prelude.{◌≡◌, ◌≤◌};
 ghost use Rattle.pc_whatif.specs.edits.Reasons.{reason_number};
 
-/// Why a line is refused. Where several reasons hold, the one that stands first here is told.
+/// Why a line is refused. If several reasons hold, the first in this order is reported.
 #[derive(Clone, Copy)]
-pub enum Reason {
-    /// It has none of the forms, or is longer than `MAX_LINE` bytes.
+pub(crate) enum Reason {
+    /// The line has none of the forms, or is longer than `MAX_LINE` bytes.
     Form,
     /// No activity has the code.
     UnknownActivity,
@@ -15,7 +15,7 @@ pub enum Reason {
     CrashAboveNormal,
     /// The estimates would be out of order.
     EstimatesOutOfOrder,
-    /// A piece of the activity would have a slope that does not rise, or leave nothing to the pieces before it.
+    /// A piece of the activity would have a slope that does not rise, or would leave no units to the pieces before it.
     PieceFault,
     /// No edit is kept.
     NothingToUndo,
@@ -24,8 +24,8 @@ pub enum Reason {
 }
 
 impl Reason {
-    /// The number by which the reason is told, 1 to 8.
-    pub fn number(self) -> u64
+    /// Returns the number that reports the reason, 1 to 8.
+    pub(crate) fn number(self) -> u64
         ensures number { result ≡ reason_number self }
         ensures within { result ≤ 8 }
     {

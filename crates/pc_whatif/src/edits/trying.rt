@@ -12,16 +12,16 @@ use crate::edits::judging::judge_trial;
 use crate::edits::reason::Reason;
 use pc_model::Term;
 
-/// An activity, and a term for it.
+/// An activity and a term for it.
 #[derive(Clone, Copy)]
-pub struct ActTerm {
-    pub activity: u32,
-    pub term: Term,
+pub(crate) struct ActTerm {
+    pub(crate) activity: u32,
+    pub(crate) term: Term,
 }
 
 impl Edits<'_> {
-    /// The term that a trial gives its activity, or why it is refused: whether the length is in the range is another question.
-    pub fn tried(&self, trial: &Trial) -> Result<ActTerm, Reason>
+    /// Returns the term that a trial gives its activity, or the first reason against it. Does not look at the length.
+    pub(crate) fn tried(&self, trial: &Trial) -> Result<ActTerm, Reason>
         requires { self.now.trial ≡ None }
         ensures activity { IfOk result (λ tried. activity_named self.now.editing.net trial.now.act
             ≡ Some tried.activity) }
@@ -36,8 +36,8 @@ impl Edits<'_> {
         judge_trial(&self.net, &self.estimates, trial)
     }
 
-    /// Puts a term on trial, so that the network has it until the trial ends. Linear in the pieces of the activity.
-    pub fn begin_trial(&mut self, tried: &ActTerm)
+    /// Puts a term on trial: the network has it until the trial ends. Linear in the activity's pieces.
+    pub(crate) fn begin_trial(&mut self, tried: &ActTerm)
         requires rest { self.old.trial ≡ None }
         requires fits { MayTry self.old.editing.net tried.now }
         ensures { self.new ≡ record self.old { trial = Some tried.now } }
@@ -49,8 +49,8 @@ impl Edits<'_> {
         self.net.set_term(tried.activity, tried.term);
     }
 
-    /// Ends a trial, if there is one: the network is as if there had been none.
-    pub fn end_trial(&mut self)
+    /// Ends the trial, if there is one: the network has the activity's own term again.
+    pub(crate) fn end_trial(&mut self)
         ensures { self.new ≡ record self.old { trial = None } }
     {
         if let Some(aside) = self.aside.take() {

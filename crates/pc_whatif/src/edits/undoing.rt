@@ -1,4 +1,4 @@
-//! Edits that are taken back.
+//! Taking edits back.
 ghost use Rattle.std.specs.Prelude.{◌≡◌, None, Some, IfErr, IfOk, OnErr, OnOk};
 ghost use Rattle.pc_project.specs.Project.{Project};
 ghost use Rattle.pc_whatif.specs.edits.Editing.{undone};
@@ -11,9 +11,12 @@ use crate::edits::edits::Edits;
 use crate::edits::reason::Reason;
 
 impl Edits<'_> {
-    /// Takes back the latest edit that is kept, so that the numbers are those before it, and answers its activity. Refused
-    /// exactly where none is kept.
-    pub fn undo(&mut self) -> Result<u32, Reason>
+    /// Takes back the latest kept edit and returns its activity.
+    ///
+    /// # Errors
+    ///
+    /// `NothingToUndo` if no edit is kept.
+    pub(crate) fn undo(&mut self) -> Result<u32, Reason>
         requires { self.old.trial ≡ None }
         ensures accepted { OnOk result (undo_refusal self.old.editing ≡ None) }
         ensures refused { IfErr result (λ reason. undo_refusal self.old.editing ≡ Some reason) }

@@ -1,6 +1,7 @@
-//! What a what-if session works in: one region of memory, taken at the opening. The times of the project as it is now stand in
-//! its first spans; a trial takes what cells it needs behind them and gives them back, so that nothing here takes memory between
-//! two lines, and any number of trials finds its room.
+//! What a what-if session works in: one region of memory, taken at the opening.
+//!
+//! The current times of the project are in its first spans. A trial takes the cells that it needs after them and gives
+//! them back, so nothing here takes memory between two lines, and any number of trials finds its cells.
 
 mod renewing;
 mod reservation;
@@ -8,4 +9,4 @@ mod spans;
 mod trial;
 mod view;
 
-pub use reservation::{Reservation, cells_needed};
+pub(crate) use crate::trials::reservation::Reservation;

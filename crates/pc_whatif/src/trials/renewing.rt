@@ -8,8 +8,9 @@ use pc_cells::Region;
 use pc_net::Net;
 use pc_times::{critical_path_into, early_into, tails_into};
 
-/// Renews the times and the critical path from the expected times, and answers how many activities the path has. The passes
-/// write into the room, which has a place for each event, and from there into the spans. It takes no memory.
+/// Computes the times and the critical path from the expected times, and returns how many activities the path has.
+///
+/// The passes write into `room`, which has a place for each event, and from there into the spans. Takes no memory.
 pub(in crate::trials) fn renew_times(
     region: &mut Region,
     spans: &Spans,

@@ -30,19 +30,19 @@ use std::alloc::{AllocError, Global};
 use std::marker::Model;
 use std::sync::ledger::Ledger;
 
-/// All memory that a session needs between two lines, taken at its opening: a region with the standing times in its first
-/// spans, and behind them the cells that a trial works in.
+/// All memory that a session needs between two lines, taken at its opening: a region with the standing times in its
+/// first spans, and after them the cells that a trial works in.
 ///
-/// What stands there: for each activity its expected time, in sixths of a day, and the variance of it; for each event its
+/// The spans hold for each activity its expected time, in sixths of a day, and its variance; for each event its
 /// earliest time and the greatest sum of expected times over the walks from it to the end; and the critical path.
 #[derive(Drop)]
-pub struct Reservation {
-    /// It is there whenever no trial has it.
+pub(crate) struct Reservation {
+    /// `None` only while a call has taken it.
     region: Option<Region>,
     spans: Spans,
-    /// How many activities the critical path has.
+    /// The number of activities on the critical path.
     steps: usize,
-    /// A place for each event: the passes over the network write into it.
+    /// A place for each event, which the passes over the network write into.
     room: Vec<u64>,
 }
 
@@ -58,9 +58,9 @@ impl Model for Reservation {
     ghost invariant = { IsLaid };
 }
 
-/// How many cells a session needs for so many events, activities and pieces of their costs: those of the standing times, and
-/// those that a trial works in.
-pub fn cells_needed(events: usize, activities: usize, pieces: usize) -> usize
+/// Returns how many cells a session needs for these numbers of events, activities and pieces: those of the standing
+/// times and those that a trial works in.
+fn cells_needed(events: usize, activities: usize, pieces: usize) -> usize
     requires events { events ≤ MAX_EVENTS }
     requires activities { activities ≤ MAX_ACTIVITIES }
     requires pieces { pieces ≤ MAX_PIECES }
@@ -70,9 +70,10 @@ pub fn cells_needed(events: usize, activities: usize, pieces: usize) -> usize
 }
 
 impl Reservation {
-    /// The reservation for a project, with the times of it as it is. No other call takes memory. Linear in events and
-    /// activities.
-    pub fn begin(alloc: Global, project: &Project) -> Result<Reservation, AllocError>
+    /// Returns the reservation for a project, with its times. No other call takes memory.
+    ///
+    /// Linear in events, activities and pieces.
+    pub(crate) fn begin(alloc: Global, project: &Project) -> Result<Reservation, AllocError>
         ensures fits { IfOk result (IsFor project.now.network) }
         ensures standing { IfOk result (IsStandingOf project.now) }
         ensures free { IfOk result (λ r. r.free ≡
@@ -88,7 +89,7 @@ impl Reservation {
         )
     }
 
-    // The reservation for a network with so many pieces of costs, with these expected times and variances.
+    // Returns the reservation for a network with so many pieces, with these expected times and variances.
     fn for_lists(
         alloc: Global,
         net: &Net,
@@ -123,56 +124,57 @@ impl Reservation {
         Ok(reservation)
     }
 
-    /// How many cells of the region are free.
-    pub fn cells(&self) -> usize
+    /// Returns the number of free cells.
+    pub(crate) fn cells(&self) -> usize
         ensures { result ≡ self.now.free }
     {
         present(&self.region).free()
     }
 
-    /// The expected time of each activity, in sixths of a day.
-    pub fn expected(&self) -> &[u64]
+    /// Returns the expected times of the activities, in sixths of a day, in card order.
+    pub(crate) fn expected(&self) -> &[u64]
         ensures list { result.now ≡ self.now.expected }
         ensures limit { AreAtMost MAX_LENGTH result.now }
     {
         present(&self.region).list(self.spans.expected)
     }
 
-    /// The variance of each activity's time, in thirty-sixths of a square day.
-    pub fn variances(&self) -> &[u64]
+    /// Returns the variances of the activities, in thirty-sixths of a square day, in card order.
+    pub(crate) fn variances(&self) -> &[u64]
         ensures list { result.now ≡ self.now.variances }
         ensures limit { AreAtMost MAX_VARIANCE result.now }
     {
         present(&self.region).list(self.spans.variances)
     }
 
-    /// When each event is reached at the earliest, in sixths of a day.
-    pub fn early(&self) -> &[u64]
+    /// Returns the earliest times of the events, in sixths of a day, in card order.
+    pub(crate) fn early(&self) -> &[u64]
         ensures list { result.now ≡ self.now.early }
         ensures limit { AreAtMost MAX_TIME result.now }
     {
         present(&self.region).list(self.spans.early)
     }
 
-    /// For each event the greatest sum of expected times over the walks from it to the end.
-    pub fn tails(&self) -> &[u64]
+    /// Returns for each event the greatest sum of expected times over the walks from it to the end.
+    pub(crate) fn tails(&self) -> &[u64]
         ensures list { result.now ≡ self.now.tails }
         ensures limit { AreAtMost MAX_TIME result.now }
     {
         present(&self.region).list(self.spans.tails)
     }
 
-    /// The activities of the critical path, from the start event to the end event.
-    pub fn path(&self) -> &[u64]
+    /// Returns the activities of the critical path, from the start event to the end event.
+    pub(crate) fn path(&self) -> &[u64]
         ensures path { result.now ≡ path_in self.now }
         ensures short { length result.now ≤ length self.now.places }
     {
         &present(&self.region).list(self.spans.places)[..self.steps]
     }
 
-    /// Gives an activity the expected time and the variance of these estimates, in units of so many days. The times of events
-    /// stay as they are: `renew` follows before they are told.
-    pub fn set_estimates(&mut self, a: u32, estimates: &Estimates, unit_days: u64)
+    /// Sets the expected time and the variance of an activity from these estimates, in units of so many days.
+    ///
+    /// The times of events stay: call `renew` before you read them.
+    pub(crate) fn set_estimates(&mut self, a: u32, estimates: &Estimates, unit_days: u64)
         requires activity { a < length self.old.expected }
         requires likely { estimates.now.optimistic ≤ estimates.now.likely }
         requires pessimistic { estimates.now.likely ≤ estimates.now.pessimistic }
@@ -190,8 +192,8 @@ impl Reservation {
         self.region = Some(region);
     }
 
-    /// Renews the times of events and the critical path from the expected times. A few passes over the network.
-    pub fn renew(&mut self, net: &Net)
+    /// Computes the times of events and the critical path from the expected times. Takes a few passes over the network.
+    pub(crate) fn renew(&mut self, net: &Net)
         requires { IsFor net.now self.old }
         ensures standing { IsStanding net.now self.new }
         ensures fits { IsFor net.now self.new }
@@ -202,9 +204,9 @@ impl Reservation {
         self.region = Some(region);
     }
 
-    /// Writes the report of event times of the project as it is now, and flushes the sink: the deck's project with what stands
-    /// here in place of its expected times and variances. Linear in events and activities.
-    pub fn write_times<O: Sink>(
+    /// Writes the report of event times and flushes the sink: that of the deck's project, with the expected times and
+    /// variances of this reservation. Linear in events and activities.
+    pub(crate) fn write_times<O: Sink>(
         &self,
         page: &mut Page,
         sink: &mut O,
@@ -234,9 +236,8 @@ impl Reservation {
         write_times(page, sink, project, &view)
     }
 
-    /// Writes the curve of the network as it is now and flushes the sink. It works in the free cells, which are free again
-    /// when it ends.
-    pub fn write_curve<O: Sink, L: Ledger>(
+    /// Writes the curve of a network and flushes the sink. Works in the free cells, which are free again afterwards.
+    pub(crate) fn write_curve<O: Sink, L: Ledger>(
         &mut self,
         page: &mut Page,
         sink: &mut O,
@@ -252,15 +253,12 @@ impl Reservation {
         ensures counted { (shortest longest : ℕ) → IsRange net.now shortest longest →
             steps.new ≤ steps.old + looks_over net.now (longest - shortest) }
     {
-        let region = self.region.take().unwrap();
-        let (region, written) = trial_curve(region, page, sink, net, steps);
-        self.region = Some(region);
-        written
+        trial_curve(&mut self.region, page, sink, net, steps)
     }
 
-    /// What a schedule of this length, in units, costs at least; none where the length is outside the network's range. It works
-    /// in the free cells, which are free again when it ends.
-    pub fn least_cost<L: Ledger>(
+    /// Returns the least cost of a schedule of this length, in units, or `None` if the length is outside the network's
+    /// range. Works in the free cells, which are free again afterwards.
+    pub(crate) fn least_cost<L: Ledger>(
         &mut self,
         net: &CrashNet<'_>,
         limit: u64,
@@ -273,14 +271,11 @@ impl Reservation {
         ensures counted { (shortest longest : ℕ) → IsRange net.now shortest longest →
             steps.new ≤ steps.old + looks_over net.now (longest - shortest) }
     {
-        let region = self.region.take().unwrap();
-        let (region, cost) = trial_cost(region, net, limit, steps);
-        self.region = Some(region);
-        cost
+        trial_cost(&mut self.region, net, limit, steps)
     }
 }
 
-// The region, which is there.
+// Returns the region, which is there between two calls.
 fn present(region: &Option<Region>) -> &Region
     requires { IsSome region.now }
     ensures { region.now ≡ Some result.now }

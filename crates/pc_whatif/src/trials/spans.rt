@@ -1,10 +1,10 @@
-//! The spans that are taken at the opening.
-ghost use Rattle.std.specs.Prelude.{◌≡◌, ◌+◌, ◌*◌, ◌<◌, ◌≤◌, [], replicate};
+//! The spans of a reservation.
+ghost use Rattle.std.specs.Prelude.{◌≡◌, ◌+◌, ◌*◌, ◌<◌, ◌≤◌, []};
 ghost use Rattle.pc_whatif.specs.inside.trials.Laid.{AreSpansTaken};
 
 use pc_cells::{Region, Span};
 
-/// Where each list of the standing times is.
+/// The span of each list of the standing times.
 #[derive(Clone, Copy, Debug)]
 pub(in crate::trials) struct Spans {
     pub(in crate::trials) expected: Span,
@@ -14,7 +14,7 @@ pub(in crate::trials) struct Spans {
     pub(in crate::trials) places: Span,
 }
 
-/// The spans for so many events and activities, taken one after another from a region that has none yet.
+/// Takes the spans for so many events and activities from a region that has none yet.
 pub(in crate::trials) fn take_spans(region: &mut Region, events: usize, activities: usize) -> Spans
     requires events { 0 < events }
     requires activities { 0 < activities }

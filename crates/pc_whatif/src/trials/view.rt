@@ -1,10 +1,10 @@
-//! The standing times, as the report of event times is written from them.
+//! The standing times, as the report of event times reads them.
 
 use pc_reports::TimesView;
 use pc_times::so_long_before;
 use std::marker::Model;
 
-/// The lists of a reservation, and when the end is to be met, in sixths of a day. In contracts it is what it shows.
+/// The lists of a reservation, and when the end event must be reached, in sixths of a day. Contracts see what it shows.
 #[derive(Drop)]
 pub(in crate::trials) struct StandingTimes<'a> {
     pub(in crate::trials) expected: &'a [u64],

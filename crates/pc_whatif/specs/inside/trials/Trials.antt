@@ -1,5 +1,7 @@
 -- What a trial finds of the curve of a network.
 use Rattle.std.specs.Prelude.{ℕ, ◌+◌, ◌*◌, ◌≤◌, length}
+use Rattle.pc_cells.specs.Spans.{Cells}
+use Rattle.pc_cells.specs.inside.Spans.{free_of}
 use Rattle.pc_crash.specs.Priced.{PricedNetwork}
 use Rattle.pc_flow.specs.search.Labelling.{slopes_in}
 use Rattle.pc_whatif.specs.inside.trials.Reserved.{Reserved}
@@ -8,7 +10,11 @@ use Rattle.pc_whatif.specs.inside.trials.Reserved.{Reserved}
 abbrev pub trial_cells : ℕ → ℕ → ℕ → ℕ
 trial_cells events activities pieces = 8 * events + 6 * activities + 2 * pieces + 16
 
--- a trial of the network finds its cells free
+-- a trial of the network finds its cells free in the region
+abbrev pub HasCells : PricedNetwork → Cells → Type 0
+HasCells net region = trial_cells net.network.events (length net.network.arcs) (length net.pieces) ≤ free_of region
+
+-- the same, in the region of a reservation
 abbrev pub HasRoom : PricedNetwork → Reserved → Type 0
 HasRoom net r = trial_cells net.network.events (length net.network.arcs) (length net.pieces) ≤ r.free
 

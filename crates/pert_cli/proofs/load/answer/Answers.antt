@@ -9,13 +9,13 @@ use Rattle.pert_cli.proofs.HandingLaws.{Answers-weaker}
 use Rattle.pert_cli.proofs.LoadLaws.{load_reply}
 use Rattle.pert_cli.proofs.load.answer.Goals as goal
 
-pub returns-in-Ok-of : goal.returns-in-Ok-of
-returns-in-Ok-of g c =
+pub returns-in-Ok : goal.returns-in-Ok
+returns-in-Ok g c =
     let project = c.args.project.now in
-    let loading = c.in-Ok-of.loading in
+    let loading = c.in-Ok.loading in
     answers
-    (Answers-weaker (λ (text : List ℕ). text ≡ load_text project loading) (IsReply (Load c.args.days) project) (side g.O.Sink.taken g.O.Sink.faults c.args.out.now c.hand.new.out) c.hand.result
-    (λ text same. load_reply project c.args.days loading text c.in-Ok-of.ensures.loading same) c.hand.ensures)
+    (Answers-weaker (λ (text : List ℕ). text ≡ load_text project loading) (IsReply (Load c.args.days) project) (side g.O.Sink.taken g.O.Sink.faults c.args.out.now c.hand_paged.new.out) c.hand_paged.result
+    (λ text same. load_reply project c.args.days loading text c.in-Ok.ensures.loading same) c.hand_paged.ensures)
     refl
 
 pub returns-in-Err-TooMany : goal.returns-in-Err-TooMany

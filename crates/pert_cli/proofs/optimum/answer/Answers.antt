@@ -11,7 +11,7 @@ pub returns : goal.returns
 returns g c =
     let o = g.O.Sink in
     let project = c.args.project.now in
-    of_built c.build.result (λ answer. IsOptimumWith (priced_in project) project.time_terms answer.best answer.schedule) (λ answer. optimum_text project answer.best answer.schedule)
-    (IsReply Optimum project) (side o.taken o.faults c.args.out.now c.deliver.new.out) c.deliver.result
+    of_built c.optimum_of.result (λ answer. IsOptimumWith (priced_in project) project.time_terms answer.best answer.schedule) (λ answer. optimum_text project answer.best answer.schedule)
+    (IsReply Optimum project) (side o.taken o.faults c.args.out.now c.deliver_paged.new.out) c.deliver_paged.result
     (λ answer is. record { right = record { best = answer.best; printed = answer.schedule; right = is; is = refl }; fits = λ fault denied. denied })
-    c.build.ensures.optimum c.deliver.ensures.built c.deliver.ensures.none
+    c.optimum_of.ensures c.deliver_paged.ensures.built c.deliver_paged.ensures.none

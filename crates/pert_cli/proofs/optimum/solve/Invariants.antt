@@ -1,4 +1,0 @@
-use Rattle.pert_cli.proofs.optimum.solve.Given as goal
-
-abbrev pub ghosts-find : goal.ghosts-find
-ghosts-find a = record { name = a.blank.name; parts = a.blank.parts }

@@ -1,0 +1,79 @@
+//! A schedule as it is printed.
+ghost use Rattle.std.specs.Prelude.{◌≡◌};
+ghost use Rattle.pc_curve.specs.inside.Points.{HasPlaces};
+ghost use Rattle.pc_reports.specs.Schedule.{plan_text};
+ghost use Rattle.pc_reports.specs.inside.Schedule.{plan_of, text_of, IsWhole};
+ghost use Rattle.pc_shell.specs.Priced.{priced_in};
+ghost use Rattle.pert_cli.specs.Normal.{printed_text};
+
+use crate::paged::Paged;
+use pc_edges::page::Page;
+use pc_edges::{Failed, Sink};
+use pc_project::Project;
+use pc_reports::{Schedule, write_schedule};
+use std::marker::Model;
+
+/// A schedule of a project: its length in units, its cost, a time for each event and a duration for each activity, in
+/// card order.
+#[derive(Drop)]
+pub(crate) struct PrintedSchedule {
+    pub(crate) total: u64,
+    pub(crate) cost: u64,
+    pub(crate) times: Vec<u64>,
+    pub(crate) durations: Vec<u64>,
+}
+
+impl Model for PrintedSchedule {
+    ghost use Rattle.pert_cli.specs.Normal.{Printed};
+
+    ghost Value = { Printed };
+
+    ghost view = { λ s. record {
+      length = s.total;
+      cost = s.cost;
+      times = s.times.items;
+      durations = s.durations.items;
+    } };
+}
+
+impl PrintedSchedule {
+    /// Returns the schedule with the codes of the project's events and activities.
+    pub(crate) fn with_codes<'a>(&'a self, project: &'a Project) -> Schedule<'a>
+        requires { HasPlaces (priced_in project.now) self.now.times self.now.durations }
+        ensures whole { IsWhole result }
+        ensures text { text_of result ≡ printed_text project.now self.now }
+        ensures plan { plan_of result ≡ plan_text project.now.events self.now.times project.now.activities
+            self.now.durations }
+    {
+        Schedule {
+            length: self.total,
+            cost: self.cost,
+            events: project.event_codes(),
+            times: &self.times,
+            activities: project.activity_codes(),
+            durations: &self.durations,
+        }
+    }
+
+    /// Returns the durations of the activities, in card order.
+    pub(crate) fn durations(&self) -> &[u64]
+        ensures { result.now ≡ self.now.durations }
+    {
+        &self.durations
+    }
+}
+
+impl Paged for PrintedSchedule {
+    ghost IsFor = { λ printed project. HasPlaces (priced_in project) printed.times printed.durations };
+
+    ghost text = { λ printed project. printed_text project printed };
+
+    fn write_on<O: Sink>(
+        &self,
+        page: &mut Page,
+        project: &Project,
+        out: &mut O,
+    ) -> Result<(), Failed> {
+        write_schedule(page, out, &self.with_codes(project))
+    }
+}
