@@ -171,9 +171,35 @@ struct Labels {
         if (crosses(a, i, along)) cross(a, i, along);
     }
 
-    void scan(u32 e) {
-        for (u32 k = outs[e]; k < outs[e + 1]; ++k) visit(out[k]);
-        for (u32 k = ins[e]; k < ins[e + 1]; ++k) visit(in[k]);
+    // Visits an activity that begins at event e, one way alone. `labelled` says that the event is known to have a label.
+    void visit_from(u32 i, u32 e, bool labelled) {
+        if (labelled || rank[e] > 0) {
+            LOOK;
+            const Activity &a = activities[i];
+            if (rank[a.to] == 0) cross(a, i, true);
+        } else if (flow[i] > 0) {
+            LOOK;
+            const Activity &a = activities[i];
+            if (rank[a.to] > 0) cross(a, i, false);
+        }
+    }
+
+    // And one that ends there.
+    void visit_to(u32 i, u32 e, bool labelled) {
+        if (!labelled && rank[e] == 0) {
+            LOOK;
+            const Activity &a = activities[i];
+            if (rank[a.from] > 0) cross(a, i, true);
+        } else if (flow[i] > 0) {
+            LOOK;
+            const Activity &a = activities[i];
+            if (rank[a.from] == 0) cross(a, i, false);
+        }
+    }
+
+    void scan(u32 e, bool labelled) {
+        for (u32 k = outs[e]; k < outs[e + 1]; ++k) visit_from(out[k], e, labelled);
+        for (u32 k = ins[e]; k < ins[e + 1]; ++k) visit_to(in[k], e, labelled);
     }
 
     void settle() {
@@ -181,22 +207,30 @@ struct Labels {
     }
 
     void grow() {
-        while (head < count && rank[end] == 0) scan(queue[head++]);
+        while (head < count && rank[end] == 0) scan(queue[head++], true);
     }
 
-    void raise() {
+    // Gives how many of the first labels stand: those before the first whose step was used up.
+    u32 raise() {
         u64 by = MAX;
-        for (u32 e = end; rank[e] > 1; e = near[e]) by = std::min(by, room[e]);
+        u32 standing = 0;
+        for (u32 e = end; rank[e] > 1; e = near[e]) {
+            if (room[e] <= by) {
+                by = room[e];
+                standing = rank[e] - 1;
+            }
+        }
         for (u32 e = end; rank[e] > 1; e = near[e]) {
             room[e] -= by;
             flow[step[e]] += against[e] ? -by : by;
         }
         slope += by;
+        return standing;
     }
 
-    void prune() {
-        u32 kept = 1, gone = 0, seen = head;
-        for (u32 i = 1; i < count; ++i) {
+    void prune(u32 standing) {
+        u32 kept = standing, gone = 0, seen = head;
+        for (u32 i = standing; i < count; ++i) {
             const u32 e = queue[i];
             if (room[e] > 0 && rank[near[e]] > 0) {
                 queue[kept++] = e;
@@ -213,7 +247,7 @@ struct Labels {
             head = 0;
         } else {
             head = seen;
-            for (u32 i = 0; i < gone; ++i) scan(lost[i]);
+            for (u32 i = 0; i < gone; ++i) scan(lost[i], false);
         }
     }
 
@@ -248,8 +282,7 @@ struct Labels {
             settle();
             grow();
             while (rank[end] > 0) {
-                raise();
-                prune();
+                prune(raise());
                 grow();
             }
             fall = choose();

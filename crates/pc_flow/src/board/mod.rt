@@ -13,3 +13,4 @@ mod raising;
 mod waiting;
 
 pub use board::Board;
+pub use raising::Augmentation;

@@ -3,23 +3,26 @@ ghost use Rattle.std.specs.Prelude.{◌≡◌, ◌+◌, ◌<◌, ◌≤◌, ◌�
 ghost use Rattle.pc_flow.specs.board.Sheets.{Sheet, rank_of};
 ghost use Rattle.pc_flow.specs.inside.board.Sheets.{room_of, near_of};
 ghost use Rattle.pc_flow.specs.inside.board.Labelling.{HasStep, IsRanked, IsRankedBack, AreTimes};
+ghost use Rattle.pc_flow.specs.inside.board.Raising.{StandFirst};
 ghost use Rattle.pc_flow.specs.inside.board.Pruning.{IsPruned};
 
 use crate::board::board::Board;
 
 impl Board {
     /// Takes the labels off those events whose step has no room left or comes from an event that lost its label, and says
-    /// how many these are. The others keep theirs, in their order. One pass over the queue.
-    pub fn prune(&mut self) -> u32
+    /// how many these are. The others keep theirs, in their order. One pass over the queue, after the first labels that
+    /// stand.
+    pub fn prune(&mut self, standing: u32) -> u32
         requires ranked { IsRanked self.old }
         requires back { IsRankedBack self.old }
         requires times { AreTimes self.old }
+        requires stand { StandFirst self.old standing }
         ensures { IsPruned self.old self.new result }
     {
-        let mut kept = 1;
+        let mut kept = standing;
         let mut gone = 0;
         let mut seen = self.head();
-        for i in 1..self.count() {
+        for i in standing..self.count() {
             let e = self.queued(i);
             if self.is_held(e) {
                 self.keep_at(e, kept);

@@ -2,46 +2,62 @@
 ghost use Rattle.std.specs.Prelude.{◌≡◌, ◌<◌, ◌≤◌, ℕ};
 ghost use Rattle.pc_flow.specs.board.Sheets.{Sheet, rank_of};
 ghost use Rattle.pc_flow.specs.inside.board.Labelling.{HasStep, IsRanked, IsRankedBack, HaveSteps, HaveRoom};
-ghost use Rattle.pc_flow.specs.inside.board.Raising.{IsLeastRoom, IsRaised};
+ghost use Rattle.pc_flow.specs.inside.board.Raising.{IsLeast, IsRaised, StandFirst};
 
 use crate::board::board::Board;
 
+/// By how much the flow was raised, and how many of the first labels in the queue stand as they are: those before the first
+/// whose step has no room left.
+#[derive(Clone, Copy, Debug, PartialEq, Eq)]
+pub struct Augmentation {
+    pub by: u64,
+    pub standing: u32,
+}
+
 impl Board {
-    /// Raises the flow as far as all steps that led to an event have room, and says by how much.
+    /// Raises the flow as far as all steps that led to an event have room, and says by how much and how many of the first
+    /// labels stand.
     ///
     /// It looks at the steps alone, and at no activity.
-    pub fn raise(&mut self, end: u32) -> u64
+    pub fn raise(&mut self, end: u32) -> Augmentation
         requires ranked { IsRanked self.old }
         requires back { IsRankedBack self.old }
         requires steps { HaveSteps self.old }
         requires room { HaveRoom self.old }
         requires known { end < self.old.events }
         requires led { HasStep self.old end }
-        ensures { IsRaised self.old self.new end result }
+        ensures raised { IsRaised self.old self.new end result.by }
+        ensures stand { StandFirst self.new result.standing }
     {
-        let by = self.least_room(end);
+        let least = self.least_room(end);
+        let by = least.by;
         let mut e = end;
         while self.rank(e) > 1 {
             self.step_back(e, by);
             e = self.near(e);
         }
-        by
+        least
     }
 
-    // The least room of the steps that led to an event.
-    fn least_room(&self, end: u32) -> u64
+    // The least room of the steps that led to an event, and how many labels stand before the first with so little.
+    fn least_room(&self, end: u32) -> Augmentation
         requires ranked { IsRanked self.now }
         requires back { IsRankedBack self.now }
         requires known { end < self.now.events }
         requires led { HasStep self.now end }
-        ensures { (k : ℕ) × IsLeastRoom self.now end result k }
+        ensures { (k : ℕ) × IsLeast self.now end result.by result.standing k }
     {
-        let mut least = u64::MAX;
+        let mut by = u64::MAX;
+        let mut standing = 0;
         let mut e = end;
         while self.rank(e) > 1 {
-            least = least.min(self.room(e));
+            let room = self.room(e);
+            if room <= by {
+                by = room;
+                standing = self.rank(e) - 1;
+            }
             e = self.near(e);
         }
-        least
+        Augmentation { by, standing }
     }
 }

@@ -4,6 +4,7 @@ ghost use Rattle.pc_model.specs.Sums.{sum_to};
 ghost use Rattle.pc_flow.specs.board.Sheets.{Sheet};
 ghost use Rattle.pc_flow.specs.inside.board.Sheets.{lost_of};
 ghost use Rattle.pc_flow.specs.inside.board.Labelling.{HaveRoom};
+ghost use Rattle.pc_flow.specs.inside.board.Raising.{StandFirst};
 ghost use Rattle.pc_flow.specs.inside.search.Searches.{IsSearch};
 ghost use Rattle.pc_flow.specs.inside.search.Growing.{degree, AreSettled, GoesOn, IsAtLost, HasLookedAgain};
 
@@ -14,16 +15,18 @@ use std::sync::ledger::Ledger;
 
 impl<'n> Search<'n> {
     /// After a raising, takes off the labels whose steps have no room, and scans the events that lost theirs; where these
-    /// are more than the others that were scanned, has those scanned again instead. At most two looks for each activity.
-    pub fn look_again<L: Ledger>(&mut self, steps: &mut Steps<L>)
+    /// are more than the others that were scanned, has those scanned again instead. The first labels that stand are not
+    /// touched. At most two looks for each activity.
+    pub fn look_again<L: Ledger>(&mut self, standing: u32, steps: &mut Steps<L>)
         requires search { IsSearch self.old.net.now self.old.board }
         requires settled { AreSettled self.old.net.now self.old.board }
+        requires stand { StandFirst self.old.board standing }
         ensures net { self.new.net.now ≡ self.old.net.now }
         ensures counted { steps.new ≤ steps.old + 2 * length self.old.net.now.network.arcs }
         ensures again { HasLookedAgain self.old.net.now self.old.board self.new.board }
     {
         each_activity_stands_once();
-        let gone = self.board.prune();
+        let gone = self.board.prune(standing);
         if gone > self.board.head() {
             self.board.scan_anew();
         } else {
@@ -38,7 +41,7 @@ impl<'n> Search<'n> {
         requires few { gone ≤ self.old.board.events }
         requires known { (k : ℕ) → k < gone → lost_of self.old.board k < self.old.board.events }
         ensures net { self.new.net.now ≡ self.old.net.now }
-        ensures counted { steps.new ≡ steps.old + sum_to gone
+        ensures counted { steps.new ≤ steps.old + sum_to gone
             (λ k. degree self.old.net.now (lost_of self.old.board k)) }
         ensures goes_on { GoesOn self.old.net.now
             (IsAtLost self.old.net.now self.old.board gone) self.old.board self.new.board }

@@ -64,9 +64,9 @@ impl<'n> Search<'n> {
         ensures under_way { IsUnderWay self.old.net.now self.new.board }
         ensures bounded { slope_at self.old.net.now self.new.board ≤ slopes_in self.old.net.now }
     {
-        let by = self.raise();
-        self.look_again(steps);
+        let raised = self.raise();
+        self.look_again(raised.standing, steps);
         self.grow(steps);
-        by
+        raised.by
     }
 }

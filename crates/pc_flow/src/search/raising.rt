@@ -1,20 +1,24 @@
 //! The flow raised where the labels reach the end.
 ghost use Rattle.std.specs.Prelude.{◌≡◌, ◌<◌};
 ghost use Rattle.pc_flow.specs.board.Sheets.{rank_of};
+ghost use Rattle.pc_flow.specs.inside.board.Raising.{StandFirst};
 ghost use Rattle.pc_flow.specs.inside.search.Growing.{AreSettled};
 ghost use Rattle.pc_flow.specs.inside.search.Labelling.{IsBetween, IsAboveAllCrash, HasRaised};
 
+use crate::board::Augmentation;
 use crate::search::search::Search;
 
 impl<'n> Search<'n> {
-    /// Raises the flow along the steps that led to the end, as far as they have room, and says by how much. No look.
-    pub fn raise(&mut self) -> u64
+    /// Raises the flow along the steps that led to the end, as far as they have room, and says by how much and how many of
+    /// the first labels stand. No look.
+    pub fn raise(&mut self) -> Augmentation
         requires between { IsBetween self.old.net.now self.old.board }
         requires above { IsAboveAllCrash self.old.net.now self.old.board }
         requires settled { AreSettled self.old.net.now self.old.board }
         requires reached { 0 < rank_of self.old.board self.old.net.now.network.end }
         ensures net { self.new.net.now ≡ self.old.net.now }
-        ensures raised { HasRaised self.old.net.now self.old.board self.new.board result }
+        ensures raised { HasRaised self.old.net.now self.old.board self.new.board result.by }
+        ensures stand { StandFirst self.new.board result.standing }
     {
         let net = self.net.net();
         // With an order of the events, no activity has more flow than the value.

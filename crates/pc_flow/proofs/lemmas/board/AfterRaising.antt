@@ -4,8 +4,9 @@ use Rattle.std.proofs.lemmas.Bool.{cases_eq, cases_lt}
 use Rattle.pc_model.specs.Network.{Network}
 use Rattle.pc_flow.specs.board.Sheets.{Sheet, time_of, rank_of, flow_of}
 use Rattle.pc_flow.specs.inside.board.Sheets.{queue_of, step_of, against_of, room_of}
-use Rattle.pc_flow.specs.inside.board.Labelling.{HasStep, IsRanked, IsRankedBack, HaveSteps, AreTimes, IsFor, AreJoined}
-use Rattle.pc_flow.specs.inside.board.Raising.{event_back, IsOffWay, IsStepTaken, IsRaising, IsRaisedBy}
+use Rattle.pc_flow.specs.inside.board.Labelling.{HasStep, IsRanked, IsRankedBack, HaveSteps, AreTimes, IsFor, AreJoined, HaveRoom}
+use Rattle.pc_flow.specs.inside.board.Raising.{event_back, IsOffWay, IsStepTaken, IsRaising, IsLeast, IsRaisedBy, StandFirst}
+use Rattle.pc_flow.proofs.lemmas.board.RaisingLaws.{way-both}
 
 -- an event is on the way, or it is not
 find_below : (f : ℕ) (back : ℕ → ℕ) (k : ℕ) → ((j : ℕ) × (j < k) × (f ≡ back j)) ⊎ ((j : ℕ) → j < k → f ≢ back j)
@@ -71,6 +72,32 @@ module _ (s t : Sheet) (end by k : ℕ) (steps : HaveSteps s) (raised : IsRaised
         | inl at ↦ let taken : IsStepTaken s t by f = taken-at f at in omega (arith, taken.room, taken.against some)
         | inr off ↦ omega (arith, raising.room_off f off, flow-off f known has off)
       ]
+
+  -- the steps before the first that was used up have room
+  pub raised-stand : (standing m : ℕ) → IsLeast s end by standing m → HaveRoom s → StandFirst t standing
+  raised-stand standing m least room = record {
+    some = least.clear.some (omega (arith, least.least.met.1));
+    within = omega (arith, least.clear.within, ap (λ (v : Sheet). v.count) rest);
+    room = λ f known has low.
+        let labelled : rank_of t f ≡ rank_of s f = ap (λ (v : Sheet). rank_of v f) rest in
+        elim (on_way f) [
+          | inl at ↦
+              omega (
+                arith,
+                (taken-at f at).room,
+                least.clear.above at.0 (omega (arith, at.1, same)) (omega (arith, low, labelled, ap (rank_of s) at.2)),
+                ap (room_of s) at.2,
+              )
+          | inr off ↦
+              omega (
+                arith,
+                raising.room_off f off,
+                room.some f (omega (arith, known, ap (λ (v : Sheet). v.events) rest)) (omega (arith, has, labelled)),
+              )
+        ];
+  } where
+    same : k ≡ m
+    same = way-both s end k m raised.first raising.way least.least.way
 
   find-step : (a n : ℕ) → n ≤ k → ((j : ℕ) × (j < n) × (a ≡ step_of s (event_back s end j))) ⊎ ((j : ℕ) → j < n → a ≢ step_of s (event_back s end j))
   find-step a n within = find_below a (λ j. step_of s (event_back s end j)) n

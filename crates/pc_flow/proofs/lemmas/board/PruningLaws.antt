@@ -7,6 +7,7 @@ use Rattle.pc_flow.specs.board.Sheets.{Sheet, kept_time, rank_of}
 use Rattle.pc_flow.specs.inside.board.Sheets.{queue_of, near_of, room_of, lost_of}
 use Rattle.pc_flow.specs.inside.board.Moves.{KeepsAt, LosesAt}
 use Rattle.pc_flow.specs.inside.board.Labelling.{HasStep, IsRanked, IsRankedBack}
+use Rattle.pc_flow.specs.inside.board.Raising.{StandFirst}
 use Rattle.pc_flow.specs.inside.board.Pruning.{IsKept, IsLost, IsSorted, IsPruned}
 
 -- what is true of a board while its queue is looked at
@@ -14,27 +15,27 @@ pub record IsPruning (s t : Sheet) (i kept gone seen : ℕ) : Type 0 where
   pub rest : t ≡ record s { time = t.time; rank = t.rank; queue = t.queue; lost = t.lost }
   pub sorted : IsSorted s t i kept gone seen
 
--- at first only the first event is known to keep its label
-pub pruning-begins : (s : Sheet) → IsRanked s → IsPruning s s 1 1 0 s.head
-pruning-begins s ranked = record {
+-- at first only the events whose labels stand are known to keep them
+pub pruning-begins : (s : Sheet) (standing : ℕ) → IsRanked s → IsRankedBack s → StandFirst s standing → IsPruning s s standing standing 0 s.head
+pruning-begins s standing ranked back stand = record {
   rest = refl;
   sorted = record {
-    some = omega arith;
+    some = stand.some;
     split = omega arith;
     fates = λ e known labelled early. inl (record {
       labelled = labelled;
       within = early;
       placed = ranked.queued e known labelled;
       time = refl;
-      room = λ has. absurd (omega (arith, has, early));
-      near = λ has. absurd (omega (arith, has, early));
+      room = λ has. stand.room e known has early;
+      near = λ has. back.labelled e known has;
     });
     unlabelled = λ e known none. none;
     later = λ e known after. refl;
     time_off = λ e known off. refl;
     queue_off = λ k after. refl;
-    range = λ k before. ranked.range k (omega (arith, ranked.some));
-    placed = λ k before. ranked.placed k (omega (arith, ranked.some));
+    range = λ k before. ranked.range k (omega (arith, stand.within));
+    placed = λ k before. ranked.placed k (omega (arith, stand.within));
     first = refl;
     ordered = λ e f ke kf before within le lf. before;
     lost_range = λ k none. absurd (omega arith);

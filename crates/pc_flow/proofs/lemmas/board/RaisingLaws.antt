@@ -8,7 +8,7 @@ use Rattle.pc_flow.specs.board.Sheets.{Sheet, rank_of, flow_of}
 use Rattle.pc_flow.specs.inside.board.Sheets.{queue_of, step_of, against_of, near_of, room_of}
 use Rattle.pc_flow.specs.inside.board.Moves.{StepsBack}
 use Rattle.pc_flow.specs.inside.board.Labelling.{HasStep, IsRanked, IsRankedBack, HaveSteps, HaveRoom, IsFor, AreJoined}
-use Rattle.pc_flow.specs.inside.board.Raising.{event_back, IsWayBack, IsOffWay, IsStepTaken, IsRaising, IsLeastRoom, IsRaisedBy}
+use Rattle.pc_flow.specs.inside.board.Raising.{event_back, IsWayBack, IsOffWay, IsStepTaken, IsRaising, IsLeastRoom, AreClear, IsRaisedBy}
 
 -- no step leads back yet
 pub way-none : (s : Sheet) (e : ℕ) → e < s.events → IsWayBack s e 0 e
@@ -155,6 +155,40 @@ leasting-ends s e least k x ranked back has last leasting = record {
             let zero_steps : k ≡ 0 = omega arith in
             absurd (omega (arith, last, has, ap (rank_of s) (sym leasting.way.leads ∙ ap (event_back s e) zero_steps)))
       ]
+
+-- The labels that stand
+
+pub clear-begins : (s : Sheet) (e least : ℕ) → AreClear s e least 0 0
+clear-begins s e least = record { some = λ none. absurd (omega arith); within = omega arith; above = λ j none. absurd (omega arith) }
+
+-- a step with no more room than those before it on the way: the labels before its event in the queue stand
+pub clear-below : (s : Sheet) (e k x room : ℕ) → IsRanked s → IsRankedBack s → HasStep s x → IsWayBack s e k x
+    → AreClear s e room (rank_of s x - 1) (suc k)
+clear-below s e k x room ranked back has way = record {
+  some = λ more. omega (arith, has);
+  within = omega (arith, ranked.within x (way-known s e k x way));
+  above = λ j before low. elim (cases_lt j k) [
+    | inl early ↦ absurd (omega (arith, way-falls s e k x j k back way early (omega arith), ap (rank_of s) way.leads, low, has))
+    | inr last ↦
+        let at : j ≡ k = omega arith in
+        absurd (omega (arith, ap (λ i. rank_of s (event_back s e i)) at, ap (rank_of s) way.leads, low, has))
+  ];
+}
+
+-- a step with more room
+pub clear-above : (s : Sheet) (e least standing k x : ℕ) → room_of s x < 2 ^ 64 → least < room_of s x → IsLeasting s e least k x
+    → AreClear s e least standing k → AreClear s e least standing (suc k)
+clear-above s e least standing k x small more leasting clear = record {
+  some = λ any. elim leasting.met [
+    | inl none ↦ absurd (omega (arith, none.1, more, small))
+    | inr at ↦ clear.some (omega (arith, at.1))
+  ];
+  within = clear.within;
+  above = λ j before low. elim (cases_lt j k) [
+    | inl early ↦ clear.above j early low
+    | inr last ↦ let at : k ≡ j = omega arith in omega (arith, more, ap (room_of s) (sym leasting.way.leads ∙ ap (event_back s e) at))
+  ];
+}
 
 -- The flows raised
 

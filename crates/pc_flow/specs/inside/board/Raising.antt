@@ -43,6 +43,23 @@ pub record IsLeastRoom (s : Sheet) (e least k : ℕ) : Type 0 where
   pub below : (j : ℕ) → j < k → least ≤ room_of s (event_back s e j)
   pub met : (j : ℕ) × (j < k) × (room_of s (event_back s e j) ≡ least)
 
+-- no step on these k that gave one of the first `standing` labels in the queue has as little room as `least`
+pub record AreClear (s : Sheet) (e least standing k : ℕ) : Type 0 where
+  pub some : 0 < k → 0 < standing
+  pub within : standing ≤ s.count
+  pub above : (j : ℕ) → j < k → rank_of s (event_back s e j) ≤ standing → least < room_of s (event_back s e j)
+
+-- both
+pub record IsLeast (s : Sheet) (e by standing k : ℕ) : Type 0 where
+  pub least : IsLeastRoom s e by k
+  pub clear : AreClear s e by standing k
+
+-- the first `standing` labels in the queue stand: their steps have room
+pub record StandFirst (s : Sheet) (standing : ℕ) : Type 0 where
+  pub some : 0 < standing
+  pub within : standing ≤ s.count
+  pub room : (e : ℕ) → e < s.events → HasStep s e → rank_of s e ≤ standing → 0 < room_of s e
+
 -- the flows of all steps that led to event e were raised by so much, as far as they had room
 pub record IsRaisedBy (s t : Sheet) (e by k : ℕ) : Type 0 where
   pub some : 0 < by

@@ -16,14 +16,14 @@ not_held room rank never =
     ]
 
 pub loop-i-init : goal.loop-i-init
-loop-i-init c = rw c.head-seen.ensures (pruning-begins c.args.self.now c.requires.ranked)
+loop-i-init c = rw c.head-seen.ensures (pruning-begins c.args.self.now c.args.standing c.requires.ranked c.requires.back c.requires.stand)
 
 pub loop-i-preserved : goal.loop-i-preserved
 loop-i-preserved c =
     let s = c.args.self.now in
     let t = c.loop-i.self in
     let below : c.loop-i.i < s.count = omega (arith, c.loop-i-test.true, c.count-i-end.ensures) in
-    let some_place : 0 < c.loop-i.i = omega (arith, c.loop-i.auto.i) in
+    let some_place : 0 < c.loop-i.i = omega (arith, c.loop-i.auto.i, c.requires.stand.some) in
     elim c.if-is_held.branch [
       | then-is_held w ↦
           let held : (0 < room_of t c.queued-e.result) × (0 < rank_of t (near_of t c.queued-e.result)) = c.is_held.ensures.0 w.if-is_held.true in
@@ -47,7 +47,7 @@ loop-i-preserved c =
 pub returns : goal.returns
 returns c =
     let s = c.args.self.now in
-    let all : c.loop-i.i ≡ s.count = omega (arith, c.loop-i-test.false, c.loop-i.auto.i-end (omega (arith, c.requires.ranked.some, c.count-i-end.ensures)), c.count-i-end.ensures) in
+    let all : c.loop-i.i ≡ s.count = omega (arith, c.loop-i-test.false, c.loop-i.auto.i-end (omega (arith, c.requires.stand.within, c.count-i-end.ensures)), c.count-i-end.ensures) in
     let whole : IsPruning s c.loop-i.self s.count c.loop-i.kept c.loop-i.gone c.loop-i.seen =
     subst (λ n. IsPruning s c.loop-i.self n c.loop-i.kept c.loop-i.gone c.loop-i.seen) all c.loop-i.invariant in
     subst (λ v. IsPruned s v c.loop-i.gone) (sym c.cut_queue.ensures) (pruning-ends s c.loop-i.self c.loop-i.kept c.loop-i.gone c.loop-i.seen whole)

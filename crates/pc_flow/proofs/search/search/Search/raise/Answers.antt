@@ -25,5 +25,5 @@ returns-clause-raised c =
       piece_limits = c.net-net.ensures.piece_limits;
     } in
     let ordered : IsOrder net.network order = subst (λ n. IsOrder n order) c.net-net.ensures.network c.order-order.ensures.order in
-    let raised : IsRaised s c.raise.new.self net.network.end c.raise.result = subst (λ e. IsRaised s c.raise.new.self e c.raise.result) end c.raise.ensures in
-    has_raised net known order ordered s c.raise.new.self c.raise.result raised.0 c.requires.between c.requires.above raised.1 c.requires.settled
+    let raised : IsRaised s c.raise.new.self net.network.end c.raise.result.by = subst (λ e. IsRaised s c.raise.new.self e c.raise.result.by) end c.raise.ensures.raised in
+    has_raised net known order ordered s c.raise.new.self c.raise.result.by raised.0 c.requires.between c.requires.above raised.1 c.requires.settled

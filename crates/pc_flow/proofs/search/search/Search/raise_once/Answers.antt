@@ -6,7 +6,7 @@ use Rattle.pc_flow.proofs.search.search.Search.raise_once.Goals as goal
 
 pub look_again-requires-clause-settled : goal.look_again-requires-clause-settled
 look_again-requires-clause-settled g c =
-    subst (λ n. AreSettled n c.raise-by.new.self.board) (sym c.raise-by.ensures.net) c.raise-by.ensures.raised.settled
+    subst (λ n. AreSettled n c.raise-raised.new.self.board) (sym c.raise-raised.ensures.net) c.raise-raised.ensures.raised.settled
 
 pub grow-requires-clause-settled : goal.grow-requires-clause-settled
 grow-requires-clause-settled g c =
@@ -16,14 +16,14 @@ pub returns : goal.returns
 returns g c =
     let net = c.args.self.now.net.now in
     let s = c.args.self.now.board in
-    let r = c.raise-by.new.self.board in
+    let r = c.raise-raised.new.self.board in
     let t = c.look_again.new.self.board in
     let u = c.grow.new.self.board in
-    let by = c.raise-by.result in
-    let raised = c.raise-by.ensures.raised in
+    let by = c.raise-raised.result.by in
+    let raised = c.raise-raised.ensures.raised in
     let was = c.requires.under_way in
-    let same : c.look_again.new.self.net.now ≡ net = c.look_again.ensures.net ∙ c.raise-by.ensures.net in
-    let again : HasLookedAgain net r t = subst (λ n. HasLookedAgain n r t) c.raise-by.ensures.net c.look_again.ensures.again in
+    let same : c.look_again.new.self.net.now ≡ net = c.look_again.ensures.net ∙ c.raise-raised.ensures.net in
+    let again : HasLookedAgain net r t = subst (λ n. HasLookedAgain n r t) c.raise-raised.ensures.net c.look_again.ensures.again in
     let grown : HasGrown net t u = subst (λ n. HasGrown n t u) same c.grow.ensures.grown in
     record {
       net = c.grow.ensures.net ∙ same;
@@ -31,7 +31,7 @@ returns g c =
         arith,
         c.look_again.ensures.counted,
         c.grow.ensures.counted,
-        ap (λ (n : PricedNetwork). length n.network.arcs) c.raise-by.ensures.net,
+        ap (λ (n : PricedNetwork). length n.network.arcs) c.raise-raised.ensures.net,
         ap (λ (n : PricedNetwork). length n.network.arcs) same,
       );
       some = raised.some;
