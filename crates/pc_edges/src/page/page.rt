@@ -1,5 +1,5 @@
 //! The page itself: pieces of a text one behind the other.
-ghost use Rattle.std.specs.Prelude.{◌≡◌, ℕ, List, [], IfOk, decimal};
+ghost use Rattle.std.specs.Prelude.{◌≡◌, ℕ, List, [], ◌++◌, IfOk, IsTrue, IsFalse, decimal};
 ghost use Rattle.std.specs.Fmt.{signed_decimal};
 ghost use Rattle.pc_edges.specs.inside.Writes.{Writes};
 ghost use Rattle.pc_edges.specs.inside.page.Page.{fresh};
@@ -21,20 +21,21 @@ pub const PAGE_ROOM: usize = STREAM_ROOM;
 /// All pieces of one text go to one sink, which is lent at each of them.
 #[derive(Drop)]
 pub struct Page {
-    bytes: Vec<u8>,
+    // None on a page without a buffer, which pushes each piece as it comes.
+    bytes: Option<Vec<u8>>,
     room: usize,
     failed: bool,
 }
 
 impl Model for Page {
-    ghost use Rattle.std.specs.Prelude.{◌≤◌, vec_len, vec_capacity};
     ghost use Rattle.pc_edges.specs.inside.page.Page.{Page as Sheet};
+    ghost use Rattle.pc_edges.specs.inside.page.PageInside.{pending_in, HasRoomFor};
 
     ghost Value = { Sheet };
 
-    ghost view = { λ s. record { pending = s.bytes.items; failed = s.failed } };
+    ghost view = { λ s. record { pending = pending_in s.bytes; failed = s.failed } };
 
-    ghost invariant = { λ s. (vec_len s.bytes ≤ s.room) × (s.room ≤ vec_capacity s.bytes) };
+    ghost invariant = { λ s. HasRoomFor s.room s.bytes };
 }
 
 impl Page {
@@ -43,10 +44,21 @@ impl Page {
         ensures { IfOk result (λ page. page ≡ fresh) }
     {
         Ok(Page {
-            bytes: Vec::with_capacity(alloc, room)?,
+            bytes: Some(Vec::with_capacity(alloc, room)?),
             room,
             failed: false,
         })
+    }
+
+    /// Returns an empty page without a buffer: it pushes each piece as it comes, and takes no memory.
+    pub fn without_buffer() -> Page
+        ensures { result ≡ fresh }
+    {
+        Page {
+            bytes: None,
+            room: 0,
+            failed: false,
+        }
     }
 
     /// Puts a piece behind what is there.
@@ -54,10 +66,8 @@ impl Page {
     pub fn put<O: Sink>(&mut self, sink: &mut O, piece: &[u8])
         ensures { Puts O.taken O.faults self.old sink.old self.new sink.new piece.now }
     {
-        if self.room - self.bytes.len() < piece.len() {
+        if !self.gather(piece) {
             self.turn(sink, piece);
-        } else {
-            self.bytes.extend_from_slice(piece).unwrap();
         }
     }
 
@@ -77,10 +87,13 @@ impl Page {
         self.put(sink, signed(number).bytes());
     }
 
-    /// Pushes what is pending and flushes the sink: the end of a text that began on a fresh page, which is fresh again.
+    /// Pushes what is pending: the end of a text that began on a fresh page, which is fresh again. It does not flush the
+    /// sink, so that another text can follow at once.
     ///
-    /// `Failed` where a push failed now or before, or the flush.
-    pub fn finish<O: Sink>(&mut self, sink: &mut O) -> Result<(), Failed>
+    /// # Errors
+    ///
+    /// `Failed` if a push failed, now or before.
+    pub fn push_out<O: Sink>(&mut self, sink: &mut O) -> Result<(), Failed>
         ensures text { (start : Desk) (text : List ℕ) → start.page ≡ fresh
             → Adds start (desk O.taken O.faults self.old sink.old) text
             → Writes result start.taken (O.taken sink.new) start.faults (O.faults sink.new) text }
@@ -92,19 +105,49 @@ impl Page {
         if failed {
             return Err(Failed);
         }
+        Ok(())
+    }
+
+    /// Pushes what is pending and flushes the sink: the end of a text that began on a fresh page, which is fresh again.
+    ///
+    /// # Errors
+    ///
+    /// `Failed` if a push failed, now or before, or if the flush did.
+    pub fn finish<O: Sink>(&mut self, sink: &mut O) -> Result<(), Failed>
+        ensures text { (start : Desk) (text : List ℕ) → start.page ≡ fresh
+            → Adds start (desk O.taken O.faults self.old sink.old) text
+            → Writes result start.taken (O.taken sink.new) start.faults (O.faults sink.new) text }
+        ensures fresh { self.new ≡ fresh }
+    {
+        self.push_out(sink)?;
         sink.flush()
     }
 
-    /// Puts a piece that finds no room: what is pending is pushed first, and a piece longer than the page itself too.
+    /// Adds the piece to what is pending, if the buffer has capacity for it, and returns whether it did.
+    #[inline]
+    fn gather(&mut self, piece: &[u8]) -> bool
+        ensures failed { self.new.failed ≡ self.old.failed }
+        ensures gathered { IsTrue result → self.new.pending ≡ self.old.pending ++ piece.now }
+        ensures same { IsFalse result → self.new ≡ self.old }
+    {
+        match &mut self.bytes {
+            Some(bytes) if piece.len() <= self.room - bytes.len() => {
+                bytes.extend_from_slice(piece).unwrap();
+                true
+            }
+            _ => false,
+        }
+    }
+
+    /// Puts a piece for which there is no capacity: what is pending is pushed first, and so is a piece longer than the
+    /// page itself.
     #[cold]
     #[inline(never)]
     fn turn<O: Sink>(&mut self, sink: &mut O, piece: &[u8])
         ensures { Puts O.taken O.faults self.old sink.old self.new sink.new piece.now }
     {
         self.push_pending(sink);
-        if piece.len() <= self.room {
-            self.bytes.extend_from_slice(piece).unwrap();
-        } else {
+        if !self.gather(piece) {
             self.failed = push_on(self.failed, sink, piece);
         }
     }
@@ -114,12 +157,14 @@ impl Page {
         ensures text { Puts O.taken O.faults self.old sink.old self.new sink.new [] }
         ensures empty { self.new.pending ≡ [] }
     {
-        self.failed = push_on(self.failed, sink, self.bytes.as_slice());
-        self.bytes.clear();
+        if let Some(bytes) = &mut self.bytes {
+            self.failed = push_on(self.failed, sink, bytes.as_slice());
+            bytes.clear();
+        }
     }
 }
 
-/// Pushes the piece, unless a push failed before, and answers whether one has failed by now.
+/// Pushes the piece, unless a push failed before, and returns whether one has failed by now.
 fn push_on<O: Sink>(failed: bool, sink: &mut O, piece: &[u8]) -> bool
     ensures { Puts O.taken O.faults (record { pending = []; failed = failed }) sink.old
         (record { pending = []; failed = result }) sink.new piece.now }
