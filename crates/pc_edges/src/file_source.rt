@@ -73,12 +73,12 @@ impl FileSource {
 impl Source for FileSource {
     ghost faults = { λ source. source.faults };
 
-    fn pull(&mut self, buffer: &mut [u8]) -> Result<usize, Failed> {
-        if buffer.is_empty() {
+    fn pull(&mut self, buf: &mut [u8]) -> Result<usize, Failed> {
+        if buf.is_empty() {
             return Ok(0);
         }
         let read = match &mut self.state {
-            State::Open(file) => file.read(buffer).ok(),
+            State::Open(file) => file.read(buf).ok(),
             State::Ended => Some(0),
             State::Missing => None,
         };

@@ -68,11 +68,11 @@ impl Source for MemSource {
 
     ghost pulls = { λ source. Some source.pulls };
 
-    fn pull(&mut self, buffer: &mut [u8]) -> Result<usize, Failed>
-        ensures fits { IfOk result (λ n. n ≤ length buffer.old) }
-        ensures bytes { IfOk result (λ n. self.old.left ≡ take n buffer.new ++ self.new.left) }
-        ensures end { IfOk result (λ n. n ≡ 0 → 0 < length buffer.old → self.new.left ≡ []) }
-        ensures empty { length buffer.old ≡ 0 → (result ≡ Ok 0) × (self.new ≡ self.old) }
+    fn pull(&mut self, buf: &mut [u8]) -> Result<usize, Failed>
+        ensures fits { IfOk result (λ n. n ≤ length buf.old) }
+        ensures bytes { IfOk result (λ n. self.old.left ≡ take n buf.new ++ self.new.left) }
+        ensures end { IfOk result (λ n. n ≡ 0 → 0 < length buf.old → self.new.left ≡ []) }
+        ensures empty { length buf.old ≡ 0 → (result ≡ Ok 0) × (self.new ≡ self.old) }
         ensures no_fault { OnOk result (self.new.faults ≡ self.old.faults) }
         ensures failed { OnErr result (Rose self.old.faults self.new.faults) }
         ensures kept { OnErr result (self.new.left ≡ self.old.left) }
@@ -80,16 +80,16 @@ impl Source for MemSource {
         ensures pulled { self.new.pulls ≤ self.old.pulls + 1 }
 
         // which pulls fail, how much the others give, and what is counted
-        ensures fails { IsErr result ↔ (0 < length buffer.old) × Contains self.old.failing (raised self.old.pulls) }
-        ensures given { IfOk result (λ n. n ≡ min (length buffer.old) (min self.old.piece (length self.old.left))) }
-        ensures counted { 0 < length buffer.old → self.new ≡ record self.old {
+        ensures fails { IsErr result ↔ (0 < length buf.old) × Contains self.old.failing (raised self.old.pulls) }
+        ensures given { IfOk result (λ n. n ≡ min (length buf.old) (min self.old.piece (length self.old.left))) }
+        ensures counted { 0 < length buf.old → self.new ≡ record self.old {
           left = self.new.left;
           pulls = raised self.old.pulls;
           faults = self.new.faults;
         } }
         ensures risen { OnErr result (self.new.faults ≡ raised self.old.faults) }
     {
-        if buffer.is_empty() {
+        if buf.is_empty() {
             return Ok(0);
         }
         self.pulls = self.pulls.saturating_add(1);
@@ -97,8 +97,8 @@ impl Source for MemSource {
             self.faults = self.faults.saturating_add(1);
             return Err(Failed);
         }
-        let n = buffer.len().min(self.piece).min(self.bytes.len() - self.at);
-        buffer[..n].copy_from_slice(&self.bytes[self.at..self.at + n]);
+        let n = buf.len().min(self.piece).min(self.bytes.len() - self.at);
+        buf[..n].copy_from_slice(&self.bytes[self.at..self.at + n]);
         self.at += n;
         Ok(n)
     }

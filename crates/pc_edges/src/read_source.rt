@@ -42,15 +42,15 @@ impl<R: Read> Source for ReadSource<R> {
 
     ghost faults = { λ source. source.faults };
 
-    fn pull(&mut self, buffer: &mut [u8]) -> Result<usize, Failed> {
-        if buffer.is_empty() {
+    fn pull(&mut self, buf: &mut [u8]) -> Result<usize, Failed> {
+        if buf.is_empty() {
             return Ok(0);
         }
         if self.key.is_none() {
             self.faults = self.faults.saturating_add(1);
             return Err(Failed);
         }
-        match self.inner.read(buffer) {
+        match self.inner.read(buf) {
             Ok(n) => Ok(n),
             Err(_) => {
                 self.faults = self.faults.saturating_add(1);

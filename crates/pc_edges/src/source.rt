@@ -21,15 +21,15 @@ pub trait Source {
     // How many pulls on a buffer with room there were, where the source counts them.
     ghost pulls: { Self → Option ℕ } = { λ _. None };
 
-    /// Fills the front of `buffer` with the next bytes, and answers how many they are.
+    /// Fills the front of `buf` with the next bytes, and answers how many they are.
     ///
     /// `Ok(0)` on a buffer with room is the end of the input. The rest of the buffer, and all of it after
     /// `Failed`, may hold anything.
-    fn pull(&mut self, buffer: &mut [u8]) -> Result<usize, Failed>
-        ensures fits { IfOk result (λ n. n ≤ length buffer.old) }
-        ensures bytes { IfOk result (λ n. Consumes (left self.old) (left self.new) (take n buffer.new)) }
-        ensures end { IfOk result (λ n. n ≡ 0 → 0 < length buffer.old → IsAtEnd (left self.new)) }
-        ensures empty { length buffer.old ≡ 0 → result ≡ Ok 0 }
+    fn pull(&mut self, buf: &mut [u8]) -> Result<usize, Failed>
+        ensures fits { IfOk result (λ n. n ≤ length buf.old) }
+        ensures bytes { IfOk result (λ n. Consumes (left self.old) (left self.new) (take n buf.new)) }
+        ensures end { IfOk result (λ n. n ≡ 0 → 0 < length buf.old → IsAtEnd (left self.new)) }
+        ensures empty { length buf.old ≡ 0 → result ≡ Ok 0 }
         ensures no_fault { OnOk result (faults self.new ≡ faults self.old) }
 
         ensures failed { OnErr result (Rose (faults self.old) (faults self.new)) }

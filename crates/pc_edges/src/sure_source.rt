@@ -33,9 +33,9 @@ impl<'b> Source for SureSource<'b> {
 
     ghost faults = { λ source. 0 };
 
-    fn pull(&mut self, buffer: &mut [u8]) -> Result<usize, Failed> {
-        let n = buffer.len().min(self.left.len());
-        buffer[..n].copy_from_slice(&self.left[..n]);
+    fn pull(&mut self, buf: &mut [u8]) -> Result<usize, Failed> {
+        let n = buf.len().min(self.left.len());
+        buf[..n].copy_from_slice(&self.left[..n]);
         self.left = &self.left[n..];
         Ok(n)
     }

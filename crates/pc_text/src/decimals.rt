@@ -19,6 +19,15 @@ pub struct Decimal<const N: usize> {
     start: usize,
 }
 
+/// The decimal form of a `u64`, as [`digits`](crate::digits) returns it.
+pub type Digits = Decimal<MOST>;
+
+/// The decimal form of an `i64`, as [`signed`](crate::signed) returns it.
+pub type Signed = Decimal<MOST>;
+
+/// The decimal form of a `u128`, as [`wide`](crate::wide) returns it.
+pub type Wide = Decimal<MOST_WIDE>;
+
 impl<const N: usize> Model for Decimal<N> {
     ghost use Rattle.std.specs.Prelude.{◌≡◌, ◌≤◌, ℕ, List, drop, length};
 
@@ -89,21 +98,21 @@ macro_rules! unsigned {
 }
 
 /// The decimal form of a number.
-pub(crate) fn of_unsigned(n: u64) -> Decimal<MOST>
+pub(crate) fn of_unsigned(n: u64) -> Digits
     ensures { result ≡ decimal n }
 {
     unsigned!(n, MOST)
 }
 
 /// The decimal form of a number that may be too great for 64 bits.
-pub(crate) fn of_wide(n: u128) -> Decimal<MOST_WIDE>
+pub(crate) fn of_wide(n: u128) -> Wide
     ensures { result ≡ decimal n }
 {
     unsigned!(n, MOST_WIDE)
 }
 
 /// The decimal form of a number, with `-` before a negative one.
-pub(crate) fn of_signed(n: i64) -> Decimal<MOST>
+pub(crate) fn of_signed(n: i64) -> Signed
     ensures { result ≡ signed_decimal n }
 {
     let digits = of_unsigned(n.unsigned_abs());

@@ -12,7 +12,7 @@ mod words;
 
 pub use code::{Code, is_code};
 pub use codes::Codes;
-pub use decimals::Decimal;
+pub use decimals::{Decimal, Digits, Signed, Wide};
 pub use fields::{field, run_len};
 pub use line::Line;
 pub use number::{digits, read_number, signed, wide};

@@ -4,7 +4,7 @@ ghost use Rattle.std.specs.Fmt.{signed_decimal};
 ghost use Rattle.pc_text.specs.Number.{number_of};
 ghost use Rattle.pc_text.specs.inside.Number.{is_plain, value_of, IsDecimal};
 
-use crate::decimals::{Decimal, of_signed, of_unsigned, of_wide};
+use crate::decimals::{Digits, Signed, Wide, of_signed, of_unsigned, of_wide};
 
 /// The most digits that a number has.
 const LIMIT: usize = 13;
@@ -50,7 +50,7 @@ fn value_of(field: &[u8]) -> Option<u64>
 }
 
 /// The decimal form of a number.
-pub fn digits(n: u64) -> Decimal<20>
+pub fn digits(n: u64) -> Digits
     ensures value { result ≡ decimal n }
     ensures short { length result ≤ 20 }
 {
@@ -58,7 +58,7 @@ pub fn digits(n: u64) -> Decimal<20>
 }
 
 /// The decimal form of a number, with `-` before a negative one.
-pub fn signed(n: i64) -> Decimal<20>
+pub fn signed(n: i64) -> Signed
     ensures value { result ≡ signed_decimal n }
     ensures short { length result ≤ 20 }
 {
@@ -66,7 +66,7 @@ pub fn signed(n: i64) -> Decimal<20>
 }
 
 /// The decimal form of a number that may be too great for 64 bits.
-pub fn wide(n: u128) -> Decimal<39>
+pub fn wide(n: u128) -> Wide
     ensures value { result ≡ decimal n }
     ensures short { length result ≤ 39 }
 {
