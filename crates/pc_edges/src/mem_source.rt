@@ -7,9 +7,9 @@ use crate::{Failed, Source};
 use std::alloc::{AllocError, Global};
 use std::marker::Model;
 
-/// A source of bytes in memory that gives them in small pieces and fails where it is told to.
+/// A source of bytes in memory, for tests: it gives small pieces, and fails at the pulls that you choose.
 ///
-/// It tells its bytes to contracts, which see it as a `Supply`.
+/// Contracts see it as a `Supply`, with its bytes.
 #[derive(Drop)]
 pub struct MemSource {
     bytes: Vec<u8>,
@@ -33,8 +33,14 @@ impl Model for MemSource {
 }
 
 impl MemSource {
-    /// A source of a copy of `bytes`. A pull gives at most `piece` of them, and the k-th pull on a buffer with
-    /// room, counted from 1, fails where k is in `failing`.
+    /// Returns a source of a copy of `bytes`.
+    ///
+    /// A pull gives at most `piece` bytes. The k-th pull on a buffer that is not empty, counted from 1, fails if k is
+    /// in `failing`.
+    ///
+    /// # Errors
+    ///
+    /// `AllocError` if there is no memory for the copies of `bytes` and `failing`.
     pub fn new(
         alloc: Global,
         bytes: &[u8],

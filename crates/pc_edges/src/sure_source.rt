@@ -4,9 +4,9 @@ ghost use Rattle.std.specs.Prelude.{◌≡◌, Some};
 use crate::{Failed, Source};
 use std::marker::Model;
 
-/// A source of bytes in memory, each pull of which fills its buffer as far as there are bytes. None ever fails.
+/// A source of bytes in memory that never fails. Each pull fills its buffer, as far as there are bytes.
 ///
-/// It tells its bytes to contracts. Its count of faults stays at 0, and a pull fails only where the count rises.
+/// Contracts can see its bytes. Its count of faults stays at 0.
 #[derive(Drop)]
 pub struct SureSource<'b> {
     left: &'b [u8],
@@ -21,6 +21,7 @@ impl<'b> Model for SureSource<'b> {
 }
 
 impl<'b> SureSource<'b> {
+    /// Returns a source of `bytes`, which it borrows.
     pub fn new(bytes: &'b [u8]) -> SureSource<'b>
         ensures { result ≡ bytes.now }
     {

@@ -1,4 +1,5 @@
-//! The words of a deck and of a report: codes, titles, numbers, and the line that a report is written on.
+//! The words of a deck and of a report: codes, titles, numbers, and the line on which a row of a report is put
+//! together.
 #![tactic(auto)]
 
 mod code;

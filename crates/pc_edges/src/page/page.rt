@@ -1,4 +1,4 @@
-//! The page itself: pieces of a text one behind the other.
+//! The page itself: the pieces of a text, one after the other.
 ghost use Rattle.std.specs.Prelude.{◌≡◌, ℕ, List, [], ◌++◌, IfOk, IsTrue, IsFalse, decimal};
 ghost use Rattle.std.specs.Fmt.{signed_decimal};
 ghost use Rattle.pc_edges.specs.inside.Writes.{Writes};
@@ -10,15 +10,15 @@ use pc_text::{digits, signed};
 use std::alloc::{AllocError, Global};
 use std::marker::Model;
 
-/// The room of a page that an answer of a program is gathered on.
+/// The capacity in bytes of a page on which the output of a program is gathered.
 pub const PAGE_ROOM: usize = STREAM_ROOM;
 
 /// A page of a text on its way to a sink.
 ///
-/// What is put on a full page goes on: the page is pushed to the sink, and empty then. After the first push that failed
-/// nothing more is pushed, and `finish` answers the failure.
+/// When a piece does not fit, the page is pushed to the sink and begins again. After the first push that failed nothing
+/// more is pushed, and the end of the text returns the failure.
 ///
-/// All pieces of one text go to one sink, which is lent at each of them.
+/// Pass the same sink for all pieces of one text.
 #[derive(Drop)]
 pub struct Page {
     // None on a page without a buffer, which pushes each piece as it comes.
@@ -39,7 +39,11 @@ impl Model for Page {
 }
 
 impl Page {
-    /// An empty page with room for so many bytes. It takes no other memory later.
+    /// Returns an empty page with a capacity of `room` bytes. It takes no other memory later.
+    ///
+    /// # Errors
+    ///
+    /// `AllocError` if there is no memory for so many bytes.
     pub fn with_room(alloc: Global, room: usize) -> Result<Page, AllocError>
         ensures { IfOk result (λ page. page ≡ fresh) }
     {
@@ -61,7 +65,7 @@ impl Page {
         }
     }
 
-    /// Puts a piece behind what is there.
+    /// Puts a piece after what is there.
     #[inline]
     pub fn put<O: Sink>(&mut self, sink: &mut O, piece: &[u8])
         ensures { Puts O.taken O.faults self.old sink.old self.new sink.new piece.now }
@@ -71,7 +75,7 @@ impl Page {
         }
     }
 
-    /// Puts the decimal form of a number.
+    /// Puts the decimal form of `number`.
     #[inline]
     pub fn put_number<O: Sink>(&mut self, sink: &mut O, number: u64)
         ensures { Puts O.taken O.faults self.old sink.old self.new sink.new (decimal number) }
@@ -79,7 +83,7 @@ impl Page {
         self.put(sink, digits(number).bytes());
     }
 
-    /// Puts the decimal form of a number, with `-` before a negative one.
+    /// Puts the decimal form of `number`, with `-` in front if it is negative.
     #[inline]
     pub fn put_signed<O: Sink>(&mut self, sink: &mut O, number: i64)
         ensures { Puts O.taken O.faults self.old sink.old self.new sink.new (signed_decimal number) }
@@ -87,8 +91,8 @@ impl Page {
         self.put(sink, signed(number).bytes());
     }
 
-    /// Pushes what is pending: the end of a text that began on a fresh page, which is fresh again. It does not flush the
-    /// sink, so that another text can follow at once.
+    /// Pushes what is pending: the end of a text that began on a fresh page, which is fresh again. It does not flush
+    /// the sink, so that another text can follow at once.
     ///
     /// # Errors
     ///
