@@ -12,7 +12,7 @@ use crate::answer::{Answer, hand};
 use pc_edges::page::{PAGE_ROOM, Page};
 use pc_edges::{Failed, Sink};
 use pc_faults::Fault;
-use pc_load::{Loading, NoLoad, write_load};
+use pc_load::{Loading, NoLoad, write_load_on};
 use pc_project::Project;
 use pc_shell::{Status, refuse};
 use std::alloc::Global;
@@ -55,6 +55,6 @@ impl Answer for LoadAnswer {
     ghost text = { λ answer project. load_text project answer.loading };
 
     fn write_to<O: Sink>(&mut self, project: &Project, out: &mut O) -> Result<(), Failed> {
-        write_load(&mut self.page, out, project, &self.loading)
+        write_load_on(&mut self.page, out, project, &self.loading)
     }
 }

@@ -12,7 +12,7 @@ use crate::schedule::NormalSchedule;
 use pc_edges::page::{PAGE_ROOM, Page};
 use pc_edges::{Failed, Sink};
 use pc_project::Project;
-use pc_reports::{Schedule, write_schedule};
+use pc_reports::{Schedule, write_schedule_on};
 use pc_shell::Status;
 use std::alloc::{AllocError, Global};
 
@@ -58,6 +58,6 @@ impl Answer for NormalAnswer {
             activities: project.activity_codes(),
             durations: self.schedule.durations(),
         };
-        write_schedule(&mut self.page, out, &schedule)
+        write_schedule_on(&mut self.page, out, &schedule)
     }
 }

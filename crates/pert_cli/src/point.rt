@@ -13,7 +13,7 @@ use crate::cheapest::{CheapestSchedule, NoSchedule};
 use pc_edges::page::{PAGE_ROOM, Page};
 use pc_edges::{Failed, Sink};
 use pc_project::Project;
-use pc_reports::write_schedule;
+use pc_reports::write_schedule_on;
 use pc_shell::{Status, refuse};
 use std::alloc::Global;
 
@@ -55,6 +55,6 @@ impl Answer for PointAnswer {
 
     fn write_to<O: Sink>(&mut self, project: &Project, out: &mut O) -> Result<(), Failed> {
         let schedule = self.schedule.printed(project);
-        write_schedule(&mut self.page, out, &schedule)
+        write_schedule_on(&mut self.page, out, &schedule)
     }
 }
