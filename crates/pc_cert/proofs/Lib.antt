@@ -8,5 +8,8 @@ pub mod TextLaws
 mod RunLemmas
 pub mod ReaderLaws
 pub mod EventLaws
+pub mod ListedLaws
+pub mod WordLaws
+pub mod FitLaws
 mod KnownLaws
 mod FrontLaws

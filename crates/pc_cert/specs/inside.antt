@@ -7,3 +7,4 @@ pub mod Grammar
 pub mod Reader
 pub mod Fed
 pub mod Known
+pub mod Document

@@ -25,7 +25,7 @@ pub(crate) fn act_of(fields: &[u8]) -> Option<CertLine>
     })
 }
 
-/// The flows that the fields are, all of them, where there are at most six.
+/// Reads the fields as flows. Returns `None` if one is not a number, or if there are more than six.
 fn flows_of(fields: &[u8]) -> Option<Flows>
     ensures { result ≡ flows_of fields.now }
 {

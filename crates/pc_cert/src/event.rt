@@ -1,4 +1,4 @@
-//! The line of an event that comes again with another time or another bit.
+//! The line of an event that occurs again with another time or another bit.
 ghost use Rattle.std.specs.Prelude.{◌≡◌, ◌≤◌, ◌∷◌, IfSome, Some, length};
 ghost use Rattle.pc_cert.specs.declared.line.CertLine.TheVariants.{Event};
 ghost use Rattle.pc_text.specs.Fields.{spaced};
@@ -9,10 +9,10 @@ use crate::front::{WIDTH, begin_same, begins};
 use crate::number::{MAX_DIGITS, number_at, number_within};
 use pc_text::Code;
 
-/// How many bytes of the line of an event stand before its code.
+/// How many bytes of an event's line are before its code.
 pub const EVENT_NAMED: usize = 6;
 
-/// What the line of an event says of it, and how many bytes the line and its end are.
+/// What an event's line says of the event, and how many bytes the line has, with its end.
 #[derive(Clone, Copy)]
 pub struct EventSaid {
     pub time: u64,
@@ -20,12 +20,12 @@ pub struct EventSaid {
     pub used: usize,
 }
 
-/// The most bytes that are looked at: those of the front, a space and a number, and three more.
+/// The most bytes that are read: those of the beginning, a space and a number, and three more.
 const LOOKED_AT: usize = WIDTH + MAX_DIGITS + 4;
 
-/// What the line at the front of the piece says, where it is one of this event.
+/// Reads the line at the beginning of the piece. Returns `None` if it is not a line of this event.
 ///
-/// The bytes that are known begin as each line of the event does, so that its word and its code are compared and not read.
+/// The known bytes begin as each line of the event does. So the word and the code are compared, not read.
 #[inline(always)]
 pub(crate) fn event_at(code: &Code, known: &[u8], piece: &[u8]) -> Option<EventSaid>
     requires { IsEventFront code.now known.now }
@@ -44,7 +44,7 @@ pub(crate) fn event_at(code: &Code, known: &[u8], piece: &[u8]) -> Option<EventS
     Some(EventSaid { time, moves, used })
 }
 
-/// The same where the piece is short.
+/// Does the same if the piece is short.
 #[inline(never)]
 fn event_to_end(code: &Code, known: &[u8], piece: &[u8]) -> Option<EventSaid>
     requires { IsEventFront code.now known.now }
@@ -60,7 +60,7 @@ fn event_to_end(code: &Code, known: &[u8], piece: &[u8]) -> Option<EventSaid>
     Some(EventSaid { time, moves, used })
 }
 
-/// The bit behind the space at the front, where the line ends behind it, and the bytes behind that end.
+/// Reads a space, a bit and the end of a line. Returns the bit and the bytes after the end.
 #[inline(always)]
 fn last_bit(bytes: &[u8]) -> Option<(bool, &[u8])>
     ensures { IfSome result (λ parts. bytes.now ≡ spaced (bit_text parts.0) (10 ∷ parts.1.now)) }
@@ -72,7 +72,7 @@ fn last_bit(bytes: &[u8]) -> Option<(bool, &[u8])>
     }
 }
 
-/// As `last_bit`, where at least so many bytes stand there as are looked at.
+/// Does what `last_bit` does, if there are at least as many bytes as are read.
 #[inline(always)]
 fn bit_within(bytes: &[u8]) -> Option<(bool, &[u8])>
     requires { 3 ≤ length bytes.now }

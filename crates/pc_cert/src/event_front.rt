@@ -7,9 +7,9 @@ use crate::event::{EVENT_NAMED, EventSaid, event_at};
 use crate::front::WIDTH;
 use pc_text::Code;
 
-/// How each line of an event begins: its word, a space and the code.
+/// The beginning of each line of one event: its word, a space and the code.
 ///
-/// So its lines are told by one comparison, and of each only the time and the bit are read.
+/// With it, one comparison finds whether a line is one of the event; then only the time and the bit are read.
 #[derive(Clone, Copy)]
 pub struct EventFront {
     pub(crate) code: Code,
@@ -17,7 +17,7 @@ pub struct EventFront {
 }
 
 impl EventFront {
-    /// How the lines of the event with this code begin.
+    /// Returns the beginning of the lines of the event with this code.
     pub fn of(code: Code) -> EventFront
         ensures { IsFrontOf code result }
     {
@@ -28,7 +28,7 @@ impl EventFront {
         EventFront { code, cells }
     }
 
-    /// What the line at the front of the piece says, where it is one of this event.
+    /// Reads the line at the beginning of the piece. Returns `None` if it is not a line of this event.
     #[inline(always)]
     pub(crate) fn said(&self, piece: &[u8]) -> Option<EventSaid>
         requires { IsFrontOf self.now.code self.now }

@@ -1,4 +1,4 @@
-//! The fields of a line that are numbers or bits: each is a space and the word behind it.
+//! The fields of a line that are numbers or bits: each is a space and the word after it.
 ghost use Rattle.std.specs.Prelude.{◌≡◌};
 ghost use Rattle.std.specs.Option.{option_map};
 ghost use Rattle.pc_cert.specs.inside.Fields.{number_field, bit_field, bit_of};
@@ -6,7 +6,7 @@ ghost use Rattle.pc_cert.specs.inside.Fields.{number_field, bit_field, bit_of};
 use crate::number::numeral_of;
 use pc_text::field;
 
-/// The number behind the space at the front, and the bytes behind it.
+/// Reads a space and a number. Returns the number and the bytes after it.
 #[tactic(auto, unfolding(crate::specs::inside::Fields::number_field, pc_text::specs::Fields::field_by))]
 pub(crate) fn number_field(bytes: &[u8]) -> Option<(u64, &[u8])>
     ensures { option_map (λ parts. (parts.0, parts.1.now)) result ≡ number_field bytes.now }
@@ -16,7 +16,7 @@ pub(crate) fn number_field(bytes: &[u8]) -> Option<(u64, &[u8])>
     Some((number, rest))
 }
 
-/// The bit behind the space at the front, `0` or `1`, and the bytes behind it.
+/// Reads a space and a bit, `0` or `1`. Returns the bit and the bytes after it.
 #[tactic(auto, unfolding(crate::specs::inside::Fields::bit_field, pc_text::specs::Fields::field_by))]
 pub(crate) fn bit_field(bytes: &[u8]) -> Option<(bool, &[u8])>
     ensures { option_map (λ parts. (parts.0, parts.1.now)) result ≡ bit_field bytes.now }

@@ -5,10 +5,13 @@ ghost use Rattle.std.specs.Cmp.Lexicographic.{pointwise, nat_list_eq_equiv};
 
 use std::marker::Model;
 
-/// The most flows that an activity has: one for each of its knees, of which there are at most five, and one beside them.
+/// The most flows of an activity: one for each of its knees, at most five, and one in addition to them.
 pub const MAX_FLOWS: usize = 6;
 
-/// The flows of an activity: one for each of its knees, from the first on, and then the one beside them. At most six.
+/// The flows of an activity, at most six: one for each of its knees, from the first on, and then the one in addition to
+/// them.
+///
+/// They are stored in the value itself and take no memory.
 #[derive(Clone, Copy)]
 pub struct Flows {
     cells: [u64; MAX_FLOWS],
@@ -32,7 +35,7 @@ impl Model for Flows {
 }
 
 impl Flows {
-    /// No flows.
+    /// Returns an empty list.
     pub fn new() -> Flows
         ensures { result ≡ [] }
     {
@@ -42,7 +45,7 @@ impl Flows {
         }
     }
 
-    /// The flows, in order.
+    /// Returns the flows, in order.
     pub fn as_slice(&self) -> &[u64]
         ensures value { result.now ≡ self.now }
         ensures few { length self.now ≤ MAX_FLOWS }
@@ -50,7 +53,7 @@ impl Flows {
         &self.cells[..self.len]
     }
 
-    /// Adds a flow behind the others.
+    /// Adds a flow after the others.
     pub fn push(&mut self, flow: u64)
         requires { length self.old < MAX_FLOWS }
         ensures { self.new ≡ self.old ++ flow ∷ [] }
@@ -65,7 +68,7 @@ impl PartialEq for Flows {
 
     ghost laws = { partial_equiv_from_equiv nat_list_eq_equiv };
 
-    // All cells at once, the zeros among them.
+    // All cells at once, including the zeros.
     fn eq(&self, other: &Flows) -> bool {
         self.len == other.len && are_same(&self.cells, &other.cells)
     }
@@ -75,7 +78,6 @@ impl Eq for Flows {
     ghost laws = { nat_list_eq_equiv };
 }
 
-/// Whether the cells of two lists of flows are the same.
 fn are_same(one: &[u64; MAX_FLOWS], other: &[u64; MAX_FLOWS]) -> bool
     ensures { result ≡ pointwise nat_eq one.now other.now }
 {

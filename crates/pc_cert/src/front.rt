@@ -1,4 +1,4 @@
-//! The bytes at the front of two slices, compared 32 at once.
+//! Comparing the first bytes of two slices, 32 at once.
 ghost use Rattle.std.specs.Prelude.{◌≡◌, ℕ, ◌<◌, ◌≤◌, IsTrue, length, take, slice_index};
 ghost use Rattle.std.specs.Int.{bit_at};
 
@@ -7,7 +7,7 @@ use std::simd::prelude::*;
 /// How many bytes are compared at once.
 pub const WIDTH: usize = 32;
 
-/// Whether the first so many bytes of the two slices are the same, of which each has at least 32.
+/// Returns whether the first `count` bytes of the two slices are the same. Each has at least 32.
 #[inline(always)]
 pub(crate) fn begin_same(bytes: &[u8], others: &[u8], count: usize) -> bool
     requires bytes { WIDTH ≤ length bytes.now }
@@ -19,7 +19,7 @@ pub(crate) fn begin_same(bytes: &[u8], others: &[u8], count: usize) -> bool
     same_lanes(bytes, others) & first == first
 }
 
-/// A bit for each of the first 32 bytes, which is set where the two are the same.
+/// Returns a bit for each of the first 32 bytes, which is set if the two are the same.
 #[inline(always)]
 fn same_lanes(bytes: &[u8], others: &[u8]) -> u64
     requires bytes { WIDTH ≤ length bytes.now }
@@ -31,7 +31,6 @@ fn same_lanes(bytes: &[u8], others: &[u8]) -> u64
         .to_bitmask()
 }
 
-/// The lowest so many bits.
 #[inline(always)]
 fn low_bits(count: usize) -> u64
     requires { count ≤ WIDTH }
@@ -40,7 +39,7 @@ fn low_bits(count: usize) -> u64
     (1 << count) - 1
 }
 
-/// Whether the piece begins with the first so many of the bytes.
+/// Returns whether the piece begins with the first `count` of the bytes.
 #[inline(always)]
 pub(crate) fn begins(piece: &[u8], bytes: &[u8], count: usize) -> bool
     requires room { WIDTH ≤ length bytes.now }
@@ -54,8 +53,8 @@ pub(crate) fn begins(piece: &[u8], bytes: &[u8], count: usize) -> bool
     begins_far(piece, bytes, count)
 }
 
-/// The same where more than 32 bytes are compared, or fewer stand there. It stands apart, so that loops that compare keep what they need in
-/// registers.
+/// Does the same if more than 32 bytes are compared, or if a slice is shorter. It is a function of its own so that
+/// loops that compare keep what they need in registers.
 #[inline(never)]
 fn begins_far(piece: &[u8], bytes: &[u8], count: usize) -> bool
     requires count { count ≤ length bytes.now }

@@ -1,4 +1,4 @@
-//! A line that was read before, which comes again in most segments.
+//! A line that was read before, and occurs again in most segments.
 ghost use Rattle.std.specs.Prelude.{◌≡◌, ◌<◌, IsSome, None, Some, length};
 ghost use Rattle.std.specs.Option.{option_map};
 ghost use Rattle.pc_cert.specs.inside.Reading.{line_of};
@@ -10,14 +10,14 @@ use crate::line::CertLine;
 use crate::line_text::{LineText, ROOM};
 use std::marker::Model;
 
-/// The line that was read last, and the bytes that it and its end are.
+/// The line that was read last, and its bytes with its end.
 ///
-/// Most lines of a segment are those of the segment before. What stands in one place of a segment is read through one
-/// `KnownLine`, so that a line that comes again is compared with its bytes, and neither searched for its end nor read. Of an event
-/// that comes again with another time only that time and the bit behind it are read.
+/// Most lines of a segment are those of the segment before. Read the lines at one place of all segments through one
+/// `KnownLine`: a line that occurs again is compared with these bytes, and neither searched for its end nor read. Of an
+/// event that occurs again with another time, only that time and the bit are read.
 #[derive(Drop)]
 pub struct KnownLine {
-    /// the bytes of the line and its end, and how many these are: 0 where they are not kept
+    // the bytes of the line and its end, and how many there are: 0 if they are not kept
     cells: [u8; ROOM],
     len: usize,
     line: Option<CertLine>,
@@ -34,7 +34,7 @@ impl Model for KnownLine {
 }
 
 impl KnownLine {
-    /// No line.
+    /// Returns one that knows no line.
     pub fn new() -> KnownLine
         ensures { result.line ≡ None }
     {
@@ -45,14 +45,14 @@ impl KnownLine {
         }
     }
 
-    /// The line that was read last, where its bytes spelled one.
+    /// Returns the line that was read last, or `None` if its bytes are no line.
     pub fn line(&self) -> Option<&CertLine>
         ensures { option_map (λ line. line.now) result ≡ self.now.line }
     {
         self.line.as_ref()
     }
 
-    /// A line of which the bytes are not kept.
+    /// Returns one that knows this line, without its bytes.
     pub fn of(line: CertLine) -> KnownLine
         ensures { result.line ≡ Some line }
     {
@@ -63,7 +63,7 @@ impl KnownLine {
         }
     }
 
-    /// The bytes of the line and its end, where they are kept.
+    /// Returns the bytes of the line and its end, if they are kept.
     pub fn text(&self) -> LineText
         ensures { IsTextOf self.now.line result }
     {
@@ -73,7 +73,7 @@ impl KnownLine {
         }
     }
 
-    /// The line that the bytes spell, or none where they spell none. It is known from then on.
+    /// Reads a line, which is known from then on. Returns `None` if the bytes are no line.
     pub fn read(&mut self, bytes: &[u8]) -> Option<CertLine>
         ensures value { result ≡ line_of bytes.now }
         ensures known { self.new.line ≡ line_of bytes.now }
@@ -82,7 +82,7 @@ impl KnownLine {
         self.line
     }
 
-    /// Reads the line that the bytes spell, which is known from then on.
+    /// Reads a line, which is known from then on.
     pub(crate) fn learn(&mut self, bytes: &[u8])
         ensures { self.new.line ≡ line_of bytes.now }
     {
@@ -94,7 +94,6 @@ impl KnownLine {
         }
     }
 
-    /// Keeps the bytes of the line.
     fn keep(&mut self, bytes: &[u8])
         requires short { length bytes.now < ROOM }
         requires some { IsSome self.old.line }
@@ -107,7 +106,6 @@ impl KnownLine {
         self.len = end + 1;
     }
 
-    /// Forgets the line.
     pub(crate) fn forget(&mut self)
         ensures { self.new.line ≡ None }
     {
@@ -115,8 +113,8 @@ impl KnownLine {
         self.line = None;
     }
 
-    /// How many bytes at the front of the piece are a line and its end, where the line is the one that is known, or that of the same
-    /// event with another time or bit, and else 0. The line is known from then on.
+    /// Returns how many bytes at the beginning of the piece are a line and its end, if it is the known line, or one of
+    /// the same event with another time or bit; it is known from then on. Returns 0 otherwise.
     pub(crate) fn meet(&mut self, piece: &[u8]) -> usize
         ensures { 0 < result → IsAgain self.new.line piece.now result }
     {
@@ -127,7 +125,7 @@ impl KnownLine {
         self.renew(piece)
     }
 
-    /// As `meet`, where the line is not the one that is known.
+    /// Does what `meet` does, if the line is not the known one.
     fn renew(&mut self, piece: &[u8]) -> usize
         ensures { 0 < result → IsAgain self.new.line piece.now result }
     {
@@ -152,7 +150,7 @@ impl KnownLine {
         said.used
     }
 
-    /// How many bytes at the front of the piece are the line and its end, where it comes again there, and else 0.
+    /// Returns how many bytes at the beginning of the piece are the known line and its end, or 0.
     fn again(&self, piece: &[u8]) -> usize
         ensures { 0 < result → IsAgain self.now.line piece.now result }
     {

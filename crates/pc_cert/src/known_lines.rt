@@ -1,11 +1,11 @@
-//! The lines that stand in one segment, which mostly come again in the next.
+//! The lines of one segment, most of which occur again in the next.
 ghost use Rattle.std.specs.Prelude.{◌<◌, vec_len};
 
 use crate::known::KnownLine;
 use std::alloc::{AllocError, Global};
 use std::marker::Model;
 
-/// What is known of the last so many lines, from the place of the next one on round to the place before it.
+/// What is known of the last lines, as many as a segment has, in the order in which they occur again.
 #[derive(Drop)]
 pub struct KnownLines {
     lines: Vec<KnownLine>,
@@ -23,7 +23,11 @@ impl Model for KnownLines {
 }
 
 impl KnownLines {
-    /// Nothing is known of so many lines. It takes all its memory here.
+    /// Returns a list for `count` lines that are not known yet. It takes all its memory here.
+    ///
+    /// # Errors
+    ///
+    /// `AllocError` if there is no memory for it.
     pub fn begin(alloc: Global, count: usize) -> Result<KnownLines, AllocError>
         requires { 0 < count }
     {
@@ -34,12 +38,12 @@ impl KnownLines {
         Ok(KnownLines { lines, at: 0 })
     }
 
-    /// What is known of the line that came one round ago.
+    /// Returns what is known of the line at the same place of the segment before.
     pub fn here(&mut self) -> &mut KnownLine {
         &mut self.lines[self.at]
     }
 
-    /// Goes on to the next line of the round.
+    /// Goes on to the next line.
     pub fn go_on(&mut self) {
         self.at += 1;
         if self.at == self.lines.len() {

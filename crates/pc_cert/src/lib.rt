@@ -1,13 +1,15 @@
-//! The text of a certificate: how each line is spelled and read, in which order lines may come, and the reader that takes
-//! them off bytes which come in pieces.
+//! The text of a certificate: how each line is formatted and read, the order of lines, the reader that takes lines from
+//! bytes in pieces, and the writer of a network's certificate, part by part.
 #![tactic(auto)]
 
 mod act;
+mod end;
 mod event;
 mod event_front;
 mod field;
 mod flows;
 mod front;
+mod head;
 mod known;
 mod known_lines;
 mod line;
@@ -18,11 +20,16 @@ mod number;
 mod place;
 mod reader;
 mod reading;
+mod segment;
+mod words;
+mod writing;
 
+pub use end::put_end;
 pub use event::{EVENT_NAMED, EventSaid};
 pub use event_front::EventFront;
 pub use flows::{Flows, MAX_FLOWS};
 pub use front::WIDTH;
+pub use head::put_head;
 pub use known::KnownLine;
 pub use known_lines::KnownLines;
 pub use line::{CertLine, MAX_LINE};
@@ -32,3 +39,5 @@ pub use line_text::LineText;
 pub use number::MAX_DIGITS;
 pub use place::{Place, Shape};
 pub use reader::{CertReader, Fed, Malformed};
+pub use segment::{put_ends, put_segment};
+pub use writing::{write_end, write_head, write_segment};

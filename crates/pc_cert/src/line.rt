@@ -8,7 +8,7 @@ use crate::flows::Flows;
 use crate::reading::line_of;
 use pc_text::Code;
 
-/// The most bytes that are taken of a line without its end: a line has fewer.
+/// The limit on the bytes of a line without its end: every line has fewer.
 pub const MAX_LINE: usize = 192;
 
 /// A line of a certificate, without its end.
@@ -53,7 +53,7 @@ pub enum CertLine {
 }
 
 impl CertLine {
-    /// The line that the bytes spell, or none where they spell none.
+    /// Reads a line from its bytes, without its end. Returns `None` if they are no line.
     pub fn read(bytes: &[u8]) -> Option<CertLine>
         ensures value { result ≡ line_of bytes.now }
         ensures spelled { IfSome result (λ line. (bytes.now ≡ spelling line) × Fits line) }

@@ -1,4 +1,4 @@
-//! Laws of lines and texts of them. Each function is its contract, and does nothing.
+//! Laws of lines and of their texts. Each function does nothing: its contract is the law.
 ghost use Rattle.std.specs.Prelude.{◌≡◌, ◌<◌, List, length};
 ghost use Rattle.pc_cert.specs.declared.line.CertLine.{CertLine};
 ghost use Rattle.pc_cert.specs.declared.line.TheConstants.{MAX_LINE};
@@ -6,14 +6,14 @@ ghost use Rattle.pc_text.specs.Fields.{Lacks};
 ghost use Rattle.pc_cert.specs.Lines.{spelling, Fits};
 ghost use Rattle.pc_cert.specs.Text.{text_of, AllFit};
 
-/// A line has one spelling, which is that of no other line, has no end of a line in it, and is short.
+/// States that a line has one text, which is the text of no other line, contains no end of a line, and is short.
 pub fn spelling_is_once()
     ensures once { (line other : CertLine) → Fits line → Fits other → spelling line ≡ spelling other → line ≡ other }
     ensures without_end { (line : CertLine) → Fits line → Lacks 10 (spelling line) }
     ensures short { (line : CertLine) → Fits line → length (spelling line) < MAX_LINE }
 {}
 
-/// No text is that of two lists of lines.
+/// States that no text is the text of two lists of lines.
 pub fn text_is_once()
     ensures { (lines others : List CertLine) → AllFit lines → AllFit others → text_of lines ≡ text_of others →
         lines ≡ others }

@@ -5,21 +5,21 @@ ghost use Rattle.pc_cert.specs.inside.Known.{HasText, IsAgain, IsTextOf};
 
 use crate::front::begins;
 
-/// The most bytes of a line and its end that are kept: a longer one is read anew each time.
+/// The most bytes of a line and its end that are kept: a longer line is read again each time.
 pub(crate) const ROOM: usize = 64;
 
-/// The bytes of a line and its end, where they are kept.
+/// The bytes of a line and its end, if they are kept.
 ///
-/// Whoever keeps them beside what was found of the line need not read it again where it comes again.
+/// A caller that keeps them next to what it found in the line need not read the line when it occurs again.
 #[derive(Clone, Copy)]
 pub struct LineText {
-    /// the bytes, and how many these are: 0 where they are not kept
+    // the bytes, and how many there are: 0 if they are not kept
     pub(crate) cells: [u8; ROOM],
     pub(crate) len: usize,
 }
 
 impl LineText {
-    /// No bytes are kept.
+    /// Returns one that keeps no bytes.
     pub fn new() -> LineText
         ensures none { HasText result → ⊥ }
         ensures text { (line : Option CertLine) → IsTextOf line result }
@@ -30,7 +30,7 @@ impl LineText {
         }
     }
 
-    /// How many bytes at the front of the piece are the line and its end, where it comes again there, and else 0.
+    /// Returns how many bytes at the beginning of the piece are the line and its end, or 0 if it does not occur there.
     #[inline(always)]
     pub fn again(&self, piece: &[u8]) -> usize
         requires { (line : Option CertLine) × IsTextOf line self.now }

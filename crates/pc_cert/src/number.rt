@@ -4,18 +4,18 @@ ghost use Rattle.pc_text.specs.inside.Number.{value_of};
 ghost use Rattle.pc_cert.specs.inside.Number.{is_unpadded, numeral_of, AreDigitsAt};
 ghost use Rattle.pc_cert.specs.inside.Lines.{IsNumberAt, IsNumeralAt};
 
-/// The most digits that a number of a certificate has.
+/// The most digits of a number in a certificate.
 pub const MAX_DIGITS: usize = 18;
 
-/// The byte of the digit 0, and the greatest value of a digit. A byte less the first is above the second where it is no digit: one that is
-/// smaller wraps round.
+/// The byte of the digit 0, and the greatest value of a digit. The difference of a byte and the first is above the
+/// second if the byte is not a digit: a smaller byte wraps around.
 const ZERO: u64 = 48;
 
 const GREATEST_DIGIT: u64 = 9;
 
-/// The number whose decimal form the word is, without a sign or a leading zero and with at most 18 digits.
+/// Reads a number: 1 to 18 digits, without a sign and without a leading zero. Returns `None` if the word is none.
 ///
-/// One pass reads it, up to the first byte that is no digit.
+/// One pass, which ends at the first byte that is not a digit.
 pub(crate) fn numeral_of(word: &[u8]) -> Option<u64>
     ensures { result ≡ numeral_of word.now }
 {
@@ -26,14 +26,14 @@ pub(crate) fn numeral_of(word: &[u8]) -> Option<u64>
     }
 }
 
-/// Whether the word has 1 to 18 bytes, and no zero in front of others.
+/// Returns whether the word has 1 to 18 bytes, and no leading zero.
 fn is_unpadded(word: &[u8]) -> bool
     ensures { result ≡ is_unpadded word.now }
 {
     1 <= word.len() && word.len() <= MAX_DIGITS && (word[0] != b'0' || word.len() == 1)
 }
 
-/// The value of at most 18 bytes, where each is a digit.
+/// Returns the value of at most 18 digits, or `None` if one of the bytes is not a digit.
 fn value_of(word: &[u8]) -> Option<u64>
     requires short { length word.now ≤ MAX_DIGITS }
     ensures { result ≡ value_of word.now }
@@ -48,7 +48,7 @@ fn value_of(word: &[u8]) -> Option<u64>
     Some(number)
 }
 
-/// The number behind the space at the front, and the bytes behind it.
+/// Reads a space and a number. Returns the number and the bytes after it.
 ///
 /// Its end is found while its digits are read.
 #[inline(always)]
@@ -61,7 +61,7 @@ pub(crate) fn number_at(bytes: &[u8]) -> Option<(u64, &[u8])>
     }
 }
 
-/// The number at the front, and the bytes behind it.
+/// Reads a number. Returns it and the bytes after it.
 #[inline(always)]
 fn numeral_at(bytes: &[u8]) -> Option<(u64, &[u8])>
     ensures { IfSome result (λ parts. IsNumeralAt bytes.now parts.0 parts.1.now) }
@@ -73,7 +73,7 @@ fn numeral_at(bytes: &[u8]) -> Option<(u64, &[u8])>
     Some((number, &bytes[end..]))
 }
 
-/// As `number_at`, where at least so many bytes stand there as are looked at.
+/// Does what `number_at` does, if there are at least as many bytes as are read.
 #[inline(always)]
 pub(crate) fn number_within(bytes: &[u8]) -> Option<(u64, &[u8])>
     requires { MAX_DIGITS < length bytes.now }
@@ -86,7 +86,7 @@ pub(crate) fn number_within(bytes: &[u8]) -> Option<(u64, &[u8])>
     numeral_within(&bytes[1..])
 }
 
-/// As `numeral_at`, where at least so many bytes stand there as are looked at.
+/// Does what `numeral_at` does, if there are at least as many bytes as are read.
 #[inline(always)]
 fn numeral_within(bytes: &[u8]) -> Option<(u64, &[u8])>
     requires { MAX_DIGITS ≤ length bytes.now }
@@ -100,7 +100,7 @@ fn numeral_within(bytes: &[u8]) -> Option<(u64, &[u8])>
     Some((number, &bytes[end..]))
 }
 
-/// The digits at the front, of which there are at most 18: their value, and how many they are.
+/// Reads at most 18 digits. Returns their value, and how many there are.
 #[inline(always)]
 fn digits_at(bytes: &[u8]) -> (u64, usize)
     ensures { AreDigitsAt bytes.now result.0 result.1 }
@@ -111,7 +111,7 @@ fn digits_at(bytes: &[u8]) -> (u64, usize)
     digits_within(bytes)
 }
 
-/// The same where at least so many bytes stand there: their end is not looked for.
+/// Does the same if there are at least as many bytes as are read: it does not test for their end.
 #[inline(always)]
 fn digits_within(bytes: &[u8]) -> (u64, usize)
     requires { MAX_DIGITS ≤ length bytes.now }
@@ -128,7 +128,7 @@ fn digits_within(bytes: &[u8]) -> (u64, usize)
     (number, MAX_DIGITS)
 }
 
-/// The same where fewer bytes stand there.
+/// Does the same if there are fewer bytes.
 #[inline(never)]
 fn digits_to_end(bytes: &[u8]) -> (u64, usize)
     requires { length bytes.now < MAX_DIGITS }

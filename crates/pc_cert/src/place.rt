@@ -1,4 +1,4 @@
-//! The order in which the lines of a certificate come.
+//! The order of the lines of a certificate.
 ghost use Rattle.std.specs.Prelude.{◌≡◌, ℕ, ◌<◌, ◌==◌, ◌||◌, length, IsTrue, List, Option, None, Some, IfNone, IfSome, Bool, false};
 ghost use Rattle.pc_cert.specs.declared.line.CertLine.{CertLine};
 ghost use Rattle.pc_cert.specs.declared.line.CertLine.TheVariants.{Event, Act};
@@ -12,7 +12,7 @@ use crate::flows::Flows;
 use crate::line::CertLine;
 use crate::line_text::LineText;
 
-/// What the first line says of the lines that follow: the version, and the numbers of events and of activities.
+/// What the first line says about the lines that follow: the version, and the numbers of events and of activities.
 #[derive(Clone, Copy)]
 pub struct Shape {
     pub version: u64,
@@ -20,7 +20,7 @@ pub struct Shape {
     pub activities: u64,
 }
 
-/// Where in a certificate the next line stands.
+/// The place of the next line in a certificate.
 #[derive(Clone, Copy)]
 pub enum Place {
     /// at the beginning
@@ -50,7 +50,7 @@ pub enum Place {
 }
 
 impl Place {
-    /// Where the line behind this one stands, or none where this one may not stand here.
+    /// Returns the place after `line`, or `None` if `line` is not allowed here.
     pub fn next(self, line: &CertLine) -> Option<Place>
         ensures { result ≡ next self line.now }
     {
@@ -69,9 +69,9 @@ impl Place {
         }
     }
 
-    /// Goes on to where the line behind this one stands, where this one may stand here, and answers whether it may.
+    /// Goes on to the place after `line` if it is allowed here, and returns whether it is.
     ///
-    /// As `next`, but among the rows of a segment only the number of those that are still to come changes.
+    /// It does what `next` does, but among the rows of a segment it changes only the number of those still to come.
     #[inline(always)]
     pub(crate) fn go_behind(&mut self, line: &CertLine) -> bool
         ensures goes { IsTrue result → next self.old line.now ≡ Some self.new }
@@ -98,7 +98,7 @@ impl Place {
         }
     }
 
-    /// Goes on behind the line of an activity with these flows, where one may stand here, and answers whether it may.
+    /// Goes on after an activity's line with these flows if one is allowed here, and returns whether it is.
     #[inline(always)]
     pub(crate) fn go_behind_act(&mut self, flows: &Flows) -> bool
         ensures goes { (code : List ℕ) (duration : ℕ) → IsTrue result →
@@ -118,7 +118,7 @@ impl Place {
         }
     }
 
-    /// Goes on behind the line of an event, where one may stand here, and answers whether it may.
+    /// Goes on after an event's line if one is allowed here, and returns whether it is.
     #[inline(always)]
     pub(crate) fn go_behind_event(&mut self) -> bool
         ensures goes { (code : List ℕ) (time : ℕ) (moves : Bool) → IsTrue result →
@@ -134,8 +134,9 @@ impl Place {
         }
     }
 
-    /// Goes on behind the line at the front of the piece, where it is the one of this text, which is an activity's with these flows, and may
-    /// stand here: the answer is how many bytes it is with its end. Else nothing changes, and the answer is 0.
+    /// Goes on after the line at the beginning of the piece, if it is the one of this text, an activity's with these
+    /// flows, and is allowed here. Returns how many bytes it has with its end. Otherwise it changes nothing and returns
+    /// 0.
     #[inline(always)]
     pub fn pass_act(&mut self, piece: &[u8], text: &LineText, flows: &Flows) -> usize
         requires text { (line : Option CertLine) × IsTextOf line text.now }
@@ -155,7 +156,8 @@ impl Place {
         used
     }
 
-    /// Goes on behind the line at the front of the piece, where it is one of this event and may stand here. Else nothing changes.
+    /// Goes on after the line at the beginning of the piece, if it is one of this event and is allowed here, and
+    /// returns what it says. Otherwise it changes nothing and returns `None`.
     #[inline(always)]
     pub fn pass_event(&mut self, piece: &[u8], front: &EventFront) -> Option<EventSaid>
         requires front { IsFrontOf front.now.code front.now }
@@ -172,7 +174,7 @@ impl Place {
         Some(said)
     }
 
-    /// As `go_behind`, by `next`.
+    /// Does what `go_behind` does, by `next`.
     fn jump_behind(&mut self, line: &CertLine) -> bool
         ensures goes { IsTrue result → next self.old line.now ≡ Some self.new }
         ensures stays { result ≡ false → next self.old line.now ≡ None }
@@ -257,7 +259,7 @@ fn next_between(shape: Shape, line: &CertLine) -> Option<Place>
     }
 }
 
-/// In a segment of which nothing has come.
+/// Returns the place at the beginning of a segment.
 fn opened(shape: Shape) -> Place
     ensures { result ≡ InSegment shape shape.events shape.activities }
 {
@@ -290,7 +292,7 @@ fn next_in_segment(shape: Shape, events: u64, activities: u64, line: &CertLine) 
     }
 }
 
-/// Whether an activity may have so many flows: two in version 1, and two to six in version 2.
+/// Returns whether an activity can have so many flows: two in version 1, and two to six in version 2.
 fn takes_flows(shape: Shape, flows: &Flows) -> bool
     ensures { result ≡ (shape.version == 2 || length flows.now == 2) }
 {

@@ -1,4 +1,4 @@
-//! The reader of a certificate, which takes its lines off bytes that come in pieces, however they are cut.
+//! The reader of a certificate, which takes lines from bytes in pieces, however they are cut.
 ghost use Rattle.std.specs.Prelude.{◌≡◌, ℕ, ◌+◌, ◌^◌, ◌<◌, ◌≤◌, List, [], ◌++◌, length, take, Option, Some, None, Ok, Err, IfOk, IfNone, IsNone, IsSome, IsTrue, MatchResult};
 ghost use Rattle.pc_cert.specs.declared.line.CertLine.{CertLine};
 ghost use Rattle.pc_cert.specs.declared.place.Place.TheVariants.{Start};
@@ -13,21 +13,23 @@ use crate::line_end::line_len;
 use crate::place::Place;
 use std::marker::Model;
 
-/// A line that may not stand where it does, or that is missing. Lines are counted from 1.
+/// The first line that is not allowed at its place, or that is missing. Lines are counted from 1.
 #[derive(Clone, Copy, Debug)]
 pub struct Malformed {
     pub line: u64,
 }
 
-/// How many bytes of a piece were used, and the line that ended in them, if one did.
+/// How many bytes of a piece were used, and the line that ended there, if one did.
 #[derive(Clone, Copy)]
 pub struct Fed {
     pub used: usize,
     pub line: Option<CertLine>,
 }
 
-/// A reader of a certificate. It keeps its place in the order of lines, how many whole lines there were, the bytes of the
-/// line that has not ended, and the first line that is malformed.
+/// A reader of a certificate. It takes no memory.
+///
+/// It keeps the place of the next line, the number of complete lines, the bytes of the line that has not ended, and the
+/// first malformed line.
 #[derive(Drop)]
 pub struct CertReader {
     place: Place,
@@ -54,7 +56,7 @@ impl Model for CertReader {
 }
 
 impl CertReader {
-    /// A reader of a text of which nothing has come.
+    /// Returns a reader for a text of which nothing was fed yet.
     pub fn begin() -> CertReader
         ensures stands { StandsFor result [] [] }
         ensures nothing { (result.held ≡ []) × (result.malformed ≡ None) }
@@ -69,10 +71,13 @@ impl CertReader {
         }
     }
 
-    /// Uses bytes of the piece up to the end of one line, and gives the line; or uses the whole piece, in which no line ends.
+    /// Uses the bytes of the piece up to the end of one line, and returns the line. If no line ends in the piece, it
+    /// uses all of the piece and returns none. A line that is complete in the piece is not copied.
     ///
-    /// A line that may not stand in its place is malformed, and so is one of which 192 bytes came without its end. From then
-    /// on every call answers so. A line that lies whole in the piece is not copied.
+    /// # Errors
+    ///
+    /// `Malformed` if a line is not allowed at its place, or has 192 bytes without an end. Every later call returns the
+    /// same.
     pub fn feed(&mut self, piece: &[u8]) -> Result<Fed, Malformed>
         requires { IfNone self.old.malformed (self.old.lines < 2 ^ 63) }
         // a reader that stood for these lines of this text stands for them with what was given and used
@@ -101,9 +106,14 @@ impl CertReader {
         }
     }
 
-    /// As `feed`, where the line may be one that is known, and is not given but left in `known`: it has the line that ended, or none where no line ended.
+    /// Does what `feed` does, but leaves the line in `known`: the line that ended, or none if no line ended. Returns
+    /// how many bytes were used.
     ///
-    /// A line that comes again is not copied, and its end is not searched for.
+    /// A line that occurs again is not copied, and its end is not searched for.
+    ///
+    /// # Errors
+    ///
+    /// `Malformed`, as from `feed`.
     pub fn feed_known(&mut self, piece: &[u8], known: &mut KnownLine) -> Result<usize, Malformed>
         requires { IfNone self.old.malformed (self.old.lines < 2 ^ 63) }
         ensures stands { (lines : List CertLine) (text : List ℕ) → StandsFor self.old lines text
@@ -141,21 +151,21 @@ impl CertReader {
         self.pass(known, end + 1)
     }
 
-    /// Where the next line stands.
+    /// Returns the place of the next line.
     pub fn place(&self) -> Place
         ensures { result ≡ self.now.place }
     {
         self.place
     }
 
-    /// Whether no bytes are kept of a line that has not ended.
+    /// Returns whether no line has begun without having ended.
     pub fn is_between(&self) -> bool
         ensures { IsTrue result → self.now.held ≡ [] }
     {
         self.held == 0
     }
 
-    /// Goes on behind so many lines that were read by one who kept the place, where the next line stands here.
+    /// Goes on after `count` lines that the caller read itself. The next line is at `place`.
     pub fn go_on(&mut self, place: Place, count: u64)
         requires { self.old.lines + count ≤ 2 ^ 63 }
         ensures { self.new ≡ record self.old { place = place; lines = self.old.lines + count } }
@@ -164,9 +174,11 @@ impl CertReader {
         self.lines += count;
     }
 
-    /// Whether the text that was fed is a whole one: its last line was the last of a certificate, and no byte followed.
+    /// Returns `Ok` if the text that was fed is complete: its last line was END, and no byte followed.
     ///
-    /// Otherwise the line behind the whole ones is missing, or an earlier one was malformed.
+    /// # Errors
+    ///
+    /// `Malformed` with the line after the complete ones, or with the line of an earlier `Malformed`.
     pub fn finish(&self) -> Result<(), Malformed>
         ensures { (lines : List CertLine) (text : List ℕ) → StandsFor self.now lines text → EndsAs result lines text }
     {
@@ -181,7 +193,6 @@ impl CertReader {
         })
     }
 
-    /// Keeps that the line behind the whole ones is malformed.
     fn stop(&mut self) -> Malformed
         requires { self.old.lines < 2 ^ 63 }
         ensures line { result.line ≡ self.old.lines + 1 }
@@ -194,7 +205,6 @@ impl CertReader {
         malformed
     }
 
-    /// Keeps the bytes of a line that has not ended.
     fn hold(&mut self, piece: &[u8])
         requires { length self.old.held + length piece.now < MAX_LINE }
         ensures { self.new ≡ record self.old { held = self.old.held ++ piece.now } }
@@ -204,7 +214,6 @@ impl CertReader {
         self.held = end;
     }
 
-    /// Reads the line that ends with the piece.
     fn learn(&mut self, piece: &[u8], known: &mut KnownLine)
         requires { length self.old.held + length piece.now < MAX_LINE }
         ensures line { known.new.line ≡ line_of (self.old.held ++ piece.now) }
@@ -219,7 +228,7 @@ impl CertReader {
         }
     }
 
-    /// Goes on behind the line that is known, with which so many bytes are used, where it may stand in its place.
+    /// Goes on after the known line, which has `used` bytes, if it is allowed at its place.
     #[inline(always)]
     fn pass(&mut self, known: &KnownLine, used: usize) -> Result<usize, Malformed>
         requires { self.old.lines < 2 ^ 63 }

@@ -8,7 +8,7 @@ use crate::field::{bit_field, number_field};
 use crate::line::CertLine;
 use pc_text::{Code, field, run_len};
 
-/// The line that the bytes spell.
+/// Reads a line from its bytes. Returns `None` if they are no line.
 #[tactic(auto, unfolding(crate::specs::inside::Reading::line_of))]
 pub fn line_of(bytes: &[u8]) -> Option<CertLine>
     ensures { result ≡ line_of bytes.now }
@@ -17,7 +17,6 @@ pub fn line_of(bytes: &[u8]) -> Option<CertLine>
     line_with(&bytes[..end], &bytes[end..])
 }
 
-/// The line with this first word and these fields.
 fn line_with(word: &[u8], fields: &[u8]) -> Option<CertLine>
     ensures { result ≡ line_with word.now fields.now }
 {
@@ -44,7 +43,7 @@ fn line_with(word: &[u8], fields: &[u8]) -> Option<CertLine>
     }
 }
 
-/// The line, where nothing is left behind it.
+/// Returns the line if nothing is left after it.
 fn alone(rest: &[u8], line: CertLine) -> Option<CertLine>
     ensures { result ≡ alone rest.now line }
 {

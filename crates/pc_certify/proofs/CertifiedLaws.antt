@@ -18,8 +18,8 @@ use Rattle.pc_check.specs.Certified.{segments_of}
 use Rattle.pc_check.specs.inside.Certified.{AreCertified, AreCurve}
 use Rattle.pc_check.proofs.GoodLines.{curve_of}
 use Rattle.pc_check.specs.Texts.{IsCertified}
-use Rattle.pc_certify.specs.Document.{head_lines, segment_lines, end_lines, document_lines}
-use Rattle.pc_certify.specs.inside.Document.{HasSmallNumbers}
+use Rattle.pc_cert.specs.Document.{head_lines, segment_lines, end_lines, document_lines}
+use Rattle.pc_cert.specs.inside.Document.{HasSmallNumbers}
 use Rattle.pc_certify.specs.Complete.{begun_lines}
 use Rattle.pc_certify.specs.inside.Complete.{IsComplete}
 use Rattle.pc_certify.proofs.RowLaws.{part_of}

@@ -15,8 +15,8 @@ use Rattle.pc_check.specs.Known.{some_below}
 use Rattle.pc_check.specs.Segments.{segment_in, stops_at_knee_in, stops_in}
 use Rattle.pc_check.specs.Said.{flow_along, flow_at, spent_in, forward_by, backward_by, said}
 use Rattle.pc_check.proofs.BelowLaws.{some_below-finds}
-use Rattle.pc_certify.specs.Document.{flows_along}
-use Rattle.pc_certify.proofs.ListedLaws.{length-listed}
+use Rattle.pc_cert.specs.Document.{flows_along}
+use Rattle.pc_cert.proofs.ListedLaws.{length-listed}
 use Rattle.pc_certify.proofs.RowLaws.{act_row, part_of, event_is, act_is, flow_is, beside_is}
 use Rattle.pc_certify.specs.inside.Rows.{SaySame}
 use Rattle.pc_certify.proofs.HoldLaws.{both, left, right, Ends}

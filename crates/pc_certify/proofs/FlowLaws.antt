@@ -3,9 +3,9 @@ use Rattle.std.proofs.Common.{◌≡◌, ℕ, ◌<◌, [], ◌∷◌, ◌++◌, 
 use Rattle.pc_laws.specs.Segment.{Segment}
 use Rattle.pc_laws.specs.Stair.{stair_of, knee_flow, crash_flow}
 use Rattle.pc_crash.specs.Priced.{PricedNetwork, knees_in}
-use Rattle.pc_certify.specs.Document.{flows_along}
+use Rattle.pc_cert.specs.Document.{flows_along}
 use Rattle.pc_certify.specs.inside.Spelled.{filled_along}
-use Rattle.pc_certify.proofs.ListedLaws.{listed-same}
+use Rattle.pc_cert.proofs.ListedLaws.{listed-same}
 
 -- what flows at each knee and beside them is what the whole flow makes, so the list is the same
 pub filled-is : (net : PricedNetwork) (seg : Segment) (a whole : ℕ)

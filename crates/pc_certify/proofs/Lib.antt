@@ -1,7 +1,4 @@
-pub mod ListedLaws
-pub mod WordLaws
 pub mod SpelledLaws
-pub mod FitLaws
 pub mod GatherLaws
 pub mod PassLaws
 pub mod StepLaws

@@ -17,8 +17,8 @@ use Rattle.pc_cert.specs.Grammar.{next}
 use Rattle.pc_cert.specs.Text.{ran}
 use Rattle.pc_cert.proofs.TextLaws.{ran-append}
 use Rattle.pc_crash.specs.Priced.{PricedNetwork}
-use Rattle.pc_certify.specs.Listed.{listed}
-use Rattle.pc_certify.specs.Document.{version_of, first_line, steps, head_lines, ends_line, event_line, act_line, flows_along, segment_lines, end_lines, document_lines}
+use Rattle.pc_cert.specs.Listed.{listed}
+use Rattle.pc_cert.specs.Document.{version_of, first_line, steps, head_lines, ends_line, event_line, act_line, flows_along, segment_lines, end_lines, document_lines}
 use Rattle.pc_certify.proofs.HoldLaws.{both, left, right}
 use Rattle.pc_certify.proofs.RowLaws.{flows_long}
 

@@ -9,9 +9,9 @@ use Rattle.pc_laws.specs.Segment.{Segment, span, head_at, tail_at, IsRightSegmen
 use Rattle.pc_crash.specs.Priced.{PricedNetwork, knees_in}
 use Rattle.pc_check.specs.Draft.{event_at, act_at, EventRow, ActRow, Part}
 use Rattle.pc_check.proofs.GoodRows.{IsRightEvent, IsRightAct}
-use Rattle.pc_certify.specs.Listed.{listed}
-use Rattle.pc_certify.specs.Document.{flows_along}
-use Rattle.pc_certify.proofs.ListedLaws.{length-listed, listed-at, listed-last, listed-before}
+use Rattle.pc_cert.specs.Listed.{listed}
+use Rattle.pc_cert.specs.Document.{flows_along}
+use Rattle.pc_cert.proofs.ListedLaws.{length-listed, listed-at, listed-last, listed-before}
 use Rattle.pc_certify.proofs.SameLaws.{MoveSame, head_same, tail_same, low_head_same, low_tail_same, lesser_same}
 use Rattle.pc_model.specs.Codes.{code_at}
 

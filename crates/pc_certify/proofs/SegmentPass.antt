@@ -13,9 +13,9 @@ use Rattle.pc_check.specs.Failures.{reason_at, first_failing}
 use Rattle.pc_check.specs.Known.{frame}
 use Rattle.pc_check.specs.Said.{said}
 use Rattle.pc_check.proofs.Drafts.{begun_part}
-use Rattle.pc_certify.specs.Listed.{listed}
-use Rattle.pc_certify.specs.Document.{ends_line, event_line, act_line, flows_along, segment_lines}
-use Rattle.pc_certify.proofs.ListedLaws.{length-listed}
+use Rattle.pc_cert.specs.Listed.{listed}
+use Rattle.pc_cert.specs.Document.{ends_line, event_line, act_line, flows_along, segment_lines}
+use Rattle.pc_cert.proofs.ListedLaws.{length-listed}
 use Rattle.pc_certify.proofs.RowLaws.{event_row, act_row, part_of, event_is, flows_long, right_event, right_act}
 use Rattle.pc_certify.proofs.PassLaws.{Pass, Pass-nil, Pass-cons, Pass-one, Pass-then}
 use Rattle.pc_certify.proofs.HoldLaws.{event_holds, act_holds, close_holds}

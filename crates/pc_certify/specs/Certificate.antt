@@ -6,7 +6,7 @@ use Rattle.pc_cert.specs.Text.{text_of}
 use Rattle.pc_crash.specs.Priced.{PricedNetwork}
 use Rattle.pc_times.specs.Picked.{IsPickedWalk}
 use Rattle.pc_check.specs.Texts.{IsCertified}
-use Rattle.pc_certify.specs.Document.{document_lines}
+use Rattle.pc_cert.specs.Document.{document_lines}
 
 -- the text is a certified one of the network; its normal walk is the picked one at normal durations, its crash walk the
 -- picked one at crash durations, and its other lines are those of segments

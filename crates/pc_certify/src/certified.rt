@@ -1,4 +1,4 @@
-//! What is written is certified.
+//! Laws: what is written is certified.
 ghost use Rattle.std.specs.Prelude.{◌≡◌, ℕ, List, length, All};
 ghost use Rattle.pc_laws.specs.Segment.{Segment};
 ghost use Rattle.pc_cert.specs.Text.{text_of, AllFit};
@@ -8,18 +8,18 @@ ghost use Rattle.pc_check.specs.inside.Certified.{AreCertified, AreCurve};
 ghost use Rattle.pc_check.specs.declared.fail.Verdict.{Verdict};
 ghost use Rattle.pc_check.specs.declared.fail.Verdict.TheVariants.{Yes};
 ghost use Rattle.pc_check.specs.Texts.{IsCertified, Finds};
-ghost use Rattle.pc_certify.specs.Document.{document_lines};
-ghost use Rattle.pc_certify.specs.inside.Document.{HasSmallNumbers};
+ghost use Rattle.pc_cert.specs.Document.{document_lines};
+ghost use Rattle.pc_cert.specs.inside.Document.{HasSmallNumbers};
 ghost use Rattle.pc_certify.specs.inside.Complete.{IsComplete};
 ghost use Rattle.pc_certify.specs.inside.Rows.{AllSaySame};
 
 use pc_crash::CrashNet;
 
-/// A certificate of a network is certified, where it is written of whole segments that join, from a walk's sum of normal
-/// durations, with all durations normal there, down to a walk's sum of crash durations, and of these two walks.
+/// States that a certificate of a network is certified if its segments join, from the sum of normal durations along the
+/// normal walk, where all durations are normal, down to the sum of crash durations along the crash walk.
 ///
-/// Its lines come in their order, and none of them fails. What is read back of them are the same segments, which are the
-/// whole curve: for every length of the range they give a schedule that costs what is said, and none costs less. The
+/// Its lines are in order, and none of them fails. Reading gives the same segments back. They are the complete curve:
+/// for every length of the range they give a schedule at the cost that they say, and no schedule costs less. The
 /// numbers of the segments have at most 18 digits.
 pub fn written_is_certified(net: &CrashNet<'_>)
     ensures certified { (normal crash : List ℕ) (segments : List Segment) → IsComplete net.now normal crash segments →
@@ -39,7 +39,7 @@ pub fn written_is_certified(net: &CrashNet<'_>)
     let _order = network.order();
 }
 
-/// Whoever audits a certified text to its end finds that it is certified, with as many segments.
+/// States that an audit of a certified text finds that it is certified, with as many segments.
 pub fn certified_is_found()
     ensures { (net : PricedNetwork) (text : List ℕ) (segments : ℕ) (verdict : Verdict) → IsCertified net text segments →
         Finds net text verdict → verdict ≡ Yes segments }

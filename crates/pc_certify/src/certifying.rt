@@ -16,7 +16,7 @@ use std::marker::Brand;
 use std::sync::ledger::Blank;
 use thiserror::Error;
 
-/// Why a certificate was not written, or not whole.
+/// The reason why a certificate was not written, or not completely.
 #[derive(Clone, Copy, Debug, Error)]
 pub enum CertifyError {
     #[error("the certificate could not be written")]
@@ -25,12 +25,21 @@ pub enum CertifyError {
     OutOfMemory,
 }
 
-/// Writes the certificate of a network: the whole time-cost curve from its all-normal length down to its all-crash length,
-/// with what proves it.
+/// Writes the certificate of a network, and flushes the sink: the complete time-cost curve, from the all-normal length
+/// down to the all-crash length, with its proof.
 ///
-/// All memory is taken before the first byte is written, and how much does not depend on the number of segments. The solver
-/// works in the free cells of `region`, of which `pc_flow::cells_needed` says how many it needs. Each segment is written as
-/// soon as it stands, and the sink is flushed at the end.
+/// All memory is taken before the first byte is written; how much does not depend on the number of segments. The solver
+/// works in the free cells of `region`; `pc_flow::cells_needed` returns how many it needs. Each segment is written when
+/// it is complete.
+///
+/// # Errors
+///
+/// - `WriteFault` if a push or the flush failed. The sink has taken the first bytes of a certificate then, or none.
+/// - `OutOfMemory` if there is no memory. Nothing is written then.
+///
+/// # Source
+///
+/// Kelley 1961 and Fulkerson 1961 for the curve; the certificate's format is this project's own.
 pub fn certify<O: Sink>(
     alloc: Global,
     net: &CrashNet<'_>,

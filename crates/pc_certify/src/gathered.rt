@@ -9,13 +9,13 @@ use pc_edges::page::Page;
 use std::alloc::{AllocError, Global};
 use std::marker::Model;
 
-/// The room of lines that are gathered: some two hundred of them.
+/// The capacity in bytes for gathered lines: some two hundred of them.
 const GATHERED_ROOM: usize = 4096;
 
-/// Lines that were put and are not on the page yet, one behind the other.
+/// Lines that were put and are not on the page yet, one after the other.
 ///
-/// A page looks for room at each piece that it takes, and copies as many bytes as the piece has. Here a short line is copied by
-/// whole words, and the page takes many lines as one piece.
+/// A page tests its capacity for each piece, and copies as many bytes as the piece has. Here a short line is copied by
+/// complete words, and the page takes many lines as one piece.
 #[derive(Drop)]
 pub struct Gathered {
     cells: Vec<u8>,
@@ -33,7 +33,6 @@ impl Model for Gathered {
 }
 
 impl Gathered {
-    /// No lines.
     pub(crate) fn new(alloc: Global) -> Result<Gathered, AllocError>
         ensures { IfOk result (λ gathered. gathered ≡ []) }
     {
@@ -43,14 +42,13 @@ impl Gathered {
         })
     }
 
-    /// Forgets all lines.
     pub(crate) fn clear(&mut self)
         ensures { self.new ≡ [] }
     {
         self.len = 0;
     }
 
-    /// Puts a line behind the others, which go on to the page where it finds no room. Inlined, since that is seldom.
+    /// Puts a line after the others. If it does not fit, these go to the page first.
     #[inline(always)]
     pub(crate) fn put<O: Sink>(&mut self, page: &mut Page, sink: &mut O, line: &Spelling)
         ensures { Gathers (desk O.taken O.faults page.old sink.old) self.old
@@ -60,7 +58,6 @@ impl Gathered {
         self.add(line);
     }
 
-    /// Puts all lines on the page.
     #[cold]
     #[inline(never)]
     pub(crate) fn put_all<O: Sink>(&mut self, page: &mut Page, sink: &mut O)
@@ -71,7 +68,6 @@ impl Gathered {
         self.len = 0;
     }
 
-    /// Makes room for a line.
     #[inline(always)]
     fn make_room<O: Sink>(&mut self, page: &mut Page, sink: &mut O)
         ensures same { Gathers (desk O.taken O.faults page.old sink.old) self.old
@@ -83,7 +79,6 @@ impl Gathered {
         }
     }
 
-    /// Adds a line.
     #[inline(always)]
     fn add(&mut self, line: &Spelling)
         requires { length self.old + ROOM ≤ GATHERED_ROOM }

@@ -1,4 +1,4 @@
-//! The lines of the segment that was put last, of which most are those of the next.
+//! The lines of the segment that was put last. Most of them are lines of the next one too.
 ghost use Rattle.std.specs.Prelude.{◌≡◌, ◌+◌, ◌<◌, ◌≤◌, ◌++◌, length, IfOk};
 ghost use Rattle.pc_cert.specs.Lines.{numbers};
 ghost use Rattle.pc_certify.specs.inside.Spelled.{SpellsEvent, SpellsAct, AreEventsSpelled, AreActsSpelled, filled_along};
@@ -10,10 +10,10 @@ use pc_crash::CrashNet;
 use pc_text::Code;
 use std::alloc::{AllocError, Global};
 
-/// The most bytes of the flows of an activity, each behind a space.
+/// The most bytes of the flows of an activity, each after a space.
 const FLOWS_ROOM: usize = MAX_FLOWS * NUMBER_ROOM;
 
-/// The line of an event: what it says, and how it is spelled.
+/// The line of an event: what it says, and its text.
 #[derive(Drop)]
 pub struct EventRow {
     pub(crate) time: u64,
@@ -21,7 +21,7 @@ pub struct EventRow {
     pub(crate) spelling: Spelling,
 }
 
-/// The line of an activity: its duration and its whole flow, which makes the flows that the line says, and how it is spelled.
+/// The line of an activity: its duration, the sum of its flows, and its text.
 #[derive(Drop)]
 pub struct ActRow {
     pub(crate) duration: u64,
@@ -31,8 +31,8 @@ pub struct ActRow {
 
 /// The lines of events and activities as they were put last, in card order.
 ///
-/// What they say in the next segment is compared with what they say now, so that a line that comes again is put as it stands.
-/// Beside them is the room where they are gathered for the page.
+/// What a line says in the next segment is compared with what it says now, so that the text of a line that occurs again
+/// is put as it is. There is also a buffer in which lines are gathered for the page.
 pub struct LastLines {
     pub(crate) events: Vec<EventRow>,
     pub(crate) acts: Vec<ActRow>,
@@ -40,7 +40,7 @@ pub struct LastLines {
 }
 
 impl Drop for LastLines {
-    // Written out, so that who lets them go cites this proof.
+    // Written by hand so that the proof of dropping it is done once, here.
     fn drop(self) {
         let LastLines {
             events: _events,
@@ -51,7 +51,11 @@ impl Drop for LastLines {
 }
 
 impl LastLines {
-    /// Lines that say 0 of everything. It takes all memory here.
+    /// Returns lines that say 0 of everything. It takes all its memory here.
+    ///
+    /// # Errors
+    ///
+    /// `AllocError` if there is no memory for the lines.
     pub fn of(alloc: Global, net: &CrashNet<'_>) -> Result<LastLines, AllocError>
         ensures events { IfOk result (λ lines. AreEventsSpelled net.now lines.events.items) }
         ensures acts { IfOk result (λ lines. AreActsSpelled net.now lines.acts.items) }
@@ -64,7 +68,6 @@ impl LastLines {
     }
 }
 
-/// A line for each event.
 fn event_rows(alloc: Global, net: &CrashNet<'_>) -> Result<Vec<EventRow>, AllocError>
     ensures { IfOk result (λ rows. AreEventsSpelled net.now rows.items) }
 {
@@ -76,7 +79,6 @@ fn event_rows(alloc: Global, net: &CrashNet<'_>) -> Result<Vec<EventRow>, AllocE
     Ok(rows)
 }
 
-/// A line for each activity.
 fn act_rows(alloc: Global, net: &CrashNet<'_>) -> Result<Vec<ActRow>, AllocError>
     ensures { IfOk result (λ rows. AreActsSpelled net.now rows.items) }
 {
@@ -89,7 +91,7 @@ fn act_rows(alloc: Global, net: &CrashNet<'_>) -> Result<Vec<ActRow>, AllocError
 }
 
 impl EventRow {
-    /// The line of an event that rests at 0.
+    /// Returns the line of an event that rests at 0.
     fn of(code: &Code) -> EventRow
         ensures { SpellsEvent code.now result }
     {
@@ -105,7 +107,7 @@ impl EventRow {
         }
     }
 
-    /// Says this of the event. Where it said something else, the line is spelled anew from its time on.
+    /// Makes the line say this of the event. If it said something else, its text is changed from the time on.
     pub(crate) fn say(&mut self, code: &Code, time: u64, moves: bool)
         requires { SpellsEvent code.now self.old }
         ensures spells { SpellsEvent code.now self.new }
@@ -117,7 +119,6 @@ impl EventRow {
         }
     }
 
-    /// Spells the line from its time on.
     fn respell(&mut self, code: &Code, time: u64, moves: bool)
         requires { SpellsEvent code.now self.old }
         ensures spells { SpellsEvent code.now self.new }
@@ -133,7 +134,7 @@ impl EventRow {
 }
 
 impl ActRow {
-    /// The line of an activity that takes no time and along which nothing flows.
+    /// Returns the line of an activity that takes no time and along which nothing flows.
     fn of(net: &CrashNet<'_>, a: u32) -> ActRow
         requires { a < length net.now.network.arcs }
         ensures { SpellsAct net.now a result }
@@ -147,7 +148,7 @@ impl ActRow {
         row
     }
 
-    /// Says this of the activity, and spells the line.
+    /// Makes the line say this of the activity.
     pub(crate) fn spell(&mut self, net: &CrashNet<'_>, a: u32, duration: u64, whole: u64)
         requires { a < length net.now.network.arcs }
         ensures spells { SpellsAct net.now a self.new }
@@ -165,8 +166,8 @@ impl ActRow {
     }
 }
 
-/// Adds behind a space each what of a whole flow runs at each knee of an activity, and then what is left beside them. One
-/// pass over the knees.
+/// Adds the flows of an activity whose sum is `whole`, each after a space: it fills the knees in their order, and the
+/// last flow is what is left. One pass over the knees.
 fn add_flows(spelling: &mut Spelling, net: &CrashNet<'_>, a: u32, whole: u64)
     requires activity { a < length net.now.network.arcs }
     requires room { length spelling.old + FLOWS_ROOM ≤ ROOM }

@@ -1,26 +1,25 @@
-//! The lines of a segment.
+//! The lines of a segment, of which most were lines of the segment before.
 ghost use Rattle.std.specs.Prelude.{◌≡◌, ℕ, ◌<◌, [], ◌∷◌, length};
 ghost use Rattle.pc_edges.specs.inside.page.Puts.{Puts, desk};
 ghost use Rattle.pc_text.specs.Fields.{IsCode};
 ghost use Rattle.pc_cert.specs.Text.{text_of, AllFit};
 ghost use Rattle.pc_model.specs.Codes.{code_at};
-ghost use Rattle.pc_certify.specs.Listed.{listed};
-ghost use Rattle.pc_certify.specs.Document.{ends_line, event_line, act_line, flows_along, segment_lines};
-ghost use Rattle.pc_certify.specs.inside.Document.{HasSmallNumbers};
+ghost use Rattle.pc_cert.specs.Listed.{listed};
+ghost use Rattle.pc_cert.specs.Document.{event_line, act_line, flows_along, segment_lines};
+ghost use Rattle.pc_cert.specs.inside.Document.{HasSmallNumbers};
 ghost use Rattle.pc_certify.specs.inside.Gathers.{Gathers};
 ghost use Rattle.pc_certify.specs.inside.Spelled.{AreEventsSpelled, AreActsSpelled, SpellsAct, filled_along};
 
 use crate::gathered::Gathered;
 use crate::last_lines::{ActRow, EventRow, LastLines};
-use crate::words::put_number;
+use pc_cert::put_ends;
 use pc_crash::{CrashNet, SegmentView};
 use pc_edges::Sink;
 use pc_edges::page::Page;
 
-/// Puts a segment: its ends, its cost and its slope, a line for each event and one for each activity, in card order, and
-/// its last line. A line that says what it said in the segment that was put last is put as it was spelled there. Linear in events,
-/// activities and pieces.
-pub fn put_segment<O: Sink, V: SegmentView>(
+/// Puts the lines of a segment on a page, as [`pc_cert::put_segment`] does, but by the lines of the segment that was
+/// put last: a line that says the same again is not formatted again. Linear in events, activities and pieces.
+pub fn put_segment_by<O: Sink, V: SegmentView>(
     page: &mut Page,
     sink: &mut O,
     net: &CrashNet<'_>,
@@ -53,21 +52,6 @@ pub fn put_segment<O: Sink, V: SegmentView>(
     page.put(sink, b"CLOSE\n");
 }
 
-/// Puts the first line of a segment.
-fn put_ends<O: Sink, V: SegmentView>(page: &mut Page, sink: &mut O, view: &V)
-    requires { V.IsPresent view.now }
-    ensures { Puts O.taken O.faults page.old sink.old page.new sink.new
-        (text_of (ends_line (V.segment view.now) ∷ [])) }
-{
-    page.put(sink, b"SEGMENT");
-    put_number(page, sink, view.upper());
-    put_number(page, sink, view.lower());
-    put_number(page, sink, view.cost());
-    put_number(page, sink, view.slope());
-    page.put(sink, b"\n");
-}
-
-/// Puts a line for each event.
 fn put_events<O: Sink, V: SegmentView>(
     page: &mut Page,
     sink: &mut O,
@@ -114,7 +98,6 @@ fn put_event<O: Sink, V: SegmentView>(
     gathered.put(page, sink, &row.spelling);
 }
 
-/// Puts a line for each activity.
 fn put_acts<O: Sink, V: SegmentView>(
     page: &mut Page,
     sink: &mut O,
@@ -161,8 +144,8 @@ fn put_act<O: Sink, V: SegmentView>(
     gathered.put(page, sink, &row.spelling);
 }
 
-/// Says of an activity what it is in the segment. The line is spelled anew only where its duration or its whole flow was
-/// another.
+/// Makes the line of an activity say what the segment says of it. Its text is changed only if its duration or the sum
+/// of its flows is another.
 fn say_act<V: SegmentView>(net: &CrashNet<'_>, view: &V, a: u32, row: &mut ActRow)
     requires present { V.IsPresent view.now }
     requires net { V.net view.now ≡ net.now }
@@ -179,7 +162,7 @@ fn say_act<V: SegmentView>(net: &CrashNet<'_>, view: &V, a: u32, row: &mut ActRo
     }
 }
 
-/// The whole flow along an activity, which makes all its flows.
+/// Returns the sum of the flows along an activity, which determines each of them.
 fn whole_along<V: SegmentView>(net: &CrashNet<'_>, view: &V, a: u32) -> u64
     requires present { V.IsPresent view.now }
     requires net { V.net view.now ≡ net.now }

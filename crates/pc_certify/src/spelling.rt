@@ -1,4 +1,4 @@
-//! The bytes of a line with its end, as they were spelled last.
+//! The text of a line with its end, as it was put last.
 ghost use Rattle.std.specs.Prelude.{◌≡◌, ◌+◌, ◌≤◌, [], ◌∷◌, ◌++◌, true, decimal, length, take};
 ghost use Rattle.pc_certify.specs.inside.Gathers.{IsPlaced};
 ghost use Rattle.pc_text.specs.Code.{is_code};
@@ -8,7 +8,7 @@ ghost use Rattle.pc_cert.specs.inside.Fields.{bit_text};
 use pc_text::{Code, digits};
 use std::marker::Model;
 
-/// The room of a line, however long its numbers are.
+/// The capacity in bytes for a line, however long its numbers are.
 pub(crate) const ROOM: usize = 192;
 
 /// The most bytes of a space and a code, and of a space and a number.
@@ -19,7 +19,7 @@ pub(crate) const NUMBER_ROOM: usize = 21;
 /// Most lines have no more bytes.
 const SHORT: usize = 32;
 
-/// A line and its end, word by word.
+/// The text of a line with its end, put together word by word.
 #[derive(Drop)]
 pub struct Spelling {
     cells: [u8; ROOM],
@@ -37,7 +37,6 @@ impl Model for Spelling {
 }
 
 impl Spelling {
-    /// No bytes.
     pub(crate) fn new() -> Spelling
         ensures { result ≡ [] }
     {
@@ -47,15 +46,14 @@ impl Spelling {
         }
     }
 
-    /// How many bytes there are.
     pub(crate) fn len(&self) -> usize
         ensures { result ≡ length self.now }
     {
         self.len
     }
 
-    /// Copies the bytes into the cells from place `at` on. What stands behind them then means nothing: of a short line
-    /// always as many bytes are copied, so that it is done by whole words.
+    /// Copies the bytes into the cells from place `at` on. The cells after them hold anything then: of a short line
+    /// always `SHORT` bytes are copied, so that it is done by complete words.
     #[inline(always)]
     pub(crate) fn copy_to(&self, cells: &mut [u8], at: usize)
         requires { at + ROOM ≤ length cells.old }
@@ -68,14 +66,13 @@ impl Spelling {
         }
     }
 
-    /// Takes all bytes away.
     pub(crate) fn clear(&mut self)
         ensures { self.new ≡ [] }
     {
         self.len = 0;
     }
 
-    /// Takes all bytes away but the first so many.
+    /// Keeps only the first `len` bytes.
     pub(crate) fn cut(&mut self, len: usize)
         requires { len ≤ length self.old }
         ensures { self.new ≡ take len self.old }
@@ -83,7 +80,6 @@ impl Spelling {
         self.len = len;
     }
 
-    /// Adds a piece.
     pub(crate) fn add(&mut self, piece: &[u8])
         requires { length self.old + length piece.now ≤ ROOM }
         ensures { self.new ≡ self.old ++ piece.now }
@@ -93,7 +89,6 @@ impl Spelling {
         self.len = end;
     }
 
-    /// Adds a space and the code.
     pub(crate) fn add_code(&mut self, code: &Code)
         requires { length self.old + CODE_ROOM ≤ ROOM }
         ensures text { self.new ≡ self.old ++ spaced code.now [] }
@@ -104,7 +99,6 @@ impl Spelling {
         self.add(code.bytes());
     }
 
-    /// Adds a space and the number.
     pub(crate) fn add_number(&mut self, number: u64)
         requires { length self.old + NUMBER_ROOM ≤ ROOM }
         ensures text { self.new ≡ self.old ++ spaced (decimal number) [] }
@@ -114,7 +108,6 @@ impl Spelling {
         self.add(digits(number).bytes());
     }
 
-    /// Adds a space, the bit and the end of the line.
     pub(crate) fn add_last_bit(&mut self, bit: bool)
         requires { length self.old + 3 ≤ ROOM }
         ensures { self.new ≡ self.old ++ spaced (bit_text bit) (10 ∷ []) }

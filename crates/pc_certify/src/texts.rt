@@ -1,13 +1,13 @@
-//! The text of what is written.
+//! Laws: the text of what is written.
 ghost use Rattle.std.specs.Prelude.{◌≡◌, ℕ, List, [], ◌∷◌, ◌++◌, All};
 ghost use Rattle.pc_laws.specs.Segment.{Segment};
 ghost use Rattle.pc_cert.specs.declared.line.CertLine.{CertLine};
 ghost use Rattle.pc_cert.specs.Text.{text_of, AllFit};
 ghost use Rattle.pc_crash.specs.Priced.{PricedNetwork};
-ghost use Rattle.pc_certify.specs.Document.{head_lines, segment_lines, end_lines, document_lines};
+ghost use Rattle.pc_cert.specs.Document.{head_lines, segment_lines, end_lines, document_lines};
 ghost use Rattle.pc_certify.specs.Complete.{begun_lines};
 
-/// The texts of the head, of the segments and of the end, put one behind the other, are the text of the whole
+/// States that the texts of the head, of the segments and of the end, one after the other, are the text of the
 /// certificate.
 pub fn written_is_one_text()
     ensures begins { (net : PricedNetwork) (normal crash : List ℕ) →
@@ -20,8 +20,8 @@ pub fn written_is_one_text()
         ≡ text_of (document_lines net normal crash segments) }
 {}
 
-/// Where the lines of the head and of each segment can be spelled, all lines can, and no other lines have their text: who
-/// reads it has the same lines.
+/// States that if the lines of the head and of each segment can be written, all lines can, and no other lines have
+/// their text: reading gives the same lines back.
 pub fn written_fits()
     ensures fit { (net : PricedNetwork) (normal crash : List ℕ) (segments : List Segment) →
         AllFit (head_lines net normal crash) → All (λ segment. AllFit (segment_lines net segment)) segments →

@@ -14,7 +14,7 @@ pub(crate) struct Walks {
 }
 
 impl Drop for Walks {
-    // Written out, so that who lets them go cites this proof.
+    // Written by hand so that the proof of dropping it is done once, here.
     fn drop(self) {
         let Walks {
             normal: _normal,
@@ -24,7 +24,11 @@ impl Drop for Walks {
 }
 
 impl Walks {
-    /// Finds them, in a few passes over the activities.
+    /// Finds the two walks of a network. Linear in events and activities.
+    ///
+    /// # Errors
+    ///
+    /// `AllocError` if there is no memory for them.
     pub(crate) fn of(alloc: Global, net: &CrashNet<'_>) -> Result<Walks, AllocError>
         ensures { IfOk result (λ walks. ArePicked net.now walks.normal walks.crash) }
     {
@@ -37,7 +41,6 @@ impl Walks {
     }
 }
 
-/// The normal durations, in card order.
 fn normal_durations(alloc: Global, net: &CrashNet<'_>) -> Result<Vec<u64>, AllocError>
     ensures { IfOk result (λ durations. durations.items ≡ normals net.now.terms) }
 {
@@ -49,7 +52,6 @@ fn normal_durations(alloc: Global, net: &CrashNet<'_>) -> Result<Vec<u64>, Alloc
     Ok(durations)
 }
 
-/// The crash durations, in card order.
 fn crash_durations(alloc: Global, net: &CrashNet<'_>) -> Result<Vec<u64>, AllocError>
     ensures { IfOk result (λ durations. durations.items ≡ crashes net.now.terms) }
 {

@@ -10,18 +10,17 @@ ghost use Rattle.pc_certify.specs.inside.Spelled.{AreEventsSpelled, AreActsSpell
 ghost use Rattle.pc_certify.specs.inside.Walks.{ArePicked};
 
 use crate::certified::written_is_certified;
-use crate::end::put_end;
-use crate::head::put_head;
 use crate::last_lines::LastLines;
-use crate::segment::put_segment;
+use crate::segment::put_segment_by;
 use crate::walks::Walks;
+use pc_cert::{put_end, put_head};
 use pc_crash::{CrashNet, Steps};
 use pc_edges::page::Page;
 use pc_edges::{Failed, Sink};
 use pc_flow::Solver;
 use std::sync::ledger::{Blank, Ledger};
 
-/// Writes the certificate, without memory. The steps of the solver are counted in a ledger of their own.
+/// Writes the certificate. It takes no memory. The steps of the solver are counted in a ledger of their own.
 pub(crate) fn write<O: Sink, L: Ledger>(
     page: &mut Page,
     sink: &mut O,
@@ -47,7 +46,7 @@ pub(crate) fn write<O: Sink, L: Ledger>(
     page.finish(sink)
 }
 
-/// Puts the head, and then each segment as soon as it stands in the solver.
+/// Puts the head, and then each segment when the solver has it.
 fn put_segments<O: Sink, L: Ledger>(
     page: &mut Page,
     sink: &mut O,
@@ -66,6 +65,6 @@ fn put_segments<O: Sink, L: Ledger>(
 {
     put_head(page, sink, net, walks.normal.path(), walks.crash.path());
     while solver.next_segment(steps) {
-        put_segment(page, sink, net, solver, lines);
+        put_segment_by(page, sink, net, solver, lines);
     }
 }

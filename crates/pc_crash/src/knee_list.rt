@@ -13,6 +13,9 @@ pub struct KneeList<'n> {
     list: &'n [Knee],
 }
 
+/// A `KneeList` under the name that the calls about one activity have for it.
+pub type Knees<'n> = KneeList<'n>;
+
 impl<'n> Model for KneeList<'n> {
     ghost use Rattle.std.specs.Prelude.{List, length, ◌+◌, ◌≤◌};
     ghost use Rattle.pc_model.specs.declared.Knee.{Knee};

@@ -17,7 +17,7 @@ mod viewing;
 pub use costing::{MAX_ACTIVITY_COST, MAX_PROJECT_COST};
 pub use counting::Steps;
 pub use crash_net::CrashNet;
-pub use knee_list::KneeList;
+pub use knee_list::{KneeList, Knees};
 pub use looking::Look;
 pub use one_cost::cost_of_one;
 pub use pc_model::{Knee, PieceRow, Term};

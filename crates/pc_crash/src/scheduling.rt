@@ -1,5 +1,5 @@
 //! What makes durations and times a schedule.
-ghost use Rattle.std.specs.Prelude.{◌≡◌, ℕ, ◌+◌, ◌^◌, ◌<◌, ◌≤◌, length, slice_index, pos, ◌-ℤ◌, IsTrue, ◌↔◌};
+ghost use Rattle.std.specs.Prelude.{◌≡◌, ℕ, ◌+◌, ◌^◌, ◌<◌, ◌≤◌, length, length as length_of, slice_index, pos, ◌-ℤ◌, IsTrue, ◌↔◌};
 ghost use Rattle.pc_model.specs.Schedule.{IsSchedule};
 ghost use Rattle.pc_model.specs.Walk.{from_of, to_of};
 ghost use Rattle.pc_crash.specs.inside.Priced.{Fits};
@@ -21,13 +21,13 @@ impl<'n> CrashNet<'n> {
 
     /// Whether these are a schedule for a length: durations from crash to normal, each of which fits between the times of
     /// its events, from the start at 0 to the end at the length or before it.
-    pub fn is_schedule(&self, durations: &[u64], times: &[u64], limit: u64) -> bool
-        requires durations { length durations.now ≡ length self.now.network.arcs }
-        requires times { length times.now ≡ self.now.network.events }
-        ensures { IsTrue result ↔ IsSchedule self.now.network self.now.terms limit (slice_index durations.now)
+    pub fn is_schedule(&self, durations: &[u64], times: &[u64], length: u64) -> bool
+        requires durations { length_of durations.now ≡ length_of self.now.network.arcs }
+        requires times { length_of times.now ≡ self.now.network.events }
+        ensures { IsTrue result ↔ IsSchedule self.now.network self.now.terms length (slice_index durations.now)
             (slice_index times.now) }
     {
-        if times[self.net.start() as usize] != 0 || times[self.net.end() as usize] > limit {
+        if times[self.net.start() as usize] != 0 || times[self.net.end() as usize] > length {
             return false;
         }
         for a in 0..self.net.activities() {

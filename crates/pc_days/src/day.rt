@@ -112,14 +112,14 @@ fn year_of(field: &[u8]) -> u16
 }
 
 /// The date of the day, as `YYYY-MM-DD`.
-pub fn day_text(day: Day) -> [u8; LENGTH]
-    ensures named { NamesDay result day }
-    ensures text { result ≡ text_of_day day }
+pub fn day_text(d: Day) -> [u8; 10]
+    ensures named { NamesDay result d }
+    ensures text { result ≡ text_of_day d }
 
     // A day that was read is written as it was read.
-    ensures back { (text : List ℕ) → day_of text ≡ Ok day → result ≡ text }
+    ensures back { (text : List ℕ) → day_of text ≡ Ok d → result ≡ text }
 {
-    let Ok(date) = civil::Date::from_unix_epoch_day(i64::from(day.number)) else {
+    let Ok(date) = civil::Date::from_unix_epoch_day(i64::from(d.number)) else {
         unreachable!()
     };
     spelled(date.year as u16, date.month, date.day)

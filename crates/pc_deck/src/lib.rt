@@ -21,8 +21,9 @@ mod text;
 pub use crate::cards::{Cards, CardsOf, DeckSort, Plans, TaskCards, TaskDecks};
 pub use crate::kinds::{
     AcctCard, ActCard, AfterCard, AsOfCard, ItemCard, LoadCard, MoneyCard, PieceCard, ProjectCard,
-    StatusCard, TaskCard, TermsCard, TitledCard,
+    StatusCard, TaskCard, TermsCard, TitledCard, TitledCard as EventCard, TitledCard as ResCard,
 };
 pub use crate::limits::DECK_LIMIT;
 pub use crate::made::PlanLists;
 pub use crate::read::{read_cards, read_cards_by, read_tasks, read_tasks_by};
+pub use pc_faults::{DeckError, Detail, Fault, Kind, StatusFault, fault_line};

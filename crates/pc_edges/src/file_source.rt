@@ -1,4 +1,4 @@
-//! A source over a file.
+//! A source that reads a file.
 ghost use Rattle.std.specs.Prelude.{◌≡◌};
 
 use crate::{FIXED_KEY, Failed, Source};
@@ -6,13 +6,13 @@ use std::fs::File;
 use std::io::Read;
 use std::rt::Files;
 
-/// A source that reads a file, whose bytes no contract can tell.
+/// A source that reads a file. Contracts cannot see its bytes.
 ///
-/// Each error of a read is a fault. A file that could not be opened, or a source whose key could not be drawn, has a fault at each
-/// pull on a buffer with room.
+/// Each error of a read is a fault. If the file could not be opened, or if the key could not be drawn, each pull on a
+/// buffer that is not empty is a fault.
 ///
-/// The file is closed at its end. A process that started with standard input closed may get descriptor 0 for the file; a later read of
-/// standard input then fails, and does not go on in the file.
+/// The file is closed when its end is read. A process that started with standard input closed may get descriptor 0 for
+/// the file; a later read of standard input then fails, instead of reading from the file.
 #[derive(Drop)]
 pub struct FileSource {
     state: State,
@@ -20,18 +20,17 @@ pub struct FileSource {
     key: u128,
 }
 
-/// What a pull finds.
 #[derive(Drop)]
 enum State {
     Open(File),
-    /// The end was read.
+    // The end was read.
     Ended,
-    /// The file could not be opened, or there is none.
+    // The file could not be opened, or there is none.
     Missing,
 }
 
 impl FileSource {
-    /// The file at `path`, which is opened at once, if it can be.
+    /// Opens the file at `path` and returns a source that reads it. If it cannot be opened, each pull has a fault.
     pub fn at<F: Files<File = File>>(files: &F, path: &str) -> FileSource
         ensures faults { ⟦<FileSource as Source>⟧.faults result ≡ 0 }
     {
@@ -45,7 +44,7 @@ impl FileSource {
         }
     }
 
-    /// A source without a file. It opens nothing, and has a fault at each pull on a buffer with room.
+    /// Returns a source without a file, which has a fault at each pull on a buffer that is not empty.
     pub fn missing() -> FileSource
         ensures faults { ⟦<FileSource as Source>⟧.faults result ≡ 0 }
     {
@@ -56,7 +55,7 @@ impl FileSource {
         }
     }
 
-    /// Returns this source with the key that [`draw_key`](crate::draw_key) drew.
+    /// Returns this source with a key that [`draw_key`](crate::draw_key) returned. With `None` each pull has a fault.
     pub fn with_key(self, key: Option<u128>) -> FileSource
         ensures faults { ⟦<FileSource as Source>⟧.faults result ≡ ⟦<FileSource as Source>⟧.faults self }
     {
@@ -73,12 +72,12 @@ impl FileSource {
 impl Source for FileSource {
     ghost faults = { λ source. source.faults };
 
-    fn pull(&mut self, buffer: &mut [u8]) -> Result<usize, Failed> {
-        if buffer.is_empty() {
+    fn pull(&mut self, buf: &mut [u8]) -> Result<usize, Failed> {
+        if buf.is_empty() {
             return Ok(0);
         }
         let read = match &mut self.state {
-            State::Open(file) => file.read(buffer).ok(),
+            State::Open(file) => file.read(buf).ok(),
             State::Ended => Some(0),
             State::Missing => None,
         };

@@ -2,10 +2,10 @@
 
 use std::random::RandomSource;
 
-/// The key for bytes that nobody chose to make look-ups slow, as those of a test or of a deck that a program wrote itself.
+/// The key for bytes that nobody could choose in order to make look-ups slow, such as those of a test.
 pub const FIXED_KEY: u128 = 0x243f_6a88_85a3_08d3_1319_8a2e_0370_7344;
 
-/// Draws a key by chance. Returns `None` if the system gives no random bytes.
+/// Returns a random key, or `None` if the system gives no random bytes.
 pub fn draw_key<R: RandomSource>(random: &R) -> Option<u128> {
     let mut bytes = [0; 16];
     match random.fill_bytes(&mut bytes) {

@@ -1,8 +1,8 @@
-//! Where bytes come in and go out: sources that are pulled from, sinks that are pushed to, and the calls that
-//! read a source to its end and write a text whole.
+//! Where bytes come in and go out: sources that you pull from, sinks that you push to, and the calls that read a source
+//! to its end and write a complete text.
 //!
-//! A source or a sink may tell its bytes to contracts (`left`, `taken`), as those in memory do, and always keeps a
-//! count of faults that never falls. `Failed` comes only where that count rose.
+//! Contracts can see the bytes of some sources and sinks (`left`, `taken`), such as those in memory. Every source and
+//! sink keeps a count of faults that never falls, and a call returns `Failed` only if that count rose.
 #![tactic(auto)]
 
 mod file_source;

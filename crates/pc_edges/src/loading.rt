@@ -9,7 +9,7 @@ use crate::Source;
 use std::alloc::Global;
 use thiserror::Error;
 
-/// Why a source was not read to its end.
+/// The reason why a source was not read to its end.
 #[derive(Clone, Copy, Debug, PartialEq, Eq, Hash, Error)]
 pub enum LoadError {
     #[error("the input could not be read")]
@@ -20,13 +20,19 @@ pub enum LoadError {
     OutOfMemory,
 }
 
-/// How many bytes a buffer between a stream and the program has room for: what one pull or one push moves at the most.
+/// The size in bytes of a buffer between a stream and the program: the most that one pull or one push moves.
 pub const STREAM_ROOM: usize = 65_536;
 
-/// All bytes of `source` up to its end, where there are at most `limit`.
+/// Reads `source` to its end and returns all its bytes, at most `limit`.
 ///
-/// Each byte is copied once from the buffer that is pulled into. Each pull but the last gives a byte at least, so there are
-/// at most `limit + 1` of them.
+/// Each byte is copied once from a buffer of `STREAM_ROOM` bytes. Each pull but the last gives at least one byte, so
+/// there are at most `limit + 1` pulls.
+///
+/// # Errors
+///
+/// - `ReadFault` if a pull failed.
+/// - `TooLong` if the source has more than `limit` bytes. It stops at the pull that passes the limit.
+/// - `OutOfMemory` if there is no memory for the buffer or the bytes.
 pub fn load<S: Source>(alloc: Global, source: &mut S, limit: usize) -> Result<Vec<u8>, LoadError>
     requires { limit < 2 ^ 32 }
     ensures all { IfOk result (λ v. Consumes (S.left source.old) (S.left source.new) v.items) }
@@ -48,7 +54,7 @@ pub fn load<S: Source>(alloc: Global, source: &mut S, limit: usize) -> Result<Ve
     load_by(alloc, source, limit, buffer.as_mut_slice())
 }
 
-/// As `load`, by pulls into `buffer`.
+/// Does what `load` does, with pulls into `buffer`.
 fn load_by<S: Source>(
     alloc: Global,
     source: &mut S,
@@ -62,7 +68,8 @@ fn load_by<S: Source>(
     ensures no_fault { OnOk result (S.faults source.new ≡ S.faults source.old) }
     ensures fault { IsErrOf result LoadError.ReadFault → Rose (S.faults source.old) (S.faults source.new) }
     ensures count { S.faults source.old ≤ S.faults source.new }
-    ensures loads { LoadsWithin (IsErrOf result LoadError.TooLong) limit STREAM_ROOM S.left S.pulls source.old source.new }
+    ensures loads { LoadsWithin (IsErrOf result LoadError.TooLong) limit STREAM_ROOM S.left S.pulls source.old
+        source.new }
 {
     let mut bytes = Vec::new(alloc);
     loop {

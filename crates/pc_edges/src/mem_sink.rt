@@ -7,10 +7,9 @@ use crate::{Failed, Sink};
 use std::alloc::{AllocError, Global};
 use std::marker::Model;
 
-/// A sink in memory that takes small pieces, has room for a number of bytes, and fails where it is told to.
+/// A sink in memory, for tests: it takes small pieces, has a fixed capacity, and fails at the calls that you choose.
 ///
-/// It tells its bytes to contracts, which see it as an `Intake`. Its room is reserved when it is made, so no push
-/// wants memory.
+/// Contracts see it as an `Intake`, with its bytes. Its capacity is reserved when it is made, so no push takes memory.
 #[derive(Drop)]
 pub struct MemSink {
     taken: Vec<u8>,
@@ -34,8 +33,14 @@ impl Model for MemSink {
 }
 
 impl MemSink {
-    /// A sink with room for `room` bytes, of which a push takes at most `piece`. Pushes of pieces that are not
-    /// empty and flushes are counted together from 1, and the k-th fails where k is in `failing`.
+    /// Returns a sink with a capacity of `room` bytes.
+    ///
+    /// A push takes at most `piece` bytes, and fails if the sink is full. Flushes and pushes of pieces that are not
+    /// empty are counted together from 1, and the k-th fails if k is in `failing`.
+    ///
+    /// # Errors
+    ///
+    /// `AllocError` if there is no memory for `room` bytes or for the copy of `failing`.
     pub fn new(
         alloc: Global,
         room: usize,
@@ -62,14 +67,14 @@ impl MemSink {
         })
     }
 
-    /// The bytes taken so far.
+    /// Returns the bytes taken so far.
     pub fn bytes(&self) -> &[u8]
         ensures { result.now ≡ self.now.taken }
     {
         self.taken.as_slice()
     }
 
-    /// Counts a call, and answers whether it is one that fails.
+    /// Counts a call, and returns whether it is one that fails.
     fn count_call(&mut self) -> bool
         ensures fails { IsTrue result ↔ Contains self.old.failing (raised self.old.calls) }
         ensures counted { self.new ≡ record self.old { calls = raised self.old.calls } }
@@ -78,7 +83,6 @@ impl MemSink {
         self.failing.contains(&self.calls)
     }
 
-    /// Counts a fault.
     fn fail(&mut self) -> Failed
         ensures counted { self.new ≡ record self.old { faults = raised self.old.faults } }
         ensures count { self.old.faults ≤ self.new.faults }

@@ -7,9 +7,9 @@ use crate::{Failed, Source};
 use std::alloc::{AllocError, Global};
 use std::marker::Model;
 
-/// A source of bytes in memory that gives them in small pieces and fails where it is told to.
+/// A source of bytes in memory, for tests: it gives small pieces, and fails at the pulls that you choose.
 ///
-/// It tells its bytes to contracts, which see it as a `Supply`.
+/// Contracts see it as a `Supply`, with its bytes.
 #[derive(Drop)]
 pub struct MemSource {
     bytes: Vec<u8>,
@@ -33,8 +33,14 @@ impl Model for MemSource {
 }
 
 impl MemSource {
-    /// A source of a copy of `bytes`. A pull gives at most `piece` of them, and the k-th pull on a buffer with
-    /// room, counted from 1, fails where k is in `failing`.
+    /// Returns a source of a copy of `bytes`.
+    ///
+    /// A pull gives at most `piece` bytes. The k-th pull on a buffer that is not empty, counted from 1, fails if k is
+    /// in `failing`.
+    ///
+    /// # Errors
+    ///
+    /// `AllocError` if there is no memory for the copies of `bytes` and `failing`.
     pub fn new(
         alloc: Global,
         bytes: &[u8],
@@ -68,11 +74,11 @@ impl Source for MemSource {
 
     ghost pulls = { λ source. Some source.pulls };
 
-    fn pull(&mut self, buffer: &mut [u8]) -> Result<usize, Failed>
-        ensures fits { IfOk result (λ n. n ≤ length buffer.old) }
-        ensures bytes { IfOk result (λ n. self.old.left ≡ take n buffer.new ++ self.new.left) }
-        ensures end { IfOk result (λ n. n ≡ 0 → 0 < length buffer.old → self.new.left ≡ []) }
-        ensures empty { length buffer.old ≡ 0 → (result ≡ Ok 0) × (self.new ≡ self.old) }
+    fn pull(&mut self, buf: &mut [u8]) -> Result<usize, Failed>
+        ensures fits { IfOk result (λ n. n ≤ length buf.old) }
+        ensures bytes { IfOk result (λ n. self.old.left ≡ take n buf.new ++ self.new.left) }
+        ensures end { IfOk result (λ n. n ≡ 0 → 0 < length buf.old → self.new.left ≡ []) }
+        ensures empty { length buf.old ≡ 0 → (result ≡ Ok 0) × (self.new ≡ self.old) }
         ensures no_fault { OnOk result (self.new.faults ≡ self.old.faults) }
         ensures failed { OnErr result (Rose self.old.faults self.new.faults) }
         ensures kept { OnErr result (self.new.left ≡ self.old.left) }
@@ -80,16 +86,16 @@ impl Source for MemSource {
         ensures pulled { self.new.pulls ≤ self.old.pulls + 1 }
 
         // which pulls fail, how much the others give, and what is counted
-        ensures fails { IsErr result ↔ (0 < length buffer.old) × Contains self.old.failing (raised self.old.pulls) }
-        ensures given { IfOk result (λ n. n ≡ min (length buffer.old) (min self.old.piece (length self.old.left))) }
-        ensures counted { 0 < length buffer.old → self.new ≡ record self.old {
+        ensures fails { IsErr result ↔ (0 < length buf.old) × Contains self.old.failing (raised self.old.pulls) }
+        ensures given { IfOk result (λ n. n ≡ min (length buf.old) (min self.old.piece (length self.old.left))) }
+        ensures counted { 0 < length buf.old → self.new ≡ record self.old {
           left = self.new.left;
           pulls = raised self.old.pulls;
           faults = self.new.faults;
         } }
         ensures risen { OnErr result (self.new.faults ≡ raised self.old.faults) }
     {
-        if buffer.is_empty() {
+        if buf.is_empty() {
             return Ok(0);
         }
         self.pulls = self.pulls.saturating_add(1);
@@ -97,8 +103,8 @@ impl Source for MemSource {
             self.faults = self.faults.saturating_add(1);
             return Err(Failed);
         }
-        let n = buffer.len().min(self.piece).min(self.bytes.len() - self.at);
-        buffer[..n].copy_from_slice(&self.bytes[self.at..self.at + n]);
+        let n = buf.len().min(self.piece).min(self.bytes.len() - self.at);
+        buf[..n].copy_from_slice(&self.bytes[self.at..self.at + n]);
         self.at += n;
         Ok(n)
     }

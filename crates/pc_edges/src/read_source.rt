@@ -1,12 +1,13 @@
-//! A source over std's `Read`.
+//! A source over `Read` of std.
 ghost use Rattle.std.specs.Prelude.{◌≡◌};
 
 use crate::{FIXED_KEY, Failed, Source};
 use std::io::Read;
 
-/// A source that reads from `R`, and tells its bytes where `R` does: standard input and files don't.
+/// A source that reads from `R`. Contracts can see its bytes if they can see those of `R`, which is not so for standard
+/// input and files.
 ///
-/// Each error of a read is a fault. A source whose key could not be drawn has a fault at each pull on a buffer with room.
+/// Each error of a read is a fault. If the key could not be drawn, each pull on a buffer that is not empty is a fault.
 #[derive(Drop)]
 pub struct ReadSource<R> {
     inner: R,
@@ -15,6 +16,7 @@ pub struct ReadSource<R> {
 }
 
 impl<R: Read> ReadSource<R> {
+    /// Returns a source that reads from `inner`, with a fixed key.
     pub fn new(inner: R) -> ReadSource<R>
         ensures left { ⟦<ReadSource<R> as Source>⟧.left result ≡ R.remaining inner }
         ensures faults { ⟦<ReadSource<R> as Source>⟧.faults result ≡ 0 }
@@ -26,7 +28,7 @@ impl<R: Read> ReadSource<R> {
         }
     }
 
-    /// Returns this source with the key that [`draw_key`](crate::draw_key) drew.
+    /// Returns this source with a key that [`draw_key`](crate::draw_key) returned. With `None` each pull has a fault.
     pub fn with_key(self, key: Option<u128>) -> ReadSource<R>
     where
         R: Drop,
@@ -42,15 +44,15 @@ impl<R: Read> Source for ReadSource<R> {
 
     ghost faults = { λ source. source.faults };
 
-    fn pull(&mut self, buffer: &mut [u8]) -> Result<usize, Failed> {
-        if buffer.is_empty() {
+    fn pull(&mut self, buf: &mut [u8]) -> Result<usize, Failed> {
+        if buf.is_empty() {
             return Ok(0);
         }
         if self.key.is_none() {
             self.faults = self.faults.saturating_add(1);
             return Err(Failed);
         }
-        match self.inner.read(buffer) {
+        match self.inner.read(buf) {
             Ok(n) => Ok(n),
             Err(_) => {
                 self.faults = self.faults.saturating_add(1);

@@ -1,4 +1,4 @@
-//! Where bytes come from.
+//! The trait of sources, and the error of sources and sinks.
 ghost use Rattle.std.specs.Prelude.{◌≡◌, ℕ, ◌<◌, ◌≤◌, List, Option, None, Ok, length, take, IfOk, OnOk, OnErr};
 ghost use Rattle.std.specs.Io.KnownBytes.{Consumes, Keeps, IsAtEnd};
 ghost use Rattle.pc_edges.specs.Faults.{Rose};
@@ -6,30 +6,33 @@ ghost use Rattle.pc_edges.specs.Pulls.{TakesPulls};
 
 use crate::key::FIXED_KEY;
 
-/// A pull, a push or a flush that failed: a fault of the source or the sink, whose count of faults rose.
+/// The error of a pull, a push or a flush: the source or the sink had a fault, and its count of faults rose.
 #[derive(Clone, Copy, Debug, PartialEq, Eq, Hash)]
 pub struct Failed;
 
-/// Where bytes come from, a piece at a time.
+/// A source of bytes, which gives them a piece at a time.
 pub trait Source {
-    // The bytes still to come, where the source tells them.
+    // The bytes still to come, if contracts can see them.
     ghost left: { Self → Option (List ℕ) } = { λ _. None };
 
-    // How many faults there were. A count that stands at its type's end counts as one that rose.
+    // How many faults there were. A count at the end of its type counts as one that rose.
     ghost faults: { Self → ℕ };
 
-    // How many pulls on a buffer with room there were, where the source counts them.
+    // How many pulls on a buffer that is not empty there were, if the source counts them.
     ghost pulls: { Self → Option ℕ } = { λ _. None };
 
-    /// Fills the front of `buffer` with the next bytes, and answers how many they are.
+    /// Copies the next bytes to the beginning of `buf`, and returns how many.
     ///
-    /// `Ok(0)` on a buffer with room is the end of the input. The rest of the buffer, and all of it after
-    /// `Failed`, may hold anything.
-    fn pull(&mut self, buffer: &mut [u8]) -> Result<usize, Failed>
-        ensures fits { IfOk result (λ n. n ≤ length buffer.old) }
-        ensures bytes { IfOk result (λ n. Consumes (left self.old) (left self.new) (take n buffer.new)) }
-        ensures end { IfOk result (λ n. n ≡ 0 → 0 < length buffer.old → IsAtEnd (left self.new)) }
-        ensures empty { length buffer.old ≡ 0 → result ≡ Ok 0 }
+    /// Returns `Ok(0)` at the end of the input, and if `buf` is empty. The rest of `buf` may hold anything afterwards.
+    ///
+    /// # Errors
+    ///
+    /// `Failed` if the source had a fault. No byte is lost, and all of `buf` may hold anything.
+    fn pull(&mut self, buf: &mut [u8]) -> Result<usize, Failed>
+        ensures fits { IfOk result (λ n. n ≤ length buf.old) }
+        ensures bytes { IfOk result (λ n. Consumes (left self.old) (left self.new) (take n buf.new)) }
+        ensures end { IfOk result (λ n. n ≡ 0 → 0 < length buf.old → IsAtEnd (left self.new)) }
+        ensures empty { length buf.old ≡ 0 → result ≡ Ok 0 }
         ensures no_fault { OnOk result (faults self.new ≡ faults self.old) }
 
         ensures failed { OnErr result (Rose (faults self.old) (faults self.new)) }
@@ -39,8 +42,8 @@ pub trait Source {
 
     /// Returns the key of the hash by which names in these bytes are looked up.
     ///
-    /// The key changes how long a look-up takes, never what it returns. A source whose bytes others choose has a key that was drawn
-    /// by chance, so that no choice of names makes look-ups slow.
+    /// The key changes how long a look-up takes, never what it returns. A source whose bytes others choose has a key
+    /// that was drawn by chance, so that no choice of names makes look-ups slow.
     fn key(&self) -> u128 {
         FIXED_KEY
     }

@@ -4,9 +4,9 @@ ghost use Rattle.std.specs.Prelude.{◌≡◌, ◌+◌, ◌-◌, ◌^◌, Ok, le
 use crate::{Failed, Sink};
 use std::marker::Model;
 
-/// A sink that takes every piece whole and counts its bytes. No call on it ever fails.
+/// A sink that takes every piece completely and counts the bytes. No call on it ever fails.
 ///
-/// It tells no bytes to contracts. Its count of faults stays at 0, and a call fails only where the count rises.
+/// Contracts cannot see its bytes. Its count of faults stays at 0.
 #[derive(Drop)]
 pub struct SureSink {
     count: u64,
@@ -21,13 +21,14 @@ impl Model for SureSink {
 }
 
 impl SureSink {
+    /// Returns a sink that has taken nothing.
     pub fn new() -> SureSink
         ensures { result ≡ 0 }
     {
         SureSink { count: 0 }
     }
 
-    /// How many bytes were taken. The count stands still at its type's end.
+    /// Returns how many bytes were taken. The count does not go past the end of its type.
     pub fn count(&self) -> u64
         ensures { result ≡ self.now }
     {

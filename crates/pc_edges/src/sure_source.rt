@@ -4,9 +4,9 @@ ghost use Rattle.std.specs.Prelude.{◌≡◌, Some};
 use crate::{Failed, Source};
 use std::marker::Model;
 
-/// A source of bytes in memory, each pull of which fills its buffer as far as there are bytes. None ever fails.
+/// A source of bytes in memory that never fails. Each pull fills its buffer, as far as there are bytes.
 ///
-/// It tells its bytes to contracts. Its count of faults stays at 0, and a pull fails only where the count rises.
+/// Contracts can see its bytes. Its count of faults stays at 0.
 #[derive(Drop)]
 pub struct SureSource<'b> {
     left: &'b [u8],
@@ -21,6 +21,7 @@ impl<'b> Model for SureSource<'b> {
 }
 
 impl<'b> SureSource<'b> {
+    /// Returns a source of `bytes`, which it borrows.
     pub fn new(bytes: &'b [u8]) -> SureSource<'b>
         ensures { result ≡ bytes.now }
     {
@@ -33,9 +34,9 @@ impl<'b> Source for SureSource<'b> {
 
     ghost faults = { λ source. 0 };
 
-    fn pull(&mut self, buffer: &mut [u8]) -> Result<usize, Failed> {
-        let n = buffer.len().min(self.left.len());
-        buffer[..n].copy_from_slice(&self.left[..n]);
+    fn pull(&mut self, buf: &mut [u8]) -> Result<usize, Failed> {
+        let n = buf.len().min(self.left.len());
+        buf[..n].copy_from_slice(&self.left[..n]);
         self.left = &self.left[n..];
         Ok(n)
     }

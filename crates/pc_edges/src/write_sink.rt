@@ -1,10 +1,11 @@
-//! A sink over std's `Write`.
+//! A sink over `Write` of std.
 ghost use Rattle.std.specs.Prelude.{◌≡◌};
 
 use crate::{Failed, Sink};
 use std::io::Write;
 
-/// A sink that writes to `W`, and tells its bytes where `W` does: standard output and files don't.
+/// A sink that writes to `W`. Contracts can see its bytes if they can see those of `W`, which is not so for standard
+/// output and files.
 ///
 /// Each error of a write or a flush is a fault, and so is a write that takes nothing of a piece that is not empty.
 #[derive(Drop)]
@@ -14,6 +15,7 @@ pub struct WriteSink<W> {
 }
 
 impl<W: Write> WriteSink<W> {
+    /// Returns a sink that writes to `inner`.
     pub fn new(inner: W) -> WriteSink<W>
         ensures taken { ⟦<WriteSink<W> as Sink>⟧.taken result ≡ W.contents inner }
         ensures faults { ⟦<WriteSink<W> as Sink>⟧.faults result ≡ 0 }

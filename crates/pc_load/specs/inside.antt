@@ -6,4 +6,5 @@ pub mod Adding
 pub mod Items
 pub mod Loading
 pub mod LoadingInside
+pub mod PrintedLoad
 pub mod Entries

@@ -8,9 +8,7 @@ ghost use Rattle.pc_load.specs.inside.Share.{IsSpread};
 use crate::spread::share;
 use crate::table::LoadRow;
 
-/// Adds the parts of an entry to the cells of its row.
-///
-/// The shares by the ends of periods are made one after the other, one for each period that the entry spans.
+/// Adds the parts of an entry to the cells of its row, in the periods that it spans.
 pub(crate) fn add(cells: &mut [i64], rows: u32, periods: u32, entry: &LoadRow, width: u64)
     requires rows { rows ≤ MAX_ITEMS }
     requires periods { periods ≤ MAX_PERIODS }

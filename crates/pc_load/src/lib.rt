@@ -1,5 +1,5 @@
-//! What a project spends and what it takes of its resources in each period: costs and quantities spread over the expected
-//! times of activities, by item and by resource.
+//! What a project spends and what it takes of its resources in each period: costs and quantities spread over the
+//! expected times of activities, by item and by resource.
 #![tactic(auto)]
 
 mod adding;
@@ -13,4 +13,4 @@ mod text;
 pub use loading::{Loading, MAX_DAYS, NoLoad};
 pub use spread::{Spread, part};
 pub use table::{LoadRow, MAX_PERIODS, Table, item_table};
-pub use text::write_load;
+pub use text::{write_load, write_load_on};

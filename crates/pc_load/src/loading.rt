@@ -4,6 +4,7 @@ ghost use Rattle.pc_load.specs.inside.Entries.{AreTimes};
 ghost use Rattle.pc_load.specs.Items.{LevelsAddUp};
 ghost use Rattle.pc_load.specs.Loading.{AreItemParts, IsLoading, ItemsAddUp, periods_for};
 ghost use Rattle.pc_load.specs.inside.Loading.{HasNoLoad, IsReadyFor};
+ghost use Rattle.pc_load.specs.inside.PrintedLoad.{loading_of};
 
 use crate::entries::{costs, loads};
 use crate::table::{MAX_PERIODS, Table, item_table};
@@ -12,14 +13,15 @@ use pc_times::early;
 use std::alloc::{AllocError, Global};
 use std::marker::Model;
 
-/// The most days that a period may have.
+/// The most days that a period can have.
 pub const MAX_DAYS: u64 = 3_660;
 
-/// Why there is no report of loads.
+/// The reason why there is no report of loads.
 #[derive(Drop)]
 pub enum NoLoad {
-    /// There would be so many periods, more than `MAX_PERIODS`.
+    /// The project takes so many periods, more than `MAX_PERIODS`.
     TooMany(u64),
+    /// There is no memory for the tables.
     OutOfMemory,
 }
 
@@ -34,7 +36,19 @@ impl From<AllocError> for NoLoad {
     }
 }
 
-/// What a project spends by item and takes by resource in periods of so many days, and the order in which the items are told.
+/// What a report of loads prints: how many days a period has, the items in preorder, and what the project spends by
+/// item and takes by resource in each period.
+#[derive(Clone, Copy)]
+pub(crate) struct PrintedLoad<'a> {
+    pub(crate) days: u64,
+    pub(crate) order: &'a [u32],
+    pub(crate) items: &'a Table,
+    pub(crate) resources: &'a Table,
+}
+
+/// What a project spends by item and takes by resource in periods of so many days.
+///
+/// It keeps the order of the items in the report: preorder.
 pub struct Loading {
     days: u64,
     order: Vec<u32>,
@@ -43,7 +57,7 @@ pub struct Loading {
 }
 
 impl Drop for Loading {
-    // Written out, so that who lets a loading go cites this proof.
+    // Written by hand so that the proof of dropping it is done once, here.
     fn drop(self) {
         let Loading {
             days: _days,
@@ -65,11 +79,16 @@ impl Model for Loading {
 }
 
 impl Loading {
-    /// The loading of the project in periods of so many days. Costs and quantities come evenly over the expected time of their
-    /// activity, from its earliest time on.
+    /// Returns the loading of the project in periods of so many days.
     ///
-    /// `NoLoad::TooMany` where the project takes more than `MAX_PERIODS` periods. It takes time in proportion to the tables, and
-    /// to the periods that each activity and each load spans.
+    /// Costs and quantities are spread evenly over the expected time of their activity, from its earliest time on. The
+    /// time that it takes is linear in the cells of the tables and in the periods that each activity and each load
+    /// spans.
+    ///
+    /// # Errors
+    ///
+    /// - `TooMany` if the project takes more than `MAX_PERIODS` periods.
+    /// - `OutOfMemory` if there is no memory for the tables.
     pub fn of(alloc: Global, project: &Project, days: u64) -> Result<Loading, NoLoad>
         requires least { 1 ≤ days }
         requires most { days ≤ MAX_DAYS }
@@ -92,32 +111,16 @@ impl Loading {
         })
     }
 
-    /// How many days a period has.
-    pub fn days(&self) -> u64
-        ensures { result ≡ self.now.days }
+    /// Returns what a report prints of it.
+    pub(crate) fn printed(&self) -> PrintedLoad<'_>
+        ensures { loading_of result ≡ self.now }
     {
-        self.days
-    }
-
-    /// The items in preorder.
-    pub fn order(&self) -> &[u32]
-        ensures { result.now ≡ self.now.order }
-    {
-        &self.order
-    }
-
-    /// What is spent in each period by item.
-    pub fn items(&self) -> &Table
-        ensures { result.now ≡ self.now.items }
-    {
-        &self.items
-    }
-
-    /// What is taken in each period by resource.
-    pub fn resources(&self) -> &Table
-        ensures { result.now ≡ self.now.resources }
-    {
-        &self.resources
+        PrintedLoad {
+            days: self.days,
+            order: &self.order,
+            items: &self.items,
+            resources: &self.resources,
+        }
     }
 }
 

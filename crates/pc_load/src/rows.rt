@@ -3,11 +3,12 @@ ghost use Rattle.std.specs.Prelude.{◌≡◌, ◌*◌, ◌+◌, ◌<◌, ◌≤
 ghost use Rattle.pc_days.specs.Calendar.{date_or_none};
 ghost use Rattle.pc_edges.specs.inside.page.Puts.{Puts};
 ghost use Rattle.pc_load.specs.inside.Loading.{IsReadyFor};
+ghost use Rattle.pc_load.specs.inside.PrintedLoad.{loading_of};
 ghost use Rattle.pc_load.specs.LoadText.{amount_row, amount_rows, item_rows, period_cells, period_row, resource_rows};
 ghost use Rattle.pc_load.specs.Table.{amount_in};
 ghost use Rattle.pc_load.specs.inside.Table.{IsRowOf};
 
-use crate::loading::Loading;
+use crate::loading::PrintedLoad;
 use crate::table::Table;
 use pc_days::{Day, date_of_sixths, day_text};
 use pc_edges::Sink;
@@ -19,22 +20,22 @@ use pc_text::Code;
 #[derive(Clone, Copy)]
 pub(crate) struct PeriodRows<'a> {
     pub(crate) project: &'a Project,
-    pub(crate) loading: &'a Loading,
+    pub(crate) printed: &'a PrintedLoad<'a>,
 }
 
 impl<'a> Rows for PeriodRows<'a> {
-    ghost row_count = { λ t. t.loading.now.items.periods };
+    ghost row_count = { λ t. t.printed.now.items.now.periods };
 
-    ghost row_text = { λ t. period_row t.project.now t.loading.now.days };
+    ghost row_text = { λ t. period_row t.project.now t.printed.now.days };
 
-    ghost IsReady = { λ t. IsReadyFor t.project.now t.loading.now };
+    ghost IsReady = { λ t. IsReadyFor t.project.now (loading_of t.printed.now) };
 
     fn count(&self) -> usize {
-        self.loading.items().periods() as usize
+        self.printed.items.periods() as usize
     }
 
     fn put<O: Sink>(&self, i: usize, page: &mut Page, sink: &mut O) {
-        let date = date_after(self.project.start_day(), self.loading.days() * i as u64);
+        let date = date_after(self.project.start_day(), self.printed.days * i as u64);
         put_period(page, sink, i as u64, &date);
     }
 }
@@ -43,24 +44,24 @@ impl<'a> Rows for PeriodRows<'a> {
 #[derive(Clone, Copy)]
 pub(crate) struct ItemRows<'a> {
     pub(crate) project: &'a Project,
-    pub(crate) loading: &'a Loading,
+    pub(crate) printed: &'a PrintedLoad<'a>,
 }
 
 impl<'a> Rows for ItemRows<'a> {
-    ghost row_count = { λ t. length t.loading.now.order };
+    ghost row_count = { λ t. length t.printed.now.order.now };
 
-    ghost row_text = { λ t. item_rows t.project.now t.loading.now };
+    ghost row_text = { λ t. item_rows t.project.now (loading_of t.printed.now) };
 
-    ghost IsReady = { λ t. IsReadyFor t.project.now t.loading.now };
+    ghost IsReady = { λ t. IsReadyFor t.project.now (loading_of t.printed.now) };
 
     fn count(&self) -> usize {
-        self.loading.order().len()
+        self.printed.order.len()
     }
 
     fn put<O: Sink>(&self, i: usize, page: &mut Page, sink: &mut O) {
-        let row = self.loading.order()[i];
+        let row = self.printed.order[i];
         let code = &self.project.item_code(row);
-        let table = self.loading.items();
+        let table = self.printed.items;
         put_rows(page, sink, &AmountRows { code, table, row });
     }
 }
@@ -69,15 +70,15 @@ impl<'a> Rows for ItemRows<'a> {
 #[derive(Clone, Copy)]
 pub(crate) struct ResourceRows<'a> {
     pub(crate) project: &'a Project,
-    pub(crate) loading: &'a Loading,
+    pub(crate) printed: &'a PrintedLoad<'a>,
 }
 
 impl<'a> Rows for ResourceRows<'a> {
     ghost row_count = { λ t. length t.project.now.resources };
 
-    ghost row_text = { λ t. resource_rows t.project.now t.loading.now };
+    ghost row_text = { λ t. resource_rows t.project.now (loading_of t.printed.now) };
 
-    ghost IsReady = { λ t. IsReadyFor t.project.now t.loading.now };
+    ghost IsReady = { λ t. IsReadyFor t.project.now (loading_of t.printed.now) };
 
     fn count(&self) -> usize {
         self.project.resource_count() as usize
@@ -86,7 +87,7 @@ impl<'a> Rows for ResourceRows<'a> {
     fn put<O: Sink>(&self, i: usize, page: &mut Page, sink: &mut O) {
         let row = i as u32;
         let code = &self.project.resource_code(row);
-        let table = self.loading.resources();
+        let table = self.printed.resources;
         put_rows(page, sink, &AmountRows { code, table, row });
     }
 }
@@ -118,7 +119,6 @@ impl<'a> Rows for AmountRows<'a> {
     }
 }
 
-/// Puts the row of a period.
 fn put_period<O: Sink>(page: &mut Page, sink: &mut O, k: u64, date: &[u8; 10])
     ensures { Puts O.taken O.faults page.old sink.old page.new sink.new (period_cells k date.now) }
 {
@@ -129,7 +129,6 @@ fn put_period<O: Sink>(page: &mut Page, sink: &mut O, k: u64, date: &[u8; 10])
     page.put(sink, b"\n");
 }
 
-/// Puts the row of an amount in a period.
 fn put_amount<O: Sink>(page: &mut Page, sink: &mut O, code: &Code, k: u64, amount: u64)
     requires { 0 < amount }
     ensures { Puts O.taken O.faults page.old sink.old page.new sink.new (amount_row code.now k (pos amount)) }
@@ -142,7 +141,7 @@ fn put_amount<O: Sink>(page: &mut Page, sink: &mut O, code: &Code, k: u64, amoun
     page.put(sink, b"\n");
 }
 
-/// The date so many days after a day, or ten hyphens where it is past the days that are printed.
+/// Returns the date so many days after a day, or ten hyphens if it is past the days that are printed.
 fn date_after(start: Day, days: u64) -> [u8; 10]
     requires { days < 10_000_000 }
     ensures { result ≡ date_or_none (start +ℤ pos days) }

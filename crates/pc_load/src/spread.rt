@@ -3,19 +3,21 @@ ghost use Rattle.std.specs.Prelude.{◌≡◌, ◌+◌, ◌^◌, ◌<◌, ◌≤
 ghost use Rattle.pc_load.specs.Share.{part, share};
 ghost use Rattle.pc_load.specs.inside.Share.{IsSpread};
 
-/// An amount that comes evenly over some time. All times are in sixths of a day from the project's start.
+/// An amount that is spread evenly over some time. All times are in sixths of a day from the project's start.
 #[derive(Clone, Copy)]
 pub struct Spread {
-    /// When it begins.
+    /// The time at which it begins.
     pub begin: u64,
-    /// How long it lasts; 0 where it comes all at once.
+    /// How long it lasts: 0 if the complete amount comes at once.
     pub length: u64,
     pub amount: u64,
 }
 
-/// The part of an amount that comes between two times: its share by the later one less its share by the earlier one.
+/// Returns the part of an amount that comes between two times: its share by the later time less its share by the
+/// earlier one.
 ///
-/// Shares are rounded, and parts are not: so the parts of times that follow one another make up the whole.
+/// Shares are rounded down, and parts are differences of shares. So the parts of consecutive periods add up to the
+/// amount.
 pub fn part(s: &Spread, from: u64, to: u64) -> u64
     requires spread { IsSpread s.now }
     requires order { from ≤ to }

@@ -14,22 +14,22 @@ use pc_wbs::Tree;
 use std::alloc::{AllocError, Global};
 use std::marker::Model;
 
-/// How many periods a table may have.
+/// The most periods that a table can have.
 pub const MAX_PERIODS: u32 = 400;
 
-/// A spread amount, and the row of a table that it counts on.
+/// An entry of a table: a spread amount, and the row on which it counts.
 #[derive(Clone, Copy)]
 pub struct LoadRow {
     pub row: u32,
     pub spread: Spread,
 }
 
-/// An amount for each row in each period, counted from 0. In memory the rows of one period stand together, as the sums over
-/// items want them.
+/// A table with an amount for each row in each period. Rows and periods are counted from 0.
 #[derive(Drop)]
 pub struct Table {
     rows: u32,
     periods: u32,
+    // Period by period, because the sums over items take the rows of one period.
     cells: Vec<i64>,
 }
 
@@ -46,10 +46,15 @@ impl Model for Table {
 }
 
 impl Table {
-    /// The table of the entries: in each period each row has the sum of the parts of those that count on it.
+    /// Returns the table of some entries: in each period each row has the sum of the parts of the entries that count on
+    /// it.
     ///
-    /// A period is `width` sixths of a day wide, and there are so many from the project's start on; what comes behind the last
-    /// is left out. It takes time in proportion to the cells, and to the periods that each entry spans.
+    /// A period is `width` sixths of a day long. The first one begins with the project, and what comes after the last
+    /// one is left out. The time that it takes is linear in the cells and in the periods that each entry spans.
+    ///
+    /// # Errors
+    ///
+    /// `AllocError` if there is no memory for the cells.
     pub fn build(
         alloc: Global,
         rows: u32,
@@ -79,7 +84,7 @@ impl Table {
         })
     }
 
-    /// The amount of a row in period `k`.
+    /// Returns the amount of a row in period `k`.
     pub fn amount(&self, row: u32, k: u32) -> u64
         requires row { row < self.now.rows }
         requires period { k < self.now.periods }
@@ -88,9 +93,10 @@ impl Table {
         self.cells[k as usize * self.rows as usize + row as usize].unsigned_abs()
     }
 
-    /// How many periods there are.
+    /// Returns how many periods there are.
     pub fn periods(&self) -> u32
-        ensures { result ≡ self.now.periods }
+        ensures count { result ≡ self.now.periods }
+        ensures limit { result ≤ MAX_PERIODS }
     {
         self.periods
     }
@@ -106,9 +112,12 @@ impl Table {
     }
 }
 
-/// The table of all items from that of their leaves: in each period the sums of what is on them or below them.
+/// Returns the table of all items, given that of the leaves: in each period an item has the sum over the leaves that
+/// are the item or below it. Linear in the cells.
 ///
-/// It takes time in proportion to the cells.
+/// # Errors
+///
+/// `AllocError` if there is no memory for the cells.
 pub fn item_table(alloc: Global, tree: &Tree, leaves: &Table) -> Result<Table, AllocError>
     requires one_each { leaves.now.rows ≡ length tree.now }
     requires at_leaves { (k : ℕ) → k < leaves.now.periods → AreAtLeaves tree.now (column leaves.now k) }

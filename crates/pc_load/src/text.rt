@@ -1,20 +1,66 @@
 //! The text of the report of loads.
-ghost use Rattle.std.specs.Prelude.{◌≡◌};
+ghost use Rattle.std.specs.Prelude.{◌≡◌, ℕ, ◌≤◌, List, length};
 ghost use Rattle.pc_edges.specs.inside.Writes.{Writes};
 ghost use Rattle.pc_edges.specs.inside.page.Page.{fresh};
 ghost use Rattle.pc_edges.specs.inside.page.Puts.{Puts};
 ghost use Rattle.pc_load.specs.inside.Loading.{IsReadyFor};
+ghost use Rattle.pc_load.specs.inside.PrintedLoad.{loading_of};
 ghost use Rattle.pc_load.specs.LoadText.{head_line, load_text};
+ghost use Rattle.pc_wbs.specs.Preorder.{IsPreorder};
 
-use crate::loading::Loading;
+use crate::loading::{Loading, MAX_DAYS, PrintedLoad};
 use crate::rows::{ItemRows, PeriodRows, ResourceRows};
+use crate::table::Table;
 use pc_edges::page::{Page, put_rows};
 use pc_edges::{Failed, Sink};
 use pc_project::Project;
 
-/// Writes the report of a project's loads, and flushes the sink: a row for each period, then for each item and for each resource
-/// a row for each period in which it has a part.
+/// Writes a report of loads: a row for each period, and then, for each item in preorder and for each resource in card
+/// order, a row for each period in which it has a part. A period has `days` days.
+///
+/// The tables can be any that have the project's items and resources as rows, and as many periods as each other.
+///
+/// Each piece of the text is pushed as it comes. So it takes no memory, and it does not flush the sink. With a page at
+/// hand, [`write_load_on`] pushes less often.
+///
+/// # Errors
+///
+/// `Failed` if a push failed. The sink has taken the first bytes of the text then, or none.
 pub fn write_load<O: Sink>(
+    sink: &mut O,
+    project: &Project,
+    days: u64,
+    items: &Table,
+    resources: &Table,
+) -> Result<(), Failed>
+    requires days { days ≤ MAX_DAYS }
+    requires items { items.now.rows ≡ length project.now.tree }
+    requires resources { resources.now.rows ≡ length project.now.resources }
+    requires periods { resources.now.periods ≡ items.now.periods }
+    ensures { (order : List ℕ) × IsPreorder project.now.tree order
+        × Writes result (O.taken sink.old) (O.taken sink.new) (O.faults sink.old) (O.faults sink.new)
+        (load_text project.now (record { days = days; order = order; items = items.now; resources = resources.now })) }
+{
+    // For the fact that no table has more periods than a report can have.
+    let _periods = items.periods();
+    let printed = PrintedLoad {
+        days,
+        order: project.tree().preorder(),
+        items,
+        resources,
+    };
+    let mut page = Page::without_buffer();
+    put_load(&mut page, sink, project, &printed);
+    page.push_out(sink)
+}
+
+/// Writes the report of a project's loads on a page and flushes the sink: a row for each period, and then, for each
+/// item in preorder and for each resource in card order, a row for each period in which it has a part.
+///
+/// # Errors
+///
+/// `Failed` if a push or the flush failed.
+pub fn write_load_on<O: Sink>(
     page: &mut Page,
     sink: &mut O,
     project: &Project,
@@ -26,21 +72,21 @@ pub fn write_load<O: Sink>(
         (load_text project.now loading.now) }
     ensures fresh { page.new ≡ fresh }
 {
-    put_load(page, sink, project, loading);
+    put_load(page, sink, project, &loading.printed());
     page.finish(sink)
 }
 
 /// Puts the report on a page.
-fn put_load<O: Sink>(page: &mut Page, sink: &mut O, project: &Project, loading: &Loading)
-    requires { IsReadyFor project.now loading.now }
-    ensures { Puts O.taken O.faults page.old sink.old page.new sink.new (load_text project.now loading.now) }
+fn put_load<O: Sink>(page: &mut Page, sink: &mut O, project: &Project, printed: &PrintedLoad<'_>)
+    requires { IsReadyFor project.now (loading_of printed.now) }
+    ensures { Puts O.taken O.faults page.old sink.old page.new sink.new (load_text project.now (loading_of printed.now)) }
 {
-    put_head(page, sink, project, loading.days());
-    put_rows(page, sink, &PeriodRows { project, loading });
+    put_head(page, sink, project, printed.days);
+    put_rows(page, sink, &PeriodRows { project, printed });
     page.put(sink, b"ITEMS\n");
-    put_rows(page, sink, &ItemRows { project, loading });
+    put_rows(page, sink, &ItemRows { project, printed });
     page.put(sink, b"RESOURCES\n");
-    put_rows(page, sink, &ResourceRows { project, loading });
+    put_rows(page, sink, &ResourceRows { project, printed });
 }
 
 /// Puts the project's code and the days of a period.

@@ -31,6 +31,7 @@ mod togos;
 mod tree;
 
 pub use crate::activity::Activity;
+pub use crate::deck_text::deck_text_of;
 pub use crate::estimates::Estimates;
 pub use crate::heading::Counts;
 pub use crate::load::LoadItem;

@@ -1,4 +1,4 @@
-//! The text that tells that a deck is accepted.
+//! The text of an accepted deck.
 ghost use Rattle.std.specs.Prelude.{◌≡◌};
 ghost use Rattle.pc_edges.specs.inside.Writes.{Writes};
 ghost use Rattle.pc_edges.specs.inside.page.Page.{fresh};
@@ -10,7 +10,11 @@ use pc_edges::page::Page;
 use pc_edges::{Failed, Sink};
 use pc_project::{Counts, Project};
 
-/// Writes the project's code and how many cards of each kind its deck has, and flushes the sink.
+/// Writes the project's code and how many cards of each kind its deck has on a page, and flushes the sink.
+///
+/// # Errors
+///
+/// `Failed` if a push or the flush failed.
 pub fn write_check<O: Sink>(page: &mut Page, sink: &mut O, project: &Project) -> Result<(), Failed>
     requires { page.old ≡ fresh }
     ensures text { Writes result (O.taken sink.old) (O.taken sink.new) (O.faults sink.old) (O.faults sink.new)

@@ -6,10 +6,10 @@ ghost use Rattle.pc_reports.specs.Times.{IsDate, AreDates, date_of};
 use pc_days::{Day, date_of_sixths, day_text};
 use std::alloc::{AllocError, Global};
 
-/// The bytes of a date.
+/// How many bytes a date has.
 pub(crate) const DATE_LENGTH: usize = 10;
 
-/// The date of each of the times.
+/// Returns the date of each of the times.
 pub(crate) fn dates_of(
     alloc: Global,
     start: Day,
@@ -25,7 +25,8 @@ pub(crate) fn dates_of(
     Ok(dates)
 }
 
-/// The date of the day that is the start and so many sixths of a day, or ten hyphens.
+/// Returns the date that is so many sixths of a day after the start, or ten hyphens if it is past the days that are
+/// printed.
 pub(crate) fn date_text(start: Day, sixths: u64) -> [u8; DATE_LENGTH]
     requires { sixths < 2 ^ 40 }
     ensures date { IsDate start sixths result }

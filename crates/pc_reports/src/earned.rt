@@ -1,4 +1,4 @@
-//! What the report of the value of work tells.
+//! The figures of the report of the value of work.
 ghost use Rattle.std.specs.Prelude.{◌≡◌, ◌<◌, length, IfOk};
 ghost use Rattle.pc_reports.specs.Earned.{IsEarned};
 ghost use Rattle.pc_rollup.specs.figures.Outline.{row_at};
@@ -10,7 +10,7 @@ use pc_rollup::figures::{OutlineRow, Worth, outline_of};
 use std::alloc::{AllocError, Global};
 use std::marker::Model;
 
-/// When the events are expected, and for each item what its work is worth and how long it can wait.
+/// The forecast of each event, and for each item the value of its work and its slack.
 #[derive(Drop)]
 pub(crate) struct Earned {
     forecasts: Forecasts,
@@ -27,7 +27,7 @@ impl Model for Earned {
 }
 
 impl Earned {
-    /// What there is to tell of the project. Linear in events, activities, accounts and items.
+    /// Returns the figures of the project. Linear in events, activities, accounts and items.
     pub(crate) fn of(alloc: Global, project: &Project) -> Result<Earned, AllocError>
         ensures { IfOk result (IsEarned project.now) }
     {
@@ -38,28 +38,28 @@ impl Earned {
         })
     }
 
-    /// The forecasts.
+    /// Returns the forecasts of events and the slacks of items.
     pub(crate) fn forecasts(&self) -> &Forecasts
         ensures { result.now ≡ self.now.forecasts }
     {
         &self.forecasts
     }
 
-    /// What the work of each item is worth.
+    /// Returns the value of the work of each item.
     pub(crate) fn worth(&self) -> &Worth
         ensures { result.now ≡ self.now.worth }
     {
         &self.worth
     }
 
-    /// How many items there are.
+    /// Returns how many items there are.
     pub(crate) fn items(&self) -> usize
         ensures { result ≡ length self.now.outline }
     {
         self.outline.len()
     }
 
-    /// The `k`-th item, with its level.
+    /// Returns the `k`-th item in preorder, with its level.
     pub(crate) fn row(&self, k: usize) -> OutlineRow
         requires { k < length self.now.outline }
         ensures { result ≡ row_at self.now.outline k }
@@ -68,7 +68,6 @@ impl Earned {
     }
 }
 
-/// What the work of each item of the project is worth.
 fn worth_of(alloc: Global, project: &Project) -> Result<Worth, AllocError>
     ensures { IfOk result (IsWorthOf project.now.tree project.now.places project.now.states project.now.accounts
         project.now.entries) }

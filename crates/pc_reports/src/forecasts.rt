@@ -1,4 +1,4 @@
-//! When the events are expected, and how long the work of each item can wait.
+//! The forecasts of events, and the least forecast slack of each item.
 ghost use Rattle.std.specs.Prelude.{◌≡◌, ◌<◌, ◌≤◌, ◌^◌, pos, unsigned_abs, length, slice_index, slice_index_or, IfOk, []};
 ghost use Rattle.std.specs.List.{All};
 ghost use Rattle.pc_times.specs.declared.TheConstants.{MAX_TIME};
@@ -15,8 +15,8 @@ use pc_times::{Forecast, early, forecast};
 use std::alloc::{AllocError, Global};
 use std::marker::Model;
 
-/// For each event when it is expected, its latest time and the date of when it is expected; for each item the least
-/// forecast slack of the activities that stand on it or below it.
+/// For each event its forecast with the date, and its latest time; for each item the least forecast slack of the
+/// activities on it or below it.
 ///
 /// Times are in sixths of a day from the project's start.
 #[derive(Drop)]
@@ -40,7 +40,7 @@ impl Model for Forecasts {
 }
 
 impl Forecasts {
-    /// The forecasts of the project. Linear in events, activities and items.
+    /// Returns the forecasts of the project. Linear in events, activities and items.
     pub(crate) fn of(alloc: Global, project: &Project) -> Result<Forecasts, AllocError>
         ensures { IfOk result (AreForecasts project.now) }
     {
@@ -48,7 +48,6 @@ impl Forecasts {
         Forecasts::told(alloc, project, &expected)
     }
 
-    /// What there is to tell where the project is expected to go so.
     fn told(alloc: Global, project: &Project, expected: &Forecast) -> Result<Forecasts, AllocError>
         requires { IsForecastOf project.now expected.now }
         ensures { IfOk result (AreForecasts project.now) }
@@ -63,7 +62,7 @@ impl Forecasts {
         })
     }
 
-    /// When an event is expected.
+    /// Returns the forecast of an event.
     pub(crate) fn time(&self, e: u32) -> u64
         requires { e < length self.now.times }
         ensures time { result ≡ slice_index self.now.times e }
@@ -72,7 +71,7 @@ impl Forecasts {
         self.times[e as usize]
     }
 
-    /// The latest time of an event.
+    /// Returns the latest time of an event.
     pub(crate) fn late(&self, e: u32) -> i64
         requires { e < length self.now.late }
         ensures time { result ≡ slice_index_or self.now.late e (pos 0) }
@@ -81,7 +80,7 @@ impl Forecasts {
         self.late[e as usize]
     }
 
-    /// The date of when an event is expected, or ten hyphens where it is past the days that are printed.
+    /// Returns the date of the forecast of an event, or ten hyphens if it is past the days that are printed.
     pub(crate) fn date(&self, e: u32) -> &[u8; DATE_LENGTH]
         requires { e < length self.now.dates }
         ensures { result.now ≡ slice_index_or self.now.dates e [] }
@@ -89,7 +88,7 @@ impl Forecasts {
         &self.dates[e as usize]
     }
 
-    /// The least forecast slack of the activities that stand on an item or below it, or none where there are none.
+    /// Returns the least forecast slack of the activities on an item or below it, or `None` if there are none.
     pub(crate) fn slack(&self, item: u32) -> Option<i64>
         requires { item < length self.now.slacks }
         ensures { result ≡ least_at self.now.slacks item }
@@ -98,7 +97,6 @@ impl Forecasts {
     }
 }
 
-/// When the events of the project are expected, and when its activities are to be finished.
 fn forecast_of(alloc: Global, project: &Project) -> Result<Forecast, AllocError>
     ensures { IfOk result (IsForecastOf project.now) }
 {
@@ -107,7 +105,7 @@ fn forecast_of(alloc: Global, project: &Project) -> Result<Forecast, AllocError>
     forecast(alloc, net, lengths, project.states(), as_of)
 }
 
-/// When each event must be reached at the latest, so that the end can be met.
+/// Returns the latest time of each event at which the end can still be met.
 fn late_times(alloc: Global, project: &Project) -> Result<Vec<i64>, AllocError>
     ensures late { IfOk result (λ late. AreLateFor project.now late.items) }
     ensures limit { IfOk result (λ late. All (λ time. unsigned_abs time ≤ MAX_TIME) late.items) }
@@ -117,7 +115,7 @@ fn late_times(alloc: Global, project: &Project) -> Result<Vec<i64>, AllocError>
     late_to_meet(alloc, project, reached[net.end() as usize])
 }
 
-/// For each item the least forecast slack of the activities that stand on it or below it.
+/// Returns for each item the least forecast slack of the activities on it or below it.
 fn item_slacks(
     alloc: Global,
     project: &Project,
@@ -134,7 +132,7 @@ fn item_slacks(
     least_slacks(alloc, tree, places, project.net(), late, expected)
 }
 
-/// When each event is expected, in card order.
+/// Returns the forecast of each event, in card order.
 fn event_times(
     alloc: Global,
     project: &Project,

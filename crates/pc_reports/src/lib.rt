@@ -1,4 +1,4 @@
-//! The texts of the reports, line by line, as they are put on a page.
+//! The texts of the reports, line by line.
 #![tactic(auto)]
 
 mod cells;
@@ -22,9 +22,9 @@ mod view;
 
 pub use check::write_check;
 pub use outlook_report::OutlookReport;
-pub use schedule::{Schedule, put_plan, put_schedule, write_schedule};
+pub use schedule::{Schedule, put_plan, put_schedule, write_schedule, write_schedule_on};
 pub use summary_report::SummaryReport;
 pub use times::end_to_meet;
-pub use times_report::{TimesReport, write_times};
+pub use times_report::{TimesReport, write_times, write_times_on};
 pub use value_report::ValueReport;
 pub use view::TimesView;

@@ -7,8 +7,8 @@ use pc_crash::CrashNet;
 use pc_project::Project;
 use std::alloc::{AllocError, Global};
 
-/// What each activity costs at its duration. Durations are in units, one per activity in card order. Linear in activities and
-/// pieces.
+/// Returns what each activity costs at its duration. Durations are in units, one per activity in card order. Linear in
+/// activities and pieces.
 pub(crate) fn costs_at(
     alloc: Global,
     project: &Project,
@@ -23,7 +23,6 @@ pub(crate) fn costs_at(
     costs_in(alloc, &net, durations)
 }
 
-/// What each activity of a network costs at its duration.
 fn costs_in(alloc: Global, net: &CrashNet<'_>, durations: &[u64]) -> Result<Vec<u64>, AllocError>
     requires { length durations.now ≡ length net.now.network.arcs }
     ensures costs { IfOk result (λ costs. AreCostsIn net.now durations.now (length net.now.network.arcs) costs.items) }

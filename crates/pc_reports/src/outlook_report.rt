@@ -1,4 +1,4 @@
-//! The outlook: what the items are going to cost at given durations of the activities.
+//! The outlook: what the items will cost at given durations of the activities.
 ghost use Rattle.std.specs.Prelude.{◌≡◌, ◌++◌, length, IfOk};
 ghost use Rattle.pc_edges.specs.inside.Writes.{Writes};
 ghost use Rattle.pc_edges.specs.inside.page.Puts.{Puts};
@@ -16,13 +16,11 @@ use pc_rollup::figures::Outlook;
 use std::alloc::{AllocError, Global};
 use std::marker::Model;
 
-/// The words above the items.
 const HEAD: &[u8] = b"ITEM             LV         BUDGET        OUTLOOK         CHANGE TITLE\n";
 
-/// What the items of a project are going to cost, where its activities last so long: it takes all its memory when it is
-/// built, and is written without.
+/// The outlook of a project: what its items will cost if its activities have given durations.
 ///
-/// In contracts it is the outlook that it tells.
+/// It takes all its memory when it is built; writing takes none. Contracts see it as the figures that it prints.
 #[derive(Drop)]
 pub struct OutlookReport {
     page: Page,
@@ -42,8 +40,12 @@ impl Model for OutlookReport {
 }
 
 impl OutlookReport {
-    /// The outlook of the project at these durations, which are in units, one per activity in card order. Linear in its
-    /// activities, pieces, accounts and items.
+    /// Returns the outlook of the project at these durations, which are in units, one per activity in card order.
+    /// Linear in activities, pieces, accounts and items.
+    ///
+    /// # Errors
+    ///
+    /// `AllocError` if there is no memory for it.
     pub fn build(
         alloc: Global,
         project: &Project,
@@ -60,6 +62,10 @@ impl OutlookReport {
     }
 
     /// Writes the outlook, a row for each item in preorder, and flushes the sink.
+    ///
+    /// # Errors
+    ///
+    /// `Failed` if a push or the flush failed. The sink has taken the first bytes of the text then, or none.
     pub fn write<O: Sink>(&mut self, project: &Project, sink: &mut O) -> Result<(), Failed>
         requires { IsOutlookFor project.now self.old }
         ensures text { Writes result (O.taken sink.old) (O.taken sink.new) (O.faults sink.old) (O.faults sink.new)
@@ -70,7 +76,11 @@ impl OutlookReport {
         self.page.finish(sink)
     }
 
-    /// Writes a schedule and the outlook after it, and flushes the sink.
+    /// Writes a schedule and then the outlook, and flushes the sink.
+    ///
+    /// # Errors
+    ///
+    /// `Failed` if a push or the flush failed. The sink has taken the first bytes of the text then, or none.
     pub fn write_after<O: Sink>(
         &mut self,
         schedule: &Schedule<'_>,
@@ -89,7 +99,6 @@ impl OutlookReport {
     }
 }
 
-/// What the items are going to cost at these durations.
 fn outlook_at(alloc: Global, project: &Project, durations: &[u64]) -> Result<Outlook, AllocError>
     requires { length durations.now ≡ length project.now.network.arcs }
     ensures outlook { IfOk result (IsOutlook project.now durations.now) }
@@ -101,7 +110,6 @@ fn outlook_at(alloc: Global, project: &Project, durations: &[u64]) -> Result<Out
     Outlook::of(alloc, tree, places, &costs, project.accounts(), entries)
 }
 
-/// Puts the outlook on a page.
 fn put_outlook<O: Sink>(page: &mut Page, sink: &mut O, project: &Project, outlook: &Outlook)
     requires { IsOutlookFor project.now outlook.now }
     ensures { Puts O.taken O.faults page.old sink.old page.new sink.new (outlook_text project.now outlook.now) }

@@ -38,7 +38,6 @@ impl<'a> Rows for OutlookRows<'a> {
     }
 }
 
-/// Puts the row of an item.
 fn put_amounts<O: Sink>(
     page: &mut Page,
     sink: &mut O,

@@ -1,12 +1,14 @@
 //! The text of a schedule.
-ghost use Rattle.std.specs.Prelude.{◌≡◌, length};
+ghost use Rattle.std.specs.Prelude.{◌≡◌, length, length as length_of};
 ghost use Rattle.pc_edges.specs.inside.Writes.{Writes};
 ghost use Rattle.pc_edges.specs.inside.page.Page.{fresh};
 ghost use Rattle.pc_edges.specs.inside.page.Puts.{Puts};
 ghost use Rattle.pc_reports.specs.Lines.{line_at};
-ghost use Rattle.pc_reports.specs.inside.Schedule.{plan_of, text_of, IsWhole};
+ghost use Rattle.pc_reports.specs.Schedule.{schedule_text};
+ghost use Rattle.pc_reports.specs.inside.Schedule.{durations_text, plan_of, text_of, times_text, IsWhole};
 
 use crate::lines::{put_named, put_number};
+use pc_crash::CrashNet;
 use pc_edges::page::{Page, Rows, put_rows};
 use pc_edges::{Failed, Sink};
 use pc_text::Code;
@@ -23,9 +25,68 @@ pub struct Schedule<'a> {
     pub durations: &'a [u64],
 }
 
-/// Writes a schedule and flushes the sink: the length and the cost, the time of each event, and the duration of each
-/// activity.
+/// Writes a schedule of a network: its length and its cost, the time of each event and the duration of each activity,
+/// in card order.
+///
+/// Each piece of the text is pushed as it comes. So it takes no memory, and it does not flush the sink. With a page at
+/// hand, [`write_schedule_on`] pushes less often.
+///
+/// # Errors
+///
+/// `Failed` if a push failed. The sink has taken the first bytes of the text then, or none.
 pub fn write_schedule<O: Sink>(
+    sink: &mut O,
+    net: &CrashNet<'_>,
+    length: u64,
+    cost: u64,
+    times: &[u64],
+    durations: &[u64],
+) -> Result<(), Failed>
+    requires times { length_of times.now ≡ net.now.network.events }
+    requires durations { length_of durations.now ≡ length_of net.now.network.arcs }
+    ensures { Writes result (O.taken sink.old) (O.taken sink.new) (O.faults sink.old) (O.faults sink.new)
+        (schedule_text length cost net.now.events times.now net.now.activities durations.now) }
+{
+    let mut page = Page::without_buffer();
+    put_number(&mut page, sink, b"LENGTH ", length);
+    put_number(&mut page, sink, b"COST ", cost);
+    put_times(&mut page, sink, net, times);
+    put_durations(&mut page, sink, net, durations);
+    page.push_out(sink)
+}
+
+fn put_times<O: Sink>(page: &mut Page, sink: &mut O, net: &CrashNet<'_>, times: &[u64])
+    requires { length times.now ≡ net.now.network.events }
+    ensures { Puts O.taken O.faults page.old sink.old page.new sink.new (times_text net.now.events times.now) }
+{
+    for e in 0..net.net().events() {
+        put_named(page, sink, b"EVENT ", &net.event_code(e), times[e as usize]);
+    }
+}
+
+fn put_durations<O: Sink>(page: &mut Page, sink: &mut O, net: &CrashNet<'_>, durations: &[u64])
+    requires { length durations.now ≡ length net.now.network.arcs }
+    ensures { Puts O.taken O.faults page.old sink.old page.new sink.new
+        (durations_text net.now.activities durations.now) }
+{
+    for a in 0..net.net().activities() {
+        put_named(
+            page,
+            sink,
+            b"ACT ",
+            &net.activity_code(a),
+            durations[a as usize],
+        );
+    }
+}
+
+/// Writes a schedule on a page and flushes the sink: its length and its cost, the time of each event and the duration
+/// of each activity, in card order.
+///
+/// # Errors
+///
+/// `Failed` if a push or the flush failed.
+pub fn write_schedule_on<O: Sink>(
     page: &mut Page,
     sink: &mut O,
     schedule: &Schedule<'_>,
@@ -40,7 +101,7 @@ pub fn write_schedule<O: Sink>(
     page.finish(sink)
 }
 
-/// Puts the lines of a schedule on a page, on which more may follow.
+/// Puts the lines of a schedule on a page. More can follow there.
 pub fn put_schedule<O: Sink>(page: &mut Page, sink: &mut O, schedule: &Schedule<'_>)
     requires { IsWhole schedule.now }
     ensures { Puts O.taken O.faults page.old sink.old page.new sink.new (text_of schedule.now) }
@@ -50,7 +111,7 @@ pub fn put_schedule<O: Sink>(page: &mut Page, sink: &mut O, schedule: &Schedule<
     put_plan(page, sink, schedule);
 }
 
-/// Puts the lines of its events and activities alone.
+/// Puts only the lines of the events and activities of a schedule on a page.
 pub fn put_plan<O: Sink>(page: &mut Page, sink: &mut O, schedule: &Schedule<'_>)
     requires { IsWhole schedule.now }
     ensures { Puts O.taken O.faults page.old sink.old page.new sink.new (plan_of schedule.now) }

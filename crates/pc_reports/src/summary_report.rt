@@ -13,13 +13,13 @@ use pc_rollup::figures::Summary;
 use std::alloc::{AllocError, Global};
 use std::marker::Model;
 
-/// The words above the items.
 const HEAD: &[u8] =
     b"ITEM             LV         BUDGET         ACTUAL          TO-GO         LATEST        OVERRUN TITLE\n";
 
-/// The management summary of a project: it takes all its memory when it is built, and is written without.
+/// The management summary of a project: budget, actual cost, cost to go, latest estimate and overrun of each item and
+/// level.
 ///
-/// In contracts it is the summary that it tells.
+/// It takes all its memory when it is built; writing takes none. Contracts see it as the figures that it prints.
 #[derive(Drop)]
 pub struct SummaryReport {
     page: Page,
@@ -39,7 +39,11 @@ impl Model for SummaryReport {
 }
 
 impl SummaryReport {
-    /// The summary of the project. It takes time in proportion to its accounts, and to its items at each level.
+    /// Returns the summary of the project. Linear in its accounts, and in its items at each level.
+    ///
+    /// # Errors
+    ///
+    /// `AllocError` if there is no memory for it.
     pub fn build(alloc: Global, project: &Project) -> Result<SummaryReport, AllocError>
         ensures summary { IfOk result (IsSummary project.now) }
         ensures once { IfOk result (ChargesCountOnce project.now) }
@@ -52,6 +56,10 @@ impl SummaryReport {
     }
 
     /// Writes the summary, a row for each item in preorder and for each level, and flushes the sink.
+    ///
+    /// # Errors
+    ///
+    /// `Failed` if a push or the flush failed. The sink has taken the first bytes of the text then, or none.
     pub fn write<O: Sink>(&mut self, project: &Project, sink: &mut O) -> Result<(), Failed>
         requires { IsSummary project.now self.old }
         ensures text { Writes result (O.taken sink.old) (O.taken sink.new) (O.faults sink.old) (O.faults sink.new)
@@ -63,7 +71,6 @@ impl SummaryReport {
     }
 }
 
-/// Puts the summary on a page.
 fn put_summary<O: Sink>(page: &mut Page, sink: &mut O, project: &Project, summary: &Summary)
     requires { IsSummary project.now summary.now }
     ensures { Puts O.taken O.faults page.old sink.old page.new sink.new (summary_text project.now summary.now) }

@@ -61,7 +61,6 @@ impl<'a> Rows for LevelRows<'a> {
     }
 }
 
-/// Puts the row of an item.
 fn put_item<O: Sink>(
     page: &mut Page,
     sink: &mut O,
@@ -83,7 +82,6 @@ fn put_item<O: Sink>(
     put_title_cell(page, sink, title);
 }
 
-/// Puts the row of a level.
 fn put_level<O: Sink>(page: &mut Page, sink: &mut O, level: u64, amounts: &SummaryAmounts)
     ensures { Puts O.taken O.faults page.old sink.old page.new sink.new (level_cells level amounts.now) }
 {

@@ -1,4 +1,4 @@
-//! What the report of event times tells.
+//! The figures of the report of event times.
 ghost use Rattle.std.specs.Prelude.{◌≡◌, ◌<◌, ◌≤◌, ◌≤ℤ◌, pos, unsigned_abs, length, slice_index, slice_index_or, IfOk};
 ghost use Rattle.std.specs.List.{All};
 ghost use Rattle.std.specs.Option.{ForSome};
@@ -35,7 +35,7 @@ impl Model for Times {
 }
 
 impl Times {
-    /// The times of the project. Linear in events and activities.
+    /// Returns the times of the project. Linear in events and activities.
     pub fn of(alloc: Global, project: &Project) -> Result<Times, AllocError>
         ensures times { IfOk result (IsTimes project.now) }
         ensures small { IfOk result AreSmall }
@@ -45,7 +45,7 @@ impl Times {
         Ok(Times { longest, late })
     }
 
-    /// The earliest time of an event.
+    /// Returns the earliest time of an event.
     pub fn early(&self, e: u32) -> u64
         requires { e < length self.now.early }
         ensures time { result ≡ slice_index self.now.early e }
@@ -54,7 +54,7 @@ impl Times {
         self.longest.times()[e as usize]
     }
 
-    /// The latest time of an event.
+    /// Returns the latest time of an event.
     pub fn late(&self, e: u32) -> i64
         requires { e < length self.now.late }
         ensures time { result ≡ slice_index_or self.now.late e (pos 0) }
@@ -63,7 +63,7 @@ impl Times {
         self.late[e as usize]
     }
 
-    /// The activities of the critical path, from the start event to the end event.
+    /// Returns the activities of the critical path, from the start event to the end event.
     pub fn path(&self) -> &[u32]
         ensures path { result.now ≡ self.now.path }
         ensures short { length result.now ≤ MAX_EVENTS }
@@ -72,7 +72,7 @@ impl Times {
     }
 }
 
-/// When each event must be reached at the latest, so that the end can be met.
+/// Returns the latest time of each event at which the end can still be met.
 pub(crate) fn late_to_meet(
     alloc: Global,
     project: &Project,
@@ -87,7 +87,8 @@ pub(crate) fn late_to_meet(
     late(alloc, project.net(), project.expected(), by)
 }
 
-/// When the end is to be met: the directed number of days, or else when it is reached.
+/// Returns the time at which the end is to be met, in sixths of a day: `directed` days if they are given, and otherwise
+/// `reached`, the earliest time of the end event.
 pub fn end_to_meet(directed: Option<u64>, reached: u64) -> i64
     requires directed { ForSome directed (λ days. days ≤ MAX_DIRECTED) }
     requires reached { reached ≤ MAX_TIME }

@@ -2,6 +2,7 @@
 ghost use Rattle.std.specs.Prelude.{◌≡◌, IfOk};
 ghost use Rattle.pc_edges.specs.inside.Writes.{Writes};
 ghost use Rattle.pc_edges.specs.inside.page.Page.{fresh};
+ghost use Rattle.pc_edges.specs.inside.page.Puts.{Puts};
 ghost use Rattle.pc_reports.specs.Times.{IsTimes};
 ghost use Rattle.pc_reports.specs.TimesText.{times_text};
 ghost use Rattle.pc_reports.specs.inside.View.{IsShownOf, as_shown};
@@ -16,9 +17,9 @@ use pc_project::Project;
 use std::alloc::{AllocError, Global};
 use std::marker::Model;
 
-/// The report of a project's event times: it takes all its memory when it is built, and is written without.
+/// The report of a project's event times: earliest and latest times, slacks and the critical path.
 ///
-/// In contracts it is the times that it tells.
+/// It takes all its memory when it is built; writing takes none. Contracts see it as the figures that it prints.
 #[derive(Drop)]
 pub struct TimesReport {
     page: Page,
@@ -39,7 +40,11 @@ impl Model for TimesReport {
 }
 
 impl TimesReport {
-    /// The report of the project. Linear in its events and activities.
+    /// Returns the report of the project. Linear in its events and activities.
+    ///
+    /// # Errors
+    ///
+    /// `AllocError` if there is no memory for it.
     pub fn build(alloc: Global, project: &Project) -> Result<TimesReport, AllocError>
         ensures { IfOk result (IsTimes project.now) }
     {
@@ -51,6 +56,10 @@ impl TimesReport {
 
     /// Writes the report, a row for each event and for each activity and the critical path with its variance, and
     /// flushes the sink.
+    ///
+    /// # Errors
+    ///
+    /// `Failed` if a push or the flush failed. The sink has taken the first bytes of the text then, or none.
     pub fn write<O: Sink>(&mut self, project: &Project, sink: &mut O) -> Result<(), Failed>
         requires { IsTimes project.now self.old }
         ensures text { Writes result (O.taken sink.old) (O.taken sink.new) (O.faults sink.old) (O.faults sink.new)
@@ -63,13 +72,40 @@ impl TimesReport {
             project,
             times: &self.times,
         };
-        write_times(&mut self.page, sink, project, &view)
+        write_times_on(&mut self.page, sink, project, &view)
     }
 }
 
-/// Writes the report of event times from a view of the project's: a row for each event and for each activity, and the
-/// critical path with its variance. It flushes the sink, and takes no memory.
+/// Writes the report of event times from a view: a row for each event and for each activity, in card order, and the
+/// critical path with its variance.
+///
+/// Each piece of the text is pushed as it comes. So it takes no memory, and it does not flush the sink. With a page at
+/// hand, [`write_times_on`] pushes less often.
+///
+/// # Errors
+///
+/// `Failed` if a push failed. The sink has taken the first bytes of the text then, or none.
 pub fn write_times<O: Sink, V: TimesView>(
+    sink: &mut O,
+    project: &Project,
+    view: &V,
+) -> Result<(), Failed>
+    requires { IsShownOf project.now (V.shown view.now) }
+    ensures { Writes result (O.taken sink.old) (O.taken sink.new) (O.faults sink.old) (O.faults sink.new)
+        (times_text (as_shown project.now (V.shown view.now)) (V.shown view.now).times) }
+{
+    let mut page = Page::without_buffer();
+    put_times(&mut page, sink, project, view);
+    page.push_out(sink)
+}
+
+/// Writes the report of event times on a page, from a view, and flushes the sink: a row for each event and for each
+/// activity, in card order, and the critical path with its variance. It takes no memory.
+///
+/// # Errors
+///
+/// `Failed` if a push or the flush failed.
+pub fn write_times_on<O: Sink, V: TimesView>(
     page: &mut Page,
     sink: &mut O,
     project: &Project,
@@ -81,9 +117,17 @@ pub fn write_times<O: Sink, V: TimesView>(
         (times_text (as_shown project.now (V.shown view.now)) (V.shown view.now).times) }
     ensures fresh { page.new ≡ fresh }
 {
+    put_times(page, sink, project, view);
+    page.finish(sink)
+}
+
+fn put_times<O: Sink, V: TimesView>(page: &mut Page, sink: &mut O, project: &Project, view: &V)
+    requires { IsShownOf project.now (V.shown view.now) }
+    ensures { Puts O.taken O.faults page.old sink.old page.new sink.new
+        (times_text (as_shown project.now (V.shown view.now)) (V.shown view.now).times) }
+{
     put_code(page, sink, b"TIMES ", &project.code());
     put_events(page, sink, project, view);
     put_activities(page, sink, project, view);
     put_path(page, sink, project, view);
-    page.finish(sink)
 }

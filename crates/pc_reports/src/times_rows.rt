@@ -13,10 +13,8 @@ use pc_project::Project;
 use pc_text::Code;
 use pc_times::slack;
 
-/// The words above the events.
 const EVENT_HEAD: &[u8] = b"EVENT                      TE           TL        SLACK DATE\n";
 
-/// The words above the activities.
 const ACTIVITY_HEAD: &[u8] = b"ACTIVITY             EXPECTED         VARIANCE        SLACK\n";
 
 /// Puts a row for each event, in card order.
@@ -58,7 +56,8 @@ pub(crate) fn put_activities<O: Sink, V: TimesView>(
     }
 }
 
-/// Puts a line for each activity of the critical path, and the sum of their variances, in thirty-sixths of a square day.
+/// Puts a line for each activity of the critical path, and the sum of their variances, in thirty-sixths of a square
+/// day.
 pub(crate) fn put_path<O: Sink, V: TimesView>(
     page: &mut Page,
     sink: &mut O,
@@ -80,7 +79,6 @@ pub(crate) fn put_path<O: Sink, V: TimesView>(
     put_number(page, sink, b"VARIANCE ", variance);
 }
 
-/// Puts the row of an event.
 fn put_event<O: Sink>(
     page: &mut Page,
     sink: &mut O,
@@ -105,7 +103,6 @@ fn put_event<O: Sink>(
     page.put(sink, b"\n");
 }
 
-/// Puts the row of an activity.
 fn put_activity<O: Sink>(
     page: &mut Page,
     sink: &mut O,
@@ -127,7 +124,7 @@ fn put_activity<O: Sink>(
     page.put(sink, b"\n");
 }
 
-/// How long an activity can wait, in sixths of a day: the time that it has between its events, less its expected time.
+/// Returns the slack of an activity in sixths of a day: the time between its events, less its expected time.
 fn activity_slack<V: TimesView>(project: &Project, view: &V, a: u32) -> i64
     requires view { IsShownOf project.now (V.shown view.now) }
     requires known { a < length project.now.network.arcs }

@@ -14,17 +14,14 @@ use pc_project::Project;
 use std::alloc::{AllocError, Global};
 use std::marker::Model;
 
-/// The words above the events.
 const EVENT_HEAD: &[u8] = b"EVENT                FORECAST       FSLACK DATE\n";
 
-/// The words above the items.
 const ITEM_HEAD: &[u8] =
     b"ITEM             LV         BUDGET         ACTUAL          VALUE        OVERRUN       FSLACK TITLE\n";
 
-/// The report of a project's forecast and of the value of its work: it takes all its memory when it is built, and is
-/// written without.
+/// The report of a project's forecast and of the value of its work.
 ///
-/// In contracts it is what it tells.
+/// It takes all its memory when it is built; writing takes none. Contracts see it as the figures that it prints.
 #[derive(Drop)]
 pub struct ValueReport {
     page: Page,
@@ -44,7 +41,11 @@ impl Model for ValueReport {
 }
 
 impl ValueReport {
-    /// The report of the project. Linear in its events, activities, accounts and items.
+    /// Returns the report of the project. Linear in its events, activities, accounts and items.
+    ///
+    /// # Errors
+    ///
+    /// `AllocError` if there is no memory for it.
     pub fn build(alloc: Global, project: &Project) -> Result<ValueReport, AllocError>
         ensures { IfOk result (IsEarned project.now) }
     {
@@ -55,6 +56,10 @@ impl ValueReport {
     }
 
     /// Writes the report, a row for each event and for each item in preorder, and flushes the sink.
+    ///
+    /// # Errors
+    ///
+    /// `Failed` if a push or the flush failed. The sink has taken the first bytes of the text then, or none.
     pub fn write<O: Sink>(&mut self, project: &Project, sink: &mut O) -> Result<(), Failed>
         requires { IsEarned project.now self.old }
         ensures text { Writes result (O.taken sink.old) (O.taken sink.new) (O.faults sink.old) (O.faults sink.new)
@@ -66,7 +71,6 @@ impl ValueReport {
     }
 }
 
-/// Puts the report on a page.
 fn put_value<O: Sink>(page: &mut Page, sink: &mut O, project: &Project, earned: &Earned)
     requires { IsEarned project.now earned.now }
     ensures { Puts O.taken O.faults page.old sink.old page.new sink.new (value_text project.now earned.now) }

@@ -70,7 +70,6 @@ impl<'a> Rows for WorthRows<'a> {
     }
 }
 
-/// Puts the row of an event.
 fn put_forecast<O: Sink>(
     page: &mut Page,
     sink: &mut O,
@@ -93,7 +92,6 @@ fn put_forecast<O: Sink>(
     page.put(sink, b"\n");
 }
 
-/// Puts the row of an item.
 fn put_worth<O: Sink>(
     page: &mut Page,
     sink: &mut O,
@@ -117,7 +115,7 @@ fn put_worth<O: Sink>(
     put_title_cell(page, sink, title);
 }
 
-/// Puts the slack of an item, or a hyphen where there is none.
+/// Puts the slack of an item, or a hyphen if it has none.
 fn put_slack<O: Sink>(page: &mut Page, sink: &mut O, slack: Option<i64>)
     ensures { Puts O.taken O.faults page.old sink.old page.new sink.new (right 12 (slack_text slack)) }
 {

@@ -1,4 +1,4 @@
-//! What the report of event times is written from.
+//! The trait of what the report of event times is written from.
 ghost use Rattle.std.specs.Prelude.{◌≡◌, ◌↔◌, ◌<◌, ◌≤◌, IfSome, IsNone, length, pos, slice_index, slice_index_or};
 ghost use Rattle.pc_reports.specs.inside.View.{Shown};
 
@@ -9,37 +9,37 @@ use pc_project::Project;
 ///
 /// Events and activities are numbered in card order from 0. Times are in sixths of a day from the project's start.
 pub trait TimesView {
-    // What it shows.
+    // The figures that it shows.
     ghost shown: { Self → Shown };
 
-    /// The expected time of an activity, in sixths of a day.
+    /// Returns the expected time of an activity, in sixths of a day.
     fn expected(&self, a: u32) -> u64
         requires { a < length (shown self.now).expected }
         ensures { result ≡ slice_index (shown self.now).expected a };
 
-    /// The variance of an activity's time, in thirty-sixths of a square day.
+    /// Returns the variance of an activity's time, in thirty-sixths of a square day.
     fn variance(&self, a: u32) -> u64
         requires { a < length (shown self.now).variances }
         ensures { result ≡ slice_index (shown self.now).variances a };
 
-    /// The earliest time of an event.
+    /// Returns the earliest time of an event.
     fn early(&self, e: u32) -> u64
         requires { e < length (shown self.now).times.early }
         ensures { result ≡ slice_index (shown self.now).times.early e };
 
-    /// The latest time of an event.
+    /// Returns the latest time of an event.
     fn late(&self, e: u32) -> i64
         requires { e < length (shown self.now).times.late }
         ensures { result ≡ slice_index_or (shown self.now).times.late e (pos 0) };
 
-    /// The activity of the critical path with a number from 0, from the start event to the end event; none past the last.
+    /// Returns the `k`-th activity of the critical path, counted from 0 at the start event, or `None` past the last.
     fn on_path(&self, k: u32) -> Option<u32>
         ensures known { IfSome result (λ a. k < length (shown self.now).times.path) }
         ensures activity { IfSome result (λ a. a ≡ slice_index (shown self.now).times.path k) }
         ensures past { IsNone result ↔ (length (shown self.now).times.path ≤ k) };
 }
 
-/// The times that a report has, and the project that they are of.
+/// The times that a report has, and their project.
 #[derive(Clone, Copy)]
 pub(crate) struct Reported<'a> {
     pub(crate) project: &'a Project,

@@ -15,8 +15,7 @@ use crate::network::AfterRow;
 use crate::phases::sound_rows;
 use pc_deck::{Cards, TaskCards};
 use pc_faults::DeckError;
-use pc_project::deck_text::deck_text_of;
-use pc_project::{Project, project_of};
+use pc_project::{Project, deck_text_of, project_of};
 use std::alloc::{AllocError, Global};
 
 /// Generates the plan of the tasks and makes its project.
@@ -49,7 +48,7 @@ pub fn arrows_of(alloc: Global, cards: &TaskCards) -> Result<Vec<u8>, DeckError>
         Ok(project) => project,
         Err(error) => return Err(error),
     };
-    match deck_text_of(&project, Vec::new(alloc)) {
+    match deck_text_of(alloc, &project) {
         Ok(text) => Ok(text),
         Err(_) => Err(DeckError::OutOfMemory),
     }

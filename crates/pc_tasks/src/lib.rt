@@ -17,3 +17,4 @@ mod rows;
 mod tree;
 
 pub use crate::arrows::{arrows_of, drawn_project};
+pub use pc_deck::{AfterCard, TaskCard, TaskCards, read_tasks};

@@ -40,6 +40,8 @@ mod small;
 #[cfg(test)]
 mod statuses;
 #[cfg(test)]
+mod surface;
+#[cfg(test)]
 mod tasks;
 #[cfg(test)]
 mod times;

@@ -6,7 +6,8 @@ ghost use Rattle.pc_certify.specs.inside.Spelled.{AreActsSpelled, AreEventsSpell
 use crate::certificates::{TEXT, priced};
 use crate::curves::solver;
 use crate::small::small_net;
-use pc_certify::{LastLines, put_end, put_head, put_segment};
+use pc_cert::{put_end, put_head};
+use pc_certify::{LastLines, put_segment_by};
 use pc_crash::{CrashNet, Steps};
 use pc_edges::MemSink;
 use pc_edges::page::Page;
@@ -35,11 +36,11 @@ fn put_parts<L: Ledger>(
     if !solver.next_segment(steps) {
         return false;
     }
-    put_segment(page, sink, net, solver, lines);
+    put_segment_by(page, sink, net, solver, lines);
     if !solver.next_segment(steps) {
         return false;
     }
-    put_segment(page, sink, net, solver, lines);
+    put_segment_by(page, sink, net, solver, lines);
     put_end(page, sink);
     true
 }

@@ -3,8 +3,7 @@ ghost use Rattle.std.specs.Prelude.{◌≤◌, length};
 
 use crate::figures::{Figures, figures_of};
 use pc_deck::read_cards;
-use pc_project::deck_text::deck_text_of;
-use pc_project::{Project, project_of};
+use pc_project::{Project, deck_text_of, project_of};
 use std::alloc::{AllocError, Global};
 
 /// What a deck answers that is read, and its project, if it makes one.
@@ -39,7 +38,7 @@ pub(crate) fn asked(alloc: Global, deck: &[u8], text: &[u8], again: &[u8]) -> Op
             figures: None,
         });
     };
-    let of_project = is_same(deck_text_of(&project, Vec::new(alloc)), again);
+    let of_project = is_same(deck_text_of(alloc, &project), again);
     let figures = figures_of(alloc, &project);
     let_go(project);
     Some(Told {

@@ -1,7 +1,7 @@
 //! A schedule as it is printed, and what a sink that is full or fails leaves of it.
 use pc_edges::page::Page;
 use pc_edges::{Failed, MemSink};
-use pc_reports::{Schedule, write_schedule};
+use pc_reports::{Schedule, write_schedule_on};
 use pc_text::Code;
 use std::alloc::Global;
 
@@ -28,7 +28,7 @@ fn written(
     };
     let mut page = Page::with_room(alloc, page_room).ok()?;
     let mut sink = MemSink::new(alloc, room, 1000, failing).ok()?;
-    let answer = write_schedule(&mut page, &mut sink, &schedule);
+    let answer = write_schedule_on(&mut page, &mut sink, &schedule);
     if !TEXT.starts_with(sink.bytes()) {
         return None;
     }

@@ -17,7 +17,7 @@ use std::marker::Model;
 /// The most bytes that a code has.
 const LIMIT: usize = 16;
 
-/// Each byte of a code stands at its own place, and a comma at every other place.
+/// Maps each byte that is allowed in a code to itself, and every other byte to a comma.
 static CODE_BYTES: [u8; 256] = *b"\
     ,,,,,,,,,,,,,,,,,,,,,,,,,,,,,,,,\
     ,,,,,,,,,,,,,-.,0123456789,,,,,,\
@@ -30,7 +30,7 @@ static CODE_BYTES: [u8; 256] = *b"\
 
 /// A short name: 1 to 16 bytes, each a letter, a digit, or one of `.`, `_` and `-`.
 ///
-/// Codes are ordered by their bytes.
+/// Codes are ordered by their bytes. A code is stored in the value itself and takes no memory.
 #[derive(Clone, Copy, Debug)]
 pub struct Code {
     cells: [u8; LIMIT],
@@ -55,7 +55,7 @@ impl Model for Code {
 }
 
 impl Code {
-    /// The code that a field of a deck spells, or none where it spells none.
+    /// Reads the code in a field of a deck. Returns `None` if the field is not a code.
     pub fn read(field: &[u8]) -> Option<Code>
         ensures { result ≡ code_of field.now }
     {
@@ -71,7 +71,7 @@ impl Code {
         })
     }
 
-    /// The bytes of the code.
+    /// Returns the bytes of the code.
     pub fn bytes(&self) -> &[u8]
         ensures value { result.now ≡ self.now }
         ensures code { IsTrue (is_code result.now) }
@@ -79,8 +79,9 @@ impl Code {
         &self.cells[..self.len as usize]
     }
 
-    /// The code as one number, which tells it from every other. A map that orders codes by their numbers compares two at a time
-    /// where one of their bytes would go through both.
+    /// Returns the code as one number. Two codes have the same number if and only if they are equal.
+    ///
+    /// Comparing numbers takes one step where comparing bytes takes up to 16.
     pub fn number(&self) -> u128
         ensures value { result ≡ number_of self.now }
         ensures back { code_in result ≡ self.now }
@@ -89,7 +90,6 @@ impl Code {
     }
 }
 
-/// Whether a byte may stand in a code.
 fn is_code_byte(byte: u8) -> bool
     ensures { result ≡ is_code_byte byte }
 {
@@ -97,34 +97,32 @@ fn is_code_byte(byte: u8) -> bool
     CODE_BYTES[byte as usize] != b','
 }
 
-/// Whether the field is a code: 1 to 16 bytes, each a letter, a digit, or one of `.`, `_` and `-`.
+/// Returns whether the field is a code: 1 to 16 bytes, each a letter, a digit, or one of `.`, `_` and `-`.
 pub fn is_code(field: &[u8]) -> bool
     ensures { result ≡ is_code field.now }
 {
     has_code_length(field) && has_code_bytes(field)
 }
 
-/// Whether the field has as many bytes as a code may have.
 fn has_code_length(field: &[u8]) -> bool
     ensures { result ≡ has_code_length field.now }
 {
     1 <= field.len() && field.len() <= LIMIT
 }
 
-/// Whether each byte may stand in a code.
 fn has_code_bytes(field: &[u8]) -> bool
     ensures { result ≡ list_all is_code_byte field.now }
 {
     field.iter().all(|byte| is_code_byte(*byte))
 }
 
-/// The bytes with zeros behind them, where each may stand in a code.
+/// Returns the bytes followed by zeros, or `None` if one of them is not allowed in a code.
 fn cells_of(field: &[u8]) -> Option<[u8; LIMIT]>
     requires { length field.now ≤ 16 }
     ensures { result ≡ cells_of field.now }
 {
     let mut cells = [0; LIMIT];
-    // No early end: what may not stand in a code is a comma in the cells, and these are tested all at once.
+    // No early end: a byte that is not allowed becomes a comma, and all cells are tested for commas at once.
     for i in 0..field.len() {
         cells[i] = code_byte(field[i]);
     }
@@ -135,14 +133,13 @@ fn cells_of(field: &[u8]) -> Option<[u8; LIMIT]>
     }
 }
 
-/// The byte where it may stand in a code, and a comma where it may not.
+/// Returns the byte if it is allowed in a code, and a comma otherwise.
 fn code_byte(byte: u8) -> u8
     ensures { result ≡ (if is_code_byte byte then byte else 44) }
 {
     CODE_BYTES[byte as usize]
 }
 
-/// Whether none of the cells is a comma.
 fn has_no_comma(cells: &[u8; LIMIT]) -> bool
     ensures { result ≡ list_all (λ cell. not (nat_eq cell 44)) cells.now }
 {

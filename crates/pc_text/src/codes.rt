@@ -5,7 +5,7 @@ use crate::code::Code;
 use std::alloc::{AllocError, Global};
 use std::marker::Model;
 
-/// A list of codes, in an order that its maker chose.
+/// A list of codes, in the order in which they were given.
 #[derive(Debug, Drop)]
 pub struct Codes {
     items: Vec<Code>,
@@ -20,7 +20,11 @@ impl Model for Codes {
 }
 
 impl Codes {
-    /// A list of these codes.
+    /// Returns a list of these codes, in this order.
+    ///
+    /// # Errors
+    ///
+    /// `AllocError` if there is no memory for the copy.
     pub fn of(alloc: Global, codes: &[Code]) -> Result<Codes, AllocError>
         ensures { IfOk result (λ list. list ≡ codes.now) }
     {
@@ -29,7 +33,7 @@ impl Codes {
         })
     }
 
-    /// The codes, in order.
+    /// Returns the codes, in order.
     pub fn as_slice(&self) -> &[Code]
         ensures { result.now ≡ self.now }
     {

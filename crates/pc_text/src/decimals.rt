@@ -12,12 +12,22 @@ const MOST_WIDE: usize = 39;
 
 /// The decimal form of a number, in at most `N` bytes.
 ///
-/// The digits stand at the end of the cells, since the last one is found first.
+/// It is stored in the value itself and takes no memory.
 #[derive(Debug, Drop)]
 pub struct Decimal<const N: usize> {
+    // The digits are at the end, because the last one is found first.
     cells: [u8; N],
     start: usize,
 }
+
+/// The decimal form of a `u64`, as [`digits`](crate::digits) returns it.
+pub type Digits = Decimal<MOST>;
+
+/// The decimal form of an `i64`, as [`signed`](crate::signed) returns it.
+pub type Signed = Decimal<MOST>;
+
+/// The decimal form of a `u128`, as [`wide`](crate::wide) returns it.
+pub type Wide = Decimal<MOST_WIDE>;
 
 impl<const N: usize> Model for Decimal<N> {
     ghost use Rattle.std.specs.Prelude.{◌≡◌, ◌≤◌, ℕ, List, drop, length};
@@ -30,7 +40,7 @@ impl<const N: usize> Model for Decimal<N> {
 }
 
 impl<const N: usize> Decimal<N> {
-    /// The bytes, from the first digit or the sign.
+    /// Returns the bytes, from the first digit or the sign on.
     pub fn bytes(&self) -> &[u8]
         ensures { result.now ≡ self.now }
     {
@@ -47,7 +57,6 @@ static PAIRS: [u8; 200] = *b"\
     6061626364656667686970717273747576777879\
     8081828384858687888990919293949596979899";
 
-/// The first of the two digits of a number.
 fn tens(number: usize) -> u8
     requires { number < 100 }
     ensures { result ≡ 48 + number / 10 }
@@ -55,7 +64,6 @@ fn tens(number: usize) -> u8
     PAIRS[2 * number]
 }
 
-/// The second of the two digits of a number.
 fn ones(number: usize) -> u8
     requires { number < 100 }
     ensures { result ≡ 48 + number % 10 }
@@ -63,8 +71,8 @@ fn ones(number: usize) -> u8
     PAIRS[2 * number + 1]
 }
 
-/// The decimal form of a number without a sign, which takes at most so many bytes. It is divided as numbers of its own type are, and
-/// two digits at a time.
+/// The decimal form of a number without a sign, in at most so many bytes. It finds two digits with each division, and
+/// divides numbers of the type that the number has.
 macro_rules! unsigned {
     ($n:expr, $most:expr) => {{
         let mut cells = [0; $most];
@@ -88,22 +96,19 @@ macro_rules! unsigned {
     }};
 }
 
-/// The decimal form of a number.
-pub(crate) fn of_unsigned(n: u64) -> Decimal<MOST>
+pub(crate) fn of_unsigned(n: u64) -> Digits
     ensures { result ≡ decimal n }
 {
     unsigned!(n, MOST)
 }
 
-/// The decimal form of a number that may be too great for 64 bits.
-pub(crate) fn of_wide(n: u128) -> Decimal<MOST_WIDE>
+pub(crate) fn of_wide(n: u128) -> Wide
     ensures { result ≡ decimal n }
 {
     unsigned!(n, MOST_WIDE)
 }
 
-/// The decimal form of a number, with `-` before a negative one.
-pub(crate) fn of_signed(n: i64) -> Decimal<MOST>
+pub(crate) fn of_signed(n: i64) -> Signed
     ensures { result ≡ signed_decimal n }
 {
     let digits = of_unsigned(n.unsigned_abs());

@@ -1,9 +1,9 @@
-//! The fields of a line: each is a space and the word behind it.
+//! The fields of a line: each is a space and the word after it.
 ghost use Rattle.std.specs.Prelude.{◌≡◌, ◌≤◌, length};
 ghost use Rattle.std.specs.Option.{option_map};
 ghost use Rattle.pc_text.specs.Fields.{run_len, field};
 
-/// How many bytes stand before the first `stop`.
+/// Returns how many bytes are before the first `stop`: all of them if there is none.
 #[inline]
 pub fn run_len(bytes: &[u8], stop: u8) -> usize
     ensures value { result ≡ run_len stop bytes.now }
@@ -17,7 +17,8 @@ pub fn run_len(bytes: &[u8], stop: u8) -> usize
     bytes.len()
 }
 
-/// The word behind the space at the front, and the bytes behind the word.
+/// Splits off the first field. Returns its word and the bytes after it, or `None` if the bytes do not begin with a
+/// space.
 #[inline]
 #[tactic(auto, unfolding(crate::specs::Fields::field))]
 pub fn field(bytes: &[u8]) -> Option<(&[u8], &[u8])>

@@ -1,11 +1,11 @@
-//! The line that a report is written on, cell by cell, before it goes out in one piece.
+//! A line of a report, put together cell by cell before it is written in one piece.
 ghost use Rattle.std.specs.Prelude.{◌≡◌, ◌+◌, ◌-◌, ◌≤◌, max, [], ◌++◌, length, IfOk};
 ghost use Rattle.pc_text.specs.Line.{spaces};
 
 use std::alloc::{AllocError, Global};
 use std::marker::Model;
 
-/// A line of a report, which takes its memory once and is used again for each line.
+/// A line of a report. It takes its memory once and is used again for each line.
 #[derive(Debug, Drop)]
 pub struct Line {
     bytes: Vec<u8>,
@@ -24,7 +24,11 @@ impl Model for Line {
 }
 
 impl Line {
-    /// An empty line that can hold `room` bytes.
+    /// Returns an empty line that can hold `room` bytes. It takes no other memory later.
+    ///
+    /// # Errors
+    ///
+    /// `AllocError` if there is no memory for so many bytes.
     pub fn with_room(alloc: Global, room: usize) -> Result<Line, AllocError>
         ensures empty { IfOk result (λ line. line.bytes ≡ []) }
         ensures room { IfOk result (λ line. line.room ≡ room) }
@@ -35,14 +39,14 @@ impl Line {
         })
     }
 
-    /// How many more bytes the line can hold.
+    /// Returns how many more bytes the line can hold.
     pub fn room_left(&self) -> usize
         ensures { result + length self.now.bytes ≡ self.now.room }
     {
         self.room - self.bytes.len()
     }
 
-    /// Takes all bytes off the line.
+    /// Removes all bytes from the line.
     pub fn clear(&mut self)
         ensures bytes { self.new.bytes ≡ [] }
         ensures room { self.new.room ≡ self.old.room }
@@ -50,7 +54,7 @@ impl Line {
         self.bytes.clear();
     }
 
-    /// The bytes on the line.
+    /// Returns the bytes on the line.
     pub fn bytes(&self) -> &[u8]
         ensures { result.now ≡ self.now.bytes }
     {
@@ -66,7 +70,8 @@ impl Line {
         self.bytes.extend_from_slice(piece).unwrap();
     }
 
-    /// Appends the piece at the left of a cell of this width. A longer piece is appended whole.
+    /// Appends the piece, and then the spaces that fill it to the width. A piece longer than the width is appended as
+    /// it is.
     pub fn cell_left(&mut self, piece: &[u8], width: usize)
         requires { length self.old.bytes + max (length piece.now) width ≤ self.old.room }
         ensures bytes { self.new.bytes ≡ self.old.bytes ++ piece.now ++ spaces (width - length piece.now) }
@@ -77,7 +82,8 @@ impl Line {
         self.spaces(behind);
     }
 
-    /// Appends the piece at the right of a cell of this width. A longer piece is appended whole.
+    /// Appends the spaces that fill the piece to the width, and then the piece. A piece longer than the width is
+    /// appended as it is.
     pub fn cell_right(&mut self, piece: &[u8], width: usize)
         requires { length self.old.bytes + max (length piece.now) width ≤ self.old.room }
         ensures bytes { self.new.bytes ≡ self.old.bytes ++ spaces (width - length piece.now) ++ piece.now }
@@ -88,7 +94,6 @@ impl Line {
         self.text(piece);
     }
 
-    /// Appends so many spaces.
     fn spaces(&mut self, count: usize)
         requires { length self.old.bytes + count ≤ self.old.room }
         ensures bytes { self.new.bytes ≡ self.old.bytes ++ spaces count }

@@ -4,14 +4,16 @@ ghost use Rattle.std.specs.Fmt.{signed_decimal};
 ghost use Rattle.pc_text.specs.Number.{number_of};
 ghost use Rattle.pc_text.specs.inside.Number.{is_plain, value_of, IsDecimal};
 
-use crate::decimals::{Decimal, of_signed, of_unsigned, of_wide};
+use crate::decimals::{Digits, Signed, Wide, of_signed, of_unsigned, of_wide};
 
 /// The most digits that a number has.
 const LIMIT: usize = 13;
 
-/// The number whose decimal form the field is, without a sign and with at most 13 digits.
+/// Reads the number in a field of a deck. Returns `None` unless the field is the decimal form of a number: 1 to 13
+/// digits, without a sign and without a leading zero.
 ///
-/// One pass reads it, up to the first byte that is no digit. Inlined, since most numbers are a few digits.
+/// One pass, which ends at the first byte that is not a digit.
+// Inlined, because most numbers have only a few digits.
 #[inline(always)]
 pub fn read_number(field: &[u8]) -> Option<u64>
     ensures value { result ≡ number_of field.now }
@@ -25,21 +27,21 @@ pub fn read_number(field: &[u8]) -> Option<u64>
     }
 }
 
-/// Whether the field has 1 to 13 bytes, and no zero in front of others.
+/// Returns whether the field has 1 to 13 bytes, and no leading zero.
 fn is_plain(field: &[u8]) -> bool
     ensures { result ≡ is_plain field.now }
 {
     1 <= field.len() && field.len() <= LIMIT && (field[0] != b'0' || field.len() == 1)
 }
 
-/// The value of at most 13 bytes, where each is a digit.
+/// Returns the value of at most 13 digits, or `None` if one of the bytes is not a digit.
 fn value_of(field: &[u8]) -> Option<u64>
     requires short { length field.now ≤ 13 }
     ensures { result ≡ value_of field.now }
 {
     let mut number = 0;
     for byte in field {
-        // One subtraction tells a digit and takes its value: what is no digit comes out above 9.
+        // One subtraction tests for a digit and gives its value: any other byte comes out above 9.
         let digit = u64::from(*byte).wrapping_sub(u64::from(b'0'));
         if digit > 9 {
             return None;
@@ -49,24 +51,24 @@ fn value_of(field: &[u8]) -> Option<u64>
     Some(number)
 }
 
-/// The decimal form of a number.
-pub fn digits(n: u64) -> Decimal<20>
+/// Returns the decimal form of a number.
+pub fn digits(n: u64) -> Digits
     ensures value { result ≡ decimal n }
     ensures short { length result ≤ 20 }
 {
     of_unsigned(n)
 }
 
-/// The decimal form of a number, with `-` before a negative one.
-pub fn signed(n: i64) -> Decimal<20>
+/// Returns the decimal form of a number, with `-` before a negative one.
+pub fn signed(n: i64) -> Signed
     ensures value { result ≡ signed_decimal n }
     ensures short { length result ≤ 20 }
 {
     of_signed(n)
 }
 
-/// The decimal form of a number that may be too great for 64 bits.
-pub fn wide(n: u128) -> Decimal<39>
+/// Returns the decimal form of a number that may be too large for 64 bits.
+pub fn wide(n: u128) -> Wide
     ensures value { result ≡ decimal n }
     ensures short { length result ≤ 39 }
 {

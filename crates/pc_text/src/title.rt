@@ -11,7 +11,9 @@ use std::marker::Model;
 /// The most bytes that a title has.
 const LIMIT: usize = 80;
 
-/// A text of at most 80 bytes, none below 0x20 and none 0x7F. It may be empty.
+/// A text of at most 80 bytes, none of them below 0x20 or equal to 0x7F. It may be empty.
+///
+/// A title is stored in the value itself and takes no memory.
 #[derive(Clone, Copy, Debug)]
 pub struct Title {
     cells: [u8; LIMIT],
@@ -35,7 +37,8 @@ impl Model for Title {
 }
 
 impl Title {
-    /// The title that a field of a deck spells, or none where the field has no title's shape or is too long.
+    /// Reads the title in a field of a deck. Returns `None` if the field has more than 80 bytes, or a byte below 0x20
+    /// or equal to 0x7F.
     pub fn read(field: &[u8]) -> Option<Title>
         ensures { result ≡ title_of field.now }
     {
@@ -48,7 +51,7 @@ impl Title {
         })
     }
 
-    /// The bytes of the title.
+    /// Returns the bytes of the title.
     pub fn bytes(&self) -> &[u8]
         ensures { result.now ≡ self.now }
     {
@@ -56,13 +59,14 @@ impl Title {
     }
 }
 
-/// Whether the field has the shape of a title, however long it is.
+/// Returns whether the field has no byte below 0x20 or equal to 0x7F. A field of this shape is a title unless it is too
+/// long.
 pub fn is_title_shape(field: &[u8]) -> bool
     ensures { result ≡ is_title_shape field.now }
 {
     let mut is_shape = true;
     for byte in field {
-        // No early end: so a processor tests many bytes at once.
+        // No early end, so that the processor can test many bytes at once.
         is_shape = is_shape & !byte.is_ascii_control();
     }
     is_shape

@@ -1,8 +1,8 @@
-//! What codes and titles share: a piece of text that lies in the value itself.
+//! What codes and titles share: a text that is stored in the value itself.
 ghost use Rattle.std.specs.Prelude.{◌≤◌, ◌≡◌, length};
 ghost use Rattle.pc_text.specs.inside.Words.{padded};
 
-/// The piece, and zeros behind it up to `N` bytes.
+/// Returns the piece followed by zeros, `N` bytes in all.
 pub fn pad<const N: usize>(piece: &[u8]) -> [u8; N]
     requires { length piece.now ≤ N }
     ensures { result ≡ padded N piece.now }

@@ -28,3 +28,4 @@ mod value;
 
 pub use crate::fault_laws::one_fault;
 pub use crate::top::run;
+pub use pc_curve::bench::bench_deck;

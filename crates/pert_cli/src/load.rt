@@ -10,7 +10,7 @@ use crate::paged::{Paged, hand_paged};
 use pc_edges::page::Page;
 use pc_edges::{Failed, Sink};
 use pc_faults::Fault;
-use pc_load::{Loading, NoLoad, write_load};
+use pc_load::{Loading, NoLoad, write_load_on};
 use pc_project::Project;
 use pc_shell::{Status, refuse};
 use std::alloc::Global;
@@ -48,6 +48,6 @@ impl Paged for Loading {
         project: &Project,
         out: &mut O,
     ) -> Result<(), Failed> {
-        write_load(page, out, project, self)
+        write_load_on(page, out, project, self)
     }
 }

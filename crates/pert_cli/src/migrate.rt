@@ -9,7 +9,7 @@ ghost use Rattle.pert_cli.specs.declared.forms.Form.TheVariants.{Migrate};
 use crate::answer::{Answer, deliver};
 use pc_edges::{Failed, Sink};
 use pc_project::Project;
-use pc_project::deck_text::deck_text_of;
+use pc_project::deck_text::deck_text_in;
 use pc_shell::{Status, send};
 use std::alloc::AllocError;
 
@@ -35,7 +35,7 @@ impl DeckText {
         ensures { IfOk result (λ answer. IsDeckText project.now answer.text.items) }
     {
         Ok(DeckText {
-            text: deck_text_of(project, room)?,
+            text: deck_text_in(project, room)?,
         })
     }
 }

@@ -10,7 +10,7 @@ use crate::paged::Paged;
 use pc_edges::page::Page;
 use pc_edges::{Failed, Sink};
 use pc_project::Project;
-use pc_reports::{Schedule, write_schedule};
+use pc_reports::{Schedule, write_schedule_on};
 use std::marker::Model;
 
 /// A schedule of a project: its length in units, its cost, a time for each event and a duration for each activity, in
@@ -74,6 +74,6 @@ impl Paged for PrintedSchedule {
         project: &Project,
         out: &mut O,
     ) -> Result<(), Failed> {
-        write_schedule(page, out, &self.with_codes(project))
+        write_schedule_on(page, out, &self.with_codes(project))
     }
 }

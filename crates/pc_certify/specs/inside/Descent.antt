@@ -7,7 +7,7 @@ use Rattle.pc_laws.specs.Cover.{IsFront}
 use Rattle.pc_cert.specs.Text.{text_of, AllFit}
 use Rattle.pc_crash.specs.Priced.{PricedNetwork, knees_in}
 use Rattle.pc_edges.specs.inside.page.Puts.{Desk, Adds}
-use Rattle.pc_certify.specs.Document.{head_lines, segment_lines}
+use Rattle.pc_cert.specs.Document.{head_lines, segment_lines}
 use Rattle.pc_certify.specs.Complete.{begun_lines}
 use Rattle.pc_flow.specs.Courses.{Course, lower_of}
 

@@ -6,7 +6,7 @@ use Rattle.pc_crash.specs.Priced.{PricedNetwork, knees_in}
 use Rattle.pc_cert.specs.declared.line.CertLine.TheVariants.{Event, Act}
 use Rattle.pc_text.specs.Fields.{IsCode}
 use Rattle.pc_cert.specs.Text.{text_of}
-use Rattle.pc_certify.specs.Listed.{listed}
+use Rattle.pc_cert.specs.Listed.{listed}
 use Rattle.pc_certify.specs.declared.last_lines.EventRow.{EventRow}
 use Rattle.pc_certify.specs.declared.last_lines.ActRow.{ActRow}
 

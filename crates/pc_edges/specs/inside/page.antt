@@ -1,3 +1,4 @@
 -- What contracts within and between crates speak of besides what the clauses of the top calls and the laws reach.
 pub mod Page
+pub mod PageInside
 pub mod Puts

@@ -4,7 +4,7 @@ ghost use Rattle.pc_edges.specs.inside.lines.Lines.{line_len};
 
 use memchr::memchr;
 
-/// How many bytes stand before the first end of a line, or all of them where there is none.
+/// Returns how many bytes are before the first end of a line: all of them if there is none.
 pub(in crate::lines) fn line_len(bytes: &[u8]) -> usize
     ensures value { result ≡ line_len bytes.now }
     ensures within { result ≤ length bytes.now }

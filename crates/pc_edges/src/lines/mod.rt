@@ -1,5 +1,5 @@
-//! The lines of a source, one after the other, however the pieces are cut in which it gives its bytes; and a talk, in which each line is
-//! answered on a sink before the next is pulled.
+//! The lines of a source, one after the other, in whatever pieces it gives its bytes; and sessions, in which each line
+//! is answered on a sink before the next is pulled.
 
 mod line_end;
 mod reader;

@@ -9,39 +9,39 @@ use crate::{Failed, STREAM_ROOM, Source};
 use std::alloc::{AllocError, Global};
 use std::marker::Model;
 
-/// The most bytes of a line that is read whole. Of a longer one the reader keeps this many and one more.
+/// The most bytes of a line that is kept completely. Of a longer line the reader keeps one byte more than these.
 pub const LINE_LIMIT: usize = 96;
 
-/// The most bytes of an input.
+/// The most bytes that an input can have.
 pub const INPUT_LIMIT: usize = 134_217_728;
 
-/// How many bytes of a line are kept: enough to see that it is too long.
+/// How many bytes of a line are kept: enough to see whether it is too long.
 const LINE_ROOM: usize = LINE_LIMIT + 1;
 
-/// What a reader came to.
+/// What a reader found.
 #[derive(Clone, Copy, Debug, PartialEq, Eq)]
 pub enum Next {
-    /// A line with its end.
+    /// A line that has an end.
     Line,
-    /// The input ended in a line without an end, which is not empty.
+    /// The last line, which has no end and is not empty.
     Last,
-    /// The input ended behind its last line.
+    /// The end of the input, after its last line.
     End,
 }
 
-/// Why there is no next line.
+/// The reason why there is no next line.
 #[derive(Clone, Copy, Debug, PartialEq, Eq)]
 pub enum LineError {
     /// The source had a fault.
     ReadFault,
-    /// More than `INPUT_LIMIT` bytes were taken, and no line ends among the first `INPUT_LIMIT` of them any more.
+    /// More than `INPUT_LIMIT` bytes were pulled, and all lines that end within the limit were given.
     TooLong,
 }
 
 /// A reader of the lines of a source.
 ///
-/// It pulls into one buffer, and only when no whole line is left in it: so who writes to the source sees each line taken before the next
-/// pull. All its memory is taken when it begins. Each byte is looked at once.
+/// It pulls into one buffer, and only when no complete line is left there. All its memory is taken when it begins. Each
+/// byte is read once.
 #[derive(Drop)]
 pub struct LineReader {
     cells: [u8; LINE_ROOM],
@@ -65,7 +65,11 @@ impl Model for LineReader {
 }
 
 impl LineReader {
-    /// A reader of a source from which nothing was pulled.
+    /// Returns a reader for a source from which nothing was pulled.
+    ///
+    /// # Errors
+    ///
+    /// `AllocError` if there is no memory for its buffer.
     pub fn begin(alloc: Global) -> Result<LineReader, AllocError>
         ensures stands { IfOk result (λ reader. StandsFor reader [] []) }
         ensures left { IfOk result (λ reader. bytes_left reader ≤ INPUT_LIMIT) }
@@ -80,9 +84,16 @@ impl LineReader {
         })
     }
 
-    /// Goes on to the next line, which `line` then gives. It is called no more behind another answer than `Line`.
+    /// Reads the next line, which `line` then returns. Do not call it again after it returned anything other than
+    /// `Next::Line`.
+    ///
+    /// # Errors
+    ///
+    /// - `ReadFault` if a pull failed.
+    /// - `TooLong` if more than `INPUT_LIMIT` bytes were pulled and no further line ends within the limit.
     pub fn next<S: Source>(&mut self, source: &mut S) -> Result<Next, LineError>
-        // a reader that gave these lines of these bytes gives the next line of them and of the bytes that were pulled behind them
+        // a reader that gave these lines of these bytes gives the next line of them and of the bytes that were pulled
+        // behind them
         ensures stepped { (lines : List (List ℕ)) (bytes : List ℕ) → StandsFor self.old lines bytes
             → Stepped S.left S.pulls source.old source.new lines bytes self.new result }
         // nothing is pulled while a whole line is there
@@ -114,28 +125,27 @@ impl LineReader {
         }
     }
 
-    /// The line that was given last, or its first `LINE_LIMIT` bytes and one more where it is longer.
+    /// Returns the line that was read last, without its end. A line that is too long is cut to one byte more than
+    /// `LINE_LIMIT`.
     pub fn line(&self) -> &[u8]
         ensures { result.now ≡ self.now.line }
     {
         &self.cells[..self.held]
     }
 
-    /// Keeps nothing of a line.
     fn begin_line(&mut self)
         ensures { self.new ≡ record self.old { line = [] } }
     {
         self.held = 0;
     }
 
-    /// How many bytes were pulled.
     fn taken(&self) -> usize
         ensures { result ≡ self.now.taken }
     {
         self.taken
     }
 
-    /// Takes what is ahead up to the end of a line, and answers whether there is one; where there is none, all that is ahead.
+    /// Takes what is ahead up to the end of a line, and returns whether there is one. If there is none, it takes all.
     fn take_line(&mut self) -> bool
         ensures { TakesLine self.old self.new result }
     {
@@ -151,14 +161,14 @@ impl LineReader {
         true
     }
 
-    /// The bytes that were pulled, lie within the limit and were not given yet.
+    /// Returns the bytes that were pulled, are within the limit and were not given yet.
     fn ahead(&self) -> &[u8]
         ensures { result.now ≡ self.now.ahead }
     {
         &self.buffer[self.from..self.to]
     }
 
-    /// Keeps so many of the bytes ahead behind those of the line, as far as there is room for them.
+    /// Adds so many of the bytes ahead to those of the line, as far as they fit.
     fn hold(&mut self, count: usize)
         requires { count ≤ length self.old.ahead }
         ensures { self.new ≡ record self.old { line = take LINE_ROOM (self.old.line ++ take count self.old.ahead) } }
@@ -169,7 +179,6 @@ impl LineReader {
         self.held = end;
     }
 
-    /// Goes on behind so many of the bytes ahead.
     fn pass(&mut self, count: usize)
         requires { count ≤ length self.old.ahead }
         ensures { self.new ≡ record self.old { ahead = drop count self.old.ahead } }
@@ -177,7 +186,7 @@ impl LineReader {
         self.from += count;
     }
 
-    /// Pulls the next bytes, and passes over those behind the limit.
+    /// Pulls the next bytes, and drops those past the limit.
     fn fill<S: Source>(&mut self, source: &mut S) -> Result<usize, Failed>
         requires { self.old.taken ≤ INPUT_LIMIT }
         ensures filled { Filled self.old self.new (S.left source.old) (S.left source.new) result }

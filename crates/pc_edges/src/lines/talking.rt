@@ -1,4 +1,4 @@
-//! Talking line by line: each line of a source is answered on a sink before the next is pulled.
+//! Sessions: each line of a source is answered on a sink before the next is pulled.
 ghost use Rattle.std.specs.Prelude.{◌≡◌, ℕ, List, []};
 ghost use Rattle.pc_edges.specs.inside.Writes.{Writes};
 ghost use Rattle.pc_edges.specs.inside.lines.Reading.{StandsFor};
@@ -8,33 +8,43 @@ ghost use Rattle.pc_edges.specs.inside.lines.Talk.{Ends};
 use crate::lines::reader::{LineError, LineReader, Next};
 use crate::{Failed, Sink, Source};
 
-/// What answers lines. What it answers may hang on the lines before.
+/// Something that answers lines. An answer may depend on the lines before.
 pub trait Answers {
     // it answers the line with the text, and is then the other
     ghost Says: { Self → List ℕ → List ℕ → Self → Type 0 };
 
-    /// Answers the line on the sink and flushes the sink. It takes no memory.
+    /// Writes the answer to a line, and flushes the sink. It takes no memory.
     ///
-    /// Of a line that is too long a front comes that is too long as well.
+    /// A line that is too long is passed cut to one byte more than `LINE_LIMIT`.
+    ///
+    /// # Errors
+    ///
+    /// `Failed` if a push or the flush failed.
     fn reply<O: Sink>(&mut self, line: &[u8], out: &mut O) -> Result<(), Failed>
         ensures { (text : List ℕ) × Says self.old line.now text self.new
             × Writes result (O.taken out.old) (O.taken out.new) (O.faults out.old) (O.faults out.new) text };
 }
 
-/// Why a talk ended before its lines did.
+/// The reason why a session ended before its lines did.
 #[derive(Clone, Copy, Debug, PartialEq, Eq)]
 pub enum TalkError {
     /// The source of lines had a fault.
     ReadFault,
     /// The sink had a fault.
     WriteFault,
-    /// There were more bytes than an input may have.
+    /// There were more than `INPUT_LIMIT` bytes.
     TooLong,
 }
 
-/// Answers the lines of the source, one after the other, to its end.
+/// Answers the lines of the source, one after the other, to its end. It takes no memory.
 ///
-/// Each answer is flushed before more is pulled, so that who writes the lines sees it first. It takes no memory.
+/// Each answer is flushed before more is pulled, so that the writer of the lines sees it first.
+///
+/// # Errors
+///
+/// - `ReadFault` if a pull failed.
+/// - `WriteFault` if an answer could not be written.
+/// - `TooLong` if the source gave more than `INPUT_LIMIT` bytes. The lines within the limit were answered.
 pub fn talk<T: Answers, C: Source, O: Sink>(
     mut reader: LineReader,
     talker: &mut T,

@@ -1,4 +1,4 @@
-//! Cells of a row, which spaces fill to a width.
+//! Cells of a row, which spaces fill to a width in bytes.
 ghost use Rattle.std.specs.Prelude.{◌≡◌, ◌≤◌, decimal, length};
 ghost use Rattle.std.specs.Fmt.{signed_decimal};
 ghost use Rattle.pc_text.specs.Line.{spaces};
@@ -9,14 +9,12 @@ use crate::Sink;
 use crate::page::page::Page;
 use pc_text::{digits, signed};
 
-/// The widest cell.
 const MAX_WIDTH: usize = 64;
 
-/// A cell of spaces.
 const SPACES: &[u8] = b"                                                                ";
 
 impl Page {
-    /// Puts the piece at the left of a cell of this width. A longer piece stands whole.
+    /// Puts the piece, and then the spaces that fill it to `width` bytes. A longer piece is put as it is.
     #[inline]
     pub fn put_left<O: Sink>(&mut self, sink: &mut O, width: usize, piece: &[u8])
         requires { width ≤ MAX_WIDTH }
@@ -26,7 +24,7 @@ impl Page {
         self.put_spaces(sink, width.saturating_sub(piece.len()));
     }
 
-    /// Puts the piece at the right of a cell of this width. A longer piece stands whole.
+    /// Puts the spaces that fill the piece to `width` bytes, and then the piece. A longer piece is put as it is.
     #[inline]
     pub fn put_right<O: Sink>(&mut self, sink: &mut O, width: usize, piece: &[u8])
         requires { width ≤ MAX_WIDTH }
@@ -36,7 +34,7 @@ impl Page {
         self.put(sink, piece);
     }
 
-    /// Puts the decimal form of a number at the right of a cell.
+    /// Puts the decimal form of `number` at the right of a cell of `width` bytes.
     #[inline]
     pub fn put_number_right<O: Sink>(&mut self, sink: &mut O, width: usize, number: u64)
         requires { width ≤ MAX_WIDTH }
@@ -45,7 +43,7 @@ impl Page {
         self.put_right(sink, width, digits(number).bytes());
     }
 
-    /// Puts the decimal form of a number, with `-` before a negative one, at the right of a cell.
+    /// Puts the decimal form of `number`, with `-` in front if it is negative, at the right of a cell of `width` bytes.
     #[inline]
     pub fn put_signed_right<O: Sink>(&mut self, sink: &mut O, width: usize, number: i64)
         requires { width ≤ MAX_WIDTH }
@@ -54,7 +52,6 @@ impl Page {
         self.put_right(sink, width, signed(number).bytes());
     }
 
-    /// Puts so many spaces.
     #[inline]
     fn put_spaces<O: Sink>(&mut self, sink: &mut O, count: usize)
         requires { count ≤ MAX_WIDTH }

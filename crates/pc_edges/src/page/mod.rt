@@ -1,7 +1,7 @@
-//! Pages: where a text is gathered before it goes to a sink in few and large pushes.
+//! Pages: where a text is gathered before it goes to a sink, in few and large pushes.
 //!
-//! A writer puts piece after piece and asks nothing; a page keeps its first failure, and only the end of the text answers
-//! whether the sink took it whole.
+//! A writer puts one piece after another and tests nothing: a page keeps its first failure, and the call that ends the
+//! text (`finish` or `push_out`) returns whether the sink took all of it.
 
 mod cells;
 mod page;

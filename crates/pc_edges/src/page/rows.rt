@@ -6,7 +6,7 @@ ghost use Rattle.pc_edges.specs.inside.page.Puts.{Puts};
 use crate::Sink;
 use crate::page::page::Page;
 
-/// Rows of a text, each of which can be put on a page.
+/// The rows of a text, each of which can be put on a page.
 pub trait Rows {
     // How many rows there are.
     ghost row_count: { Self → ℕ };
@@ -17,19 +17,19 @@ pub trait Rows {
     // What has to hold for the rows to be put.
     ghost IsReady: { Self → Type 0 };
 
-    /// How many rows there are.
+    /// Returns how many rows there are.
     fn count(&self) -> usize
         requires { IsReady self.now }
         ensures { result ≡ row_count self.now };
 
-    /// Puts the row `i`, from 0.
+    /// Puts row `i`, counted from 0.
     fn put<O: Sink>(&self, i: usize, page: &mut Page, sink: &mut O)
         requires ready { IsReady self.now }
         requires known { i < row_count self.now }
         ensures { Puts O.taken O.faults page.old sink.old page.new sink.new (row_text self.now i) };
 }
 
-/// Puts the rows from the first on.
+/// Puts all rows, from the first to the last.
 pub fn put_rows<O: Sink, R: Rows>(page: &mut Page, sink: &mut O, rows: &R)
     requires { R.IsReady rows.now }
     ensures { Puts O.taken O.faults page.old sink.old page.new sink.new

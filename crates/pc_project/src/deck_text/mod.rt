@@ -3,5 +3,5 @@
 mod text;
 mod text_laws;
 
-pub use crate::deck_text::text::deck_text_of;
+pub use crate::deck_text::text::{deck_text_in, deck_text_of};
 pub use crate::deck_text::text_laws::text_makes_the_project;

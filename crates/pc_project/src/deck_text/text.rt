@@ -3,7 +3,18 @@ ghost use Rattle.std.specs.Prelude.{IfOk};
 ghost use Rattle.pc_project.specs.deck_text.Written.{IsDeckText};
 
 use crate::Project;
-use std::alloc::AllocError;
+use std::alloc::{AllocError, Global};
+
+/// Returns the text of a project's deck in canonical form: see [`deck_text_in`].
+///
+/// # Errors
+///
+/// Returns `AllocError` if memory runs out.
+pub fn deck_text_of(alloc: Global, project: &Project) -> Result<Vec<u8>, AllocError>
+    ensures { IfOk result (λ text. IsDeckText project.now text.items) }
+{
+    deck_text_in(project, Vec::new(alloc))
+}
 
 /// Returns the deck of a project in canonical form.
 ///
@@ -13,8 +24,9 @@ use std::alloc::AllocError;
 /// memory if that is too little.
 ///
 /// # Errors
-/// Out of memory.
-pub fn deck_text_of(project: &Project, room: Vec<u8>) -> Result<Vec<u8>, AllocError>
+///
+/// Returns `AllocError` if memory runs out.
+pub fn deck_text_in(project: &Project, room: Vec<u8>) -> Result<Vec<u8>, AllocError>
     ensures { IfOk result (λ text. IsDeckText project.now text.items) }
 {
     project.cards().text(room)

@@ -24,7 +24,7 @@ use pc_edges::page::Page;
 use pc_edges::{Failed, Sink};
 use pc_net::Net;
 use pc_project::{Estimates, Project};
-use pc_reports::{end_to_meet, write_times};
+use pc_reports::{end_to_meet, write_times_on};
 use pc_times::{expected_sixths, variance_36};
 use std::alloc::{AllocError, Global};
 use std::marker::Model;
@@ -233,7 +233,7 @@ impl Reservation {
             path: self.path(),
             by,
         };
-        write_times(page, sink, project, &view)
+        write_times_on(page, sink, project, &view)
     }
 
     /// Writes the curve of a network and flushes the sink. Works in the free cells, which are free again afterwards.

@@ -3,8 +3,8 @@ use Rattle.pc_laws.specs.Stair.{Stair, stair_of, reach, knee_flow, crash_flow}
 use Rattle.pc_crash.specs.Priced.{knees_in}
 use Rattle.pc_text.specs.Fields.{spaced}
 use Rattle.pc_cert.specs.Lines.{numbers}
-use Rattle.pc_certify.specs.Listed.{listed}
-use Rattle.pc_certify.proofs.WordLaws.{numbers-more, numbers-with_last}
+use Rattle.pc_cert.specs.Listed.{listed}
+use Rattle.pc_cert.proofs.WordLaws.{numbers-more, numbers-with_last}
 use Rattle.pc_certify.proofs.last_lines.add_flows.Goals as goal
 
 pub loop-knee-preserved : goal.loop-knee-preserved

@@ -2,7 +2,7 @@ use Rattle.std.proofs.Common.{◌≡◌, ◌+◌, ◌*◌, ◌-◌, ◌≤◌, �
 use Rattle.pc_laws.specs.Stair.{reach, stair_of, knee_flow}
 use Rattle.pc_crash.specs.Priced.{knees_in}
 use Rattle.pc_cert.specs.Lines.{numbers}
-use Rattle.pc_certify.specs.Listed.{listed}
+use Rattle.pc_cert.specs.Listed.{listed}
 use Rattle.pc_certify.proofs.last_lines.add_flows.Given as goal
 
 abbrev pub invariant-loop-knee : goal.invariant-loop-knee

@@ -3,8 +3,8 @@ use Rattle.pc_model.specs.Codes.{code_at}
 use Rattle.pc_text.specs.Fields.{IsCode}
 use Rattle.pc_cert.specs.Text.{text_of}
 use Rattle.pc_edges.specs.inside.page.Puts.{desk}
-use Rattle.pc_certify.specs.Listed.{listed}
-use Rattle.pc_certify.specs.Document.{event_line}
+use Rattle.pc_cert.specs.Listed.{listed}
+use Rattle.pc_cert.specs.Document.{event_line}
 use Rattle.pc_certify.specs.inside.Gathers.{Gathers}
 use Rattle.pc_certify.specs.inside.Spelled.{AreEventsSpelled}
 use Rattle.pc_certify.proofs.segment.put_events.Given as goal

@@ -1,4 +1,4 @@
-use Rattle.pc_certify.specs.Document.{document_lines}
+use Rattle.pc_cert.specs.Document.{document_lines}
 use Rattle.pc_certify.proofs.CertifiedLaws.{document_fits}
 use Rattle.pc_certify.proofs.texts.written_fits.Goals as goal
 

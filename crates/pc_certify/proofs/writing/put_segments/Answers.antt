@@ -2,7 +2,7 @@ use Rattle.std.proofs.Common.{◌≡◌, true, false, [], ◌∷◌, ◌++◌, s
 use Rattle.std.proofs.lemmas.List.Elements.{All-nil, All-push}
 use Rattle.pc_cert.specs.Text.{AllFit}
 use Rattle.pc_edges.proofs.lemmas.page.PageLaws.{Adds-as, ◌⨾◌}
-use Rattle.pc_certify.specs.Document.{segment_lines}
+use Rattle.pc_cert.specs.Document.{segment_lines}
 use Rattle.pc_certify.proofs.CertifiedLaws.{text_begins, text_goes_on, walk_known}
 use Rattle.pc_flow.specs.inside.Courses.{present, HasEnded}
 use Rattle.pc_certify.proofs.DescentLaws.{given-none, given-more, given-all, come-less, small-next}
@@ -43,11 +43,11 @@ loop-page-preserved g c =
       put = record {
         segments = had.segments ++ seg ∷ [];
         given = given-more net c.loop-page.solver c.next_segment.new.self had.segments had.given goes_on c.next_segment.ensures.same next;
-        text = Adds-as _ (text_goes_on net c.args.walks.now.normal.path c.args.walks.now.crash.path had.segments seg) (had.text ⨾ c.put_segment.ensures.text);
-        fit = All-push (λ seg. AllFit (segment_lines net seg)) had.segments seg had.fit (c.put_segment.ensures.fit small);
+        text = Adds-as _ (text_goes_on net c.args.walks.now.normal.path c.args.walks.now.crash.path had.segments seg) (had.text ⨾ c.put_segment_by.ensures.text);
+        fit = All-push (λ seg. AllFit (segment_lines net seg)) had.segments seg had.fit (c.put_segment_by.ensures.fit small);
       };
-      events = c.put_segment.ensures.events;
-      acts = c.put_segment.ensures.acts;
+      events = c.put_segment_by.ensures.events;
+      acts = c.put_segment_by.ensures.acts;
     }
 
 pub returns : goal.returns

@@ -1,7 +1,7 @@
 use Rattle.pc_cert.specs.Text.{text_of}
 use Rattle.pc_edges.specs.inside.page.Puts.{desk}
 use Rattle.pc_edges.proofs.lemmas.page.PageLaws.{Adds-as, ◌⨾◌}
-use Rattle.pc_certify.specs.Document.{document_lines}
+use Rattle.pc_cert.specs.Document.{document_lines}
 use Rattle.pc_certify.proofs.CertifiedLaws.{text_ends, document_fits}
 use Rattle.pc_certify.proofs.CertificateLaws.{complete, certificate}
 use Rattle.pc_certify.proofs.writing.write.Goals as goal

@@ -31,17 +31,17 @@ made date day number same of_number printed =
 pub overflow_cast-date : goal.overflow_cast-date
 overflow_cast-date c =
     let date = c.in-Ok.date in
-    let facts = made date c.day.inside.number c.from.result c.from.ensures c.in-Ok.ensures.value c.day.invariant in
+    let facts = made date c.d.inside.number c.from.result c.from.ensures c.in-Ok.ensures.value c.d.invariant in
     rw (to_z-of_z w16 date.year facts.fits) ((omega (arith, signed_casts)), (omega (arith, year_fits date.year date.year_in.1 facts.low)))
 
 pub returns : goal.returns
 returns c =
     let date = c.in-Ok.date in
-    let facts = made date c.day.inside.number c.from.result c.from.ensures c.in-Ok.ensures.value c.day.invariant in
+    let facts = made date c.d.inside.number c.from.result c.from.ensures c.in-Ok.ensures.value c.d.invariant in
     let spelled = c.spelled.ensures ∙ ap (λ y. date_text (unsigned_abs y) date.month date.day) (to_z-of_z w16 date.year facts.fits) in
-    let names = NamesDay-date c.spelled.result date.year date.month date.day c.args.day facts.is_civil facts.low spelled (facts.is ∙ c.day.view_is) in
+    let names = NamesDay-date c.spelled.result date.year date.month date.day c.args.d facts.is_civil facts.low spelled (facts.is ∙ c.d.view_is) in
     record {
       named = names;
-      text = text_of-day c.spelled.result c.args.day (rw (← c.day.view_is) c.day.invariant) names;
-      back = λ text is. NamesDay-same c.spelled.result text c.args.day names (NamesDay-read text c.args.day is);
+      text = text_of-day c.spelled.result c.args.d (rw (← c.d.view_is) c.d.invariant) names;
+      back = λ text is. NamesDay-same c.spelled.result text c.args.d names (NamesDay-read text c.args.d is);
     }

@@ -1,4 +1,8 @@
 use Rattle.pc_load.proofs.text.write_load.Goals as goal
 
-pub returns-clause-text : goal.returns-clause-text
-returns-clause-text g c = c.finish.ensures.text _ _ c.requires.fresh c.put_load.ensures
+pub returns : goal.returns
+returns g c = (
+  c.preorder.result.now,
+  rw (← c.tree.ensures.tree) c.preorder.ensures.order,
+  c.push_out.ensures.text _ _ c.without_buffer-page.ensures c.put_load.ensures,
+)

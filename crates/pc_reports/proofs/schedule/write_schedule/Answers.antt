@@ -1,4 +1,6 @@
+use Rattle.pc_edges.proofs.lemmas.page.PageLaws.{◌⨾◌}
 use Rattle.pc_reports.proofs.schedule.write_schedule.Goals as goal
 
-pub returns-clause-text : goal.returns-clause-text
-returns-clause-text g c = c.finish.ensures.text _ _ c.requires.fresh c.put_schedule.ensures
+pub returns : goal.returns
+returns g c = c.push_out.ensures.text _ _ c.without_buffer-page.ensures
+    (c.put_number.ensures ⨾ c.put_number-2.ensures ⨾ (c.put_times.ensures ⨾ c.put_durations.ensures))

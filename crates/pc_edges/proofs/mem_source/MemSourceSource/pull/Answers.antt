@@ -7,7 +7,7 @@ pub returns-clause-bytes : goal.returns-clause-bytes
 returns-clause-bytes c =
     let at = c.self.inside.at in
     let n = c.min-n.result in
-    let len : length c.copy_from_slice.new.self ≡ n = omega (arith, length-take-le n c.args.buffer.now) in
+    let len : length c.copy_from_slice.new.self ≡ n = omega (arith, length-take-le n c.args.buf.now) in
     let left : drop at c.self.inside.bytes.items ≡ c.args.self.now.left = ap (λ (s : Supply). s.left) c.self.view_is in
     let copied = c.copy_from_slice.ensures.after ∙ ap (λ l. take (at + n - at) (drop at l)) c.deref-2.ensures.value in
     sym left ∙ drop-copied c.self.inside.bytes.items _ _ at n len copied

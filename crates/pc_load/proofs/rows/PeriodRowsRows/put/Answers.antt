@@ -6,5 +6,5 @@ use Rattle.pc_load.proofs.rows.PeriodRowsRows.put.Goals as goal
 pub returns : goal.returns
 returns g c =
     let t = c.args.self.now in
-    Adds-as (period_row t.project.now t.loading.now.days c.args.i)
-    (ap (period_cells c.args.i) (rw (c.start_day.ensures, c.days.ensures) at c.date_after-date.ensures)) c.put_period.ensures
+    Adds-as (period_row t.project.now t.printed.now.days c.args.i)
+    (ap (period_cells c.args.i) (rw c.start_day.ensures at c.date_after-date.ensures)) c.put_period.ensures

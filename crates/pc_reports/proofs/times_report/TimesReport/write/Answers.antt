@@ -6,11 +6,11 @@ use Rattle.pc_reports.specs.TimesText.{times_text}
 use Rattle.pc_reports.proofs.PathLaws.{picked_from_known}
 use Rattle.pc_reports.proofs.times_report.TimesReport.write.Goals as goal
 
-pub write_times-requires-clause-fresh : goal.write_times-requires-clause-fresh
-write_times-requires-clause-fresh g c = c.self.invariant.0
+pub write_times_on-requires-clause-fresh : goal.write_times_on-requires-clause-fresh
+write_times_on-requires-clause-fresh g c = c.self.invariant.0
 
-pub write_times-requires-clause-view : goal.write_times-requires-clause-view
-write_times-requires-clause-view g c =
+pub write_times_on-requires-clause-view : goal.write_times_on-requires-clause-view
+write_times_on-requires-clause-view g c =
     let project = c.args.project.now in
     let planned = c.net-net.ensures.planned in
     let times : Times = c.self.inside.times in
@@ -30,10 +30,10 @@ write_times-requires-clause-view g c =
     }
 
 pub invariant_of-self : goal.invariant_of-self
-invariant_of-self g c = (c.write_times.ensures.fresh, c.self.invariant.1)
+invariant_of-self g c = (c.write_times_on.ensures.fresh, c.self.invariant.1)
 
 pub returns-clause-text : goal.returns-clause-text
 returns-clause-text g c =
-    subst (λ times. Writes c.write_times.result (g.O.Sink.taken c.args.sink.now) (g.O.Sink.taken c.write_times.new.sink)
-    (g.O.Sink.faults c.args.sink.now) (g.O.Sink.faults c.write_times.new.sink) (times_text c.args.project.now times))
-    c.self.view_is c.write_times.ensures.text
+    subst (λ times. Writes c.write_times_on.result (g.O.Sink.taken c.args.sink.now) (g.O.Sink.taken c.write_times_on.new.sink)
+    (g.O.Sink.faults c.args.sink.now) (g.O.Sink.faults c.write_times_on.new.sink) (times_text c.args.project.now times))
+    c.self.view_is c.write_times_on.ensures.text

@@ -30,8 +30,8 @@ invariant_of-view g c =
           );
     }
 
-pub write_times-requires-clause-view : goal.write_times-requires-clause-view
-write_times-requires-clause-view g c =
+pub write_times_on-requires-clause-view : goal.write_times_on-requires-clause-view
+write_times_on-requires-clause-view g c =
     let r = c.args.self.now in
     let by = c.end_to_meet-by.result in
     let same = shown-is r c.expected.result.now c.variances.result.now c.early-early.result.now c.tails.result.now c.path.result.now _ by
@@ -63,8 +63,8 @@ returns-clause-text g c = λ changed is.
     let times = (shown_by r by).times in (
       times_text changed times,
       record { times = times; are = times-are project changed r by c.requires.fits c.requires.standing is by_is; told = refl },
-      subst (λ text. Writes c.write_times.result (g.O.Sink.taken c.args.sink.now) (g.O.Sink.taken c.write_times.new.sink)
-          (g.O.Sink.faults c.args.sink.now) (g.O.Sink.faults c.write_times.new.sink) text)
+      subst (λ text. Writes c.write_times_on.result (g.O.Sink.taken c.args.sink.now) (g.O.Sink.taken c.write_times_on.new.sink)
+          (g.O.Sink.faults c.args.sink.now) (g.O.Sink.faults c.write_times_on.new.sink) text)
           (ap (λ s. times_text (as_shown project s) s.times) same ∙ text-same project changed r by is)
-          c.write_times.ensures.text,
+          c.write_times_on.ensures.text,
     )
