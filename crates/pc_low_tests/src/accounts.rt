@@ -1,6 +1,5 @@
 //! A book and its packages on two accounts.
 ghost use Rattle.std.specs.Prelude.{◌≡◌, ◌≤◌, length, IfOk, IfSome};
-ghost use Rattle.pc_model.specs.declared.limits.TheConstants.{MAX_COST};
 ghost use Rattle.pc_accounts.specs.Amounts.{AreMoney};
 
 use pc_accounts::{AcctRow, Book, BookError, MoneyRow, Uneven, WorkRow, reconcile};

@@ -12,15 +12,21 @@ fn an_event_enters(rt: HostRuntime) -> Result<(), AllocError> {
     board.set_time(1, 7);
     board.start_at(0);
     board.fall(2);
-    assert_eq!(rt; (board.time(0), board.time(1)), (0, 5));
-    assert_eq!(rt; (board.resting_time(0), board.falling_time(1)), (0, 5));
+    let times = [
+        board.time(0),
+        board.time(1),
+        board.resting_time(0),
+        board.falling_time(1),
+    ];
     board.enter(1, 0, false, 0, 3);
-    assert_eq!(rt; (board.rank(1), board.queued(1), board.count()), (2, 1, 2));
-    assert_eq!(rt; (board.time(1), board.near(1), board.room(1)), (5, 0, 3));
-    assert_eq!(rt; board.next_to_scan(), 0);
-    assert_eq!(rt; board.head(), 1);
+    let entered = (board.rank(1), board.queued(1), board.count());
+    let labelled = (board.time(1), board.near(1), board.room(1));
+    let scanned = (board.next_to_scan(), board.head());
     board.wait(0);
-    assert_eq!(rt; (board.len(), board.waiting(0)), (1, 0));
-    assert_eq!(rt; board.close().free(), 20);
+    let waiting = (board.len(), board.waiting(0));
+    let free = board.close().free();
+    assert_eq!(rt; times, [0, 5, 0, 5]);
+    assert!(rt; entered == (2, 1, 2) && labelled == (5, 0, 3));
+    assert!(rt; scanned == (0, 1) && waiting == (1, 0) && free == 20);
     Ok(())
 }

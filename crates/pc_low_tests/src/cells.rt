@@ -5,7 +5,8 @@ use pc_cells::{Region, RegionFull};
 use std::alloc::AllocError;
 use std::rt::HostRuntime;
 
-// What a region of 10 cells answers while spans of 4 and 5 are taken, 2 more are refused, and 1 is taken and given back.
+// What a region of 10 cells answers while spans of 4 and 5 are taken, 2 more are refused, and 1 is taken and given
+// back.
 #[test]
 fn spans_are_taken_and_given_back(rt: HostRuntime) -> Result<(), AllocError> {
     let mut region = Region::with_cells(rt.alloc(), 10)?;

@@ -42,7 +42,7 @@ fn code(line: &CertLine) -> Option<&[u8]> {
 }
 
 // Lines, with the code and the numbers of each.
-const LINES_READ: [(&[u8], Option<&[u8]>, [u64; 6]); 8] = [
+const LINES_READ: &[(&[u8], Option<&[u8]>, [u64; 6])] = &[
     (b"CERT 2 E1 3 4", Some(b"E1"), [2, 3, 4, 0, 0, 0]),
     (b"NORMAL", None, [0; 6]),
     (b"STEP A.9_z-", Some(b"A.9_z-"), [0; 6]),
@@ -65,15 +65,23 @@ fn is_read(bytes: &[u8], word: Option<&[u8]>, says: [u64; 6]) -> bool {
     }
 }
 
+// The first of these lines that is read otherwise, or none.
+fn first_misread() -> Option<usize> {
+    for (i, &(bytes, word, says)) in LINES_READ.iter().enumerate() {
+        if !is_read(bytes, word, says) {
+            return Some(i);
+        }
+    }
+    None
+}
+
 #[test]
 fn lines_are_read(rt: HostRuntime) {
-    for (bytes, word, says) in LINES_READ {
-        assert!(rt; is_read(bytes, word, says), "{says:?}");
-    }
+    assert_eq!(rt; first_misread(), None);
 }
 
 // Texts, and whether each is a line.
-const TEXTS: [(&[u8], bool); 20] = [
+const TEXTS: &[(&[u8], bool)] = &[
     (b"", false),
     (b"ACT A 4 3", false),
     (b"ACT A 4 3 0", true),
@@ -96,15 +104,23 @@ const TEXTS: [(&[u8], bool); 20] = [
     (b"STEP A B", false),
 ];
 
-#[test]
-fn nothing_else_is_a_line(rt: HostRuntime) {
-    for (bytes, is) in TEXTS {
-        assert_eq!(rt; CertLine::read(bytes).is_some(), is);
+// The first of these texts that is taken for the other, or none.
+fn first_mistaken() -> Option<usize> {
+    for (i, &(bytes, is)) in TEXTS.iter().enumerate() {
+        if CertLine::read(bytes).is_some() != is {
+            return Some(i);
+        }
     }
+    None
 }
 
-// Where the first line ends of a hundred bytes of which none ends a line, then the last one, the thirty-sixth and the first; and of
-// no bytes.
+#[test]
+fn nothing_else_is_a_line(rt: HostRuntime) {
+    assert_eq!(rt; first_mistaken(), None);
+}
+
+// Where the first line ends of a hundred bytes of which none ends a line, then the last one, the thirty-sixth and the
+// first; and of no bytes.
 fn ends() -> [usize; 5] {
     let mut text = [b'x'; 100];
     let open = line_len(&text);
@@ -122,7 +138,7 @@ fn a_line_ends_at_its_first_end(rt: HostRuntime) {
 }
 
 // A line behind those before it, and whether it may stand there.
-const LINES: [(&[u8], bool); 17] = [
+const LINES: &[(&[u8], bool)] = &[
     (b"NORMAL", false),
     (b"CERT 1 E 2 1", true),
     (b"NORMAL", true),
@@ -166,6 +182,6 @@ fn first_wrong(place: &mut Place, lines: &[(&[u8], bool)]) -> Option<usize> {
 #[test]
 fn lines_come_in_order(rt: HostRuntime) {
     let mut place = Place::Start;
-    assert_eq!(rt; first_wrong(&mut place, &LINES), None);
+    assert_eq!(rt; first_wrong(&mut place, LINES), None);
     assert!(rt; matches!(place, Place::Ended));
 }

@@ -3,7 +3,6 @@ ghost use Rattle.std.specs.Prelude.{◌≤◌};
 
 use pc_cert::{CertLine, CertReader, Fed, KnownLine, KnownLines, LineText, Place};
 use std::alloc::{AllocError, Global};
-use std::test::Fail;
 
 const HEAD: &[u8] = b"CERT 1 E1 3 3\nNORMAL\nSTEP A\nSTEP B\nCRASH\nSTEP A\nSTEP B\n";
 
@@ -22,8 +21,8 @@ pub(crate) fn joined(alloc: Global, parts: &[&[u8]]) -> Result<Vec<u8>, AllocErr
     Ok(text)
 }
 
-// How many lines a text gives that comes in pulls of so many bytes, and which one is malformed or missing; 0 for none. The
-// lines are read through what is known of those one round before.
+// How many lines a text gives that comes in pulls of so many bytes, and which one is malformed or missing; 0 for none.
+// The lines are read through what is known of those one round before.
 fn read(text: &[u8], pull: usize, known: &mut KnownLines) -> [u64; 2]
     requires { pull ≤ 4096 }
 {
@@ -63,7 +62,7 @@ const PADDED: &[u8] = b"SEGMENT 7 5 51 7\nEVENT S 0 0\nEVENT M 02 0\nEVENT T 7 1
 const OPEN: &[u8] = b"SEGMENT 7 5 51 7\nEVENT S 0 0\nEVENT M 2 00\nEVENT T 7 1\n";
 
 // The parts of a text, how many lines it gives, and which one is malformed or missing.
-const TEXTS: [(&[&[u8]], [u64; 2]); 10] = [
+const TEXTS: &[(&[&[u8]], [u64; 2])] = &[
     (&[HEAD, FIRST, SECOND, b"END\n"], [24, 0]),
     (&[HEAD, FIRST, b"END\n"], [16, 0]),
     (&[HEAD, FIRST, SECOND], [23, 24]),
@@ -76,30 +75,43 @@ const TEXTS: [(&[&[u8]], [u64; 2]); 10] = [
     (&[b"CERT 1 E1 03 3\n"], [0, 1]),
 ];
 
-#[test]
-fn texts_come_in_pulls(rt: HostRuntime) -> Result<(), Fail> {
-    for pull in [1, 2, 7, 4096] {
-        for (parts, found) in TEXTS {
-            let text = joined(rt.alloc(), parts)?;
-            let mut known = KnownLines::begin(rt.alloc(), 8)?;
-            assert_eq!(rt; read(&text, pull, &mut known), found);
+// The first of these texts that is read otherwise in pulls of so many bytes, or none.
+fn first_misread(alloc: Global, pull: usize) -> Result<Option<usize>, AllocError>
+    requires { pull ≤ 4096 }
+{
+    for (i, &(parts, found)) in TEXTS.iter().enumerate() {
+        let text = joined(alloc, parts)?;
+        let mut known = KnownLines::begin(alloc, 8)?;
+        if read(&text, pull, &mut known) != found {
+            return Ok(Some(i));
         }
     }
+    Ok(None)
+}
+
+#[test]
+fn texts_come_in_pulls(rt: HostRuntime) -> Result<(), AllocError> {
+    let found = [
+        first_misread(rt.alloc(), 1)?,
+        first_misread(rt.alloc(), 2)?,
+        first_misread(rt.alloc(), 7)?,
+        first_misread(rt.alloc(), 4096)?,
+    ];
+    assert_eq!(rt; found, [None; 4]);
     Ok(())
 }
 
 #[test]
 fn a_known_line_is_read_again(rt: HostRuntime) {
     let mut known = KnownLine::new();
-    for (bytes, is) in [
-        (b"CLOSE".as_slice(), true),
-        (b"CLOSE", true),
-        (b"CLOSF", false),
-        (b"CLOSF", false),
-        (b"END", true),
-    ] {
-        assert_eq!(rt; known.read(bytes).is_some(), is);
-    }
+    let found = [
+        known.read(b"CLOSE").is_some(),
+        known.read(b"CLOSE").is_some(),
+        known.read(b"CLOSF").is_some(),
+        known.read(b"CLOSF").is_some(),
+        known.read(b"END").is_some(),
+    ];
+    assert_eq!(rt; found, [true, true, false, false, true]);
 }
 
 #[test]
@@ -107,9 +119,12 @@ fn a_line_is_told_by_its_bytes(rt: HostRuntime) {
     let mut known = KnownLine::new();
     assert!(rt; known.read(b"ACT A 4 3 0").is_some());
     let text = known.text();
-    assert_eq!(rt; text.again(b"ACT A 4 3 0\nACT B 5 3 0\n"), 12);
-    assert_eq!(rt; text.again(b"ACT A 4 3 01\nACT B 5 3 0\n"), 0);
-    assert_eq!(rt; LineText::new().again(b"CLOSE\n"), 0);
+    let told = [
+        text.again(b"ACT A 4 3 0\nACT B 5 3 0\n"),
+        text.again(b"ACT A 4 3 01\nACT B 5 3 0\n"),
+        LineText::new().again(b"CLOSE\n"),
+    ];
+    assert_eq!(rt; told, [12, 0, 0]);
 }
 
 #[test]

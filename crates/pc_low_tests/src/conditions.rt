@@ -1,5 +1,5 @@
-//! The conditions of a certificate on an activity's gaps and flows, on three activities: the first has knees at 4, of a rise of
-//! 3, and at 2, of a rise of 5.
+//! The conditions of a certificate on an activity's gaps and flows, on three activities: the first has knees at 4, of a
+//! rise of 3, and at 2, of a rise of 5.
 ghost use Rattle.std.specs.Prelude.{◌≡◌, length, IfSome};
 
 use crate::cert_reader::joined;
@@ -82,15 +82,16 @@ const BEGUN: &[u8] =
 ACT A 4 0 0 0\nACT B 5 0 0\nACT C 12 2 0\nCLOSE\n";
 
 // The second segment up to the line of the first activity, where its gap is 3, 4, 2 and 1 units.
-const GAPS: [&[u8]; 4] = [
+const GAPS: &[&[u8]] = &[
     b"SEGMENT 9 8 0 0\nEVENT A 0 0\nEVENT B 3 0\nEVENT C 9 1\nACT A 3 ",
     b"SEGMENT 9 8 0 0\nEVENT A 0 0\nEVENT B 4 0\nEVENT C 9 1\nACT A 4 ",
     b"SEGMENT 9 8 0 0\nEVENT A 0 0\nEVENT B 2 0\nEVENT C 9 1\nACT A 2 ",
     b"SEGMENT 9 8 0 0\nEVENT A 0 0\nEVENT B 1 0\nEVENT C 9 1\nACT A 1 ",
 ];
 
-// The flows of the first activity, and why its line fails at these gaps; 0 where it doesn't, and the next line is missing.
-const FLOWS: [(&[u8], [u64; 4]); 6] = [
+// The flows of the first activity, and why its line fails at these gaps; 0 where it doesn't, and the next line is
+// missing.
+const FLOWS: &[(&[u8], [u64; 4])] = &[
     (b"3 0 0\n", [0, 0, 0, 11]),
     (b"1 0 0\n", [11, 0, 11, 11]),
     (b"3 5 0\n", [11, 11, 0, 0]),
@@ -100,15 +101,22 @@ const FLOWS: [(&[u8], [u64; 4]); 6] = [
     (b"4 0 0\n", [8, 8, 8, 8]),
 ];
 
-#[test]
-fn flows_of_an_activity(rt: HostRuntime) {
-    for (flows, reasons) in FLOWS {
-        for g in 0..4 {
-            let at = if reasons[g] == 0 { 19 } else { 18 };
-            let seen = found(rt.alloc(), &[BEGUN, GAPS[g], flows]);
-            assert_eq!(rt; seen, Some((at, reasons[g])));
+// The first of these flows, with the first gap, of which something else is found, or none.
+fn first_wrong_flows(alloc: Global) -> Option<(usize, usize)> {
+    for (f, &(flows, reasons)) in FLOWS.iter().enumerate() {
+        for (g, (&gap, reason)) in GAPS.iter().zip(reasons).enumerate() {
+            let at = if reason == 0 { 19 } else { 18 };
+            if found(alloc, &[BEGUN, gap, flows]) != Some((at, reason)) {
+                return Some((f, g));
+            }
         }
     }
+    None
+}
+
+#[test]
+fn flows_of_an_activity(rt: HostRuntime) {
+    assert_eq!(rt; first_wrong_flows(rt.alloc()), None);
 }
 
 // The lines up to the first segment, and that of an only length.
@@ -116,7 +124,8 @@ const HEAD: &[u8] = b"CERT 2 A 3 3\nNORMAL\nSTEP C\nCRASH\nSTEP C\n";
 
 const ONE: &[u8] = b"SEGMENT 12 12 60 0\nEVENT A 0 0\nEVENT B 4 0\nEVENT C 12 0\n";
 
-// The second segment, in which the first activity is shortened from 4 to 2, the third, in which it is to 1, and the fourth.
+// The second segment, in which the first activity is shortened from 4 to 2, the third, in which it is to 1, and the
+// fourth.
 const SECOND: &[u8] =
     b"SEGMENT 9 7 66 5\nEVENT A 0 0\nEVENT B 4 1\nEVENT C 9 1\nACT A 4 3 0 0\nACT B 5 3 0\nACT C 9 2 0\nCLOSE\n";
 
@@ -126,31 +135,35 @@ const THIRD: &[u8] =
 const FOURTH: &[u8] =
     b"SEGMENT 6 3 86 11\nEVENT A 0 0\nEVENT B 1 0\nEVENT C 6 1\nACT A 1 3 5 1\nACT B 5 9 0\nACT C 6 2 0\nCLOSE\n";
 
-// The parts of a text, and the first line that fails and why; where nothing else does, the line behind the last is missing.
-const TEXTS: [(&[&[u8]], (u64, u64)); 12] = [
+// The parts of a text, and the first line that fails and why; where nothing else does, the line behind the last is
+// missing.
+const TEXTS: &[(&[&[u8]], (u64, u64))] = &[
     (&[BEGUN, SECOND, THIRD, FOURTH, b"END\n"], (0, 4)),
-    // it stops where its gap at the lower end is crash, or at a knee that it comes to: from 4 to 2, from 2 to 1 and from 5 to 4, but
-    // not from 4 to 3 nor from 6 to 5
+    // it stops where its gap at the lower end is crash, or at a knee that it comes to: from 4 to 2, from 2 to 1 and
+    // from 5 to 4, but not from 4 to 3 nor from 6 to 5
     (&[BEGUN, SECOND], (22, 0)),
     (&[BEGUN, SECOND, THIRD], (30, 0)),
     (
         &[
             HEAD,
-            b"SEGMENT 12 11 60 2\nEVENT A 0 0\nEVENT B 5 1\nEVENT C 12 1\nACT A 4 0 0 0\nACT B 5 0 0\nACT C 12 2 0\nCLOSE\n",
+            b"SEGMENT 12 11 60 2\nEVENT A 0 0\nEVENT B 5 1\nEVENT C 12 1\nACT A 4 0 0 0\n\
+ACT B 5 0 0\nACT C 12 2 0\nCLOSE\n",
         ],
         (14, 0),
     ),
     (
         &[
             BEGUN,
-            b"SEGMENT 9 8 66 5\nEVENT A 0 0\nEVENT B 4 1\nEVENT C 9 1\nACT A 4 3 0 0\nACT B 5 3 0\nACT C 9 2 0\nCLOSE\n",
+            b"SEGMENT 9 8 66 5\nEVENT A 0 0\nEVENT B 4 1\nEVENT C 9 1\nACT A 4 3 0 0\nACT B 5 3 0\n\
+ACT C 9 2 0\nCLOSE\n",
         ],
         (21, 14),
     ),
     (
         &[
             HEAD,
-            b"SEGMENT 12 11 60 2\nEVENT A 0 0\nEVENT B 6 1\nEVENT C 12 1\nACT A 4 0 0 0\nACT B 5 0 0\nACT C 12 2 0\nCLOSE\n",
+            b"SEGMENT 12 11 60 2\nEVENT A 0 0\nEVENT B 6 1\nEVENT C 12 1\nACT A 4 0 0 0\n\
+ACT B 5 0 0\nACT C 12 2 0\nCLOSE\n",
         ],
         (13, 14),
     ),
@@ -175,7 +188,8 @@ const TEXTS: [(&[&[u8]], (u64, u64)); 12] = [
             BEGUN,
             SECOND,
             THIRD,
-            b"SEGMENT 6 3 86 11\nEVENT A 0 0\nEVENT B 1 0\nEVENT C 6 1\nACT A 1 3 5 2\nACT B 5 9 0\nACT C 6 2 0\nCLOSE\n",
+            b"SEGMENT 6 3 86 11\nEVENT A 0 0\nEVENT B 1 0\nEVENT C 6 1\nACT A 1 3 5 2\nACT B 5 9 0\n\
+ACT C 6 2 0\nCLOSE\n",
         ],
         (37, 9),
     ),
@@ -184,7 +198,8 @@ const TEXTS: [(&[&[u8]], (u64, u64)); 12] = [
             BEGUN,
             SECOND,
             THIRD,
-            b"SEGMENT 6 3 86 11\nEVENT A 0 0\nEVENT B 1 0\nEVENT C 6 1\nACT A 1 3 5 999999999999999999\nACT B 5 9 0\nACT C 6 2 0\nCLOSE\n",
+            b"SEGMENT 6 3 86 11\nEVENT A 0 0\nEVENT B 1 0\nEVENT C 6 1\n\
+ACT A 1 3 5 999999999999999999\nACT B 5 9 0\nACT C 6 2 0\nCLOSE\n",
         ],
         (37, 9),
     ),
@@ -193,10 +208,17 @@ const TEXTS: [(&[&[u8]], (u64, u64)); 12] = [
     (&[HEAD, ONE, b"ACT A 4 1 0 0\n"], (10, 15)),
 ];
 
+// The first of these texts of which something else is found, or none.
+fn first_wrong_text(alloc: Global) -> Option<usize> {
+    for (i, &(parts, want)) in TEXTS.iter().enumerate() {
+        if found(alloc, parts) != Some(want) {
+            return Some(i);
+        }
+    }
+    None
+}
+
 #[test]
 fn gaps_of_an_activity(rt: HostRuntime) {
-    for (parts, want) in TEXTS {
-        let seen = found(rt.alloc(), parts);
-        assert_eq!(rt; seen, Some(want));
-    }
+    assert_eq!(rt; first_wrong_text(rt.alloc()), None);
 }

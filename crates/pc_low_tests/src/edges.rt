@@ -5,122 +5,181 @@ use pc_edges::{
     Failed, FileSource, LoadError, MemSink, MemSource, ReadSource, Sink, Source, SureSink,
     SureSource, WriteSink, load, push_all,
 };
+use std::alloc::{AllocError, Global};
 use std::io::{ErrorKind, Read, Write};
 use std::test::Fail;
 use std::{env, fs, io};
 
 const TEXT: &[u8] = b"breadboard";
 
-/// Which pulls fail, the most that a pull gives, what three pulls of up to four bytes answer, and the faults.
-#[test]
-fn mem_source_pulls(rt: HostRuntime) -> Result<(), Fail> {
-    let cases: [(&[u64], usize, [Result<usize, Failed>; 4]); 5] = [
-        (&[], 9, [Ok(4), Ok(4), Ok(2), Ok(0)]),
-        (&[], 3, [Ok(3), Ok(3), Ok(3), Ok(1)]),
-        (&[1], 9, [Err(Failed), Ok(4), Ok(4), Ok(2)]),
-        (&[2, 3], 9, [Ok(4), Err(Failed), Err(Failed), Ok(4)]),
-        (&[4], 4, [Ok(4), Ok(4), Ok(2), Err(Failed)]),
-    ];
-    for (failing, piece, answers) in cases {
-        let mut source = MemSource::new(rt.alloc(), TEXT, piece, failing)?;
-        let mut buffer = [0u8; 4];
-        let mut rest = TEXT;
-        for answer in answers {
-            assert_eq!(rt; source.pull(&mut []), Ok(0));
-            assert_eq!(rt; source.pull(&mut buffer), answer, "failing {failing:?}");
-            if let Ok(n) = answer {
-                assert!(rt; n <= 4 && n <= rest.len());
-                assert_eq!(rt; buffer[..n], rest[..n], "failing {failing:?}");
-                rest = &rest[n..];
-            }
+/// Which pulls fail, the most that a pull gives, and what four pulls of up to four bytes answer.
+const PULLS: &[(&[u64], usize, [Result<usize, Failed>; 4])] = &[
+    (&[], 9, [Ok(4), Ok(4), Ok(2), Ok(0)]),
+    (&[], 3, [Ok(3), Ok(3), Ok(3), Ok(1)]),
+    (&[1], 9, [Err(Failed), Ok(4), Ok(4), Ok(2)]),
+    (&[2, 3], 9, [Ok(4), Err(Failed), Err(Failed), Ok(4)]),
+    (&[4], 4, [Ok(4), Ok(4), Ok(2), Err(Failed)]),
+];
+
+/// What of a text is left behind a pull that gives this answer; none where the pull answers or gives something else, or
+/// where a pull into no buffer does not answer 0.
+fn left_behind<'t>(
+    source: &mut MemSource,
+    text: &'t [u8],
+    answer: Result<usize, Failed>,
+) -> Option<&'t [u8]> {
+    let mut buffer = [0u8; 4];
+    if source.pull(&mut []) != Ok(0) || source.pull(&mut buffer) != answer {
+        return None;
+    }
+    match answer {
+        Ok(n) if n <= 4 && n <= text.len() && buffer[..n] == text[..n] => Some(&text[n..]),
+        Ok(_) => None,
+        Err(_) => Some(text),
+    }
+}
+
+/// Whether a source gives these answers and the bytes of the text.
+fn gives(source: &mut MemSource, answers: &[Result<usize, Failed>]) -> bool {
+    let mut text = TEXT;
+    for &answer in answers {
+        match left_behind(source, text, answer) {
+            Some(rest) => text = rest,
+            None => return false,
         }
     }
+    true
+}
+
+/// The first of these cases in which a pull answers or gives something else, or none.
+fn first_wrong_pulls(alloc: Global) -> Result<Option<usize>, AllocError> {
+    for (i, &(failing, piece, answers)) in PULLS.iter().enumerate() {
+        let mut source = MemSource::new(alloc, TEXT, piece.max(1), failing)?;
+        if !gives(&mut source, &answers) {
+            return Ok(Some(i));
+        }
+    }
+    Ok(None)
+}
+
+#[test]
+fn mem_source_pulls(rt: HostRuntime) -> Result<(), Fail> {
+    assert_eq!(rt; first_wrong_pulls(rt.alloc())?, None);
     Ok(())
 }
 
 /// Which calls fail, the most that a push takes, what the pushes of what is left and a flush after the second
 /// answer, and the bytes taken in the end. There is room for five bytes.
+const PUSHES: &[(
+    &[u64],
+    usize,
+    [Result<usize, Failed>; 3],
+    Result<(), Failed>,
+    &[u8],
+)] = &[
+    (&[], 9, [Ok(5), Err(Failed), Err(Failed)], Ok(()), b"bread"),
+    (&[], 3, [Ok(3), Ok(2), Err(Failed)], Ok(()), b"bread"),
+    (&[1], 3, [Err(Failed), Ok(3), Ok(2)], Ok(()), b"bread"),
+    (&[2], 3, [Ok(3), Err(Failed), Ok(2)], Ok(()), b"bread"),
+    (&[3], 2, [Ok(2), Ok(2), Ok(1)], Err(Failed), b"bread"),
+    (&[2, 4], 2, [Ok(2), Err(Failed), Err(Failed)], Ok(()), b"br"),
+];
+
+/// Whether a push of what a sink has not taken of the text gives this answer, and a push of nothing 0.
+fn takes(sink: &mut MemSink, answer: Result<usize, Failed>) -> bool {
+    let at = sink.bytes().len();
+    at <= TEXT.len() && sink.push(&[]) == Ok(0) && sink.push(&TEXT[at..]) == answer
+}
+
+/// The first of these cases in which a push or the flush answers something else, or other bytes are taken, or none.
+fn first_wrong_pushes(alloc: Global) -> Result<Option<usize>, AllocError> {
+    for (i, &(failing, piece, [first, second, third], flushed, bytes)) in PUSHES
+        .iter()
+        .enumerate()
+    {
+        let mut sink = MemSink::new(alloc, 5, piece.max(1), failing)?;
+        let is_begun = takes(&mut sink, first) && takes(&mut sink, second);
+        let is_ended = sink.flush() == flushed && takes(&mut sink, third);
+        if !is_begun || !is_ended || sink.bytes() != bytes {
+            return Ok(Some(i));
+        }
+    }
+    Ok(None)
+}
+
 #[test]
 fn mem_sink_pushes(rt: HostRuntime) -> Result<(), Fail> {
-    let cases: [(
-        &[u64],
-        usize,
-        [Result<usize, Failed>; 3],
-        Result<(), Failed>,
-        &[u8],
-    ); 6] = [
-        (&[], 9, [Ok(5), Err(Failed), Err(Failed)], Ok(()), b"bread"),
-        (&[], 3, [Ok(3), Ok(2), Err(Failed)], Ok(()), b"bread"),
-        (&[1], 3, [Err(Failed), Ok(3), Ok(2)], Ok(()), b"bread"),
-        (&[2], 3, [Ok(3), Err(Failed), Ok(2)], Ok(()), b"bread"),
-        (&[3], 2, [Ok(2), Ok(2), Ok(1)], Err(Failed), b"bread"),
-        (&[2, 4], 2, [Ok(2), Err(Failed), Err(Failed)], Ok(()), b"br"),
-    ];
-    for (failing, piece, answers, flushed, bytes) in cases {
-        let mut sink = MemSink::new(rt.alloc(), 5, piece, failing)?;
-        for (turn, answer) in answers.into_iter().enumerate() {
-            if turn == 2 {
-                assert_eq!(rt; sink.flush(), flushed, "failing {failing:?}");
-            }
-            let at = sink.bytes().len();
-            assert!(rt; at <= TEXT.len());
-            assert_eq!(rt; sink.push(&[]), Ok(0));
-            assert_eq!(rt; sink.push(&TEXT[at..]), answer, "failing {failing:?}");
-        }
-        assert_eq!(rt; sink.bytes(), bytes, "failing {failing:?}");
-    }
+    assert_eq!(rt; first_wrong_pushes(rt.alloc())?, None);
     Ok(())
 }
 
-/// Four bytes at a pull: the fourth pull finds the end.
+/// Which pulls fail, the limit, and how a load ends. Four bytes at a pull: the fourth pull finds the end.
+const LOADS: &[(&[u64], usize, Result<(), LoadError>)] = &[
+    (&[], 11, Ok(())),
+    (&[], 10, Ok(())),
+    (&[], 9, Err(LoadError::TooLong)),
+    (&[], 0, Err(LoadError::TooLong)),
+    (&[1], 10, Err(LoadError::ReadFault)),
+    (&[2], 10, Err(LoadError::ReadFault)),
+    (&[4], 10, Err(LoadError::ReadFault)),
+    (&[5], 10, Ok(())),
+];
+
+/// How a load of a text from a source ends, and whether it gives the text.
+fn loaded<S: Source>(
+    alloc: Global,
+    source: &mut S,
+    limit: usize,
+    text: &[u8],
+) -> Result<bool, LoadError> {
+    Ok(load(alloc, source, limit)?.as_slice() == text)
+}
+
+/// The first of these loads that ends otherwise or gives other bytes, or none.
+fn first_wrong_load(alloc: Global) -> Result<Option<usize>, AllocError> {
+    for (i, &(failing, limit, answer)) in LOADS.iter().enumerate() {
+        let mut source = MemSource::new(alloc, TEXT, 4, failing)?;
+        if loaded(alloc, &mut source, limit, TEXT) != answer.map(|_| true) {
+            return Ok(Some(i));
+        }
+    }
+    Ok(None)
+}
+
 #[test]
 fn load_reads_to_the_end(rt: HostRuntime) -> Result<(), Fail> {
-    let cases: [(&[u64], usize, Result<(), LoadError>); 8] = [
-        (&[], 11, Ok(())),
-        (&[], 10, Ok(())),
-        (&[], 9, Err(LoadError::TooLong)),
-        (&[], 0, Err(LoadError::TooLong)),
-        (&[1], 10, Err(LoadError::ReadFault)),
-        (&[2], 10, Err(LoadError::ReadFault)),
-        (&[4], 10, Err(LoadError::ReadFault)),
-        (&[5], 10, Ok(())),
-    ];
-    for (failing, limit, answer) in cases {
-        let mut source = MemSource::new(rt.alloc(), TEXT, 4, failing)?;
-        match load(rt.alloc(), &mut source, limit) {
-            Ok(bytes) => {
-                assert_eq!(rt; answer, Ok(()), "failing {failing:?}");
-                assert_eq!(rt; bytes.as_slice(), TEXT);
-            }
-            Err(e) => assert_eq!(rt; Err(e), answer, "failing {failing:?}"),
-        }
-    }
+    assert_eq!(rt; first_wrong_load(rt.alloc())?, None);
     let mut nothing = MemSource::new(rt.alloc(), &[], 4, &[])?;
-    assert_eq!(rt; load(rt.alloc(), &mut nothing, 0)?.len(), 0);
+    assert!(rt; loaded(rt.alloc(), &mut nothing, 0, &[]) == Ok(true));
     Ok(())
 }
 
-/// Four bytes at a push.
+/// Which pushes fail, the room of the sink, how a push of the whole text ends, and what the sink took. Four bytes at a
+/// push.
+const WHOLE_PUSHES: &[(&[u64], usize, Result<(), Failed>, &[u8])] = &[
+    (&[], 11, Ok(()), TEXT),
+    (&[], 10, Ok(()), TEXT),
+    (&[], 5, Err(Failed), b"bread"),
+    (&[1], 10, Err(Failed), b""),
+    (&[2], 10, Err(Failed), b"brea"),
+    (&[3], 10, Err(Failed), b"breadboa"),
+    (&[4], 10, Ok(()), TEXT),
+];
+
+/// The first of these pushes that ends otherwise or gives other bytes, or none.
+fn first_wrong_whole_push(alloc: Global) -> Result<Option<usize>, AllocError> {
+    for (i, &(failing, room, answer, bytes)) in WHOLE_PUSHES.iter().enumerate() {
+        let mut sink = MemSink::new(alloc, room, 4, failing)?;
+        if push_all(&mut sink, TEXT) != answer || sink.bytes() != bytes {
+            return Ok(Some(i));
+        }
+    }
+    Ok(None)
+}
+
 #[test]
 fn push_all_pushes_each_byte(rt: HostRuntime) -> Result<(), Fail> {
-    let cases: [(&[u64], usize, Result<(), Failed>, &[u8]); 7] = [
-        (&[], 11, Ok(()), TEXT),
-        (&[], 10, Ok(()), TEXT),
-        (&[], 5, Err(Failed), b"bread"),
-        (&[1], 10, Err(Failed), b""),
-        (&[2], 10, Err(Failed), b"brea"),
-        (&[3], 10, Err(Failed), b"breadboa"),
-        (&[4], 10, Ok(()), TEXT),
-    ];
-    for (failing, room, answer, bytes) in cases {
-        let mut sink = MemSink::new(rt.alloc(), room, 4, failing)?;
-        assert_eq!(rt;
-            push_all(&mut sink, TEXT),
-            answer,
-            "failing {failing:?} room {room}"
-        );
-        assert_eq!(rt; sink.bytes(), bytes, "failing {failing:?} room {room}");
-    }
+    assert_eq!(rt; first_wrong_whole_push(rt.alloc())?, None);
     Ok(())
 }
 
@@ -167,32 +226,50 @@ impl Write for Faulty {
     }
 }
 
-#[test]
-fn read_source_reads(rt: HostRuntime) -> Result<(), Fail> {
-    let mut source = ReadSource::new(TEXT);
-    assert_eq!(rt; load(rt.alloc(), &mut source, 10)?.as_slice(), TEXT);
-    let mut faulty = ReadSource::new(Faulty { turn: 0 });
+/// What four pulls of up to so many bytes answer.
+fn four_pulls<S: Source>(source: &mut S) -> [Result<usize, Failed>; 4] {
     let mut buffer = [0u8; 4];
-    assert_eq!(rt; faulty.pull(&mut []), Ok(0));
-    assert_eq!(rt; faulty.pull(&mut buffer), Ok(1));
-    assert_eq!(rt; faulty.pull(&mut buffer), Err(Failed));
-    assert_eq!(rt; faulty.pull(&mut buffer), Ok(0));
-    Ok(())
+    [
+        source.pull(&mut []),
+        source.pull(&mut buffer),
+        source.pull(&mut buffer),
+        source.pull(&mut buffer),
+    ]
 }
 
 #[test]
-fn write_sink_writes(rt: HostRuntime) -> Result<(), Fail> {
-    let mut out = Vec::new(rt.alloc());
-    let mut sink = WriteSink::new(&mut out);
-    assert_eq!(rt; push_all(&mut sink, TEXT), Ok(()));
-    assert_eq!(rt; sink.flush(), Ok(()));
-    assert_eq!(rt; out.as_slice(), TEXT);
-    let mut faulty = WriteSink::new(Faulty { turn: 0 });
-    assert_eq!(rt; faulty.push(&[]), Ok(0));
-    assert_eq!(rt; faulty.push(TEXT), Ok(1));
-    assert_eq!(rt; faulty.flush(), Err(Failed));
-    assert_eq!(rt; faulty.push(TEXT), Err(Failed));
-    Ok(())
+fn read_source_reads(rt: HostRuntime) {
+    let mut source = ReadSource::new(TEXT);
+    assert!(rt; loaded(rt.alloc(), &mut source, 10, TEXT) == Ok(true));
+    let answers = four_pulls(&mut ReadSource::new(Faulty { turn: 0 }));
+    assert!(rt; answers == [Ok(0), Ok(1), Err(Failed), Ok(0)]);
+}
+
+/// Whether a sink takes a whole text and its flush.
+fn takes_all<O: Sink>(sink: &mut O, text: &[u8]) -> bool {
+    push_all(sink, text).is_ok() && sink.flush().is_ok()
+}
+
+/// Whether a sink over a stream writes a whole text and no more.
+fn is_written(alloc: Global, text: &[u8]) -> bool {
+    let mut out = Vec::new(alloc);
+    takes_all(&mut WriteSink::new(&mut out), text) && out.as_slice() == text
+}
+
+/// Whether a push of nothing, one of a text, a flush and a push of the text again give these answers on a stream whose
+/// second turn fails.
+fn is_faulty_written(text: &[u8]) -> bool {
+    let mut sink = WriteSink::new(Faulty { turn: 0 });
+    sink.push(&[]) == Ok(0)
+        && sink.push(text) == Ok(1)
+        && sink.flush() == Err(Failed)
+        && sink.push(text) == Err(Failed)
+}
+
+#[test]
+fn write_sink_writes(rt: HostRuntime) {
+    assert!(rt; is_written(rt.alloc(), TEXT));
+    assert!(rt; is_faulty_written(TEXT));
 }
 
 /// A file in the folder for temporary files, and one that is not there: each pull from it fails.
@@ -202,33 +279,42 @@ fn file_source_reads(rt: HostRuntime) -> Result<(), Fail> {
     path.push("pc_edges_file_source")?;
     let path = path.into_string();
     fs::write(&rt, path.as_str(), TEXT)?;
-    let mut source = FileSource::at(&rt, path.as_str());
-    assert_eq!(rt; load(rt.alloc(), &mut source, 10)?.as_slice(), TEXT);
+    let found = loaded(
+        rt.alloc(),
+        &mut FileSource::at(&rt, path.as_str()),
+        10,
+        TEXT,
+    );
     fs::remove_file(&rt, path.as_str())?;
-    let mut missing = FileSource::at(&rt, "");
-    let mut buffer = [0u8; 4];
-    assert_eq!(rt; missing.pull(&mut []), Ok(0));
-    assert_eq!(rt; missing.pull(&mut buffer), Err(Failed));
-    assert_eq!(rt; missing.pull(&mut buffer), Err(Failed));
+    let missing = four_pulls(&mut FileSource::at(&rt, ""));
+    assert!(rt; found == Ok(true));
+    assert!(rt; missing == [Ok(0), Err(Failed), Err(Failed), Err(Failed)]);
     Ok(())
+}
+
+/// What two pulls of the text answer, whether they and a load of up to six bytes give all of it, and what a pull
+/// answers then.
+fn pulled_surely(
+    alloc: Global,
+) -> (
+    Result<usize, Failed>,
+    Result<usize, Failed>,
+    bool,
+    bool,
+    Result<usize, Failed>,
+) {
+    let mut source = SureSource::new(TEXT);
+    let mut buffer = [0u8; 4];
+    let (nothing, four) = (source.pull(&mut []), source.pull(&mut buffer));
+    let is_front = &buffer == b"brea";
+    let is_rest = loaded(alloc, &mut source, 6, b"dboard") == Ok(true);
+    (nothing, four, is_front, is_rest, source.pull(&mut buffer))
 }
 
 /// Pulls fill their buffers, and pushes take their pieces whole.
 #[test]
-fn sure_edges_never_fail(rt: HostRuntime) -> Result<(), Fail> {
-    let mut source = SureSource::new(TEXT);
-    let mut buffer = [0u8; 4];
-    assert_eq!(rt; source.pull(&mut []), Ok(0));
-    assert_eq!(rt; source.pull(&mut buffer), Ok(4));
-    assert_eq!(rt; &buffer, b"brea");
-    assert_eq!(rt;
-        load(rt.alloc(), &mut source, 6)?.as_slice(),
-        b"dboard".as_slice()
-    );
-    assert_eq!(rt; source.pull(&mut buffer), Ok(0));
+fn sure_edges_never_fail(rt: HostRuntime) {
+    assert!(rt; pulled_surely(rt.alloc()) == (Ok(0), Ok(4), true, true, Ok(0)));
     let mut sink = SureSink::new();
-    assert_eq!(rt; push_all(&mut sink, TEXT), Ok(()));
-    assert_eq!(rt; sink.flush(), Ok(()));
-    assert_eq!(rt; sink.count(), 10);
-    Ok(())
+    assert!(rt; takes_all(&mut sink, TEXT) && sink.count() == 10);
 }

@@ -1,5 +1,4 @@
 //! Pages: each public function once, and which calls of a sink a page makes, which no clause counts.
-ghost use Rattle.std.specs.Prelude.{[], ◌∷◌, ◌++◌, decimal};
 
 use pc_edges::page::{PAGE_ROOM, Page, Rows, put_rows};
 use pc_edges::{MemSink, Sink};

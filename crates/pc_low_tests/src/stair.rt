@@ -23,33 +23,59 @@ fn stop(after: u64, room: u64) -> Stop {
 
 #[test]
 fn pieces(rt: HostRuntime) {
-    assert_eq!(rt; piece_of(&TWO, 2, 0), piece(4, 0, 3));
-    assert_eq!(rt; piece_of(&TWO, 2, 2), piece(4, 0, 3));
-    assert_eq!(rt; piece_of(&TWO, 2, 3), piece(3, 3, 6));
-    assert_eq!(rt; piece_of(&TWO, 2, 6), piece(2, 6, u64::MAX));
-    assert_eq!(rt; piece_of(&FREE, 1, 0), piece(3, 0, 5));
-    assert_eq!(rt; piece_of(&FREE, 1, 5), piece(1, 5, u64::MAX));
-    assert_eq!(rt; piece_of(&FIXED, 2, 7), piece(2, 3, u64::MAX));
+    let found = [
+        piece_of(&TWO, 2, 0),
+        piece_of(&TWO, 2, 2),
+        piece_of(&TWO, 2, 3),
+        piece_of(&TWO, 2, 6),
+        piece_of(&FREE, 1, 0),
+        piece_of(&FREE, 1, 5),
+        piece_of(&FIXED, 2, 7),
+    ];
+    let wanted = [
+        piece(4, 0, 3),
+        piece(4, 0, 3),
+        piece(3, 3, 6),
+        piece(2, 6, u64::MAX),
+        piece(3, 0, 5),
+        piece(1, 5, u64::MAX),
+        piece(2, 3, u64::MAX),
+    ];
+    assert_eq!(rt; found, wanted);
 }
 
 #[test]
 fn stops(rt: HostRuntime) {
-    assert_eq!(rt; stop_along(&TWO, 2, 6, 0), stop(2, 3));
-    assert_eq!(rt; stop_along(&TWO, 2, 3, 4), stop(0, 2));
-    assert_eq!(rt; stop_along(&TWO, 2, 3, 6), stop(1, u64::MAX - 6));
-    assert_eq!(rt; stop_against(&TWO, 2, 3, 3), stop(1, 3));
-    assert_eq!(rt; stop_against(&TWO, 2, 3, 5), stop(0, 2));
-    assert_eq!(rt; stop_against(&TWO, 2, 2, 8), stop(0, 2));
+    let found = [
+        stop_along(&TWO, 2, 6, 0),
+        stop_along(&TWO, 2, 3, 4),
+        stop_along(&TWO, 2, 3, 6),
+        stop_against(&TWO, 2, 3, 3),
+        stop_against(&TWO, 2, 3, 5),
+        stop_against(&TWO, 2, 2, 8),
+    ];
+    let wanted = [
+        stop(2, 3),
+        stop(0, 2),
+        stop(1, u64::MAX - 6),
+        stop(1, 3),
+        stop(0, 2),
+        stop(0, 2),
+    ];
+    assert_eq!(rt; found, wanted);
+}
+
+/// What flows at the two knees and beside them.
+fn filling(flow: u64) -> [u64; 3] {
+    [
+        flow_at(&TWO, flow, 0),
+        flow_at(&TWO, flow, 1),
+        beside(&TWO, flow),
+    ]
 }
 
 #[test]
 fn fillings(rt: HostRuntime) {
-    for (flow, want) in [(1, (1, 0, 0)), (5, (3, 2, 0)), (8, (3, 3, 2))] {
-        let flows = (
-            flow_at(&TWO, flow, 0),
-            flow_at(&TWO, flow, 1),
-            beside(&TWO, flow),
-        );
-        assert_eq!(rt; flows, want, "at {flow}");
-    }
+    let found = [filling(1), filling(5), filling(8)];
+    assert_eq!(rt; found, [[1, 0, 0], [3, 2, 0], [3, 3, 2]]);
 }

@@ -2,111 +2,188 @@
 use pc_text::{
     Code, Codes, Line, Title, digits, is_code, is_title_shape, read_number, signed, wide,
 };
+use std::alloc::{AllocError, Global};
 use std::collections::HashSet;
-use std::test::Fail;
 
-#[test]
-fn codes(rt: HostRuntime) -> Result<(), Fail> {
-    let code = Code::read(b"A.9_z-").ok_or("a code")?;
-    assert_eq!(rt; code.bytes(), b"A.9_z-".as_slice());
-    let later = Code::read(b"A.9_z-0").ok_or("a code")?;
-    assert!(rt; code < later && code != later);
-    // 65 and 66 are the bytes
-    assert_eq!(rt; Code::read(b"AB").ok_or("a code")?.number(), 65 + 66 * 256);
-    let cases: [(&[u8], bool); 6] = [
-        (b"", false),
-        (b"x", true),
-        (b"0123456789abcdef", true),
-        (b"0123456789abcdefg", false),
-        (b"a b", false),
-        (b"\xc3\xa4", false),
-    ];
-    for (field, is) in cases {
-        assert_eq!(rt; is_code(field), is);
-        assert_eq!(rt; Code::read(field).is_some(), is);
-    }
-    let list = Codes::of(rt.alloc(), &[later, code])?;
-    assert_eq!(rt; list.as_slice(), [later, code].as_slice());
-    let mut seen = HashSet::new(rt.alloc());
-    assert!(rt; seen.insert(code)?);
-    assert!(rt; seen.insert(later)?);
-    assert!(rt; seen.contains(&code));
-    Ok(())
+/// Whether a code has its bytes, whether it is before another and differs from it, and the number of a third.
+fn two_codes() -> Option<(bool, bool, bool, u128)> {
+    let (code, later) = (Code::read(b"A.9_z-")?, Code::read(b"A.9_z-0")?);
+    let number = Code::read(b"AB")?.number();
+    Some((
+        code.bytes() == b"A.9_z-".as_slice(),
+        code < later,
+        code != later,
+        number,
+    ))
+}
+
+/// Whether codes are listed in their order.
+fn are_listed(alloc: Global, codes: &[Code]) -> Result<bool, AllocError> {
+    Ok(Codes::of(alloc, codes)?.as_slice() == codes)
+}
+
+/// Whether each of two codes is new to a set, and whether the first is in it then.
+fn are_kept(alloc: Global, first: Code, second: Code) -> Result<[bool; 3], AllocError> {
+    let mut seen = HashSet::new(alloc);
+    Ok([
+        seen.insert(first)?,
+        seen.insert(second)?,
+        seen.contains(&first),
+    ])
+}
+
+/// The two codes, listed with the later one first, and kept in a set.
+fn codes_together(alloc: Global) -> Option<(bool, [bool; 3])> {
+    let (code, later) = (Code::read(b"A.9_z-")?, Code::read(b"A.9_z-0")?);
+    Some((
+        are_listed(alloc, &[later, code]).ok()?,
+        are_kept(alloc, code, later).ok()?,
+    ))
 }
 
 #[test]
-fn titles(rt: HostRuntime) -> Result<(), Fail> {
-    let title = Title::read(b"Frame, north").ok_or("a title")?;
-    assert_eq!(rt; title.bytes(), b"Frame, north".as_slice());
-    assert!(rt; title == title && Title::read(b"").is_some());
-    assert!(rt; Title::read(&[b'x'; 80]).is_some());
-    assert!(rt; Title::read(&[b'x'; 81]).is_none());
-    assert!(rt; is_title_shape(&[b'x'; 81]));
-    assert!(rt; !is_title_shape(b"\x1f"));
-    assert!(rt; !is_title_shape(b"\x7f"));
-    Ok(())
+fn codes(rt: HostRuntime) {
+    // 65 and 66 are the bytes
+    assert!(rt; two_codes() == Some((true, true, true, 65 + 66 * 256)));
+    assert!(rt; codes_together(rt.alloc()) == Some((true, [true; 3])));
+}
+
+/// Fields, and whether each is a code.
+const FIELDS: &[(&[u8], bool)] = &[
+    (b"", false),
+    (b"x", true),
+    (b"0123456789abcdef", true),
+    (b"0123456789abcdefg", false),
+    (b"a b", false),
+    (b"\xc3\xa4", false),
+];
+
+/// The first field that is read otherwise, or none.
+fn first_wrong_code() -> Option<usize> {
+    for (i, &(field, is)) in FIELDS.iter().enumerate() {
+        if is_code(field) != is || Code::read(field).is_some() != is {
+            return Some(i);
+        }
+    }
+    None
+}
+
+#[test]
+fn fields_of_codes(rt: HostRuntime) {
+    assert_eq!(rt; first_wrong_code(), None);
+}
+
+/// Fields, whether each is a title, and whether it has a title's shape.
+const TITLES: &[(&[u8], bool, bool)] = &[
+    (b"", true, true),
+    (b"Frame, north", true, true),
+    (&[b'x'; 80], true, true),
+    (&[b'x'; 81], false, true),
+    (b"\x1f", false, false),
+    (b"\x7f", false, false),
+];
+
+/// Whether a field is read as the title with these bytes, which equals itself.
+fn is_read(field: &[u8]) -> bool {
+    match Title::read(field) {
+        Some(title) => title.bytes() == field && title == title,
+        None => false,
+    }
+}
+
+/// The first field that is read otherwise, or none.
+fn first_wrong_title() -> Option<usize> {
+    for (i, &(field, is, is_shape)) in TITLES.iter().enumerate() {
+        if is_read(field) != is || is_title_shape(field) != is_shape {
+            return Some(i);
+        }
+    }
+    None
+}
+
+#[test]
+fn titles(rt: HostRuntime) {
+    assert_eq!(rt; first_wrong_title(), None);
+}
+
+const NUMBERS: &[(&[u8], Option<u64>)] = &[
+    (b"0", Some(0)),
+    (b"17", Some(17)),
+    (b"9999999999999", Some(9_999_999_999_999)),
+    (b"10000000000000", None),
+    (b"", None),
+    (b"06", None),
+    (b"-1", None),
+    (b"+1", None),
+    (b"1x", None),
+];
+
+/// The first field of which another number is read, or none.
+fn first_wrong_number() -> Option<usize> {
+    for (i, &(field, number)) in NUMBERS.iter().enumerate() {
+        if read_number(field) != number {
+            return Some(i);
+        }
+    }
+    None
+}
+
+const SIGNS: &[(i64, &[u8])] = &[
+    (0, b"0"),
+    (37, b"37"),
+    (-6, b"-6"),
+    (i64::MAX, b"9223372036854775807"),
+    (i64::MIN, b"-9223372036854775808"),
+];
+
+/// The first number that is written otherwise, or none.
+fn first_wrong_sign() -> Option<usize> {
+    for (i, &(number, text)) in SIGNS.iter().enumerate() {
+        if signed(number).bytes() != text {
+            return Some(i);
+        }
+    }
+    None
 }
 
 #[test]
 fn numbers(rt: HostRuntime) {
-    let cases: [(&[u8], Option<u64>); 9] = [
-        (b"0", Some(0)),
-        (b"17", Some(17)),
-        (b"9999999999999", Some(9_999_999_999_999)),
-        (b"10000000000000", None),
-        (b"", None),
-        (b"06", None),
-        (b"-1", None),
-        (b"+1", None),
-        (b"1x", None),
-    ];
-    for (field, number) in cases {
-        assert_eq!(rt; read_number(field), number);
-    }
-    assert_eq!(rt; digits(0).bytes(), b"0".as_slice());
-    assert_eq!(rt;
-        digits(u64::MAX).bytes(),
-        b"18446744073709551615".as_slice()
-    );
-    let signs: [(i64, &[u8]); 5] = [
-        (0, b"0"),
-        (37, b"37"),
-        (-6, b"-6"),
-        (i64::MAX, b"9223372036854775807"),
-        (i64::MIN, b"-9223372036854775808"),
-    ];
-    for (number, text) in signs {
-        assert_eq!(rt; signed(number).bytes(), text);
-    }
+    assert_eq!(rt; first_wrong_number(), None);
+    assert_eq!(rt; first_wrong_sign(), None);
+    assert!(rt; digits(0).bytes() == b"0".as_slice());
+    assert!(rt; digits(u64::MAX).bytes() == b"18446744073709551615".as_slice());
 }
 
 #[test]
-fn wide_numbers(rt: HostRuntime) -> Result<(), Fail> {
-    assert_eq!(rt; wide(0).bytes(), b"0".as_slice());
-    assert_eq!(rt;
-        wide(1_000_000_000_000_000_000_000).bytes(),
-        b"1000000000000000000000".as_slice()
+fn wide_numbers(rt: HostRuntime) {
+    assert!(rt; wide(0).bytes() == b"0".as_slice());
+    assert!(rt;
+        wide(1_000_000_000_000_000_000_000).bytes() == b"1000000000000000000000".as_slice()
     );
-    assert_eq!(rt;
-        wide(u128::MAX).bytes(),
-        b"340282366920938463463374607431768211455".as_slice()
-    );
-    Ok(())
+    assert!(rt; wide(u128::MAX).bytes() == b"340282366920938463463374607431768211455".as_slice());
 }
 
-#[test]
-fn lines(rt: HostRuntime) -> Result<(), Fail> {
-    let mut line = Line::with_room(rt.alloc(), 16)?;
+/// Two pieces on a line, how much room is left behind them and, without them, at first; and four cells.
+fn lines_written(alloc: Global) -> Option<(bool, usize, usize, bool)> {
+    let mut line = Line::with_room(alloc, 16).ok()?;
     line.text(b"ACT ");
     line.text(b"A");
-    assert_eq!(rt; line.bytes(), b"ACT A".as_slice());
-    assert_eq!(rt; line.room_left(), 11);
+    let (pieces, left) = (line.bytes() == b"ACT A".as_slice(), line.room_left());
     line.clear();
-    assert_eq!(rt; line.room_left(), 16);
+    let room = line.room_left();
     line.cell_left(b"AB", 4);
     line.cell_right(b"C", 3);
     line.cell_left(b"DEFG", 2);
     line.cell_right(b"HI", 1);
-    assert_eq!(rt; line.bytes(), b"AB    CDEFGHI".as_slice());
-    Ok(())
+    Some((
+        pieces,
+        left,
+        room,
+        line.bytes() == b"AB    CDEFGHI".as_slice(),
+    ))
+}
+
+#[test]
+fn lines(rt: HostRuntime) {
+    assert!(rt; lines_written(rt.alloc()) == Some((true, 11, 16, true)));
 }

@@ -69,8 +69,8 @@ fn segments_of_pieces(rt: HostRuntime) {
     assert_eq!(rt; small_curve(rt.alloc()), Some(rows));
 }
 
-/// The range of a curve; of its first segment the time and moving bit of event 1, the duration of activity 0, its flows at
-/// the first knee and beside the knees, and its whole flow; and how many cells are free at last.
+/// The range of a curve; of its first segment the time and moving bit of event 1, the duration of activity 0, its flows
+/// at the first knee and beside the knees, and its whole flow; and how many cells are free at last.
 fn first<L: Ledger>(alloc: Global, net: &CrashNet<'_>, blank: Blank) -> Result<[u64; 9], AllocError>
     requires blank { IsBlankOf L.name L.parts blank.name blank.parts }
     requires pieces { length net.now.pieces ≤ 1 }
@@ -106,8 +106,8 @@ fn first_segment_of_pieces(rt: HostRuntime) {
     assert_eq!(rt; small_first(rt.alloc()), Some([9, 5, 4, 1, 4, 3, 0, 3, 60]));
 }
 
-/// Two activities run to event 1, of which the first is shortened for nothing, and from there one that cannot be shortened
-/// and one that takes no time.
+/// Two activities run to event 1, of which the first is shortened for nothing, and from there one that cannot be
+/// shortened and one that takes no time.
 fn parallel_net(alloc: Global) -> Option<Net>
     ensures events { IfSome result (λ net. net.events ≡ 3) }
     ensures activities { IfSome result (λ net. length net.arcs ≡ 4) }

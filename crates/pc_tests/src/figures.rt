@@ -1,4 +1,5 @@
-//! What the items of a small deck add up to: an activity that has begun in one package, and another package without activities.
+//! What the items of a small deck add up to: an activity that has begun in one package, and another package without
+//! activities.
 use crate::projects::asked;
 use pc_project::Project;
 use pc_rollup::figures::{
@@ -8,7 +9,9 @@ use std::alloc::Global;
 use std::test::Fail;
 
 const DECK: &[u8] =
-    b"PROJECT,P,S,T,2024-01-01,1,,\nASOF,2024-01-08\nWBS,1,,\nWBS,1.1,1,\nWBS,1.2,1,\nEVENT,S,\nEVENT,T,\nACT,A,S,T,1.1,3,4,5,4,2,10,7,\nACCT,X,1.1,10,\nACCT,Y,1.2,30,\nCHARGE,X,2024-01-03,6\nCHARGE,Y,2024-01-04,5\nTOGO,X,2024-01-05,9\nSTATUS,A,S,2024-01-02\nEND\n";
+    b"PROJECT,P,S,T,2024-01-01,1,,\nASOF,2024-01-08\nWBS,1,,\nWBS,1.1,1,\nWBS,1.2,1,\nEVENT,S,\n\
+EVENT,T,\nACT,A,S,T,1.1,3,4,5,4,2,10,7,\nACCT,X,1.1,10,\nACCT,Y,1.2,30,\nCHARGE,X,2024-01-03,6\n\
+CHARGE,Y,2024-01-04,5\nTOGO,X,2024-01-05,9\nSTATUS,A,S,2024-01-02\nEND\n";
 
 /// The second item of the summary with its level, the amounts of the first item, and those of the second level.
 fn summary_of(
@@ -52,7 +55,7 @@ fn outlook_of(alloc: Global, project: &Project) -> Option<(OutlineRow, OutlookAm
 }
 
 /// The figures of a project.
-#[derive(Clone, Copy)]
+#[derive(Clone, Copy, Debug, PartialEq)]
 pub(crate) struct Figures {
     summary: Option<(OutlineRow, SummaryAmounts, SummaryAmounts)>,
     worth: Option<WorthAmounts>,
@@ -80,20 +83,23 @@ fn figures_of_items(rt: HostRuntime) -> Result<(), Fail> {
         overrun: 5,
     };
     let second = OutlineRow { item: 1, level: 2 };
-    assert_eq!(rt; figures.summary, Some((second, whole, whole)));
     let worth = WorthAmounts {
         budget: 40,
         actual: 11,
         value: 9,
         overrun: 2,
     };
-    assert_eq!(rt; figures.worth, Some(worth));
     let outlook = OutlookAmounts {
         budget: 40,
         outlook: 54,
         change: 14,
     };
     let third = OutlineRow { item: 2, level: 2 };
-    assert_eq!(rt; figures.outlook, Some((third, outlook)));
+    let wanted = Figures {
+        summary: Some((second, whole, whole)),
+        worth: Some(worth),
+        outlook: Some((third, outlook)),
+    };
+    assert_eq!(rt; figures, wanted);
     Ok(())
 }

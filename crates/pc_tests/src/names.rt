@@ -1,23 +1,60 @@
 //! Codes that are added and found, so many that the table grows.
 use pc_names::Names;
 use pc_text::{Code, digits};
+use std::alloc::{AllocError, Global};
 use std::test::Fail;
+
+/// The code that spells a number, which every number has.
+fn code(number: u64) -> Option<Code> {
+    Code::read(digits(number).bytes())
+}
+
+/// Whether a code is not yet among the names, is added, and is not added again.
+fn is_added_once(names: &mut Names, code: &Code) -> Result<bool, AllocError> {
+    Ok(names.place_of(code).is_none() & names.add(code)? & !names.add(code)?)
+}
+
+/// Whether each of so many codes is added once.
+fn are_added(names: &mut Names, count: u64) -> Result<bool, AllocError> {
+    for number in 0..count {
+        let Some(code) = code(number) else {
+            return Ok(false);
+        };
+        if !is_added_once(names, &code)? {
+            return Ok(false);
+        }
+    }
+    Ok(true)
+}
+
+/// Whether each of so many codes is found at its place.
+fn are_found(names: &Names, count: usize) -> bool {
+    for number in 0..count {
+        let Some(code) = code(number as u64) else {
+            return false;
+        };
+        if names.place_of(&code) != Some(number) {
+            return false;
+        }
+    }
+    true
+}
+
+/// Whether so many codes are added, found, listed, and found in the names of their list.
+fn are_kept(alloc: Global, count: usize) -> Result<[bool; 4], AllocError> {
+    let mut names = Names::new(alloc, 7);
+    let is_added = are_added(&mut names, count as u64)?;
+    let same = Names::of(alloc, names.as_slice())?;
+    Ok([
+        is_added,
+        are_found(&names, count),
+        names.as_slice().len() == count,
+        are_found(&same, count),
+    ])
+}
 
 #[test]
 fn names(rt: HostRuntime) -> Result<(), Fail> {
-    let mut names = Names::new(rt.alloc(), 7);
-    for place in 0..200 {
-        let code = Code::read(digits(place).bytes()).ok_or("a code")?;
-        assert_eq!(rt; names.place_of(&code), None);
-        assert!(rt; names.add(&code)?);
-        assert!(rt; !names.add(&code)?);
-    }
-    assert_eq!(rt; names.as_slice().len(), 200);
-    let same = Names::of(rt.alloc(), names.as_slice())?;
-    for place in 0..200 {
-        let code = Code::read(digits(place).bytes()).ok_or("a code")?;
-        assert_eq!(rt; names.place_of(&code), Some(place as usize));
-        assert_eq!(rt; same.place_of(&code), Some(place as usize));
-    }
+    assert_eq!(rt; are_kept(rt.alloc(), 200)?, [true; 4]);
     Ok(())
 }

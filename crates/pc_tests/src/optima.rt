@@ -1,5 +1,5 @@
 //! What time costs, and the length for which the small network costs least in all.
-ghost use Rattle.std.specs.Prelude.{◌≡◌, ◌≤◌, false, length};
+ghost use Rattle.std.specs.Prelude.{◌≤◌, length};
 ghost use Rattle.pc_model.specs.TimeCost.{AreTimeTerms};
 ghost use Rattle.pc_crash.specs.inside.Steps.{IsBlankOf};
 
@@ -14,7 +14,6 @@ use pc_total::{Best, best, put_best, time_cost};
 use std::alloc::{AllocError, Global};
 use std::marker::Brand;
 use std::sync::ledger::{Blank, Ledger};
-use std::test::Fail;
 
 /// Overhead, and a target of 6 units with a bonus and a penalty.
 const TERMS: TimeTerms = TimeTerms {
@@ -25,18 +24,20 @@ const TERMS: TimeTerms = TimeTerms {
 };
 
 #[test]
-fn time_costs(rt: HostRuntime) -> Result<(), Fail> {
+fn time_costs(rt: HostRuntime) {
     let dear = TimeTerms {
         overhead: 1,
         target: 10,
         bonus: 5,
         penalty: 3,
     };
-    assert_eq!(rt; time_cost(&TERMS, 9), 66);
-    assert_eq!(rt; time_cost(&TERMS, 6), 24);
-    assert_eq!(rt; time_cost(&TERMS, 5), 18);
-    assert_eq!(rt; time_cost(&dear, 2), -38);
-    Ok(())
+    let costs = [
+        time_cost(&TERMS, 9),
+        time_cost(&TERMS, 6),
+        time_cost(&TERMS, 5),
+        time_cost(&dear, 2),
+    ];
+    assert_eq!(rt; costs, [66, 24, 18, -38]);
 }
 
 /// The optimum for these terms.
@@ -89,7 +90,7 @@ fn is_put(alloc: Global, best: &Best, text: &[u8]) -> Option<bool> {
 #[test]
 fn text_of_an_optimum(rt: HostRuntime) {
     let text = b"OPTIMUM A\nLENGTH 6\nDIRECT 60\nTIME 24\nTOTAL 84\nBELOW 2\nABOVE 7\n";
-    assert_eq!(rt; is_put(rt.alloc(), &BEST, text), Some(true));
+    assert!(rt; is_put(rt.alloc(), &BEST, text) == Some(true));
     let end = Best {
         time: -38,
         total: 22,
@@ -97,5 +98,5 @@ fn text_of_an_optimum(rt: HostRuntime) {
         ..BEST
     };
     let text = b"OPTIMUM A\nLENGTH 6\nDIRECT 60\nTIME -38\nTOTAL 22\nBELOW 2\nABOVE -\n";
-    assert_eq!(rt; is_put(rt.alloc(), &end, text), Some(true));
+    assert!(rt; is_put(rt.alloc(), &end, text) == Some(true));
 }

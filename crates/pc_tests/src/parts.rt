@@ -16,8 +16,8 @@ use std::alloc::{AllocError, Global};
 use std::marker::Brand;
 use std::sync::ledger::{Blank, Ledger};
 
-/// Puts a head with this walk at normal and at crash durations, the next two segments of a solver and the end; or says that there are
-/// not two.
+/// Puts a head with this walk at normal and at crash durations, the next two segments of a solver and the end; or says
+/// that there are not two.
 fn put_parts<L: Ledger>(
     page: &mut Page,
     sink: &mut MemSink,
@@ -45,7 +45,8 @@ fn put_parts<L: Ledger>(
     true
 }
 
-/// Whether just this text is put in parts: a head with this walk at normal and at crash durations, two segments, and the end.
+/// Whether just this text is put in parts: a head with this walk at normal and at crash durations, two segments, and
+/// the end.
 fn is_put_in_parts<L: Ledger>(
     alloc: Global,
     net: &CrashNet<'_>,

@@ -1,5 +1,5 @@
 //! What the small network says of its prices, and what durations cost.
-ghost use Rattle.std.specs.Prelude.{◌≡◌, ◌<◌, ◌≤◌, length};
+ghost use Rattle.std.specs.Prelude.{◌<◌, length};
 ghost use Rattle.pc_crash.specs.inside.Steps.{IsBlankOf};
 
 use crate::small::{small_net, small_priced};
@@ -8,7 +8,6 @@ use pc_text::Code;
 use std::alloc::Global;
 use std::marker::Brand;
 use std::sync::ledger::{Blank, Ledger};
-use std::test::Fail;
 
 /// The term of activity 1, how many events and activities there are, and whether there are pieces.
 fn shape(alloc: Global) -> Option<(Term, u32, u32, bool)> {
@@ -52,20 +51,24 @@ fn named(alloc: Global, code: &Code) -> Option<Option<u32>> {
     Some(priced.activity_named(code))
 }
 
-#[test]
-fn names(rt: HostRuntime) -> Result<(), Fail> {
-    let a = Code::read(b"A").ok_or("no code")?;
-    let b = Code::read(b"B").ok_or("no code")?;
-    let c = Code::read(b"C").ok_or("no code")?;
-    assert_eq!(rt; codes(rt.alloc()), Some([a, b, c]));
-    assert_eq!(rt; named(rt.alloc(), &c), Some(Some(2)));
-    let d = Code::read(b"D").ok_or("no code")?;
-    assert_eq!(rt; named(rt.alloc(), &d), Some(None));
-    Ok(())
+/// Whether the codes are A, B and C, and which activities have the names C and D.
+fn names_found(alloc: Global) -> Option<(bool, Option<u32>, Option<u32>)> {
+    let (a, b, c) = (Code::read(b"A")?, Code::read(b"B")?, Code::read(b"C")?);
+    let d = Code::read(b"D")?;
+    Some((
+        codes(alloc)? == [a, b, c],
+        named(alloc, &c)?,
+        named(alloc, &d)?,
+    ))
 }
 
-/// How many knees activity 0 has, where its first one is and by how much the cost of a unit rises there, and whether these
-/// are all.
+#[test]
+fn names(rt: HostRuntime) {
+    assert_eq!(rt; names_found(rt.alloc()), Some((true, Some(2), None)));
+}
+
+/// How many knees activity 0 has, where its first one is and by how much the cost of a unit rises there, and whether
+/// these are all.
 fn knees(alloc: Global, all: &[Knee]) -> Option<(u32, u64, u64, bool)> {
     let net = small_net(alloc)?;
     let priced = small_priced(alloc, &net)?;
@@ -136,8 +139,8 @@ fn gap(alloc: Global, [s, m, t]: [u8; 3]) -> Option<i64> {
 
 #[test]
 fn gaps(rt: HostRuntime) {
-    assert_eq!(rt; gap(rt.alloc(), [0, 4, 9]), Some(4));
-    assert_eq!(rt; gap(rt.alloc(), [3, 1, 0]), Some(-2));
+    let found = [gap(rt.alloc(), [0, 4, 9]), gap(rt.alloc(), [3, 1, 0])];
+    assert_eq!(rt; found, [Some(4), Some(-2)]);
 }
 
 /// Whether these durations are a schedule for a length where the events are at 0, 4 and 9.
@@ -149,8 +152,11 @@ fn is_schedule(alloc: Global, durations: &[u64; 3], limit: u64) -> Option<bool> 
 
 #[test]
 fn schedules(rt: HostRuntime) {
-    assert_eq!(rt; is_schedule(rt.alloc(), &[4, 5, 7], 9), Some(true));
-    assert_eq!(rt; is_schedule(rt.alloc(), &[4, 5, 7], 8), Some(false));
-    assert_eq!(rt; is_schedule(rt.alloc(), &[4, 5, 8], 9), Some(false));
-    assert_eq!(rt; is_schedule(rt.alloc(), &[3, 5, 4], 9), Some(false));
+    let found = [
+        is_schedule(rt.alloc(), &[4, 5, 7], 9),
+        is_schedule(rt.alloc(), &[4, 5, 7], 8),
+        is_schedule(rt.alloc(), &[4, 5, 8], 9),
+        is_schedule(rt.alloc(), &[3, 5, 4], 9),
+    ];
+    assert_eq!(rt; found, [Some(true), Some(false), Some(false), Some(false)]);
 }

@@ -1,4 +1,5 @@
-//! What a small deck and its project answer. A function that lets a project go is long to prove, so they are asked in one place.
+//! What a small deck and its project answer. A function that lets a project go is long to prove, so they are asked in
+//! one place.
 ghost use Rattle.std.specs.Prelude.{◌≤◌, length};
 
 use crate::figures::{Figures, figures_of};
@@ -24,8 +25,8 @@ fn is_same(text: Result<Vec<u8>, AllocError>, expected: &[u8]) -> Option<bool> {
 /// A project is let go here alone.
 fn let_go(_project: Project) {}
 
-/// What the deck and its project answer, where these texts are expected of the deck and, again, of the project; none where the
-/// deck is refused.
+/// What the deck and its project answer, where these texts are expected of the deck and, again, of the project; none
+/// where the deck is refused.
 pub(crate) fn asked(alloc: Global, deck: &[u8], text: &[u8], again: &[u8]) -> Option<Told>
     requires { length deck.now ≤ 1000 }
 {

@@ -41,14 +41,23 @@ fn disorder(alloc: Global, k: u32) -> Option<Option<StatusFault>>
 
 #[test]
 fn tells_disorder(rt: HostRuntime) {
-    assert_eq!(rt; disorder(rt.alloc(), 0), Some(None));
-    assert_eq!(rt; disorder(rt.alloc(), 1), Some(None));
-    assert_eq!(rt;
+    let found = [
+        disorder(rt.alloc(), 0),
+        disorder(rt.alloc(), 1),
         disorder(rt.alloc(), 3),
-        Some(Some(StatusFault::FinishFirst))
-    );
-    assert_eq!(rt; disorder(rt.alloc(), 4), Some(Some(StatusFault::Second)));
-    assert_eq!(rt; disorder(rt.alloc(), 5), Some(Some(StatusFault::Early)));
-    assert_eq!(rt; disorder(rt.alloc(), 6), Some(Some(StatusFault::Late)));
-    assert_eq!(rt; disorder(rt.alloc(), 7), Some(Some(StatusFault::NoStart)));
+        disorder(rt.alloc(), 4),
+        disorder(rt.alloc(), 5),
+        disorder(rt.alloc(), 6),
+        disorder(rt.alloc(), 7),
+    ];
+    let wanted = [
+        Some(None),
+        Some(None),
+        Some(Some(StatusFault::FinishFirst)),
+        Some(Some(StatusFault::Second)),
+        Some(Some(StatusFault::Early)),
+        Some(Some(StatusFault::Late)),
+        Some(Some(StatusFault::NoStart)),
+    ];
+    assert_eq!(rt; found, wanted);
 }

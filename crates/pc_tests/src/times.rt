@@ -35,22 +35,16 @@ fn is_critical(alloc: Global, [a, b, c]: [u8; 3], path: &[u32]) -> Option<bool> 
 
 #[test]
 fn longest_walks(rt: HostRuntime) {
-    assert_eq!(rt; times(rt.alloc(), [4, 5, 7]), Some((9, [0, 4, 9])));
-    assert_eq!(rt;
+    // in the second both walks take 5 units, and activity 0 stands before activity 2
+    let found = [times(rt.alloc(), [4, 5, 7]), times(rt.alloc(), [2, 3, 5])];
+    assert_eq!(rt; found, [Some((9, [0, 4, 9])), Some((5, [0, 2, 5]))]);
+    let walks = [
         goes(rt.alloc(), [4, 5, 7], &[0, 4, 9], &[0, 1]),
-        Some((true, true))
-    );
-    // both walks take 5 units, and activity 0 stands before activity 2
-    assert_eq!(rt; times(rt.alloc(), [2, 3, 5]), Some((5, [0, 2, 5])));
-    assert_eq!(rt;
         goes(rt.alloc(), [2, 3, 5], &[0, 2, 5], &[0, 1]),
-        Some((true, true))
-    );
-    assert_eq!(rt;
         goes(rt.alloc(), [1, 1, 5], &[0, 1, 5], &[2]),
-        Some((true, true))
-    );
-    assert_eq!(rt; is_critical(rt.alloc(), [1, 1, 5], &[2]), Some(true));
+    ];
+    assert_eq!(rt; walks, [Some((true, true)); 3]);
+    assert!(rt; is_critical(rt.alloc(), [1, 1, 5], &[2]) == Some(true));
 }
 
 /// Whether these are the early times.
@@ -69,14 +63,13 @@ fn are_late(alloc: Global, [a, b, c]: [u8; 3], by: i8, times: &[i64]) -> Option<
 
 #[test]
 fn early_and_late_times(rt: HostRuntime) {
-    assert_eq!(rt; are_early(rt.alloc(), [4, 5, 7], &[0, 4, 9]), Some(true));
-    assert_eq!(rt;
+    let found = [
+        are_early(rt.alloc(), [4, 5, 7], &[0, 4, 9]),
         are_late(rt.alloc(), [4, 5, 7], 12, &[3, 7, 12]),
-        Some(true)
-    );
-    assert_eq!(rt; are_late(rt.alloc(), [4, 5, 7], 6, &[-3, 1, 6]), Some(true));
-    assert_eq!(rt; slack(7, 4), 3);
-    assert_eq!(rt; slack(1, 4), -3);
+        are_late(rt.alloc(), [4, 5, 7], 6, &[-3, 1, 6]),
+    ];
+    assert_eq!(rt; found, [Some(true); 3]);
+    assert_eq!(rt; [slack(7, 4), slack(1, 4)], [3, -3]);
 }
 
 /// When the events are expected, and when activity 2 is finished, as of 42.
@@ -93,27 +86,28 @@ fn expected(alloc: Global, lengths: [u8; 3], states: &[ActState; 3]) -> Option<[
 #[test]
 fn forecasts(rt: HostRuntime) {
     let waiting = [Waiting, Waiting, Waiting];
-    assert_eq!(rt;
-        expected(rt.alloc(), [24, 36, 42], &waiting),
-        Some([0, 66, 102, 84])
-    );
     let started = [Finished(30), Waiting, Started(6)];
-    assert_eq!(rt;
+    // in the third a dummy that waits takes no time and does not wait for as-of
+    let found = [
+        expected(rt.alloc(), [24, 36, 42], &waiting),
         expected(rt.alloc(), [24, 36, 42], &started),
-        Some([0, 30, 78, 48])
-    );
-    // a dummy that waits takes no time and does not wait for as-of
-    assert_eq!(rt;
         expected(rt.alloc(), [0, 36, 42], &waiting),
-        Some([0, 0, 84, 84])
-    );
+    ];
+    let wanted = [
+        Some([0, 66, 102, 84]),
+        Some([0, 30, 78, 48]),
+        Some([0, 0, 84, 84]),
+    ];
+    assert_eq!(rt; found, wanted);
 }
 
 #[test]
 fn estimates(rt: HostRuntime) {
-    assert_eq!(rt; expected_sixths(2, 4, 12, 5), 150);
-    assert_eq!(rt; expected_sixths(3, 3, 3, 1), 18);
-    assert_eq!(rt; expected_sixths(100_000, 100_000, 100_000, 7), 4_200_000);
-    assert_eq!(rt; variance_36(2, 12, 5), 2_500);
-    assert_eq!(rt; variance_36(3, 3, 1), 0);
+    let expected = [
+        expected_sixths(2, 4, 12, 5),
+        expected_sixths(3, 3, 3, 1),
+        expected_sixths(100_000, 100_000, 100_000, 7),
+    ];
+    assert_eq!(rt; expected, [150, 18, 4_200_000]);
+    assert_eq!(rt; [variance_36(2, 12, 5), variance_36(3, 3, 1)], [2_500, 0]);
 }

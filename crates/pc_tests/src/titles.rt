@@ -9,7 +9,8 @@ use std::test::Fail;
 
 // Titles, and a resource without one.
 const DECK: &[u8] =
-    b"PROJECT,E1,S,T,2024-01-01,1,,\"Example, one\"\nRES,R,\nWBS,1,,Whole\nEVENT,S,Start\nEVENT,T,\"The \"\"end\"\"\"\nACT,A,S,T,1,3,4,5,4,2,10,3,Dig\nACCT,X1,1,10,Account\nEND\n";
+    b"PROJECT,E1,S,T,2024-01-01,1,,\"Example, one\"\nRES,R,\nWBS,1,,Whole\nEVENT,S,Start\n\
+EVENT,T,\"The \"\"end\"\"\"\nACT,A,S,T,1,3,4,5,4,2,10,3,Dig\nACCT,X1,1,10,Account\nEND\n";
 
 /// The titles of the project, of its second event, its activity, its account and its resource, and the account's code.
 fn titles_of(project: &Project) -> Option<([Title; 5], Code)> {

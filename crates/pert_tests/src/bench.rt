@@ -12,7 +12,7 @@ const UNREADABLE: Edges = Edges {
 };
 
 // A number of activities, and the figures of the curve of the deck that has so many.
-const FIGURES: [(&str, &[u8]); 3] = [
+const FIGURES: &[(&str, &[u8])] = &[
     (
         "1",
         b"BENCH 1\nNORMAL 10 74\nCRASH 7 83\nBREAKS 2\nSUM 314\n",
@@ -29,7 +29,7 @@ const FIGURES: [(&str, &[u8]); 3] = [
 
 #[test]
 fn the_benchmark_reads_nothing(rt: HostRuntime) -> Result<(), Fail> {
-    for (n, figures) in FIGURES {
+    for &(n, figures) in FIGURES {
         let left = left_by(rt.alloc(), &run_of(&["bench", n], ""), UNREADABLE)?;
         assert!(rt; left.is(0, figures, b""), "bench {n}");
     }
@@ -37,11 +37,11 @@ fn the_benchmark_reads_nothing(rt: HostRuntime) -> Result<(), Fail> {
 }
 
 // Numbers of which there is no deck, or that are none.
-const NUMBERS: [&str; 6] = ["0", "4001", "04", "-1", "", "10000000000000"];
+const NUMBERS: &[&str] = &["0", "4001", "04", "-1", "", "10000000000000"];
 
 #[test]
 fn the_benchmark_has_1_to_4000_activities(rt: HostRuntime) -> Result<(), Fail> {
-    for n in NUMBERS {
+    for &n in NUMBERS {
         let left = left_by(rt.alloc(), &run_of(&["bench", n], ""), UNREADABLE)?;
         assert!(rt; left.is(2, b"", USAGE), "bench {n}");
     }

@@ -16,7 +16,7 @@ const TOO_FAR: &[u8] = b"SEGMENT 9 6 45 3\nEVENT S 0 0\nEVENT M 4 1\nEVENT T 9 1
 ACT A 4 3 0\nACT B 5 3 0\nACT C 7 0 0\nCLOSE\n";
 
 // The parts of a certificate, with the status and the line that they give.
-const CHECKS: [(&[&[u8]], u8, &[u8]); 5] = [
+const CHECKS: &[(&[&[u8]], u8, &[u8])] = &[
     (&[HEAD, FIRST, SECOND, b"END\n"], 0, b"certified 2\n"),
     (
         &[HEAD, TOO_FAR, SECOND, b"END\n"],
@@ -44,7 +44,7 @@ const CHECKS: [(&[&[u8]], u8, &[u8]); 5] = [
 fn certificates_come_in_pieces(rt: HostRuntime) -> Result<(), Fail> {
     for pulled in [1, 2, 7, 4096] {
         let edges = Edges { pulled, ..SMALL };
-        for (parts, status, line) in CHECKS {
+        for &(parts, status, line) in CHECKS {
             let cert = parts.concat(rt.alloc())?;
             let left = left_by(rt.alloc(), &check_of(&["deck"], WHOLE, &cert), edges)?;
             assert!(rt; left.is(status, line, b""), "{pulled} bytes a pull");

@@ -1,13 +1,14 @@
-//! Each call of an edge fails in turn, in runs of each form and in checks: a pull gives 100 bytes at most, a push takes 7.
+//! Each call of an edge fails in turn, in runs of each form and in checks: a pull gives 100 bytes at most, a push takes
+//! 7.
 
 use crate::testing::{
     AT_WORK, CERTIFICATE, Edge, TASKS, WHOLE, check_of, first_wrong_pull, first_wrong_push, run_of,
 };
 use std::test::Fail;
 
-// Words, a deck, and how many pulls read it: the last of them finds its end. The words ask for each form, for lengths that the deck
-// does not have, and for nothing; the last deck is none.
-pub(crate) const RUNS: [(&[&str], &str, u64); 27] = [
+// Words, a deck, and how many pulls read it: the last of them finds its end. The words ask for each form, for lengths
+// that the deck does not have, and for nothing; the last deck is none.
+pub(crate) const RUNS: &[(&[&str], &str, u64)] = &[
     (&["check"], WHOLE, 4),
     (&["normal"], WHOLE, 4),
     (&["times"], WHOLE, 4),
@@ -39,7 +40,7 @@ pub(crate) const RUNS: [(&[&str], &str, u64); 27] = [
 
 #[test]
 fn each_pull_of_a_run_fails(rt: HostRuntime) -> Result<(), Fail> {
-    for (words, deck, pulls) in RUNS {
+    for &(words, deck, pulls) in RUNS {
         let task = run_of(words, deck);
         let wrong = first_wrong_pull(rt.alloc(), &task, Edge::Deck, pulls)?;
         assert_eq!(rt; wrong, None, "{words:?}");
@@ -49,7 +50,7 @@ fn each_pull_of_a_run_fails(rt: HostRuntime) -> Result<(), Fail> {
 
 #[test]
 fn each_push_of_a_run_fails(rt: HostRuntime) -> Result<(), Fail> {
-    for (words, deck, _) in RUNS {
+    for &(words, deck, _) in RUNS {
         let wrong = first_wrong_push(rt.alloc(), &run_of(words, deck))?;
         assert_eq!(rt; wrong, None, "{words:?}");
     }
@@ -57,7 +58,7 @@ fn each_push_of_a_run_fails(rt: HostRuntime) -> Result<(), Fail> {
 }
 
 // The words of a check, a deck and a certificate, and how many pulls read each.
-const CHECKS: [(&[&str], &str, u64, &str, u64); 4] = [
+const CHECKS: &[(&[&str], &str, u64, &str, u64)] = &[
     (&["deck"], WHOLE, 4, CERTIFICATE, 4),
     (&["deck"], WHOLE, 4, "END\n", 1),
     (&["deck"], "END\n", 2, CERTIFICATE, 0),
@@ -66,7 +67,7 @@ const CHECKS: [(&[&str], &str, u64, &str, u64); 4] = [
 
 #[test]
 fn each_pull_of_a_check_fails(rt: HostRuntime) -> Result<(), Fail> {
-    for (words, deck, of_deck, cert, of_cert) in CHECKS {
+    for &(words, deck, of_deck, cert, of_cert) in CHECKS {
         let task = check_of(words, deck, cert.as_bytes());
         let wrong = first_wrong_pull(rt.alloc(), &task, Edge::Deck, of_deck)?;
         assert_eq!(rt; wrong, None, "the deck, {of_deck} pulls");
@@ -78,7 +79,7 @@ fn each_pull_of_a_check_fails(rt: HostRuntime) -> Result<(), Fail> {
 
 #[test]
 fn each_push_of_a_check_fails(rt: HostRuntime) -> Result<(), Fail> {
-    for (words, deck, of_deck, cert, of_cert) in CHECKS {
+    for &(words, deck, of_deck, cert, of_cert) in CHECKS {
         let task = check_of(words, deck, cert.as_bytes());
         let wrong = first_wrong_push(rt.alloc(), &task)?;
         assert_eq!(rt; wrong, None, "{of_deck} pulls and {of_cert}");

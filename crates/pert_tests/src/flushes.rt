@@ -8,7 +8,8 @@ use std::alloc::{AllocError, Global};
 use std::cell::Cell;
 use std::test::Fail;
 
-/// A source that gives the lines of a session, one a pull, as somebody does who writes a line when the answer to the one before is seen.
+/// A source that gives the lines of a session, one a pull, as somebody does who writes a line when the answer to the
+/// one before is seen.
 ///
 /// It counts the pulls that come before all answers to its lines were flushed, or when more was.
 #[derive(Drop)]
@@ -26,11 +27,10 @@ impl<'a> Source for Asker<'a> {
         if self.flushed.get() != self.due {
             self.untimely = self.untimely.saturating_add(1);
         }
-        if self.given >= LINES.len() {
+        let (Some(&line), Some(&answer)) = (LINES.get(self.given), ANSWERS.get(self.given)) else {
             return Ok(0);
-        }
-        let line = LINES[self.given];
-        self.due = self.due.saturating_add(ANSWERS[self.given].len() as u64);
+        };
+        self.due = self.due.saturating_add(answer.len() as u64);
         self.given += 1;
         let n = line.len().min(buffer.len());
         buffer[..n].copy_from_slice(&line[..n]);
@@ -58,8 +58,8 @@ impl<'a> Sink for Listener<'a> {
     }
 }
 
-/// The status of the session, how many lines it pulled, how many pulls came when they should not, and whether the last answer was
-/// flushed.
+/// The status of the session, how many lines it pulled, how many pulls came when they should not, and whether the last
+/// answer was flushed.
 fn waited(alloc: Global) -> Result<(u8, usize, u64, bool), AllocError> {
     let words = owned(alloc, &["deck"])?;
     let flushed = Cell::new(0);

@@ -1,4 +1,5 @@
-//! What a top call leaves does not depend on the key of the hash by which names are looked up; without a key the deck is not read.
+//! What a top call leaves does not depend on the key of the hash by which names are looked up; without a key the deck
+//! is not read.
 
 use crate::edges::RUNS;
 use crate::sessions::LINES;
@@ -42,7 +43,7 @@ fn is_same_with_two_keys(alloc: Global, task: &Task<'_>) -> Result<bool, AllocEr
 
 #[test]
 fn no_answer_depends_on_the_key(rt: HostRuntime) -> Result<(), Fail> {
-    for (words, deck, _) in RUNS {
+    for &(words, deck, _) in RUNS {
         assert!(rt; is_same_with_two_keys(rt.alloc(), &run_of(words, deck))?);
     }
     let check = check_of(&["deck"], WHOLE, CERTIFICATE.as_bytes());

@@ -99,7 +99,7 @@ const TOO_LONG: &str = "F32 record 0: length 10 is outside 5 to 9\n";
 const NO_PROJECT: &str = "F3 record 1: first card is not PROJECT\n";
 
 // Words that ask for a form and a deck, with the status, the output and the error output that they give.
-const RUNS: [(&[&str], &str, u8, &str, &str); 19] = [
+const RUNS: &[(&[&str], &str, u8, &str, &str)] = &[
     (&["check"], WHOLE, 0, COUNTS, ""),
     (&["normal"], WHOLE, 0, SCHEDULE, ""),
     (&["times"], WHOLE, 0, TIMES, ""),
@@ -135,7 +135,7 @@ const RUNS: [(&[&str], &str, u8, &str, &str); 19] = [
 
 #[test]
 fn answers_or_refuses_decks(rt: HostRuntime) -> Result<(), Fail> {
-    for (words, deck, status, out, err) in RUNS {
+    for &(words, deck, status, out, err) in RUNS {
         let left = left_by(rt.alloc(), &run_of(words, deck), SMALL)?;
         let (out, err) = (out.as_bytes(), err.as_bytes());
         assert!(rt; left.is(status, out, err), "{words:?}");
@@ -144,7 +144,7 @@ fn answers_or_refuses_decks(rt: HostRuntime) -> Result<(), Fail> {
 }
 
 // Words that ask for no form: nothing is read.
-const WORDS: [&[&str]; 15] = [
+const WORDS: &[&[&str]] = &[
     &[],
     &["NORMAL"],
     &["normal", "check"],
@@ -168,7 +168,7 @@ fn refuses_words(rt: HostRuntime) -> Result<(), Fail> {
         failing_deck: 1,
         ..SMALL
     };
-    for words in WORDS {
+    for &words in WORDS {
         let left = left_by(rt.alloc(), &run_of(words, WHOLE), edges)?;
         assert!(rt; left.is(2, b"", USAGE), "{words:?}");
     }

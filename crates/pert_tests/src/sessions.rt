@@ -1,4 +1,5 @@
-//! What-if sessions over sources and sinks in memory: what each status leaves behind, and calls of each edge that fail in turn.
+//! What-if sessions over sources and sinks in memory: what each status leaves behind, and calls of each edge that fail
+//! in turn.
 
 use crate::testing::{
     Edge, Edges, SMALL, Task, WHOLE, first_wrong_pull, first_wrong_push, leaves_all, left_by,
@@ -8,7 +9,7 @@ use std::alloc::{AllocError, Global};
 use std::test::Fail;
 
 /// The lines of a session on the small deck. Some of them are refused.
-pub(crate) const LINES: [&[u8]; 9] = [
+pub(crate) const LINES: &[&[u8]] = &[
     b"SLOPE A 9\n",
     b"CURVE\n",
     b"TRY A 4 2 3 6\n",
@@ -21,7 +22,7 @@ pub(crate) const LINES: [&[u8]; 9] = [
 ];
 
 /// The answer to each of the lines.
-pub(crate) const ANSWERS: [&[u8]; 9] = [
+pub(crate) const ANSWERS: &[&[u8]] = &[
     b"OK\n",
     b"9 45 5\n7 55 11\n5 77 -\n",
     b"COST 58\n",
@@ -49,8 +50,9 @@ const USAGE: &[u8] = b"usage: pert_whatif DECK\n";
 
 const NO_PROJECT: &[u8] = b"F3 record 1: first card is not PROJECT\n";
 
-// Words and a deck that give no project, with the status and the error output. The words are refused before the deck is read.
-const REFUSED: [(&[&str], &str, u64, u8, &[u8]); 3] = [
+// Words and a deck that give no project, with the status and the error output. The words are refused before the deck is
+// read.
+const REFUSED: &[(&[&str], &str, u64, u8, &[u8])] = &[
     (&[], WHOLE, 1, 2, USAGE),
     (&["deck", "lines"], WHOLE, 1, 2, USAGE),
     (&["deck"], "END\n", 0, 1, NO_PROJECT),
@@ -58,7 +60,7 @@ const REFUSED: [(&[&str], &str, u64, u8, &[u8]); 3] = [
 
 #[test]
 fn no_line_is_read_without_a_project(rt: HostRuntime) -> Result<(), Fail> {
-    for (words, deck, failing_deck, status, err) in REFUSED {
+    for &(words, deck, failing_deck, status, err) in REFUSED {
         let edges = Edges {
             failing_deck,
             failing_second: 1,
@@ -106,8 +108,9 @@ fn failing_at(pull: usize) -> Edges {
     }
 }
 
-/// Lets each pull of the lines fail in turn, where each gives a byte, and the one behind them, which the session does not come to.
-/// Answers the first that leaves another thing than it must: status 4 and the answers to the whole lines before.
+/// Lets each pull of the lines fail in turn, where each gives a byte, and the one behind them, which the session does
+/// not come to. Answers the first that leaves another thing than it must: status 4 and the answers to the whole lines
+/// before.
 fn first_wrong_line(alloc: Global, lines: &[u8]) -> Result<Option<u64>, AllocError> {
     let task = session_of(&["deck"], WHOLE, lines);
     for given in 0..=lines.len() {
@@ -132,7 +135,7 @@ fn each_pull_of_the_lines_fails(rt: HostRuntime) -> Result<(), Fail> {
 fn taken_before(alloc: Global) -> Result<Vec<usize>, AllocError> {
     let mut all = Vec::new(alloc);
     let mut taken: usize = 0;
-    for answer in ANSWERS {
+    for &answer in ANSWERS {
         for pushed in answer.chunks(SMALL.pushed) {
             all.push(taken)?;
             taken = taken.saturating_add(pushed.len());
@@ -150,8 +153,8 @@ fn failing_call(call: u64) -> Edges {
     }
 }
 
-/// Lets each push and each flush of the answers fail in turn, and the call behind them, which the session does not come to.
-/// Answers the first that leaves another thing than it must: status 5 and what the calls before took.
+/// Lets each push and each flush of the answers fail in turn, and the call behind them, which the session does not come
+/// to. Answers the first that leaves another thing than it must: status 5 and what the calls before took.
 fn first_wrong_answer(alloc: Global, task: &Task<'_>) -> Result<Option<u64>, AllocError> {
     let answers = ANSWERS.concat(alloc)?;
     let mut call: u64 = 1;
@@ -175,7 +178,7 @@ fn each_push_and_flush_of_the_answers_fails(rt: HostRuntime) -> Result<(), Fail>
 
 #[test]
 fn each_push_of_a_refusal_fails(rt: HostRuntime) -> Result<(), Fail> {
-    for (words, deck, _, _, _) in REFUSED {
+    for &(words, deck, _, _, _) in REFUSED {
         let wrong = first_wrong_push(rt.alloc(), &session_of(words, deck, b"CURVE\n"))?;
         assert_eq!(rt; wrong, None, "{words:?}");
     }

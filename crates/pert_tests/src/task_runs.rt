@@ -33,7 +33,7 @@ AFTER,A,B\n\
 END\n";
 
 // Words that ask for a form and a deck, with the status, the output and the error output that they give.
-const RUNS: [(&[&str], &str, u8, &str, &str); 5] = [
+const RUNS: &[(&[&str], &str, u8, &str, &str)] = &[
     (&["arrows"], TASKS, 0, DRAWN, ""),
     (&["migrate"], DRAWN, 0, DRAWN, ""),
     (
@@ -49,7 +49,7 @@ const RUNS: [(&[&str], &str, u8, &str, &str); 5] = [
 
 #[test]
 fn draws_or_refuses_decks(rt: HostRuntime) -> Result<(), Fail> {
-    for (words, deck, status, out, err) in RUNS {
+    for &(words, deck, status, out, err) in RUNS {
         let left = left_by(rt.alloc(), &run_of(words, deck), SMALL)?;
         let (out, err) = (out.as_bytes(), err.as_bytes());
         assert!(rt; left.is(status, out, err), "{words:?}");

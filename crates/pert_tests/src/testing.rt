@@ -1,4 +1,5 @@
-//! What the tests share: a small deck with its answers, and what a program leaves of edges in memory of which a call fails.
+//! What the tests share: a small deck with its answers, and what a program leaves of edges in memory of which a call
+//! fails.
 
 use pc_audit::check_run;
 use pc_edges::{MemSink, MemSource, Source};
@@ -83,7 +84,8 @@ END\n";
 
 /// The usage line of `run`.
 pub(crate) const USAGE: &[u8] =
-    b"usage: pert check | normal | times | summary | value | curve | certify | point L | outlook L | bench N | migrate | optimum | arrows | load P\n";
+    b"usage: pert check | normal | times | summary | value | curve | certify | point L | outlook L | \
+bench N | migrate | optimum | arrows | load P\n";
 
 /// The top calls.
 #[derive(Clone, Copy)]
@@ -132,8 +134,8 @@ pub(crate) fn session_of<'a>(words: &'a [&'a str], deck: &'a str, lines: &'a [u8
     }
 }
 
-/// How many bytes a pull gives and a push takes at most, how many an output takes in all, and which call of those at an edge
-/// fails; 0 for none.
+/// How many bytes a pull gives and a push takes at most, how many an output takes in all, and which call of those at an
+/// edge fails; 0 for none.
 #[derive(Clone, Copy)]
 pub(crate) struct Edges {
     pub(crate) pulled: usize,
@@ -241,8 +243,9 @@ fn failing_pull(edge: Edge, pull: u64) -> Edges {
     }
 }
 
-/// Lets each of so many pulls fail in turn, and then the one behind them, which the task does not come to. Answers the first that
-/// leaves another thing than it must: status 4 and nothing written, or behind the last what the task leaves without a failure.
+/// Lets each of so many pulls fail in turn, and then the one behind them, which the task does not come to. Answers the
+/// first that leaves another thing than it must: status 4 and nothing written, or behind the last what the task leaves
+/// without a failure.
 pub(crate) fn first_wrong_pull(
     alloc: Global,
     task: &Task<'_>,
@@ -272,9 +275,9 @@ fn front(text: &[u8], pushes: usize) -> &[u8] {
     &text[..taken]
 }
 
-/// Lets each push and the flush of what a task writes fail in turn, and then the call behind them, which it does not come to.
-/// Answers the first that leaves another thing than it must: status 5 and what the calls before took of the text, or behind the flush
-/// what the task leaves without a failure.
+/// Lets each push and the flush of what a task writes fail in turn, and then the call behind them, which it does not
+/// come to. Answers the first that leaves another thing than it must: status 5 and what the calls before took of the
+/// text, or behind the flush what the task leaves without a failure.
 pub(crate) fn first_wrong_push(alloc: Global, task: &Task<'_>) -> Result<Option<u64>, AllocError> {
     let whole = left_by(alloc, task, SMALL)?;
     let pushes = whole.out.len().max(whole.err.len()).div_ceil(SMALL.pushed);
