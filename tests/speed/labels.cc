@@ -1,13 +1,21 @@
-// Computes the time-cost curve by the program's own algorithm in plain C++: the labels of one segment are kept for the next, an
-// activity has one flow, and the residual capacity of each label's step is kept with it. It is here so that the program's instructions
-// can be compared with what a C++ compiler makes of the same steps; it looks at activities as often as the program does.
+// Computes the time-cost curve with the program's own labelling in plain C++. Labels are kept from one segment to the next, and looked for
+// again only from events that lost theirs. It shows what a C++ compiler makes of these steps with data that is laid out for them:
+//
+//   1  each event lists its activities with the event at their other end, so the rank of that event alone tells whether a label may cross;
+//   2  an activity that waits keeps `due`: at which sum of all falls it stops;
+//   3  each activity keeps `up` and `down`: the lengths of the arcs of its next unit of flow and of its last one;
+//   4  each event keeps the flow that enters it: where none does, nothing can be taken back there;
+//   5  labels before the first step that an augmentation used up stay as they are;
+//   6  the search from an event that lost its label ends as soon as the event has one again.
+//
+// The residual capacity of a step is computed on the way back from the end.
 //
 //   labels bench N        the benchmark's deck of N activities; prints what `pert bench N` prints
-//   labels deck FILE      a deck without quotes, of the cards PROJECT, EVENT, ACT and PIECE; prints what `pert curve` prints
+//   labels deck FILE      a deck without quotes, of the cards PROJECT, EVENT, ACT and PIECE; prints the points that `pert curve` prints
 //
-// Built with -DLOOKS it prints to standard error how often it looked at an activity.
+// Built with -DLOOKS it prints to standard error how often it looked at an activity. Built with -DWITHOUT=3 it does without idea 3, and so
+// on; the curve is the same.
 #include <cstdint>
-#include <cstdio>
 #include <cstdlib>
 #include <cstring>
 #include <iostream>
@@ -21,22 +29,6 @@ using u64 = std::uint64_t;
 
 constexpr u64 MAX = UINT64_MAX;
 
-// At which gap a piece of an activity's cost begins, and how much dearer a unit is below it.
-struct Knee {
-    u64 at, rise;
-};
-
-// Its knees are `count` of all from `first` on.
-struct Activity {
-    u32 from, to;
-    u64 normal, crash, slope, cost;
-    u32 first, count;
-};
-
-struct Stop {
-    u64 after, room;
-};
-
 #ifdef LOOKS
 static u64 looks = 0;
 #define LOOK ++looks
@@ -44,225 +36,291 @@ static u64 looks = 0;
 #define LOOK
 #endif
 
-struct Labels {
-    u32 events = 0, start = 0, end = 0;
-    std::vector<Activity> activities;
-    std::vector<Knee> knees;
-    // Those that leave event e are out[outs[e]] to out[outs[e + 1] - 1], and those that enter it the same.
-    std::vector<u32> outs, out, ins, in;
+#ifndef WITHOUT
+#define WITHOUT 0
+#endif
+constexpr bool has(int idea) { return idea != WITHOUT; }
 
-    // Of each event: its time (with all falls added where it has no label), its rank (0, or its place in the queue counted
-    // from 1), the queue; the step that gave the label, whether it goes against its activity, the event before it and its
-    // room; and those that lost their labels.
-    std::vector<u64> time, room;
-    std::vector<u32> rank, queue, step, against, near, lost;
-    // Of each activity: its flow, the list of those that wait, and its place there counted from 1.
-    std::vector<u64> flow;
-    std::vector<u32> list, slot;
+// From which gap on a unit of time costs more, and how much more.
+struct Knee {
+    u64 at, rise;
+};
+
+// What the network says of an activity. Its knees are `count` of all from `first` on.
+struct Activity {
+    u32 from, to;
+    u64 normal, crash, cost;
+    u32 first, count;
+};
+
+// An activity's flow, the lengths of the arcs of the next unit and of the last one (`down` means nothing where nothing flows), and the sum
+// of falls at which the activity stops, where it waits.
+struct Flow {
+    u64 flow, up, down, due;
+};
+
+// An activity at an event, and the event at its other end.
+struct Link {
+    u32 activity, other;
+};
+
+// An event's time, with all falls added where the event has no label, and the flow that enters; its place in the queue counted from 1, or 0 if
+// it has no label; and the step that gave the label: its activity, the event before it, and whether it goes against the activity.
+struct Event {
+    u64 time, inflow;
+    u32 rank, step, near, against;
+};
+
+// The units of flow on arcs of one length: from `below` up to `above`, without `above`.
+struct Piece {
+    u64 length, below, above;
+};
+
+struct Labels {
+    u32 start = 0, end = 0;
+    std::vector<Activity> activities;
+    std::vector<Flow> flows;
+    std::vector<Event> events;
+    std::vector<Knee> knees;
+    // The activities that leave event e are out[outs[e]] to out[outs[e + 1] - 1], and those that enter it the same.
+    std::vector<u32> outs, ins, order;
+    std::vector<Link> out, in;
+    // The events with a label, those that lost it, the activities that wait, the place of each in this list counted from 1, and the residual
+    // capacity of each step to the end.
+    std::vector<u32> queue, lost, list, slot;
+    std::vector<u64> capacity;
     u64 fallen = 0, slope = 0, cost = 0, fall = 0, length = 0, shortest = 0;
     u32 count = 0, head = 0, len = 0;
     bool given = false;
 
-    static void spread(u32 events, const std::vector<Activity> &all, u32 Activity::*side, std::vector<u32> &starts, std::vector<u32> &items) {
-        starts.assign(events + 1, 0);
-        items.resize(all.size());
-        for (const Activity &a : all) ++starts[a.*side + 1];
-        for (u32 e = 0; e < events; ++e) starts[e + 1] += starts[e];
+    void spread(u32 Activity::*side, u32 Activity::*other, std::vector<u32> &starts, std::vector<Link> &links) {
+        starts.assign(events.size() + 1, 0);
+        links.resize(activities.size());
+        for (const Activity &a : activities) ++starts[a.*side + 1];
+        for (u32 e = 0; e < events.size(); ++e) starts[e + 1] += starts[e];
         std::vector<u32> next(starts.begin(), starts.end() - 1);
-        for (u32 a = 0; a < all.size(); ++a) items[next[all[a].*side]++] = a;
+        for (u32 a = 0; a < activities.size(); ++a) links[next[activities[a].*side]++] = {a, activities[a].*other};
     }
 
-    // What is known before the solver begins: the activities at each event, an order of the events, and the cells.
-    std::vector<u32> order;
+    // What is known before the solver begins: the activities at each event, an order of the events, and the memory.
     void lay_out() {
-        spread(events, activities, &Activity::from, outs, out);
-        spread(events, activities, &Activity::to, ins, in);
-        std::vector<u32> missing(events);
-        for (u32 e = 0; e < events; ++e) if ((missing[e] = ins[e + 1] - ins[e]) == 0) order.push_back(e);
+        spread(&Activity::from, &Activity::to, outs, out);
+        spread(&Activity::to, &Activity::from, ins, in);
+        std::vector<u32> missing(events.size());
+        for (u32 e = 0; e < events.size(); ++e)
+            if ((missing[e] = ins[e + 1] - ins[e]) == 0) order.push_back(e);
         for (u32 i = 0; i < order.size(); ++i)
             for (u32 k = outs[order[i]]; k < outs[order[i] + 1]; ++k)
-                if (--missing[activities[out[k]].to] == 0) order.push_back(activities[out[k]].to);
-        for (auto cells : {&rank, &queue, &step, &against, &near, &lost}) cells->resize(events);
-        for (auto cells : {&time, &room}) cells->resize(events);
+                if (--missing[out[k].other] == 0) order.push_back(out[k].other);
+        for (auto cells : {&queue, &lost}) cells->resize(events.size());
         for (auto cells : {&list, &slot}) cells->resize(activities.size());
-        flow.resize(activities.size());
+        flows.resize(activities.size());
+        capacity.resize(events.size());
     }
 
     u64 early(u64 Activity::*duration) {
         for (u32 e : order) {
             u64 latest = 0;
-            for (u32 k = ins[e]; k < ins[e + 1]; ++k) {
-                const Activity &a = activities[in[k]];
-                latest = std::max(latest, time[a.from] + a.*duration);
-            }
-            time[e] = latest;
+            for (u32 k = ins[e]; k < ins[e + 1]; ++k) latest = std::max(latest, events[in[k].other].time + activities[in[k].activity].*duration);
+            events[e].time = latest;
         }
-        return time[end];
+        return events[end].time;
     }
 
     __attribute__((noinline)) void begin() {
         shortest = early(&Activity::crash);
         length = early(&Activity::normal);
-        for (const Activity &a : activities) cost += a.cost;
+        for (u32 i = 0; i < activities.size(); ++i) {
+            cost += activities[i].cost;
+            flows[i].up = piece(i, 0).length;
+        }
         queue[0] = start;
-        rank[start] = 1;
+        events[start].rank = 1;
         count = 1;
     }
 
-    u64 real(u32 e) const { return rank[e] > 0 ? time[e] : time[e] - fallen; }
-
-    // The length of the arc of this unit of the flow, its first unit, and the one after its last.
-    void piece(const Activity &a, u64 unit, u64 &size, u64 &below, u64 &above) const {
-        below = 0;
+    // The arcs of the same length as that of this unit of the flow.
+    Piece piece(u32 i, u64 unit) const {
+        const Activity &a = activities[i];
+        u64 below = 0;
         for (u32 k = a.first; k < a.first + a.count; ++k) {
-            above = below + knees[k].rise;
-            if (unit < above) {
-                size = knees[k].at;
-                return;
-            }
+            const u64 above = below + knees[k].rise;
+            if (unit < above) return {knees[k].at, below, above};
             below = above;
         }
-        size = a.crash;
-        above = MAX;
+        return {a.crash, below, MAX};
     }
 
-    // After how much of a fall the activity stops, and what room its step then has.
-    Stop stop(const Activity &a, u32 i, bool along) const {
-        const u64 gap = real(a.to) - real(a.from), units = flow[i];
-        u64 size, below, above;
-        if (along) {
-            piece(a, units, size, below, above);
-            return {gap - size, above - units};
+    // At which sum of falls an activity stops that a label may cross along it, or against it.
+    u64 due_along(u32 i, const Event &from, const Event &to) const {
+        return to.time - from.time - (has(3) ? flows[i].up : piece(i, flows[i].flow).length);
+    }
+    u64 due_against(u32 i, const Event &from, const Event &to) const {
+        return (has(3) ? flows[i].down : piece(i, flows[i].flow - 1).length) + from.time - to.time;
+    }
+    u64 due(u32 i) const {
+        if (has(2)) return flows[i].due;
+        const Event &from = events[activities[i].from], &to = events[activities[i].to];
+        return from.rank > 0 ? due_along(i, from, to) : due_against(i, from, to);
+    }
+
+    // The event at the other end of an activity that leaves an event, or enters it.
+    u32 end_of(Link link) const { return has(1) ? link.other : activities[link.activity].to; }
+    u32 begin_of(Link link) const { return has(1) ? link.other : activities[link.activity].from; }
+
+    bool may_flow_back(u32 e) const { return !has(4) || events[e].inflow > 0; }
+
+    bool crosses(u32 i) const {
+        const bool to = events[activities[i].to].rank > 0;
+        return events[activities[i].from].rank > 0 ? !to : to && flows[i].flow > 0;
+    }
+
+    void enter(u32 e, u32 i, u32 near, bool against) {
+        Event &event = events[e];
+        event.time -= fallen;
+        queue[count++] = e;
+        event.rank = count;
+        event.step = i;
+        event.near = near;
+        event.against = against;
+    }
+
+    // Gives the event at the far end of an activity its label, or has the activity wait. Returns whether it gave the label.
+    bool cross(u32 i, u32 near, u32 far, bool against) {
+        const u64 due = against ? due_against(i, events[far], events[near]) : due_along(i, events[near], events[far]);
+        if (due == fallen) {
+            enter(far, i, near, against);
+            return true;
         }
-        piece(a, units - 1, size, below, above);
-        return {size - gap, units - below};
+        flows[i].due = due;
+        if (slot[i] == 0) {
+            list[len++] = i;
+            slot[i] = len;
+        }
+        return false;
     }
 
-    // Whether labels may cross the activity, and which way.
-    bool crosses(const Activity &a, u32 i, bool &along) const {
-        const bool from = rank[a.from] > 0, to = rank[a.to] > 0;
-        along = from;
-        return from ? !to : to && flow[i] > 0;
+    // Looks at all activities over which the label of an event may go on.
+    void scan(u32 e) {
+        for (u32 k = outs[e], stop = outs[e + 1]; k < stop; ++k) {
+            LOOK;
+            const u32 to = end_of(out[k]);
+            if (events[to].rank == 0) cross(out[k].activity, e, to, false);
+        }
+        if (!may_flow_back(e)) return;
+        for (u32 k = ins[e], stop = ins[e + 1]; k < stop; ++k) {
+            LOOK;
+            const u32 from = begin_of(in[k]);
+            if (events[from].rank == 0 && flows[in[k].activity].flow > 0) cross(in[k].activity, e, from, true);
+        }
     }
 
-    __attribute__((noinline)) void cross(const Activity &a, u32 i, bool along) {
-        const Stop at = stop(a, i, along);
-        if (at.after > 0) {
-            if (slot[i] == 0) {
-                list[len++] = i;
-                slot[i] = len;
+    // Looks for a label for an event that lost its own.
+    void seek(u32 e) {
+        bool found = false;
+        if (may_flow_back(e))
+            for (u32 k = outs[e], stop = outs[e + 1]; k < stop; ++k) {
+                LOOK;
+                const u32 to = end_of(out[k]);
+                if (!found && events[to].rank > 0 && flows[out[k].activity].flow > 0) found = cross(out[k].activity, to, e, true);
+                if (has(6) && found) return;
             }
-            return;
-        }
-        const u32 far = along ? a.to : a.from;
-        time[far] -= fallen;
-        queue[count++] = far;
-        rank[far] = count;
-        step[far] = i;
-        against[far] = !along;
-        near[far] = along ? a.from : a.to;
-        room[far] = at.room;
-    }
-
-    void visit(u32 i) {
-        LOOK;
-        const Activity &a = activities[i];
-        bool along;
-        if (crosses(a, i, along)) cross(a, i, along);
-    }
-
-    // Visits an activity that begins at event e, one way alone. `labelled` says that the event is known to have a label.
-    void visit_from(u32 i, u32 e, bool labelled) {
-        if (labelled || rank[e] > 0) {
+        for (u32 k = ins[e], stop = ins[e + 1]; k < stop; ++k) {
             LOOK;
-            const Activity &a = activities[i];
-            if (rank[a.to] == 0) cross(a, i, true);
-        } else if (flow[i] > 0) {
-            LOOK;
-            const Activity &a = activities[i];
-            if (rank[a.to] > 0) cross(a, i, false);
+            const u32 from = begin_of(in[k]);
+            if (!found && events[from].rank > 0) found = cross(in[k].activity, from, e, false);
+            if (has(6) && found) return;
         }
     }
 
-    // And one that ends there.
-    void visit_to(u32 i, u32 e, bool labelled) {
-        if (!labelled && rank[e] == 0) {
-            LOOK;
-            const Activity &a = activities[i];
-            if (rank[a.from] > 0) cross(a, i, true);
-        } else if (flow[i] > 0) {
-            LOOK;
-            const Activity &a = activities[i];
-            if (rank[a.from] == 0) cross(a, i, false);
-        }
-    }
-
-    void scan(u32 e, bool labelled) {
-        for (u32 k = outs[e]; k < outs[e + 1]; ++k) visit_from(out[k], e, labelled);
-        for (u32 k = ins[e]; k < ins[e + 1]; ++k) visit_to(in[k], e, labelled);
-    }
-
+    // Gives the labels for which the fall has made way.
     void settle() {
-        for (u32 i = 0; i < len; ++i) visit(list[i]);
+        for (u32 k = 0; k < len; ++k) {
+            const u32 i = list[k];
+            if (has(2) && flows[i].due != fallen) continue;
+            LOOK;
+            if (!crosses(i) || due(i) != fallen) continue;
+            const Activity &a = activities[i];
+            if (events[a.from].rank > 0) enter(a.to, i, a.from, false);
+            else enter(a.from, i, a.to, true);
+        }
     }
 
     void grow() {
-        while (head < count && rank[end] == 0) scan(queue[head++], true);
+        while (head < count && events[end].rank == 0) scan(queue[head++]);
     }
 
-    // Gives how many of the first labels stand: those before the first whose step was used up.
+    // Raises the flow along the steps that led to the end. Returns the place in the queue of the first step that it used up; each event
+    // whose step it used up has lost its rank.
     u32 raise() {
         u64 by = MAX;
-        u32 standing = 0;
-        for (u32 e = end; rank[e] > 1; e = near[e]) {
-            if (room[e] <= by) {
-                by = room[e];
-                standing = rank[e] - 1;
+        u32 steps = 0, first = 0;
+        for (u32 e = end; events[e].rank > 1; e = events[e].near) {
+            const u32 i = events[e].step;
+            const u64 flow = flows[i].flow;
+            capacity[steps] = events[e].against ? flow - piece(i, flow - 1).below : piece(i, flow).above - flow;
+            by = std::min(by, capacity[steps++]);
+        }
+        steps = 0;
+        for (u32 e = end; events[e].rank > 1; e = events[e].near) {
+            Event &event = events[e];
+            Flow &flow = flows[event.step];
+            const bool used_up = capacity[steps++] == by;
+            if (event.against) {
+                flow.flow -= by;
+                events[event.near].inflow -= by;
+                flow.up = flow.down;
+                if (used_up && flow.flow > 0) flow.down = piece(event.step, flow.flow - 1).length;
+            } else {
+                flow.flow += by;
+                event.inflow += by;
+                flow.down = flow.up;
+                if (used_up) flow.up = piece(event.step, flow.flow).length;
+            }
+            if (used_up) {
+                first = event.rank - 1;
+                event.rank = 0;
             }
         }
-        for (u32 e = end; rank[e] > 1; e = near[e]) {
-            room[e] -= by;
-            flow[step[e]] += against[e] ? -by : by;
-        }
         slope += by;
-        return standing;
+        return first;
     }
 
-    void prune(u32 standing) {
-        u32 kept = standing, gone = 0, seen = head;
-        for (u32 i = standing; i < count; ++i) {
+    // Takes the labels off the events whose steps are used up or come from an event that lost its label, and looks for new ones: from the
+    // events that lost theirs, or from the start where those are more than the events that were scanned.
+    void prune(u32 first) {
+        if (!has(5)) first = 1;
+        u32 kept = first, gone = 0, seen = head;
+        for (u32 i = first; i < count; ++i) {
             const u32 e = queue[i];
-            if (room[e] > 0 && rank[near[e]] > 0) {
+            Event &event = events[e];
+            if (event.rank > 0 && events[event.near].rank > 0) {
                 queue[kept++] = e;
-                rank[e] = kept;
+                event.rank = kept;
             } else {
-                rank[e] = 0;
-                time[e] += fallen;
+                event.rank = 0;
+                event.time += fallen;
                 lost[gone++] = e;
                 if (i < head) --seen;
             }
         }
         count = kept;
-        if (gone > seen) {
-            head = 0;
-        } else {
-            head = seen;
-            for (u32 i = 0; i < gone; ++i) scan(lost[i], false);
-        }
+        head = gone > seen ? 0 : seen;
+        if (gone <= seen)
+            for (u32 i = 0; i < gone; ++i) seek(lost[i]);
     }
 
+    // The least sum of falls at which an activity stops. Those that labels no longer cross leave the list.
     u64 choose() {
         u32 kept = 0;
         u64 least = MAX;
         for (u32 k = 0; k < len; ++k) {
             const u32 i = list[k];
             LOOK;
-            const Activity &a = activities[i];
-            bool along;
-            if (crosses(a, i, along)) {
+            if (crosses(i)) {
                 list[kept++] = i;
                 slot[i] = kept;
-                least = std::min(least, stop(a, i, along).after);
+                least = std::min(least, due(i));
             } else {
                 slot[i] = 0;
             }
@@ -281,33 +339,33 @@ struct Labels {
         if (length > shortest) {
             settle();
             grow();
-            while (rank[end] > 0) {
+            while (events[end].rank > 0) {
                 prune(raise());
                 grow();
             }
-            fall = choose();
+            fall = choose() - fallen;
         }
         return true;
     }
 };
 
-static void add(Labels &curve, u32 from, u32 to, u64 normal, u64 crash, u64 slope, u64 cost, const std::vector<std::pair<u64, u64>> &pieces) {
+static void add(Labels &curve, const PlanActivity &a) {
     const u32 first = u32(curve.knees.size());
-    u64 below = crash, last = slope;
-    for (const auto &piece : pieces) below += piece.first;
-    curve.knees.push_back({normal, slope});
-    for (const auto &piece : pieces) {
+    u64 below = a.crash, last = a.slope;
+    for (const auto &piece : a.pieces) below += piece.first;
+    curve.knees.push_back({a.normal, a.slope});
+    for (const auto &piece : a.pieces) {
         curve.knees.push_back({below, piece.second - last});
         below -= piece.first;
         last = piece.second;
     }
-    curve.activities.push_back({from, to, normal, crash, slope, cost, first, u32(pieces.size()) + 1});
+    curve.activities.push_back({u32(a.from), u32(a.to), a.normal, a.crash, a.cost, first, u32(a.pieces.size()) + 1});
 }
 
 static Labels curve_of(const Plan &plan) {
     Labels curve;
-    for (const PlanActivity &a : plan.activities) add(curve, u32(a.from), u32(a.to), a.normal, a.crash, a.slope, a.cost, a.pieces);
-    curve.events = u32(plan.events);
+    for (const PlanActivity &a : plan.activities) add(curve, a);
+    curve.events.resize(plan.events);
     curve.start = u32(plan.start);
     curve.end = u32(plan.end);
     return curve;
