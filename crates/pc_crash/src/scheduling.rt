@@ -1,5 +1,5 @@
 //! What makes durations and times a schedule.
-ghost use Rattle.std.specs.Prelude.{◌≡◌, ℕ, ◌+◌, ◌^◌, ◌<◌, ◌≤◌, length, slice_index, pos, ◌-ℤ◌, IsTrue, ◌↔◌};
+ghost use Rattle.std.specs.Prelude.{◌≡◌, ℕ, ◌^◌, ◌<◌, length, slice_index, pos, ◌-ℤ◌, IsTrue, ◌↔◌};
 ghost use Rattle.pc_model.specs.Schedule.{IsSchedule};
 ghost use Rattle.pc_model.specs.Walk.{from_of, to_of};
 ghost use Rattle.pc_crash.specs.inside.Priced.{Fits};
@@ -19,8 +19,8 @@ impl<'n> CrashNet<'n> {
         times[arc.to as usize] as i64 - times[arc.from as usize] as i64
     }
 
-    /// Whether these are a schedule for a length: durations from crash to normal, each of which fits between the times of
-    /// its events, from the start at 0 to the end at the length or before it.
+    /// Whether these are a schedule for a length: durations from crash to normal, each of which fits between the times
+    /// of its events, from the start at 0 to the end at the length or before it.
     pub fn is_schedule(&self, durations: &[u64], times: &[u64], limit: u64) -> bool
         requires durations { length durations.now ≡ length self.now.network.arcs }
         requires times { length times.now ≡ self.now.network.events }
