@@ -1,5 +1,5 @@
 //! The book of all accounts.
-ghost use Rattle.std.specs.Prelude.{◌≡◌, ℕ, ◌+◌, ◌*◌, ◌<◌, ◌≤◌, length, slice_index, sum, sum_by, IsTrue, IsFalse, IfOk, IfErr, IfSome, OnOk};
+ghost use Rattle.std.specs.Prelude.{◌≡◌, ℕ, ◌+◌, ◌*◌, ◌<◌, ◌≤◌, length, IsTrue, IsFalse, IfOk, IfErr, IfSome, OnOk};
 ghost use Rattle.pc_model.specs.declared.limits.TheConstants.{MAX_ACCOUNTS, MAX_CHARGES, MAX_TOGOS, MAX_COST};
 ghost use Rattle.pc_accounts.specs.Entries.{entry_at, latest_of, value_of, AreSmall};
 ghost use Rattle.pc_accounts.specs.inside.Entries.{entry_of_all, IsShare};
@@ -99,7 +99,8 @@ impl Book {
         self.entries[a as usize].latest()
     }
 
-    /// What the account's work is worth, where `finished` says whether its package is finished; `Entry::value` says how.
+    /// What the account's work is worth, where `finished` says whether its package is finished; `Entry::value` says
+    /// how.
     pub fn value(&self, a: u32, finished: bool) -> u64
         requires { a < length self.now }
         ensures value { result ≡ value_of finished (entry_at self.now a) }

@@ -1,5 +1,4 @@
 //! Why amounts to go are refused, and why packages are uneven.
-ghost use Rattle.std.specs.Prelude.{◌≡◌};
 
 use std::alloc::{AllocError, AllocFailed};
 

@@ -1,5 +1,5 @@
 //! Whether the budgets of each package fit the costs of its work.
-ghost use Rattle.std.specs.Prelude.{◌≡◌, ℕ, ◌<◌, ◌≤◌, length, IfOk, IfErr, OnOk};
+ghost use Rattle.std.specs.Prelude.{ℕ, ◌<◌, ◌≤◌, length, IfOk, IfErr, OnOk};
 ghost use Rattle.pc_model.specs.declared.limits.TheConstants.{MAX_ACCOUNTS, MAX_ACTIVITIES};
 ghost use Rattle.pc_accounts.specs.Amounts.{AreBudgets, item_of};
 ghost use Rattle.pc_accounts.specs.Packages.{IsUneven};

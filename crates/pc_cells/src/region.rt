@@ -7,11 +7,12 @@ use crate::span::{Mark, RegionFull, Span};
 use std::alloc::{AllocError, Global};
 use std::marker::Model;
 
-/// A fixed number of cells with a `u64` each, and the spans of them that are live: the first begins at the first cell, and
-/// each later one where the one before ends.
+/// A fixed number of cells with a `u64` each, and the spans of them that are live: the first begins at the first cell,
+/// and each later one where the one before ends.
 pub struct Region {
     cells: Vec<u64>,
-    /// Where each live span begins and then where the next one will; what stands behind these `count + 1` means nothing.
+    /// Where each live span begins and then where the next one will; what stands behind these `count + 1` means
+    /// nothing.
     starts: Vec<usize>,
     count: usize,
 }
@@ -40,7 +41,8 @@ impl Model for Region {
 }
 
 impl Region {
-    /// A region of `n` cells with no live span. It takes all memory that its spans will need, also that for their places.
+    /// A region of `n` cells with no live span. It takes all memory that its spans will need, also that for their
+    /// places.
     pub fn with_cells(alloc: Global, n: usize) -> Result<Region, AllocError>
         ensures { IfOk result (λ region. region ≡ record { capacity = n; spans = [] }) }
     {

@@ -10,7 +10,8 @@ ghost use Rattle.pc_crash.specs.inside.Priced.{AreDurations};
 use crate::crash_net::CrashNet;
 use pc_model::Knee;
 
-/// The greatest cost of an activity, in units of money: its cost at its normal duration, and all of that at the greatest slope.
+/// The greatest cost of an activity, in units of money: its cost at its normal duration, and all of that at the
+/// greatest slope.
 pub const MAX_ACTIVITY_COST: u64 = 11_000_000_000_000;
 
 /// The greatest cost of a project: that of as many activities as there may be.

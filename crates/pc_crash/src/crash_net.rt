@@ -1,5 +1,5 @@
 //! A network whose activities can be shortened at a price.
-ghost use Rattle.std.specs.Prelude.{◌≡◌, ◌≢◌, ℕ, ◌+◌, ◌<◌, length, slice_index, pos, ◌-ℤ◌, IsTrue, ◌↔◌, IfOk, IfSome, IfNone};
+ghost use Rattle.std.specs.Prelude.{◌≡◌, ◌≢◌, ℕ, ◌+◌, ◌<◌, length, IsTrue, ◌↔◌, IfOk, IfSome, IfNone};
 ghost use Rattle.pc_model.specs.Codes.{code_at};
 ghost use Rattle.pc_model.specs.Cost.{IsPriced};
 ghost use Rattle.pc_model.specs.Pieces.{ArePieces};

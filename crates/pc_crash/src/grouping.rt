@@ -1,5 +1,5 @@
 //! The pieces of each activity.
-ghost use Rattle.std.specs.Prelude.{◌≡◌, [], IfOk, length};
+ghost use Rattle.std.specs.Prelude.{[], IfOk, length};
 ghost use Rattle.pc_model.specs.Pieces.{ArePieces};
 ghost use Rattle.pc_crash.specs.inside.Groups.{AreGroups};
 

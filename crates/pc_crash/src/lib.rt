@@ -1,5 +1,5 @@
-//! Activities that can be shortened at a price: what durations cost, which are a schedule, and the knees where the price
-//! of a unit rises.
+//! Activities that can be shortened at a price: what durations cost, which are a schedule, and the knees where the
+//! price of a unit rises.
 #![tactic(auto)]
 
 mod changing;

@@ -1,5 +1,5 @@
 //! What makes durations and times a schedule.
-ghost use Rattle.std.specs.Prelude.{◌≡◌, ℕ, ◌+◌, ◌^◌, ◌<◌, ◌≤◌, length, length as length_of, slice_index, pos, ◌-ℤ◌, IsTrue, ◌↔◌};
+ghost use Rattle.std.specs.Prelude.{◌≡◌, ℕ, ◌^◌, ◌<◌, length, length as length_of, slice_index, pos, ◌-ℤ◌, IsTrue, ◌↔◌};
 ghost use Rattle.pc_model.specs.Schedule.{IsSchedule};
 ghost use Rattle.pc_model.specs.Walk.{from_of, to_of};
 ghost use Rattle.pc_crash.specs.inside.Priced.{Fits};

@@ -61,8 +61,8 @@ pub trait SegmentView {
         ensures at_knee { k < (knees_in (net self.now)).count a → result ≡ (segment self.now).flow a k }
         ensures beside { k ≡ (knees_in (net self.now)).count a → result ≡ (segment self.now).beside a };
 
-    /// The whole flow along an activity. It alone says what flows at each of its knees, which it fills in their order, and
-    /// beside them: where it is the same in two segments, so are all the flows along the activity.
+    /// The whole flow along an activity. It alone says what flows at each of its knees, which it fills in their order,
+    /// and beside them: where it is the same in two segments, so are all the flows along the activity.
     fn whole(&self, a: u32) -> u64
         requires present { IsPresent self.now }
         requires activity { a < length (net self.now).network.arcs }

@@ -44,8 +44,8 @@ pub fn slopes_never_fall()
 {}
 
 /// A curve has one list of breakpoints, and segments that cover the range give it: their upper ends where the slope is
-/// not that of the segment before, and the last lower end. Of segments that come down only to some length, these upper ends
-/// are the breakpoints above it.
+/// not that of the segment before, and the last lower end. Of segments that come down only to some length, these upper
+/// ends are the breakpoints above it.
 pub fn segments_give_the_breakpoints()
     ensures above { (net : Network) (terms : List Term) (knees : Knees) (segments : List Segment)
         (high low shortest : ℕ) →

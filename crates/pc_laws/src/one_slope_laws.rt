@@ -36,8 +36,8 @@ pub fn costs_with_one_slope()
         (IsLeastCost net terms knees limit cost) ↔ (IsPlainLeastCost net terms limit cost) }
 {}
 
-/// A flow is two numbers for each activity, the first at most the slope; it promises the costs, normal times f1 and crash
-/// times f2.
+/// A flow is two numbers for each activity, the first at most the slope; it promises the costs, normal times f1 and
+/// crash times f2.
 pub fn flows_with_one_slope()
     ensures flows { (net : Network) (terms : List Term) (knees : Knees) (flow : ℕ → ℕ → ℕ) (beside : ℕ → ℕ)
         (value : ℕ) → HasOneSlope net terms knees →
@@ -47,8 +47,8 @@ pub fn flows_with_one_slope()
         promise terms knees flow beside ≡ plain_promise terms (λ a. flow a 0) beside }
 {}
 
-/// A segment is whole exactly if it meets the conditions in the words of one slope, and segments cover a range exactly if
-/// they do in these words.
+/// A segment is whole exactly if it meets the conditions in the words of one slope, and segments cover a range exactly
+/// if they do in these words.
 pub fn segments_with_one_slope()
     ensures segment { (net : Network) (terms : List Term) (knees : Knees) (segment : Segment) → AreTerms net terms →
         HasOneSlope net terms knees →

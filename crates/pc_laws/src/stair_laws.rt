@@ -50,8 +50,8 @@ pub fn same_knees_make_the_same_staircase()
     ensures at_crash { (s t : Stair) → IsSameStair s t → (flow : ℕ) → crash_flow s flow ≡ crash_flow t flow }
 {}
 
-/// Each unit of flow runs on one of the knees or, behind all of them, on the crash duration; and a later unit never runs on
-/// a longer arc.
+/// Each unit of flow runs on one of the knees or, behind all of them, on the crash duration; and a later unit never
+/// runs on a longer arc.
 pub fn units_fall()
     ensures runs { (s : Stair) (x : ℕ) →
         ((full_reach s ≤ x) × (unit_length s x ≡ s.crash))
@@ -90,16 +90,16 @@ pub fn gap_may_change()
     ensures room { (s : Stair) → IsFalling s → (gap flow : ℕ) → IsOnStair s gap flow → s.crash ≤ gap }
 {}
 
-/// A whole flow that is filled into the knees in their order, and beside them, is all there, with no more at a knee than
-/// its rise.
+/// A whole flow that is filled into the knees in their order, and beside them, is all there, with no more at a knee
+/// than its rise.
 pub fn filling_is_the_flow()
     ensures whole { (s : Stair) (flow : ℕ) → sum_to s.count (knee_flow s flow) + crash_flow s flow ≡ flow }
     ensures within { (s : Stair) (flow k : ℕ) → knee_flow s flow k ≤ s.rise k }
 {}
 
 /// A whole flow fits a gap exactly where the flows at the knees do: filled in it fits at each knee, and flows that fit
-/// there are a whole flow that fits. For such a flow the knees and the crash duration ask as much as the gap does of each
-/// unit, and beyond that, of each rise, what its knee is above the gap.
+/// there are a whole flow that fits. For such a flow the knees and the crash duration ask as much as the gap does of
+/// each unit, and beyond that, of each rise, what its knee is above the gap.
 pub fn on_the_staircase_is_tight()
     ensures tight { (terms : List Term) (knees : Knees) (a : ℕ) → IsFalling (stair_of terms knees a) →
         (tail head gap : ℕ) → head ≡ tail + gap → (along : ℕ) → IsOnStair (stair_of terms knees a) gap along →

@@ -91,8 +91,8 @@ pub fn raising_keeps_optimal()
         IsOptimal net terms knees (raised st flow beside room) }
 {}
 
-/// Where the labels do not reach the end there is a fall. It is at least 1, and passes neither the present length nor the
-/// all-crash length.
+/// Where the labels do not reach the end there is a fall. It is at least 1, and passes neither the present length nor
+/// the all-crash length.
 pub fn fall_exists()
     ensures exists { (net : Network) (terms : List Term) (knees : Knees) (st : State) (moves : ℕ → Bool) →
         IsPriced net terms knees →
@@ -109,9 +109,9 @@ pub fn fall_exists()
         IsAllCrashLength net terms shortest → shortest + fall ≤ st.limit }
 {}
 
-/// The lengths that the end falls through are a whole segment: its slope, which is the value of the flow, is the gain of
-/// the cut between the events with a label and those without, and it ends where an activity stops. After the fall the
-/// same holds as before, at a cost that is higher by the value for each unit.
+/// The lengths that the end falls through are a whole segment: its slope, which is the value of the flow, is the gain
+/// of the cut between the events with a label and those without, and it ends where an activity stops. After the fall
+/// the same holds as before, at a cost that is higher by the value for each unit.
 pub fn fall_gives_a_segment()
     ensures segment { (net : Network) (terms : List Term) (knees : Knees) (st : State) (moves : ℕ → Bool)
         (fall : ℕ) → IsPriced net terms knees →

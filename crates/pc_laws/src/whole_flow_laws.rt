@@ -102,9 +102,9 @@ pub fn whole_flows_are_bounded()
         (order : List ℕ) → IsOrder net order → (a : ℕ) → a < length net.arcs → along a ≤ value }
 {}
 
-/// A raising is walked back from the end: it begins there with the flows as they are; a step back along an activity that
-/// ends at the event reached, or against one that begins there, carries it on where the new flow fits the gap; and back
-/// at the start it gives the next state, with a higher value.
+/// A raising is walked back from the end: it begins there with the flows as they are; a step back along an activity
+/// that ends at the event reached, or against one that begins there, carries it on where the new flow fits the gap; and
+/// back at the start it gives the next state, with a higher value.
 pub fn whole_flow_is_raised()
     ensures begins { (net : Network) (terms : List Term) (knees : Knees) (time along : ℕ → ℕ) (room limit value : ℕ) →
         IsStairOptimal net terms knees limit time along value →
@@ -128,8 +128,8 @@ pub fn whole_flow_is_raised()
 {}
 
 /// Where the labels have come to a stand, the least of all stops is the fall. It is enough that it is the least of the
-/// stops and of a number above the present length, since some forward activity stops within that. The fall is at least 1
-/// and passes neither the present length nor the all-crash length.
+/// stops and of a number above the present length, since some forward activity stops within that. The fall is at least
+/// 1 and passes neither the present length nor the all-crash length.
 pub fn least_stop_is_the_fall()
     ensures chosen { (net : Network) (terms : List Term) (knees : Knees) → IsPriced net terms knees →
         (limit : ℕ) (time along : ℕ → ℕ) (value : ℕ) → IsStairOptimal net terms knees limit time along value →
@@ -168,9 +168,9 @@ pub fn whole_flows_give_a_segment()
         ≡ cost_of terms knees (lesser_of net terms time) + value * fall }
 {}
 
-/// A state worked by hand: the small deck at 8 units, with A shortened to its middle knee. Of the 5 units that flow along A
-/// three run on the first knee and two on the second, where one more could; T alone moves, and falls by 1 until C is as
-/// long as it normally takes.
+/// A state worked by hand: the small deck at 8 units, with A shortened to its middle knee. Of the 5 units that flow
+/// along A three run on the first knee and two on the second, where one more could; T alone moves, and falls by 1 until
+/// C is as long as it normally takes.
 pub fn middle_knee_is_worked()
     ensures state { IsStairOptimal small_net small_terms (knees_of small_terms small_pieces) 8 small_2.time
         (slice_index (5 ∷ 5 ∷ 0 ∷ [])) 5 }

@@ -20,7 +20,8 @@ ghost use Rattle.pc_laws.specs.Worked.{
 };
 
 /// An activity with pieces: the small deck, where the second unit saved of A costs 6. Its four segments cover the range
-/// from 9 to 5 units; from 8 to 7 A stays at its knee at 3. The state at 8 units is `whole_flow_laws::middle_knee_is_worked`.
+/// from 9 to 5 units; from 8 to 7 A stays at its knee at 3. The state at 8 units is
+/// `whole_flow_laws::middle_knee_is_worked`.
 pub fn pieces_are_worked()
     ensures covering { IsCovering small_net small_terms (knees_of small_terms small_pieces) small_segments 9 5 }
     ensures points { AreBreakpoints (IsLeastCost small_net small_terms (knees_of small_terms small_pieces)) 5 9

@@ -39,8 +39,8 @@ pub fn pieces_make_knees()
         ≡ slope_in (term_at terms a) (pieces_of pieces a) (length (pieces_of pieces a)) }
 {}
 
-/// A unit by which a duration is shortened costs the slope of the piece in which it lies: piece `k` lies below knee `k`,
-/// down to the next knee or to crash. At their normal durations the activities cost what is said of them. Without
+/// A unit by which a duration is shortened costs the slope of the piece in which it lies: piece `k` lies below knee
+/// `k`, down to the next knee or to crash. At their normal durations the activities cost what is said of them. Without
 /// pieces, or with one knee, each unit below normal costs the slope.
 pub fn a_unit_costs_its_slope()
     ensures piece { (net : Network) (terms : List Term) (pieces : List PieceRow) (a d k : ℕ) → AreTerms net terms →

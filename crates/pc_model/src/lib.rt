@@ -54,8 +54,9 @@ pub struct Knee {
 /// What time costs: amounts of money for each unit of the project's length, and for each unit by which the end comes
 /// before or after the target.
 ///
-/// A project of length L costs `overhead` · L for its time, and `penalty` more for each unit by which L is above the target,
-/// or `bonus` less for each unit by which it is below. Each number is at most `MAX_TERMS`, and the bonus at most the penalty.
+/// A project of length L costs `overhead` · L for its time, and `penalty` more for each unit by which L is above the
+/// target, or `bonus` less for each unit by which it is below. Each number is at most `MAX_TERMS`, and the bonus at
+/// most the penalty.
 #[derive(Clone, Copy)]
 pub struct TimeTerms {
     pub overhead: u64,

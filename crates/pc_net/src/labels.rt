@@ -1,5 +1,5 @@
 //! Labels of the events that never fall along an activity.
-ghost use Rattle.std.specs.Prelude.{◌≡◌, ◌+◌, ◌<◌, IfOk, OnOk, length, slice_index, vec_len};
+ghost use Rattle.std.specs.Prelude.{◌≡◌, ◌+◌, ◌<◌, IfOk, OnOk, length, vec_len};
 ghost use Rattle.pc_net.specs.inside.Labels.{IsSpread, NeverFalls};
 ghost use Rattle.pc_net.specs.inside.Turns.{AreEvents};
 

@@ -39,8 +39,8 @@ impl Row {
         }
     }
 
-    /// A row with no fields yet, and with room for so many bytes and so many fields. It takes further memory for what is
-    /// longer.
+    /// A row with no fields yet, and with room for so many bytes and so many fields. It takes further memory for what
+    /// is longer.
     pub fn with_room(alloc: Global, bytes: usize, fields: usize) -> Result<Row, AllocError>
         ensures { IfOk result (λ row. row ≡ []) }
     {

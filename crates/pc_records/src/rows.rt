@@ -1,6 +1,6 @@
 // The records of a deck in turn.
 
-ghost use Rattle.std.specs.Prelude.{◌≡◌, ◌+◌, ◌≤◌, ◌∷◌, [], List, ℕ, true, false, length, IfOk, OnErr, Some};
+ghost use Rattle.std.specs.Prelude.{◌≡◌, ◌+◌, ◌≤◌, ◌∷◌, [], true, false, length, IfOk, OnErr, Some};
 ghost use Rattle.csv.specs.Reading.{reader_state, strip_bom};
 ghost use Rattle.csv.specs.declared.parser.State.TheVariants as st;
 ghost use Rattle.pc_records.specs.Deck.{deck_records, without_mark};

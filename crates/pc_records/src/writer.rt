@@ -29,8 +29,8 @@ impl Model for RowWriter {
 }
 
 impl RowWriter {
-    /// No text yet, and room for so many bytes: the room of what is let go, and more where that is less. It takes further memory
-    /// for what is longer.
+    /// No text yet, and room for so many bytes: the room of what is let go, and more where that is less. It takes
+    /// further memory for what is longer.
     pub fn with_room(mut room: Vec<u8>, bytes: usize) -> Result<RowWriter, AllocError>
         ensures { IfOk result (λ writer. writer ≡ []) }
     {

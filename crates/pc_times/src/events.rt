@@ -37,8 +37,8 @@ pub fn late(alloc: Global, net: &Net, lengths: &[u64], by: i64) -> Result<Vec<i6
     Ok(times)
 }
 
-/// The time that lies so long before another: the latest time of an event, where `tail` is the greatest sum of lengths over
-/// the walks from it to the end, which is to be met at `by`.
+/// The time that lies so long before another: the latest time of an event, where `tail` is the greatest sum of lengths
+/// over the walks from it to the end, which is to be met at `by`.
 pub fn so_long_before(by: i64, tail: u64) -> i64
     requires by { unsigned_abs by < 2 ^ 40 }
     requires tail { tail ≤ MAX_TIME }

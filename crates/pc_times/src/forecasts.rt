@@ -2,7 +2,7 @@
 ghost use Rattle.std.specs.Prelude.{◌≡◌, ℕ, ◌^◌, ◌<◌, ◌≤◌, length, slice_index, IfOk, OnOk};
 ghost use Rattle.pc_model.specs.Network.{IsInRange, IsSound};
 ghost use Rattle.pc_times.specs.Times.{AreLengths};
-ghost use Rattle.pc_times.specs.Forecast.{Expected, state_at, finish_of, IsSmallState, AreStates, IsForecast};
+ghost use Rattle.pc_times.specs.Forecast.{Expected, finish_of, IsSmallState, AreStates, IsForecast};
 ghost use Rattle.pc_times.specs.inside.Forecast.{finish_at, IsLastAt, AreFinishes, AreLast};
 ghost use Rattle.pc_times.specs.declared.TheConstants.{MAX_LENGTH};
 
@@ -13,8 +13,8 @@ use std::alloc::{AllocError, Global};
 
 /// When each event and each activity's finish are expected, as `as_of` stands.
 ///
-/// The start is expected at 0, and each other event with the last of the activities that end there. Linear in events and
-/// activities.
+/// The start is expected at 0, and each other event with the last of the activities that end there. Linear in events
+/// and activities.
 pub fn forecast(
     alloc: Global,
     net: &Net,

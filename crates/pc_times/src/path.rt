@@ -77,8 +77,8 @@ pub(crate) fn picked_walk(
     Ok(path)
 }
 
-/// Puts the picked walk at the front, by the sums to each event and from it, and answers how many activities it has. In two
-/// passes over the activities at most; it takes no memory.
+/// Puts the picked walk at the front, by the sums to each event and from it, and answers how many activities it has. In
+/// two passes over the activities at most; it takes no memory.
 pub fn critical_path_into(
     net: &Net,
     lengths: &[u64],

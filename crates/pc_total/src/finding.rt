@@ -18,12 +18,13 @@ use pc_flow::Solver;
 use pc_model::TimeTerms;
 use std::sync::ledger::Ledger;
 
-/// The optimum of the curve of a solver's network: the length of its range for which the project costs least in all, and of
-/// several the smallest.
+/// The optimum of the curve of a solver's network: the length of its range for which the project costs least in all,
+/// and of several the smallest.
 ///
-/// The solver goes down from before its first segment for as long as a unit less costs no more than it saves, and stays at the
-/// segment that holds the optimum, so that a schedule for it can be read there. A few steps a segment, and at most four looks at
-/// each activity for each unit by which the slope rises or the lower end comes down. It takes no memory.
+/// The solver goes down from before its first segment for as long as a unit less costs no more than it saves, and stays
+/// at the segment that holds the optimum, so that a schedule for it can be read there. A few steps a segment, and at
+/// most four looks at each activity for each unit by which the slope rises or the lower end comes down. It takes no
+/// memory.
 pub fn best<L: Ledger>(solver: &mut Solver<'_>, terms: &TimeTerms, steps: &mut Steps<L>) -> Best
     requires before { solver.old.given ≡ false }
     requires terms { AreTimeTerms terms.now }
@@ -34,8 +35,8 @@ pub fn best<L: Ledger>(solver: &mut Solver<'_>, terms: &TimeTerms, steps: &mut S
     ensures counted { steps.new ≤ steps.old + most_looks solver.old solver.new }
     ensures limit { steps.new ≤ steps.old + all_looks solver.old }
 {
-    // What is known of the network says that the least costs are those of a curve, and before the first segment nothing has
-    // fallen.
+    // What is known of the network says that the least costs are those of a curve, and before the first segment nothing
+    // has fallen.
     let _net = solver.net().net();
     let _given = solver.given();
     // What one unit more saves where the next segment begins.
@@ -53,8 +54,8 @@ pub fn best<L: Ledger>(solver: &mut Solver<'_>, terms: &TimeTerms, steps: &mut S
     best_at(solver, terms, shortest, 0, gain, steps)
 }
 
-/// The optimum, where it pays to come down to this length and no further: so much a unit less costs, and so much a unit more
-/// saves.
+/// The optimum, where it pays to come down to this length and no further: so much a unit less costs, and so much a unit
+/// more saves.
 fn best_at<L: Ledger>(
     solver: &mut Solver<'_>,
     terms: &TimeTerms,

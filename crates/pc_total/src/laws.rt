@@ -1,5 +1,5 @@
-//! Why two neighbours show an optimum. Each function here does nothing: its contract is the law, and a caller that calls it has
-//! the law as a fact.
+//! Why two neighbours show an optimum. Each function here does nothing: its contract is the law, and a caller that
+//! calls it has the law as a fact.
 ghost use Rattle.std.specs.Prelude.{◌+◌, ◌-◌, ◌≤◌, ℕ, ℤ, Option};
 ghost use Rattle.pc_model.specs.declared.TimeTerms.{TimeTerms};
 ghost use Rattle.pc_model.specs.Cost.{IsPriced};
@@ -16,8 +16,8 @@ pub fn gains_fall()
         c - d ≤ a - b }
 {}
 
-/// Where the bonus is at most the penalty, two signs show the optimum: one unit shorter costs more in all, and one unit longer no
-/// less. Then no length of the range has a lesser total, and no shorter one an equal one.
+/// Where the bonus is at most the penalty, two signs show the optimum: one unit shorter costs more in all, and one unit
+/// longer no less. Then no length of the range has a lesser total, and no shorter one an equal one.
 pub fn two_signs_show_the_optimum()
     ensures { (net : PricedNetwork) (terms : TimeTerms) (shortest longest limit : ℕ) (total : ℤ)
         (below above : Option ℤ) →

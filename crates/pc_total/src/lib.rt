@@ -1,5 +1,5 @@
-//! What a project costs in all for a length: its least direct cost and what its time costs; and the length for which that is
-//! least. Nothing here takes memory.
+//! What a project costs in all for a length: its least direct cost and what its time costs; and the length for which
+//! that is least. Nothing here takes memory.
 #![tactic(auto)]
 
 mod finding;

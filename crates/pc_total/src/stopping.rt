@@ -5,9 +5,9 @@ ghost use Rattle.pc_total.specs.inside.Stops.{IsStop};
 
 use pc_model::TimeTerms;
 
-/// The length in a segment down to which each unit less saves at least as much of the time's cost as it costs, and below
-/// which it does not: one of the segment's two ends, or the target between them, since what a unit of time costs changes
-/// there alone.
+/// The length in a segment down to which each unit less saves at least as much of the time's cost as it costs, and
+/// below which it does not: one of the segment's two ends, or the target between them, since what a unit of time costs
+/// changes there alone.
 pub(crate) fn stop_in(terms: &TimeTerms, lower: u64, upper: u64, slope: u64) -> u64
     requires terms { AreTimeTerms terms.now }
     requires ordered { lower ≤ upper }

@@ -1,5 +1,5 @@
 //! What a project's time costs.
-ghost use Rattle.std.specs.Prelude.{◌≡◌, ◌<◌, ◌≤◌, if◌then◌else◌, nat_lt};
+ghost use Rattle.std.specs.Prelude.{◌≡◌, ◌≤◌};
 ghost use Rattle.pc_model.specs.TimeCost.{AreTimeTerms, time_cost_of};
 ghost use Rattle.pc_flow.specs.declared.early.TheConstants.{MAX_LENGTH};
 ghost use Rattle.pc_total.specs.inside.TermsOfTime.{AreTermsOfTime};
@@ -8,8 +8,8 @@ ghost use Rattle.pc_total.specs.inside.Stops.{unit_cost};
 use pc_flow::MAX_LENGTH;
 use pc_model::TimeTerms;
 
-/// What the time of a project of this length costs: the overhead of each unit, and the penalty of each unit above the target,
-/// less the bonus of each unit below it. It is negative where the bonus outweighs the overhead.
+/// What the time of a project of this length costs: the overhead of each unit, and the penalty of each unit above the
+/// target, less the bonus of each unit below it. It is negative where the bonus outweighs the overhead.
 ///
 /// The length is at most 1,000,000,000 units, and so is each of the terms. The bonus may be above the penalty.
 pub fn time_cost(terms: &TimeTerms, length: u64) -> i64
@@ -22,7 +22,8 @@ pub fn time_cost(terms: &TimeTerms, length: u64) -> i64
     dear as i64 - earned as i64
 }
 
-/// What the last unit of a length costs: the overhead, and behind the target the penalty, up to it the bonus that it loses.
+/// What the last unit of a length costs: the overhead, and behind the target the penalty, up to it the bonus that it
+/// loses.
 pub(crate) fn unit_cost(terms: &TimeTerms, length: u64) -> u64
     requires { AreTimeTerms terms.now }
     ensures { result ≡ unit_cost terms.now length }

@@ -68,7 +68,16 @@ Precedes-trans rows u v w (inl vu) (inl wv) =
 Precedes-trans rows u v w (inl vu) (inr t) = above (cases_above rows v t.earlier u t.below_earlier (IsBelow-under rows v u vu))
   where
     parted : IsBelow rows u t.earlier → Precedes rows u w
-    parted h = inr (record { earlier = t.earlier; later = t.later; parent = t.parent; below_earlier = h; below_later = t.below_later; parent_earlier = t.parent_earlier; parent_later = t.parent_later; order = t.order })
+    parted h = inr (record {
+      earlier = t.earlier;
+      later = t.later;
+      parent = t.parent;
+      below_earlier = h;
+      below_later = t.below_later;
+      parent_earlier = t.parent_earlier;
+      parent_later = t.parent_later;
+      order = t.order;
+    })
 
     above : IsBelow rows t.earlier u ⊎ IsBelow rows u t.earlier → Precedes rows u w
     above (inr h) = parted h
@@ -77,26 +86,64 @@ Precedes-trans rows u v w (inl vu) (inr t) = above (cases_above rows v t.earlier
         (λ under. inl (IsUnder-from rows w t.later u t.below_later (sibling_under rows t.earlier t.later t.parent u t.parent_earlier t.parent_later under)))
         (cases_below rows _ _ h)
 Precedes-trans rows u v w (inr t) (inl wv) =
-    inr (record { earlier = t.earlier; later = t.later; parent = t.parent; below_earlier = t.below_earlier; below_later = IsBelow-trans rows w v t.later (IsBelow-under rows w v wv) t.below_later; parent_earlier = t.parent_earlier; parent_later = t.parent_later; order = t.order })
+    inr (record {
+      earlier = t.earlier;
+      later = t.later;
+      parent = t.parent;
+      below_earlier = t.below_earlier;
+      below_later = IsBelow-trans rows w v t.later (IsBelow-under rows w v wv) t.below_later;
+      parent_earlier = t.parent_earlier;
+      parent_later = t.parent_later;
+      order = t.order;
+    })
 Precedes-trans rows u v w (inr s) (inr t) = above (cases_above rows v s.later t.earlier s.below_later t.below_earlier)
   where
     by_second : IsBelow rows u t.earlier → Precedes rows u w
-    by_second h = inr (record { earlier = t.earlier; later = t.later; parent = t.parent; below_earlier = h; below_later = t.below_later; parent_earlier = t.parent_earlier; parent_later = t.parent_later; order = t.order })
+    by_second h = inr (record {
+      earlier = t.earlier;
+      later = t.later;
+      parent = t.parent;
+      below_earlier = h;
+      below_later = t.below_later;
+      parent_earlier = t.parent_earlier;
+      parent_later = t.parent_later;
+      order = t.order;
+    })
 
     by_first : IsBelow rows w s.later → Precedes rows u w
-    by_first h = inr (record { earlier = s.earlier; later = s.later; parent = s.parent; below_earlier = s.below_earlier; below_later = h; parent_earlier = s.parent_earlier; parent_later = s.parent_later; order = s.order })
+    by_first h = inr (record {
+      earlier = s.earlier;
+      later = s.later;
+      parent = s.parent;
+      below_earlier = s.below_earlier;
+      below_later = h;
+      parent_earlier = s.parent_earlier;
+      parent_later = s.parent_later;
+      order = s.order;
+    })
 
     level_with : s.later ≡ t.earlier → Precedes rows u w
     level_with same =
         let parents : s.parent ≡ t.parent = let a = s.parent_later in let b = t.parent_earlier in let c = ap (λ n. parent_of rows n) same in cc in
-        inr (record { earlier = s.earlier; later = t.later; parent = s.parent; below_earlier = s.below_earlier; below_later = t.below_later; parent_earlier = s.parent_earlier; parent_later = t.parent_later ∙ ap Some (sym parents); order = omega (arith, s.order, t.order) })
+        inr (record {
+          earlier = s.earlier;
+          later = t.later;
+          parent = s.parent;
+          below_earlier = s.below_earlier;
+          below_later = t.below_later;
+          parent_earlier = s.parent_earlier;
+          parent_later = t.parent_later ∙ ap Some (sym parents);
+          order = omega (arith, s.order, t.order);
+        })
 
     above : IsBelow rows s.later t.earlier ⊎ IsBelow rows t.earlier s.later → Precedes rows u w
     above (inl h) =
         ⊎_elim level_with
-        (λ under. by_second (IsBelow-trans rows u s.earlier t.earlier s.below_earlier (IsBelow-under rows s.earlier t.earlier (sibling_under rows s.later s.earlier s.parent t.earlier s.parent_later s.parent_earlier under))))
+        (λ under. by_second (IsBelow-trans rows u s.earlier t.earlier s.below_earlier (IsBelow-under rows s.earlier t.earlier
+        (sibling_under rows s.later s.earlier s.parent t.earlier s.parent_later s.parent_earlier under))))
         (cases_below rows _ _ h)
     above (inr h) =
         ⊎_elim (λ same. level_with (sym same))
-        (λ under. by_first (IsBelow-trans rows w t.later s.later t.below_later (IsBelow-under rows t.later s.later (sibling_under rows t.earlier t.later t.parent s.later t.parent_earlier t.parent_later under))))
+        (λ under. by_first (IsBelow-trans rows w t.later s.later t.below_later (IsBelow-under rows t.later s.later
+        (sibling_under rows t.earlier t.later t.parent s.later t.parent_earlier t.parent_later under))))
         (cases_below rows _ _ h)

@@ -1,9 +1,9 @@
 //! The level of each row, by climbing at most as many steps as a tree has levels.
-ghost use Rattle.std.specs.Prelude.{◌≡◌, ℕ, ◌+◌, ◌<◌, ◌≤◌, ◌^◌, length, vec_len, Some, IfOk, IfErr, IfSome, IfNone, slice_index};
+ghost use Rattle.std.specs.Prelude.{◌≡◌, ℕ, ◌<◌, ◌≤◌, length, Some, IfOk, IfErr, IfSome, IfNone};
 ghost use Rattle.pc_model.specs.declared.limits.TheConstants.{MAX_ITEMS};
 ghost use Rattle.pc_wbs.specs.Climb.{AreInRange, climb, HasLevel, IsOnlyTop};
 ghost use Rattle.pc_wbs.specs.Refusal.{IsRefusal, IsLooped};
-ghost use Rattle.pc_wbs.specs.inside.Ends.{IsTopBelow, AreLevels, AreGreatest};
+ghost use Rattle.pc_wbs.specs.inside.Ends.{AreLevels, AreGreatest};
 
 use crate::error::TreeError;
 use crate::loops;

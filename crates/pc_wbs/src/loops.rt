@@ -1,5 +1,5 @@
 //! Loops: rows from which repeated parents lead back to them.
-ghost use Rattle.std.specs.Prelude.{◌≡◌, ℕ, ◌+◌, ◌<◌, ◌≤◌, length, IfOk, IfErr, OnOk};
+ghost use Rattle.std.specs.Prelude.{◌≡◌, ℕ, ◌≤◌, length, IfOk, IfErr, OnOk};
 ghost use Rattle.pc_model.specs.declared.limits.TheConstants.{MAX_ITEMS};
 ghost use Rattle.pc_wbs.specs.Climb.{AreInRange, IsOnlyTop};
 ghost use Rattle.pc_wbs.specs.Refusal.{IsRefusal, IsLooped, IsLoopFrom};

@@ -1,5 +1,5 @@
 //! The tree of a work breakdown structure.
-ghost use Rattle.std.specs.Prelude.{◌≡◌, ℕ, ◌<◌, ◌≤◌, ◌↔◌, length, IsTrue, IsNone, IfOk, IfErr, IfSome};
+ghost use Rattle.std.specs.Prelude.{◌≡◌, ◌<◌, ◌≤◌, ◌↔◌, length, IsTrue, IsNone, IfOk, IfErr, IfSome};
 ghost use Rattle.pc_model.specs.declared.limits.TheConstants.{MAX_ITEMS, MAX_LEVEL};
 ghost use Rattle.pc_wbs.specs.Climb.{parent_of, AreInRange, HasLevel, IsTop, IsLeaf, IsTree, IsDepth, IsAtLevel};
 ghost use Rattle.pc_wbs.specs.Preorder.{IsPreorder};

@@ -1,5 +1,5 @@
 //! Why a status is in disorder.
-ghost use Rattle.std.specs.Prelude.{◌≡◌, ℕ, ◌<◌, IsTrue, length, IfSome, IfNone, OnSome, false};
+ghost use Rattle.std.specs.Prelude.{◌<◌, length, IfSome, IfNone, false};
 ghost use Rattle.pc_accounts.specs.status.Statuses.{IsReason, IsInOrder, status_at};
 ghost use Rattle.pc_accounts.specs.inside.status.Firsts.{FirstBelow};
 

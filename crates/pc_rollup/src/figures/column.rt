@@ -1,5 +1,5 @@
 //! An amount of each account, summed by item and by level.
-ghost use Rattle.std.specs.Prelude.{◌≡◌, ℕ, ◌+◌, ◌<◌, ◌≤◌, ◌^◌, length, sum_by, unsigned_abs, FitsSigned, IfOk};
+ghost use Rattle.std.specs.Prelude.{◌≡◌, ℕ, ◌+◌, ◌<◌, ◌^◌, length, sum_by, unsigned_abs, FitsSigned, IfOk};
 ghost use Rattle.std.specs.Int.{w64};
 ghost use Rattle.pc_accounts.specs.Entries.{AreSmall};
 ghost use Rattle.pc_wbs.specs.Climb.{AreInRange, IsTree};

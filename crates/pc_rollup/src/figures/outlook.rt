@@ -163,7 +163,8 @@ fn added(
     Ok(amounts)
 }
 
-/// The amounts of an item, from its budget, what its activities cost, and the budgets of its packages without activities.
+/// The amounts of an item, from its budget, what its activities cost, and the budgets of its packages without
+/// activities.
 fn amounts_of(budget: i64, work: i64, rest: i64) -> OutlookAmounts
     requires budget { unsigned_abs budget ≤ 2 ^ 60 }
     requires work { unsigned_abs work ≤ 2 ^ 60 }

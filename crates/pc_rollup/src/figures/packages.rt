@@ -32,7 +32,8 @@ fn progress_of(
     Ok(progress)
 }
 
-/// Whether all activities of an item are finished, from whether those before are, if there are any, and the next one is.
+/// Whether all activities of an item are finished, from whether those before are, if there are any, and the next one
+/// is.
 fn all_finished(so_far: Option<bool>, finished: bool) -> bool
     ensures { result ≡ (unwrap_or so_far true && finished) }
 {

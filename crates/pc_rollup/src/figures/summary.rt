@@ -180,8 +180,8 @@ fn column_of(
     Column::of(alloc, tree, accounts, &amounts)
 }
 
-/// At each level the lines' actuals add up to all charges dated up to as-of: each of these charges counts once, and no other
-/// does.
+/// At each level the lines' actuals add up to all charges dated up to as-of: each of these charges counts once, and no
+/// other does.
 ///
 /// This function does nothing: its contract is the law.
 pub fn each_charge_counts_once()

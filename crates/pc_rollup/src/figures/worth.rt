@@ -61,8 +61,8 @@ impl Model for Worth {
 }
 
 impl Worth {
-    /// What the work of the items is worth, where the activities stand on `places` and are in these states. It takes time in
-    /// proportion to activities, accounts and items.
+    /// What the work of the items is worth, where the activities stand on `places` and are in these states. It takes
+    /// time in proportion to activities, accounts and items.
     pub fn of(
         alloc: Global,
         tree: &Tree,

@@ -23,7 +23,8 @@ push_knees-requires-clause-rising c =
     let pieces = c.args.pieces.now in
     let a = c.loop-a.a in
     let inside : a < length terms = omega (arith, c.activities-a-end.ensures.activities, c.requires.terms.one_each) in
-    let group = group-read pieces c.in_ok-groups.groups.items c.index.result.now c.as_slice-group.result.now (length terms) a c.in_ok-groups.ensures inside c.as_slice-group.ensures.value c.index.ensures in
+    let group = group-read pieces c.in_ok-groups.groups.items c.index.result.now c.as_slice-group.result.now (length terms) a c.in_ok-groups.ensures
+    inside c.as_slice-group.ensures.value c.index.ensures in
     subst (IsRising (term_at terms a).slope) (sym group) (IsRising-from_slopes (term_at terms a) (pieces_of pieces a) (λ k below. c.requires.pieces.rising a k inside below))
 
 pub push_knees-requires-clause-units : goal.push_knees-requires-clause-units
@@ -32,7 +33,8 @@ push_knees-requires-clause-units c =
     let pieces = c.args.pieces.now in
     let a = c.loop-a.a in
     let inside : a < length terms = omega (arith, c.activities-a-end.ensures.activities, c.requires.terms.one_each) in
-    let group = group-read pieces c.in_ok-groups.groups.items c.index.result.now c.as_slice-group.result.now (length terms) a c.in_ok-groups.ensures inside c.as_slice-group.ensures.value c.index.ensures in
+    let group = group-read pieces c.in_ok-groups.groups.items c.index.result.now c.as_slice-group.result.now (length terms) a c.in_ok-groups.ensures
+    inside c.as_slice-group.ensures.value c.index.ensures in
     omega (arith, ap units_of group, units-most terms pieces a c.requires.pieces inside (c.requires.terms.ordered a inside), c.requires.limits.short a inside)
 
 pub loop-a-preserved : goal.loop-a-preserved
@@ -41,7 +43,8 @@ loop-a-preserved c =
     let pieces = c.args.pieces.now in
     let a = c.loop-a.a in
     let inside : a < length terms = omega (arith, c.activities-a-end.ensures.activities, c.requires.terms.one_each) in
-    let group = group-read pieces c.in_ok-groups.groups.items c.index.result.now c.as_slice-group.result.now (length terms) a c.in_ok-groups.ensures inside c.as_slice-group.ensures.value c.index.ensures in
+    let group = group-read pieces c.in_ok-groups.groups.items c.index.result.now c.as_slice-group.result.now (length terms) a c.in_ok-groups.ensures
+    inside c.as_slice-group.ensures.value c.index.ensures in
     rw (c.in_ok-push.ensures.items, c.in_ok-push_knees.ensures)
     (AreLaid-push c.args.net.now.arcs terms pieces a c.loop-a.rows.items c.loop-a.knees.items (knee_list (term_at terms a) c.as_slice-group.result.now) _ c.loop-a.invariant inside
     (λ i. record { from = c.from.ensures.event i; to = c.to.ensures.event i })

@@ -23,7 +23,8 @@ chain-smaller c =
     let chains = c.in_ok-chains.chains in
     let below : c.chain.at < length xs = omega (arith, length-events_of c.args.side c.args.arcs.now) in
     let read : c.index.result.now ≡ slice_index chains.nexts.items c.chain.at = get_or_read chains.nexts.items c.chain.at _ (omega (arith, c.in_ok-chains.ensures.nexts_len)) c.index.ensures 0 in
-    let step = IsFollowed-step xs c.args.events c.events.head-index c.chain.at c.index.result.now chains.heads.items chains.nexts.items c.events.items.items c.chain.items.items c.in_ok-chains.ensures c.chain.invariant below read in
+    let step = IsFollowed-step xs c.args.events c.events.head-index c.chain.at c.index.result.now chains.heads.items chains.nexts.items c.events.items.items
+    c.chain.items.items c.in_ok-chains.ensures c.chain.invariant below read in
     omega (arith, step.1)
 
 pub chain-preserved : goal.chain-preserved
@@ -32,7 +33,8 @@ chain-preserved c =
     let chains = c.in_ok-chains.chains in
     let below : c.chain.at < length xs = omega (arith, length-events_of c.args.side c.args.arcs.now) in
     let read : c.index.result.now ≡ slice_index chains.nexts.items c.chain.at = get_or_read chains.nexts.items c.chain.at _ (omega (arith, c.in_ok-chains.ensures.nexts_len)) c.index.ensures 0 in
-    let step = IsFollowed-step xs c.args.events c.events.head-index c.chain.at c.index.result.now chains.heads.items chains.nexts.items c.events.items.items c.chain.items.items c.in_ok-chains.ensures c.chain.invariant below read in
+    let step = IsFollowed-step xs c.args.events c.events.head-index c.chain.at c.index.result.now chains.heads.items chains.nexts.items c.events.items.items
+    c.chain.items.items c.in_ok-chains.ensures c.chain.invariant below read in
     rw c.in_ok-push-2.ensures.items step.0
 
 pub events-preserved : goal.events-preserved

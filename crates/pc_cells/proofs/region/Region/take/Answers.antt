@@ -43,7 +43,16 @@ index_mut-requires c =
       arith,
       starts-room c.self.inside c.args.self.now c.self.view_is c.self.invariant c.index-place.result.now c.args.len c.requires
           (region-end c.self.inside c.args.self.now c.self.view_is c.self.invariant c.index-place.result.now c.index-place.ensures)
-          (omega (arith, c.if-free-len.false, c.len.ensures, c.self.inside.cells.ok.0, region-room c.self.inside c.args.self.now c.self.view_is c.self.invariant, region-capacity c.self.inside c.args.self.now c.self.view_is c.self.invariant, region-end c.self.inside c.args.self.now c.self.view_is c.self.invariant c.index-place.result.now c.index-place.ensures, c.requires)),
+          (omega (
+            arith,
+            c.if-free-len.false,
+            c.len.ensures,
+            c.self.inside.cells.ok.0,
+            region-room c.self.inside c.args.self.now c.self.view_is c.self.invariant,
+            region-capacity c.self.inside c.args.self.now c.self.view_is c.self.invariant,
+            region-end c.self.inside c.args.self.now c.self.view_is c.self.invariant c.index-place.result.now c.index-place.ensures,
+            c.requires,
+          )),
       c.self.inside.starts.ok.0,
     )
 
@@ -55,9 +64,20 @@ returns-clause-there_is_room c =
 
 pub invariant_of-self : goal.invariant_of-self
 invariant_of-self c =
-    laid-taken c.self.inside (one_more c.self.inside c.fill_range.new.cells c.index-place.result.now c.args.len) c.args.self.now c.self.view_is c.self.invariant c.index-place.result.now c.args.len c.requires
+    laid-taken c.self.inside (one_more c.self.inside c.fill_range.new.cells c.index-place.result.now c.args.len) c.args.self.now c.self.view_is
+    c.self.invariant c.index-place.result.now c.args.len c.requires
     (region-end c.self.inside c.args.self.now c.self.view_is c.self.invariant c.index-place.result.now c.index-place.ensures)
-    (omega (arith, c.if-free-len.false, c.len.ensures, c.self.inside.cells.ok.0, region-room c.self.inside c.args.self.now c.self.view_is c.self.invariant, region-capacity c.self.inside c.args.self.now c.self.view_is c.self.invariant, region-end c.self.inside c.args.self.now c.self.view_is c.self.invariant c.index-place.result.now c.index-place.ensures, c.requires))
+    (omega (
+      arith,
+      c.if-free-len.false,
+      c.len.ensures,
+      c.self.inside.cells.ok.0,
+      region-room c.self.inside c.args.self.now c.self.view_is c.self.invariant,
+      region-capacity c.self.inside c.args.self.now c.self.view_is c.self.invariant,
+      region-end c.self.inside c.args.self.now c.self.view_is
+          c.self.invariant c.index-place.result.now c.index-place.ensures,
+      c.requires,
+    ))
     (
     vector-filled c.self.inside.cells c.deref_mut.result.now c.fill_range.new.cells c.index-place.result.now (c.index-place.result.now + c.args.len) 0
     c.deref_mut.ensures.value c.deref_mut.ensures.len c.fill_range.ensures
@@ -66,9 +86,20 @@ invariant_of-self c =
 
 pub returns-clause-span : goal.returns-clause-span
 returns-clause-span c =
-    span-taken c.self.inside (one_more c.self.inside c.fill_range.new.cells c.index-place.result.now c.args.len) c.args.self.now c.self.view_is c.self.invariant c.index-place.result.now c.args.len c.requires
+    span-taken c.self.inside (one_more c.self.inside c.fill_range.new.cells c.index-place.result.now c.args.len) c.args.self.now c.self.view_is
+    c.self.invariant c.index-place.result.now c.args.len c.requires
     (region-end c.self.inside c.args.self.now c.self.view_is c.self.invariant c.index-place.result.now c.index-place.ensures)
-    (omega (arith, c.if-free-len.false, c.len.ensures, c.self.inside.cells.ok.0, region-room c.self.inside c.args.self.now c.self.view_is c.self.invariant, region-capacity c.self.inside c.args.self.now c.self.view_is c.self.invariant, region-end c.self.inside c.args.self.now c.self.view_is c.self.invariant c.index-place.result.now c.index-place.ensures, c.requires))
+    (omega (
+      arith,
+      c.if-free-len.false,
+      c.len.ensures,
+      c.self.inside.cells.ok.0,
+      region-room c.self.inside c.args.self.now c.self.view_is c.self.invariant,
+      region-capacity c.self.inside c.args.self.now c.self.view_is c.self.invariant,
+      region-end c.self.inside c.args.self.now c.self.view_is
+          c.self.invariant c.index-place.result.now c.index-place.ensures,
+      c.requires,
+    ))
     (
     vector-filled c.self.inside.cells c.deref_mut.result.now c.fill_range.new.cells c.index-place.result.now (c.index-place.result.now + c.args.len) 0
     c.deref_mut.ensures.value c.deref_mut.ensures.len c.fill_range.ensures
@@ -77,9 +108,20 @@ returns-clause-span c =
 
 pub returns-clause-taken : goal.returns-clause-taken
 returns-clause-taken c =
-    region-taken c.self.inside (one_more c.self.inside c.fill_range.new.cells c.index-place.result.now c.args.len) c.args.self.now c.self.view_is c.self.invariant c.index-place.result.now c.args.len c.requires
+    region-taken c.self.inside (one_more c.self.inside c.fill_range.new.cells c.index-place.result.now c.args.len) c.args.self.now c.self.view_is
+    c.self.invariant c.index-place.result.now c.args.len c.requires
     (region-end c.self.inside c.args.self.now c.self.view_is c.self.invariant c.index-place.result.now c.index-place.ensures)
-    (omega (arith, c.if-free-len.false, c.len.ensures, c.self.inside.cells.ok.0, region-room c.self.inside c.args.self.now c.self.view_is c.self.invariant, region-capacity c.self.inside c.args.self.now c.self.view_is c.self.invariant, region-end c.self.inside c.args.self.now c.self.view_is c.self.invariant c.index-place.result.now c.index-place.ensures, c.requires))
+    (omega (
+      arith,
+      c.if-free-len.false,
+      c.len.ensures,
+      c.self.inside.cells.ok.0,
+      region-room c.self.inside c.args.self.now c.self.view_is c.self.invariant,
+      region-capacity c.self.inside c.args.self.now c.self.view_is c.self.invariant,
+      region-end c.self.inside c.args.self.now c.self.view_is
+          c.self.invariant c.index-place.result.now c.index-place.ensures,
+      c.requires,
+    ))
     (
     vector-filled c.self.inside.cells c.deref_mut.result.now c.fill_range.new.cells c.index-place.result.now (c.index-place.result.now + c.args.len) 0
     c.deref_mut.ensures.value c.deref_mut.ensures.len c.fill_range.ensures
