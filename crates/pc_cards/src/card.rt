@@ -15,14 +15,14 @@ use pc_records::{Fields, Records};
 use pc_text::Code;
 use std::alloc::AllocError;
 
-/// How a card of some kind is laid out, in decks of a sort.
+/// The layout of the cards of a kind in decks of a sort.
 #[derive(Drop)]
 pub struct Layout {
-    /// What the fields must be, behind the kind itself.
+    /// What the fields after the kind must be.
     pub slots: &'static [Slot],
-    /// How many fields a card must have, the kind itself among them.
+    /// How many fields a card must have, including the kind.
     pub least: usize,
-    /// How many fields it may have. Further ones must be empty.
+    /// How many fields it may have. Additional ones must be empty.
     pub most: usize,
 }
 
@@ -38,25 +38,33 @@ pub trait Card: Copy {
 
     ghost written: { Self → List (List ℕ) };
 
-    /// How a card is laid out in decks of the sort.
+    /// Returns the layout of a card in decks of the sort.
     fn layout(sort: Sort) -> Layout
         ensures slots { result.slots.now ≡ slots sort }
         ensures least { result.least ≡ least }
         ensures most { result.most ≡ most };
 
-    /// The card that a record spells in a deck of the sort, or the first of its fields that is not what it must be there.
+    /// Reads the card of a record in a deck of the sort.
+    ///
+    /// # Errors
+    ///
+    /// The first field that is not what it must be in such a deck.
     fn read<F: Fields>(sort: Sort, row: u32, fields: &F) -> Result<Self, Misfit>
         ensures card { IfOk result (λ card. card ≡ spelled row (F.fields fields.now)) }
         ensures fit { OnOk result (AllFit (slots sort) (F.fields fields.now)) }
         ensures misfit { IfErr result (IsFirstMisfit (slots sort) (F.fields fields.now)) };
 
-    /// Puts the record of the card, which is of the kind, behind a text. After an error nothing of the text is left.
+    /// Appends the record of the card, which is of the kind, to a text.
+    ///
+    /// # Errors
+    ///
+    /// `AllocError` if there is not enough memory. The text is then empty.
     fn put<R: Records>(self, kind: Kind, text: &mut R) -> Result<(), AllocError>
         ensures put { OnOk result (R.text text.new ≡ R.text text.old ++ record_text (word_of kind ∷ written self)) }
         ensures stopped { OnErr result (R.text text.new ≡ []) };
 }
 
-/// A card with a code of its own, which stands in its second field.
+/// A card with a code of its own, which is in its second field.
 pub trait Coded: Card {
     ghost own_code: { Self → List ℕ };
 

@@ -4,7 +4,7 @@ ghost use Rattle.pc_cards.specs.Entry.{by_sort};
 
 use crate::sort::Sort;
 
-/// One number in a plan, and another in a deck of tasks.
+/// Returns one number in a plan, and another in a deck of tasks.
 pub fn by_sort(sort: Sort, plan: u32, tasks: u32) -> u32
     ensures { result ≡ by_sort plan tasks sort }
 {
@@ -14,7 +14,7 @@ pub fn by_sort(sort: Sort, plan: u32, tasks: u32) -> u32
     }
 }
 
-/// A limit that is greater in decks of version 2.
+/// Returns a limit that is greater in decks of version 2.
 pub fn by_version(version: u64, small: u32, large: u32) -> u32
     ensures { result ≡ (if version == 2 then large else small) }
 {

@@ -1,4 +1,4 @@
-//! Reading one field of a card: its value, or what is wrong with it. Each form is read here and nowhere else.
+//! Reads one field of a card: its value, or what is wrong with it. Each form is read here and nowhere else.
 ghost use Rattle.std.specs.Prelude.{◌≡◌, IfOk, OnOk, IfErr, bytes_eq, codes};
 ghost use Rattle.pc_text.specs.Code.{code_of};
 ghost use Rattle.pc_text.specs.Number.{number_of};
@@ -15,9 +15,9 @@ use pc_text::{Code, Title, is_title_shape, read_number};
 /// What is wrong with a field.
 #[derive(Clone, Copy)]
 pub enum Flaw {
-    /// It has not the shape of what it must be.
+    /// It does not have the shape of what it must be.
     Shape,
-    /// It has that shape, and is over its limit.
+    /// It has that shape and is over its limit.
     Limit,
 }
 
@@ -33,7 +33,7 @@ impl Flaw {
     }
 }
 
-/// A field that is not what it must be: its number, the kind being field 1, and what is wrong with it.
+/// A field error: the number of a field that is not what it must be (the kind is field 1), and what is wrong with it.
 #[derive(Clone, Copy)]
 pub struct Misfit {
     pub number: u8,
@@ -47,7 +47,7 @@ fn field_numbered<F: Fields>(fields: &F, number: u8) -> &[u8]
     fields.field(usize::from(number).saturating_sub(1))
 }
 
-/// The code that a field is.
+/// Reads a field that is a code.
 pub fn read_code<F: Fields>(fields: &F, number: u8) -> Result<Code, Misfit>
     ensures value { IfOk result (λ code. code ≡ field_numbered (F.fields fields.now) number) }
     ensures fit { OnOk result (Fits form.Code (field_numbered (F.fields fields.now) number)) }
@@ -79,7 +79,7 @@ fn is_reserved(field: &[u8]) -> bool
     field.starts_with(b"_")
 }
 
-/// The code that a card of a deck of the sort gives to what it stands for.
+/// Reads the code that a card gives to what it represents in a deck of the sort.
 pub fn read_own_code<F: Fields>(sort: Sort, fields: &F, number: u8) -> Result<Code, Misfit>
     ensures value { IfOk result (λ code. code ≡ field_numbered (F.fields fields.now) number) }
     ensures fit { OnOk result (Fits (own_code sort) (field_numbered (F.fields fields.now) number)) }
@@ -91,7 +91,7 @@ pub fn read_own_code<F: Fields>(sort: Sort, fields: &F, number: u8) -> Result<Co
     }
 }
 
-/// The code that a field is, or none where it is empty.
+/// Reads a field that is a code, or none if it is empty.
 pub fn read_code_or_none<F: Fields>(fields: &F, number: u8) -> Result<Option<Code>, Misfit>
     ensures value { IfOk result (λ code. code ≡ code_of (field_numbered (F.fields fields.now) number)) }
     ensures fit { OnOk result (Fits form.CodeOrNone (field_numbered (F.fields fields.now) number)) }
@@ -105,7 +105,7 @@ pub fn read_code_or_none<F: Fields>(fields: &F, number: u8) -> Result<Option<Cod
     }
 }
 
-/// The title that a field is.
+/// Reads a field that is a title.
 pub fn read_title<F: Fields>(fields: &F, number: u8) -> Result<Title, Misfit>
     ensures value { IfOk result (λ title. title ≡ field_numbered (F.fields fields.now) number) }
     ensures fit { OnOk result (Fits form.Title (field_numbered (F.fields fields.now) number)) }
@@ -119,7 +119,7 @@ pub fn read_title<F: Fields>(fields: &F, number: u8) -> Result<Title, Misfit>
     }
 }
 
-/// The day whose date a field is. Inlined, since most cards of a large deck have one.
+/// Reads a field that is a date, as a day number. Inlined, since most cards of a large deck have one.
 #[inline(always)]
 pub fn read_date<F: Fields>(fields: &F, number: u8) -> Result<Day, Misfit>
     ensures value { IfOk result (λ day. day ≡ day_in (field_numbered (F.fields fields.now) number)) }
@@ -133,7 +133,7 @@ pub fn read_date<F: Fields>(fields: &F, number: u8) -> Result<Day, Misfit>
     }
 }
 
-/// The number that a field is, from `least` to `most`. Inlined, since most cards have several of them.
+/// Reads a field that is a number from `least` to `most`. Inlined, since most cards have several of them.
 #[inline(always)]
 pub fn read_amount<F: Fields>(fields: &F, number: u8, least: u64, most: u64) -> Result<u64, Misfit>
     ensures value { IfOk result (λ amount. amount ≡ number_in (field_numbered (F.fields fields.now) number)) }
@@ -148,7 +148,7 @@ pub fn read_amount<F: Fields>(fields: &F, number: u8, least: u64, most: u64) -> 
     }
 }
 
-/// The number that a field is, from `least` to `most`, or none where it is empty.
+/// Reads a field that is a number from `least` to `most`, or none if it is empty.
 pub fn read_amount_or_none<F: Fields>(
     fields: &F,
     number: u8,
@@ -169,7 +169,7 @@ pub fn read_amount_or_none<F: Fields>(
     }
 }
 
-/// Whether a field is `F`, where it must be `S` or `F`.
+/// Reads a field that is `S` or `F`, and returns whether it is `F`.
 pub fn read_letter<F: Fields>(fields: &F, number: u8) -> Result<bool, Misfit>
     ensures value { IfOk result (λ finished. finished
         ≡ bytes_eq (field_numbered (F.fields fields.now) number) (codes "F")) }

@@ -10,19 +10,19 @@ use crate::field::{
 use pc_model::{MAX_COST, MAX_DURATION, MAX_SLOPE};
 use pc_records::Fields;
 
-/// An estimate or a duration, in units.
+/// The form of an estimate or a duration, in units.
 pub const DURATION: Form = Form::Number {
     least: 0,
     most: MAX_DURATION,
 };
 
-/// An amount of money.
+/// The form of an amount of money.
 pub const MONEY: Form = Form::Number {
     least: 0,
     most: MAX_COST,
 };
 
-/// What it costs to take a unit off a duration.
+/// The form of a slope: the cost of shortening a duration by one unit.
 pub const SLOPE: Form = Form::Number {
     least: 0,
     most: MAX_SLOPE,
@@ -45,7 +45,7 @@ pub enum Form {
     Letter,
 }
 
-/// The number of a field, the kind being field 1, and what the field must be.
+/// The number of a field (the kind is field 1), and what the field must be.
 pub type Slot = (u8, Form);
 
 /// What is wrong with the field of a slot, if anything is.

@@ -1,6 +1,6 @@
 //! The cards of one kind: a single one, several, or several that other cards name by their codes.
 //!
-//! Each takes the next card of its kind, or answers the fault of that card. After a fault the list is of no more use.
+//! Each takes the next card of its kind, or returns the fault of that card. After a fault the list must not be used.
 ghost use Rattle.std.specs.Prelude.{◌≡◌, [], ◌∷◌, ◌++◌, None, Some, true, not, nat_eq, length, map, position, IfOk, OnOk, IfErr};
 ghost use Rattle.std.specs.Cmp.Lexicographic.{pointwise};
 ghost use Rattle.pc_faults.specs.inside.First.{Refuses};
@@ -18,7 +18,7 @@ use pc_text::Code;
 use std::alloc::{AllocError, Global};
 use std::marker::Model;
 
-/// The card of a kind that stands once, where it was read.
+/// The card of a kind of which a deck has one, if it was read.
 #[derive(Drop)]
 pub struct Once<C: Card> {
     card: Option<C>,
@@ -33,21 +33,25 @@ impl<C: Card> Model for Once<C> {
 }
 
 impl<C: Card> Once<C> {
-    /// No card.
+    /// Returns a list without a card.
     pub fn new() -> Self
         ensures { result ≡ None }
     {
         Once { card: None }
     }
 
-    /// This card, or none.
+    /// Returns a list of this card, or of none.
     pub fn of(card: Option<C>) -> Self
         ensures { result ≡ card }
     {
         Once { card }
     }
 
-    /// Takes the card that a record spells, or answers its fault.
+    /// Reads the card of a record and adds it.
+    ///
+    /// # Errors
+    ///
+    /// The fault of the card, or out of memory. The list must not be used after an error.
     pub fn take<F: Fields>(&mut self, place: &Place, fields: &F) -> Result<(), DeckError>
         ensures kept { OnOk result (self.new ≡ Some (C.spelled place.now.row (F.fields fields.now))) }
         ensures sound { OnOk result (or_else (not_alone place.now (count_once self.old))
@@ -85,7 +89,7 @@ impl<C: Card> Once<C> {
         }
     }
 
-    /// The card.
+    /// Returns the card.
     pub fn get(&self) -> Option<C>
         ensures { result ≡ self.now }
     {
@@ -108,7 +112,7 @@ impl<C: Card> Model for Listed<C> {
 }
 
 impl<C: Card> Listed<C> {
-    /// No cards.
+    /// Returns an empty list.
     pub fn new(alloc: Global) -> Self
         ensures { result ≡ [] }
     {
@@ -117,7 +121,11 @@ impl<C: Card> Listed<C> {
         }
     }
 
-    /// Takes the card that a record spells, or answers its fault.
+    /// Reads the card of a record and adds it.
+    ///
+    /// # Errors
+    ///
+    /// The fault of the card, or out of memory. The list must not be used after an error.
     pub fn take<F: Fields>(&mut self, place: &Place, fields: &F) -> Result<(), DeckError>
         ensures kept { OnOk result (self.new ≡ self.old ++ C.spelled place.now.row (F.fields fields.now) ∷ []) }
         ensures sound { OnOk result (fault_of_listed place.now (length self.old) C.least C.most
@@ -140,7 +148,11 @@ impl<C: Card> Listed<C> {
         Ok(())
     }
 
-    /// Adds these cards in their order. After an error the list is of no more use.
+    /// Adds these cards in their order.
+    ///
+    /// # Errors
+    ///
+    /// `AllocError` if there is not enough memory. The list must not be used after it.
     pub fn add_all(&mut self, cards: &[C]) -> Result<(), AllocError>
         ensures { OnOk result (self.new ≡ self.old ++ cards.now) }
     {
@@ -154,7 +166,7 @@ impl<C: Card> Listed<C> {
         self.cards.len()
     }
 
-    /// The cards.
+    /// Returns the cards.
     pub fn as_slice(&self) -> &[C]
         ensures { result.now ≡ self.now }
     {
@@ -162,9 +174,9 @@ impl<C: Card> Listed<C> {
     }
 }
 
-/// Cards of one kind in card order, no two of them with one code.
+/// Cards of one kind in card order, no two of them with the same code.
 ///
-/// The names are the codes of the cards in the same order, so that the place of a code among them is the card's.
+/// The names are the codes of the cards in the same order, so that the index of a code is that of its card.
 pub struct Named<C: Coded> {
     cards: Vec<C>,
     names: Names,
@@ -191,7 +203,7 @@ impl<C: Coded> Model for Named<C> {
 }
 
 impl<C: Coded> Named<C> {
-    /// No cards. The key is that of the hash by which their codes are looked up.
+    /// Returns an empty list. The key is that of the hash by which codes are looked up.
     pub fn new(alloc: Global, key: u128) -> Self
         ensures { result ≡ [] }
     {
@@ -201,7 +213,11 @@ impl<C: Coded> Named<C> {
         }
     }
 
-    /// Takes the card that a record spells, or answers its fault.
+    /// Reads the card of a record and adds it.
+    ///
+    /// # Errors
+    ///
+    /// The fault of the card, or out of memory. The list must not be used after an error.
     pub fn take<F: Fields>(&mut self, place: &Place, fields: &F) -> Result<(), DeckError>
         ensures kept { OnOk result (self.new ≡ self.old ++ C.spelled place.now.row (F.fields fields.now) ∷ []) }
         ensures sound { OnOk result (fault_of_named place.now (map C.own_code self.old)
@@ -224,8 +240,11 @@ impl<C: Coded> Named<C> {
         }
     }
 
-    /// Adds these cards in their order, where no two of the cards have one code then. After an error the list is of no more
-    /// use.
+    /// Adds these cards in their order. Afterwards no two of the cards may have the same code.
+    ///
+    /// # Errors
+    ///
+    /// `AllocError` if there is not enough memory. The list must not be used after it.
     pub fn add_all(&mut self, cards: &[C]) -> Result<(), AllocError>
         requires { IsNamedOnce (map C.own_code (self.old ++ cards.now)) }
         ensures { OnOk result (self.new ≡ self.old ++ cards.now) }
@@ -256,14 +275,14 @@ impl<C: Coded> Named<C> {
         self.cards.len()
     }
 
-    /// The cards.
+    /// Returns the cards.
     pub fn as_slice(&self) -> &[C]
         ensures { result.now ≡ self.now }
     {
         self.cards.as_slice()
     }
 
-    /// The place of the card with a code, from 0.
+    /// Returns the index of the card with a code, from 0.
     pub fn place_of(&self, code: &Code) -> Option<usize>
         ensures { result ≡ position (pointwise nat_eq code.now) (map C.own_code self.now) }
     {

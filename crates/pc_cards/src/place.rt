@@ -5,8 +5,8 @@ ghost use Rattle.pc_cards.specs.inside.Findings.{fault_of_place, not_alone};
 use crate::sort::Sort;
 use pc_faults::{Fault, Kind};
 
-/// Where a card stands: the sort of its deck, its kind and record, how many cards of its kind the deck may have, and whether
-/// the END card came before it.
+/// The place of a card: the sort of its deck, its kind and record, how many cards of its kind the deck may have, and
+/// whether the END card came before it.
 #[derive(Clone, Copy)]
 pub struct Place {
     pub sort: Sort,
@@ -17,7 +17,7 @@ pub struct Place {
 }
 
 impl Place {
-    /// The fault of a second card of a kind that stands once (F5), behind so many cards of the kind.
+    /// Returns the fault of a second card of a kind of which a deck has one (F5), after `count` cards of the kind.
     pub fn second(&self, count: usize) -> Option<Fault>
         ensures { result ≡ not_alone self.now count }
     {
@@ -28,7 +28,8 @@ impl Place {
         }
     }
 
-    /// The fault of a card that is one too many (F10) or behind the END card (F11), behind so many cards of its kind.
+    /// Returns the fault of a card that is one too many (F10) or follows the END card (F11), after `count` cards of its
+    /// kind.
     pub fn fault(&self, count: usize) -> Option<Fault>
         ensures { result ≡ fault_of_place self.now count }
     {

@@ -11,7 +11,11 @@ use crate::place::Place;
 use pc_faults::Fault;
 use pc_records::Fields;
 
-/// The card that a record spells, or the fault of its fields (F6 to F8). Each field is read once.
+/// Reads the card of a record. Reads each field once.
+///
+/// # Errors
+///
+/// The fault of the fields (F6 to F8), if they have one.
 #[tactic(auto, using(crate::proofs::FindLemmas::no_flaw))]
 pub fn read_card<C: Card, F: Fields>(place: &Place, fields: &F) -> Result<C, Fault>
     ensures card { IfOk result (λ card. card ≡ C.spelled place.now.row (F.fields fields.now)) }
@@ -30,7 +34,7 @@ pub fn read_card<C: Card, F: Fields>(place: &Place, fields: &F) -> Result<C, Fau
     }
 }
 
-/// The fault of a card with too few fields, or with too many (F6).
+/// Returns the fault of a card with too few or too many fields (F6).
 pub fn wrong_fields<F: Fields>(
     place: &Place,
     least: usize,

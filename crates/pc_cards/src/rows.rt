@@ -38,17 +38,17 @@ impl<'a> Model for CardRows<'a> {
     ghost invariant = { λ s. s.number + length s.rows + 1 < 2 ^ 32 };
 }
 
-/// What stands next in a deck.
+/// What comes next in a deck.
 #[derive(Clone, Copy)]
 pub enum Next {
-    /// A card, with its record's number.
+    /// A card, with the number of its record.
     Card(u32),
-    /// Nothing; with the number behind the last record.
+    /// Nothing, with the number after that of the last record.
     End(u32),
 }
 
 impl<'a> CardRows<'a> {
-    /// The cards of a deck.
+    /// Returns the cards of a deck.
     pub fn new(alloc: Global, bytes: &'a [u8]) -> CardRows<'a>
         requires { length bytes.now ≤ longest_deck }
         ensures cards { result.cards ≡ deck_cards bytes.now }
@@ -61,6 +61,10 @@ impl<'a> CardRows<'a> {
     }
 
     /// Reads the fields of the next card, if a card is left.
+    ///
+    /// # Errors
+    ///
+    /// `AllocError` if there is not enough memory for the fields.
     pub fn next(&mut self, fields: &mut Row) -> Result<Next, AllocError>
         ensures { IfOk result (λ next. Follows next self.old self.new fields.new) }
     {

@@ -9,8 +9,11 @@ use pc_faults::Kind;
 use pc_records::RowWriter;
 use std::alloc::AllocError;
 
-/// Puts the record of a card of a kind that stands once behind a text, where there is one. After an error nothing of the
-/// text is left.
+/// Appends the record of a card of a kind of which a deck has one, if there is one.
+///
+/// # Errors
+///
+/// `AllocError` if there is not enough memory. The text is then empty.
 pub fn put_card<C: Card>(
     card: Option<C>,
     kind: Kind,
@@ -26,7 +29,11 @@ pub fn put_card<C: Card>(
     }
 }
 
-/// Puts the records of cards of one kind behind a text, in card order. After an error nothing of the text is left.
+/// Appends the records of cards of one kind to a text, in card order.
+///
+/// # Errors
+///
+/// `AllocError` if there is not enough memory. The text is then empty.
 pub fn put_cards<C: Card>(cards: &[C], kind: Kind, text: &mut RowWriter) -> Result<(), AllocError>
     ensures put { OnOk result (text.new
         ≡ text.old ++ records_text (map (λ card. word_of kind ∷ C.written card) cards.now)) }

@@ -33,7 +33,7 @@ impl DeckSort for TaskDecks {
     ghost sort = { Tasks };
 }
 
-/// The cards of a deck of a sort that was read, each kind in card order.
+/// The cards of a deck of a sort, each kind in card order.
 #[derive(Drop)]
 pub struct CardsOf<S: DeckSort> {
     deck: DeckCards,
@@ -69,7 +69,7 @@ impl<S: DeckSort> CardsOf<S> {
         }
     }
 
-    /// The PROJECT card.
+    /// Returns the PROJECT card.
     pub fn project(&self) -> &ProjectCard
         ensures card { result.now ≡ self.now.project }
         ensures within { IsWithin S.sort self.now }
@@ -82,7 +82,7 @@ impl<S: DeckSort> CardsOf<S> {
         self.deck.lists.items.key()
     }
 
-    /// The ASOF card, where there is one.
+    /// Returns the ASOF card, if there is one.
     pub fn as_of(&self) -> Option<AsOfCard>
         ensures card { result ≡ self.now.as_of }
         ensures within { IsWithin S.sort self.now }
@@ -90,7 +90,7 @@ impl<S: DeckSort> CardsOf<S> {
         self.deck.lists.as_of.get()
     }
 
-    /// The TERMS card, where there is one.
+    /// Returns the TERMS card, if there is one.
     pub fn terms(&self) -> Option<TermsCard>
         ensures terms { result ≡ self.now.terms }
         ensures within { IsWithin S.sort self.now }
@@ -98,7 +98,7 @@ impl<S: DeckSort> CardsOf<S> {
         self.deck.lists.terms.get()
     }
 
-    /// The WBS cards.
+    /// Returns the WBS cards.
     pub fn items(&self) -> &[ItemCard]
         ensures cards { result.now ≡ self.now.items }
         ensures within { IsWithin S.sort self.now }
@@ -106,7 +106,7 @@ impl<S: DeckSort> CardsOf<S> {
         self.deck.lists.items.as_slice()
     }
 
-    /// The PIECE cards.
+    /// Returns the PIECE cards.
     pub fn pieces(&self) -> &[PieceCard]
         ensures cards { result.now ≡ self.now.pieces }
         ensures within { IsWithin S.sort self.now }
@@ -114,7 +114,7 @@ impl<S: DeckSort> CardsOf<S> {
         self.deck.lists.pieces.as_slice()
     }
 
-    /// The ACCT cards.
+    /// Returns the ACCT cards.
     pub fn accounts(&self) -> &[AcctCard]
         ensures cards { result.now ≡ self.now.accounts }
         ensures within { IsWithin S.sort self.now }
@@ -122,7 +122,7 @@ impl<S: DeckSort> CardsOf<S> {
         self.deck.lists.accounts.as_slice()
     }
 
-    /// The CHARGE cards.
+    /// Returns the CHARGE cards.
     pub fn charges(&self) -> &[MoneyCard]
         ensures cards { result.now ≡ self.now.charges }
         ensures within { IsWithin S.sort self.now }
@@ -130,7 +130,7 @@ impl<S: DeckSort> CardsOf<S> {
         self.deck.lists.charges.as_slice()
     }
 
-    /// The TOGO cards.
+    /// Returns the TOGO cards.
     pub fn togos(&self) -> &[MoneyCard]
         ensures cards { result.now ≡ self.now.togos }
         ensures within { IsWithin S.sort self.now }
@@ -138,7 +138,7 @@ impl<S: DeckSort> CardsOf<S> {
         self.deck.lists.togos.as_slice()
     }
 
-    /// The STATUS cards.
+    /// Returns the STATUS cards.
     pub fn statuses(&self) -> &[StatusCard]
         ensures cards { result.now ≡ self.now.statuses }
         ensures within { IsWithin S.sort self.now }
@@ -146,7 +146,7 @@ impl<S: DeckSort> CardsOf<S> {
         self.deck.lists.statuses.as_slice()
     }
 
-    /// The RES cards.
+    /// Returns the RES cards.
     pub fn resources(&self) -> &[TitledCard]
         ensures cards { result.now ≡ self.now.resources }
         ensures within { IsWithin S.sort self.now }
@@ -154,7 +154,7 @@ impl<S: DeckSort> CardsOf<S> {
         self.deck.lists.resources.as_slice()
     }
 
-    /// The LOAD cards.
+    /// Returns the LOAD cards.
     pub fn loads(&self) -> &[LoadCard]
         ensures cards { result.now ≡ self.now.loads }
         ensures within { IsWithin S.sort self.now }
@@ -162,7 +162,7 @@ impl<S: DeckSort> CardsOf<S> {
         self.deck.lists.loads.as_slice()
     }
 
-    /// The number of the item with a code: its place in card order, from 0.
+    /// Returns the number of the item with a code: its index in card order, from 0.
     pub fn item_named(&self, code: &Code) -> Option<u32>
         ensures { result ≡ named_among (item_codes self.now) code.now }
     {
@@ -170,7 +170,7 @@ impl<S: DeckSort> CardsOf<S> {
         Some(number as u32)
     }
 
-    /// The number of the account with a code: its place in card order, from 0.
+    /// Returns the number of the account with a code: its index in card order, from 0.
     pub fn account_named(&self, code: &Code) -> Option<u32>
         ensures { result ≡ named_among (account_codes self.now) code.now }
     {
@@ -178,7 +178,7 @@ impl<S: DeckSort> CardsOf<S> {
         Some(number as u32)
     }
 
-    /// The number of the resource with a code: its place in card order, from 0.
+    /// Returns the number of the resource with a code: its index in card order, from 0.
     pub fn resource_named(&self, code: &Code) -> Option<u32>
         ensures { result ≡ named_among (resource_codes self.now) code.now }
     {
@@ -189,7 +189,7 @@ impl<S: DeckSort> CardsOf<S> {
 
 /// What only plans have.
 impl Cards {
-    /// The EVENT cards.
+    /// Returns the EVENT cards.
     pub fn events(&self) -> &[TitledCard]
         ensures cards { result.now ≡ self.now.events }
         ensures few { length result.now ≤ MAX_EVENTS }
@@ -198,7 +198,7 @@ impl Cards {
         self.deck.lists.events.as_slice()
     }
 
-    /// The ACT cards.
+    /// Returns the ACT cards.
     pub fn acts(&self) -> &[ActCard]
         ensures cards { result.now ≡ self.now.acts }
         ensures few { length result.now ≤ MAX_ACTIVITIES }
@@ -207,7 +207,7 @@ impl Cards {
         self.deck.lists.acts.as_slice()
     }
 
-    /// The number of the event with a code: its place in card order, from 0.
+    /// Returns the number of the event with a code: its index in card order, from 0.
     pub fn event_named(&self, code: &Code) -> Option<u32>
         ensures { result ≡ named_among (event_codes self.now) code.now }
     {
@@ -215,7 +215,7 @@ impl Cards {
         Some(number as u32)
     }
 
-    /// The number of the activity with a code: its place in card order, from 0.
+    /// Returns the number of the activity with a code: its index in card order, from 0.
     pub fn act_named(&self, code: &Code) -> Option<u32>
         ensures { result ≡ named_among (act_codes self.now) code.now }
     {
@@ -226,7 +226,7 @@ impl Cards {
 
 /// What only decks of tasks have.
 impl TaskCards {
-    /// The TASK cards.
+    /// Returns the TASK cards.
     pub fn tasks(&self) -> &[TaskCard]
         ensures cards { result.now ≡ self.now.tasks }
         ensures within { IsWithin Tasks self.now }
@@ -234,7 +234,7 @@ impl TaskCards {
         self.deck.lists.tasks.as_slice()
     }
 
-    /// The AFTER cards.
+    /// Returns the AFTER cards.
     pub fn afters(&self) -> &[AfterCard]
         ensures cards { result.now ≡ self.now.afters }
         ensures within { IsWithin Tasks self.now }
@@ -242,7 +242,7 @@ impl TaskCards {
         self.deck.lists.afters.as_slice()
     }
 
-    /// The number of the task with a code: its place in card order, from 0.
+    /// Returns the number of the task with a code: its index in card order, from 0.
     pub fn task_named(&self, code: &Code) -> Option<u32>
         ensures { result ≡ named_among (task_codes self.now) code.now }
     {

@@ -1,5 +1,5 @@
-//! How large a deck may be, how many cards one of version 1 may have where version 2 may have more, and how many a deck of
-//! tasks may have. The other limits stand beside those of projects.
+//! How large a deck may be, how many cards one of version 1 may have if version 2 may have more, and how many a deck of
+//! tasks may have. The other limits are next to those of projects.
 
 /// How many bytes a deck may have, of either sort and version.
 pub const DECK_LIMIT: usize = 67_108_864;

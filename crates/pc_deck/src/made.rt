@@ -1,4 +1,4 @@
-//! The cards of a plan that is made of lists, or drawn of a deck of tasks, and not read.
+//! The cards of a plan that is built from lists or generated from a deck of tasks, and not read.
 ghost use Rattle.std.specs.Prelude.{◌≡◌, IfOk, OnOk};
 ghost use Rattle.pc_deck.specs.Made.{drawn_with};
 ghost use Rattle.pc_deck.specs.inside.Made.{plan_of};
@@ -31,7 +31,11 @@ pub struct PlanLists<'a> {
 }
 
 impl Cards {
-    /// The plan that has these cards. A card is found by its code as in a plan that was read, by a hash with this key.
+    /// Builds the plan that has these cards. Codes are looked up as in a plan that was read, by a hash with this key.
+    ///
+    /// # Errors
+    ///
+    /// `AllocError` if there is not enough memory.
     pub fn of_lists(
         alloc: Global,
         key: u128,
@@ -51,8 +55,12 @@ impl Cards {
         }
     }
 
-    /// The plan that is drawn of a deck of tasks: with these items, events and activities, and all other cards of the deck but
-    /// those of tasks. Its key is the deck's.
+    /// Builds the plan that is generated from a deck of tasks: these items, events and activities, and all other cards
+    /// of the deck except those of tasks. Its key is the deck's.
+    ///
+    /// # Errors
+    ///
+    /// `AllocError` if there is not enough memory.
     pub fn drawn_of(
         alloc: Global,
         tasks: &TaskCards,

@@ -1,4 +1,4 @@
-//! Reading the cards of a deck, or its first fault.
+//! Reads the cards of a deck, or finds its first fault.
 ghost use Rattle.std.specs.Prelude.{◌≡◌, true, ◌≤◌, ◌+◌, length, Ok, Err, IfOk, IfErr, OnOk};
 ghost use Rattle.std.specs.Str.{is_utf8};
 ghost use Rattle.pc_records.specs.Deck.{deck_records};
@@ -31,12 +31,15 @@ const ROW_BYTES: usize = 8192;
 
 const ROW_FIELDS: usize = 64;
 
-/// Reads the cards of a plan, or answers its first fault: not UTF-8, or else the fault of the earliest record, and of
-/// that record the fault with the least number. That there is no END card counts as a fault of the record behind the
-/// last.
+/// Reads the cards of a plan.
 ///
-/// One pass reads the deck, up to the first fault, and another makes the key of the hash by which cards are looked up: a digest of
-/// the bytes. [`read_cards_by`] saves that pass if you have a key.
+/// One pass reads the deck up to the first fault, and another makes the key of the hash by which cards are looked up: a
+/// digest of the bytes. [`read_cards_by`] saves that pass if you have a key.
+///
+/// # Errors
+///
+/// The first fault of the deck: that it is not UTF-8, or else the fault with the least number at the earliest record. A
+/// missing END card is a fault of the record after the last one. Or out of memory.
 pub fn read_cards(alloc: Global, bytes: &[u8]) -> Result<Cards, DeckError>
     requires { length bytes.now ≤ longest_deck }
     ensures accepted { IfOk result (IsDeckOf bytes.now) }
@@ -49,7 +52,11 @@ pub fn read_cards(alloc: Global, bytes: &[u8]) -> Result<Cards, DeckError>
 
 /// Reads the cards of a plan as [`read_cards`] does, with this key of the hash by which cards are looked up.
 ///
-/// The key changes nothing but the time. Draw it by chance if others write the deck.
+/// The key changes only the time that look-ups take. Choose it at random if others write the deck.
+///
+/// # Errors
+///
+/// The first fault of the deck, or out of memory.
 pub fn read_cards_by(alloc: Global, key: u128, bytes: &[u8]) -> Result<Cards, DeckError>
     requires { length bytes.now ≤ longest_deck }
     ensures accepted { IfOk result (IsDeckOf bytes.now) }
@@ -63,7 +70,11 @@ pub fn read_cards_by(alloc: Global, key: u128, bytes: &[u8]) -> Result<Cards, De
     }
 }
 
-/// Reads the cards of a deck of tasks, or answers its first fault, as [`read_cards`] does for a plan.
+/// Reads the cards of a deck of tasks, as [`read_cards`] does for a plan.
+///
+/// # Errors
+///
+/// The first fault of the deck, or out of memory.
 pub fn read_tasks(alloc: Global, bytes: &[u8]) -> Result<TaskCards, DeckError>
     requires { length bytes.now ≤ longest_deck }
     ensures accepted { IfOk result (IsReadAs sorts.Tasks bytes.now) }
@@ -74,7 +85,11 @@ pub fn read_tasks(alloc: Global, bytes: &[u8]) -> Result<TaskCards, DeckError>
     read_tasks_by(alloc, key_of_bytes(bytes), bytes)
 }
 
-/// Reads the cards of a deck of tasks as [`read_tasks`] does, with this key, as [`read_cards_by`] has one.
+/// Reads the cards of a deck of tasks as [`read_tasks`] does, with a key as in [`read_cards_by`].
+///
+/// # Errors
+///
+/// The first fault of the deck, or out of memory.
 pub fn read_tasks_by(alloc: Global, key: u128, bytes: &[u8]) -> Result<TaskCards, DeckError>
     requires { length bytes.now ≤ longest_deck }
     ensures accepted { IfOk result (IsReadAs sorts.Tasks bytes.now) }

@@ -21,8 +21,12 @@ const SHORT: usize = 48;
 const WRITTEN_VERSION: u64 = 2;
 
 impl Cards {
-    /// The text of the deck in its one form: version 2, the day that the deck is of, and the cards kind by kind. It takes the room
-    /// of what is let go, and further memory where that is too little.
+    /// Returns the text of the deck in canonical form: version 2, the day that the deck is of, and the cards kind by
+    /// kind. Reuses the memory that it drops, and allocates more if that is too little.
+    ///
+    /// # Errors
+    ///
+    /// `AllocError` if there is not enough memory.
     pub fn text(&self, room: Vec<u8>) -> Result<Vec<u8>, AllocError>
         ensures { IfOk result (λ text. text.items ≡ deck_text self.now) }
     {

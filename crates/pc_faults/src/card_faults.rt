@@ -7,7 +7,7 @@ use crate::kind::Kind;
 use pc_text::Code;
 
 impl Fault {
-    /// F3: the first card is not PROJECT.
+    /// Returns F3: the first card is not PROJECT.
     pub fn first_not_project(row: u32) -> Fault
         ensures { result ≡ first_not_project row }
     {
@@ -18,7 +18,7 @@ impl Fault {
         }
     }
 
-    /// F4: the first field names no kind.
+    /// Returns F4: the first field names no kind.
     pub fn unknown_kind(row: u32) -> Fault
         ensures { result ≡ unknown_kind row }
     {
@@ -29,7 +29,7 @@ impl Fault {
         }
     }
 
-    /// F5: a second card of a kind that stands once.
+    /// Returns F5: a second card of a kind of which a deck has one.
     pub fn second_card(row: u32, kind: Kind) -> Fault
         ensures { result ≡ second_card row kind }
     {
@@ -40,7 +40,7 @@ impl Fault {
         }
     }
 
-    /// F6: too few fields, or a further one that is not empty.
+    /// Returns F6: too few fields, or an additional one that is not empty.
     pub fn wrong_fields(row: u32, kind: Kind, have: u64, want: u64) -> Fault
         ensures { result ≡ wrong_fields row kind have want }
     {
@@ -51,7 +51,7 @@ impl Fault {
         }
     }
 
-    /// F7: a field of a wrong shape.
+    /// Returns F7: a field has a wrong shape.
     pub fn misshapen(row: u32, field: u8) -> Fault
         ensures { result ≡ misshapen row field }
     {
@@ -62,7 +62,7 @@ impl Fault {
         }
     }
 
-    /// F8: a field over its limit.
+    /// Returns F8: a field is over its limit.
     pub fn over_limit(row: u32, field: u8) -> Fault
         ensures { result ≡ over_limit row field }
     {
@@ -73,7 +73,7 @@ impl Fault {
         }
     }
 
-    /// F9: a code that an earlier card of the kind has.
+    /// Returns F9: an earlier card of the kind has the same code.
     pub fn repeated_code(row: u32, code: Code) -> Fault
         ensures { result ≡ repeated_code row code }
     {
@@ -84,7 +84,7 @@ impl Fault {
         }
     }
 
-    /// F10: the first card past the limit of its kind.
+    /// Returns F10: the card is the first past the limit of its kind.
     pub fn too_many(row: u32, kind: Kind, limit: u64) -> Fault
         ensures { result ≡ too_many row kind limit }
     {
@@ -95,7 +95,7 @@ impl Fault {
         }
     }
 
-    /// F11: a card behind the END card.
+    /// Returns F11: a card follows the END card.
     pub fn behind_end(row: u32) -> Fault
         ensures { result ≡ behind_end row }
     {
@@ -106,7 +106,7 @@ impl Fault {
         }
     }
 
-    /// F12: no END card; `row` is the number behind the last record.
+    /// Returns F12: there is no END card. `row` is the number after that of the last record.
     pub fn no_end(row: u32) -> Fault
         ensures { result ≡ no_end row }
     {

@@ -6,7 +6,7 @@ use pc_days::Day;
 use pc_text::{Code, Codes};
 use std::alloc::AllocError;
 
-/// What a fault names beside its record.
+/// What a fault names in addition to its record.
 #[derive(Debug, Drop)]
 pub enum Detail {
     /// Nothing.
@@ -28,7 +28,7 @@ pub enum Detail {
         kind: Kind,
         limit: u64,
     },
-    /// Several codes, in the order in which they are told.
+    /// Several codes, in the order in which the line lists them.
     Names(Codes),
     /// An item, and its level in the tree of items.
     Level {
@@ -65,8 +65,8 @@ pub enum Detail {
     },
 }
 
-/// A fault of a deck: what is wrong, by its number, and at which record. Records are counted from 1; 0 stands for the
-/// deck as a whole.
+/// A fault of a deck: its number, which says what is wrong, and its record. Records are counted from 1; 0 is the
+/// complete deck.
 #[derive(Debug, Drop)]
 pub struct Fault {
     pub row: u32,
@@ -74,21 +74,21 @@ pub struct Fault {
     pub detail: Detail,
 }
 
-/// F1: the deck has more bytes than a deck may have.
+/// Returns F1: the deck has more bytes than allowed.
 pub const TOO_LONG: Fault = Fault {
     row: 0,
     number: 1,
     detail: Detail::Plain,
 };
 
-/// F2: the deck is not UTF-8.
+/// Returns F2: the deck is not UTF-8.
 pub const NOT_UTF8: Fault = Fault {
     row: 0,
     number: 2,
     detail: Detail::Plain,
 };
 
-/// Why cards or a project could not be made.
+/// Why the cards of a deck or a project could not be built.
 #[derive(Debug, Drop)]
 pub enum DeckError {
     Fault(Fault),

@@ -4,8 +4,8 @@ ghost use Rattle.pc_faults.specs.inside.First.{earliest, is_no_later};
 
 use crate::fault::Fault;
 
-/// The earlier of two faults, where there are any: the one at an earlier record, or of those at one record the one with the
-/// lesser number.
+/// Returns the earlier of two faults, if there is any: the one at the earlier record, or at the same record the one
+/// with the smaller number.
 pub fn earliest(one: Option<Fault>, other: Option<Fault>) -> Option<Fault>
     ensures { result ≡ earliest one other }
 {
@@ -31,7 +31,8 @@ pub fn earlier_of(fault: Fault, other: Option<Fault>) -> Fault
     }
 }
 
-/// Whether a fault comes no later than another: at an earlier record, or at the same one with no greater number.
+/// Returns whether a fault is no later than another: at an earlier record, or at the same record with no greater
+/// number.
 fn is_no_later(fault: &Fault, other: &Fault) -> bool
     ensures { result ≡ is_no_later fault.now other.now }
 {

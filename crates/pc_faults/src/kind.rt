@@ -2,7 +2,7 @@
 ghost use Rattle.std.specs.Prelude.{◌≡◌, ◌≤◌, length};
 ghost use Rattle.pc_faults.specs.Kinds.{word_of};
 
-/// What a card is, as its first field says.
+/// The kind of a card, which its first field names.
 #[derive(Clone, Copy, Debug, PartialEq, Eq)]
 pub enum Kind {
     Project,
@@ -24,7 +24,7 @@ pub enum Kind {
 }
 
 impl Kind {
-    /// The word that names the kind.
+    /// Returns the word that names the kind.
     pub fn word(self) -> &'static [u8]
         ensures word { result.now ≡ word_of self }
         ensures short { length result.now ≤ 7 }

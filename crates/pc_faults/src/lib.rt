@@ -1,8 +1,8 @@
-//! The faults with which a deck is refused, and the line that tells each.
+//! The faults with which a deck is refused, and the line that reports each.
 //!
-//! A fault has a number, the record at which it comes, and what it names beside. [`Fault`] has a constructor for each
-//! number, and [`fault_line`] writes the line. [`earliest`] tells which of two comes first; which faults a deck has is for the
-//! crates above to say.
+//! A fault has a number, the record at which it occurs, and a detail. [`Fault`] has a constructor for each number, and
+//! [`fault_line`] returns the line. [`earliest`] returns the earlier of two faults. The crates above define which
+//! faults a deck has.
 #![tactic(auto)]
 
 mod card_faults;

@@ -1,4 +1,4 @@
-//! The faults of budgets, status and costs, and of what is asked of a deck that has none (F28 to F41).
+//! The faults of budgets, status and costs, and of commands on a deck that has none of these (F28 to F41).
 ghost use Rattle.std.specs.Prelude.{◌≡◌};
 ghost use Rattle.pc_faults.specs.Faults.{not_a_leaf, uneven, disorder, second_to_go, outside_range, too_many_pieces, slope_not_rising, nothing_left, bonus_above_penalty, childless_top, task_cycle, no_task, too_many_periods, unknown_resource};
 
@@ -8,7 +8,7 @@ use pc_days::Day;
 use pc_text::{Code, Codes};
 
 impl Fault {
-    /// F28: an account or an activity on an item that has items below it.
+    /// Returns F28: an account or an activity is on an item that has items below it.
     pub fn not_a_leaf(row: u32, code: Code) -> Fault
         ensures { result ≡ not_a_leaf row code }
     {
@@ -19,7 +19,7 @@ impl Fault {
         }
     }
 
-    /// F29: a package whose budgets and costs differ.
+    /// Returns F29: the budgets and the costs of a package differ.
     pub fn uneven(row: u32, code: Code, budgets: u64, costs: u64) -> Fault
         ensures { result ≡ uneven row code budgets costs }
     {
@@ -34,7 +34,7 @@ impl Fault {
         }
     }
 
-    /// F30: a STATUS or ASOF card in disorder.
+    /// Returns F30: a STATUS or ASOF card is in disorder.
     pub fn disorder(row: u32, reason: StatusFault) -> Fault
         ensures { result ≡ disorder row reason }
     {
@@ -45,7 +45,7 @@ impl Fault {
         }
     }
 
-    /// F31: a second TOGO card of an account and date.
+    /// Returns F31: a second TOGO card has the same account and date.
     pub fn second_to_go(row: u32, account: Code, day: Day) -> Fault
         ensures { result ≡ second_to_go row account day }
     {
@@ -56,7 +56,7 @@ impl Fault {
         }
     }
 
-    /// F32: the length that was asked for is none of the project.
+    /// Returns F32: the requested length is outside the range of the project.
     pub fn outside_range(asked: u64, crash: u64, normal: u64) -> Fault
         ensures { result ≡ outside_range asked crash normal }
     {
@@ -71,7 +71,7 @@ impl Fault {
         }
     }
 
-    /// F33: one piece too many of an activity.
+    /// Returns F33: an activity has one piece too many.
     pub fn too_many_pieces(row: u32, code: Code) -> Fault
         ensures { result ≡ too_many_pieces row code }
     {
@@ -82,7 +82,7 @@ impl Fault {
         }
     }
 
-    /// F34: the slope of a piece of an activity is not above the one before.
+    /// Returns F34: the slope of a piece is not above the one before.
     pub fn slope_not_rising(row: u32, code: Code) -> Fault
         ensures { result ≡ slope_not_rising row code }
     {
@@ -93,7 +93,7 @@ impl Fault {
         }
     }
 
-    /// F35: the pieces of an activity leave nothing to its first slope.
+    /// Returns F35: the pieces of an activity leave nothing to its first slope.
     pub fn nothing_left(row: u32, code: Code) -> Fault
         ensures { result ≡ nothing_left row code }
     {
@@ -104,7 +104,7 @@ impl Fault {
         }
     }
 
-    /// F36: the bonus is above the penalty.
+    /// Returns F36: the bonus is above the penalty.
     pub fn bonus_above_penalty(row: u32) -> Fault
         ensures { result ≡ bonus_above_penalty row }
     {
@@ -115,7 +115,7 @@ impl Fault {
         }
     }
 
-    /// F37: the top item of a deck of tasks has no item below it.
+    /// Returns F37: the top item of a deck of tasks has no item below it.
     pub fn childless_top(row: u32) -> Fault
         ensures { result ≡ childless_top row }
     {
@@ -126,7 +126,7 @@ impl Fault {
         }
     }
 
-    /// F38: tasks that come after one another in a cycle.
+    /// Returns F38: tasks follow one another in a cycle.
     pub fn task_cycle(row: u32, codes: Codes) -> Fault
         ensures { result ≡ task_cycle row codes }
     {
@@ -137,7 +137,7 @@ impl Fault {
         }
     }
 
-    /// F39: a deck of tasks has no task.
+    /// Returns F39: a deck of tasks has no task.
     pub fn no_task() -> Fault
         ensures { result ≡ no_task }
     {
@@ -148,7 +148,7 @@ impl Fault {
         }
     }
 
-    /// F40: more periods than a report of loads may have.
+    /// Returns F40: there are more periods than a report of loads may have.
     pub fn too_many_periods(have: u64) -> Fault
         ensures { result ≡ too_many_periods have }
     {
@@ -159,7 +159,7 @@ impl Fault {
         }
     }
 
-    /// F41: no RES card has the code.
+    /// Returns F41: no RES card has the code.
     pub fn unknown_resource(row: u32, code: Code) -> Fault
         ensures { result ≡ unknown_resource row code }
     {

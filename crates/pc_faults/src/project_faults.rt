@@ -6,7 +6,7 @@ use crate::fault::{Detail, Fault};
 use pc_text::{Code, Codes};
 
 impl Fault {
-    /// F13: no EVENT card has the code.
+    /// Returns F13: no EVENT card has the code.
     pub fn unknown_event(row: u32, code: Code) -> Fault
         ensures { result ≡ unknown_event row code }
     {
@@ -17,7 +17,7 @@ impl Fault {
         }
     }
 
-    /// F14: no WBS card has the code.
+    /// Returns F14: no WBS card has the code.
     pub fn unknown_item(row: u32, code: Code) -> Fault
         ensures { result ≡ unknown_item row code }
     {
@@ -28,7 +28,7 @@ impl Fault {
         }
     }
 
-    /// F15: no ACCT card has the code.
+    /// Returns F15: no ACCT card has the code.
     pub fn unknown_account(row: u32, code: Code) -> Fault
         ensures { result ≡ unknown_account row code }
     {
@@ -39,7 +39,7 @@ impl Fault {
         }
     }
 
-    /// F16: no ACT card has the code.
+    /// Returns F16: no ACT card has the code.
     pub fn unknown_activity(row: u32, code: Code) -> Fault
         ensures { result ≡ unknown_activity row code }
     {
@@ -50,7 +50,7 @@ impl Fault {
         }
     }
 
-    /// F17: what begins at the event ends there too.
+    /// Returns F17: an activity or the project begins and ends at the event.
     pub fn one_event(row: u32, code: Code) -> Fault
         ensures { result ≡ one_event row code }
     {
@@ -61,7 +61,7 @@ impl Fault {
         }
     }
 
-    /// F18: the estimates are out of order.
+    /// Returns F18: the estimates are out of order.
     pub fn estimates_disorder(row: u32) -> Fault
         ensures { result ≡ estimates_disorder row }
     {
@@ -72,7 +72,7 @@ impl Fault {
         }
     }
 
-    /// F19: the crash duration is above the normal one.
+    /// Returns F19: the crash duration is above the normal one.
     pub fn crash_above_normal(row: u32) -> Fault
         ensures { result ≡ crash_above_normal row }
     {
@@ -83,7 +83,7 @@ impl Fault {
         }
     }
 
-    /// F20: no item is without a parent.
+    /// Returns F20: every item has a parent.
     pub fn no_top() -> Fault
         ensures { result ≡ no_top }
     {
@@ -94,7 +94,7 @@ impl Fault {
         }
     }
 
-    /// F21: a second item without a parent.
+    /// Returns F21: a second item has no parent.
     pub fn second_top(row: u32, code: Code) -> Fault
         ensures { result ≡ second_top row code }
     {
@@ -105,7 +105,7 @@ impl Fault {
         }
     }
 
-    /// F22: items that are parents of one another in a loop.
+    /// Returns F22: items are parents of one another in a loop.
     pub fn item_loop(row: u32, codes: Codes) -> Fault
         ensures { result ≡ item_loop row codes }
     {
@@ -116,7 +116,7 @@ impl Fault {
         }
     }
 
-    /// F23: an item at a level that no item may have.
+    /// Returns F23: an item is at a level that no item may have.
     pub fn too_deep(row: u32, code: Code, level: u32) -> Fault
         ensures { result ≡ too_deep row code level }
     {
@@ -127,7 +127,7 @@ impl Fault {
         }
     }
 
-    /// F24: an activity that ends at the start.
+    /// Returns F24: an activity ends at the start.
     pub fn enters_start(row: u32, code: Code) -> Fault
         ensures { result ≡ enters_start row code }
     {
@@ -138,7 +138,7 @@ impl Fault {
         }
     }
 
-    /// F25: an activity that begins at the end.
+    /// Returns F25: an activity begins at the end.
     pub fn leaves_end(row: u32, code: Code) -> Fault
         ensures { result ≡ leaves_end row code }
     {
@@ -149,7 +149,7 @@ impl Fault {
         }
     }
 
-    /// F26: an event that no activity enters, or none leaves.
+    /// Returns F26: no activity enters an event, or none leaves it.
     pub fn dangling(row: u32, code: Code, entered: bool) -> Fault
         ensures { result ≡ dangling row code entered }
     {
@@ -163,7 +163,7 @@ impl Fault {
         }
     }
 
-    /// F27: activities that lead round in a cycle.
+    /// Returns F27: activities form a cycle.
     pub fn cycle(row: u32, codes: Codes) -> Fault
         ensures { result ≡ cycle row codes }
     {

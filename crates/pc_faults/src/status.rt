@@ -2,7 +2,7 @@
 ghost use Rattle.std.specs.Prelude.{◌≡◌, ◌≤◌, length};
 ghost use Rattle.pc_faults.specs.FaultText.{status_words};
 
-/// Why a STATUS or the ASOF card is in disorder. Where several reasons hold of a card, the first of these is told.
+/// Why a STATUS card or the ASOF card is in disorder. If several reasons apply, the fault reports the first of these.
 #[derive(Clone, Copy, Debug, PartialEq, Eq)]
 pub enum StatusFault {
     /// An earlier STATUS card has the same activity and letter.

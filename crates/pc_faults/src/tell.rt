@@ -1,4 +1,4 @@
-//! The line that tells a fault.
+//! The line that reports a fault.
 ghost use Rattle.std.specs.Prelude.{◌≡◌, ◌<◌, ◌≤◌, ◌+◌, ◌*◌, ◌^◌, [], ◌∷◌, ◌++◌, length, IfOk};
 ghost use Rattle.pc_faults.specs.FaultText.{words_of, fault_text};
 ghost use Rattle.pc_faults.specs.inside.FaultText.{IsNumber, IsTold, list_numbers, name_numbers, numbers_of};
@@ -15,15 +15,20 @@ use pc_days::{Day, day_text};
 use pc_text::{Code, Codes, Line, digits};
 use std::alloc::{AllocError, Global};
 
-/// Room for the longest line of a fault that lists no codes.
+/// Capacity for the longest line of a fault that lists no codes, in bytes.
 const ROOM: usize = 144;
 
-/// Room for a code and the space before it.
+/// Capacity for a code and the space before it, in bytes.
 const CODE_ROOM: usize = 17;
 
-/// The line that tells a fault, line feed included. Asks for a fault that a deck can be refused with.
+/// Returns the line that reports a fault, including the line feed. The fault must be one with which a deck can be
+/// refused.
 ///
-/// Its room is taken once, for as many codes as the fault lists.
+/// Allocates once, for as many codes as the fault lists.
+///
+/// # Errors
+///
+/// `AllocError` if there is not enough memory for the line.
 pub fn fault_line(alloc: Global, fault: &Fault) -> Result<Line, AllocError>
     requires { IsTold fault.now }
     ensures { IfOk result (λ line. line.bytes ≡ fault_text fault.now) }
