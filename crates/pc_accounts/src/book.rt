@@ -16,7 +16,7 @@ use pc_days::Day;
 use std::alloc::{AllocError, Global};
 use std::marker::Model;
 
-/// What each account has spent up to as-of and what is to go, in card order.
+/// What each account has spent up to the as-of date and what is to go, in card order.
 #[derive(Drop)]
 pub struct Book {
     entries: Vec<Entry>,
@@ -35,9 +35,13 @@ impl Model for Book {
 }
 
 impl Book {
-    /// The book of these accounts: charges and amounts to go that are dated after `as_of` do not count.
+    /// Builds the book of these accounts. Charges and amounts to go that are dated after `as_of` do not count. Linear
+    /// in the rows, but for the look-up of repeated amounts to go.
     ///
-    /// It takes time in proportion to the rows.
+    /// # Errors
+    ///
+    /// Returns `BookError::SecondToGo` if two amounts to go have the same account and day, and `BookError::OutOfMemory`
+    /// if memory runs out.
     pub fn build(
         alloc: Global,
         accounts: &[AcctRow],
@@ -64,7 +68,7 @@ impl Book {
         })
     }
 
-    /// One entry for each account, in card order.
+    /// Returns one entry per account, in card order.
     pub fn entries(&self) -> &[Entry]
         ensures entries { result.now ≡ self.now }
         ensures small { AreSmall self.now }
@@ -72,7 +76,7 @@ impl Book {
         &self.entries
     }
 
-    /// What the account has spent: the sum of its charges dated up to as-of.
+    /// Returns what the account has spent: the sum of its charges dated up to the as-of date.
     pub fn actual(&self, a: u32) -> u64
         requires { a < length self.now }
         ensures actual { result ≡ (entry_at self.now a).actual }
@@ -81,7 +85,7 @@ impl Book {
         self.entries[a as usize].actual
     }
 
-    /// What is still to go.
+    /// Returns the account's amount to go.
     pub fn to_go(&self, a: u32) -> u64
         requires { a < length self.now }
         ensures to_go { result ≡ (entry_at self.now a).to_go }
@@ -90,7 +94,7 @@ impl Book {
         self.entries[a as usize].to_go
     }
 
-    /// What the account will have cost: what it has spent and what is to go.
+    /// Returns the account's latest estimate: what it has spent plus what is to go.
     pub fn latest(&self, a: u32) -> u64
         requires { a < length self.now }
         ensures latest { result ≡ latest_of (entry_at self.now a) }
@@ -99,8 +103,7 @@ impl Book {
         self.entries[a as usize].latest()
     }
 
-    /// What the account's work is worth, where `finished` says whether its package is finished; `Entry::value` says
-    /// how.
+    /// Returns the earned value of the account; `finished` says whether its package is finished. See [`Entry::value`].
     pub fn value(&self, a: u32, finished: bool) -> u64
         requires { a < length self.now }
         ensures value { result ≡ value_of finished (entry_at self.now a) }

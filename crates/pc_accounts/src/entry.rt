@@ -4,7 +4,7 @@ ghost use Rattle.pc_model.specs.declared.limits.TheConstants.{MAX_COST, MAX_CHAR
 ghost use Rattle.pc_accounts.specs.Entries.{latest_of, value_of, IsSmall};
 ghost use Rattle.pc_accounts.specs.inside.Entries.{IsShare};
 
-/// An account's budget, the sum of its charges up to as-of, and what is still to go.
+/// An account's budget, the sum of its charges up to the as-of date, and its amount to go.
 #[derive(Clone, Copy)]
 pub struct Entry {
     pub budget: u64,
@@ -13,7 +13,7 @@ pub struct Entry {
 }
 
 impl Entry {
-    /// What the account will have cost: what it has spent and what is to go.
+    /// Returns the latest estimate: what was spent plus what is to go.
     pub fn latest(&self) -> u64
         requires { IsSmall self.now }
         ensures latest { result ≡ latest_of self.now }
@@ -22,10 +22,10 @@ impl Entry {
         self.actual + self.to_go
     }
 
-    /// What the work done so far is worth, where `finished` says whether the account's package is finished.
+    /// Returns the earned value; `finished` says whether the account's package is finished.
     ///
     /// Finished work is worth its budget. Other work is worth the budget in the ratio of what was spent to the latest
-    /// estimate, rounded down, or nothing where nothing is estimated.
+    /// estimate, rounded down, or 0 if the latest estimate is 0.
     pub fn value(&self, finished: bool) -> u64
         requires { IsSmall self.now }
         ensures value { result ≡ value_of finished self.now }

@@ -2,10 +2,11 @@
 
 use std::alloc::{AllocError, AllocFailed};
 
-/// Why no book is made.
+/// Why there is no book.
 #[derive(Clone, Copy, Debug)]
 pub enum BookError {
-    /// The first amount to go that has the account and the day of an earlier one, and the earliest such one.
+    /// The first amount to go that has the account and the day of an earlier one, `second`, and the earliest such one,
+    /// `first`.
     SecondToGo { first: u32, second: u32 },
     OutOfMemory,
 }
@@ -32,10 +33,11 @@ impl<T: Drop> From<AllocFailed<T>> for BookError {
     }
 }
 
-/// Why budgets do not fit the work.
+/// Why budgets do not match the work.
 #[derive(Clone, Copy, Debug, PartialEq, Eq)]
 pub enum Uneven {
-    /// The first item with work whose accounts' budgets and whose activities' costs have different sums.
+    /// The first item with work for which the sum of its accounts' budgets differs from the sum of its activities'
+    /// costs.
     Item { item: u32, budgets: u64, costs: u64 },
     OutOfMemory,
 }

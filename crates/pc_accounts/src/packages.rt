@@ -11,10 +11,14 @@ use crate::rows::{AcctRow, WorkRow};
 use pc_wbs::Tree;
 use std::alloc::{AllocError, Global};
 
-/// Whether in each package with work the budgets of its accounts add up to the costs of its activities.
-///
-/// A package with work and no account has budgets 0; one without work may have any. It takes time in proportion to
+/// Checks that in each package with work the budgets of its accounts add up to the costs of its activities. Linear in
 /// accounts, activities and items.
+///
+/// A package with work and no account has the budget 0. A package without work may have any budget.
+///
+/// # Errors
+///
+/// Returns `Uneven::Item` for the first package that is uneven, and `Uneven::OutOfMemory` if memory runs out.
 pub fn reconcile(
     alloc: Global,
     tree: &Tree,

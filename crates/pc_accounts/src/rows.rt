@@ -2,14 +2,14 @@
 
 use pc_days::Day;
 
-/// A cost account: the item that it stands on, and its budget.
+/// A cost account: its item and its budget.
 #[derive(Clone, Copy)]
 pub struct AcctRow {
     pub item: u32,
     pub budget: u64,
 }
 
-/// An amount of money of an account, with its date: a charge, or what was to go on that day.
+/// A dated amount of an account: a charge, or what was to go on that day.
 #[derive(Clone, Copy)]
 pub struct MoneyRow {
     pub account: u32,
@@ -17,7 +17,7 @@ pub struct MoneyRow {
     pub amount: u64,
 }
 
-/// An activity's cost at its normal duration, and the item that it belongs to.
+/// The item of an activity, and its cost at its normal duration.
 #[derive(Clone, Copy)]
 pub struct WorkRow {
     pub item: u32,

@@ -7,8 +7,9 @@ use crate::span::{Mark, RegionFull, Span};
 use std::alloc::{AllocError, Global};
 use std::marker::Model;
 
-/// A fixed number of cells with a `u64` each, and the spans of them that are live: the first begins at the first cell,
-/// and each later one where the one before ends.
+/// A fixed number of cells with a `u64` each, and the spans of them that are live.
+///
+/// The first live span begins at the first cell, and each later one where the one before ends.
 pub struct Region {
     cells: Vec<u64>,
     /// Where each live span begins and then where the next one will; what stands behind these `count + 1` means
@@ -41,8 +42,12 @@ impl Model for Region {
 }
 
 impl Region {
-    /// A region of `n` cells with no live span. It takes all memory that its spans will need, also that for their
-    /// places.
+    /// Creates a region of `n` cells with no live span. Allocates all memory that its spans will need, that for their
+    /// places included.
+    ///
+    /// # Errors
+    ///
+    /// Returns `AllocError` if memory runs out.
     pub fn with_cells(alloc: Global, n: usize) -> Result<Region, AllocError>
         ensures { IfOk result (λ region. region ≡ record { capacity = n; spans = [] }) }
     {
@@ -55,7 +60,7 @@ impl Region {
         })
     }
 
-    /// How many cells are in no live span.
+    /// Returns the number of cells that are in no live span.
     pub fn free(&self) -> usize
         ensures { result ≡ free_of self.now }
     {
@@ -70,7 +75,11 @@ impl Region {
         self.starts[self.count]
     }
 
-    /// A new live span of `len` cells with 0 in each, behind those that are live already.
+    /// Returns a new live span of `len` cells, each 0, after those that are live already.
+    ///
+    /// # Errors
+    ///
+    /// Returns `RegionFull` if fewer than `len` cells are free, or no further span fits. The region is unchanged.
     pub fn take(&mut self, len: usize) -> Result<Span, RegionFull>
         requires { 0 < len }
         ensures there_is_room { IsOk result ↔ (len ≤ free_of self.old) }
@@ -90,7 +99,7 @@ impl Region {
         Ok(Span { place, len })
     }
 
-    /// The same where so many cells are free.
+    /// Returns a new live span, as [`Region::take`] does, if you know that its cells are free.
     pub fn take_free(&mut self, len: usize) -> Span
         requires some { 0 < len }
         requires room { len ≤ free_of self.old }
@@ -102,7 +111,7 @@ impl Region {
         }
     }
 
-    /// What stands in the span's cell `i`.
+    /// Returns the number in cell `i` of the span.
     pub fn get(&self, s: Span, i: usize) -> u64
         requires live { IsLive self.now.spans s }
         requires within { i < s.len }
@@ -111,7 +120,7 @@ impl Region {
         self.cells[s.place + i]
     }
 
-    /// Puts `v` into the span's cell `i`, and changes nothing else.
+    /// Writes `v` to cell `i` of the span, and changes nothing else.
     pub fn set(&mut self, s: Span, i: usize, v: u64)
         requires live { IsLive self.old.spans s }
         requires within { i < s.len }
@@ -121,7 +130,7 @@ impl Region {
         self.cells[s.place + i] = v;
     }
 
-    /// What stands in the span's cells, one after the other.
+    /// Returns the numbers in the span's cells, in order.
     pub fn list(&self, s: Span) -> &[u64]
         requires { IsLive self.now.spans s }
         ensures { (k : ℕ) → IsSpan self.now.spans k s → result.now ≡ span_at self.now.spans k }
@@ -129,7 +138,7 @@ impl Region {
         &self.cells[s.place..s.place + s.len]
     }
 
-    /// Puts these numbers into the span's cells, and changes nothing else.
+    /// Copies these numbers into the span's cells, and changes nothing else.
     pub fn write(&mut self, s: Span, numbers: &[u64])
         requires live { IsLive self.old.spans s }
         requires one_each { length numbers.now ≡ s.len }
@@ -138,7 +147,7 @@ impl Region {
         write_range(&mut self.cells, s.place, numbers);
     }
 
-    /// Puts `v` into each cell of the span, and changes nothing else.
+    /// Writes `v` to each cell of the span, and changes nothing else.
     pub fn fill(&mut self, s: Span, v: u64)
         requires { IsLive self.old.spans s }
         ensures { (k : ℕ) → IsSpan self.old.spans k s → self.new ≡ with_span self.old k (replicate s.len v) }
@@ -146,7 +155,7 @@ impl Region {
         fill_range(&mut self.cells, s.place, s.place + s.len, v);
     }
 
-    /// The spans that are live now, to be gone back to.
+    /// Returns a mark of the spans that are live now, for [`Region::release_to`].
     pub fn mark(&self) -> Mark
         ensures mark { IsMark self.now.spans result }
         ensures of_all { result.spans ≡ length self.now.spans }
@@ -157,7 +166,7 @@ impl Region {
         }
     }
 
-    /// Whether the mark's numbers of spans and of cells are those of the first live spans, up to some of them.
+    /// Returns whether the mark's numbers of spans and of cells are those of the first live spans, up to one of them.
     pub fn is_mark(&self, m: Mark) -> bool
         ensures { IsTrue result ↔ IsMark self.now.spans m }
     {

@@ -10,7 +10,7 @@ use crate::crash_net::CrashNet;
 use pc_model::{Knee, Term};
 
 impl<'n> CrashNet<'n> {
-    /// Gives an activity another term, and leaves its pieces as they are. Linear in the pieces of the activity.
+    /// Replaces the term of an activity, and leaves its pieces as they are. Linear in the pieces of the activity.
     pub fn set_term(&mut self, a: u32, term: Term)
         requires activity { a < length self.old.network.arcs }
         requires terms { AreTerms self.old.network (slice_set self.old.terms a term) }

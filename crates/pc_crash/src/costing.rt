@@ -10,15 +10,15 @@ ghost use Rattle.pc_crash.specs.inside.Priced.{AreDurations};
 use crate::crash_net::CrashNet;
 use pc_model::Knee;
 
-/// The greatest cost of an activity, in units of money: its cost at its normal duration, and all of that at the
-/// greatest slope.
+/// The greatest cost of an activity: its cost at its normal duration, and all of that duration at the greatest slope.
 pub const MAX_ACTIVITY_COST: u64 = 11_000_000_000_000;
 
-/// The greatest cost of a project: that of as many activities as there may be.
+/// The greatest cost of a project: that of the greatest number of activities.
 pub const MAX_PROJECT_COST: u64 = 220_000_000_000_000_000;
 
 impl<'n> CrashNet<'n> {
-    /// What the activities cost at these durations, given in units and in card order. Linear in activities and pieces.
+    /// Returns what the activities cost at these durations, given in units and in card order. Linear in activities and
+    /// pieces.
     pub fn cost_of(&self, durations: &[u64]) -> u64
         requires { AreDurations self.now.terms durations.now }
         ensures cost { result ≡ cost_of self.now.terms (knees_in self.now) (slice_index durations.now) }
@@ -31,7 +31,7 @@ impl<'n> CrashNet<'n> {
         cost
     }
 
-    /// What one activity costs at a duration.
+    /// Returns what one activity costs at a duration, in units.
     pub fn activity_cost(&self, a: u32, duration: u64) -> u64
         requires { a < length self.now.network.arcs }
         ensures cost { result ≡ activity_cost self.now.terms (knees_in self.now) a duration }

@@ -5,9 +5,9 @@ ghost use Rattle.pc_crash.specs.inside.Steps.{IsBlankOf};
 use std::marker::Model;
 use std::sync::ledger::{Blank, Book, Ledger, Share};
 
-/// How many steps were taken. It takes no bytes, and only `tick` changes it.
+/// A counter of steps. It takes no bytes, and only `tick` changes it.
 ///
-/// A caller that counts nothing makes one from a `Blank` and lends it.
+/// If you count nothing, make one from a `Blank` and pass it in.
 #[derive(Drop)]
 pub struct Steps<L: Ledger> {
     book: Book<L>,
@@ -25,7 +25,7 @@ impl<L: Ledger> Model for Steps<L> {
 }
 
 impl<L: Ledger> Steps<L> {
-    /// No steps yet.
+    /// Creates a counter at 0.
     pub fn new(blank: Blank) -> Steps<L>
         requires { IsBlankOf L.name L.parts blank.name blank.parts }
         ensures { result ≡ 0 }
@@ -34,7 +34,7 @@ impl<L: Ledger> Steps<L> {
         Steps { book, share }
     }
 
-    /// One step more. It does nothing when the program runs.
+    /// Counts one step. Does nothing when the program runs.
     pub fn tick(&mut self)
         ensures { self.new ≡ self.old + 1 }
     {

@@ -22,9 +22,9 @@ use std::alloc::{AllocError, Global};
 use std::marker::Model;
 use std::sync::ledger::Ledger;
 
-/// A sound network with what its activities may last and cost, and what its events and activities are called.
+/// A sound network with the durations and costs of its activities, and the codes of its events and activities.
 ///
-/// Events and activities are numbered in card order from 0.
+/// Events and activities are numbered from 0 in card order.
 pub struct CrashNet<'n> {
     pub(crate) net: &'n Net,
     pub(crate) layout: Layout,
@@ -61,9 +61,12 @@ impl<'n> Model for CrashNet<'n> {
 }
 
 impl<'n> CrashNet<'n> {
-    /// The network with these terms, pieces and codes; the pieces of an activity follow one another in their order.
+    /// Builds the network from one term and one code per activity, one code per event, and pieces; the pieces of an
+    /// activity follow one another in order. Linear in events, activities and pieces.
     ///
-    /// Linear in events, activities and pieces, but for the names of the activities (`Names`).
+    /// # Errors
+    ///
+    /// Returns `AllocError` if memory runs out.
     pub fn build(
         alloc: Global,
         net: &'n Net,
@@ -96,7 +99,7 @@ impl<'n> CrashNet<'n> {
         })
     }
 
-    /// The network.
+    /// Returns the network.
     pub fn net(&self) -> &Net
         ensures network { result.now ≡ self.now.network }
         ensures priced { IsPriced self.now.network self.now.terms (knees_in self.now) }
@@ -109,7 +112,7 @@ impl<'n> CrashNet<'n> {
         self.net
     }
 
-    /// What an activity may last, in units, and what it costs.
+    /// Returns the durations, in units, and the cost of an activity.
     pub fn term(&self, a: u32) -> Term
         requires { a < length self.now.network.arcs }
         ensures { result ≡ term_at self.now.terms a }
@@ -117,21 +120,21 @@ impl<'n> CrashNet<'n> {
         self.layout.rows[a as usize].term
     }
 
-    /// Whether the cost of an activity has further pieces.
+    /// Returns whether the cost of any activity has further pieces.
     pub fn has_pieces(&self) -> bool
         ensures { IsTrue result ↔ (0 < length self.now.pieces) }
     {
         !self.pieces.is_empty()
     }
 
-    /// The project's code.
+    /// Returns the project's code.
     pub fn project(&self) -> Code
         ensures { result ≡ self.now.project }
     {
         self.project
     }
 
-    /// The code of an event.
+    /// Returns the code of an event.
     pub fn event_code(&self, e: u32) -> Code
         requires { e < self.now.network.events }
         ensures { result ≡ code_at self.now.events e }
@@ -139,7 +142,7 @@ impl<'n> CrashNet<'n> {
         self.events[e as usize]
     }
 
-    /// The code of an activity.
+    /// Returns the code of an activity.
     pub fn activity_code(&self, a: u32) -> Code
         requires { a < length self.now.network.arcs }
         ensures { result ≡ code_at self.now.activities a }
@@ -147,7 +150,7 @@ impl<'n> CrashNet<'n> {
         self.activities.as_slice()[a as usize]
     }
 
-    /// The activity with a code, if one has it. One look-up.
+    /// Returns the activity with this code, or `None` if no activity has it. One look-up.
     pub fn activity_named(&self, code: &Code) -> Option<u32>
         ensures known { IfSome result (λ a. a < length self.now.network.arcs) }
         ensures named { IfSome result (λ a. code_at self.now.activities a ≡ code.now) }
@@ -158,7 +161,7 @@ impl<'n> CrashNet<'n> {
         Some(a as u32)
     }
 
-    /// The knees of an activity's cost.
+    /// Returns the knees of an activity's cost.
     pub fn knees(&self, a: u32) -> KneeList<'_>
         requires { a < length self.now.network.arcs }
         ensures { AreKneesOf (knees_in self.now) a result }
@@ -166,7 +169,7 @@ impl<'n> CrashNet<'n> {
         self.layout.knees_of(a)
     }
 
-    /// What a search along the network wants to know of an activity. It counts as one step.
+    /// Returns what a search along the network needs of an activity, and counts one step.
     pub fn look<L: Ledger>(&self, a: u32, steps: &mut Steps<L>) -> Look<'_>
         requires { a < length self.now.network.arcs }
         ensures counted { steps.new ≡ steps.old + 1 }

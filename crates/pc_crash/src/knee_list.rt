@@ -7,7 +7,7 @@ use std::marker::Model;
 
 /// The knees of one activity's cost, in units: its normal duration, and then where each of its pieces begins.
 ///
-/// A unit by which the activity is shortened below knee k costs as much as the rises of the knees 0 to k add up to.
+/// A unit by which the activity is shortened below knee k costs the sum of the rises of knees 0 to k.
 #[derive(Drop)]
 pub struct KneeList<'n> {
     list: &'n [Knee],
@@ -36,14 +36,14 @@ impl<'n> KneeList<'n> {
         KneeList { list }
     }
 
-    /// How many knees there are: one more than the activity has pieces.
+    /// Returns the number of knees: one more than the activity has pieces.
     pub fn len(&self) -> u32
         ensures { result ≡ length self.now }
     {
         self.list.len() as u32
     }
 
-    /// The duration at a knee.
+    /// Returns the duration at a knee.
     pub fn knee(&self, k: u32) -> u64
         requires { k < length self.now }
         ensures { result ≡ (knee_at self.now k).at }
@@ -51,7 +51,7 @@ impl<'n> KneeList<'n> {
         self.list[k as usize].at
     }
 
-    /// By how much more each unit costs below a knee than above it.
+    /// Returns how much more a unit costs below a knee than above it.
     pub fn rise(&self, k: u32) -> u64
         requires { k < length self.now }
         ensures { result ≡ (knee_at self.now k).rise }
@@ -59,7 +59,7 @@ impl<'n> KneeList<'n> {
         self.list[k as usize].rise
     }
 
-    /// The knees, from the normal duration down.
+    /// Returns the knees, from the normal duration downwards.
     pub fn as_slice(&self) -> &'n [Knee]
         ensures { result.now ≡ self.now }
     {

@@ -2,8 +2,8 @@
 
 use crate::knee_list::KneeList;
 
-/// An activity's events, its durations in units, what the first unit by which it is shortened costs, and the knees of
-/// its cost.
+/// The events of an activity, its durations in units, the cost of the first unit by which it is shortened, and its
+/// knees.
 #[derive(Drop)]
 pub struct Look<'n> {
     pub from: u32,

@@ -11,9 +11,10 @@ use crate::grouping::Group;
 use crate::laying::units;
 use pc_model::{MAX_PIECES_EACH, PieceRow, Term};
 
-/// What an activity costs at a duration in units, by the terms of all activities and the further pieces of their costs.
-/// It takes no memory, and goes over the pieces of all activities: for what many activities cost, ask the priced
-/// network.
+/// Returns what an activity costs at a duration in units, from the terms of all activities and all further pieces.
+/// Allocates nothing.
+///
+/// It goes through the pieces of all activities. For the costs of many activities use the priced network.
 pub fn cost_of_one(terms: &[Term], pieces: &[PieceRow], a: u32, duration: u64) -> u64
     requires known { a < length terms.now }
     requires own { AreOwnPieces (term_at terms.now a) (pieces_of pieces.now a) }

@@ -7,7 +7,7 @@ ghost use Rattle.pc_crash.specs.inside.Priced.{Fits};
 use crate::crash_net::CrashNet;
 
 impl<'n> CrashNet<'n> {
-    /// The time between the events of an activity. It is negative where its end comes before its beginning.
+    /// Returns the time between the two events of an activity, negative if it ends before it begins.
     pub fn gap(&self, times: &[u64], a: u32) -> i64
         requires activity { a < length self.now.network.arcs }
         requires one_each { length times.now ≡ self.now.network.events }
@@ -19,8 +19,9 @@ impl<'n> CrashNet<'n> {
         times[arc.to as usize] as i64 - times[arc.from as usize] as i64
     }
 
-    /// Whether these are a schedule for a length: durations from crash to normal, each of which fits between the times of
-    /// its events, from the start at 0 to the end at the length or before it.
+    /// Returns whether `durations` and `times` are a schedule for the length `length`: each duration is from crash to
+    /// normal and fits between the times of the activity's events, the start is at 0, and the end is at `length` or
+    /// earlier.
     pub fn is_schedule(&self, durations: &[u64], times: &[u64], length: u64) -> bool
         requires durations { length_of durations.now ≡ length_of self.now.network.arcs }
         requires times { length_of times.now ≡ self.now.network.events }

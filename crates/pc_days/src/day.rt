@@ -19,7 +19,7 @@ const FIRST: i64 = -25_567;
 /// The number of 9999-12-31.
 const LAST: i64 = 2_932_896;
 
-/// A day of the calendar, from 1900-01-01 to 9999-12-31: the days that a deck can name and a report can print.
+/// A day of the calendar from 1900-01-01 to 9999-12-31: the days that a deck can name and a report can print.
 ///
 /// In contracts a day is its number, counted in days from 1970-01-01.
 #[derive(Clone, Copy, Debug, PartialEq, Eq, PartialOrd, Ord, Hash)]
@@ -40,7 +40,12 @@ impl Model for Day {
     ghost inverse = { λ n. record { number = n } };
 }
 
-/// The day whose date the field is.
+/// Returns the day whose date the field is, as `YYYY-MM-DD`.
+///
+/// # Errors
+///
+/// Returns `DayError::Shape` if the field has another form or the calendar has no such date, and `DayError::Years` if
+/// the year is not from 1900 to 2199.
 pub fn read_day(field: &[u8]) -> Result<Day, DayError>
     ensures reading { result ≡ day_of field.now }
     ensures day { (day : ℤ) → (result ≡ Ok day) ↔ NamesDeckDay field.now day }
@@ -111,7 +116,7 @@ fn year_of(field: &[u8]) -> u16
     100 * u16::from(number_at(field, 0)) + u16::from(number_at(field, 2))
 }
 
-/// The date of the day, as `YYYY-MM-DD`.
+/// Returns the date of the day, as `YYYY-MM-DD`.
 pub fn day_text(d: Day) -> [u8; 10]
     ensures named { NamesDay result d }
     ensures text { result ≡ text_of_day d }
@@ -125,7 +130,7 @@ pub fn day_text(d: Day) -> [u8; 10]
     spelled(date.year as u16, date.month, date.day)
 }
 
-/// The days from the first day to the second, negative where the second comes before the first.
+/// Returns the number of days from `a` to `b`, negative if `b` is before `a`.
 pub fn days_between(a: Day, b: Day) -> i64
     ensures days { result ≡ b -ℤ a }
     ensures within { IsWithin 2_958_463 result }
@@ -133,7 +138,8 @@ pub fn days_between(a: Day, b: Day) -> i64
     i64::from(b.number) - i64::from(a.number)
 }
 
-/// The day that is the start and so many sixths of a day, rounded up to whole days.
+/// Returns the day `t` sixths of a day after `start`, rounded up to whole days, or `None` if it is not from 1900-01-01
+/// to 9999-12-31.
 pub fn date_of_sixths(start: Day, t: i64) -> Option<Day>
     requires early { neg_ℤ (pos (2 ^ 40)) <ℤ t }
     requires late { t <ℤ pos (2 ^ 40) }

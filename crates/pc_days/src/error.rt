@@ -1,7 +1,7 @@
 //! Why a field names no day.
 use thiserror::Error;
 
-/// Why a field names no day of a deck.
+/// Why a field is no day of a deck.
 #[derive(Clone, Copy, Debug, PartialEq, Eq, Error)]
 pub enum DayError {
     /// The field is not of the form `YYYY-MM-DD`, or the calendar has no such date.

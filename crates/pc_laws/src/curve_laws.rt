@@ -18,7 +18,8 @@ ghost use Rattle.pc_laws.specs.Curve.{
   breakpoints_of,
 };
 
-/// Inside a segment the curve does not turn; where one segment meets the next it turns exactly if their slopes differ.
+/// States that the curve does not turn inside a segment, and turns where two segments meet if and only if their slopes
+/// differ.
 pub fn curve_turns_where_slopes_differ()
     ensures inside { (net : Network) (terms : List Term) (knees : Knees) (segment : Segment) (limit : ℕ) →
         IsPriced net terms knees → IsRightSegment net terms knees segment → segment.lower < limit →
@@ -30,8 +31,8 @@ pub fn curve_turns_where_slopes_differ()
         IsTurn (IsLeastCost net terms knees) later.upper ↔ (earlier.slope ≢ later.slope) }
 {}
 
-/// The slope of a segment is what one unit less than its upper end costs more, and it never falls from a segment to the
-/// next.
+/// States that the slope of a segment is the extra cost of one unit less than its upper end, and that it never falls
+/// from a segment to the next.
 pub fn slopes_never_fall()
     ensures upper { (net : Network) (terms : List Term) (knees : Knees) (segment : Segment) →
         IsPriced net terms knees → IsRightSegment net terms knees segment → IsLong segment →
@@ -43,9 +44,10 @@ pub fn slopes_never_fall()
         earlier.slope ≤ later.slope }
 {}
 
-/// A curve has one list of breakpoints, and segments that cover the range give it: their upper ends where the slope is
-/// not that of the segment before, and the last lower end. Of segments that come down only to some length, these upper
-/// ends are the breakpoints above it.
+/// States that a curve has one list of breakpoints, which segments that cover the range give: their upper ends where
+/// the slope differs from that of the segment before, and the last lower end.
+///
+/// If the segments come down only to some length, these upper ends are the breakpoints above it.
 pub fn segments_give_the_breakpoints()
     ensures above { (net : Network) (terms : List Term) (knees : Knees) (segments : List Segment)
         (high low shortest : ℕ) →

@@ -25,7 +25,11 @@ ghost use Rattle.pc_laws.specs.Flow.{whole_flow, IsFlow, promise, bound_of};
 ghost use Rattle.pc_laws.specs.Tight.{AreTight};
 ghost use Rattle.pc_laws.specs.State.{State, IsOptimal};
 
-/// Weak duality (Kelley 1961, Fulkerson 1961): no schedule for a length costs less than the bound of any flow there.
+/// States weak duality: no schedule for a length costs less than the bound of any flow at that length.
+///
+/// # Source
+///
+/// Kelley 1961; Fulkerson 1961.
 pub fn weak_duality()
     ensures promised { (net : Network) (terms : List Term) (knees : Knees) (flow : ℕ → ℕ → ℕ)
         (beside durations times : ℕ → ℕ) (value limit : ℕ) →
@@ -37,8 +41,12 @@ pub fn weak_duality()
         bound_of terms knees flow beside value limit ≤ℤ pos (cost_of terms knees durations) }
 {}
 
-/// Complementary slackness: times between which each activity is tight make, with the lesser of normal and gap as
-/// durations, a schedule whose cost is the bound of the flow, and no schedule that ends as early costs less.
+/// States complementary slackness: if every activity is tight between given times, the lesser of normal duration and
+/// gap for each activity is a cheapest schedule that ends as early, and its cost is the bound of the flow.
+///
+/// # Source
+///
+/// Kelley 1961; Fulkerson 1961.
 pub fn complementary_slackness()
     ensures schedule { (net : Network) (terms : List Term) (knees : Knees) (flow : ℕ → ℕ → ℕ) (beside times : ℕ → ℕ)
         (value : ℕ) →
@@ -54,9 +62,10 @@ pub fn complementary_slackness()
         IsLeastCost net terms knees (times net.end) (cost_of terms knees (lesser_of net terms times)) }
 {}
 
-/// The flow of a state is bounded: while some schedule is shorter than the present length, as long as this length is
-/// above the all-crash length, its value is at most the sum of last slopes; and no activity has more flow than the
-/// value.
+/// States that the flow of a state is bounded.
+///
+/// If some schedule is shorter than the present length, or this length is above the all-crash length, the value of the
+/// flow is at most the sum of the last slopes. No activity has more flow than the value.
 pub fn flow_is_bounded()
     ensures by_slopes { (net : Network) (terms : List Term) (knees : Knees) (st : State) (limit : ℕ)
         (durations times : ℕ → ℕ) →
@@ -74,7 +83,7 @@ pub fn flow_is_bounded()
         a < length net.arcs → whole_flow knees flow beside a ≤ value }
 {}
 
-/// Under the limits of a project the sum of last slopes is below 10^13.
+/// States that within the limits of a project the sum of the last slopes is below 10^13.
 pub fn last_slopes_are_small()
     ensures each { (terms : List Term) (pieces : List PieceRow) (a : ℕ) → ArePieces terms pieces →
         ((b : ℕ) → b < length terms → slope_of terms b ≤ MAX_SLOPE) → All (λ piece. piece.slope ≤ MAX_SLOPE) pieces →

@@ -20,13 +20,13 @@ ghost use Rattle.pc_laws.specs.OneSlope.{
   IsPlainCovering,
 };
 
-/// Without pieces each activity has one slope.
+/// States that without pieces each activity has one slope.
 pub fn no_pieces_give_one_slope()
     ensures pieces { (net : Network) (terms : List Term) → HasOneSlope net terms (knees_of terms []) }
     ensures knee { (net : Network) (terms : List Term) → HasOneSlope net terms (one_knee terms) }
 {}
 
-/// Durations cost the slope for each unit saved, and the least cost is the least of these costs.
+/// States that durations cost the slope for each unit saved, and that the least cost is the least of these costs.
 pub fn costs_with_one_slope()
     ensures costs { (net : Network) (terms : List Term) (knees : Knees) (durations : ℕ → ℕ) →
         AreTerms net terms → HasOneSlope net terms knees →
@@ -36,8 +36,8 @@ pub fn costs_with_one_slope()
         (IsLeastCost net terms knees limit cost) ↔ (IsPlainLeastCost net terms limit cost) }
 {}
 
-/// A flow is two numbers for each activity, the first at most the slope; it promises the costs, normal times f1 and
-/// crash times f2.
+/// States that a flow is two numbers per activity, the first at most the slope, and that it promises the costs, normal
+/// times f1 and crash times f2.
 pub fn flows_with_one_slope()
     ensures flows { (net : Network) (terms : List Term) (knees : Knees) (flow : ℕ → ℕ → ℕ) (beside : ℕ → ℕ)
         (value : ℕ) → HasOneSlope net terms knees →
@@ -47,8 +47,8 @@ pub fn flows_with_one_slope()
         promise terms knees flow beside ≡ plain_promise terms (λ a. flow a 0) beside }
 {}
 
-/// A segment is whole exactly if it meets the conditions in the words of one slope, and segments cover a range exactly
-/// if they do in these words.
+/// States that a segment is complete if and only if it meets the conditions as they read for one slope, and that
+/// segments cover a range if and only if they do so by these conditions.
 pub fn segments_with_one_slope()
     ensures segment { (net : Network) (terms : List Term) (knees : Knees) (segment : Segment) → AreTerms net terms →
         HasOneSlope net terms knees →

@@ -32,16 +32,20 @@ ghost use Rattle.pc_laws.specs.Cover.{
   last_lower,
 };
 
-/// What is read from a right segment for a length between its ends is a schedule for that length, costs what is said,
-/// and no schedule for that length costs less: the segment's own flow proves it.
+/// States that what is read from a right segment, for a length between its ends, is a schedule for that length at the
+/// stated cost, and that no schedule for that length costs less: the flow of the segment proves it.
 pub fn readings_are_right()
     ensures { (net : Network) (terms : List Term) (knees : Knees) (segment : Segment) (limit : ℕ) →
         IsPriced net terms knees → IsRightSegment net terms knees segment → Holds segment limit →
         IsRight net terms knees segment limit }
 {}
 
-/// The slope of a right segment is its cut gain, so that the slope can be checked by the cut alone: condition 13
-/// follows from the others.
+/// States that the slope of a right segment is its cut gain, so the cut alone is enough to check the slope: condition
+/// 13 follows from the others.
+///
+/// # Source
+///
+/// Fulkerson 1961.
 pub fn slope_is_cut_gain()
     ensures crossed { (net : Network) (terms : List Term) (knees : Knees) (segment : Segment) →
         IsPriced net terms knees → IsRightSegment net terms knees segment →
@@ -51,9 +55,11 @@ pub fn slope_is_cut_gain()
         cut_gain net knees segment ≡ pos segment.slope }
 {}
 
-/// Whole segments that join from a through walk's sum of normal durations down begin with the all-normal length, and
-/// what is read for each length that they hold is right. Where they come down to a through walk's sum of crash
-/// durations, this is the all-crash length: they are the whole curve.
+/// States that complete segments which join from the sum of normal durations of a through walk downwards begin with the
+/// all-normal length, and that every reading of them is right.
+///
+/// If they come down to the sum of crash durations of a through walk, this is the all-crash length, and they are the
+/// complete curve.
 pub fn segments_cover_the_range()
     ensures longest { (net : Network) (terms : List Term) (knees : Knees) (segments : List Segment) (high low : ℕ) →
         IsPriced net terms knees → IsFront net terms knees segments high low → IsAllNormalLength net terms high }
@@ -64,9 +70,10 @@ pub fn segments_cover_the_range()
         IsReadRight net terms knees segments limit }
 {}
 
-/// A certificate whose walks and segments meet the conditions is right: its first upper end is the all-normal length
-/// and its last lower end the all-crash length, and for each length between them what is read from its segments is a
-/// cheapest schedule, which the printed flow proves.
+/// States that a certificate whose walks and segments meet the conditions is right.
+///
+/// Its first upper end is the all-normal length and its last lower end the all-crash length. For each length between
+/// them, the reading of its segments is a cheapest schedule, which the printed flow proves.
 pub fn conditions_make_it_right()
     ensures covering { (net : Network) (terms : List Term) (knees : Knees) (normal_walk crash_walk : List ℕ)
         (segments : List Segment) →
@@ -86,8 +93,8 @@ pub fn conditions_make_it_right()
         last_lower segments ≤ limit → limit ≤ first_upper segments → IsReadRight net terms knees segments limit }
 {}
 
-/// The first segment begins a front; one more whole segment at its lower end takes it further down, and at the
-/// all-crash length it covers the range.
+/// States how a front of segments grows: the first segment begins it, each further complete segment at its lower end
+/// takes it further down, and at the all-crash length it covers the range.
 pub fn a_front_grows()
     ensures begins { (net : Network) (terms : List Term) (knees : Knees) (segment : Segment) →
         IsSegment net terms knees segment → ((a : ℕ) → a < length net.arcs → segment.duration a ≡ normal_of terms a) →

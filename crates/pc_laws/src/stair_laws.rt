@@ -26,8 +26,9 @@ ghost use Rattle.pc_laws.specs.Stair.{
   rises_over,
 };
 
-/// The knees of each activity make a falling staircase. As many units run on knees as the last slope is, and nothing
-/// needs to flow where the gap is not below the normal duration.
+/// States that the knees of each activity make a falling staircase.
+///
+/// As many units run on knees as the last slope says. Nothing needs to flow if the gap is at least the normal duration.
 pub fn knees_make_a_staircase()
     ensures falling { (net : Network) (terms : List Term) (knees : Knees) → AreKnees net terms knees →
         (a : ℕ) → a < length net.arcs → IsFalling (stair_of terms knees a) }
@@ -37,8 +38,8 @@ pub fn knees_make_a_staircase()
         (a gap : ℕ) → a < length net.arcs → normal_of terms a ≤ gap → IsOnStair (stair_of terms knees a) gap 0 }
 {}
 
-/// Two staircases with the same knees are alike in all that is said here: a list of an activity's knees stands for the
-/// activity.
+/// States that two staircases with the same knees are alike in all that is stated here, so a list of an activity's
+/// knees may represent the activity.
 pub fn same_knees_make_the_same_staircase()
     ensures reach { (s t : Stair) → IsSameStair s t → full_reach s ≡ full_reach t }
     ensures units { (s t : Stair) → IsSameStair s t → (x : ℕ) → unit_length s x ≡ unit_length t x }
@@ -50,8 +51,8 @@ pub fn same_knees_make_the_same_staircase()
     ensures at_crash { (s t : Stair) → IsSameStair s t → (flow : ℕ) → crash_flow s flow ≡ crash_flow t flow }
 {}
 
-/// Each unit of flow runs on one of the knees or, behind all of them, on the crash duration; and a later unit never
-/// runs on a longer arc.
+/// States that each unit of flow runs on one of the knees or, after all of them, on the crash duration, and that a
+/// later unit never runs on a longer arc.
 pub fn units_fall()
     ensures runs { (s : Stair) (x : ℕ) →
         ((full_reach s ≤ x) × (unit_length s x ≡ s.crash))
@@ -66,8 +67,10 @@ pub fn units_fall()
         unit_length s x ≤ gap }
 {}
 
-/// The flow may change while the gap stays as it is: up to the end of the next unit's piece where its arc is as long as
-/// the gap, down to the beginning of the last unit's piece where that arc is, and anywhere between two flows that fit.
+/// States how far the flow may change while the gap stays the same.
+///
+/// It may rise to the end of the next unit's piece if the arc of that unit is as long as the gap, fall to the beginning
+/// of the last unit's piece if the arc of that unit is, and take any value between two flows that fit.
 pub fn flow_may_change()
     ensures between { (s : Stair) → IsFalling s → (gap x y z : ℕ) → IsOnStair s gap x → IsOnStair s gap z →
         x ≤ y → y ≤ z → IsOnStair s gap y }
@@ -79,8 +82,10 @@ pub fn flow_may_change()
         below ≤ z → z ≤ flow → IsOnStair s gap z }
 {}
 
-/// The gap may change while the flow stays as it is: it may shrink to the arc of the next unit, and grow to the arc of
-/// the last one, or without bound where nothing flows. Nothing needs to flow where the gap is not below the first knee.
+/// States how far the gap may change while the flow stays the same.
+///
+/// It may shrink to the arc of the next unit and grow to the arc of the last one, or without bound if nothing flows.
+/// Nothing needs to flow if the gap is at least the first knee.
 pub fn gap_may_change()
     ensures shrinks { (s : Stair) (gap flow fall : ℕ) → IsOnStair s gap flow → unit_length s flow + fall ≤ gap →
         IsOnStair s (gap - fall) flow }
@@ -90,16 +95,17 @@ pub fn gap_may_change()
     ensures room { (s : Stair) → IsFalling s → (gap flow : ℕ) → IsOnStair s gap flow → s.crash ≤ gap }
 {}
 
-/// A whole flow that is filled into the knees in their order, and beside them, is all there, with no more at a knee
-/// than its rise.
+/// States that a whole flow is distributed completely over the knees in their order and beyond them, with at most its
+/// rise at each knee.
 pub fn filling_is_the_flow()
     ensures whole { (s : Stair) (flow : ℕ) → sum_to s.count (knee_flow s flow) + crash_flow s flow ≡ flow }
     ensures within { (s : Stair) (flow k : ℕ) → knee_flow s flow k ≤ s.rise k }
 {}
 
-/// A whole flow fits a gap exactly where the flows at the knees do: filled in it fits at each knee, and flows that fit
-/// there are a whole flow that fits. For such a flow the knees and the crash duration ask as much as the gap does of
-/// each unit, and beyond that, of each rise, what its knee is above the gap.
+/// States that a whole flow fits a gap if and only if the flows at the knees do.
+///
+/// For such a flow, the knees and the crash duration ask as much of each unit as the gap does, and of each rise as much
+/// more as its knee is above the gap.
 pub fn on_the_staircase_is_tight()
     ensures tight { (terms : List Term) (knees : Knees) (a : ℕ) → IsFalling (stair_of terms knees a) →
         (tail head gap : ℕ) → head ≡ tail + gap → (along : ℕ) → IsOnStair (stair_of terms knees a) gap along →

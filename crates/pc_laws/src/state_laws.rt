@@ -30,9 +30,10 @@ ghost use Rattle.pc_laws.specs.State.{
   fallen,
 };
 
-/// The first state: at the normal durations, with times that end with the length, nothing needs to flow. A segment of
-/// this one length is whole, which is the curve where no schedule is shorter; its durations are the normal ones, and so
-/// are those of each segment that begins at these times.
+/// States that at the normal durations, with times that end with the length, nothing needs to flow.
+///
+/// A segment of this one length is complete, and it is the curve if no schedule is shorter. Its durations are the
+/// normal ones, as are those of each segment that begins at these times.
 pub fn opening_is_optimal()
     ensures optimal { (net : Network) (terms : List Term) (knees : Knees) (limit : ℕ) (times : ℕ → ℕ) →
         IsPriced net terms knees →
@@ -47,8 +48,8 @@ pub fn opening_is_optimal()
         lesser_of net terms times a ≡ normal_of terms a }
 {}
 
-/// In each state the durations that its times allow are a cheapest schedule for the present length, which is not below
-/// the all-crash length; no event is later than that.
+/// States that in each state the durations that its times allow are a cheapest schedule for the present length, which
+/// is at least the all-crash length, and that no event is later than that length.
 pub fn optimal_state_is_cheapest()
     ensures schedule { (net : Network) (terms : List Term) (knees : Knees) (st : State) → IsPriced net terms knees →
         IsOptimal net terms knees st → IsSchedule net terms st.limit (lesser_of net terms st.time) st.time }
@@ -63,8 +64,12 @@ pub fn optimal_state_is_cheapest()
         IsOptimal net terms knees st → e < net.events → st.time e ≤ st.limit }
 {}
 
-/// A raising is walked back from the end: it begins there with the state's own flows, and a step back along an activity
-/// that ends at the event reached, or against one that begins there, carries it on.
+/// States that an augmentation is walked back from the end: it begins there with the state's own flows, and a step back
+/// along an activity that ends at the event reached, or against one that begins there, continues it.
+///
+/// # Source
+///
+/// Fulkerson 1961.
 pub fn raising_walks_back()
     ensures begins { (net : Network) (terms : List Term) (knees : Knees) (st : State) (room : ℕ) →
         IsOptimal net terms knees st → IsRaising net terms knees st st.flow st.beside net.end room }
@@ -82,7 +87,7 @@ pub fn raising_walks_back()
         IsRaising net terms knees st next_flow next_beside (to_of net.arcs a) room }
 {}
 
-/// A raising that has come back to the start gives the next state, with a higher value.
+/// States that an augmentation that has come back to the start gives the next state, with a higher value.
 pub fn raising_keeps_optimal()
     ensures optimal { (net : Network) (terms : List Term) (knees : Knees) (st : State) (flow : ℕ → ℕ → ℕ)
         (beside : ℕ → ℕ) (room : ℕ) →
@@ -91,8 +96,8 @@ pub fn raising_keeps_optimal()
         IsOptimal net terms knees (raised st flow beside room) }
 {}
 
-/// Where the labels do not reach the end there is a fall. It is at least 1, and passes neither the present length nor
-/// the all-crash length.
+/// States that the times can be shortened if the labels do not reach the end. The step is at least 1, and passes
+/// neither the present length nor the all-crash length.
 pub fn fall_exists()
     ensures exists { (net : Network) (terms : List Term) (knees : Knees) (st : State) (moves : ℕ → Bool) →
         IsPriced net terms knees →
@@ -109,9 +114,11 @@ pub fn fall_exists()
         IsAllCrashLength net terms shortest → shortest + fall ≤ st.limit }
 {}
 
-/// The lengths that the end falls through are a whole segment: its slope, which is the value of the flow, is the gain
-/// of the cut between the events with a label and those without, and it ends where an activity stops. After the fall
-/// the same holds as before, at a cost that is higher by the value for each unit.
+/// States that the lengths through which the end moves are a complete segment.
+///
+/// Its slope, which is the value of the flow, is the gain of the cut between the events with a label and those without,
+/// and it ends where an activity stops. After the step the same facts hold as before, at a cost that is higher by the
+/// value per unit.
 pub fn fall_gives_a_segment()
     ensures segment { (net : Network) (terms : List Term) (knees : Knees) (st : State) (moves : ℕ → Bool)
         (fall : ℕ) → IsPriced net terms knees →

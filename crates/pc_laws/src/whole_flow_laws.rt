@@ -34,8 +34,10 @@ ghost use Rattle.pc_laws.specs.Steps.{
   IsStairFall,
 };
 
-/// A state in words of whole flows is a state at knees, with the flows filled in; labels that have come to a stand have
-/// done so there, and their fall is the fall there. And each state at knees is one in words of whole flows.
+/// States that a state in terms of whole flows is a state at knees with the flows distributed over them, and the other
+/// way round.
+///
+/// If the labels cannot grow in the one, they cannot in the other, and the step of the times is the same.
 pub fn whole_flows_are_states()
     ensures at_knees { (net : Network) (terms : List Term) (knees : Knees) → IsPriced net terms knees →
         (limit : ℕ) (time along : ℕ → ℕ) (value : ℕ) → IsStairOptimal net terms knees limit time along value →
@@ -55,8 +57,8 @@ pub fn whole_flows_are_states()
         IsStairOptimal net terms knees st.limit st.time (whole_flow knees st.flow st.beside) st.value }
 {}
 
-/// The first state: at the normal durations, with times that end with the length, nothing flows. Where nothing flows
-/// and no event moves, the segment of the present length alone is whole.
+/// States that at the normal durations, with times that end with the length, nothing flows. If nothing flows and no
+/// event moves, the segment of the present length alone is complete.
 pub fn nothing_flows_at_first()
     ensures state { (net : Network) (terms : List Term) (knees : Knees) → IsPriced net terms knees →
         (limit : ℕ) (times : ℕ → ℕ) → IsSchedule net terms limit (normal_of terms) times → times net.end ≡ limit →
@@ -69,8 +71,8 @@ pub fn nothing_flows_at_first()
         (filled_state terms knees limit time along value) moves 0) }
 {}
 
-/// In each state the durations that its times allow are a cheapest schedule for the present length, which is not below
-/// the all-crash length; no event is later than that.
+/// States that in each state the durations that its times allow are a cheapest schedule for the present length, which
+/// is at least the all-crash length, and that no event is later than that length.
 pub fn whole_flows_are_cheapest()
     ensures schedule { (net : Network) (terms : List Term) (knees : Knees) → IsPriced net terms knees →
         (limit : ℕ) (time along : ℕ → ℕ) (value : ℕ) → IsStairOptimal net terms knees limit time along value →
@@ -86,8 +88,8 @@ pub fn whole_flows_are_cheapest()
         (e : ℕ) → e < net.events → time e ≤ limit }
 {}
 
-/// The flow is bounded: while some schedule is shorter than the present length, the value is at most the sum of last
-/// slopes; and no activity has more flow than the value.
+/// States that the flow is bounded: if some schedule is shorter than the present length, the value is at most the sum
+/// of the last slopes; and no activity has more flow than the value.
 pub fn whole_flows_are_bounded()
     ensures by_slopes { (net : Network) (terms : List Term) (knees : Knees) → IsPriced net terms knees →
         (limit : ℕ) (time along : ℕ → ℕ) (value : ℕ) → IsStairOptimal net terms knees limit time along value →
@@ -102,9 +104,15 @@ pub fn whole_flows_are_bounded()
         (order : List ℕ) → IsOrder net order → (a : ℕ) → a < length net.arcs → along a ≤ value }
 {}
 
-/// A raising is walked back from the end: it begins there with the flows as they are; a step back along an activity
-/// that ends at the event reached, or against one that begins there, carries it on where the new flow fits the gap; and
-/// back at the start it gives the next state, with a higher value.
+/// States that an augmentation is walked back from the end.
+///
+/// It begins there with the flows as they are. A step back along an activity that ends at the event reached, or against
+/// one that begins there, continues it if the new flow fits the gap. At the start it gives the next state, with a
+/// higher value.
+///
+/// # Source
+///
+/// Fulkerson 1961.
 pub fn whole_flow_is_raised()
     ensures begins { (net : Network) (terms : List Term) (knees : Knees) (time along : ℕ → ℕ) (room limit value : ℕ) →
         IsStairOptimal net terms knees limit time along value →
@@ -127,9 +135,10 @@ pub fn whole_flow_is_raised()
         IsStairOptimal net terms knees limit time now (value + room) }
 {}
 
-/// Where the labels have come to a stand, the least of all stops is the fall. It is enough that it is the least of the
-/// stops and of a number above the present length, since some forward activity stops within that. The fall is at least
-/// 1 and passes neither the present length nor the all-crash length.
+/// States that if the labels cannot grow, the least of all stops is the step by which the times can be shortened.
+///
+/// It is enough that it is the least of the stops and of a number above the present length, since some forward activity
+/// stops within that. The step is at least 1 and passes neither the present length nor the all-crash length.
 pub fn least_stop_is_the_fall()
     ensures chosen { (net : Network) (terms : List Term) (knees : Knees) → IsPriced net terms knees →
         (limit : ℕ) (time along : ℕ → ℕ) (value : ℕ) → IsStairOptimal net terms knees limit time along value →
@@ -149,8 +158,8 @@ pub fn least_stop_is_the_fall()
         (shortest : ℕ) → IsAllCrashLength net terms shortest → shortest + fall ≤ limit }
 {}
 
-/// The lengths that the end falls through are a whole segment. After the fall the same holds as before, with the same
-/// flow, at a cost that is higher by the value for each unit.
+/// States that the lengths through which the end moves are a complete segment. After the step the same facts hold as
+/// before, with the same flow, at a cost that is higher by the value per unit.
 pub fn whole_flows_give_a_segment()
     ensures segment { (net : Network) (terms : List Term) (knees : Knees) → IsPriced net terms knees →
         (limit : ℕ) (time along : ℕ → ℕ) (value : ℕ) → IsStairOptimal net terms knees limit time along value →
@@ -168,9 +177,10 @@ pub fn whole_flows_give_a_segment()
         ≡ cost_of terms knees (lesser_of net terms time) + value * fall }
 {}
 
-/// A state worked by hand: the small deck at 8 units, with A shortened to its middle knee. Of the 5 units that flow
-/// along A three run on the first knee and two on the second, where one more could; T alone moves, and falls by 1 until
-/// C is as long as it normally takes.
+/// States a state worked by hand: the small deck at 8 units, with A shortened to its middle knee.
+///
+/// Of the 5 units that flow along A three run on the first knee and two on the second, where one more could. T alone
+/// moves, by 1, until C is as long as it normally takes.
 pub fn middle_knee_is_worked()
     ensures state { IsStairOptimal small_net small_terms (knees_of small_terms small_pieces) 8 small_2.time
         (slice_index (5 ∷ 5 ∷ 0 ∷ [])) 5 }

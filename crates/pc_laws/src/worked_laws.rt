@@ -19,8 +19,9 @@ ghost use Rattle.pc_laws.specs.Worked.{
   bridge_segments,
 };
 
-/// An activity with pieces: the small deck, where the second unit saved of A costs 6. Its four segments cover the range
-/// from 9 to 5 units; from 8 to 7 A stays at its knee at 3. The state at 8 units is
+/// States the curve of an activity with pieces, worked by hand: the small deck, if the second unit saved of A costs 6.
+///
+/// Its four segments cover the range from 9 to 5 units; from 8 to 7 A stays at its knee at 3. The state at 8 units is
 /// `whole_flow_laws::middle_knee_is_worked`.
 pub fn pieces_are_worked()
     ensures covering { IsCovering small_net small_terms (knees_of small_terms small_pieces) small_segments 9 5 }
@@ -29,8 +30,8 @@ pub fn pieces_are_worked()
     ensures shortened { durations_for small_net small_terms small_2 7 0 ≡ 3 }
 {}
 
-/// A curve that gives an activity its time back: of the five activities of the bridge D is shortened to 2 units for a
-/// length of 10, and takes its normal 3 units again at 9.
+/// States a curve, worked by hand, that gives an activity its time back: of the five activities of the bridge, D is
+/// shortened to 2 units for a length of 10, and takes its normal 3 units again at 9.
 pub fn time_given_back_is_worked()
     ensures priced { IsPriced bridge_net bridge_terms (one_knee bridge_terms) }
     ensures covering { IsCovering bridge_net bridge_terms (one_knee bridge_terms) bridge_segments 11 6 }

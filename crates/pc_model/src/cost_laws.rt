@@ -28,8 +28,8 @@ ghost use Rattle.pc_model.specs.Cost.{
 };
 ghost use Rattle.pc_model.specs.Pieces.{pieces_of, slope_in, knees_of, ArePieces};
 
-/// Pieces make knees that fit the terms, and so does the one knee of a cost with one slope; the last slope is that of
-/// the last piece.
+/// States that pieces make knees that fit the terms, and so does the one knee of a cost with a single slope. The last
+/// slope is the slope of the last piece.
 pub fn pieces_make_knees()
     ensures fit { (net : Network) (terms : List Term) (pieces : List PieceRow) →
         AreTerms net terms → ArePieces terms pieces → AreKnees net terms (knees_of terms pieces) }
@@ -39,9 +39,10 @@ pub fn pieces_make_knees()
         ≡ slope_in (term_at terms a) (pieces_of pieces a) (length (pieces_of pieces a)) }
 {}
 
-/// A unit by which a duration is shortened costs the slope of the piece in which it lies: piece `k` lies below knee
-/// `k`, down to the next knee or to crash. At their normal durations the activities cost what is said of them. Without
-/// pieces, or with one knee, each unit below normal costs the slope.
+/// States what shortening a duration by one unit costs: the slope of the piece in which that unit lies.
+///
+/// Piece `k` lies below knee `k`, down to the next knee or to the crash duration. At their normal durations the
+/// activities cost what their terms say. Without pieces, or with one knee, each unit below normal costs the slope.
 pub fn a_unit_costs_its_slope()
     ensures piece { (net : Network) (terms : List Term) (pieces : List PieceRow) (a d k : ℕ) → AreTerms net terms →
         ArePieces terms pieces →
@@ -59,8 +60,12 @@ pub fn a_unit_costs_its_slope()
         activity_cost terms (one_knee terms) a d ≡ base_cost_of terms a + slope_of terms a * (normal_of terms a - d) }
 {}
 
-/// A length has one least cost, a longer one costs no more, and of three lengths in a row the middle one costs at most
-/// the mean of the outer ones.
+/// States that the least cost is convex: a length has one least cost, a longer one costs no more, and of three
+/// consecutive lengths the middle one costs at most the mean of the outer two.
+///
+/// # Source
+///
+/// Kelley 1961; Fulkerson 1961.
 pub fn least_cost_is_convex()
     ensures unique { (net : Network) (terms : List Term) (knees : Knees) (limit a b : ℕ) →
         IsLeastCost net terms knees limit a → IsLeastCost net terms knees limit b → a ≡ b }
@@ -72,7 +77,7 @@ pub fn least_cost_is_convex()
         IsLeastCost net terms knees (limit + 2) c → 2 * b ≤ a + c }
 {}
 
-/// At the all-normal length no schedule costs less than the normal durations.
+/// States that at the all-normal length no schedule costs less than the normal durations.
 pub fn normal_durations_are_cheapest()
     ensures { (net : Network) (terms : List Term) (knees : Knees) (times : ℕ → ℕ) (limit : ℕ) →
         IsInRange net → IsSound net → AreTerms net terms →

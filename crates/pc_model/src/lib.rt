@@ -14,17 +14,17 @@ pub use limits::{
     MAX_STATUSES, MAX_TERMS, MAX_TOGOS, MAX_UNIT_DAYS, MAX_VARIANCE,
 };
 
-/// An activity's place in the network: the events where it begins and ends, numbered in card order from 0.
+/// The place of an activity in the network: the events where it begins and ends, numbered from 0 in card order.
 #[derive(Clone, Copy)]
 pub struct Arc {
     pub from: u32,
     pub to: u32,
 }
 
-/// What an activity's duration may be, in units, and what it costs.
+/// What the duration of an activity may be, in units, and what it costs.
 ///
-/// The activity costs `cost` at its normal duration, and `slope` more for each unit by which it is shortened; where
-/// its cost has further pieces, `slope` holds for the first of these units alone.
+/// The activity costs `cost` at its normal duration and `slope` more for each unit by which it is shortened. If its
+/// cost has further pieces, `slope` applies to the first of these units only.
 #[derive(Clone, Copy, Debug, PartialEq, Eq)]
 pub struct Term {
     pub normal: u64,
@@ -33,10 +33,10 @@ pub struct Term {
     pub slope: u64,
 }
 
-/// A further piece of an activity's cost: so many units of its duration, and what each of them costs.
+/// A further piece of an activity's cost: a number of units of its duration, and the cost of each of them.
 ///
-/// The pieces of an activity follow one another in their order, below the units to which its own slope applies, down to
-/// its crash duration.
+/// The pieces of an activity follow one another in order, below the units to which its own slope applies, down to its
+/// crash duration.
 #[derive(Clone, Copy, Default)]
 pub struct PieceRow {
     pub activity: u32,
@@ -44,23 +44,23 @@ pub struct PieceRow {
     pub slope: u64,
 }
 
-/// A knee of an activity's cost: a duration, in units, and by how much a unit less costs more below it than above.
+/// A knee of an activity's cost: a duration, in units, and how much more a unit costs below it than above it.
 #[derive(Clone, Copy, Debug, PartialEq, Eq)]
 pub struct Knee {
     pub at: u64,
     pub rise: u64,
 }
 
-/// What time costs: amounts of money for each unit of the project's length, and for each unit by which the end comes
-/// before or after the target.
+/// What time costs: amounts of money per unit of the project's length, and per unit by which the end comes before or
+/// after the target.
 ///
-/// A project of length L costs `overhead` · L for its time, and `penalty` more for each unit by which L is above the
-/// target, or `bonus` less for each unit by which it is below. Each number is at most `MAX_TERMS`, and the bonus at
+/// A project of length L costs `overhead` · L for its time, plus `penalty` for each unit by which L is above the
+/// target, or minus `bonus` for each unit by which it is below. Each number is at most `MAX_TERMS`, and the bonus is at
 /// most the penalty.
 #[derive(Clone, Copy)]
 pub struct TimeTerms {
     pub overhead: u64,
-    /// The length, in units, from which on an end is late.
+    /// The greatest length, in units, that is not late.
     pub target: u64,
     /// What each unit before the target brings.
     pub bonus: u64,

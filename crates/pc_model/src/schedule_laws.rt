@@ -8,7 +8,7 @@ ghost use Rattle.pc_model.specs.declared.Term.{Term};
 ghost use Rattle.pc_model.specs.Network.{Network, IsInRange, IsSound, IsOrder};
 ghost use Rattle.pc_model.specs.Schedule.{AreTerms, HasSchedule, IsAllCrashLength};
 
-/// There is a schedule for a length exactly if it is not below the all-crash length.
+/// States that a length has a schedule if and only if it is at least the all-crash length.
 pub fn schedules_begin_at_all_crash()
     ensures exists { (net : Network) (terms : List Term) (order : List ℕ) (shortest limit : ℕ) →
         IsInRange net → IsSound net → AreTerms net terms → IsOrder net order → IsAllCrashLength net terms shortest →

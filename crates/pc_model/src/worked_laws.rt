@@ -7,8 +7,10 @@ ghost use Rattle.pc_model.specs.Cost.{IsPriced, IsLeastCost};
 ghost use Rattle.pc_model.specs.Pieces.{knees_of, ArePieces};
 ghost use Rattle.pc_model.specs.Worked.{small_net, small_terms, small_pieces};
 
-/// The small deck is a priced network. It takes 9 units at the normal durations and 5 at the crash durations; 9 units
-/// cost 45 at least, and 8 cost 48, since A is the cheaper of the two activities on the only critical path.
+/// States that the small deck is a priced network, with figures worked by hand.
+///
+/// It takes 9 units at the normal durations and 5 at the crash durations. The least cost is 45 at 9 units and 48 at 8,
+/// since A is the cheaper of the two activities on the only critical path.
 pub fn small_deck_is_worked()
     ensures pieces { ArePieces small_terms small_pieces }
     ensures priced { IsPriced small_net small_terms (knees_of small_terms small_pieces) }

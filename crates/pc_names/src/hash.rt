@@ -13,7 +13,7 @@ pub(crate) struct CodeHash {
 }
 
 impl CodeHash {
-    /// The hash with this key.
+    /// Creates a hash with this key.
     pub(crate) fn new(key: u128) -> CodeHash {
         let mut begun = FoldHasher::default();
         begun.write_u128(key);

@@ -3,10 +3,9 @@
 use pc_text::Code;
 use std::hash::{DefaultHasher, Hash, Hasher};
 
-/// Returns a key that depends on each of these bytes.
+/// Returns a key that depends on each of these bytes. Linear in the bytes.
 ///
-/// It is a digest by SipHash-1-3: whoever changes the bytes to crowd the table of one key gets another key. Linear in
-/// the bytes.
+/// It is a digest by SipHash-1-3: if you change the bytes to crowd the table of one key, you get another key.
 pub fn key_of_bytes(bytes: &[u8]) -> u128 {
     let mut hasher = DefaultHasher::new();
     hasher.write(bytes);

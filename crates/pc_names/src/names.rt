@@ -11,7 +11,7 @@ use pc_text::Code;
 use std::alloc::{AllocError, Global};
 use std::marker::Model;
 
-/// Codes in the order in which they were added, no two of them the same.
+/// Distinct codes, in the order in which they were added.
 pub struct Names {
     codes: IndexSet<Code, CodeHash>,
 }
@@ -32,7 +32,7 @@ impl Model for Names {
 }
 
 impl Names {
-    /// Creates an empty list, whose hash has this key. It allocates nothing.
+    /// Creates an empty list whose hash has this key. Allocates nothing.
     ///
     /// If others choose the codes, draw the key by chance, or take it from [`key_of_bytes`](crate::key_of_bytes).
     pub fn new(alloc: Global, key: u128) -> Names
@@ -44,6 +44,10 @@ impl Names {
     }
 
     /// Returns a list of these codes, whose key is [`key_of_codes`](crate::key_of_codes).
+    ///
+    /// # Errors
+    ///
+    /// Returns `AllocError` if memory runs out.
     pub fn of(alloc: Global, codes: &[Code]) -> Result<Names, AllocError>
         requires { IsNamedOnce codes.now }
         ensures { IfOk result (λ names. names ≡ codes.now) }
@@ -58,7 +62,11 @@ impl Names {
         Ok(names)
     }
 
-    /// Adds a code, and returns whether it is a new one.
+    /// Adds a code, and returns whether it is new.
+    ///
+    /// # Errors
+    ///
+    /// Returns `AllocError` if memory runs out.
     pub fn add(&mut self, code: &Code) -> Result<bool, AllocError>
         ensures added { IfOk result (λ is_new. is_new ≡ not (list_any (pointwise nat_eq code.now) self.old)) }
         ensures new { IfOk result (λ is_new. is_new ≡ true → self.new ≡ self.old ++ code.now ∷ []) }
@@ -86,7 +94,7 @@ impl Names {
         self.codes.as_slice()
     }
 
-    /// Returns the key, for lists that are looked up next to this one.
+    /// Returns the key, for other lists that are looked up with this one.
     pub fn key(&self) -> u128 {
         self.codes.hasher().key()
     }

@@ -5,10 +5,10 @@ ghost use Rattle.pc_model.specs.Network.{Network, IsInRange, IsOrder};
 ghost use Rattle.pc_net.specs.Networks.{events_from, events_to};
 ghost use Rattle.pc_net.specs.Degrees.{AreDistinct, degrees};
 
-/// Over all events each activity stands once among those that begin there and once among those that end there; over
-/// distinct events at most once. `degrees` adds up the lengths of [`crate::Net::out_arcs`] or [`crate::Net::in_arcs`].
+/// States that, over all events, each activity occurs once among those that begin there and once among those that end
+/// there, and over distinct events at most once.
 ///
-/// The function does nothing: its contract is the law, proved once, and a caller that calls it has it as a fact.
+/// `degrees` adds up the lengths of [`crate::Net::out_arcs`] or [`crate::Net::in_arcs`].
 pub fn each_activity_stands_once()
     ensures begin_at_most { (net : Network) (events : List ℕ) → AreDistinct events →
         degrees (events_from net.arcs) events ≤ length net.arcs }

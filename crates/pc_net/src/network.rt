@@ -46,9 +46,11 @@ impl Model for Net {
 }
 
 impl Net {
-    /// The network of these activities between the events 0, 1, .. below `events`.
+    /// Builds the network of these activities between the events 0 to `events` - 1. Linear in events and activities.
     ///
-    /// Linear in events and activities.
+    /// # Errors
+    ///
+    /// Returns the first of the causes of [`NetError`] that applies.
     pub fn build(
         alloc: Global,
         events: u32,
@@ -75,7 +77,7 @@ impl Net {
         Ok(Net { graph, order })
     }
 
-    /// How many events there are.
+    /// Returns the number of events.
     pub fn events(&self) -> u32
         ensures events { result ≡ self.now.events }
         ensures limit { result ≤ MAX_EVENTS }
@@ -83,7 +85,7 @@ impl Net {
         self.graph.events()
     }
 
-    /// How many activities there are.
+    /// Returns the number of activities.
     pub fn activities(&self) -> u32
         ensures activities { result ≡ length self.now.arcs }
         ensures limit { result ≤ MAX_ACTIVITIES }
@@ -93,7 +95,7 @@ impl Net {
         self.graph.activities()
     }
 
-    /// The event where the project starts.
+    /// Returns the event where the project starts.
     pub fn start(&self) -> u32
         ensures start { result ≡ self.now.start }
         ensures known { result < self.now.events }
@@ -101,7 +103,7 @@ impl Net {
         self.graph.start()
     }
 
-    /// The event where the project ends.
+    /// Returns the event where the project ends.
     pub fn end(&self) -> u32
         ensures end { result ≡ self.now.end }
         ensures known { result < self.now.events }
@@ -109,7 +111,7 @@ impl Net {
         self.graph.end()
     }
 
-    /// The event where the activity begins.
+    /// Returns the event where the activity begins.
     pub fn from(&self, a: u32) -> u32
         requires { a < length self.now.arcs }
         ensures event { result ≡ from_of self.now.arcs a }
@@ -118,7 +120,7 @@ impl Net {
         self.graph.from(a)
     }
 
-    /// The event where the activity ends.
+    /// Returns the event where the activity ends.
     pub fn to(&self, a: u32) -> u32
         requires { a < length self.now.arcs }
         ensures event { result ≡ to_of self.now.arcs a }
@@ -127,7 +129,7 @@ impl Net {
         self.graph.to(a)
     }
 
-    /// All events, each activity's beginning before its end.
+    /// Returns all events, the beginning of each activity before its end.
     pub fn order(&self) -> &[u32]
         ensures order { IsOrder self.now result.now }
         ensures sound { IsSound self.now }
@@ -136,7 +138,7 @@ impl Net {
         &self.order
     }
 
-    /// The activities that begin at the event, in card order.
+    /// Returns the activities that begin at the event, in card order.
     pub fn out_arcs(&self, e: u32) -> &[u32]
         requires { e < self.now.events }
         ensures listed { IsListed (λ a. from_of self.now.arcs a ≡ e) (length self.now.arcs) result.now }
@@ -145,7 +147,7 @@ impl Net {
         self.graph.out_arcs(e)
     }
 
-    /// The activities that end at the event, in card order.
+    /// Returns the activities that end at the event, in card order.
     pub fn in_arcs(&self, e: u32) -> &[u32]
         requires { e < self.now.events }
         ensures listed { IsListed (λ a. to_of self.now.arcs a ≡ e) (length self.now.arcs) result.now }

@@ -4,7 +4,7 @@ ghost use Rattle.std.specs.Prelude.{◌≡◌};
 use std::alloc::AllocError;
 use std::marker::Model;
 
-/// Activities, by their places in card order.
+/// A list of activities, given by their numbers in card order.
 #[derive(Debug, Drop)]
 pub struct Indices {
     items: Vec<u32>,
@@ -25,7 +25,7 @@ impl Indices {
         Indices { items }
     }
 
-    /// The activities, in order.
+    /// Returns the activities, in order.
     pub fn as_slice(&self) -> &[u32]
         ensures { result.now ≡ self.now }
     {
@@ -33,18 +33,18 @@ impl Indices {
     }
 }
 
-/// Why there is no network. Each cause is named only where none of those above it holds.
+/// Why there is no network. A cause is named only if none of those before it applies.
 #[derive(Debug, Drop)]
 pub enum NetError {
     /// The first activity that ends at the start.
     StartEntered { arc: u32 },
     /// The first activity that begins at the end.
     EndLeft { arc: u32 },
-    /// The first event that is not the start and that no activity enters, or that is not the end and that none
-    /// leaves. `entered` is false where it is not the start and none enters it.
+    /// The first event other than the start that no activity enters, or other than the end that none leaves. `entered`
+    /// is false if the event is not the start and no activity enters it.
     Dangling { event: u32, entered: bool },
-    /// Activities in a cycle, each followed by one that begins where it ends, through no event twice. The first is
-    /// the first activity that lies on any cycle.
+    /// Activities in a cycle, each followed by one that begins where it ends, through no event twice. The first one is
+    /// the first activity that is on any cycle.
     Cycle(Indices),
     /// Memory ran out.
     OutOfMemory,

@@ -5,15 +5,19 @@ ghost use Rattle.pc_records.specs.Text.{record_text};
 
 use std::alloc::AllocError;
 
-/// A text that takes records, one behind the other, whatever writes it.
+/// A text to which records are appended.
 ///
-/// Who puts records by this trait knows nothing of how they are written: no library above it carries the interface of
-/// `csv`.
+/// Code that writes records through this trait does not depend on how they are written, so no crate above carries the
+/// interface of `csv`.
 pub trait Records {
     // The text so far.
     ghost text: { Self → List ℕ };
 
-    /// Puts a record of these fields behind the text. After an error nothing of the text is left.
+    /// Appends a record of these fields to the text.
+    ///
+    /// # Errors
+    ///
+    /// Returns `AllocError` if memory runs out. The text is lost.
     fn put(&mut self, fields: &[&[u8]]) -> Result<(), AllocError>
         ensures put { OnOk result (text self.new ≡ text self.old ++ record_text (map (λ field. field.now) fields.now)) }
         ensures stopped { OnErr result (text self.new ≡ []) };

@@ -11,7 +11,7 @@ use std::marker::Model;
 
 /// One record of a deck: a list of fields, each of any bytes.
 ///
-/// [`Rows::next_row`](crate::Rows::next_row) fills it anew for each record and keeps its memory.
+/// [`Rows::next_row`](crate::Rows::next_row) fills it again for each record and keeps its memory.
 pub struct Row {
     pub(crate) fields: ByteRecord,
 }
@@ -30,7 +30,7 @@ impl Model for Row {
 }
 
 impl Row {
-    /// A row with no fields yet. It takes no memory before it is filled.
+    /// Creates a row without fields. Allocates nothing until it is filled.
     pub fn new(alloc: Global) -> Row
         ensures { result ≡ [] }
     {
@@ -39,8 +39,12 @@ impl Row {
         }
     }
 
-    /// A row with no fields yet, and with room for so many bytes and so many fields. It takes further memory for what
-    /// is longer.
+    /// Creates a row without fields, with capacity for this many bytes and fields. It allocates more for longer
+    /// records.
+    ///
+    /// # Errors
+    ///
+    /// Returns `AllocError` if memory runs out.
     pub fn with_room(alloc: Global, bytes: usize, fields: usize) -> Result<Row, AllocError>
         ensures { IfOk result (λ row. row ≡ []) }
     {
@@ -49,42 +53,42 @@ impl Row {
         })
     }
 
-    /// How many fields there are, the empty ones among them.
+    /// Returns the number of fields, empty ones included.
     pub fn len(&self) -> usize
         ensures { result ≡ length self.now }
     {
         self.fields.len()
     }
 
-    /// Whether there is no field at all. A record of a deck has at least one; see [`Row::is_blank`].
+    /// Returns whether there is no field at all. A record of a deck has at least one; see [`Row::is_blank`].
     pub fn is_empty(&self) -> bool
         ensures { result ≡ (length self.now == 0) }
     {
         self.fields.is_empty()
     }
 
-    /// The field at place `i`, counted from 0.
+    /// Returns field `i`, counted from 0, or `None` past the last one.
     pub fn get(&self, i: usize) -> Option<&[u8]>
         ensures { option_map (λ field. field.now) result ≡ slice_get self.now i }
     {
         self.fields.get(i)
     }
 
-    /// The field at place `i`, counted from 0, or an empty one past the last.
+    /// Returns field `i`, counted from 0, or an empty field past the last one.
     pub fn field(&self, i: usize) -> &[u8]
         ensures { result.now ≡ field_at self.now i }
     {
         self.get(i).unwrap_or(&[])
     }
 
-    /// Whether all fields are empty. Such a record is no card.
+    /// Returns whether all fields are empty. Such a record is no card.
     pub fn is_blank(&self) -> bool
         ensures { result ≡ is_blank self.now }
     {
         self.is_blank_from(0)
     }
 
-    /// Whether all fields from place `start` on, counted from 0, are empty; so also past the last field.
+    /// Returns whether all fields from number `start` on, counted from 0, are empty. Past the last field this is true.
     pub fn is_blank_from(&self, start: usize) -> bool
         ensures { result ≡ is_blank (drop start self.now) }
     {

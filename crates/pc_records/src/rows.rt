@@ -14,7 +14,7 @@ use std::marker::Model;
 /// The byte order mark that spreadsheets put in front of a text.
 const MARK: [u8; 3] = [0xEF, 0xBB, 0xBF];
 
-/// The records of a deck that are left to read.
+/// The records of a deck that have not been read yet.
 ///
 /// In contracts it is the list of these records, each a list of its fields.
 pub struct Rows<'a> {
@@ -44,7 +44,7 @@ impl<'a> Model for Rows<'a> {
 }
 
 impl<'a> Rows<'a> {
-    /// The records of a deck. It allocates nothing and reads nothing yet.
+    /// Creates a reader of the deck's records. Allocates nothing and reads nothing yet.
     pub fn new(alloc: Global, bytes: &'a [u8]) -> Rows<'a>
         ensures records { result ≡ deck_records bytes.now }
         ensures count { length result ≤ length bytes.now + 1 }
@@ -55,10 +55,14 @@ impl<'a> Rows<'a> {
         }
     }
 
-    /// Reads the next record into `row`, and says whether there was one. Where there was none, or at an error, the
-    /// fields of `row` mean nothing.
+    /// Reads the next record into `row`, and returns whether there was one. If there was none, the fields of `row` mean
+    /// nothing.
     ///
-    /// It allocates only where a record is longer than all before it. After an error no record is left.
+    /// Allocates only if a record is longer than all before it.
+    ///
+    /// # Errors
+    ///
+    /// Returns `AllocError` if memory runs out. The fields of `row` then mean nothing, and no record is left.
     pub fn next_row(&mut self, row: &mut Row) -> Result<bool, AllocError>
         ensures found { IfOk result (λ found. found ≡ true → self.old ≡ row.new ∷ self.new) }
         ensures end { IfOk result (λ found. found ≡ false → self.old ≡ []) }

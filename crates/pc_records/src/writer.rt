@@ -8,7 +8,7 @@ use csv::{Writer, WriterBuilder};
 use std::alloc::AllocError;
 use std::marker::Model;
 
-/// The text of records, written one after the other by `csv`.
+/// The text of records that `csv` writes one after the other.
 ///
 /// In contracts it is the text so far.
 #[derive(Drop)]
@@ -29,8 +29,12 @@ impl Model for RowWriter {
 }
 
 impl RowWriter {
-    /// No text yet, and room for so many bytes: the room of what is let go, and more where that is less. It takes
-    /// further memory for what is longer.
+    /// Creates an empty text with capacity for this many bytes: that of `room`, and more if it is less. It allocates
+    /// more for longer texts.
+    ///
+    /// # Errors
+    ///
+    /// Returns `AllocError` if memory runs out.
     pub fn with_room(mut room: Vec<u8>, bytes: usize) -> Result<RowWriter, AllocError>
         ensures { IfOk result (λ writer. writer ≡ []) }
     {
@@ -42,9 +46,11 @@ impl RowWriter {
         })
     }
 
-    /// Puts a record of these fields behind the text. It allocates only where the text is longer than its room.
+    /// Appends a record of these fields to the text. Allocates only if the text outgrows its capacity.
     ///
-    /// After an error nothing of the text is left.
+    /// # Errors
+    ///
+    /// Returns `AllocError` if memory runs out. The text is lost.
     pub fn put(&mut self, fields: &[&[u8]]) -> Result<(), AllocError>
         ensures put { OnOk result (self.new ≡ self.old ++ record_text (map (λ field. field.now) fields.now)) }
         ensures stopped { OnErr result (self.new ≡ []) }
@@ -60,7 +66,11 @@ impl RowWriter {
         Ok(())
     }
 
-    /// The text of the records that were put.
+    /// Returns the text of the records that were put.
+    ///
+    /// # Errors
+    ///
+    /// Returns `AllocError` if memory runs out, now or in an earlier call.
     pub fn finish(self) -> Result<Vec<u8>, AllocError>
         ensures { IfOk result (λ text. text.items ≡ self) }
     {

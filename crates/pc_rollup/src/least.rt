@@ -7,9 +7,12 @@ use crate::totals::Placed;
 use pc_wbs::Tree;
 use std::alloc::{AllocError, Global};
 
-/// For each item the least of the amounts that stand on it or below it, or none where there is no amount.
+/// Returns for each item the least of the amounts at or below it, or `None` if there is no amount. Linear in amounts
+/// and items.
 ///
-/// It takes time in proportion to amounts and items.
+/// # Errors
+///
+/// Returns `AllocError` if memory runs out.
 pub fn least_of(
     alloc: Global,
     tree: &Tree,

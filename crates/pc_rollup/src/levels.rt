@@ -16,10 +16,14 @@ pub struct LevelLine {
     pub amount: i64,
 }
 
-/// The items at a level and the leaves above it, in preorder, each with its total.
+/// Returns the items at a level and the leaves above it, in preorder, each with its total. One pass over the preorder.
 ///
-/// Each leaf is below exactly one of them, so where the totals are sums over leaves, the lines together make up the
-/// top's total. One pass over the preorder.
+/// Each leaf is below exactly one of them, so if the totals are sums over leaves, the lines together add up to the
+/// total of the top.
+///
+/// # Errors
+///
+/// Returns `AllocError` if memory runs out.
 pub fn level_lines(
     alloc: Global,
     tree: &Tree,
@@ -60,10 +64,8 @@ fn has_line(tree: &Tree, level: u32, item: u32) -> bool
     own == level || (own < level && tree.is_leaf(item))
 }
 
-/// Each leaf is below exactly one line of each level: its item at that level, which is itself where it is not that
-/// deep.
-///
-/// This function does nothing: its contract is the law.
+/// States that each leaf is below exactly one line of each level: its item at that level, or the leaf itself if it is
+/// not that deep.
 pub fn each_leaf_has_one_line()
     ensures one { (rows : List ItemRow) (level x : ℕ) → AreInRange rows → IsTree rows → 1 ≤ level →
         x < length rows → IsLeaf rows x

@@ -5,9 +5,12 @@ ghost use Rattle.pc_rollup.specs.inside.Totals.{AreAtLeaves, AreRolledUp, IsRoll
 use pc_wbs::Tree;
 use std::alloc::{AllocError, Global};
 
-/// For each item the sum over the leaves that are it or lie below it, from an amount for each item.
+/// Returns for each item the sum over the leaves at or below it, from one amount per item. One pass over the preorder,
+/// from its end.
 ///
-/// One pass over the preorder, from its end.
+/// # Errors
+///
+/// Returns `AllocError` if memory runs out.
 pub fn rollup(alloc: Global, tree: &Tree, leaf_amounts: &[i64]) -> Result<Vec<i64>, AllocError>
     requires one_each { length leaf_amounts.now ≡ length tree.now }
     requires at_leaves { AreAtLeaves tree.now leaf_amounts.now }
@@ -23,16 +26,18 @@ pub fn rollup(alloc: Global, tree: &Tree, leaf_amounts: &[i64]) -> Result<Vec<i6
     Ok(totals)
 }
 
-/// An amount that stands on an item, as an account's budget does.
+/// An amount on an item, such as an account's budget.
 #[derive(Clone, Copy)]
 pub struct Placed {
     pub item: u32,
     pub amount: i64,
 }
 
-/// For each item the sum of the amounts that stand on it or below it.
+/// Returns for each item the sum of the amounts at or below it. Linear in amounts and items.
 ///
-/// It takes time in proportion to amounts and items.
+/// # Errors
+///
+/// Returns `AllocError` if memory runs out.
 pub fn totals_of(alloc: Global, tree: &Tree, placed: &[Placed]) -> Result<Vec<i64>, AllocError>
     requires on_leaves { AreOnLeaves tree.now placed.now }
     requires small { sum_by (λ p. unsigned_abs p.amount) placed.now < 2 ^ 63 }

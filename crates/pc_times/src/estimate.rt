@@ -5,9 +5,9 @@ ghost use Rattle.pc_times.specs.Estimates.{expected_time, variance_of};
 use crate::MAX_LENGTH;
 use pc_model::{MAX_DURATION, MAX_UNIT_DAYS};
 
-/// The expected time of an activity, in sixths of a day.
+/// Returns the expected time of an activity, in sixths of a day: `(opt + 4·likely + pess) · unit_days`.
 ///
-/// The estimates are in units of `unit_days` days. The most likely one counts four times.
+/// The estimates are in units of `unit_days` days.
 pub fn expected_sixths(opt: u64, likely: u64, pess: u64, unit_days: u64) -> u64
     requires opt { opt ≤ likely }
     requires likely { likely ≤ pess }
@@ -21,7 +21,7 @@ pub fn expected_sixths(opt: u64, likely: u64, pess: u64, unit_days: u64) -> u64
     (opt + 4 * likely + pess) * unit_days
 }
 
-/// The variance of an activity's time, in thirty-sixths of a square day.
+/// Returns the variance of an activity's time, in thirty-sixths of a square day: `(pess - opt)² · unit_days²`.
 ///
 /// The estimates are in units of `unit_days` days. Their range counts as six standard deviations.
 pub fn variance_36(opt: u64, pess: u64, unit_days: u64) -> u64

@@ -10,7 +10,12 @@ use crate::passes::{early_times, tails_to_end};
 use pc_net::Net;
 use std::alloc::{AllocError, Global};
 
-/// When each event is reached at the earliest, in card order. Linear in events and activities.
+/// Returns the earliest time of each event, in card order: the greatest sum of lengths over the walks from the start.
+/// Linear in events and activities.
+///
+/// # Errors
+///
+/// Returns `AllocError` if memory runs out.
 pub fn early(alloc: Global, net: &Net, lengths: &[u64]) -> Result<Vec<u64>, AllocError>
     requires { AreLengths net.now lengths.now }
     ensures times { IfOk result (λ times. AreEarly net.now lengths.now times.items) }
@@ -19,10 +24,14 @@ pub fn early(alloc: Global, net: &Net, lengths: &[u64]) -> Result<Vec<u64>, Allo
     early_times(alloc, net, lengths)
 }
 
-/// When each event is to be reached at the latest, in card order, so that the end can be reached at `by`. Linear in
+/// Returns the latest time of each event, in card order, at which the end can still be reached at `by`. Linear in
 /// events and activities.
 ///
-/// A time is negative where a walk from that event to the end takes longer than there is up to `by`.
+/// A time is negative if a walk from that event to the end takes longer than `by`.
+///
+/// # Errors
+///
+/// Returns `AllocError` if memory runs out.
 pub fn late(alloc: Global, net: &Net, lengths: &[u64], by: i64) -> Result<Vec<i64>, AllocError>
     requires lengths { AreLengths net.now lengths.now }
     requires by { unsigned_abs by < 2 ^ 40 }
@@ -37,8 +46,8 @@ pub fn late(alloc: Global, net: &Net, lengths: &[u64], by: i64) -> Result<Vec<i6
     Ok(times)
 }
 
-/// The time that lies so long before another: the latest time of an event, where `tail` is the greatest sum of lengths
-/// over the walks from it to the end, which is to be met at `by`.
+/// Returns `by` minus `tail`: the latest time of an event, if `tail` is the greatest sum of lengths over the walks from
+/// it to the end.
 pub fn so_long_before(by: i64, tail: u64) -> i64
     requires by { unsigned_abs by < 2 ^ 40 }
     requires tail { tail ≤ MAX_TIME }
@@ -47,7 +56,7 @@ pub fn so_long_before(by: i64, tail: u64) -> i64
     by - tail as i64
 }
 
-/// How long an event can wait: its latest time less its earliest. It is negative where the end cannot be met.
+/// Returns the slack of an event: its latest time minus its earliest. It is negative if the end cannot be met.
 pub fn slack(late: i64, early: u64) -> i64
     requires late { unsigned_abs late < 2 ^ 41 }
     requires early { early < 2 ^ 41 }

@@ -3,7 +3,7 @@ ghost use Rattle.std.specs.Prelude.{◌≡◌, ◌^◌, ◌<◌, length, slice_i
 
 use std::marker::Model;
 
-/// When each event and each activity's finish are expected.
+/// The forecast: when each event is expected, and when each activity is expected to be finished.
 #[derive(Drop)]
 pub struct Forecast {
     pub(crate) times: Vec<u64>,
@@ -23,7 +23,7 @@ impl Model for Forecast {
 }
 
 impl Forecast {
-    /// When the event is expected, in sixths of a day.
+    /// Returns when the event is expected, in sixths of a day.
     pub fn time(&self, e: u32) -> u64
         requires { e < length self.now.times }
         ensures time { result ≡ slice_index self.now.times e }
@@ -32,7 +32,7 @@ impl Forecast {
         self.times[e as usize]
     }
 
-    /// When the activity is expected to be finished, in sixths of a day.
+    /// Returns when the activity is expected to be finished, in sixths of a day.
     pub fn finish(&self, a: u32) -> u64
         requires { a < length self.now.finishes }
         ensures finish { result ≡ slice_index self.now.finishes a }

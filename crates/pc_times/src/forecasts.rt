@@ -11,10 +11,15 @@ use crate::state::ActState;
 use pc_net::Net;
 use std::alloc::{AllocError, Global};
 
-/// When each event and each activity's finish are expected, as `as_of` stands.
+/// Returns the forecast from `states`, one per activity in card order, and the as-of time `as_of`. Times and lengths
+/// are in sixths of a day.
 ///
-/// The start is expected at 0, and each other event with the last of the activities that end there. Linear in events
-/// and activities.
+/// The start is expected at 0, and each other event when the last of the activities that end there is finished. Linear
+/// in events and activities.
+///
+/// # Errors
+///
+/// Returns `AllocError` if memory runs out.
 pub fn forecast(
     alloc: Global,
     net: &Net,

@@ -20,14 +20,14 @@ impl Model for Longest {
 }
 
 impl Longest {
-    /// The sum of the lengths along the critical path.
+    /// Returns the sum of the lengths along the critical path.
     pub fn length(&self) -> u64
         ensures { result ≡ self.now.length }
     {
         self.length
     }
 
-    /// The time of an event: the greatest sum over the walks from the start to it.
+    /// Returns the time of an event: the greatest sum of lengths over the walks from the start to it.
     pub fn time(&self, e: u32) -> u64
         requires { e < length self.now.times }
         ensures { result ≡ slice_index self.now.times e }
@@ -35,14 +35,14 @@ impl Longest {
         self.times[e as usize]
     }
 
-    /// One time for each event, in card order.
+    /// Returns the times of all events, in card order.
     pub fn times(&self) -> &[u64]
         ensures { result.now ≡ self.now.times }
     {
         &self.times
     }
 
-    /// The activities of the critical path, from the start event to the end event.
+    /// Returns the activities of the critical path, from the start event to the end event.
     pub fn path(&self) -> &[u32]
         ensures { result.now ≡ self.now.path }
     {

@@ -20,8 +20,9 @@ pub use passes::{early_into, tails_into};
 pub use path::{critical_path, critical_path_into, longest};
 pub use state::ActState;
 
-/// The greatest length of an activity: 100,000 units of 7 days, in sixths of a day.
+/// The greatest length of an activity, in sixths of a day: 100,000 units of 7 days.
 pub const MAX_LENGTH: u64 = 4_200_000;
 
-/// The greatest time of an event: no walk has more than 10,000 activities, each of the greatest length.
+/// The greatest time of an event, in sixths of a day: no walk has more than 10,000 activities, each of the greatest
+/// length.
 pub const MAX_TIME: u64 = 42_000_000_000;

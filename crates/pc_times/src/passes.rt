@@ -38,8 +38,8 @@ pub(crate) fn tails_to_end(
     Ok(tails)
 }
 
-/// Puts for each event, in card order, when it is reached at the earliest: the greatest sum of lengths over the walks
-/// from the start to it. One pass in the order; it takes no memory.
+/// Writes the earliest time of each event, in card order, to `times`: the greatest sum of lengths over the walks from
+/// the start to it. One pass over the activities; allocates nothing.
 pub fn early_into(net: &Net, lengths: &[u64], times: &mut [u64])
     requires lengths { AreLengths net.now lengths.now }
     requires places { length times.old ≡ net.now.events }
@@ -54,8 +54,8 @@ pub fn early_into(net: &Net, lengths: &[u64], times: &mut [u64])
     }
 }
 
-/// Puts for each event, in card order, the greatest sum of lengths over the walks from it to the end. One pass against
-/// the order; it takes no memory.
+/// Writes for each event, in card order, the greatest sum of lengths over the walks from it to the end to `tails`. One
+/// pass over the activities; allocates nothing.
 pub fn tails_into(net: &Net, lengths: &[u64], tails: &mut [u64])
     requires lengths { AreLengths net.now lengths.now }
     requires places { length tails.old ≡ net.now.events }

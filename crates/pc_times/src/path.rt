@@ -15,10 +15,14 @@ use crate::passes::{early_times, tails_to_end};
 use pc_net::Net;
 use std::alloc::{AllocError, Global};
 
-/// The length of the network, its event times and its critical path, in two passes over the activities.
+/// Returns the length of the network, its event times and its critical path, in two passes over the activities.
 ///
-/// Where several walks have the greatest sum, the critical path takes at each event the first activity, in card
-/// order, that lies on one of them.
+/// If several walks have the greatest sum, the critical path takes at each event the first activity, in card order,
+/// that is on one of them.
+///
+/// # Errors
+///
+/// Returns `AllocError` if memory runs out.
 pub fn longest(alloc: Global, net: &Net, lengths: &[u64]) -> Result<Longest, AllocError>
     requires { AreLengths net.now lengths.now }
     ensures times { IfOk result (λ found. AreEarly net.now lengths.now found.times) }
@@ -41,7 +45,11 @@ pub fn longest(alloc: Global, net: &Net, lengths: &[u64]) -> Result<Longest, All
     })
 }
 
-/// The critical path, in two passes over the activities: the walk that `longest` finds.
+/// Returns the critical path that [`longest`] picks, in two passes over the activities.
+///
+/// # Errors
+///
+/// Returns `AllocError` if memory runs out.
 pub fn critical_path(alloc: Global, net: &Net, lengths: &[u64]) -> Result<Vec<u32>, AllocError>
     requires { AreLengths net.now lengths.now }
     ensures picked { IfOk result (λ path. IsPickedWalk net.now lengths.now path.items) }
@@ -77,8 +85,8 @@ pub(crate) fn picked_walk(
     Ok(path)
 }
 
-/// Puts the picked walk at the front, by the sums to each event and from it, and answers how many activities it has. In
-/// two passes over the activities at most; it takes no memory.
+/// Writes the critical path to the front of a slice, given the sums to each event and from it, and returns how many
+/// activities it has. At most two passes over the activities; allocates nothing.
 pub fn critical_path_into(
     net: &Net,
     lengths: &[u64],

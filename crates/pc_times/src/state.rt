@@ -1,11 +1,11 @@
 //! What is known of an activity.
 
-/// How far an activity is. Times are in sixths of a day from the project's start date.
+/// The progress of an activity. Times are in sixths of a day from the project's start date.
 #[derive(Clone, Copy)]
 pub enum ActState {
     /// It has not begun.
     Waiting,
-    /// It was begun at this time, and goes on.
+    /// It began at this time and is not finished.
     Started(u64),
     /// It was finished at this time.
     Finished(u64),

@@ -18,13 +18,13 @@ use pc_flow::Solver;
 use pc_model::TimeTerms;
 use std::sync::ledger::Ledger;
 
-/// The optimum of the curve of a solver's network: the length of its range for which the project costs least in all,
-/// and of several the smallest.
+/// Finds the optimum of the curve of a solver's network: the length for which the project costs least in total, and of
+/// several such lengths the shortest.
 ///
-/// The solver goes down from before its first segment for as long as a unit less costs no more than it saves, and stays
-/// at the segment that holds the optimum, so that a schedule for it can be read there. A few steps a segment, and at
-/// most four looks at each activity for each unit by which the slope rises or the lower end comes down. It takes no
-/// memory.
+/// No segment may have been taken from the solver before. It goes down for as long as one unit less costs no more than
+/// it saves, and stays at the segment that holds the optimum, so that a schedule for it can be read there. It takes a
+/// few steps per segment, and at most four looks at each activity for each unit by which the slope rises or the lower
+/// end comes down. Allocates nothing.
 pub fn best<L: Ledger>(solver: &mut Solver<'_>, terms: &TimeTerms, steps: &mut Steps<L>) -> Best
     requires before { solver.old.given ≡ false }
     requires terms { AreTimeTerms terms.now }

@@ -8,7 +8,7 @@ ghost use Rattle.pc_curve.specs.Points.{curve_in};
 ghost use Rattle.pc_total.specs.Totals.{IsOptimum, IsTotal};
 ghost use Rattle.pc_total.specs.Bests.{HaveSigns, IsAbove, IsBelow};
 
-/// What one unit more saves falls with the length, over the whole range: of two lengths the longer one gains no more.
+/// States that what one more unit saves does not grow with the length: of two lengths the longer one gains no more.
 pub fn gains_fall()
     ensures { (net : PricedNetwork) (short long a b c d : ℕ) → IsPriced net.network net.terms (knees_in net) →
         short ≤ long →
@@ -16,8 +16,8 @@ pub fn gains_fall()
         c - d ≤ a - b }
 {}
 
-/// Where the bonus is at most the penalty, two signs show the optimum: one unit shorter costs more in all, and one unit
-/// longer no less. Then no length of the range has a lesser total, and no shorter one an equal one.
+/// States that, if the bonus is at most the penalty, two signs show the optimum: one unit less costs more in total, and
+/// one unit more costs no less. Then no length of the range has a lower total, and no shorter one an equal total.
 pub fn two_signs_show_the_optimum()
     ensures { (net : PricedNetwork) (terms : TimeTerms) (shortest longest limit : ℕ) (total : ℤ)
         (below above : Option ℤ) →

@@ -9,9 +9,10 @@ use pc_edges::Sink;
 use pc_edges::page::Page;
 use pc_text::Code;
 
-/// Puts the lines of the optimum of a project with this code on a page, on which more may follow: its length, the least
-/// cost of a schedule for it, what its time costs, both together, and by how much the total is higher one unit shorter
-/// and one unit longer, with a dash where the range ends.
+/// Writes the lines of the optimum of the project with this code to a page, to which more may be added.
+///
+/// The lines are its length, the least cost of a schedule for it, what its time costs, the sum, and how much higher the
+/// total is one unit shorter and one unit longer, with a dash if the range ends there.
 pub fn put_best<O: Sink>(page: &mut Page, sink: &mut O, code: &Code, best: &Best)
     ensures { Puts O.taken O.faults page.old sink.old page.new sink.new (best_text code.now best.now) }
 {

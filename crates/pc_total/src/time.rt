@@ -8,8 +8,9 @@ ghost use Rattle.pc_total.specs.inside.Stops.{unit_cost};
 use pc_flow::MAX_LENGTH;
 use pc_model::TimeTerms;
 
-/// What the time of a project of this length costs: the overhead of each unit, and the penalty of each unit above the
-/// target, less the bonus of each unit below it. It is negative where the bonus outweighs the overhead.
+/// Returns what the time of a project of this length, in units, costs: the overhead of each unit, plus the penalty of
+/// each unit above the target, or minus the bonus of each unit below it. It is negative if the bonus outweighs the
+/// overhead.
 ///
 /// The length is at most 1,000,000,000 units, and so is each of the terms. The bonus may be above the penalty.
 pub fn time_cost(terms: &TimeTerms, length: u64) -> i64

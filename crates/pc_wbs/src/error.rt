@@ -25,7 +25,7 @@ impl Indices {
         Indices { rows }
     }
 
-    /// The row numbers.
+    /// Returns the row numbers.
     pub fn as_slice(&self) -> &[u32]
         ensures { result.now ≡ self.now }
     {
@@ -33,15 +33,14 @@ impl Indices {
     }
 }
 
-/// Why rows are refused; the causes are tried in this order.
+/// Why rows are no tree. The causes are tried in this order.
 #[derive(Debug, Drop)]
 pub enum TreeError {
     /// Every row has a parent.
     NoTop,
     /// The second row without a parent.
     SecondTop { item: u32 },
-    /// The first row from which repeated parents lead back to it, and the loop from it, each row followed by its
-    /// parent.
+    /// The first row that is its own ancestor, and the loop that begins there: each row is followed by its parent.
     Loop(Indices),
     /// The first row below the 16th level, and its level.
     TooDeep { item: u32, level: u32 },

@@ -2,7 +2,7 @@
 ghost use Rattle.std.specs.Prelude.{◌≡◌, ◌<◌, length};
 ghost use Rattle.pc_wbs.specs.Climb.{parent_of};
 
-/// A row of a work breakdown structure: an item by the row of its parent, counted from 0.
+/// A row of a work breakdown structure: an item, given by the row of its parent, counted from 0.
 ///
 /// Only the top item has no parent.
 #[derive(Clone, Copy)]

@@ -13,7 +13,7 @@ use crate::row::{ItemRow, parent_of};
 use std::alloc::Global;
 use std::marker::Model;
 
-/// A tree of items, each named by its row. In contracts it is its rows.
+/// A tree of items, each identified by its row number. In contracts it is its rows.
 pub struct Tree {
     rows: Vec<ItemRow>,
     levels: Vec<u32>,
@@ -49,9 +49,11 @@ impl Model for Tree {
 }
 
 impl Tree {
-    /// The tree of the rows.
+    /// Builds the tree of these rows. Linear in the rows; naming a loop takes about fourteen more passes.
     ///
-    /// It takes time in proportion to their number; to name a loop takes some fourteen passes more.
+    /// # Errors
+    ///
+    /// Returns the first of the causes of [`TreeError`] that applies.
     pub fn build(alloc: Global, rows: &[ItemRow]) -> Result<Tree, TreeError>
         requires count { length rows.now ≤ MAX_ITEMS }
         requires in_range { AreInRange rows.now }
@@ -72,7 +74,7 @@ impl Tree {
         })
     }
 
-    /// How many items there are.
+    /// Returns the number of items.
     pub fn len(&self) -> u32
         ensures len { result ≡ length self.now }
         ensures count { length self.now ≤ MAX_ITEMS }
@@ -82,7 +84,7 @@ impl Tree {
         self.rows.len() as u32
     }
 
-    /// The parent of an item.
+    /// Returns the parent of an item, or `None` for the top.
     pub fn parent(&self, i: u32) -> Option<u32>
         requires { i < length self.now }
         ensures parent { result ≡ parent_of self.now i }
@@ -92,7 +94,7 @@ impl Tree {
         parent_of(&self.rows, i)
     }
 
-    /// The level of an item, 1 at the top.
+    /// Returns the level of an item, 1 at the top.
     pub fn level(&self, i: u32) -> u32
         requires { i < length self.now }
         ensures level { HasLevel self.now i result }
@@ -101,7 +103,7 @@ impl Tree {
         self.levels[i as usize]
     }
 
-    /// The greatest level of an item.
+    /// Returns the greatest level of an item.
     pub fn depth(&self) -> u32
         ensures depth { IsDepth self.now result }
         ensures within { result ≤ MAX_LEVEL }
@@ -109,7 +111,7 @@ impl Tree {
         self.depth
     }
 
-    /// Whether the item is nobody's parent.
+    /// Returns whether the item has no children.
     pub fn is_leaf(&self, i: u32) -> bool
         requires { i < length self.now }
         ensures { IsTrue result ↔ IsLeaf self.now i }
@@ -117,7 +119,7 @@ impl Tree {
         self.firsts[i as usize].is_none()
     }
 
-    /// The items in preorder: the top first, each item before its children, children in row order.
+    /// Returns the items in preorder: the top first, each item before its children, children in row order.
     pub fn preorder(&self) -> &[u32]
         ensures order { IsPreorder self.now result.now }
         ensures in_range { AreInRange self.now }
@@ -126,9 +128,8 @@ impl Tree {
         self.order.as_slice()
     }
 
-    /// The item itself or its ancestor, at the lesser of the level and the item's own.
-    ///
-    /// It takes as many steps as there are levels between.
+    /// Returns the item or its ancestor that is at `level`, or the item itself if its own level is less. Takes one step
+    /// per level between them.
     pub fn ancestor_at(&self, i: u32, level: u32) -> u32
         requires item { i < length self.now }
         requires level { 1 ≤ level }

@@ -35,7 +35,11 @@ impl Model for Log {
 }
 
 impl Log {
-    /// The log of these statuses. It takes time in proportion to activities and statuses.
+    /// Builds the log of these statuses. Linear in activities and statuses.
+    ///
+    /// # Errors
+    ///
+    /// Returns `AllocError` if memory runs out.
     pub fn build(
         alloc: Global,
         activities: u32,
@@ -57,14 +61,14 @@ impl Log {
         })
     }
 
-    /// The statuses, in card order.
+    /// Returns the statuses, in card order.
     pub fn statuses(&self) -> &[StatusRow]
         ensures { result.now ≡ self.now.statuses }
     {
         &self.statuses
     }
 
-    /// Why the `k`-th status is in disorder, if it is: the first reason that it has.
+    /// Returns the first reason why status `k` is in disorder, or `None` if it is in order.
     pub fn disorder(&self, start: Day, as_of: Day, k: u32) -> Option<StatusFault>
         requires { k < length self.now.statuses }
         ensures told { IfSome result (IsReason start as_of self.now.statuses k) }
@@ -80,7 +84,7 @@ impl Log {
         reason(start, as_of, &self.statuses, k, same, begun)
     }
 
-    /// How far an activity is, in sixths of a day from the start, where all statuses are in order.
+    /// Returns the progress of activity `a`, in sixths of a day from `start`, if all statuses are in order.
     pub fn state(&self, start: Day, as_of: Day, a: u32) -> ActState
         requires known { a < self.now.activities }
         requires in_order { AreInOrder start as_of self.now.statuses }

@@ -2,7 +2,8 @@
 
 use pc_days::Day;
 
-/// What a STATUS card says of an activity, by its number: on which day it was begun or, where `finished`, ended.
+/// What a STATUS card says: the number of its activity, the day, and whether the activity began or, if `finished`,
+/// ended on that day.
 #[derive(Clone, Copy)]
 pub struct StatusRow {
     pub activity: u32,

@@ -13,7 +13,11 @@ pub struct OutlineRow {
     pub level: u32,
 }
 
-/// A row for each item: the top, then what is below it, each item before its children.
+/// Returns one row per item in preorder: the top first, each item before its children.
+///
+/// # Errors
+///
+/// Returns `AllocError` if memory runs out.
 pub fn outline_of(alloc: Global, tree: &Tree) -> Result<Vec<OutlineRow>, AllocError>
     ensures outline { IfOk result (λ outline. IsOutline tree.now outline.items) }
     ensures ranged { AreInRange tree.now }

@@ -18,7 +18,7 @@ use pc_wbs::Tree;
 use std::alloc::{AllocError, Global};
 use std::marker::Model;
 
-/// The amounts of an item.
+/// The amounts of an item in an outlook.
 #[derive(Clone, Copy, Debug, PartialEq, Eq)]
 pub struct OutlookAmounts {
     pub budget: i64,
@@ -26,10 +26,10 @@ pub struct OutlookAmounts {
     pub change: i64,
 }
 
-/// For each item what may be spent, what it is going to cost, and by how much that is more.
+/// Budget, outlook and change of each item.
 ///
-/// What it is going to cost is what its activities cost at their durations, and the budgets of its accounts in packages
-/// without activities.
+/// The outlook of an item is what its activities cost at their durations, plus the budgets of its accounts in packages
+/// without activities. The change is the outlook minus the budget.
 pub struct Outlook {
     outline: Vec<OutlineRow>,
     amounts: Vec<OutlookAmounts>,
@@ -54,7 +54,12 @@ impl Model for Outlook {
 }
 
 impl Outlook {
-    /// The outlook where the activities stand on `places` and cost so much. Linear in activities, accounts and items.
+    /// Returns the outlook for activities on the items `places` with the given costs. Linear in activities, accounts
+    /// and items.
+    ///
+    /// # Errors
+    ///
+    /// Returns `AllocError` if memory runs out.
     pub fn of(
         alloc: Global,
         tree: &Tree,
@@ -81,14 +86,14 @@ impl Outlook {
         Ok(Outlook { outline, amounts })
     }
 
-    /// How many items there are.
+    /// Returns the number of items.
     pub fn items(&self) -> usize
         ensures { result ≡ length self.now.outline }
     {
         self.outline.len()
     }
 
-    /// The `k`-th item, with its level.
+    /// Returns item `k` in preorder, with its level.
     pub fn row(&self, k: usize) -> OutlineRow
         requires { k < length self.now.outline }
         ensures { result ≡ row_at self.now.outline k }
@@ -96,7 +101,7 @@ impl Outlook {
         self.outline[k]
     }
 
-    /// The amounts of an item.
+    /// Returns the amounts of an item.
     pub fn of_item(&self, item: u32) -> OutlookAmounts
         requires { item < length self.now.amounts }
         ensures { result ≡ amounts_at self.now.amounts item }

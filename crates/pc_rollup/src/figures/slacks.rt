@@ -12,9 +12,14 @@ use pc_times::{Forecast, slack};
 use pc_wbs::Tree;
 use std::alloc::{AllocError, Global};
 
-/// For each item the least forecast slack of the activities that stand on it or below it, or none where there are none.
+/// Returns for each item the least forecast slack of the activities at or below it, or `None` if there are none. Linear
+/// in activities and items.
 ///
-/// The activities stand on `places`; `late` has the latest time of each event. Linear in activities and items.
+/// The activities are on the items `places`; `late` has the latest time of each event, in sixths of a day.
+///
+/// # Errors
+///
+/// Returns `AllocError` if memory runs out.
 pub fn least_slacks(
     alloc: Global,
     tree: &Tree,

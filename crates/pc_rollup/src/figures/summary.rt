@@ -25,7 +25,7 @@ use pc_wbs::Tree;
 use std::alloc::{AllocError, Global};
 use std::marker::Model;
 
-/// The amounts of an item or of a level.
+/// The amounts of an item or of a level in a summary.
 #[derive(Clone, Copy, Debug, PartialEq, Eq)]
 pub struct SummaryAmounts {
     pub budget: i64,
@@ -35,8 +35,7 @@ pub struct SummaryAmounts {
     pub overrun: i64,
 }
 
-/// For each item, and for each level, what may be spent, what was spent, what is to go, what it will have cost, and the
-/// overrun.
+/// Budget, actual, to-go, latest estimate and overrun of each item and of each level.
 pub struct Summary {
     outline: Vec<OutlineRow>,
     budget: Column,
@@ -76,7 +75,11 @@ impl Model for Summary {
 }
 
 impl Summary {
-    /// The summary of these accounts. It takes time in proportion to accounts, and to items at each level.
+    /// Returns the summary of these accounts. Linear in the accounts, and in the items at each level.
+    ///
+    /// # Errors
+    ///
+    /// Returns `AllocError` if memory runs out.
     pub fn of(
         alloc: Global,
         tree: &Tree,
@@ -100,14 +103,14 @@ impl Summary {
         })
     }
 
-    /// How many items there are.
+    /// Returns the number of items.
     pub fn items(&self) -> usize
         ensures { result ≡ length self.now.outline }
     {
         self.outline.len()
     }
 
-    /// The `k`-th item, with its level.
+    /// Returns item `k` in preorder, with its level.
     pub fn row(&self, k: usize) -> OutlineRow
         requires { k < length self.now.outline }
         ensures { result ≡ row_at self.now.outline k }
@@ -115,14 +118,14 @@ impl Summary {
         self.outline[k]
     }
 
-    /// How many levels there are.
+    /// Returns the number of levels.
     pub fn depth(&self) -> usize
         ensures { result ≡ length self.now.budget.levels }
     {
         self.budget.depth()
     }
 
-    /// The amounts of an item.
+    /// Returns the amounts of an item.
     pub fn of_item(&self, item: u32) -> SummaryAmounts
         requires budget { item < length self.now.budget.items }
         requires actual { item < length self.now.actual.items }
@@ -140,7 +143,7 @@ impl Summary {
         }
     }
 
-    /// The amounts of level `k + 1`.
+    /// Returns the amounts of level `k + 1`.
     pub fn of_level(&self, k: usize) -> SummaryAmounts
         requires budget { k < length self.now.budget.levels }
         requires actual { k < length self.now.actual.levels }
@@ -180,10 +183,8 @@ fn column_of(
     Column::of(alloc, tree, accounts, &amounts)
 }
 
-/// At each level the lines' actuals add up to all charges dated up to as-of: each of these charges counts once, and no
-/// other does.
-///
-/// This function does nothing: its contract is the law.
+/// States that at each level the actuals of the lines add up to all charges dated up to the as-of date: each of these
+/// charges counts once, and no other counts.
 pub fn each_charge_counts_once()
     ensures once { (tree : List ItemRow) (accounts : List AcctRow) (charges togos : List MoneyRow) (as_of : ℤ)
         (entries : List Entry) (level : ℕ) (totals : List ℤ) (lines : List LevelLine)

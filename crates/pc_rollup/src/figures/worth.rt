@@ -18,7 +18,7 @@ use pc_wbs::Tree;
 use std::alloc::{AllocError, Global};
 use std::marker::Model;
 
-/// The amounts of an item.
+/// The amounts of an item in a value of work report.
 #[derive(Clone, Copy, Debug, PartialEq, Eq)]
 pub struct WorthAmounts {
     pub budget: i64,
@@ -27,7 +27,7 @@ pub struct WorthAmounts {
     pub overrun: i64,
 }
 
-/// For each item what may be spent, what was spent, what the work is worth, and by how much more was spent than that.
+/// Budget, actual, earned value and overrun of each item. The overrun is the actual minus the value.
 pub struct Worth {
     budget: Vec<i64>,
     actual: Vec<i64>,
@@ -61,8 +61,12 @@ impl Model for Worth {
 }
 
 impl Worth {
-    /// What the work of the items is worth, where the activities stand on `places` and are in these states. It takes
-    /// time in proportion to activities, accounts and items.
+    /// Returns what the work of the items is worth, for activities on the items `places` in the given states. Linear in
+    /// activities, accounts and items.
+    ///
+    /// # Errors
+    ///
+    /// Returns `AllocError` if memory runs out.
     pub fn of(
         alloc: Global,
         tree: &Tree,
@@ -90,7 +94,7 @@ impl Worth {
         })
     }
 
-    /// The amounts of an item.
+    /// Returns the amounts of an item.
     pub fn of_item(&self, item: u32) -> WorthAmounts
         requires budget { item < length self.now.budget }
         requires actual { item < length self.now.actual }
