@@ -15,7 +15,7 @@ use Rattle.pc_whatif.specs.inside.trials.Reserved.{Reserved, IsFor, IsStanding, 
 use Rattle.pc_curve.specs.Range.{IsRange}
 use Rattle.pc_whatif.specs.inside.trials.Trials.{looks_over}
 use Rattle.pc_whatif.specs.Texts.{ok_text}
-use Rattle.pc_whatif.specs.Planning.{net_tried, refused, IsAnswer, editing_after}
+use Rattle.pc_whatif.specs.Planning.{net_tried, IsAnswer, editing_after}
 
 -- what contracts see of a session: the deck's project, that project as it is edited, and what stands in the session's spans
 pub record Planning : Type 0 where
