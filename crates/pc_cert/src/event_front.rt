@@ -1,5 +1,5 @@
 //! How each line of one event begins.
-ghost use Rattle.std.specs.Prelude.{◌≡◌, IfSome, Some};
+ghost use Rattle.std.specs.Prelude.{IfSome, Some};
 ghost use Rattle.pc_cert.specs.declared.line.CertLine.TheVariants.{Event};
 ghost use Rattle.pc_cert.specs.inside.Known.{IsAgain, IsFrontOf};
 

@@ -19,7 +19,7 @@ pub struct Flows {
 }
 
 impl Model for Flows {
-    ghost use Rattle.std.specs.Prelude.{◌≡◌, ℕ, List, length, take};
+    ghost use Rattle.std.specs.Prelude.{ℕ, List, length, take};
     ghost use Rattle.std.proofs.Common.{sym};
     ghost use Rattle.pc_text.specs.inside.Words.{padded, IsPadded, length-IsPadded};
 

@@ -1,5 +1,5 @@
 //! The lines of one segment, most of which occur again in the next.
-ghost use Rattle.std.specs.Prelude.{◌<◌, vec_len};
+ghost use Rattle.std.specs.Prelude.{◌<◌};
 
 use crate::known::KnownLine;
 use std::alloc::{AllocError, Global};

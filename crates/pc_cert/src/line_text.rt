@@ -1,5 +1,5 @@
 //! The bytes of a line that was read.
-ghost use Rattle.std.specs.Prelude.{ℕ, ◌<◌, Option};
+ghost use Rattle.std.specs.Prelude.{◌<◌, Option};
 ghost use Rattle.pc_cert.specs.declared.line.CertLine.{CertLine};
 ghost use Rattle.pc_cert.specs.inside.Known.{HasText, IsAgain, IsTextOf};
 

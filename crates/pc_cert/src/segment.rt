@@ -1,5 +1,5 @@
 //! The lines of a segment.
-ghost use Rattle.std.specs.Prelude.{◌≡◌, ℕ, ◌<◌, [], ◌∷◌, ◌++◌, length};
+ghost use Rattle.std.specs.Prelude.{◌≡◌, ℕ, ◌<◌, [], ◌∷◌, length};
 ghost use Rattle.pc_edges.specs.inside.page.Puts.{Puts};
 ghost use Rattle.pc_text.specs.Fields.{IsCode, spaced};
 ghost use Rattle.pc_model.specs.Codes.{code_at};

@@ -1,6 +1,6 @@
 //! The breakpoints of the curve, one after another.
 ghost use Rattle.std.specs.Prelude.{◌≡◌, ◌+◌, ◌<◌, ◌≤◌, ◌≢◌, ◌↔◌, Some, None, true, IsNone, IfSome, IfNone};
-ghost use Rattle.pc_laws.specs.Segment.{Holds, cost_for};
+ghost use Rattle.pc_laws.specs.Segment.{cost_for};
 ghost use Rattle.pc_flow.specs.Courses.{lower_of, IsSameCurve, IsFurther, most_looks};
 ghost use Rattle.pc_flow.specs.inside.Courses.{present};
 ghost use Rattle.pc_flow.specs.search.Labelling.{slopes_in};
@@ -24,8 +24,8 @@ pub struct Break {
     pub slope: Option<u64>,
 }
 
-/// The breakpoints of the curve of a solver, from the all-normal length down to the all-crash length. It keeps no more than
-/// the length of the one that it gave last.
+/// The breakpoints of the curve of a solver, from the all-normal length down to the all-crash length. It keeps no more
+/// than the length of the one that it gave last.
 #[derive(Drop)]
 pub struct Breaks {
     last: Option<u64>,
@@ -54,12 +54,12 @@ impl Breaks {
         self.last
     }
 
-    /// The next breakpoint: the first one, or the longest that is shorter than the last. None comes after the one at the
-    /// all-crash length, and then nothing changes.
+    /// The next breakpoint: the first one, or the longest that is shorter than the last. None comes after the one at
+    /// the all-crash length, and then nothing changes.
     ///
     /// The solver goes on until its present segment begins or ends there; segments of one slope that
-    /// follow one another have no breakpoint between them. At most four looks at each activity for each unit by which the
-    /// slope rises or the lower end comes down. It takes no memory.
+    /// follow one another have no breakpoint between them. At most four looks at each activity for each unit by which
+    /// the slope rises or the lower end comes down. It takes no memory.
     pub fn next<L: Ledger>(
         &mut self,
         solver: &mut Solver<'_>,

@@ -1,5 +1,5 @@
-//! The breakpoints and the points of the time-cost curve of a network, read from a solver on its way down, and the text of
-//! the breakpoints: the line of each is put as soon as it is known, so that no memory is taken for the list.
+//! The breakpoints and the points of the time-cost curve of a network, read from a solver on its way down, and the text
+//! of the breakpoints: the line of each is put as soon as it is known, so that no memory is taken for the list.
 #![tactic(auto)]
 
 pub mod bench;

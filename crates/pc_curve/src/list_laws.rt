@@ -1,12 +1,12 @@
 //! Why breakpoints that come one after another are the whole list.
-ghost use Rattle.std.specs.Prelude.{◌≡◌, ℕ, ◌≤◌, List, [], ◌∷◌, ◌++◌, Option, Some, None};
+ghost use Rattle.std.specs.Prelude.{ℕ, ◌≤◌, List, [], ◌∷◌, ◌++◌, Option, Some, None};
 ghost use Rattle.pc_laws.specs.Curve.{Breakpoint, AreBreakpoints};
 ghost use Rattle.pc_crash.specs.Priced.{PricedNetwork};
 ghost use Rattle.pc_curve.specs.Points.{curve_in};
 ghost use Rattle.pc_curve.specs.Breaks.{IsNextBreakpoint, AreBreakpointsTo};
 
-/// No breakpoint is the list before the first; with the next one it is the list up to there; and up to the shortest length
-/// it is the list of all breakpoints of the curve.
+/// No breakpoint is the list before the first; with the next one it is the list up to there; and up to the shortest
+/// length it is the list of all breakpoints of the curve.
 ///
 /// This function does nothing: its contract is the law.
 pub fn breaks_make_the_list()

@@ -3,9 +3,8 @@ ghost use Rattle.std.specs.Prelude.{◌≡◌, ◌+◌, ◌<◌, ◌≤◌, ℕ,
 ghost use Rattle.pc_model.specs.Schedule.{IsSchedule, lesser_of};
 ghost use Rattle.pc_model.specs.Walk.{from_of, to_of};
 ghost use Rattle.pc_model.specs.Cost.{cost_of};
-ghost use Rattle.pc_laws.specs.Segment.{Holds, times_for};
 ghost use Rattle.pc_crash.specs.Priced.{knees_in};
-ghost use Rattle.pc_flow.specs.Courses.{lower_of, IsSameCurve, IsFurther, most_looks};
+ghost use Rattle.pc_flow.specs.Courses.{IsSameCurve, IsFurther, most_looks};
 ghost use Rattle.pc_flow.specs.inside.Courses.{present};
 ghost use Rattle.pc_flow.specs.search.Labelling.{slopes_in};
 ghost use Rattle.pc_curve.specs.Points.{curve_in};
@@ -18,11 +17,11 @@ use std::sync::ledger::Ledger;
 
 /// A schedule for a length, in units, that costs as little as any, and what it costs.
 ///
-/// The solver goes on until its present segment holds the length. The times come one per event and the durations one per
-/// activity, in card order: those of the upper end, where each event that moves is as much earlier as the length is
-/// shorter, and each activity lasts as long as this allows, but no longer than normal. At most four looks at each activity
-/// for each unit by which the slope rises or the lower end comes down, and then linear in events and activities. It takes
-/// no memory.
+/// The solver goes on until its present segment holds the length. The times come one per event and the durations one
+/// per activity, in card order: those of the upper end, where each event that moves is as much earlier as the length is
+/// shorter, and each activity lasts as long as this allows, but no longer than normal. At most four looks at each
+/// activity for each unit by which the slope rises or the lower end comes down, and then linear in events and
+/// activities. It takes no memory.
 pub fn point_at<L: Ledger>(
     solver: &mut Solver<'_>,
     length: u64,

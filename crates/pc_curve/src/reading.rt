@@ -1,6 +1,6 @@
 //! What is read from the segment of a solver that holds a length.
 ghost use Rattle.std.specs.Prelude.{◌≡◌, ◌+◌, ◌≤◌, ◌↔◌, true, false, IsTrue};
-ghost use Rattle.pc_laws.specs.Segment.{Holds, cost_for};
+ghost use Rattle.pc_laws.specs.Segment.{cost_for};
 ghost use Rattle.pc_flow.specs.Courses.{lower_of, IsSameCurve, IsFurther, IsLevel, most_looks};
 ghost use Rattle.pc_flow.specs.inside.Courses.{present, IsOnCurve};
 ghost use Rattle.pc_flow.specs.search.Labelling.{slopes_in};
@@ -13,8 +13,8 @@ use std::sync::ledger::Ledger;
 
 /// The least cost of a schedule for a length, in units.
 ///
-/// The solver goes on until its present segment holds the length. At most four looks at each activity for each unit by which
-/// the slope rises or the lower end comes down. It takes no memory.
+/// The solver goes on until its present segment holds the length. At most four looks at each activity for each unit by
+/// which the slope rises or the lower end comes down. It takes no memory.
 pub fn cost_at<L: Ledger>(solver: &mut Solver<'_>, length: u64, steps: &mut Steps<L>) -> u64
     requires { IsToCome solver.old length }
     ensures least { curve_in solver.old.net length result }

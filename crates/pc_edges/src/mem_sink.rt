@@ -1,6 +1,5 @@
 //! A sink in memory.
-ghost use Rattle.std.specs.Prelude.{◌≡◌, ℕ, ◌-◌, ◌<◌, ◌≤◌, ◌↔◌, ◌⊎◌, ◌++◌, [], Some, Ok, length, take, min, IfOk, OnOk, OnErr, IsErr, IsTrue, Contains};
-ghost use Rattle.std.specs.Io.KnownBytes.{Appends, Keeps};
+ghost use Rattle.std.specs.Prelude.{◌≡◌, ◌-◌, ◌<◌, ◌≤◌, ◌↔◌, ◌⊎◌, ◌++◌, [], Some, Ok, length, take, min, IfOk, OnOk, OnErr, IsErr, IsTrue, Contains};
 ghost use Rattle.pc_edges.specs.Faults.{Rose, raised};
 
 use crate::{Failed, Sink};

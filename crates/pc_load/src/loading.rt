@@ -1,5 +1,5 @@
 //! What a project spends and takes of its resources in each period.
-ghost use Rattle.std.specs.Prelude.{◌≡◌, ℕ, ◌*◌, ◌<◌, ◌≤◌, length, slice_index, IfOk, IfErr};
+ghost use Rattle.std.specs.Prelude.{◌≡◌, ◌*◌, ◌<◌, ◌≤◌, slice_index, IfOk, IfErr};
 ghost use Rattle.pc_load.specs.inside.Entries.{AreTimes};
 ghost use Rattle.pc_load.specs.Items.{LevelsAddUp};
 ghost use Rattle.pc_load.specs.Loading.{AreItemParts, IsLoading, ItemsAddUp, periods_for};

@@ -1,10 +1,10 @@
 //! The rows of the report of loads.
-ghost use Rattle.std.specs.Prelude.{◌≡◌, ◌*◌, ◌+◌, ◌<◌, ◌≤◌, pos, ◌+ℤ◌, length, slice_index_or, []};
+ghost use Rattle.std.specs.Prelude.{◌≡◌, ◌<◌, pos, ◌+ℤ◌, length};
 ghost use Rattle.pc_days.specs.Calendar.{date_or_none};
 ghost use Rattle.pc_edges.specs.inside.page.Puts.{Puts};
 ghost use Rattle.pc_load.specs.inside.Loading.{IsReadyFor};
 ghost use Rattle.pc_load.specs.inside.PrintedLoad.{loading_of};
-ghost use Rattle.pc_load.specs.LoadText.{amount_row, amount_rows, item_rows, period_cells, period_row, resource_rows};
+ghost use Rattle.pc_load.specs.LoadText.{amount_row, item_rows, period_cells, period_row, resource_rows};
 ghost use Rattle.pc_load.specs.Table.{amount_in};
 ghost use Rattle.pc_load.specs.inside.Table.{IsRowOf};
 

@@ -79,7 +79,8 @@ pub fn write_load_on<O: Sink>(
 /// Puts the report on a page.
 fn put_load<O: Sink>(page: &mut Page, sink: &mut O, project: &Project, printed: &PrintedLoad<'_>)
     requires { IsReadyFor project.now (loading_of printed.now) }
-    ensures { Puts O.taken O.faults page.old sink.old page.new sink.new (load_text project.now (loading_of printed.now)) }
+    ensures { Puts O.taken O.faults page.old sink.old page.new sink.new
+        (load_text project.now (loading_of printed.now)) }
 {
     put_head(page, sink, project, printed.days);
     put_rows(page, sink, &PeriodRows { project, printed });

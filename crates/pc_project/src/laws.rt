@@ -7,8 +7,8 @@ ghost use Rattle.pc_faults.specs.declared.fault.Fault.{Fault};
 ghost use Rattle.pc_project.specs.Makes.{MakesProject};
 ghost use Rattle.pc_project.specs.Refusal.{HasNoFault, IsRefusedWith};
 
-/// States that the cards of a deck make a project if and only if no phase finds a fault, and that such a deck is refused
-/// with no fault.
+/// States that the cards of a deck make a project if and only if no phase finds a fault, and that such a deck is
+/// refused with no fault.
 pub fn projects_have_no_fault()
     ensures none { (deck : Deck) → MakesProject deck → HasNoFault deck }
     ensures makes { (deck : Deck) → HasNoFault deck → MakesProject deck }

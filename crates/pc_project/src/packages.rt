@@ -1,5 +1,5 @@
 //! Whether the budgets of each package are the costs of its activities.
-ghost use Rattle.std.specs.Prelude.{◌≡◌, ◌<◌, map, IfOk, IfErr, OnOk};
+ghost use Rattle.std.specs.Prelude.{◌≡◌, map, IfOk, IfErr, OnOk};
 ghost use Rattle.pc_accounts.specs.inside.Packages.{IsFirstUneven};
 ghost use Rattle.pc_faults.specs.inside.First.{Refuses};
 ghost use Rattle.pc_project.specs.Misfit.{HasNoMisfit};

@@ -1,5 +1,5 @@
 //! The rows of the management summary.
-ghost use Rattle.std.specs.Prelude.{◌≡◌, length};
+ghost use Rattle.std.specs.Prelude.{length};
 ghost use Rattle.pc_edges.specs.inside.page.Puts.{Puts};
 ghost use Rattle.pc_reports.specs.SummaryText.{IsSummary, item_cells, item_row, level_cells, level_row};
 

@@ -1,5 +1,5 @@
 //! The rows of the report of the value of work.
-ghost use Rattle.std.specs.Prelude.{◌≡◌, ◌<◌, ◌≤◌, ◌^◌, length, unsigned_abs};
+ghost use Rattle.std.specs.Prelude.{◌<◌, ◌≤◌, ◌^◌, length, unsigned_abs};
 ghost use Rattle.pc_edges.specs.page.Cells.{right};
 ghost use Rattle.pc_edges.specs.inside.page.Puts.{Puts};
 ghost use Rattle.pc_times.specs.declared.TheConstants.{MAX_TIME};

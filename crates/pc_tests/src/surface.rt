@@ -1,4 +1,5 @@
-//! The calls that write to a bare sink, each piece of a text as it comes: a schedule, the parts of a certificate, and loads.
+//! The calls that write to a bare sink, each piece of a text as it comes: a schedule, the parts of a certificate, and
+//! loads.
 ghost use Rattle.std.specs.Prelude.{◌≡◌, ◌<◌, ◌≤◌, length, All};
 ghost use Rattle.pc_crash.specs.inside.Steps.{IsBlankOf};
 
@@ -17,8 +18,8 @@ use std::sync::ledger::{Blank, Ledger};
 const SCHEDULE: &[u8] =
     b"LENGTH 9\nCOST 45\nEVENT S 0\nEVENT M 4\nEVENT T 9\nACT A 4\nACT B 5\nACT C 7\n";
 
-/// Writes the schedule to a sink of this capacity with calls that fail. Returns what the call returns, and how much of the text
-/// the sink took: none if it took something else.
+/// Writes the schedule to a sink of this capacity with calls that fail. Returns what the call returns, and how much of
+/// the text the sink took: none if it took something else.
 fn schedule_of(
     alloc: Global,
     net: &CrashNet<'_>,
@@ -46,8 +47,8 @@ fn small_schedule(
     schedule_of(alloc, &priced, room, failing)
 }
 
-/// The capacity of the sink, the calls that fail, what the call returns, and how much of the text is written. The second push has
-/// the length, after seven bytes.
+/// The capacity of the sink, the calls that fail, what the call returns, and how much of the text is written. The
+/// second push has the length, after seven bytes.
 #[test]
 fn schedule_on_a_bare_sink(rt: HostRuntime) {
     let cases: [(usize, &[u64], Result<(), Failed>, usize); 4] = [
@@ -65,8 +66,8 @@ fn schedule_on_a_bare_sink(rt: HostRuntime) {
     }
 }
 
-/// Writes a head with this walk at normal and at crash durations, the next two segments of a solver, and the end. Returns whether
-/// there are two and nothing failed.
+/// Writes a head with this walk at normal and at crash durations, the next two segments of a solver, and the end.
+/// Returns whether there are two and nothing failed.
 fn write_parts<L: Ledger>(
     sink: &mut MemSink,
     net: &CrashNet<'_>,

@@ -38,7 +38,7 @@ pub struct Code {
 }
 
 impl Model for Code {
-    ghost use Rattle.std.specs.Prelude.{◌≡◌, ℕ, List, length, take, true};
+    ghost use Rattle.std.specs.Prelude.{ℕ, List, length, take};
     ghost use Rattle.pc_text.specs.inside.Words.{padded, length-IsPadded};
     ghost use Rattle.pc_text.specs.inside.CodeCells.{IsCodeCells};
     ghost use Rattle.std.proofs.Common.{sym};

@@ -1,5 +1,5 @@
 //! The decimal form of a number, in the value itself.
-ghost use Rattle.std.specs.Prelude.{◌≡◌, ◌+◌, ◌<◌, ◌≤◌, ◌/◌, ◌%◌, decimal, length};
+ghost use Rattle.std.specs.Prelude.{◌≡◌, ◌+◌, ◌<◌, ◌/◌, ◌%◌, decimal};
 ghost use Rattle.std.specs.Fmt.{signed_decimal};
 
 use std::marker::Model;

@@ -21,7 +21,7 @@ pub struct Title {
 }
 
 impl Model for Title {
-    ghost use Rattle.std.specs.Prelude.{◌≡◌, ℕ, List, length, take};
+    ghost use Rattle.std.specs.Prelude.{ℕ, List, length, take};
     ghost use Rattle.pc_text.specs.inside.Words.{padded, IsPadded, length-IsPadded};
     ghost use Rattle.std.proofs.Common.{sym};
 

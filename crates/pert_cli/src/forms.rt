@@ -7,7 +7,6 @@ ghost use Rattle.pert_cli.specs.FormDeck.{ReadsSource, sort_of};
 ghost use Rattle.pert_cli.specs.Forms.{IsAskedBy, IsNumbered};
 ghost use Rattle.pert_cli.specs.inside.Handing.{Replies};
 ghost use Rattle.pc_shell.specs.Sides.{side};
-ghost use Rattle.pert_cli.specs.declared.forms.Form.{Form as TheForm};
 ghost use Rattle.pert_cli.specs.declared.forms.Form.TheVariants.{Bench};
 ghost use Rattle.pert_cli.specs.Words.{AskFor, AskForNone, usage_text};
 

@@ -1,5 +1,5 @@
 //! `normal`: the schedule at the all-normal length.
-ghost use Rattle.std.specs.Prelude.{◌≡◌, IfOk, map};
+ghost use Rattle.std.specs.Prelude.{◌≡◌, IfOk};
 ghost use Rattle.pc_model.specs.Schedule.{normals};
 ghost use Rattle.pc_times.specs.Times.{AreEarly, AreLengths};
 ghost use Rattle.pc_shell.specs.Sides.{side};

@@ -9,8 +9,8 @@ use std::alloc::{AllocError, Global};
 /// The most activities that a deck of the benchmark has.
 pub const MOST_ACTIVITIES: u64 = 4_000;
 
-/// The deck of the benchmark with `n` activities: as many events as half of them, and one more. The first activities lead in
-/// a row through all events, and the others skip up to three of them; what each lasts and costs is drawn.
+/// The deck of the benchmark with `n` activities: as many events as half of them, and one more. The first activities
+/// lead in a row through all events, and the others skip up to three of them; what each lasts and costs is drawn.
 ///
 /// The same `n` gives the same deck. Linear in `n`.
 pub fn bench_deck(alloc: Global, n: u64) -> Result<Vec<u8>, AllocError>

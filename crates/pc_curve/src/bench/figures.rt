@@ -42,8 +42,8 @@ pub(in crate::bench) struct Tally {
 
 /// The figures of the curve of a solver's network. The solver goes from before its first segment to the last one.
 ///
-/// A few steps a segment, and at most four looks at each activity for each unit by which the slope rises or the lower end
-/// comes down. It takes no memory.
+/// A few steps a segment, and at most four looks at each activity for each unit by which the slope rises or the lower
+/// end comes down. It takes no memory.
 pub fn figures_of<L: Ledger>(solver: &mut Solver<'_>, steps: &mut Steps<L>) -> Figures
     requires { solver.old.given ≡ false }
     ensures figures { IsFiguresOf solver.old.net result }

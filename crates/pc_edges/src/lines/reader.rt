@@ -1,8 +1,8 @@
 //! The reader of lines.
-ghost use Rattle.std.specs.Prelude.{◌≡◌, ℕ, ◌+◌, ◌<◌, ◌≤◌, ◌-◌, List, [], ◌++◌, length, take, drop, Ok, IfOk, OnOk, OnErr, IsErrOf, Contains};
+ghost use Rattle.std.specs.Prelude.{◌≡◌, ℕ, ◌<◌, ◌≤◌, List, [], ◌++◌, length, take, drop, Ok, IfOk, OnOk, OnErr, IsErrOf, Contains};
 ghost use Rattle.pc_edges.specs.Faults.{Rose};
 ghost use Rattle.pc_edges.specs.Pulls.{TakesPulls};
-ghost use Rattle.pc_edges.specs.inside.lines.Reading.{Reading, StandsFor, Stepped, TakesLine, Filled, bytes_left};
+ghost use Rattle.pc_edges.specs.inside.lines.Reading.{StandsFor, Stepped, TakesLine, Filled, bytes_left};
 
 use crate::lines::line_end::line_len;
 use crate::{Failed, STREAM_ROOM, Source};

@@ -1,5 +1,5 @@
 //! Sessions: each line of a source is answered on a sink before the next is pulled.
-ghost use Rattle.std.specs.Prelude.{◌≡◌, ℕ, List, []};
+ghost use Rattle.std.specs.Prelude.{ℕ, List, []};
 ghost use Rattle.pc_edges.specs.inside.Writes.{Writes};
 ghost use Rattle.pc_edges.specs.inside.lines.Reading.{StandsFor};
 ghost use Rattle.pc_edges.specs.lines.Taken.{IsTakenWithin};

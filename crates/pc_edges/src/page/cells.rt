@@ -1,5 +1,5 @@
 //! Cells of a row, which spaces fill to a width in bytes.
-ghost use Rattle.std.specs.Prelude.{◌≡◌, ◌≤◌, decimal, length};
+ghost use Rattle.std.specs.Prelude.{◌≤◌, decimal};
 ghost use Rattle.std.specs.Fmt.{signed_decimal};
 ghost use Rattle.pc_text.specs.Line.{spaces};
 ghost use Rattle.pc_edges.specs.page.Cells.{left, right};

@@ -15,5 +15,6 @@ loop-e-preserved c =
     record {
       one_each = ap length pushed ∙ omega (arith, length-append rows (row ∷ []), had.one_each);
       each = subst (λ after. (i : ℕ) → i < e + 1 → SpellsEvent (code_at net.events i) (event_row after i)) (sym pushed)
-          (each_more (λ i r. SpellsEvent (code_at net.events i) r) rows row (record { time = 0; moves = false; spelling = [] }) e had.one_each had.each (subst (λ code. SpellsEvent code row) c.event_code.ensures c.of.ensures));
+          (each_more (λ i r. SpellsEvent (code_at net.events i) r) rows row (record { time = 0; moves = false; spelling = [] }) e had.one_each had.each
+          (subst (λ code. SpellsEvent code row) c.event_code.ensures c.of.ensures));
     }

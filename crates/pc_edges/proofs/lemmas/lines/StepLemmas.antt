@@ -176,7 +176,8 @@ pulls_once {source_now = source_now} {lines = lines} source_after u nothing fits
     (ap whole_lines (short_whole h nothing fits) ∙ whole_lines-are lines h.part h.ends h.no_end)
 
 -- and it gives some bytes
-pub fills_under : {X : Type 0} {left : X → Option (List ℕ)} {pulls : X → Option ℕ} {source source_now : X} {lines : List (List ℕ)} {bytes : List ℕ} (source_after : X) {old : Reading} (new : Reading) (count : ℕ)
+pub fills_under : {X : Type 0} {left : X → Option (List ℕ)} {pulls : X → Option ℕ} {source source_now : X} {lines : List (List ℕ)} {bytes : List ℕ}
+    (source_after : X) {old : Reading} (new : Reading) (count : ℕ)
     → IsUnder left pulls source source_now lines bytes old → old.ahead ≡ [] → old.taken ≤ INPUT_LIMIT → IsFilled old new (left source_now) (left source_after) count
     → TakesPulls 1 (pulls source_now) (pulls source_after) → 0 < count → IsUnder left pulls source source_after lines bytes new
 unfolding fills

@@ -76,7 +76,8 @@ taken_more lines line is = record {
   whole = ap (λ ls. ls ++ line ∷ []) is.whole ∙ append_assoc (whole_lines is.taken.front) is.others (line ∷ []);
 }
 
-module _ {T C O : Type 0} {says : T → List ℕ → List ℕ → T → Type 0} {left : C → Option (List ℕ)} {source_faults : C → ℕ} {pulls : C → Option ℕ} {taken : O → Option (List ℕ)} {sink_faults : O → ℕ} where
+module _ {T C O : Type 0} {says : T → List ℕ → List ℕ → T → Type 0} {left : C → Option (List ℕ)} {source_faults : C → ℕ} {pulls : C → Option ℕ}
+    {taken : O → Option (List ℕ)} {sink_faults : O → ℕ} where
   pub begins : (talker : T) (source : C) (out : O) (reading : Reading) → StandsFor reading [] [] → IsTalking says left source_faults pulls taken sink_faults talker talker source source out out reading
   begins talker source out reading stands = record {
     lines = [];

@@ -32,7 +32,8 @@ returns-clause-items c =
     let leaves = table_from c.leaves.inside in
     let same : leaves ≡ c.args.leaves.now = c.leaves.view_is in
     let so_far = fields_are c.args.tree.now leaves c.args.leaves.now c.loop-k.k c.loop-k.cells.items same c.loop-k.invariant in
-    let are : IsItemTable c.args.tree.now leaves (record { rows = length c.args.tree.now; periods = leaves.periods; cells = c.loop-k.cells.items }) = items_are c.args.tree.now leaves c.loop-k.k c.loop-k.cells.items (omega arith) so_far in
+    let are : IsItemTable c.args.tree.now leaves (record { rows = length c.args.tree.now; periods = leaves.periods; cells = c.loop-k.cells.items })
+    = items_are c.args.tree.now leaves c.loop-k.k c.loop-k.cells.items (omega arith) so_far in
     subst (λ (t : Table). IsItemTable c.args.tree.now t (record { rows = c.len-rows.result; periods = leaves.periods; cells = c.loop-k.cells.items })) same (rw c.len-rows.ensures.len are)
 
 pub returns-clause-levels : goal.returns-clause-levels
@@ -40,7 +41,8 @@ returns-clause-levels c =
     let leaves = table_from c.leaves.inside in
     let same : leaves ≡ c.args.leaves.now = c.leaves.view_is in
     let so_far = fields_are c.args.tree.now leaves c.args.leaves.now c.loop-k.k c.loop-k.cells.items same c.loop-k.invariant in
-    let are : IsItemTable c.args.tree.now leaves (record { rows = length c.args.tree.now; periods = leaves.periods; cells = c.loop-k.cells.items }) = items_are c.args.tree.now leaves c.loop-k.k c.loop-k.cells.items (omega arith) so_far in
+    let are : IsItemTable c.args.tree.now leaves (record { rows = length c.args.tree.now; periods = leaves.periods; cells = c.loop-k.cells.items })
+    = items_are c.args.tree.now leaves c.loop-k.k c.loop-k.cells.items (omega arith) so_far in
     rw c.len-rows.ensures.len (levels_add_up c.args.tree.now leaves
     (record { rows = length c.args.tree.now; periods = leaves.periods; cells = c.loop-k.cells.items }) c.len-rows.ensures.in_range
     c.len-rows.ensures.tree are)

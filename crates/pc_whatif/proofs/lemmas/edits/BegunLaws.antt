@@ -53,7 +53,13 @@ module _ (project : Project) (planned : IsPlanned project) where
       let card : ActCard = get_or project.deck.acts a no_act in
       subst AreEstimates (sym (get_or-map estimates_of project.deck.acts a no_act (record { optimistic = 0; likely = 0; pessimistic = 0 }) inside))
       (in_order project.deck (get_or project.deck.acts a no_act)
-      (λ fault h. no_misfit project.deck planned.own.makes.cards fault (listed (act (a, get_or project.deck.acts a no_act, inside, get_or_default project.deck.acts a (get_or project.deck.acts a no_act) no_act inside, h))))
+      (λ fault h. no_misfit project.deck planned.own.makes.cards fault (listed (act (
+        a,
+        get_or project.deck.acts a no_act,
+        inside,
+        get_or_default project.deck.acts a (get_or project.deck.acts a no_act) no_act inside,
+        h,
+      ))))
       (acts-within project.deck planned.own.within a no_act inside))
 
   pub IsEditing-begun : IsEditing (begun project)

@@ -13,7 +13,8 @@ returns-in-Ok g c =
     let project = c.args.project.now in
     let schedule = c.in-Ok.schedule in
     answers
-    (Answers-weaker (λ (text : List ℕ). text ≡ printed_text project schedule) (IsReply (Point c.args.limit) project) (side g.O.Sink.taken g.O.Sink.faults c.args.out.now c.hand_paged.new.out) c.hand_paged.result
+    (Answers-weaker (λ (text : List ℕ). text ≡ printed_text project schedule) (IsReply (Point c.args.limit) project)
+    (side g.O.Sink.taken g.O.Sink.faults c.args.out.now c.hand_paged.new.out) c.hand_paged.result
     (λ text same. point_reply project c.args.limit schedule text c.in-Ok.ensures.cheapest same) c.hand_paged.ensures)
     refl
 

@@ -33,7 +33,8 @@ returns-then-taken-gt-INPUT_LIMIT-clause-unpulled g c = λ has.
 pub returns-in_default-clause-stepped : goal.returns-in_default-clause-stepped
 returns-in_default-clause-stepped g c = λ lines bytes h.
     let took = c.if-take_line.ensures in
-    fails _ (goes_on_under c.take_line.new.self (c.loop-self.invariant.under lines bytes h) took) took.nothing (omega (arith, c.taken.ensures, c.if-taken-gt-INPUT_LIMIT.false)) c.in_default.ensures.filled c.fill.ensures.once
+    fails _ (goes_on_under c.take_line.new.self (c.loop-self.invariant.under lines bytes h) took) took.nothing (omega (arith, c.taken.ensures, c.if-taken-gt-INPUT_LIMIT.false))
+    c.in_default.ensures.filled c.fill.ensures.once
 
 pub returns-in_default-clause-unpulled : goal.returns-in_default-clause-unpulled
 returns-in_default-clause-unpulled g c = λ has.
@@ -46,7 +47,8 @@ returns-then-is_empty-clause-stepped g c = λ lines bytes h.
     let fits : c.take_line.new.self.taken ≤ INPUT_LIMIT = omega (arith, c.taken.ensures, c.if-taken-gt-INPUT_LIMIT.false) in
     let under = goes_on_under c.take_line.new.self (c.loop-self.invariant.under lines bytes h) took in
     let now = fills _ c.fill.new.self c.in-Ok.n under.within took.nothing fits filled in
-    ends_all now (pulls_once c.fill.new.source under took.nothing fits filled.more filled.taken filled.room c.fill.ensures.once) (fills_nothing c.in-Ok.n filled (omega (arith, c.if-n-eq0.true))) (omega (arith, filled.counted, c.if-n-eq0.true, fits))
+    ends_all now (pulls_once c.fill.new.source under took.nothing fits filled.more filled.taken filled.room c.fill.ensures.once)
+    (fills_nothing c.in-Ok.n filled (omega (arith, c.if-n-eq0.true))) (omega (arith, filled.counted, c.if-n-eq0.true, fits))
     (filled.end (omega (arith, c.if-n-eq0.true)))
     (ap length (sym c.line.ensures) ∙ eqb-true (length c.line.result.now) 0 (sym c.is_empty.ensures ∙ c.if-is_empty.true))
 
@@ -57,7 +59,8 @@ returns-else-is_empty-clause-stepped g c = λ lines bytes h.
     let fits : c.take_line.new.self.taken ≤ INPUT_LIMIT = omega (arith, c.taken.ensures, c.if-taken-gt-INPUT_LIMIT.false) in
     let under = goes_on_under c.take_line.new.self (c.loop-self.invariant.under lines bytes h) took in
     let now = fills _ c.fill.new.self c.in-Ok.n under.within took.nothing fits filled in
-    ends_last now (pulls_once c.fill.new.source under took.nothing fits filled.more filled.taken filled.room c.fill.ensures.once) (fills_nothing c.in-Ok.n filled (omega (arith, c.if-n-eq0.true))) (omega (arith, filled.counted, c.if-n-eq0.true, fits))
+    ends_last now (pulls_once c.fill.new.source under took.nothing fits filled.more filled.taken filled.room c.fill.ensures.once)
+    (fills_nothing c.in-Ok.n filled (omega (arith, c.if-n-eq0.true))) (omega (arith, filled.counted, c.if-n-eq0.true, fits))
     (filled.end (omega (arith, c.if-n-eq0.true)))
     (λ none. eqb-false (length c.line.result.now) 0 (sym c.is_empty.ensures ∙ c.if-is_empty.false) (ap length c.line.ensures ∙ none))
 
