@@ -8,7 +8,8 @@ use Rattle.pc_cards.specs.Named.{as_list, numbered_from}
 use Rattle.pc_deck.specs.Deck.{Deck, list_of}
 use Rattle.pc_deck.specs.WrittenKinds.{written_of}
 use Rattle.pc_deck.specs.Kinds.{CardOf, kinds}
-use Rattle.pc_deck.specs.Text.{deck_text, first_record, record_of, records_of, renumbered, says_nothing, settled, settled_terms}
+use Rattle.pc_deck.specs.Text.{deck_text, record_of, records_of, renumbered, says_nothing, settled, settled_terms}
+use Rattle.pc_deck.specs.inside.Text.{first_record}
 use Rattle.pc_deck.specs.declared.kinds.terms.TermsCard.{TermsCard}
 use Rattle.pc_deck.proofs.RowsLemmas.{list-renumbered}
 

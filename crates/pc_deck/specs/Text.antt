@@ -51,12 +51,9 @@ abbrev pub first_from : ℕ → Deck → Kind → List Kind → ℕ
 first_from row deck kind [] = row
 first_from row deck kind (other ∷ rest) = if is_same other kind then row else first_from (row + length (list_of deck other)) deck kind rest
 
-abbrev pub first_record : Deck → Kind → ℕ
-first_record deck kind = first_from 1 deck kind kinds
-
 -- the same cards in the records that they have in the text of the deck
 abbrev pub renumbered : Deck → Deck
 renumbered deck = record {
   project = record deck.project { row = 1 };
-  lists = lists_with (λ kind. numbered_by (stands_once kind) (CardOf kind) (written_of kind).at_row (first_record deck kind) (held_in deck.lists kind));
+  lists = lists_with (λ kind. numbered_by (stands_once kind) (CardOf kind) (written_of kind).at_row (first_from 1 deck kind kinds) (held_in deck.lists kind));
 }

@@ -6,7 +6,8 @@ use Rattle.std.proofs.lemmas.Bool.{and_parts, eqb-true}
 use Rattle.pc_faults.specs.declared.kind.Kind.TheVariants.{AsOf, Terms}
 use Rattle.pc_cards.specs.Named.{numbered_from}
 use Rattle.pc_deck.specs.Deck.{Deck}
-use Rattle.pc_deck.specs.Text.{first_record, renumbered, says_nothing, settled, settled_as_of, settled_terms}
+use Rattle.pc_deck.specs.Text.{renumbered, says_nothing, settled, settled_as_of, settled_terms}
+use Rattle.pc_deck.specs.inside.Text.{first_record}
 use Rattle.pc_deck.specs.WrittenKinds.{written_of}
 use Rattle.pc_deck.specs.declared.kinds.as_of.AsOfCard.{AsOfCard}
 use Rattle.pc_deck.specs.declared.kinds.terms.TermsCard.{TermsCard}
