@@ -8,8 +8,8 @@ use Rattle.pc_cards.specs.Named.{as_list, numbered_from}
 use Rattle.pc_deck.specs.Deck.{Deck, list_of}
 use Rattle.pc_deck.specs.WrittenKinds.{written_of}
 use Rattle.pc_deck.specs.Kinds.{CardOf, kinds}
-use Rattle.pc_deck.specs.Terms.{terms_at}
-use Rattle.pc_deck.specs.Text.{deck_text, first_record, record_of, records_of, renumbered, says_nothing, settled, settled_terms}
+use Rattle.pc_deck.specs.Text.{deck_text, record_of, records_of, renumbered, says_nothing, settled, settled_terms}
+use Rattle.pc_deck.specs.inside.Text.{first_record}
 use Rattle.pc_deck.specs.declared.kinds.terms.TermsCard.{TermsCard}
 use Rattle.pc_deck.proofs.RowsLemmas.{list-renumbered}
 
@@ -23,14 +23,14 @@ records-numbered kind row (card ∷ cards) = λ i. record-at_row kind row card i
 
 -- the TERMS card is settled once
 terms-again : (row : ℕ) (terms : Option TermsCard)
-    → map (record_of Terms) (as_list (settled_terms (option_map (terms_at row) (settled_terms terms)))) ≡ map (record_of Terms) (as_list (settled_terms terms))
+    → map (record_of Terms) (as_list (settled_terms (option_map ((written_of Terms).at_row row) (settled_terms terms)))) ≡ map (record_of Terms) (as_list (settled_terms terms))
 terms-again row None = refl
 terms-again row (Some terms) = by (says_nothing terms) refl
   where
     by : (test : Bool) → says_nothing terms ≡ test
-        → map (record_of Terms) (as_list (settled_terms (option_map (terms_at row) (if test then None else Some terms)))) ≡ map (record_of Terms) (as_list (if test then None else Some terms))
+        → map (record_of Terms) (as_list (settled_terms (option_map ((written_of Terms).at_row row) (if test then None else Some terms)))) ≡ map (record_of Terms) (as_list (if test then None else Some terms))
     by true is = refl
-    by false is = ap (λ (b : Bool). map (record_of Terms) (as_list (if b then None else Some (terms_at row terms)))) is
+    by false is = ap (λ (b : Bool). map (record_of Terms) (as_list (if b then None else Some ((written_of Terms).at_row row terms)))) is
 
 records-again : (deck : Deck) (kind : Kind) → records_of (settled (renumbered (settled deck))) kind ≡ records_of (settled deck) kind
 records-again deck Project = refl

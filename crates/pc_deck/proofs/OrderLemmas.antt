@@ -15,7 +15,8 @@ use Rattle.pc_cards.specs.declared.sort.Sort.TheVariants.{Plan}
 use Rattle.pc_deck.specs.Deck.{Deck, list_of}
 use Rattle.pc_deck.specs.Kinds.{CardOf, entry_of, has_code_of_its_own, kinds, limit_of}
 use Rattle.pc_deck.specs.Refusal.{of_kind}
-use Rattle.pc_deck.specs.Text.{deck_rows, first_record, record_of, records_of, settled}
+use Rattle.pc_deck.specs.Text.{deck_rows, record_of, records_of, settled}
+use Rattle.pc_deck.specs.inside.Text.{first_record}
 use Rattle.pc_deck.specs.Within.{IsUpTo, IsWithinLimits}
 use Rattle.pc_deck.proofs.FaultlessLemmas.{Begins, IsInOrder, IsSound}
 use Rattle.pc_deck.proofs.KindLemmas.{is_planned}

@@ -14,7 +14,8 @@ use Rattle.pc_deck.specs.Kinds.{CardOf, card_of, held_in, is_same, kinds, stands
 use Rattle.pc_deck.specs.Deck.{Deck, list_of}
 use Rattle.pc_deck.specs.Refusal.{of_kind}
 use Rattle.pc_deck.specs.Says.{Says, spelled}
-use Rattle.pc_deck.specs.Text.{deck_rows, first_record, record_of, records_of, renumbered, settled}
+use Rattle.pc_deck.specs.Text.{deck_rows, record_of, records_of, renumbered, settled}
+use Rattle.pc_deck.specs.inside.Text.{first_record}
 use Rattle.pc_deck.specs.Within.{IsWithinLimits}
 use Rattle.pc_deck.proofs.WrittenLemmas.{IsWritten, settled-within, written-settled}
 

@@ -19,7 +19,7 @@ use Rattle.pc_deck.specs.Deck.{Deck, list_of}
 use Rattle.pc_deck.specs.WrittenKinds.{written_of}
 use Rattle.pc_deck.specs.Kinds.{CardOf, card_of, least_width_of, slots_of, width_of}
 use Rattle.pc_deck.specs.inside.Kinds.{is_project}
-use Rattle.pc_deck.specs.Project.{project_of, project_slots, written_project}
+use Rattle.pc_deck.specs.Project.{project_of, project_kind}
 use Rattle.pc_deck.specs.Text.{record_of, says_nothing, settled, settled_as_of, settled_terms}
 use Rattle.pc_deck.specs.Within.{IsFit, IsWithinLimits}
 use Rattle.pc_deck.specs.declared.kinds.as_of.AsOfCard.{AsOfCard}
@@ -105,18 +105,18 @@ abbrev second_fields : List (List ℕ) → List (List ℕ)
 second_fields fields =
     [] ∷ field_at fields 1 ∷ field_at fields 2 ∷ field_at fields 3 ∷ field_at fields 4 ∷ field_at fields 5 ∷ field_at fields 6 ∷ field_at fields 7 ∷ codes "2" ∷ []
 
-module _ (project : ProjectCard) (row : ℕ) (fields : List (List ℕ)) (is : project ≡ project_of row fields) (fit : AllFit (project_slots Plan) fields) (text : All IsUtf8 fields) where
+module _ (project : ProjectCard) (row : ℕ) (fields : List (List ℕ)) (is : project ≡ project_of row fields) (fit : AllFit (project_kind.slots Plan) fields) (text : All IsUtf8 fields) where
   second-is : record project { version = 2 } ≡ project_of row (second_fields fields)
   second-is = ap (λ (p : ProjectCard). record p { version = 2 }) is
 
-  second-fit : AllFit (project_slots Plan) (second_fields fields)
+  second-fit : AllFit (project_kind.slots Plan) (second_fields fields)
   second-fit = (fit.0, (fit.1.0, (fit.1.1.0, (fit.1.1.1.0, (fit.1.1.1.1.0, (fit.1.1.1.1.1.0, (fit.1.1.1.1.1.1.0, ((refl, refl), tt))))))))
 
   second-text : All IsUtf8 (second_fields fields)
   second-text =
-      let front = fields_of (take 7 (project_slots Plan)) fields in
+      let front = fields_of (take 7 (project_kind.slots Plan)) fields in
       All-cons IsUtf8 [] (front ++ codes "2" ∷ []) IsUtf8-nil
-      (All-append IsUtf8 front (codes "2" ∷ []) (fields-text (take 7 (project_slots Plan)) fields text) (All-one IsUtf8 (codes "2") (ascii-text (codes "2") refl)))
+      (All-append IsUtf8 front (codes "2" ∷ []) (fields-text (take 7 (project_kind.slots Plan)) fields text) (All-one IsUtf8 (codes "2") (ascii-text (codes "2") refl)))
 
 -- the PROJECT card of version 2
 project-fit : (project : ProjectCard) → IsFit Plan Project project → IsFit Plan Project (record project { version = 2 })
@@ -125,7 +125,7 @@ project-fit project (row, fields, is, fit, text) =
 
 project-written : (project : ProjectCard) → IsFit Plan Project project → IsWritten Project (record project { version = 2 })
 project-written project (row, fields, is, fit, text) =
-    spelled Project (record project { version = 2 }) row (second_fields fields) (second-is project row fields is fit text) (ap written_project (second-is project row fields is fit text))
+    spelled Project (record project { version = 2 }) row (second_fields fields) (second-is project row fields is fit text) (ap (written_of Project).written (second-is project row fields is fit text))
     (second-fit project row fields is fit text) (second-text project row fields is fit text)
 
 -- the ASOF card of the first day

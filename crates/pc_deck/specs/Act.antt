@@ -1,21 +1,14 @@
 -- ACT,code,from,to,item,opt,likely,pess,normal,crash,cost,slope,title
-use Rattle.std.specs.Prelude.{ℕ, List, [], ◌∷◌, decimal}
+use Rattle.std.specs.Prelude.{ℕ, List, [], ◌∷◌}
 use Rattle.pc_records.specs.Deck.{field_at}
 use Rattle.pc_model.specs.declared.limits.TheConstants.{MAX_SLOPE, MAX_ACTIVITIES}
 use Rattle.pc_cards.specs.Entry.{Entry, growing, in_both, in_plans}
 use Rattle.pc_deck.specs.declared.limits.TheConstants.{SMALL_ACTIVITIES}
-use Rattle.pc_cards.specs.Forms.{Slot, duration, money, number_in}
+use Rattle.pc_cards.specs.Forms.{duration, money, number_in}
 use Rattle.pc_cards.specs.declared.form.Form.TheVariants as form
 use Rattle.pc_deck.specs.declared.kinds.act.ActCard.{ActCard}
 use Rattle.pc_deck.specs.declared.kinds.CardLists.{CardLists}
 use Rattle.pc_deck.specs.Builders.{named_kind}
-
--- the fields behind the kind
-abbrev pub act_slots : List Slot
-act_slots =
-    (2, form.Code) ∷ (3, form.Code) ∷ (4, form.Code) ∷ (5, form.Code)
-    ∷ (6, duration) ∷ (7, duration) ∷ (8, duration) ∷ (9, duration) ∷ (10, duration)
-    ∷ (11, money) ∷ (12, form.Number 0 MAX_SLOPE) ∷ (13, form.Title) ∷ []
 
 -- the card that a record spells
 abbrev pub act_of : ℕ → List (List ℕ) → ActCard
@@ -35,15 +28,12 @@ act_of row fields = record {
   title = field_at fields 12;
 }
 
--- its fields as they are written
-abbrev pub written_act : ActCard → List (List ℕ)
-written_act act =
-    act.code ∷ act.from ∷ act.to ∷ act.item
-    ∷ decimal act.opt ∷ decimal act.likely ∷ decimal act.pess ∷ decimal act.normal ∷ decimal act.crash
-    ∷ decimal act.cost ∷ decimal act.slope ∷ act.title ∷ []
-
 -- the kind
 abbrev pub act_kind : Entry CardLists
 act_kind =
-    named_kind act_of (λ act. act.code) (in_both act_slots) 13
+    named_kind act_of (λ act. act.code)
+    (in_both (
+    (2, form.Code) ∷ (3, form.Code) ∷ (4, form.Code) ∷ (5, form.Code)
+    ∷ (6, duration) ∷ (7, duration) ∷ (8, duration) ∷ (9, duration) ∷ (10, duration)
+    ∷ (11, money) ∷ (12, form.Number 0 MAX_SLOPE) ∷ (13, form.Title) ∷ [])) 13
     (λ lists. lists.acts) (in_plans (growing SMALL_ACTIVITIES MAX_ACTIVITIES))

@@ -3,24 +3,18 @@ use Rattle.std.specs.Prelude.{ℕ, List, [], ◌∷◌}
 use Rattle.pc_records.specs.Deck.{field_at}
 use Rattle.pc_cards.specs.Entry.{Entry, in_both, in_tasks, up_to}
 use Rattle.pc_deck.specs.declared.limits.TheConstants.{MAX_AFTERS}
-use Rattle.pc_cards.specs.Forms.{Slot}
 use Rattle.pc_cards.specs.declared.form.Form.TheVariants as form
 use Rattle.pc_deck.specs.declared.kinds.after.AfterCard.{AfterCard}
 use Rattle.pc_deck.specs.declared.kinds.CardLists.{CardLists}
 use Rattle.pc_deck.specs.Builders.{listed_kind}
 
--- the fields behind the kind
-abbrev pub after_slots : List Slot
-after_slots = (2, form.Code) ∷ (3, form.Code) ∷ []
-
 -- the card that a record spells
 abbrev pub after_of : ℕ → List (List ℕ) → AfterCard
 after_of row fields = record { row = row; task = field_at fields 1; before = field_at fields 2 }
 
--- its fields as they are written
-abbrev pub written_after : AfterCard → List (List ℕ)
-written_after after = after.task ∷ after.before ∷ []
-
 -- the kind
 abbrev pub after_kind : Entry CardLists
-after_kind = listed_kind after_of (in_both after_slots) 3 (λ lists. lists.afters) (in_tasks (up_to MAX_AFTERS))
+after_kind =
+    listed_kind after_of
+    (in_both ((2, form.Code) ∷ (3, form.Code) ∷ [])) 3
+    (λ lists. lists.afters) (in_tasks (up_to MAX_AFTERS))

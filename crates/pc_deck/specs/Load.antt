@@ -1,26 +1,21 @@
 -- LOAD,activity,resource,quantity
-use Rattle.std.specs.Prelude.{ℕ, List, [], ◌∷◌, decimal}
+use Rattle.std.specs.Prelude.{ℕ, List, [], ◌∷◌}
 use Rattle.pc_records.specs.Deck.{field_at}
 use Rattle.pc_model.specs.declared.limits.TheConstants.{MAX_LOADS}
 use Rattle.pc_cards.specs.Entry.{Entry, in_both, up_to}
-use Rattle.pc_cards.specs.Forms.{Slot, money, number_in}
+use Rattle.pc_cards.specs.Forms.{money, number_in}
 use Rattle.pc_cards.specs.declared.form.Form.TheVariants as form
 use Rattle.pc_deck.specs.declared.kinds.load.LoadCard.{LoadCard}
 use Rattle.pc_deck.specs.declared.kinds.CardLists.{CardLists}
 use Rattle.pc_deck.specs.Builders.{listed_kind}
 
--- the fields behind the kind
-abbrev pub load_slots : List Slot
-load_slots = (2, form.Code) ∷ (3, form.Code) ∷ (4, money) ∷ []
-
 -- the card that a record spells
 abbrev pub load_of : ℕ → List (List ℕ) → LoadCard
 load_of row fields = record { row = row; activity = field_at fields 1; resource = field_at fields 2; quantity = number_in (field_at fields 3) }
 
--- its fields as they are written
-abbrev pub written_load : LoadCard → List (List ℕ)
-written_load card = card.activity ∷ card.resource ∷ decimal card.quantity ∷ []
-
 -- the kind
 abbrev pub load_kind : Entry CardLists
-load_kind = listed_kind load_of (in_both load_slots) 4 (λ lists. lists.loads) (in_both (up_to MAX_LOADS))
+load_kind =
+    listed_kind load_of
+    (in_both ((2, form.Code) ∷ (3, form.Code) ∷ (4, money) ∷ [])) 4
+    (λ lists. lists.loads) (in_both (up_to MAX_LOADS))

@@ -5,15 +5,11 @@ use Rattle.pc_model.specs.declared.limits.TheConstants.{MAX_CHARGES, MAX_TOGOS}
 use Rattle.pc_days.specs.Calendar.{text_of_day}
 use Rattle.pc_cards.specs.Entry.{Entry, growing, in_both, up_to}
 use Rattle.pc_deck.specs.declared.limits.TheConstants.{SMALL_CHARGES}
-use Rattle.pc_cards.specs.Forms.{Slot, money, number_in, day_in}
+use Rattle.pc_cards.specs.Forms.{money, number_in, day_in}
 use Rattle.pc_cards.specs.declared.form.Form.TheVariants as form
 use Rattle.pc_deck.specs.declared.kinds.money.MoneyCard.{MoneyCard}
 use Rattle.pc_deck.specs.declared.kinds.CardLists.{CardLists}
 use Rattle.pc_deck.specs.Builders.{listed_kind}
-
--- the fields behind the kind
-abbrev pub money_slots : List Slot
-money_slots = (2, form.Code) ∷ (3, form.Date) ∷ (4, money) ∷ []
 
 -- the card that a record spells
 abbrev pub money_of : ℕ → List (List ℕ) → MoneyCard
@@ -26,9 +22,10 @@ written_money card = card.account ∷ text_of_day card.day ∷ decimal card.amou
 -- the kind CHARGE
 abbrev pub charge_kind : Entry CardLists
 charge_kind =
-    listed_kind money_of (in_both money_slots) 4
+    listed_kind money_of
+    (in_both ((2, form.Code) ∷ (3, form.Date) ∷ (4, money) ∷ [])) 4
     (λ lists. lists.charges) (in_both (growing SMALL_CHARGES MAX_CHARGES))
 
--- the kind TOGO
+-- the kind TOGO: the same card in a list of its own
 abbrev pub togo_kind : Entry CardLists
-togo_kind = listed_kind money_of (in_both money_slots) 4 (λ lists. lists.togos) (in_both (up_to MAX_TOGOS))
+togo_kind = record charge_kind { held = λ lists. lists.togos; limit = in_both (up_to MAX_TOGOS) }

@@ -1,28 +1,22 @@
 -- PIECE,activity,units,slope
-use Rattle.std.specs.Prelude.{ℕ, List, [], ◌∷◌, decimal}
+use Rattle.std.specs.Prelude.{ℕ, List, [], ◌∷◌}
 use Rattle.pc_records.specs.Deck.{field_at}
 use Rattle.pc_model.specs.declared.limits.TheConstants.{MAX_DURATION, MAX_SLOPE, MAX_PIECES}
 use Rattle.pc_cards.specs.Entry.{Entry, growing, in_both}
 use Rattle.pc_deck.specs.declared.limits.TheConstants.{SMALL_PIECES}
-use Rattle.pc_cards.specs.Forms.{Slot, number_in}
+use Rattle.pc_cards.specs.Forms.{number_in}
 use Rattle.pc_cards.specs.declared.form.Form.TheVariants as form
 use Rattle.pc_deck.specs.declared.kinds.piece.PieceCard.{PieceCard}
 use Rattle.pc_deck.specs.declared.kinds.CardLists.{CardLists}
 use Rattle.pc_deck.specs.Builders.{listed_kind}
 
--- the fields behind the kind
-abbrev pub piece_slots : List Slot
-piece_slots = (2, form.Code) ∷ (3, form.Number 1 MAX_DURATION) ∷ (4, form.Number 0 MAX_SLOPE) ∷ []
-
 -- the card that a record spells
 abbrev pub piece_of : ℕ → List (List ℕ) → PieceCard
 piece_of row fields = record { row = row; activity = field_at fields 1; units = number_in (field_at fields 2); slope = number_in (field_at fields 3) }
 
--- its fields as they are written
-abbrev pub written_piece : PieceCard → List (List ℕ)
-written_piece piece = piece.activity ∷ decimal piece.units ∷ decimal piece.slope ∷ []
-
 -- the kind
 abbrev pub piece_kind : Entry CardLists
 piece_kind =
-    listed_kind piece_of (in_both piece_slots) 4 (λ lists. lists.pieces) (in_both (growing SMALL_PIECES MAX_PIECES))
+    listed_kind piece_of
+    (in_both ((2, form.Code) ∷ (3, form.Number 1 MAX_DURATION) ∷ (4, form.Number 0 MAX_SLOPE) ∷ [])) 4
+    (λ lists. lists.pieces) (in_both (growing SMALL_PIECES MAX_PIECES))

@@ -1,22 +1,14 @@
 -- PROJECT,code,start,end,date,days of a unit,directed end,title,version
-use Rattle.std.specs.Prelude.{ℕ, List, [], ◌∷◌, unwrap_or, None, decimal}
+use Rattle.std.specs.Prelude.{ℕ, List, [], ◌∷◌, unwrap_or, None}
 use Rattle.pc_records.specs.Deck.{field_at}
 use Rattle.pc_text.specs.Number.{number_of}
 use Rattle.pc_model.specs.declared.limits.TheConstants.{MAX_DIRECTED, MAX_UNIT_DAYS}
-use Rattle.pc_days.specs.Calendar.{text_of_day}
 use Rattle.pc_cards.specs.Entry.{Entry}
-use Rattle.pc_cards.specs.Forms.{Slot, number_in, day_in, number_text, own_code}
-use Rattle.pc_cards.specs.declared.sort.Sort.{Sort}
+use Rattle.pc_cards.specs.Forms.{number_in, day_in, own_code}
 use Rattle.pc_cards.specs.declared.form.Form.TheVariants as form
 use Rattle.pc_deck.specs.declared.kinds.project.ProjectCard.{ProjectCard}
 use Rattle.pc_deck.specs.declared.kinds.CardLists.{CardLists}
 use Rattle.pc_deck.specs.Builders.{single_kind}
-
--- the fields behind the kind, in decks of a sort; the last one may be missing
-abbrev pub project_slots : Sort → List Slot
-project_slots sort =
-    (2, form.Code) ∷ (3, own_code sort) ∷ (4, own_code sort) ∷ (5, form.Date) ∷ (6, form.Number 1 MAX_UNIT_DAYS) ∷
-    (7, form.NumberOrNone 0 MAX_DIRECTED) ∷ (8, form.Title) ∷ (9, form.NumberOrNone 1 2) ∷ []
 
 -- the version that a field spells; where it is empty, 1
 abbrev pub version_in : List ℕ → ℕ
@@ -36,15 +28,11 @@ project_of row fields = record {
   version = version_in (field_at fields 8);
 }
 
--- its fields as they are written
-abbrev pub written_project : ProjectCard → List (List ℕ)
-written_project project = project.code ∷ project.start ∷ project.end ∷ text_of_day project.start_day ∷ decimal project.unit_days ∷
-    number_text project.directed ∷ project.title ∷ decimal project.version ∷ []
-
--- the card in another record
-abbrev pub project_at : ℕ → ProjectCard → ProjectCard
-project_at row project = record project { row = row }
-
--- the kind; its card stands beside the lists
+-- the kind; the last field of its card may be missing, and the card is not in the lists
 abbrev pub project_kind : Entry CardLists
-project_kind = single_kind project_of project_slots 8 9 (λ lists. None)
+project_kind =
+    single_kind project_of
+    (λ sort.
+    (2, form.Code) ∷ (3, own_code sort) ∷ (4, own_code sort) ∷ (5, form.Date) ∷ (6, form.Number 1 MAX_UNIT_DAYS)
+    ∷ (7, form.NumberOrNone 0 MAX_DIRECTED) ∷ (8, form.Title) ∷ (9, form.NumberOrNone 1 2) ∷ []) 8 9
+    (λ lists. None)

@@ -1,19 +1,14 @@
 -- STATUS,activity,S or F,date
 use Rattle.std.specs.Prelude.{ℕ, List, [], ◌∷◌, bytes_eq, codes}
 use Rattle.pc_records.specs.Deck.{field_at}
-use Rattle.pc_days.specs.Calendar.{text_of_day}
 use Rattle.pc_cards.specs.Entry.{Entry, growing, in_both}
 use Rattle.pc_deck.specs.declared.limits.TheConstants.{SMALL_STATUSES}
 use Rattle.pc_model.specs.declared.limits.TheConstants.{MAX_STATUSES}
-use Rattle.pc_cards.specs.Forms.{Slot, day_in, letter_text}
+use Rattle.pc_cards.specs.Forms.{day_in}
 use Rattle.pc_cards.specs.declared.form.Form.TheVariants as form
 use Rattle.pc_deck.specs.declared.kinds.status.StatusCard.{StatusCard}
 use Rattle.pc_deck.specs.declared.kinds.CardLists.{CardLists}
 use Rattle.pc_deck.specs.Builders.{listed_kind}
-
--- the fields behind the kind
-abbrev pub status_slots : List Slot
-status_slots = (2, form.Code) ∷ (3, form.Letter) ∷ (4, form.Date) ∷ []
 
 -- the card that a record spells
 abbrev pub status_of : ℕ → List (List ℕ) → StatusCard
@@ -24,12 +19,9 @@ status_of row fields = record {
   day = day_in (field_at fields 3);
 }
 
--- its fields as they are written
-abbrev pub written_status : StatusCard → List (List ℕ)
-written_status status = status.activity ∷ letter_text status.finished ∷ text_of_day status.day ∷ []
-
 -- the kind
 abbrev pub status_kind : Entry CardLists
 status_kind =
-    listed_kind status_of (in_both status_slots) 4
+    listed_kind status_of
+    (in_both ((2, form.Code) ∷ (3, form.Letter) ∷ (4, form.Date) ∷ [])) 4
     (λ lists. lists.statuses) (in_both (growing SMALL_STATUSES MAX_STATUSES))

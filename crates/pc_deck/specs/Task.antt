@@ -1,21 +1,14 @@
 -- TASK,code,item,opt,likely,pess,normal,crash,cost,slope,title
-use Rattle.std.specs.Prelude.{ℕ, List, [], ◌∷◌, decimal}
+use Rattle.std.specs.Prelude.{ℕ, List, [], ◌∷◌}
 use Rattle.pc_records.specs.Deck.{field_at}
 use Rattle.pc_model.specs.declared.limits.TheConstants.{MAX_SLOPE}
 use Rattle.pc_cards.specs.Entry.{Entry, in_both, in_tasks, up_to}
 use Rattle.pc_deck.specs.declared.limits.TheConstants.{MAX_TASKS}
-use Rattle.pc_cards.specs.Forms.{Slot, duration, money, number_in}
+use Rattle.pc_cards.specs.Forms.{duration, money, number_in}
 use Rattle.pc_cards.specs.declared.form.Form.TheVariants as form
 use Rattle.pc_deck.specs.declared.kinds.task.TaskCard.{TaskCard}
 use Rattle.pc_deck.specs.declared.kinds.CardLists.{CardLists}
 use Rattle.pc_deck.specs.Builders.{named_kind}
-
--- the fields behind the kind
-abbrev pub task_slots : List Slot
-task_slots =
-    (2, form.GivenCode) ∷ (3, form.Code)
-    ∷ (4, duration) ∷ (5, duration) ∷ (6, duration) ∷ (7, duration) ∷ (8, duration)
-    ∷ (9, money) ∷ (10, form.Number 0 MAX_SLOPE) ∷ (11, form.Title) ∷ []
 
 -- the card that a record spells
 abbrev pub task_of : ℕ → List (List ℕ) → TaskCard
@@ -33,14 +26,12 @@ task_of row fields = record {
   title = field_at fields 10;
 }
 
--- its fields as they are written
-abbrev pub written_task : TaskCard → List (List ℕ)
-written_task task =
-    task.code ∷ task.item
-    ∷ decimal task.opt ∷ decimal task.likely ∷ decimal task.pess ∷ decimal task.normal ∷ decimal task.crash
-    ∷ decimal task.cost ∷ decimal task.slope ∷ task.title ∷ []
-
 -- the kind
 abbrev pub task_kind : Entry CardLists
 task_kind =
-    named_kind task_of (λ task. task.code) (in_both task_slots) 11 (λ lists. lists.tasks) (in_tasks (up_to MAX_TASKS))
+    named_kind task_of (λ task. task.code)
+    (in_both (
+    (2, form.GivenCode) ∷ (3, form.Code)
+    ∷ (4, duration) ∷ (5, duration) ∷ (6, duration) ∷ (7, duration) ∷ (8, duration)
+    ∷ (9, money) ∷ (10, form.Number 0 MAX_SLOPE) ∷ (11, form.Title) ∷ [])) 11
+    (λ lists. lists.tasks) (in_tasks (up_to MAX_TASKS))

@@ -1,9 +1,9 @@
 -- TERMS,overhead,target,bonus,penalty
-use Rattle.std.specs.Prelude.{ℕ, List, [], ◌∷◌, decimal}
+use Rattle.std.specs.Prelude.{ℕ, List, [], ◌∷◌}
 use Rattle.pc_records.specs.Deck.{field_at}
 use Rattle.pc_model.specs.declared.limits.TheConstants.{MAX_TERMS}
 use Rattle.pc_cards.specs.Entry.{Entry, in_both}
-use Rattle.pc_cards.specs.Forms.{Slot, number_in}
+use Rattle.pc_cards.specs.Forms.{number_in}
 use Rattle.pc_cards.specs.declared.form.Form.{Form}
 use Rattle.pc_cards.specs.declared.form.Form.TheVariants as form
 use Rattle.pc_deck.specs.declared.kinds.terms.TermsCard.{TermsCard}
@@ -13,10 +13,6 @@ use Rattle.pc_deck.specs.Builders.{single_kind}
 -- one of the four numbers
 abbrev pub term : Form
 term = form.Number 0 MAX_TERMS
-
--- the fields behind the kind
-abbrev pub terms_slots : List Slot
-terms_slots = (2, term) ∷ (3, term) ∷ (4, term) ∷ (5, term) ∷ []
 
 -- the card that a record spells
 abbrev pub terms_of : ℕ → List (List ℕ) → TermsCard
@@ -28,14 +24,9 @@ terms_of row fields = record {
   penalty = number_in (field_at fields 4);
 }
 
--- its fields as they are written
-abbrev pub written_terms : TermsCard → List (List ℕ)
-written_terms terms = decimal terms.overhead ∷ decimal terms.target ∷ decimal terms.bonus ∷ decimal terms.penalty ∷ []
-
--- the card in another record
-abbrev pub terms_at : ℕ → TermsCard → TermsCard
-terms_at row terms = record terms { row = row }
-
 -- the kind
 abbrev pub terms_kind : Entry CardLists
-terms_kind = single_kind terms_of (in_both terms_slots) 5 5 (λ lists. lists.terms)
+terms_kind =
+    single_kind terms_of
+    (in_both ((2, term) ∷ (3, term) ∷ (4, term) ∷ (5, term) ∷ [])) 5 5
+    (λ lists. lists.terms)

@@ -7,7 +7,6 @@ use Rattle.pc_cards.specs.Named.{numbered_by}
 use Rattle.pc_deck.specs.WrittenKinds.{written_of}
 use Rattle.pc_deck.specs.Kinds.{CardOf, held_in, is_same, kinds, lists_with, stands_once}
 use Rattle.pc_deck.specs.Deck.{Deck, list_of}
-use Rattle.pc_deck.specs.Project.{project_at}
 use Rattle.pc_deck.specs.declared.kinds.as_of.AsOfCard.{AsOfCard}
 use Rattle.pc_deck.specs.declared.kinds.terms.TermsCard.{TermsCard}
 
@@ -52,12 +51,9 @@ abbrev pub first_from : ℕ → Deck → Kind → List Kind → ℕ
 first_from row deck kind [] = row
 first_from row deck kind (other ∷ rest) = if is_same other kind then row else first_from (row + length (list_of deck other)) deck kind rest
 
-abbrev pub first_record : Deck → Kind → ℕ
-first_record deck kind = first_from 1 deck kind kinds
-
 -- the same cards in the records that they have in the text of the deck
 abbrev pub renumbered : Deck → Deck
 renumbered deck = record {
-  project = project_at 1 deck.project;
-  lists = lists_with (λ kind. numbered_by (stands_once kind) (CardOf kind) (written_of kind).at_row (first_record deck kind) (held_in deck.lists kind));
+  project = record deck.project { row = 1 };
+  lists = lists_with (λ kind. numbered_by (stands_once kind) (CardOf kind) (written_of kind).at_row (first_from 1 deck kind kinds) (held_in deck.lists kind));
 }

@@ -4,15 +4,10 @@ use Rattle.pc_records.specs.Deck.{field_at}
 use Rattle.pc_cards.specs.Entry.{Entry, growing, in_both, in_plans, up_to}
 use Rattle.pc_deck.specs.declared.limits.TheConstants.{SMALL_EVENTS}
 use Rattle.pc_model.specs.declared.limits.TheConstants.{MAX_EVENTS, MAX_RESOURCES}
-use Rattle.pc_cards.specs.Forms.{Slot}
 use Rattle.pc_cards.specs.declared.form.Form.TheVariants as form
 use Rattle.pc_deck.specs.declared.kinds.titled.TitledCard.{TitledCard}
 use Rattle.pc_deck.specs.declared.kinds.CardLists.{CardLists}
 use Rattle.pc_deck.specs.Builders.{named_kind}
-
--- the fields behind the kind
-abbrev pub titled_slots : List Slot
-titled_slots = (2, form.Code) ∷ (3, form.Title) ∷ []
 
 -- the card that a record spells
 abbrev pub titled_of : ℕ → List (List ℕ) → TitledCard
@@ -25,11 +20,10 @@ written_titled card = card.code ∷ card.title ∷ []
 -- the kind EVENT
 abbrev pub event_kind : Entry CardLists
 event_kind =
-    named_kind titled_of (λ card. card.code) (in_both titled_slots) 3
+    named_kind titled_of (λ card. card.code)
+    (in_both ((2, form.Code) ∷ (3, form.Title) ∷ [])) 3
     (λ lists. lists.events) (in_plans (growing SMALL_EVENTS MAX_EVENTS))
 
--- the kind RES
+-- the kind RES: the same card in a list of its own
 abbrev pub resource_kind : Entry CardLists
-resource_kind =
-    named_kind titled_of (λ card. card.code) (in_both titled_slots) 3
-    (λ lists. lists.resources) (in_both (up_to MAX_RESOURCES))
+resource_kind = record event_kind { held = λ lists. lists.resources; limit = in_both (up_to MAX_RESOURCES) }

@@ -5,27 +5,19 @@ use Rattle.pc_text.specs.Code.{code_of}
 use Rattle.pc_cards.specs.Entry.{Entry, by_sort, up_to}
 use Rattle.pc_model.specs.declared.limits.TheConstants.{MAX_ITEMS}
 use Rattle.pc_deck.specs.declared.limits.TheConstants.{MAX_TASK_ITEMS}
-use Rattle.pc_cards.specs.Forms.{Slot, code_text, own_code}
-use Rattle.pc_cards.specs.declared.sort.Sort.{Sort}
+use Rattle.pc_cards.specs.Forms.{own_code}
 use Rattle.pc_cards.specs.declared.form.Form.TheVariants as form
 use Rattle.pc_deck.specs.declared.kinds.wbs.ItemCard.{ItemCard}
 use Rattle.pc_deck.specs.declared.kinds.CardLists.{CardLists}
 use Rattle.pc_deck.specs.Builders.{named_kind}
 
--- the fields behind the kind, in decks of a sort
-abbrev pub item_slots : Sort → List Slot
-item_slots sort = (2, own_code sort) ∷ (3, form.CodeOrNone) ∷ (4, form.Title) ∷ []
-
 -- the card that a record spells
 abbrev pub item_of : ℕ → List (List ℕ) → ItemCard
 item_of row fields = record { row = row; code = field_at fields 1; parent = code_of (field_at fields 2); title = field_at fields 3 }
 
--- its fields as they are written
-abbrev pub written_item : ItemCard → List (List ℕ)
-written_item item = item.code ∷ code_text item.parent ∷ item.title ∷ []
-
 -- the kind
 abbrev pub item_kind : Entry CardLists
 item_kind =
-    named_kind item_of (λ item. item.code) item_slots 4
+    named_kind item_of (λ item. item.code)
+    (λ sort. (2, own_code sort) ∷ (3, form.CodeOrNone) ∷ (4, form.Title) ∷ []) 4
     (λ lists. lists.items) (by_sort (up_to MAX_ITEMS) (up_to MAX_TASK_ITEMS))

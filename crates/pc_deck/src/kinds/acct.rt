@@ -1,6 +1,8 @@
 //! ACCT: a cost account.
 ghost use Rattle.std.specs.Prelude.{refl};
-ghost use Rattle.pc_deck.specs.Acct.{account_slots, account_of, written_account};
+ghost use Rattle.pc_faults.specs.declared.kind.Kind.TheVariants as kinds;
+ghost use Rattle.pc_deck.specs.Acct.{account_kind, account_of};
+ghost use Rattle.pc_deck.specs.WrittenKinds.{written_of};
 
 use pc_cards::card::{Card, Coded, Layout};
 use pc_cards::field::{Misfit, read_amount, read_code, read_title};
@@ -30,7 +32,7 @@ const SLOTS: [Slot; 4] = [
 ];
 
 impl Card for AcctCard {
-    ghost slots = { λ sort. account_slots };
+    ghost slots = { account_kind.slots };
 
     ghost least = { 5 };
 
@@ -38,7 +40,7 @@ impl Card for AcctCard {
 
     ghost spelled = { account_of };
 
-    ghost written = { written_account };
+    ghost written = { (written_of kinds.Acct).written };
 
     fn layout(_: Sort) -> Layout {
         Layout {

@@ -1,6 +1,8 @@
 //! ACT: an activity of the network.
 ghost use Rattle.std.specs.Prelude.{refl};
-ghost use Rattle.pc_deck.specs.Act.{act_slots, act_of, written_act};
+ghost use Rattle.pc_faults.specs.declared.kind.Kind.TheVariants as kinds;
+ghost use Rattle.pc_deck.specs.Act.{act_kind, act_of};
+ghost use Rattle.pc_deck.specs.WrittenKinds.{written_of};
 
 use pc_cards::card::{Card, Coded, Layout};
 use pc_cards::field::{Misfit, read_amount, read_code, read_title};
@@ -46,7 +48,7 @@ const SLOTS: [Slot; 12] = [
 ];
 
 impl Card for ActCard {
-    ghost slots = { λ sort. act_slots };
+    ghost slots = { act_kind.slots };
 
     ghost least = { 13 };
 
@@ -54,7 +56,7 @@ impl Card for ActCard {
 
     ghost spelled = { act_of };
 
-    ghost written = { written_act };
+    ghost written = { (written_of kinds.Act).written };
 
     fn layout(_: Sort) -> Layout {
         Layout {

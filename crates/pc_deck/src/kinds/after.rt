@@ -1,5 +1,7 @@
 //! AFTER: a task that comes after another.
-ghost use Rattle.pc_deck.specs.After.{after_slots, after_of, written_after};
+ghost use Rattle.pc_faults.specs.declared.kind.Kind.TheVariants as kinds;
+ghost use Rattle.pc_deck.specs.After.{after_kind, after_of};
+ghost use Rattle.pc_deck.specs.WrittenKinds.{written_of};
 
 use pc_cards::card::{Card, Layout};
 use pc_cards::field::{Misfit, read_code};
@@ -21,7 +23,7 @@ pub struct AfterCard {
 const SLOTS: [Slot; 2] = [(2, Form::Code), (3, Form::Code)];
 
 impl Card for AfterCard {
-    ghost slots = { λ sort. after_slots };
+    ghost slots = { after_kind.slots };
 
     ghost least = { 3 };
 
@@ -29,7 +31,7 @@ impl Card for AfterCard {
 
     ghost spelled = { after_of };
 
-    ghost written = { written_after };
+    ghost written = { (written_of kinds.After).written };
 
     fn layout(_: Sort) -> Layout {
         Layout {

@@ -1,5 +1,7 @@
 //! ASOF: the day that the figures are of.
-ghost use Rattle.pc_deck.specs.AsOf.{as_of_slots, as_of_of, written_as_of};
+ghost use Rattle.pc_faults.specs.declared.kind.Kind.TheVariants as kinds;
+ghost use Rattle.pc_deck.specs.AsOf.{as_of_kind, as_of_of};
+ghost use Rattle.pc_deck.specs.WrittenKinds.{written_of};
 
 use pc_cards::card::{Card, Layout};
 use pc_cards::field::{Misfit, read_date};
@@ -20,7 +22,7 @@ pub struct AsOfCard {
 const SLOTS: [Slot; 1] = [(2, Form::Date)];
 
 impl Card for AsOfCard {
-    ghost slots = { λ sort. as_of_slots };
+    ghost slots = { as_of_kind.slots };
 
     ghost least = { 2 };
 
@@ -28,7 +30,7 @@ impl Card for AsOfCard {
 
     ghost spelled = { as_of_of };
 
-    ghost written = { written_as_of };
+    ghost written = { (written_of kinds.AsOf).written };
 
     fn layout(_: Sort) -> Layout {
         Layout {

@@ -1,5 +1,7 @@
 //! LOAD: what an activity uses of a resource.
-ghost use Rattle.pc_deck.specs.Load.{load_slots, load_of, written_load};
+ghost use Rattle.pc_faults.specs.declared.kind.Kind.TheVariants as kinds;
+ghost use Rattle.pc_deck.specs.Load.{load_kind, load_of};
+ghost use Rattle.pc_deck.specs.WrittenKinds.{written_of};
 
 use pc_cards::card::{Card, Layout};
 use pc_cards::field::{Misfit, read_amount, read_code};
@@ -23,7 +25,7 @@ pub struct LoadCard {
 const SLOTS: [Slot; 3] = [(2, Form::Code), (3, Form::Code), (4, MONEY)];
 
 impl Card for LoadCard {
-    ghost slots = { λ sort. load_slots };
+    ghost slots = { load_kind.slots };
 
     ghost least = { 4 };
 
@@ -31,7 +33,7 @@ impl Card for LoadCard {
 
     ghost spelled = { load_of };
 
-    ghost written = { written_load };
+    ghost written = { (written_of kinds.Load).written };
 
     fn layout(_: Sort) -> Layout {
         Layout {

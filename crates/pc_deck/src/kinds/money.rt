@@ -1,5 +1,5 @@
 //! CHARGE and TOGO: amounts of money, spent or still to be spent.
-ghost use Rattle.pc_deck.specs.Money.{money_slots, money_of, written_money};
+ghost use Rattle.pc_deck.specs.Money.{charge_kind, money_of, written_money};
 
 use pc_cards::card::{Card, Layout};
 use pc_cards::field::{Misfit, read_amount, read_code, read_date};
@@ -24,7 +24,7 @@ pub struct MoneyCard {
 const SLOTS: [Slot; 3] = [(2, Form::Code), (3, Form::Date), (4, MONEY)];
 
 impl Card for MoneyCard {
-    ghost slots = { λ sort. money_slots };
+    ghost slots = { charge_kind.slots };
 
     ghost least = { 4 };
 

@@ -1,5 +1,7 @@
 //! PIECE: a further piece of an activity's cost.
-ghost use Rattle.pc_deck.specs.Piece.{piece_slots, piece_of, written_piece};
+ghost use Rattle.pc_faults.specs.declared.kind.Kind.TheVariants as kinds;
+ghost use Rattle.pc_deck.specs.Piece.{piece_kind, piece_of};
+ghost use Rattle.pc_deck.specs.WrittenKinds.{written_of};
 
 use pc_cards::card::{Card, Layout};
 use pc_cards::field::{Misfit, read_amount, read_code};
@@ -29,7 +31,7 @@ const UNITS: Form = Form::Number {
 const SLOTS: [Slot; 3] = [(2, Form::Code), (3, UNITS), (4, SLOPE)];
 
 impl Card for PieceCard {
-    ghost slots = { λ sort. piece_slots };
+    ghost slots = { piece_kind.slots };
 
     ghost least = { 4 };
 
@@ -37,7 +39,7 @@ impl Card for PieceCard {
 
     ghost spelled = { piece_of };
 
-    ghost written = { written_piece };
+    ghost written = { (written_of kinds.Piece).written };
 
     fn layout(_: Sort) -> Layout {
         Layout {

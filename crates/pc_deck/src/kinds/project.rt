@@ -1,6 +1,8 @@
 //! PROJECT: what the project is called, where it starts and ends, and when.
 ghost use Rattle.std.specs.Prelude.{◌≡◌, [], if◌then◌else◌};
-ghost use Rattle.pc_deck.specs.Project.{project_slots, project_of, written_project};
+ghost use Rattle.pc_faults.specs.declared.kind.Kind.TheVariants as kinds;
+ghost use Rattle.pc_deck.specs.Project.{project_kind, project_of};
+ghost use Rattle.pc_deck.specs.WrittenKinds.{written_of};
 
 use pc_cards::card::{Card, Layout};
 use pc_cards::field::{
@@ -76,7 +78,7 @@ const TASK_SLOTS: [Slot; 8] = [
 ];
 
 impl Card for ProjectCard {
-    ghost slots = { project_slots };
+    ghost slots = { project_kind.slots };
 
     ghost least = { 8 };
 
@@ -84,7 +86,7 @@ impl Card for ProjectCard {
 
     ghost spelled = { project_of };
 
-    ghost written = { written_project };
+    ghost written = { (written_of kinds.Project).written };
 
     fn layout(sort: Sort) -> Layout {
         Layout {

@@ -1,7 +1,9 @@
 //! STATUS: when an activity was begun or ended.
 ghost use Rattle.std.specs.Prelude.{◌≡◌};
 ghost use Rattle.pc_cards.specs.Forms.{letter_text};
-ghost use Rattle.pc_deck.specs.Status.{status_slots, status_of, written_status};
+ghost use Rattle.pc_faults.specs.declared.kind.Kind.TheVariants as kinds;
+ghost use Rattle.pc_deck.specs.Status.{status_kind, status_of};
+ghost use Rattle.pc_deck.specs.WrittenKinds.{written_of};
 
 use pc_cards::card::{Card, Layout};
 use pc_cards::field::{Misfit, read_code, read_date, read_letter};
@@ -25,7 +27,7 @@ pub struct StatusCard {
 const SLOTS: [Slot; 3] = [(2, Form::Code), (3, Form::Letter), (4, Form::Date)];
 
 impl Card for StatusCard {
-    ghost slots = { λ sort. status_slots };
+    ghost slots = { status_kind.slots };
 
     ghost least = { 4 };
 
@@ -33,7 +35,7 @@ impl Card for StatusCard {
 
     ghost spelled = { status_of };
 
-    ghost written = { written_status };
+    ghost written = { (written_of kinds.Status).written };
 
     fn layout(_: Sort) -> Layout {
         Layout {

@@ -1,6 +1,8 @@
 //! TASK: a task of a deck of tasks.
 ghost use Rattle.std.specs.Prelude.{refl};
-ghost use Rattle.pc_deck.specs.Task.{task_slots, task_of, written_task};
+ghost use Rattle.pc_faults.specs.declared.kind.Kind.TheVariants as kinds;
+ghost use Rattle.pc_deck.specs.Task.{task_kind, task_of};
+ghost use Rattle.pc_deck.specs.WrittenKinds.{written_of};
 
 use pc_cards::card::{Card, Coded, Layout};
 use pc_cards::field::{Misfit, read_amount, read_code, read_given_code, read_title};
@@ -42,7 +44,7 @@ const SLOTS: [Slot; 10] = [
 ];
 
 impl Card for TaskCard {
-    ghost slots = { λ sort. task_slots };
+    ghost slots = { task_kind.slots };
 
     ghost least = { 11 };
 
@@ -50,7 +52,7 @@ impl Card for TaskCard {
 
     ghost spelled = { task_of };
 
-    ghost written = { written_task };
+    ghost written = { (written_of kinds.Task).written };
 
     fn layout(_: Sort) -> Layout {
         Layout {

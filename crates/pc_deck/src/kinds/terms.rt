@@ -1,5 +1,7 @@
 //! TERMS: what time costs.
-ghost use Rattle.pc_deck.specs.Terms.{terms_slots, terms_of, written_terms};
+ghost use Rattle.pc_faults.specs.declared.kind.Kind.TheVariants as kinds;
+ghost use Rattle.pc_deck.specs.Terms.{terms_kind, terms_of};
+ghost use Rattle.pc_deck.specs.WrittenKinds.{written_of};
 
 use pc_cards::card::{Card, Layout};
 use pc_cards::field::{Misfit, read_amount};
@@ -35,7 +37,7 @@ const TERM: Form = Form::Number {
 const SLOTS: [Slot; 4] = [(2, TERM), (3, TERM), (4, TERM), (5, TERM)];
 
 impl Card for TermsCard {
-    ghost slots = { λ sort. terms_slots };
+    ghost slots = { terms_kind.slots };
 
     ghost least = { 5 };
 
@@ -43,7 +45,7 @@ impl Card for TermsCard {
 
     ghost spelled = { terms_of };
 
-    ghost written = { written_terms };
+    ghost written = { (written_of kinds.Terms).written };
 
     fn layout(_: Sort) -> Layout {
         Layout {

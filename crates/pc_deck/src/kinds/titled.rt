@@ -1,6 +1,6 @@
 //! EVENT and RES: what has a code and a title, an event of the network or a resource.
 ghost use Rattle.std.specs.Prelude.{refl};
-ghost use Rattle.pc_deck.specs.Titled.{titled_slots, titled_of, written_titled};
+ghost use Rattle.pc_deck.specs.Titled.{event_kind, titled_of, written_titled};
 
 use pc_cards::card::{Card, Coded, Layout};
 use pc_cards::field::{Misfit, read_code, read_title};
@@ -22,7 +22,7 @@ pub struct TitledCard {
 const SLOTS: [Slot; 2] = [(2, Form::Code), (3, Form::Title)];
 
 impl Card for TitledCard {
-    ghost slots = { λ sort. titled_slots };
+    ghost slots = { event_kind.slots };
 
     ghost least = { 3 };
 

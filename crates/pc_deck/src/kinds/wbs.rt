@@ -1,6 +1,8 @@
 //! WBS: an item of the work breakdown structure.
 ghost use Rattle.std.specs.Prelude.{refl};
-ghost use Rattle.pc_deck.specs.Wbs.{item_slots, item_of, written_item};
+ghost use Rattle.pc_faults.specs.declared.kind.Kind.TheVariants as kinds;
+ghost use Rattle.pc_deck.specs.Wbs.{item_kind, item_of};
+ghost use Rattle.pc_deck.specs.WrittenKinds.{written_of};
 
 use pc_cards::card::{Card, Coded, Layout};
 use pc_cards::field::{Misfit, read_code_or_none, read_own_code, read_title};
@@ -31,7 +33,7 @@ const TASK_SLOTS: [Slot; 3] = [
 ];
 
 impl Card for ItemCard {
-    ghost slots = { item_slots };
+    ghost slots = { item_kind.slots };
 
     ghost least = { 4 };
 
@@ -39,7 +41,7 @@ impl Card for ItemCard {
 
     ghost spelled = { item_of };
 
-    ghost written = { written_item };
+    ghost written = { (written_of kinds.Wbs).written };
 
     fn layout(sort: Sort) -> Layout {
         Layout {

@@ -5,10 +5,10 @@ use Rattle.std.specs.Prelude.{option_map}
 use Rattle.std.proofs.lemmas.Bool.{and_parts, eqb-true}
 use Rattle.pc_faults.specs.declared.kind.Kind.TheVariants.{AsOf, Terms}
 use Rattle.pc_cards.specs.Named.{numbered_from}
-use Rattle.pc_deck.specs.AsOf.{as_of_at}
 use Rattle.pc_deck.specs.Deck.{Deck}
-use Rattle.pc_deck.specs.Terms.{terms_at}
-use Rattle.pc_deck.specs.Text.{first_record, renumbered, says_nothing, settled, settled_as_of, settled_terms}
+use Rattle.pc_deck.specs.Text.{renumbered, says_nothing, settled, settled_as_of, settled_terms}
+use Rattle.pc_deck.specs.inside.Text.{first_record}
+use Rattle.pc_deck.specs.WrittenKinds.{written_of}
 use Rattle.pc_deck.specs.declared.kinds.as_of.AsOfCard.{AsOfCard}
 use Rattle.pc_deck.specs.declared.kinds.terms.TermsCard.{TermsCard}
 use Rattle.pc_project.specs.Project.{as_of_day, time_terms_of}
@@ -21,7 +21,7 @@ said-numbered said at_row row [] same = refl
 said-numbered said at_row row (card ∷ cards) same = λ i. same row card i ∷ said-numbered said at_row (row + 1) cards same i
 
 -- the day of the figures
-same_as_of : (card : Option AsOfCard) (start : ℤ) (row : ℕ) → as_of_day start card ≡ as_of_day start (Some (as_of_at row (settled_as_of card start)))
+same_as_of : (card : Option AsOfCard) (start : ℤ) (row : ℕ) → as_of_day start card ≡ as_of_day start (Some ((written_of AsOf).at_row row (settled_as_of card start)))
 same_as_of None start row = refl
 same_as_of (Some card) start row = refl
 
@@ -38,11 +38,11 @@ nothing_said terms nothing =
       penalty = eqb-true terms.penalty 0 bonus.1 i;
     }
 
-same_terms : (terms : Option TermsCard) (row : ℕ) → time_terms_of terms ≡ time_terms_of (option_map (terms_at row) (settled_terms terms))
+same_terms : (terms : Option TermsCard) (row : ℕ) → time_terms_of terms ≡ time_terms_of (option_map ((written_of Terms).at_row row) (settled_terms terms))
 same_terms None row = refl
 same_terms (Some terms) row = by (says_nothing terms) refl
   where
-    by : (test : Bool) → says_nothing terms ≡ test → time_terms_of (Some terms) ≡ time_terms_of (option_map (terms_at row) (if test then None else Some terms))
+    by : (test : Bool) → says_nothing terms ≡ test → time_terms_of (Some terms) ≡ time_terms_of (option_map ((written_of Terms).at_row row) (if test then None else Some terms))
     by true nothing = nothing_said terms nothing
     by false something = refl
 
