@@ -1,16 +1,16 @@
 //! Adding a line to what is kept of a segment.
-ghost use Rattle.std.specs.Prelude.{◌≡◌, ◌+◌, ◌*◌, ◌^◌, ◌<◌, ◌≤◌, ◌++◌, ◌∷◌, [], length, slice_index, vec_len, if◌then◌else◌};
+ghost use Rattle.std.specs.Prelude.{◌≡◌, ◌+◌, ◌^◌, ◌<◌, ◌≤◌, ◌++◌, ◌∷◌, [], length, slice_index, vec_len, if◌then◌else◌};
 ghost use Rattle.pc_laws.specs.Segment.{is_forward, is_backward, rises_above, span};
 ghost use Rattle.pc_crash.specs.Priced.{knees_in};
 ghost use Rattle.pc_check.specs.inside.Kept.{stretch_of};
 ghost use Rattle.pc_check.specs.inside.KneeTests.{rises_over};
 ghost use Rattle.pc_check.specs.inside.Crossings.{IsCrossing};
-ghost use Rattle.pc_check.specs.inside.Safe.{IsSafe, IsBegun, IsExchanged, IsRenewed, AddsAct, AddsCut};
+ghost use Rattle.pc_check.specs.inside.Safe.{IsSafe, IsBegun, IsExchanged, IsRenewed, AddsAct};
 ghost use Rattle.pc_check.specs.inside.Passed.{HasPassed};
 ghost use Rattle.pc_check.specs.Segments.{stops_in};
 
 use crate::acts::{rises_over, stops};
-use crate::gaps::{Crossing, Gap, crossing_of};
+use crate::gaps::{Crossing, Gap};
 use crate::kept::Tally;
 use crate::passed::Passed;
 use pc_crash::CrashNet;
@@ -100,28 +100,12 @@ fn renew(net: &CrashNet<'_>, tally: &mut Tally, passed: Passed)
     tally.rows[a as usize] = passed;
 }
 
-/// The sums and the stop of the cut, or what an activity adds to them.
+/// What an activity adds to the cut.
 #[derive(Clone, Copy)]
-pub(crate) struct Cut {
-    pub(crate) forward: u128,
-    pub(crate) backward: u128,
-    pub(crate) stops: bool,
-}
-
-/// Adds what an activity adds to the cut.
-#[inline(never)]
-pub(crate) fn add_cut(net: &CrashNet<'_>, tally: &Tally, a: u32, cut: &mut Cut)
-    requires known { a < length net.now.network.arcs }
-    requires forward { cut.old.forward ≤ a * 2 ^ 67 }
-    requires backward { cut.old.backward ≤ a * 2 ^ 67 }
-    ensures { AddsCut net.now (stretch_of tally.now) a cut.old cut.new }
-{
-    let _few = net.net().activities();
-    let crossing = crossing_of(net, tally, a);
-    let more = cut_of(net, tally, a, &crossing);
-    cut.forward += more.forward;
-    cut.backward += more.backward;
-    cut.stops = cut.stops || more.stops;
+struct Cut {
+    forward: u128,
+    backward: u128,
+    stops: bool,
 }
 
 /// What an activity adds to the cut: the rises of its knees above its gap, at the lower end where it is forward and at the

@@ -4,11 +4,12 @@ ghost use Rattle.pc_check.specs.inside.Again.{AddsLine, AreEnds, acts_at, going}
 ghost use Rattle.pc_check.specs.inside.Along.{TakesAlong};
 ghost use Rattle.pc_check.specs.inside.Bounds.{IsBounded};
 ghost use Rattle.pc_check.specs.inside.Fronts.{AreFronts};
+ghost use Rattle.pc_check.specs.inside.Passed.{ArePassed};
 ghost use Rattle.pc_check.specs.inside.Safe.{IsSafe};
 
-use crate::adding::{Cut, add_cut, add_event};
+use crate::adding::add_event;
 use crate::kept::Kept;
-use crate::passed::{passes_across, passes_again};
+use crate::passed::passes_again;
 use pc_cert::{CertReader, EventFront, Place, WIDTH};
 use pc_crash::CrashNet;
 
@@ -118,8 +119,7 @@ fn add_told(
 /// Takes lines at the front of the piece, where all events have come and each line is that of the next activity as it passed last, and passes
 /// again: the answer is how many bytes they are with their ends. Where there is none, nothing changes, and the answer is 0.
 ///
-/// The loop writes nothing of what is kept, so that it keeps what it needs in registers: how many activities have come and what they add to the
-/// cut are counted beside it too.
+/// The loop writes nothing, so that it keeps what it needs in registers: how many activities have come is counted beside it too.
 #[inline(never)]
 pub(crate) fn advance_acts(
     net: &CrashNet<'_>,
@@ -155,14 +155,9 @@ pub(crate) fn advance_acts(
     }
     let mut count = 0;
     let mut a = kept.tally.acts;
-    let mut cut = Cut {
-        forward: kept.tally.forward,
-        backward: kept.tally.backward,
-        stops: kept.tally.stops,
-    };
     let mut rest = piece;
     loop {
-        let used = pass_same(net, kept, a, activities, &mut place, &mut cut, rest);
+        let used = pass_same(net, kept, a, activities, &mut place, rest);
         if used == 0 {
             break;
         }
@@ -174,9 +169,6 @@ pub(crate) fn advance_acts(
     kept.place = place;
     kept.lines += count;
     kept.tally.acts = a;
-    kept.tally.forward = cut.forward;
-    kept.tally.backward = cut.backward;
-    kept.tally.stops = cut.stops;
     piece.len() - rest.len()
 }
 
@@ -189,21 +181,18 @@ fn pass_same(
     a: u32,
     activities: u32,
     place: &mut Place,
-    cut: &mut Cut,
     piece: &[u8],
 ) -> usize
     requires count { activities ≡ length net.now.network.arcs }
-    requires safe { IsSafe net.now (acts_at kept.now a cut.old).tally }
+    requires rows { ArePassed net.now kept.now.tally.rows.items }
     requires times { net.now.network.events ≤ length kept.now.tally.times.items }
     requires moves { net.now.network.events ≤ length kept.now.tally.moves.items }
     requires later { kept.now.parts ≢ 0 }
     requires long { kept.now.tally.lower ≢ kept.now.tally.upper }
     ensures known { 0 < result → a < length net.now.network.arcs }
     ensures same_place { result ≡ 0 → place.new ≡ place.old }
-    ensures same_cut { result ≡ 0 → cut.new ≡ cut.old }
-    ensures adds { 0 < result → AddsLine net.now piece.now result place.old place.new
-        (acts_at kept.now a cut.old) (acts_at kept.now (a + 1) cut.new) }
-    ensures safe { 0 < result → IsSafe net.now (acts_at kept.now (a + 1) cut.new).tally }
+    ensures adds { 0 < result → AddsLine net.now piece.now result place.old place.new (acts_at kept.now a)
+        (acts_at kept.now (a + 1)) }
 {
     if activities <= a {
         return 0;
@@ -213,16 +202,8 @@ fn pass_same(
         return 0;
     }
     let last = &kept.tally.rows[a as usize];
-    if passes_again(net, kept, a, last) {
-        return place.pass_act(piece, &last.text, &last.flows);
-    }
-    if !passes_across(net, kept, a, last) {
+    if !passes_again(net, kept, a, last) {
         return 0;
     }
-    let used = place.pass_act(piece, &last.text, &last.flows);
-    if used == 0 {
-        return 0;
-    }
-    add_cut(net, &kept.tally, a, cut);
-    used
+    place.pass_act(piece, &last.text, &last.flows)
 }

@@ -6,7 +6,6 @@ use Rattle.pc_cert.specs.Grammar.{next}
 use Rattle.pc_cert.specs.inside.Grammar.{IsRow}
 use Rattle.pc_cert.specs.inside.Known.{IsAgain}
 use Rattle.pc_crash.specs.Priced.{PricedNetwork}
-use Rattle.pc_check.specs.declared.adding.Cut.{Cut}
 use Rattle.pc_check.specs.declared.again.Ends.{Ends}
 use Rattle.pc_check.specs.declared.kept.Kept.{Kept}
 use Rattle.pc_check.specs.inside.Advances.{Adds}
@@ -25,9 +24,9 @@ pub record AddsLine (net : PricedNetwork) (piece : List ℕ) (count : ℕ) (befo
   pub none : first_failing (conditions net (known_by old) line) ≡ None
   pub adds : Adds net line old new
 
--- what is kept where so many activities have come, which have added so much to the cut
-abbrev pub acts_at : Kept → ℕ → Cut → Kept
-acts_at kept a cut = record kept { tally = record kept.tally { acts = a; forward = cut.forward; backward = cut.backward; stops = cut.stops } }
+-- what is kept where so many activities have come
+abbrev pub acts_at : Kept → ℕ → Kept
+acts_at kept a = record kept { tally = record kept.tally { acts = a } }
 
 -- a checker that keeps this and has found no failure
 abbrev pub going : PricedNetwork → Kept → Checking

@@ -3,6 +3,7 @@ use Rattle.std.proofs.lemmas.List.{take_all, length-drop}
 use Rattle.pc_model.specs.declared.limits.TheConstants.{MAX_EVENTS, MAX_ACTIVITIES}
 use Rattle.pc_check.specs.inside.Again.{acts_at}
 use Rattle.pc_check.proofs.AlongLaws.{IsAlong, along_begins, along_ends, along_more}
+use Rattle.pc_check.proofs.PassedLaws.{safe_again}
 use Rattle.pc_check.proofs.again.advance_acts.Goals as goal
 
 pub loop-used-init : goal.loop-used-init
@@ -24,9 +25,9 @@ loop-used-preserved c =
     let events : net.network.events ≤ MAX_EVENTS = omega (arith, c.events-events.ensures.limit, c.events-events.ensures.events, ap (λ n. n.events) c.net.ensures.network) in
     let activities : length net.network.arcs ≤ MAX_ACTIVITIES = omega (arith, c.activities-activities.ensures.limit, c.activities-activities.ensures.activities, ap (λ n. length n.arcs) c.net-2.ensures.network) in
     subst (λ t. IsAlong net c.args.piece.now t c.args.reader.now c.args.kept.now
-    (acts_at c.args.kept.now (c.loop-used.a + 1) c.pass_same-used.new.cut) c.pass_same-used.new.place (c.loop-used.count + 1))
+    (acts_at c.args.kept.now (c.loop-used.a + 1)) c.pass_same-used.new.place (c.loop-used.count + 1))
     (sym (take_all _ (drop used rest) (omega (arith, length-drop used rest))))
-    (along_more used events activities c.loop-used.invariant (c.pass_same-used.ensures.adds some) (c.pass_same-used.ensures.safe some))
+    (along_more used events activities c.loop-used.invariant (c.pass_same-used.ensures.adds some) (safe_again c.loop-used.invariant.safe (c.pass_same-used.ensures.known some)))
 
 pub go_on-requires : goal.go_on-requires
 go_on-requires c = omega (arith, c.requires.alike, c.loop-used.invariant.left.run.alike, c.loop-used.invariant.left.run.few)
@@ -39,31 +40,31 @@ overflow_sub-result c = omega (arith, c.loop-used.invariant.left.long)
 
 pub returns-clause-same_kept : goal.returns-clause-same_kept
 returns-clause-same_kept c =
-    let it = along_ends c.go_on.new.self c.pass_same-used.new.place (acts_at c.args.kept.now c.loop-used.a c.pass_same-used.new.cut) c.loop-used.invariant (c.pass_same-used.ensures.same_place (omega (arith, c.if-used-eq0.true))) (ap (acts_at c.args.kept.now c.loop-used.a) (c.pass_same-used.ensures.same_cut (omega (arith, c.if-used-eq0.true)))) c.go_on.ensures in
+    let it = along_ends c.go_on.new.self c.pass_same-used.new.place (acts_at c.args.kept.now c.loop-used.a) c.loop-used.invariant (c.pass_same-used.ensures.same_place (omega (arith, c.if-used-eq0.true))) refl c.go_on.ensures in
     it.same_kept
 
 pub returns-clause-same_reader : goal.returns-clause-same_reader
 returns-clause-same_reader c =
-    let it = along_ends c.go_on.new.self c.pass_same-used.new.place (acts_at c.args.kept.now c.loop-used.a c.pass_same-used.new.cut) c.loop-used.invariant (c.pass_same-used.ensures.same_place (omega (arith, c.if-used-eq0.true))) (ap (acts_at c.args.kept.now c.loop-used.a) (c.pass_same-used.ensures.same_cut (omega (arith, c.if-used-eq0.true)))) c.go_on.ensures in
+    let it = along_ends c.go_on.new.self c.pass_same-used.new.place (acts_at c.args.kept.now c.loop-used.a) c.loop-used.invariant (c.pass_same-used.ensures.same_place (omega (arith, c.if-used-eq0.true))) refl c.go_on.ensures in
     it.same_reader
 
 pub returns-clause-takes : goal.returns-clause-takes
 returns-clause-takes c =
-    let it = along_ends c.go_on.new.self c.pass_same-used.new.place (acts_at c.args.kept.now c.loop-used.a c.pass_same-used.new.cut) c.loop-used.invariant (c.pass_same-used.ensures.same_place (omega (arith, c.if-used-eq0.true))) (ap (acts_at c.args.kept.now c.loop-used.a) (c.pass_same-used.ensures.same_cut (omega (arith, c.if-used-eq0.true)))) c.go_on.ensures in
+    let it = along_ends c.go_on.new.self c.pass_same-used.new.place (acts_at c.args.kept.now c.loop-used.a) c.loop-used.invariant (c.pass_same-used.ensures.same_place (omega (arith, c.if-used-eq0.true))) refl c.go_on.ensures in
     it.takes
 
 pub returns-clause-bounded : goal.returns-clause-bounded
 returns-clause-bounded c =
-    let it = along_ends c.go_on.new.self c.pass_same-used.new.place (acts_at c.args.kept.now c.loop-used.a c.pass_same-used.new.cut) c.loop-used.invariant (c.pass_same-used.ensures.same_place (omega (arith, c.if-used-eq0.true))) (ap (acts_at c.args.kept.now c.loop-used.a) (c.pass_same-used.ensures.same_cut (omega (arith, c.if-used-eq0.true)))) c.go_on.ensures in
+    let it = along_ends c.go_on.new.self c.pass_same-used.new.place (acts_at c.args.kept.now c.loop-used.a) c.loop-used.invariant (c.pass_same-used.ensures.same_place (omega (arith, c.if-used-eq0.true))) refl c.go_on.ensures in
     it.bounded
 
 pub returns-clause-safe : goal.returns-clause-safe
 returns-clause-safe c =
-    let it = along_ends c.go_on.new.self c.pass_same-used.new.place (acts_at c.args.kept.now c.loop-used.a c.pass_same-used.new.cut) c.loop-used.invariant (c.pass_same-used.ensures.same_place (omega (arith, c.if-used-eq0.true))) (ap (acts_at c.args.kept.now c.loop-used.a) (c.pass_same-used.ensures.same_cut (omega (arith, c.if-used-eq0.true)))) c.go_on.ensures in
+    let it = along_ends c.go_on.new.self c.pass_same-used.new.place (acts_at c.args.kept.now c.loop-used.a) c.loop-used.invariant (c.pass_same-used.ensures.same_place (omega (arith, c.if-used-eq0.true))) refl c.go_on.ensures in
     it.safe
 
-pub pass_same-used-requires-clause-safe : goal.pass_same-used-requires-clause-safe
-pass_same-used-requires-clause-safe c = c.loop-used.invariant.safe
+pub pass_same-used-requires-clause-rows : goal.pass_same-used-requires-clause-rows
+pass_same-used-requires-clause-rows c = c.requires.safe.rows
 
 pub pass_same-used-requires-clause-count : goal.pass_same-used-requires-clause-count
 pass_same-used-requires-clause-count c = c.activities-activities.ensures.activities ∙ ap (λ n. length n.arcs) c.net-2.ensures.network

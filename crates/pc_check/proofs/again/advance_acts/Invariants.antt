@@ -4,7 +4,7 @@ use Rattle.pc_check.proofs.AlongLaws.{IsAlong}
 use Rattle.pc_check.proofs.again.advance_acts.Given as goal
 
 abbrev pub invariant-loop-used : goal.invariant-loop-used
-invariant-loop-used l = IsAlong l.net l.piece l.rest l.reader l.initial.kept (acts_at l.kept l.a l.cut) l.place l.count
+invariant-loop-used l = IsAlong l.net l.piece l.rest l.reader l.initial.kept (acts_at l.kept l.a) l.place l.count
 
 abbrev pub decreases-loop-used : goal.decreases-loop-used
 decreases-loop-used l = length l.rest
