@@ -36,7 +36,7 @@ struct Curve {
     std::vector<std::vector<int>> leaving, entering;
     std::vector<i64> time;
     std::vector<int> label; // -1 none, else the branch by which the event was reached (start: branches.size())
-    i64 length = 0, shortest = 0, cost = 0, value = 0;
+    i64 length = 0, shortest = 0, cost = 0, value = 0, units = 0;
 
     std::vector<int> order() const {
         std::vector<int> missing(events, 0), found;
@@ -58,7 +58,7 @@ struct Curve {
         return times;
     }
 
-    void begin() {
+    __attribute__((noinline)) void begin() {
         shortest = early([](const Activity &a) { return a.crash; })[end];
         time = early([](const Activity &a) { return a.normal; });
         length = time[end];
@@ -136,16 +136,15 @@ struct Curve {
         return least;
     }
 
-    // Calls `each(length, cost, slope, units)` for each stretch of the curve from the longest length down.
-    template <class Each> void run(Each each) {
-        while (length > shortest) {
-            while (reach()) raise();
-            const i64 units = fall();
-            each(length, cost, value, units);
-            for (int e = 0; e < events; ++e) if (label[e] < 0) time[e] -= units;
-            length -= units;
-            cost += value * units;
-        }
+    // Goes on to the next stretch of the curve: down by `units` from `length`, where each unit costs `value`. Returns whether there is one.
+    __attribute__((noinline)) bool next_segment() {
+        for (int e = 0; e < events; ++e) if (label[e] < 0) time[e] -= units;
+        length -= units;
+        cost += value * units;
+        if (length <= shortest) return false;
+        while (reach()) raise();
+        units = fall();
+        return true;
     }
 };
 
@@ -169,14 +168,14 @@ int main(int count, char **words) {
     const i64 longest = curve.length, first_cost = curve.cost;
     i64 slope = -1, breaks = 1;
     __int128 sum = curve.cost;
-    curve.run([&](i64 length, i64 cost, i64 value, i64 units) {
-        if (value != slope) {
+    while (curve.next_segment()) {
+        if (curve.value != slope) {
             ++breaks;
-            if (!is_bench) std::cout << length << ' ' << cost << ' ' << value << '\n';
+            if (!is_bench) std::cout << curve.length << ' ' << curve.cost << ' ' << curve.value << '\n';
         }
-        slope = value;
-        for (i64 u = 1; u <= units; ++u) sum += cost + value * u;
-    });
+        slope = curve.value;
+        for (i64 u = 1; u <= curve.units; ++u) sum += curve.cost + curve.value * u;
+    }
     if (!is_bench) {
         std::cout << curve.length << ' ' << curve.cost << " -\n";
         return 0;

@@ -12,9 +12,10 @@ use pc_crash::CrashNet;
 use std::alloc::{AllocError, Global};
 use std::marker::Model;
 
-/// A reader of a certificate's text, and a checker of its lines.
+/// A reader of a certificate's text with a checker of its lines.
 ///
-/// Beside them it knows the lines of one segment, so that those that come again in the next are not read anew.
+/// It also keeps the lines of one segment, so that a line that comes again in the next segment is compared and not
+/// parsed.
 #[derive(Drop)]
 pub struct Audit<'n> {
     reader: CertReader,
@@ -31,7 +32,12 @@ impl<'n> Model for Audit<'n> {
 }
 
 impl<'n> Audit<'n> {
-    /// An audit of a text of which nothing has come, with all the memory that it takes.
+    /// Returns an audit before the first byte of a text. It allocates all its memory here, linear in events and
+    /// activities.
+    ///
+    /// # Errors
+    ///
+    /// `AllocError` if out of memory.
     pub fn begin(alloc: Global, net: &'n CrashNet<'n>) -> Result<Audit<'n>, AllocError>
         ensures read { IfOk result (HasRead []) }
         ensures going { IfOk result IsGoing }
@@ -47,8 +53,9 @@ impl<'n> Audit<'n> {
         })
     }
 
-    /// Uses the next piece of the text. A failure is the first one of the text, however it goes on; its reason is 0 where
-    /// the line is malformed.
+    /// Reads and checks the next piece of the text, and returns the failure if there is one.
+    ///
+    /// It is the first failure of the text, however the text goes on. Its reason is 0 if the line is malformed.
     pub fn feed(&mut self, piece: &[u8]) -> Option<Fail>
         requires read { (text : List ℕ) × HasRead text self.old }
         requires going { IsGoing self.old }
@@ -130,7 +137,7 @@ impl<'n> Audit<'n> {
         }
     }
 
-    /// What the text that was read to its end is found to be.
+    /// Returns the verdict on the text, which was read to its end.
     pub fn finish(self) -> Verdict
         requires read { (text : List ℕ) × HasRead text self }
         requires going { IsGoing self }

@@ -20,7 +20,7 @@ use pc_crash::CrashNet;
 use std::alloc::{AllocError, Global};
 use std::marker::Model;
 
-/// A checker of the certificate of a network, which takes its lines one by one.
+/// A checker of a network's certificate. It takes the lines one by one.
 pub struct Checker<'n> {
     net: &'n CrashNet<'n>,
     kept: Kept,
@@ -54,8 +54,12 @@ impl<'n> Model for Checker<'n> {
 }
 
 impl<'n> Checker<'n> {
-    /// A checker to which no line has come. It takes all its memory here: room for each event's time and flows, and for what passes of
-    /// each activity.
+    /// Returns a checker before the first line. It allocates all its memory here: for each event its time and flows,
+    /// and for each activity the line that passed last.
+    ///
+    /// # Errors
+    ///
+    /// `AllocError` if out of memory.
     pub fn begin(alloc: Global, net: &'n CrashNet<'n>) -> Result<Checker<'n>, AllocError>
         ensures stands { IfOk result (λ checker. StandsFor checker []) }
         ensures net { IfOk result (λ checker. checker.net ≡ net.now) }
@@ -70,8 +74,10 @@ impl<'n> Checker<'n> {
         })
     }
 
-    /// Takes one more line, and answers the first condition that fails at a line up to this one. From then on nothing
-    /// changes.
+    /// Takes one more line and returns the first condition that fails at this line or an earlier one.
+    ///
+    /// After a failure nothing changes. It takes constant time, except at the end of a segment, where it is linear in
+    /// events.
     pub fn take(&mut self, line: CertLine) -> Option<Fail>
         requires { IfNone self.old.fail (IsSome (next self.old.kept.place line)) }
         ensures stands { (lines : List CertLine) → StandsFor self.old lines → StandsFor self.new (lines ++ line ∷ []) }
@@ -90,7 +96,7 @@ impl<'n> Checker<'n> {
         }
     }
 
-    /// As `take`, of a line that stays where it is, by one who knows where the next line stands.
+    /// Takes one more line as `take` does, by reference, for a caller that knows the place of the next line.
     pub fn take_before(&mut self, line: &CertLine, behind: Place) -> Option<Fail>
         requires { IfNone self.old.fail (next self.old.kept.place line.now ≡ Some behind) }
         ensures stands { (lines : List CertLine) → StandsFor self.old lines →
@@ -137,9 +143,9 @@ impl<'n> Checker<'n> {
         }
     }
 
-    /// Reads lines at the front of the piece and takes them, where each is one of the next event, or that of the next activity as it passed
-    /// last, and is told not to fail: the answer is how many bytes they are with their ends. Where there is none, nothing changes, and the
-    /// answer is 0.
+    /// Reads lines at the front of the piece and takes them, where each is one of the next event, or that of the next
+    /// activity as it passed last, and is told not to fail: the answer is how many bytes they are with their ends.
+    /// Where there is none, nothing changes, and the answer is 0.
     #[inline(always)]
     pub(crate) fn take_rows(&mut self, reader: &mut CertReader, piece: &[u8]) -> usize
         requires no_fail { self.old.fail ≡ None }
@@ -158,9 +164,9 @@ impl<'n> Checker<'n> {
         advance_events(self.net, &mut self.kept, &self.fronts, reader, piece)
     }
 
-    /// What was found: that the lines are certified, with how many segments they have; or the first condition that fails.
+    /// Returns the verdict: the lines are certified and have this many segments, or a condition fails first.
     ///
-    /// Certified lines prove the whole time-cost curve of the network, whoever made them.
+    /// Certified lines prove the complete time-cost curve of the network, whoever wrote them.
     pub fn finish(self) -> Verdict
         requires { IfNone self.fail (self.kept.place ≡ Ended) }
         ensures finds { (lines : List CertLine) → StandsFor self.entry lines → Finds self.entry.net lines result }

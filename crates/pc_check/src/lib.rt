@@ -1,5 +1,6 @@
-//! The checker of certificates: it takes the lines one by one, and answers the first condition that fails; and the audit of
-//! a certificate's text, read and checked as it comes in pieces. It stands on nothing that makes certificates.
+//! The checker of certificates. It takes the lines of a certificate one by one and returns the first condition that
+//! fails. The audit reads a certificate's text in pieces and checks it as it comes. Nothing here depends on the crates
+//! that write certificates.
 #![tactic(auto)]
 
 mod acts;

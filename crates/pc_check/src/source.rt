@@ -18,7 +18,7 @@ use pc_edges::{STREAM_ROOM, Source};
 use std::alloc::Global;
 use thiserror::Error;
 
-/// Why a source was not audited.
+/// The reason why a source was not audited.
 #[derive(Clone, Copy, Debug, Error)]
 pub enum AuditError {
     #[error("the certificate could not be read")]
@@ -27,11 +27,16 @@ pub enum AuditError {
     OutOfMemory,
 }
 
-/// What the text of a source is found to be: a certificate of the network, or one whose first failing point is this.
+/// Returns the verdict on the text of a source: it is a certificate of the network, or it fails first at this point.
 ///
-/// All memory is taken before the first pull, and how much does not depend on the text. What a pull gave is used before the
-/// next pull, and none comes behind the one in which the first failing line ends. A text has no limit of its own: the lines of one that does not
-/// fail are bounded by the network, so a source that never ends is refused.
+/// All memory is allocated before the first pull, and its amount does not depend on the text. Each piece is used before
+/// the next pull, and nothing is pulled after the piece in which the first failing line ends. A text has no limit of
+/// its own: the network bounds the lines of a text that does not fail, so a source that never ends is refused.
+///
+/// # Errors
+///
+/// - `AuditError::ReadFault` if a pull fails before any line has failed.
+/// - `AuditError::OutOfMemory` if out of memory; nothing was pulled then.
 pub fn audit_source<C: Source>(
     alloc: Global,
     net: &CrashNet<'_>,

@@ -1,4 +1,4 @@
-//! Laws of texts. Each function is its contract, and does nothing.
+//! Laws of texts. Each function is its contract and does nothing.
 ghost use Rattle.std.specs.Prelude.{◌≡◌, ℕ, List, length, None, Some};
 ghost use Rattle.pc_check.specs.Texts.{IsCertified, IsFailing};
 ghost use Rattle.pc_cert.specs.declared.line.CertLine.{CertLine};
@@ -10,8 +10,10 @@ ghost use Rattle.pc_check.specs.Failures.{failure_of};
 ghost use Rattle.pc_check.specs.OwnLines.{AreFew};
 ghost use Rattle.pc_crash.specs.Priced.{PricedNetwork};
 
-/// A text is found to be one thing: it is not both certified and failing, has one number of segments where it is certified, and
-/// one first failing point where it fails.
+/// States that a text has one verdict.
+///
+/// It is not both certified and failing. A certified text has one number of segments, and a failing text one first
+/// point of failure.
 pub fn one_verdict()
     ensures not_both { (net : PricedNetwork) (text : List ℕ) (segments : ℕ) (fail : Fail) →
         IsCertified net text segments → IsFailing net text fail → ⊥ }
@@ -21,8 +23,10 @@ pub fn one_verdict()
         IsFailing net text other → fail ≡ other }
 {}
 
-/// Lines of which none fails are few, by the upper end of their own first segment: header and walks, at most as many segments as it is
-/// long, or one where it is 0, and END.
+/// States how many lines there are at most if none of them fails.
+///
+/// There are the header and the walks, at most as many segments as the upper end of the first segment is long (one if
+/// it is 0), and `END`.
 pub fn lines_are_few()
     ensures { (net : PricedNetwork) (place : Place) (lines : List CertLine) → ran Start lines ≡ Some place →
         failure_of net lines ≡ None
