@@ -41,7 +41,7 @@ impl<'n> Search<'n> {
         requires few { gone ≤ self.old.board.events }
         requires known { (k : ℕ) → k < gone → lost_of self.old.board k < self.old.board.events }
         ensures net { self.new.net.now ≡ self.old.net.now }
-        ensures counted { steps.new ≤ steps.old + sum_to gone
+        ensures counted { steps.new ≡ steps.old + sum_to gone
             (λ k. degree self.old.net.now (lost_of self.old.board k)) }
         ensures goes_on { GoesOn self.old.net.now
             (IsAtLost self.old.net.now self.old.board gone) self.old.board self.new.board }

@@ -1,7 +1,6 @@
 //! Labels that are given along steps with room, from event to event.
 ghost use Rattle.std.specs.Prelude.{◌≡◌, ◌+◌, ◌*◌, ◌<◌, ◌≤◌, ℕ, length, slice_index};
 ghost use Rattle.pc_model.specs.Greatest.{StandsBelow};
-ghost use Rattle.pc_model.specs.Walk.{from_of, to_of};
 ghost use Rattle.pc_flow.specs.inside.board.Labelling.{HaveRoom};
 ghost use Rattle.pc_flow.specs.inside.search.Searches.{IsSearch};
 ghost use Rattle.pc_flow.specs.inside.search.Growing.{IsAt, degree, AreListed, AreSettled, GoesOn, HasSettled, HasGrown};
@@ -12,56 +11,35 @@ use pc_net::degree_laws::each_activity_stands_once;
 use std::sync::ledger::Ledger;
 
 impl<'n> Search<'n> {
-    /// Visits all activities at an event. At most one look for each.
+    /// Visits all activities at an event. One look for each.
     #[inline(always)]
     pub fn scan<L: Ledger>(&mut self, e: u32, steps: &mut Steps<L>)
         requires known { e < self.old.net.now.network.events }
         requires search { IsSearch self.old.net.now self.old.board }
         requires room { HaveRoom self.old.board }
         ensures net { self.new.net.now ≡ self.old.net.now }
-        ensures counted { steps.new ≤ steps.old + degree self.old.net.now e }
+        ensures counted { steps.new ≡ steps.old + degree self.old.net.now e }
         ensures goes_on { GoesOn self.old.net.now (IsAt self.old.net.now e) self.old.board self.new.board }
     {
         let net = self.net.net();
-        self.visit_begun(e, net.out_arcs(e), steps);
-        self.visit_ended(e, net.in_arcs(e), steps);
+        self.visit_all(net.out_arcs(e), steps);
+        self.visit_all(net.in_arcs(e), steps);
     }
 
-    // Visits these activities, which begin at an event.
+    // Visits these activities.
     #[inline(always)]
-    fn visit_begun<L: Ledger>(&mut self, e: u32, activities: &[u32], steps: &mut Steps<L>)
+    fn visit_all<L: Ledger>(&mut self, activities: &[u32], steps: &mut Steps<L>)
         requires known { (k : ℕ) → k < length activities.now →
             slice_index activities.now k < length self.old.net.now.network.arcs }
-        requires begin { (k : ℕ) → k < length activities.now →
-            from_of self.old.net.now.network.arcs (slice_index activities.now k) ≡ e }
         requires search { IsSearch self.old.net.now self.old.board }
         requires room { HaveRoom self.old.board }
         ensures net { self.new.net.now ≡ self.old.net.now }
-        ensures counted { steps.new ≤ steps.old + length activities.now }
+        ensures counted { steps.new ≡ steps.old + length activities.now }
         ensures goes_on { GoesOn self.old.net.now
             (StandsBelow activities.now (length activities.now)) self.old.board self.new.board }
     {
         for a in activities {
-            self.visit_from(*a, e, steps);
-        }
-    }
-
-    // Visits these activities, which end at an event.
-    #[inline(always)]
-    fn visit_ended<L: Ledger>(&mut self, e: u32, activities: &[u32], steps: &mut Steps<L>)
-        requires known { (k : ℕ) → k < length activities.now →
-            slice_index activities.now k < length self.old.net.now.network.arcs }
-        requires end { (k : ℕ) → k < length activities.now →
-            to_of self.old.net.now.network.arcs (slice_index activities.now k) ≡ e }
-        requires search { IsSearch self.old.net.now self.old.board }
-        requires room { HaveRoom self.old.board }
-        ensures net { self.new.net.now ≡ self.old.net.now }
-        ensures counted { steps.new ≤ steps.old + length activities.now }
-        ensures goes_on { GoesOn self.old.net.now
-            (StandsBelow activities.now (length activities.now)) self.old.board self.new.board }
-    {
-        for a in activities {
-            self.visit_to(*a, e, steps);
+            self.visit(*a, steps);
         }
     }
 

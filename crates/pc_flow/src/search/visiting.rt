@@ -101,56 +101,6 @@ impl<'n> Search<'n> {
         }
     }
 
-    /// Visits an activity that begins at this event: along it where the event has a label, and else against it. At most one
-    /// look, and none where labels may not cross it for want of a label or of flow at this end.
-    #[inline(always)]
-    pub fn visit_from<L: Ledger>(&mut self, a: u32, e: u32, steps: &mut Steps<L>)
-        requires known { a < length self.old.net.now.network.arcs }
-        requires begins { from_of self.old.net.now.network.arcs a ≡ e }
-        requires search { IsSearch self.old.net.now self.old.board }
-        requires room { HaveRoom self.old.board }
-        ensures net { self.new.net.now ≡ self.old.net.now }
-        ensures counted { steps.new ≤ steps.old + 1 }
-        ensures visited { IsVisited self.old.net.now self.old.board self.new.board a }
-    {
-        if self.board.rank(e) > 0 {
-            let look = self.net.look(a, steps);
-            if self.board.rank(look.to) == 0 {
-                self.cross_along(a, e, look.to, look.crash, look.knees.as_slice());
-            }
-        } else if self.board.flow(a) > 0 {
-            let look = self.net.look(a, steps);
-            if self.board.rank(look.to) > 0 {
-                self.cross_against(a, e, look.to, look.crash, look.knees.as_slice());
-            }
-        }
-    }
-
-    /// Visits an activity that ends at this event: against it where the event has a label and something flows, and else
-    /// along it. At most one look.
-    #[inline(always)]
-    pub fn visit_to<L: Ledger>(&mut self, a: u32, e: u32, steps: &mut Steps<L>)
-        requires known { a < length self.old.net.now.network.arcs }
-        requires ends { to_of self.old.net.now.network.arcs a ≡ e }
-        requires search { IsSearch self.old.net.now self.old.board }
-        requires room { HaveRoom self.old.board }
-        ensures net { self.new.net.now ≡ self.old.net.now }
-        ensures counted { steps.new ≤ steps.old + 1 }
-        ensures visited { IsVisited self.old.net.now self.old.board self.new.board a }
-    {
-        if self.board.rank(e) == 0 {
-            let look = self.net.look(a, steps);
-            if self.board.rank(look.from) > 0 {
-                self.cross_along(a, look.from, e, look.crash, look.knees.as_slice());
-            }
-        } else if self.board.flow(a) > 0 {
-            let look = self.net.look(a, steps);
-            if self.board.rank(look.from) == 0 {
-                self.cross_against(a, look.from, e, look.crash, look.knees.as_slice());
-            }
-        }
-    }
-
     // Labels the event where an activity ends that labels may cross along it, or has the activity wait.
     #[inline(never)]
     fn cross_along(&mut self, a: u32, from: u32, to: u32, crash: u64, knees: &[Knee])
