@@ -1,6 +1,5 @@
 //! Reading the card of a record, or the fault of its fields.
-ghost use Rattle.std.specs.Prelude.{◌≡◌, ℕ, List, None, Some, IfOk, OnOk, IfErr};
-ghost use Rattle.pc_cards.specs.Forms.{AllFit, Slot};
+ghost use Rattle.std.specs.Prelude.{◌≡◌, None, Some, IfOk, OnOk, IfErr};
 ghost use Rattle.pc_cards.specs.inside.Forms.{IsFirstMisfit};
 ghost use Rattle.pc_cards.specs.inside.Findings.{flaw_of_fields, or_else, wrong_fields};
 
@@ -54,7 +53,8 @@ pub fn wrong_fields<F: Fields>(
 }
 
 /// The fault of a card, of whose fields this is the first that is not what it must be. A wrong shape (F7) goes before a
-/// limit (F8), also where the field of a wrong shape stands behind the other: only the fields behind are still to be read.
+/// limit (F8), also where the field of a wrong shape stands behind the other: only the fields behind are still to be
+/// read.
 fn fault_of_misfit<F: Fields>(row: u32, misfit: Misfit, slots: &[Slot], fields: &F) -> Fault
     requires { IsFirstMisfit slots.now (F.fields fields.now) misfit }
     ensures { flaw_of_fields row slots.now (F.fields fields.now) ≡ Some result }

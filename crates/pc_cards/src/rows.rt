@@ -27,7 +27,7 @@ impl<'a> Drop for CardRows<'a> {
 }
 
 impl<'a> Model for CardRows<'a> {
-    ghost use Rattle.std.specs.Prelude.{ℕ, ◌+◌, ◌<◌, ◌^◌, List, length};
+    ghost use Rattle.std.specs.Prelude.{◌+◌, ◌<◌, ◌^◌, length};
     ghost use Rattle.pc_cards.specs.Cards.{cards_from};
     ghost use Rattle.pc_cards.specs.inside.Cards.{CardsLeft};
 

@@ -189,13 +189,23 @@ comes net (AfterHead shape) Normal behind draft h goes passes =
 comes net (NormalWalk shape steps) (Step code) behind draft h goes passes =
     let step = cond_some _ _ _ goes in
     let some : 0 < steps = ltb-true 0 steps (step.0) in
-    inl (arrives net.network.events (length net.network.arcs) (record { at = (h.0, parts_step draft code draft.has_normal ∙ h.1); fewer = omega (arith, some); counts = λ lines. refl; same = λ lines. refl }) (ap Some (step.1)))
+    inl (arrives net.network.events (length net.network.arcs) (record {
+      at = (h.0, parts_step draft code draft.has_normal ∙ h.1);
+      fewer = omega (arith, some);
+      counts = λ lines. refl;
+      same = λ lines. refl;
+    }) (ap Some (step.1)))
 comes net (NormalWalk shape steps) Crash behind draft h goes passes =
     inl (arrives net.network.events (length net.network.arcs) (record { at = h; fewer = omega (arith, h.0.events); counts = λ lines. refl; same = λ lines. refl }) goes)
 comes net (CrashWalk shape steps) (Step code) behind draft h goes passes =
     let step = cond_some _ _ _ goes in
     let some : 0 < steps = ltb-true 0 steps (step.0) in
-    inl (arrives net.network.events (length net.network.arcs) (record { at = (h.0, parts_step draft code draft.has_normal ∙ h.1); fewer = omega (arith, some); counts = λ lines. refl; same = λ lines. refl }) (ap Some (step.1)))
+    inl (arrives net.network.events (length net.network.arcs) (record {
+      at = (h.0, parts_step draft code draft.has_normal ∙ h.1);
+      fewer = omega (arith, some);
+      counts = λ lines. refl;
+      same = λ lines. refl;
+    }) (ap Some (step.1)))
 comes net (CrashWalk shape steps) (Segment upper lower cost slope) behind draft h goes passes =
     let ends = first_ends net (said net draft) upper lower cost slope (ap length (h.1)) passes in
     inr (begins net.network.events (length net.network.arcs) (record {

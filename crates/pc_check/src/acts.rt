@@ -1,5 +1,5 @@
 //! What is asked of an activity's duration and flows, over the list of its knees.
-ghost use Rattle.std.specs.Prelude.{◌≡◌, ◌+◌, ◌*◌, ◌^◌, ◌<◌, ◌≤◌, ◌==◌, ◌&&◌, ◌||◌, not, nat_le, nat_lt, length};
+ghost use Rattle.std.specs.Prelude.{◌≡◌, ◌+◌, ◌^◌, ◌<◌, ◌≤◌, length};
 ghost use Rattle.pc_check.specs.KneeTests.{is_slack_at_knee};
 ghost use Rattle.pc_check.specs.inside.KneeTests.{keeps_rises_over, is_slack_over, is_still_over, rises_over, stops_over, stops_at_knee_over, flow_sum};
 
@@ -83,8 +83,8 @@ pub(crate) fn rises_over(gap: Gap, knees: &[Knee]) -> u128
     sum
 }
 
-/// Whether an activity stops at the lower end of its segment: it is forward and its gap there is crash, or it stops at a
-/// knee.
+/// Whether an activity stops at the lower end of its segment: it is forward and its gap there is crash, or it stops at
+/// a knee.
 pub(crate) fn stops(crossing: &Crossing, crash: u64, knees: &[Knee]) -> bool
     requires upper { crossing.now.upper.tail < 2 ^ 65 }
     requires lower { crossing.now.lower.tail < 2 ^ 65 }
@@ -105,8 +105,8 @@ pub(crate) fn stops(crossing: &Crossing, crash: u64, knees: &[Knee]) -> bool
     false
 }
 
-/// Whether the gap is at the knee at the lower end, and above it or below it at the upper end as the activity is forward or
-/// backward.
+/// Whether the gap is at the knee at the lower end, and above it or below it at the upper end as the activity is
+/// forward or backward.
 fn stops_at_knee(crossing: &Crossing, knee: u64) -> bool
     requires upper { crossing.now.upper.tail < 2 ^ 65 }
     requires lower { crossing.now.lower.tail < 2 ^ 65 }

@@ -1,5 +1,5 @@
 //! Going on by one line.
-ghost use Rattle.std.specs.Prelude.{◌≡◌, ◌^◌, ◌<◌, length, None, Some, IfNone, OnSome};
+ghost use Rattle.std.specs.Prelude.{◌≡◌, ◌^◌, ◌<◌, None, Some, IfNone, OnSome};
 ghost use Rattle.pc_cert.specs.Grammar.{next};
 ghost use Rattle.pc_cert.specs.declared.line.CertLine.TheVariants.{Step, Act};
 ghost use Rattle.pc_check.specs.inside.Advances.{Adds, AddsStep, Advances};
@@ -20,8 +20,8 @@ use pc_cert::{CertLine, Flows, KnownLine, Place};
 use pc_crash::CrashNet;
 use pc_text::Code;
 
-/// Takes a line that may come, behind which the next one stands there: adds it to what is kept, or answers the first condition
-/// that is reported there and does not hold.
+/// Takes a line that may come, behind which the next one stands there: adds it to what is kept, or answers the first
+/// condition that is reported there and does not hold.
 pub(crate) fn advance(
     net: &CrashNet<'_>,
     kept: &mut Kept,
@@ -80,8 +80,8 @@ fn judge(net: &CrashNet<'_>, kept: &mut Kept, known: &KnownLine, line: &CertLine
     }
 }
 
-/// The same of the line of an activity: its gaps are looked up once for all that is asked of it and all that it adds. Its bytes are kept, so
-/// that little is asked where they come again.
+/// The same of the line of an activity: its gaps are looked up once for all that is asked of it and all that it adds.
+/// Its bytes are kept, so that little is asked where they come again.
 fn judge_act(
     net: &CrashNet<'_>,
     kept: &mut Kept,

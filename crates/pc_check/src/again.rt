@@ -30,8 +30,8 @@ pub(crate) fn ends_of(net: &CrashNet<'_>) -> Ends
     }
 }
 
-/// Takes lines at the front of the piece, where each is one of the next event and is told not to fail: the answer is how many bytes they are
-/// with their ends. Where there is none, nothing changes, and the answer is 0.
+/// Takes lines at the front of the piece, where each is one of the next event and is told not to fail: the answer is
+/// how many bytes they are with their ends. Where there is none, nothing changes, and the answer is 0.
 ///
 /// The place and the number of lines are counted beside the loop, and kept once behind it.
 #[inline(always)]
@@ -82,8 +82,8 @@ pub(crate) fn advance_events(
     piece.len() - rest.len()
 }
 
-/// Reads the line at the front of the piece and adds it to what is kept, where it is one of the next event, of which nothing is asked but its
-/// code: it is neither the start nor the end, and the segment has two ends.
+/// Reads the line at the front of the piece and adds it to what is kept, where it is one of the next event, of which
+/// nothing is asked but its code: it is neither the start nor the end, and the segment has two ends.
 #[inline(always)]
 fn add_told(
     net: &CrashNet<'_>,
@@ -116,10 +116,12 @@ fn add_told(
     }
 }
 
-/// Takes lines at the front of the piece, where all events have come and each line is that of the next activity as it passed last, and passes
-/// again: the answer is how many bytes they are with their ends. Where there is none, nothing changes, and the answer is 0.
+/// Takes lines at the front of the piece, where all events have come and each line is that of the next activity as it
+/// passed last, and passes again: the answer is how many bytes they are with their ends. Where there is none, nothing
+/// changes, and the answer is 0.
 ///
-/// The loop writes nothing, so that it keeps what it needs in registers: how many activities have come is counted beside it too.
+/// The loop writes nothing, so that it keeps what it needs in registers: how many activities have come is counted
+/// beside it too.
 #[inline(never)]
 pub(crate) fn advance_acts(
     net: &CrashNet<'_>,
@@ -172,8 +174,8 @@ pub(crate) fn advance_acts(
     piece.len() - rest.len()
 }
 
-/// Goes on behind the line at the front of the piece, where it is that of this activity as it passed last, and passes again: the answer is how
-/// many bytes it is with its end. Else nothing changes, and the answer is 0.
+/// Goes on behind the line at the front of the piece, where it is that of this activity as it passed last, and passes
+/// again: the answer is how many bytes it is with its end. Else nothing changes, and the answer is 0.
 #[inline(always)]
 fn pass_same(
     net: &CrashNet<'_>,

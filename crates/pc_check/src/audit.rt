@@ -3,7 +3,6 @@ ghost use Rattle.std.specs.Prelude.{◌≡◌, ℕ, ◌<◌, ◌≤◌, List, []
 ghost use Rattle.pc_check.specs.Texts.{IsFailing, Finds};
 ghost use Rattle.pc_check.specs.Auditing.{most_bytes};
 ghost use Rattle.pc_check.specs.inside.Auditing.{HasRead, IsGoing, bytes_left};
-ghost use Rattle.pc_check.specs.declared.fail.Fail.{Fail};
 
 use crate::checker::Checker;
 use crate::fail::{Fail, Verdict};

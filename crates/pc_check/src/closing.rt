@@ -1,5 +1,5 @@
 //! What is asked of a segment at its end.
-ghost use Rattle.std.specs.Prelude.{◌≡◌, ◌<◌, ◌||◌, ◌==◌, length};
+ghost use Rattle.std.specs.Prelude.{◌≡◌, ◌<◌, ◌||◌, ◌==◌};
 ghost use Rattle.pc_cert.specs.declared.line.CertLine.TheVariants.{Close};
 ghost use Rattle.pc_check.specs.Conditions.{conditions, is_conserved, has_cut_gain, has_stop};
 ghost use Rattle.pc_check.specs.Failures.{first_failing};

@@ -24,8 +24,8 @@ pub struct Crossing {
 }
 
 impl Crossing {
-    /// Whether the activity crosses the cut. Where it does not, its two ends move alike, and its gap is the same at both ends
-    /// of the segment.
+    /// Whether the activity crosses the cut. Where it does not, its two ends move alike, and its gap is the same at
+    /// both ends of the segment.
     pub(crate) fn crosses(&self) -> bool
         ensures { result ≡ (self.now.forward || self.now.backward) }
     {

@@ -14,9 +14,11 @@ use pc_crash::CrashNet;
 use pc_model::Knee;
 use std::alloc::{AllocError, Global};
 
-/// What passed last of an activity: the bytes of its line, which are not kept where nothing has passed, its duration and its flows.
+/// What passed last of an activity: the bytes of its line, which are not kept where nothing has passed, its duration
+/// and its flows.
 ///
-/// The line passes again behind the first segment wherever the activity does not cross the cut and its gap is from `low` to `high`.
+/// The line passes again behind the first segment wherever the activity does not cross the cut and its gap is from
+/// `low` to `high`.
 #[derive(Clone, Copy)]
 pub struct Passed {
     pub(crate) text: LineText,
@@ -25,7 +27,8 @@ pub struct Passed {
     /// the sum of the flows, and what the activity costs at that duration
     pub(crate) flow: u128,
     pub(crate) cost: u64,
-    /// the least and the greatest gap at which conditions 6 and 11 hold with these flows, and the activity lasts so long
+    /// the least and the greatest gap at which conditions 6 and 11 hold with these flows, and the activity lasts so
+    /// long
     pub(crate) low: u64,
     pub(crate) high: u64,
 }
@@ -56,7 +59,8 @@ pub(crate) fn none_passed(alloc: Global, net: &CrashNet<'_>) -> Result<Vec<Passe
     Ok(rows)
 }
 
-/// What has passed of an activity by the line that is known, with this duration and these flows, of which none is above its rise.
+/// What has passed of an activity by the line that is known, with this duration and these flows, of which none is above
+/// its rise.
 pub(crate) fn passed_of(
     net: &CrashNet<'_>,
     a: u32,
@@ -145,8 +149,8 @@ fn lowered(high: u64, knee: Knee, flow: u64) -> u64
     if flow == 0 { high } else { high.min(knee.at) }
 }
 
-/// Whether what passed last of an activity passes again behind the first segment, in one with two ends: the activity does not cross the cut,
-/// and its gap is one that the flows and the duration fit.
+/// Whether what passed last of an activity passes again behind the first segment, in one with two ends: the activity
+/// does not cross the cut, and its gap is one that the flows and the duration fit.
 #[inline(always)]
 pub(crate) fn passes_again(net: &CrashNet<'_>, kept: &Kept, a: u32, passed: &Passed) -> bool
     requires known { a < length net.now.network.arcs }

@@ -8,7 +8,7 @@ ghost use Rattle.pc_crash.specs.Priced.{knees_in};
 ghost use Rattle.pc_check.specs.inside.Crossings.{IsCrossing};
 ghost use Rattle.pc_check.specs.inside.Kept.{known_by, stretch_of};
 ghost use Rattle.pc_check.specs.inside.Safe.{IsSafe};
-ghost use Rattle.pc_cert.specs.declared.line.CertLine.TheVariants.{Head, Segment, Event, Act};
+ghost use Rattle.pc_cert.specs.declared.line.CertLine.TheVariants.{Segment, Event, Act};
 
 use crate::acts::{is_slack, is_still, keeps_rises};
 use crate::closing::reason_at_close;
@@ -132,8 +132,8 @@ fn has_event_code(net: &CrashNet<'_>, e: usize, code: &Code) -> bool
     e < net.net().events() as usize && *code == net.event_code(e as u32)
 }
 
-/// The first condition on the gaps and the flows of the next activity that does not hold, where its line has its code and as many
-/// flows as it should.
+/// The first condition on the gaps and the flows of the next activity that does not hold, where its line has its code
+/// and as many flows as it should.
 pub(crate) fn reason_at_act(
     net: &CrashNet<'_>,
     kept: &Kept,

@@ -28,7 +28,8 @@ terms-again row None = refl
 terms-again row (Some terms) = by (says_nothing terms) refl
   where
     by : (test : Bool) → says_nothing terms ≡ test
-        → map (record_of Terms) (as_list (settled_terms (option_map ((written_of Terms).at_row row) (if test then None else Some terms)))) ≡ map (record_of Terms) (as_list (if test then None else Some terms))
+        → map (record_of Terms) (as_list (settled_terms (option_map ((written_of Terms).at_row row) (if test then None else Some terms)))) ≡ map
+        (record_of Terms) (as_list (if test then None else Some terms))
     by true is = refl
     by false is = ap (λ (b : Bool). map (record_of Terms) (as_list (if b then None else Some ((written_of Terms).at_row row terms)))) is
 

@@ -2,8 +2,8 @@
 use crate::kinds::{CardLists, ProjectCard};
 use std::marker::Model;
 
-/// The cards of a deck, each kind in card order. What sort of deck it is, the types of the cards of a plan and of those of a deck
-/// of tasks say.
+/// The cards of a deck, each kind in card order. What sort of deck it is, the types of the cards of a plan and of those
+/// of a deck of tasks say.
 #[derive(Drop)]
 pub struct DeckCards {
     pub project: ProjectCard,

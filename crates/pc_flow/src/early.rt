@@ -1,7 +1,7 @@
 //! The times of the events on a board, from the durations of the activities.
-ghost use Rattle.std.specs.Prelude.{◌≡◌, ◌<◌, ◌≤◌, ℕ, length};
+ghost use Rattle.std.specs.Prelude.{◌≡◌, ◌<◌, ◌≤◌, ℕ};
 ghost use Rattle.pc_model.specs.Network.{IsEarly};
-ghost use Rattle.pc_flow.specs.board.Sheets.{Sheet, kept_time};
+ghost use Rattle.pc_flow.specs.board.Sheets.{kept_time};
 ghost use Rattle.pc_flow.specs.inside.board.Labelling.{IsFor};
 ghost use Rattle.pc_flow.specs.inside.Paces.{durations_at, HasSmallTimes, AreEarlyBefore};
 

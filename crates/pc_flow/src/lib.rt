@@ -1,5 +1,5 @@
-//! The solver of the time-cost curve: one segment after another, from the all-normal length down to the all-crash length
-//! (Kelley 1961, Fulkerson 1961), in one region of memory that the caller took before.
+//! The solver of the time-cost curve: one segment after another, from the all-normal length down to the all-crash
+//! length (Kelley 1961, Fulkerson 1961), in one region of memory that the caller took before.
 #![tactic(auto)]
 
 pub mod board;

@@ -3,9 +3,9 @@ ghost use Rattle.std.specs.Prelude.{◌≡◌, ◌+◌, ◌≤◌};
 ghost use Rattle.pc_flow.specs.search.Labelling.{slopes_in};
 ghost use Rattle.pc_flow.specs.Courses.{Course, IsLevel, IsSameCurve, IsFurther, lower_of, most_looks, all_looks};
 
-/// The looks of the segments add up, and those of one solver on its way down, from before its first segment, are at most four
-/// at each activity for each unit of the sum of the last slopes and of the range from the all-normal length to the all-crash
-/// length.
+/// The looks of the segments add up, and those of one solver on its way down, from before its first segment, are at
+/// most four at each activity for each unit of the sum of the last slopes and of the range from the all-normal length
+/// to the all-crash length.
 ///
 /// This function does nothing: its contract is the law.
 pub fn looks_add_up()

@@ -16,12 +16,12 @@ use pc_cells::Region;
 use pc_crash::CrashNet;
 use std::marker::Model;
 
-/// The segments of the time-cost curve of a network, one after another, from the all-normal length down to the all-crash
-/// length.
+/// The segments of the time-cost curve of a network, one after another, from the all-normal length down to the
+/// all-crash length.
 ///
-/// It keeps a time for each event and a flow along each activity, which show that the durations that these times allow are
-/// a cheapest schedule for the present length. Each segment comes from the one before: the labels that a search gave last
-/// still stand after the fall.
+/// It keeps a time for each event and a flow along each activity, which show that the durations that these times allow
+/// are a cheapest schedule for the present length. Each segment comes from the one before: the labels that a search
+/// gave last still stand after the fall.
 pub struct Solver<'n> {
     pub(crate) search: Search<'n>,
     pub(crate) longest: u64,

@@ -1,5 +1,5 @@
-//! The kinds of cards, a file for each or for two whose cards have the same fields, and the table of them: the word of each kind,
-//! its list, and its limit in decks of each sort.
+//! The kinds of cards, a file for each or for two whose cards have the same fields, and the table of them: the word of
+//! each kind, its list, and its limit in decks of each sort.
 ghost use Rattle.std.specs.Prelude.{◌≡◌, None, Some, OnOk, IfErr};
 ghost use Rattle.pc_faults.specs.inside.First.{Refuses};
 ghost use Rattle.pc_deck.specs.Kinds.{kind_of, kind_among, first_kinds, work_kinds, further_kinds, limit_of};
@@ -218,8 +218,8 @@ fn further_kind(field: &[u8]) -> Option<Kind>
     }
 }
 
-/// How many cards of the kind a deck of the sort and version may have, where that is a limit of its own. Of a kind that the
-/// sort has not, it may have none; and a deck of tasks is of version 2, whatever it says.
+/// How many cards of the kind a deck of the sort and version may have, where that is a limit of its own. Of a kind that
+/// the sort has not, it may have none; and a deck of tasks is of version 2, whatever it says.
 pub fn limit_of(sort: Sort, version: u64, kind: Kind) -> Option<usize>
     ensures { result ≡ limit_of sort version kind }
 {

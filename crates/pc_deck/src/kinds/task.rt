@@ -14,7 +14,8 @@ use pc_records::{Fields, Records};
 use pc_text::{Code, Title, digits};
 use std::alloc::AllocError;
 
-/// A TASK card: a task, with its estimates and durations in units and its costs. It is what an activity is, but for the events.
+/// A TASK card: a task, with its estimates and durations in units and its costs. It is what an activity is, but for the
+/// events.
 #[derive(Clone, Copy)]
 pub struct TaskCard {
     pub row: u32,

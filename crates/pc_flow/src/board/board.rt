@@ -1,8 +1,6 @@
 //! A board, and the numbers on it.
-ghost use Rattle.std.specs.Prelude.{◌≡◌, ◌+◌, ◌*◌, ◌<◌, ◌≤◌, ◌^◌, ℕ, IsTrue, slice_index, length};
-ghost use Rattle.pc_cells.specs.Spans.{Cells};
+ghost use Rattle.std.specs.Prelude.{◌≡◌, ◌+◌, ◌*◌, ◌<◌, ◌≤◌, ◌^◌, IsTrue, slice_index};
 ghost use Rattle.pc_cells.specs.inside.Spans.{free_of};
-ghost use Rattle.pc_flow.specs.board.Sheets.{Sheet};
 ghost use Rattle.pc_flow.specs.inside.board.Sheets.{clear_sheet};
 ghost use Rattle.pc_flow.specs.inside.board.Taken.{AreColumnsTaken};
 ghost use Rattle.pc_flow.specs.inside.board.Places.{column_of, size_of, is_small, IsSetAt};
@@ -13,10 +11,10 @@ use std::marker::Model;
 
 /// What is known of the events and the activities of a network, by number.
 ///
-/// Each event has a time. An event with a label has a rank, its place in the queue counted from 1, and the step that gave
-/// it the label: an activity, whether the step goes against it, the event from which the step comes, and how much more may
-/// flow there. The time of an event without a label is kept with the sum of all falls added, so that a fall changes none.
-/// Each activity has its flow, and may stand on the list of those that wait for a fall.
+/// Each event has a time. An event with a label has a rank, its place in the queue counted from 1, and the step that
+/// gave it the label: an activity, whether the step goes against it, the event from which the step comes, and how much
+/// more may flow there. The time of an event without a label is kept with the sum of all falls added, so that a fall
+/// changes none. Each activity has its flow, and may stand on the list of those that wait for a fall.
 #[derive(Drop)]
 pub struct Board {
     region: Region,

@@ -1,7 +1,7 @@
 //! The events with a label, and the steps that gave it to them.
 
 ghost use Rattle.std.specs.Prelude.{◌≡◌, ◌+◌, ◌<◌, ◌≤◌, ◌^◌};
-ghost use Rattle.pc_flow.specs.board.Sheets.{Sheet, rank_of, flow_of, kept_time, time_of};
+ghost use Rattle.pc_flow.specs.board.Sheets.{rank_of, flow_of, kept_time, time_of};
 ghost use Rattle.pc_flow.specs.inside.board.Sheets.{queue_of, step_of, against_of, near_of, room_of, lost_of};
 ghost use Rattle.pc_flow.specs.inside.board.Moves.{KeepsAt, LosesAt, StepsBack, SetsStep, SetsTime, StartsAt, EntersAt};
 

@@ -1,17 +1,17 @@
 //! Labels that fall when a step has no room left.
 ghost use Rattle.std.specs.Prelude.{◌≡◌, ◌+◌, ◌<◌, ◌≤◌, ◌↔◌, IsTrue};
-ghost use Rattle.pc_flow.specs.board.Sheets.{Sheet, rank_of};
+ghost use Rattle.pc_flow.specs.board.Sheets.{rank_of};
 ghost use Rattle.pc_flow.specs.inside.board.Sheets.{room_of, near_of};
-ghost use Rattle.pc_flow.specs.inside.board.Labelling.{HasStep, IsRanked, IsRankedBack, AreTimes};
+ghost use Rattle.pc_flow.specs.inside.board.Labelling.{IsRanked, IsRankedBack, AreTimes};
 ghost use Rattle.pc_flow.specs.inside.board.Raising.{StandFirst};
 ghost use Rattle.pc_flow.specs.inside.board.Pruning.{IsPruned};
 
 use crate::board::board::Board;
 
 impl Board {
-    /// Takes the labels off those events whose step has no room left or comes from an event that lost its label, and says
-    /// how many these are. The others keep theirs, in their order. One pass over the queue, after the first labels that
-    /// stand.
+    /// Takes the labels off those events whose step has no room left or comes from an event that lost its label, and
+    /// says how many these are. The others keep theirs, in their order. One pass over the queue, after the first labels
+    /// that stand.
     pub fn prune(&mut self, standing: u32) -> u32
         requires ranked { IsRanked self.old }
         requires back { IsRankedBack self.old }

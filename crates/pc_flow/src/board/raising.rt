@@ -1,13 +1,12 @@
 //! The flow raised along the steps that led to the end.
-ghost use Rattle.std.specs.Prelude.{◌≡◌, ◌<◌, ◌≤◌, ℕ};
-ghost use Rattle.pc_flow.specs.board.Sheets.{Sheet, rank_of};
+ghost use Rattle.std.specs.Prelude.{◌<◌, ℕ};
 ghost use Rattle.pc_flow.specs.inside.board.Labelling.{HasStep, IsRanked, IsRankedBack, HaveSteps, HaveRoom};
 ghost use Rattle.pc_flow.specs.inside.board.Raising.{IsLeast, IsRaised, StandFirst};
 
 use crate::board::board::Board;
 
-/// By how much the flow was raised, and how many of the first labels in the queue stand as they are: those before the first
-/// whose step has no room left.
+/// By how much the flow was raised, and how many of the first labels in the queue stand as they are: those before the
+/// first whose step has no room left.
 #[derive(Clone, Copy, Debug, PartialEq, Eq)]
 pub struct Augmentation {
     pub by: u64,
@@ -15,8 +14,8 @@ pub struct Augmentation {
 }
 
 impl Board {
-    /// Raises the flow as far as all steps that led to an event have room, and says by how much and how many of the first
-    /// labels stand.
+    /// Raises the flow as far as all steps that led to an event have room, and says by how much and how many of the
+    /// first labels stand.
     ///
     /// It looks at the steps alone, and at no activity.
     pub fn raise(&mut self, end: u32) -> Augmentation

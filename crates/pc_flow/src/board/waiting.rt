@@ -1,7 +1,6 @@
 //! The list of the activities that wait for a fall.
 
-ghost use Rattle.std.specs.Prelude.{◌≡◌, ◌≢◌, ◌+◌, ◌<◌, ◌≤◌, ◌^◌};
-ghost use Rattle.pc_flow.specs.board.Sheets.{Sheet};
+ghost use Rattle.std.specs.Prelude.{◌≡◌, ◌≢◌, ◌+◌, ◌<◌, ◌^◌};
 ghost use Rattle.pc_flow.specs.inside.board.Sheets.{waiting_of, slot_of};
 ghost use Rattle.pc_flow.specs.inside.board.Moves.{WaitsAt, GoesAt, WaitsOnce};
 

@@ -1,7 +1,6 @@
 //! The search after a raising.
 ghost use Rattle.std.specs.Prelude.{◌≡◌, ◌+◌, ◌*◌, ◌<◌, ◌≤◌, ℕ, length};
 ghost use Rattle.pc_model.specs.Sums.{sum_to};
-ghost use Rattle.pc_flow.specs.board.Sheets.{Sheet};
 ghost use Rattle.pc_flow.specs.inside.board.Sheets.{lost_of};
 ghost use Rattle.pc_flow.specs.inside.board.Labelling.{HaveRoom};
 ghost use Rattle.pc_flow.specs.inside.board.Raising.{StandFirst};
@@ -14,9 +13,9 @@ use pc_net::degree_laws::each_activity_stands_once;
 use std::sync::ledger::Ledger;
 
 impl<'n> Search<'n> {
-    /// After a raising, takes off the labels whose steps have no room, and scans the events that lost theirs; where these
-    /// are more than the others that were scanned, has those scanned again instead. The first labels that stand are not
-    /// touched. At most two looks for each activity.
+    /// After a raising, takes off the labels whose steps have no room, and scans the events that lost theirs; where
+    /// these are more than the others that were scanned, has those scanned again instead. The first labels that stand
+    /// are not touched. At most two looks for each activity.
     pub fn look_again<L: Ledger>(&mut self, standing: u32, steps: &mut Steps<L>)
         requires search { IsSearch self.old.net.now self.old.board }
         requires settled { AreSettled self.old.net.now self.old.board }

@@ -1,6 +1,6 @@
 //! How far the events without a label may fall.
 ghost use Rattle.std.specs.Prelude.{◌≡◌, ◌+◌, ◌<◌, length};
-ghost use Rattle.pc_flow.specs.board.Sheets.{Sheet, rank_of};
+ghost use Rattle.pc_flow.specs.board.Sheets.{rank_of};
 ghost use Rattle.pc_flow.specs.inside.board.Labelling.{HaveRoom};
 ghost use Rattle.pc_flow.specs.inside.search.Searches.{IsSearch, IsPricedBoard};
 ghost use Rattle.pc_flow.specs.inside.search.Growing.{AreSettled};
@@ -11,8 +11,8 @@ use pc_crash::Steps;
 use std::sync::ledger::Ledger;
 
 impl<'n> Search<'n> {
-    /// The least number of units after which an activity stops that labels may cross. The others leave the list. One look
-    /// for each activity that waits.
+    /// The least number of units after which an activity stops that labels may cross. The others leave the list. One
+    /// look for each activity that waits.
     pub fn choose<L: Ledger>(&mut self, steps: &mut Steps<L>) -> u64
         requires search { IsSearch self.old.net.now self.old.board }
         requires room { HaveRoom self.old.board }

@@ -53,7 +53,8 @@ impl<'n> Search<'n> {
         rise
     }
 
-    // Raises the flow along the steps that led to the end, and labels events again. At most four looks for each activity.
+    // Raises the flow along the steps that led to the end, and labels events again. At most four looks for each
+    // activity.
     fn raise_once<L: Ledger>(&mut self, steps: &mut Steps<L>) -> u64
         requires under_way { IsUnderWay self.old.net.now self.old.board }
         requires reached { 0 < rank_of self.old.board self.old.net.now.network.end }

@@ -1,6 +1,5 @@
 //! An activity looked at, and the event at its far end labelled where its step has room.
-ghost use Rattle.std.specs.Prelude.{◌≡◌, ◌+◌, ◌<◌, ◌≤◌, ◌^◌, length};
-ghost use Rattle.pc_model.specs.Walk.{from_of, to_of};
+ghost use Rattle.std.specs.Prelude.{◌≡◌, ◌+◌, ◌<◌, length};
 ghost use Rattle.pc_crash.specs.inside.Looks.{IsLookAt};
 ghost use Rattle.pc_model.specs.Network.{IsInRange};
 ghost use Rattle.pc_flow.specs.inside.board.Labelling.{HaveRoom, IsFor};
@@ -13,8 +12,8 @@ use pc_crash::{Look, Steps};
 use std::sync::ledger::Ledger;
 
 impl<'n> Search<'n> {
-    /// Which way the labels may cross an activity: along it from where it begins, or against it from where it ends where
-    /// something flows.
+    /// Which way the labels may cross an activity: along it from where it begins, or against it from where it ends
+    /// where something flows.
     pub fn way(&self, a: u32, look: &Look) -> Option<Way>
         requires known { a < length self.now.net.now.network.arcs }
         requires look { IsLookAt self.now.net.now a look.now }
@@ -33,8 +32,8 @@ impl<'n> Search<'n> {
         }
     }
 
-    /// After how much of a fall an activity stops that the labels may cross this way, and what room its step has where that
-    /// is 0.
+    /// After how much of a fall an activity stops that the labels may cross this way, and what room its step has where
+    /// that is 0.
     #[inline(always)]
     pub fn stop(&self, a: u32, look: &Look, way: Way) -> Stop
         requires known { a < length self.now.net.now.network.arcs }
@@ -76,10 +75,11 @@ impl<'n> Search<'n> {
         stop_against(knees, crash, gap, self.board.flow(a))
     }
 
-    /// Labels the far event of an activity where its step has room, and else has the activity wait for a fall. One look.
+    /// Labels the far event of an activity where its step has room, and else has the activity wait for a fall. One
+    /// look.
     ///
-    /// Most of the activities that a search comes to, labels may not cross. So only the test stands in the loops that call
-    /// this, and the rest is a call with what the look told.
+    /// Most of the activities that a search comes to, labels may not cross. So only the test stands in the loops that
+    /// call this, and the rest is a call with what the look told.
     #[inline(always)]
     pub fn visit<L: Ledger>(&mut self, a: u32, steps: &mut Steps<L>)
         requires known { a < length self.old.net.now.network.arcs }

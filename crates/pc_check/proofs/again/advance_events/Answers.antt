@@ -9,7 +9,8 @@ loop-ends-init c =
     let kept = c.args.kept.now in
     let reader = c.args.reader.now in
     subst (λ p. IsAlong c.args.net.now c.args.piece.now c.args.piece.now reader kept kept p 0) (sym c.place-place.ensures)
-    (along_begins c.args.piece.now reader kept c.requires.place c.requires.going c.requires.alike c.requires.few (c.is_between.ensures c.if-not-is_between.false) c.requires.safe c.requires.bounded (λ e. absurd (omega (arith, e, c.if-kept.false))))
+    (along_begins c.args.piece.now reader kept c.requires.place c.requires.going c.requires.alike c.requires.few (c.is_between.ensures c.if-not-is_between.false)
+    c.requires.safe c.requires.bounded (λ e. absurd (omega (arith, e, c.if-kept.false))))
 
 pub overflow_add-count : goal.overflow_add-count
 overflow_add-count c = omega (arith, c.loop-ends.invariant.left.run.few)
@@ -30,7 +31,12 @@ loop-ends-preserved c =
     let used = c.add_told-used.result in
     let some : 0 < used = omega (arith, c.if-used-eq0.false) in
     let events : net.network.events ≤ MAX_EVENTS = omega (arith, c.events-events.ensures.limit, c.events-events.ensures.events, ap (λ n. n.events) c.net.ensures.network) in
-    let activities : length net.network.arcs ≤ MAX_ACTIVITIES = omega (arith, c.activities-activities.ensures.limit, c.activities-activities.ensures.activities, ap (λ n. length n.arcs) c.net-2.ensures.network) in
+    let activities : length net.network.arcs ≤ MAX_ACTIVITIES = omega (
+      arith,
+      c.activities-activities.ensures.limit,
+      c.activities-activities.ensures.activities,
+      ap (λ n. length n.arcs) c.net-2.ensures.network,
+    ) in
     subst (λ t. IsAlong net c.args.piece.now t c.args.reader.now c.args.kept.now c.add_told-used.new.kept c.add_told-used.new.place
     (c.loop-ends.count + 1)) (sym (take_all _ (drop used rest) (omega (arith, length-drop used rest))))
     (along_more used events activities c.loop-ends.invariant (c.add_told-used.ensures.adds some) c.add_told-used.ensures.safe)
@@ -46,27 +52,32 @@ overflow_sub-result c = omega (arith, c.loop-ends.invariant.left.long)
 
 pub returns-clause-same_kept : goal.returns-clause-same_kept
 returns-clause-same_kept c =
-    let it = along_ends c.go_on.new.self c.add_told-used.new.place c.add_told-used.new.kept c.loop-ends.invariant (c.add_told-used.ensures.same_place (omega (arith, c.if-used-eq0.true))) (c.add_told-used.ensures.same_kept (omega (arith, c.if-used-eq0.true))) c.go_on.ensures in
+    let it = along_ends c.go_on.new.self c.add_told-used.new.place c.add_told-used.new.kept c.loop-ends.invariant (c.add_told-used.ensures.same_place (omega (arith, c.if-used-eq0.true)))
+    (c.add_told-used.ensures.same_kept (omega (arith, c.if-used-eq0.true))) c.go_on.ensures in
     it.same_kept
 
 pub returns-clause-same_reader : goal.returns-clause-same_reader
 returns-clause-same_reader c =
-    let it = along_ends c.go_on.new.self c.add_told-used.new.place c.add_told-used.new.kept c.loop-ends.invariant (c.add_told-used.ensures.same_place (omega (arith, c.if-used-eq0.true))) (c.add_told-used.ensures.same_kept (omega (arith, c.if-used-eq0.true))) c.go_on.ensures in
+    let it = along_ends c.go_on.new.self c.add_told-used.new.place c.add_told-used.new.kept c.loop-ends.invariant (c.add_told-used.ensures.same_place (omega (arith, c.if-used-eq0.true)))
+    (c.add_told-used.ensures.same_kept (omega (arith, c.if-used-eq0.true))) c.go_on.ensures in
     it.same_reader
 
 pub returns-clause-takes : goal.returns-clause-takes
 returns-clause-takes c =
-    let it = along_ends c.go_on.new.self c.add_told-used.new.place c.add_told-used.new.kept c.loop-ends.invariant (c.add_told-used.ensures.same_place (omega (arith, c.if-used-eq0.true))) (c.add_told-used.ensures.same_kept (omega (arith, c.if-used-eq0.true))) c.go_on.ensures in
+    let it = along_ends c.go_on.new.self c.add_told-used.new.place c.add_told-used.new.kept c.loop-ends.invariant (c.add_told-used.ensures.same_place (omega (arith, c.if-used-eq0.true)))
+    (c.add_told-used.ensures.same_kept (omega (arith, c.if-used-eq0.true))) c.go_on.ensures in
     it.takes
 
 pub returns-clause-bounded : goal.returns-clause-bounded
 returns-clause-bounded c =
-    let it = along_ends c.go_on.new.self c.add_told-used.new.place c.add_told-used.new.kept c.loop-ends.invariant (c.add_told-used.ensures.same_place (omega (arith, c.if-used-eq0.true))) (c.add_told-used.ensures.same_kept (omega (arith, c.if-used-eq0.true))) c.go_on.ensures in
+    let it = along_ends c.go_on.new.self c.add_told-used.new.place c.add_told-used.new.kept c.loop-ends.invariant (c.add_told-used.ensures.same_place (omega (arith, c.if-used-eq0.true)))
+    (c.add_told-used.ensures.same_kept (omega (arith, c.if-used-eq0.true))) c.go_on.ensures in
     it.bounded
 
 pub returns-clause-safe : goal.returns-clause-safe
 returns-clause-safe c =
-    let it = along_ends c.go_on.new.self c.add_told-used.new.place c.add_told-used.new.kept c.loop-ends.invariant (c.add_told-used.ensures.same_place (omega (arith, c.if-used-eq0.true))) (c.add_told-used.ensures.same_kept (omega (arith, c.if-used-eq0.true))) c.go_on.ensures in
+    let it = along_ends c.go_on.new.self c.add_told-used.new.place c.add_told-used.new.kept c.loop-ends.invariant (c.add_told-used.ensures.same_place (omega (arith, c.if-used-eq0.true)))
+    (c.add_told-used.ensures.same_kept (omega (arith, c.if-used-eq0.true))) c.go_on.ensures in
     it.safe
 
 pub returns-then-not-is_between-clause-same_kept : goal.returns-then-not-is_between-clause-same_kept

@@ -78,28 +78,60 @@ module _ (events activities : ℕ) (r0 r1 r2 r3 r4 r5 r6 r7 r8 r9 r10 r11 : Cell
   at_7 = taken-after r0 r6 r7 (replicate events 0 ∷ replicate events 0 ∷ replicate events 0 ∷ replicate events 0 ∷ replicate events 0 ∷ replicate events 0 ∷ []) events room at_6 taken_room
 
   at_8 : r8 ≡ with_more r0 (replicate events 0 ∷ replicate events 0 ∷ replicate events 0 ∷ replicate events 0 ∷ replicate events 0 ∷ replicate events 0 ∷ replicate events 0 ∷ replicate events 0 ∷ [])
-  at_8 = taken-after r0 r7 r8 (replicate events 0 ∷ replicate events 0 ∷ replicate events 0 ∷ replicate events 0 ∷ replicate events 0 ∷ replicate events 0 ∷ replicate events 0 ∷ []) events lost at_7 taken_lost
+  at_8 = taken-after r0 r7 r8 (replicate events 0 ∷ replicate events 0 ∷ replicate events 0 ∷ replicate events 0 ∷ replicate events 0 ∷ replicate events 0 ∷ replicate events 0 ∷ [])
+      events lost at_7 taken_lost
 
-  at_9 : r9 ≡ with_more r0 (replicate events 0 ∷ replicate events 0 ∷ replicate events 0 ∷ replicate events 0 ∷ replicate events 0 ∷ replicate events 0 ∷ replicate events 0 ∷ replicate events 0 ∷ replicate activities 0 ∷ [])
-  at_9 = taken-after r0 r8 r9 (replicate events 0 ∷ replicate events 0 ∷ replicate events 0 ∷ replicate events 0 ∷ replicate events 0 ∷ replicate events 0 ∷ replicate events 0 ∷ replicate events 0 ∷ []) activities flow at_8 taken_flow
+  at_9 : r9 ≡ with_more r0 (replicate events 0 ∷ replicate events 0 ∷ replicate events 0 ∷ replicate events 0 ∷ replicate events 0 ∷ replicate events
+      0 ∷ replicate events 0 ∷ replicate events 0 ∷ replicate activities 0 ∷ [])
+  at_9 = taken-after r0 r8 r9 (replicate events 0 ∷ replicate events 0 ∷ replicate events 0 ∷ replicate events 0 ∷ replicate events 0 ∷ replicate events
+      0 ∷ replicate events 0 ∷ replicate events 0 ∷ []) activities flow at_8 taken_flow
 
-  at_10 : r10 ≡ with_more r0 (replicate events 0 ∷ replicate events 0 ∷ replicate events 0 ∷ replicate events 0 ∷ replicate events 0 ∷ replicate events 0 ∷ replicate events 0 ∷ replicate events 0 ∷ replicate activities 0 ∷ replicate activities 0 ∷ [])
-  at_10 = taken-after r0 r9 r10 (replicate events 0 ∷ replicate events 0 ∷ replicate events 0 ∷ replicate events 0 ∷ replicate events 0 ∷ replicate events 0 ∷ replicate events 0 ∷ replicate events 0 ∷ replicate activities 0 ∷ []) activities waiting at_9 taken_waiting
+  at_10 : r10 ≡ with_more r0 (replicate events 0 ∷ replicate events 0 ∷ replicate events 0 ∷ replicate events 0 ∷ replicate events 0 ∷ replicate events
+      0 ∷ replicate events 0 ∷ replicate events 0 ∷ replicate activities 0 ∷ replicate activities 0 ∷ [])
+  at_10 = taken-after r0 r9 r10 (replicate events 0 ∷ replicate events 0 ∷ replicate events 0 ∷ replicate events 0 ∷ replicate events 0 ∷ replicate
+      events 0 ∷ replicate events 0 ∷ replicate events 0 ∷ replicate activities 0 ∷ []) activities waiting at_9 taken_waiting
 
-  at_11 : r11 ≡ with_more r0 (replicate events 0 ∷ replicate events 0 ∷ replicate events 0 ∷ replicate events 0 ∷ replicate events 0 ∷ replicate events 0 ∷ replicate events 0 ∷ replicate events 0 ∷ replicate activities 0 ∷ replicate activities 0 ∷ replicate activities 0 ∷ [])
-  at_11 = taken-after r0 r10 r11 (replicate events 0 ∷ replicate events 0 ∷ replicate events 0 ∷ replicate events 0 ∷ replicate events 0 ∷ replicate events 0 ∷ replicate events 0 ∷ replicate events 0 ∷ replicate activities 0 ∷ replicate activities 0 ∷ []) activities slot at_10 taken_slot
+  at_11 : r11 ≡ with_more r0 (replicate events 0 ∷ replicate events 0 ∷ replicate events 0 ∷ replicate events 0 ∷ replicate events 0 ∷ replicate events
+      0 ∷ replicate events 0 ∷ replicate events 0 ∷ replicate activities 0 ∷ replicate activities 0 ∷ replicate activities 0 ∷ [])
+  at_11 = taken-after r0 r10 r11 (replicate events 0 ∷ replicate events 0 ∷ replicate events 0 ∷ replicate events 0 ∷ replicate events 0 ∷ replicate
+      events 0 ∷ replicate events 0 ∷ replicate events 0 ∷ replicate activities 0 ∷ replicate activities 0 ∷ []) activities slot at_10 taken_slot
 
-  pub columns-taken : AreColumnsTaken r0 r11 events activities (record { time = time; rank = rank; queue = queue; step = step; against = against; near = near; room = room; lost = lost; flow = flow; waiting = waiting; slot = slot })
+  pub columns-taken : AreColumnsTaken r0 r11 events activities (record {
+    time = time;
+    rank = rank;
+    queue = queue;
+    step = step;
+    against = against;
+    near = near;
+    room = room;
+    lost = lost;
+    flow = flow;
+    waiting = waiting;
+    slot = slot;
+  })
   columns-taken = record { region = at_11; spans = spans } where
-    spans : (column : Column) → IsSpan r11.spans (length r0.spans + place_of column) (span_of (record { time = time; rank = rank; queue = queue; step = step; against = against; near = near; room = room; lost = lost; flow = flow; waiting = waiting; slot = slot }) column)
-    spans Time = span-after r0 r0 r1 r11 [] (replicate events 0 ∷ replicate events 0 ∷ replicate events 0 ∷ replicate events 0 ∷ replicate events 0 ∷ replicate events 0 ∷ replicate events 0 ∷ replicate activities 0 ∷ replicate activities 0 ∷ replicate activities 0 ∷ []) events 0 time at_0 refl taken_time at_11
-    spans Rank = span-after r0 r1 r2 r11 (replicate events 0 ∷ []) (replicate events 0 ∷ replicate events 0 ∷ replicate events 0 ∷ replicate events 0 ∷ replicate events 0 ∷ replicate events 0 ∷ replicate activities 0 ∷ replicate activities 0 ∷ replicate activities 0 ∷ []) events 1 rank at_1 refl taken_rank at_11
-    spans Queue = span-after r0 r2 r3 r11 (replicate events 0 ∷ replicate events 0 ∷ []) (replicate events 0 ∷ replicate events 0 ∷ replicate events 0 ∷ replicate events 0 ∷ replicate events 0 ∷ replicate activities 0 ∷ replicate activities 0 ∷ replicate activities 0 ∷ []) events 2 queue at_2 refl taken_queue at_11
-    spans Step = span-after r0 r3 r4 r11 (replicate events 0 ∷ replicate events 0 ∷ replicate events 0 ∷ []) (replicate events 0 ∷ replicate events 0 ∷ replicate events 0 ∷ replicate events 0 ∷ replicate activities 0 ∷ replicate activities 0 ∷ replicate activities 0 ∷ []) events 3 step at_3 refl taken_step at_11
-    spans Against = span-after r0 r4 r5 r11 (replicate events 0 ∷ replicate events 0 ∷ replicate events 0 ∷ replicate events 0 ∷ []) (replicate events 0 ∷ replicate events 0 ∷ replicate events 0 ∷ replicate activities 0 ∷ replicate activities 0 ∷ replicate activities 0 ∷ []) events 4 against at_4 refl taken_against at_11
-    spans Near = span-after r0 r5 r6 r11 (replicate events 0 ∷ replicate events 0 ∷ replicate events 0 ∷ replicate events 0 ∷ replicate events 0 ∷ []) (replicate events 0 ∷ replicate events 0 ∷ replicate activities 0 ∷ replicate activities 0 ∷ replicate activities 0 ∷ []) events 5 near at_5 refl taken_near at_11
-    spans Room = span-after r0 r6 r7 r11 (replicate events 0 ∷ replicate events 0 ∷ replicate events 0 ∷ replicate events 0 ∷ replicate events 0 ∷ replicate events 0 ∷ []) (replicate events 0 ∷ replicate activities 0 ∷ replicate activities 0 ∷ replicate activities 0 ∷ []) events 6 room at_6 refl taken_room at_11
-    spans Lost = span-after r0 r7 r8 r11 (replicate events 0 ∷ replicate events 0 ∷ replicate events 0 ∷ replicate events 0 ∷ replicate events 0 ∷ replicate events 0 ∷ replicate events 0 ∷ []) (replicate activities 0 ∷ replicate activities 0 ∷ replicate activities 0 ∷ []) events 7 lost at_7 refl taken_lost at_11
-    spans Flow = span-after r0 r8 r9 r11 (replicate events 0 ∷ replicate events 0 ∷ replicate events 0 ∷ replicate events 0 ∷ replicate events 0 ∷ replicate events 0 ∷ replicate events 0 ∷ replicate events 0 ∷ []) (replicate activities 0 ∷ replicate activities 0 ∷ []) activities 8 flow at_8 refl taken_flow at_11
-    spans Waiting = span-after r0 r9 r10 r11 (replicate events 0 ∷ replicate events 0 ∷ replicate events 0 ∷ replicate events 0 ∷ replicate events 0 ∷ replicate events 0 ∷ replicate events 0 ∷ replicate events 0 ∷ replicate activities 0 ∷ []) (replicate activities 0 ∷ []) activities 9 waiting at_9 refl taken_waiting at_11
-    spans Slot = span-after r0 r10 r11 r11 (replicate events 0 ∷ replicate events 0 ∷ replicate events 0 ∷ replicate events 0 ∷ replicate events 0 ∷ replicate events 0 ∷ replicate events 0 ∷ replicate events 0 ∷ replicate activities 0 ∷ replicate activities 0 ∷ []) [] activities 10 slot at_10 refl taken_slot at_11
+    spans : (column : Column) → IsSpan r11.spans (length r0.spans + place_of column) (span_of
+        (record { time = time; rank = rank; queue = queue; step = step; against = against; near = near; room = room; lost = lost; flow = flow; waiting = waiting; slot = slot }) column)
+    spans Time = span-after r0 r0 r1 r11 [] (replicate events 0 ∷ replicate events 0 ∷ replicate events 0 ∷ replicate events 0 ∷ replicate events 0 ∷
+        replicate events 0 ∷ replicate events 0 ∷ replicate activities 0 ∷ replicate activities 0 ∷ replicate activities 0 ∷ []) events 0 time at_0 refl taken_time at_11
+    spans Rank = span-after r0 r1 r2 r11 (replicate events 0 ∷ []) (replicate events 0 ∷ replicate events 0 ∷ replicate events 0 ∷ replicate events 0
+        ∷ replicate events 0 ∷ replicate events 0 ∷ replicate activities 0 ∷ replicate activities 0 ∷ replicate activities 0 ∷ []) events 1 rank at_1 refl taken_rank at_11
+    spans Queue = span-after r0 r2 r3 r11 (replicate events 0 ∷ replicate events 0 ∷ []) (replicate events 0 ∷ replicate events 0 ∷ replicate events 0
+        ∷ replicate events 0 ∷ replicate events 0 ∷ replicate activities 0 ∷ replicate activities 0 ∷ replicate activities 0 ∷ []) events 2 queue at_2 refl taken_queue at_11
+    spans Step = span-after r0 r3 r4 r11 (replicate events 0 ∷ replicate events 0 ∷ replicate events 0 ∷ [])
+        (replicate events 0 ∷ replicate events 0 ∷ replicate events 0 ∷ replicate events 0 ∷ replicate activities 0 ∷ replicate activities 0 ∷ replicate activities 0 ∷ [])
+        events 3 step at_3 refl taken_step at_11
+    spans Against = span-after r0 r4 r5 r11 (replicate events 0 ∷ replicate events 0 ∷ replicate events 0 ∷ replicate events 0 ∷ [])
+        (replicate events 0 ∷ replicate events 0 ∷ replicate events 0 ∷ replicate activities 0 ∷ replicate activities 0 ∷ replicate activities 0 ∷ []) events 4 against at_4 refl taken_against at_11
+    spans Near = span-after r0 r5 r6 r11 (replicate events 0 ∷ replicate events 0 ∷ replicate events 0 ∷ replicate events 0 ∷ replicate events 0 ∷ [])
+        (replicate events 0 ∷ replicate events 0 ∷ replicate activities 0 ∷ replicate activities 0 ∷ replicate activities 0 ∷ []) events 5 near at_5 refl taken_near at_11
+    spans Room = span-after r0 r6 r7 r11 (replicate events 0 ∷ replicate events 0 ∷ replicate events 0 ∷ replicate events 0 ∷ replicate events 0 ∷ replicate events 0 ∷ [])
+        (replicate events 0 ∷ replicate activities 0 ∷ replicate activities 0 ∷ replicate activities 0 ∷ []) events 6 room at_6 refl taken_room at_11
+    spans Lost = span-after r0 r7 r8 r11 (replicate events 0 ∷ replicate events 0 ∷ replicate events 0 ∷ replicate events 0 ∷ replicate events 0 ∷ replicate events 0 ∷ replicate events 0 ∷ [])
+        (replicate activities 0 ∷ replicate activities 0 ∷ replicate activities 0 ∷ []) events 7 lost at_7 refl taken_lost at_11
+    spans Flow = span-after r0 r8 r9 r11 (replicate events 0 ∷ replicate events 0 ∷ replicate events 0 ∷ replicate events 0 ∷ replicate events 0 ∷
+        replicate events 0 ∷ replicate events 0 ∷ replicate events 0 ∷ []) (replicate activities 0 ∷ replicate activities 0 ∷ []) activities 8 flow at_8 refl taken_flow at_11
+    spans Waiting = span-after r0 r9 r10 r11 (replicate events 0 ∷ replicate events 0 ∷ replicate events 0 ∷ replicate events 0 ∷ replicate events 0 ∷
+        replicate events 0 ∷ replicate events 0 ∷ replicate events 0 ∷ replicate activities 0 ∷ []) (replicate activities 0 ∷ []) activities 9 waiting at_9 refl taken_waiting at_11
+    spans Slot = span-after r0 r10 r11 r11 (replicate events 0 ∷ replicate events 0 ∷ replicate events 0 ∷ replicate events 0 ∷ replicate events 0 ∷
+        replicate events 0 ∷ replicate events 0 ∷ replicate events 0 ∷ replicate activities 0 ∷ replicate activities 0 ∷ []) [] activities 10 slot at_10 refl taken_slot at_11
