@@ -19,13 +19,13 @@ value_of finished entry =
     else (if latest_of entry == 0 then 0 else (entry.budget * entry.actual / latest_of entry))
 
 -- no amount is greater than cards within the limits make it
-pub record IsSmall (entry : Entry) : Type 0 where
+pub record IsEntryWithinLimits (entry : Entry) : Type 0 where
   pub budget : entry.budget ≤ MAX_COST
   pub actual : entry.actual ≤ MAX_CHARGES * MAX_COST
   pub to_go : entry.to_go ≤ MAX_COST
 
 -- the same of a whole book, where all actual amounts together are no more than all charges can be
-pub record AreSmall (entries : List Entry) : Type 0 where
+pub record AreEntriesWithinLimits (entries : List Entry) : Type 0 where
   pub few : length entries ≤ MAX_ACCOUNTS
-  pub each : (a : ℕ) → a < length entries → IsSmall (entry_at entries a)
+  pub each : (a : ℕ) → a < length entries → IsEntryWithinLimits (entry_at entries a)
   pub together : sum_by (λ entry. entry.actual) entries ≤ MAX_CHARGES * MAX_COST

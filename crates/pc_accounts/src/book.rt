@@ -1,7 +1,7 @@
 //! The book of all accounts.
 ghost use Rattle.std.specs.Prelude.{◌≡◌, ℕ, ◌+◌, ◌*◌, ◌<◌, ◌≤◌, length, IsTrue, IsFalse, IfOk, IfErr, IfSome, OnOk};
 ghost use Rattle.pc_model.specs.declared.limits.TheConstants.{MAX_ACCOUNTS, MAX_CHARGES, MAX_TOGOS, MAX_COST};
-ghost use Rattle.pc_accounts.specs.Entries.{entry_at, latest_of, value_of, AreSmall};
+ghost use Rattle.pc_accounts.specs.Entries.{entry_at, latest_of, value_of, AreEntriesWithinLimits};
 ghost use Rattle.pc_accounts.specs.inside.Entries.{entry_of_all, IsShare};
 ghost use Rattle.pc_accounts.specs.Amounts.{AreBudgets, AreMoney, AreEntriesOf, entry_of_project};
 ghost use Rattle.pc_accounts.specs.inside.Parts.{AreActuals, AreKnown, AreMade, entry_from};
@@ -25,13 +25,13 @@ pub struct Book {
 impl Model for Book {
     ghost use Rattle.std.specs.Prelude.{List};
     ghost use Rattle.pc_accounts.specs.declared.entry.Entry.{Entry};
-    ghost use Rattle.pc_accounts.specs.Entries.{AreSmall};
+    ghost use Rattle.pc_accounts.specs.Entries.{AreEntriesWithinLimits};
 
     ghost Value = { List Entry };
 
     ghost view = { λ book. book.entries.items };
 
-    ghost invariant = { λ book. AreSmall book.entries.items };
+    ghost invariant = { λ book. AreEntriesWithinLimits book.entries.items };
 }
 
 impl Book {
@@ -71,7 +71,7 @@ impl Book {
     /// Returns one entry per account, in card order.
     pub fn entries(&self) -> &[Entry]
         ensures entries { result.now ≡ self.now }
-        ensures small { AreSmall self.now }
+        ensures small { AreEntriesWithinLimits self.now }
     {
         &self.entries
     }

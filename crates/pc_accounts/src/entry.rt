@@ -1,7 +1,7 @@
 //! What a book says of one account.
 ghost use Rattle.std.specs.Prelude.{◌≡◌, ◌+◌, ◌*◌, ◌/◌, ◌≤◌, ◌<◌, IsTrue, IsFalse};
 ghost use Rattle.pc_model.specs.declared.limits.TheConstants.{MAX_COST, MAX_CHARGES};
-ghost use Rattle.pc_accounts.specs.Entries.{latest_of, value_of, IsSmall};
+ghost use Rattle.pc_accounts.specs.Entries.{latest_of, value_of, IsEntryWithinLimits};
 ghost use Rattle.pc_accounts.specs.inside.Entries.{IsShare};
 
 /// An account's budget, the sum of its charges up to the as-of date, and its amount to go.
@@ -15,7 +15,7 @@ pub struct Entry {
 impl Entry {
     /// Returns the latest estimate: what was spent plus what is to go.
     pub fn latest(&self) -> u64
-        requires { IsSmall self.now }
+        requires { IsEntryWithinLimits self.now }
         ensures latest { result ≡ latest_of self.now }
         ensures limit { result ≤ (MAX_CHARGES + 1) * MAX_COST }
     {
@@ -27,7 +27,7 @@ impl Entry {
     /// Finished work is worth its budget. Other work is worth the budget in the ratio of what was spent to the latest
     /// estimate, rounded down, or 0 if the latest estimate is 0.
     pub fn value(&self, finished: bool) -> u64
-        requires { IsSmall self.now }
+        requires { IsEntryWithinLimits self.now }
         ensures value { result ≡ value_of finished self.now }
         ensures done { IsTrue finished → result ≡ self.now.budget }
         ensures share { IsFalse finished → 0 < latest_of self.now → IsShare self.now result }

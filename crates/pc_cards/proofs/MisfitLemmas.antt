@@ -8,7 +8,7 @@ use Rattle.pc_cards.specs.inside.Findings.{flaw_of_fields, misshapen_at, over_li
 use Rattle.pc_cards.specs.declared.field.Flaw.{Flaw}
 use Rattle.pc_cards.specs.declared.field.Flaw.TheVariants as flaw
 use Rattle.pc_cards.specs.declared.field.Misfit.{Misfit}
-use Rattle.pc_cards.specs.declared.form.Form.{Form}
+use Rattle.pc_cards.specs.declared.form.FieldForm.{FieldForm}
 use Rattle.pc_cards.proofs.FindLemmas.{none_then, some_first}
 
 -- what a flaw says of the two tests
@@ -25,7 +25,7 @@ over true false is = absurd (let is' = is in cc)
 over false limit is = absurd (let is' = is in cc)
 
 -- what was found to be wrong with a field, if anything was, tells whether it has the shape
-pub shape_told : (number : ℕ) (form : Form) (field : List ℕ) (misfit : Misfit) → IsMisfit number form field misfit → is_of_shape misfit.flaw ≡ not (has_shape form field)
+pub shape_told : (number : ℕ) (form : FieldForm) (field : List ℕ) (misfit : Misfit) → IsMisfit number form field misfit → is_of_shape misfit.flaw ≡ not (has_shape form field)
 shape_told number form field misfit is = flawed (has_shape form field) (is_over_limit form field) misfit.flaw is.1
 
 -- a search that finds its first element, or passes it

@@ -15,12 +15,12 @@ use Rattle.pc_days.specs.declared.error.DayError.{DayError}
 use Rattle.pc_days.specs.declared.error.DayError.TheVariants.{Shape, Years}
 use Rattle.pc_days.proofs.Reading.{NamesDay-read}
 use Rattle.pc_cards.specs.Forms.{AllFit, Fits, Slot, field_numbered, is_misshapen, is_of_other_years, is_reserved}
-use Rattle.pc_cards.specs.declared.form.Form.{Form}
-use Rattle.pc_cards.specs.declared.form.Form.TheVariants as form
+use Rattle.pc_cards.specs.declared.form.FieldForm.{FieldForm}
+use Rattle.pc_cards.specs.declared.form.FieldForm.TheVariants as form
 
 -- how many bytes a field takes at most as it is written: codes and numbers go without quotes, and a title of 80 quotes
 -- takes each twice and two around them
-abbrev pub room : Form → ℕ
+abbrev pub room : FieldForm → ℕ
 room form.Code = 16
 room form.GivenCode = 16
 room form.CodeOrNone = 16
@@ -93,7 +93,7 @@ letter-room field is = elim (cases_Bool (bytes_eq field (codes "S"))) [
     one text single same = omega (arith, length-written_field field, ap length same, single)
 
 -- a field that fits its form takes no more
-pub length-fits : (form : Form) (field : List ℕ) → Fits form field → length (written_field field) ≤ room form
+pub length-fits : (form : FieldForm) (field : List ℕ) → Fits form field → length (written_field field) ≤ room form
 length-fits form.Code field fit = code-room field fit.0
 length-fits form.GivenCode field fit = code-room field (and_parts (is_code field) (not (is_reserved field)) fit.0).0
 length-fits form.CodeOrNone field fit = or_none (is_code field) field 16 fit.0 (code-room field)

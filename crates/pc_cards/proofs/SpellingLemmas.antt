@@ -14,11 +14,11 @@ use Rattle.pc_days.specs.declared.error.DayError.TheVariants.{Shape, Years}
 use Rattle.pc_days.proofs.CalendarLaws.{text_of-read}
 use Rattle.pc_records.specs.Deck.{is_empty}
 use Rattle.pc_cards.specs.Forms.{AllFit, Fits, Slot, code_text, day_in, field_numbered, is_misshapen, is_of_other_years, letter_text, number_in, number_text}
-use Rattle.pc_cards.specs.declared.form.Form.{Form}
-use Rattle.pc_cards.specs.declared.form.Form.TheVariants as form
+use Rattle.pc_cards.specs.declared.form.FieldForm.{FieldForm}
+use Rattle.pc_cards.specs.declared.form.FieldForm.TheVariants as form
 
 -- what is written of the value of a field
-abbrev pub respelled : Form → List ℕ → List ℕ
+abbrev pub respelled : FieldForm → List ℕ → List ℕ
 respelled form.Code field = field
 respelled form.GivenCode field = field
 respelled form.CodeOrNone field = code_text (code_of field)
@@ -69,7 +69,7 @@ a_letter false field is h = sym ((bytes_decides field (codes "S")).0 (or_first (
     or_first false h = h
 
 -- the field itself is written
-pub respelled-same : (form : Form) (field : List ℕ) → Fits form field → respelled form field ≡ field
+pub respelled-same : (form : FieldForm) (field : List ℕ) → Fits form field → respelled form field ≡ field
 respelled-same form.Code field fit = refl
 respelled-same form.GivenCode field fit = refl
 respelled-same form.CodeOrNone field fit = no_code (is_code field) field fit.0

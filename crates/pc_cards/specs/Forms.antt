@@ -11,25 +11,25 @@ use Rattle.pc_days.specs.Dates.{day_of}
 use Rattle.pc_days.specs.declared.error.DayError.{DayError}
 use Rattle.pc_days.specs.declared.error.DayError.TheVariants.{Shape, Years}
 use Rattle.pc_model.specs.declared.limits.TheConstants.{MAX_COST, MAX_DURATION}
-use Rattle.pc_cards.specs.declared.form.Form.{Form}
-use Rattle.pc_cards.specs.declared.form.Form.TheVariants as form
+use Rattle.pc_cards.specs.declared.form.FieldForm.{FieldForm}
+use Rattle.pc_cards.specs.declared.form.FieldForm.TheVariants as form
 use Rattle.pc_cards.specs.declared.sort.Sort.{Sort}
 use Rattle.pc_cards.specs.declared.sort.Sort.TheVariants.{Plan, Tasks}
 
 -- the number of a field, the kind being field 1, and what the field must be
 abbrev pub Slot : Type 0
-Slot = ℕ × Form
+Slot = ℕ × FieldForm
 
 -- an estimate or a duration, in units
-abbrev pub duration : Form
+abbrev pub duration : FieldForm
 duration = form.Number 0 MAX_DURATION
 
 -- an amount of money
-abbrev pub money : Form
+abbrev pub money : FieldForm
 money = form.Number 0 MAX_COST
 
 -- a code that a card gives to what it stands for: in a deck of tasks it is none of those that are added to such a deck
-abbrev pub own_code : Sort → Form
+abbrev pub own_code : Sort → FieldForm
 own_code Plan = form.Code
 own_code Tasks = form.GivenCode
 
@@ -49,7 +49,7 @@ abbrev pub is_reserved : List ℕ → Bool
 is_reserved field = starts_with nat_eq field (codes "_")
 
 -- the field has the shape of what it must be: a code, a title, a date of the calendar, a number, or `S` or `F`
-abbrev pub has_shape : Form → List ℕ → Bool
+abbrev pub has_shape : FieldForm → List ℕ → Bool
 has_shape form.Code field = is_code field
 has_shape form.GivenCode field = is_code field && not (is_reserved field)
 has_shape form.CodeOrNone field = is_empty field || is_code field
@@ -65,7 +65,7 @@ is_outside least most None = false
 is_outside least most (Some number) = nat_lt number least || nat_lt most number
 
 -- the field is over its limit: a title of more than 80 bytes, a date outside 1900 to 2199, a number outside its limits
-abbrev pub is_over_limit : Form → List ℕ → Bool
+abbrev pub is_over_limit : FieldForm → List ℕ → Bool
 is_over_limit form.Code field = false
 is_over_limit form.GivenCode field = false
 is_over_limit form.CodeOrNone field = false
@@ -80,7 +80,7 @@ abbrev pub field_numbered : List (List ℕ) → ℕ → List ℕ
 field_numbered fields number = field_at fields (number - 1)
 
 -- the field is what it must be
-abbrev pub Fits : Form → List ℕ → Type 0
+abbrev pub Fits : FieldForm → List ℕ → Type 0
 Fits form field = (has_shape form field ≡ true) × (is_over_limit form field ≡ false)
 
 -- each of the fields is what it must be

@@ -5,7 +5,7 @@ ghost use Rattle.pc_text.specs.Number.{number_of};
 ghost use Rattle.pc_cards.specs.Forms.{Fits, field_numbered, number_in, day_in, is_reserved, own_code};
 ghost use Rattle.pc_cards.specs.inside.Forms.{IsMisfit, is_of_shape};
 ghost use Rattle.pc_cards.specs.declared.field.Flaw.TheVariants as flaw;
-ghost use Rattle.pc_cards.specs.declared.form.Form.TheVariants as form;
+ghost use Rattle.pc_cards.specs.declared.form.FieldForm.TheVariants as form;
 
 use crate::sort::Sort;
 use pc_days::{Day, DayError, read_day};

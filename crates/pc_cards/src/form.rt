@@ -11,26 +11,26 @@ use pc_model::{MAX_COST, MAX_DURATION, MAX_SLOPE};
 use pc_records::Fields;
 
 /// The form of an estimate or a duration, in units.
-pub const DURATION: Form = Form::Number {
+pub const DURATION: FieldForm = FieldForm::Number {
     least: 0,
     most: MAX_DURATION,
 };
 
 /// The form of an amount of money.
-pub const MONEY: Form = Form::Number {
+pub const MONEY: FieldForm = FieldForm::Number {
     least: 0,
     most: MAX_COST,
 };
 
 /// The form of a slope: the cost of shortening a duration by one unit.
-pub const SLOPE: Form = Form::Number {
+pub const SLOPE: FieldForm = FieldForm::Number {
     least: 0,
     most: MAX_SLOPE,
 };
 
 /// What a field must be.
 #[derive(Clone, Copy)]
-pub enum Form {
+pub enum FieldForm {
     Code,
     /// A code that does not begin with `_`.
     GivenCode,
@@ -46,7 +46,7 @@ pub enum Form {
 }
 
 /// The number of a field (the kind is field 1), and what the field must be.
-pub type Slot = (u8, Form);
+pub type Slot = (u8, FieldForm);
 
 /// What is wrong with the field of a slot, if anything is.
 fn misfit_of<F: Fields>(slot: &Slot, fields: &F) -> Option<Misfit>
@@ -55,16 +55,16 @@ fn misfit_of<F: Fields>(slot: &Slot, fields: &F) -> Option<Misfit>
 {
     let number = slot.0;
     match slot.1 {
-        Form::Code => read_code(fields, number).err(),
-        Form::GivenCode => read_given_code(fields, number).err(),
-        Form::CodeOrNone => read_code_or_none(fields, number).err(),
-        Form::Title => read_title(fields, number).err(),
-        Form::Date => read_date(fields, number).err(),
-        Form::Number { least, most } => read_amount(fields, number, least, most).err(),
-        Form::NumberOrNone { least, most } => {
+        FieldForm::Code => read_code(fields, number).err(),
+        FieldForm::GivenCode => read_given_code(fields, number).err(),
+        FieldForm::CodeOrNone => read_code_or_none(fields, number).err(),
+        FieldForm::Title => read_title(fields, number).err(),
+        FieldForm::Date => read_date(fields, number).err(),
+        FieldForm::Number { least, most } => read_amount(fields, number, least, most).err(),
+        FieldForm::NumberOrNone { least, most } => {
             read_amount_or_none(fields, number, least, most).err()
         }
-        Form::Letter => read_letter(fields, number).err(),
+        FieldForm::Letter => read_letter(fields, number).err(),
     }
 }
 

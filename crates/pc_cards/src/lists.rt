@@ -9,7 +9,7 @@ ghost use Rattle.pc_cards.specs.inside.Named.{count_once, has_code};
 ghost use Rattle.pc_model.specs.Codes.{IsNamedOnce};
 
 use crate::card::{Card, Coded};
-use crate::place::Place;
+use crate::place::CardPlace;
 use crate::reading::read_card;
 use pc_faults::{DeckError, Fault};
 use pc_names::Names;
@@ -52,7 +52,7 @@ impl<C: Card> Once<C> {
     /// # Errors
     ///
     /// The fault of the card, or out of memory. The list must not be used after an error.
-    pub fn take<F: Fields>(&mut self, place: &Place, fields: &F) -> Result<(), DeckError>
+    pub fn take<F: Fields>(&mut self, place: &CardPlace, fields: &F) -> Result<(), DeckError>
         ensures kept { OnOk result (self.new ≡ Some (C.spelled place.now.row (F.fields fields.now))) }
         ensures sound { OnOk result (or_else (not_alone place.now (count_once self.old))
             (fault_of_listed place.now (count_once self.old) C.least C.most (C.slots place.now.sort)
@@ -126,7 +126,7 @@ impl<C: Card> Listed<C> {
     /// # Errors
     ///
     /// The fault of the card, or out of memory. The list must not be used after an error.
-    pub fn take<F: Fields>(&mut self, place: &Place, fields: &F) -> Result<(), DeckError>
+    pub fn take<F: Fields>(&mut self, place: &CardPlace, fields: &F) -> Result<(), DeckError>
         ensures kept { OnOk result (self.new ≡ self.old ++ C.spelled place.now.row (F.fields fields.now) ∷ []) }
         ensures sound { OnOk result (fault_of_listed place.now (length self.old) C.least C.most
             (C.slots place.now.sort) (F.fields fields.now) ≡ None) }
@@ -218,7 +218,7 @@ impl<C: Coded> Named<C> {
     /// # Errors
     ///
     /// The fault of the card, or out of memory. The list must not be used after an error.
-    pub fn take<F: Fields>(&mut self, place: &Place, fields: &F) -> Result<(), DeckError>
+    pub fn take<F: Fields>(&mut self, place: &CardPlace, fields: &F) -> Result<(), DeckError>
         ensures kept { OnOk result (self.new ≡ self.old ++ C.spelled place.now.row (F.fields fields.now) ∷ []) }
         ensures sound { OnOk result (fault_of_named place.now (map C.own_code self.old)
             (length self.old) C.least C.most (C.slots place.now.sort) (F.fields fields.now) ≡ None) }

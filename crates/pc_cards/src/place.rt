@@ -8,7 +8,7 @@ use pc_faults::{Fault, Kind};
 /// The place of a card: the sort of its deck, its kind and record, how many cards of its kind the deck may have, and
 /// whether the END card came before it.
 #[derive(Clone, Copy)]
-pub struct Place {
+pub struct CardPlace {
     pub sort: Sort,
     pub kind: Kind,
     pub row: u32,
@@ -16,7 +16,7 @@ pub struct Place {
     pub has_ended: bool,
 }
 
-impl Place {
+impl CardPlace {
     /// Returns the fault of a second card of a kind of which a deck has one (F5), after `count` cards of the kind.
     pub fn second(&self, count: usize) -> Option<Fault>
         ensures { result ≡ not_alone self.now count }

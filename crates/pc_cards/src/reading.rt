@@ -6,7 +6,7 @@ ghost use Rattle.pc_cards.specs.inside.Findings.{flaw_of_fields, or_else, wrong_
 use crate::card::Card;
 use crate::field::{Flaw, Misfit};
 use crate::form::{Slot, first_misshapen, slots_behind};
-use crate::place::Place;
+use crate::place::CardPlace;
 use pc_faults::Fault;
 use pc_records::Fields;
 
@@ -16,7 +16,7 @@ use pc_records::Fields;
 ///
 /// The fault of the fields (F6 to F8), if they have one.
 #[tactic(auto, using(crate::proofs::FindLemmas::no_flaw))]
-pub fn read_card<C: Card, F: Fields>(place: &Place, fields: &F) -> Result<C, Fault>
+pub fn read_card<C: Card, F: Fields>(place: &CardPlace, fields: &F) -> Result<C, Fault>
     ensures card { IfOk result (λ card. card ≡ C.spelled place.now.row (F.fields fields.now)) }
     ensures whole { OnOk result (wrong_fields place.now C.least C.most (F.fields fields.now) ≡ None) }
     ensures fit { OnOk result (flaw_of_fields place.now.row (C.slots place.now.sort) (F.fields fields.now) ≡ None) }
@@ -35,7 +35,7 @@ pub fn read_card<C: Card, F: Fields>(place: &Place, fields: &F) -> Result<C, Fau
 
 /// Returns the fault of a card with too few or too many fields (F6).
 pub fn wrong_fields<F: Fields>(
-    place: &Place,
+    place: &CardPlace,
     least: usize,
     most: usize,
     fields: &F,

@@ -5,13 +5,13 @@ ghost use Rattle.pc_cards.specs.Cards.{deck_cards};
 ghost use Rattle.pc_cards.specs.inside.Cards.{Follows};
 ghost use Rattle.pc_cards.specs.Limits.{longest_deck};
 
-use pc_records::{Row, Rows};
+use pc_records::{Row, RowReader};
 use std::alloc::{AllocError, Global};
 use std::marker::Model;
 
 /// The cards of a deck that are left to read: its records that are not blank, with their numbers.
 pub struct CardRows<'a> {
-    rows: Rows<'a>,
+    rows: RowReader<'a>,
     /// The number of the record that was read last.
     number: u32,
 }
@@ -40,7 +40,7 @@ impl<'a> Model for CardRows<'a> {
 
 /// What comes next in a deck.
 #[derive(Clone, Copy)]
-pub enum Next {
+pub enum NextCard {
     /// A card, with the number of its record.
     Card(u32),
     /// Nothing, with the number after that of the last record.
@@ -55,7 +55,7 @@ impl<'a> CardRows<'a> {
         ensures end { result.end ≡ length (deck_records bytes.now) + 1 }
     {
         CardRows {
-            rows: Rows::new(alloc, bytes),
+            rows: RowReader::new(alloc, bytes),
             number: 0,
         }
     }
@@ -65,15 +65,15 @@ impl<'a> CardRows<'a> {
     /// # Errors
     ///
     /// `AllocError` if there is not enough memory for the fields.
-    pub fn next(&mut self, fields: &mut Row) -> Result<Next, AllocError>
+    pub fn next(&mut self, fields: &mut Row) -> Result<NextCard, AllocError>
         ensures { IfOk result (λ next. Follows next self.old self.new fields.new) }
     {
         'rows: while self.rows.next_row(fields)? {
             self.number += 1;
             if !fields.is_blank() {
-                return Ok(Next::Card(self.number));
+                return Ok(NextCard::Card(self.number));
             }
         }
-        Ok(Next::End(self.number + 1))
+        Ok(NextCard::End(self.number + 1))
     }
 }

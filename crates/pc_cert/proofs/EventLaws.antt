@@ -8,7 +8,7 @@ use Rattle.std.proofs.lemmas.List.{take-append-drop, take-append-le, take_all, l
 use Rattle.pc_cert.specs.declared.line.CertLine.{CertLine}
 use Rattle.pc_cert.specs.declared.line.CertLine.TheVariants.{Event}
 use Rattle.pc_text.specs.Fields.{run_len, spaced, IsCode}
-use Rattle.pc_cert.specs.Lines.{Fits, spelling, IsSmall}
+use Rattle.pc_cert.specs.Lines.{IsWritable, spelling, IsSmall}
 use Rattle.pc_cert.specs.inside.Fields.{bit_text}
 use Rattle.pc_cert.specs.inside.Reading.{line_of}
 use Rattle.pc_cert.specs.inside.Known.{AreCells, IsAgain, IsEventFront}
@@ -55,7 +55,7 @@ event_front code cells time len moves are some =
     }
 
 -- a line and its end at the front of a piece
-spelled_again : (line : CertLine) (piece more : List ℕ) (used : ℕ) → Fits line → piece ≡ spelling line ++ 10 ∷ more → used + length more ≡ length piece → IsAgain (Some line) piece used
+spelled_again : (line : CertLine) (piece more : List ℕ) (used : ℕ) → IsWritable line → piece ≡ spelling line ++ 10 ∷ more → used + length more ≡ length piece → IsAgain (Some line) piece used
 spelled_again line piece more used fits whole long =
     let run : run_len 10 piece ≡ length (spelling line) = ap (run_len 10) whole ∙ run_len-before 10 (spelling line) more (spelling_lacks_end line fits) in
     let before : take (run_len 10 piece) piece ≡ spelling line =

@@ -10,15 +10,15 @@ use Rattle.pc_crash.specs.Priced.{PricedNetwork, knees_in}
 use Rattle.pc_cert.specs.declared.line.CertLine.{CertLine}
 use Rattle.pc_cert.specs.declared.line.CertLine.TheVariants.{Close}
 use Rattle.pc_text.specs.Fields.{IsCode}
-use Rattle.pc_cert.specs.Lines.{IsSmall, AreSmall, Fits}
-use Rattle.pc_cert.specs.Text.{AllFit}
+use Rattle.pc_cert.specs.Lines.{IsSmall, AreSmall, IsWritable}
+use Rattle.pc_cert.specs.Text.{AreWritable}
 use Rattle.pc_cert.proofs.TextLaws.{AllFit-append}
 use Rattle.pc_cert.specs.Listed.{listed}
 use Rattle.pc_cert.specs.Document.{event_line, act_line, segment_lines}
 use Rattle.pc_cert.specs.inside.Document.{HasSmallNumbers}
 use Rattle.pc_cert.proofs.ListedLaws.{length-listed}
 
-pub AllFit-listed : (n : ℕ) (line : ℕ → CertLine) → ((i : ℕ) → i < n → Fits (line i)) → AllFit (listed n line)
+pub AllFit-listed : (n : ℕ) (line : ℕ → CertLine) → ((i : ℕ) → i < n → IsWritable (line i)) → AreWritable (listed n line)
 AllFit-listed zero line each = tt
 AllFit-listed (suc n) line each = AllFit-append (listed n line) (line n ∷ []) (AllFit-listed n line (λ i lt. each i (omega arith))) (each n (omega arith), tt)
 
@@ -43,7 +43,7 @@ is_version pieces = one_or_two (pieces == 0)
 
 -- an activity has two to six flows
 module _ (net : PricedNetwork) (priced : IsPriced net.network net.terms (knees_in net)) (pieces : ArePieces net.terms net.pieces) where
-  act_fits : (seg : Stretch) (a : ℕ) → a < length net.network.arcs → IsCode (code_at net.activities a) → HasSmallNumbers net seg → Fits (act_line net seg a)
+  act_fits : (seg : Stretch) (a : ℕ) → a < length net.network.arcs → IsCode (code_at net.activities a) → HasSmallNumbers net seg → IsWritable (act_line net seg a)
   act_fits seg a lt code small =
       let long = length-listed ((knees_in net).count a) (seg.flow a) in
       let all = length-append (listed ((knees_in net).count a) (seg.flow a)) (seg.beside a ∷ []) in
@@ -57,7 +57,7 @@ module _ (net : PricedNetwork) (priced : IsPriced net.network net.terms (knees_i
       )
 
   pub segment_fits : (seg : Stretch) → ((e : ℕ) → e < net.network.events → IsCode (code_at net.events e)) →
-      ((a : ℕ) → a < length net.network.arcs → IsCode (code_at net.activities a)) → HasSmallNumbers net seg → AllFit (segment_lines net seg)
+      ((a : ℕ) → a < length net.network.arcs → IsCode (code_at net.activities a)) → HasSmallNumbers net seg → AreWritable (segment_lines net seg)
   segment_fits seg events activities small = (
     (small.upper, small.lower, small.cost, small.slope),
     AllFit-append (listed net.network.events (event_line net seg)) (listed (length net.network.arcs) (act_line net seg) ++ Close ∷ [])
@@ -68,6 +68,6 @@ module _ (net : PricedNetwork) (priced : IsPriced net.network net.terms (knees_i
   )
 
 -- one more of the lines that a list gives
-pub AllFit-map : (line : ℕ → CertLine) (walk more : List ℕ) (a : ℕ) → more ≡ walk ++ a ∷ [] → AllFit (map line walk) → AllFit (line a ∷ []) → AllFit (map line more)
+pub AllFit-map : (line : ℕ → CertLine) (walk more : List ℕ) (a : ℕ) → more ≡ walk ++ a ∷ [] → AreWritable (map line walk) → AreWritable (line a ∷ []) → AreWritable (map line more)
 AllFit-map line walk more a is all last =
-    subst (λ lines. AllFit lines) (sym (ap (λ w. map line w) is ∙ map-append line walk (a ∷ []))) (AllFit-append (map line walk) (line a ∷ []) all last)
+    subst (λ lines. AreWritable lines) (sym (ap (λ w. map line w) is ∙ map-append line walk (a ∷ []))) (AllFit-append (map line walk) (line a ∷ []) all last)

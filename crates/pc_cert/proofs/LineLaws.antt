@@ -10,7 +10,7 @@ use Rattle.pc_cert.specs.declared.line.CertLine.{CertLine}
 use Rattle.pc_cert.specs.declared.line.CertLine.TheVariants.{Head, Normal, Step, Crash, Segment, Event, Act, Close, End}
 use Rattle.pc_text.specs.Fields.{◌>>=◌, run_len, code_field, spaced, IsCode, alone}
 use Rattle.pc_cert.specs.inside.Fields.{bit_text, number_field, bit_field}
-use Rattle.pc_cert.specs.Lines.{numbers, spelling, IsSmall, AreSmall, Fits}
+use Rattle.pc_cert.specs.Lines.{numbers, spelling, IsSmall, AreSmall, IsWritable}
 use Rattle.pc_cert.specs.inside.Reading.{head_of, step_of, segment_of, event_of, numbers_in, flows_of, act_of, line_with, line_of}
 use Rattle.pc_cert.specs.declared.flows.TheConstants.{MAX_FLOWS}
 use Rattle.pc_text.proofs.SpellingLemmas.{IsSpelled, either, no_name, one_word}
@@ -19,7 +19,7 @@ use Rattle.pc_cert.proofs.FieldLemmas.{number_field_takes, number_field_again, b
 
 -- the word and the fields are those of the line, which can be spelled
 abbrev IsLine : List ℕ → List ℕ → CertLine → Type 0
-IsLine word fields line = IsSpelled spelling Fits word fields line
+IsLine word fields line = IsSpelled spelling IsWritable word fields line
 
 -- ---- a walk's step
 
@@ -78,7 +78,7 @@ head_takes fields line e =
       fits = (version_known (version.0.0) (known.0), project_is.code_is, events_is.small, activities_is.small);
     })
 
-head_again : (version : ℕ) (project : List ℕ) (events activities : ℕ) → Fits (Head version project events activities) →
+head_again : (version : ℕ) (project : List ℕ) (events activities : ℕ) → IsWritable (Head version project events activities) →
     head_of (spaced (decimal version) (spaced project (spaced (decimal events) (spaced (decimal activities) []))))
     ≡ Some (Head version project events activities)
 unfolding head_of
@@ -119,7 +119,7 @@ segment_takes fields line e =
       fits = (upper_is.small, lower_is.small, cost_is.small, slope_is.small);
     })
 
-segment_again : (upper lower cost slope : ℕ) → Fits (Segment upper lower cost slope) →
+segment_again : (upper lower cost slope : ℕ) → IsWritable (Segment upper lower cost slope) →
     segment_of (spaced (decimal upper) (spaced (decimal lower) (spaced (decimal cost) (spaced (decimal slope) []))))
     ≡ Some (Segment upper lower cost slope)
 unfolding segment_of
@@ -151,7 +151,8 @@ event_takes fields line e =
       fits = (code_is.code_is, time_is.small);
     })
 
-event_again : (code : List ℕ) (time : ℕ) (moves : Bool) → Fits (Event code time moves) → event_of (spaced code (spaced (decimal time) (spaced (bit_text moves) []))) ≡ Some (Event code time moves)
+event_again : (code : List ℕ) (time : ℕ) (moves : Bool) → IsWritable (Event code time moves) →
+    event_of (spaced code (spaced (decimal time) (spaced (bit_text moves) []))) ≡ Some (Event code time moves)
 unfolding event_of
 event_again code time moves h =
     rw (
@@ -226,7 +227,7 @@ act_takes fields line e =
       fits = (code_is.code_is, duration_is.small, flows_are.small, ltb-false _ _ (enough.0), flows_are.few);
     })
 
-act_again : (code : List ℕ) (duration : ℕ) (flows : List ℕ) → Fits (Act code duration flows) → act_of (spaced code (spaced (decimal duration) (numbers flows))) ≡ Some (Act code duration flows)
+act_again : (code : List ℕ) (duration : ℕ) (flows : List ℕ) → IsWritable (Act code duration flows) → act_of (spaced code (spaced (decimal duration) (numbers flows))) ≡ Some (Act code duration flows)
 unfolding act_of
 act_again code duration flows h =
     rw (
@@ -240,7 +241,7 @@ act_again code duration flows h =
 line_with_takes : (word fields : List ℕ) (line : CertLine) → line_with word fields ≡ Some line → IsLine word fields line
 line_with_takes word fields line =
     let reads = λ (name : List ℕ). IsLine name fields line in
-    let by = one_word spelling Fits in
+    let by = one_word spelling IsWritable in
     either reads word (codes "ACT") _ _ line (act_takes fields line)
     (either reads word (codes "EVENT") _ _ line (event_takes fields line)
     (either reads word (codes "SEGMENT") _ _ line (segment_takes fields line)
@@ -253,14 +254,14 @@ line_with_takes word fields line =
     (no_name reads word line)))))))))
 
 -- what is read is spelled so
-pub line_takes : (bytes : List ℕ) (line : CertLine) → line_of bytes ≡ Some line → (bytes ≡ spelling line) × Fits line
+pub line_takes : (bytes : List ℕ) (line : CertLine) → line_of bytes ≡ Some line → (bytes ≡ spelling line) × IsWritable line
 unfolding line_of
 line_takes bytes line e =
     let spelled = line_with_takes (take (run_len 32 bytes) bytes) (drop (run_len 32 bytes) bytes) line e in
     (sym (take-append-drop (run_len 32 bytes) bytes) ∙ spelled.text, spelled.fits)
 
 -- what is spelled so is read
-pub line_again : (line : CertLine) → Fits line → line_of (spelling line) ≡ Some line
+pub line_again : (line : CertLine) → IsWritable line → line_of (spelling line) ≡ Some line
 unfolding line_of
 line_again (Head version project events activities) h = head_again version project events activities h
 line_again Normal h = refl
@@ -273,9 +274,9 @@ line_again Close h = refl
 line_again End h = refl
 
 -- what a call that reads gave
-pub read_spelled : (found : Option CertLine) (bytes : List ℕ) → found ≡ line_of bytes → IfSome found (λ line. (bytes ≡ spelling line) × Fits line)
+pub read_spelled : (found : Option CertLine) (bytes : List ℕ) → found ≡ line_of bytes → IfSome found (λ line. (bytes ≡ spelling line) × IsWritable line)
 read_spelled None bytes e = tt
 read_spelled (Some line) bytes e = line_takes bytes line (sym e)
 
-pub read_again : (found : Option CertLine) (bytes : List ℕ) (line : CertLine) → found ≡ line_of bytes → Fits line → bytes ≡ spelling line → found ≡ Some line
+pub read_again : (found : Option CertLine) (bytes : List ℕ) (line : CertLine) → found ≡ line_of bytes → IsWritable line → bytes ≡ spelling line → found ≡ Some line
 read_again found bytes line e fits is = e ∙ ap line_of is ∙ line_again line fits

@@ -8,7 +8,7 @@ use Rattle.std.specs.Fmt.{decimal}
 use Rattle.pc_cert.specs.declared.line.CertLine.{CertLine}
 use Rattle.pc_cert.specs.declared.line.CertLine.TheVariants.{Head, Normal, Step, Crash, Segment, Event, Act, Close, End}
 use Rattle.pc_text.specs.Fields.{Lacks, spaced, IsCode}
-use Rattle.pc_cert.specs.Lines.{numbers, spelling, IsSmall, AreSmall, Fits}
+use Rattle.pc_cert.specs.Lines.{numbers, spelling, IsSmall, AreSmall, IsWritable}
 use Rattle.pc_cert.specs.inside.Fields.{bit_text}
 use Rattle.pc_text.proofs.FieldLemmas.{lacks, code_lacks}
 use Rattle.pc_cert.proofs.FieldLemmas.{decimal_lacks}
@@ -61,7 +61,7 @@ wider : {room : ℕ} {text : List ℕ} → IsShort room text → room ≤ 191 �
 wider p h = record { open_text = p.open_text; within = omega (arith, p.within, h) }
 
 -- the spelling of a line
-spelling_is_short : (line : CertLine) → Fits line → IsShort 191 (spelling line)
+spelling_is_short : (line : CertLine) → IsWritable line → IsShort 191 (spelling line)
 spelling_is_short (Head version project events activities) h =
     wider (then (word (codes "CERT") 4 refl (omega arith))
     (behind (number version (omega (arith, h.0.1)))
@@ -79,9 +79,9 @@ spelling_is_short Close h = word (codes "CLOSE") 191 refl (omega arith)
 spelling_is_short End h = word (codes "END") 191 refl (omega arith)
 
 -- it has no end of a line in it
-pub spelling_lacks_end : (line : CertLine) → Fits line → Lacks 10 (spelling line)
+pub spelling_lacks_end : (line : CertLine) → IsWritable line → Lacks 10 (spelling line)
 spelling_lacks_end line h = (spelling_is_short line h).open_text
 
 -- and fewer than 192 bytes
-pub length-spelling : (line : CertLine) → Fits line → length (spelling line) < 192
+pub length-spelling : (line : CertLine) → IsWritable line → length (spelling line) < 192
 length-spelling line h = omega (arith, (spelling_is_short line h).within)

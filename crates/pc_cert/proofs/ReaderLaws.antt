@@ -6,7 +6,7 @@ use Rattle.std.proofs.lemmas.List.{take-append-drop, length-take, take_all}
 use Rattle.pc_cert.specs.declared.line.CertLine.{CertLine}
 use Rattle.pc_cert.specs.declared.place.Place.{Place}
 use Rattle.pc_text.specs.Fields.{◌>>=◌, run_len, Lacks}
-use Rattle.pc_cert.specs.Lines.{spelling, Fits}
+use Rattle.pc_cert.specs.Lines.{spelling, IsWritable}
 use Rattle.pc_cert.specs.inside.Reading.{line_of}
 use Rattle.pc_cert.specs.Grammar.{next}
 use Rattle.pc_cert.specs.Text.{text_of}
@@ -140,7 +140,7 @@ accepted {place} {number} {held} {lines} {text} piece line after h ends found =
     let line_is : read.0 ≡ line = ap (λ (p : CertLine × Place). p.0) same in
     let after_is : goes.0 ≡ after = ap (λ (p : CertLine × Place). p.1) same in
     let spelled = line_takes (held ++ front) (read.0) (read.1) in
-    let fits : Fits line = subst (λ l. Fits l) line_is (spelled.1) in
+    let fits : IsWritable line = subst (λ l. IsWritable l) line_is (spelled.1) in
     let is : held ++ front ≡ spelling line = spelled.0 ∙ ap spelling line_is in
     let steps : next place line ≡ Some after = ap (λ l. next place l) (sym line_is) ∙ goes.1 ∙ ap Some after_is in
     record {

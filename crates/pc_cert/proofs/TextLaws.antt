@@ -4,15 +4,15 @@ use Rattle.pc_cert.specs.declared.line.CertLine.{CertLine}
 use Rattle.pc_cert.specs.declared.place.Place.{Place}
 use Rattle.pc_cert.specs.declared.place.Place.TheVariants.{Start}
 use Rattle.pc_text.specs.Fields.{◌>>=◌, Lacks}
-use Rattle.pc_cert.specs.Lines.{spelling, Fits}
+use Rattle.pc_cert.specs.Lines.{spelling, IsWritable}
 use Rattle.pc_cert.specs.inside.Reading.{line_of}
 use Rattle.pc_cert.specs.Grammar.{next}
-use Rattle.pc_cert.specs.Text.{text_of, AllFit, ran, LeadTo}
+use Rattle.pc_cert.specs.Text.{text_of, AreWritable, ran, LeadTo}
 use Rattle.pc_cert.proofs.LineLaws.{line_again}
 use Rattle.pc_cert.proofs.LineLengths.{spelling_lacks_end}
 
 -- two lines with one spelling are one line
-pub spelling_once : (a b : CertLine) → Fits a → Fits b → spelling a ≡ spelling b → a ≡ b
+pub spelling_once : (a b : CertLine) → IsWritable a → IsWritable b → spelling a ≡ spelling b → a ≡ b
 spelling_once a b p q same = let read : Some a ≡ Some b = sym (line_again a p) ∙ ap line_of same ∙ line_again b q in cc
 
 -- two texts that go on behind their first `stop` have the same front and the same rest
@@ -41,7 +41,7 @@ text_of-append [] others = refl
 text_of-append (line ∷ lines) others =
     ap (λ rest. spelling line ++ 10 ∷ rest) (text_of-append lines others) ∙ sym (append_assoc (spelling line) (10 ∷ text_of lines) (text_of others))
 
-pub AllFit-append : (lines others : List CertLine) → AllFit lines → AllFit others → AllFit (lines ++ others)
+pub AllFit-append : (lines others : List CertLine) → AreWritable lines → AreWritable others → AreWritable (lines ++ others)
 AllFit-append [] others p q = q
 AllFit-append (line ∷ lines) others p q = (p.0, AllFit-append lines others (p.1) q)
 
@@ -56,14 +56,14 @@ ran-append place [] others = refl
 ran-append place (line ∷ lines) others = of (next place line) lines others (λ p. ran-append p lines others)
 
 -- one more line
-pub LeadTo-more : {place behind : Place} {lines : List CertLine} (line : CertLine) → LeadTo place lines → Fits line → next place line ≡ Some behind → LeadTo behind (lines ++ line ∷ [])
+pub LeadTo-more : {place behind : Place} {lines : List CertLine} (line : CertLine) → LeadTo place lines → IsWritable line → next place line ≡ Some behind → LeadTo behind (lines ++ line ∷ [])
 LeadTo-more {place} {behind} {lines} line led fits goes = record {
   fit = AllFit-append lines (line ∷ []) led.fit (fits, tt);
   order = ran-append Start lines (line ∷ []) ∙ ap (λ found. found >>= (λ at. ran at (line ∷ []))) led.order ∙ ap (λ found. found >>= (λ at. ran at [])) goes;
 }
 
 -- no text is that of two lists of lines with rests that have no whole line
-pub text_once : (xs ys : List CertLine) (a b : List ℕ) → AllFit xs → AllFit ys → Lacks 10 a → Lacks 10 b → text_of xs ++ a ≡ text_of ys ++ b → (xs ≡ ys) × (a ≡ b)
+pub text_once : (xs ys : List CertLine) (a b : List ℕ) → AreWritable xs → AreWritable ys → Lacks 10 a → Lacks 10 b → text_of xs ++ a ≡ text_of ys ++ b → (xs ≡ ys) × (a ≡ b)
 text_once [] [] a b p q open_a open_b same = (refl, same)
 text_once [] (y ∷ ys) a b p q open_a open_b same = absurd (lacks_no_stop 10 (spelling y) a (text_of ys ++ b) open_a (sym (append_assoc (spelling y) (10 ∷ text_of ys) b) ∙ sym same))
 text_once (x ∷ xs) [] a b p q open_a open_b same = absurd (lacks_no_stop 10 (spelling x) b (text_of xs ++ a) open_b (sym (append_assoc (spelling x) (10 ∷ text_of xs) a) ∙ same))

@@ -36,11 +36,11 @@ AreSmall (n ∷ ns) = IsSmall n × AreSmall ns
 
 -- what a line says can be spelled: codes are codes, numbers have at most 18 digits, the version is 1 or 2, and an
 -- activity has two to six flows
-abbrev pub Fits : CertLine → Type 0
-Fits (Head version project events activities) = ((1 ≤ version) × (version ≤ 2)) × IsCode project × IsSmall events × IsSmall activities
-Fits (Step code) = IsCode code
-Fits (Segment upper lower cost slope) = IsSmall upper × IsSmall lower × IsSmall cost × IsSmall slope
-Fits (Event code time moves) = IsCode code × IsSmall time
-Fits (Act code duration flows) =
+abbrev pub IsWritable : CertLine → Type 0
+IsWritable (Head version project events activities) = ((1 ≤ version) × (version ≤ 2)) × IsCode project × IsSmall events × IsSmall activities
+IsWritable (Step code) = IsCode code
+IsWritable (Segment upper lower cost slope) = IsSmall upper × IsSmall lower × IsSmall cost × IsSmall slope
+IsWritable (Event code time moves) = IsCode code × IsSmall time
+IsWritable (Act code duration flows) =
     IsCode code × IsSmall duration × AreSmall flows × (2 ≤ length flows) × (length flows ≤ MAX_FLOWS)
-Fits other = Unit {0}
+IsWritable other = Unit {0}

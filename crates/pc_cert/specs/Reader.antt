@@ -5,7 +5,7 @@ use Rattle.pc_cert.specs.declared.line.TheConstants.{MAX_LINE}
 use Rattle.pc_cert.specs.declared.place.Place.{Place}
 use Rattle.pc_cert.specs.declared.place.Place.TheVariants.{Ended}
 use Rattle.pc_text.specs.Fields.{Lacks}
-use Rattle.pc_cert.specs.Lines.{spelling, Fits}
+use Rattle.pc_cert.specs.Lines.{spelling, IsWritable}
 use Rattle.pc_cert.specs.Grammar.{next}
 use Rattle.pc_cert.specs.Text.{text_of, LeadTo}
 use Rattle.pc_cert.specs.declared.reader.Malformed.{Malformed}
@@ -21,7 +21,7 @@ pub record IsGoing (place : Place) (number : ℕ) (held : List ℕ) (lines : Lis
 
 -- no line that may stand in this place is spelled so
 abbrev pub IsNotAllowed : Place → List ℕ → Type 0
-IsNotAllowed place bytes = (line : CertLine) (behind : Place) → Fits line → bytes ≡ spelling line → next place line ≡ Some behind → ⊥
+IsNotAllowed place bytes = (line : CertLine) (behind : Place) → IsWritable line → bytes ≡ spelling line → next place line ≡ Some behind → ⊥
 
 -- a whole line that is not allowed in this place
 abbrev pub IsBadLine : Place → List ℕ → Type 0

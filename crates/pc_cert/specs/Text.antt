@@ -4,7 +4,7 @@ use Rattle.pc_cert.specs.declared.line.CertLine.{CertLine}
 use Rattle.pc_cert.specs.declared.place.Place.{Place}
 use Rattle.pc_cert.specs.declared.place.Place.TheVariants.{Start}
 use Rattle.pc_text.specs.Fields.{◌>>=◌}
-use Rattle.pc_cert.specs.Lines.{spelling, Fits}
+use Rattle.pc_cert.specs.Lines.{spelling, IsWritable}
 use Rattle.pc_cert.specs.Grammar.{next}
 
 -- the lines one behind the other, each with its end (10)
@@ -13,9 +13,9 @@ text_of [] = []
 text_of (line ∷ lines) = spelling line ++ 10 ∷ text_of lines
 
 -- each line can be spelled
-abbrev pub AllFit : List CertLine → Type 0
-AllFit [] = Unit {0}
-AllFit (line ∷ lines) = Fits line × AllFit lines
+abbrev pub AreWritable : List CertLine → Type 0
+AreWritable [] = Unit {0}
+AreWritable (line ∷ lines) = IsWritable line × AreWritable lines
 
 -- the place behind lines that come from a place on, where each may stand in its own
 abbrev pub ran : Place → List CertLine → Option Place
@@ -24,5 +24,5 @@ ran place (line ∷ lines) = next place line >>= (λ behind. ran behind lines)
 
 -- the lines can be spelled and may come from the beginning on, and this is the place behind them
 pub record LeadTo (place : Place) (lines : List CertLine) : Type 0 where
-  pub fit : AllFit lines
+  pub fit : AreWritable lines
   pub order : ran Start lines ≡ Some place

@@ -1,7 +1,7 @@
 //! The head of a certificate.
 ghost use Rattle.std.specs.Prelude.{◌≡◌, ◌<◌, [], ◌∷◌, All, length};
 ghost use Rattle.pc_edges.specs.inside.page.Puts.{Puts};
-ghost use Rattle.pc_cert.specs.Text.{text_of, AllFit};
+ghost use Rattle.pc_cert.specs.Text.{text_of, AreWritable};
 ghost use Rattle.pc_cert.specs.declared.line.CertLine.TheVariants.{Step};
 ghost use Rattle.pc_cert.specs.Document.{first_line, head_lines, steps, version_of};
 
@@ -24,7 +24,7 @@ pub fn put_head<O: Sink>(
     requires crash { All (λ a. a < length net.now.network.arcs) crash.now }
     ensures text { Puts O.taken O.faults page.old sink.old page.new sink.new
         (text_of (head_lines net.now normal.now crash.now)) }
-    ensures fit { AllFit (head_lines net.now normal.now crash.now) }
+    ensures fit { AreWritable (head_lines net.now normal.now crash.now) }
 {
     put_first_line(page, sink, net);
     page.put(sink, b"NORMAL\n");
@@ -35,7 +35,7 @@ pub fn put_head<O: Sink>(
 
 fn put_first_line<O: Sink>(page: &mut Page, sink: &mut O, net: &CrashNet<'_>)
     ensures text { Puts O.taken O.faults page.old sink.old page.new sink.new (text_of (first_line net.now ∷ [])) }
-    ensures fit { AllFit (first_line net.now ∷ []) }
+    ensures fit { AreWritable (first_line net.now ∷ []) }
 {
     page.put(sink, b"CERT");
     put_number(page, sink, version(net));
@@ -55,7 +55,7 @@ fn version(net: &CrashNet<'_>) -> u64
 fn put_steps<O: Sink>(page: &mut Page, sink: &mut O, net: &CrashNet<'_>, walk: &[u32])
     requires { All (λ a. a < length net.now.network.arcs) walk.now }
     ensures text { Puts O.taken O.faults page.old sink.old page.new sink.new (text_of (steps net.now walk.now)) }
-    ensures fit { AllFit (steps net.now walk.now) }
+    ensures fit { AreWritable (steps net.now walk.now) }
 {
     for &a in walk {
         put_step(page, sink, &net.activity_code(a));
@@ -64,7 +64,7 @@ fn put_steps<O: Sink>(page: &mut Page, sink: &mut O, net: &CrashNet<'_>, walk: &
 
 fn put_step<O: Sink>(page: &mut Page, sink: &mut O, code: &Code)
     ensures text { Puts O.taken O.faults page.old sink.old page.new sink.new (text_of (Step code.now ∷ [])) }
-    ensures fit { AllFit (Step code.now ∷ []) }
+    ensures fit { AreWritable (Step code.now ∷ []) }
 {
     page.put(sink, b"STEP");
     put_code(page, sink, code);

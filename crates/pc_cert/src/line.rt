@@ -1,6 +1,6 @@
 //! A line of a certificate.
 ghost use Rattle.std.specs.Prelude.{◌≡◌, IfSome, Some};
-ghost use Rattle.pc_cert.specs.Lines.{spelling, Fits};
+ghost use Rattle.pc_cert.specs.Lines.{spelling, IsWritable};
 ghost use Rattle.pc_cert.specs.inside.Reading.{line_of};
 ghost use Rattle.pc_cert.specs.declared.line.CertLine.{CertLine};
 
@@ -56,8 +56,8 @@ impl CertLine {
     /// Reads a line from its bytes, without its end. Returns `None` if they are no line.
     pub fn read(bytes: &[u8]) -> Option<CertLine>
         ensures value { result ≡ line_of bytes.now }
-        ensures spelled { IfSome result (λ line. (bytes.now ≡ spelling line) × Fits line) }
-        ensures read { (line : CertLine) → Fits line → bytes.now ≡ spelling line → result ≡ Some line }
+        ensures spelled { IfSome result (λ line. (bytes.now ≡ spelling line) × IsWritable line) }
+        ensures read { (line : CertLine) → IsWritable line → bytes.now ≡ spelling line → result ≡ Some line }
     {
         line_of(bytes)
     }

@@ -4,7 +4,7 @@ ghost use Rattle.pc_edges.specs.inside.page.Puts.{Puts};
 ghost use Rattle.pc_text.specs.Fields.{IsCode, spaced};
 ghost use Rattle.pc_model.specs.Codes.{code_at};
 ghost use Rattle.pc_cert.specs.Lines.{numbers};
-ghost use Rattle.pc_cert.specs.Text.{text_of, AllFit};
+ghost use Rattle.pc_cert.specs.Text.{text_of, AreWritable};
 ghost use Rattle.pc_cert.specs.Listed.{listed};
 ghost use Rattle.pc_cert.specs.Document.{ends_line, event_line, act_line, flows_along, segment_lines};
 ghost use Rattle.pc_cert.specs.inside.Document.{HasSmallNumbers};
@@ -27,7 +27,8 @@ pub fn put_segment<O: Sink, V: SegmentView>(
     requires net { V.net view.now ≡ net.now }
     ensures text { Puts O.taken O.faults page.old sink.old page.new sink.new
         (text_of (segment_lines net.now (V.segment view.now))) }
-    ensures fit { HasSmallNumbers net.now (V.segment view.now) → AllFit (segment_lines net.now (V.segment view.now)) }
+    ensures fit { HasSmallNumbers net.now (V.segment view.now)
+        → AreWritable (segment_lines net.now (V.segment view.now)) }
 {
     // For the fact that an activity has at most as many pieces as its line has places for flows.
     let _net = net.net();

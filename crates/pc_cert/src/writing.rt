@@ -1,7 +1,7 @@
 //! The parts of a certificate, written to a sink.
 ghost use Rattle.std.specs.Prelude.{◌≡◌, ◌<◌, All, length};
 ghost use Rattle.pc_edges.specs.inside.Writes.{Writes};
-ghost use Rattle.pc_cert.specs.Text.{text_of, AllFit};
+ghost use Rattle.pc_cert.specs.Text.{text_of, AreWritable};
 ghost use Rattle.pc_cert.specs.Document.{head_lines, segment_lines, end_lines};
 ghost use Rattle.pc_cert.specs.inside.Document.{HasSmallNumbers};
 
@@ -31,7 +31,7 @@ pub fn write_head<O: Sink>(
     requires crash { All (λ a. a < length net.now.network.arcs) crash.now }
     ensures text { Writes result (O.taken sink.old) (O.taken sink.new) (O.faults sink.old) (O.faults sink.new)
         (text_of (head_lines net.now normal.now crash.now)) }
-    ensures fit { AllFit (head_lines net.now normal.now crash.now) }
+    ensures fit { AreWritable (head_lines net.now normal.now crash.now) }
 {
     let mut page = Page::without_buffer();
     put_head(&mut page, sink, net, normal, crash);
@@ -57,7 +57,7 @@ pub fn write_segment<O: Sink, V: SegmentView>(
     ensures text { Writes result (O.taken sink.old) (O.taken sink.new) (O.faults sink.old) (O.faults sink.new)
         (text_of (segment_lines net.now (V.segment segment.now))) }
     ensures fit { HasSmallNumbers net.now (V.segment segment.now)
-        → AllFit (segment_lines net.now (V.segment segment.now)) }
+        → AreWritable (segment_lines net.now (V.segment segment.now)) }
 {
     let mut page = Page::without_buffer();
     put_segment(&mut page, sink, net, segment);

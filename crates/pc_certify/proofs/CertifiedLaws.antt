@@ -9,7 +9,7 @@ use Rattle.pc_model.specs.declared.Arc.{Arc}
 use Rattle.pc_model.specs.Walk.{to_of, IsWalk}
 use Rattle.pc_laws.specs.Segment.{Segment}
 use Rattle.pc_laws.specs.Cover.{Joins, segment_at}
-use Rattle.pc_cert.specs.Text.{text_of, AllFit}
+use Rattle.pc_cert.specs.Text.{text_of, AreWritable}
 use Rattle.pc_cert.proofs.TextLaws.{text_of-append, AllFit-append}
 use Rattle.pc_crash.specs.Priced.{PricedNetwork}
 use Rattle.pc_crash.specs.inside.Priced.{AreNames}
@@ -59,7 +59,7 @@ module _ (net : PricedNetwork) (sized : IsSized net) (names : AreNames (length n
   pub curve : AreCurve net (segments_of net (document_lines net normal crash segments))
   curve = curve_of net (document_lines net normal crash segments) sized.priced names.one_each certified
 
-  pub text_certified : AllFit (document_lines net normal crash segments) → IsCertified net (text_of (document_lines net normal crash segments)) (length segments)
+  pub text_certified : AreWritable (document_lines net normal crash segments) → IsCertified net (text_of (document_lines net normal crash segments)) (length segments)
   text_certified fit = record {
     lines = document_lines net normal crash segments;
     whole = record { led = record { fit = fit; order = certified.whole }; whole = refl };
@@ -89,21 +89,21 @@ text_ends net normal crash segments =
     let body = flat_map (segment_lines net) segments in
     sym (text_of-append (head ++ body) end_lines) ∙ ap text_of (append_assoc head body end_lines)
 
-fit_all : (net : PricedNetwork) (segments : List Segment) → ByRecursion (λ seg. AllFit (segment_lines net seg)) segments → AllFit (flat_map (segment_lines net) segments ++ end_lines)
+fit_all : (net : PricedNetwork) (segments : List Segment) → ByRecursion (λ seg. AreWritable (segment_lines net seg)) segments → AreWritable (flat_map (segment_lines net) segments ++ end_lines)
 fit_all net [] fit = (tt, tt)
 fit_all net (seg ∷ rest) (fit, others) =
-    subst (λ lines. AllFit lines) (sym (append_assoc (segment_lines net seg) (flat_map (segment_lines net) rest) end_lines))
+    subst (λ lines. AreWritable lines) (sym (append_assoc (segment_lines net seg) (flat_map (segment_lines net) rest) end_lines))
     (AllFit-append (segment_lines net seg) (flat_map (segment_lines net) rest ++ end_lines) fit (fit_all net rest others))
 
-pub document_fits : (net : PricedNetwork) (normal crash : List ℕ) (segments : List Segment) → AllFit (head_lines net normal crash) →
-    All (λ seg. AllFit (segment_lines net seg)) segments → AllFit (document_lines net normal crash segments)
+pub document_fits : (net : PricedNetwork) (normal crash : List ℕ) (segments : List Segment) → AreWritable (head_lines net normal crash) →
+    All (λ seg. AreWritable (segment_lines net seg)) segments → AreWritable (document_lines net normal crash segments)
 document_fits net normal crash segments head fit =
     AllFit-append (head_lines net normal crash) (flat_map (segment_lines net) segments ++ end_lines) head
-    (fit_all net segments (recursion_from_All (λ seg. AllFit (segment_lines net seg)) segments fit))
+    (fit_all net segments (recursion_from_All (λ seg. AreWritable (segment_lines net seg)) segments fit))
 
 -- where each segment's lines can be spelled if its numbers are small, and they are
-pub fit_where_small : (net : PricedNetwork) (segments : List Segment) → All (λ seg. HasSmallNumbers net seg → AllFit (segment_lines net seg)) segments → All (HasSmallNumbers net) segments
-    → All (λ seg. AllFit (segment_lines net seg)) segments
+pub fit_where_small : (net : PricedNetwork) (segments : List Segment) → All (λ seg. HasSmallNumbers net seg → AreWritable (segment_lines net seg)) segments → All (HasSmallNumbers net) segments
+    → All (λ seg. AreWritable (segment_lines net seg)) segments
 fit_where_small net segments fit small = λ k d lt. fit k d lt (small k d lt)
 
 walk_known_each : (arcs : List Arc) (e f : ℕ) (walk : List ℕ) → IsWalk arcs e walk f → ByRecursion (λ a. a < length arcs) walk

@@ -5,8 +5,8 @@ use Rattle.pc_cert.specs.declared.place.Place.{Place}
 use Rattle.pc_cert.specs.declared.place.Place.TheVariants.{Start, Ended}
 use Rattle.pc_text.specs.Fields.{◌>>=◌, Lacks}
 use Rattle.pc_cert.specs.Grammar.{next}
-use Rattle.pc_cert.specs.Lines.{spelling, Fits}
-use Rattle.pc_cert.specs.Text.{text_of, AllFit, ran}
+use Rattle.pc_cert.specs.Lines.{spelling, IsWritable}
+use Rattle.pc_cert.specs.Text.{text_of, AreWritable, ran}
 use Rattle.pc_text.proofs.FieldLemmas.{bind_some}
 use Rattle.pc_cert.proofs.LineLengths.{spelling_lacks_end, length-spelling}
 use Rattle.pc_cert.proofs.TextLaws.{spelling_once, split_once, ran-append, text_once}
@@ -26,7 +26,7 @@ use Rattle.pc_check.specs.Texts.{IsCertified, IsFailing, fails, malformed, missi
 record HasFront (xs ys : List CertLine) (rest : List ℕ) : Type 0 where
   more : List CertLine
   lines : ys ≡ xs ++ more
-  fit : AllFit more
+  fit : AreWritable more
   text : rest ≡ text_of more
 
 no_line : (line : CertLine) (more rest : List ℕ) → (spelling line ++ 10 ∷ more) ++ rest ≡ [] → ⊥
@@ -34,7 +34,7 @@ no_line line more rest same =
     let long = ap (λ (bytes : List ℕ). length bytes) same in
     omega (arith, long, length-append (spelling line ++ 10 ∷ more) rest, length-append (spelling line) (10 ∷ more))
 
-has_front : (xs ys : List CertLine) (rest : List ℕ) → AllFit xs → AllFit ys → text_of xs ++ rest ≡ text_of ys → HasFront xs ys rest
+has_front : (xs ys : List CertLine) (rest : List ℕ) → AreWritable xs → AreWritable ys → text_of xs ++ rest ≡ text_of ys → HasFront xs ys rest
 has_front [] ys rest p q same = record { more = ys; lines = refl; fit = q; text = same }
 has_front (x ∷ xs) [] rest p q same = absurd (no_line x (text_of xs) rest same)
 has_front (x ∷ xs) (y ∷ ys) rest p q same =
@@ -79,7 +79,7 @@ nothing_stops bad more place (inr (long, lacks)) same =
 
 -- a line that may stand in its place does not stop a reader
 line_goes_on : (bad more : List ℕ) (place behind : Place) (line : CertLine) (rest : List ℕ) → IsBadLine place bad ⊎ IsTooLong bad →
-    Fits line → next place line ≡ Some behind → bad ++ more ≡ spelling line ++ 10 ∷ rest → ⊥
+    IsWritable line → next place line ≡ Some behind → bad ++ more ≡ spelling line ++ 10 ∷ rest → ⊥
 line_goes_on bad more place behind line rest (inl (word, lacks, is, refused)) fits goes same =
     let whole : word ++ 10 ∷ more ≡ spelling line ++ 10 ∷ rest = sym (append_assoc word (10 ∷ []) more) ∙ ap (λ b. b ++ more) (sym is) ∙ same in
     let parts = split_once 10 word (spelling line) more rest lacks (spelling_lacks_end line fits) whole in
@@ -88,7 +88,7 @@ line_goes_on bad more place behind line rest (inr (long, lacks)) fits goes same 
     let short = no_longer bad more (spelling line) rest lacks same in
     omega (arith, long, short, length-spelling line fits)
 
-stops_nowhere : (bad more : List ℕ) (place : Place) (lines : List CertLine) → IsBadLine place bad ⊎ IsTooLong bad → AllFit lines → ran place lines ≡ Some Ended → bad ++ more ≡ text_of lines → ⊥
+stops_nowhere : (bad more : List ℕ) (place : Place) (lines : List CertLine) → IsBadLine place bad ⊎ IsTooLong bad → AreWritable lines → ran place lines ≡ Some Ended → bad ++ more ≡ text_of lines → ⊥
 stops_nowhere bad more place [] why fit goes same = nothing_stops bad more place why same
 stops_nowhere bad more place (line ∷ lines) why fit goes same =
     let step = bind_some (next place line) (λ p. ran p lines) Ended goes in

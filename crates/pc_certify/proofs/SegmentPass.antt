@@ -24,7 +24,7 @@ use Rattle.pc_certify.proofs.CloseLaws.{ends}
 
 -- what is said among the segments: the two walks, the parts that are whole, and the last one that has begun
 abbrev pub in_body : List (List ℕ) → List (List ℕ) → List Part → Part → Draft
-in_body normal crash parts part = record { normal = normal; crash = crash; has_normal = true; parts = parts; part = part }
+in_body normal crash parts part = record { normal = normal; crash = crash; crash_walk_started = true; parts = parts; part = part }
 
 -- the part of a segment of which so many events have come, and no activity
 abbrev pub events_part : PricedNetwork → Segment → ℕ → Part

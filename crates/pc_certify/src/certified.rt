@@ -1,7 +1,7 @@
 //! Laws: what is written is certified.
 ghost use Rattle.std.specs.Prelude.{◌≡◌, ℕ, List, length, All};
 ghost use Rattle.pc_laws.specs.Segment.{Segment};
-ghost use Rattle.pc_cert.specs.Text.{text_of, AllFit};
+ghost use Rattle.pc_cert.specs.Text.{text_of, AreWritable};
 ghost use Rattle.pc_crash.specs.Priced.{PricedNetwork};
 ghost use Rattle.pc_check.specs.Certified.{segments_of};
 ghost use Rattle.pc_check.specs.inside.Certified.{AreCertified, AreCurve};
@@ -25,7 +25,7 @@ pub fn written_is_certified(net: &CrashNet<'_>)
     ensures certified { (normal crash : List ℕ) (segments : List Segment) → IsComplete net.now normal crash segments →
         AreCertified net.now (document_lines net.now normal crash segments) }
     ensures text { (normal crash : List ℕ) (segments : List Segment) → IsComplete net.now normal crash segments →
-        AllFit (document_lines net.now normal crash segments) →
+        AreWritable (document_lines net.now normal crash segments) →
         IsCertified net.now (text_of (document_lines net.now normal crash segments)) (length segments) }
     ensures same { (normal crash : List ℕ) (segments : List Segment) → IsComplete net.now normal crash segments →
         AllSaySame net.now segments (segments_of net.now (document_lines net.now normal crash segments)) }

@@ -2,7 +2,7 @@
 ghost use Rattle.std.specs.Prelude.{◌≡◌, ℕ, ◌<◌, [], ◌∷◌, length};
 ghost use Rattle.pc_edges.specs.inside.page.Puts.{Puts, desk};
 ghost use Rattle.pc_text.specs.Fields.{IsCode};
-ghost use Rattle.pc_cert.specs.Text.{text_of, AllFit};
+ghost use Rattle.pc_cert.specs.Text.{text_of, AreWritable};
 ghost use Rattle.pc_model.specs.Codes.{code_at};
 ghost use Rattle.pc_cert.specs.Listed.{listed};
 ghost use Rattle.pc_cert.specs.Document.{event_line, act_line, flows_along, segment_lines};
@@ -32,7 +32,8 @@ pub fn put_segment_by<O: Sink, V: SegmentView>(
     requires acts { AreActsSpelled net.now lines.old.acts.items }
     ensures text { Puts O.taken O.faults page.old sink.old page.new sink.new
         (text_of (segment_lines net.now (V.segment view.now))) }
-    ensures fit { HasSmallNumbers net.now (V.segment view.now) → AllFit (segment_lines net.now (V.segment view.now)) }
+    ensures fit { HasSmallNumbers net.now (V.segment view.now)
+        → AreWritable (segment_lines net.now (V.segment view.now)) }
     ensures events { AreEventsSpelled net.now lines.new.events.items }
     ensures acts { AreActsSpelled net.now lines.new.acts.items }
 {

@@ -2,7 +2,7 @@
 ghost use Rattle.std.specs.Prelude.{◌≡◌, ℕ, List, [], ◌∷◌, ◌++◌, All};
 ghost use Rattle.pc_laws.specs.Segment.{Segment};
 ghost use Rattle.pc_cert.specs.declared.line.CertLine.{CertLine};
-ghost use Rattle.pc_cert.specs.Text.{text_of, AllFit};
+ghost use Rattle.pc_cert.specs.Text.{text_of, AreWritable};
 ghost use Rattle.pc_crash.specs.Priced.{PricedNetwork};
 ghost use Rattle.pc_cert.specs.Document.{head_lines, segment_lines, end_lines, document_lines};
 ghost use Rattle.pc_certify.specs.Complete.{begun_lines};
@@ -24,10 +24,10 @@ pub fn written_is_one_text()
 /// their text: reading gives the same lines back.
 pub fn written_fits()
     ensures fit { (net : PricedNetwork) (normal crash : List ℕ) (segments : List Segment) →
-        AllFit (head_lines net normal crash) → All (λ segment. AllFit (segment_lines net segment)) segments →
-        AllFit (document_lines net normal crash segments) }
+        AreWritable (head_lines net normal crash) → All (λ segment. AreWritable (segment_lines net segment)) segments →
+        AreWritable (document_lines net normal crash segments) }
     ensures once { (net : PricedNetwork) (normal crash : List ℕ) (segments : List Segment) (lines : List CertLine) →
-        AllFit (document_lines net normal crash segments) → AllFit lines →
+        AreWritable (document_lines net normal crash segments) → AreWritable lines →
         text_of lines ≡ text_of (document_lines net normal crash segments) →
         lines ≡ document_lines net normal crash segments }
 {

@@ -144,14 +144,14 @@ moved n m kept to count Ended h = h
 
 -- a walk has gone one step on, before any segment: its sum is at most one duration more, and that of the other walk is not more
 record HasStepped (is_crash : Bool) (old new : Kept) : Type 0 where
-  normal : new.has_normal ≡ is_crash
+  normal : new.crash_walk_started ≡ is_crash
   none : new.parts ≡ 0
   short_normal : sum_of new.normal ≤ sum_of old.normal + cond is_crash 0 MAX_DURATION
   short_crash : sum_of new.crash ≤ sum_of old.crash + cond is_crash MAX_DURATION 0
 
-has_stepped : (is_crash : Bool) (net : PricedNetwork) (code : List ℕ) (old new : Kept) → Adds net (Step code) old new → old.has_normal ≡ is_crash → old.parts ≡ 0 → HasStepped is_crash old new
+has_stepped : (is_crash : Bool) (net : PricedNetwork) (code : List ℕ) (old new : Kept) → Adds net (Step code) old new → old.crash_walk_started ≡ is_crash → old.parts ≡ 0 → HasStepped is_crash old new
 has_stepped is_crash net code old new added is none = record {
-  normal = ap (λ k. k.has_normal) added.rest ∙ is;
+  normal = ap (λ k. k.crash_walk_started) added.rest ∙ is;
   none = ap (λ k. k.parts) added.rest ∙ none;
   short_normal = subst (λ b. sum_of new.normal ≤ sum_of old.normal + cond b 0 MAX_DURATION) is added.short_normal;
   short_crash = subst (λ b. sum_of new.crash ≤ sum_of old.crash + cond b MAX_DURATION 0) is added.short_crash;

@@ -191,10 +191,10 @@ good_line net Start (Head version project events activities) behind draft known 
     carry net draft (record { events = is.0; activities = is.1 }, h) goes
 good_line net (AfterHead shape) Normal behind draft known h goes passes = carry net draft h goes
 good_line net (NormalWalk shape steps) (Step code) behind draft known h goes passes =
-    carry net (with_step draft code draft.has_normal) (h.0, parts_step draft code draft.has_normal ∙ h.1) (ap Some ((cond_some _ _ _ goes).1))
-good_line net (NormalWalk shape steps) Crash behind draft known h goes passes = carry net (record draft { has_normal = true }) h goes
+    carry net (with_step draft code draft.crash_walk_started) (h.0, parts_step draft code draft.crash_walk_started ∙ h.1) (ap Some ((cond_some _ _ _ goes).1))
+good_line net (NormalWalk shape steps) Crash behind draft known h goes passes = carry net (record draft { crash_walk_started = true }) h goes
 good_line net (CrashWalk shape steps) (Step code) behind draft known h goes passes =
-    carry net (with_step draft code draft.has_normal) (h.0, parts_step draft code draft.has_normal ∙ h.1) (ap Some ((cond_some _ _ _ goes).1))
+    carry net (with_step draft code draft.crash_walk_started) (h.0, parts_step draft code draft.crash_walk_started ∙ h.1) (ap Some ((cond_some _ _ _ goes).1))
 good_line net (CrashWalk shape steps) (SegmentLine upper lower cost slope) behind draft known h goes passes =
     let none : length draft.parts ≡ 0 = ap length (h.1) in
     let walk = normal_walk net draft.normal upper known.named (first_walk net (said net draft) upper lower cost slope none passes) in

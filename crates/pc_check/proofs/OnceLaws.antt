@@ -4,7 +4,7 @@ use Rattle.pc_cert.specs.declared.line.CertLine.{CertLine}
 use Rattle.pc_cert.specs.declared.place.Place.{Place}
 use Rattle.pc_cert.specs.declared.place.Place.TheVariants.{Start}
 use Rattle.pc_cert.specs.Lines.{spelling}
-use Rattle.pc_cert.specs.Text.{text_of, AllFit, ran, LeadTo}
+use Rattle.pc_cert.specs.Text.{text_of, AreWritable, ran, LeadTo}
 use Rattle.pc_cert.proofs.LineLengths.{spelling_lacks_end}
 use Rattle.pc_cert.proofs.TextLaws.{spelling_once, split_once, lacks_no_stop}
 use Rattle.pc_cert.specs.Reader.{IsStopped, IsMissing}
@@ -22,7 +22,7 @@ record Goes (lines front : List CertLine) (rest behind : List ℕ) : Type 0 wher
   pub more : List CertLine
   pub lines_are : lines ≡ front ++ more
   pub behind_is : behind ≡ text_of more ++ rest
-  pub fit : AllFit more
+  pub fit : AreWritable more
 
 put_before : {x y : CertLine} {xs ys : List CertLine} {a b : List ℕ} → x ≡ y → Goes xs ys a b → Goes (x ∷ xs) (y ∷ ys) a b
 put_before {x} {y} {xs} {ys} line on = record {
@@ -33,7 +33,7 @@ put_before {x} {y} {xs} {ys} line on = record {
 }
 
 -- of two lists of lines at the beginning of one text one goes on behind the other
-either : (xs ys : List CertLine) (a b : List ℕ) → AllFit xs → AllFit ys → text_of xs ++ a ≡ text_of ys ++ b → Goes xs ys a b ⊎ Goes ys xs b a
+either : (xs ys : List CertLine) (a b : List ℕ) → AreWritable xs → AreWritable ys → text_of xs ++ a ≡ text_of ys ++ b → Goes xs ys a b ⊎ Goes ys xs b a
 either xs [] a b p q same = inl (record { more = xs; lines_are = refl; behind_is = sym same; fit = p })
 either [] (y ∷ ys) a b p q same = inr (record { more = y ∷ ys; lines_are = refl; behind_is = same; fit = q })
 either (x ∷ xs) (y ∷ ys) a b p q same =
@@ -53,14 +53,14 @@ record IsBroken (net : PricedNetwork) (text : List ℕ) (fail : Fail) : Type 0 w
   pub lines : List CertLine
   pub rest : List ℕ
   pub place : Place
-  pub fit : AllFit lines
+  pub fit : AreWritable lines
   pub led : ran Start lines ≡ Some place
   pub none : failure_of net lines ≡ None
   pub whole : text ≡ text_of lines ++ rest
   pub line : fail.line ≡ length lines + 1
   pub zero_reason : fail.reason ≡ 0
   pub stops : (others : List CertLine) (line : CertLine) (more : List CertLine) (behind : List ℕ) (place : Place) →
-      others ≡ lines ++ line ∷ more → ran Start others ≡ Some place → AllFit (line ∷ more) → rest ≡ text_of (line ∷ more) ++ behind → ⊥
+      others ≡ lines ++ line ∷ more → ran Start others ≡ Some place → AreWritable (line ∷ more) → rest ≡ text_of (line ∷ more) ++ behind → ⊥
 
 broken_malformed : (net : PricedNetwork) (text : List ℕ) (fail : Fail) (lines : List CertLine) → failure_of net lines ≡ None →
     IsStopped (record { line = fail.line }) lines text → fail.reason ≡ 0 → IsBroken net text fail
@@ -109,7 +109,7 @@ same_point : (x y : Fail) → x.line ≡ y.line → x.reason ≡ y.reason → x 
 same_point x y e f = ap (λ line. point line x.reason) e ∙ ap (point y.line) f
 
 module _ (net : PricedNetwork) (text : List ℕ) where
-  same_lines : (f g : Fail) (a : IsBroken net text f) (b : IsBroken net text g) (more : List CertLine) → a.lines ≡ b.lines ++ more → b.rest ≡ text_of more ++ a.rest → AllFit more → f ≡ g
+  same_lines : (f g : Fail) (a : IsBroken net text f) (b : IsBroken net text g) (more : List CertLine) → a.lines ≡ b.lines ++ more → b.rest ≡ text_of more ++ a.rest → AreWritable more → f ≡ g
   same_lines f g a b [] lines_are behind_is fit =
       same_point f g (a.line ∙ ap (λ ls. length ls + 1) (lines_are ∙ append-nil b.lines) ∙ sym b.line) (a.zero_reason ∙ sym b.zero_reason)
   same_lines f g a b (line ∷ more) lines_are behind_is fit = absurd (b.stops a.lines line more a.rest a.place lines_are a.led fit behind_is)
@@ -123,7 +123,7 @@ module _ (net : PricedNetwork) (text : List ℕ) where
       ]
 
   line_stands : (g : Fail) (b : IsBroken net text g) (f : Fail) (place : Place) (lines more : List CertLine) (rest : List ℕ) →
-      LeadTo place lines → failure_of net lines ≡ Some f → lines ≡ b.lines ++ more → b.rest ≡ text_of more ++ rest → AllFit more → ⊥
+      LeadTo place lines → failure_of net lines ≡ Some f → lines ≡ b.lines ++ more → b.rest ≡ text_of more ++ rest → AreWritable more → ⊥
   line_stands g b f place lines [] rest led failing lines_are behind_is fit = contrary f (sym b.none ∙ ap (failure_of net) (sym (lines_are ∙ append-nil b.lines)) ∙ failing)
   line_stands g b f place lines (line ∷ more) rest led failing lines_are behind_is fit = b.stops lines line more rest place lines_are led.order fit behind_is
 
@@ -137,7 +137,7 @@ module _ (net : PricedNetwork) (text : List ℕ) where
       ]
 
   -- lines that fail do so once
-  fails_once : (f g : Fail) (xs ys : List CertLine) (a b : List ℕ) → AllFit xs → AllFit ys → text ≡ text_of xs ++ a →
+  fails_once : (f g : Fail) (xs ys : List CertLine) (a b : List ℕ) → AreWritable xs → AreWritable ys → text ≡ text_of xs ++ a →
       text ≡ text_of ys ++ b → failure_of net xs ≡ Some f → failure_of net ys ≡ Some g → f ≡ g
   fails_once f g xs ys a b p q text_is also f_fails g_fails =
       elim (either xs ys a b p q (sym text_is ∙ also)) [

@@ -16,7 +16,7 @@ use Rattle.pc_check.specs.inside.Bounds.{IsShaped}
 use Rattle.pc_check.specs.Draft.{Part, Draft, empty_draft, with_line}
 use Rattle.pc_check.specs.Failures.{reason_at, failure_after, failure_of}
 use Rattle.pc_check.specs.Said.{said}
-use Rattle.pc_check.specs.OwnLines.{lines_before, first_upper, most_segment_lines, AreFew}
+use Rattle.pc_check.specs.OwnLines.{lines_before, first_upper_in_lines, most_segment_lines, AreFew}
 use Rattle.pc_check.proofs.BelowLaws.{and_parts}
 use Rattle.pc_check.proofs.BoundLaws.{head_passes, first_ends, later_ends}
 use Rattle.pc_check.proofs.GoodLines.{none_parts, parts_step}
@@ -131,14 +131,14 @@ IsBefore n m other draft = ⊥
 -- lines from a place on are few
 record AreFewFrom (n m : ℕ) (place : Place) (lines : List CertLine) : Type 0 where
   head : lines_before lines ≤ before_left n place
-  all : length lines ≤ lines_before lines + (most_segment_lines n m (first_upper lines) + 1)
+  all : length lines ≤ lines_before lines + (most_segment_lines n m (first_upper_in_lines lines) + 1)
 
 -- one line of the header or of a walk
 record Comes (n m : ℕ) (place behind : Place) (line : CertLine) (new : Draft) : Type 0 where
   at : IsBefore n m behind new
   fewer : before_left n behind < before_left n place
   counts : (lines : List CertLine) → lines_before (line ∷ lines) ≡ suc (lines_before lines)
-  same : (lines : List CertLine) → first_upper (line ∷ lines) ≡ first_upper lines
+  same : (lines : List CertLine) → first_upper_in_lines (line ∷ lines) ≡ first_upper_in_lines lines
 
 arrives : (n m : ℕ) {place reached behind : Place} {line : CertLine} {new : Draft} → Comes n m place reached line new → Some reached ≡ Some behind → Comes n m place behind line new
 arrives n m {place} {reached} {behind} {line} {new} h same = let is : reached ≡ behind = cc in subst (λ p. Comes n m place p line new) is h
@@ -156,7 +156,7 @@ record Begins (n m : ℕ) (behind : Place) (line : CertLine) (new : Draft) : Typ
   lower : ℕ
   ordered : lower ≤ upper
   none : (lines : List CertLine) → lines_before (line ∷ lines) ≡ 0
-  first : (lines : List CertLine) → first_upper (line ∷ lines) ≡ upper
+  first : (lines : List CertLine) → first_upper_in_lines (line ∷ lines) ≡ upper
   at : IsBehind n m behind new
   left : lines_behind (n + m + 2) behind new.part ≡ n + (m + (1 + (segments_behind upper lower * (n + m + 2) + 1)))
 
@@ -190,7 +190,7 @@ comes net (NormalWalk shape steps) (Step code) behind draft h goes passes =
     let step = cond_some _ _ _ goes in
     let some : 0 < steps = ltb-true 0 steps (step.0) in
     inl (arrives net.network.events (length net.network.arcs) (record {
-      at = (h.0, parts_step draft code draft.has_normal ∙ h.1);
+      at = (h.0, parts_step draft code draft.crash_walk_started ∙ h.1);
       fewer = omega (arith, some);
       counts = λ lines. refl;
       same = λ lines. refl;
@@ -201,7 +201,7 @@ comes net (CrashWalk shape steps) (Step code) behind draft h goes passes =
     let step = cond_some _ _ _ goes in
     let some : 0 < steps = ltb-true 0 steps (step.0) in
     inl (arrives net.network.events (length net.network.arcs) (record {
-      at = (h.0, parts_step draft code draft.has_normal ∙ h.1);
+      at = (h.0, parts_step draft code draft.crash_walk_started ∙ h.1);
       fewer = omega (arith, some);
       counts = λ lines. refl;
       same = λ lines. refl;

@@ -7,23 +7,23 @@ use Rattle.pc_edges.proofs.PullLaws.{TakesPulls-then, TakesPulls-none, TakesPull
 use Rattle.pc_cert.specs.declared.line.CertLine.{CertLine}
 use Rattle.pc_cert.specs.declared.place.Place.TheVariants.{Start}
 use Rattle.pc_cert.specs.Lines.{spelling}
-use Rattle.pc_cert.specs.Text.{text_of, AllFit}
+use Rattle.pc_cert.specs.Text.{text_of, AreWritable}
 use Rattle.pc_cert.proofs.LineLengths.{length-spelling}
 use Rattle.pc_crash.specs.Priced.{PricedNetwork}
 use Rattle.pc_check.specs.declared.fail.Verdict.{Verdict}
 use Rattle.pc_check.specs.declared.source.AuditError.{AuditError}
 use Rattle.pc_check.specs.Stops.{HasNoFailure, IsSettled, IsUnsettled}
-use Rattle.pc_check.specs.OwnLines.{first_upper, bytes_below, KeepsToOwnLines}
+use Rattle.pc_check.specs.OwnLines.{first_upper_in_lines, bytes_below, KeepsToOwnLines}
 use Rattle.pc_check.proofs.OwnLineLaws.{are_few}
 
 -- no line is longer than the longest
-length-text_of : (lines : List CertLine) → AllFit lines → length (text_of lines) ≤ length lines * 192
+length-text_of : (lines : List CertLine) → AreWritable lines → length (text_of lines) ≤ length lines * 192
 length-text_of [] fit = omega arith
 length-text_of (line ∷ lines) fit =
     omega (arith, length-append (spelling line) (10 ∷ text_of lines), length-spelling line (fit.0), length-text_of lines (fit.1))
 
 -- bytes in which no line fails are few
-few_bytes : (net : PricedNetwork) (bytes : List ℕ) (h : HasNoFailure net bytes) → length bytes + 1 ≤ bytes_below net (first_upper h.lines)
+few_bytes : (net : PricedNetwork) (bytes : List ℕ) (h : HasNoFailure net bytes) → length bytes + 1 ≤ bytes_below net (first_upper_in_lines h.lines)
 few_bytes net bytes h =
     let few = are_few net h.place h.lines h.led.order h.none in
     omega (arith, ap length h.whole, length-append (text_of h.lines) h.rest, length-text_of h.lines h.led.fit, h.short, few.head, few.all)
@@ -41,7 +41,7 @@ keeps net (Some text) (Some behind) pulls pulls_after bytes taken h turns = reco
   led = h.led;
   none = h.none;
   whole = taken ∙ ap (λ t. t ++ behind) h.whole ∙ append_assoc (text_of h.lines) h.rest behind;
-  turns = TakesPulls-more (length bytes + 1) (bytes_below net (first_upper h.lines)) pulls pulls_after (few_bytes net bytes h) turns;
+  turns = TakesPulls-more (length bytes + 1) (bytes_below net (first_upper_in_lines h.lines)) pulls pulls_after (few_bytes net bytes h) turns;
 }
 
 -- a source that was audited

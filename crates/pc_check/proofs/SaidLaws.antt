@@ -92,7 +92,7 @@ known_is_said net draft kept inflow outflow spent inflow_is outflow_is spent_is 
     λ i. record {
       normal = k.normal i;
       crash = k.crash i;
-      has_normal = k.has_normal i;
+      crash_walk_started = k.crash_walk_started i;
       parts = k.parts i;
       upper = k.tally.upper i;
       lower = k.tally.lower i;
@@ -152,7 +152,7 @@ walked-append net lengths at [] code = refl
 walked-append net lengths at (c ∷ codes) code = walked-append net lengths (stepped net lengths at c) codes code
 
 -- a step
-kept_step : (net : PricedNetwork) (draft : Draft) (code : List ℕ) (is_crash : Bool) (old new : Kept) → is_crash ≡ old.has_normal →
+kept_step : (net : PricedNetwork) (draft : Draft) (code : List ℕ) (is_crash : Bool) (old new : Kept) → is_crash ≡ old.crash_walk_started →
     IsKept net draft old → AddsStep net code old new → IsKept net (with_step draft code is_crash) new
 kept_step net draft code false old new is k added =
     let rest = added.rest in
@@ -161,7 +161,7 @@ kept_step net draft code false old new is k added =
           ∙ ap (λ at. stepped net (length_in net false) at code) k.normal
           ∙ sym (walked-append net (length_in net false) (at_start net.network) draft.normal code);
       crash = added.crash ∙ ap (λ b. cond b (stepped net (length_in net true) old.crash code) old.crash) (sym is) ∙ k.crash;
-      has_normal = ap (λ k. k.has_normal) rest ∙ k.has_normal;
+      crash_walk_started = ap (λ k. k.crash_walk_started) rest ∙ k.crash_walk_started;
       parts = ap (λ k. k.parts) rest ∙ k.parts;
       tally = subst (λ t. IsTallied net draft.part t) (ap (λ k. k.tally) (sym rest)) k.tally;
     }
@@ -172,7 +172,7 @@ kept_step net draft code true old new is k added =
       crash = added.crash ∙ ap (λ b. cond b (stepped net (length_in net true) old.crash code) old.crash) (sym is)
           ∙ ap (λ at. stepped net (length_in net true) at code) k.crash
           ∙ sym (walked-append net (length_in net true) (at_start net.network) draft.crash code);
-      has_normal = ap (λ k. k.has_normal) rest ∙ k.has_normal;
+      crash_walk_started = ap (λ k. k.crash_walk_started) rest ∙ k.crash_walk_started;
       parts = ap (λ k. k.parts) rest ∙ k.parts;
       tally = subst (λ t. IsTallied net draft.part t) (ap (λ k. k.tally) (sym rest)) k.tally;
     }
@@ -332,7 +332,7 @@ in_part : (net : PricedNetwork) (draft : Draft) (part : Part) (old new : Kept) �
 in_part net draft part old new rest k tally = record {
   normal = ap (λ k. k.normal) rest ∙ k.normal;
   crash = ap (λ k. k.crash) rest ∙ k.crash;
-  has_normal = ap (λ k. k.has_normal) rest ∙ k.has_normal;
+  crash_walk_started = ap (λ k. k.crash_walk_started) rest ∙ k.crash_walk_started;
   parts = ap (λ k. k.parts) rest ∙ k.parts;
   tally = tally;
 }
@@ -346,11 +346,11 @@ IsReady net other draft = Unit {0}
 pub kept_more : (net : PricedNetwork) (draft : Draft) (line : CertLine) (old new : Kept) → IsReady net line draft → IsKept net draft old → Adds net line old new → IsKept net (with_line draft line) new
 kept_more net draft (Head version project events activities) old new ready k added = kept_same net draft old new added k
 kept_more net draft Normal old new ready k added = kept_same net draft old new added k
-kept_more net draft (Step code) old new ready k added = kept_step net draft code draft.has_normal old new (sym k.has_normal) k added
+kept_more net draft (Step code) old new ready k added = kept_step net draft code draft.crash_walk_started old new (sym k.crash_walk_started) k added
 kept_more net draft Crash old new ready k added = record {
   normal = ap (λ k. k.normal) added ∙ k.normal;
   crash = ap (λ k. k.crash) added ∙ k.crash;
-  has_normal = ap (λ k. k.has_normal) added;
+  crash_walk_started = ap (λ k. k.crash_walk_started) added;
   parts = ap (λ k. k.parts) added ∙ k.parts;
   tally = subst (λ t. IsTallied net draft.part t) (ap (λ k. k.tally) (sym added)) k.tally;
 }
@@ -366,7 +366,7 @@ kept_more net draft (Act code duration flows) old new ready k added =
 kept_more net draft Close old new ready k added = record {
   normal = ap (λ k. k.normal) added ∙ k.normal;
   crash = ap (λ k. k.crash) added ∙ k.crash;
-  has_normal = ap (λ k. k.has_normal) added ∙ k.has_normal;
+  crash_walk_started = ap (λ k. k.crash_walk_started) added ∙ k.crash_walk_started;
   parts = ap (λ k. k.parts) added ∙ ap (λ n. n + 1) k.parts ∙ sym (length-append draft.parts (draft.part ∷ []));
   tally = subst (λ t. IsTallied net draft.part t) (ap (λ k. k.tally) (sym added)) k.tally;
 }

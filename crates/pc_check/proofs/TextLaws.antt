@@ -5,8 +5,8 @@ use Rattle.pc_cert.specs.declared.place.Place.{Place}
 use Rattle.pc_cert.specs.declared.place.Place.TheVariants.{Start, Ended}
 use Rattle.pc_text.specs.Fields.{◌>>=◌, Lacks}
 use Rattle.pc_cert.specs.Grammar.{next}
-use Rattle.pc_cert.specs.Lines.{spelling, Fits}
-use Rattle.pc_cert.specs.Text.{text_of, AllFit, ran}
+use Rattle.pc_cert.specs.Lines.{spelling, IsWritable}
+use Rattle.pc_cert.specs.Text.{text_of, AreWritable, ran}
 use Rattle.pc_text.proofs.FieldLemmas.{bind_some}
 use Rattle.pc_cert.proofs.LineLengths.{spelling_lacks_end, length-spelling}
 use Rattle.pc_cert.proofs.TextLaws.{spelling_once, split_once, lacks_no_stop, ran-append, text_once}
@@ -25,10 +25,10 @@ pub record GoesOn (lines front : List CertLine) (rest : List ℕ) : Type 0 where
   pub more : List CertLine
   pub lines_are : lines ≡ front ++ more
   pub rest_is : text_of more ≡ rest
-  pub fit : AllFit more
+  pub fit : AreWritable more
 
 -- lines at the beginning of the text of others are the first of these
-pub begin_with : (lines front : List CertLine) (rest : List ℕ) → AllFit lines → AllFit front → text_of lines ≡ text_of front ++ rest → GoesOn lines front rest
+pub begin_with : (lines front : List CertLine) (rest : List ℕ) → AreWritable lines → AreWritable front → text_of lines ≡ text_of front ++ rest → GoesOn lines front rest
 begin_with lines [] rest p q same = record { more = lines; lines_are = refl; rest_is = same; fit = p }
 begin_with [] (y ∷ ys) rest p q same =
     absurd (lacks_no_stop 10 (spelling y) [] (text_of ys ++ rest) tt (sym (append_assoc (spelling y) (10 ∷ text_of ys) rest) ∙ sym same))
@@ -62,7 +62,7 @@ line_is_longer [] (b ∷ bad) more rest lacks same = absurd (lacks.0 (let e : 10
 line_is_longer (x ∷ line) (b ∷ bad) more rest lacks same = let shorter = line_is_longer line bad more rest (lacks.1) cc in omega (arith, shorter)
 
 -- the next line of a whole text is neither one that is not allowed nor one that is too long
-pub not_bad : (place after : Place) (line : CertLine) (bad more rest : List ℕ) → Fits line → next place line ≡ Some after →
+pub not_bad : (place after : Place) (line : CertLine) (bad more rest : List ℕ) → IsWritable line → next place line ≡ Some after →
     spelling line ++ 10 ∷ rest ≡ bad ++ more → IsBadLine place bad ⊎ IsTooLong bad → ⊥
 not_bad place after line bad more rest fits goes same (inl is) =
     let parts = split_once 10 (spelling line) (is.0) rest more (spelling_lacks_end line fits) (is.1)
@@ -78,7 +78,7 @@ bad_is_some place (b ∷ bad) more (inr is) same = nil_not_cons (sym same)
 
 -- behind lines that lead to a place no line is bad
 pub no_bad_line : (place : Place) (front more : List CertLine) (bad rest : List ℕ) → ran Start front ≡ Some place →
-    ran Start (front ++ more) ≡ Some Ended → AllFit more → text_of more ≡ bad ++ rest → IsBadLine place bad ⊎ IsTooLong bad → ⊥
+    ran Start (front ++ more) ≡ Some Ended → AreWritable more → text_of more ≡ bad ++ rest → IsBadLine place bad ⊎ IsTooLong bad → ⊥
 no_bad_line place front [] bad rest led whole fit same bad_is = bad_is_some place bad rest bad_is same
 no_bad_line place front (line ∷ more) bad rest led whole fit same bad_is =
     let step = next_line place Ended front more line led whole in

@@ -30,7 +30,7 @@ pub record Part : Type 0 where
 pub record Draft : Type 0 where
   pub normal : List (List ℕ)
   pub crash : List (List ℕ)
-  pub has_normal : Bool
+  pub crash_walk_started : Bool
   pub parts : List Part
   pub part : Part
 
@@ -39,7 +39,7 @@ abbrev pub empty_draft : Draft
 empty_draft = record {
   normal = [];
   crash = [];
-  has_normal = false;
+  crash_walk_started = false;
   parts = [];
   part = record { upper = 0; lower = 0; cost = 0; slope = 0; events = []; acts = [] };
 }
@@ -49,8 +49,8 @@ abbrev pub with_line : Draft → CertLine → Draft
 with_line draft (Head version project events activities) = draft
 with_line draft Normal = draft
 with_line draft (Step code) =
-    if draft.has_normal then record draft { crash = draft.crash ++ code ∷ [] } else record draft { normal = draft.normal ++ code ∷ [] }
-with_line draft Crash = record draft { has_normal = true }
+    if draft.crash_walk_started then record draft { crash = draft.crash ++ code ∷ [] } else record draft { normal = draft.normal ++ code ∷ [] }
+with_line draft Crash = record draft { crash_walk_started = true }
 with_line draft (Segment upper lower cost slope) =
     record draft { part = record { upper = upper; lower = lower; cost = cost; slope = slope; events = []; acts = [] } }
 with_line draft (Event code time moves) =

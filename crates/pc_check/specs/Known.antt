@@ -18,7 +18,7 @@ pub record Known : Type 0 where
   -- how far the two walks have come, and whether the steps of the normal one are all there
   pub normal : Option Reached
   pub crash : Option Reached
-  pub has_normal : Bool
+  pub crash_walk_started : Bool
   -- how many segments are whole
   pub parts : ℕ
   -- the ends, the cost and the slope of the last segment that has begun

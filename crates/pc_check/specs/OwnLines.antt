@@ -16,10 +16,10 @@ lines_before (Segment upper lower cost slope ∷ lines) = 0
 lines_before (line ∷ lines) = suc (lines_before lines)
 
 -- the upper end of the first segment, and 0 where none has begun
-abbrev pub first_upper : List CertLine → ℕ
-first_upper [] = 0
-first_upper (Segment upper lower cost slope ∷ lines) = upper
-first_upper (line ∷ lines) = first_upper lines
+abbrev pub first_upper_in_lines : List CertLine → ℕ
+first_upper_in_lines [] = 0
+first_upper_in_lines (Segment upper lower cost slope ∷ lines) = upper
+first_upper_in_lines (line ∷ lines) = first_upper_in_lines lines
 
 -- the most lines of a header and two walks of at most n steps each
 abbrev pub most_lines_before : ℕ → ℕ
@@ -33,7 +33,7 @@ most_segment_lines n m upper = max upper 1 * (n + m + 2)
 -- the lines are few: header and walks, behind them as many segments as the first upper end is long, or one where that is 0, and END
 pub record AreFew (n m : ℕ) (lines : List CertLine) : Type 0 where
   pub head : lines_before lines ≤ most_lines_before n
-  pub all : length lines ≤ lines_before lines + (most_segment_lines n m (first_upper lines) + 1)
+  pub all : length lines ≤ lines_before lines + (most_segment_lines n m (first_upper_in_lines lines) + 1)
 
 -- the most bytes that may come of a text with this first upper end: those of the header and the walks, of the segments, and of two lines
 -- more, which are END and the one that fails
@@ -49,4 +49,4 @@ pub record KeepsToOwnLines (net : PricedNetwork) (text : List ℕ) (pulls pulls_
   pub led : LeadTo place lines
   pub none : failure_of net lines ≡ None
   pub whole : text ≡ text_of lines ++ rest
-  pub turns : TakesPulls (bytes_below net (first_upper lines)) pulls pulls_after
+  pub turns : TakesPulls (bytes_below net (first_upper_in_lines lines)) pulls pulls_after

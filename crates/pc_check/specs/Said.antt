@@ -36,7 +36,7 @@ abbrev pub said : PricedNetwork → Draft → Known
 said net draft = record {
   normal = walked net (length_in net false) (at_start net.network) draft.normal;
   crash = walked net (length_in net true) (at_start net.network) draft.crash;
-  has_normal = draft.has_normal;
+  crash_walk_started = draft.crash_walk_started;
   parts = length draft.parts;
   upper = draft.part.upper;
   lower = draft.part.lower;

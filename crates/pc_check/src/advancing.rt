@@ -122,7 +122,7 @@ fn add(net: &CrashNet<'_>, kept: &mut Kept, line: &CertLine)
 {
     match line {
         CertLine::Step(code) => add_step(net, kept, code),
-        CertLine::Crash => kept.has_normal = true,
+        CertLine::Crash => kept.crash_walk_started = true,
         CertLine::Segment {
             upper,
             lower,
@@ -145,7 +145,7 @@ fn add_step(net: &CrashNet<'_>, kept: &mut Kept, code: &Code)
     requires { MayBeAdded net.now (Step code.now) kept.old }
     ensures { AddsStep net.now code.now kept.old kept.new }
 {
-    if kept.has_normal {
+    if kept.crash_walk_started {
         kept.crash = stepped(net, kept.crash, code, true);
     } else {
         kept.normal = stepped(net, kept.normal, code, false);

@@ -15,16 +15,16 @@ use pc_crash::CrashNet;
 
 /// What is asked of the network at each event: its start and its end.
 #[derive(Clone, Copy)]
-pub(crate) struct Ends {
+pub(crate) struct EndEvents {
     pub(crate) start: usize,
     pub(crate) end: usize,
 }
 
 /// What is asked of the network at each event.
-pub(crate) fn ends_of(net: &CrashNet<'_>) -> Ends
+pub(crate) fn ends_of(net: &CrashNet<'_>) -> EndEvents
     ensures { AreEnds net.now result }
 {
-    Ends {
+    EndEvents {
         start: net.net().start() as usize,
         end: net.net().end() as usize,
     }
@@ -91,7 +91,7 @@ fn add_told(
     fronts: &[EventFront],
     place: &mut Place,
     piece: &[u8],
-    ends: Ends,
+    ends: EndEvents,
 ) -> usize
     requires ends { AreEnds net.now ends }
     requires safe { IsSafe net.now kept.old.tally }

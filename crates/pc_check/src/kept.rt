@@ -21,7 +21,7 @@ pub struct Kept {
     /// how far the two walks have come, where their steps are walks, and whether the crash walk has begun
     pub(crate) normal: Option<Reached>,
     pub(crate) crash: Option<Reached>,
-    pub(crate) has_normal: bool,
+    pub(crate) crash_walk_started: bool,
     /// how many segments are whole
     pub(crate) parts: u64,
     pub(crate) tally: Tally,
@@ -91,7 +91,7 @@ pub(crate) fn kept_of(alloc: Global, net: &CrashNet<'_>) -> Result<Kept, AllocEr
         lines: 0,
         normal: Some(begin),
         crash: Some(begin),
-        has_normal: false,
+        crash_walk_started: false,
         parts: 0,
         tally: tally_of(alloc, net)?,
     })

@@ -6,7 +6,7 @@ use Rattle.pc_model.specs.declared.Knee.{Knee}
 use Rattle.pc_model.specs.declared.PieceRow.{PieceRow}
 use Rattle.pc_model.specs.declared.Term.{Term}
 use Rattle.pc_crash.specs.declared.crash_net.CrashNet.TheInside.{Inside}
-use Rattle.pc_crash.specs.declared.laying.Row.{Row}
+use Rattle.pc_crash.specs.declared.laying.PriceRow.{PriceRow}
 use Rattle.pc_crash.specs.inside.CrashNets.{priced_network, IsWholeInside}
 use Rattle.pc_crash.specs.inside.KneeLists.{AreKneesOf}
 use Rattle.pc_crash.specs.inside.Laid.{AreLaid, IsRowOf, part_of}
@@ -18,7 +18,7 @@ pub rows-each : (s : Inside) → IsWholeInside s → length s.layout.rows.items 
 rows-each s is = sym (length-map s.layout.rows.items (λ row. row.term)) ∙ is.whole.terms.one_each
 
 -- what is read of an activity's row
-pub row-read : (s : Inside) (a : ℕ) (row : Row) → IsWholeInside s → a < length s.net.now.arcs → row ≡ get_or s.layout.rows.items a row →
+pub row-read : (s : Inside) (a : ℕ) (row : PriceRow) → IsWholeInside s → a < length s.net.now.arcs → row ≡ get_or s.layout.rows.items a row →
     IsRowOf s.net.now.arcs (priced_network s).terms s.pieces.items s.layout.knees.items a row
 row-read s a row is inside read =
     let here : a < length s.layout.rows.items = omega (arith, rows-each s is) in
@@ -28,7 +28,7 @@ row-read s a row is inside read =
 
 -- an activity's row names two events of the network
 pub ends-within : (s : Inside) (net : PricedNetwork) (view : priced_network s ≡ net) (is : IsWholeInside s) (a : ℕ) → a < length net.network.arcs →
-    (row : Row) → row ≡ get_or s.layout.rows.items a row → (row.arc.to < net.network.events) × (row.arc.from < net.network.events)
+    (row : PriceRow) → row ≡ get_or s.layout.rows.items a row → (row.arc.to < net.network.events) × (row.arc.from < net.network.events)
 ends-within s net view is a known row read =
     let inside : a < length s.net.now.arcs = omega (arith, ap (λ (n : PricedNetwork). length n.network.arcs) view) in
     let found = row-read s a row is inside read in
@@ -37,23 +37,23 @@ ends-within s net view is a known row read =
     (omega (arith, ap (λ (arc : Arc). arc.to) found.arc, ranges.to_in a inside), omega (arith, ap (λ (arc : Arc). arc.from) found.arc, ranges.from_in a inside))
 
 -- the knees of a row are those of its activity
-pub knees-read : (s : Inside) (a : ℕ) (row : Row) →
+pub knees-read : (s : Inside) (a : ℕ) (row : PriceRow) →
     IsRowOf s.net.now.arcs (priced_network s).terms s.pieces.items s.layout.knees.items a row →
     AreKneesOf (knees_in (priced_network s)) a (part_of s.layout.knees.items row)
 knees-read s a row is = subst (AreKneesOf (knees_in (priced_network s)) a) (sym is.part) (AreKneesOf-knee_list (priced_network s).terms s.pieces.items a)
 
 -- what is known once an activity's row was read
-pub record IsRead (s : Inside) (a : ℕ) (row : Row) : Type 0 where
+pub record IsRead (s : Inside) (a : ℕ) (row : PriceRow) : Type 0 where
   pub known : a < length (priced_network s).terms
   pub is : IsRowOf s.net.now.arcs (priced_network s).terms s.pieces.items s.layout.knees.items a row
   pub knees : AreKneesOf (knees_in (priced_network s)) a (part_of s.layout.knees.items row)
 
-pub activity-read : (s : Inside) (a : ℕ) (row : Row) → IsWholeInside s → a < length s.net.now.arcs → row ≡ get_or s.layout.rows.items a row → IsRead s a row
+pub activity-read : (s : Inside) (a : ℕ) (row : PriceRow) → IsWholeInside s → a < length s.net.now.arcs → row ≡ get_or s.layout.rows.items a row → IsRead s a row
 activity-read s a row is known read =
     let found = row-read s a row is known read in
     record { known = omega (arith, known, is.whole.terms.one_each); is = found; knees = knees-read s a row found }
 
 -- the terms that are laid out are those given
-pub terms-laid : (arcs : List Arc) (terms : List Term) (pieces : List PieceRow) (rows : List Row) (knees : List Knee) →
+pub terms-laid : (arcs : List Arc) (terms : List Term) (pieces : List PieceRow) (rows : List PriceRow) (knees : List Knee) →
     AreLaid arcs terms pieces (length terms) rows knees → map (λ row. row.term) rows ≡ terms
 terms-laid arcs terms pieces rows knees laid = laid.same_terms ∙ take_all (length terms) terms (omega arith)

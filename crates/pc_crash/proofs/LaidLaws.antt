@@ -10,7 +10,7 @@ use Rattle.pc_model.specs.declared.limits.TheConstants.{MAX_PIECES_EACH}
 use Rattle.pc_model.specs.Pieces.{pieces_of}
 use Rattle.pc_model.specs.Schedule.{term_at}
 use Rattle.pc_model.specs.Walk.{arc_at}
-use Rattle.pc_crash.specs.declared.laying.Row.{Row}
+use Rattle.pc_crash.specs.declared.laying.PriceRow.{PriceRow}
 use Rattle.pc_crash.specs.inside.KneeLists.{knee_list}
 use Rattle.pc_crash.specs.inside.Laid.{AreLaid, IsRowOf, row_at}
 
@@ -35,7 +35,7 @@ range_last items more first count begins counts =
     ap (take (first + count - first)) (drop_at items more first (sym begins)) ∙ take_all (first + count - first) more (omega arith)
 
 -- a row stays that of its activity when more knees are put behind
-IsRowOf-append : (arcs : List Arc) (terms : List Term) (pieces : List PieceRow) (knees more : List Knee) (a : ℕ) (row : Row) →
+IsRowOf-append : (arcs : List Arc) (terms : List Term) (pieces : List PieceRow) (knees more : List Knee) (a : ℕ) (row : PriceRow) →
     IsRowOf arcs terms pieces knees a row → IsRowOf arcs terms pieces (knees ++ more) a row
 IsRowOf-append arcs terms pieces knees more a row is = record {
   arc = is.arc;
@@ -46,13 +46,13 @@ IsRowOf-append arcs terms pieces knees more a row is = record {
 }
 
 -- one more activity is laid out
-pub AreLaid-push : (arcs : List Arc) (terms : List Term) (pieces : List PieceRow) (n : ℕ) (rows : List Row) (knees more : List Knee)
-    (row : Row) → AreLaid arcs terms pieces n rows knees → n < length terms → row.arc ≡ arc_at arcs n → row.term ≡ term_at terms n →
+pub AreLaid-push : (arcs : List Arc) (terms : List Term) (pieces : List PieceRow) (n : ℕ) (rows : List PriceRow) (knees more : List Knee)
+    (row : PriceRow) → AreLaid arcs terms pieces n rows knees → n < length terms → row.arc ≡ arc_at arcs n → row.term ≡ term_at terms n →
     row.first ≡ length knees → row.count ≡ length more → row.count ≤ MAX_PIECES_EACH + 1 →
     more ≡ knee_list (term_at terms n) (pieces_of pieces n) → AreLaid arcs terms pieces (n + 1) (rows ++ row ∷ []) (knees ++ more)
 AreLaid-push arcs terms pieces n rows knees more row laid inside same_arc same_term begins counts few is = record {
   one_each = length_push rows row ∙ ap (λ k. k + 1) laid.one_each;
-  same_terms = map-append (λ (r : Row). r.term) rows (row ∷ []) ∙ ap (λ ts. ts ++ row.term ∷ []) laid.same_terms
+  same_terms = map-append (λ (r : PriceRow). r.term) rows (row ∷ []) ∙ ap (λ ts. ts ++ row.term ∷ []) laid.same_terms
       ∙ ap (λ t. take n terms ++ t ∷ []) same_term ∙ sym (take_more terms n (record { normal = 0; crash = 0; cost = 0; slope = 0 }) inside);
   small = omega (arith, laid.small, length-append knees more);
   each = λ a below. ⊎_elim
@@ -66,7 +66,7 @@ AreLaid-push arcs terms pieces n rows knees more row laid inside same_arc same_t
       (cases_eq b n);
 }
   where
-    none : Row
+    none : PriceRow
     none = record { arc = record { from = 0; to = 0 }; term = record { normal = 0; crash = 0; cost = 0; slope = 0 }; first = 0; count = 0 }
 
     -- the rows before are those that were there

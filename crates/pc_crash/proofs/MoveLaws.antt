@@ -15,7 +15,7 @@ use Rattle.pc_model.specs.Pieces.{ArePieces, pieces_of, rise_in, slope_in, units
 use Rattle.pc_model.specs.inside.Pieces.{knee_at}
 use Rattle.pc_model.specs.Schedule.{AreTerms, term_at}
 use Rattle.pc_model.specs.Walk.{arc_at}
-use Rattle.pc_crash.specs.declared.laying.Row.{Row}
+use Rattle.pc_crash.specs.declared.laying.PriceRow.{PriceRow}
 use Rattle.pc_crash.specs.inside.KneeLists.{AreSmallKnees, knee_list}
 use Rattle.pc_crash.specs.inside.Laid.{AreLaid, IsRowOf, part_of, row_at}
 use Rattle.pc_crash.specs.declared.crash_net.CrashNet.TheInside.{Inside}
@@ -136,8 +136,8 @@ module _ (knees part : List Knee) (first count : ℕ) (within : first + count �
   after : (from end : ℕ) → first + count ≤ from → slice_range (put_mid first count knees part) from end ≡ slice_range knees from end
   after from end above = ap (take (end - from)) (drop-put_mid first count knees part from above (omega arith) long)
 
-module _ (arcs : List Arc) (terms : List Term) (pieces : List PieceRow) (rows : List Row) (knees : List Knee) (laid : AreLaid arcs terms pieces (length terms) rows knees)
-    (a : ℕ) (inside : a < length terms) (new : Term) (row : Row) (first count : ℕ) (part : List Knee)
+module _ (arcs : List Arc) (terms : List Term) (pieces : List PieceRow) (rows : List PriceRow) (knees : List Knee) (laid : AreLaid arcs terms pieces (length terms) rows knees)
+    (a : ℕ) (inside : a < length terms) (new : Term) (row : PriceRow) (first count : ℕ) (part : List Knee)
     (begins : first ≡ (row_at rows a).first) (counts : count ≡ (row_at rows a).count) (long : length part ≡ count) (is : part ≡ knee_list new (pieces_of pieces a))
     (same_arc : row.arc ≡ arc_at arcs a) (same_term : row.term ≡ new) (same_first : row.first ≡ first) (same_count : row.count ≡ count) where
   abbrev knees' : List Knee
@@ -146,7 +146,7 @@ module _ (arcs : List Arc) (terms : List Term) (pieces : List PieceRow) (rows : 
   old_row : IsRowOf arcs terms pieces knees a (row_at rows a)
   old_row = laid.each a inside
 
-  abbrev none : Row
+  abbrev none : PriceRow
   none = record { arc = record { from = 0; to = 0 }; term = record { normal = 0; crash = 0; cost = 0; slope = 0 }; first = 0; count = 0 }
 
   within : first + count ≤ length knees
@@ -166,14 +166,14 @@ module _ (arcs : List Arc) (terms : List Term) (pieces : List PieceRow) (rows : 
   -- no row begins elsewhere or has more knees
   same_begin : (b : ℕ) → (row_at (set rows a row) b).first ≡ (row_at rows b).first
   same_begin b = ⊎_elim
-      (λ same. subst (λ c. (row_at (set rows a row) c).first ≡ (row_at rows c).first) (sym same) (ap (λ (r : Row). r.first) given ∙ same_first ∙ begins))
-      (λ other. ap (λ (r : Row). r.first) (kept b other))
+      (λ same. subst (λ c. (row_at (set rows a row) c).first ≡ (row_at rows c).first) (sym same) (ap (λ (r : PriceRow). r.first) given ∙ same_first ∙ begins))
+      (λ other. ap (λ (r : PriceRow). r.first) (kept b other))
       (cases_eq b a)
 
   same_size : (b : ℕ) → (row_at (set rows a row) b).count ≡ (row_at rows b).count
   same_size b = ⊎_elim
-      (λ same. subst (λ c. (row_at (set rows a row) c).count ≡ (row_at rows c).count) (sym same) (ap (λ (r : Row). r.count) given ∙ same_count ∙ counts))
-      (λ other. ap (λ (r : Row). r.count) (kept b other))
+      (λ same. subst (λ c. (row_at (set rows a row) c).count ≡ (row_at rows c).count) (sym same) (ap (λ (r : PriceRow). r.count) given ∙ same_count ∙ counts))
+      (λ other. ap (λ (r : PriceRow). r.count) (kept b other))
       (cases_eq b a)
 
   -- the part of another row is as it was
@@ -214,8 +214,8 @@ module _ (arcs : List Arc) (terms : List Term) (pieces : List PieceRow) (rows : 
   AreLaid-set = record {
     one_each = length-set rows a row ∙ laid.one_each;
     same_terms =
-        map-set (λ (r : Row). r.term) rows a row
-        ∙ ap (λ t. set (map (λ (r : Row). r.term) rows) a t) same_term
+        map-set (λ (r : PriceRow). r.term) rows a row
+        ∙ ap (λ t. set (map (λ (r : PriceRow). r.term) rows) a t) same_term
         ∙ ap (λ ts. set ts a new) (laid.same_terms ∙ take_all (length terms) terms (omega arith))
         ∙ sym (take_all (length terms) (set terms a new) (omega (arith, length-set terms a new)));
     small = omega (arith, laid.small, size');
@@ -228,7 +228,7 @@ module _ (arcs : List Arc) (terms : List Term) (pieces : List PieceRow) (rows : 
 
 -- what a call that sets a term reads and writes: the row of activity a, and its part of the knees
 module _ (s : Inside) (net : PricedNetwork) (view : priced_network s ≡ net) (inv : IsWholeInside s) (a : ℕ)
-    (known : a < length net.network.arcs) (row : Row) (read : row ≡ get_or s.layout.rows.items a row) where
+    (known : a < length net.network.arcs) (row : PriceRow) (read : row ≡ get_or s.layout.rows.items a row) where
   in_inside : a < length s.net.now.arcs
   in_inside = omega (arith, ap (λ (n : PricedNetwork). length n.network.arcs) view)
 
@@ -240,7 +240,7 @@ module _ (s : Inside) (net : PricedNetwork) (view : priced_network s ≡ net) (i
 
   -- no more knees than all activities may have
   pub row_room : row.first + row.count ≤ 100000
-  row_room = omega (arith, read_row.within, inv.laid.small, inv.whole.limits.few, length-map s.layout.rows.items (λ (r : Row). r.term))
+  row_room = omega (arith, read_row.within, inv.laid.small, inv.whole.limits.few, length-map s.layout.rows.items (λ (r : PriceRow). r.term))
 
   module _ (new : Term) (fit : AreTerms net.network (set net.terms a new)) (limits : AreWithinLimits (set net.terms a new))
       (right : ArePieces (set net.terms a new) net.pieces) (knees : List Knee) (all : knees ≡ s.layout.knees.items) where
@@ -266,8 +266,8 @@ module _ (s : Inside) (net : PricedNetwork) (view : priced_network s ≡ net) (i
         (subst (λ t. (k : ℕ) → k < length (knee_list t (pieces_of s.pieces.items a)) → IsMovable t new k (knee_at (knee_list t (pieces_of s.pieces.items a)) k)) (sym read_row.term)
         (movable (priced_network s) inv.whole a in_terms new limits' fit' right'))
 
-    module _ (row' : Row) (read' : row' ≡ get_or s.layout.rows.items a row') (new_part : List Knee) (has_moved : AreMoved row.term new part new_part) where
-      abbrev set_row : Row
+    module _ (row' : PriceRow) (read' : row' ≡ get_or s.layout.rows.items a row') (new_part : List Knee) (has_moved : AreMoved row.term new part new_part) where
+      abbrev set_row : PriceRow
       set_row = record row' { term = new }
 
       abbrev set_knees : List Knee
@@ -277,7 +277,7 @@ module _ (s : Inside) (net : PricedNetwork) (view : priced_network s ≡ net) (i
       abbrev pub after_set : Inside
       after_set = record s { layout = record { rows = with_item s.layout.rows a set_row; knees = with_items s.layout.knees set_knees } }
 
-      read_as : (r : Row) → r ≡ get_or s.layout.rows.items a r → r ≡ row_at s.layout.rows.items a
+      read_as : (r : PriceRow) → r ≡ get_or s.layout.rows.items a r → r ≡ row_at s.layout.rows.items a
       read_as r is = get_or_read s.layout.rows.items a r (omega (arith, in_inside, rows-each s inv)) is
           (record { arc = record { from = 0; to = 0 }; term = record { normal = 0; crash = 0; cost = 0; slope = 0 }; first = 0; count = 0 })
 
@@ -286,7 +286,7 @@ module _ (s : Inside) (net : PricedNetwork) (view : priced_network s ≡ net) (i
 
       laid_as : AreLaid s.net.now.arcs (priced_network s).terms s.pieces.items (length (priced_network s).terms) s.layout.rows.items s.layout.knees.items
       laid_as = subst (λ n. AreLaid s.net.now.arcs (priced_network s).terms s.pieces.items n s.layout.rows.items s.layout.knees.items)
-          (sym (length-map s.layout.rows.items (λ (r : Row). r.term))) inv.laid
+          (sym (length-map s.layout.rows.items (λ (r : PriceRow). r.term))) inv.laid
 
       moved_part : new_part ≡ knee_list new (pieces_of s.pieces.items a)
       moved_part =
@@ -306,16 +306,16 @@ module _ (s : Inside) (net : PricedNetwork) (view : priced_network s ≡ net) (i
       set_laid =
           AreLaid-set s.net.now.arcs (priced_network s).terms s.pieces.items s.layout.rows.items s.layout.knees.items laid_as a in_terms new
           set_row row.first (row.first + row.count - row.first) new_part
-          (ap (λ (r : Row). r.first) (read_as row read))
-          (omega (arith, ap (λ (r : Row). r.count) (read_as row read)))
+          (ap (λ (r : PriceRow). r.first) (read_as row read))
+          (omega (arith, ap (λ (r : PriceRow). r.count) (read_as row read)))
           long moved_part
-          (ap (λ (r : Row). r.arc) same_row ∙ read_row.arc)
+          (ap (λ (r : PriceRow). r.arc) same_row ∙ read_row.arc)
           refl
-          (ap (λ (r : Row). r.first) same_row)
-          (omega (arith, ap (λ (r : Row). r.count) same_row))
+          (ap (λ (r : PriceRow). r.first) same_row)
+          (omega (arith, ap (λ (r : PriceRow). r.count) same_row))
 
       terms_set : (priced_network after_set).terms ≡ set (priced_network s).terms a new
-      terms_set = map-set (λ (r : Row). r.term) s.layout.rows.items a set_row
+      terms_set = map-set (λ (r : PriceRow). r.term) s.layout.rows.items a set_row
 
       knees_set : (with_items s.layout.knees set_knees).items ≡ put_mid row.first (row.first + row.count - row.first) s.layout.knees.items new_part
       knees_set =
@@ -340,7 +340,7 @@ module _ (s : Inside) (net : PricedNetwork) (view : priced_network s ≡ net) (i
             rw (terms_set, knees_set) (subst
             (λ n. AreLaid s.net.now.arcs (set (priced_network s).terms a new) s.pieces.items n (set s.layout.rows.items a set_row)
             (put_mid row.first (row.first + row.count - row.first) s.layout.knees.items new_part))
-            (length-map s.layout.rows.items (λ (r : Row). r.term) ∙ sym (length-set s.layout.rows.items a set_row)) set_laid);
+            (length-map s.layout.rows.items (λ (r : PriceRow). r.term) ∙ sym (length-set s.layout.rows.items a set_row)) set_laid);
       }
 
       -- of the network before with that term

@@ -12,7 +12,7 @@ ghost use Rattle.pc_crash.specs.Terms.{AreWithinLimits};
 
 use crate::counting::Steps;
 use crate::knee_list::KneeList;
-use crate::laying::{Layout, laid_out};
+use crate::laying::{PriceTable, laid_out};
 use crate::looking::Look;
 use pc_model::{PieceRow, Term};
 use pc_names::Names;
@@ -27,7 +27,7 @@ use std::sync::ledger::Ledger;
 /// Events and activities are numbered from 0 in card order.
 pub struct CrashNet<'n> {
     pub(crate) net: &'n Net,
-    pub(crate) layout: Layout,
+    pub(crate) layout: PriceTable,
     pieces: Vec<PieceRow>,
     project: Code,
     events: Vec<Code>,

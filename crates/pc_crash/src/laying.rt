@@ -15,7 +15,7 @@ use std::alloc::{AllocError, Global};
 
 /// What is known of one activity. Its knees stand in the list of all of them, `count` from `first` on.
 #[derive(Clone, Copy)]
-pub(crate) struct Row {
+pub(crate) struct PriceRow {
     pub(crate) arc: Arc,
     pub(crate) term: Term,
     pub(crate) first: u32,
@@ -23,15 +23,15 @@ pub(crate) struct Row {
 }
 
 /// What is known of each activity, and the knees of all of them one after another.
-pub(crate) struct Layout {
-    pub(crate) rows: Vec<Row>,
+pub(crate) struct PriceTable {
+    pub(crate) rows: Vec<PriceRow>,
     pub(crate) knees: Vec<Knee>,
 }
 
-impl Drop for Layout {
+impl Drop for PriceTable {
     // Written out, so that who lets a layout go cites this proof.
     fn drop(self) {
-        let Layout {
+        let PriceTable {
             rows: _rows,
             knees: _knees,
         } = self;
@@ -44,7 +44,7 @@ pub(crate) fn laid_out(
     net: &Net,
     terms: &[Term],
     pieces: &[PieceRow],
-) -> Result<Layout, AllocError>
+) -> Result<PriceTable, AllocError>
     requires terms { AreTerms net.now terms.now }
     requires limits { AreWithinLimits terms.now }
     requires pieces { ArePieces terms.now pieces.now }
@@ -63,7 +63,7 @@ pub(crate) fn laid_out(
             from: net.from(a),
             to: net.to(a),
         };
-        rows.push(Row {
+        rows.push(PriceRow {
             arc,
             term,
             first: knees.len() as u32,
@@ -71,7 +71,7 @@ pub(crate) fn laid_out(
         })?;
         push_knees(&mut knees, term, group)?;
     }
-    Ok(Layout { rows, knees })
+    Ok(PriceTable { rows, knees })
 }
 
 /// Adds the knees of an activity with these pieces.
@@ -105,9 +105,9 @@ pub(crate) fn units(pieces: &[PieceRow]) -> u64
     pieces.iter().map(|piece| piece.units).sum()
 }
 
-impl Layout {
+impl PriceTable {
     /// The knees that belong to a row.
-    pub(crate) fn part(&self, row: &Row) -> &[Knee]
+    pub(crate) fn part(&self, row: &PriceRow) -> &[Knee]
         requires { row.now.first + row.now.count ≤ vec_len self.now.knees }
         ensures { result.now ≡ part_of self.now.knees.items row.now }
     {

@@ -9,7 +9,7 @@ pub record IsRange (net : PricedNetwork) (shortest longest : ℕ) : Type 0 where
   pub all_normal : IsAllNormalLength net.network net.terms longest
 
 -- the length is one of the network
-pub record IsWithin (net : PricedNetwork) (limit : ℕ) : Type 0 where
+pub record IsLengthInRange (net : PricedNetwork) (limit : ℕ) : Type 0 where
   pub shortest : ℕ
   pub longest : ℕ
   pub range : IsRange net shortest longest

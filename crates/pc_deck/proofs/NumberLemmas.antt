@@ -12,15 +12,15 @@ use Rattle.pc_cards.specs.Forms.{AllFit, is_outside}
 use Rattle.pc_cards.specs.Named.{as_list}
 use Rattle.pc_cards.specs.declared.sort.Sort.{Sort}
 use Rattle.pc_cards.specs.declared.sort.Sort.TheVariants.{Plan}
-use Rattle.pc_deck.specs.Project.{project_kind, project_of}
-use Rattle.pc_deck.specs.Terms.{terms_kind, terms_of}
-use Rattle.pc_deck.specs.Act.{act_kind, act_of}
+use Rattle.pc_deck.specs.Project.{project_kind, project_card}
+use Rattle.pc_deck.specs.Terms.{terms_kind, terms_card}
+use Rattle.pc_deck.specs.Act.{act_kind, act_card}
 use Rattle.pc_deck.specs.inside.Act.{IsActWithin}
-use Rattle.pc_deck.specs.Task.{task_kind, task_of}
-use Rattle.pc_deck.specs.Piece.{piece_kind, piece_of}
-use Rattle.pc_deck.specs.Acct.{account_kind, account_of}
-use Rattle.pc_deck.specs.Money.{charge_kind, money_of}
-use Rattle.pc_deck.specs.Load.{load_kind, load_of}
+use Rattle.pc_deck.specs.Task.{task_kind, task_card}
+use Rattle.pc_deck.specs.Piece.{piece_kind, piece_card}
+use Rattle.pc_deck.specs.Acct.{account_kind, account_card}
+use Rattle.pc_deck.specs.Money.{charge_kind, money_card}
+use Rattle.pc_deck.specs.Load.{load_kind, load_card}
 use Rattle.pc_deck.specs.Within.{IsFit, IsWithin}
 use Rattle.pc_deck.specs.declared.kinds.terms.TermsCard.{TermsCard}
 use Rattle.pc_cards.proofs.FitLemmas.{number_fits}
@@ -80,7 +80,7 @@ or_fits least most other None low high h = (low, high)
 or_fits least most other (Some n) low high h = number_fits least most (Some n) refl h
 
 -- the numbers of a card of each kind that has some, where its fields are what they must be
-project_within : (sort : Sort) (row : ℕ) (fields : List (List ℕ)) → AllFit (project_kind.slots sort) fields → IsProjectWithin (project_of row fields)
+project_within : (sort : Sort) (row : ℕ) (fields : List (List ℕ)) → AllFit (project_kind.slots sort) fields → IsProjectWithin (project_card row fields)
 project_within sort row fields fit =
     let from_6 = fit.1.1.1.1 in
     let version = or_fits 1 2 1 (number_of (field_at fields 8)) (omega arith) (omega arith) from_6.1.1.1.0.1 in
@@ -92,7 +92,7 @@ project_within sort row fields fit =
       version_within = version.1;
     }
 
-terms_within : (row : ℕ) (fields : List (List ℕ)) → AllFit (terms_kind.slots Plan) fields → AreTermsWithin (terms_of row fields)
+terms_within : (row : ℕ) (fields : List (List ℕ)) → AllFit (terms_kind.slots Plan) fields → AreTermsWithin (terms_card row fields)
 terms_within row fields fit = record {
   overhead = (number_fits 0 MAX_TERMS (number_of (field_at fields 1)) fit.0.0 fit.0.1).1;
   target = (number_fits 0 MAX_TERMS (number_of (field_at fields 2)) fit.1.0.0 fit.1.0.1).1;
@@ -100,7 +100,7 @@ terms_within row fields fit = record {
   penalty = (number_fits 0 MAX_TERMS (number_of (field_at fields 4)) fit.1.1.1.0.0 fit.1.1.1.0.1).1;
 }
 
-act_within : (row : ℕ) (fields : List (List ℕ)) → AllFit (act_kind.slots Plan) fields → IsActWithin (act_of row fields)
+act_within : (row : ℕ) (fields : List (List ℕ)) → AllFit (act_kind.slots Plan) fields → IsActWithin (act_card row fields)
 act_within row fields fit =
     let from_6 = fit.1.1.1.1 in
     let from_11 = from_6.1.1.1.1.1 in
@@ -114,7 +114,7 @@ act_within row fields fit =
       slope = (number_fits 0 MAX_SLOPE (number_of (field_at fields 11)) from_11.1.0.0 from_11.1.0.1).1;
     }
 
-task_within : (row : ℕ) (fields : List (List ℕ)) → AllFit (task_kind.slots Plan) fields → IsTaskWithin (task_of row fields)
+task_within : (row : ℕ) (fields : List (List ℕ)) → AllFit (task_kind.slots Plan) fields → IsTaskWithin (task_card row fields)
 task_within row fields fit =
     let from_4 = fit.1.1 in
     let from_9 = from_4.1.1.1.1.1 in
@@ -128,20 +128,20 @@ task_within row fields fit =
       slope = (number_fits 0 MAX_SLOPE (number_of (field_at fields 9)) from_9.1.0.0 from_9.1.0.1).1;
     }
 
-piece_within : (row : ℕ) (fields : List (List ℕ)) → AllFit (piece_kind.slots Plan) fields → IsPieceWithin (piece_of row fields)
+piece_within : (row : ℕ) (fields : List (List ℕ)) → AllFit (piece_kind.slots Plan) fields → IsPieceWithin (piece_card row fields)
 piece_within row fields fit = record {
   some_units = (number_fits 1 MAX_DURATION (number_of (field_at fields 2)) fit.1.0.0 fit.1.0.1).0;
   units = (number_fits 1 MAX_DURATION (number_of (field_at fields 2)) fit.1.0.0 fit.1.0.1).1;
   slope = (number_fits 0 MAX_SLOPE (number_of (field_at fields 3)) fit.1.1.0.0 fit.1.1.0.1).1;
 }
 
-budget_within : (row : ℕ) (fields : List (List ℕ)) → AllFit (account_kind.slots Plan) fields → IsBudgetWithin (account_of row fields)
+budget_within : (row : ℕ) (fields : List (List ℕ)) → AllFit (account_kind.slots Plan) fields → IsBudgetWithin (account_card row fields)
 budget_within row fields fit = (number_fits 0 MAX_COST (number_of (field_at fields 3)) fit.1.1.0.0 fit.1.1.0.1).1
 
-amount_within : (row : ℕ) (fields : List (List ℕ)) → AllFit (charge_kind.slots Plan) fields → IsAmountWithin (money_of row fields)
+amount_within : (row : ℕ) (fields : List (List ℕ)) → AllFit (charge_kind.slots Plan) fields → IsAmountWithin (money_card row fields)
 amount_within row fields fit = (number_fits 0 MAX_COST (number_of (field_at fields 3)) fit.1.1.0.0 fit.1.1.0.1).1
 
-load_within : (row : ℕ) (fields : List (List ℕ)) → AllFit (load_kind.slots Plan) fields → IsLoadWithin (load_of row fields)
+load_within : (row : ℕ) (fields : List (List ℕ)) → AllFit (load_kind.slots Plan) fields → IsLoadWithin (load_card row fields)
 load_within row fields fit = (number_fits 0 MAX_COST (number_of (field_at fields 3)) fit.1.1.0.0 fit.1.1.0.1).1
 
 -- what follows from the fields of a card of a kind holds of each card of the kind in a deck

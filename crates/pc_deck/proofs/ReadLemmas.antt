@@ -12,8 +12,8 @@ use Rattle.pc_deck.specs.inside.Reading.{IsKept, and_then, read_from, seen_in, w
 use Rattle.pc_faults.specs.declared.kind.Kind.{Kind}
 use Rattle.pc_faults.specs.declared.fault.Fault.{Fault}
 use Rattle.pc_deck.specs.declared.draft.Draft.{Draft}
-use Rattle.pc_cards.specs.declared.rows.Next.{Next}
-use Rattle.pc_cards.specs.declared.rows.Next.TheVariants.{Card}
+use Rattle.pc_cards.specs.declared.rows.NextCard.{NextCard}
+use Rattle.pc_cards.specs.declared.rows.NextCard.TheVariants.{Card}
 use Rattle.pc_deck.specs.inside.Within.{IsDraftWithin}
 use Rattle.pc_deck.proofs.WithinLemmas.{next_within}
 
@@ -25,18 +25,18 @@ read_from-card draft kind row fields rest end judged =
     ap (λ (r : Result Kind Fault). and_then r (λ k. read_from (with_card draft k row fields) end rest)) judged
 
 -- what is left to read after a card that was added
-pub read_from-added : (draft added : Draft) (kind : Kind) (found : Next) (row : ℕ) (fields : List (List ℕ)) (old new : CardsLeft) →
+pub read_from-added : (draft added : Draft) (kind : Kind) (found : NextCard) (row : ℕ) (fields : List (List ℕ)) (old new : CardsLeft) →
     found ≡ Card row → Follows found old new fields → judge (seen_in draft) row fields ≡ Ok kind → added ≡ with_card draft kind row fields →
     read_from added new.end new.cards ≡ read_from draft old.end old.cards
 read_from-added draft added kind found row fields old new is follows judged same =
-    let both = subst (λ (next : Next). Follows next old new fields) is follows in
+    let both = subst (λ (next : NextCard). Follows next old new fields) is follows in
     ap (λ (d : Draft). read_from d new.end new.cards) same
     ∙ (sym (read_from-card draft kind row fields new.cards new.end judged)
     ∙ (ap (λ (e : ℕ). read_from draft e ((row, fields) ∷ new.cards)) (sym both.1)
     ∙ ap (λ (cards : List Numbered). read_from draft old.end cards) (sym both.0)))
 
 -- the same of a card that was taken
-pub read_from-kept : (draft added : Draft) (found : Next) (row : ℕ) (fields : List (List ℕ)) (old new : CardsLeft) → found ≡ Card row →
+pub read_from-kept : (draft added : Draft) (found : NextCard) (row : ℕ) (fields : List (List ℕ)) (old new : CardsLeft) → found ≡ Card row →
     Follows found old new fields → IsKept draft row fields added → read_from added new.end new.cards ≡ read_from draft old.end old.cards
 read_from-kept draft added found row fields old new is follows (kind, (judged, same)) = read_from-added draft added kind found row fields old new is follows judged same
 
@@ -66,9 +66,9 @@ pub deck_cards-text : (bytes : List ℕ) → is_utf8 bytes ≡ true → All IsTe
 deck_cards-text bytes utf8 = cards-text 1 (deck_records bytes) (deck_records-text bytes (IsUtf8-from_is_utf8 bytes utf8))
 
 -- the next card is text, and so are those behind it
-pub next-text : (found : Next) (row : ℕ) (fields : List (List ℕ)) (old new : CardsLeft) → found ≡ Card row → Follows found old new fields →
+pub next-text : (found : NextCard) (row : ℕ) (fields : List (List ℕ)) (old new : CardsLeft) → found ≡ Card row → Follows found old new fields →
     All IsTextCard old.cards → IsTextCard (row, fields) × All IsTextCard new.cards
 next-text found row fields old new is follows all =
-    let both = subst (λ (next : Next). Follows next old new fields) is follows in
+    let both = subst (λ (next : NextCard). Follows next old new fields) is follows in
     let these = subst (All IsTextCard) both.0 all in
     (All-head IsTextCard (row, fields) new.cards these, All-tail IsTextCard (row, fields) new.cards these)

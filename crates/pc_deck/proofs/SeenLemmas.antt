@@ -5,7 +5,7 @@ use Rattle.pc_records.specs.Deck.{field_at}
 use Rattle.pc_faults.specs.declared.kind.Kind.{Kind}
 use Rattle.pc_faults.specs.declared.kind.Kind.TheVariants.{Project, End}
 use Rattle.pc_cards.specs.Cards.{Numbered}
-use Rattle.pc_deck.specs.Project.{project_of}
+use Rattle.pc_deck.specs.Project.{project_card}
 use Rattle.pc_deck.specs.Kinds.{card_of, entry_of, has_code_of_its_own}
 use Rattle.pc_cards.specs.Named.{as_list}
 use Rattle.pc_deck.specs.inside.Reading.{count_in, codes_in, list_so_far, seen_in, version_of}
@@ -24,7 +24,7 @@ abbrev version_first : List ProjectCard → ℕ
 version_first [] = 1
 version_first (project ∷ projects) = project.version
 
-said_first : (cards : List Numbered) → version_said cards ≡ version_first (map (λ (c : Numbered). project_of c.0 c.1) cards)
+said_first : (cards : List Numbered) → version_said cards ≡ version_first (map (λ (c : Numbered). project_card c.0 c.1) cards)
 said_first [] = refl
 said_first (card ∷ cards) = refl
 

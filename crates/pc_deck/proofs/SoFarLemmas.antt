@@ -13,7 +13,7 @@ use Rattle.pc_cards.specs.Cards.{Numbered}
 use Rattle.pc_cards.specs.declared.sort.Sort.{Sort}
 use Rattle.pc_cards.specs.Named.{as_list, HeldBy, listed_by}
 use Rattle.pc_cards.specs.inside.Named.{more_if}
-use Rattle.pc_deck.specs.Project.{project_of}
+use Rattle.pc_deck.specs.Project.{project_card}
 use Rattle.pc_deck.specs.inside.Judged.{judge}
 use Rattle.pc_deck.specs.inside.Reading.{no_cards, with_card, codes_among, codes_in, count_in, list_so_far, seen_in}
 use Rattle.pc_deck.specs.Refusal.{of_kind, are_none}
@@ -88,8 +88,8 @@ module _ (draft : Draft) (row : ℕ) (fields : List (List ℕ)) (kind : Kind) (k
 
   pub list-more : (other : Kind) → list_so_far (with_card draft kind row fields) other ≡ list_so_far draft other ++ one_if (is_same kind other) (card_of other row fields)
   list-more Project =
-      first_more (is_project kind) draft.project (project_of row fields) (λ is. single Project (project_is kind is))
-      ∙ ap (λ (test : Bool). as_list draft.project ++ one_if test (project_of row fields)) (same-project kind)
+      first_more (is_project kind) draft.project (project_card row fields) (λ is. single Project (project_is kind is))
+      ∙ ap (λ (test : Bool). as_list draft.project ++ one_if test (project_card row fields)) (same-project kind)
   list-more End =
       last_more (is_end kind) draft.has_ended known.before_end
       ∙ ap (λ (test : Bool). list_so_far draft End ++ one_if test tt) (same-end kind)
@@ -130,7 +130,7 @@ so_far-more before draft kind card old judged =
     let known = faultless (seen_in draft) card.0 card.1 kind judged in
     let word = word_of-kind draft.sort (field_at card.1 0) kind known.named in
     record {
-      first = some_more before card ∙ sym (still_first (is_project kind) draft.project (project_of card.0 card.1) known.placed);
+      first = some_more before card ∙ sym (still_first (is_project kind) draft.project (project_card card.0 card.1) known.placed);
       lists = λ other.
           spelled-more other kind before card word
           ∙ (ap (λ (xs : List (CardOf other)). xs ++ one_if (is_same kind other) (card_of other card.0 card.1)) (old.lists other)

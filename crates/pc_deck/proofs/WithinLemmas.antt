@@ -14,7 +14,7 @@ use Rattle.pc_deck.specs.Kinds.{CardOf, card_of, entry_of, has_code_of_its_own, 
 use Rattle.pc_deck.specs.inside.Kinds.{is_project}
 use Rattle.pc_cards.specs.Named.{as_list, is_among}
 use Rattle.pc_cards.specs.declared.sort.Sort.{Sort}
-use Rattle.pc_deck.specs.Project.{project_of}
+use Rattle.pc_deck.specs.Project.{project_card}
 use Rattle.pc_cards.specs.inside.Findings.{one_too_many}
 use Rattle.pc_deck.specs.inside.Judged.{judge}
 use Rattle.pc_deck.specs.inside.Reading.{no_cards, with_card, deck_with, list_so_far, seen_in, version_of}
@@ -121,7 +121,7 @@ pub next_within : (draft : Draft) (kind : Kind) (row : ℕ) (fields : List (List
 next_within draft kind row fields text old h =
     let known = faultless (seen_in draft) row fields kind h in
     record {
-      empty = λ none. absurd (let some = still_first (is_project kind) draft.project (project_of row fields) known.placed in let apart : true ≡ false = sym none ∙ some in cc);
+      empty = λ none. absurd (let some = still_first (is_project kind) draft.project (project_card row fields) known.placed in let apart : true ≡ false = sym none ∙ some in cc);
       lists = λ other.
           subst (IsListWithin draft.sort other (version_of (with_card draft kind row fields).project)) (sym (list-more draft row fields kind known other))
           (list_then draft row fields text old kind other (is_same kind other) known refl);

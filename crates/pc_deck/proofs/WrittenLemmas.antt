@@ -19,7 +19,7 @@ use Rattle.pc_deck.specs.Deck.{Deck, list_of}
 use Rattle.pc_deck.specs.WrittenKinds.{written_of}
 use Rattle.pc_deck.specs.Kinds.{CardOf, card_of, least_width_of, slots_of, width_of}
 use Rattle.pc_deck.specs.inside.Kinds.{is_project}
-use Rattle.pc_deck.specs.Project.{project_of, project_kind}
+use Rattle.pc_deck.specs.Project.{project_card, project_kind}
 use Rattle.pc_deck.specs.Text.{record_of, says_nothing, settled, settled_as_of, settled_terms}
 use Rattle.pc_deck.specs.Within.{IsFit, IsWithinLimits}
 use Rattle.pc_deck.specs.declared.kinds.as_of.AsOfCard.{AsOfCard}
@@ -105,8 +105,8 @@ abbrev second_fields : List (List ℕ) → List (List ℕ)
 second_fields fields =
     [] ∷ field_at fields 1 ∷ field_at fields 2 ∷ field_at fields 3 ∷ field_at fields 4 ∷ field_at fields 5 ∷ field_at fields 6 ∷ field_at fields 7 ∷ codes "2" ∷ []
 
-module _ (project : ProjectCard) (row : ℕ) (fields : List (List ℕ)) (is : project ≡ project_of row fields) (fit : AllFit (project_kind.slots Plan) fields) (text : All IsUtf8 fields) where
-  second-is : record project { version = 2 } ≡ project_of row (second_fields fields)
+module _ (project : ProjectCard) (row : ℕ) (fields : List (List ℕ)) (is : project ≡ project_card row fields) (fit : AllFit (project_kind.slots Plan) fields) (text : All IsUtf8 fields) where
+  second-is : record project { version = 2 } ≡ project_card row (second_fields fields)
   second-is = ap (λ (p : ProjectCard). record p { version = 2 }) is
 
   second-fit : AllFit (project_kind.slots Plan) (second_fields fields)

@@ -4,14 +4,14 @@ use Rattle.pc_records.specs.Deck.{field_at}
 use Rattle.pc_model.specs.declared.limits.TheConstants.{MAX_ACCOUNTS}
 use Rattle.pc_cards.specs.Entry.{Entry, in_both, up_to}
 use Rattle.pc_cards.specs.Forms.{money, number_in}
-use Rattle.pc_cards.specs.declared.form.Form.TheVariants as form
+use Rattle.pc_cards.specs.declared.form.FieldForm.TheVariants as form
 use Rattle.pc_deck.specs.declared.kinds.acct.AcctCard.{AcctCard}
 use Rattle.pc_deck.specs.declared.kinds.CardLists.{CardLists}
 use Rattle.pc_deck.specs.Builders.{named_kind}
 
 -- the card that a record spells
-abbrev pub account_of : ℕ → List (List ℕ) → AcctCard
-account_of row fields = record {
+abbrev pub account_card : ℕ → List (List ℕ) → AcctCard
+account_card row fields = record {
   row = row;
   code = field_at fields 1;
   item = field_at fields 2;
@@ -22,6 +22,6 @@ account_of row fields = record {
 -- the kind
 abbrev pub account_kind : Entry CardLists
 account_kind =
-    named_kind account_of (λ account. account.code)
+    named_kind account_card (λ account. account.code)
     (in_both ((2, form.Code) ∷ (3, form.Code) ∷ (4, money) ∷ (5, form.Title) ∷ [])) 5
     (λ lists. lists.accounts) (in_both (up_to MAX_ACCOUNTS))

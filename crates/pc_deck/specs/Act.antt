@@ -5,14 +5,14 @@ use Rattle.pc_model.specs.declared.limits.TheConstants.{MAX_SLOPE, MAX_ACTIVITIE
 use Rattle.pc_cards.specs.Entry.{Entry, growing, in_both, in_plans}
 use Rattle.pc_deck.specs.declared.limits.TheConstants.{SMALL_ACTIVITIES}
 use Rattle.pc_cards.specs.Forms.{duration, money, number_in}
-use Rattle.pc_cards.specs.declared.form.Form.TheVariants as form
+use Rattle.pc_cards.specs.declared.form.FieldForm.TheVariants as form
 use Rattle.pc_deck.specs.declared.kinds.act.ActCard.{ActCard}
 use Rattle.pc_deck.specs.declared.kinds.CardLists.{CardLists}
 use Rattle.pc_deck.specs.Builders.{named_kind}
 
 -- the card that a record spells
-abbrev pub act_of : ℕ → List (List ℕ) → ActCard
-act_of row fields = record {
+abbrev pub act_card : ℕ → List (List ℕ) → ActCard
+act_card row fields = record {
   row = row;
   code = field_at fields 1;
   from = field_at fields 2;
@@ -31,7 +31,7 @@ act_of row fields = record {
 -- the kind
 abbrev pub act_kind : Entry CardLists
 act_kind =
-    named_kind act_of (λ act. act.code)
+    named_kind act_card (λ act. act.code)
     (in_both (
     (2, form.Code) ∷ (3, form.Code) ∷ (4, form.Code) ∷ (5, form.Code)
     ∷ (6, duration) ∷ (7, duration) ∷ (8, duration) ∷ (9, duration) ∷ (10, duration)

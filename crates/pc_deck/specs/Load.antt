@@ -4,18 +4,18 @@ use Rattle.pc_records.specs.Deck.{field_at}
 use Rattle.pc_model.specs.declared.limits.TheConstants.{MAX_LOADS}
 use Rattle.pc_cards.specs.Entry.{Entry, in_both, up_to}
 use Rattle.pc_cards.specs.Forms.{money, number_in}
-use Rattle.pc_cards.specs.declared.form.Form.TheVariants as form
+use Rattle.pc_cards.specs.declared.form.FieldForm.TheVariants as form
 use Rattle.pc_deck.specs.declared.kinds.load.LoadCard.{LoadCard}
 use Rattle.pc_deck.specs.declared.kinds.CardLists.{CardLists}
 use Rattle.pc_deck.specs.Builders.{listed_kind}
 
 -- the card that a record spells
-abbrev pub load_of : ℕ → List (List ℕ) → LoadCard
-load_of row fields = record { row = row; activity = field_at fields 1; resource = field_at fields 2; quantity = number_in (field_at fields 3) }
+abbrev pub load_card : ℕ → List (List ℕ) → LoadCard
+load_card row fields = record { row = row; activity = field_at fields 1; resource = field_at fields 2; quantity = number_in (field_at fields 3) }
 
 -- the kind
 abbrev pub load_kind : Entry CardLists
 load_kind =
-    listed_kind load_of
+    listed_kind load_card
     (in_both ((2, form.Code) ∷ (3, form.Code) ∷ (4, money) ∷ [])) 4
     (λ lists. lists.loads) (in_both (up_to MAX_LOADS))

@@ -6,14 +6,14 @@ use Rattle.pc_days.specs.Calendar.{text_of_day}
 use Rattle.pc_cards.specs.Entry.{Entry, growing, in_both, up_to}
 use Rattle.pc_deck.specs.declared.limits.TheConstants.{SMALL_CHARGES}
 use Rattle.pc_cards.specs.Forms.{money, number_in, day_in}
-use Rattle.pc_cards.specs.declared.form.Form.TheVariants as form
+use Rattle.pc_cards.specs.declared.form.FieldForm.TheVariants as form
 use Rattle.pc_deck.specs.declared.kinds.money.MoneyCard.{MoneyCard}
 use Rattle.pc_deck.specs.declared.kinds.CardLists.{CardLists}
 use Rattle.pc_deck.specs.Builders.{listed_kind}
 
 -- the card that a record spells
-abbrev pub money_of : ℕ → List (List ℕ) → MoneyCard
-money_of row fields = record { row = row; account = field_at fields 1; day = day_in (field_at fields 2); amount = number_in (field_at fields 3) }
+abbrev pub money_card : ℕ → List (List ℕ) → MoneyCard
+money_card row fields = record { row = row; account = field_at fields 1; day = day_in (field_at fields 2); amount = number_in (field_at fields 3) }
 
 -- its fields as they are written
 abbrev pub written_money : MoneyCard → List (List ℕ)
@@ -22,7 +22,7 @@ written_money card = card.account ∷ text_of_day card.day ∷ decimal card.amou
 -- the kind CHARGE
 abbrev pub charge_kind : Entry CardLists
 charge_kind =
-    listed_kind money_of
+    listed_kind money_card
     (in_both ((2, form.Code) ∷ (3, form.Date) ∷ (4, money) ∷ [])) 4
     (λ lists. lists.charges) (in_both (growing SMALL_CHARGES MAX_CHARGES))
 

@@ -5,7 +5,7 @@ use Rattle.pc_text.specs.Number.{number_of}
 use Rattle.pc_model.specs.declared.limits.TheConstants.{MAX_DIRECTED, MAX_UNIT_DAYS}
 use Rattle.pc_cards.specs.Entry.{Entry}
 use Rattle.pc_cards.specs.Forms.{number_in, day_in, own_code}
-use Rattle.pc_cards.specs.declared.form.Form.TheVariants as form
+use Rattle.pc_cards.specs.declared.form.FieldForm.TheVariants as form
 use Rattle.pc_deck.specs.declared.kinds.project.ProjectCard.{ProjectCard}
 use Rattle.pc_deck.specs.declared.kinds.CardLists.{CardLists}
 use Rattle.pc_deck.specs.Builders.{single_kind}
@@ -15,8 +15,8 @@ abbrev pub version_in : List ℕ → ℕ
 version_in field = unwrap_or (number_of field) 1
 
 -- the card that a record spells
-abbrev pub project_of : ℕ → List (List ℕ) → ProjectCard
-project_of row fields = record {
+abbrev pub project_card : ℕ → List (List ℕ) → ProjectCard
+project_card row fields = record {
   row = row;
   code = field_at fields 1;
   start = field_at fields 2;
@@ -31,7 +31,7 @@ project_of row fields = record {
 -- the kind; the last field of its card may be missing, and the card is not in the lists
 abbrev pub project_kind : Entry CardLists
 project_kind =
-    single_kind project_of
+    single_kind project_card
     (λ sort.
     (2, form.Code) ∷ (3, own_code sort) ∷ (4, own_code sort) ∷ (5, form.Date) ∷ (6, form.Number 1 MAX_UNIT_DAYS)
     ∷ (7, form.NumberOrNone 0 MAX_DIRECTED) ∷ (8, form.Title) ∷ (9, form.NumberOrNone 1 2) ∷ []) 8 9

@@ -5,14 +5,14 @@ use Rattle.pc_cards.specs.Entry.{Entry, growing, in_both}
 use Rattle.pc_deck.specs.declared.limits.TheConstants.{SMALL_STATUSES}
 use Rattle.pc_model.specs.declared.limits.TheConstants.{MAX_STATUSES}
 use Rattle.pc_cards.specs.Forms.{day_in}
-use Rattle.pc_cards.specs.declared.form.Form.TheVariants as form
+use Rattle.pc_cards.specs.declared.form.FieldForm.TheVariants as form
 use Rattle.pc_deck.specs.declared.kinds.status.StatusCard.{StatusCard}
 use Rattle.pc_deck.specs.declared.kinds.CardLists.{CardLists}
 use Rattle.pc_deck.specs.Builders.{listed_kind}
 
 -- the card that a record spells
-abbrev pub status_of : ℕ → List (List ℕ) → StatusCard
-status_of row fields = record {
+abbrev pub status_card : ℕ → List (List ℕ) → StatusCard
+status_card row fields = record {
   row = row;
   activity = field_at fields 1;
   finished = bytes_eq (field_at fields 2) (codes "F");
@@ -22,6 +22,6 @@ status_of row fields = record {
 -- the kind
 abbrev pub status_kind : Entry CardLists
 status_kind =
-    listed_kind status_of
+    listed_kind status_card
     (in_both ((2, form.Code) ∷ (3, form.Letter) ∷ (4, form.Date) ∷ [])) 4
     (λ lists. lists.statuses) (in_both (growing SMALL_STATUSES MAX_STATUSES))

@@ -5,14 +5,14 @@ use Rattle.pc_model.specs.declared.limits.TheConstants.{MAX_SLOPE}
 use Rattle.pc_cards.specs.Entry.{Entry, in_both, in_tasks, up_to}
 use Rattle.pc_deck.specs.declared.limits.TheConstants.{MAX_TASKS}
 use Rattle.pc_cards.specs.Forms.{duration, money, number_in}
-use Rattle.pc_cards.specs.declared.form.Form.TheVariants as form
+use Rattle.pc_cards.specs.declared.form.FieldForm.TheVariants as form
 use Rattle.pc_deck.specs.declared.kinds.task.TaskCard.{TaskCard}
 use Rattle.pc_deck.specs.declared.kinds.CardLists.{CardLists}
 use Rattle.pc_deck.specs.Builders.{named_kind}
 
 -- the card that a record spells
-abbrev pub task_of : ℕ → List (List ℕ) → TaskCard
-task_of row fields = record {
+abbrev pub task_card : ℕ → List (List ℕ) → TaskCard
+task_card row fields = record {
   row = row;
   code = field_at fields 1;
   item = field_at fields 2;
@@ -29,7 +29,7 @@ task_of row fields = record {
 -- the kind
 abbrev pub task_kind : Entry CardLists
 task_kind =
-    named_kind task_of (λ task. task.code)
+    named_kind task_card (λ task. task.code)
     (in_both (
     (2, form.GivenCode) ∷ (3, form.Code)
     ∷ (4, duration) ∷ (5, duration) ∷ (6, duration) ∷ (7, duration) ∷ (8, duration)

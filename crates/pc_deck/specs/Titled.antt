@@ -4,14 +4,14 @@ use Rattle.pc_records.specs.Deck.{field_at}
 use Rattle.pc_cards.specs.Entry.{Entry, growing, in_both, in_plans, up_to}
 use Rattle.pc_deck.specs.declared.limits.TheConstants.{SMALL_EVENTS}
 use Rattle.pc_model.specs.declared.limits.TheConstants.{MAX_EVENTS, MAX_RESOURCES}
-use Rattle.pc_cards.specs.declared.form.Form.TheVariants as form
+use Rattle.pc_cards.specs.declared.form.FieldForm.TheVariants as form
 use Rattle.pc_deck.specs.declared.kinds.titled.TitledCard.{TitledCard}
 use Rattle.pc_deck.specs.declared.kinds.CardLists.{CardLists}
 use Rattle.pc_deck.specs.Builders.{named_kind}
 
 -- the card that a record spells
-abbrev pub titled_of : ℕ → List (List ℕ) → TitledCard
-titled_of row fields = record { row = row; code = field_at fields 1; title = field_at fields 2 }
+abbrev pub titled_card : ℕ → List (List ℕ) → TitledCard
+titled_card row fields = record { row = row; code = field_at fields 1; title = field_at fields 2 }
 
 -- its fields as they are written
 abbrev pub written_titled : TitledCard → List (List ℕ)
@@ -20,7 +20,7 @@ written_titled card = card.code ∷ card.title ∷ []
 -- the kind EVENT
 abbrev pub event_kind : Entry CardLists
 event_kind =
-    named_kind titled_of (λ card. card.code)
+    named_kind titled_card (λ card. card.code)
     (in_both ((2, form.Code) ∷ (3, form.Title) ∷ [])) 3
     (λ lists. lists.events) (in_plans (growing SMALL_EVENTS MAX_EVENTS))
 

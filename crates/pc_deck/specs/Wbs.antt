@@ -6,18 +6,18 @@ use Rattle.pc_cards.specs.Entry.{Entry, by_sort, up_to}
 use Rattle.pc_model.specs.declared.limits.TheConstants.{MAX_ITEMS}
 use Rattle.pc_deck.specs.declared.limits.TheConstants.{MAX_TASK_ITEMS}
 use Rattle.pc_cards.specs.Forms.{own_code}
-use Rattle.pc_cards.specs.declared.form.Form.TheVariants as form
+use Rattle.pc_cards.specs.declared.form.FieldForm.TheVariants as form
 use Rattle.pc_deck.specs.declared.kinds.wbs.ItemCard.{ItemCard}
 use Rattle.pc_deck.specs.declared.kinds.CardLists.{CardLists}
 use Rattle.pc_deck.specs.Builders.{named_kind}
 
 -- the card that a record spells
-abbrev pub item_of : ℕ → List (List ℕ) → ItemCard
-item_of row fields = record { row = row; code = field_at fields 1; parent = code_of (field_at fields 2); title = field_at fields 3 }
+abbrev pub item_card : ℕ → List (List ℕ) → ItemCard
+item_card row fields = record { row = row; code = field_at fields 1; parent = code_of (field_at fields 2); title = field_at fields 3 }
 
 -- the kind
 abbrev pub item_kind : Entry CardLists
 item_kind =
-    named_kind item_of (λ item. item.code)
+    named_kind item_card (λ item. item.code)
     (λ sort. (2, own_code sort) ∷ (3, form.CodeOrNone) ∷ (4, form.Title) ∷ []) 4
     (λ lists. lists.items) (by_sort (up_to MAX_ITEMS) (up_to MAX_TASK_ITEMS))

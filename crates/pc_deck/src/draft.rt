@@ -8,7 +8,7 @@ ghost use Rattle.pc_faults.specs.inside.First.{Refuses};
 use crate::deck_cards::DeckCards;
 use crate::kinds::{CardLists, ProjectCard, kind_of, limit_of};
 use pc_cards::lists::Once;
-use pc_cards::place::Place;
+use pc_cards::place::CardPlace;
 use pc_cards::reading::wrong_fields;
 use pc_cards::sort::Sort;
 use pc_faults::{DeckError, Fault, Kind};
@@ -53,10 +53,10 @@ impl Draft {
     }
 
     /// Where a card of the kind stands behind the cards so far.
-    fn place(&self, kind: Kind, row: u32) -> Place
+    fn place(&self, kind: Kind, row: u32) -> CardPlace
         ensures { result ≡ place_of (seen_in self.now) kind row }
     {
-        Place {
+        CardPlace {
             sort: self.sort,
             kind,
             row,
@@ -82,7 +82,7 @@ impl Draft {
     }
 
     /// Takes the END card, or answers its fault.
-    pub(crate) fn end(&mut self, place: &Place, fields: &Row) -> Result<(), DeckError>
+    pub(crate) fn end(&mut self, place: &CardPlace, fields: &Row) -> Result<(), DeckError>
         requires { place.now.kind ≡ kind.End }
         ensures kept { OnOk result (self.new ≡ record self.old { has_ended = true }) }
         ensures sound { OnOk result (fault_of_listed place.now (count_in self.old kind.End) 1 1 [] fields.now ≡ None) }

@@ -17,7 +17,7 @@ use crate::cards::{Cards, TaskCards};
 use crate::deck_cards::DeckCards;
 use crate::draft::Draft;
 use crate::limits::DECK_LIMIT;
-use pc_cards::rows::{CardRows, Next};
+use pc_cards::rows::{CardRows, NextCard};
 use pc_cards::sort::Sort;
 use pc_faults::{DeckError, NOT_UTF8};
 use pc_names::key_of_bytes;
@@ -158,8 +158,8 @@ fn take_all(alloc: Global, bytes: &[u8], draft: &mut Draft) -> Result<u32, DeckE
     let mut fields = Row::with_room(alloc, ROW_BYTES, ROW_FIELDS)?;
     'cards: loop {
         let row = match rows.next(&mut fields)? {
-            Next::Card(row) => row,
-            Next::End(end) => return Ok(end),
+            NextCard::Card(row) => row,
+            NextCard::End(end) => return Ok(end),
         };
         if let Err(e) = draft.take(row, &fields) {
             return Err(e);

@@ -84,14 +84,14 @@ status_words reason.NoStart = codes "finish without start"
 status_words reason.FinishFirst = codes "finish before start"
 
 -- each code behind a space
-abbrev pub spaced : List (List ℕ) → List ℕ
-spaced [] = []
-spaced (code ∷ rest) = codes " " ++ code ++ spaced rest
+abbrev pub spaced_codes : List (List ℕ) → List ℕ
+spaced_codes [] = []
+spaced_codes (code ∷ rest) = codes " " ++ code ++ spaced_codes rest
 
 -- the codes, with a space between one and the next
 abbrev pub joined : List (List ℕ) → List ℕ
 joined [] = []
-joined (code ∷ rest) = code ++ spaced rest
+joined (code ∷ rest) = code ++ spaced_codes rest
 
 -- what is wrong
 abbrev pub words_of : ℕ → Detail → List ℕ

@@ -1,6 +1,6 @@
 //! Several codes on one line.
 ghost use Rattle.std.specs.Prelude.{◌≡◌, ◌≤◌, ◌+◌, ◌*◌, ◌++◌, length};
-ghost use Rattle.pc_faults.specs.FaultText.{spaced, joined};
+ghost use Rattle.pc_faults.specs.FaultText.{spaced_codes, joined};
 
 use pc_text::{Code, Line};
 
@@ -20,7 +20,7 @@ pub fn tell_joined(line: &mut Line, codes: &[Code])
 /// Appends each code behind a space.
 fn tell_spaced(line: &mut Line, codes: &[Code])
     requires { length line.old.bytes + 17 * length codes.now ≤ line.old.room }
-    ensures bytes { line.new.bytes ≡ line.old.bytes ++ spaced codes.now }
+    ensures bytes { line.new.bytes ≡ line.old.bytes ++ spaced_codes codes.now }
     ensures room { line.new.room ≡ line.old.room }
     ensures short { length line.new.bytes ≤ length line.old.bytes + 17 * length codes.now }
 {

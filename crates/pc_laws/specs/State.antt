@@ -84,8 +84,8 @@ pub record IsStep (net : Network) (terms : List Term) (knees : Knees) (st : Stat
   pub others_beside : (b : ℕ) → b < length net.arcs → b ≢ a → beside b ≡ next_beside b
 
 -- the state with the raised flows
-abbrev pub raised : State → (ℕ → ℕ → ℕ) → (ℕ → ℕ) → ℕ → State
-raised st flow beside room =
+abbrev pub augmented : State → (ℕ → ℕ → ℕ) → (ℕ → ℕ) → ℕ → State
+augmented st flow beside room =
     record { limit = st.limit; time = st.time; flow = flow; beside = beside; value = st.value + room }
 
 -- The way on where they do not

@@ -7,8 +7,8 @@ use Rattle.pc_laws.specs.Curve.{Breakpoint}
 
 -- a segment as a certificate lists it: its ends, cost and slope; the events' times, and a 1 for each that moves; the
 -- activities' durations, the flows at their knees, and those beside them
-abbrev pub listed : ℕ → ℕ → ℕ → ℕ → List ℕ → List ℕ → List ℕ → List (List ℕ) → List ℕ → Segment
-listed upper lower cost slope times bits durations flows besides = record {
+abbrev pub worked_segment : ℕ → ℕ → ℕ → ℕ → List ℕ → List ℕ → List ℕ → List (List ℕ) → List ℕ → Segment
+worked_segment upper lower cost slope times bits durations flows besides = record {
   upper = upper;
   lower = lower;
   cost = cost;
@@ -30,16 +30,16 @@ last_point limit cost = record { limit = limit; cost = cost; slope = None }
 -- The small deck, where the second unit saved of A costs 6: A has the knees 4 and 3, at each of which its slope rises by 3
 
 abbrev pub small_1 : Segment
-small_1 = listed 9 8 45 3 (0 ∷ 4 ∷ 9 ∷ []) (0 ∷ 1 ∷ 1 ∷ []) (4 ∷ 5 ∷ 7 ∷ []) ((3 ∷ 0 ∷ []) ∷ (3 ∷ []) ∷ (0 ∷ []) ∷ []) []
+small_1 = worked_segment 9 8 45 3 (0 ∷ 4 ∷ 9 ∷ []) (0 ∷ 1 ∷ 1 ∷ []) (4 ∷ 5 ∷ 7 ∷ []) ((3 ∷ 0 ∷ []) ∷ (3 ∷ []) ∷ (0 ∷ []) ∷ []) []
 
 abbrev pub small_2 : Segment
-small_2 = listed 8 7 48 5 (0 ∷ 3 ∷ 8 ∷ []) (0 ∷ 0 ∷ 1 ∷ []) (3 ∷ 5 ∷ 7 ∷ []) ((3 ∷ 2 ∷ []) ∷ (5 ∷ []) ∷ (0 ∷ []) ∷ []) []
+small_2 = worked_segment 8 7 48 5 (0 ∷ 3 ∷ 8 ∷ []) (0 ∷ 0 ∷ 1 ∷ []) (3 ∷ 5 ∷ 7 ∷ []) ((3 ∷ 2 ∷ []) ∷ (5 ∷ []) ∷ (0 ∷ []) ∷ []) []
 
 abbrev pub small_3 : Segment
-small_3 = listed 7 6 53 7 (0 ∷ 3 ∷ 7 ∷ []) (0 ∷ 0 ∷ 1 ∷ []) (3 ∷ 4 ∷ 7 ∷ []) ((3 ∷ 2 ∷ []) ∷ (5 ∷ []) ∷ (2 ∷ []) ∷ []) []
+small_3 = worked_segment 7 6 53 7 (0 ∷ 3 ∷ 7 ∷ []) (0 ∷ 0 ∷ 1 ∷ []) (3 ∷ 4 ∷ 7 ∷ []) ((3 ∷ 2 ∷ []) ∷ (5 ∷ []) ∷ (2 ∷ []) ∷ []) []
 
 abbrev pub small_4 : Segment
-small_4 = listed 6 5 60 8 (0 ∷ 3 ∷ 6 ∷ []) (0 ∷ 1 ∷ 1 ∷ []) (3 ∷ 3 ∷ 6 ∷ []) ((3 ∷ 3 ∷ []) ∷ (5 ∷ []) ∷ (2 ∷ []) ∷ []) (0 ∷ 1 ∷ 0 ∷ [])
+small_4 = worked_segment 6 5 60 8 (0 ∷ 3 ∷ 6 ∷ []) (0 ∷ 1 ∷ 1 ∷ []) (3 ∷ 3 ∷ 6 ∷ []) ((3 ∷ 3 ∷ []) ∷ (5 ∷ []) ∷ (2 ∷ []) ∷ []) (0 ∷ 1 ∷ 0 ∷ [])
 
 abbrev pub small_segments : List Segment
 small_segments = small_1 ∷ small_2 ∷ small_3 ∷ small_4 ∷ []
@@ -68,22 +68,22 @@ bridge_terms =
 
 -- D is shortened
 abbrev pub bridge_1 : Segment
-bridge_1 = listed 11 10 50 2 (0 ∷ 4 ∷ 7 ∷ 11 ∷ []) (0 ∷ 0 ∷ 1 ∷ 1 ∷ []) (4 ∷ 6 ∷ 3 ∷ 6 ∷ 4 ∷ [])
+bridge_1 = worked_segment 11 10 50 2 (0 ∷ 4 ∷ 7 ∷ 11 ∷ []) (0 ∷ 0 ∷ 1 ∷ 1 ∷ []) (4 ∷ 6 ∷ 3 ∷ 6 ∷ 4 ∷ [])
     ((2 ∷ []) ∷ (0 ∷ []) ∷ (2 ∷ []) ∷ (0 ∷ []) ∷ (2 ∷ []) ∷ []) []
 
 -- A and F are, and D gets its unit back
 abbrev pub bridge_2 : Segment
-bridge_2 = listed 10 9 52 4 (0 ∷ 4 ∷ 6 ∷ 10 ∷ []) (0 ∷ 1 ∷ 0 ∷ 1 ∷ []) (4 ∷ 6 ∷ 2 ∷ 6 ∷ 4 ∷ [])
+bridge_2 = worked_segment 10 9 52 4 (0 ∷ 4 ∷ 6 ∷ 10 ∷ []) (0 ∷ 1 ∷ 0 ∷ 1 ∷ []) (4 ∷ 6 ∷ 2 ∷ 6 ∷ 4 ∷ [])
     ((3 ∷ []) ∷ (1 ∷ []) ∷ (2 ∷ []) ∷ (1 ∷ []) ∷ (3 ∷ []) ∷ []) []
 
 -- A and F down to their crash durations
 abbrev pub bridge_3 : Segment
-bridge_3 = listed 9 7 56 6 (0 ∷ 3 ∷ 6 ∷ 9 ∷ []) (0 ∷ 1 ∷ 0 ∷ 1 ∷ []) (3 ∷ 6 ∷ 3 ∷ 6 ∷ 3 ∷ [])
+bridge_3 = worked_segment 9 7 56 6 (0 ∷ 3 ∷ 6 ∷ 9 ∷ []) (0 ∷ 1 ∷ 0 ∷ 1 ∷ []) (3 ∷ 6 ∷ 3 ∷ 6 ∷ 3 ∷ [])
     ((3 ∷ []) ∷ (3 ∷ []) ∷ (0 ∷ []) ∷ (3 ∷ []) ∷ (3 ∷ []) ∷ []) []
 
 -- B and E
 abbrev pub bridge_4 : Segment
-bridge_4 = listed 7 6 68 18 (0 ∷ 1 ∷ 6 ∷ 7 ∷ []) (0 ∷ 0 ∷ 1 ∷ 1 ∷ []) (1 ∷ 6 ∷ 3 ∷ 6 ∷ 1 ∷ [])
+bridge_4 = worked_segment 7 6 68 18 (0 ∷ 1 ∷ 6 ∷ 7 ∷ []) (0 ∷ 0 ∷ 1 ∷ 1 ∷ []) (1 ∷ 6 ∷ 3 ∷ 6 ∷ 1 ∷ [])
     ((3 ∷ []) ∷ (9 ∷ []) ∷ (0 ∷ []) ∷ (9 ∷ []) ∷ (3 ∷ []) ∷ []) (6 ∷ 0 ∷ 0 ∷ 0 ∷ 6 ∷ [])
 
 abbrev pub bridge_segments : List Segment

@@ -23,7 +23,7 @@ ghost use Rattle.pc_laws.specs.State.{
   rests,
   IsRaising,
   IsStep,
-  raised,
+  augmented,
   IsStuck,
   IsFall,
   segment_of,
@@ -93,7 +93,7 @@ pub fn raising_keeps_optimal()
         (beside : ℕ → ℕ) (room : ℕ) →
         IsPriced net terms knees → IsOptimal net terms knees st →
         IsRaising net terms knees st flow beside net.start room →
-        IsOptimal net terms knees (raised st flow beside room) }
+        IsOptimal net terms knees (augmented st flow beside room) }
 {}
 
 /// States that the times can be shortened if the labels do not reach the end. The step is at least 1, and passes

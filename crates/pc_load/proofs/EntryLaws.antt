@@ -9,7 +9,7 @@ use Rattle.pc_project.specs.Planned.{IsLoad, IsPlanned}
 use Rattle.pc_project.specs.Project.{Project}
 use Rattle.pc_load.specs.declared.table.LoadRow.{LoadRow}
 use Rattle.pc_load.specs.inside.Entries.{AreCosts, AreLoads, AreTimes}
-use Rattle.pc_load.specs.Loading.{cost_at, load_at, spread_at}
+use Rattle.pc_load.specs.Loading.{normal_cost_at, load_at, spread_at}
 use Rattle.pc_load.specs.inside.Share.{IsSpread}
 use Rattle.pc_load.specs.inside.Table.{AreEntries, IsOver}
 use Rattle.pc_load.proofs.EndLaws.{ends_within}
@@ -17,12 +17,12 @@ use Rattle.pc_load.proofs.EndLaws.{ends_within}
 -- an entry more
 pub costs_more : (project : Project) (times : List ℕ) (n : ℕ) (entries more : List LoadRow) (entry : LoadRow) →
     AreCosts project times n entries → more ≡ entries ++ entry ∷ [] →
-    entry ≡ record { row = slice_index project.places n; spread = spread_at project times n (cost_at project n) } →
+    entry ≡ record { row = slice_index project.places n; spread = spread_at project times n (normal_cost_at project n) } →
     AreCosts project times (n + 1) more
 costs_more project times n entries more entry so_far pushed is =
     subst (AreCosts project times (n + 1)) (sym pushed) (record {
       one_each = length_push entries entry ∙ ap (λ (m : ℕ). m + 1) so_far.one_each;
-      each = each_more (λ a e. e ≡ record { row = slice_index project.places a; spread = spread_at project times a (cost_at project a) })
+      each = each_more (λ a e. e ≡ record { row = slice_index project.places a; spread = spread_at project times a (normal_cost_at project a) })
           entries entry (record { row = 0; spread = record { begin = 0; length = 0; amount = 0 } }) n so_far.one_each so_far.each is;
     })
 
@@ -75,7 +75,7 @@ costs_fit project times entries planned are costs = record {
       subst (λ (r : ℕ). r < length project.tree) (sym (ap (λ (entry : LoadRow). entry.row) (costs.each e h))) placed;
   spreads = λ e lt. let h : e < length project.network.arcs = omega (arith, costs.one_each) in
       subst IsSpread (sym (ap (λ (entry : LoadRow). entry.spread) (costs.each e h)))
-      (spread_within project times e (cost_at project e) planned are h
+      (spread_within project times e (normal_cost_at project e) planned are h
       (planned.limits.cheap e (omega (arith, planned.terms.one_each))));
 }
 

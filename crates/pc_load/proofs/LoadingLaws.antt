@@ -11,7 +11,7 @@ use Rattle.pc_load.specs.declared.spread.Spread.{Spread}
 use Rattle.pc_load.specs.declared.table.LoadRow.{LoadRow}
 use Rattle.pc_load.specs.inside.Entries.{AreCosts, AreLoads, AreTimes}
 use Rattle.pc_load.specs.inside.Items.{IsItemTable}
-use Rattle.pc_load.specs.Loading.{AreItemParts, AreResourceParts, ItemsAddUp, ResourcesAddUp, cost_at, cost_part, load_at, load_part, part_at, spread_at}
+use Rattle.pc_load.specs.Loading.{AreItemParts, AreResourceParts, ItemsAddUp, ResourcesAddUp, normal_cost_at, cost_part, load_at, load_part, part_at, spread_at}
 use Rattle.pc_load.specs.Table.{Table, amount_in, column, sum_before}
 use Rattle.pc_load.specs.inside.Table.{IsTableOf, part_in, row_of, spread_of}
 use Rattle.pc_load.proofs.EntryLaws.{load_known, spread_over}
@@ -44,7 +44,7 @@ items_have_parts project times entries width periods leaves items planned costs 
 }
   where
     -- what an entry is
-    at : (e : ℕ) → e < length entries → (row_of entries e ≡ slice_index project.places e) × (spread_of entries e ≡ spread_at project times e (cost_at project e))
+    at : (e : ℕ) → e < length entries → (row_of entries e ≡ slice_index project.places e) × (spread_of entries e ≡ spread_at project times e (normal_cost_at project e))
     at e below =
         let entry = costs.each e (omega (arith, costs.one_each)) in
         (ap (λ (l : LoadRow). l.row) entry, ap (λ (l : LoadRow). l.spread) entry)
@@ -74,10 +74,11 @@ pub items_add_up : (project : Project) (times : List ℕ) (width periods : ℕ) 
     ItemsAddUp project items
 items_add_up project times width periods items planned are some whole parts y known =
     subst (λ (n : ℕ). IsSumOver (λ a. IsBelow project.tree (slice_index project.places a) y) (length project.network.arcs)
-    (λ a. pos (cost_at project a)) (sum_before n (amount_in items y))) (sym parts.period_count)
-    (adds_up (λ a. IsBelow project.tree (slice_index project.places a) y) (length project.network.arcs) periods width (λ a. spread_at project times a (cost_at project a)) (amount_in items y) some
+    (λ a. pos (normal_cost_at project a)) (sum_before n (amount_in items y))) (sym parts.period_count)
+    (adds_up (λ a. IsBelow project.tree (slice_index project.places a) y) (length project.network.arcs) periods width (λ a. spread_at project times a (normal_cost_at project a))
+    (amount_in items y) some
     (λ k lt. parts.each y k known lt)
-    (λ a h. spread_over project times a (cost_at project a) (width * periods) planned are h whole))
+    (λ a h. spread_over project times a (normal_cost_at project a) (width * periods) planned are h whole))
 
 -- the table of resources has the parts of the quantities
 pub resources_have_parts : (project : Project) (times : List ℕ) (entries : List LoadRow) (width periods : ℕ) (resources : Table) →

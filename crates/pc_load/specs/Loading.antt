@@ -26,8 +26,8 @@ spread_at project times a amount = record {
 }
 
 -- what activity a costs at its normal duration
-abbrev pub cost_at : Project → ℕ → ℕ
-cost_at project a = base_cost_of project.terms a
+abbrev pub normal_cost_at : Project → ℕ → ℕ
+normal_cost_at project a = base_cost_of project.terms a
 
 -- the l-th load; past the end of the list one without a quantity
 abbrev pub load_at : Project → ℕ → LoadItem
@@ -39,7 +39,7 @@ part_at s width k = part s (width * k) (width * (k + 1))
 
 -- the part of the cost of activity a in period k
 abbrev pub cost_part : Project → List ℕ → ℕ → ℕ → ℕ → ℕ
-cost_part project times width k a = part_at (spread_at project times a (cost_at project a)) width k
+cost_part project times width k a = part_at (spread_at project times a (normal_cost_at project a)) width k
 
 -- the part of the quantity of load l in period k, spread as its activity is
 abbrev pub load_part : Project → List ℕ → ℕ → ℕ → ℕ → ℕ
@@ -49,12 +49,12 @@ load_part project times width k l =
 -- ---- periods
 
 -- how wide a period of so many days is, in sixths of a day
-abbrev pub width_of : ℕ → ℕ
-width_of days = 6 * days
+abbrev pub period_width : ℕ → ℕ
+period_width days = 6 * days
 
 -- how many periods of so many days hold a project that ends at a time
 abbrev pub periods_for : ℕ → ℕ → ℕ
-periods_for days end = end / width_of days + 1
+periods_for days end = end / period_width days + 1
 
 -- so many periods of so many days hold the project: the last one has the earliest time of its end event
 pub record ArePeriods (project : Project) (days periods : ℕ) : Type 0 where
@@ -87,7 +87,7 @@ pub record AreResourceParts (project : Project) (times : List ℕ) (width period
 abbrev pub ItemsAddUp : Project → Table → Type 0
 ItemsAddUp project items =
     (y : ℕ) → y < length project.tree
-    → IsSumOver (λ a. IsBelow project.tree (slice_index project.places a) y) (length project.network.arcs) (λ a. pos (cost_at project a)) (total_of items y)
+    → IsSumOver (λ a. IsBelow project.tree (slice_index project.places a) y) (length project.network.arcs) (λ a. pos (normal_cost_at project a)) (total_of items y)
 
 -- over all periods each resource adds up to the quantities of its loads
 abbrev pub ResourcesAddUp : Project → Table → Type 0
@@ -112,8 +112,8 @@ pub record IsLoading (project : Project) (days : ℕ) (loading : Loading) : Type
   pub periods : ℕ
   pub are : ArePeriods project days periods
   pub few : periods ≤ MAX_PERIODS
-  pub items : AreItemParts project times (width_of days) periods loading.items
-  pub resources : AreResourceParts project times (width_of days) periods loading.resources
+  pub items : AreItemParts project times (period_width days) periods loading.items
+  pub resources : AreResourceParts project times (period_width days) periods loading.resources
   pub items_add_up : ItemsAddUp project loading.items
   pub resources_add_up : ResourcesAddUp project loading.resources
   pub levels_add_up : LevelsAddUp project.tree loading.items

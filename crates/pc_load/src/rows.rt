@@ -42,12 +42,12 @@ impl<'a> Rows for PeriodRows<'a> {
 
 /// The rows of each item, in preorder.
 #[derive(Clone, Copy)]
-pub(crate) struct ItemRows<'a> {
+pub(crate) struct ItemLoadRows<'a> {
     pub(crate) project: &'a Project,
     pub(crate) printed: &'a PrintedLoad<'a>,
 }
 
-impl<'a> Rows for ItemRows<'a> {
+impl<'a> Rows for ItemLoadRows<'a> {
     ghost row_count = { λ t. length t.printed.now.order.now };
 
     ghost row_text = { λ t. item_rows t.project.now (loading_of t.printed.now) };

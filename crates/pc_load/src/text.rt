@@ -9,7 +9,7 @@ ghost use Rattle.pc_load.specs.LoadText.{head_line, load_text};
 ghost use Rattle.pc_wbs.specs.Preorder.{IsPreorder};
 
 use crate::loading::{Loading, MAX_DAYS, PrintedLoad};
-use crate::rows::{ItemRows, PeriodRows, ResourceRows};
+use crate::rows::{ItemLoadRows, PeriodRows, ResourceRows};
 use crate::table::Table;
 use pc_edges::page::{Page, put_rows};
 use pc_edges::{Failed, Sink};
@@ -85,7 +85,7 @@ fn put_load<O: Sink>(page: &mut Page, sink: &mut O, project: &Project, printed: 
     put_head(page, sink, project, printed.days);
     put_rows(page, sink, &PeriodRows { project, printed });
     page.put(sink, b"ITEMS\n");
-    put_rows(page, sink, &ItemRows { project, printed });
+    put_rows(page, sink, &ItemLoadRows { project, printed });
     page.put(sink, b"RESOURCES\n");
     put_rows(page, sink, &ResourceRows { project, printed });
 }

@@ -185,11 +185,11 @@ fn push_all_pushes_each_byte(rt: HostRuntime) -> Result<(), Fail> {
 
 /// A stream that takes or gives a byte at its first turn, fails at its second, and takes or gives nothing then.
 #[derive(Drop)]
-struct Faulty {
+struct FailingStream {
     turn: u8,
 }
 
-impl Faulty {
+impl FailingStream {
     fn next_turn(&mut self) -> io::Result<usize>
         ensures { IfOk result (λ n. n ≤ 1) }
     {
@@ -202,7 +202,7 @@ impl Faulty {
     }
 }
 
-impl Read for Faulty {
+impl Read for FailingStream {
     fn read(&mut self, buffer: &mut [u8]) -> io::Result<usize> {
         if buffer.is_empty() {
             return Ok(0);
@@ -212,7 +212,7 @@ impl Read for Faulty {
     }
 }
 
-impl Write for Faulty {
+impl Write for FailingStream {
     fn write(&mut self, piece: &[u8]) -> io::Result<usize> {
         if piece.is_empty() {
             return Ok(0);
@@ -241,7 +241,7 @@ fn four_pulls<S: Source>(source: &mut S) -> [Result<usize, Failed>; 4] {
 fn read_source_reads(rt: HostRuntime) {
     let mut source = ReadSource::new(TEXT);
     assert!(rt; loaded(rt.alloc(), &mut source, 10, TEXT) == Ok(true));
-    let answers = four_pulls(&mut ReadSource::new(Faulty { turn: 0 }));
+    let answers = four_pulls(&mut ReadSource::new(FailingStream { turn: 0 }));
     assert!(rt; answers == [Ok(0), Ok(1), Err(Failed), Ok(0)]);
 }
 
@@ -259,7 +259,7 @@ fn is_written(alloc: Global, text: &[u8]) -> bool {
 /// Whether a push of nothing, one of a text, a flush and a push of the text again give these answers on a stream whose
 /// second turn fails.
 fn is_faulty_written(text: &[u8]) -> bool {
-    let mut sink = WriteSink::new(Faulty { turn: 0 });
+    let mut sink = WriteSink::new(FailingStream { turn: 0 });
     sink.push(&[]) == Ok(0)
         && sink.push(text) == Ok(1)
         && sink.flush() == Err(Failed)

@@ -6,11 +6,11 @@ use std::test::Fail;
 
 /// The numbers below a number, a line each.
 #[derive(Clone, Copy)]
-struct Numbers {
+struct NumberLines {
     below: usize,
 }
 
-impl Rows for Numbers {
+impl Rows for NumberLines {
     ghost use Rattle.std.specs.Prelude.{⊤};
 
     ghost row_count = { λ rows. rows.below };
@@ -63,7 +63,7 @@ fn pieces_of_every_kind(rt: HostRuntime) -> Result<(), Fail> {
     page.put_signed_right(&mut sink, 4, -6);
     page.put_signed(&mut sink, -37);
     page.put(&mut sink, b"\n");
-    put_rows(&mut page, &mut sink, &Numbers { below: 3 });
+    put_rows(&mut page, &mut sink, &NumberLines { below: 3 });
     assert!(rt; page.finish(&mut sink).is_ok());
     assert_eq!(rt;
         sink.bytes(),

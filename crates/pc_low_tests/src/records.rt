@@ -1,11 +1,11 @@
 //! Decks that are read record by record, and records that are written.
-use pc_records::{Row, RowWriter, Rows};
+use pc_records::{Row, RowReader, RowWriter};
 use std::alloc::{AllocError, Global};
 use std::test::Fail;
 
 // Every record of a deck in square brackets, its fields between strokes, as `[a|b][c]`.
 fn spelled(alloc: Global, deck: &[u8]) -> Result<Vec<u8>, AllocError> {
-    let mut rows = Rows::new(alloc, deck);
+    let mut rows = RowReader::new(alloc, deck);
     let mut row = Row::with_room(alloc, 8, 2)?;
     let mut text = Vec::new(alloc);
     'rows: while rows.next_row(&mut row)? {
@@ -87,7 +87,7 @@ fn has_fields(row: &Row) -> bool {
 
 // Whether a deck of two records gives them and then nothing more.
 fn gives_two_records(alloc: Global) -> Result<[bool; 7], AllocError> {
-    let mut rows = Rows::new(alloc, b"ab,,c\n,,\n");
+    let mut rows = RowReader::new(alloc, b"ab,,c\n,,\n");
     let mut row = Row::new(alloc);
     let is_empty = row.is_empty() && row.is_blank();
     let is_first = rows.next_row(&mut row)?;

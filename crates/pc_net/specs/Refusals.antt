@@ -15,9 +15,9 @@ pub record IsFirstDangling (net : Network) (event : ℕ) (entered : Bool) : Type
   pub unentered : IsFalse entered ↔ IsUnentered net event
 
 -- the error says what is wrong with the network; memory may run out at any time
-abbrev pub IsRefusal : Network → NetError → Type 0
-IsRefusal net (StartEntered arc) = IsFirst (EntersStart net) arc
-IsRefusal net (EndLeft arc) = (IsEntered net net.start → ⊥) × IsFirst (LeavesEnd net) arc
-IsRefusal net (Dangling event entered) = IsFirstDangling net event entered
-IsRefusal net (Cycle cycle) = IsFirm net × IsFirstCycle net.arcs cycle
-IsRefusal net OutOfMemory = Unit {0}
+abbrev pub IsNetError : Network → NetError → Type 0
+IsNetError net (StartEntered arc) = IsFirst (EntersStart net) arc
+IsNetError net (EndLeft arc) = (IsEntered net net.start → ⊥) × IsFirst (LeavesEnd net) arc
+IsNetError net (Dangling event entered) = IsFirstDangling net event entered
+IsNetError net (Cycle cycle) = IsFirm net × IsFirstCycle net.arcs cycle
+IsNetError net OutOfMemory = Unit {0}

@@ -3,7 +3,7 @@ ghost use Rattle.std.specs.Prelude.{◌<◌, IfErr, IsErrOf, MatchBool, OnOk};
 ghost use Rattle.pc_model.specs.Network.{IsDangling};
 ghost use Rattle.pc_net.specs.Firmness.{EntersStart, LeavesEnd, Dangles, IsUnentered, IsFirm};
 ghost use Rattle.pc_net.specs.inside.Firmness.{IsFirstIn, IsUnleft};
-ghost use Rattle.pc_net.specs.Refusals.{IsRefusal};
+ghost use Rattle.pc_net.specs.Refusals.{IsNetError};
 
 use crate::graph::Graph;
 use crate::refusal::NetError;
@@ -11,7 +11,7 @@ use crate::refusal::NetError;
 /// Refuses a network where an activity enters the start or leaves the end, or where an event dangles.
 pub(crate) fn check(graph: &Graph) -> Result<(), NetError>
     ensures firm { OnOk result (IsFirm graph.now) }
-    ensures refused { IfErr result (IsRefusal graph.now) }
+    ensures refused { IfErr result (IsNetError graph.now) }
     ensures in_memory { IsErrOf result NetError.OutOfMemory → ⊥ }
 {
     if let Some(arc) = entering_start(graph) {

@@ -6,7 +6,7 @@ ghost use Rattle.pc_model.specs.Walk.{from_of, to_of};
 ghost use Rattle.pc_model.specs.Network.{IsInRange, IsSound, IsOrder};
 ghost use Rattle.pc_net.specs.Networks.{events_from, events_to};
 ghost use Rattle.pc_net.specs.inside.Networks.{network};
-ghost use Rattle.pc_net.specs.Refusals.{IsRefusal};
+ghost use Rattle.pc_net.specs.Refusals.{IsNetError};
 
 use crate::cycle::first_cycle;
 use crate::faults::check;
@@ -63,7 +63,7 @@ impl Net {
         requires in_range { IsInRange (network events start end arcs.now) }
         ensures network { IfOk result (λ net. net ≡ network events start end arcs.now) }
         ensures sound { OnOk result (IsSound (network events start end arcs.now)) }
-        ensures refused { IfErr result (IsRefusal (network events start end arcs.now)) }
+        ensures refused { IfErr result (IsNetError (network events start end arcs.now)) }
     {
         let graph = Graph::new(alloc, events, start, end, arcs)?;
         check(&graph)?;

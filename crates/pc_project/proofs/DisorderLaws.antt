@@ -9,7 +9,7 @@ use Rattle.pc_faults.specs.First.{IsFirst}
 use Rattle.pc_faults.specs.declared.fault.Fault.{Fault}
 use Rattle.pc_faults.specs.declared.status.StatusFault.{StatusFault}
 use Rattle.pc_faults.specs.declared.status.StatusFault.TheVariants.{Second, Early, Late, NoStart, FinishFirst}
-use Rattle.pc_accounts.specs.status.Statuses.{AreInOrder, HasReason, IsInOrder, IsReason, place_of}
+use Rattle.pc_accounts.specs.status.Statuses.{AreInOrder, HasReason, IsInOrder, IsReason, reason_rank}
 use Rattle.pc_accounts.specs.declared.status.row.StatusRow.{StatusRow}
 use Rattle.pc_project.specs.DisorderFaults.{HasDisorder, HasNoDisorder, HasStatusDisorder, IsEarlyAsOf, as_of_in, of_as_of, of_status}
 use Rattle.pc_faults.specs.inside.First.{IsFirstIn, earliest}
@@ -25,7 +25,7 @@ module _ (start as_of : ℤ) (statuses : List StatusRow) (k : ℕ) (none : (reas
   no_early : HasReason start as_of statuses k Early → ⊥
   no_early h = none Early (record { holds = h; first = before })
     where
-      before : (other : StatusFault) → place_of other < 1 → HasReason start as_of statuses k other → ⊥
+      before : (other : StatusFault) → reason_rank other < 1 → HasReason start as_of statuses k other → ⊥
       before Second low = no_second
       before Early low = absurd (omega (arith, low))
       before Late low = absurd (omega (arith, low))
@@ -35,7 +35,7 @@ module _ (start as_of : ℤ) (statuses : List StatusRow) (k : ℕ) (none : (reas
   no_late : HasReason start as_of statuses k Late → ⊥
   no_late h = none Late (record { holds = h; first = before })
     where
-      before : (other : StatusFault) → place_of other < 2 → HasReason start as_of statuses k other → ⊥
+      before : (other : StatusFault) → reason_rank other < 2 → HasReason start as_of statuses k other → ⊥
       before Second low = no_second
       before Early low = no_early
       before Late low = absurd (omega (arith, low))
@@ -45,7 +45,7 @@ module _ (start as_of : ℤ) (statuses : List StatusRow) (k : ℕ) (none : (reas
   no_start : HasReason start as_of statuses k NoStart → ⊥
   no_start h = none NoStart (record { holds = h; first = before })
     where
-      before : (other : StatusFault) → place_of other < 3 → HasReason start as_of statuses k other → ⊥
+      before : (other : StatusFault) → reason_rank other < 3 → HasReason start as_of statuses k other → ⊥
       before Second low = no_second
       before Early low = no_early
       before Late low = no_late
@@ -55,7 +55,7 @@ module _ (start as_of : ℤ) (statuses : List StatusRow) (k : ℕ) (none : (reas
   no_finish : HasReason start as_of statuses k FinishFirst → ⊥
   no_finish h = none FinishFirst (record { holds = h; first = before })
     where
-      before : (other : StatusFault) → place_of other < 4 → HasReason start as_of statuses k other → ⊥
+      before : (other : StatusFault) → reason_rank other < 4 → HasReason start as_of statuses k other → ⊥
       before Second low = no_second
       before Early low = no_early
       before Late low = no_late

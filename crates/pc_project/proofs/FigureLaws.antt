@@ -4,7 +4,7 @@ use Rattle.std.specs.Prelude.{pos, false, slice_index}
 use Rattle.std.proofs.lemmas.List.{get_or-map, length-map}
 use Rattle.pc_faults.specs.declared.kind.Kind.TheVariants.{Acct, Charge, Status, ToGo}
 use Rattle.pc_accounts.specs.Amounts.{AreEntriesOf, AreMoney, account_at, money_at}
-use Rattle.pc_accounts.specs.Entries.{AreSmall}
+use Rattle.pc_accounts.specs.Entries.{AreEntriesWithinLimits}
 use Rattle.pc_accounts.specs.Packages.{IsUneven, work_at}
 use Rattle.pc_accounts.specs.inside.Packages.{AreWork}
 use Rattle.pc_accounts.specs.declared.entry.Entry.{Entry}
@@ -28,7 +28,7 @@ use Rattle.pc_project.specs.Figures.{AreAccounts, AreFigures, AreStatesOf, work_
 use Rattle.pc_project.specs.Misfit.{HasNoMisfit}
 use Rattle.pc_project.specs.PackageFaults.{HasNoLeafFault}
 use Rattle.pc_project.specs.Planned.{HasFigures}
-use Rattle.pc_project.specs.Project.{account_of, accounts_in, arc_of, charges_in, money_of, network_of, place_of, project_in}
+use Rattle.pc_project.specs.Project.{account_of, accounts_in, arc_of, charges_in, money_of, network_of, item_of_act, project_in}
 use Rattle.pc_project.specs.Project.{row_of, rows_of, status_of, statuses_in, term_of, togos_in, work_in, work_of}
 use Rattle.pc_project.specs.Refusal.{HasNoSecondToGo, HasSoundFigures}
 use Rattle.pc_project.proofs.BranchLaws.{account_on_leaf, act_on_leaf}
@@ -123,10 +123,10 @@ module _ (deck : Deck) (limits : IsWithinLimits deck) (none : HasNoMisfit deck) 
     budgets = accounts_cheap;
   }
 
-  acts_stand : HasNoLeafFault deck → (a : ℕ) → a < length (network_of deck).arcs → IsLeaf (rows_of deck) (slice_index (map (place_of deck) deck.acts) a)
+  acts_stand : HasNoLeafFault deck → (a : ℕ) → a < length (network_of deck).arcs → IsLeaf (rows_of deck) (slice_index (map (item_of_act deck) deck.acts) a)
   acts_stand leaves a below =
       let inside : a < length deck.acts = omega (arith, below, length-map deck.acts (arc_of deck)) in
-      subst (IsLeaf (rows_of deck)) (sym (get_or-map (place_of deck) deck.acts a no_act 0 inside)) (act_on_leaf deck leaves a no_act inside)
+      subst (IsLeaf (rows_of deck)) (sym (get_or-map (item_of_act deck) deck.acts a no_act 0 inside)) (act_on_leaf deck leaves a no_act inside)
 
   are_figures : HasNoSecondToGo deck → AreFigures (length (accounts_in deck)) (charges_in deck) (togos_in deck)
   are_figures once = record {
@@ -138,13 +138,13 @@ module _ (deck : Deck) (limits : IsWithinLimits deck) (none : HasNoMisfit deck) 
   }
 
   -- the work of the lists of places and terms is that of the cards
-  work_of_cards : (acts : List ActCard) → work_rows (map (place_of deck) acts) (map term_of acts) ≡ map (work_of deck) acts
+  work_of_cards : (acts : List ActCard) → work_rows (map (item_of_act deck) acts) (map term_of acts) ≡ map (work_of deck) acts
   work_of_cards [] = refl
   work_of_cards (act ∷ acts) = ap (λ rest. work_of deck act ∷ rest) (work_of_cards acts)
 
   -- the figures of the project of cards that make one
   pub project_in-figures : HasSoundFigures deck → (entries : List Entry) (states : List ActState) →
-      AreEntriesOf (accounts_in deck) (charges_in deck) (togos_in deck) (as_of_in deck) entries → AreSmall entries →
+      AreEntriesOf (accounts_in deck) (charges_in deck) (togos_in deck) (as_of_in deck) entries → AreEntriesWithinLimits entries →
       AreStatesOf deck.project.start_day (statuses_in deck) (length deck.acts) states →
       HasFigures (project_in deck entries states)
   project_in-figures sound entries states made small far =

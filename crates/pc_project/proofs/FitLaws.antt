@@ -18,7 +18,7 @@ use Rattle.pc_faults.specs.declared.fault.Fault.{Fault}
 use Rattle.pc_deck.specs.declared.kinds.load.LoadCard.{LoadCard}
 use Rattle.pc_deck.specs.declared.kinds.piece.PieceCard.{PieceCard}
 use Rattle.pc_deck.specs.Deck.{Deck, account_codes, act_codes, event_codes, item_codes, named_among, number_among, resource_codes}
-use Rattle.pc_project.specs.Project.{arc_of, network_of, place_of, row_of, rows_of}
+use Rattle.pc_project.specs.Project.{arc_of, network_of, item_of_act, row_of, rows_of}
 use Rattle.pc_project.specs.Misfit.{HasAccountFault, HasActFault, HasItemFault, HasLoadFault, HasMoneyFault, HasPieceCardFault, HasStatusFault}
 use Rattle.pc_project.specs.Misfit.{HasNoMisfit, account, act, charge, figure, item, listed, project, status, togo}
 use Rattle.pc_project.specs.Makes.{HasEnds, IsSoundAct}
@@ -121,7 +121,7 @@ pub rows_of-in_range : (deck : Deck) → HasNoMisfit deck → AreInRange (rows_o
 rows_of-in_range deck none = items-in_range deck (λ fault h. none fault (listed (item h)))
 
 -- the item of an activity is an item
-pub place_of-within : (deck : Deck) → HasNoMisfit deck → (a : ℕ) → a < length deck.acts → place_of deck (get_or deck.acts a no_act) < length deck.items
+pub place_of-within : (deck : Deck) → HasNoMisfit deck → (a : ℕ) → a < length deck.acts → item_of_act deck (get_or deck.acts a no_act) < length deck.items
 place_of-within deck none a within =
     item_number-within deck (get_or deck.acts a no_act).item (all_fit deck none a no_act within).placed
 

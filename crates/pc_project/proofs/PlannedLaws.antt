@@ -24,7 +24,7 @@ use Rattle.pc_deck.specs.Deck.{Deck, act_codes, event_codes, item_codes, resourc
 use Rattle.pc_deck.proofs.NumberLemmas.{AreTermsWithin, acts-within, loads-within, pieces-within, project-within, terms-within}
 use Rattle.pc_deck.specs.Within.{IsWithinLimits}
 use Rattle.pc_project.specs.Project.{Project, accounts_in, arc_of, charges_in, counts_of, expected_of, heading_of, load_of, network_of, piece_of, pieces_in}
-use Rattle.pc_project.specs.Project.{place_of, project_in, row_of, rows_of, statuses_in, term_of, terms_in, time_terms_of, togos_in, variance_in}
+use Rattle.pc_project.specs.Project.{item_of_act, project_in, row_of, rows_of, statuses_in, term_of, terms_in, time_terms_of, togos_in, variance_in}
 use Rattle.pc_project.specs.Misfit.{HasNoMisfit}
 use Rattle.pc_project.specs.declared.load.LoadItem.{LoadItem}
 use Rattle.pc_project.specs.PieceFaults.{HasNoPieceFault}
@@ -102,10 +102,10 @@ module _ (deck : Deck) (limits : IsWithinLimits deck) (none : HasNoMisfit deck) 
       let bound = variance_small card.opt card.pess deck.project.unit_days (acts-within deck limits a no_act inside).pess (project-within deck limits).unit_within in
       omega (arith, bound, get_or-map (variance_in deck) deck.acts a no_act 0 inside)
 
-  item_there : (a : ℕ) → a < length (network_of deck).arcs → slice_index (map (place_of deck) deck.acts) a < length (rows_of deck)
+  item_there : (a : ℕ) → a < length (network_of deck).arcs → slice_index (map (item_of_act deck) deck.acts) a < length (rows_of deck)
   item_there a below =
       let inside = inside_arcs a below in
-      omega (arith, place_of-within deck none a inside, get_or-map (place_of deck) deck.acts a no_act 0 inside, length-map deck.items (row_of deck))
+      omega (arith, place_of-within deck none a inside, get_or-map (item_of_act deck) deck.acts a no_act 0 inside, length-map deck.items (row_of deck))
 
 -- cards to read past the end of the cards, where no one looks
 pub no_piece : PieceCard
@@ -174,7 +174,7 @@ project_in-planned deck entries states makes limits figures = record {
   lengths = are_lengths deck limits makes.cards;
   variance_each = length-map deck.acts (variance_in deck) ∙ sym (length-map deck.acts (arc_of deck));
   small_variances = small_variance deck limits makes.cards;
-  place_each = length-map deck.acts (place_of deck) ∙ sym (length-map deck.acts (arc_of deck));
+  place_each = length-map deck.acts (item_of_act deck) ∙ sym (length-map deck.acts (arc_of deck));
   placed = item_there deck limits makes.cards;
   few_events = (limits Event).few;
   few_items = omega (arith, length-map deck.items (row_of deck), (limits Wbs).few);
@@ -198,7 +198,7 @@ project_in-planned deck entries states makes limits figures = record {
 -- a project is that of the deck that it keeps, where its lists are the deck's
 pub project_in-is : (deck : Deck) (project : Project) → project.deck ≡ deck → project.heading ≡ heading_of deck →
     project.network ≡ network_of deck → project.tree ≡ rows_of deck → project.events ≡ event_codes deck → project.activities ≡ act_codes deck →
-    project.places ≡ map (place_of deck) deck.acts → project.terms ≡ map term_of deck.acts → project.expected ≡ map (expected_of deck) deck.acts →
+    project.places ≡ map (item_of_act deck) deck.acts → project.terms ≡ map term_of deck.acts → project.expected ≡ map (expected_of deck) deck.acts →
     project.variances ≡ map (variance_in deck) deck.acts → project.items ≡ item_codes deck →
     project.titles ≡ map (λ item. item.title) deck.items → project.pieces ≡ pieces_in deck → project.resources ≡ resource_codes deck →
     project.loads ≡ map (load_of deck) deck.loads → project.accounts ≡ accounts_in deck → project.charges ≡ charges_in deck →

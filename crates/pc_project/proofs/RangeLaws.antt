@@ -7,7 +7,7 @@ use Rattle.pc_model.specs.declared.Arc.{Arc}
 use Rattle.pc_model.specs.Walk.{IsWalk, IsCycle, to_of}
 use Rattle.pc_wbs.specs.declared.row.ItemRow.{ItemRow}
 use Rattle.pc_wbs.specs.Climb.{AreInRange}
-use Rattle.pc_wbs.specs.Refusal.{IsLoopFrom, IsRefusal}
+use Rattle.pc_wbs.specs.Refusal.{IsLoopFrom, IsTreeError}
 use Rattle.pc_wbs.specs.declared.error.TreeError.{TreeError}
 use Rattle.pc_wbs.specs.declared.error.TreeError.TheVariants as tree
 use Rattle.pc_deck.specs.Deck.{Deck}
@@ -23,7 +23,7 @@ loop_known rows x loop in_range within is (suc k) below =
     rw add-one at next
 
 -- what a refusal of the tree names are items
-pub refusal-about : (rows : List ItemRow) (n : ℕ) (e : TreeError) → AreInRange rows → length rows ≡ n → IsRefusal rows e → IsAbout n e
+pub refusal-about : (rows : List ItemRow) (n : ℕ) (e : TreeError) → AreInRange rows → length rows ≡ n → IsTreeError rows e → IsAbout n e
 refusal-about rows n tree.NoTop in_range many refused = tt
 refusal-about rows n (tree.SecondTop item) in_range many refused = omega (arith, refused.is_top.0, many)
 refusal-about rows n (tree.Loop loop) in_range many (top, (x, (first, is))) = (

@@ -7,7 +7,7 @@ use Rattle.pc_wbs.specs.declared.row.ItemRow.{ItemRow}
 use Rattle.pc_wbs.proofs.ExactLaws.{IsTree-not_refused}
 use Rattle.pc_net.specs.declared.refusal.NetError.{NetError}
 use Rattle.pc_net.specs.declared.refusal.NetError.TheVariants as net
-use Rattle.pc_net.specs.Refusals.{IsRefusal as IsNetRefusal}
+use Rattle.pc_net.specs.Refusals.{IsNetError as IsNetRefusal}
 use Rattle.pc_net.proofs.RefusalLaws.{refused_is_not_sound}
 use Rattle.pc_deck.specs.declared.kinds.acct.AcctCard.{AcctCard}
 use Rattle.pc_deck.specs.declared.kinds.act.ActCard.{ActCard}

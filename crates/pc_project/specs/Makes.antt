@@ -14,7 +14,7 @@ use Rattle.pc_deck.specs.Deck.{Deck, account_codes, act_codes, event_codes, item
 use Rattle.pc_deck.specs.declared.kinds.act.ActCard.{ActCard}
 use Rattle.pc_deck.specs.declared.kinds.terms.TermsCard.{TermsCard}
 use Rattle.pc_project.specs.DisorderFaults.{as_of_in}
-use Rattle.pc_project.specs.Misfit.{IsInOrder}
+use Rattle.pc_project.specs.Misfit.{HasOrderedEstimates}
 use Rattle.pc_project.specs.PieceFaults.{pieces_before}
 use Rattle.pc_project.specs.Project.{network_of, pieces_in, rows_of, statuses_in, terms_in}
 use Rattle.pc_project.specs.Refusal.{HasNoSecondToGo, IsEven}
@@ -31,7 +31,7 @@ pub record IsSoundAct (deck : Deck) (card : ActCard) : Type 0 where
   pub ends : IsSome (named_among (event_codes deck) card.to)
   pub placed : IsSome (named_among (item_codes deck) card.item)
   pub apart : card.from ≢ card.to
-  pub ordered : IsInOrder card
+  pub ordered : HasOrderedEstimates card
   pub durations : card.crash ≤ card.normal
 
 -- what each card names is there, and the numbers of activities are in order

@@ -14,7 +14,7 @@ use Rattle.pc_faults.specs.Faults as told
 use Rattle.pc_faults.specs.declared.fault.Fault.{Fault}
 
 -- the estimates are in order
-pub record IsInOrder (card : ActCard) : Type 0 where
+pub record HasOrderedEstimates (card : ActCard) : Type 0 where
   pub optimistic : card.opt ≤ card.likely
   pub pessimistic : card.likely ≤ card.pess
 
@@ -43,7 +43,7 @@ pub data HasActFault (deck : Deck) (card : ActCard) (fault : Fault) : Type 0 whe
   -- F17: it begins where it ends
   same_events : card.from ≡ card.to → fault ≡ told.one_event card.row card.from → HasActFault deck card fault
   -- F18: its estimates are out of order
-  unordered : (IsInOrder card → ⊥) → fault ≡ told.estimates_disorder card.row → HasActFault deck card fault
+  unordered : (HasOrderedEstimates card → ⊥) → fault ≡ told.estimates_disorder card.row → HasActFault deck card fault
   -- F19: its crash duration is above the normal one
   crash_above : card.normal < card.crash → fault ≡ told.crash_above_normal card.row → HasActFault deck card fault
 

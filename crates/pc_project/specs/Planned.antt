@@ -10,7 +10,7 @@ use Rattle.pc_crash.specs.Priced.{ArePiecesWithinLimits}
 use Rattle.pc_crash.specs.Terms.{AreWithinLimits}
 use Rattle.pc_wbs.specs.Climb.{IsLeaf, IsTree}
 use Rattle.pc_accounts.specs.Amounts.{AreEntriesOf}
-use Rattle.pc_accounts.specs.Entries.{AreSmall}
+use Rattle.pc_accounts.specs.Entries.{AreEntriesWithinLimits}
 use Rattle.pc_accounts.specs.Packages.{IsUneven}
 use Rattle.pc_accounts.specs.status.Statuses.{AreInOrder, AreKnown}
 use Rattle.pc_times.specs.Forecast.{AreStates}
@@ -37,7 +37,7 @@ pub record HasFigures (project : Project) : Type 0 where
   pub even : (item : ℕ) → IsUneven project.accounts (work_rows project.places project.terms) item → ⊥
   pub figures : AreFigures (length project.accounts) project.charges project.togos
   pub entries : AreEntriesOf project.accounts project.charges project.togos project.heading.as_of project.entries
-  pub small_entries : AreSmall project.entries
+  pub small_entries : AreEntriesWithinLimits project.entries
   pub as_of : project.heading.start_day ≤ℤ project.heading.as_of
   pub few_statuses : length project.statuses ≤ MAX_STATUSES
   pub statuses_known : AreKnown (length project.network.arcs) project.statuses

@@ -71,8 +71,8 @@ abbrev pub arc_of : Deck → ActCard → Arc
 arc_of deck act = record { from = number_among (event_codes deck) act.from; to = number_among (event_codes deck) act.to }
 
 -- the item of the activity of a card
-abbrev pub place_of : Deck → ActCard → ℕ
-place_of deck act = number_among (item_codes deck) act.item
+abbrev pub item_of_act : Deck → ActCard → ℕ
+item_of_act deck act = number_among (item_codes deck) act.item
 
 -- what the activity of a card may last and costs
 abbrev pub term_of : ActCard → Term
@@ -119,7 +119,7 @@ togos_in deck = map (money_of deck) deck.togos
 
 -- what the activity of a card costs at its normal duration, and at which item
 abbrev pub work_of : Deck → ActCard → WorkRow
-work_of deck act = record { item = place_of deck act; cost = act.cost }
+work_of deck act = record { item = item_of_act deck act; cost = act.cost }
 
 -- the same of all activities
 abbrev pub work_in : Deck → List WorkRow
@@ -199,7 +199,7 @@ project_in deck entries states = record {
   tree = rows_of deck;
   events = event_codes deck;
   activities = act_codes deck;
-  places = map (place_of deck) deck.acts;
+  places = map (item_of_act deck) deck.acts;
   terms = terms_in deck;
   expected = map (expected_of deck) deck.acts;
   variances = map (variance_in deck) deck.acts;

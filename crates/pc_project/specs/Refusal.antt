@@ -9,11 +9,11 @@ use Rattle.pc_accounts.specs.Packages.{IsUneven}
 use Rattle.pc_accounts.specs.Second.{IsRepeated}
 use Rattle.pc_model.specs.Network.{IsSound}
 use Rattle.pc_wbs.specs.Climb.{IsTree}
-use Rattle.pc_wbs.specs.Refusal.{IsRefusal as IsTreeRefusal}
+use Rattle.pc_wbs.specs.Refusal.{IsTreeError as IsTreeRefusal}
 use Rattle.pc_wbs.specs.declared.row.ItemRow.{ItemRow}
 use Rattle.pc_wbs.specs.declared.error.TreeError.{TreeError}
 use Rattle.pc_wbs.specs.declared.error.TreeError.TheVariants as tree
-use Rattle.pc_net.specs.Refusals.{IsRefusal as IsNetRefusal}
+use Rattle.pc_net.specs.Refusals.{IsNetError as IsNetRefusal}
 use Rattle.pc_net.specs.declared.refusal.NetError.{NetError}
 use Rattle.pc_net.specs.declared.refusal.NetError.TheVariants as net
 use Rattle.pc_deck.specs.Deck.{Deck, act_codes, event_codes}

@@ -4,7 +4,7 @@ ghost use Rattle.pc_model.specs.declared.limits.TheConstants.{MAX_UNIT_DAYS};
 ghost use Rattle.pc_times.specs.Estimates.{expected_time, variance_of};
 ghost use Rattle.pc_deck.specs.Deck.{act_codes, event_codes};
 ghost use Rattle.pc_deck.specs.inside.Act.{IsActWithin};
-ghost use Rattle.pc_project.specs.Misfit.{IsInOrder};
+ghost use Rattle.pc_project.specs.Misfit.{HasOrderedEstimates};
 ghost use Rattle.pc_project.specs.Project.{term_of};
 ghost use Rattle.pc_project.specs.inside.Numbered.{AreProjectLists};
 ghost use Rattle.pc_project.specs.inside.Project.{placement_of};
@@ -39,7 +39,7 @@ impl Lists {
         cards: &Cards,
         placements: &[Placement],
     ) -> Result<(), AllocError>
-        requires ordered { All IsInOrder cards.now.acts }
+        requires ordered { All HasOrderedEstimates cards.now.acts }
         requires placements { placements.now ≡ map (placement_of cards.now) cards.now.acts }
         ensures lists { OnOk result (AreProjectLists cards.now self.new) }
     {
@@ -110,7 +110,7 @@ fn terms(alloc: Global, acts: &[ActCard]) -> Result<Vec<Term>, AllocError>
 /// Returns the expected time of each activity, in sixths of a day.
 fn expected_times(alloc: Global, acts: &[ActCard], unit_days: u64) -> Result<Vec<u64>, AllocError>
     requires unit { unit_days ≤ MAX_UNIT_DAYS }
-    requires ordered { All IsInOrder acts.now }
+    requires ordered { All HasOrderedEstimates acts.now }
     requires within { All IsActWithin acts.now }
     ensures { IfOk result (λ times. times.items
         ≡ map (λ act. expected_time act.opt act.likely act.pess unit_days) acts.now) }
@@ -125,7 +125,7 @@ fn expected_times(alloc: Global, acts: &[ActCard], unit_days: u64) -> Result<Vec
 /// Returns the variance of each activity's time, in thirty-sixths of a squared day.
 fn variances(alloc: Global, acts: &[ActCard], unit_days: u64) -> Result<Vec<u64>, AllocError>
     requires unit { unit_days ≤ MAX_UNIT_DAYS }
-    requires ordered { All IsInOrder acts.now }
+    requires ordered { All HasOrderedEstimates acts.now }
     requires within { All IsActWithin acts.now }
     ensures { IfOk result (λ variances. variances.items
         ≡ map (λ act. variance_of act.opt act.pess unit_days) acts.now) }

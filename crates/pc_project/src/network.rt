@@ -2,7 +2,7 @@
 ghost use Rattle.std.specs.Prelude.{◌≡◌, ◌<◌, All, length, IfOk, IfErr, OnOk};
 ghost use Rattle.pc_model.specs.Network.{IsSound};
 ghost use Rattle.pc_wbs.specs.Climb.{IsTree};
-ghost use Rattle.pc_net.specs.Refusals.{IsRefusal};
+ghost use Rattle.pc_net.specs.Refusals.{IsNetError};
 ghost use Rattle.pc_net.specs.declared.refusal.NetError.TheVariants as net;
 ghost use Rattle.pc_faults.specs.inside.First.{Refuses};
 ghost use Rattle.pc_project.specs.inside.Numbered.{AreNumbersOf};
@@ -38,7 +38,7 @@ pub(crate) fn net_of(alloc: Global, cards: &Cards, numbers: &Numbers) -> Result<
 
 /// Returns the fault that reports a refusal of the network.
 fn fault_of(alloc: Global, cards: &Cards, error: NetError) -> DeckError
-    requires { IsRefusal (network_of cards.now) error }
+    requires { IsNetError (network_of cards.now) error }
     ensures { Refuses (λ fault. net_fault cards.now error ≡ DeckError.Fault fault) result }
 {
     match error {

@@ -1,7 +1,7 @@
 //! From the cards of a deck to its project, phase by phase.
 ghost use Rattle.std.specs.Prelude.{◌≡◌, length, IfOk, IfErr, OnOk};
 ghost use Rattle.pc_accounts.specs.Amounts.{AreEntriesOf};
-ghost use Rattle.pc_accounts.specs.Entries.{AreSmall};
+ghost use Rattle.pc_accounts.specs.Entries.{AreEntriesWithinLimits};
 ghost use Rattle.pc_faults.specs.declared.fault.Fault.{Fault};
 ghost use Rattle.pc_faults.specs.inside.First.{Refuses};
 ghost use Rattle.pc_project.specs.DisorderFaults.{as_of_in};
@@ -74,7 +74,7 @@ fn frame_of(alloc: Global, cards: &Cards, numbers: &Numbers) -> Result<Frame, De
     ensures network { IfOk result (λ frame. frame.net ≡ network_of cards.now) }
     ensures entries { IfOk result (λ frame. AreEntriesOf (accounts_in cards.now) (charges_in cards.now)
         (togos_in cards.now) (as_of_in cards.now) frame.progress.book) }
-    ensures small { IfOk result (λ frame. AreSmall frame.progress.book) }
+    ensures small { IfOk result (λ frame. AreEntriesWithinLimits frame.progress.book) }
     ensures states { IfOk result (λ frame. AreStatesOf cards.now.project.start_day (statuses_in cards.now)
         (length cards.now.acts) frame.progress.states.items) }
     ensures lists { IfOk result (λ frame. AreProjectLists cards.now frame.lists) }
@@ -92,7 +92,7 @@ fn frame_of(alloc: Global, cards: &Cards, numbers: &Numbers) -> Result<Frame, De
         Ok(progress) => progress,
         Err(error) => return Err(error),
     };
-    // Called for the bound on each entry (`AreSmall`), which the book's type keeps.
+    // Called for the bound on each entry (`AreEntriesWithinLimits`), which the book's type keeps.
     let _entries = progress.book.entries();
     match lists_of(alloc, cards, numbers) {
         Ok(lists) => Ok(Frame {

@@ -3,7 +3,7 @@ ghost use Rattle.std.specs.Prelude.{◌≡◌, ◌↔◌, IsTrue, IfOk, IfErr, O
 ghost use Rattle.pc_faults.specs.First.{IsFirst};
 ghost use Rattle.pc_faults.specs.declared.fault.Fault.{Fault};
 ghost use Rattle.pc_project.specs.Project.{network_of};
-ghost use Rattle.pc_project.specs.Misfit.{HasProjectFault, IsInOrder};
+ghost use Rattle.pc_project.specs.Misfit.{HasProjectFault, HasOrderedEstimates};
 
 use crate::load::LoadItem;
 use crate::refers::Refers;
@@ -72,7 +72,7 @@ impl Refers for ItemCard {
 }
 
 fn is_in_order(act: &ActCard) -> bool
-    ensures { IsTrue result ↔ IsInOrder act.now }
+    ensures { IsTrue result ↔ HasOrderedEstimates act.now }
 {
     act.opt <= act.likely && act.likely <= act.pess
 }

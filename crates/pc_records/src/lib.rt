@@ -1,7 +1,7 @@
 //! The records of a deck, one at a time: the rows of fields that `csv` reads from its bytes, and writes as bytes.
 //!
 //! A deck is a text of comma-separated values without a header, with records of any length, double quotes, and no
-//! trimming. A byte order mark in front is dropped once. [`Rows`] streams its records into one [`Row`] that is
+//! trimming. A byte order mark in front is dropped once. [`RowReader`] streams its records into one [`Row`] that is
 //! used again for each, so that nothing is allocated per record. [`RowWriter`] writes records into one text.
 //!
 //! Cards are read from [`Fields`] and put into [`Records`], which say what these two offer without the types of `csv`.
@@ -16,5 +16,5 @@ mod writer;
 pub use crate::fields::Fields;
 pub use crate::records::Records;
 pub use crate::row::Row;
-pub use crate::rows::Rows;
+pub use crate::rows::RowReader;
 pub use crate::writer::RowWriter;

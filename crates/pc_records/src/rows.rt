@@ -17,22 +17,22 @@ const MARK: [u8; 3] = [0xEF, 0xBB, 0xBF];
 /// The records of a deck that have not been read yet.
 ///
 /// In contracts it is the list of these records, each a list of its fields.
-pub struct Rows<'a> {
+pub struct RowReader<'a> {
     reader: Reader<&'a [u8]>,
     is_done: bool,
 }
 
-impl<'a> Drop for Rows<'a> {
+impl<'a> Drop for RowReader<'a> {
     // Written out, so that who lets them go cites this proof.
     fn drop(self) {
-        let Rows {
+        let RowReader {
             reader: _reader,
             is_done: _is_done,
         } = self;
     }
 }
 
-impl<'a> Model for Rows<'a> {
+impl<'a> Model for RowReader<'a> {
     ghost use Rattle.std.specs.Prelude.{ℕ, List};
     ghost use Rattle.pc_records.specs.inside.Reading.{rows_left, GoesOn};
 
@@ -43,13 +43,13 @@ impl<'a> Model for Rows<'a> {
     ghost invariant = { GoesOn };
 }
 
-impl<'a> Rows<'a> {
+impl<'a> RowReader<'a> {
     /// Creates a reader of the deck's records. Allocates nothing and reads nothing yet.
-    pub fn new(alloc: Global, bytes: &'a [u8]) -> Rows<'a>
+    pub fn new(alloc: Global, bytes: &'a [u8]) -> RowReader<'a>
         ensures records { result ≡ deck_records bytes.now }
         ensures count { length result ≤ length bytes.now + 1 }
     {
-        Rows {
+        RowReader {
             reader: reader_of(alloc, unmarked(bytes)),
             is_done: false,
         }

@@ -15,8 +15,8 @@ abbrev pub named_line : List ℕ → List ℕ → ℕ → List ℕ
 named_line word code n = word ++ (code ++ (32 ∷ (decimal n ++ 10 ∷ [])))
 
 -- the line of the i-th code and the i-th number
-abbrev pub line_at : List ℕ → List (List ℕ) → List ℕ → ℕ → List ℕ
-line_at word names numbers i = named_line word (slice_index_or names i []) (slice_index numbers i)
+abbrev pub named_line_at : List ℕ → List (List ℕ) → List ℕ → ℕ → List ℕ
+named_line_at word names numbers i = named_line word (slice_index_or names i []) (slice_index numbers i)
 
 -- the word, the code, a space, the date of the day, and the end of the line
 abbrev pub dated_line : List ℕ → List ℕ → ℤ → List ℕ

@@ -3,7 +3,7 @@ ghost use Rattle.std.specs.Prelude.{◌≡◌, length, length as length_of};
 ghost use Rattle.pc_edges.specs.inside.Writes.{Writes};
 ghost use Rattle.pc_edges.specs.inside.page.Page.{fresh};
 ghost use Rattle.pc_edges.specs.inside.page.Puts.{Puts};
-ghost use Rattle.pc_reports.specs.Lines.{line_at};
+ghost use Rattle.pc_reports.specs.Lines.{named_line_at};
 ghost use Rattle.pc_reports.specs.Schedule.{schedule_text};
 ghost use Rattle.pc_reports.specs.inside.Schedule.{durations_text, plan_of, text_of, times_text, IsWhole};
 
@@ -141,7 +141,7 @@ struct Numbered<'a> {
 impl<'a> Rows for Numbered<'a> {
     ghost row_count = { λ t. length t.names.now };
 
-    ghost row_text = { λ t. line_at t.word.now t.names.now t.numbers.now };
+    ghost row_text = { λ t. named_line_at t.word.now t.names.now t.numbers.now };
 
     ghost IsReady = { λ t. length t.names.now ≡ length t.numbers.now };
 

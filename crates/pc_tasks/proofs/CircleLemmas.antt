@@ -6,7 +6,7 @@ use Rattle.std.proofs.lemmas.List.FromFn.{length-map-range_with_len}
 use Rattle.pc_model.specs.declared.Arc.{Arc}
 use Rattle.pc_model.specs.Network.{Network}
 use Rattle.pc_net.specs.Firmness.{IsFirm}
-use Rattle.pc_net.specs.Refusals.{IsRefusal}
+use Rattle.pc_net.specs.Refusals.{IsNetError}
 use Rattle.pc_net.specs.declared.refusal.NetError.TheVariants as net
 use Rattle.pc_tasks.specs.declared.network.AfterRow.{AfterRow}
 use Rattle.pc_tasks.specs.network.Arrows.{after_arc, first_arc, last_arc, last_event, task_arc, wide_arrows, wide_links}
@@ -32,11 +32,11 @@ module _ (n : ℕ) (afters : List AfterRow) (arcs : List Arc) (are : arcs ≡ (w
   firm_between : IsFirm (between n arcs)
   firm_between = subst (λ a. IsFirm (between n a)) (sym are) firm
 
-  pub not_entered : (a : ℕ) → IsRefusal (between n arcs) (net.StartEntered a) → ⊥
+  pub not_entered : (a : ℕ) → IsNetError (between n arcs) (net.StartEntered a) → ⊥
   not_entered a refused = firm_between.not_entered (a, refused.holds.0, refused.holds.1)
 
-  pub not_left : (a : ℕ) → IsRefusal (between n arcs) (net.EndLeft a) → ⊥
+  pub not_left : (a : ℕ) → IsNetError (between n arcs) (net.EndLeft a) → ⊥
   not_left a refused = firm_between.not_left (a, refused.1.holds.0, refused.1.holds.1)
 
-  pub none_dangles : (event : ℕ) (entered : Bool) → IsRefusal (between n arcs) (net.Dangling event entered) → ⊥
+  pub none_dangles : (event : ℕ) (entered : Bool) → IsNetError (between n arcs) (net.Dangling event entered) → ⊥
   none_dangles event entered refused = firm_between.none_dangles event refused.first.holds.0 refused.first.holds.1

@@ -8,7 +8,7 @@ use Rattle.pc_tasks.specs.network.Tasks.{AreAmong, after_at}
 use Rattle.pc_project.specs.Project.{network_of}
 use Rattle.pc_deck.specs.declared.kinds.after.AfterCard.{AfterCard}
 use Rattle.pc_deck.specs.Deck.{Deck}
-use Rattle.pc_tasks.specs.Drawn.{drawn}
+use Rattle.pc_tasks.specs.Drawn.{arrows_deck}
 use Rattle.pc_tasks.specs.Known.{CanBeDrawn}
 use Rattle.pc_tasks.specs.Lists.{after_row, afters_in, task_pieces, task_term, task_terms}
 use Rattle.pc_tasks.proofs.NetworkLemmas.{network-is, task_number-within}
@@ -19,7 +19,7 @@ module _ (deck : Deck) (can : CanBeDrawn deck) where
   tasks-terms = length-map deck.tasks task_term
 
   -- the network, by the terms of the tasks
-  pub network-arrows : network_of (drawn deck) ≡ arrows (length (task_terms deck)) (afters_in deck)
+  pub network-arrows : network_of (arrows_deck deck) ≡ arrows (length (task_terms deck)) (afters_in deck)
   network-arrows = network-is deck can ∙ ap (λ n. arrows n (afters_in deck)) (sym tasks-terms)
 
   row_at : (j : ℕ) (d : AfterCard) → j < length (afters_in deck) → after_at (afters_in deck) j ≡ after_row deck (get_or deck.afters j d)

@@ -10,7 +10,7 @@ use Rattle.pc_deck.specs.Deck.{Deck, event_codes, named_among, number_among}
 use Rattle.pc_deck.specs.declared.kinds.titled.TitledCard.{TitledCard}
 use Rattle.pc_deck.specs.declared.kinds.task.TaskCard.{TaskCard}
 use Rattle.pc_tasks.specs.Codes.{begin_code, end_code}
-use Rattle.pc_tasks.specs.Drawn.{drawn, drawn_event, task_events}
+use Rattle.pc_tasks.specs.Drawn.{arrows_deck, drawn_event, task_events}
 use Rattle.pc_tasks.specs.Known.{CanBeDrawn}
 use Rattle.pc_tasks.proofs.CodeLemmas.{drawn_code-letter, drawn_code-number, given-not_drawn}
 use Rattle.pc_tasks.proofs.PlaceLemmas.{only_place-is}
@@ -55,7 +55,7 @@ module _ (deck : Deck) (can : CanBeDrawn deck) where
   abbrev all : List (List ℕ)
   all = deck.project.start ∷ (inner 0 deck.tasks ++ deck.project.end ∷ [])
 
-  pub events-are : event_codes (drawn deck) ≡ all
+  pub events-are : event_codes (arrows_deck deck) ≡ all
   events-are = ap (λ rest. deck.project.start ∷ rest) (map-append code_of (task_events 0 deck.tasks) (drawn_event deck.project.end ∷ []))
 
   length-all : length all ≡ 2 * n + 2
@@ -114,44 +114,44 @@ module _ (deck : Deck) (can : CanBeDrawn deck) where
       omega (arith, one, before)
 
   -- no two events have one code
-  pub events-differ : IsNamedOnce (event_codes (drawn deck))
+  pub events-differ : IsNamedOnce (event_codes (arrows_deck deck))
   events-differ j k before inside same =
       let within : k < length all = omega (arith, inside, ap length events-are) in
       events-once j k before within (sym (ap (λ codes. code_at codes j) events-are) ∙ (same ∙ ap (λ codes. code_at codes k) events-are))
 
   -- the place of an event by its code
-  place : (e : ℕ) (event : IsEvent n e) → e < 2 * n + 2 → named_among (event_codes (drawn deck)) (code_of_event e event) ≡ Some e
+  place : (e : ℕ) (event : IsEvent n e) → e < 2 * n + 2 → named_among (event_codes (arrows_deck deck)) (code_of_event e event) ≡ Some e
   place e event inside =
       ap (λ codes. named_among codes (code_of_event e event)) events-are
       ∙ only_place-is (code_of_event e event) all e events-once (omega (arith, length-all, inside)) (code_is e event)
 
-  pub named-start : named_among (event_codes (drawn deck)) deck.project.start ≡ Some 0
+  pub named-start : named_among (event_codes (arrows_deck deck)) deck.project.start ≡ Some 0
   named-start = place 0 (at_start refl) (omega arith)
 
-  pub named-begin : (i : ℕ) → i < n → named_among (event_codes (drawn deck)) (begin_code i) ≡ Some (begin_event i)
+  pub named-begin : (i : ℕ) → i < n → named_among (event_codes (arrows_deck deck)) (begin_code i) ≡ Some (begin_event i)
   named-begin i known = place (begin_event i) (at_begin i known refl) (omega arith)
 
-  pub named-end : (i : ℕ) → i < n → named_among (event_codes (drawn deck)) (end_code i) ≡ Some (end_event i)
+  pub named-end : (i : ℕ) → i < n → named_among (event_codes (arrows_deck deck)) (end_code i) ≡ Some (end_event i)
   named-end i known = place (end_event i) (at_end i known refl) (omega arith)
 
-  pub named-last : named_among (event_codes (drawn deck)) deck.project.end ≡ Some (last_event n)
+  pub named-last : named_among (event_codes (arrows_deck deck)) deck.project.end ≡ Some (last_event n)
   named-last = place (last_event n) (at_last refl) (omega arith)
 
   -- and its number
-  number : (e : ℕ) (event : IsEvent n e) → e < 2 * n + 2 → number_among (event_codes (drawn deck)) (code_of_event e event) ≡ e
-  number e event inside = ap (λ found. unwrap_or found (length (event_codes (drawn deck)))) (place e event inside)
+  number : (e : ℕ) (event : IsEvent n e) → e < 2 * n + 2 → number_among (event_codes (arrows_deck deck)) (code_of_event e event) ≡ e
+  number e event inside = ap (λ found. unwrap_or found (length (event_codes (arrows_deck deck)))) (place e event inside)
 
-  pub number-start : number_among (event_codes (drawn deck)) deck.project.start ≡ 0
+  pub number-start : number_among (event_codes (arrows_deck deck)) deck.project.start ≡ 0
   number-start = number 0 (at_start refl) (omega arith)
 
-  pub number-begin : (i : ℕ) → i < n → number_among (event_codes (drawn deck)) (begin_code i) ≡ begin_event i
+  pub number-begin : (i : ℕ) → i < n → number_among (event_codes (arrows_deck deck)) (begin_code i) ≡ begin_event i
   number-begin i known = number (begin_event i) (at_begin i known refl) (omega arith)
 
-  pub number-end : (i : ℕ) → i < n → number_among (event_codes (drawn deck)) (end_code i) ≡ end_event i
+  pub number-end : (i : ℕ) → i < n → number_among (event_codes (arrows_deck deck)) (end_code i) ≡ end_event i
   number-end i known = number (end_event i) (at_end i known refl) (omega arith)
 
-  pub number-last : number_among (event_codes (drawn deck)) deck.project.end ≡ last_event n
+  pub number-last : number_among (event_codes (arrows_deck deck)) deck.project.end ≡ last_event n
   number-last = number (last_event n) (at_last refl) (omega arith)
 
-  pub length-events : length (drawn deck).events ≡ 2 * n + 2
+  pub length-events : length (arrows_deck deck).events ≡ 2 * n + 2
   length-events = omega (arith, length-append (task_events 0 deck.tasks) (drawn_event deck.project.end ∷ []), length-task_events 0 deck.tasks)

@@ -11,11 +11,11 @@ use Rattle.pc_project.specs.Project.{rows_of}
 use Rattle.pc_project.proofs.FitLaws.{Any-at, items-in_range, known_unless}
 use Rattle.pc_wbs.specs.Climb.{AreInRange}
 use Rattle.pc_tasks.specs.Known.{CanBeDrawn, IsKnownAfter, IsKnownPiece}
-use Rattle.pc_tasks.specs.Misfit.{HasAfterFault, HasNameFault, HasNoMisfit, after, ends, item, piece}
+use Rattle.pc_tasks.specs.Misfit.{HasAfterFault, HasNameFault, HasNoTaskMisfit, after, ends, item, piece}
 use Rattle.pc_tasks.specs.Misfit as has
 use Rattle.pc_tasks.proofs.WithinLemmas.{ends-given, few-tasks, starts-given}
 
-module _ (deck : Deck) (none : HasNoMisfit deck) where
+module _ (deck : Deck) (none : HasNoTaskMisfit deck) where
   known_after : (k : ℕ) (d : AfterCard) → k < length deck.afters → IsKnownAfter deck (get_or deck.afters k d)
   known_after k d inside =
       let card = get_or deck.afters k d in

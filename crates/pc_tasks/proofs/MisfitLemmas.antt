@@ -6,7 +6,7 @@ use Rattle.pc_faults.specs.declared.fault.Fault.{Fault}
 use Rattle.pc_faults.specs.inside.First.{IsFirstIn}
 use Rattle.pc_faults.proofs.FirstLaws.{first_of_same}
 use Rattle.pc_project.proofs.MisfitLaws.{OfAccounts, OfCharges, OfItems, OfTogos}
-use Rattle.pc_tasks.specs.Misfit.{HasAfterFault, HasEndsFault, HasLoadFault, HasMisfit, HasNoMisfit, HasNameFault, HasTaskFault, account, after, charge, ends, item, load, piece, status, task, togo}
+use Rattle.pc_tasks.specs.Misfit.{HasAfterFault, HasEndsFault, HasTaskLoadFault, HasTaskMisfit, HasNoTaskMisfit, HasNameFault, HasTaskFault, account, after, charge, ends, item, load, piece, status, task, togo}
 
 module _ (deck : Deck) where
   abbrev pub OfTasks : Fault → Type 0
@@ -19,7 +19,7 @@ module _ (deck : Deck) where
   OfPieces fault = Any (λ card. HasNameFault deck card.row card.activity fault) deck.pieces
 
   abbrev pub OfLoads : Fault → Type 0
-  OfLoads fault = Any (λ card. HasLoadFault deck card fault) deck.loads
+  OfLoads fault = Any (λ card. HasTaskLoadFault deck card fault) deck.loads
 
   abbrev pub OfStatuses : Fault → Type 0
   OfStatuses fault = Any (λ card. HasNameFault deck card.row card.activity fault) deck.statuses
@@ -30,7 +30,7 @@ module _ (deck : Deck) where
   abbrev pub Figures : Fault → Type 0
   Figures f = (OfPieces f ⊎ OfLoads f) ⊎ ((OfAccounts deck f ⊎ OfCharges deck f) ⊎ (OfTogos deck f ⊎ OfStatuses f))
 
-  from_all : (f : Fault) → Plan f ⊎ Figures f → HasMisfit deck f
+  from_all : (f : Fault) → Plan f ⊎ Figures f → HasTaskMisfit deck f
   from_all f (inl (inl (inl h))) = ends h
   from_all f (inl (inl (inr h))) = item h
   from_all f (inl (inr (inl h))) = task h
@@ -42,7 +42,7 @@ module _ (deck : Deck) where
   from_all f (inr (inr (inr (inl h)))) = togo h
   from_all f (inr (inr (inr (inr h)))) = status h
 
-  into_all : (f : Fault) → HasMisfit deck f → Plan f ⊎ Figures f
+  into_all : (f : Fault) → HasTaskMisfit deck f → Plan f ⊎ Figures f
   into_all f (ends h) = inl (inl (inl h))
   into_all f (item h) = inl (inl (inr h))
   into_all f (task h) = inl (inr (inl h))
@@ -55,10 +55,10 @@ module _ (deck : Deck) where
   into_all f (status h) = inr (inr (inr (inr h)))
 
   -- the first fault of all cards
-  pub first_of_all_cards : (found : Option Fault) → IsFirstIn (λ f. Plan f ⊎ Figures f) found → IsFirstIn (HasMisfit deck) found
-  first_of_all_cards found first = first_of_same (λ f. Plan f ⊎ Figures f) (HasMisfit deck) from_all into_all found first
+  pub first_of_all_cards : (found : Option Fault) → IsFirstIn (λ f. Plan f ⊎ Figures f) found → IsFirstIn (HasTaskMisfit deck) found
+  first_of_all_cards found first = first_of_same (λ f. Plan f ⊎ Figures f) (HasTaskMisfit deck) from_all into_all found first
 
   -- where no card has a fault, no AFTER card has one
-  pub no_fault_of_afters : (found : Option Fault) → IsFirstIn OfAfters found → HasNoMisfit deck → found ≡ None
+  pub no_fault_of_afters : (found : Option Fault) → IsFirstIn OfAfters found → HasNoTaskMisfit deck → found ≡ None
   no_fault_of_afters None none sound = refl
   no_fault_of_afters (Some fault) first sound = absurd (sound fault (after first.holds))

@@ -11,15 +11,15 @@ use Rattle.pc_faults.specs.declared.fault.DeckError.{DeckError}
 use Rattle.pc_faults.specs.declared.fault.DeckError.TheVariants.{Fault, OutOfMemory}
 use Rattle.pc_project.specs.Project.{rows_of}
 use Rattle.pc_project.specs.Refusal.{IsRefusedWith, IsTreeFault}
-use Rattle.pc_tasks.specs.Drawn.{drawn}
-use Rattle.pc_tasks.specs.Misfit.{HasNoMisfit}
+use Rattle.pc_tasks.specs.Drawn.{arrows_deck}
+use Rattle.pc_tasks.specs.Misfit.{HasNoTaskMisfit}
 use Rattle.pc_tasks.specs.Refusal.{HasSoundTasks, IsTasksRefusedWith, of_plan, of_tree}
 
-pub refused_by_tree : (deck : Deck) (result : DeckError) → HasNoMisfit deck → Refuses (IsTreeFault deck.items (rows_of deck)) result → Refuses (IsTasksRefusedWith deck) result
+pub refused_by_tree : (deck : Deck) (result : DeckError) → HasNoTaskMisfit deck → Refuses (IsTreeFault deck.items (rows_of deck)) result → Refuses (IsTasksRefusedWith deck) result
 refused_by_tree deck (Fault fault) cards at = of_tree cards at
 refused_by_tree deck OutOfMemory cards at = tt
 
-pub refused_by_plan : (deck plan : Deck) (result : DeckError) → plan ≡ drawn deck → HasSoundTasks deck → Refuses (IsRefusedWith plan) result → Refuses (IsTasksRefusedWith deck) result
+pub refused_by_plan : (deck plan : Deck) (result : DeckError) → plan ≡ arrows_deck deck → HasSoundTasks deck → Refuses (IsRefusedWith plan) result → Refuses (IsTasksRefusedWith deck) result
 refused_by_plan deck plan (Fault fault) is sound refused = of_plan sound (subst (λ d. IsRefusedWith d fault) is refused)
 refused_by_plan deck plan OutOfMemory is sound refused = tt
 

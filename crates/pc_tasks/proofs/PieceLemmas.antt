@@ -10,7 +10,7 @@ use Rattle.pc_deck.specs.declared.kinds.act.ActCard.{ActCard}
 use Rattle.pc_deck.specs.declared.kinds.piece.PieceCard.{PieceCard}
 use Rattle.pc_project.specs.Project.{piece_of, pieces_in}
 use Rattle.pc_deck.specs.declared.kinds.task.TaskCard.{TaskCard}
-use Rattle.pc_tasks.specs.Drawn.{drawn, links_of, task_acts}
+use Rattle.pc_tasks.specs.Drawn.{arrows_deck, links_of, task_acts}
 use Rattle.pc_tasks.specs.Known.{CanBeDrawn, IsKnownPiece}
 use Rattle.pc_tasks.specs.Lists.{task_piece, task_pieces}
 use Rattle.pc_tasks.proofs.PlaceLemmas.{found-before, found-within}
@@ -23,13 +23,13 @@ of_tasks i [] = refl
 of_tasks i (task ∷ tasks) = ap (λ rest. task.code ∷ rest) (of_tasks (i + 1) tasks)
 
 -- the codes of the activities: first those of the tasks
-pub acts-are : (deck : Deck) → act_codes (drawn deck) ≡ task_codes deck ++ map code_of (links_of deck)
+pub acts-are : (deck : Deck) → act_codes (arrows_deck deck) ≡ task_codes deck ++ map code_of (links_of deck)
 acts-are deck =
     map-append code_of (task_acts 0 deck.tasks) (links_of deck)
     ∙ ap (λ front. front ++ map code_of (links_of deck)) (of_tasks 0 deck.tasks)
 
 -- a task is found among the activities at its own place
-pub task-named : (deck : Deck) (code : List ℕ) → IsSome (named_among (task_codes deck) code) → named_among (act_codes (drawn deck)) code ≡ named_among (task_codes deck) code
+pub task-named : (deck : Deck) (code : List ℕ) → IsSome (named_among (task_codes deck) code) → named_among (act_codes (arrows_deck deck)) code ≡ named_among (task_codes deck) code
 task-named deck code known =
     ap (λ codes. named_among codes code) (acts-are deck) ∙ found-before code (task_codes deck) (map code_of (links_of deck)) known
 
@@ -39,19 +39,19 @@ default (Some i) a b known = refl
 default None a b known = absurd (false≢true known)
 
 module _ (deck : Deck) where
-  task-number : (code : List ℕ) → IsSome (named_among (task_codes deck) code) → number_among (act_codes (drawn deck)) code ≡ number_among (task_codes deck) code
+  task-number : (code : List ℕ) → IsSome (named_among (task_codes deck) code) → number_among (act_codes (arrows_deck deck)) code ≡ number_among (task_codes deck) code
   task-number code known =
-      ap (λ found. unwrap_or found (length (act_codes (drawn deck)))) (task-named deck code known)
-      ∙ default (named_among (task_codes deck) code) (length (act_codes (drawn deck))) (length (task_codes deck)) known
+      ap (λ found. unwrap_or found (length (act_codes (arrows_deck deck)))) (task-named deck code known)
+      ∙ default (named_among (task_codes deck) code) (length (act_codes (arrows_deck deck))) (length (task_codes deck)) known
 
-  of_pieces : (pieces : List PieceCard) → All (IsKnownPiece deck) pieces → map (piece_of (drawn deck)) pieces ≡ map (task_piece deck) pieces
+  of_pieces : (pieces : List PieceCard) → All (IsKnownPiece deck) pieces → map (piece_of (arrows_deck deck)) pieces ≡ map (task_piece deck) pieces
   of_pieces [] known = refl
   of_pieces (piece ∷ pieces) known =
       let row : ℕ → PieceRow = λ a. record { activity = a; units = piece.units; slope = piece.slope } in
-      ap (λ a. row a ∷ map (piece_of (drawn deck)) pieces) (task-number piece.activity (All-head (IsKnownPiece deck) piece pieces known))
+      ap (λ a. row a ∷ map (piece_of (arrows_deck deck)) pieces) (task-number piece.activity (All-head (IsKnownPiece deck) piece pieces known))
       ∙ ap (λ rest. task_piece deck piece ∷ rest) (of_pieces pieces (All-tail (IsKnownPiece deck) piece pieces known))
 
-  pub pieces-are : CanBeDrawn deck → pieces_in (drawn deck) ≡ task_pieces deck
+  pub pieces-are : CanBeDrawn deck → pieces_in (arrows_deck deck) ≡ task_pieces deck
   pieces-are can = of_pieces deck.pieces can.pieces
 
   -- each of a task

@@ -24,16 +24,16 @@ use Rattle.pc_faults.specs.declared.fault.Fault.{Fault}
 use Rattle.pc_model.specs.Codes.{IsNamedOnce, code_at}
 use Rattle.pc_model.specs.Network.{IsSound}
 use Rattle.pc_project.specs.Misfit as plan
-use Rattle.pc_project.specs.Misfit.{HasAccountFault, HasActFault, HasFigureFault, HasItemFault, HasListedFault, HasLoadFault, HasMoneyFault, HasPieceCardFault, HasProjectFault, HasStatusFault, IsInOrder}
+use Rattle.pc_project.specs.Misfit.{HasAccountFault, HasActFault, HasFigureFault, HasItemFault, HasListedFault, HasLoadFault, HasMoneyFault, HasPieceCardFault, HasProjectFault, HasStatusFault, HasOrderedEstimates}
 use Rattle.pc_project.specs.Project.{row_of, rows_of}
 use Rattle.pc_project.specs.Refusal.{HasSoundPlan}
 use Rattle.pc_project.proofs.FitLaws.{known_unless}
 use Rattle.pc_tasks.specs.Codes.{begin_code, end_code, links_code}
-use Rattle.pc_tasks.specs.Drawn.{after_links, code_of_top, drawn, first_link, last_link, link, links_item, links_of, task_act, task_acts, top_code}
+use Rattle.pc_tasks.specs.Drawn.{after_links, code_of_top, arrows_deck, first_link, last_link, link, links_item, links_of, task_act, task_acts, top_code}
 use Rattle.pc_tasks.specs.Known.{CanBeDrawn}
 use Rattle.pc_tasks.specs.Lists.{afters_in}
 use Rattle.pc_tasks.specs.Misfit as has
-use Rattle.pc_tasks.specs.Misfit.{HasNoMisfit, HasTaskFault}
+use Rattle.pc_tasks.specs.Misfit.{HasNoTaskMisfit, HasTaskFault}
 use Rattle.pc_tasks.proofs.CodeLemmas.{drawn_code-letter, given-not_drawn}
 use Rattle.pc_tasks.proofs.EventLemmas as events
 use Rattle.pc_tasks.proofs.KnownLemmas.{can_be_drawn, rows-in_range}
@@ -100,26 +100,26 @@ no_parent f (Some code) none = absurd cc
 
 -- ---- the plan
 
-module _ (deck : Deck) (within : IsWithin Tasks deck) (none : HasNoMisfit deck) where
+module _ (deck : Deck) (within : IsWithin Tasks deck) (none : HasNoTaskMisfit deck) where
   abbrev can : CanBeDrawn deck
   can = can_be_drawn deck none within
 
   abbrev items : List (List ℕ)
   items = item_codes deck
 
-  items-are : item_codes (drawn deck) ≡ items ++ links_code ∷ []
+  items-are : item_codes (arrows_deck deck) ≡ items ++ links_code ∷ []
   items-are = map-append (λ (item : ItemCard). item.code) deck.items (links_item deck ∷ [])
 
   -- an item is found at its own place
-  item-named : (code : List ℕ) → IsSome (named_among items code) → named_among (item_codes (drawn deck)) code ≡ named_among items code
+  item-named : (code : List ℕ) → IsSome (named_among items code) → named_among (item_codes (arrows_deck deck)) code ≡ named_among items code
   item-named code known = ap (λ codes. named_among codes code) items-are ∙ found-before code items (links_code ∷ []) known
 
-  item-found : (code : List ℕ) → IsSome (named_among items code) → IsSome (named_among (item_codes (drawn deck)) code)
+  item-found : (code : List ℕ) → IsSome (named_among items code) → IsSome (named_among (item_codes (arrows_deck deck)) code)
   item-found code known = subst IsSome (sym (item-named code known)) known
 
-  links-found : IsSome (named_among (item_codes (drawn deck)) links_code)
+  links-found : IsSome (named_among (item_codes (arrows_deck deck)) links_code)
   links-found =
-      found-there links_code (item_codes (drawn deck)) (length items) (omega (arith, ap length items-are, length-append items (links_code ∷ [])))
+      found-there links_code (item_codes (arrows_deck deck)) (length items) (omega (arith, ap length items-are, length-append items (links_code ∷ [])))
       (ap (λ codes. code_at codes (length items)) items-are ∙ get_or_push items links_code [] (length items) refl)
 
   -- the items that cards name are items
@@ -128,9 +128,9 @@ module _ (deck : Deck) (within : IsWithin Tasks deck) (none : HasNoMisfit deck) 
       known_unless (named_among items code) (λ lacks. none (told.unknown_item item.row code) (has.item (k, item, inside, at, plan.unknown_parent code is lacks refl)))
 
   -- an activity that is drawn has no fault
-  act-sound : (act : ActCard) → IsSome (named_among (event_codes (drawn deck)) act.from) → IsSome (named_among (event_codes (drawn deck)) act.to)
-      → IsSome (named_among (item_codes (drawn deck)) act.item) → act.from ≢ act.to → IsInOrder act → act.crash ≤ act.normal
-      → (fault : Fault) → HasActFault (drawn deck) act fault → ⊥
+  act-sound : (act : ActCard) → IsSome (named_among (event_codes (arrows_deck deck)) act.from) → IsSome (named_among (event_codes (arrows_deck deck)) act.to)
+      → IsSome (named_among (item_codes (arrows_deck deck)) act.item) → act.from ≢ act.to → HasOrderedEstimates act → act.crash ≤ act.normal
+      → (fault : Fault) → HasActFault (arrows_deck deck) act fault → ⊥
   act-sound act from to item apart ordered fits fault (plan.unknown_from lacks is) = never _ from lacks
   act-sound act from to item apart ordered fits fault (plan.unknown_to known lacks is) = never _ to lacks
   act-sound act from to item apart ordered fits fault (plan.HasActFault.unknown_item lacks is) = never _ item lacks
@@ -139,7 +139,7 @@ module _ (deck : Deck) (within : IsWithin Tasks deck) (none : HasNoMisfit deck) 
   act-sound act from to item apart ordered fits fault (plan.crash_above above is) = omega (arith, above, fits)
 
   abbrev IsSoundAct : ActCard → Type 0
-  IsSoundAct act = (fault : Fault) → HasActFault (drawn deck) act fault → ⊥
+  IsSoundAct act = (fault : Fault) → HasActFault (arrows_deck deck) act fault → ⊥
 
   abbrev n : ℕ
   n = length deck.tasks
@@ -171,7 +171,7 @@ module _ (deck : Deck) (within : IsWithin Tasks deck) (none : HasNoMisfit deck) 
       All-cons IsSoundAct (task_act i task) (task_acts (i + 1) tasks) (task-sound i task (omega (arith, few)) (All-head HasNoTaskFault task tasks all))
       (tasks-sound (i + 1) tasks (omega (arith, few)) (All-tail HasNoTaskFault task tasks all))
 
-  link-sound : (code from to : List ℕ) → IsSome (named_among (event_codes (drawn deck)) from) → IsSome (named_among (event_codes (drawn deck)) to) → from ≢ to
+  link-sound : (code from to : List ℕ) → IsSome (named_among (event_codes (arrows_deck deck)) from) → IsSome (named_among (event_codes (arrows_deck deck)) to) → from ≢ to
       → IsSoundAct (link code from to)
   link-sound code from to begins ends apart = act-sound (link code from to) begins ends links-found apart (record { optimistic = omega arith; pessimistic = omega arith }) (omega arith)
 
@@ -204,7 +204,7 @@ module _ (deck : Deck) (within : IsWithin Tasks deck) (none : HasNoMisfit deck) 
   faultless-tasks = λ k d inside fault h.
       none fault (has.task (k, get_or deck.tasks k d, inside, itself deck.tasks k d inside, h))
 
-  acts-sound : All IsSoundAct (drawn deck).acts
+  acts-sound : All IsSoundAct (arrows_deck deck).acts
   acts-sound =
       let rows = afters_in deck in
       All-append IsSoundAct (task_acts 0 deck.tasks) (links_of deck) (tasks-sound 0 deck.tasks (omega arith) faultless-tasks)
@@ -214,60 +214,60 @@ module _ (deck : Deck) (within : IsWithin Tasks deck) (none : HasNoMisfit deck) 
       (firsts-sound (firsts n rows) (firsts-below n rows)) (lasts-sound (lasts n rows) (lasts-below n rows))))
 
   -- a task is found among the activities
-  act-found : (code : List ℕ) → IsSome (named_among (task_codes deck) code) → IsSome (named_among (act_codes (drawn deck)) code)
+  act-found : (code : List ℕ) → IsSome (named_among (task_codes deck) code) → IsSome (named_among (act_codes (arrows_deck deck)) code)
   act-found code known = subst IsSome (sym (task-named deck code known)) known
 
-  act-missing : (code : List ℕ) → named_among (act_codes (drawn deck)) code ≡ None → named_among (task_codes deck) code ≡ None
+  act-missing : (code : List ℕ) → named_among (act_codes (arrows_deck deck)) code ≡ None → named_among (task_codes deck) code ≡ None
   act-missing code lacks = missing (named_among (task_codes deck) code) (λ known. never _ (act-found code known) lacks)
 
-  item-missing : (code : List ℕ) → named_among (item_codes (drawn deck)) code ≡ None → named_among items code ≡ None
+  item-missing : (code : List ℕ) → named_among (item_codes (arrows_deck deck)) code ≡ None → named_among items code ≡ None
   item-missing code lacks = missing (named_among items code) (λ known. never _ (item-found code known) lacks)
 
   -- ---- the other cards
 
-  project-sound : (fault : Fault) → HasProjectFault (drawn deck) (drawn deck).project fault → ⊥
+  project-sound : (fault : Fault) → HasProjectFault (arrows_deck deck) (arrows_deck deck).project fault → ⊥
   project-sound fault (plan.unknown_start m is) = never _ (found _ _ (events.named-start deck can)) m
   project-sound fault (plan.unknown_end known m is) = never _ (found _ _ (events.named-last deck can)) m
   project-sound fault (plan.same_ends same is) = can.apart same
 
-  figure-sound : (fault : Fault) → HasFigureFault (drawn deck) fault → ⊥
+  figure-sound : (fault : Fault) → HasFigureFault (arrows_deck deck) fault → ⊥
   figure-sound fault (plan.account any) =
-      none fault (has.account (any_of (λ (card : AcctCard). HasAccountFault (drawn deck) card fault) (λ card. HasAccountFault deck card fault) deck.accounts (λ card h. over card h) any))
+      none fault (has.account (any_of (λ (card : AcctCard). HasAccountFault (arrows_deck deck) card fault) (λ card. HasAccountFault deck card fault) deck.accounts (λ card h. over card h) any))
     where
-      over : (card : AcctCard) → HasAccountFault (drawn deck) card fault → HasAccountFault deck card fault
+      over : (card : AcctCard) → HasAccountFault (arrows_deck deck) card fault → HasAccountFault deck card fault
       over card (plan.HasAccountFault.unknown_item m is) = plan.HasAccountFault.unknown_item (item-missing card.item m) is
   figure-sound fault (plan.charge any) =
-      none fault (has.charge (any_of (λ (card : MoneyCard). HasMoneyFault (drawn deck) card fault) (λ card. HasMoneyFault deck card fault) deck.charges (λ card h. over card h) any))
+      none fault (has.charge (any_of (λ (card : MoneyCard). HasMoneyFault (arrows_deck deck) card fault) (λ card. HasMoneyFault deck card fault) deck.charges (λ card h. over card h) any))
     where
-      over : (card : MoneyCard) → HasMoneyFault (drawn deck) card fault → HasMoneyFault deck card fault
+      over : (card : MoneyCard) → HasMoneyFault (arrows_deck deck) card fault → HasMoneyFault deck card fault
       over card (plan.unknown_account m is) = plan.unknown_account m is
   figure-sound fault (plan.togo any) =
-      none fault (has.togo (any_of (λ (card : MoneyCard). HasMoneyFault (drawn deck) card fault) (λ card. HasMoneyFault deck card fault) deck.togos (λ card h. over card h) any))
+      none fault (has.togo (any_of (λ (card : MoneyCard). HasMoneyFault (arrows_deck deck) card fault) (λ card. HasMoneyFault deck card fault) deck.togos (λ card h. over card h) any))
     where
-      over : (card : MoneyCard) → HasMoneyFault (drawn deck) card fault → HasMoneyFault deck card fault
+      over : (card : MoneyCard) → HasMoneyFault (arrows_deck deck) card fault → HasMoneyFault deck card fault
       over card (plan.unknown_account m is) = plan.unknown_account m is
   figure-sound fault (plan.status any) =
-      none fault (has.status (any_of (λ (card : StatusCard). HasStatusFault (drawn deck) card fault)
+      none fault (has.status (any_of (λ (card : StatusCard). HasStatusFault (arrows_deck deck) card fault)
       (λ card. has.HasNameFault deck card.row card.activity fault) deck.statuses (λ card h. over card h) any))
     where
-      over : (card : StatusCard) → HasStatusFault (drawn deck) card fault → has.HasNameFault deck card.row card.activity fault
+      over : (card : StatusCard) → HasStatusFault (arrows_deck deck) card fault → has.HasNameFault deck card.row card.activity fault
       over card (plan.HasStatusFault.unknown_activity m is) = has.HasNameFault.unknown_task (act-missing card.activity m) is
 
-  listed-sound : (fault : Fault) → (Any (λ card. HasItemFault (drawn deck) card fault) (drawn deck).items → ⊥) → HasListedFault (drawn deck) fault → ⊥
+  listed-sound : (fault : Fault) → (Any (λ card. HasItemFault (arrows_deck deck) card fault) (arrows_deck deck).items → ⊥) → HasListedFault (arrows_deck deck) fault → ⊥
   listed-sound fault items_sound (plan.item any) = items_sound any
-  listed-sound fault items_sound (plan.act any) = none_of (λ (act : ActCard). HasActFault (drawn deck) act fault) (drawn deck).acts (λ k d inside h. acts-sound k d inside fault h) any
+  listed-sound fault items_sound (plan.act any) = none_of (λ (act : ActCard). HasActFault (arrows_deck deck) act fault) (arrows_deck deck).acts (λ k d inside h. acts-sound k d inside fault h) any
   listed-sound fault items_sound (plan.piece any) =
-      none fault (has.piece (any_of (λ (card : PieceCard). HasPieceCardFault (drawn deck) card fault)
+      none fault (has.piece (any_of (λ (card : PieceCard). HasPieceCardFault (arrows_deck deck) card fault)
       (λ card. has.HasNameFault deck card.row card.activity fault) deck.pieces (λ card h. over card h) any))
     where
-      over : (card : PieceCard) → HasPieceCardFault (drawn deck) card fault → has.HasNameFault deck card.row card.activity fault
+      over : (card : PieceCard) → HasPieceCardFault (arrows_deck deck) card fault → has.HasNameFault deck card.row card.activity fault
       over card (plan.HasPieceCardFault.unknown_activity m is) = has.HasNameFault.unknown_task (act-missing card.activity m) is
   listed-sound fault items_sound (plan.load any) =
-      none fault (has.load (any_of (λ (card : LoadCard). HasLoadFault (drawn deck) card fault) (λ card. has.HasLoadFault deck card fault) deck.loads (λ card h. over card h) any))
+      none fault (has.load (any_of (λ (card : LoadCard). HasLoadFault (arrows_deck deck) card fault) (λ card. has.HasTaskLoadFault deck card fault) deck.loads (λ card h. over card h) any))
     where
-      over : (card : LoadCard) → HasLoadFault (drawn deck) card fault → has.HasLoadFault deck card fault
-      over card (plan.HasLoadFault.unknown_activity m is) = has.HasLoadFault.unknown_task (act-missing card.activity m) is
-      over card (plan.unknown_resource m is) = has.HasLoadFault.unknown_resource m is
+      over : (card : LoadCard) → HasLoadFault (arrows_deck deck) card fault → has.HasTaskLoadFault deck card fault
+      over card (plan.HasLoadFault.unknown_activity m is) = has.HasTaskLoadFault.unknown_task (act-missing card.activity m) is
+      over card (plan.unknown_resource m is) = has.HasTaskLoadFault.unknown_resource m is
   listed-sound fault items_sound (plan.figure h) = figure-sound fault h
 
   -- ---- the items
@@ -309,7 +309,7 @@ module _ (deck : Deck) (within : IsWithin Tasks deck) (none : HasNoMisfit deck) 
     top-named = only_place-is top_name items first_top.0 once (omega (arith, first_top.1.0, length-map deck.items (λ (item : ItemCard). item.code))) code-at ∙ ap Some first_top-is
 
     -- no item has a parent that is none
-    item-sound : (fault : Fault) (item : ItemCard) → ((code : List ℕ) → item.parent ≡ Some code → IsSome (named_among items code)) → HasItemFault (drawn deck) item fault → ⊥
+    item-sound : (fault : Fault) (item : ItemCard) → ((code : List ℕ) → item.parent ≡ Some code → IsSome (named_among items code)) → HasItemFault (arrows_deck deck) item fault → ⊥
     item-sound fault item known (plan.unknown_parent code is m told) = never _ (item-found code (known code is)) m
 
     links-parent : (code : List ℕ) → (links_item deck).parent ≡ Some code → IsSome (named_among items code)
@@ -317,59 +317,59 @@ module _ (deck : Deck) (within : IsWithin Tasks deck) (none : HasNoMisfit deck) 
         let same : code ≡ top_name = (let both : Some code ≡ Some top_name = sym is ∙ first_top.1.1.1 in cc) in
         subst (λ c. IsSome (named_among items c)) (sym same) (found _ _ top-named)
 
-    items-sound : (fault : Fault) → Any (λ card. HasItemFault (drawn deck) card fault) (drawn deck).items → ⊥
+    items-sound : (fault : Fault) → Any (λ card. HasItemFault (arrows_deck deck) card fault) (arrows_deck deck).items → ⊥
     items-sound fault =
-        none_of (λ (card : ItemCard). HasItemFault (drawn deck) card fault) (drawn deck).items
-        (All-append (λ (card : ItemCard). HasItemFault (drawn deck) card fault → ⊥) deck.items (links_item deck ∷ [])
+        none_of (λ (card : ItemCard). HasItemFault (arrows_deck deck) card fault) (arrows_deck deck).items
+        (All-append (λ (card : ItemCard). HasItemFault (arrows_deck deck) card fault → ⊥) deck.items (links_item deck ∷ [])
         (λ k d inside. item-sound fault (get_or deck.items k d) (parent-known (get_or deck.items k d) k inside (itself deck.items k d inside)))
-        (All-cons (λ (card : ItemCard). HasItemFault (drawn deck) card fault → ⊥) (links_item deck) [] (item-sound fault (links_item deck) links-parent)
-        (All-nil (λ (card : ItemCard). HasItemFault (drawn deck) card fault → ⊥))))
+        (All-cons (λ (card : ItemCard). HasItemFault (arrows_deck deck) card fault → ⊥) (links_item deck) [] (item-sound fault (links_item deck) links-parent)
+        (All-nil (λ (card : ItemCard). HasItemFault (arrows_deck deck) card fault → ⊥))))
 
     -- the rows of the items, and the row of the links below the top
     default : (o : Option ℕ) (a b : ℕ) → IsSome o → unwrap_or o a ≡ unwrap_or o b
     default (Some i) a b known = refl
     default None a b known = absurd (false≢true known)
 
-    same-number : (code : List ℕ) → IsSome (named_among items code) → number_among (item_codes (drawn deck)) code ≡ number_among items code
+    same-number : (code : List ℕ) → IsSome (named_among items code) → number_among (item_codes (arrows_deck deck)) code ≡ number_among items code
     same-number code known =
-        ap (λ o. unwrap_or o (length (item_codes (drawn deck)))) (item-named code known)
-        ∙ default (named_among items code) (length (item_codes (drawn deck))) (length items) known
+        ap (λ o. unwrap_or o (length (item_codes (arrows_deck deck)))) (item-named code known)
+        ∙ default (named_among items code) (length (item_codes (arrows_deck deck))) (length items) known
 
     same-parent : (parent : Option (List ℕ)) → ((code : List ℕ) → parent ≡ Some code → IsSome (named_among items code))
-        → option_and_then (λ code. Some (number_among (item_codes (drawn deck)) code)) parent ≡ option_and_then (λ code. Some (number_among items code)) parent
+        → option_and_then (λ code. Some (number_among (item_codes (arrows_deck deck)) code)) parent ≡ option_and_then (λ code. Some (number_among items code)) parent
     same-parent None known = refl
     same-parent (Some code) known = ap Some (same-number code (known code refl))
 
     abbrev HasKnownParent : ItemCard → Type 0
     HasKnownParent item = (code : List ℕ) → item.parent ≡ Some code → IsSome (named_among items code)
 
-    same-rows : (cards : List ItemCard) → All HasKnownParent cards → map (row_of (drawn deck)) cards ≡ map (row_of deck) cards
+    same-rows : (cards : List ItemCard) → All HasKnownParent cards → map (row_of (arrows_deck deck)) cards ≡ map (row_of deck) cards
     same-rows [] all = refl
     same-rows (card ∷ cards) all =
         let row : Option ℕ → ItemRow = λ parent. record { parent = parent } in
-        ap (λ p. row p ∷ map (row_of (drawn deck)) cards) (same-parent card.parent (All-head HasKnownParent card cards all))
+        ap (λ p. row p ∷ map (row_of (arrows_deck deck)) cards) (same-parent card.parent (All-head HasKnownParent card cards all))
         ∙ ap (λ rest. row_of deck card ∷ rest) (same-rows cards (All-tail HasKnownParent card cards all))
 
-    links-row : row_of (drawn deck) (links_item deck) ≡ below top
+    links-row : row_of (arrows_deck deck) (links_item deck) ≡ below top
     links-row =
         let row : Option ℕ → ItemRow = λ parent. record { parent = parent } in
-        ap row (ap (option_and_then (λ code. Some (number_among (item_codes (drawn deck)) code))) first_top.1.1.1
+        ap row (ap (option_and_then (λ code. Some (number_among (item_codes (arrows_deck deck)) code))) first_top.1.1.1
         ∙ ap Some (same-number top_name (found _ _ top-named) ∙ ap (λ o. unwrap_or o (length items)) top-named))
 
-    rows-are : rows_of (drawn deck) ≡ rows_of deck ++ below top ∷ []
+    rows-are : rows_of (arrows_deck deck) ≡ rows_of deck ++ below top ∷ []
     rows-are =
-        map-append (row_of (drawn deck)) deck.items (links_item deck ∷ [])
-        ∙ (ap (λ front. front ++ row_of (drawn deck) (links_item deck) ∷ []) (same-rows deck.items (λ k d inside. parent-known (get_or deck.items k d) k inside (itself deck.items k d inside)))
+        map-append (row_of (arrows_deck deck)) deck.items (links_item deck ∷ [])
+        ∙ (ap (λ front. front ++ row_of (arrows_deck deck) (links_item deck) ∷ []) (same-rows deck.items (λ k d inside. parent-known (get_or deck.items k d) k inside (itself deck.items k d inside)))
         ∙ ap (λ r. rows_of deck ++ r ∷ []) links-row)
 
-    drawn-tree : IsTree (rows_of (drawn deck))
+    drawn-tree : IsTree (rows_of (arrows_deck deck))
     drawn-tree = subst IsTree (sym rows-are) (tree-more (rows_of deck) top (rows-in_range deck none) only tree)
 
-    misfit-sound : (fault : Fault) → plan.HasMisfit (drawn deck) fault → ⊥
+    misfit-sound : (fault : Fault) → plan.HasMisfit (arrows_deck deck) fault → ⊥
     misfit-sound fault (plan.project h) = project-sound fault h
     misfit-sound fault (plan.listed h) = listed-sound fault (items-sound fault) h
 
-    pub drawn-sound : IsSound (arrows n (afters_in deck)) → HasSoundPlan (drawn deck)
+    pub drawn-sound : IsSound (arrows n (afters_in deck)) → HasSoundPlan (arrows_deck deck)
     drawn-sound sound = record {
       cards = misfit-sound;
       tree = drawn-tree;

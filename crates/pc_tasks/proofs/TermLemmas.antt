@@ -8,7 +8,7 @@ use Rattle.pc_deck.specs.declared.kinds.act.ActCard.{ActCard}
 use Rattle.pc_project.specs.Project.{term_of, terms_in}
 use Rattle.pc_deck.specs.declared.kinds.task.TaskCard.{TaskCard}
 use Rattle.pc_deck.specs.Deck.{Deck}
-use Rattle.pc_tasks.specs.Drawn.{after_links, drawn, first_link, last_link, links_of, task_acts}
+use Rattle.pc_tasks.specs.Drawn.{after_links, arrows_deck, first_link, last_link, links_of, task_acts}
 use Rattle.pc_tasks.specs.Lists.{afters_in, task_term, task_terms}
 
 of_tasks : (i : ℕ) (tasks : List TaskCard) → map term_of (task_acts i tasks) ≡ map task_term tasks
@@ -54,7 +54,7 @@ module _ (deck : Deck) where
       ∙ ap (λ many. replicate many no_term) (sym length-links))))
 
   -- those of the tasks, and nothing for the links
-  pub terms-are : terms_in (drawn deck) ≡ arrow_terms (task_terms deck) rows
+  pub terms-are : terms_in (arrows_deck deck) ≡ arrow_terms (task_terms deck) rows
   terms-are =
       map-append term_of (task_acts 0 deck.tasks) (links_of deck)
       ∙ (ap (λ front. front ++ map term_of (links_of deck)) (of_tasks 0 deck.tasks)

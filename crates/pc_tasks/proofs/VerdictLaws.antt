@@ -9,9 +9,9 @@ use Rattle.pc_faults.specs.declared.fault.Fault.{Fault as ADeckFault}
 use Rattle.pc_project.specs.Project.{Project, rows_of}
 use Rattle.pc_project.proofs.OneProjectLaws.{one_project_of}
 use Rattle.pc_project.proofs.RefusalLaws.{makes_not_refused, no_tree, told, told_of-account, told_of-item, told_of-money, told_of-refused, told_of-tree}
-use Rattle.pc_tasks.specs.Drawn.{drawn}
+use Rattle.pc_tasks.specs.Drawn.{arrows_deck}
 use Rattle.pc_tasks.specs.Misfit as has
-use Rattle.pc_tasks.specs.Misfit.{HasAfterFault, HasLoadFault, HasMisfit, HasNameFault, HasTaskFault}
+use Rattle.pc_tasks.specs.Misfit.{HasAfterFault, HasTaskLoadFault, HasTaskMisfit, HasNameFault, HasTaskFault}
 use Rattle.pc_tasks.specs.Refusal.{IsTasksRefusedWith, MakesArrows, of_cards, of_cycle, of_none, of_plan, of_top, of_tree}
 use Rattle.pc_tasks.specs.Text.{IsDrawnProject}
 
@@ -22,11 +22,11 @@ arrows_not_refused deck fault makes (of_tree cards at) = no_tree deck.items (row
 arrows_not_refused deck fault makes (of_top cards items lone) = makes.sound.items.branch fault lone
 arrows_not_refused deck fault makes (of_none items none) = omega (arith, makes.sound.some, ap length none.0)
 arrows_not_refused deck fault makes (of_cycle items some (cycle, (first, is))) = makes.sound.no_cycle cycle first.cycle
-arrows_not_refused deck fault makes (of_plan sound refused) = makes_not_refused (drawn deck) fault makes.plan refused
+arrows_not_refused deck fault makes (of_plan sound refused) = makes_not_refused (arrows_deck deck) fault makes.plan refused
 
 -- and they make one project
 pub one_drawn_project : (deck : Deck) (project other : Project) → IsDrawnProject deck project → IsDrawnProject deck other → project ≡ other
-one_drawn_project deck project other is also = one_project_of (drawn deck) is.makes.plan.once project other is.is also.is
+one_drawn_project deck project other is also = one_project_of (arrows_deck deck) is.makes.plan.once project other is.is also.is
 
 told_of-task : (deck : Deck) (card : TaskCard) (fault : ADeckFault) → HasTaskFault deck card fault → IsTold fault
 told_of-task deck card fault (has.unknown_item none is) = told fault _ is refl
@@ -41,11 +41,11 @@ told_of-after deck card fault (has.same_task same is) = told fault _ is refl
 told_of-name : (deck : Deck) (row : ℕ) (code : List ℕ) (fault : ADeckFault) → HasNameFault deck row code fault → IsTold fault
 told_of-name deck row code fault (has.HasNameFault.unknown_task none is) = told fault _ is refl
 
-told_of-load : (deck : Deck) (card : LoadCard) (fault : ADeckFault) → HasLoadFault deck card fault → IsTold fault
-told_of-load deck card fault (has.HasLoadFault.unknown_task none is) = told fault _ is refl
+told_of-load : (deck : Deck) (card : LoadCard) (fault : ADeckFault) → HasTaskLoadFault deck card fault → IsTold fault
+told_of-load deck card fault (has.HasTaskLoadFault.unknown_task none is) = told fault _ is refl
 told_of-load deck card fault (has.unknown_resource none is) = told fault _ is refl
 
-told_of-misfit : (deck : Deck) (fault : ADeckFault) → HasMisfit deck fault → IsTold fault
+told_of-misfit : (deck : Deck) (fault : ADeckFault) → HasTaskMisfit deck fault → IsTold fault
 told_of-misfit deck fault (has.ends here) = told fault _ here.1 refl
 told_of-misfit deck fault (has.item (k, card, within, at, here)) = told_of-item deck card fault here
 told_of-misfit deck fault (has.task (k, card, within, at, here)) = told_of-task deck card fault here
@@ -64,4 +64,4 @@ told_of-refused_tasks deck fault (of_tree cards at) = told_of-tree deck.items (r
 told_of-refused_tasks deck fault (of_top cards items lone) = told fault _ lone.1 refl
 told_of-refused_tasks deck fault (of_none items none) = told fault _ none.1 refl
 told_of-refused_tasks deck fault (of_cycle items some (cycle, (first, is))) = told fault _ is refl
-told_of-refused_tasks deck fault (of_plan sound refused) = told_of-refused (drawn deck) fault refused
+told_of-refused_tasks deck fault (of_plan sound refused) = told_of-refused (arrows_deck deck) fault refused

@@ -22,7 +22,7 @@ use Rattle.pc_deck.specs.declared.kinds.project.ProjectCard.{ProjectCard}
 use Rattle.pc_deck.specs.declared.kinds.task.TaskCard.{TaskCard}
 use Rattle.pc_deck.specs.declared.kinds.wbs.ItemCard.{ItemCard}
 use Rattle.pc_tasks.specs.Codes.{after_code, drawn_code, links_code}
-use Rattle.pc_tasks.specs.Drawn.{after_links, drawn, drawn_event, first_link, last_link, links_item, links_of, task_acts, task_events, top_code, code_of_top}
+use Rattle.pc_tasks.specs.Drawn.{after_links, arrows_deck, drawn_event, first_link, last_link, links_item, links_of, task_acts, task_events, top_code, code_of_top}
 use Rattle.pc_tasks.specs.Known.{CanBeDrawn, IsGiven}
 use Rattle.pc_tasks.specs.Lists.{after_row, afters_in}
 use Rattle.pc_tasks.proofs.EventLemmas as events
@@ -167,7 +167,7 @@ module _ (deck : Deck) (within : IsWithin Tasks deck) where
   }
 
   module _ (can : CanBeDrawn deck) where
-    events-within : IsListWithin Plan Event 2 (drawn deck).events
+    events-within : IsListWithin Plan Event 2 (arrows_deck deck).events
     events-within = record {
       few = omega (arith, events.length-events deck can, few-tasks);
       fit = All-cons (IsFit Plan Event) (drawn_event deck.project.start) (task_events 0 deck.tasks ++ drawn_event deck.project.end ∷ [])
@@ -216,7 +216,7 @@ module _ (deck : Deck) (within : IsWithin Tasks deck) where
         let at = drawn_at l xs k (omega (arith, k_in, length-map xs (drawn_code l))) in
         given-not_drawn (code_at (task_codes deck) j) l _ (task_code-given j j_in) (same ∙ at)
 
-    acts-once : IsNamedOnce (act_codes (drawn deck))
+    acts-once : IsNamedOnce (act_codes (arrows_deck deck))
     acts-once =
         subst IsNamedOnce (sym (acts-are deck ∙ ap (λ back. task_codes deck ++ back) links-codes))
         (once-append (task_codes deck) drawn_codes ((within Task).differ refl) drawn_codes-once
@@ -235,7 +235,7 @@ module _ (deck : Deck) (within : IsWithin Tasks deck) where
           length-map tails (last_link deck),
         )
 
-    acts-within : IsListWithin Plan Act 2 (drawn deck).acts
+    acts-within : IsListWithin Plan Act 2 (arrows_deck deck).acts
     acts-within = record {
       few = omega (
         arith,
@@ -252,7 +252,7 @@ module _ (deck : Deck) (within : IsWithin Tasks deck) where
       differ = λ coded. acts-once;
     }
 
-    pub drawn-within : IsWithinLimits (drawn deck)
+    pub drawn-within : IsWithinLimits (arrows_deck deck)
     drawn-within Project = record { few = tt; fit = All-one (IsFit Plan Project) deck.project (project-fit deck.project project); differ = λ coded. absurd (let coded' = coded in cc) }
     drawn-within Wbs = items-within
     drawn-within Event = events-within

@@ -98,5 +98,5 @@ abbrev pub links_item : Deck → ItemCard
 links_item deck = record { row = 0; code = links_code; parent = top_code deck; title = [] }
 
 -- the deck of arrows
-abbrev pub drawn : Deck → Deck
-drawn deck = drawn_with deck (deck.items ++ links_item deck ∷ []) (events_of deck) (task_acts 0 deck.tasks ++ links_of deck)
+abbrev pub arrows_deck : Deck → Deck
+arrows_deck deck = drawn_with deck (deck.items ++ links_item deck ∷ []) (events_of deck) (task_acts 0 deck.tasks ++ links_of deck)

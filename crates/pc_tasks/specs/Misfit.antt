@@ -14,7 +14,7 @@ abbrev pub HasEndsFault : Deck → Fault → Type 0
 HasEndsFault deck fault = (deck.project.start ≡ deck.project.end) × (fault ≡ told.one_event deck.project.row deck.project.start)
 
 -- the estimates are in order
-pub record IsInOrder (task : TaskCard) : Type 0 where
+pub record HasOrderedTaskEstimates (task : TaskCard) : Type 0 where
   pub optimistic : task.opt ≤ task.likely
   pub pessimistic : task.likely ≤ task.pess
 
@@ -23,7 +23,7 @@ pub data HasTaskFault (deck : Deck) (card : TaskCard) (fault : Fault) : Type 0 w
   -- F14: its item is no item
   unknown_item : named_among (item_codes deck) card.item ≡ None → fault ≡ told.unknown_item card.row card.item → HasTaskFault deck card fault
   -- F18: its estimates are out of order
-  unordered : (IsInOrder card → ⊥) → fault ≡ told.estimates_disorder card.row → HasTaskFault deck card fault
+  unordered : (HasOrderedTaskEstimates card → ⊥) → fault ≡ told.estimates_disorder card.row → HasTaskFault deck card fault
   -- F19: its crash duration is above the normal one
   crash_above : card.normal < card.crash → fault ≡ told.crash_above_normal card.row → HasTaskFault deck card fault
 
@@ -41,27 +41,27 @@ pub data HasNameFault (deck : Deck) (row : ℕ) (code : List ℕ) (fault : Fault
   unknown_task : named_among (task_codes deck) code ≡ None → fault ≡ told.unknown_activity row code → HasNameFault deck row code fault
 
 -- the faults of a LOAD card
-pub data HasLoadFault (deck : Deck) (card : LoadCard) (fault : Fault) : Type 0 where
+pub data HasTaskLoadFault (deck : Deck) (card : LoadCard) (fault : Fault) : Type 0 where
   -- F16: its task is no task
   unknown_task : named_among (task_codes deck) card.activity ≡ None →
-      fault ≡ told.unknown_activity card.row card.activity → HasLoadFault deck card fault
+      fault ≡ told.unknown_activity card.row card.activity → HasTaskLoadFault deck card fault
   -- F41: its resource is no resource
   unknown_resource : named_among (resource_codes deck) card.resource ≡ None →
-      fault ≡ told.unknown_resource card.row card.resource → HasLoadFault deck card fault
+      fault ≡ told.unknown_resource card.row card.resource → HasTaskLoadFault deck card fault
 
 -- the faults of the cards of a deck of tasks
-pub data HasMisfit (deck : Deck) (fault : Fault) : Type 0 where
-  ends : HasEndsFault deck fault → HasMisfit deck fault
-  item : Any (λ card. HasItemFault deck card fault) deck.items → HasMisfit deck fault
-  task : Any (λ card. HasTaskFault deck card fault) deck.tasks → HasMisfit deck fault
-  after : Any (λ card. HasAfterFault deck card fault) deck.afters → HasMisfit deck fault
-  piece : Any (λ card. HasNameFault deck card.row card.activity fault) deck.pieces → HasMisfit deck fault
-  account : Any (λ card. HasAccountFault deck card fault) deck.accounts → HasMisfit deck fault
-  charge : Any (λ card. HasMoneyFault deck card fault) deck.charges → HasMisfit deck fault
-  togo : Any (λ card. HasMoneyFault deck card fault) deck.togos → HasMisfit deck fault
-  status : Any (λ card. HasNameFault deck card.row card.activity fault) deck.statuses → HasMisfit deck fault
-  load : Any (λ card. HasLoadFault deck card fault) deck.loads → HasMisfit deck fault
+pub data HasTaskMisfit (deck : Deck) (fault : Fault) : Type 0 where
+  ends : HasEndsFault deck fault → HasTaskMisfit deck fault
+  item : Any (λ card. HasItemFault deck card fault) deck.items → HasTaskMisfit deck fault
+  task : Any (λ card. HasTaskFault deck card fault) deck.tasks → HasTaskMisfit deck fault
+  after : Any (λ card. HasAfterFault deck card fault) deck.afters → HasTaskMisfit deck fault
+  piece : Any (λ card. HasNameFault deck card.row card.activity fault) deck.pieces → HasTaskMisfit deck fault
+  account : Any (λ card. HasAccountFault deck card fault) deck.accounts → HasTaskMisfit deck fault
+  charge : Any (λ card. HasMoneyFault deck card fault) deck.charges → HasTaskMisfit deck fault
+  togo : Any (λ card. HasMoneyFault deck card fault) deck.togos → HasTaskMisfit deck fault
+  status : Any (λ card. HasNameFault deck card.row card.activity fault) deck.statuses → HasTaskMisfit deck fault
+  load : Any (λ card. HasTaskLoadFault deck card fault) deck.loads → HasTaskMisfit deck fault
 
 -- no card of the deck has a fault
-abbrev pub HasNoMisfit : Deck → Type 0
-HasNoMisfit deck = (fault : Fault) → HasMisfit deck fault → ⊥
+abbrev pub HasNoTaskMisfit : Deck → Type 0
+HasNoTaskMisfit deck = (fault : Fault) → HasTaskMisfit deck fault → ⊥

@@ -13,9 +13,9 @@ use Rattle.pc_project.specs.Project.{rows_of}
 use Rattle.pc_project.specs.Records.{codes_at, item_records}
 use Rattle.pc_project.specs.Makes.{MakesProject}
 use Rattle.pc_project.specs.Refusal.{IsRefusedWith, IsTreeFault}
-use Rattle.pc_tasks.specs.Drawn.{drawn}
+use Rattle.pc_tasks.specs.Drawn.{arrows_deck}
 use Rattle.pc_tasks.specs.Lists.{afters_in}
-use Rattle.pc_tasks.specs.Misfit.{HasMisfit, HasNoMisfit}
+use Rattle.pc_tasks.specs.Misfit.{HasTaskMisfit, HasNoTaskMisfit}
 
 -- the records of the tasks, in card order
 abbrev pub task_records : Deck → List ℕ
@@ -36,7 +36,7 @@ IsCycleFault deck fault =
 
 -- no card by itself is wrong, the items are a tree, and some item is below its top
 pub record HasSoundItems (deck : Deck) : Type 0 where
-  pub cards : HasNoMisfit deck
+  pub cards : HasNoTaskMisfit deck
   pub tree : IsTree (rows_of deck)
   pub branch : (fault : ADeckFault) → HasLoneTop deck fault → ⊥
 
@@ -49,19 +49,19 @@ pub record HasSoundTasks (deck : Deck) : Type 0 where
 -- the deck of tasks has no fault: its tasks have none, and the plan that is drawn of them makes a project
 pub record MakesArrows (deck : Deck) : Type 0 where
   pub sound : HasSoundTasks deck
-  pub plan : MakesProject (drawn deck)
+  pub plan : MakesProject (arrows_deck deck)
 
 -- the fault with which a deck of tasks is refused; a phase counts only where none before it has a fault
 pub data IsTasksRefusedWith (deck : Deck) (fault : ADeckFault) : Type 0 where
   -- F14 to F19, F41: a card names what is not there, or its numbers are out of order
-  of_cards : IsFirst (HasMisfit deck) fault → IsTasksRefusedWith deck fault
+  of_cards : IsFirst (HasTaskMisfit deck) fault → IsTasksRefusedWith deck fault
   -- F20 to F23: the items are no tree
-  of_tree : HasNoMisfit deck → IsTreeFault deck.items (rows_of deck) fault → IsTasksRefusedWith deck fault
+  of_tree : HasNoTaskMisfit deck → IsTreeFault deck.items (rows_of deck) fault → IsTasksRefusedWith deck fault
   -- F37: the top has no item below it
-  of_top : HasNoMisfit deck → IsTree (rows_of deck) → HasLoneTop deck fault → IsTasksRefusedWith deck fault
+  of_top : HasNoTaskMisfit deck → IsTree (rows_of deck) → HasLoneTop deck fault → IsTasksRefusedWith deck fault
   -- F39: there is no task
   of_none : HasSoundItems deck → HasNoTask deck fault → IsTasksRefusedWith deck fault
   -- F38: tasks wait for each other in a circle
   of_cycle : HasSoundItems deck → 0 < length deck.tasks → IsCycleFault deck fault → IsTasksRefusedWith deck fault
   -- F28 to F31, F33 to F36: the plan that is drawn has a fault
-  of_plan : HasSoundTasks deck → IsRefusedWith (drawn deck) fault → IsTasksRefusedWith deck fault
+  of_plan : HasSoundTasks deck → IsRefusedWith (arrows_deck deck) fault → IsTasksRefusedWith deck fault

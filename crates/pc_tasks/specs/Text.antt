@@ -7,7 +7,7 @@ use Rattle.pc_tasks.specs.network.Tasks.{HasTaskSchedule, IsLeastTaskCost}
 use Rattle.pc_deck.specs.Deck.{Deck}
 use Rattle.pc_project.specs.Figures.{IsProjectOfDeck}
 use Rattle.pc_project.specs.Project.{Project}
-use Rattle.pc_tasks.specs.Drawn.{drawn}
+use Rattle.pc_tasks.specs.Drawn.{arrows_deck}
 use Rattle.pc_tasks.specs.Lists.{afters_in, task_pieces, task_terms}
 use Rattle.pc_tasks.specs.Refusal.{MakesArrows}
 
@@ -21,5 +21,5 @@ pub record KeepsTasks (deck : Deck) (project : Project) : Type 0 where
 -- the deck of tasks has no fault; the project is that of the plan that is drawn of them, and keeps the tasks
 pub record IsDrawnProject (deck : Deck) (project : Project) : Type 0 where
   pub makes : MakesArrows deck
-  pub is : IsProjectOfDeck (drawn deck) project
+  pub is : IsProjectOfDeck (arrows_deck deck) project
   pub keeps : KeepsTasks deck project

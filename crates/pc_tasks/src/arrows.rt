@@ -1,7 +1,7 @@
 //! The plan of arrows that is generated from a deck of tasks, or the first fault of the tasks.
 ghost use Rattle.std.specs.Prelude.{◌≡◌, IfOk, IfErr};
 ghost use Rattle.pc_faults.specs.inside.First.{Refuses};
-ghost use Rattle.pc_tasks.specs.Drawn.{drawn};
+ghost use Rattle.pc_tasks.specs.Drawn.{arrows_deck};
 ghost use Rattle.pc_tasks.specs.Lists.{afters_in};
 ghost use Rattle.pc_tasks.specs.Refusal.{HasSoundTasks, IsTasksRefusedWith};
 ghost use Rattle.pc_tasks.specs.Text.{IsDrawnProject};
@@ -77,7 +77,7 @@ fn project_of_tasks(
 fn drawn_of(alloc: Global, cards: &TaskCards, afters: &[AfterRow]) -> Result<Cards, AllocError>
     requires sound { HasSoundTasks cards.now }
     requires afters { afters.now ≡ afters_in cards.now }
-    ensures drawn { IfOk result (λ plan. plan ≡ drawn cards.now) }
+    ensures arrows_deck { IfOk result (λ plan. plan ≡ arrows_deck cards.now) }
     ensures within { IsWithin Tasks cards.now }
 {
     // Called for the limits of the cards (`IsWithin Tasks`), which their type keeps.

@@ -1,7 +1,7 @@
 //! The first fault of a card, for each kind of card. AFTER cards are looked up elsewhere, since what they name is kept.
 ghost use Rattle.std.specs.Prelude.{◌↔◌, IsTrue};
 ghost use Rattle.pc_faults.specs.inside.First.{IsFirstIn};
-ghost use Rattle.pc_tasks.specs.Misfit.{HasEndsFault, HasNameFault, IsInOrder};
+ghost use Rattle.pc_tasks.specs.Misfit.{HasEndsFault, HasNameFault, HasOrderedTaskEstimates};
 
 use crate::faulty::Faulty;
 use pc_deck::{
@@ -49,7 +49,7 @@ impl Faulty for ItemCard {
 }
 
 fn is_in_order(task: &TaskCard) -> bool
-    ensures { IsTrue result ↔ IsInOrder task.now }
+    ensures { IsTrue result ↔ HasOrderedTaskEstimates task.now }
 {
     task.opt <= task.likely && task.likely <= task.pess
 }
@@ -116,9 +116,9 @@ impl Faulty for MoneyCard {
 }
 
 impl Faulty for LoadCard {
-    ghost use Rattle.pc_tasks.specs.Misfit.{HasLoadFault};
+    ghost use Rattle.pc_tasks.specs.Misfit.{HasTaskLoadFault};
 
-    ghost HasFault = { HasLoadFault };
+    ghost HasFault = { HasTaskLoadFault };
 
     fn fault(&self, cards: &TaskCards) -> Option<Fault> {
         let Some(_) = cards.task_named(&self.activity) else {

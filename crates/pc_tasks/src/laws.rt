@@ -15,7 +15,7 @@ ghost use Rattle.pc_project.specs.Refusal.{HasSoundPlan};
 ghost use Rattle.pc_deck.specs.Deck.{Deck};
 ghost use Rattle.pc_cards.specs.declared.sort.Sort.TheVariants.{Tasks};
 ghost use Rattle.pc_deck.specs.Within.{IsWithin, IsWithinLimits};
-ghost use Rattle.pc_tasks.specs.Drawn.{drawn};
+ghost use Rattle.pc_tasks.specs.Drawn.{arrows_deck};
 ghost use Rattle.pc_tasks.specs.Known.{CanBeDrawn};
 ghost use Rattle.pc_tasks.specs.Refusal.{HasSoundTasks};
 ghost use Rattle.pc_tasks.specs.Text.{KeepsTasks};
@@ -29,14 +29,14 @@ use crate::network::arrow_laws::{
 /// of their costs.
 pub fn drawn_deck_has_the_arrows()
     ensures network { (deck : Deck) → CanBeDrawn deck →
-        network_of (drawn deck) ≡ arrows (length (task_terms deck)) (afters_in deck) }
-    ensures terms { (deck : Deck) → terms_in (drawn deck) ≡ arrow_terms (task_terms deck) (afters_in deck) }
-    ensures pieces { (deck : Deck) → CanBeDrawn deck → pieces_in (drawn deck) ≡ task_pieces deck }
+        network_of (arrows_deck deck) ≡ arrows (length (task_terms deck)) (afters_in deck) }
+    ensures terms { (deck : Deck) → terms_in (arrows_deck deck) ≡ arrow_terms (task_terms deck) (afters_in deck) }
+    ensures pieces { (deck : Deck) → CanBeDrawn deck → pieces_in (arrows_deck deck) ≡ task_pieces deck }
 {}
 
 /// States that the generated deck is within the limits of a plan.
 pub fn drawn_deck_is_within_limits()
-    ensures { (deck : Deck) → IsWithin Tasks deck → CanBeDrawn deck → IsWithinLimits (drawn deck) }
+    ensures { (deck : Deck) → IsWithin Tasks deck → CanBeDrawn deck → IsWithinLimits (arrows_deck deck) }
 {}
 
 /// States that the deck generated from tasks without faults is a sound plan: none of its cards has a fault by itself,
@@ -45,9 +45,9 @@ pub fn drawn_deck_is_within_limits()
 /// So it has none of the faults F13 to F27 and F41, and its project keeps the schedules of the tasks and their least
 /// costs.
 pub fn drawn_deck_is_sound()
-    ensures sound { (deck : Deck) → IsWithin Tasks deck → HasSoundTasks deck → HasSoundPlan (drawn deck) }
+    ensures sound { (deck : Deck) → IsWithin Tasks deck → HasSoundTasks deck → HasSoundPlan (arrows_deck deck) }
     ensures keeps { (deck : Deck) (project : Project) → IsWithin Tasks deck → HasSoundTasks deck →
-        IsProjectOfDeck (drawn deck) project → KeepsTasks deck project }
+        IsProjectOfDeck (arrows_deck deck) project → KeepsTasks deck project }
 {
     arrows_are_sound();
     drawn_deck_keeps_least_costs();
@@ -58,11 +58,11 @@ pub fn drawn_deck_is_sound()
 pub fn drawn_deck_keeps_least_costs()
     ensures schedules { (deck : Deck) (limit : ℕ) → CanBeDrawn deck → HasNoTaskCycle (afters_in deck) →
         (HasTaskSchedule (task_terms deck) (afters_in deck) limit
-        ↔ HasSchedule (network_of (drawn deck)) (terms_in (drawn deck)) limit) }
+        ↔ HasSchedule (network_of (arrows_deck deck)) (terms_in (arrows_deck deck)) limit) }
     ensures costs { (deck : Deck) (limit cost : ℕ) → CanBeDrawn deck → HasNoTaskCycle (afters_in deck) →
         (IsLeastTaskCost (task_terms deck) (knees_of (task_terms deck) (task_pieces deck)) (afters_in deck) limit cost
-        ↔ IsLeastCost (network_of (drawn deck)) (terms_in (drawn deck))
-        (knees_of (terms_in (drawn deck)) (pieces_in (drawn deck))) limit cost) }
+        ↔ IsLeastCost (network_of (arrows_deck deck)) (terms_in (arrows_deck deck))
+        (knees_of (terms_in (arrows_deck deck)) (pieces_in (arrows_deck deck))) limit cost) }
 {
     arrows_keep_schedules();
     arrows_keep_least_costs();

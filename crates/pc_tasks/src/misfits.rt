@@ -4,7 +4,7 @@ ghost use Rattle.std.specs.List.{Any};
 ghost use Rattle.pc_faults.specs.First.{IsFirst};
 ghost use Rattle.pc_faults.specs.inside.First.{IsFirstIn, Refuses};
 ghost use Rattle.pc_tasks.specs.Lists.{afters_in};
-ghost use Rattle.pc_tasks.specs.Misfit.{HasAfterFault, HasMisfit, HasNoMisfit};
+ghost use Rattle.pc_tasks.specs.Misfit.{HasAfterFault, HasTaskMisfit, HasNoTaskMisfit};
 
 use crate::afters::find_afters;
 use crate::card_faults::ends_fault;
@@ -19,9 +19,9 @@ use std::alloc::Global;
 /// # Errors
 /// The first fault of any card (F14 to F19, F41), or out of memory.
 pub(crate) fn look_up(alloc: Global, cards: &TaskCards) -> Result<Vec<AfterRow>, DeckError>
-    ensures sound { OnOk result (HasNoMisfit cards.now) }
+    ensures sound { OnOk result (HasNoTaskMisfit cards.now) }
     ensures afters { IfOk result (λ rows. rows.items ≡ afters_in cards.now) }
-    ensures first { IfErr result (Refuses (IsFirst (HasMisfit cards.now))) }
+    ensures first { IfErr result (Refuses (IsFirst (HasTaskMisfit cards.now))) }
 {
     let afters = find_afters(alloc, cards)?;
     match first_misfit(cards, afters.fault) {
@@ -33,7 +33,7 @@ pub(crate) fn look_up(alloc: Global, cards: &TaskCards) -> Result<Vec<AfterRow>,
 /// Returns the first fault of any card, from that of the AFTER cards.
 fn first_misfit(cards: &TaskCards, of_afters: Option<Fault>) -> Option<Fault>
     requires { IsFirstIn (λ fault. Any (λ card. HasAfterFault cards.now card fault) cards.now.afters) of_afters }
-    ensures { IsFirstIn (HasMisfit cards.now) result }
+    ensures { IsFirstIn (HasTaskMisfit cards.now) result }
 {
     let of_ends = ends_fault(cards);
     let of_items = first_fault(cards, cards.items());

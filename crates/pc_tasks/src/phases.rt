@@ -7,7 +7,7 @@ ghost use Rattle.pc_faults.specs.declared.fault.Fault.{Fault as ADeckFault};
 ghost use Rattle.pc_project.specs.Records.{codes_at};
 ghost use Rattle.pc_faults.specs.inside.First.{Refuses};
 ghost use Rattle.pc_tasks.specs.Lists.{afters_in};
-ghost use Rattle.pc_tasks.specs.Misfit.{HasNoMisfit};
+ghost use Rattle.pc_tasks.specs.Misfit.{HasNoTaskMisfit};
 ghost use Rattle.pc_tasks.specs.Refusal.{HasLoneTop, HasSoundItems, HasSoundTasks, IsCycleFault, IsTasksRefusedWith, task_records};
 
 use crate::circle::first_circle;
@@ -44,7 +44,7 @@ pub(crate) fn sound_rows(alloc: Global, cards: &TaskCards) -> Result<Vec<AfterRo
 
 /// Checks the tree of the items, and then that an item is below its top (F20 to F23, F37).
 fn check_items(alloc: Global, cards: &TaskCards) -> Result<(), DeckError>
-    requires { HasNoMisfit cards.now }
+    requires { HasNoTaskMisfit cards.now }
     ensures sound { OnOk result (HasSoundItems cards.now) }
     ensures refused { IfErr result (Refuses (IsTasksRefusedWith cards.now)) }
 {
@@ -91,7 +91,7 @@ fn circle_fault(
     cards: &TaskCards,
     afters: &[AfterRow],
 ) -> Result<Option<Fault>, AllocError>
-    requires faultless { HasNoMisfit cards.now }
+    requires faultless { HasNoTaskMisfit cards.now }
     requires some { 0 < length cards.now.tasks }
     requires afters { afters.now ≡ afters_in cards.now }
     ensures { IfOk result (λ found. MatchOption found

@@ -3,7 +3,7 @@ ghost use Rattle.std.specs.Prelude.{IfErr, OnOk};
 ghost use Rattle.pc_faults.specs.inside.First.{Refuses};
 ghost use Rattle.pc_project.specs.Project.{rows_of};
 ghost use Rattle.pc_wbs.specs.Climb.{IsTree};
-ghost use Rattle.pc_tasks.specs.Misfit.{HasNoMisfit};
+ghost use Rattle.pc_tasks.specs.Misfit.{HasNoTaskMisfit};
 ghost use Rattle.pc_tasks.specs.Refusal.{IsTasksRefusedWith};
 
 use crate::rows::item_rows;
@@ -18,7 +18,7 @@ use std::alloc::Global;
 /// # Errors
 /// The first fault of the tree (F20 to F23), or out of memory.
 pub(crate) fn tree_of(alloc: Global, cards: &TaskCards) -> Result<Tree, DeckError>
-    requires { HasNoMisfit cards.now }
+    requires { HasNoTaskMisfit cards.now }
     ensures tree { OnOk result (IsTree (rows_of cards.now)) }
     ensures refused { IfErr result (Refuses (IsTasksRefusedWith cards.now)) }
 {

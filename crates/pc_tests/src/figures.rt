@@ -56,15 +56,15 @@ fn outlook_of(alloc: Global, project: &Project) -> Option<(OutlineRow, OutlookAm
 
 /// The figures of a project.
 #[derive(Clone, Copy, Debug, PartialEq)]
-pub(crate) struct Figures {
+pub(crate) struct ReportFigures {
     summary: Option<(OutlineRow, SummaryAmounts, SummaryAmounts)>,
     worth: Option<WorthAmounts>,
     outlook: Option<(OutlineRow, OutlookAmounts)>,
 }
 
 /// These figures of a project.
-pub(crate) fn figures_of(alloc: Global, project: &Project) -> Figures {
-    Figures {
+pub(crate) fn figures_of(alloc: Global, project: &Project) -> ReportFigures {
+    ReportFigures {
         summary: summary_of(alloc, project),
         worth: worth_of(alloc, project),
         outlook: outlook_of(alloc, project),
@@ -95,7 +95,7 @@ fn figures_of_items(rt: HostRuntime) -> Result<(), Fail> {
         change: 14,
     };
     let third = OutlineRow { item: 2, level: 2 };
-    let wanted = Figures {
+    let wanted = ReportFigures {
         summary: Some((second, whole, whole)),
         worth: Some(worth),
         outlook: Some((third, outlook)),

@@ -2,19 +2,19 @@
 //! one place.
 ghost use Rattle.std.specs.Prelude.{◌≤◌, length};
 
-use crate::figures::{Figures, figures_of};
+use crate::figures::{ReportFigures, figures_of};
 use pc_deck::read_cards;
 use pc_project::{Project, deck_text_of, project_of};
 use std::alloc::{AllocError, Global};
 
 /// What a deck answers that is read, and its project, if it makes one.
 #[derive(Clone, Copy)]
-pub(crate) struct Told {
+pub(crate) struct DeckFacts {
     /// Whether the deck's text is the expected one.
     pub(crate) text: Option<bool>,
     /// Whether the text of the project's deck is the expected one.
     pub(crate) text_again: Option<bool>,
-    pub(crate) figures: Option<Figures>,
+    pub(crate) figures: Option<ReportFigures>,
 }
 
 /// Whether a text is the expected one; none for want of memory.
@@ -27,13 +27,13 @@ fn let_go(_project: Project) {}
 
 /// What the deck and its project answer, where these texts are expected of the deck and, again, of the project; none
 /// where the deck is refused.
-pub(crate) fn asked(alloc: Global, deck: &[u8], text: &[u8], again: &[u8]) -> Option<Told>
+pub(crate) fn asked(alloc: Global, deck: &[u8], text: &[u8], again: &[u8]) -> Option<DeckFacts>
     requires { length deck.now ≤ 1000 }
 {
     let cards = read_cards(alloc, deck).ok()?;
     let of_deck = is_same(cards.text(Vec::new(alloc)), text);
     let Ok(project) = project_of(alloc, cards) else {
-        return Some(Told {
+        return Some(DeckFacts {
             text: of_deck,
             text_again: None,
             figures: None,
@@ -42,7 +42,7 @@ pub(crate) fn asked(alloc: Global, deck: &[u8], text: &[u8], again: &[u8]) -> Op
     let of_project = is_same(deck_text_of(alloc, &project), again);
     let figures = figures_of(alloc, &project);
     let_go(project);
-    Some(Told {
+    Some(DeckFacts {
         text: of_deck,
         text_again: of_project,
         figures: Some(figures),

@@ -52,17 +52,17 @@ fn activity_of(project: &Project) -> Option<[u64; 9]> {
 
 /// What is asked of the project of a deck.
 #[derive(Drop)]
-struct Told {
+struct ProjectFacts {
     titles: Option<([Title; 5], Code)>,
     activity: Option<[u64; 9]>,
 }
 
-fn told_of(alloc: Global, deck: &[u8]) -> Option<Told>
+fn told_of(alloc: Global, deck: &[u8]) -> Option<ProjectFacts>
     requires { length deck.now ≤ 1000 }
 {
     let cards = read_cards(alloc, deck).ok()?;
     let project = project_of(alloc, cards).ok()?;
-    let told = Told {
+    let told = ProjectFacts {
         titles: titles_of(&project),
         activity: activity_of(&project),
     };

@@ -6,7 +6,7 @@ use Rattle.pc_model.specs.declared.TimeTerms.{TimeTerms}
 use Rattle.pc_model.specs.TimeCost.{time_cost_of}
 use Rattle.pc_total.specs.declared.optimum.Best.{Best}
 use Rattle.pc_total.specs.Totals.{IsTotal}
-use Rattle.pc_total.specs.Bests.{HaveSigns, IsAbove, IsBelow, IsBest}
+use Rattle.pc_total.specs.Bests.{HaveSigns, IsRiseAbove, IsRiseBelow, IsBest}
 use Rattle.pc_total.specs.inside.Stops.{unit_cost, IsGain, PaysToStop}
 use Rattle.pc_total.proofs.ConvexLaws.{IsConvex}
 use Rattle.pc_total.proofs.TotalLaws.{weight, weight-more, time-weight, signs-show}
@@ -16,7 +16,7 @@ module _ (terms : TimeTerms) (curve : ℕ → ℕ → Type 0) (is : IsConvex cur
     -- one unit shorter
     below-is : (shortest slope : ℕ) (below : Option ℤ) → shortest ≤ limit → (shortest < limit → IsGain curve (limit - 1) slope)
         → IfNone below (limit ≤ shortest) → IfSome below (λ more. shortest < limit)
-        → IfSome below (λ more. more +ℤ pos (unit_cost terms limit) ≡ pos slope) → IsBelow curve terms shortest limit total below
+        → IfSome below (λ more. more +ℤ pos (unit_cost terms limit) ≡ pos slope) → IsRiseBelow curve terms shortest limit total below
     below-is shortest slope None low saved none above differs = omega (arith, low, none)
     below-is shortest slope (Some more) low saved none above differs =
         let gain = saved above in
@@ -41,7 +41,7 @@ module _ (terms : TimeTerms) (curve : ℕ → ℕ → Type 0) (is : IsConvex cur
     -- one unit longer
     above-is : (longest gain : ℕ) (above : Option ℤ) → limit ≤ longest → (limit < longest → IsGain curve limit gain)
         → IfNone above (longest ≤ limit) → IfSome above (λ more. limit < longest)
-        → IfSome above (λ more. more +ℤ pos gain ≡ pos (unit_cost terms (limit + 1))) → IsAbove curve terms longest limit total above
+        → IfSome above (λ more. more +ℤ pos gain ≡ pos (unit_cost terms (limit + 1))) → IsRiseAbove curve terms longest limit total above
     above-is longest gain None high gained none below differs = omega (arith, high, none)
     above-is longest gain (Some more) high gained none below differs =
         let found = gained below in

@@ -10,7 +10,7 @@ use Rattle.pc_model.specs.TimeCost.{AreTimeTerms, time_cost_of}
 use Rattle.pc_flow.specs.declared.early.TheConstants.{MAX_LENGTH}
 use Rattle.pc_total.specs.inside.TermsOfTime.{AreTermsOfTime}
 use Rattle.pc_total.specs.Totals.{IsOptimum, IsTotal}
-use Rattle.pc_total.specs.Bests.{HaveSigns, IsAbove, IsBelow}
+use Rattle.pc_total.specs.Bests.{HaveSigns, IsRiseAbove, IsRiseBelow}
 use Rattle.pc_total.specs.inside.Stops.{unit_cost}
 use Rattle.pc_total.proofs.ConvexLaws.{IsConvex, dearer-below, no-cheaper-above}
 
@@ -111,7 +111,7 @@ module _ (terms : TimeTerms) where
     total-weighs limit total of = omega (arith, ints, of.adds, time-weight limit)
 
     module _ (shortest longest limit : ℕ) (total : ℤ) (of : IsTotal curve terms limit total) where
-      dearer : (below : Option ℤ) → IsBelow curve terms shortest limit total below → IfSome below (λ more. pos 0 <ℤ more)
+      dearer : (below : Option ℤ) → IsRiseBelow curve terms shortest limit total below → IfSome below (λ more. pos 0 <ℤ more)
           → (other : ℕ) (cost : ℤ) → shortest ≤ other → other < limit → IsTotal curve terms other cost → total <ℤ cost
       dearer None at sign other cost low under there = absurd (omega (arith, at, low, under))
       dearer (Some more) (above, neighbour) sign other cost low under there =
@@ -124,7 +124,7 @@ module _ (terms : TimeTerms) where
           (subst (λ n. Weighs n (of.direct + weight limit)) before (weighs limit total of)) less in
           omega (arith, ints, far, total-weighs limit total of, total-weighs other cost there)
 
-      no_cheaper : (above : Option ℤ) → IsAbove curve terms longest limit total above → IfSome above (λ more. pos 0 ≤ℤ more)
+      no_cheaper : (above : Option ℤ) → IsRiseAbove curve terms longest limit total above → IfSome above (λ more. pos 0 ≤ℤ more)
           → (other : ℕ) (cost : ℤ) → limit < other → other ≤ longest → IsTotal curve terms other cost → total ≤ℤ cost
       no_cheaper None at sign other cost over high there = absurd (omega (arith, at, over, high))
       no_cheaper (Some more) (below, neighbour) sign other cost over high there =
@@ -142,8 +142,8 @@ module _ (terms : TimeTerms) where
           omega (arith, ints, same, ap weight at, total-weighs limit total of, total-weighs other cost there)
 
       -- the two signs alone say that it is the optimum
-      pub signs-show : (below above : Option ℤ) → shortest ≤ limit → limit ≤ longest → IsBelow curve terms shortest limit total below
-          → IsAbove curve terms longest limit total above → HaveSigns below above → IsOptimum curve terms shortest longest limit total
+      pub signs-show : (below above : Option ℤ) → shortest ≤ limit → limit ≤ longest → IsRiseBelow curve terms shortest limit total below
+          → IsRiseAbove curve terms longest limit total above → HaveSigns below above → IsOptimum curve terms shortest longest limit total
       signs-show below above low high shorter longer signs = record {
         above = low;
         below = high;

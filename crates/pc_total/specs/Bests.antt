@@ -6,13 +6,13 @@ use Rattle.pc_total.specs.Totals.{IsOptimum, IsTotal}
 use Rattle.pc_total.specs.declared.optimum.Best.{Best}
 
 -- by so much the total one unit shorter is above that of the length; there is none exactly at the shortest length
-abbrev pub IsBelow : (ℕ → ℕ → Type 0) → TimeTerms → ℕ → ℕ → ℤ → Option ℤ → Type 0
-IsBelow curve terms shortest limit total below =
+abbrev pub IsRiseBelow : (ℕ → ℕ → Type 0) → TimeTerms → ℕ → ℕ → ℤ → Option ℤ → Type 0
+IsRiseBelow curve terms shortest limit total below =
     MatchOption below (limit ≡ shortest) (λ more. (shortest < limit) × IsTotal curve terms (limit - 1) (total +ℤ more))
 
 -- and by so much that one unit longer; there is none exactly at the longest length
-abbrev pub IsAbove : (ℕ → ℕ → Type 0) → TimeTerms → ℕ → ℕ → ℤ → Option ℤ → Type 0
-IsAbove curve terms longest limit total above =
+abbrev pub IsRiseAbove : (ℕ → ℕ → Type 0) → TimeTerms → ℕ → ℕ → ℤ → Option ℤ → Type 0
+IsRiseAbove curve terms longest limit total above =
     MatchOption above (limit ≡ longest) (λ more. (limit < longest) × IsTotal curve terms (limit + 1) (total +ℤ more))
 
 -- one unit shorter costs more in all, and one unit longer no less
@@ -27,6 +27,6 @@ pub record IsBest (curve : ℕ → ℕ → Type 0) (terms : TimeTerms) (shortest
   pub direct : curve best.length best.direct
   pub time : best.time ≡ time_cost_of terms best.length
   pub total : best.total ≡ (pos best.direct +ℤ best.time)
-  pub below : IsBelow curve terms shortest best.length best.total best.below
-  pub above : IsAbove curve terms longest best.length best.total best.above
+  pub below : IsRiseBelow curve terms shortest best.length best.total best.below
+  pub above : IsRiseAbove curve terms longest best.length best.total best.above
   pub signs : HaveSigns best.below best.above

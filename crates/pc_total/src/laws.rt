@@ -6,7 +6,7 @@ ghost use Rattle.pc_model.specs.Cost.{IsPriced};
 ghost use Rattle.pc_crash.specs.Priced.{PricedNetwork, knees_in};
 ghost use Rattle.pc_curve.specs.Points.{curve_in};
 ghost use Rattle.pc_total.specs.Totals.{IsOptimum, IsTotal};
-ghost use Rattle.pc_total.specs.Bests.{HaveSigns, IsAbove, IsBelow};
+ghost use Rattle.pc_total.specs.Bests.{HaveSigns, IsRiseAbove, IsRiseBelow};
 
 /// States that what one more unit saves does not grow with the length: of two lengths the longer one gains no more.
 pub fn gains_fall()
@@ -23,7 +23,7 @@ pub fn two_signs_show_the_optimum()
         (below above : Option ℤ) →
         IsPriced net.network net.terms (knees_in net) → terms.bonus ≤ terms.penalty → shortest ≤ limit →
         limit ≤ longest →
-        IsTotal (curve_in net) terms limit total → IsBelow (curve_in net) terms shortest limit total below →
-        IsAbove (curve_in net) terms longest limit total above → HaveSigns below above →
+        IsTotal (curve_in net) terms limit total → IsRiseBelow (curve_in net) terms shortest limit total below →
+        IsRiseAbove (curve_in net) terms longest limit total above → HaveSigns below above →
         IsOptimum (curve_in net) terms shortest longest limit total }
 {}

@@ -7,7 +7,7 @@ use Rattle.pc_wbs.specs.declared.row.ItemRow.{ItemRow}
 use Rattle.pc_wbs.specs.declared.error.TreeError.{TreeError}
 use Rattle.pc_wbs.specs.declared.error.TreeError.TheVariants.{NoTop, SecondTop, Loop, TooDeep, OutOfMemory}
 use Rattle.pc_wbs.specs.Climb.{parent_of, IsOnlyTop, HasLevel, IsTree}
-use Rattle.pc_wbs.specs.Refusal.{IsFirst, IsSecondTop, IsLoopFrom, IsLooped, IsTooDeep, IsRefusal}
+use Rattle.pc_wbs.specs.Refusal.{IsFirst, IsSecondTop, IsLoopFrom, IsLooped, IsTooDeep, IsTreeError}
 use Rattle.pc_wbs.proofs.ClimbLaws.{HasLevel-same}
 use Rattle.pc_wbs.proofs.OrderLaws.{HasNoLoop-tree}
 
@@ -67,7 +67,7 @@ two_tops rows top item h g =
     omega (arith, f.1.0)
 
 -- of a tree no refusal holds
-pub IsTree-not_refused : (rows : List ItemRow) (e : TreeError) → IsTree rows → IsRefusal rows e → e ≡ OutOfMemory
+pub IsTree-not_refused : (rows : List ItemRow) (e : TreeError) → IsTree rows → IsTreeError rows e → e ≡ OutOfMemory
 IsTree-not_refused rows NoTop t no_top =
     let top = t.top.1.is_top in
     absurd (no_top t.top.0 top.0 top.1)
@@ -81,7 +81,7 @@ IsTree-not_refused rows (TooDeep item level) t h =
 IsTree-not_refused rows OutOfMemory t h = refl
 
 -- and of other rows one alone, but for want of memory
-pub IsRefusal-same : (rows : List ItemRow) (e f : TreeError) → e ≢ OutOfMemory → f ≢ OutOfMemory → IsRefusal rows e → IsRefusal rows f → e ≡ f
+pub IsRefusal-same : (rows : List ItemRow) (e f : TreeError) → e ≢ OutOfMemory → f ≢ OutOfMemory → IsTreeError rows e → IsTreeError rows f → e ≡ f
 IsRefusal-same rows OutOfMemory f he hf h g = absurd (he refl)
 IsRefusal-same rows e OutOfMemory he hf h g = absurd (hf refl)
 IsRefusal-same rows NoTop NoTop he hf h g = refl

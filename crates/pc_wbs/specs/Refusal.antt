@@ -33,11 +33,11 @@ abbrev pub IsTooDeep : List ItemRow → ℕ → Type 0
 IsTooDeep rows x = (x < length rows) × ((level : ℕ) × (HasLevel rows x level × (MAX_LEVEL < level)))
 
 -- the cause of each refusal
-abbrev pub IsRefusal : List ItemRow → TreeError → Type 0
-IsRefusal rows NoTop = (x : ℕ) → x < length rows → parent_of rows x ≢ None
-IsRefusal rows (SecondTop item) = IsSecondTop rows item
-IsRefusal rows (Loop loop) =
+abbrev pub IsTreeError : List ItemRow → TreeError → Type 0
+IsTreeError rows NoTop = (x : ℕ) → x < length rows → parent_of rows x ≢ None
+IsTreeError rows (SecondTop item) = IsSecondTop rows item
+IsTreeError rows (Loop loop) =
     ((top : ℕ) × IsOnlyTop rows top) × ((x : ℕ) × (IsFirst (IsLooped rows) x × IsLoopFrom rows x loop))
-IsRefusal rows (TooDeep item level) =
+IsTreeError rows (TooDeep item level) =
     ((top : ℕ) × IsOnlyTop rows top) × ((x : ℕ) → IsLooped rows x → ⊥) × IsFirst (IsTooDeep rows) item × HasLevel rows item level
-IsRefusal rows OutOfMemory = Unit {0}
+IsTreeError rows OutOfMemory = Unit {0}

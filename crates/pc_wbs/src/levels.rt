@@ -2,7 +2,7 @@
 ghost use Rattle.std.specs.Prelude.{◌≡◌, ℕ, ◌<◌, ◌≤◌, length, Some, IfOk, IfErr, IfSome, IfNone};
 ghost use Rattle.pc_model.specs.declared.limits.TheConstants.{MAX_ITEMS};
 ghost use Rattle.pc_wbs.specs.Climb.{AreInRange, climb, HasLevel, IsOnlyTop};
-ghost use Rattle.pc_wbs.specs.Refusal.{IsRefusal, IsLooped};
+ghost use Rattle.pc_wbs.specs.Refusal.{IsTreeError, IsLooped};
 ghost use Rattle.pc_wbs.specs.inside.Ends.{AreLevels, AreGreatest};
 
 use crate::error::TreeError;
@@ -15,7 +15,7 @@ use std::alloc::Global;
 pub(crate) fn only_top(rows: &[ItemRow]) -> Result<u32, TreeError>
     requires { length rows.now ≤ MAX_ITEMS }
     ensures top { IfOk result (IsOnlyTop rows.now) }
-    ensures refusal { IfErr result (IsRefusal rows.now) }
+    ensures refusal { IfErr result (IsTreeError rows.now) }
 {
     let mut top = None;
     for item in 0..rows.len() as u32 {
@@ -54,7 +54,7 @@ pub(crate) fn levels_of(alloc: Global, rows: &[ItemRow]) -> Result<Vec<u32>, Tre
     requires in_range { AreInRange rows.now }
     requires top { (top : ℕ) × IsOnlyTop rows.now top }
     ensures levels { IfOk result (λ levels. AreLevels rows.now (length rows.now) levels.items) }
-    ensures refusal { IfErr result (IsRefusal rows.now) }
+    ensures refusal { IfErr result (IsTreeError rows.now) }
 {
     let mut levels = Vec::with_capacity(alloc, rows.len())?;
     for item in 0..rows.len() as u32 {

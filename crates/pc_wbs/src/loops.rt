@@ -2,7 +2,7 @@
 ghost use Rattle.std.specs.Prelude.{◌≡◌, ℕ, ◌≤◌, length, IfOk, IfErr, OnOk};
 ghost use Rattle.pc_model.specs.declared.limits.TheConstants.{MAX_ITEMS};
 ghost use Rattle.pc_wbs.specs.Climb.{AreInRange, IsOnlyTop};
-ghost use Rattle.pc_wbs.specs.Refusal.{IsRefusal, IsLooped, IsLoopFrom};
+ghost use Rattle.pc_wbs.specs.Refusal.{IsTreeError, IsLooped, IsLoopFrom};
 ghost use Rattle.pc_wbs.specs.inside.Ends.{AreEnds, AreDoubled, StayInside, IsLeastBelow, IsFirstLooped, lesser};
 
 use crate::error::{Indices, TreeError};
@@ -18,7 +18,7 @@ pub(crate) fn refuse_loop(alloc: Global, rows: &[ItemRow]) -> Result<(), TreeErr
     requires in_range { AreInRange rows.now }
     requires top { (top : ℕ) × IsOnlyTop rows.now top }
     ensures none { OnOk result ((x : ℕ) → IsLooped rows.now x → ⊥) }
-    ensures refusal { IfErr result (IsRefusal rows.now) }
+    ensures refusal { IfErr result (IsTreeError rows.now) }
 {
     match first_on_loop(alloc, rows)? {
         Some(start) => Err(TreeError::Loop(loop_from(alloc, rows, start)?)),

@@ -3,7 +3,7 @@ ghost use Rattle.std.specs.Prelude.{◌≡◌, ◌<◌, ◌≤◌, ◌↔◌, le
 ghost use Rattle.pc_model.specs.declared.limits.TheConstants.{MAX_ITEMS, MAX_LEVEL};
 ghost use Rattle.pc_wbs.specs.Climb.{parent_of, AreInRange, HasLevel, IsTop, IsLeaf, IsTree, IsDepth, IsAtLevel};
 ghost use Rattle.pc_wbs.specs.Preorder.{IsPreorder};
-ghost use Rattle.pc_wbs.specs.Refusal.{IsRefusal};
+ghost use Rattle.pc_wbs.specs.Refusal.{IsTreeError};
 
 use crate::error::TreeError;
 use crate::levels::{depth_of, levels_of, only_top};
@@ -59,7 +59,7 @@ impl Tree {
         requires in_range { AreInRange rows.now }
         ensures rows { IfOk result (λ tree. tree ≡ rows.now) }
         ensures tree { IfOk result IsTree }
-        ensures refusal { IfErr result (IsRefusal rows.now) }
+        ensures refusal { IfErr result (IsTreeError rows.now) }
     {
         let top = only_top(rows)?;
         let levels = levels_of(alloc, rows)?;

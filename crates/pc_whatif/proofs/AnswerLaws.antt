@@ -22,11 +22,11 @@ use Rattle.pc_whatif.specs.edits.Plans.{Plan, term_tried}
 use Rattle.pc_whatif.specs.edits.Refusal.{edit_refusal, undo_refusal, trial_refusal}
 use Rattle.pc_edges.specs.inside.lines.Talk.{Answered}
 use Rattle.pc_edges.specs.inside.lines.Reading.{kept}
-use Rattle.pc_curve.specs.Range.{IsWithin}
+use Rattle.pc_curve.specs.Range.{IsLengthInRange}
 use Rattle.pc_whatif.specs.inside.trials.Reserved.{Reserved}
-use Rattle.pc_whatif.specs.Planning.{IsAnswer, IsTrialText, outside, costs, AreAnswers, editing_after, net_tried}
+use Rattle.pc_whatif.specs.Planning.{IsLineAnswer, IsTrialText, outside, costs, AreAnswers, editing_after, net_tried}
 use Rattle.pc_whatif.specs.inside.Planning.{Planning, IsAnswered, IsRenewed, Says}
-use Rattle.pc_whatif.specs.Texts.{ok_text, refused_text, cost_text, verdict_text}
+use Rattle.pc_whatif.specs.Texts.{ok_text, refused_text, cost_text, outcome_text}
 use Rattle.pc_whatif.proofs.LineLaws.{ask_of-kept}
 
 -- ---- one line
@@ -40,12 +40,12 @@ abbrev planning_of : Project → Editing → Reserved → Planning
 planning_of project editing reserved = record { project = project; editing = editing; reserved = reserved }
 
 -- the session stays as it is
-pub stays : (old : Planning) (asked : Option Ask) (text : List ℕ) → IsRenewed old.project old.editing old.reserved → IsAnswer old.project old.editing asked text
+pub stays : (old : Planning) (asked : Option Ask) (text : List ℕ) → IsRenewed old.project old.editing old.reserved → IsLineAnswer old.project old.editing asked text
     → old.editing ≡ editing_after old.editing asked → IsAnswered old asked text old
 stays old asked text standing is same = record { answer = is; project = refl; editing = same; standing = standing; lists = λ other. refl; cells = refl }
 
 -- the same, where the session is the one that it was
-pub stays_as : (old new : Planning) (asked : Option Ask) (text : List ℕ) → new ≡ old → IsRenewed new.project new.editing new.reserved → IsAnswer new.project new.editing asked text
+pub stays_as : (old new : Planning) (asked : Option Ask) (text : List ℕ) → new ≡ old → IsRenewed new.project new.editing new.reserved → IsLineAnswer new.project new.editing asked text
     → new.editing ≡ editing_after new.editing asked
     → IsAnswered old asked text new
 stays_as old new asked text same standing is kept = subst (λ (p : Planning). IsAnswered p asked text new) same (stays new asked text standing is kept)
@@ -63,13 +63,13 @@ tried_out old project editing editing_left reserved reserved_left trial text edi
 pub edit_refused : (old : Planning) (edit : Edit) (reason : Reason) → IsRenewed old.project old.editing old.reserved → edit_refusal old.editing.net old.editing.estimates edit ≡ Some reason
     → IsAnswered old (Some (ask.Edit edit)) (refused_text reason) old
 edit_refused old edit reason standing why =
-    stays old (Some (ask.Edit edit)) (refused_text reason) standing (sym (ap verdict_text why))
+    stays old (Some (ask.Edit edit)) (refused_text reason) standing (sym (ap outcome_text why))
     (sym (ap (λ (r : Option Reason). option_map_or (λ (reason : Reason). old.editing) r (edited old.editing edit)) why))
 
 pub edit_accepted : (old new : Planning) (edit : Edit) → edit_refusal old.editing.net old.editing.estimates edit ≡ None → new.project ≡ old.project
     → new.editing ≡ edited old.editing edit → IsRenewed new.project new.editing new.reserved → new.reserved.free ≡ old.reserved.free → IsAnswered old (Some (ask.Edit edit)) ok_text new
 edit_accepted old new edit none project editing standing cells = record {
-  answer = sym (ap verdict_text none);
+  answer = sym (ap outcome_text none);
   project = project;
   editing = editing ∙ sym (ap (λ (r : Option Reason). option_map_or (λ (reason : Reason). old.editing) r (edited old.editing edit)) none);
   standing = standing;
@@ -91,12 +91,12 @@ undone_same editing reason why =
 
 pub undo_refused : (old : Planning) (reason : Reason) → IsRenewed old.project old.editing old.reserved → undo_refusal old.editing ≡ Some reason
     → IsAnswered old (Some ask.Undo) (refused_text reason) old
-undo_refused old reason standing why = stays old (Some ask.Undo) (refused_text reason) standing (sym (ap verdict_text why)) (sym (undone_same old.editing reason why))
+undo_refused old reason standing why = stays old (Some ask.Undo) (refused_text reason) standing (sym (ap outcome_text why)) (sym (undone_same old.editing reason why))
 
 pub undo_accepted : (old new : Planning) → undo_refusal old.editing ≡ None → new.project ≡ old.project → new.editing ≡ undone old.editing
     → IsRenewed new.project new.editing new.reserved → new.reserved.free ≡ old.reserved.free → IsAnswered old (Some ask.Undo) ok_text new
 undo_accepted old new none project editing standing cells = record {
-  answer = sym (ap verdict_text none);
+  answer = sym (ap outcome_text none);
   project = project;
   editing = editing;
   standing = standing;
@@ -112,18 +112,19 @@ module _ (editing : Editing) (trial : Trial) where
   tried_net tried term = ap (λ (t : Term). net_trying editing.net (record { activity = tried.activity; term = t })) term
 
   pub trial_costs : (tried : ActTerm) (cost : ℕ) → trial_refusal editing.net editing.estimates trial ≡ None → activity_named editing.net trial.act ≡ Some tried.activity
-      → tried.term ≡ term_tried trial (term_at editing.net.terms tried.activity) → IsWithin (net_trying editing.net tried) trial.length → curve_in (net_trying editing.net tried) trial.length cost
+      → tried.term ≡ term_tried trial (term_at editing.net.terms tried.activity) → IsLengthInRange (net_trying editing.net tried) trial.length →
+      curve_in (net_trying editing.net tried) trial.length cost
       → IsTrialText editing trial (cost_text cost)
   trial_costs tried cost none named term within least =
       let net = tried_net tried term in
-      costs tried.activity cost none named (subst (λ (n : PricedNetwork). IsWithin n trial.length) net within) (subst (λ (n : PricedNetwork). curve_in n trial.length cost) net least) refl
+      costs tried.activity cost none named (subst (λ (n : PricedNetwork). IsLengthInRange n trial.length) net within) (subst (λ (n : PricedNetwork). curve_in n trial.length cost) net least) refl
 
   pub trial_outside : (tried : ActTerm) → trial_refusal editing.net editing.estimates trial ≡ None → activity_named editing.net trial.act ≡ Some tried.activity
-      → tried.term ≡ term_tried trial (term_at editing.net.terms tried.activity) → (IsWithin (net_trying editing.net tried) trial.length → ⊥)
+      → tried.term ≡ term_tried trial (term_at editing.net.terms tried.activity) → (IsLengthInRange (net_trying editing.net tried) trial.length → ⊥)
       → IsTrialText editing trial (refused_text OutsideRange)
   trial_outside tried none named term without =
       let net = tried_net tried term in
-      outside tried.activity none named (λ within. without (subst (λ (n : PricedNetwork). IsWithin n trial.length) (sym net) within)) refl
+      outside tried.activity none named (λ within. without (subst (λ (n : PricedNetwork). IsLengthInRange n trial.length) (sym net) within)) refl
 
 -- ---- lines
 
@@ -138,7 +139,7 @@ answers_of start end (line ∷ lines) text p =
       p.0,
       p.1,
       p.3,
-      subst (λ (a : Option Ask). IsAnswer start.project start.editing a (p.0)) asked said.answer,
+      subst (λ (a : Option Ask). IsLineAnswer start.project start.editing a (p.0)) asked said.answer,
       subst (λ (e : Editing). AreAnswers start.project e lines (p.1)) (said.editing ∙ ap (editing_after start.editing) asked)
           (subst (λ (project : Project). AreAnswers project next.editing lines (p.1)) said.project rest),
     )

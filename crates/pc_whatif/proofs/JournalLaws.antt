@@ -13,7 +13,7 @@ use Rattle.pc_whatif.specs.edits.Reading.{ask_of}
 use Rattle.pc_whatif.specs.edits.Refusal.{edit_refusal, undo_refusal}
 use Rattle.pc_whatif.specs.edits.Standing.{Journal, Stands, empty, noted, taken_back}
 use Rattle.pc_whatif.proofs.lemmas.edits.StandingLaws.{Stands-begun, Stands-edited, Stands-undone}
-use Rattle.pc_whatif.specs.Planning.{IsAnswer, AreAnswers, AnswersLines, editing_after}
+use Rattle.pc_whatif.specs.Planning.{IsLineAnswer, AreAnswers, AnswersLines, editing_after}
 use Rattle.pc_whatif.specs.Standing.{journal_after, journal_of, editing_of, AnswersByJournal}
 use Rattle.pc_whatif.proofs.AnswerLaws.{undone_same}
 
@@ -67,7 +67,7 @@ answers_stand project (line ∷ lines) journal editing text stands p = (
   p.0,
   p.1,
   p.2,
-  subst (λ (e : Editing). IsAnswer project e (ask_of line) (p.0)) stands.is (p.3),
+  subst (λ (e : Editing). IsLineAnswer project e (ask_of line) (p.0)) stands.is (p.3),
   answers_stand project lines (journal_after project journal (ask_of line)) (editing_after editing (ask_of line)) (p.1)
       (line_stands project journal editing stands (ask_of line)) (p.4),
 )

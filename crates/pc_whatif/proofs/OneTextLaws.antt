@@ -12,8 +12,8 @@ use Rattle.pc_project.specs.Planned.{IsPlanned}
 use Rattle.pc_project.specs.Project.{Project}
 use Rattle.pc_reports.proofs.OneTextLaws.{one_times_text}
 use Rattle.pc_reports.specs.TimesText.{IsTimesText, times_text}
-use Rattle.pc_curve.specs.Range.{IsWithin}
-use Rattle.pc_whatif.specs.Planning.{IsAnswer, IsTrialText, refused, outside, costs, AreAnswers, AnswersLines, editing_after, net_tried, project_as}
+use Rattle.pc_curve.specs.Range.{IsLengthInRange}
+use Rattle.pc_whatif.specs.Planning.{IsLineAnswer, IsTrialText, refused, outside, costs, AreAnswers, AnswersLines, editing_after, net_tried, project_as}
 use Rattle.pc_whatif.specs.Texts.{cost_text, refused_text}
 
 -- ---- times: the terms of activities are no part of their text
@@ -58,10 +58,10 @@ module _ (editing : Editing) (trial : Trial) where
   one_trial text other (outside a none named without is) (refused s also at) = absurd (let some = also in let clear = none in cc)
   one_trial text other (outside a none named without is) (outside b clear found never at) = is ∙ sym at
   one_trial text other (outside a none named without is) (costs b d clear found within least at) =
-      let same : b ≡ a = cc in absurd (without (subst (λ (e : ℕ). IsWithin (net_tried editing trial e) trial.length) same within))
+      let same : b ≡ a = cc in absurd (without (subst (λ (e : ℕ). IsLengthInRange (net_tried editing trial e) trial.length) same within))
   one_trial text other (costs a c none named within least is) (refused s also at) = absurd (let some = also in let clear = none in cc)
   one_trial text other (costs a c none named within least is) (outside b clear found without at) =
-      let same : a ≡ b = cc in absurd (without (subst (λ (e : ℕ). IsWithin (net_tried editing trial e) trial.length) same within))
+      let same : a ≡ b = cc in absurd (without (subst (λ (e : ℕ). IsLengthInRange (net_tried editing trial e) trial.length) same within))
   one_trial text other (costs a c none named within least is) (costs b d clear found inside lowest at) =
       let same : a ≡ b = cc in
       let cost = one_cost (net_tried editing trial b) trial.length c d (subst (λ (e : ℕ). curve_in (net_tried editing trial e) trial.length c) same least) lowest in
@@ -70,7 +70,7 @@ module _ (editing : Editing) (trial : Trial) where
 -- ---- lines
 
 module _ (project : Project) (parts : HasSoundParts project) where
-  one_answer : (editing : Editing) (asked : Option Ask) (text other : List ℕ) → IsAnswer project editing asked text → IsAnswer project editing asked other → text ≡ other
+  one_answer : (editing : Editing) (asked : Option Ask) (text other : List ℕ) → IsLineAnswer project editing asked text → IsLineAnswer project editing asked other → text ≡ other
   one_answer editing None text other x y = x ∙ sym y
   one_answer editing (Some (ask.Edit edit)) text other x y = x ∙ sym y
   one_answer editing (Some ask.Undo) text other x y = x ∙ sym y

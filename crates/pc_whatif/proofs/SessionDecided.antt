@@ -15,7 +15,7 @@ use Rattle.pc_shell.proofs.ReadingLaws.{refusal_is_fault, refusal_reads}
 use Rattle.pc_shell.proofs.SideLaws.{of_any, of_one}
 use Rattle.pc_shell.proofs.VerdictLaws.{not_both}
 use Rattle.pc_whatif.specs.Heard.{Meaning, IsHeardOut, IsHeardTooLong}
-use Rattle.pc_whatif.specs.SessionOutcome.{IsUnread, IsSessionCut, deck_unread, edits_unread, in_answers, in_refusal, in_usage}
+use Rattle.pc_whatif.specs.SessionOutcome.{IsSessionUnread, IsSessionCut, deck_unread, edits_unread, in_answers, in_refusal, in_usage}
 use Rattle.pc_whatif.specs.inside.SessionOutcome.{SessionOutcome, heard_out, too_long, deck_refused, usage, no_memory, read_fault, write_fault}
 
 -- ---- how much was taken
@@ -59,7 +59,7 @@ module _ {D C O E : Type 0} (means : Meaning) (words : List (String Global)) (de
   went_on _ (read_fault asked unread same) code at_8 = absurd (omega (arith, code, at_8))
   went_on _ (write_fault is) code at_8 = absurd (omega (arith, code, at_8))
 
-  pub not_read : (status : Status) → SessionOutcome means words deck edits out err status → answer ≡ code_of status → answer ≡ 4 → IsUnread means deck edits out
+  pub not_read : (status : Status) → SessionOutcome means words deck edits out err status → answer ≡ code_of status → answer ≡ 4 → IsSessionUnread means deck edits out
   not_read _ (heard_out asked is same) code at_4 = absurd (omega (arith, code, at_4))
   not_read _ (too_long asked is same) code at_4 = absurd (omega (arith, code, at_4))
   not_read _ (deck_refused is same also) code at_4 = absurd (omega (arith, code, at_4))

@@ -16,8 +16,8 @@ use Rattle.pc_whatif.specs.edits.Editing.{Editing, activity_named, begun, edited
 use Rattle.pc_whatif.specs.edits.Plans.{expected_times, variances, term_tried}
 use Rattle.pc_whatif.specs.edits.Reading.{ask_of}
 use Rattle.pc_whatif.specs.edits.Refusal.{edit_refusal, undo_refusal, trial_refusal}
-use Rattle.pc_curve.specs.Range.{IsWithin}
-use Rattle.pc_whatif.specs.Texts.{refused_text, cost_text, verdict_text}
+use Rattle.pc_curve.specs.Range.{IsLengthInRange}
+use Rattle.pc_whatif.specs.Texts.{refused_text, cost_text, outcome_text}
 
 -- ---- the answer to a line
 
@@ -38,18 +38,18 @@ net_tried editing trial a = net_trying editing.net (record { activity = a; term 
 pub data IsTrialText (editing : Editing) (trial : Trial) (text : List ℕ) : Type 0 where
   refused : (reason : Reason) → trial_refusal editing.net editing.estimates trial ≡ Some reason → text ≡ refused_text reason → IsTrialText editing trial text
   outside : (a : ℕ) → trial_refusal editing.net editing.estimates trial ≡ None → activity_named editing.net trial.act ≡ Some a
-      → (IsWithin (net_tried editing trial a) trial.length → ⊥) → text ≡ refused_text OutsideRange → IsTrialText editing trial text
+      → (IsLengthInRange (net_tried editing trial a) trial.length → ⊥) → text ≡ refused_text OutsideRange → IsTrialText editing trial text
   costs : (a cost : ℕ) → trial_refusal editing.net editing.estimates trial ≡ None → activity_named editing.net trial.act ≡ Some a
-      → IsWithin (net_tried editing trial a) trial.length → curve_in (net_tried editing trial a) trial.length cost → text ≡ cost_text cost → IsTrialText editing trial text
+      → IsLengthInRange (net_tried editing trial a) trial.length → curve_in (net_tried editing trial a) trial.length cost → text ≡ cost_text cost → IsTrialText editing trial text
 
 -- the text answers what a line asks of the project as it is edited; a line that asks nothing has none of the forms
-abbrev pub IsAnswer : Project → Editing → Option Ask → List ℕ → Type 0
-IsAnswer project editing None text = text ≡ refused_text Form
-IsAnswer project editing (Some (ask.Edit edit)) text = text ≡ verdict_text (edit_refusal editing.net editing.estimates edit)
-IsAnswer project editing (Some ask.Undo) text = text ≡ verdict_text (undo_refusal editing)
-IsAnswer project editing (Some ask.Times) text = IsTimesText (project_as project editing) text
-IsAnswer project editing (Some ask.Curve) text = IsCurveText editing.net text
-IsAnswer project editing (Some (ask.Try trial)) text = IsTrialText editing trial text
+abbrev pub IsLineAnswer : Project → Editing → Option Ask → List ℕ → Type 0
+IsLineAnswer project editing None text = text ≡ refused_text Form
+IsLineAnswer project editing (Some (ask.Edit edit)) text = text ≡ outcome_text (edit_refusal editing.net editing.estimates edit)
+IsLineAnswer project editing (Some ask.Undo) text = text ≡ outcome_text (undo_refusal editing)
+IsLineAnswer project editing (Some ask.Times) text = IsTimesText (project_as project editing) text
+IsLineAnswer project editing (Some ask.Curve) text = IsCurveText editing.net text
+IsLineAnswer project editing (Some (ask.Try trial)) text = IsTrialText editing trial text
 
 -- the project as it is edited after a line: an edit that is accepted is in place, an UNDO takes the latest kept edit back, and all else
 -- leaves it as it is
@@ -65,7 +65,7 @@ editing_after editing (Some (ask.Try trial)) = editing
 abbrev pub AreAnswers : Project → Editing → List (List ℕ) → List ℕ → Type 0
 AreAnswers project editing [] text = text ≡ []
 AreAnswers project editing (line ∷ lines) text =
-    (first : List ℕ) × (rest : List ℕ) × (text ≡ first ++ rest) × IsAnswer project editing (ask_of line) first
+    (first : List ℕ) × (rest : List ℕ) × (text ≡ first ++ rest) × IsLineAnswer project editing (ask_of line) first
     × AreAnswers project (editing_after editing (ask_of line)) lines rest
 
 -- and they are those on the project of a deck

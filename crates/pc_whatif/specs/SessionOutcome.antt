@@ -8,9 +8,9 @@ use Rattle.pc_whatif.specs.Heard.{session_usage_text, Meaning, IsHeardUnread, Is
 
 -- what could not be read: the deck, of which no more was taken than a deck may have, and of the edits nothing; or the edits, whose whole
 -- lines before that were answered
-pub data IsUnread {D C O : Type 0} (means : Meaning) (deck : Side D) (edits : Side C) (out : Side O) : Type 0 where
-  deck_unread : HadFault deck → TookAtMost longest_deck deck → IsUntouched edits → IsUntouched out → IsUnread means deck edits out
-  edits_unread : IsHeardUnread means deck edits out → IsUnread means deck edits out
+pub data IsSessionUnread {D C O : Type 0} (means : Meaning) (deck : Side D) (edits : Side C) (out : Side O) : Type 0 where
+  deck_unread : HadFault deck → TookAtMost longest_deck deck → IsUntouched edits → IsUntouched out → IsSessionUnread means deck edits out
+  edits_unread : IsHeardUnread means deck edits out → IsSessionUnread means deck edits out
 
 -- where a write fault came: in the answers, in the line of a fault, or in the usage line. The other output is as it was, and the
 -- edits are unread where no line was answered

@@ -8,7 +8,7 @@ use Rattle.pc_whatif.specs.edits.Editing.{Editing}
 use Rattle.pc_whatif.specs.edits.Reading.{ask_of}
 use Rattle.pc_whatif.specs.edits.Refusal.{edit_refusal, undo_refusal}
 use Rattle.pc_whatif.specs.edits.Standing.{Journal, empty, noted, taken_back, standing_of}
-use Rattle.pc_whatif.specs.Planning.{IsAnswer, editing_after}
+use Rattle.pc_whatif.specs.Planning.{IsLineAnswer, editing_after}
 
 -- the journal after a line: an edit that is accepted is noted, an UNDO that is accepted takes the latest back, and all else leaves it as
 -- it is. Whether they are accepted is judged on the deck's project with the edits of the journal applied in order
@@ -35,7 +35,7 @@ editing_of editing (line ∷ lines) = editing_of (editing_after editing (ask_of 
 abbrev pub AnswersByJournal : Project → Journal → List (List ℕ) → List ℕ → Type 0
 AnswersByJournal project journal [] text = text ≡ []
 AnswersByJournal project journal (line ∷ lines) text =
-    (first : List ℕ) × (rest : List ℕ) × (text ≡ first ++ rest) × IsAnswer project (standing_of project journal) (ask_of line) first
+    (first : List ℕ) × (rest : List ℕ) × (text ≡ first ++ rest) × IsLineAnswer project (standing_of project journal) (ask_of line) first
     × AnswersByJournal project (journal_after project journal (ask_of line)) lines rest
 
 -- and they are those on the project of a deck, on which at first no edit stands

@@ -16,6 +16,6 @@ abbrev pub cost_text : ℕ → List ℕ
 cost_text cost = codes "COST " ++ (decimal cost ++ 10 ∷ [])
 
 -- a line that is accepted unless there is a reason against it
-abbrev pub verdict_text : Option Reason → List ℕ
-verdict_text None = ok_text
-verdict_text (Some reason) = refused_text reason
+abbrev pub outcome_text : Option Reason → List ℕ
+outcome_text None = ok_text
+outcome_text (Some reason) = refused_text reason

@@ -10,7 +10,7 @@ ghost use Rattle.pc_shell.specs.Sides.{side, pulled_side, HadNoFault, IsReadToEn
 ghost use Rattle.pc_shell.specs.Verdict.{AcceptedBy, RefusedBy};
 ghost use Rattle.pc_whatif.specs.Heard.{session_usage_text, AnswersOn, IsHeardOut, IsHeardTooLong};
 ghost use Rattle.pc_whatif.specs.inside.Hearing.{Hearing, status_of};
-ghost use Rattle.pc_whatif.specs.SessionOutcome.{IsSessionCut, IsUnread};
+ghost use Rattle.pc_whatif.specs.SessionOutcome.{IsSessionCut, IsSessionUnread};
 ghost use Rattle.pc_whatif.specs.inside.SessionOutcome.{SessionOutcome};
 ghost use Rattle.pc_whatif.specs.Planning.{AnswersLines};
 ghost use Rattle.pc_whatif.specs.Standing.{AnswersInOrder};
@@ -69,7 +69,7 @@ pub fn session_run<D: Source, C: Source, O: Sink, E: Sink>(
     ensures no_memory { result ≡ 3 → (edits.new ≡ edits.old) × (out.new ≡ out.old) × (err.new ≡ err.old) }
 
     // 4: the deck could not be read; or the edits, whose complete lines before that were answered.
-    ensures read_fault { result ≡ 4 → IsUnread AnswersLines (side D.left D.faults deck.old deck.new)
+    ensures read_fault { result ≡ 4 → IsSessionUnread AnswersLines (side D.left D.faults deck.old deck.new)
         (pulled_side C.left C.faults C.pulls edits.old edits.new) (side O.taken O.faults out.old out.new) }
     ensures read_fault_only { result ≡ 4 → err.new ≡ err.old }
 

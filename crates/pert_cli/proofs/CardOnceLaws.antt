@@ -5,7 +5,7 @@ use Rattle.pc_records.specs.Deck.{deck_records, field_at}
 use Rattle.pc_cards.specs.Cards.{Numbered, cards_from, deck_cards, is_card}
 use Rattle.pc_cards.specs.Findings.{width_wanted}
 use Rattle.pc_cards.specs.Forms.{Slot, first_misshapen, first_over_limit}
-use Rattle.pc_cards.specs.declared.form.Form.TheVariants.{Code}
+use Rattle.pc_cards.specs.declared.form.FieldForm.TheVariants.{Code}
 use Rattle.pc_cards.specs.declared.sort.Sort.{Sort}
 use Rattle.pc_deck.specs.Judged.{Seen}
 use Rattle.pc_deck.specs.Kinds.{least_width_of, slots_of, width_of}

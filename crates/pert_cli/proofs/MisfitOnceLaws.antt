@@ -132,7 +132,7 @@ TaskFaulty deck Wbs card f = HasItemFault deck card f
 TaskFaulty deck Task card f = tasks.HasTaskFault deck card f
 TaskFaulty deck After card f = tasks.HasAfterFault deck card f
 TaskFaulty deck Piece card f = tasks.HasNameFault deck card.row card.activity f
-TaskFaulty deck Load card f = tasks.HasLoadFault deck card f
+TaskFaulty deck Load card f = tasks.HasTaskLoadFault deck card f
 TaskFaulty deck Acct card f = HasAccountFault deck card f
 TaskFaulty deck Charge card f = HasMoneyFault deck card f
 TaskFaulty deck ToGo card f = HasMoneyFault deck card f
@@ -169,8 +169,8 @@ task_is deck After c f (tasks.HasAfterFault.unknown_before known none is) =
     told_by c.0 (task_detail deck After (card_of After c.0 c.1)) f _ is (ap (λ (code : List ℕ). fault.unknown_activity c.0 code) (second_unknown _ _ _ known))
 task_is deck After c f (tasks.HasAfterFault.same_task same is) = told_by c.0 (task_detail deck After (card_of After c.0 c.1)) f _ is refl
 task_is deck Piece c f (tasks.HasNameFault.unknown_task none is) = told_by c.0 (task_detail deck Piece (card_of Piece c.0 c.1)) f _ is refl
-task_is deck Load c f (tasks.HasLoadFault.unknown_task none is) = told_by c.0 (task_detail deck Load (card_of Load c.0 c.1)) f _ is refl
-task_is deck Load c f (tasks.HasLoadFault.unknown_resource none is) = told_by c.0 (task_detail deck Load (card_of Load c.0 c.1)) f _ is refl
+task_is deck Load c f (tasks.HasTaskLoadFault.unknown_task none is) = told_by c.0 (task_detail deck Load (card_of Load c.0 c.1)) f _ is refl
+task_is deck Load c f (tasks.HasTaskLoadFault.unknown_resource none is) = told_by c.0 (task_detail deck Load (card_of Load c.0 c.1)) f _ is refl
 task_is deck Acct c f (plan.HasAccountFault.unknown_item none is) = told_by c.0 (task_detail deck Acct (card_of Acct c.0 c.1)) f _ is refl
 task_is deck Charge c f (plan.unknown_account none is) = told_by c.0 (task_detail deck Charge (card_of Charge c.0 c.1)) f _ is refl
 task_is deck ToGo c f (plan.unknown_account none is) = told_by c.0 (task_detail deck ToGo (card_of ToGo c.0 c.1)) f _ is refl
@@ -225,7 +225,7 @@ module _ (cards : List Numbered) (deck : Deck) (rising : Rises 1 cards) (says : 
   some_task : (kind : Kind) (f : Fault) → Any (λ card. TaskFaulty deck kind card f) (list_of deck kind) → TaskMisfit f
   some_task kind f any = some_card cards deck rising says (TaskFaulty deck) (task_told deck) (task_is deck) (task_row deck) kind f any
 
-  as_task : (f : Fault) → tasks.HasMisfit deck f → TaskMisfit f
+  as_task : (f : Fault) → tasks.HasTaskMisfit deck f → TaskMisfit f
   as_task f (tasks.ends h) = some_task Project f (0, deck.project, omega arith, refl, h)
   as_task f (tasks.item any) = some_task Wbs f any
   as_task f (tasks.task any) = some_task Task f any
@@ -238,5 +238,5 @@ module _ (cards : List Numbered) (deck : Deck) (rising : Rises 1 cards) (says : 
   as_task f (tasks.load any) = some_task Load f any
 
   -- the faults of the cards of a deck of tasks
-  pub task_once : AreToldByPlace (tasks.HasMisfit deck)
+  pub task_once : AreToldByPlace (tasks.HasTaskMisfit deck)
   task_once f g x y = card_fault_once cards deck rising says (TaskFaulty deck) (task_told deck) (task_is deck) (task_row deck) f g (as_task f x) (as_task g y)

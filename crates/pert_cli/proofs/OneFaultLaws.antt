@@ -10,7 +10,7 @@ use Rattle.pc_faults.specs.declared.fault.Fault.{Fault}
 use Rattle.pc_project.specs.Refusal.{HasSoundPlan, IsRefusedWith}
 use Rattle.pc_shell.specs.Verdict as plans
 use Rattle.pc_shell.specs.Verdict.{IsFault}
-use Rattle.pc_tasks.specs.Drawn.{drawn}
+use Rattle.pc_tasks.specs.Drawn.{arrows_deck}
 use Rattle.pc_tasks.specs.Refusal.{HasSoundTasks, IsTasksRefusedWith}
 use Rattle.pert_cli.specs.Tasks as tasks
 use Rattle.pert_cli.specs.Tasks.{IsTasksFault}
@@ -36,7 +36,7 @@ of_plan bytes f g (plans.project_refusal deck short read x) (plans.project_refus
     (leaf_once (deck_cards bytes) deck (deck_rises bytes) read.says) f g x
     (subst (λ (d : Deck). IsRefusedWith d g) (one_deck_as Plan bytes other deck too read) y)
 
-module _ (drawn_sound : (deck : Deck) → IsWithin Tasks deck → HasSoundTasks deck → HasSoundPlan (drawn deck)) where
+module _ (drawn_sound : (deck : Deck) → IsWithin Tasks deck → HasSoundTasks deck → HasSoundPlan (arrows_deck deck)) where
   of_tasks : (bytes : List ℕ) (f g : Fault) → IsTasksFault bytes f → IsTasksFault bytes g → AreAlike f g
   of_tasks bytes f g (tasks.too_long long is) (tasks.too_long more told) = alike f g (is ∙ sym told)
   of_tasks bytes f g (tasks.too_long long is) (tasks.card_refusal short refusal) = absurd (omega (arith, long, short))

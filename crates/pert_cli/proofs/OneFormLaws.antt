@@ -6,7 +6,7 @@ use Rattle.std.specs.declared.alloc.Global.{Global}
 use Rattle.std.proofs.lemmas.Fmt.{decimal_injective}
 use Rattle.pert_cli.specs.declared.forms.Form.{Form}
 use Rattle.pert_cli.specs.declared.forms.Form.TheVariants.{Check, Normal, Times, Summary, Value, Curve, Certify, Point, Outlook, Bench, Migrate, Optimum, Arrows, Load}
-use Rattle.pert_cli.specs.Forms.{IsNumbered, words_of}
+use Rattle.pert_cli.specs.Forms.{IsNumbered, form_words}
 use Rattle.pert_cli.specs.Words.{AskFor}
 
 -- the number of a form, where it has one
@@ -40,7 +40,7 @@ form_named name n =
     else Load n
 
 -- a form is the one with its first word
-is_named : (form : Form) → form_named (get_or (words_of form) 0 []) (or_0 (number_of form)) ≡ form
+is_named : (form : Form) → form_named (get_or (form_words form) 0 []) (or_0 (number_of form)) ≡ form
 is_named Check = refl
 is_named _ = refl
 
@@ -49,7 +49,7 @@ abbrev number_words : Option ℕ → List (List ℕ)
 number_words None = []
 number_words (Some n) = decimal n ∷ []
 
-are_numbers : (form : Form) → drop 1 (words_of form) ≡ number_words (number_of form)
+are_numbers : (form : Form) → drop 1 (form_words form) ≡ number_words (number_of form)
 are_numbers Check = refl
 are_numbers _ = refl
 
@@ -66,14 +66,14 @@ one_number None (Some n) small also same = absurd cc
 one_number (Some m) None small also same = absurd cc
 one_number (Some m) (Some n) small also same = ap Some (decimal_injective m n small also (ap (λ (words : List (List ℕ)). get_or words 0 []) same))
 
-same_words : (form other : Form) → IsNumbered form → IsNumbered other → words_of form ≡ words_of other → form ≡ other
+same_words : (form other : Form) → IsNumbered form → IsNumbered other → form_words form ≡ form_words other → form ≡ other
 same_words form other numbered also same =
-    let name : get_or (words_of form) 0 [] ≡ get_or (words_of other) 0 [] = ap (λ (words : List (List ℕ)). get_or words 0 []) same in
+    let name : get_or (form_words form) 0 [] ≡ get_or (form_words other) 0 [] = ap (λ (words : List (List ℕ)). get_or words 0 []) same in
     let behind : number_words (number_of form) ≡ number_words (number_of other) =
     sym (are_numbers form) ∙ (ap (λ (words : List (List ℕ)). drop 1 words) same ∙ are_numbers other) in
     let number : number_of form ≡ number_of other = one_number _ _ (is_small form numbered) (is_small other also) behind in
     sym (is_named form) ∙ (ap (λ n. form_named n (or_0 (number_of form))) name
-    ∙ (ap (λ n. form_named (get_or (words_of other) 0 []) (or_0 n)) number ∙ is_named other))
+    ∙ (ap (λ n. form_named (get_or (form_words other) 0 []) (or_0 n)) number ∙ is_named other))
 
 -- two forms for which the words ask are one
 pub one_form : (words : List (String Global)) (form other : Form) → AskFor form words → AskFor other words → form ≡ other

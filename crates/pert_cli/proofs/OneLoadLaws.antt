@@ -3,7 +3,7 @@ use Rattle.std.proofs.Common.{◌≡◌, ℕ, zero, suc, ◌<◌, List, [], ◌�
 use Rattle.std.specs.Prelude.{pos, slice_index_or, codes}
 use Rattle.pc_edges.specs.Texts.{texts_to}
 use Rattle.pc_load.specs.LoadText.{IsLoadText, amount_row, amount_rows, head_line, item_rows, load_text, period_row, resource_rows}
-use Rattle.pc_load.specs.Loading.{IsLoading, Loading, cost_part, load_at, load_part, periods_for, width_of}
+use Rattle.pc_load.specs.Loading.{IsLoading, Loading, cost_part, load_at, load_part, periods_for, period_width}
 use Rattle.pc_load.specs.Table.{Table, amount_in}
 use Rattle.pc_model.proofs.Walks.WalkLaws.{greatest_unique}
 use Rattle.pc_project.proofs.SoundLaws.{HasSoundParts}
@@ -62,13 +62,13 @@ module _ (project : Project) (days : ℕ) (parts : HasSoundParts project) (s t :
   one_item i k known less =
       IsSumOver-only _ _ _ (amount_in s.items i k) (amount_in t.items i k)
       (subst (λ (times : List ℕ). IsSumOver (λ a. IsBelow project.tree (slice_index project.places a) i) (length project.network.arcs)
-      (λ a. pos (cost_part project times (width_of days) k a)) (amount_in s.items i k))
+      (λ a. pos (cost_part project times (period_width days) k a)) (amount_in s.items i k))
       one_times (x.items.each i k known (omega (arith, less, one_count)))) (y.items.each i k known less)
 
   one_resource : (r k : ℕ) → r < length project.resources → k < y.periods → amount_in s.resources r k ≡ amount_in t.resources r k
   one_resource r k known less =
       IsSumOver-only _ _ _ (amount_in s.resources r k) (amount_in t.resources r k)
-      (subst (λ (times : List ℕ). IsSumOver (λ l. (load_at project l).resource ≡ r) (length project.loads) (λ l. pos (load_part project times (width_of days) k l)) (amount_in s.resources r k))
+      (subst (λ (times : List ℕ). IsSumOver (λ l. (load_at project l).resource ≡ r) (length project.loads) (λ l. pos (load_part project times (period_width days) k l)) (amount_in s.resources r k))
       one_times (x.resources.each r k known (omega (arith, less, one_count)))) (y.resources.each r k known less)
 
   items_same : texts_to (length s.order) (item_rows project s) ≡ texts_to (length t.order) (item_rows project t)

@@ -3,7 +3,7 @@ use Rattle.std.proofs.Common.{◌≡◌, ◌≢◌, ℕ, ◌==◌, Bool, true, f
 use Rattle.std.specs.Prelude.{ℤ, slice_index, IsFalse}
 use Rattle.std.proofs.lemmas.Bool.{cases_order}
 use Rattle.pc_accounts.specs.declared.status.row.StatusRow.{StatusRow}
-use Rattle.pc_accounts.specs.status.Statuses.{IsReason, place_of}
+use Rattle.pc_accounts.specs.status.Statuses.{IsReason, reason_rank}
 use Rattle.pc_accounts.specs.Packages.{IsUneven}
 use Rattle.pc_accounts.specs.Second.{IsRepeated}
 use Rattle.pc_deck.specs.Deck.{Deck}
@@ -22,7 +22,7 @@ use Rattle.pc_model.specs.Network.{IsSound, Network}
 use Rattle.pc_net.specs.Firmness.{Dangles, EntersStart, IsUnentered, LeavesEnd}
 use Rattle.pc_net.specs.Refusals.{IsFirstDangling}
 use Rattle.pc_net.specs.Cycles.{LiesOnCycle}
-use Rattle.pc_net.specs.Refusals.{IsRefusal as IsNetRefusal}
+use Rattle.pc_net.specs.Refusals.{IsNetError as IsNetRefusal}
 use Rattle.pc_net.specs.declared.refusal.NetError.{NetError}
 use Rattle.pc_net.specs.declared.refusal.NetError.TheVariants as net
 use Rattle.pc_net.proofs.RefusalLaws.{refused_is_not_sound}
@@ -158,7 +158,7 @@ module _ (deck : Deck) where
 abbrev reason_at : ℕ → StatusFault
 reason_at n = if n == 0 then Second else if n == 1 then Early else if n == 2 then Late else if n == 3 then NoStart else FinishFirst
 
-reason_is : (reason : StatusFault) → reason_at (place_of reason) ≡ reason
+reason_is : (reason : StatusFault) → reason_at (reason_rank reason) ≡ reason
 reason_is Second = refl
 reason_is Early = refl
 reason_is Late = refl
@@ -167,7 +167,7 @@ reason_is FinishFirst = refl
 
 one_reason : (start as_of : ℤ) (statuses : List StatusRow) (k : ℕ) (reason other : StatusFault) → IsReason start as_of statuses k reason → IsReason start as_of statuses k other → reason ≡ other
 one_reason start as_of statuses k reason other x y =
-    elim (cases_order (place_of reason) (place_of other)) [
+    elim (cases_order (reason_rank reason) (reason_rank other)) [
       | inl same ↦ sym (reason_is reason) ∙ (ap reason_at same ∙ reason_is other)
       | inr apart ↦ elim apart [ inl before ↦ absurd (y.first reason before x.holds) | inr behind ↦ absurd (x.first other behind y.holds) ]
     ]

@@ -12,12 +12,12 @@ use Rattle.pert_cli.specs.declared.forms.Form.TheVariants.{Point, Outlook}
 use Rattle.pc_shell.specs.Priced.{priced_in}
 use Rattle.pert_cli.specs.Handing.{IsReply}
 use Rattle.pert_cli.specs.Normal.{Printed, printed_text}
-use Rattle.pc_curve.specs.Range.{IsRange, IsWithin}
+use Rattle.pc_curve.specs.Range.{IsRange, IsLengthInRange}
 use Rattle.pc_curve.proofs.RangeLaws.{outside_range}
 use Rattle.pert_cli.specs.Point.{IsCheapestFor, IsOutside}
 
 -- no length is both one of the network and none
-pub within_not_outside : (net : PricedNetwork) (limit : ℕ) (fault : Fault) → IsWithin net limit → IsOutside net limit fault → ⊥
+pub within_not_outside : (net : PricedNetwork) (limit : ℕ) (fault : Fault) → IsLengthInRange net limit → IsOutside net limit fault → ⊥
 within_not_outside net limit fault inside out = outside_range net out.shortest out.longest limit out.range out.outside inside
 
 -- the fault of a length that is none can be told

@@ -35,9 +35,9 @@ use Rattle.pc_project.specs.Project.{rows_of}
 use Rattle.pc_project.specs.Refusal.{HasSoundPlan, IsRefusedWith, IsTreeFault}
 use Rattle.pc_project.proofs.RefusalLaws.{no_tree}
 use Rattle.pc_tasks.specs.Codes.{links_code}
-use Rattle.pc_tasks.specs.Drawn.{after_links, drawn, first_link, last_link, links_of, task_acts}
+use Rattle.pc_tasks.specs.Drawn.{after_links, arrows_deck, first_link, last_link, links_of, task_acts}
 use Rattle.pc_tasks.specs.Lists.{afters_in}
-use Rattle.pc_tasks.specs.Misfit.{HasMisfit, HasNoMisfit}
+use Rattle.pc_tasks.specs.Misfit.{HasTaskMisfit, HasNoTaskMisfit}
 use Rattle.pc_tasks.specs.Refusal.{HasLoneTop, HasNoTask, HasSoundItems, HasSoundTasks, IsCycleFault, IsTasksRefusedWith, task_records}
 use Rattle.pc_tasks.specs.Refusal.{of_cards, of_cycle, of_none, of_plan, of_top, of_tree}
 use Rattle.pc_tasks.specs.declared.network.AfterRow.{AfterRow}
@@ -152,7 +152,7 @@ module _ (cards : List Numbered) (deck : Deck) (rising : Rises 1 cards) (says : 
   abbrev DrawnLeaf : Fault → Type 0
   DrawnLeaf f = IsCardFault cards deck rising says OnItem item_told item_is item_row f
 
-  acts-drawn : All (IsDrawnAct cards) (drawn deck).acts
+  acts-drawn : All (IsDrawnAct cards) (arrows_deck deck).acts
   acts-drawn =
       All-append (IsDrawnAct cards) (task_acts 0 deck.tasks) (links_of deck)
       (All-weaker (IsTaskAct cards) (IsDrawnAct cards) (λ act h. inl h) (task_acts 0 deck.tasks) (task_acts-drawn cards 0 deck.tasks (list_spelled cards deck rising says Task)))
@@ -163,12 +163,13 @@ module _ (cards : List Numbered) (deck : Deck) (rising : Rises 1 cards) (says : 
       inl (Task, c, there, named, is ∙ (ap (λ (n : ℕ). fault.not_a_leaf n act.item) row ∙ ap (λ (code : List ℕ). fault.not_a_leaf c.0 code) item))
   of_drawn_act f act is (inr (row, item)) = inr (is ∙ (ap (λ (n : ℕ). fault.not_a_leaf n act.item) row ∙ ap (λ (code : List ℕ). fault.not_a_leaf 0 code) item))
 
-  as_drawn_leaf : (f : Fault) → HasLeafFault (drawn deck) f → DrawnLeaf f ⊎ (f ≡ fault.not_a_leaf 0 links_code)
+  as_drawn_leaf : (f : Fault) → HasLeafFault (arrows_deck deck) f → DrawnLeaf f ⊎ (f ≡ fault.not_a_leaf 0 links_code)
   as_drawn_leaf f (of_act any) =
-      let one = some_of_all (λ (act : ActCard). StandsOnBranch (drawn deck) act.row act.item f) (IsDrawnAct cards) (drawn deck).acts any acts-drawn in
+      let one = some_of_all (λ (act : ActCard). StandsOnBranch (arrows_deck deck) act.row act.item f) (IsDrawnAct cards) (arrows_deck deck).acts any acts-drawn in
       of_drawn_act f one.0 one.1.1 one.2
   as_drawn_leaf f (of_account any) =
-      let one = some_of_all (λ (account : CardOf Acct). StandsOnBranch (drawn deck) account.row account.item f) (IsSpelled cards Acct) deck.accounts any (list_spelled cards deck rising says Acct) in
+      let one = some_of_all (λ (account : CardOf Acct). StandsOnBranch (arrows_deck deck) account.row account.item f) (IsSpelled cards Acct) deck.accounts
+      any (list_spelled cards deck rising says Acct) in
       inl (Acct, one.2.0, one.2.1, one.2.2, subst (λ (account : CardOf Acct). OnItem Acct account f) one.2.3 one.1.1)
 
   behind_links : (f : Fault) → DrawnLeaf f → 1 ≤ f.row
@@ -180,11 +181,11 @@ module _ (cards : List Numbered) (deck : Deck) (rising : Rises 1 cards) (says : 
   leaves_told f g (inr x) (inl y) row number = absurd (omega (arith, behind_links g y, row, ap (λ (h : Fault). h.row) x))
   leaves_told f g (inr x) (inr y) row number = x ∙ sym y
 
-  drawn_leaf_told : AreToldByPlace (HasLeafFault (drawn deck))
+  drawn_leaf_told : AreToldByPlace (HasLeafFault (arrows_deck deck))
   drawn_leaf_told f g x y row number = leaves_told f g (as_drawn_leaf f x) (as_drawn_leaf g y) row number
 
   -- the cards of which the records are asked are kept
-  drawn_rows : HasOwnRows (drawn deck)
+  drawn_rows : HasOwnRows (arrows_deck deck)
   drawn_rows = let own = own_rows cards deck rising says in record { statuses = own.statuses; pieces = own.pieces; as_of = own.as_of }
 
   -- ---- phase by phase
@@ -200,7 +201,7 @@ module _ (cards : List Numbered) (deck : Deck) (rising : Rises 1 cards) (says : 
       }
 
   abbrev FromPlan : Fault → Type 0
-  FromPlan f = HasSoundTasks deck × IsRefusedWith (drawn deck) f
+  FromPlan f = HasSoundTasks deck × IsRefusedWith (arrows_deck deck) f
 
   abbrev HasNoCycle : Type 0
   HasNoCycle = (tasks : List ℕ) → IsTaskCycle (afters_in deck) tasks → ⊥
@@ -221,7 +222,7 @@ module _ (cards : List Numbered) (deck : Deck) (rising : Rises 1 cards) (says : 
   FromTree f = IsTreeFault deck.items (rows_of deck) f ⊎ (IsTree (rows_of deck) × FromTop f)
 
   abbrev FromCards : Fault → Type 0
-  FromCards f = IsFirst (HasMisfit deck) f ⊎ (HasNoMisfit deck × FromTree f)
+  FromCards f = IsFirst (HasTaskMisfit deck) f ⊎ (HasNoTaskMisfit deck × FromTree f)
 
   behind_items : (f : Fault) → HasSoundItems deck → FromNone f → FromCards f
   behind_items f items rest = inr (items.cards, inr (items.tree, inr (items.branch, rest)))
@@ -234,12 +235,12 @@ module _ (cards : List Numbered) (deck : Deck) (rising : Rises 1 cards) (says : 
   phases f (of_cycle items some cycle) = behind_items f items (inr (some, inl cycle))
   phases f (of_plan sound refused) = behind_items f sound.items (inr (sound.some, inr (sound.no_cycle, (sound, refused))))
 
-  module _ (drawn_sound : HasSoundTasks deck → HasSoundPlan (drawn deck)) where
+  module _ (drawn_sound : HasSoundTasks deck → HasSoundPlan (arrows_deck deck)) where
     from_plan : (f g : Fault) → FromPlan f → FromPlan g → AreAlike f g
     from_plan f g (sound, x) (too, y) =
         let known = (drawn_sound sound).cards in
-        let misfits : AreToldByPlace (plan.HasMisfit (drawn deck)) = λ h k has also row number. absurd (known h has) in
-        refused_alike (drawn deck) drawn_rows misfits drawn_leaf_told f g x y
+        let misfits : AreToldByPlace (plan.HasMisfit (arrows_deck deck)) = λ h k has also row number. absurd (known h has) in
+        refused_alike (arrows_deck deck) drawn_rows misfits drawn_leaf_told f g x y
 
     from_cycle : (f g : Fault) → FromCycle f → FromCycle g → AreAlike f g
     from_cycle = settled (IsCycleFault deck) FromPlan cycles_alike (λ f x none. none x.0 x.1.0.cycle) from_plan
@@ -258,7 +259,7 @@ module _ (cards : List Numbered) (deck : Deck) (rising : Rises 1 cards) (says : 
 
     from_cards : (f g : Fault) → FromCards f → FromCards g → AreAlike f g
     from_cards =
-        settled (IsFirst (HasMisfit deck)) FromTree (λ f g x y. alike f g (first_once (HasMisfit deck) (task_once cards deck rising says) f g x y))
+        settled (IsFirst (HasTaskMisfit deck)) FromTree (λ f g x y. alike f g (first_once (HasTaskMisfit deck) (task_once cards deck rising says) f g x y))
         (λ f x none. none f x.holds) from_tree
 
     -- the refusal of the deck is one fault

@@ -18,7 +18,7 @@ use Rattle.pc_project.specs.Project.{Project}
 use Rattle.pc_project.proofs.SoundLaws.{HasSoundParts, sound_parts}
 use Rattle.pc_shell.specs.Verdict as plans
 use Rattle.pc_shell.proofs.VerdictLaws as plans_are
-use Rattle.pc_tasks.specs.Drawn.{drawn}
+use Rattle.pc_tasks.specs.Drawn.{arrows_deck}
 use Rattle.pc_tasks.specs.Refusal.{IsTasksRefusedWith}
 use Rattle.pc_tasks.specs.Text.{IsDrawnProject}
 use Rattle.pc_tasks.proofs.VerdictLaws.{arrows_not_refused, one_drawn_project, told_of-refused_tasks}
@@ -86,4 +86,4 @@ one_project_as Tasks bytes project other is also = one_drawn_of bytes project ot
 -- whose parts are sound
 pub parts_as : (sort : Sort) (bytes : List ℕ) (project : Project) → IsMadeAs sort bytes project → HasSoundParts project
 parts_as Plan bytes project is = sound_parts is.deck project is.accepted.makes is.is
-parts_as Tasks bytes project is = sound_parts (drawn is.tasks) project is.drawn.makes.plan is.drawn.is
+parts_as Tasks bytes project is = sound_parts (arrows_deck is.tasks) project is.drawn.makes.plan is.drawn.is

@@ -5,7 +5,7 @@ use Rattle.pc_project.specs.deck_text.Written.{migrated}
 use Rattle.pc_project.specs.Figures.{IsProjectOfDeck}
 use Rattle.pc_project.specs.Project.{Project}
 use Rattle.pc_shell.specs.Sides.{Side}
-use Rattle.pc_tasks.specs.Drawn.{drawn}
+use Rattle.pc_tasks.specs.Drawn.{arrows_deck}
 use Rattle.pc_tasks.specs.Text.{KeepsTasks}
 use Rattle.pert_cli.specs.Migrate.{TookDeckOf}
 use Rattle.pert_cli.specs.Tasks.{IsAcceptedTasks}
@@ -16,6 +16,6 @@ pub record TookArrows {X : Type 0} (out : Side X) (deck : List ℕ) : Type 0 whe
   pub tasks : Deck
   pub accepted : IsAcceptedTasks deck tasks
   pub plan : Project
-  pub is : IsProjectOfDeck (drawn tasks) plan
+  pub is : IsProjectOfDeck (arrows_deck tasks) plan
   pub given : TookDeckOf out plan
   pub keeps : KeepsTasks tasks (migrated plan)

@@ -1,7 +1,7 @@
 -- Which deck a form speaks of: that of the source, or one of its own, for which nothing is read; and of which sort it is.
 use Rattle.std.specs.Prelude.{◌≡◌, ℕ, List, Option, Some, None, String}
 use Rattle.std.specs.declared.alloc.Global.{Global}
-use Rattle.pc_curve.specs.bench.Deck.{bench_text}
+use Rattle.pc_curve.specs.bench.Deck.{bench_deck_text}
 use Rattle.pc_cards.specs.declared.sort.Sort.{Sort}
 use Rattle.pc_cards.specs.declared.sort.Sort.TheVariants.{Plan, Tasks}
 use Rattle.pc_faults.specs.declared.fault.Fault.{Fault}
@@ -15,7 +15,7 @@ use Rattle.pert_cli.specs.Words.{AskFor}
 
 -- the deck that a form has of its own; the other forms read that of the source
 abbrev pub own_deck : Form → Option (List ℕ)
-own_deck (Bench n) = Some (bench_text n)
+own_deck (Bench n) = Some (bench_deck_text n)
 own_deck _ = None
 
 -- the sort of the deck that a form speaks of

@@ -17,28 +17,28 @@ use Rattle.pc_project.specs.deck_text.Written.{IsDeckText}
 use Rattle.pert_cli.specs.declared.forms.Form.{Form}
 use Rattle.pert_cli.specs.declared.forms.Form.TheVariants.{Check, Normal, Times, Summary, Value, Curve, Certify, Point, Outlook, Bench, Migrate, Optimum, Arrows, Load}
 use Rattle.pc_shell.specs.Priced.{priced_in}
-use Rattle.pert_cli.specs.Load.{IsTooLong}
+use Rattle.pert_cli.specs.Load.{HasTooManyPeriods}
 use Rattle.pert_cli.specs.Normal.{IsNormalText}
 use Rattle.pert_cli.specs.Optimum.{IsOptimumText}
 use Rattle.pert_cli.specs.Outlook.{IsOutlookReply}
 use Rattle.pert_cli.specs.Point.{IsOutside, IsPointText}
 
 -- the words of a form; the number of a form is in its decimal form
-abbrev pub words_of : Form → List (List ℕ)
-words_of Check = codes "check" ∷ []
-words_of Normal = codes "normal" ∷ []
-words_of Times = codes "times" ∷ []
-words_of Summary = codes "summary" ∷ []
-words_of Value = codes "value" ∷ []
-words_of Curve = codes "curve" ∷ []
-words_of Certify = codes "certify" ∷ []
-words_of (Point limit) = codes "point" ∷ decimal limit ∷ []
-words_of (Outlook limit) = codes "outlook" ∷ decimal limit ∷ []
-words_of (Bench n) = codes "bench" ∷ decimal n ∷ []
-words_of Migrate = codes "migrate" ∷ []
-words_of Optimum = codes "optimum" ∷ []
-words_of Arrows = codes "arrows" ∷ []
-words_of (Load days) = codes "load" ∷ decimal days ∷ []
+abbrev pub form_words : Form → List (List ℕ)
+form_words Check = codes "check" ∷ []
+form_words Normal = codes "normal" ∷ []
+form_words Times = codes "times" ∷ []
+form_words Summary = codes "summary" ∷ []
+form_words Value = codes "value" ∷ []
+form_words Curve = codes "curve" ∷ []
+form_words Certify = codes "certify" ∷ []
+form_words (Point limit) = codes "point" ∷ decimal limit ∷ []
+form_words (Outlook limit) = codes "outlook" ∷ decimal limit ∷ []
+form_words (Bench n) = codes "bench" ∷ decimal n ∷ []
+form_words Migrate = codes "migrate" ∷ []
+form_words Optimum = codes "optimum" ∷ []
+form_words Arrows = codes "arrows" ∷ []
+form_words (Load days) = codes "load" ∷ decimal days ∷ []
 
 -- the number of a form is one that it may have: a length has at most 13 digits, the benchmark's deck 1 to 4,000 activities,
 -- and a period 1 to 3,660 days
@@ -51,7 +51,7 @@ IsNumbered _ = ⊤
 
 -- the words ask for the form: they are its words, and its number is one that they may have
 pub record IsAskedBy (form : Form) (words : List (List ℕ)) : Type 0 where
-  pub are : words ≡ words_of form
+  pub are : words ≡ form_words form
   pub numbered : IsNumbered form
 
 -- the names of the forms, in the order of the usage line
@@ -102,5 +102,5 @@ HasOneText _ = ⊥
 abbrev pub IsDenial : Form → Project → Fault → Type 0
 IsDenial (Point limit) project fault = IsOutside (priced_in project) limit fault
 IsDenial (Outlook limit) project fault = IsOutside (priced_in project) limit fault
-IsDenial (Load days) project fault = IsTooLong project days fault
+IsDenial (Load days) project fault = HasTooManyPeriods project days fault
 IsDenial _ project fault = ⊥

@@ -6,7 +6,7 @@ use Rattle.pc_load.specs.Loading.{IsTooMany}
 use Rattle.pc_project.specs.Project.{Project}
 
 -- the project takes too many periods of so many days, and the fault names how many
-pub record IsTooLong (project : Project) (days : ℕ) (fault : Fault) : Type 0 where
+pub record HasTooManyPeriods (project : Project) (days : ℕ) (fault : Fault) : Type 0 where
   pub have : ℕ
   pub too_many : IsTooMany project days have
   pub is : fault ≡ too_many_periods have

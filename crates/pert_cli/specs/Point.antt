@@ -5,7 +5,7 @@ use Rattle.pc_faults.specs.Faults.{outside_range}
 use Rattle.pc_model.specs.Schedule.{IsSchedule}
 use Rattle.pc_model.specs.Cost.{cost_of}
 use Rattle.pc_crash.specs.Priced.{PricedNetwork, knees_in}
-use Rattle.pc_curve.specs.Range.{IsRange, IsWithin}
+use Rattle.pc_curve.specs.Range.{IsRange, IsLengthInRange}
 use Rattle.pc_project.specs.Project.{Project}
 use Rattle.pc_shell.specs.Priced.{priced_in}
 use Rattle.pert_cli.specs.Normal.{Printed, printed_text}
@@ -35,7 +35,7 @@ pub record IsCheapest (net : PricedNetwork) (printed : Printed) : Type 0 where
 -- the same for this length, which is one of the network
 pub record IsCheapestFor (net : PricedNetwork) (limit : ℕ) (printed : Printed) : Type 0 where
   pub length : printed.length ≡ limit
-  pub within : IsWithin net limit
+  pub within : IsLengthInRange net limit
   pub cheapest : IsCheapest net printed
 
 -- the text is that of a schedule of least cost for the length

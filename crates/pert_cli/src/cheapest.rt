@@ -1,6 +1,6 @@
 //! A schedule of least cost for a length of the project's range.
 ghost use Rattle.std.specs.Prelude.{◌≡◌, ◌≤◌, false, IfOk, IfErr, IfSome, IfNone};
-ghost use Rattle.pc_curve.specs.Range.{IsWithin};
+ghost use Rattle.pc_curve.specs.Range.{IsLengthInRange};
 ghost use Rattle.pc_curve.specs.inside.Points.{HasPlaces, IsToCome};
 ghost use Rattle.pc_faults.specs.inside.FaultText.{IsTold};
 ghost use Rattle.pc_shell.specs.Priced.{priced_in};
@@ -137,7 +137,7 @@ fn fill<L: Ledger>(
 fn outside(solver: &Solver<'_>, limit: u64) -> Option<Fault>
     ensures told { IfSome result IsTold }
     ensures outside { IfSome result (IsOutside solver.now.net limit) }
-    ensures within { IfNone result (IsWithin solver.now.net limit) }
+    ensures within { IfNone result (IsLengthInRange solver.now.net limit) }
     ensures to_come { IfNone result ((solver.now.shortest ≤ limit) × (limit ≤ solver.now.longest)) }
 {
     let shortest = solver.shortest();

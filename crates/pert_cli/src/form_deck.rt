@@ -1,6 +1,6 @@
 //! From the deck of a form to its project, or to why there is none.
 ghost use Rattle.std.specs.Prelude.{◌≤◌, length, IfOk, IfErr};
-ghost use Rattle.pc_curve.specs.bench.Deck.{bench_text};
+ghost use Rattle.pc_curve.specs.bench.Deck.{bench_deck_text};
 ghost use Rattle.pc_deck.specs.Limits.{longest_deck};
 ghost use Rattle.pc_edges.specs.Pulls.{IsReadWithin};
 ghost use Rattle.pc_edges.specs.declared.loading.TheConstants.{STREAM_ROOM};
@@ -93,8 +93,8 @@ fn drawn_in(alloc: Global, key: u128, bytes: &[u8]) -> Result<Project, NoProject
 fn bench_project(alloc: Global, n: u64) -> Result<Project, NoProject>
     requires least { 1 ≤ n }
     requires most { n ≤ MOST_ACTIVITIES }
-    ensures project { IfOk result (IsProjectOf (bench_text n)) }
-    ensures none { IfErr result (IsNoProjectOf (bench_text n)) }
+    ensures project { IfOk result (IsProjectOf (bench_deck_text n)) }
+    ensures none { IfErr result (IsNoProjectOf (bench_deck_text n)) }
 {
     let Ok(deck) = bench_deck(alloc, n) else {
         return Err(NoProject::OutOfMemory);

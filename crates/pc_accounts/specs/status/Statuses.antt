@@ -32,17 +32,17 @@ HasReason start as_of statuses k FinishFirst =
     × ((j : ℕ) × IsFirst (IsOf statuses false (status_at statuses k).activity) j × ((status_at statuses k).day <ℤ (status_at statuses j).day))
 
 -- the order in which reasons are tried
-abbrev pub place_of : StatusFault → ℕ
-place_of Second = 0
-place_of Early = 1
-place_of Late = 2
-place_of NoStart = 3
-place_of FinishFirst = 4
+abbrev pub reason_rank : StatusFault → ℕ
+reason_rank Second = 0
+reason_rank Early = 1
+reason_rank Late = 2
+reason_rank NoStart = 3
+reason_rank FinishFirst = 4
 
 -- the reason that is told: the first that the status has
 pub record IsReason (start as_of : ℤ) (statuses : List StatusRow) (k : ℕ) (reason : StatusFault) : Type 0 where
   pub holds : HasReason start as_of statuses k reason
-  pub first : (other : StatusFault) → place_of other < place_of reason → HasReason start as_of statuses k other → ⊥
+  pub first : (other : StatusFault) → reason_rank other < reason_rank reason → HasReason start as_of statuses k other → ⊥
 
 -- the k-th status is in order
 abbrev pub IsInOrder : ℤ → ℤ → List StatusRow → ℕ → Type 0

@@ -1,8 +1,8 @@
 -- The cards of a deck among its records.
 -- Here is what no clause of a top call and no law reaches.
 use Rattle.std.specs.Prelude.{◌≡◌, ℕ, List, [], ◌∷◌}
-use Rattle.pc_cards.specs.declared.rows.Next.{Next}
-use Rattle.pc_cards.specs.declared.rows.Next.TheVariants.{Card, End}
+use Rattle.pc_cards.specs.declared.rows.NextCard.{NextCard}
+use Rattle.pc_cards.specs.declared.rows.NextCard.TheVariants.{Card, End}
 use Rattle.pc_cards.specs.Cards.{Numbered}
 
 -- the cards that are left to read, and the number behind the last record
@@ -11,6 +11,6 @@ pub record CardsLeft : Type 0 where
   pub end : ℕ
 
 -- what stands next: a card with its fields, and then the others; or the end
-abbrev pub Follows : Next → CardsLeft → CardsLeft → List (List ℕ) → Type 0
+abbrev pub Follows : NextCard → CardsLeft → CardsLeft → List (List ℕ) → Type 0
 Follows (Card row) old new fields = (old.cards ≡ (row, fields) ∷ new.cards) × (old.end ≡ new.end)
 Follows (End row) old new fields = (old.cards ≡ []) × (old.end ≡ row)

@@ -7,7 +7,7 @@ use Rattle.pc_faults.specs.declared.kind.Kind.{Kind}
 use Rattle.pc_faults.specs.declared.fault.Fault.{Fault}
 use Rattle.pc_cards.specs.Forms.{Slot, is_whole, first_misshapen, first_over_limit}
 use Rattle.pc_cards.specs.Named.{is_among}
-use Rattle.pc_cards.specs.declared.place.Place.{Place}
+use Rattle.pc_cards.specs.declared.place.CardPlace.{CardPlace}
 use Rattle.pc_cards.specs.Findings.{width_wanted}
 
 -- the earlier of two findings
@@ -21,11 +21,11 @@ where_so true found = Some found
 where_so false found = None
 
 -- a card behind others of its kind, where there may be one alone
-abbrev pub not_alone : Place → ℕ → Option Fault
+abbrev pub not_alone : CardPlace → ℕ → Option Fault
 not_alone place count = where_so (nat_lt 0 count) (fault.second_card place.row place.kind)
 
 -- F6: too few fields, or too many
-abbrev pub wrong_fields : Place → ℕ → ℕ → List (List ℕ) → Option Fault
+abbrev pub wrong_fields : CardPlace → ℕ → ℕ → List (List ℕ) → Option Fault
 wrong_fields place least most fields =
     where_so (not (is_whole least most fields)) (fault.wrong_fields place.row place.kind (length fields) (width_wanted least most fields))
 
@@ -53,16 +53,16 @@ one_too_many kind row count None = None
 one_too_many kind row count (Some limit) = where_so (count == limit) (fault.too_many row kind limit)
 
 -- F10 and F11, of a card behind so many of its kind
-abbrev pub fault_of_place : Place → ℕ → Option Fault
+abbrev pub fault_of_place : CardPlace → ℕ → Option Fault
 fault_of_place place count = or_else (one_too_many place.kind place.row count place.limit) (where_so place.has_ended (fault.behind_end place.row))
 
 -- F6 to F8 and F10 and F11
-abbrev pub fault_of_listed : Place → ℕ → ℕ → ℕ → List Slot → List (List ℕ) → Option Fault
+abbrev pub fault_of_listed : CardPlace → ℕ → ℕ → ℕ → List Slot → List (List ℕ) → Option Fault
 fault_of_listed place count least most slots fields =
     or_else (wrong_fields place least most fields) (or_else (flaw_of_fields place.row slots fields) (fault_of_place place count))
 
 -- F6 to F11
-abbrev pub fault_of_named : Place → List (List ℕ) → ℕ → ℕ → ℕ → List Slot → List (List ℕ) → Option Fault
+abbrev pub fault_of_named : CardPlace → List (List ℕ) → ℕ → ℕ → ℕ → List Slot → List (List ℕ) → Option Fault
 fault_of_named place codes count least most slots fields =
     or_else (wrong_fields place least most fields)
     (or_else (flaw_of_fields place.row slots fields) (or_else (repeated place.row codes (field_at fields 1)) (fault_of_place place count)))

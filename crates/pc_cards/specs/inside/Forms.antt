@@ -4,7 +4,7 @@ use Rattle.std.specs.Prelude.{◌≡◌, ℕ, Bool, true, false, List, [], ◌�
 use Rattle.pc_cards.specs.declared.field.Flaw.{Flaw}
 use Rattle.pc_cards.specs.declared.field.Flaw.TheVariants as flaw
 use Rattle.pc_cards.specs.declared.field.Misfit.{Misfit}
-use Rattle.pc_cards.specs.declared.form.Form.{Form}
+use Rattle.pc_cards.specs.declared.form.FieldForm.{FieldForm}
 use Rattle.pc_cards.specs.Forms.{Slot, has_shape, is_over_limit, field_numbered, Fits}
 
 -- whether it is the shape that is wrong
@@ -13,11 +13,11 @@ is_of_shape flaw.Shape = true
 is_of_shape flaw.Limit = false
 
 -- what is wrong with a field that must be this, if anything is
-abbrev pub flaw_of : Form → List ℕ → Option Flaw
+abbrev pub flaw_of : FieldForm → List ℕ → Option Flaw
 flaw_of form field = if has_shape form field then (if is_over_limit form field then Some flaw.Limit else None) else Some flaw.Shape
 
 -- this is what is wrong with the field that has the number and must be this
-abbrev pub IsMisfit : ℕ → Form → List ℕ → Misfit → Type 0
+abbrev pub IsMisfit : ℕ → FieldForm → List ℕ → Misfit → Type 0
 IsMisfit number form field misfit = (number ≡ misfit.number) × (flaw_of form field ≡ Some misfit.flaw)
 
 -- this is the first of the fields that is not what it must be

@@ -4,7 +4,7 @@ use Rattle.std.specs.Prelude.{◌≡◌, ℕ, false, List, All}
 use Rattle.pc_model.specs.Schedule.{IsAllNormalLength, IsAllCrashLength}
 use Rattle.pc_laws.specs.Segment.{Segment}
 use Rattle.pc_laws.specs.Cover.{IsFront}
-use Rattle.pc_cert.specs.Text.{text_of, AllFit}
+use Rattle.pc_cert.specs.Text.{text_of, AreWritable}
 use Rattle.pc_crash.specs.Priced.{PricedNetwork, knees_in}
 use Rattle.pc_edges.specs.inside.page.Puts.{Desk, Adds}
 use Rattle.pc_cert.specs.Document.{head_lines, segment_lines}
@@ -25,7 +25,7 @@ pub record IsAtTop (net : PricedNetwork) (course : Course) : Type 0 where
 
 -- each segment's lines can be spelled
 abbrev pub CanBeSpelled : PricedNetwork → List Segment → Type 0
-CanBeSpelled net segments = All (λ seg. AllFit (segment_lines net seg)) segments
+CanBeSpelled net segments = All (λ seg. AreWritable (segment_lines net seg)) segments
 
 -- a certificate's head was put on a page, and segments from the all-normal length down to the all-crash length
 pub record IsPutDown (net : PricedNetwork) (normal crash : List ℕ) (old new : Desk) : Type 0 where
@@ -36,5 +36,5 @@ pub record IsPutDown (net : PricedNetwork) (normal crash : List ℕ) (old new : 
   pub segments : List Segment
   pub front : IsFront net.network net.terms (knees_in net) segments high low
   pub text : Adds old new (text_of (begun_lines net normal crash segments))
-  pub head_fits : AllFit (head_lines net normal crash)
+  pub head_fits : AreWritable (head_lines net normal crash)
   pub fit : CanBeSpelled net segments

@@ -4,7 +4,7 @@ use Rattle.std.specs.Prelude.{List, ℕ, [], ◌∷◌, ◌++◌, codes}
 use Rattle.std.specs.List.{flat_map}
 use Rattle.pc_model.specs.Worked.{small_net, small_terms, small_pieces}
 use Rattle.pc_laws.specs.Segment.{Segment}
-use Rattle.pc_laws.specs.Worked.{listed}
+use Rattle.pc_laws.specs.Worked.{worked_segment}
 use Rattle.pc_crash.specs.Priced.{PricedNetwork}
 
 -- the deck with one slope each
@@ -28,10 +28,10 @@ along_a_and_b = 0 ∷ 1 ∷ []
 
 -- its two segments with one slope each
 abbrev pub upper_segment : Segment
-upper_segment = listed 9 7 45 3 (0 ∷ 4 ∷ 9 ∷ []) (0 ∷ 1 ∷ 1 ∷ []) (4 ∷ 5 ∷ 7 ∷ []) ((3 ∷ []) ∷ (3 ∷ []) ∷ (0 ∷ []) ∷ []) []
+upper_segment = worked_segment 9 7 45 3 (0 ∷ 4 ∷ 9 ∷ []) (0 ∷ 1 ∷ 1 ∷ []) (4 ∷ 5 ∷ 7 ∷ []) ((3 ∷ []) ∷ (3 ∷ []) ∷ (0 ∷ []) ∷ []) []
 
 abbrev pub lower_segment : Segment
-lower_segment = listed 7 5 51 7 (0 ∷ 2 ∷ 7 ∷ []) (0 ∷ 0 ∷ 1 ∷ []) (2 ∷ 5 ∷ 7 ∷ []) ((3 ∷ []) ∷ (5 ∷ []) ∷ (2 ∷ []) ∷ []) (2 ∷ 0 ∷ 0 ∷ [])
+lower_segment = worked_segment 7 5 51 7 (0 ∷ 2 ∷ 7 ∷ []) (0 ∷ 0 ∷ 1 ∷ []) (2 ∷ 5 ∷ 7 ∷ []) ((3 ∷ []) ∷ (5 ∷ []) ∷ (2 ∷ []) ∷ []) (2 ∷ 0 ∷ 0 ∷ [])
 
 -- the text with these lines
 abbrev pub text_with : List (List ℕ) → List ℕ

@@ -15,10 +15,10 @@ use Rattle.pc_check.specs.inside.Walks.{sum_of}
 -- one more step of the walk that has begun
 pub record AddsStep (net : PricedNetwork) (code : List ℕ) (old new : Kept) : Type 0 where
   pub rest : new ≡ record old { normal = new.normal; crash = new.crash }
-  pub normal : new.normal ≡ (if old.has_normal then old.normal else stepped net (length_in net false) old.normal code)
-  pub crash : new.crash ≡ (if old.has_normal then stepped net (length_in net true) old.crash code else old.crash)
-  pub short_normal : sum_of new.normal ≤ sum_of old.normal + (if old.has_normal then 0 else MAX_DURATION)
-  pub short_crash : sum_of new.crash ≤ sum_of old.crash + (if old.has_normal then MAX_DURATION else 0)
+  pub normal : new.normal ≡ (if old.crash_walk_started then old.normal else stepped net (length_in net false) old.normal code)
+  pub crash : new.crash ≡ (if old.crash_walk_started then stepped net (length_in net true) old.crash code else old.crash)
+  pub short_normal : sum_of new.normal ≤ sum_of old.normal + (if old.crash_walk_started then 0 else MAX_DURATION)
+  pub short_crash : sum_of new.crash ≤ sum_of old.crash + (if old.crash_walk_started then MAX_DURATION else 0)
 
 -- one more event
 pub record AddsEvent (time : ℕ) (moves : Bool) (old new : Tally) : Type 0 where
@@ -33,7 +33,7 @@ KeepsAllBut old new = new ≡ record old { tally = new.tally }
 -- what a line adds
 abbrev pub Adds : PricedNetwork → CertLine → Kept → Kept → Type 0
 Adds net (Step code) old new = AddsStep net code old new
-Adds net Crash old new = new ≡ record old { has_normal = true }
+Adds net Crash old new = new ≡ record old { crash_walk_started = true }
 Adds net (Segment upper lower cost slope) old new = KeepsAllBut old new × IsBegun upper lower cost slope new.tally
 Adds net (Event code time moves) old new = KeepsAllBut old new × AddsEvent time moves old.tally new.tally
 Adds net (Act code duration flows) old new = KeepsAllBut old new × AddsAct net old.tally duration flows new.tally

@@ -6,7 +6,7 @@ use Rattle.pc_cert.specs.Grammar.{next}
 use Rattle.pc_cert.specs.inside.Grammar.{IsRow}
 use Rattle.pc_cert.specs.inside.Known.{IsAgain}
 use Rattle.pc_crash.specs.Priced.{PricedNetwork}
-use Rattle.pc_check.specs.declared.again.Ends.{Ends}
+use Rattle.pc_check.specs.declared.again.EndEvents.{EndEvents}
 use Rattle.pc_check.specs.declared.kept.Kept.{Kept}
 use Rattle.pc_check.specs.inside.Advances.{Adds}
 use Rattle.pc_check.specs.inside.Checking.{Checking}
@@ -33,6 +33,6 @@ abbrev pub going : PricedNetwork → Kept → Checking
 going net kept = record { net = net; kept = kept; fail = None }
 
 -- the start and the end are those of the network
-pub record AreEnds (net : PricedNetwork) (ends : Ends) : Type 0 where
+pub record AreEnds (net : PricedNetwork) (ends : EndEvents) : Type 0 where
   pub start : ends.start ≡ net.network.start
   pub last : ends.end ≡ net.network.end

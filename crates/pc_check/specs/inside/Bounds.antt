@@ -21,14 +21,14 @@ pub record IsShaped (n m : ℕ) (shape : Shape) : Type 0 where
 
 -- no segment has come, and the normal walk has come so far
 pub record IsInNormal (n steps : ℕ) (kept : Kept) : Type 0 where
-  pub normal : kept.has_normal ≡ false
+  pub normal : kept.crash_walk_started ≡ false
   pub none : kept.parts ≡ 0
   pub short : sum_of kept.normal + steps * MAX_DURATION ≤ longest_walk n
   pub nothing : sum_of kept.crash ≡ 0
 
 -- no segment has come, the normal walk is whole, and the crash walk has come so far
 pub record IsInCrash (n steps : ℕ) (kept : Kept) : Type 0 where
-  pub normal : kept.has_normal ≡ true
+  pub normal : kept.crash_walk_started ≡ true
   pub none : kept.parts ≡ 0
   pub whole : sum_of kept.normal ≤ longest_walk n
   pub short : sum_of kept.crash + steps * MAX_DURATION ≤ longest_walk n

@@ -41,7 +41,7 @@ pub record IsTallied (net : PricedNetwork) (part : Part) (tally : Tally) : Type 
 pub record IsKept (net : PricedNetwork) (draft : Draft) (kept : Kept) : Type 0 where
   pub normal : kept.normal ≡ (said net draft).normal
   pub crash : kept.crash ≡ (said net draft).crash
-  pub has_normal : kept.has_normal ≡ draft.has_normal
+  pub crash_walk_started : kept.crash_walk_started ≡ draft.crash_walk_started
   pub parts : kept.parts ≡ length draft.parts
   pub tally : IsTallied net draft.part kept.tally
 

@@ -24,7 +24,7 @@ abbrev pub known_by : Kept → Known
 known_by kept = record {
   normal = kept.normal;
   crash = kept.crash;
-  has_normal = kept.has_normal;
+  crash_walk_started = kept.crash_walk_started;
   parts = kept.parts;
   upper = kept.tally.upper;
   lower = kept.tally.lower;

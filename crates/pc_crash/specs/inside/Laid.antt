@@ -8,19 +8,19 @@ use Rattle.pc_model.specs.declared.limits.TheConstants.{MAX_PIECES_EACH}
 use Rattle.pc_model.specs.Pieces.{pieces_of}
 use Rattle.pc_model.specs.Schedule.{term_at}
 use Rattle.pc_model.specs.Walk.{arc_at}
-use Rattle.pc_crash.specs.declared.laying.Row.{Row}
+use Rattle.pc_crash.specs.declared.laying.PriceRow.{PriceRow}
 use Rattle.pc_crash.specs.inside.KneeLists.{knee_list}
 
 -- the row of activity a; past their end one of zeros
-abbrev pub row_at : List Row → ℕ → Row
+abbrev pub row_at : List PriceRow → ℕ → PriceRow
 row_at rows a = slice_index_or rows a (record { arc = record { from = 0; to = 0 }; term = record { normal = 0; crash = 0; cost = 0; slope = 0 }; first = 0; count = 0 })
 
 -- the knees that belong to a row
-abbrev pub part_of : List Knee → Row → List Knee
+abbrev pub part_of : List Knee → PriceRow → List Knee
 part_of knees row = slice_range knees row.first (row.first + row.count)
 
 -- the row is that of activity a
-pub record IsRowOf (arcs : List Arc) (terms : List Term) (pieces : List PieceRow) (knees : List Knee) (a : ℕ) (row : Row) : Type 0 where
+pub record IsRowOf (arcs : List Arc) (terms : List Term) (pieces : List PieceRow) (knees : List Knee) (a : ℕ) (row : PriceRow) : Type 0 where
   pub arc : row.arc ≡ arc_at arcs a
   pub term : row.term ≡ term_at terms a
   pub within : row.first + row.count ≤ length knees
@@ -28,7 +28,7 @@ pub record IsRowOf (arcs : List Arc) (terms : List Term) (pieces : List PieceRow
   pub part : part_of knees row ≡ knee_list (term_at terms a) (pieces_of pieces a)
 
 -- a row for each of the first n activities, and the knees of each before those of the next
-pub record AreLaid (arcs : List Arc) (terms : List Term) (pieces : List PieceRow) (n : ℕ) (rows : List Row) (knees : List Knee) : Type 0 where
+pub record AreLaid (arcs : List Arc) (terms : List Term) (pieces : List PieceRow) (n : ℕ) (rows : List PriceRow) (knees : List Knee) : Type 0 where
   pub one_each : length rows ≡ n
   pub same_terms : map (λ row. row.term) rows ≡ take n terms
   pub small : length knees ≤ n * (MAX_PIECES_EACH + 1)

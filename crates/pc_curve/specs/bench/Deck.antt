@@ -2,8 +2,8 @@
 use Rattle.std.specs.Prelude.{ℕ, ◌+◌, List, [], ◌∷◌, ◌++◌, codes, decimal}
 use Rattle.pc_edges.specs.Texts.{texts_to}
 use Rattle.pc_model.specs.Sums.{sum_to}
-use Rattle.pc_curve.specs.declared.bench.activity.Activity.{Activity}
-use Rattle.pc_curve.specs.bench.Recipe.{last_event, activity}
+use Rattle.pc_curve.specs.declared.bench.activity.BenchActivity.{BenchActivity}
+use Rattle.pc_curve.specs.bench.Recipe.{bench_last_event, activity}
 
 -- a card: its fields with commas between them, and the end of the line
 abbrev pub card : List (List ℕ) → List ℕ
@@ -27,11 +27,11 @@ abbrev pub item_line : List ℕ
 item_line = card (codes "WBS" ∷ codes "1" ∷ [] ∷ codes "Bench" ∷ [])
 
 -- the card of an event
-abbrev pub event_line : ℕ → List ℕ
-event_line e = card (codes "EVENT" ∷ event_code e ∷ [] ∷ [])
+abbrev pub bench_event_line : ℕ → List ℕ
+bench_event_line e = card (codes "EVENT" ∷ event_code e ∷ [] ∷ [])
 
 -- the card of an activity: its three estimates are its normal duration
-abbrev pub activity_line : ℕ → Activity → List ℕ
+abbrev pub activity_line : ℕ → BenchActivity → List ℕ
 activity_line i a =
     card (codes "ACT" ∷ activity_code i ∷ event_code a.from ∷ event_code a.to ∷ codes "1" ∷ decimal a.normal ∷ decimal a.normal ∷ decimal a.normal
     ∷ decimal a.normal ∷ decimal a.crash ∷ decimal a.cost ∷ decimal a.slope ∷ [] ∷ [])
@@ -44,19 +44,19 @@ all_costs n = sum_to n (λ k. (activity n (k + 1)).cost)
 abbrev pub account_line : ℕ → List ℕ
 account_line budget = card (codes "ACCT" ∷ codes "X" ∷ codes "1" ∷ decimal budget ∷ [] ∷ [])
 
-abbrev pub last_line : List ℕ
-last_line = card (codes "END" ∷ [])
+abbrev pub end_line : List ℕ
+end_line = card (codes "END" ∷ [])
 
 -- the parts of the deck: the events from 0 to the last one, the activities from 1, the account and the end
 abbrev pub events_text : ℕ → List ℕ
-events_text last = texts_to (last + 1) event_line
+events_text last = texts_to (last + 1) bench_event_line
 
 abbrev pub activities_text : ℕ → List ℕ
 activities_text n = texts_to n (λ k. activity_line (k + 1) (activity n (k + 1)))
 
 abbrev pub end_text : ℕ → List ℕ
-end_text costs = account_line costs ++ last_line
+end_text costs = account_line costs ++ end_line
 
 -- the deck of n activities
-abbrev pub bench_text : ℕ → List ℕ
-bench_text n = (((project_line (last_event n) ++ item_line) ++ events_text (last_event n)) ++ activities_text n) ++ end_text (all_costs n)
+abbrev pub bench_deck_text : ℕ → List ℕ
+bench_deck_text n = (((project_line (bench_last_event n) ++ item_line) ++ events_text (bench_last_event n)) ++ activities_text n) ++ end_text (all_costs n)

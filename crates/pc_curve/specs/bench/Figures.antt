@@ -5,7 +5,7 @@ use Rattle.pc_model.specs.Schedule.{IsAllNormalLength, IsAllCrashLength}
 use Rattle.pc_laws.specs.Curve.{Breakpoint, AreBreakpoints}
 use Rattle.pc_crash.specs.Priced.{PricedNetwork}
 use Rattle.pc_curve.specs.Points.{curve_in}
-use Rattle.pc_curve.specs.declared.bench.figures.Figures.{Figures}
+use Rattle.pc_curve.specs.declared.bench.figures.CurveFigures.{CurveFigures}
 
 -- this is the sum of the least costs of all lengths from the longest down to the shortest
 pub record IsSumOfCosts (curve : ℕ → ℕ → Type 0) (shortest longest sum : ℕ) : Type 0 where
@@ -20,7 +20,7 @@ pub record HasBreaks (curve : ℕ → ℕ → Type 0) (shortest longest number :
   pub count : number ≡ length points
 
 -- these are the figures of the network's curve
-pub record IsFiguresOf (net : PricedNetwork) (f : Figures) : Type 0 where
+pub record IsFiguresOf (net : PricedNetwork) (f : CurveFigures) : Type 0 where
   pub all_normal : IsAllNormalLength net.network net.terms f.longest
   pub longest_cost : curve_in net f.longest f.longest_cost
   pub all_crash : IsAllCrashLength net.network net.terms f.shortest

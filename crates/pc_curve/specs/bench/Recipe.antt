@@ -1,16 +1,16 @@
 -- What the benchmark's deck of n activities is made of. Its events are numbered from 0 and its activities from 1; the draws
 -- begin behind n, and the activities draw one after the other.
 use Rattle.std.specs.Prelude.{ℕ, ◌+◌, ◌-◌, ◌*◌, ◌/◌, ◌%◌, min, nat_le, if◌then◌else◌}
-use Rattle.pc_curve.specs.declared.bench.activity.Activity.{Activity}
+use Rattle.pc_curve.specs.declared.bench.activity.BenchActivity.{BenchActivity}
 use Rattle.pc_curve.specs.bench.Draws.{drawn}
 
 -- the number of the last event: half of n, rounded up
-abbrev pub last_event : ℕ → ℕ
-last_event n = (n + 1) / 2
+abbrev pub bench_last_event : ℕ → ℕ
+bench_last_event n = (n + 1) / 2
 
 -- how many draws the activities up to the i-th make: four each, and two more those behind the last event's number
 abbrev pub draws_to : ℕ → ℕ → ℕ
-draws_to n i = 4 * i + 2 * (i - last_event n)
+draws_to n i = 4 * i + 2 * (i - bench_last_event n)
 
 -- the k-th draw of activity i
 abbrev pub draw_of : ℕ → ℕ → ℕ → ℕ
@@ -18,23 +18,23 @@ draw_of n i k = drawn n (draws_to n (i - 1) + k)
 
 -- the k-th draw of activity i behind those for its events
 abbrev pub own_draw : ℕ → ℕ → ℕ → ℕ
-own_draw n i k = draw_of n i ((if nat_le i (last_event n) then 0 else 2) + k)
+own_draw n i k = draw_of n i ((if nat_le i (bench_last_event n) then 0 else 2) + k)
 
 -- where activity i begins: the first ones lead in a row from each event to the next, the others begin at an event that is
 -- drawn, but not at the last one
 abbrev pub begins_at : ℕ → ℕ → ℕ
-begins_at n i = if nat_le i (last_event n) then i - 1 else draw_of n i 1 % last_event n
+begins_at n i = if nat_le i (bench_last_event n) then i - 1 else draw_of n i 1 % bench_last_event n
 
 -- where it ends: the others end one to four events further on, as far as there are so many
 abbrev pub ends_at : ℕ → ℕ → ℕ
-ends_at n i = if nat_le i (last_event n) then i else min (last_event n) (begins_at n i + 1 + draw_of n i 2 % 4)
+ends_at n i = if nat_le i (bench_last_event n) then i else min (bench_last_event n) (begins_at n i + 1 + draw_of n i 2 % 4)
 
 -- its normal duration: 1 to 20 for each event that it goes on
 abbrev pub normal_in : ℕ → ℕ → ℕ
 normal_in n i = (ends_at n i - begins_at n i) * (1 + own_draw n i 1 % 20)
 
 -- activity i
-abbrev pub activity : ℕ → ℕ → Activity
+abbrev pub activity : ℕ → ℕ → BenchActivity
 activity n i = record {
   from = begins_at n i;
   to = ends_at n i;

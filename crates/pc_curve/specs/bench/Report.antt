@@ -1,7 +1,7 @@
 -- What the benchmark prints.
 use Rattle.std.specs.Prelude.{◌≡◌, ℕ, List, [], ◌∷◌, ◌++◌, codes, decimal}
 use Rattle.pc_crash.specs.Priced.{PricedNetwork}
-use Rattle.pc_curve.specs.declared.bench.figures.Figures.{Figures}
+use Rattle.pc_curve.specs.declared.bench.figures.CurveFigures.{CurveFigures}
 use Rattle.pc_curve.specs.bench.Figures.{IsFiguresOf}
 
 -- a name and a number
@@ -13,7 +13,7 @@ abbrev pub point_line : List ℕ → ℕ → ℕ → List ℕ
 point_line name length cost = name ++ (decimal length ++ (32 ∷ (decimal cost ++ 10 ∷ [])))
 
 -- the lines of the benchmark of n activities
-abbrev pub bench_text : ℕ → Figures → List ℕ
+abbrev pub bench_text : ℕ → CurveFigures → List ℕ
 bench_text n f =
     count_line (codes "BENCH ") n
     ++ (point_line (codes "NORMAL ") f.longest f.longest_cost
@@ -21,6 +21,6 @@ bench_text n f =
 
 -- the text is that of the figures of the network's curve
 pub record IsBenchText (n : ℕ) (net : PricedNetwork) (text : List ℕ) : Type 0 where
-  pub figures : Figures
+  pub figures : CurveFigures
   pub right : IsFiguresOf net figures
   pub is : text ≡ bench_text n figures

@@ -1,7 +1,7 @@
 //! What is drawn of an activity.
 ghost use Rattle.std.specs.Prelude.{◌≡◌, ◌-◌, ◌<◌, ◌≤◌};
 ghost use Rattle.pc_curve.specs.bench.Draws.{drawn};
-ghost use Rattle.pc_curve.specs.bench.Recipe.{activity, begins_at, draws_to, ends_at, last_event, own_draw};
+ghost use Rattle.pc_curve.specs.bench.Recipe.{activity, begins_at, draws_to, ends_at, bench_last_event, own_draw};
 ghost use Rattle.pc_curve.specs.declared.bench.deck.TheConstants.{MOST_ACTIVITIES};
 
 use crate::bench::deck::MOST_ACTIVITIES;
@@ -9,7 +9,7 @@ use crate::bench::draws::Draws;
 
 /// An activity of the benchmark's deck: between which events it leads, how long it lasts, in units, and what it costs.
 #[derive(Clone, Copy)]
-pub(in crate::bench) struct Activity {
+pub(in crate::bench) struct BenchActivity {
     pub(in crate::bench) from: u64,
     pub(in crate::bench) to: u64,
     pub(in crate::bench) normal: u64,
@@ -21,13 +21,13 @@ pub(in crate::bench) struct Activity {
 /// The number of the last event of a deck of `n` activities.
 pub(in crate::bench) fn last_event(n: u64) -> u64
     requires { n ≤ MOST_ACTIVITIES }
-    ensures { result ≡ last_event n }
+    ensures { result ≡ bench_last_event n }
 {
     (n + 1) / 2
 }
 
 /// Draws activity `i` of `n`, from 1, where those before it have made their draws.
-pub(in crate::bench) fn draw_activity(draws: &mut Draws, n: u64, i: u64) -> Activity
+pub(in crate::bench) fn draw_activity(draws: &mut Draws, n: u64, i: u64) -> BenchActivity
     requires most { n ≤ MOST_ACTIVITIES }
     requires first { 0 < i }
     requires last { i ≤ n }
@@ -38,7 +38,7 @@ pub(in crate::bench) fn draw_activity(draws: &mut Draws, n: u64, i: u64) -> Acti
     let (from, to) = draw_ends(draws, n, i);
     let normal = (to - from) * (1 + draws.next() % 20);
     let crash = draws.next() % (normal + 1);
-    Activity {
+    BenchActivity {
         from,
         to,
         normal,
@@ -58,7 +58,7 @@ fn draw_ends(draws: &mut Draws, n: u64, i: u64) -> (u64, u64)
     ensures ends { result.1 ≡ ends_at n i }
     ensures draws { draws.new ≡ own_draw n i 0 }
     ensures order { result.0 < result.1 }
-    ensures small { result.1 ≤ last_event n }
+    ensures small { result.1 ≤ bench_last_event n }
 {
     let last = last_event(n);
     if i <= last {

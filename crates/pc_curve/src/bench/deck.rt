@@ -1,8 +1,8 @@
 //! The text of the deck.
 ghost use Rattle.std.specs.Prelude.{◌≡◌, ◌≤◌, ◌++◌, IfOk, OnOk, string_bytes};
-ghost use Rattle.pc_curve.specs.bench.Deck.{activities_text, activity_line, all_costs, bench_text, end_text, events_text, item_line, project_line};
+ghost use Rattle.pc_curve.specs.bench.Deck.{activities_text, activity_line, all_costs, bench_deck_text, end_text, events_text, item_line, project_line};
 
-use crate::bench::activity::{Activity, draw_activity, last_event};
+use crate::bench::activity::{BenchActivity, draw_activity, last_event};
 use crate::bench::draws::Draws;
 use std::alloc::{AllocError, Global};
 
@@ -16,7 +16,7 @@ pub const MOST_ACTIVITIES: u64 = 4_000;
 pub fn bench_deck(alloc: Global, n: u64) -> Result<Vec<u8>, AllocError>
     requires least { 1 ≤ n }
     requires most { n ≤ MOST_ACTIVITIES }
-    ensures { IfOk result (λ deck. deck.items ≡ bench_text n) }
+    ensures { IfOk result (λ deck. deck.items ≡ bench_deck_text n) }
 {
     let mut deck = String::new(alloc);
     let last = last_event(n);
@@ -70,10 +70,10 @@ fn write_activities(deck: &mut String, n: u64) -> Result<u64, AllocError>
 }
 
 /// Writes the card of an activity.
-fn write_activity(deck: &mut String, i: u64, activity: Activity) -> Result<(), AllocError>
+fn write_activity(deck: &mut String, i: u64, activity: BenchActivity) -> Result<(), AllocError>
     ensures { OnOk result (string_bytes deck.new ≡ string_bytes deck.old ++ activity_line i activity) }
 {
-    let Activity {
+    let BenchActivity {
         from,
         to,
         normal,

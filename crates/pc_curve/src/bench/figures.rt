@@ -14,7 +14,7 @@ use std::sync::ledger::Ledger;
 
 /// The figures of a curve.
 #[derive(Clone, Copy, Debug, PartialEq, Eq)]
-pub struct Figures {
+pub struct CurveFigures {
     /// The all-normal length, in units.
     pub longest: u64,
     /// Its least cost.
@@ -31,7 +31,7 @@ pub struct Figures {
 
 /// What the segments so far come to.
 #[derive(Clone, Copy)]
-pub(in crate::bench) struct Tally {
+pub(in crate::bench) struct CurveTally {
     /// The slope of the last one.
     pub(in crate::bench) slope: u64,
     /// How many breakpoints lie above its lower end.
@@ -44,7 +44,7 @@ pub(in crate::bench) struct Tally {
 ///
 /// A few steps a segment, and at most four looks at each activity for each unit by which the slope rises or the lower
 /// end comes down. It takes no memory.
-pub fn figures_of<L: Ledger>(solver: &mut Solver<'_>, steps: &mut Steps<L>) -> Figures
+pub fn figures_of<L: Ledger>(solver: &mut Solver<'_>, steps: &mut Steps<L>) -> CurveFigures
     requires { solver.old.given ≡ false }
     ensures figures { IsFiguresOf solver.old.net result }
     ensures same { IsSameCurve solver.old solver.new }
@@ -61,7 +61,7 @@ pub fn figures_of<L: Ledger>(solver: &mut Solver<'_>, steps: &mut Steps<L>) -> F
     while solver.next_segment(steps) {
         tally = next_tally(tally, solver);
     }
-    Figures {
+    CurveFigures {
         longest,
         longest_cost,
         shortest,
@@ -91,12 +91,12 @@ fn lower_ends(shortest: u64, longest: u64) -> u64
 }
 
 /// What the first segment comes to.
-fn first_tally(solver: &Solver<'_>) -> Tally
+fn first_tally(solver: &Solver<'_>) -> CurveTally
     requires given { solver.now.given ≡ true }
     requires small { IsSmall (present solver.now) }
     ensures { result ≡ first_tally (present solver.now) }
 {
-    Tally {
+    CurveTally {
         slope: solver.slope(),
         breaks: 1,
         sum: solver.cost() as u128 + costs_below(solver),
@@ -104,14 +104,14 @@ fn first_tally(solver: &Solver<'_>) -> Tally
 }
 
 /// What it comes to with one segment more.
-fn next_tally(tally: Tally, solver: &Solver<'_>) -> Tally
+fn next_tally(tally: CurveTally, solver: &Solver<'_>) -> CurveTally
     requires given { solver.now.given ≡ true }
     requires small { IsSmall (present solver.now) }
     requires room { HasRoomFor tally (present solver.now) }
     ensures { result ≡ next_tally tally (present solver.now) }
 {
     let slope = solver.slope();
-    Tally {
+    CurveTally {
         slope,
         breaks: tally.breaks + turns(tally.slope, slope),
         sum: tally.sum + costs_below(solver),

@@ -7,5 +7,5 @@ mod figures;
 mod report;
 
 pub use deck::{MOST_ACTIVITIES, bench_deck};
-pub use figures::{Figures, figures_of};
+pub use figures::{CurveFigures, figures_of};
 pub use report::write_bench;

@@ -6,7 +6,7 @@ ghost use Rattle.pc_edges.specs.inside.page.Page.{fresh};
 ghost use Rattle.pc_edges.specs.inside.page.Puts.{Puts};
 ghost use Rattle.pc_curve.specs.bench.Report.{IsBenchText, bench_text, count_line, point_line};
 
-use crate::bench::figures::{Figures, figures_of};
+use crate::bench::figures::{CurveFigures, figures_of};
 use pc_crash::Steps;
 use pc_edges::page::Page;
 use pc_edges::{Failed, Sink};
@@ -42,7 +42,7 @@ pub fn write_bench<O: Sink, L: Ledger>(
 }
 
 /// Puts the lines of the figures.
-fn put_figures<O: Sink>(page: &mut Page, sink: &mut O, n: u64, figures: &Figures)
+fn put_figures<O: Sink>(page: &mut Page, sink: &mut O, n: u64, figures: &CurveFigures)
     ensures { Puts O.taken O.faults page.old sink.old page.new sink.new (bench_text n figures.now) }
 {
     put_count(page, sink, b"BENCH ", n as u128);

@@ -6,13 +6,13 @@ use Rattle.pc_faults.specs.Faults as fault
 use Rattle.pc_faults.specs.declared.kind.Kind.{Kind}
 use Rattle.pc_faults.specs.declared.fault.Fault.{Fault}
 use Rattle.pc_cards.specs.inside.Findings.{or_else, where_so, fault_of_named}
-use Rattle.pc_cards.specs.declared.place.Place.{Place}
+use Rattle.pc_cards.specs.declared.place.CardPlace.{CardPlace}
 use Rattle.pc_deck.specs.Kinds.{kind_of, stands_once, least_width_of, limit_of, slots_of, width_of}
 use Rattle.pc_deck.specs.inside.Kinds.{is_project}
 use Rattle.pc_deck.specs.Judged.{Seen}
 
 -- where a card of a kind stands behind those that were seen
-abbrev pub place_of : Seen → Kind → ℕ → Place
+abbrev pub place_of : Seen → Kind → ℕ → CardPlace
 place_of seen kind row = record { sort = seen.sort; kind = kind; row = row; limit = limit_of seen.sort seen.version kind; has_ended = seen.has_ended }
 
 -- F3: the first card, and not PROJECT
@@ -20,11 +20,11 @@ abbrev pub not_project : Seen → Kind → ℕ → Option Fault
 not_project seen kind row = where_so (seen.is_first && not (is_project kind)) (fault.first_not_project row)
 
 -- F5: a second card of a kind that stands once
-abbrev pub second : Place → ℕ → Option Fault
+abbrev pub second : CardPlace → ℕ → Option Fault
 second place count = where_so (stands_once place.kind && nat_lt 0 count) (fault.second_card place.row place.kind)
 
 -- F5 to F11, of a card of a kind
-abbrev pub fault_at : Place → ℕ → List (List ℕ) → List (List ℕ) → Option Fault
+abbrev pub fault_at : CardPlace → ℕ → List (List ℕ) → List (List ℕ) → Option Fault
 fault_at place count codes fields =
     or_else (second place count) (fault_of_named place codes count (least_width_of place.kind) (width_of place.kind) (slots_of place.sort place.kind) fields)
 

@@ -12,7 +12,7 @@ use Rattle.pc_deck.specs.inside.Kinds.{is_end, is_project, no_lists, lists_and}
 use Rattle.pc_cards.specs.Named.{as_list}
 use Rattle.pc_deck.specs.Judged.{Seen}
 use Rattle.pc_deck.specs.inside.Judged.{judge}
-use Rattle.pc_deck.specs.Project.{project_of}
+use Rattle.pc_deck.specs.Project.{project_card}
 use Rattle.pc_deck.specs.declared.kinds.project.ProjectCard.{ProjectCard}
 use Rattle.pc_deck.specs.declared.draft.Draft.{Draft}
 use Rattle.pc_cards.specs.declared.sort.Sort.{Sort}
@@ -25,7 +25,7 @@ no_cards sort = record { sort = sort; project = None; lists = no_lists; has_ende
 abbrev pub with_card : Draft → Kind → ℕ → List (List ℕ) → Draft
 with_card draft kind row fields = record {
   sort = draft.sort;
-  project = if is_project kind then Some (project_of row fields) else draft.project;
+  project = if is_project kind then Some (project_card row fields) else draft.project;
   lists = lists_and draft.lists kind row fields;
   has_ended = is_end kind || draft.has_ended;
 }

@@ -1,12 +1,12 @@
 //! ACCT: a cost account.
 ghost use Rattle.std.specs.Prelude.{refl};
 ghost use Rattle.pc_faults.specs.declared.kind.Kind.TheVariants as kinds;
-ghost use Rattle.pc_deck.specs.Acct.{account_kind, account_of};
+ghost use Rattle.pc_deck.specs.Acct.{account_kind, account_card};
 ghost use Rattle.pc_deck.specs.WrittenKinds.{written_of};
 
 use pc_cards::card::{Card, Coded, Layout};
 use pc_cards::field::{Misfit, read_amount, read_code, read_title};
-use pc_cards::form::{Form, MONEY, Slot};
+use pc_cards::form::{FieldForm, MONEY, Slot};
 use pc_cards::sort::Sort;
 use pc_faults::Kind;
 use pc_model::MAX_COST;
@@ -25,10 +25,10 @@ pub struct AcctCard {
 }
 
 const SLOTS: [Slot; 4] = [
-    (2, Form::Code),
-    (3, Form::Code),
+    (2, FieldForm::Code),
+    (3, FieldForm::Code),
     (4, MONEY),
-    (5, Form::Title),
+    (5, FieldForm::Title),
 ];
 
 impl Card for AcctCard {
@@ -38,7 +38,7 @@ impl Card for AcctCard {
 
     ghost most = { 5 };
 
-    ghost spelled = { account_of };
+    ghost spelled = { account_card };
 
     ghost written = { (written_of kinds.Acct).written };
 

@@ -1,12 +1,12 @@
 //! ACT: an activity of the network.
 ghost use Rattle.std.specs.Prelude.{refl};
 ghost use Rattle.pc_faults.specs.declared.kind.Kind.TheVariants as kinds;
-ghost use Rattle.pc_deck.specs.Act.{act_kind, act_of};
+ghost use Rattle.pc_deck.specs.Act.{act_kind, act_card};
 ghost use Rattle.pc_deck.specs.WrittenKinds.{written_of};
 
 use pc_cards::card::{Card, Coded, Layout};
 use pc_cards::field::{Misfit, read_amount, read_code, read_title};
-use pc_cards::form::{DURATION, Form, MONEY, SLOPE, Slot};
+use pc_cards::form::{DURATION, FieldForm, MONEY, SLOPE, Slot};
 use pc_cards::sort::Sort;
 use pc_faults::Kind;
 use pc_model::{MAX_COST, MAX_DURATION, MAX_SLOPE};
@@ -33,10 +33,10 @@ pub struct ActCard {
 }
 
 const SLOTS: [Slot; 12] = [
-    (2, Form::Code),
-    (3, Form::Code),
-    (4, Form::Code),
-    (5, Form::Code),
+    (2, FieldForm::Code),
+    (3, FieldForm::Code),
+    (4, FieldForm::Code),
+    (5, FieldForm::Code),
     (6, DURATION),
     (7, DURATION),
     (8, DURATION),
@@ -44,7 +44,7 @@ const SLOTS: [Slot; 12] = [
     (10, DURATION),
     (11, MONEY),
     (12, SLOPE),
-    (13, Form::Title),
+    (13, FieldForm::Title),
 ];
 
 impl Card for ActCard {
@@ -54,7 +54,7 @@ impl Card for ActCard {
 
     ghost most = { 13 };
 
-    ghost spelled = { act_of };
+    ghost spelled = { act_card };
 
     ghost written = { (written_of kinds.Act).written };
 

@@ -1,11 +1,11 @@
 //! AFTER: a task that comes after another.
 ghost use Rattle.pc_faults.specs.declared.kind.Kind.TheVariants as kinds;
-ghost use Rattle.pc_deck.specs.After.{after_kind, after_of};
+ghost use Rattle.pc_deck.specs.After.{after_kind, after_card};
 ghost use Rattle.pc_deck.specs.WrittenKinds.{written_of};
 
 use pc_cards::card::{Card, Layout};
 use pc_cards::field::{Misfit, read_code};
-use pc_cards::form::{Form, Slot};
+use pc_cards::form::{FieldForm, Slot};
 use pc_cards::sort::Sort;
 use pc_faults::Kind;
 use pc_records::{Fields, Records};
@@ -20,7 +20,7 @@ pub struct AfterCard {
     pub before: Code,
 }
 
-const SLOTS: [Slot; 2] = [(2, Form::Code), (3, Form::Code)];
+const SLOTS: [Slot; 2] = [(2, FieldForm::Code), (3, FieldForm::Code)];
 
 impl Card for AfterCard {
     ghost slots = { after_kind.slots };
@@ -29,7 +29,7 @@ impl Card for AfterCard {
 
     ghost most = { 3 };
 
-    ghost spelled = { after_of };
+    ghost spelled = { after_card };
 
     ghost written = { (written_of kinds.After).written };
 

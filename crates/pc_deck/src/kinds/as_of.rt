@@ -1,11 +1,11 @@
 //! ASOF: the day that the figures are of.
 ghost use Rattle.pc_faults.specs.declared.kind.Kind.TheVariants as kinds;
-ghost use Rattle.pc_deck.specs.AsOf.{as_of_kind, as_of_of};
+ghost use Rattle.pc_deck.specs.AsOf.{as_of_kind, as_of_card};
 ghost use Rattle.pc_deck.specs.WrittenKinds.{written_of};
 
 use pc_cards::card::{Card, Layout};
 use pc_cards::field::{Misfit, read_date};
-use pc_cards::form::{Form, Slot};
+use pc_cards::form::{FieldForm, Slot};
 use pc_cards::sort::Sort;
 use pc_days::{Day, day_text};
 use pc_faults::Kind;
@@ -19,7 +19,7 @@ pub struct AsOfCard {
     pub day: Day,
 }
 
-const SLOTS: [Slot; 1] = [(2, Form::Date)];
+const SLOTS: [Slot; 1] = [(2, FieldForm::Date)];
 
 impl Card for AsOfCard {
     ghost slots = { as_of_kind.slots };
@@ -28,7 +28,7 @@ impl Card for AsOfCard {
 
     ghost most = { 2 };
 
-    ghost spelled = { as_of_of };
+    ghost spelled = { as_of_card };
 
     ghost written = { (written_of kinds.AsOf).written };
 

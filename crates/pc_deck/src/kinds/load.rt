@@ -1,11 +1,11 @@
 //! LOAD: what an activity uses of a resource.
 ghost use Rattle.pc_faults.specs.declared.kind.Kind.TheVariants as kinds;
-ghost use Rattle.pc_deck.specs.Load.{load_kind, load_of};
+ghost use Rattle.pc_deck.specs.Load.{load_kind, load_card};
 ghost use Rattle.pc_deck.specs.WrittenKinds.{written_of};
 
 use pc_cards::card::{Card, Layout};
 use pc_cards::field::{Misfit, read_amount, read_code};
-use pc_cards::form::{Form, MONEY, Slot};
+use pc_cards::form::{FieldForm, MONEY, Slot};
 use pc_cards::sort::Sort;
 use pc_faults::Kind;
 use pc_model::MAX_COST;
@@ -22,7 +22,7 @@ pub struct LoadCard {
     pub quantity: u64,
 }
 
-const SLOTS: [Slot; 3] = [(2, Form::Code), (3, Form::Code), (4, MONEY)];
+const SLOTS: [Slot; 3] = [(2, FieldForm::Code), (3, FieldForm::Code), (4, MONEY)];
 
 impl Card for LoadCard {
     ghost slots = { load_kind.slots };
@@ -31,7 +31,7 @@ impl Card for LoadCard {
 
     ghost most = { 4 };
 
-    ghost spelled = { load_of };
+    ghost spelled = { load_card };
 
     ghost written = { (written_of kinds.Load).written };
 

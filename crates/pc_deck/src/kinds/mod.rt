@@ -11,7 +11,7 @@ use crate::limits::{
 };
 use pc_cards::entry::{by_sort, by_version};
 use pc_cards::lists::{Listed, Named, Once};
-use pc_cards::place::Place;
+use pc_cards::place::CardPlace;
 use pc_cards::sort::Sort;
 use pc_faults::{DeckError, Kind};
 use pc_model::{
@@ -120,7 +120,7 @@ impl Draft {
     ghost use Rattle.pc_deck.specs.inside.Reading.{with_card, count_in, codes_in};
 
     /// Takes the next card, of a kind that is known, or answers its fault.
-    pub(crate) fn keep(&mut self, place: &Place, fields: &Row) -> Result<(), DeckError>
+    pub(crate) fn keep(&mut self, place: &CardPlace, fields: &Row) -> Result<(), DeckError>
         ensures kept { OnOk result (self.new ≡ with_card self.old place.now.kind place.now.row fields.now) }
         ensures sound { OnOk result (fault_at place.now (count_in self.old place.now.kind)
             (codes_in self.old place.now.kind) fields.now ≡ None) }

@@ -1,9 +1,9 @@
 //! CHARGE and TOGO: amounts of money, spent or still to be spent.
-ghost use Rattle.pc_deck.specs.Money.{charge_kind, money_of, written_money};
+ghost use Rattle.pc_deck.specs.Money.{charge_kind, money_card, written_money};
 
 use pc_cards::card::{Card, Layout};
 use pc_cards::field::{Misfit, read_amount, read_code, read_date};
-use pc_cards::form::{Form, MONEY, Slot};
+use pc_cards::form::{FieldForm, MONEY, Slot};
 use pc_cards::sort::Sort;
 use pc_days::{Day, day_text};
 use pc_faults::Kind;
@@ -21,7 +21,7 @@ pub struct MoneyCard {
     pub amount: u64,
 }
 
-const SLOTS: [Slot; 3] = [(2, Form::Code), (3, Form::Date), (4, MONEY)];
+const SLOTS: [Slot; 3] = [(2, FieldForm::Code), (3, FieldForm::Date), (4, MONEY)];
 
 impl Card for MoneyCard {
     ghost slots = { charge_kind.slots };
@@ -30,7 +30,7 @@ impl Card for MoneyCard {
 
     ghost most = { 4 };
 
-    ghost spelled = { money_of };
+    ghost spelled = { money_card };
 
     ghost written = { written_money };
 

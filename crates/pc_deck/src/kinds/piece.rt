@@ -1,11 +1,11 @@
 //! PIECE: a further piece of an activity's cost.
 ghost use Rattle.pc_faults.specs.declared.kind.Kind.TheVariants as kinds;
-ghost use Rattle.pc_deck.specs.Piece.{piece_kind, piece_of};
+ghost use Rattle.pc_deck.specs.Piece.{piece_kind, piece_card};
 ghost use Rattle.pc_deck.specs.WrittenKinds.{written_of};
 
 use pc_cards::card::{Card, Layout};
 use pc_cards::field::{Misfit, read_amount, read_code};
-use pc_cards::form::{Form, SLOPE, Slot};
+use pc_cards::form::{FieldForm, SLOPE, Slot};
 use pc_cards::sort::Sort;
 use pc_faults::Kind;
 use pc_model::{MAX_DURATION, MAX_SLOPE};
@@ -23,12 +23,12 @@ pub struct PieceCard {
     pub slope: u64,
 }
 
-const UNITS: Form = Form::Number {
+const UNITS: FieldForm = FieldForm::Number {
     least: 1,
     most: MAX_DURATION,
 };
 
-const SLOTS: [Slot; 3] = [(2, Form::Code), (3, UNITS), (4, SLOPE)];
+const SLOTS: [Slot; 3] = [(2, FieldForm::Code), (3, UNITS), (4, SLOPE)];
 
 impl Card for PieceCard {
     ghost slots = { piece_kind.slots };
@@ -37,7 +37,7 @@ impl Card for PieceCard {
 
     ghost most = { 4 };
 
-    ghost spelled = { piece_of };
+    ghost spelled = { piece_card };
 
     ghost written = { (written_of kinds.Piece).written };
 

@@ -1,14 +1,14 @@
 //! PROJECT: what the project is called, where it starts and ends, and when.
 ghost use Rattle.std.specs.Prelude.{◌≡◌, [], if◌then◌else◌};
 ghost use Rattle.pc_faults.specs.declared.kind.Kind.TheVariants as kinds;
-ghost use Rattle.pc_deck.specs.Project.{project_kind, project_of};
+ghost use Rattle.pc_deck.specs.Project.{project_kind, project_card};
 ghost use Rattle.pc_deck.specs.WrittenKinds.{written_of};
 
 use pc_cards::card::{Card, Layout};
 use pc_cards::field::{
     Misfit, read_amount, read_amount_or_none, read_code, read_date, read_own_code, read_title,
 };
-use pc_cards::form::{Form, Slot};
+use pc_cards::form::{FieldForm, Slot};
 use pc_cards::sort::Sort;
 use pc_days::{Day, day_text};
 use pc_faults::Kind;
@@ -38,42 +38,42 @@ pub struct ProjectCard {
 /// The greatest version of decks.
 const LAST_VERSION: u64 = 2;
 
-const UNIT_DAYS: Form = Form::Number {
+const UNIT_DAYS: FieldForm = FieldForm::Number {
     least: 1,
     most: MAX_UNIT_DAYS,
 };
 
-const DIRECTED: Form = Form::NumberOrNone {
+const DIRECTED: FieldForm = FieldForm::NumberOrNone {
     least: 0,
     most: MAX_DIRECTED,
 };
 
-const VERSION: Form = Form::NumberOrNone {
+const VERSION: FieldForm = FieldForm::NumberOrNone {
     least: 1,
     most: LAST_VERSION,
 };
 
 /// The slots in a plan.
 const SLOTS: [Slot; 8] = [
-    (2, Form::Code),
-    (3, Form::Code),
-    (4, Form::Code),
-    (5, Form::Date),
+    (2, FieldForm::Code),
+    (3, FieldForm::Code),
+    (4, FieldForm::Code),
+    (5, FieldForm::Date),
     (6, UNIT_DAYS),
     (7, DIRECTED),
-    (8, Form::Title),
+    (8, FieldForm::Title),
     (9, VERSION),
 ];
 
 /// The slots in a deck of tasks.
 const TASK_SLOTS: [Slot; 8] = [
-    (2, Form::Code),
-    (3, Form::GivenCode),
-    (4, Form::GivenCode),
-    (5, Form::Date),
+    (2, FieldForm::Code),
+    (3, FieldForm::GivenCode),
+    (4, FieldForm::GivenCode),
+    (5, FieldForm::Date),
     (6, UNIT_DAYS),
     (7, DIRECTED),
-    (8, Form::Title),
+    (8, FieldForm::Title),
     (9, VERSION),
 ];
 
@@ -84,7 +84,7 @@ impl Card for ProjectCard {
 
     ghost most = { 9 };
 
-    ghost spelled = { project_of };
+    ghost spelled = { project_card };
 
     ghost written = { (written_of kinds.Project).written };
 

@@ -2,12 +2,12 @@
 ghost use Rattle.std.specs.Prelude.{◌≡◌};
 ghost use Rattle.pc_cards.specs.Forms.{letter_text};
 ghost use Rattle.pc_faults.specs.declared.kind.Kind.TheVariants as kinds;
-ghost use Rattle.pc_deck.specs.Status.{status_kind, status_of};
+ghost use Rattle.pc_deck.specs.Status.{status_kind, status_card};
 ghost use Rattle.pc_deck.specs.WrittenKinds.{written_of};
 
 use pc_cards::card::{Card, Layout};
 use pc_cards::field::{Misfit, read_code, read_date, read_letter};
-use pc_cards::form::{Form, Slot};
+use pc_cards::form::{FieldForm, Slot};
 use pc_cards::sort::Sort;
 use pc_days::{Day, day_text};
 use pc_faults::Kind;
@@ -24,7 +24,11 @@ pub struct StatusCard {
     pub day: Day,
 }
 
-const SLOTS: [Slot; 3] = [(2, Form::Code), (3, Form::Letter), (4, Form::Date)];
+const SLOTS: [Slot; 3] = [
+    (2, FieldForm::Code),
+    (3, FieldForm::Letter),
+    (4, FieldForm::Date),
+];
 
 impl Card for StatusCard {
     ghost slots = { status_kind.slots };
@@ -33,7 +37,7 @@ impl Card for StatusCard {
 
     ghost most = { 4 };
 
-    ghost spelled = { status_of };
+    ghost spelled = { status_card };
 
     ghost written = { (written_of kinds.Status).written };
 

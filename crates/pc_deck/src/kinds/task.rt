@@ -1,12 +1,12 @@
 //! TASK: a task of a deck of tasks.
 ghost use Rattle.std.specs.Prelude.{refl};
 ghost use Rattle.pc_faults.specs.declared.kind.Kind.TheVariants as kinds;
-ghost use Rattle.pc_deck.specs.Task.{task_kind, task_of};
+ghost use Rattle.pc_deck.specs.Task.{task_kind, task_card};
 ghost use Rattle.pc_deck.specs.WrittenKinds.{written_of};
 
 use pc_cards::card::{Card, Coded, Layout};
 use pc_cards::field::{Misfit, read_amount, read_code, read_given_code, read_title};
-use pc_cards::form::{DURATION, Form, MONEY, SLOPE, Slot};
+use pc_cards::form::{DURATION, FieldForm, MONEY, SLOPE, Slot};
 use pc_cards::sort::Sort;
 use pc_faults::Kind;
 use pc_model::{MAX_COST, MAX_DURATION, MAX_SLOPE};
@@ -32,8 +32,8 @@ pub struct TaskCard {
 }
 
 const SLOTS: [Slot; 10] = [
-    (2, Form::GivenCode),
-    (3, Form::Code),
+    (2, FieldForm::GivenCode),
+    (3, FieldForm::Code),
     (4, DURATION),
     (5, DURATION),
     (6, DURATION),
@@ -41,7 +41,7 @@ const SLOTS: [Slot; 10] = [
     (8, DURATION),
     (9, MONEY),
     (10, SLOPE),
-    (11, Form::Title),
+    (11, FieldForm::Title),
 ];
 
 impl Card for TaskCard {
@@ -51,7 +51,7 @@ impl Card for TaskCard {
 
     ghost most = { 11 };
 
-    ghost spelled = { task_of };
+    ghost spelled = { task_card };
 
     ghost written = { (written_of kinds.Task).written };
 

@@ -1,11 +1,11 @@
 //! TERMS: what time costs.
 ghost use Rattle.pc_faults.specs.declared.kind.Kind.TheVariants as kinds;
-ghost use Rattle.pc_deck.specs.Terms.{terms_kind, terms_of};
+ghost use Rattle.pc_deck.specs.Terms.{terms_kind, terms_card};
 ghost use Rattle.pc_deck.specs.WrittenKinds.{written_of};
 
 use pc_cards::card::{Card, Layout};
 use pc_cards::field::{Misfit, read_amount};
-use pc_cards::form::{Form, Slot};
+use pc_cards::form::{FieldForm, Slot};
 use pc_cards::sort::Sort;
 use pc_faults::Kind;
 use pc_model::MAX_TERMS;
@@ -29,7 +29,7 @@ pub struct TermsCard {
 }
 
 /// One of the four numbers.
-const TERM: Form = Form::Number {
+const TERM: FieldForm = FieldForm::Number {
     least: 0,
     most: MAX_TERMS,
 };
@@ -43,7 +43,7 @@ impl Card for TermsCard {
 
     ghost most = { 5 };
 
-    ghost spelled = { terms_of };
+    ghost spelled = { terms_card };
 
     ghost written = { (written_of kinds.Terms).written };
 

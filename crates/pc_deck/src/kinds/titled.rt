@@ -1,10 +1,10 @@
 //! EVENT and RES: what has a code and a title, an event of the network or a resource.
 ghost use Rattle.std.specs.Prelude.{refl};
-ghost use Rattle.pc_deck.specs.Titled.{event_kind, titled_of, written_titled};
+ghost use Rattle.pc_deck.specs.Titled.{event_kind, titled_card, written_titled};
 
 use pc_cards::card::{Card, Coded, Layout};
 use pc_cards::field::{Misfit, read_code, read_title};
-use pc_cards::form::{Form, Slot};
+use pc_cards::form::{FieldForm, Slot};
 use pc_cards::sort::Sort;
 use pc_faults::Kind;
 use pc_records::{Fields, Records};
@@ -19,7 +19,7 @@ pub struct TitledCard {
     pub title: Title,
 }
 
-const SLOTS: [Slot; 2] = [(2, Form::Code), (3, Form::Title)];
+const SLOTS: [Slot; 2] = [(2, FieldForm::Code), (3, FieldForm::Title)];
 
 impl Card for TitledCard {
     ghost slots = { event_kind.slots };
@@ -28,7 +28,7 @@ impl Card for TitledCard {
 
     ghost most = { 3 };
 
-    ghost spelled = { titled_of };
+    ghost spelled = { titled_card };
 
     ghost written = { written_titled };
 

@@ -1,12 +1,12 @@
 //! WBS: an item of the work breakdown structure.
 ghost use Rattle.std.specs.Prelude.{refl};
 ghost use Rattle.pc_faults.specs.declared.kind.Kind.TheVariants as kinds;
-ghost use Rattle.pc_deck.specs.Wbs.{item_kind, item_of};
+ghost use Rattle.pc_deck.specs.Wbs.{item_kind, item_card};
 ghost use Rattle.pc_deck.specs.WrittenKinds.{written_of};
 
 use pc_cards::card::{Card, Coded, Layout};
 use pc_cards::field::{Misfit, read_code_or_none, read_own_code, read_title};
-use pc_cards::form::{Form, Slot};
+use pc_cards::form::{FieldForm, Slot};
 use pc_cards::sort::Sort;
 use pc_faults::Kind;
 use pc_records::{Fields, Records};
@@ -23,13 +23,17 @@ pub struct ItemCard {
 }
 
 /// The slots in a plan.
-const SLOTS: [Slot; 3] = [(2, Form::Code), (3, Form::CodeOrNone), (4, Form::Title)];
+const SLOTS: [Slot; 3] = [
+    (2, FieldForm::Code),
+    (3, FieldForm::CodeOrNone),
+    (4, FieldForm::Title),
+];
 
 /// The slots in a deck of tasks.
 const TASK_SLOTS: [Slot; 3] = [
-    (2, Form::GivenCode),
-    (3, Form::CodeOrNone),
-    (4, Form::Title),
+    (2, FieldForm::GivenCode),
+    (3, FieldForm::CodeOrNone),
+    (4, FieldForm::Title),
 ];
 
 impl Card for ItemCard {
@@ -39,7 +43,7 @@ impl Card for ItemCard {
 
     ghost most = { 4 };
 
-    ghost spelled = { item_of };
+    ghost spelled = { item_card };
 
     ghost written = { (written_of kinds.Wbs).written };
 

@@ -8,7 +8,7 @@ use Rattle.pc_model.specs.Schedule.{crash_of}
 use Rattle.pc_model.specs.Cost.{Knees, IsPriced}
 use Rattle.pc_laws.specs.Flow.{whole_flow}
 use Rattle.pc_laws.specs.Tight.{IsTight}
-use Rattle.pc_laws.specs.State.{State, IsOptimal, IsAtKnee, IsAtCrash, IsPart, IsRaising, IsStep, raised}
+use Rattle.pc_laws.specs.State.{State, IsOptimal, IsAtKnee, IsAtCrash, IsPart, IsRaising, IsStep, augmented}
 use Rattle.pc_model.proofs.Sums.{sum_to-same}
 use Rattle.pc_laws.proofs.States.WalkedBack.{part_begins, part_forward, part_backward, part_through, part_leaves, unentered}
 
@@ -82,7 +82,7 @@ module _ (net : Network) (terms : List Term) (knees : Knees) (st : State) (room 
 
   -- back at the start, what holds between two labellings holds of the raised flows
   pub optimal_raised : (f : ℕ → ℕ → ℕ) (g : ℕ → ℕ) → IsPriced net terms knees → IsOptimal net terms knees st
-      → IsRaising net terms knees st f g net.start room → IsOptimal net terms knees (raised st f g room)
+      → IsRaising net terms knees st f g net.start room → IsOptimal net terms knees (augmented st f g room)
   optimal_raised f g priced optimal raising = record {
     tight = record {
       starts = optimal.tight.starts;

@@ -7,7 +7,7 @@ use Rattle.pc_project.specs.declared.lists.Lists.{Lists}
 use Rattle.pc_project.specs.declared.numbers.FoundLists.{FoundLists}
 use Rattle.pc_project.specs.declared.numbers.Numbers.{Numbers}
 use Rattle.pc_project.specs.Misfit.{HasNoMisfit}
-use Rattle.pc_project.specs.Project.{accounts_in, charges_in, expected_of, load_of, network_of, pieces_in, place_of, rows_of, statuses_in}
+use Rattle.pc_project.specs.Project.{accounts_in, charges_in, expected_of, load_of, network_of, pieces_in, item_of_act, rows_of, statuses_in}
 use Rattle.pc_project.specs.Project.{term_of, togos_in, variance_in}
 use Rattle.pc_project.specs.inside.Project.{placement_of}
 use Rattle.pc_project.specs.declared.figures.Figures.{Figures}
@@ -40,7 +40,7 @@ pub record AreNumbersOf (deck : Deck) (numbers : Numbers) : Type 0 where
 pub record AreProjectLists (deck : Deck) (lists : Lists) : Type 0 where
   pub events : lists.events.items ≡ event_codes deck
   pub activities : lists.activities.items ≡ act_codes deck
-  pub places : lists.places.items ≡ map (place_of deck) deck.acts
+  pub places : lists.places.items ≡ map (item_of_act deck) deck.acts
   pub terms : lists.terms.items ≡ map term_of deck.acts
   pub expected : lists.expected.items ≡ map (expected_of deck) deck.acts
   pub variances : lists.variances.items ≡ map (variance_in deck) deck.acts

@@ -7,11 +7,11 @@ use Rattle.pc_deck.specs.declared.kinds.act.ActCard.{ActCard}
 use Rattle.pc_deck.specs.Deck.{Deck}
 use Rattle.pc_project.specs.declared.activity.Activity.{Activity}
 use Rattle.pc_project.specs.declared.placed.Placement.{Placement}
-use Rattle.pc_project.specs.Project.{Project, arc_of, place_of}
+use Rattle.pc_project.specs.Project.{Project, arc_of, item_of_act}
 
 -- where the activity of a card stands
 abbrev pub placement_of : Deck → ActCard → Placement
-placement_of deck act = record { arc = arc_of deck act; item = place_of deck act }
+placement_of deck act = record { arc = arc_of deck act; item = item_of_act deck act }
 
 -- what a project says of activity a
 abbrev pub activity_at : Project → ℕ → Activity

@@ -6,7 +6,7 @@ use Rattle.csv.specs.Reading.{default_config, is_flexible, reader_config, reader
 use Rattle.csv.specs.declared.parser.State.{State}
 use Rattle.csv.specs.declared.reader.Reader.{Reader}
 use Rattle.csv.specs.declared.reader.Trim.TheVariants as trim
-use Rattle.pc_records.specs.declared.rows.Rows.TheInside.{Inside}
+use Rattle.pc_records.specs.declared.rows.RowReader.TheInside.{Inside}
 
 -- a `csv` reader over bytes in memory
 abbrev pub ByteReader : Type 0

@@ -35,17 +35,17 @@ pub record AreLevelSums (tree : List ItemRow) (totals sums : List ℤ) : Type 0 
   pub each : (k : ℕ) → k < length sums → IsLevelSum tree totals (k + 1) (amount_at sums k)
 
 -- an amount by item, and by level from the first on
-pub record Column : Type 0 where
+pub record AmountColumn : Type 0 where
   pub items : List ℤ
   pub levels : List ℤ
 
 -- the column has the sums of this amount of each account
-pub record IsColumn (tree : List ItemRow) (accounts : List AcctRow) (amount : ℕ → ℤ) (column : Column) : Type 0 where
+pub record IsColumn (tree : List ItemRow) (accounts : List AcctRow) (amount : ℕ → ℤ) (column : AmountColumn) : Type 0 where
   pub items : AreItemSums tree accounts amount column.items
   pub levels : AreLevelSums tree column.items column.levels
 
 -- at each level the lines add up to this sum, and it is what the level has
-abbrev pub AddUpTo : List ItemRow → ℤ → Column → Type 0
+abbrev pub AddUpTo : List ItemRow → ℤ → AmountColumn → Type 0
 AddUpTo tree sum column =
     (k : ℕ) → k < length column.levels → IsLevelSum tree column.items (k + 1) sum × (amount_at column.levels k ≡ sum)
 

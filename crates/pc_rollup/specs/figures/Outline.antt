@@ -16,10 +16,10 @@ pub record IsRowOf (tree : List ItemRow) (order : List ℕ) (k : ℕ) (line : Ou
   pub level : HasLevel tree line.item line.level
 
 -- a row for each item in this order
-pub record AreInOrder (tree : List ItemRow) (order : List ℕ) (outline : List OutlineRow) : Type 0 where
+pub record AreOutlineRows (tree : List ItemRow) (order : List ℕ) (outline : List OutlineRow) : Type 0 where
   pub one_each : length outline ≡ length order
   pub each : (k : ℕ) → k < length order → IsRowOf tree order k (row_at outline k)
 
 -- a row for each item in preorder: an item, then the items below it
 abbrev pub IsOutline : List ItemRow → List OutlineRow → Type 0
-IsOutline tree outline = (order : List ℕ) × (IsPreorder tree order × AreInOrder tree order outline)
+IsOutline tree outline = (order : List ℕ) × (IsPreorder tree order × AreOutlineRows tree order outline)

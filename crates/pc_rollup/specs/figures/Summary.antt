@@ -10,18 +10,18 @@ use Rattle.pc_rollup.specs.declared.figures.outline.OutlineRow.{OutlineRow}
 use Rattle.pc_rollup.specs.Totals.{amount_at}
 use Rattle.pc_rollup.specs.declared.figures.summary.SummaryAmounts.{SummaryAmounts}
 use Rattle.pc_rollup.specs.declared.figures.figures.Figure.TheVariants.{Budget, Actual, ToGo, Latest, Overrun}
-use Rattle.pc_rollup.specs.figures.Columns.{Column, AreOnTree, IsColumn, AddUpTo, HaveOneLine}
+use Rattle.pc_rollup.specs.figures.Columns.{AmountColumn, AreOnTree, IsColumn, AddUpTo, HaveOneLine}
 use Rattle.pc_rollup.specs.figures.Figures.{figure_of, figure_at}
 use Rattle.pc_rollup.specs.figures.Outline.{IsOutline}
 
 -- the items in preorder, and each amount by item and by level
 pub record Summary : Type 0 where
   pub outline : List OutlineRow
-  pub budget : Column
-  pub actual : Column
-  pub to_go : Column
-  pub latest : Column
-  pub overrun : Column
+  pub budget : AmountColumn
+  pub actual : AmountColumn
+  pub to_go : AmountColumn
+  pub latest : AmountColumn
+  pub overrun : AmountColumn
 
 -- the summary is that of these accounts, which stand on the items of this tree
 pub record IsSummaryOf (tree : List ItemRow) (accounts : List AcctRow) (entries : List Entry) (summary : Summary) : Type 0 where

@@ -1,7 +1,7 @@
 //! An amount of each account, summed by item and by level.
 ghost use Rattle.std.specs.Prelude.{◌≡◌, ℕ, ◌+◌, ◌<◌, ◌^◌, length, sum_by, unsigned_abs, FitsSigned, IfOk};
 ghost use Rattle.std.specs.Int.{w64};
-ghost use Rattle.pc_accounts.specs.Entries.{AreSmall};
+ghost use Rattle.pc_accounts.specs.Entries.{AreEntriesWithinLimits};
 ghost use Rattle.pc_wbs.specs.Climb.{AreInRange, IsTree};
 ghost use Rattle.pc_rollup.specs.Lines.{sum_of};
 ghost use Rattle.pc_rollup.specs.Totals.{amount_at};
@@ -19,37 +19,37 @@ use std::alloc::{AllocError, Global};
 use std::marker::Model;
 
 /// A column of a report: an amount for each item, and for each level from the first on.
-pub(in crate::figures) struct Column {
+pub(in crate::figures) struct AmountColumn {
     items: Vec<i64>,
     levels: Vec<i64>,
 }
 
-impl Drop for Column {
+impl Drop for AmountColumn {
     // Written out, so that who lets a column go cites this proof.
     fn drop(self) {
-        let Column {
+        let AmountColumn {
             items: _items,
             levels: _levels,
         } = self;
     }
 }
 
-impl Model for Column {
-    ghost use Rattle.pc_rollup.specs.figures.Columns.{Column};
+impl Model for AmountColumn {
+    ghost use Rattle.pc_rollup.specs.figures.Columns.{AmountColumn};
 
-    ghost Value = { Column };
+    ghost Value = { AmountColumn };
 
     ghost view = { λ column. record { items = column.items.items; levels = column.levels.items } };
 }
 
-impl Column {
+impl AmountColumn {
     /// The column of an amount of each account. It takes time in proportion to accounts, and to items at each level.
     pub(in crate::figures) fn of(
         alloc: Global,
         tree: &Tree,
         accounts: &[AcctRow],
         amounts: &[i64],
-    ) -> Result<Column, AllocError>
+    ) -> Result<AmountColumn, AllocError>
         requires ranged { AreInRange tree.now }
         requires sound { IsTree tree.now }
         requires on_tree { AreOnTree tree.now accounts.now }
@@ -60,7 +60,7 @@ impl Column {
     {
         let items = item_sums(alloc, tree, accounts, amounts)?;
         let levels = level_sums(alloc, tree, &items)?;
-        Ok(Column { items, levels })
+        Ok(AmountColumn { items, levels })
     }
 
     /// The amount of an item.
@@ -115,7 +115,7 @@ pub(in crate::figures) fn figure_sums(
 ) -> Result<Vec<i64>, AllocError>
     requires on_tree { AreOnTree tree.now accounts.now }
     requires one_each { length entries.now ≡ length accounts.now }
-    requires small { AreSmall entries.now }
+    requires small { AreEntriesWithinLimits entries.now }
     ensures { IfOk result (λ totals. AreItemSums tree.now accounts.now (figure_at figure entries.now) totals.items) }
 {
     let amounts = figures(alloc, entries, figure)?;

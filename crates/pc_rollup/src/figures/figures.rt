@@ -1,6 +1,6 @@
 //! The amounts that the summary tells of each account.
 ghost use Rattle.std.specs.Prelude.{◌≡◌, ◌<◌, ◌^◌, length, sum_by, unsigned_abs, IfOk};
-ghost use Rattle.pc_accounts.specs.Entries.{IsSmall, AreSmall};
+ghost use Rattle.pc_accounts.specs.Entries.{IsEntryWithinLimits, AreEntriesWithinLimits};
 ghost use Rattle.pc_rollup.specs.figures.Figures.{figure_of, figure_at};
 ghost use Rattle.pc_rollup.specs.inside.figures.Figures.{AreAmounts};
 
@@ -25,7 +25,7 @@ pub(in crate::figures) enum Figure {
 impl Figure {
     /// The amount of an account.
     fn of(self, entry: &Entry) -> i64
-        requires { IsSmall entry.now }
+        requires { IsEntryWithinLimits entry.now }
         ensures { result ≡ figure_of self entry.now }
     {
         match self {
@@ -44,7 +44,7 @@ pub(in crate::figures) fn figures(
     entries: &[Entry],
     figure: Figure,
 ) -> Result<Vec<i64>, AllocError>
-    requires { AreSmall entries.now }
+    requires { AreEntriesWithinLimits entries.now }
     ensures amounts { IfOk result (λ amounts. AreAmounts (figure_at figure entries.now)
         (length entries.now) amounts.items) }
     ensures small { IfOk result (λ amounts. sum_by unsigned_abs amounts.items < 2 ^ 63) }

@@ -1,6 +1,6 @@
 //! What the items are going to cost at given durations of the activities.
 ghost use Rattle.std.specs.Prelude.{◌≡◌, ℕ, ◌<◌, ◌≤◌, ◌^◌, length, slice_index, unsigned_abs, IfOk};
-ghost use Rattle.pc_accounts.specs.Entries.{AreSmall};
+ghost use Rattle.pc_accounts.specs.Entries.{AreEntriesWithinLimits};
 ghost use Rattle.pc_model.specs.Sums.{sum_to};
 ghost use Rattle.pc_rollup.specs.figures.Columns.{AreOnTree};
 ghost use Rattle.pc_rollup.specs.figures.Outline.{row_at};
@@ -73,7 +73,7 @@ impl Outlook {
         requires costs_fit { sum_to (length places.now) (slice_index costs.now) ≤ 2 ^ 60 }
         requires on_tree { AreOnTree tree.now accounts.now }
         requires one_each { length entries.now ≡ length accounts.now }
-        requires small { AreSmall entries.now }
+        requires small { AreEntriesWithinLimits entries.now }
         ensures outlook { IfOk result (IsOutlookOf tree.now places.now
             (slice_index costs.now) accounts.now entries.now) }
         ensures top { IfOk result (HasWholeAtTop tree.now places.now (slice_index costs.now) accounts.now entries.now) }
@@ -138,7 +138,7 @@ fn rest_sums(
     requires known { (a : ℕ) → a < length places.now → slice_index places.now a < length tree.now }
     requires on_tree { AreOnTree tree.now accounts.now }
     requires one_each { length entries.now ≡ length accounts.now }
-    requires small { AreSmall entries.now }
+    requires small { AreEntriesWithinLimits entries.now }
     ensures rests { IfOk result (λ rests. AreRests tree.now places.now accounts.now entries.now rests.items) }
     ensures small { IfOk result (λ rests. CanBeAdded rests.items) }
 {

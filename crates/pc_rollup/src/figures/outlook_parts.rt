@@ -1,7 +1,7 @@
 //! Which packages have activities, and the amounts that make up an outlook.
 ghost use Rattle.std.specs.Prelude.{◌≡◌, ℕ, ◌<◌, ◌≤◌, ◌^◌, pos, length, slice_index, sum_by, unsigned_abs, IfOk, IsTrue};
 ghost use Rattle.pc_accounts.specs.Amounts.{item_of};
-ghost use Rattle.pc_accounts.specs.Entries.{AreSmall, IsSmall};
+ghost use Rattle.pc_accounts.specs.Entries.{AreEntriesWithinLimits, IsEntryWithinLimits};
 ghost use Rattle.pc_model.specs.declared.limits.TheConstants.{MAX_COST};
 ghost use Rattle.pc_model.specs.Sums.{sum_to};
 ghost use Rattle.pc_rollup.specs.declared.figures.figures.Figure.TheVariants.{Budget};
@@ -39,7 +39,7 @@ pub(in crate::figures) fn spare_budgets(
     requires marks { AreMarked (length marks.now) places.now (length places.now) marks.now }
     requires on_items { (b : ℕ) → b < length accounts.now → item_of accounts.now b < length marks.now }
     requires one_each { length entries.now ≡ length accounts.now }
-    requires small { AreSmall entries.now }
+    requires small { AreEntriesWithinLimits entries.now }
     ensures spare { IfOk result (λ amounts. AreSpare places.now accounts.now entries.now
         (length accounts.now) amounts.items) }
     ensures together { IfOk result (λ amounts. sum_by unsigned_abs amounts.items < 2 ^ 63) }
@@ -54,7 +54,7 @@ pub(in crate::figures) fn spare_budgets(
 
 /// The budget of an account, or 0 where its package has activities.
 fn spare_budget(has_activity: bool, entry: &Entry) -> i64
-    requires { IsSmall entry.now }
+    requires { IsEntryWithinLimits entry.now }
     ensures some { IsTrue has_activity → result ≡ pos 0 }
     ensures none { (IsTrue has_activity → ⊥) → result ≡ figure_of Budget entry.now }
     ensures small { unsigned_abs result ≤ MAX_COST }

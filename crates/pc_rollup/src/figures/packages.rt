@@ -1,7 +1,7 @@
 //! Which packages are finished, and what the work of each account is worth.
 ghost use Rattle.std.specs.Prelude.{◌≡◌, ◌↔◌, ◌&&◌, true, unwrap_or, ℕ, ◌<◌, ◌≤◌, ◌^◌, pos, ◌-ℤ◌, length, slice_index, sum_by, unsigned_abs, IfOk, IsTrue};
 ghost use Rattle.pc_accounts.specs.Amounts.{item_of};
-ghost use Rattle.pc_accounts.specs.Entries.{AreSmall, IsSmall, value_of};
+ghost use Rattle.pc_accounts.specs.Entries.{AreEntriesWithinLimits, IsEntryWithinLimits, value_of};
 ghost use Rattle.pc_model.specs.declared.limits.TheConstants.{MAX_COST};
 ghost use Rattle.pc_rollup.specs.Totals.{amount_at};
 ghost use Rattle.pc_rollup.specs.inside.figures.Figures.{AreAmounts};
@@ -60,7 +60,7 @@ pub(in crate::figures) fn values(
     requires state_each { length states.now ≡ length places.now }
     requires on_items { (a : ℕ) → a < length accounts.now → item_of accounts.now a < items }
     requires one_each { length entries.now ≡ length accounts.now }
-    requires small { AreSmall entries.now }
+    requires small { AreEntriesWithinLimits entries.now }
     ensures values { IfOk result (λ values. AreValues places.now states.now accounts.now entries.now values.items) }
     ensures small { IfOk result (λ values. (a : ℕ) → unsigned_abs (amount_at values.items a) ≤ MAX_COST) }
     ensures together { IfOk result (λ values. sum_by unsigned_abs values.items < 2 ^ 63) }
@@ -76,7 +76,7 @@ pub(in crate::figures) fn values(
 
 /// What the work of an account is worth, where `finished` says whether its package is finished.
 fn value(entry: &Entry, finished: bool) -> i64
-    requires { IsSmall entry.now }
+    requires { IsEntryWithinLimits entry.now }
     ensures value { result ≡ pos (value_of finished entry.now) }
     ensures small { unsigned_abs result ≤ MAX_COST }
 {
@@ -90,7 +90,7 @@ pub(in crate::figures) fn overruns(
     values: &[i64],
 ) -> Result<Vec<i64>, AllocError>
     requires one_each { length values.now ≡ length entries.now }
-    requires entries { AreSmall entries.now }
+    requires entries { AreEntriesWithinLimits entries.now }
     requires values { (a : ℕ) → unsigned_abs (amount_at values.now a) ≤ MAX_COST }
     ensures overruns { IfOk result (λ overruns. AreAmounts (overrun_at entries.now values.now)
         (length entries.now) overruns.items) }
@@ -105,7 +105,7 @@ pub(in crate::figures) fn overruns(
 
 /// By how much what was spent on an account is more than its work is worth.
 fn overrun(entry: &Entry, value: i64) -> i64
-    requires entry { IsSmall entry.now }
+    requires entry { IsEntryWithinLimits entry.now }
     requires value { unsigned_abs value ≤ MAX_COST }
     ensures { result ≡ pos entry.now.actual -ℤ value }
 {

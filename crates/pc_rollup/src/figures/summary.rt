@@ -6,7 +6,7 @@ ghost use Rattle.pc_accounts.specs.declared.rows.AcctRow.{AcctRow};
 ghost use Rattle.pc_accounts.specs.declared.rows.MoneyRow.{MoneyRow};
 ghost use Rattle.pc_accounts.specs.declared.entry.Entry.{Entry};
 ghost use Rattle.pc_accounts.specs.Amounts.{all_charged};
-ghost use Rattle.pc_accounts.specs.Entries.{AreSmall};
+ghost use Rattle.pc_accounts.specs.Entries.{AreEntriesWithinLimits};
 ghost use Rattle.pc_accounts.specs.inside.Entries.{entry_of_all};
 ghost use Rattle.pc_rollup.specs.declared.levels.LevelLine.{LevelLine};
 ghost use Rattle.pc_rollup.specs.Lines.{AreLevelLines, sum_of};
@@ -17,7 +17,7 @@ ghost use Rattle.pc_rollup.specs.figures.Outline.{row_at};
 ghost use Rattle.pc_rollup.specs.figures.Summary.{IsSummaryOf, AreBooked, CountsOnce, item_amounts, level_amounts};
 
 use crate::each_leaf_has_one_line;
-use crate::figures::column::Column;
+use crate::figures::column::AmountColumn;
 use crate::figures::figures::{Figure, figures};
 use crate::figures::outline::{OutlineRow, outline_of};
 use pc_accounts::{AcctRow, Entry};
@@ -38,11 +38,11 @@ pub struct SummaryAmounts {
 /// Budget, actual, to-go, latest estimate and overrun of each item and of each level.
 pub struct Summary {
     outline: Vec<OutlineRow>,
-    budget: Column,
-    actual: Column,
-    to_go: Column,
-    latest: Column,
-    overrun: Column,
+    budget: AmountColumn,
+    actual: AmountColumn,
+    to_go: AmountColumn,
+    latest: AmountColumn,
+    overrun: AmountColumn,
 }
 
 impl Drop for Summary {
@@ -88,7 +88,7 @@ impl Summary {
     ) -> Result<Summary, AllocError>
         requires on_tree { AreOnTree tree.now accounts.now }
         requires one_each { length entries.now ≡ length accounts.now }
-        requires small { AreSmall entries.now }
+        requires small { AreEntriesWithinLimits entries.now }
         ensures summary { IfOk result (IsSummaryOf tree.now accounts.now entries.now) }
         ensures once { IfOk result (CountsOnce tree.now accounts.now (entry_of_all entries.now)) }
     {
@@ -170,17 +170,17 @@ fn column_of(
     accounts: &[AcctRow],
     entries: &[Entry],
     figure: Figure,
-) -> Result<Column, AllocError>
+) -> Result<AmountColumn, AllocError>
     requires ranged { AreInRange tree.now }
     requires sound { IsTree tree.now }
     requires on_tree { AreOnTree tree.now accounts.now }
     requires one_each { length entries.now ≡ length accounts.now }
-    requires small { AreSmall entries.now }
+    requires small { AreEntriesWithinLimits entries.now }
     ensures column { IfOk result (IsColumn tree.now accounts.now (figure_at figure entries.now)) }
     ensures whole { IfOk result (AddUpTo tree.now (figure_of figure (entry_of_all entries.now))) }
 {
     let amounts = figures(alloc, entries, figure)?;
-    Column::of(alloc, tree, accounts, &amounts)
+    AmountColumn::of(alloc, tree, accounts, &amounts)
 }
 
 /// States that at each level the actuals of the lines add up to all charges dated up to the as-of date: each of these

@@ -1,6 +1,6 @@
 //! What the work of each item is worth.
 ghost use Rattle.std.specs.Prelude.{◌≡◌, ℕ, ◌<◌, ◌≤◌, length, slice_index, unsigned_abs, IfOk};
-ghost use Rattle.pc_accounts.specs.Entries.{AreSmall};
+ghost use Rattle.pc_accounts.specs.Entries.{AreEntriesWithinLimits};
 ghost use Rattle.pc_model.specs.declared.limits.TheConstants.{MAX_COST};
 ghost use Rattle.pc_rollup.specs.Totals.{amount_at};
 ghost use Rattle.pc_rollup.specs.declared.figures.figures.Figure.TheVariants.{Budget, Actual};
@@ -79,7 +79,7 @@ impl Worth {
         requires state_each { length states.now ≡ length places.now }
         requires on_tree { AreOnTree tree.now accounts.now }
         requires one_each { length entries.now ≡ length accounts.now }
-        requires small { AreSmall entries.now }
+        requires small { AreEntriesWithinLimits entries.now }
         ensures { IfOk result (IsWorthOf tree.now places.now states.now accounts.now entries.now) }
     {
         let values = values(alloc, tree.len(), places, states, accounts, entries)?;
@@ -121,7 +121,7 @@ fn spent_sums(
 ) -> Result<(Vec<i64>, Vec<i64>), AllocError>
     requires on_tree { AreOnTree tree.now accounts.now }
     requires one_each { length entries.now ≡ length accounts.now }
-    requires small { AreSmall entries.now }
+    requires small { AreEntriesWithinLimits entries.now }
     ensures budget { IfOk result (λ sums. AreItemSums tree.now accounts.now
         (figure_at Budget entries.now) sums.0.items) }
     ensures actual { IfOk result (λ sums. AreItemSums tree.now accounts.now
@@ -143,7 +143,7 @@ fn overrun_sums(
     requires on_tree { AreOnTree tree.now accounts.now }
     requires one_each { length entries.now ≡ length accounts.now }
     requires value_each { length values.now ≡ length entries.now }
-    requires entries { AreSmall entries.now }
+    requires entries { AreEntriesWithinLimits entries.now }
     requires values { (a : ℕ) → unsigned_abs (amount_at values.now a) ≤ MAX_COST }
     ensures { IfOk result (λ totals. AreItemSums tree.now accounts.now
         (overrun_at entries.now values.now) totals.items) }

@@ -32,8 +32,8 @@ editing_with editing plan kept = record editing {
 }
 
 -- the priced network of a project
-abbrev pub priced_of : Project → PricedNetwork
-priced_of project = record {
+abbrev pub priced_project : Project → PricedNetwork
+priced_project project = record {
   network = project.network;
   terms = project.terms;
   pieces = project.pieces;
@@ -45,7 +45,7 @@ priced_of project = record {
 -- the project of a deck before any edit
 abbrev pub begun : Project → Editing
 begun project = record {
-  net = priced_of project;
+  net = priced_project project;
   estimates = estimates_in project.deck;
   unit_days = project.heading.unit_days;
   kept = [];

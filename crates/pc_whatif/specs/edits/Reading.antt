@@ -12,8 +12,8 @@ use Rattle.pc_whatif.specs.declared.edits.ask.TheConstants.{MAX_LINE}
 abbrev pub edit_of : List ℕ → Change → Ask
 edit_of act change = ask.Edit (record { act = act; change = change })
 
-unfoldable pub estimate_of : List ℕ → Option Ask
-estimate_of fields = do
+unfoldable pub estimate_ask : List ℕ → Option Ask
+estimate_ask fields = do
   act ← code_field fields
   optimistic ← number_field act.1
   likely ← number_field optimistic.1
@@ -27,23 +27,23 @@ amount_of fields = do
   n ← number_field act.1
   alone n.1 (act.0, n.0)
 
-unfoldable pub normal_of : List ℕ → Option Ask
-normal_of fields = do
+unfoldable pub normal_ask : List ℕ → Option Ask
+normal_ask fields = do
   amount ← amount_of fields
   Some (edit_of amount.0 (Normal amount.1))
 
-unfoldable pub crash_of : List ℕ → Option Ask
-crash_of fields = do
+unfoldable pub crash_ask : List ℕ → Option Ask
+crash_ask fields = do
   amount ← amount_of fields
   Some (edit_of amount.0 (Crash amount.1))
 
-unfoldable pub slope_of : List ℕ → Option Ask
-slope_of fields = do
+unfoldable pub slope_ask : List ℕ → Option Ask
+slope_ask fields = do
   amount ← amount_of fields
   Some (edit_of amount.0 (Slope amount.1))
 
-unfoldable pub try_of : List ℕ → Option Ask
-try_of fields = do
+unfoldable pub try_ask : List ℕ → Option Ask
+try_ask fields = do
   act ← code_field fields
   normal ← number_field act.1
   crash ← number_field normal.1
@@ -54,11 +54,11 @@ try_of fields = do
 -- the ask with this first word and these fields
 abbrev pub ask_with : List ℕ → List ℕ → Option Ask
 ask_with word fields =
-    if bytes_eq word (codes "TRY") then try_of fields
-    else if bytes_eq word (codes "ESTIMATE") then estimate_of fields
-    else if bytes_eq word (codes "NORMAL") then normal_of fields
-    else if bytes_eq word (codes "CRASH") then crash_of fields
-    else if bytes_eq word (codes "SLOPE") then slope_of fields
+    if bytes_eq word (codes "TRY") then try_ask fields
+    else if bytes_eq word (codes "ESTIMATE") then estimate_ask fields
+    else if bytes_eq word (codes "NORMAL") then normal_ask fields
+    else if bytes_eq word (codes "CRASH") then crash_ask fields
+    else if bytes_eq word (codes "SLOPE") then slope_ask fields
     else if bytes_eq word (codes "UNDO") then alone fields ask.Undo
     else if bytes_eq word (codes "TIMES") then alone fields ask.Times
     else if bytes_eq word (codes "CURVE") then alone fields ask.Curve

@@ -6,7 +6,7 @@ use Rattle.pc_project.specs.Project.{Project}
 use Rattle.pc_whatif.specs.declared.edits.ask.Edit.{Edit}
 use Rattle.pc_whatif.specs.declared.edits.edits.TheConstants.{MAX_KEPT}
 use Rattle.pc_whatif.specs.edits.Plans.{Plan, plan_with}
-use Rattle.pc_whatif.specs.edits.Editing.{Editing, activity_named, begun, editing_with, plan_of, priced_of}
+use Rattle.pc_whatif.specs.edits.Editing.{Editing, activity_named, begun, editing_with, plan_of, priced_project}
 
 -- the edits that were accepted and not taken back, in order, and how many of the last of them are kept for UNDO
 pub record Journal : Type 0 where
@@ -26,24 +26,24 @@ abbrev pub taken_back : Journal → Journal
 taken_back journal = record { standing = take (length journal.standing - 1) journal.standing; kept = journal.kept - 1 }
 
 -- the number of the activity of an edit; past those of all activities where none has its code, which no accepted edit's is
-abbrev pub number_of : PricedNetwork → Edit → ℕ
-number_of net edit = unwrap_or (activity_named net edit.act) (length net.activities)
+abbrev pub activity_of_edit : PricedNetwork → Edit → ℕ
+activity_of_edit net edit = unwrap_or (activity_named net edit.act) (length net.activities)
 
 -- the plan with edits applied in order
 abbrev pub plan_after : PricedNetwork → List Edit → Plan → Plan
 plan_after net [] plan = plan
-plan_after net (edit ∷ edits) plan = plan_after net edits (plan_with edit.change (number_of net edit) plan)
+plan_after net (edit ∷ edits) plan = plan_after net edits (plan_with edit.change (activity_of_edit net edit) plan)
 
 -- the plans before each of the edits
 abbrev pub plans_before : PricedNetwork → List Edit → Plan → List Plan
 plans_before net [] plan = []
-plans_before net (edit ∷ edits) plan = plan ∷ plans_before net edits (plan_with edit.change (number_of net edit) plan)
+plans_before net (edit ∷ edits) plan = plan ∷ plans_before net edits (plan_with edit.change (activity_of_edit net edit) plan)
 
 -- the project of a deck with the edits of a journal standing: applied in order, and of those that are kept the plans before each
 abbrev pub standing_of : Project → Journal → Editing
 standing_of project journal =
-    editing_with (begun project) (plan_after (priced_of project) journal.standing (plan_of (begun project)))
-    (keep_last journal.kept (plans_before (priced_of project) journal.standing (plan_of (begun project))))
+    editing_with (begun project) (plan_after (priced_project project) journal.standing (plan_of (begun project)))
+    (keep_last journal.kept (plans_before (priced_project project) journal.standing (plan_of (begun project))))
 
 -- the project is as edited by the edits of the journal; of these no more are kept than stand, nor than may be
 pub record Stands (project : Project) (journal : Journal) (editing : Editing) : Type 0 where

@@ -15,7 +15,7 @@ use Rattle.pc_whatif.specs.inside.trials.Reserved.{Reserved, IsFor, IsStanding, 
 use Rattle.pc_curve.specs.Range.{IsRange}
 use Rattle.pc_whatif.specs.inside.trials.Trials.{looks_over}
 use Rattle.pc_whatif.specs.Texts.{ok_text}
-use Rattle.pc_whatif.specs.Planning.{net_tried, IsAnswer, editing_after}
+use Rattle.pc_whatif.specs.Planning.{net_tried, IsLineAnswer, editing_after}
 
 -- what contracts see of a session: the deck's project, that project as it is edited, and what stands in the session's spans
 pub record Planning : Type 0 where
@@ -36,7 +36,7 @@ pub record IsRenewed (project : Project) (editing : Editing) (reserved : Reserve
 -- the line was answered with the text, and the session is as after it: its standing times are those of the project as it is now, of its
 -- spans only an accepted edit or UNDO changes the lists, and no line changes how many cells are free
 pub record IsAnswered (old : Planning) (asked : Option Ask) (text : List ℕ) (new : Planning) : Type 0 where
-  pub answer : IsAnswer old.project old.editing asked text
+  pub answer : IsLineAnswer old.project old.editing asked text
   pub project : new.project ≡ old.project
   pub editing : new.editing ≡ editing_after old.editing asked
   pub standing : IsRenewed new.project new.editing new.reserved

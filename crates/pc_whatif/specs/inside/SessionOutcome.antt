@@ -7,7 +7,7 @@ use Rattle.pc_shell.specs.declared.status.Status.TheVariants.{Done, Refused, Usa
 use Rattle.pc_shell.specs.Sides.{Side, IsUntouched, Took}
 use Rattle.pc_shell.specs.OneWord.{IsDeckRefused, IsOneWord}
 use Rattle.pc_whatif.specs.Heard.{session_usage_text, Meaning, IsHeardOut, IsHeardTooLong}
-use Rattle.pc_whatif.specs.SessionOutcome.{IsUnread, IsSessionCut}
+use Rattle.pc_whatif.specs.SessionOutcome.{IsSessionUnread, IsSessionCut}
 
 -- what a session that ended with the status means and leaves behind
 pub data SessionOutcome {D C O E : Type 0} (means : Meaning) (words : List (String Global)) (deck : Side D) (edits : Side C) (out : Side O) (err : Side E) : Status → Type 0 where
@@ -16,5 +16,5 @@ pub data SessionOutcome {D C O E : Type 0} (means : Meaning) (words : List (Stri
   deck_refused : IsDeckRefused words deck err → IsUntouched edits → IsUntouched out → SessionOutcome means words deck edits out err Refused
   usage : (IsOneWord words → ⊥) → Took err session_usage_text → IsUntouched deck → IsUntouched edits → IsUntouched out → SessionOutcome means words deck edits out err Usage
   no_memory : IsOneWord words → IsUntouched edits → IsUntouched out → IsUntouched err → SessionOutcome means words deck edits out err OutOfMemory
-  read_fault : IsOneWord words → IsUnread means deck edits out → IsUntouched err → SessionOutcome means words deck edits out err ReadFault
+  read_fault : IsOneWord words → IsSessionUnread means deck edits out → IsUntouched err → SessionOutcome means words deck edits out err ReadFault
   write_fault : IsSessionCut means words deck edits out err → SessionOutcome means words deck edits out err WriteFault

@@ -10,7 +10,7 @@ use crate::edits::ask::Edit;
 use crate::edits::changing::{put, replaced};
 use crate::edits::edits::Edits;
 use crate::edits::judging::judge_edit;
-use crate::edits::kept::Kept;
+use crate::edits::kept::KeptEdit;
 use crate::edits::reason::Reason;
 
 impl Edits<'_> {
@@ -36,7 +36,7 @@ impl Edits<'_> {
         let a = judge_edit(&self.net, &self.estimates, edit)?;
         let was = replaced(&edit.change, &self.net.term(a), &self.estimates[a as usize]);
         put(&mut self.net, &mut self.estimates, a, &edit.change);
-        self.kept.push_back(Kept { activity: a, was });
+        self.kept.push_back(KeptEdit { activity: a, was });
         Ok(a)
     }
 }

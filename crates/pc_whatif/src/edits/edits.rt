@@ -3,7 +3,7 @@ ghost use Rattle.std.specs.Prelude.{◌≡◌, ◌<◌, length};
 ghost use Rattle.pc_whatif.specs.inside.edits.Editing.{IsEditing, net_in};
 ghost use Rattle.pc_whatif.specs.edits.Plans.{estimates_at};
 
-use crate::edits::kept::Kept;
+use crate::edits::kept::KeptEdit;
 use crate::edits::trying::ActTerm;
 use circular_buffer::HeapCircularBuffer;
 use pc_crash::CrashNet;
@@ -22,7 +22,7 @@ pub(crate) struct Edits<'p> {
     pub(in crate::edits) net: CrashNet<'p>,
     pub(in crate::edits) estimates: Vec<Estimates>,
     pub(in crate::edits) unit_days: u64,
-    pub(in crate::edits) kept: HeapCircularBuffer<Kept>,
+    pub(in crate::edits) kept: HeapCircularBuffer<KeptEdit>,
     /// The term that a trial replaces.
     pub(in crate::edits) aside: Option<ActTerm>,
 }

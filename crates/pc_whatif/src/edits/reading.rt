@@ -1,7 +1,7 @@
 //! Reading a line: its first word says what it asks for, and its fields are read one after the other.
 ghost use Rattle.std.specs.Prelude.{◌≡◌};
 ghost use Rattle.pc_text.specs.Fields.{alone};
-ghost use Rattle.pc_whatif.specs.edits.Reading.{ask_of, ask_with, estimate_of, amount_of, edit_of, normal_of, crash_of, slope_of, try_of};
+ghost use Rattle.pc_whatif.specs.edits.Reading.{ask_of, ask_with, estimate_ask, amount_of, edit_of, normal_ask, crash_ask, slope_ask, try_ask};
 
 use crate::edits::ask::{Ask, Change, Edit, MAX_LINE, Trial};
 use crate::edits::field::number_field;
@@ -61,7 +61,7 @@ fn edit_of(act: Code, change: Change) -> Ask
 
 #[tactic(auto, unfolding(crate::specs::edits::Reading::estimate_of, pc_text::specs::Fields::field_by))]
 fn estimate_of(fields: &[u8]) -> Option<Ask>
-    ensures { result ≡ estimate_of fields.now }
+    ensures { result ≡ estimate_ask fields.now }
 {
     let (word, rest) = field(fields)?;
     let act = Code::read(word)?;
@@ -93,7 +93,7 @@ fn amount_of(fields: &[u8]) -> Option<(Code, u64)>
 
 #[tactic(auto, unfolding(crate::specs::edits::Reading::normal_of))]
 fn normal_of(fields: &[u8]) -> Option<Ask>
-    ensures { result ≡ normal_of fields.now }
+    ensures { result ≡ normal_ask fields.now }
 {
     let (act, n) = amount_of(fields)?;
     Some(edit_of(act, Change::Normal(n)))
@@ -101,7 +101,7 @@ fn normal_of(fields: &[u8]) -> Option<Ask>
 
 #[tactic(auto, unfolding(crate::specs::edits::Reading::crash_of))]
 fn crash_of(fields: &[u8]) -> Option<Ask>
-    ensures { result ≡ crash_of fields.now }
+    ensures { result ≡ crash_ask fields.now }
 {
     let (act, n) = amount_of(fields)?;
     Some(edit_of(act, Change::Crash(n)))
@@ -109,7 +109,7 @@ fn crash_of(fields: &[u8]) -> Option<Ask>
 
 #[tactic(auto, unfolding(crate::specs::edits::Reading::slope_of))]
 fn slope_of(fields: &[u8]) -> Option<Ask>
-    ensures { result ≡ slope_of fields.now }
+    ensures { result ≡ slope_ask fields.now }
 {
     let (act, n) = amount_of(fields)?;
     Some(edit_of(act, Change::Slope(n)))
@@ -117,7 +117,7 @@ fn slope_of(fields: &[u8]) -> Option<Ask>
 
 #[tactic(auto, unfolding(crate::specs::edits::Reading::try_of, pc_text::specs::Fields::field_by))]
 fn try_of(fields: &[u8]) -> Option<Ask>
-    ensures { result ≡ try_of fields.now }
+    ensures { result ≡ try_ask fields.now }
 {
     let (word, rest) = field(fields)?;
     let act = Code::read(word)?;

@@ -11,7 +11,7 @@ ghost use Rattle.pc_times.specs.Times.{AreLengths};
 ghost use Rattle.pc_times.specs.declared.TheConstants.{MAX_LENGTH, MAX_TIME};
 ghost use Rattle.pc_whatif.specs.inside.trials.Laid.{AreAtMost};
 ghost use Rattle.pc_whatif.specs.inside.trials.Reserved.{IsChangedTo, IsFor, IsStanding, IsStandingOf, path_in, with_estimates, with_times};
-ghost use Rattle.pc_curve.specs.Range.{IsRange, IsWithin};
+ghost use Rattle.pc_curve.specs.Range.{IsRange, IsLengthInRange};
 ghost use Rattle.pc_whatif.specs.inside.trials.Trials.{HasRoom, looks_over, trial_cells};
 
 use crate::trials::renewing::renew_times;
@@ -266,7 +266,7 @@ impl Reservation {
     ) -> Option<u64>
         requires room { HasRoom net.now self.old }
         ensures least { IfSome result (curve_in net.now limit) }
-        ensures within { IsSome result ↔ IsWithin net.now limit }
+        ensures within { IsSome result ↔ IsLengthInRange net.now limit }
         ensures kept { self.new ≡ self.old }
         ensures counted { (shortest longest : ℕ) → IsRange net.now shortest longest →
             steps.new ≤ steps.old + looks_over net.now (longest - shortest) }

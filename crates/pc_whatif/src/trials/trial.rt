@@ -5,7 +5,7 @@ ghost use Rattle.pc_curve.specs.Points.{curve_in};
 ghost use Rattle.pc_edges.specs.inside.Writes.{Writes};
 ghost use Rattle.pc_flow.specs.Courses.{IsSameCurve};
 ghost use Rattle.pc_edges.specs.inside.page.Page.{fresh};
-ghost use Rattle.pc_curve.specs.Range.{IsRange, IsWithin};
+ghost use Rattle.pc_curve.specs.Range.{IsRange, IsLengthInRange};
 ghost use Rattle.pc_whatif.specs.inside.trials.Trials.{HasCells, looks_over};
 
 use pc_cells::Region;
@@ -28,7 +28,7 @@ pub(in crate::trials) fn trial_cost<L: Ledger>(
     requires room { IfSome home.old (HasCells net.now) }
     ensures home { home.new ≡ home.old }
     ensures least { IfSome result (curve_in net.now limit) }
-    ensures within { IsSome result ↔ IsWithin net.now limit }
+    ensures within { IsSome result ↔ IsLengthInRange net.now limit }
     ensures counted { (shortest longest : ℕ) → IsRange net.now shortest longest →
         steps.new ≤ steps.old + looks_over net.now (longest - shortest) }
 {
@@ -49,7 +49,7 @@ fn put_back(home: &mut Option<Region>, solver: Solver<'_>)
 fn cost_within<L: Ledger>(solver: &mut Solver<'_>, limit: u64, steps: &mut Steps<L>) -> Option<u64>
     requires { solver.old.given ≡ false }
     ensures least { IfSome result (curve_in solver.old.net limit) }
-    ensures within { IsSome result ↔ IsWithin solver.old.net limit }
+    ensures within { IsSome result ↔ IsLengthInRange solver.old.net limit }
     ensures same { IsSameCurve solver.old solver.new }
     ensures counted { steps.new ≤ steps.old + looks_over solver.old.net (solver.old.longest - solver.old.shortest) }
 {

@@ -1,6 +1,6 @@
 use Rattle.std.proofs.Common.{◌≡◌, true, false, [], ◌∷◌, ◌++◌, sym, ◌∙◌}
 use Rattle.std.proofs.lemmas.List.Elements.{All-nil, All-push}
-use Rattle.pc_cert.specs.Text.{AllFit}
+use Rattle.pc_cert.specs.Text.{AreWritable}
 use Rattle.pc_edges.proofs.lemmas.page.PageLaws.{Adds-as, ◌⨾◌}
 use Rattle.pc_cert.specs.Document.{segment_lines}
 use Rattle.pc_certify.proofs.CertifiedLaws.{text_begins, text_goes_on, walk_known}
@@ -20,7 +20,7 @@ loop-page-init g c = record {
     segments = [];
     given = given-none _ _ c.requires.solver;
     text = Adds-as _ (sym (text_begins c.args.net.now c.args.walks.now.normal.path c.args.walks.now.crash.path)) (rw (← c.path.ensures, ← c.path-2.ensures) c.put_head.ensures.text);
-    fit = All-nil (λ seg. AllFit (segment_lines c.args.net.now seg));
+    fit = All-nil (λ seg. AreWritable (segment_lines c.args.net.now seg));
   };
   events = c.requires.events;
   acts = c.requires.acts;
@@ -44,7 +44,7 @@ loop-page-preserved g c =
         segments = had.segments ++ seg ∷ [];
         given = given-more net c.loop-page.solver c.next_segment.new.self had.segments had.given goes_on c.next_segment.ensures.same next;
         text = Adds-as _ (text_goes_on net c.args.walks.now.normal.path c.args.walks.now.crash.path had.segments seg) (had.text ⨾ c.put_segment_by.ensures.text);
-        fit = All-push (λ seg. AllFit (segment_lines net seg)) had.segments seg had.fit (c.put_segment_by.ensures.fit small);
+        fit = All-push (λ seg. AreWritable (segment_lines net seg)) had.segments seg had.fit (c.put_segment_by.ensures.fit small);
       };
       events = c.put_segment_by.ensures.events;
       acts = c.put_segment_by.ensures.acts;

@@ -9,7 +9,7 @@ use Rattle.pc_laws.specs.Curve.{Breakpoint, AreBreakpoints}
 use Rattle.pc_crash.specs.Priced.{PricedNetwork}
 use Rattle.pc_curve.specs.Points.{curve_in}
 use Rattle.pc_curve.proofs.OneTextLaws.{one_cost, one_points}
-use Rattle.pc_curve.specs.declared.bench.figures.Figures.{Figures}
+use Rattle.pc_curve.specs.declared.bench.figures.CurveFigures.{CurveFigures}
 use Rattle.pc_curve.specs.bench.Figures.{HasBreaks, IsFiguresOf, IsSumOfCosts}
 use Rattle.pc_curve.specs.bench.Report.{IsBenchText, bench_text}
 
@@ -25,13 +25,13 @@ one_sum net shortest longest m n ordered p q =
     (q.least (longest - k) (omega (arith, lt, ordered)) (omega arith)))
     ∙ sym q.total)
 
-abbrev make_figures : ℕ → ℕ → ℕ → ℕ → ℕ → ℕ → Figures
+abbrev make_figures : ℕ → ℕ → ℕ → ℕ → ℕ → ℕ → CurveFigures
 make_figures a b c d e f = record { longest = a; longest_cost = b; shortest = c; shortest_cost = d; breaks = e; sum = f }
 
 same_figures : {a b c d e f g h i j k l : ℕ} → a ≡ b → c ≡ d → e ≡ f → g ≡ h → i ≡ j → k ≡ l → make_figures a c e g i k ≡ make_figures b d f h j l
 same_figures p q r s t u = rw (p, q, r, s, t, u) refl
 
-one_figures : (net : PricedNetwork) (f g : Figures) → AreTerms net.network net.terms → IsFiguresOf net f → IsFiguresOf net g → f ≡ g
+one_figures : (net : PricedNetwork) (f g : CurveFigures) → AreTerms net.network net.terms → IsFiguresOf net f → IsFiguresOf net g → f ≡ g
 one_figures net f g terms p q =
     let long = greatest_unique _ f.longest g.longest p.all_normal q.all_normal in
     let short = greatest_unique _ f.shortest g.shortest p.all_crash q.all_crash in

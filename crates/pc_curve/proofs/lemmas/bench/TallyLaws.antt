@@ -18,7 +18,7 @@ use Rattle.pc_flow.specs.Courses.{Course, upper_of, lower_of, IsSameCurve}
 use Rattle.pc_flow.specs.inside.Courses.{present, HasEnded, IsNext}
 use Rattle.pc_flow.specs.declared.early.TheConstants.{MAX_LENGTH}
 use Rattle.pc_curve.specs.Points.{curve_in}
-use Rattle.pc_curve.specs.declared.bench.figures.Tally.{Tally}
+use Rattle.pc_curve.specs.declared.bench.figures.CurveTally.{CurveTally}
 use Rattle.pc_curve.specs.bench.Figures.{HasBreaks, IsSumOfCosts}
 use Rattle.pc_curve.specs.inside.bench.Tallies.{IsSmall, costs_below, first_tally, most_cost, next_tally}
 use Rattle.pc_curve.proofs.lemmas.bench.SumLaws.{sum_to-most, costs-on, least-on, total-on}
@@ -31,7 +31,7 @@ pub record IsAlong (net : PricedNetwork) (longest shortest : ℕ) (c : Course) :
   pub same_shortest : c.shortest ≡ shortest
 
 -- the tally is that of the segments that the solver gave so far, from the longest length down
-pub record IsTallied (net : PricedNetwork) (longest shortest : ℕ) (c : Course) (t : Tally) : Type 0 where
+pub record IsTallied (net : PricedNetwork) (longest shortest : ℕ) (c : Course) (t : CurveTally) : Type 0 where
   pub along : IsAlong net longest shortest c
   pub given : c.given ≡ true
   pub first : Segment
@@ -153,7 +153,7 @@ module _ (net : PricedNetwork) (priced : IsPriced net.network net.terms (knees_i
             );
           }
 
-    module _ (t : Tally) (so_far : IsTallied net longest shortest c t) (going : HasEnded c → ⊥) where
+    module _ (t : CurveTally) (so_far : IsTallied net longest shortest c t) (going : HasEnded c → ⊥) where
       above_end : shortest < lower_of c
       above_end =
           elim (cases_lt shortest (lower_of c)) [
@@ -227,7 +227,7 @@ module _ (net : PricedNetwork) (priced : IsPriced net.network net.terms (knees_i
 
   -- The end of the curve
 
-  module _ (c : Course) (t : Tally) (all : IsTallied net longest shortest c t) (ended : HasEnded c) where
+  module _ (c : Course) (t : CurveTally) (all : IsTallied net longest shortest c t) (ended : HasEnded c) where
     at_end : lower_of c ≡ shortest
     at_end = ended.lowest ∙ all.along.same_shortest
 

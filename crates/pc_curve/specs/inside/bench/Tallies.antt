@@ -3,18 +3,18 @@ use Rattle.std.specs.Prelude.{ℕ, ◌+◌, ◌-◌, ◌*◌, ◌^◌, ◌<◌, 
 use Rattle.pc_model.specs.Sums.{sum_to}
 use Rattle.pc_laws.specs.Segment.{Segment, cost_for, span}
 use Rattle.pc_flow.specs.declared.early.TheConstants.{MAX_LENGTH}
-use Rattle.pc_curve.specs.declared.bench.figures.Tally.{Tally}
+use Rattle.pc_curve.specs.declared.bench.figures.CurveTally.{CurveTally}
 
 -- the sum of the costs of all lengths of the segment below its upper end
 abbrev pub costs_below : Segment → ℕ
 costs_below seg = sum_to (span seg) (λ k. cost_for seg (seg.upper - (k + 1)))
 
 -- what the first segment comes to
-abbrev pub first_tally : Segment → Tally
+abbrev pub first_tally : Segment → CurveTally
 first_tally seg = record { slope = seg.slope; breaks = 1; sum = seg.cost + costs_below seg }
 
 -- and what one more does: where the slope changes, the curve breaks
-abbrev pub next_tally : Tally → Segment → Tally
+abbrev pub next_tally : CurveTally → Segment → CurveTally
 next_tally tally seg = record {
   slope = seg.slope;
   breaks = tally.breaks + (if tally.slope == seg.slope then 0 else 1);
@@ -33,6 +33,6 @@ abbrev pub most_cost : ℕ
 most_cost = 2 * 10 ^ 27
 
 -- a tally leaves room for a segment more
-pub record HasRoomFor (tally : Tally) (seg : Segment) : Type 0 where
+pub record HasRoomFor (tally : CurveTally) (seg : Segment) : Type 0 where
   pub breaks : tally.breaks ≤ MAX_LENGTH + 1
   pub sum : tally.sum ≤ MAX_LENGTH * most_cost + most_cost

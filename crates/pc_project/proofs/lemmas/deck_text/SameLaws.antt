@@ -9,7 +9,7 @@ use Rattle.pc_times.specs.declared.state.ActState.{ActState}
 use Rattle.pc_deck.specs.declared.kinds.act.ActCard.{ActCard}
 use Rattle.pc_deck.specs.Deck.{Deck, account_codes, act_codes, event_codes, item_codes, named_among, number_among, resource_codes}
 use Rattle.pc_project.specs.Project.{account_of, accounts_in, arc_of, charges_in, counts_of, expected_of, heading_of, load_of, money_of, network_of, piece_of, pieces_in}
-use Rattle.pc_project.specs.Project.{place_of, project_in, row_of, rows_of, status_of, statuses_in, term_of, terms_in, togos_in, variance_in, work_in, work_of}
+use Rattle.pc_project.specs.Project.{item_of_act, project_in, row_of, rows_of, status_of, statuses_in, term_of, terms_in, togos_in, variance_in, work_in, work_of}
 use Rattle.pc_project.specs.deck_text.Same.{SayTheSame, account_said, act_said, item_said, load_said, money_said, piece_said, status_said, titled_said}
 
 -- what is read of each element alike before and behind a function is the same of two lists that the function makes one
@@ -107,8 +107,8 @@ module _ (a b : Deck) (same : SayTheSame a b) where
       ∙ of_said item_said (row_of b) a.items b.items same.items
 
   -- the activities
-  places : map (place_of a) a.acts ≡ map (place_of b) b.acts
-  places = (λ i. map (λ act. item_numbers i act.item) a.acts) ∙ of_said act_said (place_of b) a.acts b.acts same.acts
+  places : map (item_of_act a) a.acts ≡ map (item_of_act b) b.acts
+  places = (λ i. map (λ act. item_numbers i act.item) a.acts) ∙ of_said act_said (item_of_act b) a.acts b.acts same.acts
 
   pub same_terms : terms_in a ≡ terms_in b
   same_terms = of_said act_said term_of a.acts b.acts same.acts

@@ -5,7 +5,7 @@ use Rattle.pc_deck.specs.Deck.{Deck}
 use Rattle.pc_model.specs.declared.Arc.{Arc}
 use Rattle.pc_model.specs.Network.{IsInRange, IsSound, Network}
 use Rattle.pc_faults.specs.declared.kind.Kind.TheVariants.{Act}
-use Rattle.pc_net.specs.Refusals.{IsRefusal}
+use Rattle.pc_net.specs.Refusals.{IsNetError}
 use Rattle.pc_project.specs.Project.{arc_of, network_of}
 use Rattle.pc_project.specs.inside.Numbered.{AreNumbersOf}
 use Rattle.pc_project.specs.inside.Project.{placement_of}
@@ -56,7 +56,7 @@ returns-in-Ok-clause-sound c =
 
 pub fault_of-requires : goal.fault_of-requires
 fault_of-requires c =
-    subst (λ net. IsRefusal net c.in-Err.error)
+    subst (λ net. IsNetError net c.in-Err.error)
     (net_is c.args.cards.now c.args.numbers.now _ c.deref-2.result.now c.deref.result.now c.requires.numbers
     (ap length c.events.ensures.cards) (c.deref-2.ensures.value ∙ c.in_ok-arcs.ensures) c.deref.ensures.value)
     c.in-Err.ensures.refused
@@ -64,7 +64,7 @@ fault_of-requires c =
 pub returns-clause-refused : goal.returns-clause-refused
 returns-clause-refused c =
     refused_by_net c.args.cards.now c.in-Err.error c.fault_of.result c.requires.numbers.faultless c.requires.tree
-    (subst (λ net. IsRefusal net c.in-Err.error)
+    (subst (λ net. IsNetError net c.in-Err.error)
     (net_is c.args.cards.now c.args.numbers.now _ c.deref-2.result.now c.deref.result.now c.requires.numbers
     (ap length c.events.ensures.cards) (c.deref-2.ensures.value ∙ c.in_ok-arcs.ensures) c.deref.ensures.value)
     c.in-Err.ensures.refused)

@@ -6,8 +6,8 @@ use Rattle.std.proofs.lemmas.List.Sums.{sum_by_push, sum_by_more}
 use Rattle.std.proofs.Math.Seq.{take-length}
 use Rattle.pc_model.specs.declared.limits.TheConstants.{MAX_COST}
 use Rattle.pc_accounts.specs.declared.entry.Entry.{Entry}
-use Rattle.pc_accounts.specs.Entries.{entry_at, AreSmall}
-use Rattle.pc_accounts.specs.Entries.{IsSmall}
+use Rattle.pc_accounts.specs.Entries.{entry_at, AreEntriesWithinLimits}
+use Rattle.pc_accounts.specs.Entries.{IsEntryWithinLimits}
 use Rattle.std.proofs.lemmas.Int.{ints}
 use Rattle.pc_rollup.specs.declared.figures.figures.Figure.{Figure}
 use Rattle.pc_rollup.specs.declared.figures.figures.Figure.TheVariants.{Budget, Actual, ToGo, Latest, Overrun}
@@ -35,14 +35,14 @@ amounts_more amount entries n amounts more next so_far within pushed is bound =
     })
 
 -- all of them together fit
-pub amounts_fit : (amount : ℕ → ℤ) (entries : List Entry) (n : ℕ) (amounts : List ℤ) → AreSmall entries → n ≡ length entries →
+pub amounts_fit : (amount : ℕ → ℤ) (entries : List Entry) (n : ℕ) (amounts : List ℤ) → AreEntriesWithinLimits entries → n ≡ length entries →
     AreAmountsTo amount entries n amounts → sum_by unsigned_abs amounts < 2 ^ 63
 amounts_fit amount entries n amounts small all so_far =
     let whole : take n entries ≡ entries = ap (λ (k : ℕ). take k entries) all ∙ take-length entries in
     omega (arith, so_far.small, small.together, small.few, ap (sum_by (λ (e : Entry). e.actual)) whole)
 
 -- no figure is greater than what was spent, the budget and what is to go
-pub figure_small : (figure : Figure) (entry : Entry) → IsSmall entry → unsigned_abs (figure_of figure entry) ≤ entry.actual + 2 * MAX_COST
+pub figure_small : (figure : Figure) (entry : Entry) → IsEntryWithinLimits entry → unsigned_abs (figure_of figure entry) ≤ entry.actual + 2 * MAX_COST
 figure_small Budget entry small = omega (arith, small.budget)
 figure_small Actual entry small = omega arith
 figure_small ToGo entry small = omega (arith, small.to_go)

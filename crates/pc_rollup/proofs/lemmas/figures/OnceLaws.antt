@@ -16,10 +16,10 @@ use Rattle.pc_rollup.proofs.SumLaws.{IsSumOver-only}
 use Rattle.pc_times.specs.declared.state.ActState.{ActState}
 use Rattle.pc_rollup.specs.declared.figures.figures.Figure.TheVariants.{Budget, Actual, ToGo, Latest, Overrun}
 use Rattle.pc_rollup.specs.declared.figures.outline.OutlineRow.{OutlineRow}
-use Rattle.pc_rollup.specs.figures.Columns.{AreOnTree, AreItemSums, Column, IsColumn, IsLevelSum}
+use Rattle.pc_rollup.specs.figures.Columns.{AreOnTree, AreItemSums, AmountColumn, IsColumn, IsLevelSum}
 use Rattle.pc_rollup.specs.inside.figures.Columns.{IsTotal}
 use Rattle.pc_rollup.specs.figures.Figures.{figure_at}
-use Rattle.pc_rollup.specs.figures.Outline.{AreInOrder, IsOutline, row_at}
+use Rattle.pc_rollup.specs.figures.Outline.{AreOutlineRows, IsOutline, row_at}
 use Rattle.pc_rollup.specs.figures.Packages.{IsValueOf, overrun_at}
 use Rattle.pc_rollup.specs.figures.Slacks.{AreLeastSlacks}
 use Rattle.pc_rollup.specs.figures.Summary.{IsSummaryOf, Summary}
@@ -40,9 +40,9 @@ module _ (tree : List ItemRow) (accounts : List AcctRow) (ranged : AreInRange tr
   level_sum_is amount totals level sum sums (lines, (are, is)) =
       subst (λ (z : ℤ). IsTotal accounts amount z) (sym is) (lines_are_whole tree accounts amount totals (level + 1) lines ranged sound on_tree sums (omega arith) are)
 
-  one_column : (amount : ℕ → ℤ) (c d : Column) → IsColumn tree accounts amount c → IsColumn tree accounts amount d → c ≡ d
+  one_column : (amount : ℕ → ℤ) (c d : AmountColumn) → IsColumn tree accounts amount c → IsColumn tree accounts amount d → c ≡ d
   one_column amount c d x y =
-      let make : List ℤ → List ℤ → Column = λ items levels. record { items = items; levels = levels } in
+      let make : List ℤ → List ℤ → AmountColumn = λ items levels. record { items = items; levels = levels } in
       let depth = levels_same tree accounts amount amount c d x y in
       ap (λ items. make items c.levels) (one_item_sums tree accounts amount c.items d.items x.items y.items)
       ∙ ap (λ levels. make d.items levels)
@@ -58,7 +58,7 @@ one_row l m items levels =
     let make : ℕ → ℕ → OutlineRow = λ item level. record { item = item; level = level } in
     ap (λ item. make item l.level) items ∙ ap (λ level. make m.item level) levels
 
-rows_in_order : (tree : List ItemRow) (order : List ℕ) (xs ys : List OutlineRow) → AreInOrder tree order xs → AreInOrder tree order ys → xs ≡ ys
+rows_in_order : (tree : List ItemRow) (order : List ℕ) (xs ys : List OutlineRow) → AreOutlineRows tree order xs → AreOutlineRows tree order ys → xs ≡ ys
 rows_in_order tree order xs ys a b =
     ext_get_or (record { item = 0; level = 0 }) xs ys (a.one_each ∙ sym b.one_each)
     (λ k lt. let p = a.each k (omega (arith, lt, a.one_each)) in
@@ -69,14 +69,14 @@ rows_in_order tree order xs ys a b =
 
 pub one_outline : (tree : List ItemRow) (xs ys : List OutlineRow) → IsTree tree → IsOutline tree xs → IsOutline tree ys → xs ≡ ys
 one_outline tree xs ys sound (order, (preorder, are)) (other, (also, in_order)) =
-    rows_in_order tree other xs ys (subst (λ (o : List ℕ). AreInOrder tree o xs) (one_preorder tree sound order other preorder also) are) in_order
+    rows_in_order tree other xs ys (subst (λ (o : List ℕ). AreOutlineRows tree o xs) (one_preorder tree sound order other preorder also) are) in_order
 
 -- ---- the summary
 
-abbrev make_summary : List OutlineRow → Column → Column → Column → Column → Column → Summary
+abbrev make_summary : List OutlineRow → AmountColumn → AmountColumn → AmountColumn → AmountColumn → AmountColumn → Summary
 make_summary o b a t l v = record { outline = o; budget = b; actual = a; to_go = t; latest = l; overrun = v }
 
-same_parts : {o p : List OutlineRow} {b c a d t u l m v w : Column} → o ≡ p → b ≡ c → a ≡ d → t ≡ u → l ≡ m → v ≡ w → make_summary o b a t l v ≡ make_summary p c d u m w
+same_parts : {o p : List OutlineRow} {b c a d t u l m v w : AmountColumn} → o ≡ p → b ≡ c → a ≡ d → t ≡ u → l ≡ m → v ≡ w → make_summary o b a t l v ≡ make_summary p c d u m w
 same_parts f g h i j k = rw (f, g, h, i, j, k) refl
 
 pub one_summary : (tree : List ItemRow) (accounts : List AcctRow) (entries : List Entry) (s t : Summary) → AreInRange tree → IsTree tree →

@@ -15,7 +15,7 @@ use Rattle.pc_wbs.proofs.OrderLaws.{IsBelow-top}
 use Rattle.pc_accounts.specs.declared.entry.Entry.{Entry}
 use Rattle.pc_accounts.specs.declared.rows.AcctRow.{AcctRow}
 use Rattle.pc_accounts.specs.Amounts.{item_of}
-use Rattle.pc_accounts.specs.Entries.{AreSmall}
+use Rattle.pc_accounts.specs.Entries.{AreEntriesWithinLimits}
 use Rattle.pc_rollup.specs.declared.totals.Placed.{Placed}
 use Rattle.pc_rollup.specs.Sums.{IsSumOver}
 use Rattle.pc_rollup.specs.Totals.{amount_at}
@@ -211,7 +211,7 @@ works_are tree places costs placed works are sums = record {
 -- How great the amounts are
 
 -- sums of budgets
-pub budgets_add : (tree : List ItemRow) (accounts : List AcctRow) (entries : List Entry) (totals : List ℤ) → AreSmall entries →
+pub budgets_add : (tree : List ItemRow) (accounts : List AcctRow) (entries : List Entry) (totals : List ℤ) → AreEntriesWithinLimits entries →
     length entries ≡ length accounts → AreItemSums tree accounts (figure_at Budget entries) totals → CanBeAdded totals
 budgets_add tree accounts entries totals small each sums = λ y lt.
     let bound = IsSumOver-bound (λ a. IsBelow tree (item_of accounts a) y) (length accounts) (figure_at Budget entries) (amount_at totals y) (sums.each y (omega (arith, sums.one_each))) in

@@ -16,7 +16,7 @@ use Rattle.pc_rollup.specs.Totals.{amount_at}
 use Rattle.pc_rollup.specs.inside.Totals.{place_of, amount_of, AreTotalsOf}
 use Rattle.pc_rollup.proofs.SumLaws.{IsSumOver-same, unsigned_abs-add}
 use Rattle.pc_rollup.proofs.WholeLaws.{lines_sum}
-use Rattle.pc_rollup.specs.figures.Columns.{AreOnTree, AreItemSums, Column, IsColumn, IsLevelSum, AreLevelSums, AddUpTo}
+use Rattle.pc_rollup.specs.figures.Columns.{AreOnTree, AreItemSums, AmountColumn, IsColumn, IsLevelSum, AreLevelSums, AddUpTo}
 use Rattle.pc_rollup.specs.inside.figures.Columns.{IsTotal, IsWhole}
 use Rattle.pc_rollup.proofs.lemmas.figures.PushLaws.{each_more}
 use Rattle.pc_rollup.specs.inside.figures.ColumnParts.{ArePlaced}
@@ -148,13 +148,13 @@ pub sum_of-more : (lines : List LevelLine) (i : ℕ) → i < length lines → su
 sum_of-more lines i lt = fold_more (λ (sum : ℤ) (line : LevelLine). sum +ℤ line.amount) (pos 0) lines i (record { item = 0; amount = pos 0 }) lt
 
 -- a column of amounts is one of other amounts of the same value
-pub column_alike : (tree : List ItemRow) (accounts : List AcctRow) (f g : ℕ → ℤ) (column : Column) →
+pub column_alike : (tree : List ItemRow) (accounts : List AcctRow) (f g : ℕ → ℤ) (column : AmountColumn) →
     ((a : ℕ) → a < length accounts → f a ≡ g a) → IsColumn tree accounts f column → IsColumn tree accounts g column
 column_alike tree accounts f g column same is =
     record { items = item_sums_alike tree accounts f g column.items same is.items; levels = is.levels }
 
 -- where all accounts together have a sum, the lines of each level add up to it
-pub adds_up : (tree : List ItemRow) (accounts : List AcctRow) (f g : ℕ → ℤ) (sum : ℤ) (column : Column) →
+pub adds_up : (tree : List ItemRow) (accounts : List AcctRow) (f g : ℕ → ℤ) (sum : ℤ) (column : AmountColumn) →
     ((a : ℕ) → a < length accounts → f a ≡ g a) → ((t : ℤ) → IsTotal accounts g t → t ≡ sum) → IsColumn tree accounts f column →
     IsWhole accounts f column → AddUpTo tree sum column
 adds_up tree accounts f g sum column same total is whole = λ k lt.

@@ -2,7 +2,7 @@ use Rattle.std.proofs.Common.{subst, ◌⊎◌}
 use Rattle.std.specs.List.{Any}
 use Rattle.pc_faults.specs.inside.First.{IsFirstIn}
 use Rattle.pc_project.specs.Misfit.{HasAccountFault, HasItemFault, HasMoneyFault}
-use Rattle.pc_tasks.specs.Misfit.{HasEndsFault, HasLoadFault, HasNameFault, HasTaskFault}
+use Rattle.pc_tasks.specs.Misfit.{HasEndsFault, HasTaskLoadFault, HasNameFault, HasTaskFault}
 use Rattle.pc_faults.proofs.FirstLaws.{first_of_either}
 use Rattle.pc_project.proofs.MisfitLaws.{OfAccounts, OfCharges, OfItems, OfTogos}
 use Rattle.pc_tasks.proofs.MisfitLemmas.{Figures, OfAfters, OfLoads, OfPieces, OfStatuses, OfTasks, Plan, first_of_all_cards}
@@ -16,7 +16,7 @@ returns c =
     let pieces = subst (λ cards. IsFirstIn
     (λ fault. Any (λ card. HasNameFault deck card.row card.activity fault) cards) c.first_fault-of_pieces.result) c.pieces.ensures.cards
     c.first_fault-of_pieces.ensures in
-    let loads = subst (λ cards. IsFirstIn (λ fault. Any (λ card. HasLoadFault deck card fault) cards) c.first_fault-of_loads.result) c.loads.ensures.cards c.first_fault-of_loads.ensures in
+    let loads = subst (λ cards. IsFirstIn (λ fault. Any (λ card. HasTaskLoadFault deck card fault) cards) c.first_fault-of_loads.result) c.loads.ensures.cards c.first_fault-of_loads.ensures in
     let accounts = subst (λ cards. IsFirstIn
     (λ fault. Any (λ card. HasAccountFault deck card fault) cards) c.first_fault-of_accounts.result) c.accounts.ensures.cards
     c.first_fault-of_accounts.ensures in

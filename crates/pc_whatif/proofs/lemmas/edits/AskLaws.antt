@@ -14,7 +14,7 @@ use Rattle.pc_whatif.specs.declared.edits.ask.TheConstants.{MAX_LINE}
 use Rattle.pc_text.specs.Fields.{◌>>=◌, run_len, code_field, alone, spaced, IsCode}
 use Rattle.pc_whatif.specs.edits.Fields.{number_field}
 use Rattle.pc_whatif.specs.inside.edits.Lines.{spelling, Fits, Asks, IsSmall}
-use Rattle.pc_whatif.specs.edits.Reading.{edit_of, estimate_of, amount_of, normal_of, crash_of, slope_of, try_of, ask_with, ask_of}
+use Rattle.pc_whatif.specs.edits.Reading.{edit_of, estimate_ask, amount_of, normal_ask, crash_ask, slope_ask, try_ask, ask_with, ask_of}
 use Rattle.pc_text.proofs.SpellingLemmas.{IsSpelled, either, no_name, one_word}
 use Rattle.pc_text.proofs.FieldLemmas.{bind_some, alone_takes, unless_takes, unless_again, nothing, space, code_field_takes, code_field_again}
 use Rattle.pc_whatif.proofs.lemmas.edits.FieldLemmas.{number_field_takes, number_field_again}
@@ -25,8 +25,8 @@ IsAsk word fields a = IsSpelled spelling Fits word fields a
 
 -- ---- estimates
 
-estimate_takes : (fields : List ℕ) (a : Ask) → estimate_of fields ≡ Some a → IsAsk (codes "ESTIMATE") fields a
-unfolding estimate_of
+estimate_takes : (fields : List ℕ) (a : Ask) → estimate_ask fields ≡ Some a → IsAsk (codes "ESTIMATE") fields a
+unfolding estimate_ask
 estimate_takes fields a e =
     let made = λ (code : List ℕ) (opt likely pess : ℕ). edit_of code (Estimate (record { optimistic = opt; likely = likely; pessimistic = pess })) in
     let code = bind_some (code_field fields)
@@ -53,8 +53,8 @@ estimate_takes fields a e =
     })
 
 estimate_again : (act : List ℕ) (new : Estimates) → Fits (edit_of act (Estimate new)) →
-    estimate_of (spaced act (spaced (decimal new.optimistic) (spaced (decimal new.likely) (spaced (decimal new.pessimistic) [])))) ≡ Some (edit_of act (Estimate new))
-unfolding estimate_of
+    estimate_ask (spaced act (spaced (decimal new.optimistic) (spaced (decimal new.likely) (spaced (decimal new.pessimistic) [])))) ≡ Some (edit_of act (Estimate new))
+unfolding estimate_ask
 estimate_again act new h =
     rw (
       code_field_again act (spaced (decimal new.optimistic) (spaced (decimal new.likely) (spaced (decimal new.pessimistic) []))) (h.0) (space _),
@@ -92,43 +92,43 @@ amount_again act n code small =
 some_same : (x y : Ask) → Some x ≡ Some y → x ≡ y
 some_same x y e = cc
 
-normal_takes : (fields : List ℕ) (a : Ask) → normal_of fields ≡ Some a → IsAsk (codes "NORMAL") fields a
-unfolding normal_of
+normal_takes : (fields : List ℕ) (a : Ask) → normal_ask fields ≡ Some a → IsAsk (codes "NORMAL") fields a
+unfolding normal_ask
 normal_takes fields a e =
     let amount = bind_some (amount_of fields) (λ amount. Some (edit_of (amount.0) (Normal (amount.1)))) a e in
     let is = amount_takes fields (amount.0) (amount.1) in
     subst (λ l. IsAsk (codes "NORMAL") fields l) (some_same _ _ (amount.2)) (record { text = ap (λ x. codes "NORMAL" ++ x) is.text; fits = (is.code_is, is.small) })
 
-crash_takes : (fields : List ℕ) (a : Ask) → crash_of fields ≡ Some a → IsAsk (codes "CRASH") fields a
-unfolding crash_of
+crash_takes : (fields : List ℕ) (a : Ask) → crash_ask fields ≡ Some a → IsAsk (codes "CRASH") fields a
+unfolding crash_ask
 crash_takes fields a e =
     let amount = bind_some (amount_of fields) (λ amount. Some (edit_of (amount.0) (Crash (amount.1)))) a e in
     let is = amount_takes fields (amount.0) (amount.1) in
     subst (λ l. IsAsk (codes "CRASH") fields l) (some_same _ _ (amount.2)) (record { text = ap (λ x. codes "CRASH" ++ x) is.text; fits = (is.code_is, is.small) })
 
-slope_takes : (fields : List ℕ) (a : Ask) → slope_of fields ≡ Some a → IsAsk (codes "SLOPE") fields a
-unfolding slope_of
+slope_takes : (fields : List ℕ) (a : Ask) → slope_ask fields ≡ Some a → IsAsk (codes "SLOPE") fields a
+unfolding slope_ask
 slope_takes fields a e =
     let amount = bind_some (amount_of fields) (λ amount. Some (edit_of (amount.0) (Slope (amount.1)))) a e in
     let is = amount_takes fields (amount.0) (amount.1) in
     subst (λ l. IsAsk (codes "SLOPE") fields l) (some_same _ _ (amount.2)) (record { text = ap (λ x. codes "SLOPE" ++ x) is.text; fits = (is.code_is, is.small) })
 
-normal_again : (act : List ℕ) (n : ℕ) → IsCode act → IsSmall n → normal_of (spaced act (spaced (decimal n) [])) ≡ Some (edit_of act (Normal n))
-unfolding normal_of
+normal_again : (act : List ℕ) (n : ℕ) → IsCode act → IsSmall n → normal_ask (spaced act (spaced (decimal n) [])) ≡ Some (edit_of act (Normal n))
+unfolding normal_ask
 normal_again act n code small = rw (amount_again act n code small) refl
 
-crash_again : (act : List ℕ) (n : ℕ) → IsCode act → IsSmall n → crash_of (spaced act (spaced (decimal n) [])) ≡ Some (edit_of act (Crash n))
-unfolding crash_of
+crash_again : (act : List ℕ) (n : ℕ) → IsCode act → IsSmall n → crash_ask (spaced act (spaced (decimal n) [])) ≡ Some (edit_of act (Crash n))
+unfolding crash_ask
 crash_again act n code small = rw (amount_again act n code small) refl
 
-slope_again : (act : List ℕ) (n : ℕ) → IsCode act → IsSmall n → slope_of (spaced act (spaced (decimal n) [])) ≡ Some (edit_of act (Slope n))
-unfolding slope_of
+slope_again : (act : List ℕ) (n : ℕ) → IsCode act → IsSmall n → slope_ask (spaced act (spaced (decimal n) [])) ≡ Some (edit_of act (Slope n))
+unfolding slope_ask
 slope_again act n code small = rw (amount_again act n code small) refl
 
 -- ---- a trial
 
-try_takes : (fields : List ℕ) (a : Ask) → try_of fields ≡ Some a → IsAsk (codes "TRY") fields a
-unfolding try_of
+try_takes : (fields : List ℕ) (a : Ask) → try_ask fields ≡ Some a → IsAsk (codes "TRY") fields a
+unfolding try_ask
 try_takes fields a e =
     let made = λ (code : List ℕ) (normal crash slope limit : ℕ). ask.Try (record { act = code; normal = normal; crash = crash; slope = slope; length = limit }) in
     let code = bind_some (code_field fields)
@@ -164,8 +164,8 @@ try_takes fields a e =
     })
 
 try_again : (trial : Trial) → Fits (ask.Try trial) →
-    try_of (spaced trial.act (spaced (decimal trial.normal) (spaced (decimal trial.crash) (spaced (decimal trial.slope) (spaced (decimal trial.length) []))))) ≡ Some (ask.Try trial)
-unfolding try_of
+    try_ask (spaced trial.act (spaced (decimal trial.normal) (spaced (decimal trial.crash) (spaced (decimal trial.slope) (spaced (decimal trial.length) []))))) ≡ Some (ask.Try trial)
+unfolding try_ask
 try_again trial h =
     rw (
       code_field_again trial.act (spaced (decimal trial.normal) (spaced (decimal trial.crash) (spaced (decimal trial.slope) (spaced (decimal trial.length) [])))) (h.0) (space _),

@@ -19,10 +19,10 @@ use Rattle.pc_project.specs.Project.{Project}
 use Rattle.pc_project.proofs.MakesLaws.{no_misfit}
 use Rattle.pc_whatif.specs.edits.Plans.{estimates_at, estimates_in}
 use Rattle.pc_whatif.specs.inside.edits.Plans.{AreEstimates}
-use Rattle.pc_whatif.specs.declared.edits.kept.Kept.{Kept}
+use Rattle.pc_whatif.specs.declared.edits.kept.KeptEdit.{KeptEdit}
 use Rattle.pc_whatif.specs.declared.edits.edits.Edits.TheInside.{Inside}
 use Rattle.pc_whatif.specs.declared.edits.edits.TheConstants.{MAX_KEPT}
-use Rattle.pc_whatif.specs.edits.Editing.{begun, priced_of}
+use Rattle.pc_whatif.specs.edits.Editing.{begun, priced_project}
 use Rattle.pc_whatif.specs.inside.edits.Editing.{IsEditing}
 use Rattle.pc_whatif.specs.inside.edits.Inside.{IsWholeInside, editing_in, plans_back}
 
@@ -80,7 +80,7 @@ module _ (project : Project) (planned : IsPlanned project) where
   AreNames-begun = record { one_each = planned.activity_codes; once = planned.activities_differ }
 
   -- fields that are the deck's are whole
-  module _ (s : Inside) (net_is : s.net ≡ priced_of project) (estimates_are : s.estimates.items ≡ estimates_in project.deck) (unit_is : s.unit_days ≡ project.heading.unit_days)
+  module _ (s : Inside) (net_is : s.net ≡ priced_project project) (estimates_are : s.estimates.items ≡ estimates_in project.deck) (unit_is : s.unit_days ≡ project.heading.unit_days)
       (kept_is : s.kept ≡ buffer [] MAX_KEPT) (aside_is : s.aside ≡ None) where
     pub editing_is : editing_in s ≡ begun project
     editing_is =
@@ -92,7 +92,7 @@ module _ (project : Project) (planned : IsPlanned project) where
       editing = subst IsEditing (sym editing_is) IsEditing-begun;
       names = subst (λ (n : PricedNetwork). AreNames (length n.network.arcs) n.activities) (sym net_is) AreNames-begun;
       piece_limits = subst (λ (n : PricedNetwork). ArePiecesWithinLimits n.pieces) (sym net_is) planned.piece_limits;
-      room = ap (λ (b : Buffer Kept). b.capacity) kept_is;
-      known = subst (All (λ (k : Kept). k.activity < length s.net.network.arcs)) (sym (ap (λ (b : Buffer Kept). b.items) kept_is)) (λ k d inside. absurd (omega arith));
+      room = ap (λ (b : Buffer KeptEdit). b.capacity) kept_is;
+      known = subst (All (λ (k : KeptEdit). k.activity < length s.net.network.arcs)) (sym (ap (λ (b : Buffer KeptEdit). b.items) kept_is)) (λ k d inside. absurd (omega arith));
       aside_known = λ t is. absurd (let none = aside_is in let some = is in cc);
     }

@@ -15,7 +15,7 @@ use Rattle.pc_crash.specs.inside.Priced.{AreNames}
 use Rattle.pc_project.specs.declared.estimates.Estimates.{Estimates}
 use Rattle.pc_whatif.specs.declared.edits.ask.Change.{Change}
 use Rattle.pc_whatif.specs.declared.edits.ask.Edit.{Edit}
-use Rattle.pc_whatif.specs.declared.edits.kept.Kept.{Kept}
+use Rattle.pc_whatif.specs.declared.edits.kept.KeptEdit.{KeptEdit}
 use Rattle.pc_whatif.specs.declared.edits.trying.ActTerm.{ActTerm}
 use Rattle.pc_whatif.specs.declared.edits.edits.Edits.TheInside.{Inside}
 use Rattle.pc_whatif.specs.declared.edits.edits.TheConstants.{MAX_KEPT}
@@ -32,7 +32,7 @@ use Rattle.pc_whatif.proofs.lemmas.edits.PlanLaws.{no_term, no_estimates, plan-b
 -- ---- values
 
 -- the project as edited by its parts, with nothing on trial
-abbrev pub editing_at : PricedNetwork → List Estimates → ℕ → List Kept → Editing
+abbrev pub editing_at : PricedNetwork → List Estimates → ℕ → List KeptEdit → Editing
 editing_at net estimates unit_days kept = record {
   net = net;
   estimates = estimates;
@@ -57,7 +57,7 @@ All-one : {X : Type 0} (P : X → Type 0) (x : X) → P x → All P (x ∷ [])
 All-one P x is zero d inside = is
 All-one P x is (suc k) d inside = absurd (omega arith)
 
-module _ (net : PricedNetwork) (estimates : List Estimates) (unit_days : ℕ) (kept : List Kept) (whole : IsEditing (editing_at net estimates unit_days kept)) where
+module _ (net : PricedNetwork) (estimates : List Estimates) (unit_days : ℕ) (kept : List KeptEdit) (whole : IsEditing (editing_at net estimates unit_days kept)) where
   abbrev before : Editing
   before = editing_at net estimates unit_days kept
 
@@ -77,7 +77,7 @@ module _ (net : PricedNetwork) (estimates : List Estimates) (unit_days : ℕ) (k
   -- an accepted edit
   module _ (edit : Edit) (a : ℕ) (named : activity_named net edit.act ≡ Some a) (known : a < length net.network.arcs)
       (fits : IsFitPlan net.network net.pieces (plan_with edit.change a plan)) where
-    abbrev pub kept_now : Kept
+    abbrev pub kept_now : KeptEdit
     kept_now = record { activity = a; was = replaced edit.change (term_at net.terms a) (estimates_at estimates a) }
 
     abbrev after : Editing
@@ -118,14 +118,14 @@ module _ (net : PricedNetwork) (estimates : List Estimates) (unit_days : ℕ) (k
     pub changes_edited : ChangesOnly before after a
     changes_edited = changes edit.change a after.kept known
 
-    pub known_after : All (λ (k : Kept). k.activity < length net.network.arcs) kept → All (λ (k : Kept). k.activity < length net.network.arcs) (keep_last MAX_KEPT (kept ++ kept_now ∷ []))
+    pub known_after : All (λ (k : KeptEdit). k.activity < length net.network.arcs) kept → All (λ (k : KeptEdit). k.activity < length net.network.arcs) (keep_last MAX_KEPT (kept ++ kept_now ∷ []))
     known_after all =
-        All-drop (λ (k : Kept). k.activity < length net.network.arcs) (length (kept ++ kept_now ∷ []) - MAX_KEPT) (kept ++ kept_now ∷ [])
-        (All-append (λ (k : Kept). k.activity < length net.network.arcs) kept (kept_now ∷ []) all (All-one (λ (k : Kept). k.activity < length net.network.arcs) kept_now known))
+        All-drop (λ (k : KeptEdit). k.activity < length net.network.arcs) (length (kept ++ kept_now ∷ []) - MAX_KEPT) (kept ++ kept_now ∷ [])
+        (All-append (λ (k : KeptEdit). k.activity < length net.network.arcs) kept (kept_now ∷ []) all (All-one (λ (k : KeptEdit). k.activity < length net.network.arcs) kept_now known))
 
   -- an edit that is taken back
-  module _ (k : Kept) (last : last_item kept ≡ Some k) (known : k.activity < length net.network.arcs) where
-    abbrev rest : List Kept
+  module _ (k : KeptEdit) (last : last_item kept ≡ Some k) (known : k.activity < length net.network.arcs) where
+    abbrev rest : List KeptEdit
     rest = take (length kept - 1) kept
 
     abbrev plan_then : Plan
@@ -185,7 +185,7 @@ module _ (s : Inside) (v : Edits) (view : edits_from s ≡ v) (inv : IsWholeInsi
   whole_at = subst (λ aside. IsEditing (editing_in (record s { aside = aside }))) no_aside inv.editing
 
 -- other fields with nothing on trial
-module _ (s : Inside) (aside : s.aside ≡ None) (net : PricedNetwork) (estimates : List Estimates) (kept : List Kept)
+module _ (s : Inside) (aside : s.aside ≡ None) (net : PricedNetwork) (estimates : List Estimates) (kept : List KeptEdit)
     (net_is : s.net ≡ net) (estimates_are : s.estimates.items ≡ estimates) (kept_are : s.kept.items ≡ kept) where
   pub edits_from-at : edits_from s ≡ at_rest (editing_at net estimates s.unit_days kept)
   edits_from-at =
@@ -211,9 +211,9 @@ module _ (s : Inside) (inv : IsWholeInside s) (terms : List Term) (net : PricedN
   pieces_kept : ArePiecesWithinLimits net.pieces
   pieces_kept = subst (λ (n : PricedNetwork). ArePiecesWithinLimits n.pieces) (sym net_is) inv.piece_limits
 
-  known_kept : (kept : List Kept) → All (λ (k : Kept). k.activity < length s.net.network.arcs) kept → All (λ (k : Kept). k.activity < length net.network.arcs) kept
-  known_kept kept = subst (λ (n : PricedNetwork). All (λ (k : Kept). k.activity < length s.net.network.arcs) kept →
-      All (λ (k : Kept). k.activity < length n.network.arcs) kept) (sym net_is) (λ all. all)
+  known_kept : (kept : List KeptEdit) → All (λ (k : KeptEdit). k.activity < length s.net.network.arcs) kept → All (λ (k : KeptEdit). k.activity < length net.network.arcs) kept
+  known_kept kept = subst (λ (n : PricedNetwork). All (λ (k : KeptEdit). k.activity < length s.net.network.arcs) kept →
+      All (λ (k : KeptEdit). k.activity < length n.network.arcs) kept) (sym net_is) (λ all. all)
 
   aside_kept : ForSome s.aside (λ (t : ActTerm). t.activity < length net.network.arcs)
   aside_kept = subst (λ (n : PricedNetwork). ForSome s.aside (λ (t : ActTerm). t.activity < length n.network.arcs)) (sym net_is) inv.aside_known
@@ -226,7 +226,7 @@ module _ (s : Inside) (v : Edits) (view : edits_from s ≡ v) (inv : IsWholeInsi
     (was : Change) (was_is : was ≡ replaced edit.change (term_at s.net.terms a) (estimates_at s.estimates.items a))
     (net : PricedNetwork) (net_is : net ≡ net_with edit.change a s.net) (lent : List Estimates) (lent_is : lent ≡ s.estimates.items)
     (new : List Estimates) (new_is : new ≡ list_with edit.change a lent)
-    (kept : Buffer Kept) (kept_is : kept ≡ buffer (keep_last s.kept.capacity (s.kept.items ++ record { activity = a; was = was } ∷ [])) s.kept.capacity) where
+    (kept : Buffer KeptEdit) (kept_is : kept ≡ buffer (keep_last s.kept.capacity (s.kept.items ++ record { activity = a; was = was } ∷ [])) s.kept.capacity) where
   whole_now : IsEditing (editing_at s.net s.estimates.items s.unit_days s.kept.items)
   whole_now = whole_at s v view inv rest
 
@@ -247,7 +247,7 @@ module _ (s : Inside) (v : Edits) (view : edits_from s ≡ v) (inv : IsWholeInsi
 
   pushed_are : kept.items ≡ keep_last MAX_KEPT (s.kept.items ++ record { activity = a; was = replaced edit.change (term_at s.net.terms a) (estimates_at s.estimates.items a) } ∷ [])
   pushed_are =
-      ap (λ (b : Buffer Kept). b.items) kept_is
+      ap (λ (b : Buffer KeptEdit). b.items) kept_is
       ∙ ap (λ n. keep_last n (s.kept.items ++ record { activity = a; was = was } ∷ [])) inv.room
       ∙ ap (λ (w : Change). keep_last MAX_KEPT (s.kept.items ++ record { activity = a; was = w } ∷ [])) was_is
 
@@ -293,18 +293,18 @@ module _ (s : Inside) (v : Edits) (view : edits_from s ≡ v) (inv : IsWholeInsi
         (whole_edited s.net s.estimates.items s.unit_days s.kept.items whole_now edit a named known fits_now);
     names = names_kept s inv (net_with edit.change a s.net).terms net net_is;
     piece_limits = pieces_kept s inv (net_with edit.change a s.net).terms net net_is;
-    room = ap (λ (b : Buffer Kept). b.capacity) kept_is ∙ inv.room;
+    room = ap (λ (b : Buffer KeptEdit). b.capacity) kept_is ∙ inv.room;
     known = known_kept s inv (net_with edit.change a s.net).terms net net_is kept.items
-        (subst (All (λ (k : Kept). k.activity < length s.net.network.arcs)) (sym pushed_are)
+        (subst (All (λ (k : KeptEdit). k.activity < length s.net.network.arcs)) (sym pushed_are)
         (known_after s.net s.estimates.items s.unit_days s.kept.items whole_now edit a named known fits_now inv.known));
     aside_known = aside_kept s inv (net_with edit.change a s.net).terms net net_is;
   }
 
 -- the fields when an edit is to be taken back
 module _ (s : Inside) (v : Edits) (view : edits_from s ≡ v) (inv : IsWholeInside s) (rest : v.trial ≡ None)
-    (k : Kept) (last : last_item s.kept.items ≡ Some k) where
+    (k : KeptEdit) (last : last_item s.kept.items ≡ Some k) where
   pub undo_known : k.activity < length s.net.network.arcs
-  undo_known = All-last (λ (k : Kept). k.activity < length s.net.network.arcs) s.kept.items k inv.known last
+  undo_known = All-last (λ (k : KeptEdit). k.activity < length s.net.network.arcs) s.kept.items k inv.known last
 
   pub undo_fits : (lent : List Estimates) → lent ≡ s.estimates.items → IsFitPlan s.net.network s.net.pieces (plan_with k.was k.activity (record { terms = s.net.terms; estimates = lent }))
   undo_fits lent is =
@@ -316,7 +316,7 @@ module _ (s : Inside) (v : Edits) (view : edits_from s ≡ v) (inv : IsWholeInsi
     arith,
     ap (λ (e : Edits). length e.editing.kept) (view_at s v view inv rest),
     length-plans_back s.kept.items (record { terms = s.net.terms; estimates = s.estimates.items }),
-    ap (λ (ks : List Kept). length ks) (last_item-some s.kept.items k last),
+    ap (λ (ks : List KeptEdit). length ks) (last_item-some s.kept.items k last),
     length-push (take (length s.kept.items - 1) s.kept.items) k,
   )
 
@@ -326,7 +326,7 @@ module _ (s : Inside) (v : Edits) (view : edits_from s ≡ v) (inv : IsWholeInsi
   -- and after it is
   module _ (net : PricedNetwork) (net_is : net ≡ net_with k.was k.activity s.net) (lent : List Estimates)
       (lent_is : lent ≡ s.estimates.items) (new : List Estimates) (new_is : new ≡ list_with k.was k.activity lent)
-      (kept : Buffer Kept) (kept_is : kept ≡ buffer (take (length s.kept.items - 1) s.kept.items) s.kept.capacity) where
+      (kept : Buffer KeptEdit) (kept_is : kept ≡ buffer (take (length s.kept.items - 1) s.kept.items) s.kept.capacity) where
     abbrev pub after_undo : Inside
     after_undo = record s { net = net; estimates = with_items s.estimates new; kept = kept }
 
@@ -341,7 +341,7 @@ module _ (s : Inside) (v : Edits) (view : edits_from s ≡ v) (inv : IsWholeInsi
         ∙ back_is
 
     popped_are : kept.items ≡ take (length s.kept.items - 1) s.kept.items
-    popped_are = ap (λ (b : Buffer Kept). b.items) kept_is
+    popped_are = ap (λ (b : Buffer KeptEdit). b.items) kept_is
 
     pub undo_view : edits_from after_undo ≡ at_rest (undone v.editing)
     undo_view =
@@ -357,10 +357,10 @@ module _ (s : Inside) (v : Edits) (view : edits_from s ≡ v) (inv : IsWholeInsi
           (whole_undone s.net s.estimates.items s.unit_days s.kept.items (whole_at s v view inv rest) k last undo_known);
       names = names_kept s inv (net_with k.was k.activity s.net).terms net net_is;
       piece_limits = pieces_kept s inv (net_with k.was k.activity s.net).terms net net_is;
-      room = ap (λ (b : Buffer Kept). b.capacity) kept_is ∙ inv.room;
+      room = ap (λ (b : Buffer KeptEdit). b.capacity) kept_is ∙ inv.room;
       known = known_kept s inv (net_with k.was k.activity s.net).terms net net_is kept.items
-          (subst (All (λ (j : Kept). j.activity < length s.net.network.arcs)) (sym popped_are)
-          (All-take (λ (j : Kept). j.activity < length s.net.network.arcs) (length s.kept.items - 1) s.kept.items inv.known));
+          (subst (All (λ (j : KeptEdit). j.activity < length s.net.network.arcs)) (sym popped_are)
+          (All-take (λ (j : KeptEdit). j.activity < length s.net.network.arcs) (length s.kept.items - 1) s.kept.items inv.known));
       aside_known = aside_kept s inv (net_with k.was k.activity s.net).terms net net_is;
     }
 

@@ -9,22 +9,22 @@ use Rattle.pc_project.specs.Project.{Project}
 use Rattle.pc_whatif.specs.declared.edits.ask.Edit.{Edit}
 use Rattle.pc_whatif.specs.declared.edits.edits.TheConstants.{MAX_KEPT}
 use Rattle.pc_whatif.specs.edits.Plans.{Plan, plan_with}
-use Rattle.pc_whatif.specs.edits.Editing.{Editing, activity_named, begun, edited, editing_with, plan_of, priced_of, undone}
-use Rattle.pc_whatif.specs.edits.Standing.{Journal, Stands, empty, noted, number_of, plan_after, plans_before, standing_of, taken_back}
+use Rattle.pc_whatif.specs.edits.Editing.{Editing, activity_named, begun, edited, editing_with, plan_of, priced_project, undone}
+use Rattle.pc_whatif.specs.edits.Standing.{Journal, Stands, empty, noted, activity_of_edit, plan_after, plans_before, standing_of, taken_back}
 use Rattle.pc_whatif.proofs.lemmas.edits.ListLaws.{length-push, length-keep_last, keep_last-push, keep_last-keep_last, last_item-push, front-push}
 
 module _ (net : PricedNetwork) (edit : Edit) where
-  plan_after-push : (edits : List Edit) (plan : Plan) → plan_after net (edits ++ edit ∷ []) plan ≡ plan_with edit.change (number_of net edit) (plan_after net edits plan)
+  plan_after-push : (edits : List Edit) (plan : Plan) → plan_after net (edits ++ edit ∷ []) plan ≡ plan_with edit.change (activity_of_edit net edit) (plan_after net edits plan)
   plan_after-push [] plan = refl
-  plan_after-push (e ∷ edits) plan = plan_after-push edits (plan_with e.change (number_of net e) plan)
+  plan_after-push (e ∷ edits) plan = plan_after-push edits (plan_with e.change (activity_of_edit net e) plan)
 
   plans_before-push : (edits : List Edit) (plan : Plan) → plans_before net (edits ++ edit ∷ []) plan ≡ plans_before net edits plan ++ plan_after net edits plan ∷ []
   plans_before-push [] plan = refl
-  plans_before-push (e ∷ edits) plan = ap (λ ps. plan ∷ ps) (plans_before-push edits (plan_with e.change (number_of net e) plan))
+  plans_before-push (e ∷ edits) plan = ap (λ ps. plan ∷ ps) (plans_before-push edits (plan_with e.change (activity_of_edit net e) plan))
 
 length-plans_before : (net : PricedNetwork) (edits : List Edit) (plan : Plan) → length (plans_before net edits plan) ≡ length edits
 length-plans_before net [] plan = refl
-length-plans_before net (e ∷ edits) plan = ap suc (length-plans_before net edits (plan_with e.change (number_of net e) plan))
+length-plans_before net (e ∷ edits) plan = ap suc (length-plans_before net edits (plan_with e.change (activity_of_edit net e) plan))
 
 -- before any line nothing stands
 pub Stands-begun : (project : Project) → Stands project empty (begun project)
@@ -32,7 +32,7 @@ Stands-begun project = record { is = refl; some = omega arith; few = omega arith
 
 module _ (project : Project) (journal : Journal) where
   abbrev net : PricedNetwork
-  net = priced_of project
+  net = priced_project project
 
   abbrev first : Plan
   first = plan_of (begun project)

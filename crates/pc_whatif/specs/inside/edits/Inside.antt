@@ -8,7 +8,7 @@ use Rattle.pc_crash.specs.inside.Priced.{AreNames}
 use Rattle.pc_project.specs.declared.estimates.Estimates.{Estimates}
 use Rattle.pc_whatif.specs.declared.edits.ask.Change.{Change}
 use Rattle.pc_whatif.specs.declared.edits.ask.Change.TheVariants.{Estimate, Normal, Crash, Slope}
-use Rattle.pc_whatif.specs.declared.edits.kept.Kept.{Kept}
+use Rattle.pc_whatif.specs.declared.edits.kept.KeptEdit.{KeptEdit}
 use Rattle.pc_whatif.specs.declared.edits.trying.ActTerm.{ActTerm}
 use Rattle.pc_whatif.specs.declared.edits.edits.Edits.TheInside.{Inside}
 use Rattle.pc_whatif.specs.declared.edits.edits.TheConstants.{MAX_KEPT}
@@ -24,12 +24,12 @@ replaced (Slope n) term estimates = Slope term.slope
 replaced (Estimate new) term estimates = Estimate estimates
 
 -- the plan before the first of the kept edits, from the plan after the last of them
-abbrev pub plan_back : List Kept → Plan → Plan
+abbrev pub plan_back : List KeptEdit → Plan → Plan
 plan_back [] plan = plan
 plan_back (kept ∷ later) plan = plan_with kept.was kept.activity (plan_back later plan)
 
 -- the plans before each of them
-abbrev pub plans_back : List Kept → Plan → List Plan
+abbrev pub plans_back : List KeptEdit → Plan → List Plan
 plans_back [] plan = []
 plans_back (kept ∷ later) plan = plan_back (kept ∷ later) plan ∷ plans_back later plan
 

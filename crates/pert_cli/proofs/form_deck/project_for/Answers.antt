@@ -1,6 +1,6 @@
 use Rattle.std.proofs.Common.{refl, ap, subst, sym}
 use Rattle.std.specs.Prelude.{IfErr, IfOk}
-use Rattle.pc_curve.specs.bench.Deck.{bench_text}
+use Rattle.pc_curve.specs.bench.Deck.{bench_deck_text}
 use Rattle.pc_cards.specs.declared.sort.Sort.{Sort}
 use Rattle.pert_cli.specs.FormDeck.{own_deck, sort_of}
 use Rattle.pert_cli.specs.Verdicts.{IsFaultAs, IsMadeAs}
@@ -17,14 +17,14 @@ use Rattle.pert_cli.proofs.form_deck.project_for.Goals as goal
 pub returns-in-Some-clause-project : goal.returns-in-Some-clause-project
 returns-in-Some-clause-project g c =
     let n = c.in-Some.n in
-    own_gives (side g.S.Source.left g.S.Source.faults c.args.source.now c.args.source.now) c.args.form c.bench_project.result (bench_text n) (ap own_deck c.in-Some.ensures.own) refl
-    (subst (λ (form : Form). IfOk c.bench_project.result (IsMadeAs (sort_of form) (bench_text n))) (sym c.in-Some.ensures.own) c.bench_project.ensures.project)
+    own_gives (side g.S.Source.left g.S.Source.faults c.args.source.now c.args.source.now) c.args.form c.bench_project.result (bench_deck_text n) (ap own_deck c.in-Some.ensures.own) refl
+    (subst (λ (form : Form). IfOk c.bench_project.result (IsMadeAs (sort_of form) (bench_deck_text n))) (sym c.in-Some.ensures.own) c.bench_project.ensures.project)
 
 pub returns-in-Some-clause-none : goal.returns-in-Some-clause-none
 returns-in-Some-clause-none g c =
     let n = c.in-Some.n in
-    own_lacks (side g.S.Source.left g.S.Source.faults c.args.source.now c.args.source.now) c.args.form c.bench_project.result (bench_text n) (ap own_deck c.in-Some.ensures.own) refl
-    (subst (λ (form : Form). IfErr c.bench_project.result (IsNoProjectBy (IsFaultAs (sort_of form)) (bench_text n))) (sym c.in-Some.ensures.own) c.bench_project.ensures.none)
+    own_lacks (side g.S.Source.left g.S.Source.faults c.args.source.now c.args.source.now) c.args.form c.bench_project.result (bench_deck_text n) (ap own_deck c.in-Some.ensures.own) refl
+    (subst (λ (form : Form). IfErr c.bench_project.result (IsNoProjectBy (IsFaultAs (sort_of form)) (bench_deck_text n))) (sym c.in-Some.ensures.own) c.bench_project.ensures.none)
 
 pub returns-in-Some-clause-stops : goal.returns-in-Some-clause-stops
 returns-in-Some-clause-stops g c = IsReadWithin_none longest_deck STREAM_ROOM g.S.Source.left g.S.Source.pulls c.args.source.now

@@ -1,5 +1,5 @@
 use Rattle.std.proofs.Common.{◌+◌, ap, arith}
-use Rattle.pc_curve.specs.declared.bench.activity.Activity.{Activity}
+use Rattle.pc_curve.specs.declared.bench.activity.BenchActivity.{BenchActivity}
 use Rattle.pc_curve.proofs.lemmas.bench.ActivityLaws.{one-card-more, cost-small, one-cost-more}
 use Rattle.pc_curve.proofs.bench.deck.write_activities.Goals as goal
 
@@ -12,5 +12,5 @@ loop-k-preserved c =
       draws = c.draw_activity-activity.ensures.draws;
       text = one-card-more n k _ _ _ _ c.loop-k.invariant.text c.in_ok-write_activity.ensures drawn;
       costs = one-cost-more n k _ _ c.loop-k.invariant.costs drawn;
-      small = omega (arith, c.loop-k.invariant.small, cost-small n (k + 1), ap (λ (a : Activity). a.cost) drawn);
+      small = omega (arith, c.loop-k.invariant.small, cost-small n (k + 1), ap (λ (a : BenchActivity). a.cost) drawn);
     }

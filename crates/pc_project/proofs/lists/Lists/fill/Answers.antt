@@ -6,7 +6,7 @@ use Rattle.pc_times.specs.Estimates.{expected_time, variance_of}
 use Rattle.pc_deck.specs.inside.Act.{IsActWithin}
 use Rattle.pc_deck.specs.declared.kinds.project.ProjectCard.{ProjectCard}
 use Rattle.pc_deck.proofs.NumberLemmas.{acts-within, project-within}
-use Rattle.pc_project.specs.Misfit.{IsInOrder}
+use Rattle.pc_project.specs.Misfit.{HasOrderedEstimates}
 use Rattle.pc_project.specs.Project.{term_of}
 use Rattle.pc_project.specs.inside.Project.{placement_of}
 use Rattle.pc_project.proofs.lists.Lists.fill.Goals as goal
@@ -28,10 +28,10 @@ variances-requires-clause-within c =
     subst (All IsActWithin) (sym c.acts-acts.ensures.cards) (acts-within c.args.cards.now c.acts-acts.ensures.within)
 
 pub expected_times-requires-clause-ordered : goal.expected_times-requires-clause-ordered
-expected_times-requires-clause-ordered c = subst (All IsInOrder) (sym c.acts-acts.ensures.cards) c.requires.ordered
+expected_times-requires-clause-ordered c = subst (All HasOrderedEstimates) (sym c.acts-acts.ensures.cards) c.requires.ordered
 
 pub variances-requires-clause-ordered : goal.variances-requires-clause-ordered
-variances-requires-clause-ordered c = subst (All IsInOrder) (sym c.acts-acts.ensures.cards) c.requires.ordered
+variances-requires-clause-ordered c = subst (All HasOrderedEstimates) (sym c.acts-acts.ensures.cards) c.requires.ordered
 
 pub returns : goal.returns
 returns c =

@@ -6,7 +6,7 @@ use Rattle.pc_whatif.specs.declared.edits.ask.Ask.TheVariants as asks
 use Rattle.pc_whatif.specs.declared.edits.reason.Reason.TheVariants.{OutsideRange}
 use Rattle.pc_whatif.specs.edits.Editing.{net_trying}
 use Rattle.pc_whatif.specs.inside.edits.Editing.{Edits, net_in}
-use Rattle.pc_curve.specs.Range.{IsWithin}
+use Rattle.pc_curve.specs.Range.{IsLengthInRange}
 use Rattle.pc_whatif.specs.Planning.{IsTrialText, refused}
 use Rattle.pc_whatif.specs.inside.Planning.{Planning}
 use Rattle.pc_whatif.specs.Texts.{cost_text, refused_text}
@@ -32,7 +32,7 @@ returns-in_default-clause-answered g c =
     let net : c.net.result.now ≡ net_trying a.edits.editing.net c.in-Ok.tried = c.net.ensures.net ∙ ap net_in c.begin_trial.ensures in
     let is : IsTrialText a.edits.editing trial text =
     trial_outside a.edits.editing trial c.in-Ok.tried c.in-Ok.ensures.accepted c.in-Ok.ensures.activity c.in-Ok.ensures.term
-    (λ within. false≢true (c.in_default.ensures.within.1 (subst (λ (n : PricedNetwork). IsWithin n trial.length) (sym net) within))) in (
+    (λ within. false≢true (c.in_default.ensures.within.1 (subst (λ (n : PricedNetwork). IsLengthInRange n trial.length) (sym net) within))) in (
       text,
       tried_out c.args.self.now a.project.now a.edits.editing c.end_trial.new.self.editing _ _ trial text editing
           c.least_cost-cost.ensures.kept c.self.invariant.renewed c.self.view_is is,
@@ -48,7 +48,7 @@ returns-clause-answered g c =
     let net : c.net.result.now ≡ net_trying a.edits.editing.net c.in-Ok.tried = c.net.ensures.net ∙ ap net_in c.begin_trial.ensures in
     let is : IsTrialText a.edits.editing trial text =
     trial_costs a.edits.editing trial c.in-Ok.tried c.in-Some.cost c.in-Ok.ensures.accepted c.in-Ok.ensures.activity c.in-Ok.ensures.term
-    (subst (λ (n : PricedNetwork). IsWithin n trial.length) net (c.in-Some.ensures.within.0 refl))
+    (subst (λ (n : PricedNetwork). IsLengthInRange n trial.length) net (c.in-Some.ensures.within.0 refl))
     (subst (λ (n : PricedNetwork). curve_in n trial.length c.in-Some.cost) net c.in-Some.ensures.least) in (
       text,
       tried_out c.args.self.now a.project.now a.edits.editing c.end_trial.new.self.editing _ _ trial text editing

@@ -1,12 +1,12 @@
 use Rattle.std.proofs.Common.{subst}
 use Rattle.std.specs.Prelude.{◌↔◌, IsSome}
-use Rattle.pc_curve.specs.Range.{IsWithin}
+use Rattle.pc_curve.specs.Range.{IsLengthInRange}
 use Rattle.pc_whatif.proofs.lemmas.trials.TrialLaws.{looks-of-range}
 use Rattle.pc_whatif.proofs.trials.trial.trial_cost.Goals as goal
 
 pub returns-clause-within : goal.returns-clause-within
 returns-clause-within g c =
-    subst (λ net. IsSome c.cost_within-cost.result ↔ IsWithin net c.args.limit) c.begin-solver.ensures.net c.cost_within-cost.ensures.within
+    subst (λ net. IsSome c.cost_within-cost.result ↔ IsLengthInRange net c.args.limit) c.begin-solver.ensures.net c.cost_within-cost.ensures.within
 
 pub returns-clause-counted : goal.returns-clause-counted
 returns-clause-counted g c =

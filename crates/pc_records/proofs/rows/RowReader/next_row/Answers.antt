@@ -1,7 +1,7 @@
 -- A read that found a record gives the first of those left, and one that found none shows that none was left.
 use Rattle.csv.specs.Records.{fields_of}
 use Rattle.pc_records.proofs.ReaderFacts.{read-found, read-going, read-none, true-from_not}
-use Rattle.pc_records.proofs.rows.Rows.next_row.Goals as goal
+use Rattle.pc_records.proofs.rows.RowReader.next_row.Goals as goal
 
 pub invariant_of-self-2 : goal.invariant_of-self-2
 invariant_of-self-2 c more =
