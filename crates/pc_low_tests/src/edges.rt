@@ -114,7 +114,7 @@ fn mem_sink_pushes(rt: HostRuntime) -> Result<(), Fail> {
 }
 
 /// Which pulls fail, the limit, and how a load ends. Four bytes at a pull: the fourth pull finds the end.
-const LOADS: &[(&[u64], usize, Result<(), LoadError>)] = &[
+const LOADS: &[(&[u64], u32, Result<(), LoadError>)] = &[
     (&[], 11, Ok(())),
     (&[], 10, Ok(())),
     (&[], 9, Err(LoadError::TooLong)),
@@ -129,10 +129,10 @@ const LOADS: &[(&[u64], usize, Result<(), LoadError>)] = &[
 fn loaded<S: Source>(
     alloc: Global,
     source: &mut S,
-    limit: usize,
+    limit: u32,
     text: &[u8],
 ) -> Result<bool, LoadError> {
-    Ok(load(alloc, source, limit)?.as_slice() == text)
+    Ok(load(alloc, source, limit as usize)?.as_slice() == text)
 }
 
 /// The first of these loads that ends otherwise or gives other bytes, or none.

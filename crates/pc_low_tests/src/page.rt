@@ -11,7 +11,7 @@ struct NumberLines {
 }
 
 impl Rows for NumberLines {
-    ghost use Rattle.std.specs.Prelude.{⊤};
+    ghost use Rattle.std.specs.Prelude.{[], ◌∷◌, ◌++◌, decimal, ⊤};
 
     ghost row_count = { λ rows. rows.below };
 

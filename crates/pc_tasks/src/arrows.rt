@@ -77,7 +77,7 @@ fn project_of_tasks(
 fn drawn_of(alloc: Global, cards: &TaskCards, afters: &[AfterRow]) -> Result<Cards, AllocError>
     requires sound { HasSoundTasks cards.now }
     requires afters { afters.now ≡ afters_in cards.now }
-    ensures arrows_deck { IfOk result (λ plan. plan ≡ arrows_deck cards.now) }
+    ensures drawn { IfOk result (λ plan. plan ≡ arrows_deck cards.now) }
     ensures within { IsWithin Tasks cards.now }
 {
     // Called for the limits of the cards (`IsWithin Tasks`), which their type keeps.
