@@ -1,6 +1,8 @@
 //! What the items of a small deck add up to: an activity that has begun in one package, and another package without
 //! activities.
 use crate::projects::asked;
+use pc_edges::MemSink;
+use pc_load::{Table, write_load};
 use pc_project::Project;
 use pc_rollup::figures::{
     OutlineRow, Outlook, OutlookAmounts, Summary, SummaryAmounts, Worth, WorthAmounts,
@@ -54,12 +56,30 @@ fn outlook_of(alloc: Global, project: &Project) -> Option<(OutlineRow, OutlookAm
     Some((outlook.row(2), outlook.of_item(0)))
 }
 
+const LOAD: &[u8] =
+    b"LOAD P 2\nPERIOD                0 2024-01-01\nPERIOD                1 2024-01-03\nITEMS\nRESOURCES\n";
+
+/// Whether tables of a caller, without amounts in two periods of two days, are written to a bare sink.
+fn load_of(alloc: Global, project: &Project) -> Option<bool> {
+    let items = project.tree().len();
+    let resources = project.resource_count();
+    if items != 3 || resources != 0 {
+        return None;
+    }
+    let by_item = Table::build(alloc, items, &[], 12, 2).ok()?;
+    let by_resource = Table::build(alloc, resources, &[], 12, 2).ok()?;
+    let mut sink = MemSink::new(alloc, 200, 200, &[]).ok()?;
+    write_load(&mut sink, project, 2, &by_item, &by_resource).ok()?;
+    Some(sink.bytes() == LOAD)
+}
+
 /// The figures of a project.
 #[derive(Clone, Copy, Debug, PartialEq)]
 pub(crate) struct ReportFigures {
     summary: Option<(OutlineRow, SummaryAmounts, SummaryAmounts)>,
     worth: Option<WorthAmounts>,
     outlook: Option<(OutlineRow, OutlookAmounts)>,
+    load: Option<bool>,
 }
 
 /// These figures of a project.
@@ -68,6 +88,7 @@ pub(crate) fn figures_of(alloc: Global, project: &Project) -> ReportFigures {
         summary: summary_of(alloc, project),
         worth: worth_of(alloc, project),
         outlook: outlook_of(alloc, project),
+        load: load_of(alloc, project),
     }
 }
 
@@ -99,6 +120,7 @@ fn figures_of_items(rt: HostRuntime) -> Result<(), Fail> {
         summary: Some((second, whole, whole)),
         worth: Some(worth),
         outlook: Some((third, outlook)),
+        load: Some(true),
     };
     assert_eq!(rt; figures, wanted);
     Ok(())

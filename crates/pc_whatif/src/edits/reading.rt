@@ -59,7 +59,7 @@ fn edit_of(act: Code, change: Change) -> Ask
     Ask::Edit(Edit { act, change })
 }
 
-#[tactic(auto, unfolding(crate::specs::edits::Reading::estimate_of, pc_text::specs::Fields::field_by))]
+#[tactic(auto, unfolding(crate::specs::edits::Reading::estimate_ask, pc_text::specs::Fields::field_by))]
 fn estimate_of(fields: &[u8]) -> Option<Ask>
     ensures { result ≡ estimate_ask fields.now }
 {
@@ -91,7 +91,7 @@ fn amount_of(fields: &[u8]) -> Option<(Code, u64)>
     }
 }
 
-#[tactic(auto, unfolding(crate::specs::edits::Reading::normal_of))]
+#[tactic(auto, unfolding(crate::specs::edits::Reading::normal_ask))]
 fn normal_of(fields: &[u8]) -> Option<Ask>
     ensures { result ≡ normal_ask fields.now }
 {
@@ -99,7 +99,7 @@ fn normal_of(fields: &[u8]) -> Option<Ask>
     Some(edit_of(act, Change::Normal(n)))
 }
 
-#[tactic(auto, unfolding(crate::specs::edits::Reading::crash_of))]
+#[tactic(auto, unfolding(crate::specs::edits::Reading::crash_ask))]
 fn crash_of(fields: &[u8]) -> Option<Ask>
     ensures { result ≡ crash_ask fields.now }
 {
@@ -107,7 +107,7 @@ fn crash_of(fields: &[u8]) -> Option<Ask>
     Some(edit_of(act, Change::Crash(n)))
 }
 
-#[tactic(auto, unfolding(crate::specs::edits::Reading::slope_of))]
+#[tactic(auto, unfolding(crate::specs::edits::Reading::slope_ask))]
 fn slope_of(fields: &[u8]) -> Option<Ask>
     ensures { result ≡ slope_ask fields.now }
 {
@@ -115,7 +115,7 @@ fn slope_of(fields: &[u8]) -> Option<Ask>
     Some(edit_of(act, Change::Slope(n)))
 }
 
-#[tactic(auto, unfolding(crate::specs::edits::Reading::try_of, pc_text::specs::Fields::field_by))]
+#[tactic(auto, unfolding(crate::specs::edits::Reading::try_ask, pc_text::specs::Fields::field_by))]
 fn try_of(fields: &[u8]) -> Option<Ask>
     ensures { result ≡ try_ask fields.now }
 {
