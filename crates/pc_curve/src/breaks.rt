@@ -16,16 +16,16 @@ use std::sync::ledger::Ledger;
 /// A breakpoint of the time-cost curve: a length at which the slope changes, or an end of the range.
 #[derive(Clone, Copy, Debug, PartialEq, Eq)]
 pub struct Break {
-    /// In units.
+    /// The length, in units.
     pub length: u64,
     /// The least cost for this length.
     pub cost: u64,
-    /// What one unit less costs more; none at the all-crash length.
+    /// The extra cost of one unit less; `None` at the all-crash length.
     pub slope: Option<u64>,
 }
 
-/// The breakpoints of the curve of a solver, from the all-normal length down to the all-crash length. It keeps no more
-/// than the length of the one that it gave last.
+/// The breakpoints of the curve of a solver, from the all-normal length down to the all-crash length. It keeps only the
+/// length of the last one.
 #[derive(Drop)]
 pub struct Breaks {
     last: Option<u64>,
@@ -40,26 +40,26 @@ impl Model for Breaks {
 }
 
 impl Breaks {
-    /// Before the first breakpoint.
+    /// Creates the breakpoints of a solver, before the first one.
     pub fn new() -> Breaks
         ensures { result ≡ None }
     {
         Breaks { last: None }
     }
 
-    /// The length of the breakpoint that was given last.
+    /// Returns the length of the last breakpoint, or `None` before the first.
     pub fn last(&self) -> Option<u64>
         ensures { result ≡ self.now }
     {
         self.last
     }
 
-    /// The next breakpoint: the first one, or the longest that is shorter than the last. None comes after the one at
-    /// the all-crash length, and then nothing changes.
+    /// Returns the next breakpoint: the first one, or the longest that is shorter than the last. After the one at the
+    /// all-crash length it returns `None` and changes nothing.
     ///
-    /// The solver goes on until its present segment begins or ends there; segments of one slope that
-    /// follow one another have no breakpoint between them. At most four looks at each activity for each unit by which
-    /// the slope rises or the lower end comes down. It takes no memory.
+    /// The solver goes on until its present segment begins or ends there; consecutive segments of the same slope have
+    /// no breakpoint between them. It takes at most four looks at each activity for each unit by which the slope rises
+    /// or the lower end comes down. Allocates nothing.
     pub fn next<L: Ledger>(
         &mut self,
         solver: &mut Solver<'_>,

@@ -16,11 +16,16 @@ use pc_edges::{Failed, Sink};
 use pc_flow::Solver;
 use std::sync::ledger::Ledger;
 
-/// Writes the breakpoints of the curve of a solver's network and flushes the sink: for each, from the all-normal length
-/// down, its length, its least cost, and what one unit less costs more, with a dash at the all-crash length.
+/// Writes the breakpoints of the curve of a solver's network and flushes the sink: one line each, from the all-normal
+/// length down, with its length, its least cost, and the extra cost of one unit less, or a dash at the all-crash
+/// length.
 ///
 /// The solver goes from before its first segment to the last one: at most four looks at each activity for each unit by
-/// which the slope rises or the lower end comes down. It takes no memory.
+/// which the slope rises or the lower end comes down. Allocates nothing.
+///
+/// # Errors
+///
+/// Returns `Failed` if a push or the flush failed.
 pub fn write_curve<O: Sink, L: Ledger>(
     page: &mut Page,
     sink: &mut O,

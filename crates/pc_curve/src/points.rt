@@ -15,13 +15,13 @@ use pc_crash::{CrashNet, SegmentView, Steps};
 use pc_flow::Solver;
 use std::sync::ledger::Ledger;
 
-/// A schedule for a length, in units, that costs as little as any, and what it costs.
+/// Computes a cheapest schedule for a length, in units, and returns its cost.
 ///
-/// The solver goes on until its present segment holds the length. The times come one per event and the durations one
-/// per activity, in card order: those of the upper end, where each event that moves is as much earlier as the length is
-/// shorter, and each activity lasts as long as this allows, but no longer than normal. At most four looks at each
-/// activity for each unit by which the slope rises or the lower end comes down, and then linear in events and
-/// activities. It takes no memory.
+/// The solver goes on until its present segment holds the length. `times` gets one time per event and `durations` one
+/// duration per activity, in card order: those of the upper end, where each event that moves is earlier by as much as
+/// the length is shorter, and each activity lasts as long as this allows, at most its normal duration. It takes at most
+/// four looks at each activity for each unit by which the slope rises or the lower end comes down, and is then linear
+/// in events and activities. Allocates nothing.
 pub fn point_at<L: Ledger>(
     solver: &mut Solver<'_>,
     length: u64,

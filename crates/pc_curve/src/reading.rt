@@ -11,10 +11,10 @@ use pc_crash::{SegmentView, Steps};
 use pc_flow::Solver;
 use std::sync::ledger::Ledger;
 
-/// The least cost of a schedule for a length, in units.
+/// Returns the least cost of a schedule for a length, in units.
 ///
-/// The solver goes on until its present segment holds the length. At most four looks at each activity for each unit by
-/// which the slope rises or the lower end comes down. It takes no memory.
+/// The solver goes on until its present segment holds the length. It takes at most four looks at each activity for each
+/// unit by which the slope rises or the lower end comes down. Allocates nothing.
 pub fn cost_at<L: Ledger>(solver: &mut Solver<'_>, length: u64, steps: &mut Steps<L>) -> u64
     requires { IsToCome solver.old length }
     ensures least { curve_in solver.old.net length result }

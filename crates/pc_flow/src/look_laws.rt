@@ -3,11 +3,9 @@ ghost use Rattle.std.specs.Prelude.{◌≡◌, ◌+◌, ◌≤◌};
 ghost use Rattle.pc_flow.specs.search.Labelling.{slopes_in};
 ghost use Rattle.pc_flow.specs.Courses.{Course, IsLevel, IsSameCurve, IsFurther, lower_of, most_looks, all_looks};
 
-/// The looks of the segments add up, and those of one solver on its way down, from before its first segment, are at
-/// most four at each activity for each unit of the sum of the last slopes and of the range from the all-normal length
-/// to the all-crash length.
-///
-/// This function does nothing: its contract is the law.
+/// States that the looks of the segments add up, and that a solver on its way down, from before its first segment,
+/// takes at most four looks at each activity for each unit of the sum of the last slopes and of the range from the
+/// all-normal to the all-crash length.
 pub fn looks_add_up()
     ensures none { (c : Course) → most_looks c c ≡ 0 }
     ensures joins { (c d e : Course) → IsSameCurve c d → IsFurther c d → IsFurther d e →

@@ -20,8 +20,12 @@ use std::marker::Model;
 /// all-crash length.
 ///
 /// It keeps a time for each event and a flow along each activity, which show that the durations that these times allow
-/// are a cheapest schedule for the present length. Each segment comes from the one before: the labels that a search
-/// gave last still stand after the fall.
+/// are a cheapest schedule for the present length. Each segment is computed from the one before: the last labels of a
+/// search stay after the times have moved.
+///
+/// # Source
+///
+/// Kelley 1961; Fulkerson 1961.
 pub struct Solver<'n> {
     pub(crate) search: Search<'n>,
     pub(crate) longest: u64,
@@ -59,7 +63,7 @@ impl<'n> Model for Solver<'n> {
     ghost invariant = { IsOnCourseInside };
 }
 
-/// How many cells a solver needs for so many events, activities and pieces of their costs.
+/// Returns how many cells a solver needs for this many events, activities and pieces of their costs.
 pub fn cells_needed(events: usize, activities: usize, pieces: usize) -> usize
     requires events { events ≤ MAX_EVENTS }
     requires activities { activities ≤ MAX_ACTIVITIES }
@@ -70,8 +74,8 @@ pub fn cells_needed(events: usize, activities: usize, pieces: usize) -> usize
 }
 
 impl<'n> Solver<'n> {
-    /// A solver before its first segment, in the free cells of a region. It takes no memory. Linear in events and
-    /// activities.
+    /// Creates a solver before its first segment, in the free cells of a region. Allocates nothing. Linear in events
+    /// and activities.
     pub fn begin(region: Region, net: &'n CrashNet<'n>) -> Solver<'n>
         requires { 8 * net.now.network.events + 6 * length net.now.network.arcs + 2 * length net.now.pieces + 16
             ≤ free_of region }
@@ -99,14 +103,14 @@ impl<'n> Solver<'n> {
         }
     }
 
-    /// The network whose curve it is.
+    /// Returns the network whose curve it is.
     pub fn net(&self) -> &'n CrashNet<'n>
         ensures { result.now ≡ self.now.net }
     {
         self.search.net
     }
 
-    /// The all-normal length: how long the project takes where each activity has its normal duration, in units.
+    /// Returns the all-normal length, in units: how long the project takes if each activity has its normal duration.
     pub fn longest(&self) -> u64
         ensures longest { result ≡ self.now.longest }
         ensures all_normal { IsAllNormalLength self.now.net.network self.now.net.terms result }
@@ -115,7 +119,7 @@ impl<'n> Solver<'n> {
         self.longest
     }
 
-    /// The all-crash length: how long it takes where each activity has its crash duration, in units.
+    /// Returns the all-crash length, in units: how long the project takes if each activity has its crash duration.
     pub fn shortest(&self) -> u64
         ensures shortest { result ≡ self.now.shortest }
         ensures all_crash { IsAllCrashLength self.now.net.network self.now.net.terms result }
@@ -124,7 +128,7 @@ impl<'n> Solver<'n> {
         self.shortest
     }
 
-    /// Whether a segment was given.
+    /// Returns whether a segment was given.
     pub fn given(&self) -> bool
         ensures given { result ≡ self.now.given }
         ensures level { result ≡ false → IsLevel self.now }
@@ -135,7 +139,7 @@ impl<'n> Solver<'n> {
         self.given
     }
 
-    /// The region as it was before.
+    /// Returns the region as it was before.
     pub fn close(self) -> Region
         ensures { result ≡ self.entry.board.home }
     {

@@ -6,13 +6,18 @@ use crate::bench::activity::{BenchActivity, draw_activity, last_event};
 use crate::bench::draws::Draws;
 use std::alloc::{AllocError, Global};
 
-/// The most activities that a deck of the benchmark has.
+/// The greatest number of activities of a deck of the benchmark.
 pub const MOST_ACTIVITIES: u64 = 4_000;
 
-/// The deck of the benchmark with `n` activities: as many events as half of them, and one more. The first activities
-/// lead in a row through all events, and the others skip up to three of them; what each lasts and costs is drawn.
+/// Returns the deck of the benchmark with `n` activities and half as many events plus one. The same `n` gives the same
+/// deck. Linear in `n`.
 ///
-/// The same `n` gives the same deck. Linear in `n`.
+/// The first activities form a row through all events, and the others skip up to three events. Durations and costs are
+/// drawn.
+///
+/// # Errors
+///
+/// Returns `AllocError` if memory runs out.
 pub fn bench_deck(alloc: Global, n: u64) -> Result<Vec<u8>, AllocError>
     requires least { 1 ≤ n }
     requires most { n ≤ MOST_ACTIVITIES }

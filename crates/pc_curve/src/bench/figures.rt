@@ -17,15 +17,15 @@ use std::sync::ledger::Ledger;
 pub struct CurveFigures {
     /// The all-normal length, in units.
     pub longest: u64,
-    /// Its least cost.
+    /// The least cost at the all-normal length.
     pub longest_cost: u64,
     /// The all-crash length, in units.
     pub shortest: u64,
-    /// Its least cost.
+    /// The least cost at the all-crash length.
     pub shortest_cost: u128,
-    /// How many breakpoints the curve has.
+    /// The number of breakpoints.
     pub breaks: u64,
-    /// The sum of the least costs of all lengths from the one to the other.
+    /// The sum of the least costs of all lengths of the range.
     pub sum: u128,
 }
 
@@ -40,10 +40,11 @@ pub(in crate::bench) struct CurveTally {
     pub(in crate::bench) sum: u128,
 }
 
-/// The figures of the curve of a solver's network. The solver goes from before its first segment to the last one.
+/// Returns the figures of the curve of a solver's network. The solver goes from before its first segment to the last
+/// one.
 ///
-/// A few steps a segment, and at most four looks at each activity for each unit by which the slope rises or the lower
-/// end comes down. It takes no memory.
+/// It takes a few steps per segment, and at most four looks at each activity for each unit by which the slope rises or
+/// the lower end comes down. Allocates nothing.
 pub fn figures_of<L: Ledger>(solver: &mut Solver<'_>, steps: &mut Steps<L>) -> CurveFigures
     requires { solver.old.given ≡ false }
     ensures figures { IsFiguresOf solver.old.net result }

@@ -14,12 +14,16 @@ use pc_flow::Solver;
 use pc_text::wide;
 use std::sync::ledger::Ledger;
 
-/// Writes what the benchmark of `n` activities says of the curve of a solver's network and flushes the sink: the
+/// Writes what the benchmark of `n` activities reports of the curve of a solver's network and flushes the sink: the
 /// all-normal and the all-crash length, each with its least cost, the number of breakpoints, and the sum of the least
 /// costs of all lengths.
 ///
 /// The solver goes from before its first segment to the last one: at most four looks at each activity for each unit by
-/// which the slope rises or the lower end comes down. It takes no memory.
+/// which the slope rises or the lower end comes down. Allocates nothing.
+///
+/// # Errors
+///
+/// Returns `Failed` if a push or the flush failed.
 pub fn write_bench<O: Sink, L: Ledger>(
     page: &mut Page,
     sink: &mut O,

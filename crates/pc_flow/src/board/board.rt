@@ -9,12 +9,13 @@ use crate::board::columns::{Column, Columns};
 use pc_cells::{Mark, Region};
 use std::marker::Model;
 
-/// What is known of the events and the activities of a network, by number.
+/// The labels, times and flows of a search over a network's events and activities, by number.
 ///
 /// Each event has a time. An event with a label has a rank, its place in the queue counted from 1, and the step that
 /// gave it the label: an activity, whether the step goes against it, the event from which the step comes, and how much
-/// more may flow there. The time of an event without a label is kept with the sum of all falls added, so that a fall
-/// changes none. Each activity has its flow, and may stand on the list of those that wait for a fall.
+/// more may flow there. The time of an event without a label is kept with the sum of all steps of the times added, so
+/// that such a step changes none. Each activity has its flow, and may be on the list of those that wait for a step of
+/// the times.
 #[derive(Drop)]
 pub struct Board {
     region: Region,
@@ -39,7 +40,7 @@ impl Model for Board {
 }
 
 impl Board {
-    /// A board for so many events and activities in the free cells of a region, with 0 at each place.
+    /// Creates a board for this many events and activities in the free cells of a region, with 0 in each place.
     pub fn new(region: Region, events: u32, activities: u32) -> Board
         requires events { 0 < events }
         requires activities { 0 < activities }
@@ -60,7 +61,7 @@ impl Board {
         }
     }
 
-    /// The region as it was before.
+    /// Returns the region as it was before.
     pub fn close(self) -> Region
         ensures { result ≡ self.home }
     {

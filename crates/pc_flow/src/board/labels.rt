@@ -9,21 +9,21 @@ use crate::board::board::Board;
 use crate::board::columns::Column;
 
 impl Board {
-    /// How many events have a label.
+    /// Returns how many events have a label.
     pub fn count(&self) -> u32
         ensures { result ≡ self.now.count }
     {
         self.count
     }
 
-    /// How many of these were scanned.
+    /// Returns how many events with a label have been scanned.
     pub fn head(&self) -> u32
         ensures { result ≡ self.now.head }
     {
         self.head
     }
 
-    /// An event's place in the queue, counted from 1, and 0 where it has no label.
+    /// Returns an event's place in the queue, counted from 1, or 0 if it has no label.
     pub fn rank(&self, e: u32) -> u32
         requires { e < self.now.events }
         ensures { result ≡ rank_of self.now e }
@@ -31,7 +31,7 @@ impl Board {
         self.number(Column::Rank, e)
     }
 
-    /// The event at a place of the queue.
+    /// Returns the event at a place of the queue.
     pub fn queued(&self, place: u32) -> u32
         requires { place < self.now.events }
         ensures { result ≡ queue_of self.now place }
@@ -39,7 +39,7 @@ impl Board {
         self.number(Column::Queue, place)
     }
 
-    /// The time of an event.
+    /// Returns the time of an event.
     pub fn time(&self, e: u32) -> u64
         requires known { e < self.now.events }
         requires deep { rank_of self.now e ≡ 0 → self.now.fallen ≤ kept_time self.now e }
@@ -53,7 +53,7 @@ impl Board {
         }
     }
 
-    /// The time of an event with a label.
+    /// Returns the time of an event that has a label.
     pub fn resting_time(&self, e: u32) -> u64
         requires known { e < self.now.events }
         requires labelled { 0 < rank_of self.now e }
@@ -62,7 +62,7 @@ impl Board {
         self.get(Column::Time, e)
     }
 
-    /// The time of an event without a label.
+    /// Returns the time of an event that has no label.
     pub fn falling_time(&self, e: u32) -> u64
         requires known { e < self.now.events }
         requires unlabelled { rank_of self.now e ≡ 0 }
@@ -72,7 +72,7 @@ impl Board {
         self.get(Column::Time, e) - self.fallen
     }
 
-    /// What is kept of an event's time.
+    /// Returns the number that is kept for an event's time.
     pub fn kept_time(&self, e: u32) -> u64
         requires { e < self.now.events }
         ensures { result ≡ kept_time self.now e }
@@ -80,7 +80,7 @@ impl Board {
         self.get(Column::Time, e)
     }
 
-    /// The event from which the step came that gave an event its label.
+    /// Returns the event from which the step came that gave an event its label.
     pub fn near(&self, e: u32) -> u32
         requires { e < self.now.events }
         ensures { result ≡ near_of self.now e }
@@ -88,7 +88,7 @@ impl Board {
         self.number(Column::Near, e)
     }
 
-    /// How much the flow of this step may still change.
+    /// Returns how much the flow of this step may still change.
     pub fn room(&self, e: u32) -> u64
         requires { e < self.now.events }
         ensures { result ≡ room_of self.now e }
@@ -96,7 +96,7 @@ impl Board {
         self.get(Column::Room, e)
     }
 
-    /// An event that lost its label.
+    /// Returns an event that lost its label.
     pub fn lost(&self, place: u32) -> u32
         requires { place < self.now.events }
         ensures { result ≡ lost_of self.now place }
@@ -104,7 +104,7 @@ impl Board {
         self.number(Column::Lost, place)
     }
 
-    /// The flow along an activity.
+    /// Returns the flow along an activity.
     pub fn flow(&self, a: u32) -> u64
         requires { a < self.now.activities }
         ensures { result ≡ flow_of self.now a }
@@ -112,7 +112,7 @@ impl Board {
         self.get(Column::Flow, a)
     }
 
-    /// Sets what is kept of an event's time.
+    /// Sets the number that is kept for an event's time.
     pub fn set_time(&mut self, e: u32, time: u64)
         requires { e < self.old.events }
         ensures { SetsTime self.old self.new e time }
@@ -156,7 +156,7 @@ impl Board {
         self.set(Column::Room, e, room);
     }
 
-    /// Counts one event more as scanned, and says which.
+    /// Counts one more event as scanned, and returns it.
     pub fn next_to_scan(&mut self) -> u32
         requires within { self.old.head < self.old.count }
         requires queue { self.old.count ≤ self.old.events }
@@ -168,14 +168,14 @@ impl Board {
         e
     }
 
-    /// Has the scanning begin with the first event.
+    /// Restarts the scanning at the first event.
     pub fn scan_anew(&mut self)
         ensures { self.new ≡ record self.old { head = 0 } }
     {
         self.head = 0;
     }
 
-    /// Has the events without a label fall by so much.
+    /// Moves the events without a label to times earlier by this much.
     pub fn fall(&mut self, by: u64)
         requires { self.old.fallen + by < 2 ^ 64 }
         ensures { self.new ≡ record self.old { fallen = self.old.fallen + by } }

@@ -9,9 +9,9 @@ ghost use Rattle.pc_flow.specs.inside.board.Pruning.{IsPruned};
 use crate::board::board::Board;
 
 impl Board {
-    /// Takes the labels off those events whose step has no room left or comes from an event that lost its label, and
-    /// says how many these are. The others keep theirs, in their order. One pass over the queue, after the first labels
-    /// that stand.
+    /// Removes the labels of those events whose step has no residual capacity or comes from an event that lost its
+    /// label, and returns their number. The others keep theirs, in their order. One pass over the queue, after the
+    /// first `standing` labels.
     pub fn prune(&mut self, standing: u32) -> u32
         requires ranked { IsRanked self.old }
         requires back { IsRankedBack self.old }

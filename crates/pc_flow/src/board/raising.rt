@@ -5,8 +5,8 @@ ghost use Rattle.pc_flow.specs.inside.board.Raising.{IsLeast, IsRaised, StandFir
 
 use crate::board::board::Board;
 
-/// By how much the flow was raised, and how many of the first labels in the queue stand as they are: those before the
-/// first whose step has no room left.
+/// The result of an augmentation: by how much the flow was raised, and how many of the first labels in the queue stay
+/// as they are, those before the first whose step has no residual capacity.
 #[derive(Clone, Copy, Debug, PartialEq, Eq)]
 pub struct Augmentation {
     pub by: u64,
@@ -14,10 +14,12 @@ pub struct Augmentation {
 }
 
 impl Board {
-    /// Raises the flow as far as all steps that led to an event have room, and says by how much and how many of the
-    /// first labels stand.
+    /// Augments the flow along the steps that led to an event, as far as all of them have residual capacity. It looks
+    /// at the steps only, and at no activity.
     ///
-    /// It looks at the steps alone, and at no activity.
+    /// # Source
+    ///
+    /// Fulkerson 1961.
     pub fn raise(&mut self, end: u32) -> Augmentation
         requires ranked { IsRanked self.old }
         requires back { IsRankedBack self.old }

@@ -8,14 +8,14 @@ use crate::board::board::Board;
 use crate::board::columns::Column;
 
 impl Board {
-    /// How many activities wait.
+    /// Returns how many activities wait.
     pub fn len(&self) -> u32
         ensures { result ≡ self.now.len }
     {
         self.len
     }
 
-    /// The activity at a place of the list.
+    /// Returns the activity at a place of the list.
     pub fn waiting(&self, place: u32) -> u32
         requires { place < self.now.activities }
         ensures { result ≡ waiting_of self.now place }
@@ -23,7 +23,7 @@ impl Board {
         self.number(Column::Waiting, place)
     }
 
-    /// Puts an activity on the list, if it does not stand there.
+    /// Adds an activity to the list, unless it is there already.
     pub fn wait(&mut self, a: u32)
         requires known { a < self.old.activities }
         requires room { slot_of self.old a ≡ 0 → self.old.len < self.old.activities }
@@ -48,7 +48,7 @@ impl Board {
         self.set(Column::Slot, a, place as u64 + 1);
     }
 
-    /// Takes an activity off the list.
+    /// Removes an activity from the list.
     pub fn go(&mut self, a: u32)
         requires { a < self.old.activities }
         ensures { GoesAt self.old self.new a }
@@ -56,7 +56,7 @@ impl Board {
         self.set(Column::Slot, a, 0);
     }
 
-    /// Cuts the list.
+    /// Truncates the list.
     pub fn cut(&mut self, len: u32)
         ensures { self.new ≡ record self.old { len = len } }
     {

@@ -13,9 +13,9 @@ use pc_net::degree_laws::each_activity_stands_once;
 use std::sync::ledger::Ledger;
 
 impl<'n> Search<'n> {
-    /// After a raising, takes off the labels whose steps have no room, and scans the events that lost theirs; where
-    /// these are more than the others that were scanned, has those scanned again instead. The first labels that stand
-    /// are not touched. At most two looks for each activity.
+    /// Removes, after an augmentation, the labels whose steps have no residual capacity, and scans the events that lost
+    /// theirs. If these are more than the others that were scanned, it scans the others again instead. The first labels
+    /// that stay are not touched. At most two looks for each activity.
     pub fn look_again<L: Ledger>(&mut self, standing: u32, steps: &mut Steps<L>)
         requires search { IsSearch self.old.net.now self.old.board }
         requires settled { AreSettled self.old.net.now self.old.board }

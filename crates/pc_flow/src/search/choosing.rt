@@ -11,8 +11,8 @@ use pc_crash::Steps;
 use std::sync::ledger::Ledger;
 
 impl<'n> Search<'n> {
-    /// The least number of units after which an activity stops that labels may cross. The others leave the list. One
-    /// look for each activity that waits.
+    /// Returns the least number of units after which an activity stops that labels may cross. The other activities
+    /// leave the list. One look for each activity that waits.
     pub fn choose<L: Ledger>(&mut self, steps: &mut Steps<L>) -> u64
         requires search { IsSearch self.old.net.now self.old.board }
         requires room { HaveRoom self.old.board }

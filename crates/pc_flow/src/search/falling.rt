@@ -6,7 +6,7 @@ ghost use Rattle.pc_flow.specs.inside.search.Labelling.{IsBetween, MayFall, HasF
 use crate::search::search::Search;
 
 impl<'n> Search<'n> {
-    /// Has the events without a label fall by so much, down to where some activity stops.
+    /// Moves the events without a label to times earlier by this much, at which some activity stops.
     pub fn fall(&mut self, by: u64)
         requires between { IsBetween self.old.net.now self.old.board }
         requires listed { AreListed self.old.net.now self.old.board }

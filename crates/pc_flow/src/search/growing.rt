@@ -43,7 +43,7 @@ impl<'n> Search<'n> {
         }
     }
 
-    /// Visits the activities that wait, which still do so. One look for each.
+    /// Visits the activities that wait, and keeps those that still do. One look for each.
     pub fn settle<L: Ledger>(&mut self, steps: &mut Steps<L>)
         requires search { IsSearch self.old.net.now self.old.board }
         requires room { HaveRoom self.old.board }

@@ -9,7 +9,7 @@ use crate::search::search::Search;
 use pc_crash::Steps;
 use std::sync::ledger::Ledger;
 
-/// What a labelling came to: by how much the flow was raised, and how far the events without a label may fall.
+/// The result of a labelling: by how much the flow was raised, and by how much the events without a label can move.
 #[derive(Clone, Copy, Debug, PartialEq, Eq)]
 pub struct Labelling {
     pub rise: u64,
@@ -17,8 +17,13 @@ pub struct Labelling {
 }
 
 impl<'n> Search<'n> {
-    /// Raises the flow until no steps with room lead to the end, and says by how much, and how far the events without a
-    /// label may fall from there. At most four looks for each activity, and four more for each unit of the raising.
+    /// Augments the flow until no steps with residual capacity lead to the end, and returns by how much, and by how
+    /// much the events without a label can move then. At most four looks for each activity, and four more for each unit
+    /// of the augmentation.
+    ///
+    /// # Source
+    ///
+    /// Fulkerson 1961.
     pub fn label<L: Ledger>(&mut self, steps: &mut Steps<L>) -> Labelling
         requires between { IsBetween self.old.net.now self.old.board }
         requires above { IsAboveAllCrash self.old.net.now self.old.board }

@@ -9,8 +9,7 @@ use crate::board::Augmentation;
 use crate::search::search::Search;
 
 impl<'n> Search<'n> {
-    /// Raises the flow along the steps that led to the end, as far as they have room, and says by how much and how many
-    /// of the first labels stand. No look.
+    /// Augments the flow along the steps that led to the end, as far as they have residual capacity. No look.
     pub fn raise(&mut self) -> Augmentation
         requires between { IsBetween self.old.net.now self.old.board }
         requires above { IsAboveAllCrash self.old.net.now self.old.board }

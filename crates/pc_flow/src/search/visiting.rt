@@ -12,8 +12,8 @@ use pc_crash::{Look, Steps};
 use std::sync::ledger::Ledger;
 
 impl<'n> Search<'n> {
-    /// Which way the labels may cross an activity: along it from where it begins, or against it from where it ends
-    /// where something flows.
+    /// Returns which way labels may cross an activity: along it from where it begins, or, if something flows, against
+    /// it from where it ends.
     pub fn way(&self, a: u32, look: &Look) -> Option<Way>
         requires known { a < length self.now.net.now.network.arcs }
         requires look { IsLookAt self.now.net.now a look.now }
@@ -32,8 +32,8 @@ impl<'n> Search<'n> {
         }
     }
 
-    /// After how much of a fall an activity stops that the labels may cross this way, and what room its step has where
-    /// that is 0.
+    /// Returns after how long a step of the times an activity stops that labels may cross this way, and the residual
+    /// capacity that its step then has.
     #[inline(always)]
     pub fn stop(&self, a: u32, look: &Look, way: Way) -> Stop
         requires known { a < length self.now.net.now.network.arcs }
@@ -75,11 +75,11 @@ impl<'n> Search<'n> {
         stop_against(knees, crash, gap, self.board.flow(a))
     }
 
-    /// Labels the far event of an activity where its step has room, and else has the activity wait for a fall. One
-    /// look.
+    /// Labels the far event of an activity if its step has residual capacity, and otherwise lets the activity wait for
+    /// a step of the times. One look.
     ///
-    /// Most of the activities that a search comes to, labels may not cross. So only the test stands in the loops that
-    /// call this, and the rest is a call with what the look told.
+    /// Labels may not cross most of the activities that a search comes to. So only the test is in the loops that call
+    /// this, and the rest is a call with the result of the look.
     #[inline(always)]
     pub fn visit<L: Ledger>(&mut self, a: u32, steps: &mut Steps<L>)
         requires known { a < length self.old.net.now.network.arcs }

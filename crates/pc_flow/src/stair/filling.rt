@@ -5,7 +5,7 @@ ghost use Rattle.pc_flow.specs.inside.stair.Rows.{stair};
 
 use pc_model::Knee;
 
-/// What of a whole flow runs on this knee: what the knees before it leave, and at most its rise.
+/// Returns the part of a whole flow that runs on the knee `index`: what the knees before it leave, at most its rise.
 pub fn flow_at(knees: &[Knee], flow: u64, index: usize) -> u64
     requires { index < length knees.now }
     ensures { (crash : ℕ) → result ≡ knee_flow (stair knees.now crash) flow index }
@@ -17,7 +17,7 @@ pub fn flow_at(knees: &[Knee], flow: u64, index: usize) -> u64
     rest.min(knees[index].rise)
 }
 
-/// What of a whole flow runs on the crash duration: what all knees leave.
+/// Returns the part of a whole flow that runs on the crash duration: what all knees leave.
 pub fn beside(knees: &[Knee], flow: u64) -> u64
     ensures { (crash : ℕ) → result ≡ crash_flow (stair knees.now crash) flow }
 {

@@ -5,8 +5,8 @@ ghost use Rattle.pc_flow.specs.inside.stair.Rows.{stair};
 
 use pc_model::Knee;
 
-/// The units of flow that run on arcs of one length, which is in units of time: those from `below` up to but not with
-/// `above`, numbered from 0. The units on the crash duration have no end, and `above` is then `u64::MAX`.
+/// The units of flow that run on arcs of one length, given in units of time: those from `below` to `above` - 1,
+/// numbered from 0. The units on the crash duration have no end; for them `above` is `u64::MAX`.
 #[derive(Clone, Copy, Debug, PartialEq, Eq)]
 pub struct Piece {
     pub length: u64,
@@ -14,7 +14,7 @@ pub struct Piece {
     pub above: u64,
 }
 
-/// The piece on which this unit of an activity's flow runs. One pass over the knees.
+/// Returns the piece on which this unit of an activity's flow runs. One pass over the knees.
 pub fn piece_of(knees: &[Knee], crash: u64, unit: u64) -> Piece
     requires knees { full_reach (stair knees.now crash) < 2 ^ 64 }
     requires unit { unit + 1 < 2 ^ 64 }

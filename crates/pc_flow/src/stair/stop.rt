@@ -6,15 +6,15 @@ ghost use Rattle.pc_flow.specs.inside.stair.Rows.{stair};
 use crate::stair::piece::piece_of;
 use pc_model::Knee;
 
-/// After how many units of a change of its gap an activity stops, and by how many units its flow may change there.
+/// After how many units of a change of its gap an activity stops, and by how many units its flow may change then.
 #[derive(Clone, Copy, Debug, PartialEq, Eq)]
 pub struct Stop {
     pub after: u64,
     pub room: u64,
 }
 
-/// Where an activity stops whose gap shrinks: when the gap is as long as the arc of the next unit. There `room` units
-/// more fit it, up to the end of that arc's piece.
+/// Returns where an activity stops whose gap shrinks: when the gap is as long as the arc of the next unit. Then `room`
+/// more units fit, up to the end of that arc's piece.
 pub fn stop_along(knees: &[Knee], crash: u64, gap: u64, flow: u64) -> Stop
     requires knees { full_reach (stair knees.now crash) < 2 ^ 64 }
     requires falling { IsFalling (stair knees.now crash) }
@@ -32,8 +32,8 @@ pub fn stop_along(knees: &[Knee], crash: u64, gap: u64, flow: u64) -> Stop
     }
 }
 
-/// Where an activity with some flow stops whose gap grows: when the gap is as long as the arc of the last unit. There
-/// `room` units less fit it, down to the beginning of that arc's piece.
+/// Returns where an activity with some flow stops whose gap grows: when the gap is as long as the arc of the last unit.
+/// Then `room` fewer units fit, down to the beginning of that arc's piece.
 pub fn stop_against(knees: &[Knee], crash: u64, gap: u64, flow: u64) -> Stop
     requires knees { full_reach (stair knees.now crash) < 2 ^ 64 }
     requires falling { IsFalling (stair knees.now crash) }
