@@ -33,7 +33,6 @@ fn status_for(verdict: Verdict) -> Status
     }
 }
 
-/// Returns the line of a verdict.
 fn verdict_line(verdict: Verdict) -> ArrayVec<u8, VERDICT_ROOM>
     ensures { result.items ≡ verdict_text verdict }
 {

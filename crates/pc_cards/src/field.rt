@@ -22,7 +22,7 @@ pub enum Flaw {
 }
 
 impl Flaw {
-    /// Whether it is the shape that is wrong.
+    /// Returns whether the shape of the field is wrong.
     pub fn is_of_shape(self) -> bool
         ensures { result ≡ is_of_shape self }
     {
@@ -48,6 +48,10 @@ fn field_numbered<F: Fields>(fields: &F, number: u8) -> &[u8]
 }
 
 /// Reads a field that is a code.
+///
+/// # Errors
+///
+/// Returns the number of the field and what is wrong with it.
 pub fn read_code<F: Fields>(fields: &F, number: u8) -> Result<Code, Misfit>
     ensures value { IfOk result (λ code. code ≡ field_numbered (F.fields fields.now) number) }
     ensures fit { OnOk result (Fits form.Code (field_numbered (F.fields fields.now) number)) }
@@ -59,7 +63,11 @@ pub fn read_code<F: Fields>(fields: &F, number: u8) -> Result<Code, Misfit>
     }
 }
 
-/// The code that a field is, where it must not begin with `_`.
+/// Reads a field that is a code and does not begin with `_`.
+///
+/// # Errors
+///
+/// Returns the number of the field and what is wrong with it.
 pub fn read_given_code<F: Fields>(fields: &F, number: u8) -> Result<Code, Misfit>
     ensures value { IfOk result (λ code. code ≡ field_numbered (F.fields fields.now) number) }
     ensures fit { OnOk result (Fits form.GivenCode (field_numbered (F.fields fields.now) number)) }
@@ -80,6 +88,10 @@ fn is_reserved(field: &[u8]) -> bool
 }
 
 /// Reads the code that a card gives to what it represents in a deck of the sort.
+///
+/// # Errors
+///
+/// Returns the number of the field and what is wrong with it.
 pub fn read_own_code<F: Fields>(sort: Sort, fields: &F, number: u8) -> Result<Code, Misfit>
     ensures value { IfOk result (λ code. code ≡ field_numbered (F.fields fields.now) number) }
     ensures fit { OnOk result (Fits (own_code sort) (field_numbered (F.fields fields.now) number)) }
@@ -91,7 +103,11 @@ pub fn read_own_code<F: Fields>(sort: Sort, fields: &F, number: u8) -> Result<Co
     }
 }
 
-/// Reads a field that is a code, or none if it is empty.
+/// Reads a field that is a code. Returns `None` if it is empty.
+///
+/// # Errors
+///
+/// Returns the number of the field and what is wrong with it.
 pub fn read_code_or_none<F: Fields>(fields: &F, number: u8) -> Result<Option<Code>, Misfit>
     ensures value { IfOk result (λ code. code ≡ code_of (field_numbered (F.fields fields.now) number)) }
     ensures fit { OnOk result (Fits form.CodeOrNone (field_numbered (F.fields fields.now) number)) }
@@ -106,6 +122,10 @@ pub fn read_code_or_none<F: Fields>(fields: &F, number: u8) -> Result<Option<Cod
 }
 
 /// Reads a field that is a title.
+///
+/// # Errors
+///
+/// Returns the number of the field and what is wrong with it.
 pub fn read_title<F: Fields>(fields: &F, number: u8) -> Result<Title, Misfit>
     ensures value { IfOk result (λ title. title ≡ field_numbered (F.fields fields.now) number) }
     ensures fit { OnOk result (Fits form.Title (field_numbered (F.fields fields.now) number)) }
@@ -119,7 +139,11 @@ pub fn read_title<F: Fields>(fields: &F, number: u8) -> Result<Title, Misfit>
     }
 }
 
-/// Reads a field that is a date, as a day number. Inlined, since most cards of a large deck have one.
+/// Reads a field that is a date. Inlined, since most cards of a large deck have one.
+///
+/// # Errors
+///
+/// Returns the number of the field and what is wrong with it.
 #[inline(always)]
 pub fn read_date<F: Fields>(fields: &F, number: u8) -> Result<Day, Misfit>
     ensures value { IfOk result (λ day. day ≡ day_in (field_numbered (F.fields fields.now) number)) }
@@ -134,6 +158,10 @@ pub fn read_date<F: Fields>(fields: &F, number: u8) -> Result<Day, Misfit>
 }
 
 /// Reads a field that is a number from `least` to `most`. Inlined, since most cards have several of them.
+///
+/// # Errors
+///
+/// Returns the number of the field and what is wrong with it.
 #[inline(always)]
 pub fn read_amount<F: Fields>(fields: &F, number: u8, least: u64, most: u64) -> Result<u64, Misfit>
     ensures value { IfOk result (λ amount. amount ≡ number_in (field_numbered (F.fields fields.now) number)) }
@@ -148,7 +176,11 @@ pub fn read_amount<F: Fields>(fields: &F, number: u8, least: u64, most: u64) -> 
     }
 }
 
-/// Reads a field that is a number from `least` to `most`, or none if it is empty.
+/// Reads a field that is a number from `least` to `most`. Returns `None` if it is empty.
+///
+/// # Errors
+///
+/// Returns the number of the field and what is wrong with it.
 pub fn read_amount_or_none<F: Fields>(
     fields: &F,
     number: u8,
@@ -170,6 +202,10 @@ pub fn read_amount_or_none<F: Fields>(
 }
 
 /// Reads a field that is `S` or `F`, and returns whether it is `F`.
+///
+/// # Errors
+///
+/// Returns the number of the field and what is wrong with it.
 pub fn read_letter<F: Fields>(fields: &F, number: u8) -> Result<bool, Misfit>
     ensures value { IfOk result (λ finished. finished
         ≡ bytes_eq (field_numbered (F.fields fields.now) number) (codes "F")) }

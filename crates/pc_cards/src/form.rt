@@ -79,14 +79,14 @@ fn is_misshapen<F: Fields>(slot: &Slot, fields: &F) -> bool
     }
 }
 
-/// The first field that has not the shape of what it must be.
+/// Returns the first slot whose field does not have the shape that it must have.
 pub fn first_misshapen<'s, F: Fields>(slots: &'s [Slot], fields: &F) -> Option<&'s Slot>
     ensures { option_copied result ≡ first_misshapen slots.now (F.fields fields.now) }
 {
     slots.iter().find(|slot| is_misshapen(*slot, fields))
 }
 
-/// The slots behind the first with a number.
+/// Returns the slots after the first one with this number.
 pub fn slots_behind(number: u8, slots: &[Slot]) -> &[Slot]
     ensures { result.now ≡ slots_behind number slots.now }
 {

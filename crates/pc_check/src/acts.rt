@@ -54,7 +54,6 @@ pub(crate) fn is_still(flows: &[u64]) -> bool
     true
 }
 
-/// The sum of the flows.
 pub(crate) fn flow_sum(flows: &[u64]) -> u128
     requires { length flows.now ≤ 6 }
     ensures sum { result ≡ flow_sum flows.now }

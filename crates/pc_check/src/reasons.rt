@@ -125,7 +125,6 @@ fn reason_at_event(
     None
 }
 
-/// Whether the code is that of an event.
 fn has_event_code(net: &CrashNet<'_>, e: usize, code: &Code) -> bool
     ensures { result ≡ is_code_at net.now.network.events net.now.events e code.now }
 {

@@ -5,10 +5,10 @@ ghost use Rattle.pc_crash.specs.Priced.{PricedNetwork};
 ghost use Rattle.pc_curve.specs.Points.{curve_in};
 ghost use Rattle.pc_curve.specs.Breaks.{IsNextBreakpoint, AreBreakpointsTo};
 
-/// No breakpoint is the list before the first; with the next one it is the list up to there; and up to the shortest
-/// length it is the list of all breakpoints of the curve.
+/// States that the breakpoints which were given are the list of breakpoints down to the last one.
 ///
-/// This function does nothing: its contract is the law.
+/// Before the first one the list is empty, each next one extends it, and down to the all-crash length it has all
+/// breakpoints of the curve.
 pub fn breaks_make_the_list()
     ensures begins { (net : PricedNetwork) (shortest longest : ℕ) →
         AreBreakpointsTo (curve_in net) shortest longest None [] }

@@ -30,7 +30,7 @@ impl Draft {
     ghost use Rattle.pc_deck.specs.Within.{IsWithin};
     ghost use Rattle.pc_deck.specs.inside.Within.{IsDraftWithin};
 
-    /// No cards. The key is that of the hash by which cards are looked up by their codes.
+    /// Creates a draft without cards. `key` is the key of the hash that looks up cards by their codes.
     pub fn new(alloc: Global, key: u128, sort: Sort) -> Draft
         ensures { result ≡ no_cards sort }
     {
@@ -65,7 +65,11 @@ impl Draft {
         }
     }
 
-    /// Takes the next card, which the record spells, or answers its fault. After a fault the cards are of no more use.
+    /// Takes the next card, which the record spells. After an error the cards are of no use any more.
+    ///
+    /// # Errors
+    ///
+    /// Returns the fault of the card, or `DeckError::OutOfMemory` if memory runs out.
     pub fn take(&mut self, row: u32, fields: &Row) -> Result<(), DeckError>
         ensures kept { OnOk result (IsKept self.old row fields.now self.new) }
         ensures fault { IfErr result (Refuses (λ fault. judge (seen_in self.old) row fields.now ≡ Err fault)) }
@@ -107,7 +111,11 @@ impl Draft {
         if self.has_ended { 1 } else { 0 }
     }
 
-    /// The cards of the deck, if its END card came; `end` is the number behind its last record.
+    /// Returns the cards of the deck; `end` is the number after its last record.
+    ///
+    /// # Errors
+    ///
+    /// Returns F12 if there was no END card.
     pub fn close(self, end: u32) -> Result<DeckCards, Fault>
         requires { IsDraftWithin self }
         ensures cards { result ≡ closed self end }

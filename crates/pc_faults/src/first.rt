@@ -15,7 +15,7 @@ pub fn earliest(one: Option<Fault>, other: Option<Fault>) -> Option<Fault>
     }
 }
 
-/// The earlier of a fault and another, where there is another.
+/// Returns the earlier of a fault and another one, if there is another.
 pub fn earlier_of(fault: Fault, other: Option<Fault>) -> Fault
     ensures { Some result ≡ earliest (Some fault) other }
 {

@@ -3,7 +3,7 @@ ghost use Rattle.std.specs.Prelude.{◌≡◌, ◌≤◌, [], ◌∷◌, length}
 ghost use Rattle.pc_faults.specs.FaultText.{plain_words, field_words, words_before, words_behind, listed_words, side_words};
 ghost use Rattle.pc_faults.specs.inside.FaultText.{IsNumber, plain_numbers, name_numbers, list_numbers};
 
-/// What is wrong, where a fault names nothing.
+/// Returns what is wrong, for a fault that names nothing.
 pub fn plain_words(number: u8) -> &'static [u8]
     requires { IsNumber plain_numbers number }
     ensures words { result.now ≡ plain_words number }
@@ -26,7 +26,7 @@ pub fn plain_words(number: u8) -> &'static [u8]
     }
 }
 
-/// What is wrong with a field.
+/// Returns what is wrong with a field.
 pub fn field_words(number: u8) -> &'static [u8]
     requires { IsNumber (7 ∷ 8 ∷ []) number }
     ensures words { result.now ≡ field_words number }
@@ -39,7 +39,7 @@ pub fn field_words(number: u8) -> &'static [u8]
     }
 }
 
-/// What stands before the code that a fault names.
+/// Returns the words before the code that a fault names.
 pub fn words_before(number: u8) -> &'static [u8]
     requires { IsNumber name_numbers number }
     ensures words { result.now ≡ words_before number }
@@ -63,7 +63,7 @@ pub fn words_before(number: u8) -> &'static [u8]
     }
 }
 
-/// What stands behind the code that a fault names.
+/// Returns the words after the code that a fault names.
 pub fn words_behind(number: u8) -> &'static [u8]
     requires { IsNumber name_numbers number }
     ensures words { result.now ≡ words_behind number }
@@ -81,7 +81,7 @@ pub fn words_behind(number: u8) -> &'static [u8]
     }
 }
 
-/// What stands before several codes.
+/// Returns the words before several codes.
 pub fn listed_words(number: u8) -> &'static [u8]
     requires { IsNumber list_numbers number }
     ensures words { result.now ≡ listed_words number }
@@ -95,7 +95,7 @@ pub fn listed_words(number: u8) -> &'static [u8]
     }
 }
 
-/// What stands before an event, by whether an activity enters it.
+/// Returns the words before an event that is loose, by whether an activity enters it.
 pub fn side_words(entered: bool) -> &'static [u8]
     ensures words { result.now ≡ side_words entered }
     ensures short { length result.now ≤ 19 }

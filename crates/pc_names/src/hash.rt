@@ -20,7 +20,6 @@ impl CodeHash {
         CodeHash { begun, key }
     }
 
-    /// Returns the key.
     pub(crate) fn key(&self) -> u128 {
         self.key
     }

@@ -52,7 +52,6 @@ impl Earned {
         &self.worth
     }
 
-    /// Returns how many items there are.
     pub(crate) fn items(&self) -> usize
         ensures { result ≡ length self.now.outline }
     {

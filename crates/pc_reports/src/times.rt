@@ -36,6 +36,10 @@ impl Model for Times {
 
 impl Times {
     /// Returns the times of the project. Linear in events and activities.
+    ///
+    /// # Errors
+    ///
+    /// Returns `AllocError` if memory runs out.
     pub fn of(alloc: Global, project: &Project) -> Result<Times, AllocError>
         ensures times { IfOk result (IsTimes project.now) }
         ensures small { IfOk result AreSmall }

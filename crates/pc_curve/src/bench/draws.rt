@@ -29,7 +29,6 @@ impl Draws {
         Draws { last: start }
     }
 
-    /// The next draw.
     pub(in crate::bench) fn next(&mut self) -> u64
         ensures result { (start k : ℕ) → self.old ≡ drawn start k → result ≡ drawn start (k + 1) }
         ensures last { (start k : ℕ) → self.old ≡ drawn start k → self.new ≡ drawn start (k + 1) }

@@ -92,7 +92,7 @@ impl Drop for CardLists {
 impl CardLists {
     ghost use Rattle.pc_deck.specs.inside.Kinds.{no_lists};
 
-    /// No cards. The key is that of the hash by which cards are looked up by their codes.
+    /// Creates empty lists. `key` is the key of the hash that looks up cards by their codes.
     pub fn new(alloc: Global, key: u128) -> CardLists
         ensures { result ≡ no_lists }
     {
@@ -150,7 +150,8 @@ impl Draft {
     }
 }
 
-/// The kind of cards of the sort that a card's first field names, in capital letters, or none where it names none.
+/// Returns the kind of cards of the sort that a card's first field names, in capital letters, or `None` if it names
+/// none.
 pub fn kind_of(sort: Sort, field: &[u8]) -> Option<Kind>
     ensures { result ≡ kind_of sort field.now }
 {
@@ -218,8 +219,10 @@ fn further_kind(field: &[u8]) -> Option<Kind>
     }
 }
 
-/// How many cards of the kind a deck of the sort and version may have, where that is a limit of its own. Of a kind that
-/// the sort has not, it may have none; and a deck of tasks is of version 2, whatever it says.
+/// Returns how many cards of the kind a deck of the sort and version may have, or `None` if there is no such limit.
+///
+/// A deck may have no card of a kind that its sort does not have. A deck of tasks counts as version 2, whatever it
+/// says.
 pub fn limit_of(sort: Sort, version: u64, kind: Kind) -> Option<usize>
     ensures { result ≡ limit_of sort version kind }
 {

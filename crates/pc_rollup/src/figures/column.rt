@@ -63,7 +63,6 @@ impl AmountColumn {
         Ok(AmountColumn { items, levels })
     }
 
-    /// The amount of an item.
     pub(in crate::figures) fn item(&self, item: u32) -> i64
         requires { item < length self.now.items }
         ensures { result ≡ amount_at self.now.items item }
