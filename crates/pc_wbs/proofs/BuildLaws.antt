@@ -6,9 +6,9 @@ use Rattle.std.proofs.lemmas.List.{length_push, get_or_push, get_or_append_left,
 use Rattle.pc_wbs.specs.declared.row.ItemRow.{ItemRow}
 use Rattle.pc_model.specs.declared.limits.TheConstants.{MAX_LEVEL}
 use Rattle.pc_wbs.specs.Climb.{parent_of, AreInRange, climb, HasLevel, IsLeaf, IsDepth, IsOnlyTop, IsTree}
-use Rattle.pc_wbs.specs.Refusal.{IsFirst, IsLooped, IsTooDeep}
+use Rattle.pc_wbs.specs.Refusal.{IsLooped, IsTooDeep}
 use Rattle.pc_wbs.specs.inside.Links.{link_at, IsFirstChild}
-use Rattle.pc_model.specs.Greatest.{StandsBelow}
+use Rattle.pc_model.specs.Greatest.{IsFirst, StandsBelow}
 use Rattle.pc_wbs.specs.inside.Ends.{AreEnds, AreDoubled, StayInside, IsLeastBelow, IsFirstLooped, AreLevels, AreGreatest, lesser}
 use Rattle.pc_wbs.proofs.ClimbLaws.{climb-add, climb-lower, climb-more, climb-range, HasLevel-same}
 use Rattle.pc_wbs.proofs.LoopLaws.{IsOnLoop-end, end-IsOnLoop}

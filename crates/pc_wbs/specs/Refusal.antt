@@ -1,15 +1,11 @@
 -- Why rows are not a tree, each cause with those before it denied.
 use Rattle.std.specs.Prelude.{◌≡◌, ◌≢◌, ℕ, ◌+◌, ◌<◌, List, length, slice_index, Some, None}
 use Rattle.pc_model.specs.declared.limits.TheConstants.{MAX_LEVEL}
+use Rattle.pc_model.specs.Greatest.{IsFirst}
 use Rattle.pc_wbs.specs.declared.row.ItemRow.{ItemRow}
 use Rattle.pc_wbs.specs.declared.error.TreeError.{TreeError}
 use Rattle.pc_wbs.specs.declared.error.TreeError.TheVariants.{NoTop, SecondTop, Loop, TooDeep, OutOfMemory}
 use Rattle.pc_wbs.specs.Climb.{parent_of, IsTop, IsOnlyTop, HasLevel, IsOnLoop}
-
--- x is the first number with P
-pub record IsFirst (P : ℕ → Type 0) (x : ℕ) : Type 0 where
-  pub holds : P x
-  pub first : (y : ℕ) → y < x → P y → ⊥
 
 -- the second of the rows without a parent
 pub record IsSecondTop (rows : List ItemRow) (item : ℕ) : Type 0 where

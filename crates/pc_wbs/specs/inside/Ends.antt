@@ -3,9 +3,9 @@ use Rattle.std.specs.Prelude.{◌≡◌, ◌≢◌, ℕ, ◌<◌, ◌≤◌, min
 use Rattle.pc_model.specs.declared.limits.TheConstants.{MAX_LEVEL}
 use Rattle.pc_wbs.specs.declared.row.ItemRow.{ItemRow}
 use Rattle.pc_wbs.specs.Climb.{parent_of, climb, HasLevel, IsTop}
-use Rattle.pc_model.specs.Greatest.{StandsBelow}
+use Rattle.pc_model.specs.Greatest.{IsFirst, StandsBelow}
 use Rattle.pc_wbs.specs.inside.Links.{link_at}
-use Rattle.pc_wbs.specs.Refusal.{IsFirst, IsLooped}
+use Rattle.pc_wbs.specs.Refusal.{IsLooped}
 
 -- the ends of climbs of so many steps, one from each of the first n rows
 pub record AreEnds (rows : List ItemRow) (n steps : ℕ) (ends : List (Option ℕ)) : Type 0 where
