@@ -7,7 +7,8 @@ use Rattle.pc_faults.specs.declared.status.StatusFault.TheVariants.{Early}
 use Rattle.pc_model.specs.Greatest.{IsFirst}
 use Rattle.pc_accounts.specs.declared.status.row.StatusRow.{StatusRow}
 use Rattle.pc_accounts.specs.status.Statuses.{status_at, IsOf, AreInOrder}
-use Rattle.pc_accounts.specs.inside.status.Firsts.{option_at, FirstBelow, AreFirsts}
+use Rattle.pc_accounts.specs.inside.Parts.{option_at}
+use Rattle.pc_accounts.specs.inside.status.Firsts.{FirstBelow, AreFirsts}
 
 -- a first status that was read
 pub record IsFound (statuses : List StatusRow) (ended : Bool) (a k : ℕ) (row : StatusRow) : Type 0 where

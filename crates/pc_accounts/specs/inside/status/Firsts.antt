@@ -1,17 +1,14 @@
 -- The first statuses of activities among those that were read.
-use Rattle.std.specs.Prelude.{◌≡◌, ℕ, ◌<◌, Bool, List, length, slice_index_or, Option, Some, None, if◌then◌else◌}
+use Rattle.std.specs.Prelude.{◌≡◌, ℕ, ◌<◌, Bool, List, length, Option, Some, None, if◌then◌else◌}
 use Rattle.pc_model.specs.Greatest.{IsFirst}
 use Rattle.pc_accounts.specs.declared.status.row.StatusRow.{StatusRow}
 use Rattle.pc_accounts.specs.status.Statuses.{IsOf}
+use Rattle.pc_accounts.specs.inside.Parts.{option_at}
 
 -- the first status of activity a among the first n that says that it was ended, or that it was begun, if there is one
 abbrev pub FirstBelow : List StatusRow → Bool → ℕ → ℕ → Option ℕ → Type 0
 FirstBelow statuses ended a n None = (j : ℕ) → j < n → IsOf statuses ended a j → ⊥
 FirstBelow statuses ended a n (Some k) = (k < n) × IsFirst (IsOf statuses ended a) k
-
--- an element of a list; none past its end
-abbrev pub option_at : List (Option ℕ) → ℕ → Option ℕ
-option_at xs k = slice_index_or xs k None
 
 -- the same for each of so many activities
 pub record AreFirsts (activities : ℕ) (statuses : List StatusRow) (ended : Bool) (n : ℕ) (firsts : List (Option ℕ)) : Type 0 where
