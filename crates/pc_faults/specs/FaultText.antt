@@ -1,4 +1,4 @@
--- The line that tells a fault.
+-- The line that reports a fault.
 use Rattle.std.specs.Prelude.{ℕ, Bool, true, false, ◌==◌, List, [], ◌∷◌, ◌++◌, codes, decimal, if◌then◌else◌}
 use Rattle.pc_days.specs.Calendar.{text_of_day}
 use Rattle.pc_faults.specs.Kinds.{word_of}
@@ -8,69 +8,56 @@ use Rattle.pc_faults.specs.declared.fault.Detail.{Detail}
 use Rattle.pc_faults.specs.declared.fault.Detail.TheVariants.{Plain, Kind, Fields, Field, Name, TooMany, Names, Level, Side, Sums, Status, ToGo, Length, Periods}
 use Rattle.pc_faults.specs.declared.fault.Fault.{Fault}
 
--- what is wrong, where a fault names nothing
-abbrev pub plain_words : ℕ → List ℕ
-plain_words number =
-    if number == 1 then codes "more than 67108864 bytes"
-    else if number == 2 then codes "not UTF-8"
-    else if number == 3 then codes "first card is not PROJECT"
-    else if number == 4 then codes "unknown kind"
-    else if number == 11 then codes "card after END"
-    else if number == 12 then codes "no END"
-    else if number == 18 then codes "estimates out of order"
-    else if number == 19 then codes "crash above normal"
-    else if number == 20 then codes "no top item"
-    else if number == 36 then codes "bonus above penalty"
-    else if number == 37 then codes "top item has no child"
-    else if number == 39 then codes "no task"
-    else []
+-- the words of a fault before and after what it names
+pub record Words : Type 0 where
+  pub before : List ℕ
+  pub after : List ℕ
 
--- what is wrong with a field
-abbrev pub field_words : ℕ → List ℕ
-field_words number =
-    if number == 7 then codes " has a wrong shape"
-    else if number == 8 then codes " is over its limit"
-    else []
+-- words with nothing after them
+abbrev pub before : List ℕ → Words
+before words = record { before = words; after = [] }
 
--- what stands before the code that a fault names
-abbrev pub words_before : ℕ → List ℕ
-words_before number =
-    if number == 9 then codes "code "
-    else if number == 13 then codes "unknown event "
-    else if number == 14 then codes "unknown item "
-    else if number == 15 then codes "unknown account "
-    else if number == 16 then codes "unknown activity "
-    else if number == 17 then codes "begins and ends at "
-    else if number == 21 then codes "second top item "
-    else if number == 24 then codes "activity "
-    else if number == 25 then codes "activity "
-    else if number == 28 then codes "item "
-    else if number == 33 then codes "more than 4 pieces of "
-    else if number == 34 then codes "slope of a piece of "
-    else if number == 35 then codes "pieces of "
-    else if number == 41 then codes "unknown resource "
-    else []
+-- words on both sides
+abbrev pub around : List ℕ → List ℕ → Words
+around words others = record { before = words; after = others }
 
--- what stands behind the code that a fault names, where anything does
-abbrev pub words_behind : ℕ → List ℕ
-words_behind number =
-    if number == 9 then codes " is repeated"
-    else if number == 24 then codes " enters the start"
-    else if number == 25 then codes " leaves the end"
-    else if number == 28 then codes " is not a leaf"
-    else if number == 34 then codes " does not rise"
-    else if number == 35 then codes " leave nothing to its first slope"
-    else []
+-- the words of each fault, by its number; none for a fault whose words go by its detail alone
+abbrev pub fault_words : ℕ → Words
+fault_words number =
+    if number == 1 then before (codes "more than 67108864 bytes")
+    else if number == 2 then before (codes "not UTF-8")
+    else if number == 3 then before (codes "first card is not PROJECT")
+    else if number == 4 then before (codes "unknown kind")
+    else if number == 7 then around (codes "field ") (codes " has a wrong shape")
+    else if number == 8 then around (codes "field ") (codes " is over its limit")
+    else if number == 9 then around (codes "code ") (codes " is repeated")
+    else if number == 11 then before (codes "card after END")
+    else if number == 12 then before (codes "no END")
+    else if number == 13 then before (codes "unknown event ")
+    else if number == 14 then before (codes "unknown item ")
+    else if number == 15 then before (codes "unknown account ")
+    else if number == 16 then before (codes "unknown activity ")
+    else if number == 17 then before (codes "begins and ends at ")
+    else if number == 18 then before (codes "estimates out of order")
+    else if number == 19 then before (codes "crash above normal")
+    else if number == 20 then before (codes "no top item")
+    else if number == 21 then before (codes "second top item ")
+    else if number == 22 then before (codes "items in a loop: ")
+    else if number == 24 then around (codes "activity ") (codes " enters the start")
+    else if number == 25 then around (codes "activity ") (codes " leaves the end")
+    else if number == 27 then before (codes "activities in a cycle: ")
+    else if number == 28 then around (codes "item ") (codes " is not a leaf")
+    else if number == 33 then before (codes "more than 4 pieces of ")
+    else if number == 34 then around (codes "slope of a piece of ") (codes " does not rise")
+    else if number == 35 then around (codes "pieces of ") (codes " leave nothing to its first slope")
+    else if number == 36 then before (codes "bonus above penalty")
+    else if number == 37 then before (codes "top item has no child")
+    else if number == 38 then before (codes "tasks in a cycle: ")
+    else if number == 39 then before (codes "no task")
+    else if number == 41 then before (codes "unknown resource ")
+    else before []
 
--- what stands before several codes
-abbrev pub listed_words : ℕ → List ℕ
-listed_words number =
-    if number == 22 then codes "items in a loop: "
-    else if number == 27 then codes "activities in a cycle: "
-    else if number == 38 then codes "tasks in a cycle: "
-    else []
-
--- what stands before an event, by whether an activity enters it
+-- the words before an event that is loose, by whether an activity enters it
 abbrev pub side_words : Bool → List ℕ
 side_words true = codes "no activity leaves "
 side_words false = codes "no activity enters "
@@ -83,7 +70,7 @@ status_words reason.Late = codes "date after as-of"
 status_words reason.NoStart = codes "finish without start"
 status_words reason.FinishFirst = codes "finish before start"
 
--- each code behind a space
+-- each code after a space
 abbrev pub spaced_codes : List (List ℕ) → List ℕ
 spaced_codes [] = []
 spaced_codes (code ∷ rest) = codes " " ++ code ++ spaced_codes rest
@@ -95,13 +82,13 @@ joined (code ∷ rest) = code ++ spaced_codes rest
 
 -- what is wrong
 abbrev pub words_of : ℕ → Detail → List ℕ
-words_of number Plain = plain_words number
+words_of number Plain = (fault_words number).before
 words_of number (Kind kind) = codes "second " ++ word_of kind
 words_of number (Fields kind have want) = decimal have ++ codes " fields, " ++ word_of kind ++ codes " has " ++ decimal want
-words_of number (Field field) = codes "field " ++ decimal field ++ field_words number
-words_of number (Name code) = words_before number ++ code ++ words_behind number
+words_of number (Field field) = (fault_words number).before ++ decimal field ++ (fault_words number).after
+words_of number (Name code) = (fault_words number).before ++ code ++ (fault_words number).after
 words_of number (TooMany kind limit) = codes "more than " ++ decimal limit ++ codes " " ++ word_of kind ++ codes " cards"
-words_of number (Names names) = listed_words number ++ joined names
+words_of number (Names names) = (fault_words number).before ++ joined names
 words_of number (Level name level) = codes "item " ++ name ++ codes " at level " ++ decimal level
 words_of number (Side name entered) = side_words entered ++ name
 words_of number (Sums name budgets costs) = codes "item " ++ name ++ codes " has budgets " ++ decimal budgets ++ codes " and costs " ++ decimal costs

@@ -1,15 +1,14 @@
 //! Several codes on one line.
-ghost use Rattle.std.specs.Prelude.{◌≡◌, ◌≤◌, ◌+◌, ◌*◌, ◌++◌, length};
+ghost use Rattle.std.specs.Prelude.{◌≤◌, ◌+◌, ◌*◌, length};
 ghost use Rattle.pc_faults.specs.FaultText.{spaced_codes, joined};
+ghost use Rattle.pc_faults.specs.inside.FaultRoom.{HasTold};
 
 use pc_text::{Code, Line};
 
 /// Appends the codes, with a space between one and the next.
 pub fn tell_joined(line: &mut Line, codes: &[Code])
     requires { length line.old.bytes + 17 * length codes.now ≤ line.old.room }
-    ensures bytes { line.new.bytes ≡ line.old.bytes ++ joined codes.now }
-    ensures room { line.new.room ≡ line.old.room }
-    ensures short { length line.new.bytes ≤ length line.old.bytes + 17 * length codes.now }
+    ensures { HasTold (17 * length codes.now) line.old line.new (joined codes.now) }
 {
     if let Some((first, rest)) = codes.split_first() {
         line.text(first.bytes());
@@ -17,12 +16,10 @@ pub fn tell_joined(line: &mut Line, codes: &[Code])
     }
 }
 
-/// Appends each code behind a space.
+/// Appends each code after a space.
 fn tell_spaced(line: &mut Line, codes: &[Code])
     requires { length line.old.bytes + 17 * length codes.now ≤ line.old.room }
-    ensures bytes { line.new.bytes ≡ line.old.bytes ++ spaced_codes codes.now }
-    ensures room { line.new.room ≡ line.old.room }
-    ensures short { length line.new.bytes ≤ length line.old.bytes + 17 * length codes.now }
+    ensures { HasTold (17 * length codes.now) line.old line.new (spaced_codes codes.now) }
 {
     for code in codes {
         line.text(b" ");

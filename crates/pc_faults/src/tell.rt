@@ -1,16 +1,14 @@
 //! The line that reports a fault.
-ghost use Rattle.std.specs.Prelude.{◌≡◌, ◌<◌, ◌≤◌, ◌+◌, ◌*◌, ◌^◌, [], ◌∷◌, ◌++◌, length, IfOk};
+ghost use Rattle.std.specs.Prelude.{◌≡◌, ◌<◌, ◌≤◌, ◌+◌, ◌*◌, ◌^◌, length, IfOk};
 ghost use Rattle.pc_faults.specs.FaultText.{words_of, fault_text};
-ghost use Rattle.pc_faults.specs.inside.FaultText.{IsNumber, IsTold, list_numbers, name_numbers, numbers_of};
-ghost use Rattle.pc_faults.specs.inside.FaultRoom.{listed_in, words_limit};
+ghost use Rattle.pc_faults.specs.inside.FaultText.{IsTold};
+ghost use Rattle.pc_faults.specs.inside.FaultRoom.{HasTold, listed_in, words_limit};
 ghost use Rattle.pc_faults.specs.declared.fault.Detail.TheVariants as detail;
 
 use crate::fault::{Detail, Fault};
 use crate::joined::tell_joined;
 use crate::kind::Kind;
-use crate::words::{
-    field_words, listed_words, plain_words, side_words, words_before, words_behind,
-};
+use crate::words::{Words, side_words};
 use pc_days::{Day, day_text};
 use pc_text::{Code, Codes, Line, digits};
 use std::alloc::{AllocError, Global};
@@ -69,14 +67,11 @@ fn listed_in(detail: &Detail) -> usize
 
 /// Appends what is wrong.
 fn tell(line: &mut Line, number: u8, detail: &Detail)
-    requires told { IsNumber (numbers_of detail.now) number }
-    requires room { length line.old.bytes + words_limit detail.now ≤ line.old.room }
-    ensures bytes { line.new.bytes ≡ line.old.bytes ++ words_of number detail.now }
-    ensures room { line.new.room ≡ line.old.room }
-    ensures short { length line.new.bytes ≤ length line.old.bytes + words_limit detail.now }
+    requires { length line.old.bytes + words_limit detail.now ≤ line.old.room }
+    ensures { HasTold (words_limit detail.now) line.old line.new (words_of number detail.now) }
 {
     match detail {
-        Detail::Plain => line.text(plain_words(number)),
+        Detail::Plain => line.text(Words::of(number).before),
         Detail::Kind(kind) => tell_second(line, *kind),
         Detail::Fields { kind, have, want } => tell_fields(line, *kind, *have, *want),
         Detail::Field(field) => tell_field(line, number, *field),
@@ -104,9 +99,7 @@ fn tell(line: &mut Line, number: u8, detail: &Detail)
 /// Appends of which kind there is a second card.
 fn tell_second(line: &mut Line, kind: Kind)
     requires { length line.old.bytes + 90 ≤ line.old.room }
-    ensures bytes { line.new.bytes ≡ line.old.bytes ++ words_of 5 (detail.Kind kind) }
-    ensures room { line.new.room ≡ line.old.room }
-    ensures short { length line.new.bytes ≤ length line.old.bytes + 90 }
+    ensures { HasTold 90 line.old line.new (words_of 5 (detail.Kind kind)) }
 {
     line.text(b"second ");
     line.text(kind.word());
@@ -115,9 +108,7 @@ fn tell_second(line: &mut Line, kind: Kind)
 /// Appends how many fields a record has and should have.
 fn tell_fields(line: &mut Line, kind: Kind, have: u64, want: u64)
     requires { length line.old.bytes + 90 ≤ line.old.room }
-    ensures bytes { line.new.bytes ≡ line.old.bytes ++ words_of 6 (detail.Fields kind have want) }
-    ensures room { line.new.room ≡ line.old.room }
-    ensures short { length line.new.bytes ≤ length line.old.bytes + 90 }
+    ensures { HasTold 90 line.old line.new (words_of 6 (detail.Fields kind have want)) }
 {
     line.text(digits(have).bytes());
     line.text(b" fields, ");
@@ -128,36 +119,30 @@ fn tell_fields(line: &mut Line, kind: Kind, have: u64, want: u64)
 
 /// Appends what is wrong with a field.
 fn tell_field(line: &mut Line, number: u8, field: u8)
-    requires told { IsNumber (7 ∷ 8 ∷ []) number }
-    requires room { length line.old.bytes + 90 ≤ line.old.room }
-    ensures bytes { line.new.bytes ≡ line.old.bytes ++ words_of number (detail.Field field) }
-    ensures room { line.new.room ≡ line.old.room }
-    ensures short { length line.new.bytes ≤ length line.old.bytes + 90 }
+    requires { length line.old.bytes + 90 ≤ line.old.room }
+    ensures { HasTold 90 line.old line.new (words_of number (detail.Field field)) }
 {
-    line.text(b"field ");
+    let words = Words::of(number);
+    line.text(words.before);
     line.text(digits(u64::from(field)).bytes());
-    line.text(field_words(number));
+    line.text(words.after);
 }
 
 /// Appends what is wrong with a code.
 fn tell_name(line: &mut Line, number: u8, code: &Code)
-    requires told { IsNumber name_numbers number }
-    requires room { length line.old.bytes + 90 ≤ line.old.room }
-    ensures bytes { line.new.bytes ≡ line.old.bytes ++ words_of number (detail.Name code.now) }
-    ensures room { line.new.room ≡ line.old.room }
-    ensures short { length line.new.bytes ≤ length line.old.bytes + 90 }
+    requires { length line.old.bytes + 90 ≤ line.old.room }
+    ensures { HasTold 90 line.old line.new (words_of number (detail.Name code.now)) }
 {
-    line.text(words_before(number));
+    let words = Words::of(number);
+    line.text(words.before);
     line.text(code.bytes());
-    line.text(words_behind(number));
+    line.text(words.after);
 }
 
 /// Appends of which kind there are too many cards.
 fn tell_too_many(line: &mut Line, kind: Kind, limit: u64)
     requires { length line.old.bytes + 90 ≤ line.old.room }
-    ensures bytes { line.new.bytes ≡ line.old.bytes ++ words_of 10 (detail.TooMany kind limit) }
-    ensures room { line.new.room ≡ line.old.room }
-    ensures short { length line.new.bytes ≤ length line.old.bytes + 90 }
+    ensures { HasTold 90 line.old line.new (words_of 10 (detail.TooMany kind limit)) }
 {
     line.text(b"more than ");
     line.text(digits(limit).bytes());
@@ -168,22 +153,17 @@ fn tell_too_many(line: &mut Line, kind: Kind, limit: u64)
 
 /// Appends what is wrong with several codes together.
 fn tell_names(line: &mut Line, number: u8, names: &Codes)
-    requires told { IsNumber list_numbers number }
-    requires room { length line.old.bytes + (90 + 17 * length names.now) ≤ line.old.room }
-    ensures bytes { line.new.bytes ≡ line.old.bytes ++ words_of number (detail.Names names.now) }
-    ensures room { line.new.room ≡ line.old.room }
-    ensures short { length line.new.bytes ≤ length line.old.bytes + (90 + 17 * length names.now) }
+    requires { length line.old.bytes + (90 + 17 * length names.now) ≤ line.old.room }
+    ensures { HasTold (90 + 17 * length names.now) line.old line.new (words_of number (detail.Names names.now)) }
 {
-    line.text(listed_words(number));
+    line.text(Words::of(number).before);
     tell_joined(line, names.as_slice());
 }
 
 /// Appends the level of an item.
 fn tell_level(line: &mut Line, name: &Code, level: u32)
     requires { length line.old.bytes + 90 ≤ line.old.room }
-    ensures bytes { line.new.bytes ≡ line.old.bytes ++ words_of 23 (detail.Level name.now level) }
-    ensures room { line.new.room ≡ line.old.room }
-    ensures short { length line.new.bytes ≤ length line.old.bytes + 90 }
+    ensures { HasTold 90 line.old line.new (words_of 23 (detail.Level name.now level)) }
 {
     line.text(b"item ");
     line.text(name.bytes());
@@ -194,9 +174,7 @@ fn tell_level(line: &mut Line, name: &Code, level: u32)
 /// Appends on which side an event stands loose.
 fn tell_side(line: &mut Line, name: &Code, entered: bool)
     requires { length line.old.bytes + 90 ≤ line.old.room }
-    ensures bytes { line.new.bytes ≡ line.old.bytes ++ words_of 26 (detail.Side name.now entered) }
-    ensures room { line.new.room ≡ line.old.room }
-    ensures short { length line.new.bytes ≤ length line.old.bytes + 90 }
+    ensures { HasTold 90 line.old line.new (words_of 26 (detail.Side name.now entered)) }
 {
     line.text(side_words(entered));
     line.text(name.bytes());
@@ -205,9 +183,7 @@ fn tell_side(line: &mut Line, name: &Code, entered: bool)
 /// Appends the two sums of an item that should be equal.
 fn tell_sums(line: &mut Line, name: &Code, budgets: u64, costs: u64)
     requires { length line.old.bytes + 90 ≤ line.old.room }
-    ensures bytes { line.new.bytes ≡ line.old.bytes ++ words_of 29 (detail.Sums name.now budgets costs) }
-    ensures room { line.new.room ≡ line.old.room }
-    ensures short { length line.new.bytes ≤ length line.old.bytes + 90 }
+    ensures { HasTold 90 line.old line.new (words_of 29 (detail.Sums name.now budgets costs)) }
 {
     line.text(b"item ");
     line.text(name.bytes());
@@ -220,9 +196,7 @@ fn tell_sums(line: &mut Line, name: &Code, budgets: u64, costs: u64)
 /// Appends of which account and date there is a second TOGO card.
 fn tell_togo(line: &mut Line, account: &Code, day: Day)
     requires { length line.old.bytes + 90 ≤ line.old.room }
-    ensures bytes { line.new.bytes ≡ line.old.bytes ++ words_of 31 (detail.ToGo account.now day) }
-    ensures room { line.new.room ≡ line.old.room }
-    ensures short { length line.new.bytes ≤ length line.old.bytes + 90 }
+    ensures { HasTold 90 line.old line.new (words_of 31 (detail.ToGo account.now day)) }
 {
     line.text(b"second TOGO of ");
     line.text(account.bytes());
@@ -233,9 +207,7 @@ fn tell_togo(line: &mut Line, account: &Code, day: Day)
 /// Appends the length that was asked for, and the range in which it is not.
 fn tell_length(line: &mut Line, asked: u64, crash: u64, normal: u64)
     requires { length line.old.bytes + 90 ≤ line.old.room }
-    ensures bytes { line.new.bytes ≡ line.old.bytes ++ words_of 32 (detail.Length asked crash normal) }
-    ensures room { line.new.room ≡ line.old.room }
-    ensures short { length line.new.bytes ≤ length line.old.bytes + 90 }
+    ensures { HasTold 90 line.old line.new (words_of 32 (detail.Length asked crash normal)) }
 {
     line.text(b"length ");
     line.text(digits(asked).bytes());
@@ -248,9 +220,7 @@ fn tell_length(line: &mut Line, asked: u64, crash: u64, normal: u64)
 /// Appends how many periods there would be.
 fn tell_periods(line: &mut Line, have: u64)
     requires { length line.old.bytes + 90 ≤ line.old.room }
-    ensures bytes { line.new.bytes ≡ line.old.bytes ++ words_of 40 (detail.Periods have) }
-    ensures room { line.new.room ≡ line.old.room }
-    ensures short { length line.new.bytes ≤ length line.old.bytes + 90 }
+    ensures { HasTold 90 line.old line.new (words_of 40 (detail.Periods have)) }
 {
     line.text(digits(have).bytes());
     line.text(b" periods, more than 400");

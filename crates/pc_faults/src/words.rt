@@ -1,98 +1,64 @@
 //! The words of the faults, by their numbers.
-ghost use Rattle.std.specs.Prelude.{◌≡◌, ◌≤◌, [], ◌∷◌, length};
-ghost use Rattle.pc_faults.specs.FaultText.{plain_words, field_words, words_before, words_behind, listed_words, side_words};
-ghost use Rattle.pc_faults.specs.inside.FaultText.{IsNumber, plain_numbers, name_numbers, list_numbers};
+ghost use Rattle.std.specs.Prelude.{◌≡◌, ◌≤◌, ◌+◌, length};
+ghost use Rattle.pc_faults.specs.FaultText.{fault_words, side_words};
 
-/// Returns what is wrong, for a fault that names nothing.
-pub fn plain_words(number: u8) -> &'static [u8]
-    requires { IsNumber plain_numbers number }
-    ensures words { result.now ≡ plain_words number }
-    ensures short { length result.now ≤ 25 }
-{
-    match number {
-        1 => b"more than 67108864 bytes",
-        2 => b"not UTF-8",
-        3 => b"first card is not PROJECT",
-        4 => b"unknown kind",
-        11 => b"card after END",
-        12 => b"no END",
-        18 => b"estimates out of order",
-        19 => b"crash above normal",
-        20 => b"no top item",
-        36 => b"bonus above penalty",
-        37 => b"top item has no child",
-        39 => b"no task",
-        _ => unreachable!(),
+/// The words of a fault before and after what it names.
+#[derive(Clone, Copy)]
+pub struct Words {
+    pub before: &'static [u8],
+    pub after: &'static [u8],
+}
+
+impl Words {
+    /// Returns the words of the fault with this number. They are empty for a fault whose words go by its detail alone.
+    pub fn of(number: u8) -> Words
+        ensures before { result.before.now ≡ (fault_words number).before }
+        ensures after { result.after.now ≡ (fault_words number).after }
+        ensures short { length result.before.now + length result.after.now ≤ 43 }
+    {
+        match number {
+            1 => row(b"more than 67108864 bytes", b""),
+            2 => row(b"not UTF-8", b""),
+            3 => row(b"first card is not PROJECT", b""),
+            4 => row(b"unknown kind", b""),
+            7 => row(b"field ", b" has a wrong shape"),
+            8 => row(b"field ", b" is over its limit"),
+            9 => row(b"code ", b" is repeated"),
+            11 => row(b"card after END", b""),
+            12 => row(b"no END", b""),
+            13 => row(b"unknown event ", b""),
+            14 => row(b"unknown item ", b""),
+            15 => row(b"unknown account ", b""),
+            16 => row(b"unknown activity ", b""),
+            17 => row(b"begins and ends at ", b""),
+            18 => row(b"estimates out of order", b""),
+            19 => row(b"crash above normal", b""),
+            20 => row(b"no top item", b""),
+            21 => row(b"second top item ", b""),
+            22 => row(b"items in a loop: ", b""),
+            24 => row(b"activity ", b" enters the start"),
+            25 => row(b"activity ", b" leaves the end"),
+            27 => row(b"activities in a cycle: ", b""),
+            28 => row(b"item ", b" is not a leaf"),
+            33 => row(b"more than 4 pieces of ", b""),
+            34 => row(b"slope of a piece of ", b" does not rise"),
+            35 => row(b"pieces of ", b" leave nothing to its first slope"),
+            36 => row(b"bonus above penalty", b""),
+            37 => row(b"top item has no child", b""),
+            38 => row(b"tasks in a cycle: ", b""),
+            39 => row(b"no task", b""),
+            41 => row(b"unknown resource ", b""),
+            _ => row(b"", b""),
+        }
     }
 }
 
-/// Returns what is wrong with a field.
-pub fn field_words(number: u8) -> &'static [u8]
-    requires { IsNumber (7 ∷ 8 ∷ []) number }
-    ensures words { result.now ≡ field_words number }
-    ensures short { length result.now ≤ 18 }
+/// One row of the table.
+fn row(before: &'static [u8], after: &'static [u8]) -> Words
+    ensures before { result.before.now ≡ before.now }
+    ensures after { result.after.now ≡ after.now }
 {
-    match number {
-        7 => b" has a wrong shape",
-        8 => b" is over its limit",
-        _ => unreachable!(),
-    }
-}
-
-/// Returns the words before the code that a fault names.
-pub fn words_before(number: u8) -> &'static [u8]
-    requires { IsNumber name_numbers number }
-    ensures words { result.now ≡ words_before number }
-    ensures short { length result.now ≤ 22 }
-{
-    match number {
-        9 => b"code ",
-        13 => b"unknown event ",
-        14 => b"unknown item ",
-        15 => b"unknown account ",
-        16 => b"unknown activity ",
-        17 => b"begins and ends at ",
-        21 => b"second top item ",
-        24 | 25 => b"activity ",
-        28 => b"item ",
-        33 => b"more than 4 pieces of ",
-        34 => b"slope of a piece of ",
-        35 => b"pieces of ",
-        41 => b"unknown resource ",
-        _ => unreachable!(),
-    }
-}
-
-/// Returns the words after the code that a fault names.
-pub fn words_behind(number: u8) -> &'static [u8]
-    requires { IsNumber name_numbers number }
-    ensures words { result.now ≡ words_behind number }
-    ensures short { length result.now ≤ 33 }
-{
-    match number {
-        9 => b" is repeated",
-        13 | 14 | 15 | 16 | 17 | 21 | 33 | 41 => b"",
-        24 => b" enters the start",
-        25 => b" leaves the end",
-        28 => b" is not a leaf",
-        34 => b" does not rise",
-        35 => b" leave nothing to its first slope",
-        _ => unreachable!(),
-    }
-}
-
-/// Returns the words before several codes.
-pub fn listed_words(number: u8) -> &'static [u8]
-    requires { IsNumber list_numbers number }
-    ensures words { result.now ≡ listed_words number }
-    ensures short { length result.now ≤ 23 }
-{
-    match number {
-        22 => b"items in a loop: ",
-        27 => b"activities in a cycle: ",
-        38 => b"tasks in a cycle: ",
-        _ => unreachable!(),
-    }
+    Words { before, after }
 }
 
 /// Returns the words before an event that is loose, by whether an activity enters it.

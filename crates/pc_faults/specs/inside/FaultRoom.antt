@@ -1,5 +1,6 @@
--- How many bytes the line of a fault may have.
-use Rattle.std.specs.Prelude.{ℕ, ◌+◌, ◌*◌, length}
+-- How the line of a fault grows, and how many bytes it may have.
+use Rattle.std.specs.Prelude.{◌≡◌, ℕ, ◌≤◌, ◌+◌, ◌*◌, List, ◌++◌, length}
+use Rattle.pc_text.specs.inside.Line.{Line}
 use Rattle.pc_faults.specs.declared.fault.Detail.{Detail}
 use Rattle.pc_faults.specs.declared.fault.Detail.TheVariants.{Plain, Kind, Fields, Field, Name, TooMany, Names, Level, Side, Sums, Status, ToGo, Length, Periods}
 
@@ -23,3 +24,9 @@ listed_in (Periods have) = 0
 -- no fewer bytes than the words have: 17 for each code that is listed with the space before it, and 90 for all others
 abbrev pub words_limit : Detail → ℕ
 words_limit detail = 90 + 17 * listed_in detail
+
+-- the line has the words after its old bytes, which are at most so many bytes more, and its capacity is the old one
+pub record HasTold (limit : ℕ) (old new : Line) (words : List ℕ) : Type 0 where
+  pub bytes : new.bytes ≡ old.bytes ++ words
+  pub room : new.room ≡ old.room
+  pub short : length new.bytes ≤ length old.bytes + limit
