@@ -1,9 +1,8 @@
 //! Reading a source to its end.
-ghost use Rattle.std.specs.Prelude.{◌≡◌, ℕ, List, ◌^◌, ◌<◌, ◌≤◌, ◌↔◌, length, vec_len, IfOk, OnOk, IsErrOf};
-ghost use Rattle.std.specs.Io.KnownBytes.{Consumes, IsAtEnd};
-ghost use Rattle.pc_edges.specs.Faults.{Rose};
+ghost use Rattle.std.specs.Prelude.{◌≡◌, ℕ, List, ◌^◌, ◌<◌, ◌↔◌, length, IsErrOf};
+ghost use Rattle.std.specs.Io.KnownBytes.{Consumes};
 ghost use Rattle.pc_edges.specs.Pulls.{IsReadWithin};
-ghost use Rattle.pc_edges.specs.inside.Loading.{LoadsWithin};
+ghost use Rattle.pc_edges.specs.inside.Loading.{HasLoaded, LoadsWithin};
 
 use crate::Source;
 use std::alloc::Global;
@@ -35,15 +34,9 @@ pub const STREAM_ROOM: usize = 65_536;
 /// - `OutOfMemory` if there is no memory for the buffer or the bytes.
 pub fn load<S: Source>(alloc: Global, source: &mut S, limit: usize) -> Result<Vec<u8>, LoadError>
     requires { limit < 2 ^ 32 }
-    ensures all { IfOk result (λ v. Consumes (S.left source.old) (S.left source.new) v.items) }
-    ensures end { OnOk result (IsAtEnd (S.left source.new)) }
-    ensures within { IfOk result (λ v. vec_len v ≤ limit) }
-    ensures no_fault { OnOk result (S.faults source.new ≡ S.faults source.old) }
-
-    ensures fault { IsErrOf result LoadError.ReadFault → Rose (S.faults source.old) (S.faults source.new) }
+    ensures loaded { HasLoaded result limit S.left S.faults source.old source.new }
     ensures too_long { (bytes : List ℕ) × Consumes (S.left source.old) (S.left source.new) bytes
         × (IsErrOf result LoadError.TooLong ↔ (limit < length bytes)) }
-    ensures count { S.faults source.old ≤ S.faults source.new }
 
     // nothing is pulled after the pull that passes the limit, ends the input or fails
     ensures stops { IsReadWithin limit STREAM_ROOM S.left S.pulls source.old source.new }
@@ -62,12 +55,7 @@ fn load_by<S: Source>(
     buffer: &mut [u8],
 ) -> Result<Vec<u8>, LoadError>
     requires { length buffer.old ≡ STREAM_ROOM }
-    ensures all { IfOk result (λ v. Consumes (S.left source.old) (S.left source.new) v.items) }
-    ensures end { OnOk result (IsAtEnd (S.left source.new)) }
-    ensures within { IfOk result (λ v. vec_len v ≤ limit) }
-    ensures no_fault { OnOk result (S.faults source.new ≡ S.faults source.old) }
-    ensures fault { IsErrOf result LoadError.ReadFault → Rose (S.faults source.old) (S.faults source.new) }
-    ensures count { S.faults source.old ≤ S.faults source.new }
+    ensures loaded { HasLoaded result limit S.left S.faults source.old source.new }
     ensures loads { LoadsWithin (IsErrOf result LoadError.TooLong) limit STREAM_ROOM S.left S.pulls source.old
         source.new }
 {
