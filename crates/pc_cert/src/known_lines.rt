@@ -28,7 +28,7 @@ impl KnownLines {
     /// # Errors
     ///
     /// `AllocError` if there is no memory for it.
-    pub fn begin(alloc: Global, count: usize) -> Result<KnownLines, AllocError>
+    pub fn build(alloc: Global, count: usize) -> Result<KnownLines, AllocError>
         requires { 0 < count }
     {
         let mut lines = Vec::with_capacity(alloc, count)?;

@@ -54,13 +54,13 @@ pub fn certify<O: Sink>(
         → TookFrontOfOne net.now (O.taken sink.old) (O.taken sink.new) (O.faults sink.old) (O.faults sink.new) }
     ensures no_memory { IsErrOf result CertifyError.OutOfMemory → sink.new ≡ sink.old }
 {
-    let Ok(walks) = Walks::of(alloc, net) else {
+    let Ok(walks) = Walks::build(alloc, net) else {
         return Err(CertifyError::OutOfMemory);
     };
-    let Ok(mut lines) = LastLines::of(alloc, net) else {
+    let Ok(mut lines) = LastLines::build(alloc, net) else {
         return Err(CertifyError::OutOfMemory);
     };
-    let Ok(mut page) = Page::with_room(alloc, PAGE_ROOM) else {
+    let Ok(mut page) = Page::with_capacity(alloc, PAGE_ROOM) else {
         return Err(CertifyError::OutOfMemory);
     };
     let mut solver = Solver::begin(region, net);

@@ -56,7 +56,7 @@ impl LastLines {
     /// # Errors
     ///
     /// `AllocError` if there is no memory for the lines.
-    pub fn of(alloc: Global, net: &CrashNet<'_>) -> Result<LastLines, AllocError>
+    pub fn build(alloc: Global, net: &CrashNet<'_>) -> Result<LastLines, AllocError>
         ensures events { IfOk result (λ lines. AreEventsSpelled net.now lines.events.items) }
         ensures acts { IfOk result (λ lines. AreActsSpelled net.now lines.acts.items) }
     {

@@ -29,7 +29,7 @@ impl Walks {
     /// # Errors
     ///
     /// `AllocError` if there is no memory for them.
-    pub(crate) fn of(alloc: Global, net: &CrashNet<'_>) -> Result<Walks, AllocError>
+    pub(crate) fn build(alloc: Global, net: &CrashNet<'_>) -> Result<Walks, AllocError>
         ensures { IfOk result (λ walks. ArePicked net.now walks.normal walks.crash) }
     {
         let normal = normal_durations(alloc, net)?;

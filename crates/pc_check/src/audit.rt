@@ -37,7 +37,7 @@ impl<'n> Audit<'n> {
     /// # Errors
     ///
     /// `AllocError` if out of memory.
-    pub fn begin(alloc: Global, net: &'n CrashNet<'n>) -> Result<Audit<'n>, AllocError>
+    pub fn build(alloc: Global, net: &'n CrashNet<'n>) -> Result<Audit<'n>, AllocError>
         ensures read { IfOk result (HasRead []) }
         ensures going { IfOk result IsGoing }
         ensures net { IfOk result (λ audit. audit.checker.net ≡ net.now) }
@@ -48,7 +48,7 @@ impl<'n> Audit<'n> {
             reader: CertReader::begin(),
             checker: Checker::begin(alloc, net)?,
             // a segment has two lines beside those of its events and activities
-            known: KnownLines::begin(alloc, rows + 2)?,
+            known: KnownLines::build(alloc, rows + 2)?,
         })
     }
 

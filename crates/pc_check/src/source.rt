@@ -60,7 +60,7 @@ pub fn audit_source<C: Source>(
     ensures own_turns { IfSome (C.left source.old)
         (λ text. KeepsToOwnLines net.now text (C.pulls source.old) (C.pulls source.new)) }
 {
-    let Ok(audit) = Audit::begin(alloc, net) else {
+    let Ok(audit) = Audit::build(alloc, net) else {
         return Err(AuditError::OutOfMemory);
     };
     let Ok(mut buffer) = vec![in alloc; 0u8; STREAM_ROOM] else {

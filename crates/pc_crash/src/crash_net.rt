@@ -95,7 +95,7 @@ impl<'n> CrashNet<'n> {
             pieces: Vec::from_slice(alloc, pieces)?,
             project,
             events: Vec::from_slice(alloc, events)?,
-            activities: Names::of(alloc, activities)?,
+            activities: Names::build(alloc, activities)?,
         })
     }
 

@@ -155,7 +155,7 @@ fn take_all(alloc: Global, bytes: &[u8], draft: &mut Draft) -> Result<u32, DeckE
         (λ fault. read_from draft.old (length (deck_records bytes.now) + 1) (deck_cards bytes.now) ≡ Err fault)) }
 {
     let mut rows = CardRows::new(alloc, bytes);
-    let mut fields = Row::with_room(alloc, ROW_BYTES, ROW_FIELDS)?;
+    let mut fields = Row::with_capacity(alloc, ROW_BYTES, ROW_FIELDS)?;
     'cards: loop {
         let row = match rows.next(&mut fields)? {
             NextCard::Card(row) => row,

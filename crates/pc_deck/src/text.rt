@@ -30,7 +30,7 @@ impl Cards {
     pub fn text(&self, room: Vec<u8>) -> Result<Vec<u8>, AllocError>
         ensures { IfOk result (λ text. text.items ≡ deck_text self.now) }
     {
-        let mut text = RowWriter::with_room(room, self.usual_length())?;
+        let mut text = RowWriter::with_capacity(room, self.usual_length())?;
         self.put_lead(&mut text)?;
         self.put_lists(&mut text)?;
         text.put(&[Kind::End.word()])?;

@@ -89,7 +89,7 @@ impl Loading {
     ///
     /// - `TooMany` if the project takes more than `MAX_PERIODS` periods.
     /// - `OutOfMemory` if there is no memory for the tables.
-    pub fn of(alloc: Global, project: &Project, days: u64) -> Result<Loading, NoLoad>
+    pub fn build(alloc: Global, project: &Project, days: u64) -> Result<Loading, NoLoad>
         requires least { 1 ≤ days }
         requires most { days ≤ MAX_DAYS }
         ensures loading { IfOk result (IsLoading project.now days) }

@@ -41,7 +41,7 @@ fn failing(at: FailingPoint) -> Verdict {
 fn in_pieces(rt: HostRuntime, net: &CrashNet<'_>, text: &[u8], cut: usize) -> Result<Verdict, Fail>
     requires { cut ≤ length text.now }
 {
-    let mut audit = Audit::begin(rt.alloc(), net)?;
+    let mut audit = Audit::build(rt.alloc(), net)?;
     if let Some(at) = audit.feed(&text[..cut]) {
         return Ok(failing(at));
     }

@@ -81,7 +81,7 @@ fn first_misread(alloc: Global, pull: usize) -> Result<Option<usize>, AllocError
 {
     for (i, &(parts, found)) in TEXTS.iter().enumerate() {
         let text = joined(alloc, parts)?;
-        let mut known = KnownLines::begin(alloc, 8)?;
+        let mut known = KnownLines::build(alloc, 8)?;
         if read(&text, pull, &mut known) != found {
             return Ok(Some(i));
         }

@@ -33,7 +33,7 @@ impl Rows for NumberLines {
 /// twice, and forgets the first text's failure.
 #[test]
 fn few_pushes_and_a_flush(rt: HostRuntime) -> Result<(), Fail> {
-    let mut page = Page::with_room(rt.alloc(), 8)?;
+    let mut page = Page::with_capacity(rt.alloc(), 8)?;
     let cases: [(u64, &[u8]); 4] = [
         (1, b""),
         (2, b"abcdefgh"),
@@ -53,7 +53,7 @@ fn few_pushes_and_a_flush(rt: HostRuntime) -> Result<(), Fail> {
 
 #[test]
 fn pieces_of_every_kind(rt: HostRuntime) -> Result<(), Fail> {
-    let mut page = Page::with_room(rt.alloc(), 10)?;
+    let mut page = Page::with_capacity(rt.alloc(), 10)?;
     let mut sink = MemSink::new(rt.alloc(), PAGE_ROOM, 7, &[])?;
     page.put_left(&mut sink, 4, b"AB");
     page.put_right(&mut sink, 3, b"C");

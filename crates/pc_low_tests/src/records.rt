@@ -6,7 +6,7 @@ use std::test::Fail;
 // Every record of a deck in square brackets, its fields between strokes, as `[a|b][c]`.
 fn spelled(alloc: Global, deck: &[u8]) -> Result<Vec<u8>, AllocError> {
     let mut rows = RowReader::new(alloc, deck);
-    let mut row = Row::with_room(alloc, 8, 2)?;
+    let mut row = Row::with_capacity(alloc, 8, 2)?;
     let mut text = Vec::new(alloc);
     'rows: while rows.next_row(&mut row)? {
         text.push(b'[')?;
@@ -108,7 +108,7 @@ fn tells_fields(rt: HostRuntime) -> Result<(), Fail> {
 
 // Quotes where a field has a comma, a quote or a line's end, or where a record has nothing but one empty field.
 fn are_written(alloc: Global) -> Result<bool, AllocError> {
-    let mut writer = RowWriter::with_room(Vec::new(alloc), 16)?;
+    let mut writer = RowWriter::with_capacity(Vec::new(alloc), 16)?;
     writer.put(&[b"ACT", b"", b" a b "])?;
     writer.put(&[b"x,y", b"say \"so\"", b"l\nm", b"n\ro"])?;
     writer.put(&[b""])?;

@@ -48,7 +48,7 @@ impl Names {
     /// # Errors
     ///
     /// Returns `AllocError` if memory runs out.
-    pub fn of(alloc: Global, codes: &[Code]) -> Result<Names, AllocError>
+    pub fn build(alloc: Global, codes: &[Code]) -> Result<Names, AllocError>
         requires { IsNamedOnce codes.now }
         ensures { IfOk result (λ names. names ≡ codes.now) }
     {

@@ -62,8 +62,8 @@ impl Graph {
         requires in_range { IsInRange (network events start end arcs.now) }
         ensures { IfOk result (λ graph. graph ≡ network events start end arcs.now) }
     {
-        let outgoing = Listing::of(alloc, events, arcs, Side::Begins)?;
-        let incoming = Listing::of(alloc, events, arcs, Side::Ends)?;
+        let outgoing = Listing::build(alloc, events, arcs, Side::Begins)?;
+        let incoming = Listing::build(alloc, events, arcs, Side::Ends)?;
         let arcs = Vec::from_slice(alloc, arcs)?;
         Ok(Graph {
             events,

@@ -18,7 +18,7 @@ pub(crate) struct Listing {
 
 impl Listing {
     /// The activities by the event at one of their ends. Linear in events and activities.
-    pub(crate) fn of(
+    pub(crate) fn build(
         alloc: Global,
         events: u32,
         arcs: &[Arc],

@@ -45,7 +45,7 @@ impl Row {
     /// # Errors
     ///
     /// Returns `AllocError` if memory runs out.
-    pub fn with_room(alloc: Global, bytes: usize, fields: usize) -> Result<Row, AllocError>
+    pub fn with_capacity(alloc: Global, bytes: usize, fields: usize) -> Result<Row, AllocError>
         ensures { IfOk result (λ row. row ≡ []) }
     {
         Ok(Row {

@@ -35,7 +35,7 @@ impl RowWriter {
     /// # Errors
     ///
     /// Returns `AllocError` if memory runs out.
-    pub fn with_room(mut room: Vec<u8>, bytes: usize) -> Result<RowWriter, AllocError>
+    pub fn with_capacity(mut room: Vec<u8>, bytes: usize) -> Result<RowWriter, AllocError>
         ensures { IfOk result (λ writer. writer ≡ []) }
     {
         room.clear();

@@ -28,12 +28,12 @@ impl Model for Earned {
 
 impl Earned {
     /// Returns the figures of the project. Linear in events, activities, accounts and items.
-    pub(crate) fn of(alloc: Global, project: &Project) -> Result<Earned, AllocError>
+    pub(crate) fn build(alloc: Global, project: &Project) -> Result<Earned, AllocError>
         ensures { IfOk result (IsEarned project.now) }
     {
         Ok(Earned {
             outline: outline_of(alloc, project.tree())?,
-            forecasts: Forecasts::of(alloc, project)?,
+            forecasts: Forecasts::build(alloc, project)?,
             worth: worth_of(alloc, project)?,
         })
     }
@@ -73,5 +73,5 @@ fn worth_of(alloc: Global, project: &Project) -> Result<Worth, AllocError>
 {
     let entries = project.book().entries();
     let (tree, places, states) = (project.tree(), project.places(), project.states());
-    Worth::of(alloc, tree, places, states, project.accounts(), entries)
+    Worth::build(alloc, tree, places, states, project.accounts(), entries)
 }

@@ -41,7 +41,7 @@ impl Model for Forecasts {
 
 impl Forecasts {
     /// Returns the forecasts of the project. Linear in events, activities and items.
-    pub(crate) fn of(alloc: Global, project: &Project) -> Result<Forecasts, AllocError>
+    pub(crate) fn build(alloc: Global, project: &Project) -> Result<Forecasts, AllocError>
         ensures { IfOk result (AreForecasts project.now) }
     {
         let expected = forecast_of(alloc, project)?;

@@ -56,7 +56,7 @@ impl OutlookReport {
         ensures top { IfOk result (TellsTop project.now durations.now) }
     {
         Ok(OutlookReport {
-            page: Page::with_room(alloc, PAGE_ROOM)?,
+            page: Page::with_capacity(alloc, PAGE_ROOM)?,
             outlook: outlook_at(alloc, project, durations)?,
         })
     }
@@ -107,7 +107,7 @@ fn outlook_at(alloc: Global, project: &Project, durations: &[u64]) -> Result<Out
     let costs = costs_at(alloc, project, durations)?;
     let (tree, places) = (project.tree(), project.places());
     let entries = project.book().entries();
-    Outlook::of(alloc, tree, places, &costs, project.accounts(), entries)
+    Outlook::build(alloc, tree, places, &costs, project.accounts(), entries)
 }
 
 fn put_outlook<O: Sink>(page: &mut Page, sink: &mut O, project: &Project, outlook: &Outlook)

@@ -50,8 +50,8 @@ impl SummaryReport {
     {
         let entries = project.book().entries();
         Ok(SummaryReport {
-            page: Page::with_room(alloc, PAGE_ROOM)?,
-            summary: Summary::of(alloc, project.tree(), project.accounts(), entries)?,
+            page: Page::with_capacity(alloc, PAGE_ROOM)?,
+            summary: Summary::build(alloc, project.tree(), project.accounts(), entries)?,
         })
     }
 

@@ -40,7 +40,7 @@ impl Times {
     /// # Errors
     ///
     /// Returns `AllocError` if memory runs out.
-    pub fn of(alloc: Global, project: &Project) -> Result<Times, AllocError>
+    pub fn build(alloc: Global, project: &Project) -> Result<Times, AllocError>
         ensures times { IfOk result (IsTimes project.now) }
         ensures small { IfOk result AreSmall }
     {

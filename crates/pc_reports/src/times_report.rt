@@ -49,8 +49,8 @@ impl TimesReport {
         ensures { IfOk result (IsTimes project.now) }
     {
         Ok(TimesReport {
-            page: Page::with_room(alloc, PAGE_ROOM)?,
-            times: Times::of(alloc, project)?,
+            page: Page::with_capacity(alloc, PAGE_ROOM)?,
+            times: Times::build(alloc, project)?,
         })
     }
 

@@ -50,8 +50,8 @@ impl ValueReport {
         ensures { IfOk result (IsEarned project.now) }
     {
         Ok(ValueReport {
-            page: Page::with_room(alloc, PAGE_ROOM)?,
-            earned: Earned::of(alloc, project)?,
+            page: Page::with_capacity(alloc, PAGE_ROOM)?,
+            earned: Earned::build(alloc, project)?,
         })
     }
 

@@ -99,7 +99,7 @@ fn says<L: Ledger>(
 {
     let mut steps = Steps::<L>::new(blank);
     let mut solver = solver(alloc, net)?;
-    let mut page = Page::with_room(alloc, 200)?;
+    let mut page = Page::with_capacity(alloc, 200)?;
     let mut sink = MemSink::new(alloc, 200, 200, &[])?;
     let written = write_bench(&mut page, &mut sink, 4, &mut solver, &mut steps);
     Ok(written.is_ok() && sink.bytes() == text)

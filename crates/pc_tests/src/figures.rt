@@ -22,7 +22,7 @@ fn summary_of(
 ) -> Option<(OutlineRow, SummaryAmounts, SummaryAmounts)> {
     let entries = project.book().entries();
     let tree = project.tree();
-    let Ok(summary) = Summary::of(alloc, tree, project.accounts(), entries) else {
+    let Ok(summary) = Summary::build(alloc, tree, project.accounts(), entries) else {
         return None;
     };
     if tree.len() != 3 || summary.items() != 3 || summary.depth() != 2 {
@@ -35,7 +35,7 @@ fn summary_of(
 fn worth_of(alloc: Global, project: &Project) -> Option<WorthAmounts> {
     let entries = project.book().entries();
     let (tree, places, states) = (project.tree(), project.places(), project.states());
-    let worth = Worth::of(alloc, tree, places, states, project.accounts(), entries).ok()?;
+    let worth = Worth::build(alloc, tree, places, states, project.accounts(), entries).ok()?;
     if tree.len() != 3 {
         return None;
     }
@@ -49,7 +49,7 @@ fn outlook_of(alloc: Global, project: &Project) -> Option<(OutlineRow, OutlookAm
     if tree.len() != 3 || places.len() != 1 {
         return None;
     }
-    let outlook = Outlook::of(alloc, tree, places, &[24], project.accounts(), entries).ok()?;
+    let outlook = Outlook::build(alloc, tree, places, &[24], project.accounts(), entries).ok()?;
     if outlook.items() != 3 {
         return None;
     }

@@ -44,7 +44,7 @@ fn are_found(names: &Names, count: usize) -> bool {
 fn are_kept(alloc: Global, count: usize) -> Result<[bool; 4], AllocError> {
     let mut names = Names::new(alloc, 7);
     let is_added = are_added(&mut names, count as u64)?;
-    let same = Names::of(alloc, names.as_slice())?;
+    let same = Names::build(alloc, names.as_slice())?;
     Ok([
         is_added,
         are_found(&names, count),

@@ -80,7 +80,7 @@ fn optimum_of_pieces(rt: HostRuntime) {
 /// Whether just this text is put of an optimum.
 fn is_put(alloc: Global, best: &Best, text: &[u8]) -> Option<bool> {
     let code = Code::read(b"A")?;
-    let mut page = Page::with_room(alloc, 200).ok()?;
+    let mut page = Page::with_capacity(alloc, 200).ok()?;
     let mut sink = MemSink::new(alloc, 200, 200, &[]).ok()?;
     put_best(&mut page, &mut sink, &code, best);
     let finished = page.finish(&mut sink);

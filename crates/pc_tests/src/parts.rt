@@ -60,8 +60,8 @@ fn is_put_in_parts<L: Ledger>(
 {
     let mut steps = Steps::<L>::new(blank);
     let mut solver = solver(alloc, net)?;
-    let mut lines = LastLines::of(alloc, net)?;
-    let mut page = Page::with_room(alloc, 1000)?;
+    let mut lines = LastLines::build(alloc, net)?;
+    let mut page = Page::with_capacity(alloc, 1000)?;
     let mut sink = MemSink::new(alloc, 1000, 1000, &[])?;
     let both = put_parts(
         &mut page,

@@ -95,7 +95,7 @@ fn is_written<L: Ledger>(
 {
     let mut steps = Steps::<L>::new(blank);
     let mut solver = solver(alloc, net)?;
-    let mut page = Page::with_room(alloc, 200)?;
+    let mut page = Page::with_capacity(alloc, 200)?;
     let mut sink = MemSink::new(alloc, 200, 200, &[])?;
     let written = write_curve(&mut page, &mut sink, &mut solver, &mut steps);
     Ok(written.is_ok() && sink.bytes() == text)

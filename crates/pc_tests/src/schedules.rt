@@ -26,7 +26,7 @@ fn written(
         activities: &activities,
         durations: &[4, 5, 7],
     };
-    let mut page = Page::with_room(alloc, page_room).ok()?;
+    let mut page = Page::with_capacity(alloc, page_room).ok()?;
     let mut sink = MemSink::new(alloc, room, 1000, failing).ok()?;
     let answer = write_schedule_on(&mut page, &mut sink, &schedule);
     if !TEXT.starts_with(sink.bytes()) {

@@ -64,9 +64,9 @@ impl<'p> Session<'p> {
         let _net = project.net();
         Ok(Session {
             project,
-            page: Page::with_room(alloc, PAGE_ROOM)?,
-            reservation: Reservation::begin(alloc, project)?,
-            edits: Edits::begin(alloc, project)?,
+            page: Page::with_capacity(alloc, PAGE_ROOM)?,
+            reservation: Reservation::build(alloc, project)?,
+            edits: Edits::build(alloc, project)?,
         })
     }
 

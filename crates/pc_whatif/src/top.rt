@@ -155,7 +155,7 @@ fn hear<C: Source, O: Sink>(alloc: Global, project: &Project, edits: &mut C, out
         (side O.taken O.faults out.old out.new) result }
     ensures edits_stop { IsTakenWithin C.left C.pulls edits.old edits.new }
 {
-    let Ok(reader) = LineReader::begin(alloc) else {
+    let Ok(reader) = LineReader::build(alloc) else {
         return Status::OutOfMemory;
     };
     let Ok(mut session) = Session::begin(alloc, project) else {

@@ -50,7 +50,7 @@ impl<O: Sink> SolverTask<O> for BenchFigures {
         out: &mut O,
         steps: &mut Steps<L>,
     ) -> Status {
-        match Page::with_room(alloc, PAGE_ROOM) {
+        match Page::with_capacity(alloc, PAGE_ROOM) {
             Ok(mut page) => status_of(write_bench(&mut page, out, self.n, solver, steps)),
             Err(AllocError) => Status::OutOfMemory,
         }

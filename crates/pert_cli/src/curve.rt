@@ -47,7 +47,7 @@ impl<O: Sink> SolverTask<O> for Breakpoints {
         out: &mut O,
         steps: &mut Steps<L>,
     ) -> Status {
-        match Page::with_room(alloc, PAGE_ROOM) {
+        match Page::with_capacity(alloc, PAGE_ROOM) {
             Ok(mut page) => status_of(write_curve(&mut page, out, solver, steps)),
             Err(AllocError) => Status::OutOfMemory,
         }

@@ -30,7 +30,7 @@ pub(crate) fn answer<O: Sink, E: Sink>(
     ensures { Replies (Load days) project.now (side O.taken O.faults out.old out.new)
         (side E.taken E.faults err.old err.new) result }
 {
-    match Loading::of(alloc, project, days) {
+    match Loading::build(alloc, project, days) {
         Ok(loading) => hand_paged(alloc, &loading, project, out),
         Err(NoLoad::TooMany(have)) => refuse(alloc, &Fault::too_many_periods(have), err),
         Err(NoLoad::OutOfMemory) => Status::OutOfMemory,

@@ -63,7 +63,7 @@ pub(crate) fn hand_paged<P: Paged, O: Sink>(
     requires { P.IsFor paged.now project.now }
     ensures { Answers (λ text. text ≡ P.text paged.now project.now) (side O.taken O.faults out.old out.new) result }
 {
-    match Page::with_room(alloc, PAGE_ROOM) {
+    match Page::with_capacity(alloc, PAGE_ROOM) {
         Ok(mut page) => status_of(paged.write_on(&mut page, project, out)),
         Err(AllocError) => Status::OutOfMemory,
     }

@@ -70,7 +70,7 @@ impl LineReader {
     /// # Errors
     ///
     /// `AllocError` if there is no memory for its buffer.
-    pub fn begin(alloc: Global) -> Result<LineReader, AllocError>
+    pub fn build(alloc: Global) -> Result<LineReader, AllocError>
         ensures stands { IfOk result (λ reader. StandsFor reader [] []) }
         ensures left { IfOk result (λ reader. bytes_left reader ≤ INPUT_LIMIT) }
     {

@@ -44,7 +44,7 @@ impl Page {
     /// # Errors
     ///
     /// `AllocError` if there is no memory for so many bytes.
-    pub fn with_room(alloc: Global, room: usize) -> Result<Page, AllocError>
+    pub fn with_capacity(alloc: Global, room: usize) -> Result<Page, AllocError>
         ensures { IfOk result (λ page. page ≡ fresh) }
     {
         Ok(Page {

@@ -44,7 +44,7 @@ impl Model for AmountColumn {
 
 impl AmountColumn {
     /// The column of an amount of each account. It takes time in proportion to accounts, and to items at each level.
-    pub(in crate::figures) fn of(
+    pub(in crate::figures) fn build(
         alloc: Global,
         tree: &Tree,
         accounts: &[AcctRow],

@@ -60,7 +60,7 @@ impl Outlook {
     /// # Errors
     ///
     /// Returns `AllocError` if memory runs out.
-    pub fn of(
+    pub fn build(
         alloc: Global,
         tree: &Tree,
         places: &[u32],

@@ -80,7 +80,7 @@ impl Summary {
     /// # Errors
     ///
     /// Returns `AllocError` if memory runs out.
-    pub fn of(
+    pub fn build(
         alloc: Global,
         tree: &Tree,
         accounts: &[AcctRow],
@@ -180,7 +180,7 @@ fn column_of(
     ensures whole { IfOk result (AddUpTo tree.now (figure_of figure (entry_of_all entries.now))) }
 {
     let amounts = figures(alloc, entries, figure)?;
-    AmountColumn::of(alloc, tree, accounts, &amounts)
+    AmountColumn::build(alloc, tree, accounts, &amounts)
 }
 
 /// States that at each level the actuals of the lines add up to all charges dated up to the as-of date: each of these

@@ -67,7 +67,7 @@ impl Worth {
     /// # Errors
     ///
     /// Returns `AllocError` if memory runs out.
-    pub fn of(
+    pub fn build(
         alloc: Global,
         tree: &Tree,
         places: &[u32],

@@ -15,7 +15,7 @@ impl<'p> Edits<'p> {
     /// Returns a project without edits. Takes all memory that edits ever take.
     ///
     /// Linear in events, activities and pieces.
-    pub(crate) fn begin(alloc: Global, project: &'p Project) -> Result<Edits<'p>, AllocError>
+    pub(crate) fn build(alloc: Global, project: &'p Project) -> Result<Edits<'p>, AllocError>
         ensures begun { IfOk result (λ edits. edits ≡ at_rest (begun project.now)) }
         ensures standing { IfOk result (λ edits. Stands project.now empty edits.editing) }
     {

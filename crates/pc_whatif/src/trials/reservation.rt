@@ -73,7 +73,7 @@ impl Reservation {
     /// Returns the reservation for a project, with its times. No other call takes memory.
     ///
     /// Linear in events, activities and pieces.
-    pub(crate) fn begin(alloc: Global, project: &Project) -> Result<Reservation, AllocError>
+    pub(crate) fn build(alloc: Global, project: &Project) -> Result<Reservation, AllocError>
         ensures fits { IfOk result (IsFor project.now.network) }
         ensures standing { IfOk result (IsStandingOf project.now) }
         ensures free { IfOk result (λ r. r.free ≡

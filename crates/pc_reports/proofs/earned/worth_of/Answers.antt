@@ -1,8 +1,8 @@
 use Rattle.std.proofs.Common.{arith, ◌∙◌, sym}
 use Rattle.pc_reports.proofs.earned.worth_of.Goals as goal
 
-pub of-requires : goal.of-requires
-of-requires c =
+pub build-requires : goal.build-requires
+build-requires c =
     let planned = c.book.ensures.planned in
     let figures = planned.figures in
     record {
@@ -21,4 +21,4 @@ returns c = rw (
   ← c.accounts.ensures.accounts,
   ← c.book.ensures.entries,
   ← c.entries-entries.ensures.entries,
-) c.of.ensures
+) c.build.ensures

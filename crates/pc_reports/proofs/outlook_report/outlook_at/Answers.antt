@@ -3,8 +3,8 @@ use Rattle.pc_rollup.proofs.lemmas.figures.PushLaws.{if_answered}
 use Rattle.pc_reports.proofs.OutlookLaws.{outlook_told, top_told}
 use Rattle.pc_reports.proofs.outlook_report.outlook_at.Goals as goal
 
-pub of-requires : goal.of-requires
-of-requires c =
+pub build-requires : goal.build-requires
+build-requires c =
     let planned = c.book.ensures.planned in
     let figures = planned.figures in
     record {
@@ -22,15 +22,15 @@ of-requires c =
 pub returns-clause-outlook : goal.returns-clause-outlook
 returns-clause-outlook c =
     let planned = c.book.ensures.planned in
-    if_answered c.of.result _ _
+    if_answered c.build.result _ _
     (λ outlook is. outlook_told c.args.project.now c.args.durations.now c.in_ok-costs.costs.items outlook planned.place_each c.in_ok-costs.ensures.costs
     (rw (← c.deref.ensures.value, ← c.tree-tree.ensures.tree, ← c.places-places.ensures.places, ← c.accounts.ensures.accounts, ← c.book.ensures.entries, ← c.entries-entries.ensures.entries) is))
-    c.of.ensures.outlook
+    c.build.ensures.outlook
 
 pub returns-clause-top : goal.returns-clause-top
 returns-clause-top c =
     let planned = c.book.ensures.planned in
-    if_answered c.of.result _ _
+    if_answered c.build.result _ _
     (λ outlook has. top_told c.args.project.now c.args.durations.now c.in_ok-costs.costs.items outlook planned.place_each planned.terms.one_each c.in_ok-costs.ensures.costs
     (rw (← c.deref.ensures.value, ← c.tree-tree.ensures.tree, ← c.places-places.ensures.places, ← c.accounts.ensures.accounts, ← c.book.ensures.entries, ← c.entries-entries.ensures.entries) has))
-    c.of.ensures.top
+    c.build.ensures.top

@@ -2,8 +2,8 @@ use Rattle.std.proofs.Common.{arith}
 use Rattle.pc_rollup.proofs.lemmas.figures.DepthLaws.{levels_same}
 use Rattle.pc_tests.proofs.figures.summary_of.Goals as goal
 
-pub of-requires : goal.of-requires
-of-requires c =
+pub build-requires : goal.build-requires
+build-requires c =
     let figures = c.book.ensures.planned.figures in
     record {
       on_tree = rw (c.tree-tree.ensures.tree, c.accounts.ensures.accounts) (record { known = figures.accounts.known; leaves = figures.accounts.leaves });

@@ -17,7 +17,7 @@ invariant_of-result c =
         pieces = rw (terms, pieces) c.requires.pieces;
         piece_limits = rw pieces c.requires.piece_limits;
         events = rw c.in_ok-from_slice-2.ensures.items c.requires.events;
-        activities = rw c.in_ok-of.ensures c.requires.activities;
+        activities = rw c.in_ok-build.ensures c.requires.activities;
       };
       laid = rw (terms, pieces, c.in_ok-laid_out.ensures.laid.one_each) c.in_ok-laid_out.ensures.laid;
     }
@@ -31,8 +31,8 @@ laid_out-requires-clause-limits c = c.requires.limits
 pub laid_out-requires-clause-pieces : goal.laid_out-requires-clause-pieces
 laid_out-requires-clause-pieces c = c.requires.pieces
 
-pub of-requires : goal.of-requires
-of-requires c = c.requires.activities.once
+pub build-requires : goal.build-requires
+build-requires c = c.requires.activities.once
 
 pub returns-clause-network : goal.returns-clause-network
 returns-clause-network c = refl
@@ -49,4 +49,4 @@ pub returns-clause-events : goal.returns-clause-events
 returns-clause-events c = c.in_ok-from_slice-2.ensures.items
 
 pub returns-clause-activities : goal.returns-clause-activities
-returns-clause-activities c = c.in_ok-of.ensures
+returns-clause-activities c = c.in_ok-build.ensures

@@ -8,8 +8,8 @@ use Rattle.pc_project.specs.Project.{Project}
 use Rattle.pc_reports.specs.SummaryText.{ChargesCountOnce}
 use Rattle.pc_reports.proofs.summary_report.SummaryReport.build.Goals as goal
 
-pub of-requires : goal.of-requires
-of-requires c =
+pub build-requires : goal.build-requires
+build-requires c =
     let figures = c.book.ensures.planned.figures in
     record {
       on_tree = rw (c.tree.ensures.tree, c.accounts.ensures.accounts) (record { known = figures.accounts.known; leaves = figures.accounts.leaves });
@@ -19,7 +19,7 @@ of-requires c =
 
 pub returns-clause-summary : goal.returns-clause-summary
 returns-clause-summary c =
-    rw (← c.tree.ensures.tree, ← c.accounts.ensures.accounts, ← c.book.ensures.entries, ← c.entries-entries.ensures.entries) c.in_ok-of.ensures.summary
+    rw (← c.tree.ensures.tree, ← c.accounts.ensures.accounts, ← c.book.ensures.entries, ← c.entries-entries.ensures.entries) c.in_ok-build.ensures.summary
 
 -- what the entries of a project come to is what its accounts and charges do
 of_project : (project : Project) (summary : Summary) → AreMoney (length project.accounts) project.charges →
@@ -34,4 +34,4 @@ pub returns-clause-once : goal.returns-clause-once
 returns-clause-once c =
     let figures = c.book.ensures.planned.figures in
     of_project c.args.project.now _ figures.figures.charges_known figures.entries
-    (rw (← c.tree.ensures.tree, ← c.accounts.ensures.accounts, ← c.book.ensures.entries, ← c.entries-entries.ensures.entries) c.in_ok-of.ensures.once)
+    (rw (← c.tree.ensures.tree, ← c.accounts.ensures.accounts, ← c.book.ensures.entries, ← c.entries-entries.ensures.entries) c.in_ok-build.ensures.once)

@@ -12,15 +12,15 @@ returns-clause-column c =
     let same : (a : ℕ) → a < length c.args.accounts.now →
     amount_at c.deref.result.now a ≡ figure_at c.args.figure c.args.entries.now a =
     λ a lt. rw c.deref.ensures.value (c.in_ok-amounts.ensures.amounts.each a (omega (arith, c.requires.one_each))) in
-    if_answered c.of.result _ _ (λ column is. column_alike c.args.tree.now c.args.accounts.now (amount_at c.deref.result.now)
-    (figure_at c.args.figure c.args.entries.now) column same is) c.of.ensures.column
+    if_answered c.build.result _ _ (λ column is. column_alike c.args.tree.now c.args.accounts.now (amount_at c.deref.result.now)
+    (figure_at c.args.figure c.args.entries.now) column same is) c.build.ensures.column
 
 pub returns-clause-whole : goal.returns-clause-whole
 returns-clause-whole c =
     let same : (a : ℕ) → a < length c.args.accounts.now →
     amount_at c.deref.result.now a ≡ figure_at c.args.figure c.args.entries.now a =
     λ a lt. rw c.deref.ensures.value (c.in_ok-amounts.ensures.amounts.each a (omega (arith, c.requires.one_each))) in
-    if_both c.of.result _ _ _ (λ column is whole. adds_up c.args.tree.now c.args.accounts.now (amount_at c.deref.result.now)
+    if_both c.build.result _ _ _ (λ column is whole. adds_up c.args.tree.now c.args.accounts.now (amount_at c.deref.result.now)
     (figure_at c.args.figure c.args.entries.now) (figure_of c.args.figure (entry_of_all c.args.entries.now)) column same
-    (figure_total c.args.figure c.args.accounts.now c.args.entries.now c.requires.one_each) is whole) c.of.ensures.column
-    c.of.ensures.whole
+    (figure_total c.args.figure c.args.accounts.now c.args.entries.now c.requires.one_each) is whole) c.build.ensures.column
+    c.build.ensures.whole

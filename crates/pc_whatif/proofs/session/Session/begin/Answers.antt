@@ -8,20 +8,20 @@ use Rattle.pc_whatif.proofs.session.Session.begin.Goals as goal
 pub invariant_of-result : goal.invariant_of-result
 invariant_of-result c =
     let project = c.args.project.now in
-    let edits = c.in_ok-begin-2.ensures.begun in
-    let editing : c.in_ok-begin-2.field-0.editing ≡ begun project = ap (λ (e : Edits). e.editing) edits in
+    let edits = c.in_ok-build-2.ensures.begun in
+    let editing : c.in_ok-build-2.field-0.editing ≡ begun project = ap (λ (e : Edits). e.editing) edits in
     record {
       at_rest = ap (λ (e : Edits). e.trial) edits;
       edition = subst (λ (e : Editing). IsEditionOf project e) (sym editing) (begun_edition project);
-      renewed = subst (λ (e : Editing). IsRenewed project e c.in_ok-begin.field-0) (sym editing)
-          (begun_renewed project c.net-net.ensures.planned c.in_ok-begin.field-0 c.in_ok-begin.ensures.fits c.in_ok-begin.ensures.standing);
-      room = omega (arith, c.in_ok-begin.ensures.free);
-      page = c.in_ok-with_room.ensures;
+      renewed = subst (λ (e : Editing). IsRenewed project e c.in_ok-build.field-0) (sym editing)
+          (begun_renewed project c.net-net.ensures.planned c.in_ok-build.field-0 c.in_ok-build.ensures.fits c.in_ok-build.ensures.standing);
+      room = omega (arith, c.in_ok-build.ensures.free);
+      page = c.in_ok-with_capacity.ensures;
     }
 
 pub returns-clause-standing : goal.returns-clause-standing
 returns-clause-standing c =
     let project = c.args.project.now in
-    let editing : c.in_ok-begin-2.field-0.editing ≡ begun project = ap (λ (e : Edits). e.editing) c.in_ok-begin-2.ensures.begun in
-    subst (λ (e : Editing). IsRenewed project e c.in_ok-begin.field-0) (sym editing)
-    (begun_renewed project c.net-net.ensures.planned c.in_ok-begin.field-0 c.in_ok-begin.ensures.fits c.in_ok-begin.ensures.standing)
+    let editing : c.in_ok-build-2.field-0.editing ≡ begun project = ap (λ (e : Edits). e.editing) c.in_ok-build-2.ensures.begun in
+    subst (λ (e : Editing). IsRenewed project e c.in_ok-build.field-0) (sym editing)
+    (begun_renewed project c.net-net.ensures.planned c.in_ok-build.field-0 c.in_ok-build.ensures.fits c.in_ok-build.ensures.standing)

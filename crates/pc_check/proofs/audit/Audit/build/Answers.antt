@@ -2,7 +2,7 @@ use Rattle.std.proofs.Common.{◌≤◌, [], length, ap, subst, arith}
 use Rattle.pc_check.specs.Auditing.{most_bytes}
 use Rattle.pc_check.specs.inside.Auditing.{Auditing, HasRead, IsGoing, bytes_left}
 use Rattle.pc_check.proofs.BeginLaws.{left_at_start}
-use Rattle.pc_check.proofs.audit.Audit.begin.Goals as goal
+use Rattle.pc_check.proofs.audit.Audit.build.Goals as goal
 
 pub overflow_add-rows : goal.overflow_add-rows
 overflow_add-rows c = omega (arith, c.events.ensures.limit, c.activities.ensures.limit)

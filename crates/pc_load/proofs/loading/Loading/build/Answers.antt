@@ -7,7 +7,7 @@ use Rattle.pc_times.specs.Times.{AreEarly}
 use Rattle.pc_load.specs.Loading.{ArePeriods, periods_for}
 use Rattle.pc_load.specs.inside.Entries.{AreTimes}
 use Rattle.pc_load.proofs.LoadingLaws.{resources_add_up, resources_have_parts}
-use Rattle.pc_load.proofs.loading.Loading.of.Goals as goal
+use Rattle.pc_load.proofs.loading.Loading.build.Goals as goal
 
 -- so many periods hold the project
 periods_are : (project : Project) (days have end : ℕ) (times : List ℕ) → IsPlanned project →

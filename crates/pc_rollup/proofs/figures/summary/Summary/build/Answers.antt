@@ -1,5 +1,5 @@
 use Rattle.pc_accounts.specs.Amounts.{item_of}
-use Rattle.pc_rollup.proofs.figures.summary.Summary.of.Goals as goal
+use Rattle.pc_rollup.proofs.figures.summary.Summary.build.Goals as goal
 
 pub column_of-requires-clause-ranged : goal.column_of-requires-clause-ranged
 column_of-requires-clause-ranged c = c.in_ok-outline_of.ensures.ranged

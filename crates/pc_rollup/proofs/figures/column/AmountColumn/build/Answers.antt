@@ -2,7 +2,7 @@ use Rattle.std.proofs.Common.{arith, w64}
 use Rattle.std.proofs.lemmas.Int.{fits_signed_from_abs}
 use Rattle.pc_rollup.specs.Totals.{amount_at}
 use Rattle.pc_rollup.proofs.lemmas.figures.SumLaws.{levels_are_whole, item_sum_bound}
-use Rattle.pc_rollup.proofs.figures.column.AmountColumn.of.Goals as goal
+use Rattle.pc_rollup.proofs.figures.column.AmountColumn.build.Goals as goal
 
 pub returns-clause-whole : goal.returns-clause-whole
 returns-clause-whole c =

@@ -1,5 +1,5 @@
 use Rattle.pc_names.proofs.OnceLaws.{one_more_added}
-use Rattle.pc_names.proofs.names.Names.of.Goals as goal
+use Rattle.pc_names.proofs.names.Names.build.Goals as goal
 
 pub loop-code-preserved : goal.loop-code-preserved
 loop-code-preserved c =

@@ -1,6 +1,6 @@
 use Rattle.std.proofs.Common.{slice_index, sym, ◌∙◌}
 use Rattle.pc_rollup.proofs.lemmas.figures.OutlookLaws.{budgets_add, parts_make, whole_at_top}
-use Rattle.pc_rollup.proofs.figures.outlook.Outlook.of.Goals as goal
+use Rattle.pc_rollup.proofs.figures.outlook.Outlook.build.Goals as goal
 
 pub added-requires-clause-works_each : goal.added-requires-clause-works_each
 added-requires-clause-works_each c =

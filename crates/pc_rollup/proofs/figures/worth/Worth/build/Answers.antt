@@ -1,4 +1,4 @@
-use Rattle.pc_rollup.proofs.figures.worth.Worth.of.Goals as goal
+use Rattle.pc_rollup.proofs.figures.worth.Worth.build.Goals as goal
 
 pub item_sums-requires-clause-one_each : goal.item_sums-requires-clause-one_each
 item_sums-requires-clause-one_each c =

@@ -1,5 +1,5 @@
 use Rattle.pc_certify.proofs.WalkLaws.{normals-lengths, crashes-lengths}
-use Rattle.pc_certify.proofs.walks.Walks.of.Goals as goal
+use Rattle.pc_certify.proofs.walks.Walks.build.Goals as goal
 
 pub longest-requires : goal.longest-requires
 longest-requires c =

@@ -4,7 +4,7 @@ use Rattle.pc_whatif.specs.edits.Editing.{priced_project}
 use Rattle.pc_whatif.specs.edits.Standing.{Stands, empty}
 use Rattle.pc_whatif.proofs.lemmas.edits.BegunLaws.{begun_whole, editing_is}
 use Rattle.pc_whatif.proofs.lemmas.edits.StandingLaws.{Stands-begun}
-use Rattle.pc_whatif.proofs.edits.edits.Edits.begin.Goals as goal
+use Rattle.pc_whatif.proofs.edits.edits.Edits.build.Goals as goal
 
 -- the priced network is the project's
 net_is : (c : goal.In_ok-priced) → c.in_ok-priced.field-0 ≡ priced_project c.args.project.now

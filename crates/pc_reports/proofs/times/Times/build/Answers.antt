@@ -3,7 +3,7 @@ use Rattle.pc_model.specs.Network.{Network}
 use Rattle.pc_times.specs.Late.{AreLate}
 use Rattle.pc_reports.specs.Times.{end_to_meet}
 use Rattle.pc_reports.specs.inside.Times.{AreSmall}
-use Rattle.pc_reports.proofs.times.Times.of.Goals as goal
+use Rattle.pc_reports.proofs.times.Times.build.Goals as goal
 
 pub longest-requires : goal.longest-requires
 longest-requires c = rw (c.net.ensures.network, c.expected.ensures.expected) c.net.ensures.planned.lengths
