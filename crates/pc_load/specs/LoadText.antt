@@ -4,6 +4,7 @@ use Rattle.std.specs.Fmt.{signed_decimal}
 use Rattle.pc_days.specs.Calendar.{date_or_none}
 use Rattle.pc_edges.specs.Texts.{texts_to}
 use Rattle.pc_edges.specs.page.Cells.{left, right, row}
+use Rattle.pc_edges.specs.page.Lines.{named_line}
 use Rattle.pc_project.specs.Project.{Project}
 use Rattle.pc_load.specs.Loading.{Loading, IsLoading}
 use Rattle.pc_load.specs.Table.{Table, amount_in}
@@ -36,7 +37,7 @@ resource_rows project loading i = amount_rows loading.resources (slice_index_or 
 
 -- the project's code and the days of a period
 abbrev pub head_line : List ℕ → ℕ → List ℕ
-head_line code days = codes "LOAD " ++ (code ++ (32 ∷ (decimal days ++ 10 ∷ [])))
+head_line code days = named_line (codes "LOAD ") code days
 
 -- the project's code and the days of a period, a row for each period, a row for each item in preorder and each period in which
 -- it has a part, and the same for each resource in card order

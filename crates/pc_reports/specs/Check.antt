@@ -2,7 +2,7 @@
 use Rattle.std.specs.Prelude.{ℕ, List, ◌++◌, codes}
 use Rattle.pc_project.specs.Project.{Project}
 use Rattle.pc_project.specs.declared.heading.Counts.{Counts}
-use Rattle.pc_reports.specs.Lines.{code_line, number_line}
+use Rattle.pc_edges.specs.page.Lines.{word_line, number_line}
 
 -- how many cards of each kind there are, a line each
 abbrev pub counts_text : Counts → List ℕ
@@ -17,4 +17,4 @@ counts_text counts =
 
 -- the project is accepted, and so many cards of each kind it has
 abbrev pub check_text : Project → List ℕ
-check_text project = code_line (codes "accepted ") project.heading.code ++ counts_text project.counts
+check_text project = word_line (codes "accepted ") project.heading.code ++ counts_text project.counts

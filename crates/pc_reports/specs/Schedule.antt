@@ -1,7 +1,8 @@
 -- The text of a schedule.
 use Rattle.std.specs.Prelude.{ℕ, List, ◌++◌, length, codes}
 use Rattle.pc_edges.specs.Texts.{texts_to}
-use Rattle.pc_reports.specs.Lines.{number_line, named_line_at}
+use Rattle.pc_edges.specs.page.Lines.{number_line}
+use Rattle.pc_reports.specs.Lines.{named_line_at}
 
 -- the time of each event, and the duration of each activity, a line each
 abbrev pub plan_text : List (List ℕ) → List ℕ → List (List ℕ) → List ℕ → List ℕ

@@ -5,7 +5,7 @@ use Rattle.pc_edges.specs.Texts.{texts_to}
 use Rattle.pc_model.specs.Walk.{from_of, to_of, walk_sum}
 use Rattle.pc_project.specs.Project.{Project}
 use Rattle.pc_edges.specs.page.Cells.{left, right, row}
-use Rattle.pc_reports.specs.Lines.{code_line, number_line}
+use Rattle.pc_edges.specs.page.Lines.{word_line, number_line}
 use Rattle.pc_reports.specs.Times.{Times, IsTimes, date_of}
 
 -- the words above the events
@@ -46,7 +46,7 @@ activity_row project times a =
 -- the line of the i-th activity of the critical path
 abbrev pub critical_row : Project → Times → ℕ → List ℕ
 critical_row project times i =
-    code_line (codes "CRITICAL ") (slice_index_or project.activities (slice_index times.path i) [])
+    word_line (codes "CRITICAL ") (slice_index_or project.activities (slice_index times.path i) [])
 
 -- a row for each event, in card order
 abbrev pub event_table : Project → Times → List ℕ
@@ -64,7 +64,7 @@ critical_text project times =
 -- the project's code, the events, the activities, and the critical path
 unfoldable pub times_text : Project → Times → List ℕ
 times_text project times =
-    code_line (codes "TIMES ") project.heading.code
+    word_line (codes "TIMES ") project.heading.code
     ++ event_table project times
     ++ activity_table project times
     ++ critical_text project times

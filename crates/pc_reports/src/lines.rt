@@ -1,6 +1,7 @@
 //! Short lines of reports.
 ghost use Rattle.pc_edges.specs.inside.page.Puts.{Puts};
-ghost use Rattle.pc_reports.specs.Lines.{code_line, dated_line, number_line, named_line};
+ghost use Rattle.pc_edges.specs.page.Lines.{word_line, number_line, named_line};
+ghost use Rattle.pc_reports.specs.Lines.{dated_line};
 
 use pc_days::{Day, day_text};
 use pc_edges::Sink;
@@ -9,7 +10,7 @@ use pc_text::Code;
 
 /// Puts the word, the code, and the end of the line.
 pub(crate) fn put_code<O: Sink>(page: &mut Page, sink: &mut O, word: &[u8], code: &Code)
-    ensures { Puts O.taken O.faults page.old sink.old page.new sink.new (code_line word.now code.now) }
+    ensures { Puts O.taken O.faults page.old sink.old page.new sink.new (word_line word.now code.now) }
 {
     page.put(sink, word);
     page.put(sink, code.bytes());

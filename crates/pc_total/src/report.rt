@@ -1,8 +1,8 @@
 //! What is printed of an optimum.
-ghost use Rattle.std.specs.Prelude.{decimal};
 ghost use Rattle.std.specs.Fmt.{signed_decimal};
 ghost use Rattle.pc_edges.specs.inside.page.Puts.{Puts};
-ghost use Rattle.pc_total.specs.BestText.{best_text, difference, line};
+ghost use Rattle.pc_edges.specs.page.Lines.{word_line, number_line};
+ghost use Rattle.pc_total.specs.BestText.{best_text, difference};
 
 use crate::optimum::Best;
 use pc_edges::Sink;
@@ -27,7 +27,7 @@ pub fn put_best<O: Sink>(page: &mut Page, sink: &mut O, code: &Code, best: &Best
 
 /// Puts the line of a code.
 fn put_code<O: Sink>(page: &mut Page, sink: &mut O, word: &[u8], code: &Code)
-    ensures { Puts O.taken O.faults page.old sink.old page.new sink.new (line word.now code.now) }
+    ensures { Puts O.taken O.faults page.old sink.old page.new sink.new (word_line word.now code.now) }
 {
     page.put(sink, word);
     page.put(sink, code.bytes());
@@ -36,7 +36,7 @@ fn put_code<O: Sink>(page: &mut Page, sink: &mut O, word: &[u8], code: &Code)
 
 /// Puts the line of a number.
 fn put_number<O: Sink>(page: &mut Page, sink: &mut O, word: &[u8], number: u64)
-    ensures { Puts O.taken O.faults page.old sink.old page.new sink.new (line word.now (decimal number)) }
+    ensures { Puts O.taken O.faults page.old sink.old page.new sink.new (number_line word.now number) }
 {
     page.put(sink, word);
     page.put_number(sink, number);
@@ -45,7 +45,7 @@ fn put_number<O: Sink>(page: &mut Page, sink: &mut O, word: &[u8], number: u64)
 
 /// Puts the line of an amount, with `-` before a negative one.
 fn put_amount<O: Sink>(page: &mut Page, sink: &mut O, word: &[u8], amount: i64)
-    ensures { Puts O.taken O.faults page.old sink.old page.new sink.new (line word.now (signed_decimal amount)) }
+    ensures { Puts O.taken O.faults page.old sink.old page.new sink.new (word_line word.now (signed_decimal amount)) }
 {
     page.put(sink, word);
     page.put_signed(sink, amount);
@@ -54,7 +54,7 @@ fn put_amount<O: Sink>(page: &mut Page, sink: &mut O, word: &[u8], amount: i64)
 
 /// Puts the line of a difference, or of a dash.
 fn put_difference<O: Sink>(page: &mut Page, sink: &mut O, word: &[u8], more: Option<i64>)
-    ensures { Puts O.taken O.faults page.old sink.old page.new sink.new (line word.now (difference more)) }
+    ensures { Puts O.taken O.faults page.old sink.old page.new sink.new (word_line word.now (difference more)) }
 {
     match more {
         Some(more) => put_amount(page, sink, word, more),

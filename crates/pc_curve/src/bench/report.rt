@@ -2,9 +2,10 @@
 ghost use Rattle.std.specs.Prelude.{◌≡◌, ◌+◌, ◌≤◌, ℕ, List, decimal, false};
 ghost use Rattle.pc_edges.specs.inside.Writes.{Writes};
 ghost use Rattle.pc_flow.specs.Courses.{IsFurther, IsSameCurve, most_looks};
+ghost use Rattle.pc_edges.specs.page.Lines.{number_line};
 ghost use Rattle.pc_edges.specs.inside.page.Page.{fresh};
 ghost use Rattle.pc_edges.specs.inside.page.Puts.{Puts};
-ghost use Rattle.pc_curve.specs.bench.Report.{IsBenchText, bench_text, count_line, point_line};
+ghost use Rattle.pc_curve.specs.bench.Report.{IsBenchText, bench_text, point_line};
 
 use crate::bench::figures::{CurveFigures, figures_of};
 use pc_crash::Steps;
@@ -70,7 +71,7 @@ fn put_figures<O: Sink>(page: &mut Page, sink: &mut O, n: u64, figures: &CurveFi
 
 /// Puts the line of a number.
 fn put_count<O: Sink>(page: &mut Page, sink: &mut O, name: &[u8], count: u128)
-    ensures { Puts O.taken O.faults page.old sink.old page.new sink.new (count_line name.now count) }
+    ensures { Puts O.taken O.faults page.old sink.old page.new sink.new (number_line name.now count) }
 {
     page.put(sink, name);
     put_wide(page, sink, count);

@@ -3,7 +3,8 @@ use Rattle.std.specs.Prelude.{codes}
 use Rattle.pc_edges.specs.Texts.{texts_to}
 use Rattle.pc_edges.specs.inside.page.Puts.{desk}
 use Rattle.pc_edges.proofs.lemmas.page.PageLaws.{Adds-as, Adds-line, Adds-nil}
-use Rattle.pc_reports.specs.Lines.{named_line_at, named_line}
+use Rattle.pc_edges.specs.page.Lines.{named_line}
+use Rattle.pc_reports.specs.Lines.{named_line_at}
 use Rattle.pc_reports.proofs.schedule.put_times.Goals as goal
 
 pub loop-e-init : goal.loop-e-init

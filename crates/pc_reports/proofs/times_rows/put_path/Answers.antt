@@ -5,7 +5,7 @@ use Rattle.pc_model.specs.declared.limits.TheConstants.{MAX_VARIANCE}
 use Rattle.pc_model.specs.Walk.{walk_sum}
 use Rattle.pc_edges.specs.inside.page.Puts.{desk}
 use Rattle.pc_edges.proofs.lemmas.page.PageLaws.{◌⨾◌, Adds-as, Adds-line, Adds-nil}
-use Rattle.pc_reports.specs.Lines.{code_line, number_line}
+use Rattle.pc_edges.specs.page.Lines.{word_line, number_line}
 use Rattle.pc_reports.specs.TimesText.{critical_row}
 use Rattle.pc_reports.specs.inside.View.{as_shown}
 use Rattle.pc_reports.proofs.PathLaws.{walk_sum-more}
@@ -36,7 +36,7 @@ loop-a-preserved g c =
     record {
       put =
           Adds-line c.loop-a.k (critical_row (as_shown project shown) shown.times) c.loop-a.invariant.put
-          (Adds-as (critical_row (as_shown project shown) shown.times c.loop-a.k) (ap (code_line (codes "CRITICAL ")) code) c.put_code.ensures);
+          (Adds-as (critical_row (as_shown project shown) shown.times c.loop-a.k) (ap (word_line (codes "CRITICAL ")) code) c.put_code.ensures);
       within = omega (arith, known);
       summed = omega (arith, c.loop-a.invariant.summed, variance, walk_sum-more shown.variances shown.times.path c.loop-a.k known);
       small = omega (arith, small, c.loop-a.invariant.small);
