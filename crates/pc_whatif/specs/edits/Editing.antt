@@ -6,6 +6,7 @@ use Rattle.circular_buffer.specs.Buffer.{keep_last, last_item}
 use Rattle.pc_crash.specs.Priced.{PricedNetwork}
 use Rattle.pc_project.specs.Project.{Project}
 use Rattle.pc_project.specs.declared.estimates.Estimates.{Estimates}
+use Rattle.pc_shell.specs.Priced.{priced_in}
 use Rattle.pc_whatif.specs.declared.edits.ask.Edit.{Edit}
 use Rattle.pc_whatif.specs.declared.edits.edits.TheConstants.{MAX_KEPT}
 use Rattle.pc_whatif.specs.declared.edits.trying.ActTerm.{ActTerm}
@@ -31,21 +32,10 @@ editing_with editing plan kept = record editing {
   kept = kept;
 }
 
--- the priced network of a project
-abbrev pub priced_project : Project → PricedNetwork
-priced_project project = record {
-  network = project.network;
-  terms = project.terms;
-  pieces = project.pieces;
-  project = project.heading.code;
-  events = project.events;
-  activities = project.activities;
-}
-
 -- the project of a deck before any edit
 abbrev pub begun : Project → Editing
 begun project = record {
-  net = priced_project project;
+  net = priced_in project;
   estimates = estimates_in project.deck;
   unit_days = project.heading.unit_days;
   kept = [];

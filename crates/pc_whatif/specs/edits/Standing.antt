@@ -3,10 +3,11 @@ use Rattle.std.specs.Prelude.{◌≡◌, ℕ, ◌+◌, ◌-◌, ◌≤◌, min, 
 use Rattle.circular_buffer.specs.Buffer.{keep_last}
 use Rattle.pc_crash.specs.Priced.{PricedNetwork}
 use Rattle.pc_project.specs.Project.{Project}
+use Rattle.pc_shell.specs.Priced.{priced_in}
 use Rattle.pc_whatif.specs.declared.edits.ask.Edit.{Edit}
 use Rattle.pc_whatif.specs.declared.edits.edits.TheConstants.{MAX_KEPT}
 use Rattle.pc_whatif.specs.edits.Plans.{Plan, plan_with}
-use Rattle.pc_whatif.specs.edits.Editing.{Editing, activity_named, begun, editing_with, plan_of, priced_project}
+use Rattle.pc_whatif.specs.edits.Editing.{Editing, activity_named, begun, editing_with, plan_of}
 
 -- the edits that were accepted and not taken back, in order, and how many of the last of them are kept for UNDO
 pub record Journal : Type 0 where
@@ -42,8 +43,8 @@ plans_before net (edit ∷ edits) plan = plan ∷ plans_before net edits (plan_w
 -- the project of a deck with the edits of a journal standing: applied in order, and of those that are kept the plans before each
 abbrev pub standing_of : Project → Journal → Editing
 standing_of project journal =
-    editing_with (begun project) (plan_after (priced_project project) journal.standing (plan_of (begun project)))
-    (keep_last journal.kept (plans_before (priced_project project) journal.standing (plan_of (begun project))))
+    editing_with (begun project) (plan_after (priced_in project) journal.standing (plan_of (begun project)))
+    (keep_last journal.kept (plans_before (priced_in project) journal.standing (plan_of (begun project))))
 
 -- the project is as edited by the edits of the journal; of these no more are kept than stand, nor than may be
 pub record Stands (project : Project) (journal : Journal) (editing : Editing) : Type 0 where

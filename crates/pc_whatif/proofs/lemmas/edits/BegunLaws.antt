@@ -17,12 +17,13 @@ use Rattle.pc_project.specs.Misfit.{HasActFault, HasNoMisfit, act, listed}
 use Rattle.pc_project.specs.Planned.{IsPlanned}
 use Rattle.pc_project.specs.Project.{Project}
 use Rattle.pc_project.proofs.MakesLaws.{no_misfit}
+use Rattle.pc_shell.specs.Priced.{priced_in}
 use Rattle.pc_whatif.specs.edits.Plans.{estimates_at, estimates_in}
 use Rattle.pc_whatif.specs.inside.edits.Plans.{AreEstimates}
 use Rattle.pc_whatif.specs.declared.edits.kept.KeptEdit.{KeptEdit}
 use Rattle.pc_whatif.specs.declared.edits.edits.Edits.TheInside.{Inside}
 use Rattle.pc_whatif.specs.declared.edits.edits.TheConstants.{MAX_KEPT}
-use Rattle.pc_whatif.specs.edits.Editing.{begun, priced_project}
+use Rattle.pc_whatif.specs.edits.Editing.{begun}
 use Rattle.pc_whatif.specs.inside.edits.Editing.{IsEditing}
 use Rattle.pc_whatif.specs.inside.edits.Inside.{IsWholeInside, editing_in, plans_back}
 
@@ -80,7 +81,7 @@ module _ (project : Project) (planned : IsPlanned project) where
   AreNames-begun = record { one_each = planned.activity_codes; once = planned.activities_differ }
 
   -- fields that are the deck's are whole
-  module _ (s : Inside) (net_is : s.net ≡ priced_project project) (estimates_are : s.estimates.items ≡ estimates_in project.deck) (unit_is : s.unit_days ≡ project.heading.unit_days)
+  module _ (s : Inside) (net_is : s.net ≡ priced_in project) (estimates_are : s.estimates.items ≡ estimates_in project.deck) (unit_is : s.unit_days ≡ project.heading.unit_days)
       (kept_is : s.kept ≡ buffer [] MAX_KEPT) (aside_is : s.aside ≡ None) where
     pub editing_is : editing_in s ≡ begun project
     editing_is =

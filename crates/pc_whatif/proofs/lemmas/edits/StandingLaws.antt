@@ -6,10 +6,11 @@ use Rattle.circular_buffer.specs.Buffer.{keep_last, last_item}
 use Rattle.circular_buffer.proofs.Places.{cut_end}
 use Rattle.pc_crash.specs.Priced.{PricedNetwork}
 use Rattle.pc_project.specs.Project.{Project}
+use Rattle.pc_shell.specs.Priced.{priced_in}
 use Rattle.pc_whatif.specs.declared.edits.ask.Edit.{Edit}
 use Rattle.pc_whatif.specs.declared.edits.edits.TheConstants.{MAX_KEPT}
 use Rattle.pc_whatif.specs.edits.Plans.{Plan, plan_with}
-use Rattle.pc_whatif.specs.edits.Editing.{Editing, activity_named, begun, edited, editing_with, plan_of, priced_project, undone}
+use Rattle.pc_whatif.specs.edits.Editing.{Editing, activity_named, begun, edited, editing_with, plan_of, undone}
 use Rattle.pc_whatif.specs.edits.Standing.{Journal, Stands, empty, noted, activity_of_edit, plan_after, plans_before, standing_of, taken_back}
 use Rattle.pc_whatif.proofs.lemmas.edits.ListLaws.{length-push, length-keep_last, keep_last-push, keep_last-keep_last, last_item-push, front-push}
 
@@ -32,7 +33,7 @@ Stands-begun project = record { is = refl; some = omega arith; few = omega arith
 
 module _ (project : Project) (journal : Journal) where
   abbrev net : PricedNetwork
-  net = priced_project project
+  net = priced_in project
 
   abbrev first : Plan
   first = plan_of (begun project)
