@@ -1,15 +1,16 @@
 -- What is found, and what is not, by one test behind another.
 use Rattle.std.proofs.Common.{◌≡◌, ℕ, Bool, true, false, not, List, [], ◌∷◌, Option, Some, None, if◌then◌else◌, ap, refl}
+use Rattle.std.specs.Option.{option_or}
 use Rattle.pc_cards.specs.Forms.{AllFit, Slot, field_numbered, first_misshapen, first_over_limit, has_shape, is_over_limit}
-use Rattle.pc_cards.specs.inside.Findings.{flaw_of_fields, misshapen_at, or_else, over_limit_at}
+use Rattle.pc_cards.specs.inside.Findings.{flaw_of_fields, misshapen_at, over_limit_at}
 
 -- what is found later, where nothing is found before
-pub none_then : {A : Type 0} (first later found : Option A) → first ≡ None → later ≡ found → or_else first later ≡ found
+pub none_then : {A : Type 0} (first later found : Option A) → first ≡ None → later ≡ found → option_or first later ≡ found
 none_then None later found none is = is
 none_then (Some other) later found none is = absurd (let none' = none in cc)
 
 -- what is found first
-pub some_first : {A : Type 0} (first later : Option A) (found : A) → first ≡ Some found → or_else first later ≡ Some found
+pub some_first : {A : Type 0} (first later : Option A) (found : A) → first ≡ Some found → option_or first later ≡ Some found
 some_first None later found is = absurd (let is' = is in cc)
 some_first (Some other) later found is = is
 

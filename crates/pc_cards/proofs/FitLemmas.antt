@@ -1,17 +1,19 @@
 -- A card of which nothing is found to be wrong: what each test found of it.
 use Rattle.std.proofs.Common.{◌≡◌, ℕ, ◌≤◌, Bool, true, false, not, ◌||◌, ◌==◌, nat_lt, List, [], ◌∷◌, find, Option, Some, None, is_some, unwrap_or, if◌then◌else◌, refl, subst, arith}
 use Rattle.std.proofs.lemmas.Bool.Decides.{nat_tests}
+use Rattle.std.specs.Option.{option_or}
+use Rattle.std.specs.Bool.{then_some}
 use Rattle.pc_faults.specs.declared.kind.Kind.{Kind}
 use Rattle.pc_cards.specs.Forms.{Slot, AllFit, field_numbered, has_shape, is_over_limit, is_outside}
-use Rattle.pc_cards.specs.inside.Findings.{or_else, where_so, misshapen_at, over_limit_at, one_too_many}
+use Rattle.pc_cards.specs.inside.Findings.{misshapen_at, over_limit_at, one_too_many}
 
 -- where nothing was found, neither place had anything
-pub neither : {A : Type 0} (first later : Option A) → or_else first later ≡ None → (first ≡ None) × (later ≡ None)
+pub neither : {A : Type 0} (first later : Option A) → option_or first later ≡ None → (first ≡ None) × (later ≡ None)
 neither None later h = (refl, h)
 neither (Some found) later h = absurd (let h' = h in cc)
 
 -- where nothing was found, the test does not hold
-pub not_so : {A : Type 0} (test : Bool) (found : A) → where_so test found ≡ None → test ≡ false
+pub not_so : {A : Type 0} (test : Bool) (found : A) → then_some test found ≡ None → test ≡ false
 not_so true found h = absurd (let h' = h in cc)
 not_so false found h = refl
 

@@ -1,16 +1,11 @@
 -- Cards of one kind: how many, and which of them other cards name by their codes.
-use Rattle.std.specs.Prelude.{ℕ, ◌+◌, Bool, true, false, List, [], ◌∷◌, nat_eq, Option, Some, None, option_map}
+use Rattle.std.specs.Prelude.{ℕ, ◌+◌, Bool, true, false, List, [], ◌∷◌, nat_eq, Option, option_map, option_to_list}
 use Rattle.std.specs.List.{list_any}
 use Rattle.std.specs.Cmp.Lexicographic.{pointwise}
 
 -- whether a code is among those
 abbrev pub is_among : List ℕ → List (List ℕ) → Bool
 is_among code codes = list_any (pointwise nat_eq code) codes
-
--- one element, or none
-abbrev pub as_list : {X : Type 0} → Option X → List X
-as_list None = []
-as_list (Some x) = x ∷ []
 
 -- the cards of a kind: one or none where the kind stands once, or else a list
 abbrev pub HeldBy : Bool → Type 0 → Type 0
@@ -19,7 +14,7 @@ HeldBy false C = List C
 
 -- the same as a list
 abbrev pub listed_by : (once : Bool) (C : Type 0) → HeldBy once C → List C
-listed_by true C held = as_list held
+listed_by true C held = option_to_list held
 listed_by false C held = held
 
 -- the cards in other records, one behind the other: each by how it looks in another record

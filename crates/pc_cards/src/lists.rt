@@ -3,8 +3,9 @@
 //! Each takes the next card of its kind, or returns the fault of that card. After a fault the list must not be used.
 ghost use Rattle.std.specs.Prelude.{◌≡◌, [], ◌∷◌, ◌++◌, None, Some, true, not, nat_eq, length, map, position, IfOk, OnOk, IfErr};
 ghost use Rattle.std.specs.Cmp.Lexicographic.{pointwise};
+ghost use Rattle.std.specs.Option.{option_or};
 ghost use Rattle.pc_faults.specs.inside.First.{Refuses};
-ghost use Rattle.pc_cards.specs.inside.Findings.{fault_of_listed, fault_of_named, not_alone, or_else};
+ghost use Rattle.pc_cards.specs.inside.Findings.{fault_of_listed, fault_of_named, not_alone};
 ghost use Rattle.pc_cards.specs.inside.Named.{count_once, has_code};
 ghost use Rattle.pc_model.specs.Codes.{IsNamedOnce};
 
@@ -54,12 +55,12 @@ impl<C: Card> Once<C> {
     /// The fault of the card, or out of memory. The list must not be used after an error.
     pub fn take<F: Fields>(&mut self, place: &CardPlace, fields: &F) -> Result<(), DeckError>
         ensures kept { OnOk result (self.new ≡ Some (C.spelled place.now.row (F.fields fields.now))) }
-        ensures sound { OnOk result (or_else (not_alone place.now (count_once self.old))
+        ensures sound { OnOk result (option_or (not_alone place.now (count_once self.old))
             (fault_of_listed place.now (count_once self.old) C.least C.most (C.slots place.now.sort)
             (F.fields fields.now))
             ≡ None) }
         ensures fault { IfErr result (Refuses
-            (λ fault. or_else (not_alone place.now (count_once self.old))
+            (λ fault. option_or (not_alone place.now (count_once self.old))
             (fault_of_listed place.now (count_once self.old) C.least C.most (C.slots place.now.sort)
             (F.fields fields.now))
             ≡ Some fault)) }

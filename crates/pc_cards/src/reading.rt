@@ -1,7 +1,8 @@
 //! Reading the card of a record, or the fault of its fields.
 ghost use Rattle.std.specs.Prelude.{◌≡◌, None, Some, IfOk, OnOk, IfErr};
+ghost use Rattle.std.specs.Option.{option_or};
 ghost use Rattle.pc_cards.specs.inside.Forms.{IsFirstMisfit};
-ghost use Rattle.pc_cards.specs.inside.Findings.{flaw_of_fields, or_else, wrong_fields};
+ghost use Rattle.pc_cards.specs.inside.Findings.{flaw_of_fields, wrong_fields};
 
 use crate::card::Card;
 use crate::field::{Flaw, Misfit};
@@ -20,7 +21,7 @@ pub fn read_card<C: Card, F: Fields>(place: &CardPlace, fields: &F) -> Result<C,
     ensures card { IfOk result (λ card. card ≡ C.spelled place.now.row (F.fields fields.now)) }
     ensures whole { OnOk result (wrong_fields place.now C.least C.most (F.fields fields.now) ≡ None) }
     ensures fit { OnOk result (flaw_of_fields place.now.row (C.slots place.now.sort) (F.fields fields.now) ≡ None) }
-    ensures fault { IfErr result (λ fault. or_else (wrong_fields place.now C.least C.most (F.fields fields.now))
+    ensures fault { IfErr result (λ fault. option_or (wrong_fields place.now C.least C.most (F.fields fields.now))
         (flaw_of_fields place.now.row (C.slots place.now.sort) (F.fields fields.now)) ≡ Some fault) }
 {
     let layout = C::layout(place.sort);

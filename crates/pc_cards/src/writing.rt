@@ -1,8 +1,7 @@
 //! Writing the cards of one kind.
-ghost use Rattle.std.specs.Prelude.{◌≡◌, ◌++◌, ◌∷◌, [], map, OnOk, OnErr};
+ghost use Rattle.std.specs.Prelude.{◌≡◌, ◌++◌, ◌∷◌, [], map, OnOk, OnErr, option_to_list};
 ghost use Rattle.pc_records.specs.Text.{records_text};
 ghost use Rattle.pc_faults.specs.Kinds.{word_of};
-ghost use Rattle.pc_cards.specs.Named.{as_list};
 
 use crate::card::Card;
 use pc_faults::Kind;
@@ -20,7 +19,7 @@ pub fn put_card<C: Card>(
     text: &mut RowWriter,
 ) -> Result<(), AllocError>
     ensures put { OnOk result (text.new
-        ≡ text.old ++ records_text (map (λ card. word_of kind ∷ C.written card) (as_list card))) }
+        ≡ text.old ++ records_text (map (λ card. word_of kind ∷ C.written card) (option_to_list card))) }
     ensures stopped { OnErr result (text.new ≡ []) }
 {
     match card {

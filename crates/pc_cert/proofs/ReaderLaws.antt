@@ -3,6 +3,7 @@ use Rattle.std.proofs.Common.{◌≡◌, ℕ, ◌+◌, ◌-◌, ◌<◌, ◌≤�
 use Rattle.std.proofs.Common.{Result, Ok, Err, refl, sym, ap, subst, ◌∙◌, append_assoc, append-nil, arith, add-one, length-append}
 use Rattle.std.proofs.lemmas.Bool.Decides.{eqb_tells}
 use Rattle.std.proofs.lemmas.List.{take-append-drop, length-take, take_all}
+use Rattle.std.specs.Prelude.{option_to_list}
 use Rattle.pc_cert.specs.declared.line.CertLine.{CertLine}
 use Rattle.pc_cert.specs.declared.place.Place.{Place}
 use Rattle.pc_text.specs.Fields.{◌>>=◌, run_len, Lacks}
@@ -15,7 +16,7 @@ use Rattle.pc_cert.proofs.LineLaws.{line_takes, line_again}
 use Rattle.pc_cert.proofs.TextLaws.{text_of-append, LeadTo-more}
 use Rattle.pc_cert.specs.Reader.{IsGoing, IsNotAllowed, IsStopped}
 use Rattle.pc_cert.specs.inside.Reader.{Stands, StandsFor, Reading, HasPassed, place_behind}
-use Rattle.pc_cert.specs.inside.Fed.{line_list, left_in, used_of}
+use Rattle.pc_cert.specs.inside.Fed.{left_in, used_of}
 use Rattle.pc_cert.specs.inside.Known.{IsAgain}
 use Rattle.pc_cert.proofs.Passing.{PassesLine}
 use Rattle.pc_cert.specs.declared.reader.Malformed.{Malformed}
@@ -175,9 +176,9 @@ passed old new held line piece used (Ok count) none ends less read p lines text 
     let found : arrived old.place (old.held ++ take (run_len 10 piece) piece) ≡ Some (p.taken, new.place) =
     ap (arrival old.place) (read ∙ p.there) ∙ ap (λ found. found >>= (λ b. Some (p.taken, b))) p.goes in
     let gone = accepted piece p.taken new.place (going none h) less found in
-    subst (λ (r : Reading). StandsFor r (lines ++ line_list line) (text ++ take count piece)) (sym p.moved)
-    (subst (λ m. Stands m new.place (old.lines + 1) [] (lines ++ line_list line) (text ++ take count piece)) (sym none)
-    (subst (λ l. IsGoing new.place (old.lines + 1) [] (lines ++ line_list l) (text ++ take count piece)) (sym p.there)
+    subst (λ (r : Reading). StandsFor r (lines ++ option_to_list line) (text ++ take count piece)) (sym p.moved)
+    (subst (λ m. Stands m new.place (old.lines + 1) [] (lines ++ option_to_list line) (text ++ take count piece)) (sym none)
+    (subst (λ l. IsGoing new.place (old.lines + 1) [] (lines ++ option_to_list l) (text ++ take count piece)) (sym p.there)
     (subst (λ n. IsGoing new.place (old.lines + 1) [] (lines ++ p.taken ∷ []) (text ++ take n piece)) (sym (p.used_is ∙ ends)) gone)))
 passed old new held line piece used (Err malformed) none ends less read p lines text h =
     let found : arrived old.place (old.held ++ take (run_len 10 piece) piece) ≡ None =

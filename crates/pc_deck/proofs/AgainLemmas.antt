@@ -1,10 +1,10 @@
 -- A deck that was read from its own text has the same text: what is written of a card does not tell its record.
 use Rattle.std.proofs.Common.{◌≡◌, ℕ, ◌+◌, Bool, true, false, List, [], ◌∷◌, ◌++◌, map, flat_map, Option, Some, None, if◌then◌else◌, refl, ap, ◌∙◌}
-use Rattle.std.specs.Prelude.{option_map}
+use Rattle.std.specs.Prelude.{option_map, option_to_list}
 use Rattle.pc_records.specs.Text.{records_text}
 use Rattle.pc_faults.specs.declared.kind.Kind.{Kind}
 use Rattle.pc_faults.specs.declared.kind.Kind.TheVariants.{Project, AsOf, Terms}
-use Rattle.pc_cards.specs.Named.{as_list, numbered_from}
+use Rattle.pc_cards.specs.Named.{numbered_from}
 use Rattle.pc_deck.specs.Deck.{Deck, list_of}
 use Rattle.pc_deck.specs.WrittenKinds.{written_of}
 use Rattle.pc_deck.specs.Kinds.{CardOf, kinds}
@@ -23,15 +23,15 @@ records-numbered kind row (card ∷ cards) = λ i. record-at_row kind row card i
 
 -- the TERMS card is settled once
 terms-again : (row : ℕ) (terms : Option TermsCard)
-    → map (record_of Terms) (as_list (settled_terms (option_map ((written_of Terms).at_row row) (settled_terms terms)))) ≡ map (record_of Terms) (as_list (settled_terms terms))
+    → map (record_of Terms) (option_to_list (settled_terms (option_map ((written_of Terms).at_row row) (settled_terms terms)))) ≡ map (record_of Terms) (option_to_list (settled_terms terms))
 terms-again row None = refl
 terms-again row (Some terms) = by (says_nothing terms) refl
   where
     by : (test : Bool) → says_nothing terms ≡ test
-        → map (record_of Terms) (as_list (settled_terms (option_map ((written_of Terms).at_row row) (if test then None else Some terms)))) ≡ map
-        (record_of Terms) (as_list (if test then None else Some terms))
+        → map (record_of Terms) (option_to_list (settled_terms (option_map ((written_of Terms).at_row row) (if test then None else Some terms)))) ≡ map
+        (record_of Terms) (option_to_list (if test then None else Some terms))
     by true is = refl
-    by false is = ap (λ (b : Bool). map (record_of Terms) (as_list (if b then None else Some ((written_of Terms).at_row row terms)))) is
+    by false is = ap (λ (b : Bool). map (record_of Terms) (option_to_list (if b then None else Some ((written_of Terms).at_row row terms)))) is
 
 records-again : (deck : Deck) (kind : Kind) → records_of (settled (renumbered (settled deck))) kind ≡ records_of (settled deck) kind
 records-again deck Project = refl

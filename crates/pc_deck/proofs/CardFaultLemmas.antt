@@ -2,6 +2,8 @@
 use Rattle.std.proofs.Common.{◌≡◌, ◌≢◌, ℕ, ◌<◌, ◌≤◌, Bool, true, false, not, ◌&&◌, ◌==◌, nat_lt, List, Option, Some, None, Result, Ok, Err, inl, inr, ◌⊎◌, refl, sym, ap, ◌∙◌, subst, arith, length}
 use Rattle.std.proofs.lemmas.Bool.Decides.{nat_tests}
 use Rattle.std.proofs.lemmas.Bool.{and_parts, and_from}
+use Rattle.std.specs.Option.{option_or}
+use Rattle.std.specs.Bool.{then_some}
 use Rattle.pc_records.specs.Deck.{field_at}
 use Rattle.pc_faults.specs.Faults as faults
 use Rattle.pc_faults.specs.declared.kind.Kind.{Kind}
@@ -13,7 +15,7 @@ use Rattle.pc_cards.specs.Forms.{Slot, first_misshapen, first_over_limit}
 use Rattle.pc_cards.specs.Cards.{Numbered}
 use Rattle.pc_cards.specs.Named.{is_among}
 use Rattle.pc_cards.specs.Findings.{width_wanted}
-use Rattle.pc_cards.specs.inside.Findings.{or_else, where_so, wrong_fields, misshapen_at, over_limit_at, flaw_of_fields, repeated, one_too_many, fault_of_place}
+use Rattle.pc_cards.specs.inside.Findings.{wrong_fields, misshapen_at, over_limit_at, flaw_of_fields, repeated, one_too_many, fault_of_place}
 use Rattle.pc_deck.specs.Judged.{Seen}
 use Rattle.pc_deck.specs.inside.Judged.{place_of, not_project, second, fault_of_kind, unless, no_kind, judge_of, judge}
 use Rattle.pc_deck.specs.Refusal.{HasCardFault, is_whole_as}
@@ -30,24 +32,24 @@ Caught None row n = ⊥
 Caught (Some fault) row n = (fault.row ≡ row) × (fault.number ≤ n)
 
 -- what is found first was found, and what is found later too, if what comes before it is bounded
-earlier : (first later : Option Fault) (row n : ℕ) → Caught first row n → Caught (or_else first later) row n
+earlier : (first later : Option Fault) (row n : ℕ) → Caught first row n → Caught (option_or first later) row n
 earlier None later row n h = absurd h
 earlier (Some fault) later row n h = h
 
-later_one : (first later : Option Fault) (row n : ℕ) → Bounded first row n → Caught later row n → Caught (or_else first later) row n
+later_one : (first later : Option Fault) (row n : ℕ) → Bounded first row n → Caught later row n → Caught (option_or first later) row n
 later_one None later row n b h = h
 later_one (Some fault) later row n b h = b
 
-bounded_both : (first later : Option Fault) (row n : ℕ) → Bounded first row n → Bounded later row n → Bounded (or_else first later) row n
+bounded_both : (first later : Option Fault) (row n : ℕ) → Bounded first row n → Bounded later row n → Bounded (option_or first later) row n
 bounded_both None later row n a b = b
 bounded_both (Some fault) later row n a b = a
 
 -- one test
-bounded_test : (test : Bool) (fault : Fault) (row n : ℕ) → fault.row ≡ row → fault.number ≤ n → Bounded (where_so test fault) row n
+bounded_test : (test : Bool) (fault : Fault) (row n : ℕ) → fault.row ≡ row → fault.number ≤ n → Bounded (then_some test fault) row n
 bounded_test true fault row n same few = (same, few)
 bounded_test false fault row n same few = tt
 
-caught_test : (test : Bool) (fault : Fault) (row n : ℕ) → test ≡ true → fault.row ≡ row → fault.number ≤ n → Caught (where_so test fault) row n
+caught_test : (test : Bool) (fault : Fault) (row n : ℕ) → test ≡ true → fault.row ≡ row → fault.number ≤ n → Caught (then_some test fault) row n
 caught_test true fault row n holds same few = (same, few)
 caught_test false fault row n holds same few = absurd (let holds' = holds in cc)
 
@@ -146,13 +148,13 @@ module _ (seen : Seen) (row : ℕ) (fields : List (List ℕ)) (kind : Kind) wher
   bounded_10 n (Some limit) few = bounded_test _ (faults.too_many row kind limit) row n refl few
 
   -- a finding is reached where all before it are bounded
-  at_widths : (n : ℕ) (rest : Option Fault) → 5 ≤ n → Caught (or_else widths rest) row n → Caught (or_else (not_project seen kind row) (or_else twice (or_else widths rest))) row n
+  at_widths : (n : ℕ) (rest : Option Fault) → 5 ≤ n → Caught (option_or widths rest) row n → Caught (option_or (not_project seen kind row) (option_or twice (option_or widths rest))) row n
   at_widths n rest few h = later_one _ _ row n (bounded_3 n (omega (arith, few))) (later_one _ _ row n (bounded_5 n few) h)
 
-  at_flaws : (n : ℕ) → 6 ≤ n → Caught (or_else flaws (or_else again behind)) row n → Caught (fault_of_kind seen kind row fields) row n
+  at_flaws : (n : ℕ) → 6 ≤ n → Caught (option_or flaws (option_or again behind)) row n → Caught (fault_of_kind seen kind row fields) row n
   at_flaws n few h = at_widths n _ (omega (arith, few)) (later_one _ _ row n (bounded_6 n few) h)
 
-  at_code : (n : ℕ) → 8 ≤ n → Caught (or_else again behind) row n → Caught (fault_of_kind seen kind row fields) row n
+  at_code : (n : ℕ) → 8 ≤ n → Caught (option_or again behind) row n → Caught (fault_of_kind seen kind row fields) row n
   at_code n few h = at_flaws n (omega (arith, few)) (later_one _ _ row n (bounded_8 n few) h)
 
   at_place : (n : ℕ) → 9 ≤ n → Caught behind row n → Caught (fault_of_kind seen kind row fields) row n
@@ -295,14 +297,14 @@ least_of-card seen card found fault judged h =
     (caught.0 ∙ sym row.0, caught.1)
 
 -- what was found, was found in one of two places
-found_in : (first later : Option Fault) (fault : Fault) → or_else first later ≡ Some fault → (first ≡ Some fault) ⊎ ((first ≡ None) × (later ≡ Some fault))
+found_in : (first later : Option Fault) (fault : Fault) → option_or first later ≡ Some fault → (first ≡ Some fault) ⊎ ((first ≡ None) × (later ≡ Some fault))
 found_in None later fault h = inr (refl, h)
 found_in (Some found) later fault h = inl h
 
 Some-injective : {A : Type 0} (x y : A) → ◌≡◌ {A = Option A} (Some x) (Some y) → x ≡ y
 Some-injective x y h = cc
 
-tested : {A : Type 0} (test : Bool) (found fault : A) → where_so test found ≡ Some fault → (test ≡ true) × (fault ≡ found)
+tested : {A : Type 0} (test : Bool) (found fault : A) → then_some test found ≡ Some fault → (test ≡ true) × (fault ≡ found)
 tested true found fault h = (refl, sym (Some-injective found fault h))
 tested false found fault h = absurd (none_some fault h)
 
@@ -324,11 +326,11 @@ no_shape : (row : ℕ) (slot : Option Slot) → misshapen_at row slot ≡ None �
 no_shape row None h = refl
 no_shape row (Some slot) h = absurd (none_some _ (sym h))
 
-not_so : {A : Type 0} (test : Bool) (found : A) → where_so test found ≡ None → test ≡ false
+not_so : {A : Type 0} (test : Bool) (found : A) → then_some test found ≡ None → test ≡ false
 not_so true found h = absurd (none_some found (sym h))
 not_so false found h = refl
 
-neither : {A : Type 0} (first later : Option A) → or_else first later ≡ None → (first ≡ None) × (later ≡ None)
+neither : {A : Type 0} (first later : Option A) → option_or first later ≡ None → (first ≡ None) × (later ≡ None)
 neither None later h = (refl, h)
 neither (Some found) later h = absurd (none_some found (sym h))
 
@@ -355,7 +357,7 @@ module _ (seen : Seen) (row : ℕ) (fields : List (List ℕ)) (kind : Kind) (nam
       ]
 
   in_whole : (found : Fault) → is_whole_as kind fields ≡ true →
-      or_else (flaws seen row fields kind) (or_else (again seen row fields kind) (behind seen row fields kind)) ≡ Some found →
+      option_or (flaws seen row fields kind) (option_or (again seen row fields kind) (behind seen row fields kind)) ≡ Some found →
       HasCardFault seen (row, fields) found
   in_whole found whole h =
       elim (found_in (flaws seen row fields kind) _ found h) [

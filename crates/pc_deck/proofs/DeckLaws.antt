@@ -1,6 +1,6 @@
 -- Which deck bytes are: at most one, and none where they are refused.
 use Rattle.std.proofs.Common.{◌≡◌, ℕ, true, List, [], ◌∷◌, Bool, false, Option, Some, None, Result, Ok, Err, refl, sym, ap, ◌∙◌}
-use Rattle.std.specs.Prelude.{IfOk}
+use Rattle.std.specs.Prelude.{IfOk, option_to_list}
 use Rattle.std.specs.Str.{is_utf8}
 use Rattle.pc_faults.specs.declared.fault.Fault.{Fault}
 use Rattle.pc_faults.specs.declared.fault.DeckError.{DeckError}
@@ -10,7 +10,7 @@ use Rattle.pc_cards.specs.declared.sort.Sort.TheVariants.{Plan}
 use Rattle.pc_faults.specs.declared.kind.Kind.{Kind}
 use Rattle.pc_faults.specs.declared.kind.Kind.TheVariants.{Project, End}
 use Rattle.pc_deck.specs.Kinds.{CardOf, stands_once, held_in, lists_with}
-use Rattle.pc_cards.specs.Named.{as_list, HeldBy, listed_by}
+use Rattle.pc_cards.specs.Named.{HeldBy, listed_by}
 use Rattle.pc_deck.specs.Deck.{Deck, list_of}
 use Rattle.pc_deck.specs.inside.Reading.{cards_of}
 use Rattle.pc_deck.specs.Read.{IsDeckOf, IsReadAs}
@@ -30,15 +30,15 @@ abbrev first_of : {X : Type 0} → List X → Option X
 first_of [] = None
 first_of (x ∷ xs) = Some x
 
-first_of-as_list : {X : Type 0} (card : Option X) → first_of (as_list card) ≡ card
-first_of-as_list None = refl
-first_of-as_list (Some card) = refl
+first_of-option_to_list : {X : Type 0} (card : Option X) → first_of (option_to_list card) ≡ card
+first_of-option_to_list None = refl
+first_of-option_to_list (Some card) = refl
 
 one : {X : Type 0} (x y : X) → x ∷ [] ≡ y ∷ [] → x ≡ y
 one x y same = ap (first_or x) same
 
-one_or_none : {X : Type 0} (card other : Option X) → as_list card ≡ as_list other → card ≡ other
-one_or_none card other same = sym (first_of-as_list card) ∙ (ap first_of same ∙ first_of-as_list other)
+one_or_none : {X : Type 0} (card other : Option X) → option_to_list card ≡ option_to_list other → card ≡ other
+one_or_none card other same = sym (first_of-option_to_list card) ∙ (ap first_of same ∙ first_of-option_to_list other)
 
 same_held : (once : Bool) (C : Type 0) (held other : HeldBy once C) → listed_by once C held ≡ listed_by once C other → held ≡ other
 same_held true C held other same = one_or_none held other same

@@ -6,6 +6,7 @@ use Rattle.std.specs.Cmp.Lexicographic.{bytes_decides}
 use Rattle.std.proofs.lemmas.Bool.{false≢true, ne_eqb}
 use Rattle.std.proofs.lemmas.List.{get_or_at, map-append}
 use Rattle.std.proofs.lemmas.List.Elements.{filter-append}
+use Rattle.std.specs.Bool.{then_some}
 use Rattle.pc_records.specs.Deck.{field_at}
 use Rattle.pc_faults.specs.Kinds.{word_of}
 use Rattle.pc_faults.specs.declared.kind.Kind.{Kind}
@@ -14,7 +15,7 @@ use Rattle.pc_faults.specs.declared.fault.Fault.{Fault}
 use Rattle.pc_model.specs.Codes.{IsNamedOnce}
 use Rattle.pc_cards.specs.Cards.{Numbered}
 use Rattle.pc_cards.specs.declared.sort.Sort.TheVariants.{Plan}
-use Rattle.pc_cards.specs.inside.Findings.{one_too_many, where_so}
+use Rattle.pc_cards.specs.inside.Findings.{one_too_many}
 use Rattle.pc_cards.specs.Forms.{AllFit}
 use Rattle.pc_cards.specs.Named.{is_among}
 use Rattle.pc_cards.proofs.FindLemmas.{no_flaw, none_then}
@@ -71,7 +72,7 @@ project_only : (kind : Kind) (field : List ℕ) → field ≡ word_of kind → f
 project_only kind field named first = same_is kind Project ((bytes_decides (word_of kind) (word_of Project)).1 (sym named ∙ first))
 
 -- what no test finds
-not_found : {A : Type 0} (test : Bool) (found : A) → test ≡ false → where_so test found ≡ None
+not_found : {A : Type 0} (test : Bool) (found : A) → test ≡ false → then_some test found ≡ None
 not_found true found not = absurd (false≢true (sym not))
 not_found false found not = refl
 

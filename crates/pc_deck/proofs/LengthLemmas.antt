@@ -3,6 +3,7 @@ use Rattle.std.proofs.Common.{◌≡◌, ℕ, ◌+◌, ◌*◌, ◌≤◌, true,
 use Rattle.std.proofs.Math.Nat.{mul-le-mul_right, suc-mul}
 use Rattle.std.proofs.lemmas.List.Concat.{flat_map-append}
 use Rattle.std.proofs.lemmas.List.Elements.{All-head, All-tail}
+use Rattle.std.specs.Prelude.{option_to_list}
 use Rattle.pc_records.specs.Text.{record_text, records_text}
 use Rattle.pc_records.proofs.LengthFacts.{length-record_text, written_field, written_length}
 use Rattle.pc_faults.specs.Kinds.{word_of}
@@ -11,7 +12,6 @@ use Rattle.pc_faults.specs.declared.kind.Kind.TheVariants.{Project, AsOf, Terms,
 use Rattle.pc_cards.specs.declared.sort.Sort.TheVariants.{Plan}
 use Rattle.pc_cards.specs.Forms.{Slot, field_numbered}
 use Rattle.pc_cards.specs.Limits.{longest_deck}
-use Rattle.pc_cards.specs.Named.{as_list}
 use Rattle.pc_cards.proofs.RoomLemmas.{length-all_fit, rooms}
 use Rattle.pc_deck.specs.Deck.{Deck, list_of}
 use Rattle.pc_deck.specs.WrittenKinds.{written_of}
@@ -58,22 +58,22 @@ abbrev most_of : Option ℕ → ℕ
 most_of None = 1
 most_of (Some most) = most
 
-length-as_list : {C : Type 0} (card : Option C) → length (as_list card) ≤ 1
-length-as_list None = omega arith
-length-as_list (Some card) = omega arith
+length-option_to_list : {C : Type 0} (card : Option C) → length (option_to_list card) ≤ 1
+length-option_to_list None = omega arith
+length-option_to_list (Some card) = omega arith
 
 few-cards : (deck : Deck) → IsWithinLimits deck → (kind : Kind) → length (list_of deck kind) ≤ most_of (limit_of Plan 2 kind)
 few-cards deck limits Project = omega arith
-few-cards deck limits AsOf = length-as_list deck.as_of
-few-cards deck limits Terms = length-as_list deck.terms
+few-cards deck limits AsOf = length-option_to_list deck.as_of
+few-cards deck limits Terms = length-option_to_list deck.terms
 few-cards deck limits End = omega arith
 few-cards deck limits kind = (limits kind).few
 
 -- no more of a kind that stands once than one
 pub one-card : (deck : Deck) (kind : Kind) → stands_once kind ≡ true → length (list_of deck kind) ≤ 1
 one-card deck Project once = omega arith
-one-card deck AsOf once = length-as_list deck.as_of
-one-card deck Terms once = length-as_list deck.terms
+one-card deck AsOf once = length-option_to_list deck.as_of
+one-card deck Terms once = length-option_to_list deck.terms
 one-card deck kind once = absurd (let once' = once in cc)
 
 -- how many bytes the cards of some kinds take at most

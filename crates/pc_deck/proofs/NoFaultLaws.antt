@@ -2,13 +2,14 @@
 use Rattle.std.proofs.Common.{◌≡◌, ◌≢◌, ℕ, ◌+◌, ◌==◌, Bool, true, false, not, ◌&&◌, nat_lt, List, [], ◌∷◌, ◌++◌, length, Option, Some, None, Result, Ok, Err, inl, inr, refl, sym, ap, ◌∙◌, subst, arith}
 use Rattle.std.proofs.lemmas.Bool.Decides.{nat_tests}
 use Rattle.std.specs.Str.{is_utf8}
+use Rattle.std.specs.Bool.{then_some}
 use Rattle.pc_records.specs.Deck.{deck_records, field_at}
 use Rattle.pc_faults.specs.Faults as faults
 use Rattle.pc_faults.specs.declared.kind.Kind.{Kind}
 use Rattle.pc_faults.specs.declared.kind.Kind.TheVariants.{Project}
 use Rattle.pc_faults.specs.declared.fault.Fault.{Fault}
 use Rattle.pc_cards.specs.Cards.{Numbered, deck_cards}
-use Rattle.pc_cards.specs.inside.Findings.{one_too_many, where_so}
+use Rattle.pc_cards.specs.inside.Findings.{one_too_many}
 use Rattle.pc_cards.specs.Named.{is_among}
 use Rattle.pc_cards.specs.declared.sort.Sort.{Sort}
 use Rattle.pc_cards.proofs.FindLemmas.{no_flaw, none_then}
@@ -24,7 +25,7 @@ use Rattle.pc_deck.proofs.KindLemmas.{project_is}
 
 -- ---- one card
 
-not_found : {A : Type 0} (test : Bool) (found : A) → test ≡ false → where_so test found ≡ None
+not_found : {A : Type 0} (test : Bool) (found : A) → test ≡ false → then_some test found ≡ None
 not_found true found isnt = absurd (let isnt_ = isnt in cc)
 not_found false found isnt = refl
 
@@ -78,7 +79,7 @@ room_there kind row count (Some most) none same = by (count == most) refl none
     equal : (count == most) ≡ true
     equal = let is : most ≡ count = cc in grind (arith, nat_tests)
 
-    by : (test : Bool) → (count == most) ≡ test → where_so test (faults.too_many row kind most) ≡ None → ⊥
+    by : (test : Bool) → (count == most) ≡ test → then_some test (faults.too_many row kind most) ≡ None → ⊥
     by true is h = let h' = h in cc
     by false is h = true≢false (sym equal ∙ is)
 

@@ -1,6 +1,7 @@
 -- The numbers of the cards of a deck are within their limits.
 use Rattle.std.proofs.Common.{◌≡◌, ℕ, ◌≤◌, false, List, get_or, Option, Some, None, unwrap_or, All, refl, sym, subst, arith}
 use Rattle.std.specs.Option.{ForSome}
+use Rattle.std.specs.Prelude.{option_to_list}
 use Rattle.pc_records.specs.Deck.{field_at}
 use Rattle.pc_text.specs.Number.{number_of}
 use Rattle.pc_model.specs.declared.limits.TheConstants.{MAX_COST, MAX_DIRECTED, MAX_DURATION, MAX_SLOPE, MAX_TERMS, MAX_UNIT_DAYS}
@@ -9,7 +10,6 @@ use Rattle.pc_faults.specs.declared.kind.Kind.TheVariants.{Project, Terms, Act, 
 use Rattle.pc_deck.specs.Deck.{Deck, list_of}
 use Rattle.pc_deck.specs.Kinds.{CardOf, card_of, slots_of}
 use Rattle.pc_cards.specs.Forms.{AllFit, is_outside}
-use Rattle.pc_cards.specs.Named.{as_list}
 use Rattle.pc_cards.specs.declared.sort.Sort.{Sort}
 use Rattle.pc_cards.specs.declared.sort.Sort.TheVariants.{Plan}
 use Rattle.pc_deck.specs.Project.{project_kind, project_card}
@@ -152,7 +152,7 @@ all_so {sort} kind P deck limits follows = λ k d inside. so (get_or (list_of de
     so : (card : CardOf kind) → IsFit sort kind card → P card
     so card (row, fields, is, fit, text) = subst P (sym is) (follows row fields fit)
 
-for_some : (terms : Option TermsCard) → All AreTermsWithin (as_list terms) → ForSome terms AreTermsWithin
+for_some : (terms : Option TermsCard) → All AreTermsWithin (option_to_list terms) → ForSome terms AreTermsWithin
 for_some None all = λ card is. absurd (let is' = is in cc)
 for_some (Some terms) all = λ card is. let same : terms ≡ card = cc in subst AreTermsWithin same (all 0 terms (omega arith))
 

@@ -1,5 +1,6 @@
 -- A deck that is read card by card says what its cards say.
 use Rattle.std.proofs.Common.{◌≡◌, Bool, true, false, List, [], ◌∷◌, ◌++◌, Option, Some, None, if◌then◌else◌, Result, Ok, Err, refl, sym, ap, ◌∙◌, subst, append-nil, append_assoc, ℕ}
+use Rattle.std.specs.Prelude.{option_to_list}
 use Rattle.pc_faults.specs.Faults as faults
 use Rattle.pc_faults.specs.declared.kind.Kind.{Kind}
 use Rattle.pc_faults.specs.declared.kind.Kind.TheVariants.{Project, End}
@@ -8,7 +9,6 @@ use Rattle.pc_cards.specs.Cards.{Numbered, deck_cards}
 use Rattle.pc_cards.specs.declared.sort.Sort.{Sort}
 use Rattle.pc_deck.specs.Deck.{Deck, list_of}
 use Rattle.pc_deck.specs.inside.Judged.{judge}
-use Rattle.pc_cards.specs.Named.{as_list}
 use Rattle.pc_deck.specs.inside.Reading.{no_cards, with_card, list_so_far, seen_in, deck_with, closed, closed_with, and_then, read_from, cards_of}
 use Rattle.pc_deck.specs.Says.{Says}
 use Rattle.pc_deck.specs.declared.kinds.project.ProjectCard.{ProjectCard}
@@ -27,7 +27,7 @@ says-closed : (cards : List Numbered) (draft : Draft) (end : ℕ) (deck : Deck) 
 says-closed cards draft end deck says h = by_project draft.project refl h
   where
     list : (project : ProjectCard) → draft.project ≡ Some project → draft.has_ended ≡ true → (kind : Kind) → list_so_far draft kind ≡ list_of (deck_with draft project) kind
-    list project is ended Project = ap as_list is
+    list project is ended Project = ap option_to_list is
     list project is ended End = ap (λ (b : Bool). ends b) ended
     list project is ended other = refl
 

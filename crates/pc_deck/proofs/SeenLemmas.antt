@@ -1,13 +1,13 @@
 -- What counts of the cards so far is what counts of the draft that they say.
 use Rattle.std.proofs.Common.{◌≡◌, ℕ, Bool, true, false, not, List, [], ◌∷◌, length, map, Option, Some, None, if◌then◌else◌, refl, sym, ap, ◌∙◌}
 use Rattle.std.proofs.lemmas.List.{length-map}
+use Rattle.std.specs.Prelude.{option_to_list}
 use Rattle.pc_records.specs.Deck.{field_at}
 use Rattle.pc_faults.specs.declared.kind.Kind.{Kind}
 use Rattle.pc_faults.specs.declared.kind.Kind.TheVariants.{Project, End}
 use Rattle.pc_cards.specs.Cards.{Numbered}
 use Rattle.pc_deck.specs.Project.{project_card}
 use Rattle.pc_deck.specs.Kinds.{card_of, entry_of, has_code_of_its_own}
-use Rattle.pc_cards.specs.Named.{as_list}
 use Rattle.pc_deck.specs.inside.Reading.{count_in, codes_in, list_so_far, seen_in, version_of}
 use Rattle.pc_deck.specs.Refusal.{of_kind, own_codes, are_none, seen_among, version_said}
 use Rattle.pc_deck.specs.declared.kinds.project.ProjectCard.{ProjectCard}
@@ -28,7 +28,7 @@ said_first : (cards : List Numbered) → version_said cards ≡ version_first (m
 said_first [] = refl
 said_first (card ∷ cards) = refl
 
-first_of : (project : Option ProjectCard) → version_first (as_list project) ≡ version_of project
+first_of : (project : Option ProjectCard) → version_first (option_to_list project) ≡ version_of project
 first_of None = refl
 first_of (Some project) = refl
 

@@ -3,6 +3,7 @@ use Rattle.std.proofs.Common.{◌≡◌, ℕ, Bool, true, false, not, ◌&&◌, 
 use Rattle.std.proofs.Common.{Some, None, is_none, if◌then◌else◌, bytes_eq, Ok, refl, sym, ap, ◌∙◌, subst, append-nil}
 use Rattle.std.proofs.lemmas.List.{map-append}
 use Rattle.std.proofs.lemmas.List.Elements.{filter-append}
+use Rattle.std.specs.Prelude.{option_to_list}
 use Rattle.pc_records.specs.Deck.{field_at}
 use Rattle.pc_faults.specs.Kinds.{word_of}
 use Rattle.pc_faults.specs.declared.kind.Kind.{Kind}
@@ -11,7 +12,7 @@ use Rattle.pc_deck.specs.Kinds.{CardOf, card_of, is_same, stands_once, held_in}
 use Rattle.pc_deck.specs.inside.Kinds.{is_end, is_project}
 use Rattle.pc_cards.specs.Cards.{Numbered}
 use Rattle.pc_cards.specs.declared.sort.Sort.{Sort}
-use Rattle.pc_cards.specs.Named.{as_list, HeldBy, listed_by}
+use Rattle.pc_cards.specs.Named.{HeldBy, listed_by}
 use Rattle.pc_cards.specs.inside.Named.{more_if}
 use Rattle.pc_deck.specs.Project.{project_card}
 use Rattle.pc_deck.specs.inside.Judged.{judge}
@@ -50,7 +51,7 @@ pub unchanged : {X : Type 0} (xs : List X) → xs ≡ xs ++ []
 unchanged xs = sym (append-nil xs)
 
 -- a card that stands once is the only one
-only_one : {X : Type 0} (old : Option X) (x : X) → (true && nat_lt 0 (length (as_list old))) ≡ false → x ∷ [] ≡ as_list old ++ x ∷ []
+only_one : {X : Type 0} (old : Option X) (x : X) → (true && nat_lt 0 (length (option_to_list old))) ≡ false → x ∷ [] ≡ option_to_list old ++ x ∷ []
 only_one None x once = refl
 only_one (Some y) x once = absurd (let once' = once in cc)
 
@@ -62,9 +63,9 @@ listed-more false once C held card single = unchanged (listed_by once C held)
 listed-more true false C held card single = refl
 listed-more true true C held card single = only_one held card (single refl)
 
-first_more : {X : Type 0} (test : Bool) (old : Option X) (x : X) → (test ≡ true → (true && nat_lt 0 (length (as_list old))) ≡ false) →
-    as_list (if test then Some x else old) ≡ as_list old ++ one_if test x
-first_more false old x single = unchanged (as_list old)
+first_more : {X : Type 0} (test : Bool) (old : Option X) (x : X) → (test ≡ true → (true && nat_lt 0 (length (option_to_list old))) ≡ false) →
+    option_to_list (if test then Some x else old) ≡ option_to_list old ++ one_if test x
+first_more false old x single = unchanged (option_to_list old)
 first_more true old x single = only_one old x (single refl)
 
 last_more : (test ended : Bool) → ended ≡ false → ◌≡◌ {A = List (Unit {0})} (if (test || ended) then tt ∷ [] else []) ((if ended then tt ∷ [] else []) ++ one_if test tt)
@@ -89,7 +90,7 @@ module _ (draft : Draft) (row : ℕ) (fields : List (List ℕ)) (kind : Kind) (k
   pub list-more : (other : Kind) → list_so_far (with_card draft kind row fields) other ≡ list_so_far draft other ++ one_if (is_same kind other) (card_of other row fields)
   list-more Project =
       first_more (is_project kind) draft.project (project_card row fields) (λ is. single Project (project_is kind is))
-      ∙ ap (λ (test : Bool). as_list draft.project ++ one_if test (project_card row fields)) (same-project kind)
+      ∙ ap (λ (test : Bool). option_to_list draft.project ++ one_if test (project_card row fields)) (same-project kind)
   list-more End =
       last_more (is_end kind) draft.has_ended known.before_end
       ∙ ap (λ (test : Bool). list_so_far draft End ++ one_if test tt) (same-end kind)

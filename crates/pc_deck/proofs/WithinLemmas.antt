@@ -5,6 +5,7 @@ use Rattle.std.proofs.lemmas.List.{map-append}
 use Rattle.std.proofs.lemmas.List.Elements.{All-append, All-nil}
 use Rattle.std.proofs.lemmas.Bool.Decides.{nat_tests}
 use Rattle.std.specs.Str.{IsUtf8}
+use Rattle.std.specs.Prelude.{option_to_list}
 use Rattle.pc_model.specs.Codes.{IsNamedOnce}
 use Rattle.pc_records.specs.Deck.{field_at}
 use Rattle.pc_faults.specs.declared.kind.Kind.{Kind}
@@ -12,7 +13,7 @@ use Rattle.pc_faults.specs.declared.kind.Kind.TheVariants.{Project, End}
 use Rattle.pc_deck.specs.Deck.{list_of}
 use Rattle.pc_deck.specs.Kinds.{CardOf, card_of, entry_of, has_code_of_its_own, is_same, limit_of}
 use Rattle.pc_deck.specs.inside.Kinds.{is_project}
-use Rattle.pc_cards.specs.Named.{as_list, is_among}
+use Rattle.pc_cards.specs.Named.{is_among}
 use Rattle.pc_cards.specs.declared.sort.Sort.{Sort}
 use Rattle.pc_deck.specs.Project.{project_card}
 use Rattle.pc_cards.specs.inside.Findings.{one_too_many}
@@ -73,7 +74,7 @@ among_codes : (coded : Bool) (code : List ℕ) (codes : List (List ℕ)) → cod
 among_codes true code codes is new = new
 among_codes false code codes is new = absurd (let is' = is in cc)
 
-none_yet : (project : Option ProjectCard) → (true && nat_lt 0 (length (as_list project))) ≡ false → is_none project ≡ true
+none_yet : (project : Option ProjectCard) → (true && nat_lt 0 (length (option_to_list project))) ≡ false → is_none project ≡ true
 none_yet None once = refl
 none_yet (Some project) once = absurd (let once' = once in cc)
 
@@ -137,6 +138,7 @@ end_within sort = record { few = tt; fit = All-one (IsFit sort End) tt (0, [], r
 -- a draft within the limits is a deck within the limits
 pub deck_within : (draft : Draft) (project : ProjectCard) → draft.project ≡ Some project → IsDraftWithin draft → (kind : Kind) → IsListWithin draft.sort kind 2 (list_of (deck_with draft project) kind)
 deck_within draft project is within Project =
-    subst (λ (p : Option ProjectCard). IsListWithin draft.sort Project 2 (as_list p)) is (list_wider draft.sort Project (version_of draft.project) (as_list draft.project) (within.lists Project))
+    subst (λ (p : Option ProjectCard). IsListWithin draft.sort Project 2 (option_to_list p)) is
+    (list_wider draft.sort Project (version_of draft.project) (option_to_list draft.project) (within.lists Project))
 deck_within draft project is within End = end_within draft.sort
 deck_within draft project is within other = list_wider draft.sort other (version_of draft.project) (list_so_far draft other) (within.lists other)

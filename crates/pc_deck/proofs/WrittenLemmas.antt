@@ -5,6 +5,7 @@ use Rattle.std.specs.List.{list_all}
 use Rattle.std.proofs.lemmas.Str.{IsUtf8-nil}
 use Rattle.std.proofs.lemmas.Bool.{and_parts}
 use Rattle.std.proofs.lemmas.Bool.Decides.{nat_tests}
+use Rattle.std.specs.Prelude.{option_to_list}
 use Rattle.pc_records.proofs.Utf8Facts.{join_ascii}
 use Rattle.std.proofs.lemmas.List.Elements.{All-append, All-cons, All-head, All-nil, All-tail}
 use Rattle.pc_records.specs.Deck.{field_at}
@@ -13,7 +14,6 @@ use Rattle.pc_faults.specs.declared.kind.Kind.{Kind}
 use Rattle.pc_faults.specs.declared.kind.Kind.TheVariants.{Project, AsOf, Terms}
 use Rattle.pc_cards.specs.declared.sort.Sort.TheVariants.{Plan}
 use Rattle.pc_cards.specs.Forms.{AllFit, Slot, field_numbered, is_whole}
-use Rattle.pc_cards.specs.Named.{as_list}
 use Rattle.pc_cards.proofs.SpellingLemmas.{all_respelled, all_respelled-same, fields_of}
 use Rattle.pc_deck.specs.Deck.{Deck, list_of}
 use Rattle.pc_deck.specs.WrittenKinds.{written_of}
@@ -138,15 +138,15 @@ first_day-fit project (row, fields, is, fit, text) = (
   All-cons IsUtf8 [] (field_at fields 4 ∷ []) IsUtf8-nil (All-one IsUtf8 (field_at fields 4) (field-text fields 4 text)),
 )
 
-settled-as_of : (project : ProjectCard) (card : Option AsOfCard) → IsFit Plan Project project → All (IsFit Plan AsOf) (as_list card) → IsFit Plan AsOf (settled_as_of card project.start_day)
+settled-as_of : (project : ProjectCard) (card : Option AsOfCard) → IsFit Plan Project project → All (IsFit Plan AsOf) (option_to_list card) → IsFit Plan AsOf (settled_as_of card project.start_day)
 settled-as_of project None fit all = first_day-fit project fit
 settled-as_of project (Some card) fit all = All-head (IsFit Plan AsOf) card [] all
 
-settled-terms : (terms : Option TermsCard) → All (IsFit Plan Terms) (as_list terms) → All (IsFit Plan Terms) (as_list (settled_terms terms))
+settled-terms : (terms : Option TermsCard) → All (IsFit Plan Terms) (option_to_list terms) → All (IsFit Plan Terms) (option_to_list (settled_terms terms))
 settled-terms None all = all
 settled-terms (Some terms) all = by (says_nothing terms)
   where
-    by : (test : Bool) → All (IsFit Plan Terms) (as_list (if test then None else Some terms))
+    by : (test : Bool) → All (IsFit Plan Terms) (option_to_list (if test then None else Some terms))
     by true = All-nil (IsFit Plan Terms)
     by false = all
 

@@ -1,14 +1,13 @@
 -- The cards of a deck that was read: each spells its record, and no two of them stand at one record.
 use Rattle.std.proofs.Common.{◌≡◌, ◌≢◌, ℕ, zero, suc, ◌+◌, ◌<◌, ◌≤◌, Bool, true, false, List, [], ◌∷◌}
 use Rattle.std.proofs.Common.{length, map, get_or, Option, Some, All, if◌then◌else◌, bytes_eq, ◌⊎◌, inl, inr, refl, sym, ap, ◌∙◌, subst, arith}
-use Rattle.std.specs.Prelude.{slice_index}
+use Rattle.std.specs.Prelude.{slice_index, option_to_list}
 use Rattle.std.specs.List.{Any}
 use Rattle.std.specs.Cmp.Lexicographic.{bytes_decides}
 use Rattle.std.proofs.lemmas.List.{get_or-map, length-map}
 use Rattle.std.proofs.lemmas.List.Elements.{All-cons, All-nil, All-weaker}
 use Rattle.pc_records.specs.Deck.{field_at}
 use Rattle.pc_cards.specs.Cards.{Numbered, deck_cards}
-use Rattle.pc_cards.specs.Named.{as_list}
 use Rattle.pc_cards.specs.declared.sort.Sort.{Sort}
 use Rattle.pc_deck.specs.Deck.{Deck, list_of}
 use Rattle.pc_deck.specs.Kinds.{CardOf, card_of}
@@ -143,7 +142,7 @@ module _ (cards : List Numbered) (deck : Deck) (rising : Rises 1 cards) (says : 
 
   as_of_apart : (card : AsOfCard) → deck.as_of ≡ Some card → (k : ℕ) → k < length deck.statuses → card.row ≢ slice_index (status_records deck) k
   as_of_apart card is k within same =
-      let here : IsSpelled cards AsOf card = subst (λ (held : Option AsOfCard). All (IsSpelled cards AsOf) (as_list held)) is (list_spelled AsOf) 0 card (omega arith) in
+      let here : IsSpelled cards AsOf card = subst (λ (held : Option AsOfCard). All (IsSpelled cards AsOf) (option_to_list held)) is (list_spelled AsOf) 0 card (omega arith) in
       let status = get_or deck.statuses k (card_of Status 0 []) in
       let there : IsSpelled cards Status status = list_spelled Status k (card_of Status 0 []) within in
       let own : status.row ≡ slice_index (status_records deck) k = sym (get_or-map (λ (s : CardOf Status). s.row) deck.statuses k (card_of Status 0 []) 0 within) in

@@ -1,16 +1,12 @@
 -- What a call of a reader gave and used.
-use Rattle.std.specs.Prelude.{ℕ, List, [], ◌∷◌, take, Option, Some, None, Result, Ok, Err}
+use Rattle.std.specs.Prelude.{ℕ, List, [], take, Option, Result, Ok, Err, option_to_list}
 use Rattle.pc_cert.specs.declared.line.CertLine.{CertLine}
 use Rattle.pc_cert.specs.declared.reader.Malformed.{Malformed}
 use Rattle.pc_cert.specs.declared.reader.Fed.{Fed}
 
-abbrev pub line_list : Option CertLine → List CertLine
-line_list None = []
-line_list (Some line) = line ∷ []
-
 -- the line that was given, if one was
 abbrev pub given : Result Fed Malformed → List CertLine
-given (Ok fed) = line_list fed.line
+given (Ok fed) = option_to_list fed.line
 given (Err malformed) = []
 
 -- the bytes of a piece that were used: all of it, where a line is malformed
@@ -20,7 +16,7 @@ used (Err malformed) piece = piece
 
 -- the line that was left in what is known, if one ended
 abbrev pub left_in : Option CertLine → Result ℕ Malformed → List CertLine
-left_in line (Ok used) = line_list line
+left_in line (Ok used) = option_to_list line
 left_in line (Err malformed) = []
 
 -- the bytes of a piece of which so many were used: all of it, where a line is malformed

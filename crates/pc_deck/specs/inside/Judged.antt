@@ -1,11 +1,13 @@
 -- The fault of one card, as it is found: the tests in the order of the faults' numbers.
 -- Here is what no clause of a top call and no law reaches.
 use Rattle.std.specs.Prelude.{ℕ, Bool, true, false, not, ◌&&◌, nat_lt, List, Option, Some, None, Result, Ok, Err}
+use Rattle.std.specs.Option.{option_or}
+use Rattle.std.specs.Bool.{then_some}
 use Rattle.pc_records.specs.Deck.{field_at}
 use Rattle.pc_faults.specs.Faults as fault
 use Rattle.pc_faults.specs.declared.kind.Kind.{Kind}
 use Rattle.pc_faults.specs.declared.fault.Fault.{Fault}
-use Rattle.pc_cards.specs.inside.Findings.{or_else, where_so, fault_of_named}
+use Rattle.pc_cards.specs.inside.Findings.{fault_of_named}
 use Rattle.pc_cards.specs.declared.place.CardPlace.{CardPlace}
 use Rattle.pc_deck.specs.Kinds.{kind_of, stands_once, least_width_of, limit_of, slots_of, width_of}
 use Rattle.pc_deck.specs.inside.Kinds.{is_project}
@@ -17,21 +19,21 @@ place_of seen kind row = record { sort = seen.sort; kind = kind; row = row; limi
 
 -- F3: the first card, and not PROJECT
 abbrev pub not_project : Seen → Kind → ℕ → Option Fault
-not_project seen kind row = where_so (seen.is_first && not (is_project kind)) (fault.first_not_project row)
+not_project seen kind row = then_some (seen.is_first && not (is_project kind)) (fault.first_not_project row)
 
 -- F5: a second card of a kind that stands once
 abbrev pub second : CardPlace → ℕ → Option Fault
-second place count = where_so (stands_once place.kind && nat_lt 0 count) (fault.second_card place.row place.kind)
+second place count = then_some (stands_once place.kind && nat_lt 0 count) (fault.second_card place.row place.kind)
 
 -- F5 to F11, of a card of a kind
 abbrev pub fault_at : CardPlace → ℕ → List (List ℕ) → List (List ℕ) → Option Fault
 fault_at place count codes fields =
-    or_else (second place count) (fault_of_named place codes count (least_width_of place.kind) (width_of place.kind) (slots_of place.sort place.kind) fields)
+    option_or (second place count) (fault_of_named place codes count (least_width_of place.kind) (width_of place.kind) (slots_of place.sort place.kind) fields)
 
 -- the fault of a card of a known kind
 abbrev pub fault_of_kind : Seen → Kind → ℕ → List (List ℕ) → Option Fault
 fault_of_kind seen kind row fields =
-    or_else (not_project seen kind row) (fault_at (place_of seen kind row) (seen.count kind) (seen.codes kind) fields)
+    option_or (not_project seen kind row) (fault_at (place_of seen kind row) (seen.count kind) (seen.codes kind) fields)
 
 -- the kind, where no fault was found
 abbrev pub unless : Kind → Option Fault → Result Kind Fault

@@ -1,5 +1,5 @@
 -- What a deck says, card by card.
-use Rattle.std.specs.Prelude.{◌≡◌, ℕ, ◌+◌, false, ◌||◌, List, [], ◌∷◌, length, map, Option, Some, None, is_none, Result, Ok, Err, if◌then◌else◌}
+use Rattle.std.specs.Prelude.{◌≡◌, ℕ, ◌+◌, false, ◌||◌, List, [], ◌∷◌, length, map, Option, Some, None, is_none, Result, Ok, Err, if◌then◌else◌, option_to_list}
 use Rattle.pc_records.specs.Deck.{deck_records}
 use Rattle.pc_faults.specs.Faults as fault
 use Rattle.pc_faults.specs.declared.kind.Kind.{Kind}
@@ -9,7 +9,6 @@ use Rattle.pc_cards.specs.Cards.{Numbered, deck_cards}
 use Rattle.pc_deck.specs.Deck.{Deck}
 use Rattle.pc_deck.specs.Kinds.{CardOf, entry_of, has_code_of_its_own, cards_in}
 use Rattle.pc_deck.specs.inside.Kinds.{is_end, is_project, no_lists, lists_and}
-use Rattle.pc_cards.specs.Named.{as_list}
 use Rattle.pc_deck.specs.Judged.{Seen}
 use Rattle.pc_deck.specs.inside.Judged.{judge}
 use Rattle.pc_deck.specs.Project.{project_card}
@@ -32,7 +31,7 @@ with_card draft kind row fields = record {
 
 -- the cards of a kind so far
 abbrev pub list_so_far : Draft → (kind : Kind) → List (CardOf kind)
-list_so_far draft Project = as_list draft.project
+list_so_far draft Project = option_to_list draft.project
 list_so_far draft End = if draft.has_ended then tt ∷ [] else []
 list_so_far draft other = cards_in draft.lists other
 

@@ -1,9 +1,8 @@
-use Rattle.std.specs.Prelude.{IfNone, IsNone, IsSome}
+use Rattle.std.specs.Prelude.{IfNone, IsNone, IsSome, option_to_list}
 use Rattle.pc_cert.specs.Grammar.{next}
 use Rattle.std.proofs.Common.{◌≡◌, ◌<◌, [], ◌∷◌, ◌++◌, take, drop, Some, None, refl, sym, ap, subst, ◌∙◌, arith, append-nil}
 use Rattle.std.proofs.lemmas.List.{take-append-drop}
 use Rattle.pc_cert.specs.inside.Reader.{StandsFor}
-use Rattle.pc_cert.specs.inside.Fed.{line_list}
 use Rattle.pc_check.specs.Texts.{IsFailing}
 use Rattle.pc_check.specs.inside.Auditing.{Auditing, HasRead, IsGoing, bytes_left}
 use Rattle.pc_check.proofs.AuditLaws.{malformed_fails, may_feed, may_take, line_fails, less_behind_piece, less_behind_line}
@@ -29,7 +28,7 @@ take_known-requires c =
       goes =
           subst (λ p. IfNone c.self.inside.checker.fail (next c.self.inside.checker.kept.place c.in-Some.line.now ≡ Some p)) (sym c.place.ensures)
           (may_take old c.feed_known.new.self before.lines c.in-Some.line.now (text ++ take c.in-Ok.used c.args.piece.now) going before.checked c.in-Ok.ensures.kept
-          (subst (λ l. StandsFor c.feed_known.new.self (before.lines ++ line_list l) (text ++ take c.in-Ok.used c.args.piece.now)) line (c.in-Ok.ensures.stands before.lines text before.read)));
+          (subst (λ l. StandsFor c.feed_known.new.self (before.lines ++ option_to_list l) (text ++ take c.in-Ok.used c.args.piece.now)) line (c.in-Ok.ensures.stands before.lines text before.read)));
     }
 
 pub returns-in-Some-take_known-clause-fails : goal.returns-in-Some-take_known-clause-fails
@@ -43,7 +42,7 @@ returns-in-Some-take_known-clause-fails c = λ text more h.
     (before.lines ++ c.in-Some.line.now ∷ []) c.in-Some-take_known.fail
     (take-append-drop c.in-Ok.used c.args.piece.now)
     c.in-Ok.ensures.kept
-    (subst (λ l. StandsFor c.feed_known.new.self (before.lines ++ line_list l) (text ++ take c.in-Ok.used c.args.piece.now)) line (c.in-Ok.ensures.stands before.lines text before.read))
+    (subst (λ l. StandsFor c.feed_known.new.self (before.lines ++ option_to_list l) (text ++ take c.in-Ok.used c.args.piece.now)) line (c.in-Ok.ensures.stands before.lines text before.read))
     c.take_known.ensures.net
     (sym c.take_known.ensures.fail ∙ c.in-Some-take_known.is)
     (c.take_known.ensures.stands before.lines before.checked))
@@ -67,7 +66,7 @@ returns-in-None-clause-goes_on c = λ text h.
     record {
       lines = before.lines;
       read = subst (λ ls. StandsFor c.feed_known.new.self ls (text ++ take c.in-Ok.used c.args.piece.now)) (append-nil before.lines)
-          (subst (λ l. StandsFor c.feed_known.new.self (before.lines ++ line_list l) (text ++ take c.in-Ok.used c.args.piece.now)) none (c.in-Ok.ensures.stands before.lines text before.read));
+          (subst (λ l. StandsFor c.feed_known.new.self (before.lines ++ option_to_list l) (text ++ take c.in-Ok.used c.args.piece.now)) none (c.in-Ok.ensures.stands before.lines text before.read));
       checked = before.checked;
     }
 
@@ -103,7 +102,7 @@ returns-in-None-take_known-clause-goes_on c = λ text h.
     let line : c.feed_known.new.known.line ≡ Some c.in-Some.line.now = sym c.in-Some.ensures in
     record {
       lines = before.lines ++ c.in-Some.line.now ∷ [];
-      read = subst (λ l. StandsFor c.feed_known.new.self (before.lines ++ line_list l) (text ++ take c.in-Ok.used c.args.piece.now)) line (c.in-Ok.ensures.stands before.lines text before.read);
+      read = subst (λ l. StandsFor c.feed_known.new.self (before.lines ++ option_to_list l) (text ++ take c.in-Ok.used c.args.piece.now)) line (c.in-Ok.ensures.stands before.lines text before.read);
       checked = c.take_known.ensures.stands before.lines before.checked;
     }
 
