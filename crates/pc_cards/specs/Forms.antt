@@ -3,7 +3,8 @@ use Rattle.std.specs.Prelude.{◌≡◌, ℕ, ℤ, pos, ◌-◌, Bool, true, fal
 use Rattle.std.specs.Prelude.{is_some, unwrap_or, Result, Ok, Err, find, bytes_eq, codes, decimal, nat_le, nat_eq, ◌&&◌, if◌then◌else◌}
 use Rattle.std.specs.List.{starts_with}
 use Rattle.std.specs.Result.{result_unwrap_or}
-use Rattle.pc_records.specs.Deck.{field_at, is_blank, is_empty}
+use Rattle.pc_records.specs.Deck.{is_blank, is_empty}
+use Rattle.pc_model.specs.Codes.{text_at}
 use Rattle.pc_text.specs.Code.{is_code}
 use Rattle.pc_text.specs.Title.{is_title_shape}
 use Rattle.pc_text.specs.Number.{number_of}
@@ -77,7 +78,7 @@ is_over_limit form.Letter field = false
 
 -- the field with a number, counted from 1
 abbrev pub field_numbered : List (List ℕ) → ℕ → List ℕ
-field_numbered fields number = field_at fields (number - 1)
+field_numbered fields number = text_at fields (number - 1)
 
 -- the field is what it must be
 abbrev pub Fits : FieldForm → List ℕ → Type 0

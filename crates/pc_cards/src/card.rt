@@ -1,6 +1,6 @@
 //! What each kind of card has: how its fields are read and written, and what they must be.
 ghost use Rattle.std.specs.Prelude.{◌≡◌, ◌++◌, ◌∷◌, [], ℕ, List, IfOk, OnOk, IfErr, OnErr};
-ghost use Rattle.pc_records.specs.Deck.{field_at};
+ghost use Rattle.pc_model.specs.Codes.{text_at};
 ghost use Rattle.pc_records.specs.Text.{record_text};
 ghost use Rattle.pc_faults.specs.Kinds.{word_of};
 ghost use Rattle.pc_cards.specs.Forms.{AllFit, Slot};
@@ -71,5 +71,5 @@ pub trait Coded: Card {
     fn code(&self) -> &Code
         ensures { result.now ≡ own_code self.now };
 
-    ghost second_field: { (row : ℕ) (fields : List (List ℕ)) → own_code (Self.spelled row fields) ≡ field_at fields 1 };
+    ghost second_field: { (row : ℕ) (fields : List (List ℕ)) → own_code (Self.spelled row fields) ≡ text_at fields 1 };
 }

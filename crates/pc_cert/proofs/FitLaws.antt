@@ -2,7 +2,7 @@
 use Rattle.std.proofs.Common.{◌≡◌, ℕ, ◌<◌, ◌≤◌, zero, suc, ◌==◌, Bool, true, false, List, [], ◌∷◌, ◌++◌, length, sym, ap, ◌∙◌, subst, arith, length-append}
 use Rattle.std.proofs.lemmas.List.{map-append}
 use Rattle.std.specs.Prelude.{map, if◌then◌else◌}
-use Rattle.pc_model.specs.Codes.{code_at}
+use Rattle.pc_model.specs.Codes.{text_at}
 use Rattle.pc_model.specs.Cost.{IsPriced}
 use Rattle.pc_model.specs.Pieces.{ArePieces}
 use Rattle.pc_laws.specs.Segment.{Segment as Stretch}
@@ -43,7 +43,7 @@ is_version pieces = one_or_two (pieces == 0)
 
 -- an activity has two to six flows
 module _ (net : PricedNetwork) (priced : IsPriced net.network net.terms (knees_in net)) (pieces : ArePieces net.terms net.pieces) where
-  act_fits : (seg : Stretch) (a : ℕ) → a < length net.network.arcs → IsCode (code_at net.activities a) → HasSmallNumbers net seg → IsWritable (act_line net seg a)
+  act_fits : (seg : Stretch) (a : ℕ) → a < length net.network.arcs → IsCode (text_at net.activities a) → HasSmallNumbers net seg → IsWritable (act_line net seg a)
   act_fits seg a lt code small =
       let long = length-listed ((knees_in net).count a) (seg.flow a) in
       let all = length-append (listed ((knees_in net).count a) (seg.flow a)) (seg.beside a ∷ []) in
@@ -56,8 +56,8 @@ module _ (net : PricedNetwork) (priced : IsPriced net.network net.terms (knees_i
         omega (arith, long, all, few),
       )
 
-  pub segment_fits : (seg : Stretch) → ((e : ℕ) → e < net.network.events → IsCode (code_at net.events e)) →
-      ((a : ℕ) → a < length net.network.arcs → IsCode (code_at net.activities a)) → HasSmallNumbers net seg → AreWritable (segment_lines net seg)
+  pub segment_fits : (seg : Stretch) → ((e : ℕ) → e < net.network.events → IsCode (text_at net.events e)) →
+      ((a : ℕ) → a < length net.network.arcs → IsCode (text_at net.activities a)) → HasSmallNumbers net seg → AreWritable (segment_lines net seg)
   segment_fits seg events activities small = (
     (small.upper, small.lower, small.cost, small.slope),
     AllFit-append (listed net.network.events (event_line net seg)) (listed (length net.network.arcs) (act_line net seg) ++ Close ∷ [])

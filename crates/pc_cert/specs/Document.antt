@@ -1,7 +1,7 @@
 -- The lines of a certificate: what its writer says of a network, of two walks along it, and of the segments of its curve.
 use Rattle.std.specs.Prelude.{ℕ, ◌==◌, List, [], ◌∷◌, ◌++◌, length, map, if◌then◌else◌}
 use Rattle.std.specs.List.{flat_map}
-use Rattle.pc_model.specs.Codes.{code_at}
+use Rattle.pc_model.specs.Codes.{text_at}
 use Rattle.pc_laws.specs.Segment.{Segment as Stretch}
 use Rattle.pc_crash.specs.Priced.{PricedNetwork, knees_in}
 use Rattle.pc_cert.specs.declared.line.CertLine.{CertLine}
@@ -20,7 +20,7 @@ first_line net = Head (version_of net) net.project net.network.events (length ne
 
 -- a step for each activity of a walk
 abbrev pub steps : PricedNetwork → List ℕ → List CertLine
-steps net walk = map (λ a. Step (code_at net.activities a)) walk
+steps net walk = map (λ a. Step (text_at net.activities a)) walk
 
 -- the first line, the normal walk and the crash walk
 abbrev pub head_lines : PricedNetwork → List ℕ → List ℕ → List CertLine
@@ -34,7 +34,7 @@ ends_line seg = Segment seg.upper seg.lower seg.cost seg.slope
 
 -- event e, its time at the upper end, and whether it moves
 abbrev pub event_line : PricedNetwork → Stretch → ℕ → CertLine
-event_line net seg e = Event (code_at net.events e) (seg.time e) (seg.moves e)
+event_line net seg e = Event (text_at net.events e) (seg.time e) (seg.moves e)
 
 -- the flow along activity a at each of its knees, and the one beside them
 abbrev pub flows_along : PricedNetwork → Stretch → ℕ → List ℕ
@@ -42,7 +42,7 @@ flows_along net seg a = listed ((knees_in net).count a) (seg.flow a) ++ seg.besi
 
 -- activity a, its duration at the upper end, and its flows
 abbrev pub act_line : PricedNetwork → Stretch → ℕ → CertLine
-act_line net seg a = Act (code_at net.activities a) (seg.duration a) (flows_along net seg a)
+act_line net seg a = Act (text_at net.activities a) (seg.duration a) (flows_along net seg a)
 
 -- its ends, all events and all activities in card order, and its last line
 abbrev pub segment_lines : PricedNetwork → Stretch → List CertLine

@@ -2,7 +2,7 @@
 ghost use Rattle.std.specs.Prelude.{◌≡◌, ℕ, ◌<◌, [], ◌∷◌, length};
 ghost use Rattle.pc_edges.specs.inside.page.Puts.{Puts};
 ghost use Rattle.pc_text.specs.Fields.{IsCode, spaced};
-ghost use Rattle.pc_model.specs.Codes.{code_at};
+ghost use Rattle.pc_model.specs.Codes.{text_at};
 ghost use Rattle.pc_cert.specs.Lines.{numbers};
 ghost use Rattle.pc_cert.specs.Text.{text_of, AreWritable};
 ghost use Rattle.pc_cert.specs.Listed.{listed};
@@ -57,7 +57,7 @@ fn put_events<O: Sink, V: SegmentView>(page: &mut Page, sink: &mut O, net: &Cras
     requires net { V.net view.now ≡ net.now }
     ensures text { Puts O.taken O.faults page.old sink.old page.new sink.new
         (text_of (listed net.now.network.events (event_line net.now (V.segment view.now)))) }
-    ensures codes { (e : ℕ) → e < net.now.network.events → IsCode (code_at net.now.events e) }
+    ensures codes { (e : ℕ) → e < net.now.network.events → IsCode (text_at net.now.events e) }
 {
     for e in 0..net.net().events() {
         put_event(page, sink, net, view, e);
@@ -76,7 +76,7 @@ fn put_event<O: Sink, V: SegmentView>(
     requires event { e < net.now.network.events }
     ensures text { Puts O.taken O.faults page.old sink.old page.new sink.new
         (text_of (event_line net.now (V.segment view.now) e ∷ [])) }
-    ensures code { IsCode (code_at net.now.events e) }
+    ensures code { IsCode (text_at net.now.events e) }
 {
     page.put(sink, b"EVENT");
     put_code(page, sink, &net.event_code(e));
@@ -100,7 +100,7 @@ fn put_acts<O: Sink, V: SegmentView>(page: &mut Page, sink: &mut O, net: &CrashN
     requires net { V.net view.now ≡ net.now }
     ensures text { Puts O.taken O.faults page.old sink.old page.new sink.new
         (text_of (listed (length net.now.network.arcs) (act_line net.now (V.segment view.now)))) }
-    ensures codes { (a : ℕ) → a < length net.now.network.arcs → IsCode (code_at net.now.activities a) }
+    ensures codes { (a : ℕ) → a < length net.now.network.arcs → IsCode (text_at net.now.activities a) }
 {
     for a in 0..net.net().activities() {
         put_act(page, sink, net, view, a);
@@ -119,7 +119,7 @@ fn put_act<O: Sink, V: SegmentView>(
     requires activity { a < length net.now.network.arcs }
     ensures text { Puts O.taken O.faults page.old sink.old page.new sink.new
         (text_of (act_line net.now (V.segment view.now) a ∷ [])) }
-    ensures code { IsCode (code_at net.now.activities a) }
+    ensures code { IsCode (text_at net.now.activities a) }
 {
     page.put(sink, b"ACT");
     put_code(page, sink, &net.activity_code(a));

@@ -3,7 +3,7 @@ use Rattle.std.proofs.Common.{◌≡◌, ◌≢◌, ℕ, ◌+◌, ◌<◌, ◌�
 use Rattle.std.proofs.lemmas.Bool.{eqb-true, eq-eqb, lt-ltb, ltb-true, le-leb, cases_eq}
 use Rattle.std.proofs.lemmas.Slice.Eq.{bytes_eq-Decides}
 use Rattle.std.specs.Prelude.{◌==◌, nat_lt, nat_le, bytes_eq, slice_index}
-use Rattle.pc_model.specs.Codes.{code_at}
+use Rattle.pc_model.specs.Codes.{text_at}
 use Rattle.pc_model.specs.Network.{Network}
 use Rattle.pc_model.specs.Schedule.{normal_of, crash_of, lesser_of}
 use Rattle.pc_laws.specs.Tight.{IsSlackAtKnee, IsSlack}
@@ -52,15 +52,15 @@ each_below-all (suc n) test all = both (each_below-all n test (λ k lt. all k (o
 pub same_code : (code : List ℕ) → bytes_eq code code ≡ true
 same_code code = (bytes_eq-Decides code code).1 refl
 
-code_is : (count i : ℕ) (codes : List (List ℕ)) → i < count → is_code_at count codes i (code_at codes i) ≡ true
-code_is count i codes lt = both (lt-ltb i count lt) (same_code (code_at codes i))
+code_is : (count i : ℕ) (codes : List (List ℕ)) → i < count → is_code_at count codes i (text_at codes i) ≡ true
+code_is count i codes lt = both (lt-ltb i count lt) (same_code (text_at codes i))
 
 -- an event whose row is right
 pub event_holds : (net : PricedNetwork) (known : Known) (time : ℕ) (moves : Bool) → known.events < net.network.events → known.lower ≤ known.upper
-    → IsRightEvent net.network known.upper known.lower known.events (record { code = code_at net.events known.events; time = time; moves = moves })
-    → first_failing (conditions net known (Event (code_at net.events known.events) time moves)) ≡ None
+    → IsRightEvent net.network known.upper known.lower known.events (record { code = text_at net.events known.events; time = time; moves = moves })
+    → first_failing (conditions net known (Event (text_at net.events known.events) time moves)) ≡ None
 event_holds net known time moves lt ordered h =
-    let code = code_at net.events known.events in
+    let code = text_at net.events known.events in
     let start : is_right_start net.network known.events time moves ≡ true = when (known.events == net.network.start) (time == 0 && not moves) (λ is.
     let at = eqb-true known.events net.network.start is in both (eq-eqb time 0 (h.start_time at)) (not_false moves (h.start_rests at))) in
     let end : is_right_end net.network known time moves ≡ true = when (known.events == net.network.end) (time == known.upper && (moves || is_one_length known)) (λ is.
@@ -88,13 +88,13 @@ slack_holds net head tail a flows h = both
 
 -- an activity whose row is right
 pub act_holds : (net : PricedNetwork) (known : Known) (duration : ℕ) (flows : List ℕ) → known.acts < length net.network.arcs → length flows ≡ (knees_in net).count known.acts + 1
-    → IsRightAct net (known.parts == 0) (frame known) known.acts (record { code = code_at net.activities known.acts; duration = duration; flows = flows })
-    → first_failing (conditions net known (Act (code_at net.activities known.acts) duration flows)) ≡ None
+    → IsRightAct net (known.parts == 0) (frame known) known.acts (record { code = text_at net.activities known.acts; duration = duration; flows = flows })
+    → first_failing (conditions net known (Act (text_at net.activities known.acts) duration flows)) ≡ None
 act_holds net known duration flows lt long h =
     let a = known.acts in
     let seg = frame known in
     let arcs = net.network.arcs in
-    let code = code_at net.activities a in
+    let code = text_at net.activities a in
     holds_on (has_act_code net a code flows) _ 4 (both (code_is (length arcs) a net.activities lt) (eq-eqb (length flows) ((knees_in net).count a + 1) long))
     (holds_on (has_room net seg 0 a && has_room net seg (span seg) a) _ 6 (both
     (le-leb (tail_at arcs seg 0 a + crash_of net.terms a) (head_at arcs seg 0 a) h.room_upper)

@@ -4,7 +4,7 @@ use Rattle.std.proofs.lemmas.Bool.{eq-eqb, eqb-true, lt-ltb, cond-true}
 use Rattle.std.proofs.lemmas.List.{nil_from_length}
 use Rattle.std.specs.List.{flat_map}
 use Rattle.std.specs.Prelude.{◌==◌, nat_lt, if◌then◌else◌}
-use Rattle.pc_model.specs.Codes.{code_at}
+use Rattle.pc_model.specs.Codes.{text_at}
 use Rattle.pc_model.specs.Pieces.{pieces_of}
 use Rattle.pc_laws.specs.Segment.{Segment as Stretch}
 use Rattle.pc_cert.specs.declared.line.CertLine.{CertLine}
@@ -37,13 +37,13 @@ shape_of net = record { version = version_of net; events = net.network.events; a
 normal_steps : (net : PricedNetwork) (shape : Shape) (walk : List ℕ) (n rest : ℕ) → n ≡ length walk + rest → ran (NormalWalk shape n) (steps net walk) ≡ Some (NormalWalk shape rest)
 normal_steps net shape [] n rest all = let same : n ≡ rest = omega arith in ap (λ m. Some (NormalWalk shape m)) same
 normal_steps net shape (a ∷ walk) n rest all =
-    ran-cons (NormalWalk shape n) (Step (code_at net.activities a)) (steps net walk) (cond-true (nat_lt 0 n) (Some (NormalWalk shape (n - 1))) None (lt-ltb 0 n (omega arith)))
+    ran-cons (NormalWalk shape n) (Step (text_at net.activities a)) (steps net walk) (cond-true (nat_lt 0 n) (Some (NormalWalk shape (n - 1))) None (lt-ltb 0 n (omega arith)))
     (normal_steps net shape walk (n - 1) rest (omega arith))
 
 crash_steps : (net : PricedNetwork) (shape : Shape) (walk : List ℕ) (n rest : ℕ) → n ≡ length walk + rest → ran (CrashWalk shape n) (steps net walk) ≡ Some (CrashWalk shape rest)
 crash_steps net shape [] n rest all = let same : n ≡ rest = omega arith in ap (λ m. Some (CrashWalk shape m)) same
 crash_steps net shape (a ∷ walk) n rest all =
-    ran-cons (CrashWalk shape n) (Step (code_at net.activities a)) (steps net walk) (cond-true (nat_lt 0 n) (Some (CrashWalk shape (n - 1))) None (lt-ltb 0 n (omega arith)))
+    ran-cons (CrashWalk shape n) (Step (text_at net.activities a)) (steps net walk) (cond-true (nat_lt 0 n) (Some (CrashWalk shape (n - 1))) None (lt-ltb 0 n (omega arith)))
     (crash_steps net shape walk (n - 1) rest (omega arith))
 
 head_order : (net : PricedNetwork) (normal crash : List ℕ) → length normal ≤ net.network.events → length crash ≤ net.network.events

@@ -13,15 +13,15 @@ use Rattle.pc_cert.specs.Listed.{listed}
 use Rattle.pc_cert.specs.Document.{flows_along}
 use Rattle.pc_cert.proofs.ListedLaws.{length-listed, listed-at, listed-last, listed-before}
 use Rattle.pc_certify.proofs.SameLaws.{MoveSame, head_same, tail_same, low_head_same, low_tail_same, lesser_same}
-use Rattle.pc_model.specs.Codes.{code_at}
+use Rattle.pc_model.specs.Codes.{text_at}
 
 -- what the line of event e says
 abbrev pub event_row : PricedNetwork → Segment → ℕ → EventRow
-event_row net seg e = record { code = code_at net.events e; time = seg.time e; moves = seg.moves e }
+event_row net seg e = record { code = text_at net.events e; time = seg.time e; moves = seg.moves e }
 
 -- what the line of activity a says
 abbrev pub act_row : PricedNetwork → Segment → ℕ → ActRow
-act_row net seg a = record { code = code_at net.activities a; duration = seg.duration a; flows = flows_along net seg a }
+act_row net seg a = record { code = text_at net.activities a; duration = seg.duration a; flows = flows_along net seg a }
 
 -- what all of them say
 abbrev pub part_of : PricedNetwork → Segment → Part

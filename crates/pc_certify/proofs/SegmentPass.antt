@@ -1,7 +1,7 @@
 -- None of the lines that are written of a whole segment fails.
 use Rattle.std.proofs.Common.{◌≡◌, ℕ, ◌<◌, ◌≤◌, zero, suc, true, List, [], ◌∷◌, ◌++◌, length, None, refl, sym, ap, subst, arith}
 use Rattle.std.specs.Prelude.{◌==◌}
-use Rattle.pc_model.specs.Codes.{code_at}
+use Rattle.pc_model.specs.Codes.{text_at}
 use Rattle.pc_model.specs.Cost.{IsPriced}
 use Rattle.pc_model.specs.Schedule.{normal_of}
 use Rattle.pc_laws.specs.Segment.{Segment, IsSegment}
@@ -41,7 +41,7 @@ module _ (net : PricedNetwork) (priced : IsPriced net.network net.terms (knees_i
       let known = said net (in_body normal crash parts (events_part net seg j)) in
       let at : j ≡ known.events = sym (length-listed j (event_row net seg)) in
       let come : known.events < net.network.events = omega arith in
-      subst (λ e. first_failing (conditions net known (Event (code_at net.events e) (seg.time e) (seg.moves e))) ≡ None) (sym at)
+      subst (λ e. first_failing (conditions net known (Event (text_at net.events e) (seg.time e) (seg.moves e))) ≡ None) (sym at)
       (event_holds net known (seg.time known.events) (seg.moves known.events) come whole.right.proper.ordered (right_event net seg whole.right known.events come))
 
   pub events_pass : (j : ℕ) → j ≤ net.network.events →
@@ -65,7 +65,7 @@ module _ (net : PricedNetwork) (priced : IsPriced net.network net.terms (knees_i
           time = λ e l. ap (λ row. row.time) (event_is net seg e l);
           moves = λ e l. ap (λ row. row.moves) (event_is net seg e l);
         } in
-        subst (λ a. first_failing (conditions net known (Act (code_at net.activities a) (seg.duration a) (flows_along net seg a))) ≡ None) (sym at)
+        subst (λ a. first_failing (conditions net known (Act (text_at net.activities a) (seg.duration a) (flows_along net seg a))) ≡ None) (sym at)
         (act_holds net known (seg.duration known.acts) (flows_along net seg known.acts) come (flows_long net seg known.acts)
         (right_act net seg whole.right known.acts come priced.range (known.parts == 0) (frame known) same (λ is. first is known.acts come)))
 

@@ -3,7 +3,7 @@ use Rattle.std.proofs.Common.{◌≡◌, ℕ, ◌+◌, ◌<◌, ◌≤◌, Bool,
 use Rattle.std.specs.Prelude.{codes}
 use Rattle.std.proofs.lemmas.Bool.{cases_eq}
 use Rattle.std.proofs.lemmas.List.{get_or_append_left, get_or_push, get_or-set_same, get_or-set_other, length-append, length-set}
-use Rattle.pc_model.specs.Codes.{code_at}
+use Rattle.pc_model.specs.Codes.{text_at}
 use Rattle.pc_crash.specs.Priced.{PricedNetwork}
 use Rattle.pc_cert.specs.declared.line.CertLine.TheVariants.{Event}
 use Rattle.pc_text.specs.Fields.{spaced}
@@ -29,10 +29,10 @@ each_with P rows row d n a long each new known i below =
     (λ other. subst (P i) (sym (get_or-set_other rows a i row d other)) (each i below)) (cases_eq i a)
 
 pub event_said : (net : PricedNetwork) (rows : List EventRow) (e : ℕ) (row : EventRow) → AreEventsSpelled net rows →
-    e < net.network.events → SpellsEvent (code_at net.events e) row → AreEventsSpelled net (set rows e row)
+    e < net.network.events → SpellsEvent (text_at net.events e) row → AreEventsSpelled net (set rows e row)
 event_said net rows e row are known spells = record {
   one_each = length-set rows e row ∙ are.one_each;
-  each = each_with (λ i r. SpellsEvent (code_at net.events i) r) rows row _ net.network.events e are.one_each are.each spells known;
+  each = each_with (λ i r. SpellsEvent (text_at net.events i) r) rows row _ net.network.events e are.one_each are.each spells known;
 }
 
 pub act_said : (net : PricedNetwork) (rows : List ActRow) (a : ℕ) (row : ActRow) → AreActsSpelled net rows → a < length net.network.arcs → SpellsAct net a row → AreActsSpelled net (set rows a row)

@@ -2,7 +2,7 @@
 use Rattle.std.proofs.Common.{◌≡◌, ℕ, ◌+◌, ◌<◌, Bool, true, false, ◌&&◌, List, [], ◌∷◌, ◌++◌, length, Some, None, refl, sym, ap, subst, ◌∙◌, arith, append_assoc, append-nil}
 use Rattle.std.proofs.lemmas.Bool.{eq-eqb, cond-true}
 use Rattle.std.specs.Prelude.{map, slice_index, ◌==◌}
-use Rattle.pc_model.specs.Codes.{code_at}
+use Rattle.pc_model.specs.Codes.{text_at}
 use Rattle.pc_model.specs.Walk.{from_of, to_of, IsWalk, walk_sum}
 use Rattle.pc_text.specs.Fields.{◌>>=◌}
 use Rattle.pc_cert.specs.declared.line.CertLine.TheVariants.{Step}
@@ -19,16 +19,16 @@ use Rattle.pc_certify.proofs.PassLaws.{Pass, Pass-nil, Pass-cons, Pass-as}
 
 -- the codes of a walk's activities
 abbrev pub codes_of : PricedNetwork → List ℕ → List (List ℕ)
-codes_of net walk = map (λ a. code_at net.activities a) walk
+codes_of net walk = map (λ a. text_at net.activities a) walk
 
 module _ (net : PricedNetwork) (names : AreNames (length net.network.arcs) net.activities) where
   -- an activity is found by its code
-  named : (a : ℕ) → a < length net.network.arcs → place_of (code_at net.activities a) 0 net.activities ≡ Some a
-  named a lt = sym (named_is_place (Some a) (length net.network.arcs) (code_at net.activities a) net.activities names.one_each names.once lt refl tt)
+  named : (a : ℕ) → a < length net.network.arcs → place_of (text_at net.activities a) 0 net.activities ≡ Some a
+  named a lt = sym (named_is_place (Some a) (length net.network.arcs) (text_at net.activities a) net.activities names.one_each names.once lt refl tt)
 
   -- a step along an activity that begins where the walk is
   one_step : (lengths : ℕ → ℕ) (at : Reached) (a : ℕ) → a < length net.network.arcs → from_of net.network.arcs a ≡ at.event
-      → stepped net lengths (Some at) (code_at net.activities a) ≡ Some (record { event = to_of net.network.arcs a; sum = at.sum + lengths a })
+      → stepped net lengths (Some at) (text_at net.activities a) ≡ Some (record { event = to_of net.network.arcs a; sum = at.sum + lengths a })
   one_step lengths at a lt begins =
       ap (λ found. found >>= (λ b. further net.network lengths at b)) (named a lt)
       ∙ cond-true (from_of net.network.arcs a == at.event) (Some (record { event = to_of net.network.arcs a; sum = at.sum + lengths a })) None (eq-eqb (from_of net.network.arcs a) at.event begins)
@@ -68,13 +68,13 @@ in_crash normal crash = record { normal = normal; crash = crash; crash_walk_star
 pub normal_steps : (net : PricedNetwork) (before : List (List ℕ)) (walk : List ℕ) → Pass net (in_normal before) (steps net walk) (in_normal (before ++ codes_of net walk))
 normal_steps net before [] = Pass-as (in_normal (before ++ [])) (ap in_normal (sym (append-nil before))) (Pass-nil net (in_normal before))
 normal_steps net before (a ∷ walk) =
-    Pass-cons (Step (code_at net.activities a)) (steps net walk) refl
-    (Pass-as (in_normal (before ++ codes_of net (a ∷ walk))) (ap in_normal (append_assoc before (code_at net.activities a ∷ []) (codes_of net walk)))
-    (normal_steps net (before ++ code_at net.activities a ∷ []) walk))
+    Pass-cons (Step (text_at net.activities a)) (steps net walk) refl
+    (Pass-as (in_normal (before ++ codes_of net (a ∷ walk))) (ap in_normal (append_assoc before (text_at net.activities a ∷ []) (codes_of net walk)))
+    (normal_steps net (before ++ text_at net.activities a ∷ []) walk))
 
 pub crash_steps : (net : PricedNetwork) (normal before : List (List ℕ)) (walk : List ℕ) → Pass net (in_crash normal before) (steps net walk) (in_crash normal (before ++ codes_of net walk))
 crash_steps net normal before [] = Pass-as (in_crash normal (before ++ [])) (ap (in_crash normal) (sym (append-nil before))) (Pass-nil net (in_crash normal before))
 crash_steps net normal before (a ∷ walk) =
-    Pass-cons (Step (code_at net.activities a)) (steps net walk) refl
-    (Pass-as (in_crash normal (before ++ codes_of net (a ∷ walk))) (ap (in_crash normal) (append_assoc before (code_at net.activities a ∷ []) (codes_of net walk)))
-    (crash_steps net normal (before ++ code_at net.activities a ∷ []) walk))
+    Pass-cons (Step (text_at net.activities a)) (steps net walk) refl
+    (Pass-as (in_crash normal (before ++ codes_of net (a ∷ walk))) (ap (in_crash normal) (append_assoc before (text_at net.activities a ∷ []) (codes_of net walk)))
+    (crash_steps net normal (before ++ text_at net.activities a ∷ []) walk))

@@ -3,7 +3,7 @@ ghost use Rattle.std.specs.Prelude.{◌≡◌, ℕ, ◌<◌, [], ◌∷◌, leng
 ghost use Rattle.pc_edges.specs.inside.page.Puts.{Puts, desk};
 ghost use Rattle.pc_text.specs.Fields.{IsCode};
 ghost use Rattle.pc_cert.specs.Text.{text_of, AreWritable};
-ghost use Rattle.pc_model.specs.Codes.{code_at};
+ghost use Rattle.pc_model.specs.Codes.{text_at};
 ghost use Rattle.pc_cert.specs.Listed.{listed};
 ghost use Rattle.pc_cert.specs.Document.{event_line, act_line, flows_along, segment_lines};
 ghost use Rattle.pc_cert.specs.inside.Document.{HasSmallNumbers};
@@ -67,7 +67,7 @@ fn put_events<O: Sink, V: SegmentView>(
     ensures text { Gathers (desk O.taken O.faults page.old sink.old) gathered.old
         (desk O.taken O.faults page.new sink.new) gathered.new
         (text_of (listed net.now.network.events (event_line net.now (V.segment view.now)))) }
-    ensures codes { (e : ℕ) → e < net.now.network.events → IsCode (code_at net.now.events e) }
+    ensures codes { (e : ℕ) → e < net.now.network.events → IsCode (text_at net.now.events e) }
     ensures rows { AreEventsSpelled net.now rows.new.items }
 {
     for e in 0..net.net().events() {
@@ -91,7 +91,7 @@ fn put_event<O: Sink, V: SegmentView>(
     ensures text { Gathers (desk O.taken O.faults page.old sink.old) gathered.old
         (desk O.taken O.faults page.new sink.new) gathered.new
         (text_of (event_line net.now (V.segment view.now) e ∷ [])) }
-    ensures code { IsCode (code_at net.now.events e) }
+    ensures code { IsCode (text_at net.now.events e) }
     ensures rows { AreEventsSpelled net.now rows.new.items }
 {
     let row = &mut rows[e as usize];
@@ -113,7 +113,7 @@ fn put_acts<O: Sink, V: SegmentView>(
     ensures text { Gathers (desk O.taken O.faults page.old sink.old) gathered.old
         (desk O.taken O.faults page.new sink.new) gathered.new
         (text_of (listed (length net.now.network.arcs) (act_line net.now (V.segment view.now)))) }
-    ensures codes { (a : ℕ) → a < length net.now.network.arcs → IsCode (code_at net.now.activities a) }
+    ensures codes { (a : ℕ) → a < length net.now.network.arcs → IsCode (text_at net.now.activities a) }
     ensures rows { AreActsSpelled net.now rows.new.items }
 {
     for a in 0..net.net().activities() {
@@ -137,7 +137,7 @@ fn put_act<O: Sink, V: SegmentView>(
     ensures text { Gathers (desk O.taken O.faults page.old sink.old) gathered.old
         (desk O.taken O.faults page.new sink.new) gathered.new
         (text_of (act_line net.now (V.segment view.now) a ∷ [])) }
-    ensures code { IsCode (code_at net.now.activities a) }
+    ensures code { IsCode (text_at net.now.activities a) }
     ensures rows { AreActsSpelled net.now rows.new.items }
 {
     let row = &mut rows[a as usize];

@@ -3,7 +3,7 @@ use Rattle.std.proofs.Common.{◌≡◌, ℕ, ◌+◌, ◌<◌, List, [], ◌∷
 use Rattle.std.proofs.Math.ListN.{get_or-append}
 use Rattle.std.proofs.Math.Seq.{get_or-append_seam}
 use Rattle.std.proofs.lemmas.Bool.{cases_eq}
-use Rattle.pc_model.specs.Codes.{code_at}
+use Rattle.pc_model.specs.Codes.{text_at}
 use Rattle.pc_crash.specs.Priced.{PricedNetwork}
 use Rattle.pc_cert.specs.declared.event_front.EventFront.{EventFront}
 use Rattle.pc_cert.specs.inside.Known.{IsFrontOf, IsEventFront}
@@ -12,17 +12,17 @@ use Rattle.pc_check.specs.inside.Fronts.{front_at}
 -- those of the first so many events
 pub record AreFirst (net : PricedNetwork) (fronts : List EventFront) (count : ℕ) : Type 0 where
   pub long : length fronts ≡ count
-  pub each : (e : ℕ) → e < count → IsFrontOf (code_at net.events e) (front_at fronts e)
+  pub each : (e : ℕ) → e < count → IsFrontOf (text_at net.events e) (front_at fronts e)
 
 pub first_more : {net : PricedNetwork} {fronts : List EventFront} {count : ℕ} (front : EventFront) → AreFirst net fronts count →
-    IsFrontOf (code_at net.events count) front → AreFirst net (fronts ++ front ∷ []) (count + 1)
+    IsFrontOf (text_at net.events count) front → AreFirst net (fronts ++ front ∷ []) (count + 1)
 first_more {net} {fronts} {count} front are is = record {
   long = omega (arith, length-append fronts (front ∷ []), are.long);
   each = λ e below. ⊎_elim
-      (λ here. subst (λ n. IsFrontOf (code_at net.events n) (front_at (fronts ++ front ∷ []) n)) (are.long ∙ sym here)
-      (subst (IsFrontOf (code_at net.events (length fronts))) (sym (get_or-append_seam fronts front [] (record { code = []; cells = [] })))
-      (subst (λ n. IsFrontOf (code_at net.events n) front) (sym are.long) is)))
-      (λ other. subst (IsFrontOf (code_at net.events e))
+      (λ here. subst (λ n. IsFrontOf (text_at net.events n) (front_at (fronts ++ front ∷ []) n)) (are.long ∙ sym here)
+      (subst (IsFrontOf (text_at net.events (length fronts))) (sym (get_or-append_seam fronts front [] (record { code = []; cells = [] })))
+      (subst (λ n. IsFrontOf (text_at net.events n) front) (sym are.long) is)))
+      (λ other. subst (IsFrontOf (text_at net.events e))
       (sym (get_or-append fronts (front ∷ []) (record { code = []; cells = [] }) e (omega (arith, below, other, are.long))))
       (are.each e (omega (arith, below, other))))
       (cases_eq e count);

@@ -1,6 +1,6 @@
 -- The fifteen conditions, as a table: at each line the conditions that are reported there, in the order of their numbers.
 use Rattle.std.specs.Prelude.{ℕ, ◌+◌, ◌==◌, Bool, not, ◌&&◌, ◌||◌, nat_lt, nat_le, bytes_eq, List, [], ◌∷◌, length, slice_index, if◌then◌else◌}
-use Rattle.pc_model.specs.Codes.{code_at}
+use Rattle.pc_model.specs.Codes.{text_at}
 use Rattle.pc_model.specs.Network.{Network}
 use Rattle.pc_model.specs.Schedule.{normal_of, crash_of, lesser_of}
 use Rattle.pc_crash.specs.Priced.{PricedNetwork, knees_in}
@@ -49,7 +49,7 @@ has_joined_ends known upper lower slope =
 
 -- whether the code is the i-th of so many
 abbrev pub is_code_at : ℕ → List (List ℕ) → ℕ → List ℕ → Bool
-is_code_at count codes i code = nat_lt i count && bytes_eq code (code_at codes i)
+is_code_at count codes i code = nat_lt i count && bytes_eq code (text_at codes i)
 
 -- 5: the start has time 0 and rests
 abbrev pub is_right_start : Network → ℕ → ℕ → Bool → Bool

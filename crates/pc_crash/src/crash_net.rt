@@ -1,6 +1,6 @@
 //! A network whose activities can be shortened at a price.
 ghost use Rattle.std.specs.Prelude.{◌≡◌, ◌≢◌, ℕ, ◌+◌, ◌<◌, length, IsTrue, ◌↔◌, IfOk, IfSome, IfNone};
-ghost use Rattle.pc_model.specs.Codes.{code_at};
+ghost use Rattle.pc_model.specs.Codes.{text_at};
 ghost use Rattle.pc_model.specs.Cost.{IsPriced};
 ghost use Rattle.pc_model.specs.Pieces.{ArePieces};
 ghost use Rattle.pc_model.specs.Schedule.{AreTerms, term_at};
@@ -137,7 +137,7 @@ impl<'n> CrashNet<'n> {
     /// Returns the code of an event.
     pub fn event_code(&self, e: u32) -> Code
         requires { e < self.now.network.events }
-        ensures { result ≡ code_at self.now.events e }
+        ensures { result ≡ text_at self.now.events e }
     {
         self.events[e as usize]
     }
@@ -145,7 +145,7 @@ impl<'n> CrashNet<'n> {
     /// Returns the code of an activity.
     pub fn activity_code(&self, a: u32) -> Code
         requires { a < length self.now.network.arcs }
-        ensures { result ≡ code_at self.now.activities a }
+        ensures { result ≡ text_at self.now.activities a }
     {
         self.activities.as_slice()[a as usize]
     }
@@ -153,9 +153,9 @@ impl<'n> CrashNet<'n> {
     /// Returns the activity with this code, or `None` if no activity has it. One look-up.
     pub fn activity_named(&self, code: &Code) -> Option<u32>
         ensures known { IfSome result (λ a. a < length self.now.network.arcs) }
-        ensures named { IfSome result (λ a. code_at self.now.activities a ≡ code.now) }
+        ensures named { IfSome result (λ a. text_at self.now.activities a ≡ code.now) }
         ensures unknown { IfNone result ((a : ℕ) → a < length self.now.network.arcs →
-            code_at self.now.activities a ≢ code.now) }
+            text_at self.now.activities a ≢ code.now) }
     {
         let a = self.activities.place_of(code)?;
         Some(a as u32)

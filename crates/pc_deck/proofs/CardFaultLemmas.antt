@@ -4,7 +4,7 @@ use Rattle.std.proofs.lemmas.Bool.Decides.{nat_tests}
 use Rattle.std.proofs.lemmas.Bool.{and_parts, and_from}
 use Rattle.std.specs.Option.{option_or}
 use Rattle.std.specs.Bool.{then_some}
-use Rattle.pc_records.specs.Deck.{field_at}
+use Rattle.pc_model.specs.Codes.{text_at}
 use Rattle.pc_faults.specs.Faults as faults
 use Rattle.pc_faults.specs.declared.kind.Kind.{Kind}
 use Rattle.pc_faults.specs.declared.kind.Kind.TheVariants.{Project}
@@ -115,7 +115,7 @@ module _ (seen : Seen) (row : ℕ) (fields : List (List ℕ)) (kind : Kind) wher
 
   -- F9
   abbrev again : Option Fault
-  again = repeated row (seen.codes kind) (field_at fields 1)
+  again = repeated row (seen.codes kind) (text_at fields 1)
 
   -- F10
   abbrev full : Option Fault
@@ -141,7 +141,7 @@ module _ (seen : Seen) (row : ℕ) (fields : List (List ℕ)) (kind : Kind) wher
   bounded_8 n few = bounded_both _ _ row n (bounded_7 n (omega (arith, few))) (bounded_limit row n (first_over_limit (slots_of seen.sort kind) fields) few)
 
   bounded_9 : (n : ℕ) → 9 ≤ n → Bounded again row n
-  bounded_9 n few = bounded_test _ (faults.repeated_code row (field_at fields 1)) row n refl few
+  bounded_9 n few = bounded_test _ (faults.repeated_code row (text_at fields 1)) row n refl few
 
   bounded_10 : (n : ℕ) (limit : Option ℕ) → 10 ≤ n → Bounded (one_too_many kind row (seen.count kind) limit) row n
   bounded_10 n None few = tt
@@ -176,14 +176,14 @@ from_kind kind None row n h = absurd h
 from_kind kind (Some fault) row n h = h
 
 -- the same of the judgement of a card of a known kind
-judged_as : (seen : Seen) (row : ℕ) (fields : List (List ℕ)) (kind : Kind) (n : ℕ) → kind_of seen.sort (field_at fields 0) ≡ Some kind →
+judged_as : (seen : Seen) (row : ℕ) (fields : List (List ℕ)) (kind : Kind) (n : ℕ) → kind_of seen.sort (text_at fields 0) ≡ Some kind →
     Caught (fault_of_kind seen kind row fields) row n → IsCaught (judge seen row fields) row n
 judged_as seen row fields kind n is h =
     subst (λ (o : Option Kind). IsCaught (judge_of seen row fields o) row n) (sym is) (from_kind kind (fault_of_kind seen kind row fields) row n h)
 
 -- a card of no kind
 judged_unknown : (seen : Seen) (row : ℕ) (fields : List (List ℕ)) (n : ℕ) → (no_kind seen.is_first row).row ≡ row →
-    (no_kind seen.is_first row).number ≤ n → kind_of seen.sort (field_at fields 0) ≡ None → IsCaught (judge seen row fields) row n
+    (no_kind seen.is_first row).number ≤ n → kind_of seen.sort (text_at fields 0) ≡ None → IsCaught (judge seen row fields) row n
 judged_unknown seen row fields n same few is =
     subst (λ (o : Option Kind). IsCaught (judge_of seen row fields o) row n) (sym is) (same, few)
 
@@ -200,10 +200,10 @@ up_to_3 true row is = omega arith
 up_to_3 false row is = absurd (let is' = is in cc)
 
 -- the first card, of no kind or of another one
-judged_first : (seen : Seen) (row : ℕ) (fields : List (List ℕ)) → seen.is_first ≡ true → kind_of seen.sort (field_at fields 0) ≢ Some Project → IsCaught (judge seen row fields) row 3
-judged_first seen row fields first other = by_kind (kind_of seen.sort (field_at fields 0)) refl
+judged_first : (seen : Seen) (row : ℕ) (fields : List (List ℕ)) → seen.is_first ≡ true → kind_of seen.sort (text_at fields 0) ≢ Some Project → IsCaught (judge seen row fields) row 3
+judged_first seen row fields first other = by_kind (kind_of seen.sort (text_at fields 0)) refl
   where
-    by_kind : (found : Option Kind) → kind_of seen.sort (field_at fields 0) ≡ found → IsCaught (judge seen row fields) row 3
+    by_kind : (found : Option Kind) → kind_of seen.sort (text_at fields 0) ≡ found → IsCaught (judge seen row fields) row 3
     by_kind None is = judged_unknown seen row fields 3 (row_of-no_kind seen.is_first row) (up_to_3 seen.is_first row first) is
     by_kind (Some kind) is =
         let not_it = other_kind kind (λ same. other (is ∙ ap Some same)) in
@@ -262,7 +262,7 @@ judged_row seen card found (has.repeated_code kind named whole shapes among is) 
       (judged_as seen card.0 card.1 kind 9 named
       (at_code seen card.0 card.1 kind 9 (omega arith)
       (earlier (again seen card.0 card.1 kind) _ card.0 9
-      (caught_test _ (faults.repeated_code card.0 (field_at card.1 1)) card.0 9 among refl (omega arith))))),
+      (caught_test _ (faults.repeated_code card.0 (text_at card.1 1)) card.0 9 among refl (omega arith))))),
 )
 judged_row seen card found (has.one_too_many kind limit named few full is) = (
   ap (λ (f : Fault). f.row) is,
@@ -339,7 +339,7 @@ not_not true h = refl
 not_not false h = sym h
 
 -- what is found of a card of a known kind is a fault of it
-module _ (seen : Seen) (row : ℕ) (fields : List (List ℕ)) (kind : Kind) (named : kind_of seen.sort (field_at fields 0) ≡ Some kind) where
+module _ (seen : Seen) (row : ℕ) (fields : List (List ℕ)) (kind : Kind) (named : kind_of seen.sort (text_at fields 0) ≡ Some kind) where
   in_flaws : (found : Fault) → is_whole_as kind fields ≡ true → flaws seen row fields kind ≡ Some found → HasCardFault seen (row, fields) found
   in_flaws found whole h =
       elim (found_in (misshapen_at row (first_misshapen (slots_of seen.sort kind) fields)) _ found h) [
@@ -366,7 +366,7 @@ module _ (seen : Seen) (row : ℕ) (fields : List (List ℕ)) (kind : Kind) (nam
             let shapes = neither (misshapen_at row (first_misshapen (slots_of seen.sort kind) fields)) _ on.0 in
             elim (found_in (again seen row fields kind) _ found on.1) [
               | inl here ↦
-                  let test = tested (is_among (field_at fields 1) (seen.codes kind)) _ found here in
+                  let test = tested (is_among (text_at fields 1) (seen.codes kind)) _ found here in
                   has.repeated_code kind named whole (no_shape row (first_misshapen (slots_of seen.sort kind) fields) shapes.0) test.0 test.1
               | inr last ↦ in_place found last.1
             ]
@@ -400,12 +400,12 @@ Err-injective x y h = cc
 
 -- a fault that is found of a card is one that it has
 pub found_of-card : (seen : Seen) (row : ℕ) (fields : List (List ℕ)) (found : Fault) → judge seen row fields ≡ Err found → HasCardFault seen (row, fields) found
-found_of-card seen row fields found h = by_kind (kind_of seen.sort (field_at fields 0)) refl h
+found_of-card seen row fields found h = by_kind (kind_of seen.sort (text_at fields 0)) refl h
   where
-    unknown : (first : Bool) → seen.is_first ≡ first → kind_of seen.sort (field_at fields 0) ≡ None → found ≡ no_kind seen.is_first row → HasCardFault seen (row, fields) found
+    unknown : (first : Bool) → seen.is_first ≡ first → kind_of seen.sort (text_at fields 0) ≡ None → found ≡ no_kind seen.is_first row → HasCardFault seen (row, fields) found
     unknown true first none is = has.not_project first (λ project. none_some Project (sym none ∙ project)) (is ∙ ap (λ (b : Bool). no_kind b row) first)
     unknown false first none is = has.unknown_kind none (is ∙ ap (λ (b : Bool). no_kind b row) first)
 
-    by_kind : (kind : Option Kind) → kind_of seen.sort (field_at fields 0) ≡ kind → judge_of seen row fields kind ≡ Err found → HasCardFault seen (row, fields) found
+    by_kind : (kind : Option Kind) → kind_of seen.sort (text_at fields 0) ≡ kind → judge_of seen row fields kind ≡ Err found → HasCardFault seen (row, fields) found
     by_kind None is h = unknown seen.is_first refl is (sym (Err-injective _ found h))
     by_kind (Some kind) is h = in_kind seen row fields kind is found (unless-Err kind (fault_of_kind seen kind row fields) found h)

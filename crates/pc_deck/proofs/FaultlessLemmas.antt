@@ -7,12 +7,11 @@ use Rattle.std.proofs.lemmas.Bool.{false≢true, ne_eqb}
 use Rattle.std.proofs.lemmas.List.{get_or_at, map-append}
 use Rattle.std.proofs.lemmas.List.Elements.{filter-append}
 use Rattle.std.specs.Bool.{then_some}
-use Rattle.pc_records.specs.Deck.{field_at}
 use Rattle.pc_faults.specs.Kinds.{word_of}
 use Rattle.pc_faults.specs.declared.kind.Kind.{Kind}
 use Rattle.pc_faults.specs.declared.kind.Kind.TheVariants.{Project, End}
 use Rattle.pc_faults.specs.declared.fault.Fault.{Fault}
-use Rattle.pc_model.specs.Codes.{IsNamedOnce}
+use Rattle.pc_model.specs.Codes.{text_at, IsNamedOnce}
 use Rattle.pc_cards.specs.Cards.{Numbered}
 use Rattle.pc_cards.specs.declared.sort.Sort.TheVariants.{Plan}
 use Rattle.pc_cards.specs.inside.Findings.{one_too_many}
@@ -32,37 +31,37 @@ use Rattle.pc_deck.proofs.KindLemmas.{is_planned, kind_of-word, same_is}
 -- a record is a card of the kind, which is one of a plan, and its fields are what they must be
 pub record IsSound (kind : Kind) (fields : List (List ℕ)) : Type 0 where
   pub planned : is_planned kind ≡ true
-  pub named : field_at fields 0 ≡ word_of kind
+  pub named : text_at fields 0 ≡ word_of kind
   pub whole : is_whole_as kind fields ≡ true
   pub fit : AllFit (slots_of Plan kind) fields
 
 -- PROJECT comes first, and its deck is of version 2
 abbrev pub Begins : List Numbered → Type 0
 Begins [] = ⊥
-Begins (card ∷ cards) = (field_at card.1 0 ≡ word_of Project) × (version_in (field_at card.1 8) ≡ 2)
+Begins (card ∷ cards) = (text_at card.1 0 ≡ word_of Project) × (version_in (text_at card.1 8) ≡ 2)
 
 -- the cards stand in order
 pub record IsInOrder (cards : List Numbered) : Type 0 where
   pub sound : All (λ (card : Numbered). (kind : Kind) × IsSound kind card.1) cards
   pub once : (kind : Kind) → stands_once kind ≡ true → length (of_kind kind cards) ≤ 1
   pub few : (kind : Kind) → IsUpTo (limit_of Plan 2 kind) (length (of_kind kind cards))
-  pub differ : (kind : Kind) → has_code_of_its_own kind ≡ true → IsNamedOnce (map (λ (card : Numbered). field_at card.1 1) (of_kind kind cards))
+  pub differ : (kind : Kind) → has_code_of_its_own kind ≡ true → IsNamedOnce (map (λ (card : Numbered). text_at card.1 1) (of_kind kind cards))
   pub begins : Begins cards
   pub ends_once : length (of_kind End cards) ≤ 1
   -- behind each front an END card comes
   pub ends : (front rest : List Numbered) → cards ≡ front ++ rest → 0 < length rest → 0 < length (of_kind End rest)
 
 -- the cards of a kind, around one of them
-around : (cards front rest : List Numbered) (card : Numbered) (kind : Kind) → cards ≡ front ++ card ∷ rest → field_at card.1 0 ≡ word_of kind
+around : (cards front rest : List Numbered) (card : Numbered) (kind : Kind) → cards ≡ front ++ card ∷ rest → text_at card.1 0 ≡ word_of kind
     → of_kind kind cards ≡ of_kind kind front ++ card ∷ of_kind kind rest
 around cards front rest card kind is named =
-    let test : bytes_eq (field_at card.1 0) (word_of kind) ≡ true = (bytes_decides (field_at card.1 0) (word_of kind)).1 named in
+    let test : bytes_eq (text_at card.1 0) (word_of kind) ≡ true = (bytes_decides (text_at card.1 0) (word_of kind)).1 named in
     ap (of_kind kind) is
-    ∙ filter-append (λ (c : Numbered). bytes_eq (field_at c.1 0) (word_of kind)) front (card ∷ rest)
+    ∙ filter-append (λ (c : Numbered). bytes_eq (text_at c.1 0) (word_of kind)) front (card ∷ rest)
     ∙ ap (λ (b : Bool). of_kind kind front ++ (if b then card ∷ of_kind kind rest else of_kind kind rest)) test
 
 -- so there are fewer before it
-fewer : (cards front rest : List Numbered) (card : Numbered) (kind : Kind) → cards ≡ front ++ card ∷ rest → field_at card.1 0 ≡ word_of kind
+fewer : (cards front rest : List Numbered) (card : Numbered) (kind : Kind) → cards ≡ front ++ card ∷ rest → text_at card.1 0 ≡ word_of kind
     → length (of_kind kind front) < length (of_kind kind cards)
 fewer cards front rest card kind is named =
     omega (arith, ap length (around cards front rest card kind is named), length-append (of_kind kind front) (card ∷ of_kind kind rest))
@@ -77,9 +76,9 @@ not_found true found not = absurd (false≢true (sym not))
 not_found false found not = refl
 
 -- F3: the first card is PROJECT
-first_is : (front rest : List Numbered) (card : Numbered) (kind : Kind) → Begins (front ++ card ∷ rest) → field_at card.1 0 ≡ word_of kind
+first_is : (front rest : List Numbered) (card : Numbered) (kind : Kind) → Begins (front ++ card ∷ rest) → text_at card.1 0 ≡ word_of kind
     → (are_none front && not (is_project kind)) ≡ false
-first_is [] rest card kind begins named = ap (λ (k : Kind). not (is_project k)) (project_only kind (field_at card.1 0) named begins.0)
+first_is [] rest card kind begins named = ap (λ (k : Kind). not (is_project k)) (project_only kind (text_at card.1 0) named begins.0)
 first_is (p ∷ more) rest card kind begins named = refl
 
 -- F5: a card of a kind that stands once has none of its kind before it
@@ -97,13 +96,13 @@ room_left : (kind : Kind) (row count total : ℕ) (limit : Option ℕ) → IsUpT
 room_left kind row count total None few less = refl
 room_left kind row count total (Some most) few less = not_found (count == most) _ (ne_eqb count most (λ same. omega arith))
 
-full : (front rest : List Numbered) (card : Numbered) (kind : Kind) (row total : ℕ) → Begins (front ++ card ∷ rest) → field_at card.1 0 ≡ word_of kind
+full : (front rest : List Numbered) (card : Numbered) (kind : Kind) (row total : ℕ) → Begins (front ++ card ∷ rest) → text_at card.1 0 ≡ word_of kind
     → IsUpTo (limit_of Plan 2 kind) total → length (of_kind kind front) < total
     → one_too_many kind row (length (of_kind kind front)) (limit_of Plan (version_said (of_kind Project front)) kind) ≡ None
 full [] rest card kind row total begins named few less =
-    subst (λ (k : Kind). one_too_many k row 0 (limit_of Plan 1 k) ≡ None) (sym (project_only kind (field_at card.1 0) named begins.0)) refl
+    subst (λ (k : Kind). one_too_many k row 0 (limit_of Plan 1 k) ≡ None) (sym (project_only kind (text_at card.1 0) named begins.0)) refl
 full (p ∷ more) rest card kind row total begins named few less =
-    let test : bytes_eq (field_at p.1 0) (word_of Project) ≡ true = (bytes_decides (field_at p.1 0) (word_of Project)).1 begins.0 in
+    let test : bytes_eq (text_at p.1 0) (word_of Project) ≡ true = (bytes_decides (text_at p.1 0) (word_of Project)).1 begins.0 in
     let version : version_said (of_kind Project (p ∷ more)) ≡ 2 =
     ap (λ (b : Bool). version_said (if b then p ∷ of_kind Project more else of_kind Project more)) test ∙ begins.1 in
     ap (λ (v : ℕ). one_too_many kind row (length (of_kind kind (p ∷ more))) (limit_of Plan v kind)) version
@@ -126,18 +125,18 @@ judged cards front rest card kind order is sound =
     less : length (of_kind kind front) < length (of_kind kind cards)
     less = fewer cards front rest card kind is sound.named
 
-    code_is_new : has_code_of_its_own kind ≡ true → is_among (field_at card.1 1) (map (λ (c : Numbered). field_at c.1 1) (of_kind kind front)) ≡ false
+    code_is_new : has_code_of_its_own kind ≡ true → is_among (text_at card.1 1) (map (λ (c : Numbered). text_at c.1 1) (of_kind kind front)) ≡ false
     code_is_new coded =
-        let code = λ (c : Numbered). field_at c.1 1 in
+        let code = λ (c : Numbered). text_at c.1 1 in
         let codes = ap (map code) (around cards front rest card kind is sound.named) ∙ map-append code (of_kind kind front) (card ∷ of_kind kind rest) in
-        new_code (map code (of_kind kind front)) (map code (of_kind kind rest)) (field_at card.1 1) (subst IsNamedOnce codes (order.differ kind coded))
+        new_code (map code (of_kind kind front)) (map code (of_kind kind rest)) (text_at card.1 1) (subst IsNamedOnce codes (order.differ kind coded))
 
     ended : length (of_kind End front) ≡ 0
     ended =
         let behind = order.ends front (card ∷ rest) is (omega arith) in
         let both : length (of_kind End cards) ≡ length (of_kind End front) + length (of_kind End (card ∷ rest)) =
         ap (λ (all : List Numbered). length (of_kind End all)) is
-        ∙ (ap length (filter-append (λ (c : Numbered). bytes_eq (field_at c.1 0) (word_of End)) front (card ∷ rest)) ∙ length-append (of_kind End front) (of_kind End (card ∷ rest))) in
+        ∙ (ap length (filter-append (λ (c : Numbered). bytes_eq (text_at c.1 0) (word_of End)) front (card ∷ rest)) ∙ length-append (of_kind End front) (of_kind End (card ∷ rest))) in
         let one = order.ends_once in
         omega (arith, behind, both, one)
 
@@ -148,7 +147,7 @@ judged cards front rest card kind order is sound =
         (alone (stands_once kind) (length (of_kind kind front)) (λ once. let most = order.once kind once in omega (arith, most, less))))
         (none_then _ _ None (not_found (not (is_whole_as kind card.1)) _ (ap not sound.whole))
         (none_then _ _ None (no_flaw card.0 (slots_of Plan kind) card.1 sound.fit)
-        (none_then _ _ None (not_found (is_among (field_at card.1 1) (own_codes kind front)) _ (new_by (has_code_of_its_own kind) _ (field_at card.1 1) code_is_new))
+        (none_then _ _ None (not_found (is_among (text_at card.1 1) (own_codes kind front)) _ (new_by (has_code_of_its_own kind) _ (text_at card.1 1) code_is_new))
         (none_then _ _ None (full front rest card kind card.0 (length (of_kind kind cards)) begins sound.named (order.few kind) less)
         (not_found (not (are_none (of_kind End front))) _ (no_end (of_kind End front) ended)))))))
 

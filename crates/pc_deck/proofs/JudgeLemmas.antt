@@ -1,6 +1,6 @@
 -- A card without a fault: what each test found of it.
 use Rattle.std.proofs.Common.{◌≡◌, ℕ, true, false, not, ◌&&◌, nat_lt, List, Option, Some, None, Result, Ok, refl, subst}
-use Rattle.pc_records.specs.Deck.{field_at}
+use Rattle.pc_model.specs.Codes.{text_at}
 use Rattle.pc_faults.specs.declared.kind.Kind.{Kind}
 use Rattle.pc_faults.specs.declared.fault.Fault.{Fault}
 use Rattle.pc_cards.specs.Forms.{AllFit, first_misshapen, first_over_limit}
@@ -15,20 +15,20 @@ use Rattle.pc_deck.specs.Refusal.{is_whole_as}
 
 -- what is known of a card that has no fault
 pub record IsFaultless (seen : Seen) (row : ℕ) (fields : List (List ℕ)) (kind : Kind) : Type 0 where
-  pub named : kind_of seen.sort (field_at fields 0) ≡ Some kind
+  pub named : kind_of seen.sort (text_at fields 0) ≡ Some kind
   pub placed : (seen.is_first && not (is_project kind)) ≡ false
   pub once : (stands_once kind && nat_lt 0 (seen.count kind)) ≡ false
   pub whole : is_whole_as kind fields ≡ true
   pub shapes : first_misshapen (slots_of seen.sort kind) fields ≡ None
   pub limits : first_over_limit (slots_of seen.sort kind) fields ≡ None
-  pub differs : is_among (field_at fields 1) (seen.codes kind) ≡ false
+  pub differs : is_among (text_at fields 1) (seen.codes kind) ≡ false
   pub room : one_too_many kind row (seen.count kind) (limit_of seen.sort seen.version kind) ≡ None
   pub before_end : seen.has_ended ≡ false
 
 Ok-injective : {A E : Type 0} (x y : A) → ◌≡◌ {A = Result A E} (Ok x) (Ok y) → x ≡ y
 Ok-injective x y h = cc
 
-faultless_kind : (seen : Seen) (row : ℕ) (fields : List (List ℕ)) (kind : Kind) → kind_of seen.sort (field_at fields 0) ≡ Some kind →
+faultless_kind : (seen : Seen) (row : ℕ) (fields : List (List ℕ)) (kind : Kind) → kind_of seen.sort (text_at fields 0) ≡ Some kind →
     fault_of_kind seen kind row fields ≡ None → IsFaultless seen row fields kind
 faultless_kind seen row fields kind named none =
     let place = place_of seen kind row in
@@ -37,7 +37,7 @@ faultless_kind seen row fields kind named none =
     let widths = neither (wrong_fields place (least_width_of kind) (width_of kind) fields) _ once.1 in
     let flaws = neither (flaw_of_fields row (slots_of seen.sort kind) fields) _ widths.1 in
     let each = neither (misshapen_at row (first_misshapen (slots_of seen.sort kind) fields)) _ flaws.0 in
-    let code = neither (repeated row (seen.codes kind) (field_at fields 1)) _ flaws.1 in
+    let code = neither (repeated row (seen.codes kind) (text_at fields 1)) _ flaws.1 in
     let room = neither (one_too_many kind row (seen.count kind) (limit_of seen.sort seen.version kind)) _ code.1 in
     record {
       named = named;
@@ -57,9 +57,9 @@ unless-Ok kind other (Some fault) h = absurd (let h' = h in cc)
 
 -- a card that was judged to be of a kind has no fault
 pub faultless : (seen : Seen) (row : ℕ) (fields : List (List ℕ)) (kind : Kind) → judge seen row fields ≡ Ok kind → IsFaultless seen row fields kind
-faultless seen row fields kind h = by_kind (kind_of seen.sort (field_at fields 0)) refl h
+faultless seen row fields kind h = by_kind (kind_of seen.sort (text_at fields 0)) refl h
   where
-    by_kind : (named : Option Kind) → kind_of seen.sort (field_at fields 0) ≡ named → judge_of seen row fields named ≡ Ok kind → IsFaultless seen row fields kind
+    by_kind : (named : Option Kind) → kind_of seen.sort (text_at fields 0) ≡ named → judge_of seen row fields named ≡ Ok kind → IsFaultless seen row fields kind
     by_kind None is h = absurd (let h' = h in cc)
     by_kind (Some other) is h =
         let known = unless-Ok other kind (fault_of_kind seen other row fields) h in

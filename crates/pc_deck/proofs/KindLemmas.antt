@@ -1,7 +1,7 @@
 -- What holds of every kind of cards.
 use Rattle.std.proofs.Common.{◌≡◌, ℕ, ◌≤◌, Bool, true, false, List, [], ◌∷◌, find, Option, Some, if◌then◌else◌, bytes_eq, refl, sym, ap, ◌∙◌, arith}
 use Rattle.std.specs.Cmp.Lexicographic.{bytes_decides}
-use Rattle.pc_records.specs.Deck.{field_at}
+use Rattle.pc_model.specs.Codes.{text_at}
 use Rattle.pc_faults.specs.Kinds.{word_of}
 use Rattle.pc_faults.specs.declared.kind.Kind.{Kind}
 use Rattle.pc_faults.specs.declared.kind.Kind.TheVariants.{Project, Task, After, End}
@@ -68,7 +68,7 @@ project_is Project h = refl
 project_is other h = absurd (let h' = h in cc)
 
 -- a code of its own stands in a card's second field
-pub own_code : (kind : Kind) → has_code_of_its_own kind ≡ true → (row : ℕ) (fields : List (List ℕ)) → (entry_of kind).code (card_of kind row fields) ≡ field_at fields 1
+pub own_code : (kind : Kind) → has_code_of_its_own kind ≡ true → (row : ℕ) (fields : List (List ℕ)) → (entry_of kind).code (card_of kind row fields) ≡ text_at fields 1
 own_code Project h row fields = absurd (let h' = h in cc)
 own_code other h row fields = let h' = h in cc
 

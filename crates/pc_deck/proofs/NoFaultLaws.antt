@@ -3,7 +3,8 @@ use Rattle.std.proofs.Common.{◌≡◌, ◌≢◌, ℕ, ◌+◌, ◌==◌, Bool
 use Rattle.std.proofs.lemmas.Bool.Decides.{nat_tests}
 use Rattle.std.specs.Str.{is_utf8}
 use Rattle.std.specs.Bool.{then_some}
-use Rattle.pc_records.specs.Deck.{deck_records, field_at}
+use Rattle.pc_records.specs.Deck.{deck_records}
+use Rattle.pc_model.specs.Codes.{text_at}
 use Rattle.pc_faults.specs.Faults as faults
 use Rattle.pc_faults.specs.declared.kind.Kind.{Kind}
 use Rattle.pc_faults.specs.declared.kind.Kind.TheVariants.{Project}
@@ -56,7 +57,7 @@ judged seen card kind well = ap (judge_of seen card.0 card.1) well.named ∙ ap 
         (either (stands_once kind) (nat_lt 0 (seen.count kind)) (λ once. ap (nat_lt 0) (well.alone once))))
         (none_then _ _ None (not_found (not (is_whole_as kind card.1)) _ (ap not well.whole))
         (none_then _ _ None (no_flaw card.0 (slots_of seen.sort kind) card.1 well.fit)
-        (none_then _ _ None (not_found (is_among (field_at card.1 1) (seen.codes kind)) _ well.differs)
+        (none_then _ _ None (not_found (is_among (text_at card.1 1) (seen.codes kind)) _ well.differs)
         (none_then _ _ None (with_room kind card.0 (seen.count kind) (limit_of seen.sort seen.version kind) well.has_room)
         (not_found seen.has_ended _ well.before_end))))))
 

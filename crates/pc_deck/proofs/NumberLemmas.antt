@@ -2,7 +2,7 @@
 use Rattle.std.proofs.Common.{◌≡◌, ℕ, ◌≤◌, false, List, get_or, Option, Some, None, unwrap_or, All, refl, sym, subst, arith}
 use Rattle.std.specs.Option.{ForSome}
 use Rattle.std.specs.Prelude.{option_to_list}
-use Rattle.pc_records.specs.Deck.{field_at}
+use Rattle.pc_model.specs.Codes.{text_at}
 use Rattle.pc_text.specs.Number.{number_of}
 use Rattle.pc_model.specs.declared.limits.TheConstants.{MAX_COST, MAX_DIRECTED, MAX_DURATION, MAX_SLOPE, MAX_TERMS, MAX_UNIT_DAYS}
 use Rattle.pc_faults.specs.declared.kind.Kind.{Kind}
@@ -83,10 +83,10 @@ or_fits least most other (Some n) low high h = number_fits least most (Some n) r
 project_within : (sort : Sort) (row : ℕ) (fields : List (List ℕ)) → AllFit (project_kind.slots sort) fields → IsProjectWithin (project_card row fields)
 project_within sort row fields fit =
     let from_6 = fit.1.1.1.1 in
-    let version = or_fits 1 2 1 (number_of (field_at fields 8)) (omega arith) (omega arith) from_6.1.1.1.0.1 in
+    let version = or_fits 1 2 1 (number_of (text_at fields 8)) (omega arith) (omega arith) from_6.1.1.1.0.1 in
     record {
-      unit_some = (number_fits 1 MAX_UNIT_DAYS (number_of (field_at fields 5)) from_6.0.0 from_6.0.1).0;
-      unit_within = (number_fits 1 MAX_UNIT_DAYS (number_of (field_at fields 5)) from_6.0.0 from_6.0.1).1;
+      unit_some = (number_fits 1 MAX_UNIT_DAYS (number_of (text_at fields 5)) from_6.0.0 from_6.0.1).0;
+      unit_within = (number_fits 1 MAX_UNIT_DAYS (number_of (text_at fields 5)) from_6.0.0 from_6.0.1).1;
       directed_within = λ days is. (number_fits 0 MAX_DIRECTED (Some days) refl (subst (λ (o : Option ℕ). is_outside 0 MAX_DIRECTED o ≡ false) is from_6.1.0.1)).1;
       version_some = version.0;
       version_within = version.1;
@@ -94,10 +94,10 @@ project_within sort row fields fit =
 
 terms_within : (row : ℕ) (fields : List (List ℕ)) → AllFit (terms_kind.slots Plan) fields → AreTermsWithin (terms_card row fields)
 terms_within row fields fit = record {
-  overhead = (number_fits 0 MAX_TERMS (number_of (field_at fields 1)) fit.0.0 fit.0.1).1;
-  target = (number_fits 0 MAX_TERMS (number_of (field_at fields 2)) fit.1.0.0 fit.1.0.1).1;
-  bonus = (number_fits 0 MAX_TERMS (number_of (field_at fields 3)) fit.1.1.0.0 fit.1.1.0.1).1;
-  penalty = (number_fits 0 MAX_TERMS (number_of (field_at fields 4)) fit.1.1.1.0.0 fit.1.1.1.0.1).1;
+  overhead = (number_fits 0 MAX_TERMS (number_of (text_at fields 1)) fit.0.0 fit.0.1).1;
+  target = (number_fits 0 MAX_TERMS (number_of (text_at fields 2)) fit.1.0.0 fit.1.0.1).1;
+  bonus = (number_fits 0 MAX_TERMS (number_of (text_at fields 3)) fit.1.1.0.0 fit.1.1.0.1).1;
+  penalty = (number_fits 0 MAX_TERMS (number_of (text_at fields 4)) fit.1.1.1.0.0 fit.1.1.1.0.1).1;
 }
 
 act_within : (row : ℕ) (fields : List (List ℕ)) → AllFit (act_kind.slots Plan) fields → IsActWithin (act_card row fields)
@@ -105,13 +105,13 @@ act_within row fields fit =
     let from_6 = fit.1.1.1.1 in
     let from_11 = from_6.1.1.1.1.1 in
     record {
-      opt = (number_fits 0 MAX_DURATION (number_of (field_at fields 5)) from_6.0.0 from_6.0.1).1;
-      likely = (number_fits 0 MAX_DURATION (number_of (field_at fields 6)) from_6.1.0.0 from_6.1.0.1).1;
-      pess = (number_fits 0 MAX_DURATION (number_of (field_at fields 7)) from_6.1.1.0.0 from_6.1.1.0.1).1;
-      normal = (number_fits 0 MAX_DURATION (number_of (field_at fields 8)) from_6.1.1.1.0.0 from_6.1.1.1.0.1).1;
-      crash = (number_fits 0 MAX_DURATION (number_of (field_at fields 9)) from_6.1.1.1.1.0.0 from_6.1.1.1.1.0.1).1;
-      cost = (number_fits 0 MAX_COST (number_of (field_at fields 10)) from_11.0.0 from_11.0.1).1;
-      slope = (number_fits 0 MAX_SLOPE (number_of (field_at fields 11)) from_11.1.0.0 from_11.1.0.1).1;
+      opt = (number_fits 0 MAX_DURATION (number_of (text_at fields 5)) from_6.0.0 from_6.0.1).1;
+      likely = (number_fits 0 MAX_DURATION (number_of (text_at fields 6)) from_6.1.0.0 from_6.1.0.1).1;
+      pess = (number_fits 0 MAX_DURATION (number_of (text_at fields 7)) from_6.1.1.0.0 from_6.1.1.0.1).1;
+      normal = (number_fits 0 MAX_DURATION (number_of (text_at fields 8)) from_6.1.1.1.0.0 from_6.1.1.1.0.1).1;
+      crash = (number_fits 0 MAX_DURATION (number_of (text_at fields 9)) from_6.1.1.1.1.0.0 from_6.1.1.1.1.0.1).1;
+      cost = (number_fits 0 MAX_COST (number_of (text_at fields 10)) from_11.0.0 from_11.0.1).1;
+      slope = (number_fits 0 MAX_SLOPE (number_of (text_at fields 11)) from_11.1.0.0 from_11.1.0.1).1;
     }
 
 task_within : (row : ℕ) (fields : List (List ℕ)) → AllFit (task_kind.slots Plan) fields → IsTaskWithin (task_card row fields)
@@ -119,30 +119,30 @@ task_within row fields fit =
     let from_4 = fit.1.1 in
     let from_9 = from_4.1.1.1.1.1 in
     record {
-      opt = (number_fits 0 MAX_DURATION (number_of (field_at fields 3)) from_4.0.0 from_4.0.1).1;
-      likely = (number_fits 0 MAX_DURATION (number_of (field_at fields 4)) from_4.1.0.0 from_4.1.0.1).1;
-      pess = (number_fits 0 MAX_DURATION (number_of (field_at fields 5)) from_4.1.1.0.0 from_4.1.1.0.1).1;
-      normal = (number_fits 0 MAX_DURATION (number_of (field_at fields 6)) from_4.1.1.1.0.0 from_4.1.1.1.0.1).1;
-      crash = (number_fits 0 MAX_DURATION (number_of (field_at fields 7)) from_4.1.1.1.1.0.0 from_4.1.1.1.1.0.1).1;
-      cost = (number_fits 0 MAX_COST (number_of (field_at fields 8)) from_9.0.0 from_9.0.1).1;
-      slope = (number_fits 0 MAX_SLOPE (number_of (field_at fields 9)) from_9.1.0.0 from_9.1.0.1).1;
+      opt = (number_fits 0 MAX_DURATION (number_of (text_at fields 3)) from_4.0.0 from_4.0.1).1;
+      likely = (number_fits 0 MAX_DURATION (number_of (text_at fields 4)) from_4.1.0.0 from_4.1.0.1).1;
+      pess = (number_fits 0 MAX_DURATION (number_of (text_at fields 5)) from_4.1.1.0.0 from_4.1.1.0.1).1;
+      normal = (number_fits 0 MAX_DURATION (number_of (text_at fields 6)) from_4.1.1.1.0.0 from_4.1.1.1.0.1).1;
+      crash = (number_fits 0 MAX_DURATION (number_of (text_at fields 7)) from_4.1.1.1.1.0.0 from_4.1.1.1.1.0.1).1;
+      cost = (number_fits 0 MAX_COST (number_of (text_at fields 8)) from_9.0.0 from_9.0.1).1;
+      slope = (number_fits 0 MAX_SLOPE (number_of (text_at fields 9)) from_9.1.0.0 from_9.1.0.1).1;
     }
 
 piece_within : (row : ℕ) (fields : List (List ℕ)) → AllFit (piece_kind.slots Plan) fields → IsPieceWithin (piece_card row fields)
 piece_within row fields fit = record {
-  some_units = (number_fits 1 MAX_DURATION (number_of (field_at fields 2)) fit.1.0.0 fit.1.0.1).0;
-  units = (number_fits 1 MAX_DURATION (number_of (field_at fields 2)) fit.1.0.0 fit.1.0.1).1;
-  slope = (number_fits 0 MAX_SLOPE (number_of (field_at fields 3)) fit.1.1.0.0 fit.1.1.0.1).1;
+  some_units = (number_fits 1 MAX_DURATION (number_of (text_at fields 2)) fit.1.0.0 fit.1.0.1).0;
+  units = (number_fits 1 MAX_DURATION (number_of (text_at fields 2)) fit.1.0.0 fit.1.0.1).1;
+  slope = (number_fits 0 MAX_SLOPE (number_of (text_at fields 3)) fit.1.1.0.0 fit.1.1.0.1).1;
 }
 
 budget_within : (row : ℕ) (fields : List (List ℕ)) → AllFit (account_kind.slots Plan) fields → IsBudgetWithin (account_card row fields)
-budget_within row fields fit = (number_fits 0 MAX_COST (number_of (field_at fields 3)) fit.1.1.0.0 fit.1.1.0.1).1
+budget_within row fields fit = (number_fits 0 MAX_COST (number_of (text_at fields 3)) fit.1.1.0.0 fit.1.1.0.1).1
 
 amount_within : (row : ℕ) (fields : List (List ℕ)) → AllFit (charge_kind.slots Plan) fields → IsAmountWithin (money_card row fields)
-amount_within row fields fit = (number_fits 0 MAX_COST (number_of (field_at fields 3)) fit.1.1.0.0 fit.1.1.0.1).1
+amount_within row fields fit = (number_fits 0 MAX_COST (number_of (text_at fields 3)) fit.1.1.0.0 fit.1.1.0.1).1
 
 load_within : (row : ℕ) (fields : List (List ℕ)) → AllFit (load_kind.slots Plan) fields → IsLoadWithin (load_card row fields)
-load_within row fields fit = (number_fits 0 MAX_COST (number_of (field_at fields 3)) fit.1.1.0.0 fit.1.1.0.1).1
+load_within row fields fit = (number_fits 0 MAX_COST (number_of (text_at fields 3)) fit.1.1.0.0 fit.1.1.0.1).1
 
 -- what follows from the fields of a card of a kind holds of each card of the kind in a deck
 all_so : {sort : Sort} (kind : Kind) (P : CardOf kind → Type 0) (deck : Deck) → IsWithin sort deck →

@@ -5,11 +5,10 @@ use Rattle.std.specs.List.{enumerate_from}
 use Rattle.std.proofs.lemmas.List.{length-map}
 use Rattle.std.proofs.lemmas.List.Concat.{flat_map-append}
 use Rattle.std.proofs.lemmas.List.Elements.{All-append, All-cons, All-head, All-nil, All-tail, filter-append}
-use Rattle.pc_records.specs.Deck.{field_at}
 use Rattle.pc_faults.specs.Kinds.{word_of}
 use Rattle.pc_faults.specs.declared.kind.Kind.{Kind}
 use Rattle.pc_faults.specs.declared.kind.Kind.TheVariants.{Project, AsOf, Terms, Wbs, Event, Act, Task, Piece, Acct, Charge, ToGo, Status, Res, Load, End}
-use Rattle.pc_model.specs.Codes.{IsNamedOnce}
+use Rattle.pc_model.specs.Codes.{text_at, IsNamedOnce}
 use Rattle.pc_cards.specs.Cards.{Numbered}
 use Rattle.pc_cards.specs.declared.sort.Sort.TheVariants.{Plan}
 use Rattle.pc_deck.specs.Deck.{Deck, list_of}
@@ -59,7 +58,7 @@ length-enumerate row [] = refl
 length-enumerate row (fields ∷ rows) = ap suc (length-enumerate (row + 1) rows)
 
 -- a card's own code stands in the second field of its record
-code_written : (kind : Kind) → has_code_of_its_own kind ≡ true → (card : CardOf kind) → field_at (record_of kind card) 1 ≡ (entry_of kind).code card
+code_written : (kind : Kind) → has_code_of_its_own kind ≡ true → (card : CardOf kind) → text_at (record_of kind card) 1 ≡ (entry_of kind).code card
 code_written Wbs coded card = refl
 code_written Event coded card = refl
 code_written Act coded card = refl
@@ -69,21 +68,21 @@ code_written Res coded card = refl
 code_written kind coded card = absurd (let coded' = coded in cc)
 
 codes_written : (kind : Kind) → has_code_of_its_own kind ≡ true → (row : ℕ) (cards : List (CardOf kind))
-    → map (λ (card : Numbered). field_at card.1 1) (enumerate_from row (map (record_of kind) cards)) ≡ map (entry_of kind).code cards
+    → map (λ (card : Numbered). text_at card.1 1) (enumerate_from row (map (record_of kind) cards)) ≡ map (entry_of kind).code cards
 codes_written kind coded row [] = refl
 codes_written kind coded row (card ∷ cards) =
-    ap (λ code. code ∷ map (λ (c : Numbered). field_at c.1 1) (enumerate_from (row + 1) (map (record_of kind) cards))) (code_written kind coded card)
+    ap (λ code. code ∷ map (λ (c : Numbered). text_at c.1 1) (enumerate_from (row + 1) (map (record_of kind) cards))) (code_written kind coded card)
     ∙ ap (λ codes. (entry_of kind).code card ∷ codes) (codes_written kind coded (row + 1) cards)
 
 -- where an END card stands last, one stands behind each front
-last_behind : (first front rest : List Numbered) (last : Numbered) → field_at last.1 0 ≡ word_of End → first ++ last ∷ [] ≡ front ++ rest → 0 < length rest
+last_behind : (first front rest : List Numbered) (last : Numbered) → text_at last.1 0 ≡ word_of End → first ++ last ∷ [] ≡ front ++ rest → 0 < length rest
     → 0 < length (of_kind End rest)
 last_behind first [] rest last named is some =
-    let test : bytes_eq (field_at last.1 0) (word_of End) ≡ true = (bytes_decides (field_at last.1 0) (word_of End)).1 named in
+    let test : bytes_eq (text_at last.1 0) (word_of End) ≡ true = (bytes_decides (text_at last.1 0) (word_of End)).1 named in
     let own : length (of_kind End (last ∷ [])) ≡ 1 = ap (λ (b : Bool). length (if b then last ∷ [] else [])) test in
     let whole : length (of_kind End rest) ≡ length (of_kind End first ++ of_kind End (last ∷ [])) =
     ap (λ (all : List Numbered). length (of_kind End all)) (sym is)
-    ∙ ap length (filter-append (λ (c : Numbered). bytes_eq (field_at c.1 0) (word_of End)) first (last ∷ [])) in
+    ∙ ap length (filter-append (λ (c : Numbered). bytes_eq (text_at c.1 0) (word_of End)) first (last ∷ [])) in
     omega (arith, own, whole, length-append (of_kind End first) (of_kind End (last ∷ [])))
 last_behind [] (other ∷ front) rest last named is some =
     let short : length (last ∷ []) ≡ length (other ∷ (front ++ rest)) = ap length is in
@@ -124,7 +123,7 @@ module _ (deck : Deck) (limits : IsWithinLimits deck) where
     once = λ kind once. omega (arith, counted kind, one-card (settled deck) kind once);
     few = λ kind. subst (IsUpTo (limit_of Plan 2 kind)) (sym (counted kind)) (settled-within deck limits kind).few;
     differ = λ kind coded.
-        let codes = ap (map (λ (card : Numbered). field_at card.1 1)) (of_kind-all (settled deck) (settled-within deck limits) kind)
+        let codes = ap (map (λ (card : Numbered). text_at card.1 1)) (of_kind-all (settled deck) (settled-within deck limits) kind)
         ∙ codes_written kind coded (first_record (settled deck) kind) (list_of (settled deck) kind) in
         subst IsNamedOnce (sym codes) ((settled-within deck limits kind).differ coded);
     begins = begins;

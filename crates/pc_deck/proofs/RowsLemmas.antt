@@ -3,7 +3,7 @@ use Rattle.std.proofs.Common.{◌≡◌, ℕ, ◌+◌, ◌≤◌, Bool, true, fa
 use Rattle.std.specs.List.{enumerate_from}
 use Rattle.std.proofs.lemmas.List.{length-map}
 use Rattle.std.proofs.lemmas.List.Elements.{All-append, All-cons, All-nil, filter-append}
-use Rattle.pc_records.specs.Deck.{field_at}
+use Rattle.pc_model.specs.Codes.{text_at}
 use Rattle.pc_faults.specs.Kinds.{word_of}
 use Rattle.pc_faults.specs.declared.kind.Kind.{Kind}
 use Rattle.pc_faults.specs.declared.kind.Kind.TheVariants.{Project, Task, After, End}
@@ -49,7 +49,7 @@ of_kind-some : (deck : Deck) (kind : Kind) (row : ℕ) (some : List Kind) → of
 of_kind-some deck kind row [] = refl
 of_kind-some deck kind row (other ∷ rest) =
     ap (of_kind kind) (enumerate_from-append row (records_of deck other) (flat_map (records_of deck) rest))
-    ∙ (filter-append (λ (c : Numbered). bytes_eq (field_at c.1 0) (word_of kind)) (enumerate_from row (records_of deck other))
+    ∙ (filter-append (λ (c : Numbered). bytes_eq (text_at c.1 0) (word_of kind)) (enumerate_from row (records_of deck other))
     (enumerate_from (row + length (records_of deck other)) (flat_map (records_of deck) rest))
     ∙ (ap (λ own. own ++ of_kind kind (enumerate_from (row + length (records_of deck other)) (flat_map (records_of deck) rest)))
     (of_kind-own kind other (is_same other kind) refl row (list_of deck other))

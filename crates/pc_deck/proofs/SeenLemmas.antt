@@ -2,7 +2,7 @@
 use Rattle.std.proofs.Common.{◌≡◌, ℕ, Bool, true, false, not, List, [], ◌∷◌, length, map, Option, Some, None, if◌then◌else◌, refl, sym, ap, ◌∙◌}
 use Rattle.std.proofs.lemmas.List.{length-map}
 use Rattle.std.specs.Prelude.{option_to_list}
-use Rattle.pc_records.specs.Deck.{field_at}
+use Rattle.pc_model.specs.Codes.{text_at}
 use Rattle.pc_faults.specs.declared.kind.Kind.{Kind}
 use Rattle.pc_faults.specs.declared.kind.Kind.TheVariants.{Project, End}
 use Rattle.pc_cards.specs.Cards.{Numbered}
@@ -59,10 +59,10 @@ seen cards draft says =
 
     -- the codes that they spell
     codes_by : (kind : Kind) (coded : Bool) → has_code_of_its_own kind ≡ coded →
-        (if coded then map (λ (c : Numbered). field_at c.1 1) (of_kind kind cards) else [])
+        (if coded then map (λ (c : Numbered). text_at c.1 1) (of_kind kind cards) else [])
         ≡ (if coded then map (entry_of kind).code (list_so_far draft kind) else [])
     codes_by kind true is =
-        twice_mapped (λ (c : Numbered). card_of kind c.0 c.1) (entry_of kind).code (λ (c : Numbered). field_at c.1 1) (of_kind kind cards) (λ c. own_code kind is c.0 c.1)
+        twice_mapped (λ (c : Numbered). card_of kind c.0 c.1) (entry_of kind).code (λ (c : Numbered). text_at c.1 1) (of_kind kind cards) (λ c. own_code kind is c.0 c.1)
         ∙ ap (map (entry_of kind).code) (says.lists kind)
     codes_by kind false is = refl
 

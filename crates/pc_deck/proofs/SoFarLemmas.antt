@@ -4,7 +4,7 @@ use Rattle.std.proofs.Common.{Some, None, is_none, if◌then◌else◌, bytes_eq
 use Rattle.std.proofs.lemmas.List.{map-append}
 use Rattle.std.proofs.lemmas.List.Elements.{filter-append}
 use Rattle.std.specs.Prelude.{option_to_list}
-use Rattle.pc_records.specs.Deck.{field_at}
+use Rattle.pc_model.specs.Codes.{text_at}
 use Rattle.pc_faults.specs.Kinds.{word_of}
 use Rattle.pc_faults.specs.declared.kind.Kind.{Kind}
 use Rattle.pc_faults.specs.declared.kind.Kind.TheVariants.{Project, End}
@@ -25,10 +25,10 @@ use Rattle.pc_deck.proofs.JudgeLemmas.{IsFaultless, faultless}
 use Rattle.pc_deck.proofs.KindLemmas.{word_of-kind, same_is, same-project, same-end, project_is}
 
 -- the cards of a kind among those before and one more
-of_kind-more : (other kind : Kind) (before : List Numbered) (card : Numbered) → field_at card.1 0 ≡ word_of kind →
+of_kind-more : (other kind : Kind) (before : List Numbered) (card : Numbered) → text_at card.1 0 ≡ word_of kind →
     of_kind other (before ++ card ∷ []) ≡ of_kind other before ++ (if is_same kind other then card ∷ [] else [])
 of_kind-more other kind before card is =
-    filter-append (λ (c : Numbered). bytes_eq (field_at c.1 0) (word_of other)) before (card ∷ [])
+    filter-append (λ (c : Numbered). bytes_eq (text_at c.1 0) (word_of other)) before (card ∷ [])
     ∙ ap (λ (field : List ℕ). of_kind other before ++ (if bytes_eq field (word_of other) then card ∷ [] else [])) is
 
 -- one more, or not
@@ -41,7 +41,7 @@ mapped f true card = refl
 mapped f false card = refl
 
 -- what the cards of a kind spell with one more card
-spelled-more : (other kind : Kind) (before : List Numbered) (card : Numbered) → field_at card.1 0 ≡ word_of kind →
+spelled-more : (other kind : Kind) (before : List Numbered) (card : Numbered) → text_at card.1 0 ≡ word_of kind →
     spelled other (before ++ card ∷ []) ≡ spelled other before ++ one_if (is_same kind other) (card_of other card.0 card.1)
 spelled-more other kind before card is =
     ap (map (λ (c : Numbered). card_of other c.0 c.1)) (of_kind-more other kind before card is)
@@ -129,7 +129,7 @@ pub so_far-more : (before : List Numbered) (draft : Draft) (kind : Kind) (card :
     judge (seen_in draft) card.0 card.1 ≡ Ok kind → IsSoFar (before ++ card ∷ []) (with_card draft kind card.0 card.1)
 so_far-more before draft kind card old judged =
     let known = faultless (seen_in draft) card.0 card.1 kind judged in
-    let word = word_of-kind draft.sort (field_at card.1 0) kind known.named in
+    let word = word_of-kind draft.sort (text_at card.1 0) kind known.named in
     record {
       first = some_more before card ∙ sym (still_first (is_project kind) draft.project (project_card card.0 card.1) known.placed);
       lists = λ other.

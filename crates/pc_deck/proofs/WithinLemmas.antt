@@ -7,7 +7,7 @@ use Rattle.std.proofs.lemmas.Bool.Decides.{nat_tests}
 use Rattle.std.specs.Str.{IsUtf8}
 use Rattle.std.specs.Prelude.{option_to_list}
 use Rattle.pc_model.specs.Codes.{IsNamedOnce}
-use Rattle.pc_records.specs.Deck.{field_at}
+use Rattle.pc_model.specs.Codes.{text_at}
 use Rattle.pc_faults.specs.declared.kind.Kind.{Kind}
 use Rattle.pc_faults.specs.declared.kind.Kind.TheVariants.{Project, End}
 use Rattle.pc_deck.specs.Deck.{list_of}
@@ -88,8 +88,8 @@ module _ (draft : Draft) (row : ℕ) (fields : List (List ℕ)) (text : All IsUt
       (subst (λ (count : ℕ). one_too_many kind row count (limit_of draft.sort (version_of draft.project) kind) ≡ None) (count-is draft kind) known.room))
       (λ coded.
       subst (λ (code : List ℕ). is_among code (map (entry_of kind).code (list_so_far draft kind)) ≡ false) (sym (own_code kind coded row fields))
-      (among_codes (has_code_of_its_own kind) (field_at fields 1) (map (entry_of kind).code (list_so_far draft kind)) coded
-      (subst (λ (codes : List (List ℕ)). is_among (field_at fields 1) codes ≡ false) (codes-are draft kind) known.differs)))
+      (among_codes (has_code_of_its_own kind) (text_at fields 1) (map (entry_of kind).code (list_so_far draft kind)) coded
+      (subst (λ (codes : List (List ℕ)). is_among (text_at fields 1) codes ≡ false) (codes-are draft kind) known.differs)))
       (row, fields, refl, fits (seen_in draft) row fields kind known, text)
 
   -- the same where the card may tell the version

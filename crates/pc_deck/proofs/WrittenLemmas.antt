@@ -8,7 +8,7 @@ use Rattle.std.proofs.lemmas.Bool.Decides.{nat_tests}
 use Rattle.std.specs.Prelude.{option_to_list}
 use Rattle.pc_records.proofs.Utf8Facts.{join_ascii}
 use Rattle.std.proofs.lemmas.List.Elements.{All-append, All-cons, All-head, All-nil, All-tail}
-use Rattle.pc_records.specs.Deck.{field_at}
+use Rattle.pc_model.specs.Codes.{text_at}
 use Rattle.pc_faults.specs.Kinds.{word_of}
 use Rattle.pc_faults.specs.declared.kind.Kind.{Kind}
 use Rattle.pc_faults.specs.declared.kind.Kind.TheVariants.{Project, AsOf, Terms}
@@ -54,7 +54,7 @@ pub record IsWritten (kind : Kind) (card : CardOf kind) : Type 0 where
   pub reads : (row : ℕ) → card_of kind row (record_of kind card) ≡ (written_of kind).at_row row card
 
 -- a field of a card of text is text
-pub field-text : (fields : List (List ℕ)) (i : ℕ) → All IsUtf8 fields → IsUtf8 (field_at fields i)
+pub field-text : (fields : List (List ℕ)) (i : ℕ) → All IsUtf8 fields → IsUtf8 (text_at fields i)
 field-text [] i all = IsUtf8-nil
 field-text (field ∷ fields) zero all = All-head IsUtf8 field fields all
 field-text (field ∷ fields) (suc i) all = field-text fields i (All-tail IsUtf8 field fields all)
@@ -103,7 +103,7 @@ All-one P card here = All-cons P card [] here (All-nil P)
 -- the fields of a PROJECT card of version 2
 abbrev second_fields : List (List ℕ) → List (List ℕ)
 second_fields fields =
-    [] ∷ field_at fields 1 ∷ field_at fields 2 ∷ field_at fields 3 ∷ field_at fields 4 ∷ field_at fields 5 ∷ field_at fields 6 ∷ field_at fields 7 ∷ codes "2" ∷ []
+    [] ∷ text_at fields 1 ∷ text_at fields 2 ∷ text_at fields 3 ∷ text_at fields 4 ∷ text_at fields 5 ∷ text_at fields 6 ∷ text_at fields 7 ∷ codes "2" ∷ []
 
 module _ (project : ProjectCard) (row : ℕ) (fields : List (List ℕ)) (is : project ≡ project_card row fields) (fit : AllFit (project_kind.slots Plan) fields) (text : All IsUtf8 fields) where
   second-is : record project { version = 2 } ≡ project_card row (second_fields fields)
@@ -132,10 +132,10 @@ project-written project (row, fields, is, fit, text) =
 first_day-fit : (project : ProjectCard) → IsFit Plan Project project → IsFit Plan AsOf (record { row = 0; day = project.start_day })
 first_day-fit project (row, fields, is, fit, text) = (
   0,
-  [] ∷ field_at fields 4 ∷ [],
+  [] ∷ text_at fields 4 ∷ [],
   ap (λ (p : ProjectCard). record { row = 0; day = p.start_day }) is,
   (fit.1.1.1.0, tt),
-  All-cons IsUtf8 [] (field_at fields 4 ∷ []) IsUtf8-nil (All-one IsUtf8 (field_at fields 4) (field-text fields 4 text)),
+  All-cons IsUtf8 [] (text_at fields 4 ∷ []) IsUtf8-nil (All-one IsUtf8 (text_at fields 4) (field-text fields 4 text)),
 )
 
 settled-as_of : (project : ProjectCard) (card : Option AsOfCard) → IsFit Plan Project project → All (IsFit Plan AsOf) (option_to_list card) → IsFit Plan AsOf (settled_as_of card project.start_day)

@@ -1,6 +1,6 @@
 -- ACCT,code,item,budget,title
 use Rattle.std.specs.Prelude.{ℕ, List, [], ◌∷◌}
-use Rattle.pc_records.specs.Deck.{field_at}
+use Rattle.pc_model.specs.Codes.{text_at}
 use Rattle.pc_model.specs.declared.limits.TheConstants.{MAX_ACCOUNTS}
 use Rattle.pc_cards.specs.Entry.{Entry, in_both, up_to}
 use Rattle.pc_cards.specs.Forms.{money, number_in}
@@ -13,10 +13,10 @@ use Rattle.pc_deck.specs.Builders.{named_kind}
 abbrev pub account_card : ℕ → List (List ℕ) → AcctCard
 account_card row fields = record {
   row = row;
-  code = field_at fields 1;
-  item = field_at fields 2;
-  budget = number_in (field_at fields 3);
-  title = field_at fields 4;
+  code = text_at fields 1;
+  item = text_at fields 2;
+  budget = number_in (text_at fields 3);
+  title = text_at fields 4;
 }
 
 -- the kind

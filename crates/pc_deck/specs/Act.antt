@@ -1,6 +1,6 @@
 -- ACT,code,from,to,item,opt,likely,pess,normal,crash,cost,slope,title
 use Rattle.std.specs.Prelude.{ℕ, List, [], ◌∷◌}
-use Rattle.pc_records.specs.Deck.{field_at}
+use Rattle.pc_model.specs.Codes.{text_at}
 use Rattle.pc_model.specs.declared.limits.TheConstants.{MAX_SLOPE, MAX_ACTIVITIES}
 use Rattle.pc_cards.specs.Entry.{Entry, growing, in_both, in_plans}
 use Rattle.pc_deck.specs.declared.limits.TheConstants.{SMALL_ACTIVITIES}
@@ -14,18 +14,18 @@ use Rattle.pc_deck.specs.Builders.{named_kind}
 abbrev pub act_card : ℕ → List (List ℕ) → ActCard
 act_card row fields = record {
   row = row;
-  code = field_at fields 1;
-  from = field_at fields 2;
-  to = field_at fields 3;
-  item = field_at fields 4;
-  opt = number_in (field_at fields 5);
-  likely = number_in (field_at fields 6);
-  pess = number_in (field_at fields 7);
-  normal = number_in (field_at fields 8);
-  crash = number_in (field_at fields 9);
-  cost = number_in (field_at fields 10);
-  slope = number_in (field_at fields 11);
-  title = field_at fields 12;
+  code = text_at fields 1;
+  from = text_at fields 2;
+  to = text_at fields 3;
+  item = text_at fields 4;
+  opt = number_in (text_at fields 5);
+  likely = number_in (text_at fields 6);
+  pess = number_in (text_at fields 7);
+  normal = number_in (text_at fields 8);
+  crash = number_in (text_at fields 9);
+  cost = number_in (text_at fields 10);
+  slope = number_in (text_at fields 11);
+  title = text_at fields 12;
 }
 
 -- the kind

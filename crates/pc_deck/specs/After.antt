@@ -1,6 +1,6 @@
 -- AFTER,task,before
 use Rattle.std.specs.Prelude.{ℕ, List, [], ◌∷◌}
-use Rattle.pc_records.specs.Deck.{field_at}
+use Rattle.pc_model.specs.Codes.{text_at}
 use Rattle.pc_cards.specs.Entry.{Entry, in_both, in_tasks, up_to}
 use Rattle.pc_deck.specs.declared.limits.TheConstants.{MAX_AFTERS}
 use Rattle.pc_cards.specs.declared.form.FieldForm.TheVariants as form
@@ -10,7 +10,7 @@ use Rattle.pc_deck.specs.Builders.{listed_kind}
 
 -- the card that a record spells
 abbrev pub after_card : ℕ → List (List ℕ) → AfterCard
-after_card row fields = record { row = row; task = field_at fields 1; before = field_at fields 2 }
+after_card row fields = record { row = row; task = text_at fields 1; before = text_at fields 2 }
 
 -- the kind
 abbrev pub after_kind : Entry CardLists

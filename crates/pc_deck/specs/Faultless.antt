@@ -2,7 +2,7 @@
 -- exactly if the deck has none of the faults of `Refusal`.
 use Rattle.std.specs.Prelude.{◌≡◌, ◌≢◌, true, false, List, [], ◌∷◌, ◌++◌, ℕ, Some}
 use Rattle.std.specs.Str.{is_utf8}
-use Rattle.pc_records.specs.Deck.{field_at}
+use Rattle.pc_model.specs.Codes.{text_at}
 use Rattle.pc_faults.specs.declared.kind.Kind.{Kind}
 use Rattle.pc_faults.specs.declared.kind.Kind.TheVariants.{Project}
 use Rattle.pc_cards.specs.Cards.{Numbered, deck_cards}
@@ -24,7 +24,7 @@ pub record IsFaultlessAs (seen : Seen) (card : Numbered) (kind : Kind) : Type 0 
   pub whole : is_whole_as kind card.1 ≡ true
   pub fit : AllFit (slots_of seen.sort kind) card.1
   -- no card of the kind has its code already
-  pub differs : is_among (field_at card.1 1) (seen.codes kind) ≡ false
+  pub differs : is_among (text_at card.1 1) (seen.codes kind) ≡ false
   -- there are not as many cards of the kind already as there may be
   pub has_room : limit_of seen.sort seen.version kind ≢ Some (seen.count kind)
   -- no END card came before

@@ -1,6 +1,6 @@
 -- LOAD,activity,resource,quantity
 use Rattle.std.specs.Prelude.{ℕ, List, [], ◌∷◌}
-use Rattle.pc_records.specs.Deck.{field_at}
+use Rattle.pc_model.specs.Codes.{text_at}
 use Rattle.pc_model.specs.declared.limits.TheConstants.{MAX_LOADS}
 use Rattle.pc_cards.specs.Entry.{Entry, in_both, up_to}
 use Rattle.pc_cards.specs.Forms.{money, number_in}
@@ -11,7 +11,7 @@ use Rattle.pc_deck.specs.Builders.{listed_kind}
 
 -- the card that a record spells
 abbrev pub load_card : ℕ → List (List ℕ) → LoadCard
-load_card row fields = record { row = row; activity = field_at fields 1; resource = field_at fields 2; quantity = number_in (field_at fields 3) }
+load_card row fields = record { row = row; activity = text_at fields 1; resource = text_at fields 2; quantity = number_in (text_at fields 3) }
 
 -- the kind
 abbrev pub load_kind : Entry CardLists

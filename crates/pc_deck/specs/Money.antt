@@ -1,6 +1,6 @@
 -- CHARGE,account,date,amount and TOGO,account,date,amount
 use Rattle.std.specs.Prelude.{ℕ, List, [], ◌∷◌, decimal}
-use Rattle.pc_records.specs.Deck.{field_at}
+use Rattle.pc_model.specs.Codes.{text_at}
 use Rattle.pc_model.specs.declared.limits.TheConstants.{MAX_CHARGES, MAX_TOGOS}
 use Rattle.pc_days.specs.Calendar.{text_of_day}
 use Rattle.pc_cards.specs.Entry.{Entry, growing, in_both, up_to}
@@ -13,7 +13,7 @@ use Rattle.pc_deck.specs.Builders.{listed_kind}
 
 -- the card that a record spells
 abbrev pub money_card : ℕ → List (List ℕ) → MoneyCard
-money_card row fields = record { row = row; account = field_at fields 1; day = day_in (field_at fields 2); amount = number_in (field_at fields 3) }
+money_card row fields = record { row = row; account = text_at fields 1; day = day_in (text_at fields 2); amount = number_in (text_at fields 3) }
 
 -- its fields as they are written
 abbrev pub written_money : MoneyCard → List (List ℕ)

@@ -1,6 +1,6 @@
 -- PIECE,activity,units,slope
 use Rattle.std.specs.Prelude.{ℕ, List, [], ◌∷◌}
-use Rattle.pc_records.specs.Deck.{field_at}
+use Rattle.pc_model.specs.Codes.{text_at}
 use Rattle.pc_model.specs.declared.limits.TheConstants.{MAX_DURATION, MAX_SLOPE, MAX_PIECES}
 use Rattle.pc_cards.specs.Entry.{Entry, growing, in_both}
 use Rattle.pc_deck.specs.declared.limits.TheConstants.{SMALL_PIECES}
@@ -12,7 +12,7 @@ use Rattle.pc_deck.specs.Builders.{listed_kind}
 
 -- the card that a record spells
 abbrev pub piece_card : ℕ → List (List ℕ) → PieceCard
-piece_card row fields = record { row = row; activity = field_at fields 1; units = number_in (field_at fields 2); slope = number_in (field_at fields 3) }
+piece_card row fields = record { row = row; activity = text_at fields 1; units = number_in (text_at fields 2); slope = number_in (text_at fields 3) }
 
 -- the kind
 abbrev pub piece_kind : Entry CardLists

@@ -1,6 +1,6 @@
 -- PROJECT,code,start,end,date,days of a unit,directed end,title,version
 use Rattle.std.specs.Prelude.{ℕ, List, [], ◌∷◌, unwrap_or, None}
-use Rattle.pc_records.specs.Deck.{field_at}
+use Rattle.pc_model.specs.Codes.{text_at}
 use Rattle.pc_text.specs.Number.{number_of}
 use Rattle.pc_model.specs.declared.limits.TheConstants.{MAX_DIRECTED, MAX_UNIT_DAYS}
 use Rattle.pc_cards.specs.Entry.{Entry}
@@ -18,14 +18,14 @@ version_in field = unwrap_or (number_of field) 1
 abbrev pub project_card : ℕ → List (List ℕ) → ProjectCard
 project_card row fields = record {
   row = row;
-  code = field_at fields 1;
-  start = field_at fields 2;
-  end = field_at fields 3;
-  start_day = day_in (field_at fields 4);
-  unit_days = number_in (field_at fields 5);
-  directed = number_of (field_at fields 6);
-  title = field_at fields 7;
-  version = version_in (field_at fields 8);
+  code = text_at fields 1;
+  start = text_at fields 2;
+  end = text_at fields 3;
+  start_day = day_in (text_at fields 4);
+  unit_days = number_in (text_at fields 5);
+  directed = number_of (text_at fields 6);
+  title = text_at fields 7;
+  version = version_in (text_at fields 8);
 }
 
 -- the kind; the last field of its card may be missing, and the card is not in the lists

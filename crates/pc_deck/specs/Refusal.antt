@@ -1,7 +1,8 @@
 -- The faults of a deck: which it has, and which is the first.
 use Rattle.std.specs.Prelude.{◌≡◌, ◌≢◌, ℕ, ◌+◌, ◌<◌, ◌⊎◌, Bool, true, false, not, List, [], ◌∷◌, ◌++◌, length, map, filter, Option, Some, None, if◌then◌else◌, bytes_eq}
 use Rattle.std.specs.Str.{is_utf8}
-use Rattle.pc_records.specs.Deck.{deck_records, field_at}
+use Rattle.pc_records.specs.Deck.{deck_records}
+use Rattle.pc_model.specs.Codes.{text_at}
 use Rattle.pc_faults.specs.Kinds.{word_of}
 use Rattle.pc_faults.specs.Faults as fault
 use Rattle.pc_faults.specs.First.{IsFirst}
@@ -20,15 +21,15 @@ use Rattle.pc_deck.specs.Judged.{Seen}
 
 -- the kind that a card of a deck of a sort names in its first field
 abbrev pub kind_named : Sort → Numbered → Option Kind
-kind_named sort card = kind_of sort (field_at card.1 0)
+kind_named sort card = kind_of sort (text_at card.1 0)
 
 -- the cards of a kind, among cards
 abbrev pub of_kind : Kind → List Numbered → List Numbered
-of_kind kind cards = filter (λ card. bytes_eq (field_at card.1 0) (word_of kind)) cards
+of_kind kind cards = filter (λ card. bytes_eq (text_at card.1 0) (word_of kind)) cards
 
 -- the codes that the cards of a kind have of their own
 abbrev pub own_codes : Kind → List Numbered → List (List ℕ)
-own_codes kind cards = if has_code_of_its_own kind then map (λ card. field_at card.1 1) (of_kind kind cards) else []
+own_codes kind cards = if has_code_of_its_own kind then map (λ card. text_at card.1 1) (of_kind kind cards) else []
 
 -- whether there are no cards
 abbrev pub are_none : List Numbered → Bool
@@ -38,7 +39,7 @@ are_none (card ∷ cards) = false
 -- the version that the first of some PROJECT cards spells; 1 where there is none
 abbrev pub version_said : List Numbered → ℕ
 version_said [] = 1
-version_said (card ∷ cards) = version_in (field_at card.1 8)
+version_said (card ∷ cards) = version_in (text_at card.1 8)
 
 -- what counts of the cards before one in a deck of a sort
 abbrev pub seen_among : Sort → List Numbered → Seen
@@ -77,8 +78,8 @@ pub data HasCardFault (seen : Seen) (card : Numbered) (found : Fault) : Type 0 w
       → found ≡ fault.over_limit card.0 slot.0 → HasCardFault seen card found
   -- F9: a code that an earlier card of the kind has, where every shape is right
   repeated_code : (kind : Kind) → kind_named seen.sort card ≡ Some kind → is_whole_as kind card.1 ≡ true
-      → first_misshapen (slots_of seen.sort kind) card.1 ≡ None → is_among (field_at card.1 1) (seen.codes kind) ≡ true
-      → found ≡ fault.repeated_code card.0 (field_at card.1 1) → HasCardFault seen card found
+      → first_misshapen (slots_of seen.sort kind) card.1 ≡ None → is_among (text_at card.1 1) (seen.codes kind) ≡ true
+      → found ≡ fault.repeated_code card.0 (text_at card.1 1) → HasCardFault seen card found
   -- F10: the first card past the limit of its kind
   one_too_many : (kind : Kind) (limit : ℕ) → kind_named seen.sort card ≡ Some kind → limit_of seen.sort seen.version kind ≡ Some limit → seen.count kind ≡ limit
       → found ≡ fault.too_many card.0 kind limit → HasCardFault seen card found

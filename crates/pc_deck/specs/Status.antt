@@ -1,6 +1,6 @@
 -- STATUS,activity,S or F,date
 use Rattle.std.specs.Prelude.{ℕ, List, [], ◌∷◌, bytes_eq, codes}
-use Rattle.pc_records.specs.Deck.{field_at}
+use Rattle.pc_model.specs.Codes.{text_at}
 use Rattle.pc_cards.specs.Entry.{Entry, growing, in_both}
 use Rattle.pc_deck.specs.declared.limits.TheConstants.{SMALL_STATUSES}
 use Rattle.pc_model.specs.declared.limits.TheConstants.{MAX_STATUSES}
@@ -14,9 +14,9 @@ use Rattle.pc_deck.specs.Builders.{listed_kind}
 abbrev pub status_card : ℕ → List (List ℕ) → StatusCard
 status_card row fields = record {
   row = row;
-  activity = field_at fields 1;
-  finished = bytes_eq (field_at fields 2) (codes "F");
-  day = day_in (field_at fields 3);
+  activity = text_at fields 1;
+  finished = bytes_eq (text_at fields 2) (codes "F");
+  day = day_in (text_at fields 3);
 }
 
 -- the kind

@@ -1,6 +1,6 @@
 -- TASK,code,item,opt,likely,pess,normal,crash,cost,slope,title
 use Rattle.std.specs.Prelude.{ℕ, List, [], ◌∷◌}
-use Rattle.pc_records.specs.Deck.{field_at}
+use Rattle.pc_model.specs.Codes.{text_at}
 use Rattle.pc_model.specs.declared.limits.TheConstants.{MAX_SLOPE}
 use Rattle.pc_cards.specs.Entry.{Entry, in_both, in_tasks, up_to}
 use Rattle.pc_deck.specs.declared.limits.TheConstants.{MAX_TASKS}
@@ -14,16 +14,16 @@ use Rattle.pc_deck.specs.Builders.{named_kind}
 abbrev pub task_card : ℕ → List (List ℕ) → TaskCard
 task_card row fields = record {
   row = row;
-  code = field_at fields 1;
-  item = field_at fields 2;
-  opt = number_in (field_at fields 3);
-  likely = number_in (field_at fields 4);
-  pess = number_in (field_at fields 5);
-  normal = number_in (field_at fields 6);
-  crash = number_in (field_at fields 7);
-  cost = number_in (field_at fields 8);
-  slope = number_in (field_at fields 9);
-  title = field_at fields 10;
+  code = text_at fields 1;
+  item = text_at fields 2;
+  opt = number_in (text_at fields 3);
+  likely = number_in (text_at fields 4);
+  pess = number_in (text_at fields 5);
+  normal = number_in (text_at fields 6);
+  crash = number_in (text_at fields 7);
+  cost = number_in (text_at fields 8);
+  slope = number_in (text_at fields 9);
+  title = text_at fields 10;
 }
 
 -- the kind

@@ -1,6 +1,6 @@
 -- TERMS,overhead,target,bonus,penalty
 use Rattle.std.specs.Prelude.{ℕ, List, [], ◌∷◌}
-use Rattle.pc_records.specs.Deck.{field_at}
+use Rattle.pc_model.specs.Codes.{text_at}
 use Rattle.pc_model.specs.declared.limits.TheConstants.{MAX_TERMS}
 use Rattle.pc_cards.specs.Entry.{Entry, in_both}
 use Rattle.pc_cards.specs.Forms.{number_in}
@@ -18,10 +18,10 @@ term = form.Number 0 MAX_TERMS
 abbrev pub terms_card : ℕ → List (List ℕ) → TermsCard
 terms_card row fields = record {
   row = row;
-  overhead = number_in (field_at fields 1);
-  target = number_in (field_at fields 2);
-  bonus = number_in (field_at fields 3);
-  penalty = number_in (field_at fields 4);
+  overhead = number_in (text_at fields 1);
+  target = number_in (text_at fields 2);
+  bonus = number_in (text_at fields 3);
+  penalty = number_in (text_at fields 4);
 }
 
 -- the kind

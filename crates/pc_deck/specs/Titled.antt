@@ -1,6 +1,6 @@
 -- EVENT,code,title and RES,code,title
 use Rattle.std.specs.Prelude.{ℕ, List, [], ◌∷◌}
-use Rattle.pc_records.specs.Deck.{field_at}
+use Rattle.pc_model.specs.Codes.{text_at}
 use Rattle.pc_cards.specs.Entry.{Entry, growing, in_both, in_plans, up_to}
 use Rattle.pc_deck.specs.declared.limits.TheConstants.{SMALL_EVENTS}
 use Rattle.pc_model.specs.declared.limits.TheConstants.{MAX_EVENTS, MAX_RESOURCES}
@@ -11,7 +11,7 @@ use Rattle.pc_deck.specs.Builders.{named_kind}
 
 -- the card that a record spells
 abbrev pub titled_card : ℕ → List (List ℕ) → TitledCard
-titled_card row fields = record { row = row; code = field_at fields 1; title = field_at fields 2 }
+titled_card row fields = record { row = row; code = text_at fields 1; title = text_at fields 2 }
 
 -- its fields as they are written
 abbrev pub written_titled : TitledCard → List (List ℕ)

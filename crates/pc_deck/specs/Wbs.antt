@@ -1,6 +1,6 @@
 -- WBS,code,parent,title; the top item has no parent
 use Rattle.std.specs.Prelude.{ℕ, List, [], ◌∷◌}
-use Rattle.pc_records.specs.Deck.{field_at}
+use Rattle.pc_model.specs.Codes.{text_at}
 use Rattle.pc_text.specs.Code.{code_of}
 use Rattle.pc_cards.specs.Entry.{Entry, by_sort, up_to}
 use Rattle.pc_model.specs.declared.limits.TheConstants.{MAX_ITEMS}
@@ -13,7 +13,7 @@ use Rattle.pc_deck.specs.Builders.{named_kind}
 
 -- the card that a record spells
 abbrev pub item_card : ℕ → List (List ℕ) → ItemCard
-item_card row fields = record { row = row; code = field_at fields 1; parent = code_of (field_at fields 2); title = field_at fields 3 }
+item_card row fields = record { row = row; code = text_at fields 1; parent = code_of (text_at fields 2); title = text_at fields 3 }
 
 -- the kind
 abbrev pub item_kind : Entry CardLists

@@ -9,7 +9,7 @@ use Rattle.std.proofs.lemmas.Map.Keys.{apart_from_distinct}
 use Rattle.std.proofs.lemmas.Cmp.{nat_list_eq_equiv}
 use Rattle.std.specs.Cmp.Lexicographic.{pointwise, same_text}
 use Rattle.std.specs.List.{list_any, IsDistinct}
-use Rattle.pc_model.specs.Codes.{code_at, IsNamedOnce}
+use Rattle.pc_model.specs.Codes.{text_at, IsNamedOnce}
 
 -- no code stands twice where there is none
 pub IsNamedOnce-nil : IsNamedOnce []
@@ -19,13 +19,13 @@ IsNamedOnce-nil = λ j k before within same. omega arith
 pub IsNamedOnce-distinct : (codes : List (List ℕ)) → IsDistinct (pointwise nat_eq) codes → IsNamedOnce codes
 IsNamedOnce-distinct codes distinct = λ j k before within same.
     let apart = apart_from_distinct (pointwise nat_eq) codes j k [] distinct before within in
-    let itself : pointwise nat_eq (code_at codes j) (code_at codes k) ≡ true = rw same (nat_list_eq_equiv.refl (code_at codes k)) in
+    let itself : pointwise nat_eq (text_at codes j) (text_at codes k) ≡ true = rw same (nat_list_eq_equiv.refl (text_at codes k)) in
     cc
 
 -- a code that is not among those stands at none of their places
-pub absent : (codes : List (List ℕ)) (code : List ℕ) (j : ℕ) → list_any (pointwise nat_eq code) codes ≡ false → j < length codes → code_at codes j ≢ code
+pub absent : (codes : List (List ℕ)) (code : List ℕ) (j : ℕ) → list_any (pointwise nat_eq code) codes ≡ false → j < length codes → text_at codes j ≢ code
 absent codes code j new within same =
-    let itself : pointwise nat_eq code (code_at codes j) ≡ true = rw same (nat_list_eq_equiv.refl code) in
+    let itself : pointwise nat_eq code (text_at codes j) ≡ true = rw same (nat_list_eq_equiv.refl code) in
     let found = list_any_at (pointwise nat_eq code) codes j [] within itself in
     cc
 
@@ -34,10 +34,10 @@ pub inner_or_last : (k n : ℕ) → k < n + 1 → (k < n) ⊎ (k ≡ n)
 inner_or_last k n h = grind arith
 
 -- the places of codes with one more at their end
-pub inner-place : (codes : List (List ℕ)) (code : List ℕ) (k : ℕ) → k < length codes → code_at (codes ++ code ∷ []) k ≡ code_at codes k
+pub inner-place : (codes : List (List ℕ)) (code : List ℕ) (k : ℕ) → k < length codes → text_at (codes ++ code ∷ []) k ≡ text_at codes k
 inner-place codes code k inside = get_or_append_left codes (code ∷ []) [] k inside
 
-pub last-place : (codes : List (List ℕ)) (code : List ℕ) (k : ℕ) → k ≡ length codes → code_at (codes ++ code ∷ []) k ≡ code
+pub last-place : (codes : List (List ℕ)) (code : List ℕ) (k : ℕ) → k ≡ length codes → text_at (codes ++ code ∷ []) k ≡ code
 last-place codes code k last = rw last (get_or-append_seam codes code [] [])
 
 -- a new code at the end
@@ -50,26 +50,26 @@ IsNamedOnce-push codes code once new = λ j k before within same.
     ]
 
 -- each is not among those before it
-pub not_before : (codes : List (List ℕ)) (k : ℕ) → IsNamedOnce codes → k < length codes → list_any (pointwise nat_eq (code_at codes k)) (take k codes) ≡ false
+pub not_before : (codes : List (List ℕ)) (k : ℕ) → IsNamedOnce codes → k < length codes → list_any (pointwise nat_eq (text_at codes k)) (take k codes) ≡ false
 not_before codes k once inside =
-    list_any_none (pointwise nat_eq (code_at codes k)) (take k codes)
-    (All-from_get_or (λ code. pointwise nat_eq (code_at codes k) code ≡ false) (take k codes) []
+    list_any_none (pointwise nat_eq (text_at codes k)) (take k codes)
+    (All-from_get_or (λ code. pointwise nat_eq (text_at codes k) code ≡ false) (take k codes) []
     (λ j below. other j (omega (arith, length-take k codes))))
   where
-    other : (j : ℕ) → j < k → pointwise nat_eq (code_at codes k) (get_or (take k codes) j []) ≡ false
+    other : (j : ℕ) → j < k → pointwise nat_eq (text_at codes k) (get_or (take k codes) j []) ≡ false
     other j below =
         rw (get-taken j below) (⊎_elim
-        (λ same. absurd (once j k below inside (sym (same_text (code_at codes k) (code_at codes j) (sym same)))))
+        (λ same. absurd (once j k below inside (sym (same_text (text_at codes k) (text_at codes j) (sym same)))))
         (λ differs. differs)
-        (cases_Bool (pointwise nat_eq (code_at codes k) (code_at codes j))))
+        (cases_Bool (pointwise nat_eq (text_at codes k) (text_at codes j))))
       where
-        get-taken : (i : ℕ) → i < k → get_or (take k codes) i [] ≡ code_at codes i
+        get-taken : (i : ℕ) → i < k → get_or (take k codes) i [] ≡ text_at codes i
         get-taken i h = get_or-take k codes i [] h
 
 -- one more of these codes is added to those before it
 pub one_more_added : (codes so_far next : List (List ℕ)) (i : ℕ) (code : List ℕ) (is_new : Bool) → IsNamedOnce codes → so_far ≡ take i codes → i < length codes
     → code ≡ get_or codes i code → is_new ≡ not (list_any (pointwise nat_eq code) so_far) → (is_new ≡ true → next ≡ so_far ++ code ∷ []) → next ≡ take (i + 1) codes
 one_more_added codes so_far next i code is_new once is within at told added =
-    let here : code ≡ code_at codes i = at ∙ get_or_default codes i code [] within in
+    let here : code ≡ text_at codes i = at ∙ get_or_default codes i code [] within in
     let none : list_any (pointwise nat_eq code) so_far ≡ false = rw (is, here) (not_before codes i once within) in
     added (told ∙ ap not none) ∙ (ap (λ front. front ++ code ∷ []) is ∙ (ap (λ (c : List ℕ). take i codes ++ c ∷ []) here ∙ sym (take_more codes i [] within)))

@@ -8,7 +8,7 @@ use Rattle.std.proofs.lemmas.List.Sums.{position_or_len_is, fails_before_first}
 use Rattle.std.proofs.lemmas.Cmp.{nat_list_eq_equiv}
 use Rattle.std.specs.Cmp.Lexicographic.{pointwise, same_text}
 use Rattle.std.specs.List.{list_any, position, position_or_len}
-use Rattle.pc_model.specs.Codes.{code_at, IsNamedOnce}
+use Rattle.pc_model.specs.Codes.{text_at, IsNamedOnce}
 use Rattle.pc_names.proofs.OnceLaws.{absent}
 
 module _ (codes : List (List ℕ)) (code : List ℕ) where
@@ -16,12 +16,12 @@ module _ (codes : List (List ℕ)) (code : List ℕ) where
   is = pointwise nat_eq code
 
   -- a code that is not the one is found not to be
-  differs : (a : ℕ) → code_at codes a ≢ code → is (code_at codes a) ≡ false
+  differs : (a : ℕ) → text_at codes a ≢ code → is (text_at codes a) ≡ false
   differs a other =
-      ⊎_elim (λ same. absurd (other (sym (same_text code (code_at codes a) (sym same))))) (λ h. h) (cases_Bool (is (code_at codes a)))
+      ⊎_elim (λ same. absurd (other (sym (same_text code (text_at codes a) (sym same))))) (λ h. h) (cases_Bool (is (text_at codes a)))
 
   -- the only place of a code is where it is found
-  pub position-named : (a : ℕ) → IsNamedOnce codes → a < length codes → code_at codes a ≡ code → position is codes ≡ Some a
+  pub position-named : (a : ℕ) → IsNamedOnce codes → a < length codes → text_at codes a ≡ code → position is codes ≡ Some a
   position-named a once inside same =
       let at : position_or_len is codes ≡ a =
       position_or_len_is is codes a [] (omega arith)
@@ -30,17 +30,17 @@ module _ (codes : List (List ℕ)) (code : List ℕ) where
       rw (at, lt-ltb a (length codes) inside) refl
 
   -- one that stands nowhere is not found
-  pub position-unknown : ((a : ℕ) → a < length codes → code_at codes a ≢ code) → position is codes ≡ None
+  pub position-unknown : ((a : ℕ) → a < length codes → text_at codes a ≢ code) → position is codes ≡ None
   position-unknown nowhere =
       let at : position_or_len is codes ≡ length codes =
       position_or_len_is is codes (length codes) [] (omega arith) (λ k below. differs k (nowhere k below)) (λ past. absurd (omega arith)) in
       rw (at, le-ltb (length codes) (length codes) (omega arith)) refl
 
   -- the place where a code is found has it
-  pub code-found : (a : ℕ) → position is codes ≡ Some a → (a < length codes) × (code_at codes a ≡ code)
+  pub code-found : (a : ℕ) → position is codes ≡ Some a → (a < length codes) × (text_at codes a ≡ code)
   code-found a found =
       let at = position-Some is codes a [] found in
-      (at.0, sym (same_text code (code_at codes a) (sym at.1)))
+      (at.0, sym (same_text code (text_at codes a) (sym at.1)))
 
   -- one that is not among them is not found
   position-absent : list_any is codes ≡ false → position is codes ≡ None
@@ -67,9 +67,9 @@ module _ (codes : List (List ℕ)) (code : List ℕ) where
       by true known = rw (lt-ltb (position_or_len is codes) (length codes) (first_within known)) (sym known)
 
   -- a code that is not found stands at no place
-  pub code-missing : position is codes ≡ None → (a : ℕ) → a < length codes → code_at codes a ≢ code
+  pub code-missing : position is codes ≡ None → (a : ℕ) → a < length codes → text_at codes a ≢ code
   code-missing none a inside same =
-      let itself : is (code_at codes a) ≡ true = rw same (nat_list_eq_equiv.refl code) in
+      let itself : is (text_at codes a) ≡ true = rw same (nat_list_eq_equiv.refl code) in
       let known = list_any_at is codes a [] inside itself in
       let found : is_some (position is codes) ≡ true = is_some-position ∙ known in
       absurd (let clash : is_some (position is codes) ≡ false = ap is_some none in cc)

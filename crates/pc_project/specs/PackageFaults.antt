@@ -2,7 +2,7 @@
 -- (F29).
 use Rattle.std.specs.Prelude.{◌≡◌, ℕ, List, slice_index}
 use Rattle.std.specs.List.{Any}
-use Rattle.pc_model.specs.Codes.{code_at}
+use Rattle.pc_model.specs.Codes.{text_at}
 use Rattle.pc_accounts.specs.Packages.{IsUneven, budgets_of, costs_of}
 use Rattle.pc_deck.specs.Deck.{Deck, item_codes, number_among}
 use Rattle.pc_faults.specs.Faults.{not_a_leaf, uneven}
@@ -29,7 +29,7 @@ HasNoLeafFault deck = (fault : Fault) → HasLeafFault deck fault → ⊥
 -- the fault of an uneven item: its record, its code and its two sums
 abbrev pub uneven_at : Deck → ℕ → Fault
 uneven_at deck item =
-    uneven (slice_index (item_records deck) item) (code_at (item_codes deck) item) (budgets_of (accounts_in deck) item) (costs_of (work_in deck) item)
+    uneven (slice_index (item_records deck) item) (text_at (item_codes deck) item) (budgets_of (accounts_in deck) item) (costs_of (work_in deck) item)
 
 -- F29: that of the first item whose accounts' budgets are not what its activities cost
 abbrev pub IsFirstUnevenFault : Deck → Fault → Type 0

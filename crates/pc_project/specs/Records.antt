@@ -1,12 +1,12 @@
 -- The records and the codes of cards, by their numbers in card order.
 use Rattle.std.specs.Prelude.{ℕ, List, map}
-use Rattle.pc_model.specs.Codes.{code_at}
+use Rattle.pc_model.specs.Codes.{text_at}
 use Rattle.pc_deck.specs.Deck.{Deck}
 use Rattle.pc_deck.specs.declared.kinds.wbs.ItemCard.{ItemCard}
 
 -- the codes with these numbers
 abbrev pub codes_at : List (List ℕ) → List ℕ → List (List ℕ)
-codes_at codes numbers = map (code_at codes) numbers
+codes_at codes numbers = map (text_at codes) numbers
 
 -- the records and the codes of items, in their order
 abbrev pub records_among : List ItemCard → List ℕ

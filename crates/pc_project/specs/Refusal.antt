@@ -4,7 +4,7 @@
 -- accounts stand on (F28), then the budgets of packages (F29), then statuses and as-of (F30), then second amounts to go
 -- (F31), then the pieces of the activities' costs (F33 to F35), and last the terms of time (F36).
 use Rattle.std.specs.Prelude.{◌≡◌, ℕ, List, slice_index}
-use Rattle.pc_model.specs.Codes.{code_at}
+use Rattle.pc_model.specs.Codes.{text_at}
 use Rattle.pc_accounts.specs.Packages.{IsUneven}
 use Rattle.pc_accounts.specs.Second.{IsRepeated}
 use Rattle.pc_model.specs.Network.{IsSound}
@@ -35,9 +35,9 @@ use Rattle.pc_project.specs.Misfit.{HasMisfit, HasNoMisfit}
 -- the fault by which a refusal of the tree of these items is told; it comes at the card of the item that is named first
 abbrev pub tree_fault : List ItemCard → TreeError → DeckError
 tree_fault items tree.NoTop = Fault no_top
-tree_fault items (tree.SecondTop item) = Fault (second_top (slice_index (records_among items) item) (code_at (codes_among items) item))
+tree_fault items (tree.SecondTop item) = Fault (second_top (slice_index (records_among items) item) (text_at (codes_among items) item))
 tree_fault items (tree.Loop loop) = Fault (item_loop (slice_index (records_among items) (slice_index loop 0)) (codes_at (codes_among items) loop))
-tree_fault items (tree.TooDeep item level) = Fault (too_deep (slice_index (records_among items) item) (code_at (codes_among items) item) level)
+tree_fault items (tree.TooDeep item level) = Fault (too_deep (slice_index (records_among items) item) (text_at (codes_among items) item) level)
 tree_fault items tree.OutOfMemory = OutOfMemory
 
 -- these items, with these parents, are no tree, and that is told by the fault
@@ -48,9 +48,9 @@ pub record IsTreeFault (items : List ItemCard) (rows : List ItemRow) (fault : AD
 
 -- the fault by which a refusal of the network is told; it comes at the card of the activity or event that is named first
 abbrev pub net_fault : Deck → NetError → DeckError
-net_fault deck (net.StartEntered arc) = Fault (enters_start (slice_index (act_records deck) arc) (code_at (act_codes deck) arc))
-net_fault deck (net.EndLeft arc) = Fault (leaves_end (slice_index (act_records deck) arc) (code_at (act_codes deck) arc))
-net_fault deck (net.Dangling event entered) = Fault (dangling (slice_index (event_records deck) event) (code_at (event_codes deck) event) entered)
+net_fault deck (net.StartEntered arc) = Fault (enters_start (slice_index (act_records deck) arc) (text_at (act_codes deck) arc))
+net_fault deck (net.EndLeft arc) = Fault (leaves_end (slice_index (act_records deck) arc) (text_at (act_codes deck) arc))
+net_fault deck (net.Dangling event entered) = Fault (dangling (slice_index (event_records deck) event) (text_at (event_codes deck) event) entered)
 net_fault deck (net.Cycle round) = Fault (cycle (slice_index (act_records deck) (slice_index round 0)) (codes_at (act_codes deck) round))
 net_fault deck net.OutOfMemory = OutOfMemory
 

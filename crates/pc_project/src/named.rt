@@ -1,6 +1,6 @@
 //! The cards that a refusal names by their numbers.
 ghost use Rattle.std.specs.Prelude.{◌≡◌, ◌<◌, All, length, slice_index, IfOk};
-ghost use Rattle.pc_model.specs.Codes.{code_at};
+ghost use Rattle.pc_model.specs.Codes.{text_at};
 ghost use Rattle.pc_deck.specs.Deck.{act_codes, event_codes};
 ghost use Rattle.pc_project.specs.Records.{act_records, codes_among, codes_at, event_records, records_among};
 
@@ -19,7 +19,7 @@ pub(crate) struct NamedCard {
 pub(crate) fn item_card(items: &[ItemCard], item: u32) -> NamedCard
     requires { item < length items.now }
     ensures row { result.row ≡ slice_index (records_among items.now) item }
-    ensures code { result.code ≡ code_at (codes_among items.now) item }
+    ensures code { result.code ≡ text_at (codes_among items.now) item }
 {
     let card = items[item as usize];
     NamedCard {
@@ -32,7 +32,7 @@ pub(crate) fn item_card(items: &[ItemCard], item: u32) -> NamedCard
 pub(crate) fn event_card(cards: &Cards, event: u32) -> NamedCard
     requires { event < length cards.now.events }
     ensures row { result.row ≡ slice_index (event_records cards.now) event }
-    ensures code { result.code ≡ code_at (event_codes cards.now) event }
+    ensures code { result.code ≡ text_at (event_codes cards.now) event }
 {
     let card = cards.events()[event as usize];
     NamedCard {
@@ -45,7 +45,7 @@ pub(crate) fn event_card(cards: &Cards, event: u32) -> NamedCard
 pub(crate) fn act_card(cards: &Cards, act: u32) -> NamedCard
     requires { act < length cards.now.acts }
     ensures row { result.row ≡ slice_index (act_records cards.now) act }
-    ensures code { result.code ≡ code_at (act_codes cards.now) act }
+    ensures code { result.code ≡ text_at (act_codes cards.now) act }
 {
     let card = cards.acts()[act as usize];
     NamedCard {

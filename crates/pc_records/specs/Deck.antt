@@ -1,5 +1,5 @@
 -- The records of a deck: the list of its rows of fields.
-use Rattle.std.specs.Prelude.{◌==◌, if◌then◌else◌, ℕ, Bool, nat_eq, List, [], ◌∷◌, drop, length, slice_index_or}
+use Rattle.std.specs.Prelude.{◌==◌, if◌then◌else◌, ℕ, Bool, nat_eq, List, [], ◌∷◌, drop, length}
 use Rattle.std.specs.List.{starts_with, list_all}
 use Rattle.csv.specs.Reading.{default_config, records, strip_bom}
 
@@ -23,7 +23,3 @@ is_empty field = length field == 0
 -- whether all fields are empty
 abbrev pub is_blank : List (List ℕ) → Bool
 is_blank fields = list_all is_empty fields
-
--- the field at a place, counted from 0; an empty one past the last
-abbrev pub field_at : List (List ℕ) → ℕ → List ℕ
-field_at fields i = slice_index_or fields i []

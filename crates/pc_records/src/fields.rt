@@ -1,7 +1,8 @@
 // The fields of a record, whatever keeps them.
 
 ghost use Rattle.std.specs.Prelude.{◌≡◌, List, ℕ, drop, length};
-ghost use Rattle.pc_records.specs.Deck.{field_at, is_blank};
+ghost use Rattle.pc_records.specs.Deck.{is_blank};
+ghost use Rattle.pc_model.specs.Codes.{text_at};
 
 /// The fields of a record, each of any bytes.
 ///
@@ -17,7 +18,7 @@ pub trait Fields {
 
     /// Returns field `i`, counted from 0, or an empty field past the last one.
     fn field(&self, i: usize) -> &[u8]
-        ensures { result.now ≡ field_at (fields self.now) i };
+        ensures { result.now ≡ text_at (fields self.now) i };
 
     /// Returns whether all fields from number `start` on, counted from 0, are empty. Past the last field this is true.
     fn is_blank_from(&self, start: usize) -> bool

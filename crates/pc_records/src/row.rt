@@ -2,7 +2,8 @@
 
 ghost use Rattle.std.specs.Prelude.{◌≡◌, ◌==◌, [], List, ℕ, drop, length, option_map, slice_get, IfOk};
 ghost use Rattle.csv.specs.Records.{fields_of};
-ghost use Rattle.pc_records.specs.Deck.{field_at, is_blank};
+ghost use Rattle.pc_records.specs.Deck.{is_blank};
+ghost use Rattle.pc_model.specs.Codes.{text_at};
 
 use crate::fields::Fields;
 use csv::ByteRecord;
@@ -76,7 +77,7 @@ impl Row {
 
     /// Returns field `i`, counted from 0, or an empty field past the last one.
     pub fn field(&self, i: usize) -> &[u8]
-        ensures { result.now ≡ field_at self.now i }
+        ensures { result.now ≡ text_at self.now i }
     {
         self.get(i).unwrap_or(&[])
     }

@@ -2,7 +2,7 @@
 use Rattle.std.proofs.Common.{◌≡◌, ℕ, zero, suc, ◌+◌, ◌*◌, ◌^◌, ◌<◌, List, [], ◌∷◌, ◌++◌, length, map, Some, refl, sym, ◌∙◌, ap, arith}
 use Rattle.std.specs.Prelude.{unwrap_or}
 use Rattle.std.proofs.lemmas.List.{get_or_append_left, get_or_push, length-append, length-map, map-append}
-use Rattle.pc_model.specs.Codes.{code_at, IsNamedOnce}
+use Rattle.pc_model.specs.Codes.{text_at, IsNamedOnce}
 use Rattle.pc_tasks.specs.network.Arrows.{begin_event, end_event, last_event}
 use Rattle.pc_tasks.proofs.lemmas.network.Outer.{IsEvent, event_of}
 use Rattle.pc_tasks.proofs.lemmas.network.Outer.IsEvent.{at_start, at_begin, at_end, at_last}
@@ -29,24 +29,24 @@ length-task_events i (task ∷ tasks) = omega (arith, length-task_events (i + 1)
 length-inner : (i : ℕ) (tasks : List TaskCard) → length (inner i tasks) ≡ 2 * length tasks
 length-inner i tasks = length-map (task_events i tasks) code_of ∙ length-task_events i tasks
 
-inner-begin : (i : ℕ) (tasks : List TaskCard) (k e : ℕ) → k < length tasks → e ≡ 2 * k → code_at (inner i tasks) e ≡ begin_code (i + k)
+inner-begin : (i : ℕ) (tasks : List TaskCard) (k e : ℕ) → k < length tasks → e ≡ 2 * k → text_at (inner i tasks) e ≡ begin_code (i + k)
 inner-begin i [] k e inside is = absurd (omega arith)
 inner-begin i (task ∷ tasks) zero e inside is =
-    ap (code_at (inner i (task ∷ tasks))) is ∙ ap begin_code (let n : i ≡ i + 0 = omega arith in n)
+    ap (text_at (inner i (task ∷ tasks))) is ∙ ap begin_code (let n : i ≡ i + 0 = omega arith in n)
 inner-begin i (task ∷ tasks) (suc k) e inside is =
     let place : e ≡ suc (suc (2 * k)) = omega arith in
     let number : (i + 1) + k ≡ i + suc k = omega arith in
-    ap (code_at (inner i (task ∷ tasks))) place ∙ (inner-begin (i + 1) tasks k (2 * k) (omega arith) refl ∙ ap begin_code number)
+    ap (text_at (inner i (task ∷ tasks))) place ∙ (inner-begin (i + 1) tasks k (2 * k) (omega arith) refl ∙ ap begin_code number)
 
-inner-end : (i : ℕ) (tasks : List TaskCard) (k e : ℕ) → k < length tasks → e ≡ 2 * k + 1 → code_at (inner i tasks) e ≡ end_code (i + k)
+inner-end : (i : ℕ) (tasks : List TaskCard) (k e : ℕ) → k < length tasks → e ≡ 2 * k + 1 → text_at (inner i tasks) e ≡ end_code (i + k)
 inner-end i [] k e inside is = absurd (omega arith)
 inner-end i (task ∷ tasks) zero e inside is =
     let one : e ≡ 1 = omega arith in
-    ap (code_at (inner i (task ∷ tasks))) one ∙ ap end_code (let n : i ≡ i + 0 = omega arith in n)
+    ap (text_at (inner i (task ∷ tasks))) one ∙ ap end_code (let n : i ≡ i + 0 = omega arith in n)
 inner-end i (task ∷ tasks) (suc k) e inside is =
     let place : e ≡ suc (suc (2 * k + 1)) = omega arith in
     let number : (i + 1) + k ≡ i + suc k = omega arith in
-    ap (code_at (inner i (task ∷ tasks))) place ∙ (inner-end (i + 1) tasks k (2 * k + 1) (omega arith) refl ∙ ap end_code number)
+    ap (text_at (inner i (task ∷ tasks))) place ∙ (inner-end (i + 1) tasks k (2 * k + 1) (omega arith) refl ∙ ap end_code number)
 
 module _ (deck : Deck) (can : CanBeDrawn deck) where
   abbrev n : ℕ
@@ -68,21 +68,21 @@ module _ (deck : Deck) (can : CanBeDrawn deck) where
   code_of_event e (at_end i known is) = end_code i
   code_of_event e (at_last is) = deck.project.end
 
-  code_is : (e : ℕ) (event : IsEvent n e) → code_at all e ≡ code_of_event e event
-  code_is e (at_start is) = ap (code_at all) is
+  code_is : (e : ℕ) (event : IsEvent n e) → text_at all e ≡ code_of_event e event
+  code_is e (at_start is) = ap (text_at all) is
   code_is e (at_begin i known is) =
       let place : e ≡ suc (2 * i) = omega (arith, is) in
-      ap (code_at all) place
+      ap (text_at all) place
       ∙ (get_or_append_left (inner 0 deck.tasks) (deck.project.end ∷ []) [] (2 * i) (omega (arith, length-inner 0 deck.tasks, known))
       ∙ (inner-begin 0 deck.tasks i (2 * i) known refl ∙ ap begin_code (let same : 0 + i ≡ i = omega arith in same)))
   code_is e (at_end i known is) =
       let place : e ≡ suc (2 * i + 1) = omega (arith, is) in
-      ap (code_at all) place
+      ap (text_at all) place
       ∙ (get_or_append_left (inner 0 deck.tasks) (deck.project.end ∷ []) [] (2 * i + 1) (omega (arith, length-inner 0 deck.tasks, known))
       ∙ (inner-end 0 deck.tasks i (2 * i + 1) known refl ∙ ap end_code (let same : 0 + i ≡ i = omega arith in same)))
   code_is e (at_last is) =
       let place : e ≡ suc (2 * n) = omega (arith, is) in
-      ap (code_at all) place ∙ get_or_push (inner 0 deck.tasks) deck.project.end [] (2 * n) (length-inner 0 deck.tasks)
+      ap (text_at all) place ∙ get_or_push (inner 0 deck.tasks) deck.project.end [] (2 * n) (length-inner 0 deck.tasks)
 
   small : (i : ℕ) → i < n → i < 2 ^ 32
   small i known = omega (arith, can.few, known)
@@ -117,7 +117,7 @@ module _ (deck : Deck) (can : CanBeDrawn deck) where
   pub events-differ : IsNamedOnce (event_codes (arrows_deck deck))
   events-differ j k before inside same =
       let within : k < length all = omega (arith, inside, ap length events-are) in
-      events-once j k before within (sym (ap (λ codes. code_at codes j) events-are) ∙ (same ∙ ap (λ codes. code_at codes k) events-are))
+      events-once j k before within (sym (ap (λ codes. text_at codes j) events-are) ∙ (same ∙ ap (λ codes. text_at codes k) events-are))
 
   -- the place of an event by its code
   place : (e : ℕ) (event : IsEvent n e) → e < 2 * n + 2 → named_among (event_codes (arrows_deck deck)) (code_of_event e event) ≡ Some e

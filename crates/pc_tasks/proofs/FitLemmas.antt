@@ -12,7 +12,8 @@ use Rattle.pc_cards.specs.Forms.{Fits, is_reserved}
 use Rattle.pc_cards.specs.declared.form.FieldForm.TheVariants as form
 use Rattle.pc_cards.specs.declared.sort.Sort.TheVariants.{Plan, Tasks}
 use Rattle.pc_faults.specs.declared.kind.Kind.TheVariants.{Act, Event, Project, Task, Wbs}
-use Rattle.pc_records.specs.Deck.{field_at, is_empty}
+use Rattle.pc_records.specs.Deck.{is_empty}
+use Rattle.pc_model.specs.Codes.{text_at}
 use Rattle.pc_text.specs.Code.{is_code}
 use Rattle.pc_deck.specs.Deck.{Deck}
 use Rattle.pc_deck.specs.Within.{IsFit}
@@ -117,8 +118,8 @@ link-fit code from to is from_is to_is = (
 -- the activity of a task
 abbrev act_fields : List ℕ → List ℕ → List (List ℕ) → List (List ℕ)
 act_fields from to fields =
-    [] ∷ field_at fields 1 ∷ from ∷ to ∷ field_at fields 2 ∷ field_at fields 3 ∷ field_at fields 4 ∷ field_at fields 5 ∷ field_at fields 6
-    ∷ field_at fields 7 ∷ field_at fields 8 ∷ field_at fields 9 ∷ field_at fields 10 ∷ []
+    [] ∷ text_at fields 1 ∷ from ∷ to ∷ text_at fields 2 ∷ text_at fields 3 ∷ text_at fields 4 ∷ text_at fields 5 ∷ text_at fields 6
+    ∷ text_at fields 7 ∷ text_at fields 8 ∷ text_at fields 9 ∷ text_at fields 10 ∷ []
 
 act-text : (from to : List ℕ) (fields : List (List ℕ)) → IsUtf8 from → IsUtf8 to → All IsUtf8 fields → All IsUtf8 (act_fields from to fields)
 act-text from to fields from_text to_text all =
@@ -133,7 +134,7 @@ task_act-fit i task small (row, fields, is, fit, text) =
       row,
       act_fields (begin_code i) (end_code i) fields,
       ap (task_act i) is,
-      (fits (field_at fields 1) (given-code (field_at fields 1) fit.0), (fits (begin_code i) begin, (fits (end_code i) end, fit.1))),
+      (fits (text_at fields 1) (given-code (text_at fields 1) fit.0), (fits (begin_code i) begin, (fits (end_code i) end, fit.1))),
       act-text (begin_code i) (end_code i) fields (code-text (begin_code i) begin) (code-text (end_code i) end) text,
     )
 
@@ -188,12 +189,12 @@ module _ (deck : Deck) (few : length deck.tasks ≤ 4000) (start : is_code deck.
 
 -- an item of a deck of tasks is one of a plan
 pub item-fit : (item : ItemCard) → IsFit Tasks Wbs item → IsFit Plan Wbs item
-item-fit item (row, fields, is, fit, text) = (row, fields, is, (fits (field_at fields 1) (given-code (field_at fields 1) fit.0), fit.1), text)
+item-fit item (row, fields, is, fit, text) = (row, fields, is, (fits (text_at fields 1) (given-code (text_at fields 1) fit.0), fit.1), text)
 
 -- its PROJECT card is one of a plan
 pub project-fit : (project : ProjectCard) → IsFit Tasks Project project → IsFit Plan Project project
 project-fit project (row, fields, is, fit, text) =
-    (row, fields, is, (fit.0, (fits (field_at fields 2) (given-code (field_at fields 2) fit.1.0), (fits (field_at fields 3) (given-code (field_at fields 3) fit.1.1.0), fit.1.1.1))), text)
+    (row, fields, is, (fit.0, (fits (text_at fields 2) (given-code (text_at fields 2) fit.1.0), (fits (text_at fields 3) (given-code (text_at fields 3) fit.1.1.0), fit.1.1.1))), text)
 
 or_true : (b : Bool) → (b || true) ≡ true
 or_true true = refl

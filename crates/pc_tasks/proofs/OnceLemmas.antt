@@ -6,13 +6,13 @@ use Rattle.std.proofs.lemmas.Bool.{cases_lt}
 use Rattle.std.proofs.lemmas.List.{get_or_append_left, get_or-append_right, get_or-map, length-append, length-map}
 use Rattle.std.proofs.lemmas.List.FromFn.{get_or-range_with_len, length-range_with_len}
 use Rattle.pc_tasks.proofs.lemmas.network.Kept.{AreOnce}
-use Rattle.pc_model.specs.Codes.{code_at, IsNamedOnce}
+use Rattle.pc_model.specs.Codes.{text_at, IsNamedOnce}
 use Rattle.pc_tasks.specs.Codes.{drawn_code}
 use Rattle.pc_tasks.proofs.CodeLemmas.{drawn_code-letter, drawn_code-number}
 
 -- no code of the one list is one of the other
 abbrev pub AreApart : List (List ℕ) → List (List ℕ) → Type 0
-AreApart xs ys = (j k : ℕ) → j < length xs → k < length ys → code_at xs j ≢ code_at ys k
+AreApart xs ys = (j k : ℕ) → j < length xs → k < length ys → text_at xs j ≢ text_at ys k
 
 -- two lists behind one another
 pub once-append : (xs ys : List (List ℕ)) → IsNamedOnce xs → IsNamedOnce ys → AreApart xs ys → IsNamedOnce (xs ++ ys)
@@ -25,10 +25,10 @@ once-append xs ys once_xs once_ys apart j k before inside same =
     (cases_lt j (length xs)))
     (cases_lt k (length xs))
   where
-    left : (i : ℕ) → i < length xs → code_at (xs ++ ys) i ≡ code_at xs i
+    left : (i : ℕ) → i < length xs → text_at (xs ++ ys) i ≡ text_at xs i
     left i within = get_or_append_left xs ys [] i within
 
-    right : (i : ℕ) → length xs ≤ i → code_at (xs ++ ys) i ≡ code_at ys (i - length xs)
+    right : (i : ℕ) → length xs ≤ i → text_at (xs ++ ys) i ≡ text_at ys (i - length xs)
     right i past = get_or-append_right xs ys (length xs) i [] refl past
 
 -- lists that are apart from two are apart from both
@@ -41,7 +41,7 @@ apart-append xs ys zs from_ys from_zs j k j_in k_in same =
 
 module _ (l : ℕ) (xs : List ℕ) where
   -- the code at a place
-  pub drawn_at : (k : ℕ) → k < length xs → code_at (map (drawn_code l) xs) k ≡ drawn_code l (slice_index xs k)
+  pub drawn_at : (k : ℕ) → k < length xs → text_at (map (drawn_code l) xs) k ≡ drawn_code l (slice_index xs k)
   drawn_at k inside = get_or-map (drawn_code l) xs k 0 [] inside
 
   -- numbers that stand once

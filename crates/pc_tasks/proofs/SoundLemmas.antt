@@ -21,7 +21,7 @@ use Rattle.pc_deck.specs.declared.kinds.task.TaskCard.{TaskCard}
 use Rattle.pc_deck.specs.declared.kinds.wbs.ItemCard.{ItemCard}
 use Rattle.pc_faults.specs.Faults as told
 use Rattle.pc_faults.specs.declared.fault.Fault.{Fault}
-use Rattle.pc_model.specs.Codes.{IsNamedOnce, code_at}
+use Rattle.pc_model.specs.Codes.{IsNamedOnce, text_at}
 use Rattle.pc_model.specs.Network.{IsSound}
 use Rattle.pc_project.specs.Misfit as plan
 use Rattle.pc_project.specs.Misfit.{HasAccountFault, HasActFault, HasFigureFault, HasItemFault, HasListedFault, HasLoadFault, HasMoneyFault, HasPieceCardFault, HasProjectFault, HasStatusFault, HasOrderedEstimates}
@@ -120,7 +120,7 @@ module _ (deck : Deck) (within : IsWithin Tasks deck) (none : HasNoTaskMisfit de
   links-found : IsSome (named_among (item_codes (arrows_deck deck)) links_code)
   links-found =
       found-there links_code (item_codes (arrows_deck deck)) (length items) (omega (arith, ap length items-are, length-append items (links_code ∷ [])))
-      (ap (λ codes. code_at codes (length items)) items-are ∙ get_or_push items links_code [] (length items) refl)
+      (ap (λ codes. text_at codes (length items)) items-are ∙ get_or_push items links_code [] (length items) refl)
 
   -- the items that cards name are items
   parent-known : (item : ItemCard) (k : ℕ) → k < length deck.items → get_or deck.items k item ≡ item → (code : List ℕ) → item.parent ≡ Some code → IsSome (named_among items code)
@@ -302,7 +302,7 @@ module _ (deck : Deck) (within : IsWithin Tasks deck) (none : HasNoTaskMisfit de
     once : IsNamedOnce items
     once = (within Wbs).differ refl
 
-    code-at : code_at items first_top.0 ≡ top_name
+    code-at : text_at items first_top.0 ≡ top_name
     code-at = get_or-map (λ (item : ItemCard). item.code) deck.items first_top.0 no_item [] first_top.1.0
 
     top-named : named_among items top_name ≡ Some top

@@ -13,7 +13,7 @@ use Rattle.pc_tasks.proofs.lemmas.network.Kept.{AreOnce-filter}
 use Rattle.pc_cards.specs.Forms.{is_reserved}
 use Rattle.pc_cards.specs.declared.sort.Sort.TheVariants.{Plan, Tasks}
 use Rattle.pc_faults.specs.declared.kind.Kind.TheVariants.{Project, AsOf, Terms, Wbs, Event, Act, Task, After, Piece, Acct, Charge, ToGo, Status, Res, Load, End}
-use Rattle.pc_model.specs.Codes.{code_at, IsNamedOnce}
+use Rattle.pc_model.specs.Codes.{text_at, IsNamedOnce}
 use Rattle.pc_text.specs.Code.{is_code}
 use Rattle.pc_deck.specs.Deck.{Deck, act_codes, item_codes, task_codes}
 use Rattle.pc_deck.specs.Within.{IsFit, IsListWithin, IsWithin, IsWithinLimits}
@@ -134,7 +134,7 @@ module _ (deck : Deck) (within : IsWithin Tasks deck) where
   abbrev no_task : TaskCard
   no_task = record { row = 0; code = []; item = []; opt = 0; likely = 0; pess = 0; normal = 0; crash = 0; cost = 0; slope = 0; title = [] }
 
-  task_code-given : (j : ℕ) → j < length (task_codes deck) → IsGiven (code_at (task_codes deck) j)
+  task_code-given : (j : ℕ) → j < length (task_codes deck) → IsGiven (text_at (task_codes deck) j)
   task_code-given j inside =
       let below : j < n = omega (arith, inside, length-map deck.tasks (λ (task : TaskCard). task.code)) in
       let task = get_or deck.tasks j no_task in
@@ -143,7 +143,7 @@ module _ (deck : Deck) (within : IsWithin Tasks deck) where
   abbrev no_item : ItemCard
   no_item = record { row = 0; code = []; parent = None; title = [] }
 
-  item_code-given : (j : ℕ) → j < length (item_codes deck) → IsGiven (code_at (item_codes deck) j)
+  item_code-given : (j : ℕ) → j < length (item_codes deck) → IsGiven (text_at (item_codes deck) j)
   item_code-given j inside =
       let below : j < length deck.items = omega (arith, inside, length-map deck.items (λ (item : ItemCard). item.code)) in
       let item = get_or deck.items j no_item in
@@ -155,7 +155,7 @@ module _ (deck : Deck) (within : IsWithin Tasks deck) where
       subst IsNamedOnce (sym (map-append (λ (item : ItemCard). item.code) deck.items (links_item deck ∷ [])))
       (once-append (item_codes deck) (links_code ∷ []) ((within Wbs).differ refl) (λ j k before inside same. omega (arith, before, inside)) (λ j k j_in k_in same.
       let zero : k ≡ 0 = omega (arith, k_in) in
-      let there : code_at (links_code ∷ []) k ≡ links_code = ap (code_at (links_code ∷ [])) zero in
+      let there : text_at (links_code ∷ []) k ≡ links_code = ap (text_at (links_code ∷ [])) zero in
       item_code-given j j_in _ (same ∙ there)))
 
   items-within : IsListWithin Plan Wbs 2 (deck.items ++ links_item deck ∷ [])
@@ -214,7 +214,7 @@ module _ (deck : Deck) (within : IsWithin Tasks deck) where
     task-drawn : (l : ℕ) (xs : List ℕ) → AreApart (task_codes deck) (map (drawn_code l) xs)
     task-drawn l xs j k j_in k_in same =
         let at = drawn_at l xs k (omega (arith, k_in, length-map xs (drawn_code l))) in
-        given-not_drawn (code_at (task_codes deck) j) l _ (task_code-given j j_in) (same ∙ at)
+        given-not_drawn (text_at (task_codes deck) j) l _ (task_code-given j j_in) (same ∙ at)
 
     acts-once : IsNamedOnce (act_codes (arrows_deck deck))
     acts-once =

@@ -1,7 +1,8 @@
 -- The first of the faults F2 to F12 of a deck is one, and tells one thing.
 use Rattle.std.proofs.Common.{◌≡◌, ◌≢◌, ℕ, ◌+◌, ◌≤◌, ◌==◌, Bool, true, false, List, [], ◌∷◌, ◌++◌, length, Option, Some, unwrap_or, if◌then◌else◌, ◌⊎◌, inl, inr, refl, sym, ap, ◌∙◌, arith}
 use Rattle.std.specs.Str.{is_utf8}
-use Rattle.pc_records.specs.Deck.{deck_records, field_at}
+use Rattle.pc_records.specs.Deck.{deck_records}
+use Rattle.pc_model.specs.Codes.{text_at}
 use Rattle.pc_cards.specs.Cards.{Numbered, cards_from, deck_cards, is_card}
 use Rattle.pc_cards.specs.Findings.{width_wanted}
 use Rattle.pc_cards.specs.Forms.{Slot, first_misshapen, first_over_limit}
@@ -34,7 +35,7 @@ card_fault seen card named n =
     else if n == 6 then fault.wrong_fields card.0 kind (length card.1) (width_wanted (least_width_of kind) (width_of kind) card.1)
     else if n == 7 then fault.misshapen card.0 (slot_or (first_misshapen (slots_of seen.sort kind) card.1)).0
     else if n == 8 then fault.over_limit card.0 (slot_or (first_over_limit (slots_of seen.sort kind) card.1)).0
-    else if n == 9 then fault.repeated_code card.0 (field_at card.1 1)
+    else if n == 9 then fault.repeated_code card.0 (text_at card.1 1)
     else if n == 10 then fault.too_many card.0 kind (seen.count kind)
     else fault.behind_end card.0
 

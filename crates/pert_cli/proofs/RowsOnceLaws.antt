@@ -6,7 +6,7 @@ use Rattle.std.specs.List.{Any}
 use Rattle.std.specs.Cmp.Lexicographic.{bytes_decides}
 use Rattle.std.proofs.lemmas.List.{get_or-map, length-map}
 use Rattle.std.proofs.lemmas.List.Elements.{All-cons, All-nil, All-weaker}
-use Rattle.pc_records.specs.Deck.{field_at}
+use Rattle.pc_model.specs.Codes.{text_at}
 use Rattle.pc_cards.specs.Cards.{Numbered, deck_cards}
 use Rattle.pc_cards.specs.declared.sort.Sort.{Sort}
 use Rattle.pc_deck.specs.Deck.{Deck, list_of}
@@ -48,13 +48,13 @@ stands_once n (card ∷ cards) c d rising (inr there) (inr also) same = stands_o
 
 -- its first field is the word of the kind
 abbrev pub IsNamed : Kind → Numbered → Type 0
-IsNamed kind card = bytes_eq (field_at card.1 0) (word_of kind) ≡ true
+IsNamed kind card = bytes_eq (text_at card.1 0) (word_of kind) ≡ true
 
 pub one_kind : (kind other : Kind) (card : Numbered) → IsNamed kind card → IsNamed other card → kind ≡ other
 one_kind kind other card is also =
     same_is kind other
     ((bytes_decides (word_of kind) (word_of other)).1
-    (sym ((bytes_decides (field_at card.1 0) (word_of kind)).0 is) ∙ (bytes_decides (field_at card.1 0) (word_of other)).0 also))
+    (sym ((bytes_decides (text_at card.1 0) (word_of kind)).0 is) ∙ (bytes_decides (text_at card.1 0) (word_of other)).0 also))
 
 -- the card of a kind is what a record among those spells
 abbrev pub IsSpelled : List Numbered → (kind : Kind) → CardOf kind → Type 0
@@ -66,10 +66,10 @@ spelled_behind first cards kind card (c, there, named, is) = (c, inr there, name
 all_spelled : (kind : Kind) (cards : List Numbered) → All (IsSpelled cards kind) (spelled kind cards)
 all_spelled kind [] = All-nil (IsSpelled [] kind)
 all_spelled kind (first ∷ cards) =
-    by_test (bytes_eq (field_at first.1 0) (word_of kind)) refl
+    by_test (bytes_eq (text_at first.1 0) (word_of kind)) refl
     (All-weaker (IsSpelled cards kind) (IsSpelled (first ∷ cards) kind) (spelled_behind first cards kind) (spelled kind cards) (all_spelled kind cards))
   where
-    by_test : (test : Bool) → bytes_eq (field_at first.1 0) (word_of kind) ≡ test → All (IsSpelled (first ∷ cards) kind) (spelled kind cards) →
+    by_test : (test : Bool) → bytes_eq (text_at first.1 0) (word_of kind) ≡ test → All (IsSpelled (first ∷ cards) kind) (spelled kind cards) →
         All (IsSpelled (first ∷ cards) kind) (map (λ (c : Numbered). card_of kind c.0 c.1) (if test then first ∷ of_kind kind cards else of_kind kind cards))
     by_test true is behind = All-cons (IsSpelled (first ∷ cards) kind) (card_of kind first.0 first.1) (spelled kind cards) (first, inl refl, is, refl) behind
     by_test false is behind = behind
@@ -91,7 +91,7 @@ rising_lower n m (x ∷ xs) few h = (omega (arith, few, h.0), h.1)
 
 kind_rises : (kind : Kind) (n : ℕ) (cards : List Numbered) → Rises n cards → Rising n (map (λ (c : Numbered). c.0) (of_kind kind cards))
 kind_rises kind n [] rising = tt
-kind_rises kind n (first ∷ cards) rising = by_test (bytes_eq (field_at first.1 0) (word_of kind)) (kind_rises kind (first.0 + 1) cards rising.1)
+kind_rises kind n (first ∷ cards) rising = by_test (bytes_eq (text_at first.1 0) (word_of kind)) (kind_rises kind (first.0 + 1) cards rising.1)
   where
     by_test : (test : Bool) → Rising (first.0 + 1) (map (λ (c : Numbered). c.0) (of_kind kind cards)) →
         Rising n (map (λ (c : Numbered). c.0) (if test then first ∷ of_kind kind cards else of_kind kind cards))

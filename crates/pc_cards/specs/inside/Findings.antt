@@ -3,7 +3,7 @@
 use Rattle.std.specs.Prelude.{ℕ, not, ◌==◌, nat_lt, List, length, Option, Some, None}
 use Rattle.std.specs.Option.{option_or}
 use Rattle.std.specs.Bool.{then_some}
-use Rattle.pc_records.specs.Deck.{field_at}
+use Rattle.pc_model.specs.Codes.{text_at}
 use Rattle.pc_faults.specs.Faults as fault
 use Rattle.pc_faults.specs.declared.kind.Kind.{Kind}
 use Rattle.pc_faults.specs.declared.fault.Fault.{Fault}
@@ -57,4 +57,4 @@ fault_of_listed place count least most slots fields =
 abbrev pub fault_of_named : CardPlace → List (List ℕ) → ℕ → ℕ → ℕ → List Slot → List (List ℕ) → Option Fault
 fault_of_named place codes count least most slots fields =
     option_or (wrong_fields place least most fields)
-    (option_or (flaw_of_fields place.row slots fields) (option_or (repeated place.row codes (field_at fields 1)) (fault_of_place place count)))
+    (option_or (flaw_of_fields place.row slots fields) (option_or (repeated place.row codes (text_at fields 1)) (fault_of_place place count)))

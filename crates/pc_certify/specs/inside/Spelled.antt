@@ -1,6 +1,6 @@
 -- The lines of a segment as they were spelled last.
 use Rattle.std.specs.Prelude.{◌≡◌, ℕ, ◌<◌, false, List, [], ◌∷◌, ◌++◌, length, slice_index_or}
-use Rattle.pc_model.specs.Codes.{code_at}
+use Rattle.pc_model.specs.Codes.{text_at}
 use Rattle.pc_laws.specs.Stair.{stair_of, knee_flow, crash_flow}
 use Rattle.pc_crash.specs.Priced.{PricedNetwork, knees_in}
 use Rattle.pc_cert.specs.declared.line.CertLine.TheVariants.{Event, Act}
@@ -23,8 +23,8 @@ filled_along net a whole =
 
 -- the row spells what it says of activity a: its duration, and the flows that its whole flow makes
 pub record SpellsAct (net : PricedNetwork) (a : ℕ) (row : ActRow) : Type 0 where
-  pub code_is : IsCode (code_at net.activities a)
-  pub text : row.spelling ≡ text_of (Act (code_at net.activities a) row.duration (filled_along net a row.whole) ∷ [])
+  pub code_is : IsCode (text_at net.activities a)
+  pub text : row.spelling ≡ text_of (Act (text_at net.activities a) row.duration (filled_along net a row.whole) ∷ [])
 
 -- the row of event e, and that of activity a
 abbrev pub event_row : List EventRow → ℕ → EventRow
@@ -36,7 +36,7 @@ act_row rows a = slice_index_or rows a (record { duration = 0; whole = 0; spelli
 -- each event has a row, which spells what it says of it
 pub record AreEventsSpelled (net : PricedNetwork) (rows : List EventRow) : Type 0 where
   pub one_each : length rows ≡ net.network.events
-  pub each : (e : ℕ) → e < net.network.events → SpellsEvent (code_at net.events e) (event_row rows e)
+  pub each : (e : ℕ) → e < net.network.events → SpellsEvent (text_at net.events e) (event_row rows e)
 
 -- so has each activity
 pub record AreActsSpelled (net : PricedNetwork) (rows : List ActRow) : Type 0 where

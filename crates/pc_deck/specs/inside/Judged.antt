@@ -3,7 +3,7 @@
 use Rattle.std.specs.Prelude.{ℕ, Bool, true, false, not, ◌&&◌, nat_lt, List, Option, Some, None, Result, Ok, Err}
 use Rattle.std.specs.Option.{option_or}
 use Rattle.std.specs.Bool.{then_some}
-use Rattle.pc_records.specs.Deck.{field_at}
+use Rattle.pc_model.specs.Codes.{text_at}
 use Rattle.pc_faults.specs.Faults as fault
 use Rattle.pc_faults.specs.declared.kind.Kind.{Kind}
 use Rattle.pc_faults.specs.declared.fault.Fault.{Fault}
@@ -52,4 +52,4 @@ judge_of seen row fields (Some kind) = unless kind (fault_of_kind seen kind row 
 
 -- the kind of the card that a record is in a deck of the sort, or its fault
 abbrev pub judge : Seen → ℕ → List (List ℕ) → Result Kind Fault
-judge seen row fields = judge_of seen row fields (kind_of seen.sort (field_at fields 0))
+judge seen row fields = judge_of seen row fields (kind_of seen.sort (text_at fields 0))

@@ -1,6 +1,6 @@
 use Rattle.std.proofs.Common.{◌∷◌, ◌+◌, [], take, get_or, ap, subst}
 use Rattle.std.proofs.lemmas.List.{take_more}
-use Rattle.pc_model.specs.Codes.{code_at}
+use Rattle.pc_model.specs.Codes.{text_at}
 use Rattle.pc_cert.specs.declared.line.CertLine.TheVariants.{Step}
 use Rattle.pc_cert.specs.Text.{AreWritable, text_of}
 use Rattle.pc_edges.proofs.lemmas.page.PageLaws.{Adds-as, ◌⨾◌}
@@ -15,8 +15,8 @@ loop-a-preserved g c =
     let i = c.loop-a.a-index in
     let more = take_more walk i 0 c.loop-a-test.true in
     record {
-      text = Adds-as _ (text_of-map (λ a. Step (code_at net.activities a)) (take i walk) (take (i + 1) walk) (get_or walk i 0) more)
+      text = Adds-as _ (text_of-map (λ a. Step (text_at net.activities a)) (take i walk) (take (i + 1) walk) (get_or walk i 0) more)
           (c.loop-a.invariant.text ⨾ Adds-as _ (ap (λ code. text_of (Step code ∷ [])) c.activity_code.ensures) c.put_step.ensures.text);
-      fit = AllFit-map (λ a. Step (code_at net.activities a)) (take i walk) (take (i + 1) walk) (get_or walk i 0) more
+      fit = AllFit-map (λ a. Step (text_at net.activities a)) (take i walk) (take (i + 1) walk) (get_or walk i 0) more
           c.loop-a.invariant.fit (subst (λ code. AreWritable (Step code ∷ [])) c.activity_code.ensures c.put_step.ensures.fit);
     }

@@ -1,5 +1,5 @@
 use Rattle.std.proofs.Common.{ℕ, ◌<◌}
-use Rattle.pc_model.specs.Codes.{code_at}
+use Rattle.pc_model.specs.Codes.{text_at}
 use Rattle.pc_text.specs.Fields.{IsCode}
 use Rattle.pc_edges.specs.inside.page.Puts.{Puts}
 use Rattle.pc_cert.specs.Text.{text_of}
@@ -10,5 +10,5 @@ use Rattle.pc_cert.proofs.segment.put_events.Given as goal
 abbrev pub invariant-loop-e : goal.invariant-loop-e
 invariant-loop-e g l = record {
   text : Puts g.O.Sink.taken g.O.Sink.faults l.fn.page l.fn.sink l.page l.sink (text_of (listed l.e (event_line l.net (g.V.SegmentView.segment l.view))));
-  codes : (e : ℕ) → e < l.e → IsCode (code_at l.net.events e);
+  codes : (e : ℕ) → e < l.e → IsCode (text_at l.net.events e);
 }

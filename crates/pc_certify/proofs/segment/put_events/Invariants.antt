@@ -1,5 +1,5 @@
 use Rattle.std.proofs.Common.{ℕ, ◌<◌}
-use Rattle.pc_model.specs.Codes.{code_at}
+use Rattle.pc_model.specs.Codes.{text_at}
 use Rattle.pc_text.specs.Fields.{IsCode}
 use Rattle.pc_cert.specs.Text.{text_of}
 use Rattle.pc_edges.specs.inside.page.Puts.{desk}
@@ -14,6 +14,6 @@ invariant-loop-e g l = record {
   text : Gathers (desk g.O.Sink.taken g.O.Sink.faults l.fn.page l.fn.sink) l.fn.gathered
       (desk g.O.Sink.taken g.O.Sink.faults l.page l.sink) l.gathered
       (text_of (listed l.e (event_line l.net (g.V.SegmentView.segment l.view))));
-  codes : (e : ℕ) → e < l.e → IsCode (code_at l.net.events e);
+  codes : (e : ℕ) → e < l.e → IsCode (text_at l.net.events e);
   rows : AreEventsSpelled l.net l.rows.items;
 }

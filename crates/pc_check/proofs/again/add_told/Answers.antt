@@ -1,6 +1,6 @@
 use Rattle.std.proofs.Common.{◌≡◌, ◌<◌, [], length, sym, subst, ◌∙◌, arith}
 use Rattle.std.proofs.lemmas.List.{get_or_default}
-use Rattle.pc_model.specs.Codes.{code_at}
+use Rattle.pc_model.specs.Codes.{text_at}
 use Rattle.pc_cert.specs.inside.Known.{IsFrontOf}
 use Rattle.pc_check.specs.inside.Fronts.{front_at}
 use Rattle.pc_check.proofs.FrontsLaws.{own_front}
@@ -14,4 +14,4 @@ pass_event-requires c =
     let events = c.args.net.now.events in
     let within : e < length fronts = omega (arith, c.if-fronts-e.false) in
     let is : front_at fronts e ≡ front = sym (c.index-fronts-e.is ∙ get_or_default fronts e front (record { code = []; cells = [] }) within) in
-    record { front = own_front (code_at events e) front (subst (IsFrontOf (code_at events e)) is (c.requires.fronts.each e (omega (arith, within, c.requires.fronts.one_each)))) }
+    record { front = own_front (text_at events e) front (subst (IsFrontOf (text_at events e)) is (c.requires.fronts.each e (omega (arith, within, c.requires.fronts.one_each)))) }

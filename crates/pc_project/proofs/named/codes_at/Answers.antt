@@ -1,6 +1,6 @@
 use Rattle.std.proofs.Common.{◌≡◌, ℕ, ◌<◌, ◌+◌, List, [], ◌∷◌, ◌++◌, ◌∙◌, get_or, length, take}
 use Rattle.std.proofs.lemmas.List.{get_or_default, get_or_read}
-use Rattle.pc_model.specs.Codes.{code_at}
+use Rattle.pc_model.specs.Codes.{text_at}
 use Rattle.pc_project.specs.Records.{codes_at}
 use Rattle.pc_project.proofs.LoopLaws.{map_take_more}
 use Rattle.pc_project.proofs.named.codes_at.Goals as goal
@@ -9,7 +9,7 @@ use Rattle.pc_project.proofs.named.codes_at.Goals as goal
 codes_more : (codes : List (List ℕ)) (numbers : List ℕ) (i : ℕ) (code : List ℕ) (picked : List (List ℕ)) → i < length numbers → get_or numbers i 0 < length codes →
     code ≡ get_or codes (get_or numbers i 0) code → picked ≡ codes_at codes (take i numbers) → picked ++ code ∷ [] ≡ codes_at codes (take (i + 1) numbers)
 codes_more codes numbers i code picked within known is before =
-    map_take_more (code_at codes) numbers i (get_or numbers i 0) code picked within (get_or_default numbers i 0 (get_or numbers i 0) within) before
+    map_take_more (text_at codes) numbers i (get_or numbers i 0) code picked within (get_or_default numbers i 0 (get_or numbers i 0) within) before
     (get_or_read codes (get_or numbers i 0) code known is [])
 
 pub loop-number-preserved : goal.loop-number-preserved
