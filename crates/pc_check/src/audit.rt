@@ -1,8 +1,8 @@
 //! Reading and checking the text of a certificate.
-ghost use Rattle.std.specs.Prelude.{◌≡◌, ℕ, ◌<◌, ◌≤◌, List, [], ◌++◌, length, take, IfOk, IfErr, IfSome, OnOk, IfNone};
+ghost use Rattle.std.specs.Prelude.{◌≡◌, ℕ, ◌<◌, ◌≤◌, List, [], ◌++◌, length, IfOk, IfSome, IfNone};
 ghost use Rattle.pc_check.specs.Texts.{IsFailing, Finds};
 ghost use Rattle.pc_check.specs.Auditing.{most_bytes};
-ghost use Rattle.pc_check.specs.inside.Auditing.{HasRead, IsGoing, bytes_left};
+ghost use Rattle.pc_check.specs.inside.Auditing.{HasRead, HasUsed, IsGoing, MayUse, bytes_left};
 
 use crate::checker::Checker;
 use crate::fail::{Fail, Verdict};
@@ -79,18 +79,8 @@ impl<'n> Audit<'n> {
     /// Uses the piece up to the end of one line, or of some that come again.
     #[inline(always)]
     fn step(&mut self, piece: &[u8]) -> Result<usize, Fail>
-        requires read { (text : List ℕ) × HasRead text self.old }
-        requires going { IsGoing self.old }
-        requires some { 0 < length piece.now }
-        ensures within { IfOk result (λ used. used ≤ length piece.now) }
-        ensures some { IfOk result (λ used. 0 < used) }
-        ensures goes_on { IfOk result (λ used. (text : List ℕ) → HasRead text self.old →
-            HasRead (text ++ take used piece.now) self.new) }
-        ensures going { OnOk result (IsGoing self.new) }
-        ensures fails { IfErr result (λ fail. (text more : List ℕ) → HasRead text self.old →
-            IsFailing self.old.checker.net (text ++ (piece.now ++ more)) fail) }
-        ensures net { self.new.checker.net ≡ self.old.checker.net }
-        ensures left { OnOk result (bytes_left self.new < bytes_left self.old) }
+        requires { MayUse piece.now self.old }
+        ensures { HasUsed piece.now self.old self.new result }
     {
         let used = self.checker.take_rows(&mut self.reader, piece);
         if 0 < used {
@@ -101,18 +91,8 @@ impl<'n> Audit<'n> {
 
     /// As `step`, of any line.
     fn step_anew(&mut self, piece: &[u8]) -> Result<usize, Fail>
-        requires read { (text : List ℕ) × HasRead text self.old }
-        requires going { IsGoing self.old }
-        requires some { 0 < length piece.now }
-        ensures within { IfOk result (λ used. used ≤ length piece.now) }
-        ensures some { IfOk result (λ used. 0 < used) }
-        ensures goes_on { IfOk result (λ used. (text : List ℕ) → HasRead text self.old →
-            HasRead (text ++ take used piece.now) self.new) }
-        ensures going { OnOk result (IsGoing self.new) }
-        ensures fails { IfErr result (λ fail. (text more : List ℕ) → HasRead text self.old →
-            IsFailing self.old.checker.net (text ++ (piece.now ++ more)) fail) }
-        ensures net { self.new.checker.net ≡ self.old.checker.net }
-        ensures left { OnOk result (bytes_left self.new < bytes_left self.old) }
+        requires { MayUse piece.now self.old }
+        ensures { HasUsed piece.now self.old self.new result }
     {
         let known = self.known.here();
         let used = match self.reader.feed_known(piece, known) {

@@ -15,11 +15,12 @@ returns-in-Err-clause-fails c = fails_in_rest c.in-Err.fail c.loop-rest.invarian
 pub loop-rest-init : goal.loop-rest-init
 loop-rest-init c = begun c.args.self.now c.args.piece.now c.requires.going c.requires.read
 
-pub step-requires-clause-read : goal.step-requires-clause-read
-step-requires-clause-read c = c.loop-rest.invariant.read
-
-pub step-requires-clause-going : goal.step-requires-clause-going
-step-requires-clause-going c = c.loop-rest.invariant.going
+pub step-requires : goal.step-requires
+step-requires c = record {
+  read = c.loop-rest.invariant.read;
+  going = c.loop-rest.invariant.going;
+  some = omega (arith, eqb-false _ _ (sym c.loop-rest-test.ensures));
+}
 
 pub returns-in-Err-clause-net : goal.returns-in-Err-clause-net
 returns-in-Err-clause-net c = c.step.ensures.net ∙ c.loop-rest.invariant.net
@@ -29,9 +30,6 @@ returns-clause-going c = c.loop-rest.invariant.going
 
 pub returns-clause-net : goal.returns-clause-net
 returns-clause-net c = c.loop-rest.invariant.net
-
-pub step-requires-clause-some : goal.step-requires-clause-some
-step-requires-clause-some c = omega (arith, eqb-false _ _ (sym c.loop-rest-test.ensures))
 
 pub returns-clause-goes_on : goal.returns-clause-goes_on
 returns-clause-goes_on c = ended c.loop-rest.invariant (eqb-true _ _ (sym c.loop-rest-test.ensures))
