@@ -41,6 +41,7 @@ pub(crate) fn advance(
     ensures safe { IsSafe net.now kept.new.tally }
     ensures left { IfNone result (lines_left net.now kept.new < lines_left net.now kept.old) }
 {
+    // A project has at most so many events and activities, so that no count of lines and no sum is too large.
     let _events = net.net().events();
     let _activities = net.net().activities();
     match judge(net, kept, known, line) {

@@ -173,6 +173,7 @@ impl<'n> Checker<'n> {
         ensures curve { (lines : List CertLine) → StandsFor self.entry lines →
             OnYes result (AreCurve self.entry.net (segments_of self.entry.net lines)) }
     {
+        // What is known of the network says that lines of which none fails show its curve.
         let _priced = self.net.net();
         match self.fail {
             Some(fail) => Verdict::No {

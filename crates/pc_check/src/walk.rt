@@ -37,6 +37,7 @@ fn named(net: &CrashNet<'_>, code: &Code) -> Option<u32>
     ensures place { result ≡ place_of code.now 0 net.now.activities }
     ensures known { IfSome result (λ a. a < length net.now.network.arcs) }
 {
+    // For the fact that each activity has one code, and no two have the same.
     let _sound = net.net();
     net.activity_named(code)
 }
@@ -62,6 +63,7 @@ fn length_in(net: &CrashNet<'_>, a: u32, is_crash: bool) -> u64
     ensures length { result ≡ length_in net.now is_crash a }
     ensures short { result ≤ MAX_DURATION }
 {
+    // For the limit of a duration.
     let _limits = net.net();
     let term = net.term(a);
     if is_crash { term.crash } else { term.normal }
