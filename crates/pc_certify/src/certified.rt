@@ -35,6 +35,7 @@ pub fn written_is_certified(net: &CrashNet<'_>)
         All (HasSmallNumbers net.now) segments }
 {
     let network = net.net();
+    // No more events than a project may have, in an order: so no number of a segment is too large.
     let _few = network.events();
     let _order = network.order();
 }
