@@ -142,8 +142,9 @@ fn next_turn<L: Ledger>(solver: &mut Solver<'_>, last: u64, steps: &mut Steps<L>
     ensures gentle { solver.new.slope ≤ slopes_in solver.new.net }
     ensures counted { steps.new ≤ steps.old + most_looks solver.old solver.new }
 {
+    // What is known of the network says that the least costs are those of a curve.
     let _net = solver.net().net();
-    // The present segment is whole.
+    // The present segment is on the curve.
     let _given = solver.given();
     let mut slope = solver.slope();
     while solver.next_segment(steps) {
