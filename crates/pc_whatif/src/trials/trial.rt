@@ -85,9 +85,10 @@ pub(in crate::trials) fn trial_curve<O: Sink, L: Ledger>(
         steps.new ≤ steps.old + looks_over net.now (longest - shortest) }
 {
     let mut solver = Solver::begin(home.take().unwrap(), net);
-    // Before the first segment nothing has fallen, and at the end the lower end is in the range.
+    // Before the first segment nothing has fallen.
     let _given = solver.given();
     let written = write_curve(page, sink, &mut solver, steps);
+    // At any time a solver's lower end is in the range.
     let _given = solver.given();
     put_back(home, solver);
     written
