@@ -24,6 +24,7 @@ fn ways<L: Ledger>(
     requires activities { length net.now.network.arcs ≡ 3 }
 {
     let mut steps = Steps::<L>::new(blank);
+    // For the fact that each activity goes between two events of the network.
     let _shape = net.net();
     let mut board = Board::new(Region::with_cells(alloc, 33)?, 3, 3);
     board.start_at(0);
