@@ -1,4 +1,4 @@
-# make              proves all crates and builds the programs into bin/ (half an hour the first time, on four processors, see README.md)
+# make              proves the programs with all crates below them, and builds them into bin/ (see README.md); later only what changed
 # make try          runs pert with the words FORM on the deck DECK in about a minute, before anything is proved (FORM='point 6')
 # make check        runs the gate (every proof, edit, test and program) and the acceptance cases
 # make reading      writes all definitions behind the promises, in reading order, into out/reading/ (needs python3)
@@ -6,7 +6,7 @@
 # make uninstall    takes them away again
 # make dist         packs them into one archive in out/, for offices that have no kit: the same bytes from the same sources
 # make soak         tries generated decks, certificates and failing memory for MINUTES minutes (SEED=.. repeats a run), then the edits of tests/edits/
-# make clean        removes all that was built
+# make clean        removes all that was built, and the proofs that are kept in out/
 
 PREFIX ?= /usr/local
 # where the documents are according to the pages, if that is not where they are copied to
@@ -30,7 +30,8 @@ COMPLETIONS := $(ROOT)/share/bash-completion/completions
 
 all: $(PROGRAMS:%=bin/%)
 
-# All programs are proved and built by one run; what an earlier run built is removed first, and bin/ is written last.
+# All programs are proved and built by one run, which starts from the proofs that earlier runs and `rt check` kept. What an earlier run built is
+# removed first, and bin/ is written last.
 $(PROGRAMS:%=bin/%): out/built
 out/built: $(SOURCES)
 	@rm -f out/built $(PROGRAMS:%=bin/%)
