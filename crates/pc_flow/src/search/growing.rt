@@ -1,6 +1,8 @@
 //! Labels that are given along steps with room, from event to event.
 ghost use Rattle.std.specs.Prelude.{◌≡◌, ◌+◌, ◌*◌, ◌<◌, ◌≤◌, ℕ, length, slice_index};
 ghost use Rattle.pc_model.specs.Greatest.{StandsBelow};
+ghost use Rattle.pc_model.specs.Walk.{from_of, to_of};
+ghost use Rattle.pc_flow.specs.board.Sheets.{rank_of};
 ghost use Rattle.pc_flow.specs.inside.board.Labelling.{HaveRoom};
 ghost use Rattle.pc_flow.specs.inside.search.Searches.{IsSearch};
 ghost use Rattle.pc_flow.specs.inside.search.Growing.{IsAt, degree, AreListed, AreSettled, GoesOn, HasSettled, HasGrown};
@@ -11,35 +13,60 @@ use pc_net::degree_laws::each_activity_stands_once;
 use std::sync::ledger::Ledger;
 
 impl<'n> Search<'n> {
-    /// Visits all activities at an event. One look for each.
+    /// Visits all activities at an event with a label: along those that begin there, and against those that end there.
+    /// At most one look for each.
     #[inline(always)]
     pub fn scan<L: Ledger>(&mut self, e: u32, steps: &mut Steps<L>)
         requires known { e < self.old.net.now.network.events }
+        requires labelled { 0 < rank_of self.old.board e }
         requires search { IsSearch self.old.net.now self.old.board }
         requires room { HaveRoom self.old.board }
         ensures net { self.new.net.now ≡ self.old.net.now }
-        ensures counted { steps.new ≡ steps.old + degree self.old.net.now e }
+        ensures counted { steps.new ≤ steps.old + degree self.old.net.now e }
         ensures goes_on { GoesOn self.old.net.now (IsAt self.old.net.now e) self.old.board self.new.board }
     {
         let net = self.net.net();
-        self.visit_all(net.out_arcs(e), steps);
-        self.visit_all(net.in_arcs(e), steps);
+        self.scan_begun(e, net.out_arcs(e), steps);
+        self.scan_ended(e, net.in_arcs(e), steps);
     }
 
-    // Visits these activities.
+    // Visits these activities, which begin at an event with a label.
     #[inline(always)]
-    fn visit_all<L: Ledger>(&mut self, activities: &[u32], steps: &mut Steps<L>)
+    fn scan_begun<L: Ledger>(&mut self, e: u32, activities: &[u32], steps: &mut Steps<L>)
         requires known { (k : ℕ) → k < length activities.now →
             slice_index activities.now k < length self.old.net.now.network.arcs }
+        requires begin { (k : ℕ) → k < length activities.now →
+            from_of self.old.net.now.network.arcs (slice_index activities.now k) ≡ e }
+        requires labelled { 0 < rank_of self.old.board e }
         requires search { IsSearch self.old.net.now self.old.board }
         requires room { HaveRoom self.old.board }
         ensures net { self.new.net.now ≡ self.old.net.now }
-        ensures counted { steps.new ≡ steps.old + length activities.now }
+        ensures counted { steps.new ≤ steps.old + length activities.now }
         ensures goes_on { GoesOn self.old.net.now
             (StandsBelow activities.now (length activities.now)) self.old.board self.new.board }
     {
         for a in activities {
-            self.visit(*a, steps);
+            self.visit_along_from(*a, e, steps);
+        }
+    }
+
+    // Visits these activities, which end at an event with a label.
+    #[inline(always)]
+    fn scan_ended<L: Ledger>(&mut self, e: u32, activities: &[u32], steps: &mut Steps<L>)
+        requires known { (k : ℕ) → k < length activities.now →
+            slice_index activities.now k < length self.old.net.now.network.arcs }
+        requires end { (k : ℕ) → k < length activities.now →
+            to_of self.old.net.now.network.arcs (slice_index activities.now k) ≡ e }
+        requires labelled { 0 < rank_of self.old.board e }
+        requires search { IsSearch self.old.net.now self.old.board }
+        requires room { HaveRoom self.old.board }
+        ensures net { self.new.net.now ≡ self.old.net.now }
+        ensures counted { steps.new ≤ steps.old + length activities.now }
+        ensures goes_on { GoesOn self.old.net.now
+            (StandsBelow activities.now (length activities.now)) self.old.board self.new.board }
+    {
+        for a in activities {
+            self.visit_against_from(*a, e, steps);
         }
     }
 

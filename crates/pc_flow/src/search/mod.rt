@@ -8,6 +8,7 @@ mod growing;
 mod labelling;
 mod raising;
 mod search;
+mod seeking;
 mod visiting;
 mod way;
 

@@ -1,7 +1,9 @@
 //! An activity looked at, and the event at its far end labelled where its step has room.
-ghost use Rattle.std.specs.Prelude.{◌≡◌, ◌+◌, ◌<◌, length};
+ghost use Rattle.std.specs.Prelude.{◌≡◌, ◌+◌, ◌<◌, ◌≤◌, ◌↔◌, IsTrue, length};
 ghost use Rattle.pc_crash.specs.inside.Looks.{IsLookAt};
 ghost use Rattle.pc_model.specs.Network.{IsInRange};
+ghost use Rattle.pc_model.specs.Walk.{from_of, to_of};
+ghost use Rattle.pc_flow.specs.board.Sheets.{rank_of};
 ghost use Rattle.pc_flow.specs.inside.board.Labelling.{HaveRoom, IsFor};
 ghost use Rattle.pc_flow.specs.inside.search.Searches.{IsSearch, IsSeen, IsPricedBoard, IsWay, MayGoAlong, MayGoAgainst, StopsAlong, StopsAgainst, StopsAfter, StopsLater, IsVisited};
 
@@ -99,6 +101,92 @@ impl<'n> Search<'n> {
             Way::Along => self.cross_along(a, look.from, look.to, look.crash, knees),
             Way::Against => self.cross_against(a, look.from, look.to, look.crash, knees),
         }
+    }
+
+    /// Visits an activity that begins at an event with a label: along it, if its other end has none. One look.
+    #[inline(always)]
+    pub fn visit_along_from<L: Ledger>(&mut self, a: u32, e: u32, steps: &mut Steps<L>)
+        requires known { a < length self.old.net.now.network.arcs }
+        requires begins { from_of self.old.net.now.network.arcs a ≡ e }
+        requires labelled { 0 < rank_of self.old.board e }
+        requires search { IsSearch self.old.net.now self.old.board }
+        requires room { HaveRoom self.old.board }
+        ensures net { self.new.net.now ≡ self.old.net.now }
+        ensures counted { steps.new ≤ steps.old + 1 }
+        ensures visited { IsVisited self.old.net.now self.old.board self.new.board a }
+    {
+        let look = self.net.look(a, steps);
+        if self.board.rank(look.to) == 0 {
+            self.cross_along(a, e, look.to, look.crash, look.knees.as_slice());
+        }
+    }
+
+    /// Visits an activity that ends at an event with a label: against it, if something flows and its other end has
+    /// none. At most one look.
+    #[inline(always)]
+    pub fn visit_against_from<L: Ledger>(&mut self, a: u32, e: u32, steps: &mut Steps<L>)
+        requires known { a < length self.old.net.now.network.arcs }
+        requires ends { to_of self.old.net.now.network.arcs a ≡ e }
+        requires labelled { 0 < rank_of self.old.board e }
+        requires search { IsSearch self.old.net.now self.old.board }
+        requires room { HaveRoom self.old.board }
+        ensures net { self.new.net.now ≡ self.old.net.now }
+        ensures counted { steps.new ≤ steps.old + 1 }
+        ensures visited { IsVisited self.old.net.now self.old.board self.new.board a }
+    {
+        if self.board.flow(a) > 0 {
+            let look = self.net.look(a, steps);
+            if self.board.rank(look.from) == 0 {
+                self.cross_against(a, look.from, e, look.crash, look.knees.as_slice());
+            }
+        }
+    }
+
+    /// Visits an activity that ends at an event without a label: along it, if its other end has one. Returns whether
+    /// the event has a label then. One look.
+    #[inline(always)]
+    pub fn visit_along_to<L: Ledger>(&mut self, a: u32, e: u32, steps: &mut Steps<L>) -> bool
+        requires known { a < length self.old.net.now.network.arcs }
+        requires ends { to_of self.old.net.now.network.arcs a ≡ e }
+        requires unlabelled { rank_of self.old.board e ≡ 0 }
+        requires search { IsSearch self.old.net.now self.old.board }
+        requires room { HaveRoom self.old.board }
+        ensures net { self.new.net.now ≡ self.old.net.now }
+        ensures counted { steps.new ≤ steps.old + 1 }
+        ensures labelled { IsTrue result ↔ (0 < rank_of self.new.board e) }
+        ensures visited { IsVisited self.old.net.now self.old.board self.new.board a }
+    {
+        let look = self.net.look(a, steps);
+        if self.board.rank(look.from) == 0 {
+            return false;
+        }
+        self.cross_along(a, look.from, e, look.crash, look.knees.as_slice());
+        self.board.rank(e) > 0
+    }
+
+    /// Visits an activity that begins at an event without a label: against it, if something flows and its other end has
+    /// one. Returns whether the event has a label then. At most one look.
+    #[inline(always)]
+    pub fn visit_against_to<L: Ledger>(&mut self, a: u32, e: u32, steps: &mut Steps<L>) -> bool
+        requires known { a < length self.old.net.now.network.arcs }
+        requires begins { from_of self.old.net.now.network.arcs a ≡ e }
+        requires unlabelled { rank_of self.old.board e ≡ 0 }
+        requires search { IsSearch self.old.net.now self.old.board }
+        requires room { HaveRoom self.old.board }
+        ensures net { self.new.net.now ≡ self.old.net.now }
+        ensures counted { steps.new ≤ steps.old + 1 }
+        ensures labelled { IsTrue result ↔ (0 < rank_of self.new.board e) }
+        ensures visited { IsVisited self.old.net.now self.old.board self.new.board a }
+    {
+        if self.board.flow(a) == 0 {
+            return false;
+        }
+        let look = self.net.look(a, steps);
+        if self.board.rank(look.to) == 0 {
+            return false;
+        }
+        self.cross_against(a, e, look.to, look.crash, look.knees.as_slice());
+        self.board.rank(e) > 0
     }
 
     // Labels the event where an activity ends that labels may cross along it, or has the activity wait.

@@ -21,6 +21,13 @@ scan-requires-clause-room g c =
     let t = c.loop-self.self.board in
     rw c.next_to_scan-e.ensures.scanned (room-headed t (t.head + 1) c.loop-self.invariant.1.2.room)
 
+pub scan-requires-clause-labelled : goal.scan-requires-clause-labelled
+scan-requires-clause-labelled g c =
+    let t = c.loop-self.self.board in
+    let open_ : t.head < t.count = omega (arith, c.loop-self-test.true, c.head.ensures, c.count.ensures) in
+    rw c.next_to_scan-e.ensures.scanned
+    (omega (arith, ap (rank_of t) c.next_to_scan-e.ensures.next, c.loop-self.invariant.1.2.search.ranked.placed t.head open_))
+
 pub loop-self-preserved : goal.loop-self-preserved
 loop-self-preserved g c =
     let net = c.args.self.now.net.now in

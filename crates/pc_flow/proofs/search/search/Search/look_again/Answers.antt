@@ -3,13 +3,16 @@ use Rattle.pc_flow.specs.inside.search.Growing.{HasLookedAgain}
 use Rattle.pc_flow.proofs.lemmas.search.AgainLaws.{search-pruned, room-pruned, looks-lost, again-anew, again-lost}
 use Rattle.pc_flow.proofs.search.search.Search.look_again.Goals as goal
 
-pub scan_lost-requires-clause-search : goal.scan_lost-requires-clause-search
-scan_lost-requires-clause-search g c =
+pub seek_lost-requires-clause-search : goal.seek_lost-requires-clause-search
+seek_lost-requires-clause-search g c =
     search-pruned c.args.self.now.net.now c.args.self.now.board c.prune-gone.new.self c.prune-gone.result c.requires.search c.prune-gone.ensures
 
-pub scan_lost-requires-clause-room : goal.scan_lost-requires-clause-room
-scan_lost-requires-clause-room g c =
+pub seek_lost-requires-clause-room : goal.seek_lost-requires-clause-room
+seek_lost-requires-clause-room g c =
     room-pruned c.args.self.now.net.now c.args.self.now.board c.prune-gone.new.self c.prune-gone.result c.requires.search c.prune-gone.ensures
+
+pub seek_lost-requires-clause-unlabelled : goal.seek_lost-requires-clause-unlabelled
+seek_lost-requires-clause-unlabelled g c = c.prune-gone.ensures.sorted.lost_none
 
 pub returns-then-gone-head-clause-again : goal.returns-then-gone-head-clause-again
 returns-then-gone-head-clause-again g c =
@@ -20,7 +23,7 @@ pub returns-else-gone-head-clause-counted : goal.returns-else-gone-head-clause-c
 returns-else-gone-head-clause-counted g c =
     omega (
       arith,
-      c.scan_lost.ensures.counted,
+      c.seek_lost.ensures.counted,
       looks-lost c.args.self.now.net.now c.args.self.now.board c.prune-gone.new.self c.prune-gone.result c.requires.search c.prune-gone.ensures
           (c.each_activity_stands_once.ensures.begin_at_most c.args.self.now.net.now.network)
           (c.each_activity_stands_once.ensures.end_at_most c.args.self.now.net.now.network),
@@ -29,4 +32,4 @@ returns-else-gone-head-clause-counted g c =
 pub returns-else-gone-head-clause-again : goal.returns-else-gone-head-clause-again
 returns-else-gone-head-clause-again g c =
     again-lost c.args.self.now.net.now c.args.self.now.board c.prune-gone.new.self c.prune-gone.result c.requires.search c.prune-gone.ensures
-    c.scan_lost.new.self.board c.requires.settled c.scan_lost.ensures.goes_on
+    c.seek_lost.new.self.board c.requires.settled c.seek_lost.ensures.goes_on
