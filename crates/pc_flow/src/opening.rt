@@ -21,7 +21,7 @@ pub(crate) struct Opening {
 
 /// A board in the free cells of a region on which the start alone has a label. Two passes over the events.
 pub(crate) fn open_board(region: Region, net: &CrashNet<'_>) -> Opening
-    requires { 8 * net.now.network.events + 3 * length net.now.network.arcs ≤ free_of region }
+    requires { 8 * net.now.network.events + 4 * length net.now.network.arcs ≤ free_of region }
     ensures opened { IsOpened net.now region result.board }
     ensures longest { result.longest ≡ kept_time result.board net.now.network.end }
     ensures shortest { IsAllCrashLength net.now.network net.now.terms result.shortest }

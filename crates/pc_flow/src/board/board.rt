@@ -15,7 +15,7 @@ use std::marker::Model;
 /// gave it the label: an activity, whether the step goes against it, the event from which the step comes, and how much
 /// more may flow there. The time of an event without a label is kept with the sum of all steps of the times added, so
 /// that such a step changes none. Each activity has its flow, and may be on the list of those that wait for a step of
-/// the times.
+/// the times, with a sum of these steps before which it does not stop.
 #[derive(Drop)]
 pub struct Board {
     region: Region,
@@ -44,7 +44,7 @@ impl Board {
     pub fn new(region: Region, events: u32, activities: u32) -> Board
         requires events { 0 < events }
         requires activities { 0 < activities }
-        requires room { 8 * events + 3 * activities ≤ free_of region }
+        requires room { 8 * events + 4 * activities ≤ free_of region }
         ensures { result ≡ clear_sheet region events activities }
     {
         let mut region = region;
@@ -102,7 +102,7 @@ impl Board {
 fn columns_of(region: &mut Region, events: usize, activities: usize) -> Columns
     requires events { 0 < events }
     requires activities { 0 < activities }
-    requires room { 8 * events + 3 * activities ≤ free_of region.old }
+    requires room { 8 * events + 4 * activities ≤ free_of region.old }
     ensures { AreColumnsTaken region.old region.new events activities result }
 {
     Columns {
@@ -117,5 +117,6 @@ fn columns_of(region: &mut Region, events: usize, activities: usize) -> Columns
         flow: region.take_free(activities),
         waiting: region.take_free(activities),
         slot: region.take_free(activities),
+        due: region.take_free(activities),
     }
 }

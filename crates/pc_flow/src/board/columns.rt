@@ -16,6 +16,7 @@ pub(in crate::board) enum Column {
     Flow,
     Waiting,
     Slot,
+    Due,
 }
 
 /// Where each column stands.
@@ -32,6 +33,7 @@ pub(in crate::board) struct Columns {
     pub(in crate::board) flow: Span,
     pub(in crate::board) waiting: Span,
     pub(in crate::board) slot: Span,
+    pub(in crate::board) due: Span,
 }
 
 impl Columns {
@@ -54,6 +56,7 @@ impl Columns {
             Column::Flow => self.flow,
             Column::Waiting => self.waiting,
             Column::Slot => self.slot,
+            Column::Due => self.due,
         }
     }
 }

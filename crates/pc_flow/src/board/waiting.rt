@@ -1,7 +1,7 @@
 //! The list of the activities that wait for a fall.
 
-ghost use Rattle.std.specs.Prelude.{◌≡◌, ◌≢◌, ◌+◌, ◌<◌, ◌^◌};
-ghost use Rattle.pc_flow.specs.inside.board.Sheets.{waiting_of, slot_of};
+ghost use Rattle.std.specs.Prelude.{◌≡◌, ◌≢◌, ◌+◌, ◌<◌, ◌≤◌, ◌^◌, ◌↔◌, IsTrue};
+ghost use Rattle.pc_flow.specs.inside.board.Sheets.{waiting_of, slot_of, due_of};
 ghost use Rattle.pc_flow.specs.inside.board.Moves.{WaitsAt, GoesAt, WaitsOnce};
 
 use crate::board::board::Board;
@@ -32,20 +32,30 @@ impl Board {
         ensures waits { slot_of self.old a ≡ 0 → WaitsOnce self.old self.new a }
     {
         if self.number(Column::Slot, a) == 0 {
-            self.wait_at(a, self.len);
+            self.set(Column::Waiting, self.len, a as u64);
+            self.set(Column::Slot, a, self.len as u64 + 1);
             self.len += 1;
         }
     }
 
-    /// Puts an activity at a place of the list.
-    pub fn wait_at(&mut self, a: u32, place: u32)
+    /// Puts an activity at a place of the list. It does not stop before the times have moved by `after` more units.
+    pub fn wait_at(&mut self, a: u32, place: u32, after: u64)
         requires known { a < self.old.activities }
         requires within { place < self.old.activities }
         requires few { place + 1 < 2 ^ 32 }
-        ensures { WaitsAt self.old self.new a place }
+        ensures { WaitsAt self.old self.new a place after }
     {
         self.set(Column::Waiting, place, a as u64);
         self.set(Column::Slot, a, place as u64 + 1);
+        self.set(Column::Due, a, self.fallen.saturating_add(after));
+    }
+
+    /// Returns whether an activity on the list may stop now. If not, it does not stop before the times move.
+    pub fn is_due(&self, a: u32) -> bool
+        requires { a < self.now.activities }
+        ensures { IsTrue result ↔ (due_of self.now a ≤ self.now.fallen) }
+    {
+        self.get(Column::Due, a) <= self.fallen
     }
 
     /// Removes an activity from the list.

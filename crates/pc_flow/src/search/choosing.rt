@@ -11,8 +11,8 @@ use pc_crash::Steps;
 use std::sync::ledger::Ledger;
 
 impl<'n> Search<'n> {
-    /// Returns the least number of units after which an activity stops that labels may cross. The other activities
-    /// leave the list. One look for each activity that waits.
+    /// Returns the least number of units after which an activity stops that labels may cross, and keeps for each such
+    /// activity when it stops. The others leave the list. One look for each activity that waits.
     pub fn choose<L: Ledger>(&mut self, steps: &mut Steps<L>) -> u64
         requires search { IsSearch self.old.net.now self.old.board }
         requires room { HaveRoom self.old.board }
@@ -29,7 +29,7 @@ impl<'n> Search<'n> {
             let a = self.board.waiting(i);
             match self.stop_of(a, steps) {
                 Some(after) => {
-                    self.board.wait_at(a, kept);
+                    self.board.wait_at(a, kept, after);
                     kept += 1;
                     least = least.min(after);
                 }

@@ -70,18 +70,20 @@ impl<'n> Search<'n> {
         }
     }
 
-    /// Visits the activities that wait, and keeps those that still do. One look for each.
+    /// Visits the activities that wait and may stop now, and keeps those that still wait. At most one look for each.
     pub fn settle<L: Ledger>(&mut self, steps: &mut Steps<L>)
         requires search { IsSearch self.old.net.now self.old.board }
         requires room { HaveRoom self.old.board }
         requires listed { AreListed self.old.net.now self.old.board }
         ensures net { self.new.net.now ≡ self.old.net.now }
-        ensures counted { steps.new ≡ steps.old + self.old.board.len }
+        ensures counted { steps.new ≤ steps.old + self.old.board.len }
         ensures settled { HasSettled self.old.net.now self.old.board self.new.board }
     {
         for i in 0..self.board.len() {
             let a = self.board.waiting(i);
-            self.visit(a, steps);
+            if self.board.is_due(a) {
+                self.visit(a, steps);
+            }
         }
     }
 

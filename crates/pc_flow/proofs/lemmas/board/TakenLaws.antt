@@ -1,12 +1,14 @@
 -- The columns of a board, taken one after another.
-use Rattle.std.proofs.Common.{◌≡◌, ℕ, ◌+◌, List, [], ◌∷◌, ◌++◌, length, replicate, refl, sym, ◌∙◌, ap, subst, append_assoc}
-use Rattle.std.proofs.lemmas.List.{length-append, append-nil}
+use Rattle.std.proofs.Common.{◌≡◌, ℕ, ◌+◌, List, [], ◌∷◌, ◌++◌, length, replicate, refl, sym, ◌∙◌, ap, subst, arith, append_assoc}
+use Rattle.std.specs.Prelude.{sum_by}
+use Rattle.std.proofs.lemmas.List.{length-append, length-replicate, append-nil}
+use Rattle.std.proofs.lemmas.List.Sums.{sum_by-append, sum_by-cons}
 use Rattle.pc_cells.specs.declared.span.Span.{Span}
 use Rattle.pc_cells.specs.Spans.{Cells}
 use Rattle.pc_cells.specs.inside.Spans.{IsSpan, IsTaken}
 use Rattle.pc_cells.proofs.LiveLaws.{live-append}
 use Rattle.pc_flow.specs.declared.board.columns.Column.{Column}
-use Rattle.pc_flow.specs.declared.board.columns.Column.TheVariants.{Time, Rank, Queue, Step, Against, Near, Room, Lost, Flow, Waiting, Slot}
+use Rattle.pc_flow.specs.declared.board.columns.Column.TheVariants.{Time, Rank, Queue, Step, Against, Near, Room, Lost, Flow, Waiting, Slot, Due}
 use Rattle.pc_flow.specs.inside.board.Taken.{AreColumnsTaken}
 use Rattle.pc_flow.specs.inside.board.Places.{place_of, span_of}
 
@@ -25,6 +27,19 @@ taken-after home was now before len s at taken =
     ∙ ap (λ (r : Cells). with_more r (replicate len 0 ∷ [])) at
     ∙ ap (λ ys. made home.capacity ys) (append_assoc home.spans before (replicate len 0 ∷ []))
 
+-- its cells are free no more
+pub taken-free : (was now : Cells) (len : ℕ) (s : Span) → IsTaken was now len s
+    → now.capacity + (sum_by length was.spans + len) ≡ was.capacity + sum_by length now.spans
+taken-free was now len s taken =
+    omega (
+      arith,
+      ap (λ (r : Cells). r.capacity) taken.region,
+      ap (λ (r : Cells). sum_by (length {A = ℕ}) r.spans) taken.region,
+      sum_by-append (length {A = ℕ}) was.spans (replicate len 0 ∷ []),
+      sum_by-cons (length {A = ℕ}) (replicate len 0) [],
+      length-replicate {A = ℕ} len 0,
+    )
+
 -- it is live when all are taken
 span-after : (home was now end : Cells) (before rest : List (List ℕ)) (len k : ℕ) (s : Span) → was ≡ with_more home before → length before ≡ k
     → IsTaken was now len s → end ≡ with_more home (before ++ replicate len 0 ∷ rest) → IsSpan end.spans (length home.spans + k) s
@@ -41,7 +56,7 @@ span-after home was now end before rest len k s at size taken all =
         ∙ ap (λ ys. home.spans ++ ys) (append_assoc before (replicate len 0 ∷ []) rest)
         ∙ sym (ap (λ (r : Cells). r.spans) all)
 
-module _ (events activities : ℕ) (r0 r1 r2 r3 r4 r5 r6 r7 r8 r9 r10 r11 : Cells) (time rank queue step against near room lost flow waiting slot : Span)
+module _ (events activities : ℕ) (r0 r1 r2 r3 r4 r5 r6 r7 r8 r9 r10 r11 r12 : Cells) (time rank queue step against near room lost flow waiting slot due : Span)
     (taken_time : IsTaken r0 r1 events time)
     (taken_rank : IsTaken r1 r2 events rank)
     (taken_queue : IsTaken r2 r3 events queue)
@@ -52,51 +67,54 @@ module _ (events activities : ℕ) (r0 r1 r2 r3 r4 r5 r6 r7 r8 r9 r10 r11 : Cell
     (taken_lost : IsTaken r7 r8 events lost)
     (taken_flow : IsTaken r8 r9 activities flow)
     (taken_waiting : IsTaken r9 r10 activities waiting)
-    (taken_slot : IsTaken r10 r11 activities slot) where
+    (taken_slot : IsTaken r10 r11 activities slot)
+    (taken_due : IsTaken r11 r12 activities due) where
+  abbrev ev : List ℕ
+  ev = replicate events 0
+
+  abbrev act : List ℕ
+  act = replicate activities 0
+
   at_0 : r0 ≡ with_more r0 []
   at_0 = ap (λ ys. made r0.capacity ys) (sym (append-nil r0.spans))
 
-  at_1 : r1 ≡ with_more r0 (replicate events 0 ∷ [])
+  at_1 : r1 ≡ with_more r0 (ev ∷ [])
   at_1 = taken-after r0 r0 r1 [] events time at_0 taken_time
 
-  at_2 : r2 ≡ with_more r0 (replicate events 0 ∷ replicate events 0 ∷ [])
-  at_2 = taken-after r0 r1 r2 (replicate events 0 ∷ []) events rank at_1 taken_rank
+  at_2 : r2 ≡ with_more r0 (ev ∷ ev ∷ [])
+  at_2 = taken-after r0 r1 r2 (ev ∷ []) events rank at_1 taken_rank
 
-  at_3 : r3 ≡ with_more r0 (replicate events 0 ∷ replicate events 0 ∷ replicate events 0 ∷ [])
-  at_3 = taken-after r0 r2 r3 (replicate events 0 ∷ replicate events 0 ∷ []) events queue at_2 taken_queue
+  at_3 : r3 ≡ with_more r0 (ev ∷ ev ∷ ev ∷ [])
+  at_3 = taken-after r0 r2 r3 (ev ∷ ev ∷ []) events queue at_2 taken_queue
 
-  at_4 : r4 ≡ with_more r0 (replicate events 0 ∷ replicate events 0 ∷ replicate events 0 ∷ replicate events 0 ∷ [])
-  at_4 = taken-after r0 r3 r4 (replicate events 0 ∷ replicate events 0 ∷ replicate events 0 ∷ []) events step at_3 taken_step
+  at_4 : r4 ≡ with_more r0 (ev ∷ ev ∷ ev ∷ ev ∷ [])
+  at_4 = taken-after r0 r3 r4 (ev ∷ ev ∷ ev ∷ []) events step at_3 taken_step
 
-  at_5 : r5 ≡ with_more r0 (replicate events 0 ∷ replicate events 0 ∷ replicate events 0 ∷ replicate events 0 ∷ replicate events 0 ∷ [])
-  at_5 = taken-after r0 r4 r5 (replicate events 0 ∷ replicate events 0 ∷ replicate events 0 ∷ replicate events 0 ∷ []) events against at_4 taken_against
+  at_5 : r5 ≡ with_more r0 (ev ∷ ev ∷ ev ∷ ev ∷ ev ∷ [])
+  at_5 = taken-after r0 r4 r5 (ev ∷ ev ∷ ev ∷ ev ∷ []) events against at_4 taken_against
 
-  at_6 : r6 ≡ with_more r0 (replicate events 0 ∷ replicate events 0 ∷ replicate events 0 ∷ replicate events 0 ∷ replicate events 0 ∷ replicate events 0 ∷ [])
-  at_6 = taken-after r0 r5 r6 (replicate events 0 ∷ replicate events 0 ∷ replicate events 0 ∷ replicate events 0 ∷ replicate events 0 ∷ []) events near at_5 taken_near
+  at_6 : r6 ≡ with_more r0 (ev ∷ ev ∷ ev ∷ ev ∷ ev ∷ ev ∷ [])
+  at_6 = taken-after r0 r5 r6 (ev ∷ ev ∷ ev ∷ ev ∷ ev ∷ []) events near at_5 taken_near
 
-  at_7 : r7 ≡ with_more r0 (replicate events 0 ∷ replicate events 0 ∷ replicate events 0 ∷ replicate events 0 ∷ replicate events 0 ∷ replicate events 0 ∷ replicate events 0 ∷ [])
-  at_7 = taken-after r0 r6 r7 (replicate events 0 ∷ replicate events 0 ∷ replicate events 0 ∷ replicate events 0 ∷ replicate events 0 ∷ replicate events 0 ∷ []) events room at_6 taken_room
+  at_7 : r7 ≡ with_more r0 (ev ∷ ev ∷ ev ∷ ev ∷ ev ∷ ev ∷ ev ∷ [])
+  at_7 = taken-after r0 r6 r7 (ev ∷ ev ∷ ev ∷ ev ∷ ev ∷ ev ∷ []) events room at_6 taken_room
 
-  at_8 : r8 ≡ with_more r0 (replicate events 0 ∷ replicate events 0 ∷ replicate events 0 ∷ replicate events 0 ∷ replicate events 0 ∷ replicate events 0 ∷ replicate events 0 ∷ replicate events 0 ∷ [])
-  at_8 = taken-after r0 r7 r8 (replicate events 0 ∷ replicate events 0 ∷ replicate events 0 ∷ replicate events 0 ∷ replicate events 0 ∷ replicate events 0 ∷ replicate events 0 ∷ [])
-      events lost at_7 taken_lost
+  at_8 : r8 ≡ with_more r0 (ev ∷ ev ∷ ev ∷ ev ∷ ev ∷ ev ∷ ev ∷ ev ∷ [])
+  at_8 = taken-after r0 r7 r8 (ev ∷ ev ∷ ev ∷ ev ∷ ev ∷ ev ∷ ev ∷ []) events lost at_7 taken_lost
 
-  at_9 : r9 ≡ with_more r0 (replicate events 0 ∷ replicate events 0 ∷ replicate events 0 ∷ replicate events 0 ∷ replicate events 0 ∷ replicate events
-      0 ∷ replicate events 0 ∷ replicate events 0 ∷ replicate activities 0 ∷ [])
-  at_9 = taken-after r0 r8 r9 (replicate events 0 ∷ replicate events 0 ∷ replicate events 0 ∷ replicate events 0 ∷ replicate events 0 ∷ replicate events
-      0 ∷ replicate events 0 ∷ replicate events 0 ∷ []) activities flow at_8 taken_flow
+  at_9 : r9 ≡ with_more r0 (ev ∷ ev ∷ ev ∷ ev ∷ ev ∷ ev ∷ ev ∷ ev ∷ act ∷ [])
+  at_9 = taken-after r0 r8 r9 (ev ∷ ev ∷ ev ∷ ev ∷ ev ∷ ev ∷ ev ∷ ev ∷ []) activities flow at_8 taken_flow
 
-  at_10 : r10 ≡ with_more r0 (replicate events 0 ∷ replicate events 0 ∷ replicate events 0 ∷ replicate events 0 ∷ replicate events 0 ∷ replicate events
-      0 ∷ replicate events 0 ∷ replicate events 0 ∷ replicate activities 0 ∷ replicate activities 0 ∷ [])
-  at_10 = taken-after r0 r9 r10 (replicate events 0 ∷ replicate events 0 ∷ replicate events 0 ∷ replicate events 0 ∷ replicate events 0 ∷ replicate
-      events 0 ∷ replicate events 0 ∷ replicate events 0 ∷ replicate activities 0 ∷ []) activities waiting at_9 taken_waiting
+  at_10 : r10 ≡ with_more r0 (ev ∷ ev ∷ ev ∷ ev ∷ ev ∷ ev ∷ ev ∷ ev ∷ act ∷ act ∷ [])
+  at_10 = taken-after r0 r9 r10 (ev ∷ ev ∷ ev ∷ ev ∷ ev ∷ ev ∷ ev ∷ ev ∷ act ∷ []) activities waiting at_9 taken_waiting
 
-  at_11 : r11 ≡ with_more r0 (replicate events 0 ∷ replicate events 0 ∷ replicate events 0 ∷ replicate events 0 ∷ replicate events 0 ∷ replicate events
-      0 ∷ replicate events 0 ∷ replicate events 0 ∷ replicate activities 0 ∷ replicate activities 0 ∷ replicate activities 0 ∷ [])
-  at_11 = taken-after r0 r10 r11 (replicate events 0 ∷ replicate events 0 ∷ replicate events 0 ∷ replicate events 0 ∷ replicate events 0 ∷ replicate
-      events 0 ∷ replicate events 0 ∷ replicate events 0 ∷ replicate activities 0 ∷ replicate activities 0 ∷ []) activities slot at_10 taken_slot
+  at_11 : r11 ≡ with_more r0 (ev ∷ ev ∷ ev ∷ ev ∷ ev ∷ ev ∷ ev ∷ ev ∷ act ∷ act ∷ act ∷ [])
+  at_11 = taken-after r0 r10 r11 (ev ∷ ev ∷ ev ∷ ev ∷ ev ∷ ev ∷ ev ∷ ev ∷ act ∷ act ∷ []) activities slot at_10 taken_slot
 
-  pub columns-taken : AreColumnsTaken r0 r11 events activities (record {
+  at_12 : r12 ≡ with_more r0 (ev ∷ ev ∷ ev ∷ ev ∷ ev ∷ ev ∷ ev ∷ ev ∷ act ∷ act ∷ act ∷ act ∷ [])
+  at_12 = taken-after r0 r11 r12 (ev ∷ ev ∷ ev ∷ ev ∷ ev ∷ ev ∷ ev ∷ ev ∷ act ∷ act ∷ act ∷ []) activities due at_11 taken_due
+
+  pub columns-taken : AreColumnsTaken r0 r12 events activities (record {
     time = time;
     rank = rank;
     queue = queue;
@@ -108,30 +126,20 @@ module _ (events activities : ℕ) (r0 r1 r2 r3 r4 r5 r6 r7 r8 r9 r10 r11 : Cell
     flow = flow;
     waiting = waiting;
     slot = slot;
+    due = due;
   })
-  columns-taken = record { region = at_11; spans = spans } where
-    spans : (column : Column) → IsSpan r11.spans (length r0.spans + place_of column) (span_of
-        (record { time = time; rank = rank; queue = queue; step = step; against = against; near = near; room = room; lost = lost; flow = flow; waiting = waiting; slot = slot }) column)
-    spans Time = span-after r0 r0 r1 r11 [] (replicate events 0 ∷ replicate events 0 ∷ replicate events 0 ∷ replicate events 0 ∷ replicate events 0 ∷
-        replicate events 0 ∷ replicate events 0 ∷ replicate activities 0 ∷ replicate activities 0 ∷ replicate activities 0 ∷ []) events 0 time at_0 refl taken_time at_11
-    spans Rank = span-after r0 r1 r2 r11 (replicate events 0 ∷ []) (replicate events 0 ∷ replicate events 0 ∷ replicate events 0 ∷ replicate events 0
-        ∷ replicate events 0 ∷ replicate events 0 ∷ replicate activities 0 ∷ replicate activities 0 ∷ replicate activities 0 ∷ []) events 1 rank at_1 refl taken_rank at_11
-    spans Queue = span-after r0 r2 r3 r11 (replicate events 0 ∷ replicate events 0 ∷ []) (replicate events 0 ∷ replicate events 0 ∷ replicate events 0
-        ∷ replicate events 0 ∷ replicate events 0 ∷ replicate activities 0 ∷ replicate activities 0 ∷ replicate activities 0 ∷ []) events 2 queue at_2 refl taken_queue at_11
-    spans Step = span-after r0 r3 r4 r11 (replicate events 0 ∷ replicate events 0 ∷ replicate events 0 ∷ [])
-        (replicate events 0 ∷ replicate events 0 ∷ replicate events 0 ∷ replicate events 0 ∷ replicate activities 0 ∷ replicate activities 0 ∷ replicate activities 0 ∷ [])
-        events 3 step at_3 refl taken_step at_11
-    spans Against = span-after r0 r4 r5 r11 (replicate events 0 ∷ replicate events 0 ∷ replicate events 0 ∷ replicate events 0 ∷ [])
-        (replicate events 0 ∷ replicate events 0 ∷ replicate events 0 ∷ replicate activities 0 ∷ replicate activities 0 ∷ replicate activities 0 ∷ []) events 4 against at_4 refl taken_against at_11
-    spans Near = span-after r0 r5 r6 r11 (replicate events 0 ∷ replicate events 0 ∷ replicate events 0 ∷ replicate events 0 ∷ replicate events 0 ∷ [])
-        (replicate events 0 ∷ replicate events 0 ∷ replicate activities 0 ∷ replicate activities 0 ∷ replicate activities 0 ∷ []) events 5 near at_5 refl taken_near at_11
-    spans Room = span-after r0 r6 r7 r11 (replicate events 0 ∷ replicate events 0 ∷ replicate events 0 ∷ replicate events 0 ∷ replicate events 0 ∷ replicate events 0 ∷ [])
-        (replicate events 0 ∷ replicate activities 0 ∷ replicate activities 0 ∷ replicate activities 0 ∷ []) events 6 room at_6 refl taken_room at_11
-    spans Lost = span-after r0 r7 r8 r11 (replicate events 0 ∷ replicate events 0 ∷ replicate events 0 ∷ replicate events 0 ∷ replicate events 0 ∷ replicate events 0 ∷ replicate events 0 ∷ [])
-        (replicate activities 0 ∷ replicate activities 0 ∷ replicate activities 0 ∷ []) events 7 lost at_7 refl taken_lost at_11
-    spans Flow = span-after r0 r8 r9 r11 (replicate events 0 ∷ replicate events 0 ∷ replicate events 0 ∷ replicate events 0 ∷ replicate events 0 ∷
-        replicate events 0 ∷ replicate events 0 ∷ replicate events 0 ∷ []) (replicate activities 0 ∷ replicate activities 0 ∷ []) activities 8 flow at_8 refl taken_flow at_11
-    spans Waiting = span-after r0 r9 r10 r11 (replicate events 0 ∷ replicate events 0 ∷ replicate events 0 ∷ replicate events 0 ∷ replicate events 0 ∷
-        replicate events 0 ∷ replicate events 0 ∷ replicate events 0 ∷ replicate activities 0 ∷ []) (replicate activities 0 ∷ []) activities 9 waiting at_9 refl taken_waiting at_11
-    spans Slot = span-after r0 r10 r11 r11 (replicate events 0 ∷ replicate events 0 ∷ replicate events 0 ∷ replicate events 0 ∷ replicate events 0 ∷
-        replicate events 0 ∷ replicate events 0 ∷ replicate events 0 ∷ replicate activities 0 ∷ replicate activities 0 ∷ []) [] activities 10 slot at_10 refl taken_slot at_11
+  columns-taken = record { region = at_12; spans = spans } where
+    spans : (column : Column) → IsSpan r12.spans (length r0.spans + place_of column) (span_of
+        (record { time = time; rank = rank; queue = queue; step = step; against = against; near = near; room = room; lost = lost; flow = flow; waiting = waiting; slot = slot; due = due }) column)
+    spans Time = span-after r0 r0 r1 r12 [] (ev ∷ ev ∷ ev ∷ ev ∷ ev ∷ ev ∷ ev ∷ act ∷ act ∷ act ∷ act ∷ []) events 0 time at_0 refl taken_time at_12
+    spans Rank = span-after r0 r1 r2 r12 (ev ∷ []) (ev ∷ ev ∷ ev ∷ ev ∷ ev ∷ ev ∷ act ∷ act ∷ act ∷ act ∷ []) events 1 rank at_1 refl taken_rank at_12
+    spans Queue = span-after r0 r2 r3 r12 (ev ∷ ev ∷ []) (ev ∷ ev ∷ ev ∷ ev ∷ ev ∷ act ∷ act ∷ act ∷ act ∷ []) events 2 queue at_2 refl taken_queue at_12
+    spans Step = span-after r0 r3 r4 r12 (ev ∷ ev ∷ ev ∷ []) (ev ∷ ev ∷ ev ∷ ev ∷ act ∷ act ∷ act ∷ act ∷ []) events 3 step at_3 refl taken_step at_12
+    spans Against = span-after r0 r4 r5 r12 (ev ∷ ev ∷ ev ∷ ev ∷ []) (ev ∷ ev ∷ ev ∷ act ∷ act ∷ act ∷ act ∷ []) events 4 against at_4 refl taken_against at_12
+    spans Near = span-after r0 r5 r6 r12 (ev ∷ ev ∷ ev ∷ ev ∷ ev ∷ []) (ev ∷ ev ∷ act ∷ act ∷ act ∷ act ∷ []) events 5 near at_5 refl taken_near at_12
+    spans Room = span-after r0 r6 r7 r12 (ev ∷ ev ∷ ev ∷ ev ∷ ev ∷ ev ∷ []) (ev ∷ act ∷ act ∷ act ∷ act ∷ []) events 6 room at_6 refl taken_room at_12
+    spans Lost = span-after r0 r7 r8 r12 (ev ∷ ev ∷ ev ∷ ev ∷ ev ∷ ev ∷ ev ∷ []) (act ∷ act ∷ act ∷ act ∷ []) events 7 lost at_7 refl taken_lost at_12
+    spans Flow = span-after r0 r8 r9 r12 (ev ∷ ev ∷ ev ∷ ev ∷ ev ∷ ev ∷ ev ∷ ev ∷ []) (act ∷ act ∷ act ∷ []) activities 8 flow at_8 refl taken_flow at_12
+    spans Waiting = span-after r0 r9 r10 r12 (ev ∷ ev ∷ ev ∷ ev ∷ ev ∷ ev ∷ ev ∷ ev ∷ act ∷ []) (act ∷ act ∷ []) activities 9 waiting at_9 refl taken_waiting at_12
+    spans Slot = span-after r0 r10 r11 r12 (ev ∷ ev ∷ ev ∷ ev ∷ ev ∷ ev ∷ ev ∷ ev ∷ act ∷ act ∷ []) (act ∷ []) activities 10 slot at_10 refl taken_slot at_12
+    spans Due = span-after r0 r11 r12 r12 (ev ∷ ev ∷ ev ∷ ev ∷ ev ∷ ev ∷ ev ∷ ev ∷ act ∷ act ∷ act ∷ []) [] activities 11 due at_11 refl taken_due at_12

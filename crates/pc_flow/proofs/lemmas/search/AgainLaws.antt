@@ -245,7 +245,10 @@ module _ (net : PricedNetwork) (s u : Sheet) (gone : ℕ) (search : IsSearch net
     pub again-lost : HasLookedAgain net s t
     again-lost = record {
       rest =
-          on.grows.rest ∙ ap (λ (v : Sheet). grown_as v t) pruned.rest ∙ ap (λ (v : Sheet). relabelled s v) (sym on.grows.rest);
+          on.grows.rest
+          ∙ ap (λ (v : Sheet). grown_as v t) pruned.rest
+          ∙ ap (λ (v : Sheet). relabelled s (grown_as v t)) (sym pruned.rest)
+          ∙ ap (λ (v : Sheet). relabelled s v) (sym on.grows.rest);
       time = λ e known. on.grows.time e (omega (arith, known, events-same)) ∙ time e known;
       search = on.search;
       room = on.room;

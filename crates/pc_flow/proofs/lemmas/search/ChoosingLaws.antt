@@ -3,7 +3,7 @@ use Rattle.std.proofs.Common.{◌≡◌, ◌≢◌, ℕ, ◌+◌, ◌-◌, ◌^�
 use Rattle.std.proofs.lemmas.Bool.{cases_eq, cases_lt}
 use Rattle.pc_crash.specs.Priced.{PricedNetwork}
 use Rattle.pc_flow.specs.board.Sheets.{Sheet}
-use Rattle.pc_flow.specs.inside.board.Sheets.{waiting_of, slot_of}
+use Rattle.pc_flow.specs.inside.board.Sheets.{waiting_of, slot_of, due_of}
 use Rattle.pc_flow.specs.inside.board.Moves.{WaitsAt, GoesAt}
 use Rattle.pc_flow.specs.inside.search.Searches.{gap_at, next_at, last_at, IsWaiting, IsPricedBoard, IsSearch, MayGoAlong, MayGoAgainst, IsQuiet}
 use Rattle.pc_flow.specs.inside.search.Choosing.{StopsAt}
@@ -14,12 +14,18 @@ pub record StopsNotBefore (net : PricedNetwork) (s : Sheet) (a least : ℕ) : Ty
   pub along : MayGoAlong net s a → next_at net s a + least ≤ gap_at net s a
   pub against : MayGoAgainst net s a → gap_at net s a + least ≤ last_at net s a
 
+-- activity a, which labels may cross, stops no sooner than when the falls have come to the sum `due`
+pub record StopsNotUntil (net : PricedNetwork) (s : Sheet) (a due : ℕ) : Type 0 where
+  pub along : MayGoAlong net s a → due + next_at net s a ≤ s.fallen + gap_at net s a
+  pub against : MayGoAgainst net s a → due + gap_at net s a ≤ s.fallen + last_at net s a
+
 -- activity a still waits, at one of the first `kept` places, and stops no sooner than `least`
 pub record StillWaits (net : PricedNetwork) (s t : Sheet) (kept least a : ℕ) : Type 0 where
   pub some : 0 < slot_of t a
   pub within : slot_of t a ≤ kept
   pub listed : waiting_of t (slot_of t a - 1) ≡ a
   pub stops : StopsNotBefore net s a least
+  pub until : StopsNotUntil net s a (due_of t a)
 
 -- activity a has left the list, since labels may not cross it
 pub record HasGone (net : PricedNetwork) (s t : Sheet) (a : ℕ) : Type 0 where
@@ -32,7 +38,7 @@ SomeStopsAt net s n = (a : ℕ) × (a < length net.network.arcs) × StopsAt net 
 
 -- the first i places of the list were gone through
 pub record IsChoosing (net : PricedNetwork) (s t : Sheet) (i kept least : ℕ) : Type 0 where
-  pub rest : t ≡ record s { waiting = t.waiting; slot = t.slot }
+  pub rest : t ≡ record s { waiting = t.waiting; slot = t.slot; due = t.due }
   pub few : kept ≤ i
   pub later : (k : ℕ) → i ≤ k → waiting_of t k ≡ waiting_of s k
   pub later_slot : (a : ℕ) → a < s.activities → i < slot_of s a → slot_of t a ≡ slot_of s a
@@ -58,7 +64,7 @@ choosing-begins net s = record {
 -- Boards that differ in their lists alone
 
 abbrev pub relisted : Sheet → Sheet → Sheet
-relisted s t = record s { waiting = t.waiting; slot = t.slot }
+relisted s t = record s { waiting = t.waiting; slot = t.slot; due = t.due }
 
 module _ (net : PricedNetwork) (s t : Sheet) (rest : t ≡ relisted s t) where
   pub quiet-relisted : (a : ℕ) → IsQuiet net t a → IsQuiet net s a
@@ -105,8 +111,8 @@ module _ (net : PricedNetwork) (s t u : Sheet) (i kept least a : ℕ) (waiting :
 
   -- and fare as before, if their slots and the kept places are the same
   fates-apart : (first now : ℕ) → kept ≤ first → now ≤ least → (b : ℕ) → b < s.activities → b ≢ a → 0 < slot_of s b → slot_of s b ≤ i + 1
-      → slot_of u b ≡ slot_of t b → ((k : ℕ) → k < kept → waiting_of u k ≡ waiting_of t k) → StillWaits net s u first now b ⊎ HasGone net s u b
-  fates-apart first now more fewer b kb apart some early slot places =
+      → slot_of u b ≡ slot_of t b → due_of u b ≡ due_of t b → ((k : ℕ) → k < kept → waiting_of u k ≡ waiting_of t k) → StillWaits net s u first now b ⊎ HasGone net s u b
+  fates-apart first now more fewer b kb apart some early slot due places =
       elim (on.fates b kb some (before b kb apart some early)) [
         | inl still ↦ inl (record {
           some = omega (arith, slot, still.some);
@@ -116,12 +122,16 @@ module _ (net : PricedNetwork) (s t u : Sheet) (i kept least a : ℕ) (waiting :
             along = λ may. omega (arith, still.stops.along may, fewer);
             against = λ may. omega (arith, still.stops.against may, fewer);
           };
+          until = record {
+            along = λ may. omega (arith, due, still.until.along may);
+            against = λ may. omega (arith, due, still.until.against may);
+          };
         })
         | inr gone ↦ inr (record { none = slot ∙ gone.none; quiet = gone.quiet })
       ]
 
   -- it waits on
-  module _ (n : ℕ) (stops : StopsAt net s a n) (moved : WaitsAt t u a kept) where
+  module _ (n : ℕ) (stops : StopsAt net s a n) (moved : WaitsAt t u a kept n) where
     fewer : min least n ≤ least
     fewer = omega arith
 
@@ -135,6 +145,21 @@ module _ (net : PricedNetwork) (s t u : Sheet) (i kept least a : ℕ) (waiting :
       by (inr against) = record {
         along = λ may. absurd (omega (arith, may.from, against.0.from));
         against = λ may. omega (arith, against.1);
+      }
+
+    fallen-is : t.fallen ≡ s.fallen
+    fallen-is = ap (λ (v : Sheet). v.fallen) on.rest
+
+    not-until : StopsNotUntil net s a (due_of u a)
+    not-until = by stops where
+      by : StopsAt net s a n → StopsNotUntil net s a (due_of u a)
+      by (inl along) = record {
+        along = λ may. omega (arith, along.1, moved.due_at, fallen-is);
+        against = λ may. absurd (omega (arith, may.from, along.0.from));
+      }
+      by (inr against) = record {
+        along = λ may. absurd (omega (arith, may.from, against.0.from));
+        against = λ may. omega (arith, against.1, moved.due_at, fallen-is);
       }
 
     other-slot : (k : ℕ) → k < kept → waiting_of t k ≢ a
@@ -153,8 +178,10 @@ module _ (net : PricedNetwork) (s t u : Sheet) (i kept least a : ℕ) (waiting :
                 (let here : slot_of u b - 1 ≡ kept = omega (arith, ap (slot_of u) same, moved.slot_at) in
                 ap (waiting_of u) here ∙ moved.waiting_at ∙ sym same);
             stops = subst (λ x. StopsNotBefore net s x (min least n)) (sym same) not-before;
+            until = subst (λ x. StopsNotUntil net s x (due_of u x)) (sym same) not-until;
           })
-          | inr apart ↦ fates-apart (kept + 1) (min least n) (omega arith) fewer b kb apart some early (moved.slot_off b apart) kept-place
+          | inr apart ↦ fates-apart (kept + 1) (min least n) (omega arith) fewer b kb apart some early (moved.slot_off b apart) (moved.due_off b apart)
+              kept-place
         ]
 
     met-kept : a < length net.network.arcs → (min least n ≡ 2 ^ 64 - 1) ⊎ SomeStopsAt net s (min least n)
@@ -166,7 +193,7 @@ module _ (net : PricedNetwork) (s t u : Sheet) (i kept least a : ℕ) (waiting :
 
     pub choosing-keeps : a < length net.network.arcs → IsChoosing net s u (i + 1) (kept + 1) (min least n)
     choosing-keeps ka = record {
-      rest = moved.rest ∙ ap (λ (v : Sheet). record v { waiting = u.waiting; slot = u.slot }) on.rest;
+      rest = moved.rest ∙ ap (λ (v : Sheet). record v { waiting = u.waiting; slot = u.slot; due = u.due }) on.rest;
       few = omega (arith, on.few);
       later = λ k from. moved.waiting_off k (λ (is : k ≡ kept). omega (arith, on.few)) ∙ on.later k (omega arith);
       later_slot = λ b kb late.
@@ -200,14 +227,15 @@ module _ (net : PricedNetwork) (s t u : Sheet) (i kept least a : ℕ) (waiting :
             quiet = subst (λ x. IsQuiet net s x) (sym same) quiet;
           })
           | inr apart ↦
-              fates-apart kept least (omega arith) (omega arith) b kb apart some early (moved.slot_off b apart) (λ k below. same-place k)
+              fates-apart kept least (omega arith) (omega arith) b kb apart some early (moved.slot_off b apart)
+              (ap (λ (v : Sheet). due_of v b) moved.rest) (λ k below. same-place k)
         ]
 
     pub choosing-goes : IsChoosing net s u (i + 1) kept least
     choosing-goes = record {
       rest =
           moved.rest ∙ ap (λ (v : Sheet). record v { slot = u.slot }) on.rest
-          ∙ ap (λ xs. record s { waiting = xs; slot = u.slot }) (sym (ap (λ (v : Sheet). v.waiting) moved.rest));
+          ∙ ap (λ (v : Sheet). record s { waiting = v.waiting; slot = u.slot; due = v.due }) (sym moved.rest);
       few = omega (arith, on.few);
       later = λ k from. same-place k ∙ on.later k (omega arith);
       later_slot = λ b kb late.

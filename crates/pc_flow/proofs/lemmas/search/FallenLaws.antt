@@ -10,11 +10,11 @@ use Rattle.pc_laws.proofs.Segments.Falls.{falls_along}
 use Rattle.pc_laws.proofs.Stairs.StairStates.{stair-fallen, stair-times_within}
 use Rattle.pc_crash.specs.Priced.{PricedNetwork, knees_in}
 use Rattle.pc_flow.specs.board.Sheets.{Sheet, kept_time, time_of, rank_of, flow_of}
-use Rattle.pc_flow.specs.inside.board.Sheets.{step_of, room_of}
+use Rattle.pc_flow.specs.inside.board.Sheets.{step_of, room_of, due_of}
 use Rattle.pc_flow.specs.inside.board.Labelling.{HasStep, AreTimes}
 use Rattle.pc_flow.proofs.lemmas.board.AfterPruning.{time-labelled, time-unlabelled}
-use Rattle.pc_flow.specs.inside.search.Searches.{stair_at, gap_at, IsSearch, IsOnStairs, AreLed}
-use Rattle.pc_flow.specs.inside.search.Growing.{IsMet, AreListed}
+use Rattle.pc_flow.specs.inside.search.Searches.{stair_at, gap_at, next_at, last_at, IsSearch, IsOnStairs, AreLed}
+use Rattle.pc_flow.specs.inside.search.Growing.{IsMet, WaitsAlong, WaitsAgainst, AreListed}
 use Rattle.pc_flow.specs.inside.search.Choosing.{moving}
 use Rattle.pc_flow.specs.search.Labelling.{length_at}
 use Rattle.pc_flow.specs.inside.search.Labelling.{slope_at, IsStateWith, IsBetween, MayFall, HasFallen}
@@ -28,6 +28,13 @@ still_ahead true true u v by ahead forward = omega arith
 still_ahead true false u v by ahead forward = omega arith
 still_ahead false true u v by ahead forward = omega (arith, forward refl)
 still_ahead false false u v by ahead forward = omega arith
+
+-- a sum that an activity stops no sooner than at stays one after a fall: from u to v, after the fall from w to x
+gap-shrinks : (due unit fallen by u v w x : ℕ) → due + unit ≤ fallen + (v - u) → w ≡ u → x + by ≡ v → due + unit ≤ (fallen + by) + (x - w)
+gap-shrinks due unit fallen by u v w x until rests falls = omega arith
+
+gap-grows : (due unit fallen by u v w x : ℕ) → due + (v - u) ≤ fallen + unit → w + by ≡ u → x ≡ v → due + (x - w) ≤ (fallen + by) + unit
+gap-grows due unit fallen by u v w x until falls rests = omega arith
 
 module _ (net : PricedNetwork) (priced : IsPriced net.network net.terms (knees_in net)) (s : Sheet) (by : ℕ) (between : IsBetween net s)
     (listed : AreListed net s) (falls : MayFall net s by) where
@@ -149,8 +156,25 @@ module _ (net : PricedNetwork) (priced : IsPriced net.network net.terms (knees_i
 
   listed-there : AreListed net there
   listed-there = record {
-    along = λ a known met may. listed.along a known (met-before a met) (record { from = may.from; to = may.to });
-    against = λ a known met may. listed.against a known (met-before a met) (record { from = may.from; to = may.to; some = may.some });
+    along = λ a known met may.
+        let waits : WaitsAlong net s a = listed.along a known (met-before a met) (record { from = may.from; to = may.to }) in
+        record {
+          listed = waits.listed;
+          due = gap-shrinks (due_of s a) (next_at net s a) s.fallen by (time_of s (from_of net.network.arcs a)) (time_of s (to_of net.network.arcs a))
+              (time_of there (from_of net.network.arcs a)) (time_of there (to_of net.network.arcs a)) waits.due
+              (rested (from_of net.network.arcs a) may.from)
+              (moved (to_of net.network.arcs a) (omega (arith, search.in_range.to_in a known, search.fits.events)) may.to);
+        };
+    against = λ a known met may.
+        let waits : WaitsAgainst net s a =
+        listed.against a known (met-before a met) (record { from = may.from; to = may.to; some = may.some }) in
+        record {
+          listed = waits.listed;
+          due = gap-grows (due_of s a) (last_at net s a) s.fallen by (time_of s (from_of net.network.arcs a)) (time_of s (to_of net.network.arcs a))
+              (time_of there (from_of net.network.arcs a)) (time_of there (to_of net.network.arcs a)) waits.due
+              (moved (from_of net.network.arcs a) (omega (arith, search.in_range.from_in a known, search.fits.events)) may.from)
+              (rested (to_of net.network.arcs a) may.to);
+        };
   }
 
   fallen-there : HasFallen net s there by

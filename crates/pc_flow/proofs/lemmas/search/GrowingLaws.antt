@@ -8,11 +8,11 @@ use Rattle.pc_model.specs.Network.{IsInRange}
 use Rattle.pc_laws.specs.Stair.{unit_length}
 use Rattle.pc_crash.specs.Priced.{PricedNetwork}
 use Rattle.pc_flow.specs.board.Sheets.{Sheet, time_of, rank_of, flow_of}
-use Rattle.pc_flow.specs.inside.board.Sheets.{queue_of, slot_of}
+use Rattle.pc_flow.specs.inside.board.Sheets.{queue_of, waiting_of, slot_of, due_of}
 use Rattle.pc_flow.specs.inside.board.Labelling.{HaveRoom, IsRanked}
 use Rattle.pc_flow.specs.inside.search.Searches.{stair_at, next_at, last_at, gap_at, IsSearch, MayGoAlong, MayGoAgainst, IsSettled, grown_as, Grows, IsVisited}
 use Rattle.pc_flow.proofs.lemmas.search.VisitLaws.{grows-none, settled-both}
-use Rattle.pc_flow.specs.inside.search.Growing.{IsAt, IsReached, IsScanned, IsMet, AreListed, GoesOn, HasSettled}
+use Rattle.pc_flow.specs.inside.search.Growing.{IsAt, IsReached, IsScanned, IsMet, WaitsAlong, WaitsAgainst, AreListed, GoesOn, HasSettled}
 
 -- Going on from board to board
 
@@ -138,18 +138,47 @@ goes_on-visited net t u a visited = record {
   settled = λ b known same reached. subst (λ x. IsSettled net u x) (sym same) visited.settled;
 }
 
+-- one of the first of a list and the next one stands among the first or is the next
+stands-next : (xs : List ℕ) (i a b : ℕ) → slice_index xs i ≡ a → StandsBelow xs (i + 1) b → StandsBelow xs i b ⊎ (b ≡ a)
+stands-next xs i a b at stands =
+    elim (cases_lt stands.0 i) [
+      | inl early ↦ inl (stands.0, early, stands.2)
+      | inr late ↦ let here : stands.0 ≡ i = omega (arith, stands.1) in inr (sym stands.2 ∙ ap (slice_index xs) here ∙ at)
+    ]
+
 -- a visit to the next of a list
 pub goes_on-visits : (net : PricedNetwork) (xs : List ℕ) (i a : ℕ) (s t u : Sheet) → GoesOn net (StandsBelow xs i) s t → slice_index xs i ≡ a
     → IsVisited net t u a → GoesOn net (StandsBelow xs (i + 1)) s u
 goes_on-visits net xs i a s t u before at visited =
-    goes_on-joins net (StandsBelow xs i) (λ b. b ≡ a) (StandsBelow xs (i + 1)) s t u split before (goes_on-visited net t u a visited)
+    goes_on-joins net (StandsBelow xs i) (λ b. b ≡ a) (StandsBelow xs (i + 1)) s t u (λ b known stands. stands-next xs i a b at stands)
+    before (goes_on-visited net t u a visited)
+
+-- one of the first i that wait, and the falls have come to the sum that is kept of it
+abbrev pub IsDueBelow : Sheet → ℕ → ℕ → Type 0
+IsDueBelow s i a = StandsBelow s.waiting i a × (due_of s a ≤ s.fallen)
+
+-- a visit to the next of those that wait
+pub goes_on-due : (net : PricedNetwork) (i a : ℕ) (s t u : Sheet) → GoesOn net (IsDueBelow s i) s t → waiting_of s i ≡ a → IsVisited net t u a
+    → GoesOn net (IsDueBelow s (i + 1)) s u
+goes_on-due net i a s t u before at visited =
+    goes_on-joins net (IsDueBelow s i) (λ b. b ≡ a) (IsDueBelow s (i + 1)) s t u split before (goes_on-visited net t u a visited)
   where
-    split : (b : ℕ) → b < length net.network.arcs → StandsBelow xs (i + 1) b → StandsBelow xs i b ⊎ (b ≡ a)
-    split b known stands =
-        elim (cases_lt stands.0 i) [
-          | inl early ↦ inl (stands.0, early, stands.2)
-          | inr late ↦ let here : stands.0 ≡ i = omega (arith, stands.1) in inr (sym stands.2 ∙ ap (slice_index xs) here ∙ at)
-        ]
+    split : (b : ℕ) → b < length net.network.arcs → IsDueBelow s (i + 1) b → IsDueBelow s i b ⊎ (b ≡ a)
+    split b known this =
+        elim (stands-next s.waiting i a b at this.0) [ inl early ↦ inl (early, this.1) | inr here ↦ inr here ]
+
+-- the next of them waits on
+pub goes_on-waits : (net : PricedNetwork) (i a : ℕ) (s t : Sheet) → GoesOn net (IsDueBelow s i) s t → waiting_of s i ≡ a → s.fallen < due_of s a
+    → GoesOn net (IsDueBelow s (i + 1)) s t
+goes_on-waits net i a s t before at late = record {
+  grows = before.grows;
+  search = before.search;
+  room = before.room;
+  settled = λ b known this reached. elim (stands-next s.waiting i a b at this.0) [
+    | inl early ↦ before.settled b known (early, this.1) reached
+    | inr here ↦ absurd (omega (arith, this.1, ap (due_of s) here, late))
+  ];
+}
 
 -- all at an event that had no label and has got one are settled: where the other end had a label, both have one
 pub goes_on-labelled : (net : PricedNetwork) (these all : ℕ → Type 0) (s t : Sheet) (e : ℕ)
@@ -198,27 +227,41 @@ met-reached net s a (inr to) = inr to.labelled
 
 -- The list of those that wait
 
-module _ (net : PricedNetwork) (s t : Sheet) (search : IsSearch net s) (on : GoesOn net (StandsBelow s.waiting s.len) s t) where
-  -- an activity that waited was visited
-  waited : (a : ℕ) → a < length net.network.arcs → IsReached net s a → 0 < slot_of s a → IsSettled net t a
-  waited a known reached waits =
-      let ka : a < s.activities = omega (arith, known, search.fits.activities) in
-      on.settled a known (slot_of s a - 1, omega (arith, search.waiting.within a ka), search.waiting.listed a ka waits) reached
+module _ (net : PricedNetwork) (s t : Sheet) (search : IsSearch net s) (on : GoesOn net (IsDueBelow s s.len) s t)
+    (listed : AreListed net s) where
+  -- an activity stops only after a fall, if the falls have not come to its sum
+  waits-on : (a : ℕ) → a < length net.network.arcs → IsMet net s a → s.fallen < due_of s a → IsSettled net s a
+  waits-on a known met late = record {
+    along = λ may. let waits : WaitsAlong net s a = listed.along a known met may in (waits.listed, omega (arith, waits.due, late));
+    against = λ may. let waits : WaitsAgainst net s a = listed.against a known met may in (waits.listed, omega (arith, waits.due, late));
+  }
 
-  pub settled-all : AreListed net s → HasSettled net s t
-  settled-all listed = record {
+  -- else it was visited, if it waited
+  waited : (a : ℕ) → a < length net.network.arcs → IsMet net s a → 0 < slot_of s a → IsSettled net t a
+  waited a known met waits =
+      let ka : a < s.activities = omega (arith, known, search.fits.activities) in
+      elim (cases_lt s.fallen (due_of s a)) [
+        | inl late ↦
+            settled-grows s t on.grows net search.in_range search.fits.events a known (met-reached net s a met) (waits-on a known met late)
+        | inr due ↦
+            on.settled a known ((slot_of s a - 1, omega (arith, search.waiting.within a ka), search.waiting.listed a ka waits), due)
+            (met-reached net s a met)
+      ]
+
+  pub settled-all : HasSettled net s t
+  settled-all = record {
     grows = on.grows;
     search = on.search;
     room = on.room;
     settled = λ a known met.
-        let was : IsMet net s a = met-was net (StandsBelow s.waiting s.len) s t search on a known met in
+        let was : IsMet net s a = met-was net (IsDueBelow s s.len) s t search on a known met in
         let reached : IsReached net s a = met-reached net s a was in
         record {
           along = λ may.
-              (waited a known reached
-              (listed.along a known was (along-was s t on.grows net search.in_range search.fits.events a known reached may))).along may;
+              (waited a known was
+              (listed.along a known was (along-was s t on.grows net search.in_range search.fits.events a known reached may)).listed).along may;
           against = λ may.
-              (waited a known reached
-              (listed.against a known was (against-was s t on.grows net search.in_range search.fits.events a known reached may))).against may;
+              (waited a known was
+              (listed.against a known was (against-was s t on.grows net search.in_range search.fits.events a known reached may)).listed).against may;
         };
   }

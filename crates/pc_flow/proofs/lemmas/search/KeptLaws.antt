@@ -21,7 +21,7 @@ waiting-kept s t same waiting =
 
 -- board s with the list, the counts and the falls of board t
 abbrev pub recounted : Sheet → Sheet → Sheet
-recounted s t = record s { waiting = t.waiting; slot = t.slot; fallen = t.fallen; head = t.head; len = t.len }
+recounted s t = record s { waiting = t.waiting; slot = t.slot; due = t.due; fallen = t.fallen; head = t.head; len = t.len }
 
 -- where labels and flows stay, a search is one still if its list, its times and its gaps are right
 pub search-recounted : (net : PricedNetwork) (s t : Sheet) → IsSearch net s → t.head ≤ s.count → AreTimes (recounted s t)

@@ -72,7 +72,7 @@ module _ (net : PricedNetwork) (s : Sheet) (a : ℕ) where
 module _ (net : PricedNetwork) (s t : Sheet) (kept least : ℕ) (search : IsSearch net s) (room : HaveRoom s) (settled : AreSettled net s)
     (scanned : s.head ≡ s.count) (stuck : rank_of s net.network.end ≡ 0) (on : IsChoosing net s t s.len kept least) where
   abbrev there : Sheet
-  there = record s { waiting = t.waiting; slot = t.slot; len = kept }
+  there = record s { waiting = t.waiting; slot = t.slot; due = t.due; len = kept }
 
   activity : (a : ℕ) → a < length net.network.arcs → a < s.activities
   activity a known = omega (arith, known, search.fits.activities)
@@ -153,8 +153,14 @@ module _ (net : PricedNetwork) (s t : Sheet) (kept least : ℕ) (search : IsSear
     search = search-relisted net s there search search.ranked.scanned waiting-there;
     room = record { some = room.some };
     listed = record {
-      along = λ a known met may. (along-waits a known (record { from = may.from; to = may.to })).some;
-      against = λ a known met may. (against-waits a known (record { from = may.from; to = may.to; some = may.some })).some;
+      along = λ a known met may.
+          let was : MayGoAlong net s a = record { from = may.from; to = may.to } in
+          let still : StillWaits net s t kept least a = along-waits a known was in
+          record { listed = still.some; due = still.until.along was };
+      against = λ a known met may.
+          let was : MayGoAgainst net s a = record { from = may.from; to = may.to; some = may.some } in
+          let still : StillWaits net s t kept least a = against-waits a known was in
+          record { listed = still.some; due = still.until.against was };
     };
     stuck = stuck-there;
     before = before-there;

@@ -7,7 +7,7 @@ use Rattle.pc_flow.specs.declared.board.board.Board.TheInside.{Inside}
 use Rattle.pc_flow.specs.board.Sheets.{Sheet}
 use Rattle.pc_flow.specs.inside.board.Places.{place_of, span_of, size_of, is_small}
 
--- the board whose columns are the lists f 0 to f 10
+-- the board whose columns are the lists f 0 to f 11
 abbrev pub laid_sheet : ℕ → ℕ → Cells → (ℕ → List ℕ) → ℕ → ℕ → ℕ → ℕ → Sheet
 laid_sheet events activities home f fallen count head len = record {
   events = events;
@@ -24,6 +24,7 @@ laid_sheet events activities home f fallen count head len = record {
   flow = f 8;
   waiting = f 9;
   slot = f 10;
+  due = f 11;
   fallen = fallen;
   count = count;
   head = head;

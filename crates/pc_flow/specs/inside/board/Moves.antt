@@ -1,7 +1,7 @@
 -- What one call changes on a board. In each record, `rest` says which lists it touches at all.
-use Rattle.std.specs.Prelude.{◌≡◌, ◌≢◌, ℕ, ◌+◌, ◌<◌, Bool, if◌then◌else◌}
+use Rattle.std.specs.Prelude.{◌≡◌, ◌≢◌, ℕ, ◌+◌, ◌<◌, ◌≤◌, Bool, if◌then◌else◌}
 use Rattle.pc_flow.specs.board.Sheets.{Sheet, kept_time, rank_of, flow_of}
-use Rattle.pc_flow.specs.inside.board.Sheets.{queue_of, step_of, against_of, near_of, room_of, lost_of, waiting_of, slot_of}
+use Rattle.pc_flow.specs.inside.board.Sheets.{queue_of, step_of, against_of, near_of, room_of, lost_of, waiting_of, slot_of, due_of}
 
 -- event e has the place `place` in the queue
 pub record KeepsAt (s t : Sheet) (e place : ℕ) : Type 0 where
@@ -88,13 +88,16 @@ pub record EntersAt (s t : Sheet) (e a : ℕ) (against : Bool) (near room : ℕ)
   pub rank_off : (f : ℕ) → f ≢ e → rank_of t f ≡ rank_of s f
   pub step : IsStepSet s t e a against near room
 
--- activity a has the place `place` on the list of those that wait
-pub record WaitsAt (s t : Sheet) (a place : ℕ) : Type 0 where
-  pub rest : t ≡ record s { waiting = t.waiting; slot = t.slot }
+-- activity a has the place `place` on the list of those that wait, and what is kept of it is no more than the sum of the
+-- falls after so many more units
+pub record WaitsAt (s t : Sheet) (a place after : ℕ) : Type 0 where
+  pub rest : t ≡ record s { waiting = t.waiting; slot = t.slot; due = t.due }
   pub waiting_at : waiting_of t place ≡ a
   pub waiting_off : (k : ℕ) → k ≢ place → waiting_of t k ≡ waiting_of s k
   pub slot_at : slot_of t a ≡ place + 1
   pub slot_off : (b : ℕ) → b ≢ a → slot_of t b ≡ slot_of s b
+  pub due_at : due_of t a ≤ s.fallen + after
+  pub due_off : (b : ℕ) → b ≢ a → due_of t b ≡ due_of s b
 
 -- activity a is the last on that list
 pub record WaitsOnce (s t : Sheet) (a : ℕ) : Type 0 where

@@ -28,6 +28,9 @@ waiting_of s k = slice_index s.waiting k
 abbrev pub slot_of : Sheet → ℕ → ℕ
 slot_of s a = slice_index s.slot a
 
+abbrev pub due_of : Sheet → ℕ → ℕ
+due_of s a = slice_index s.due a
+
 -- a board with 0 at each place
 abbrev pub clear_sheet : Cells → ℕ → ℕ → Sheet
 clear_sheet home events activities = record {
@@ -45,6 +48,7 @@ clear_sheet home events activities = record {
   flow = replicate activities 0;
   waiting = replicate activities 0;
   slot = replicate activities 0;
+  due = replicate activities 0;
   fallen = 0;
   count = 0;
   head = 0;

@@ -5,9 +5,9 @@ use Rattle.pc_model.specs.Walk.{from_of, to_of}
 use Rattle.pc_net.specs.Networks.{events_from, events_to}
 use Rattle.pc_crash.specs.Priced.{PricedNetwork}
 use Rattle.pc_flow.specs.board.Sheets.{Sheet, time_of, rank_of}
-use Rattle.pc_flow.specs.inside.board.Sheets.{lost_of, slot_of}
+use Rattle.pc_flow.specs.inside.board.Sheets.{lost_of, slot_of, due_of}
 use Rattle.pc_flow.specs.inside.board.Labelling.{HaveRoom}
-use Rattle.pc_flow.specs.inside.search.Searches.{IsSearch, MayGoAlong, MayGoAgainst, IsSettled, grown_as, Grows}
+use Rattle.pc_flow.specs.inside.search.Searches.{gap_at, next_at, last_at, IsSearch, MayGoAlong, MayGoAgainst, IsSettled, grown_as, Grows}
 
 -- activity a begins or ends at event e
 abbrev pub IsAt : PricedNetwork → ℕ → ℕ → Type 0
@@ -30,10 +30,19 @@ pub record IsScanned (s : Sheet) (e : ℕ) : Type 0 where
 abbrev pub IsMet : PricedNetwork → Sheet → ℕ → Type 0
 IsMet net s a = IsScanned s (from_of net.network.arcs a) ⊎ IsScanned s (to_of net.network.arcs a)
 
+-- activity a waits, and stops no sooner than when the falls have come to the sum that is kept of it
+pub record WaitsAlong (net : PricedNetwork) (s : Sheet) (a : ℕ) : Type 0 where
+  pub listed : 0 < slot_of s a
+  pub due : due_of s a + next_at net s a ≤ s.fallen + gap_at net s a
+
+pub record WaitsAgainst (net : PricedNetwork) (s : Sheet) (a : ℕ) : Type 0 where
+  pub listed : 0 < slot_of s a
+  pub due : due_of s a + gap_at net s a ≤ s.fallen + last_at net s a
+
 -- of the activities at scanned events those wait that labels may cross
 pub record AreListed (net : PricedNetwork) (s : Sheet) : Type 0 where
-  pub along : (a : ℕ) → a < length net.network.arcs → IsMet net s a → MayGoAlong net s a → 0 < slot_of s a
-  pub against : (a : ℕ) → a < length net.network.arcs → IsMet net s a → MayGoAgainst net s a → 0 < slot_of s a
+  pub along : (a : ℕ) → a < length net.network.arcs → IsMet net s a → MayGoAlong net s a → WaitsAlong net s a
+  pub against : (a : ℕ) → a < length net.network.arcs → IsMet net s a → MayGoAgainst net s a → WaitsAgainst net s a
 
 -- and they stop only after a fall
 abbrev pub AreSettled : PricedNetwork → Sheet → Type 0
@@ -64,7 +73,7 @@ pub record HasGrown (net : PricedNetwork) (s t : Sheet) : Type 0 where
 
 -- board s with the labels of board t, with those that it lost, and with its waiting activities
 abbrev pub relabelled : Sheet → Sheet → Sheet
-relabelled s t = record (grown_as s t) { lost = t.lost; head = t.head }
+relabelled s t = record (grown_as s t) { lost = t.lost; head = t.head; due = t.due }
 
 -- after a raising the labels without room were taken off, and the search went on from the others; times and flows are as
 -- they were
