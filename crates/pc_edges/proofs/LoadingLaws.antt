@@ -1,5 +1,5 @@
 -- What a source that was read to its end tells of where the reading stopped.
-use Rattle.std.proofs.Common.{ℕ, ◌+◌, ◌<◌, List, ◌++◌, length, length-append, Option, ◌↔◌, arith}
+use Rattle.std.proofs.Common.{ℕ, ◌<◌, List, ◌++◌, length, length-append, Option, ◌↔◌, arith}
 use Rattle.std.specs.Io.KnownBytes.{Consumes}
 use Rattle.std.proofs.KnownBytes.{Consumes-trans}
 use Rattle.pc_edges.specs.Pulls.{IsReadWithin}
