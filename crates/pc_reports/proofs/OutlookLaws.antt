@@ -16,7 +16,7 @@ use Rattle.pc_rollup.specs.inside.figures.Outlook.{HasWholeAtTop}
 use Rattle.pc_rollup.proofs.lemmas.figures.PushLaws.{each_more}
 use Rattle.pc_rollup.proofs.lemmas.figures.OutlookLaws.{outlook_alike}
 use Rattle.pc_reports.specs.OutlookText.{IsOutlook, cost_at}
-use Rattle.pc_reports.specs.inside.OutlookText.{AreCostsAt, AreCostsIn, TellsTop}
+use Rattle.pc_reports.specs.inside.OutlookText.{AreCostsAt, AreCostsIn, IsPricedNetOf, TellsTop}
 
 -- the costs of the first n activities, none of them too great
 pub record AreCostsTo (net : PricedNetwork) (durations : List ℕ) (n : ℕ) (costs : List ℕ) : Type 0 where
@@ -43,14 +43,14 @@ costs_fit net durations n costs few so_far =
     omega (arith, so_far.are.one_each)
 
 -- the costs in a project's network are the project's
-pub costs_told : (project : Project) (net : PricedNetwork) (durations costs : List ℕ) → net.network ≡ project.network → net.terms ≡ project.terms →
-    net.pieces ≡ project.pieces → AreCostsIn net durations (length net.network.arcs) costs →
+pub costs_told : (project : Project) (net : PricedNetwork) (durations costs : List ℕ) → IsPricedNetOf project net →
+    AreCostsIn net durations (length net.network.arcs) costs →
     AreCostsAt project durations (length project.network.arcs) costs
-costs_told project net durations costs network terms pieces are =
-    let same = ap (λ (n : Network). length n.arcs) network in
+costs_told project net durations costs of_project are =
+    let same = ap (λ (n : Network). length n.arcs) of_project.network in
     record {
       one_each = are.one_each ∙ same;
-      each = λ a lt. are.each a (omega (arith, same)) ∙ rw (terms, pieces) refl;
+      each = λ a lt. are.each a (omega (arith, same)) ∙ rw (of_project.terms, of_project.pieces) refl;
     }
 
 -- the outlook at these costs is that at these durations

@@ -1,29 +1,18 @@
-//! What the activities of a project cost at given durations.
+//! What the activities of a network cost at given durations.
 ghost use Rattle.std.specs.Prelude.{◌≡◌, ◌≤◌, ◌^◌, length, slice_index, IfOk};
 ghost use Rattle.pc_model.specs.Sums.{sum_to};
-ghost use Rattle.pc_reports.specs.inside.OutlookText.{AreCostsAt, AreCostsIn};
+ghost use Rattle.pc_reports.specs.inside.OutlookText.{AreCostsIn};
 
 use pc_crash::CrashNet;
-use pc_project::Project;
 use std::alloc::{AllocError, Global};
 
 /// Returns what each activity costs at its duration. Durations are in units, one per activity in card order. Linear in
 /// activities and pieces.
-pub(crate) fn costs_at(
+pub(crate) fn costs_in(
     alloc: Global,
-    project: &Project,
+    net: &CrashNet<'_>,
     durations: &[u64],
 ) -> Result<Vec<u64>, AllocError>
-    requires { length durations.now ≡ length project.now.network.arcs }
-    ensures costs { IfOk result (λ costs. AreCostsAt project.now durations.now
-        (length project.now.network.arcs) costs.items) }
-    ensures fit { IfOk result (λ costs. sum_to (length costs.items) (slice_index costs.items) ≤ 2 ^ 60) }
-{
-    let net = project.priced(alloc)?;
-    costs_in(alloc, &net, durations)
-}
-
-fn costs_in(alloc: Global, net: &CrashNet<'_>, durations: &[u64]) -> Result<Vec<u64>, AllocError>
     requires { length durations.now ≡ length net.now.network.arcs }
     ensures costs { IfOk result (λ costs. AreCostsIn net.now durations.now (length net.now.network.arcs) costs.items) }
     ensures fit { IfOk result (λ costs. sum_to (length costs.items) (slice_index costs.items) ≤ 2 ^ 60) }

@@ -3,12 +3,13 @@ ghost use Rattle.std.specs.Prelude.{◌≡◌, ◌++◌, length, IfOk};
 ghost use Rattle.pc_edges.specs.inside.Writes.{Writes};
 ghost use Rattle.pc_edges.specs.inside.page.Puts.{Puts};
 ghost use Rattle.pc_reports.specs.OutlookText.{IsOutlook, outlook_text};
-ghost use Rattle.pc_reports.specs.inside.OutlookText.{IsOutlookFor, TellsTop};
+ghost use Rattle.pc_reports.specs.inside.OutlookText.{IsOutlookFor, IsPricedNetOf, TellsTop};
 ghost use Rattle.pc_reports.specs.inside.Schedule.{text_of, IsWhole};
 
-use crate::outlook_costs::costs_at;
+use crate::outlook_costs::costs_in;
 use crate::outlook_rows::OutlookRows;
 use crate::schedule::{Schedule, put_schedule};
+use pc_crash::CrashNet;
 use pc_edges::page::{PAGE_ROOM, Page, put_rows};
 use pc_edges::{Failed, Sink};
 use pc_project::Project;
@@ -55,9 +56,30 @@ impl OutlookReport {
         ensures outlook { IfOk result (IsOutlook project.now durations.now) }
         ensures top { IfOk result (TellsTop project.now durations.now) }
     {
+        let net = project.priced(alloc)?;
+        OutlookReport::build_priced(alloc, project, &net, durations)
+    }
+
+    /// Returns the outlook of the project at these durations, as `build` does, for a caller that has the project's
+    /// priced network.
+    ///
+    /// # Errors
+    ///
+    /// `AllocError` if there is no memory for it.
+    pub fn build_priced(
+        alloc: Global,
+        project: &Project,
+        net: &CrashNet<'_>,
+        durations: &[u64],
+    ) -> Result<OutlookReport, AllocError>
+        requires priced { IsPricedNetOf project.now net.now }
+        requires one_each { length durations.now ≡ length project.now.network.arcs }
+        ensures outlook { IfOk result (IsOutlook project.now durations.now) }
+        ensures top { IfOk result (TellsTop project.now durations.now) }
+    {
         Ok(OutlookReport {
             page: Page::with_capacity(alloc, PAGE_ROOM)?,
-            outlook: outlook_at(alloc, project, durations)?,
+            outlook: outlook_at(alloc, project, net, durations)?,
         })
     }
 
@@ -99,12 +121,18 @@ impl OutlookReport {
     }
 }
 
-fn outlook_at(alloc: Global, project: &Project, durations: &[u64]) -> Result<Outlook, AllocError>
-    requires { length durations.now ≡ length project.now.network.arcs }
+fn outlook_at(
+    alloc: Global,
+    project: &Project,
+    net: &CrashNet<'_>,
+    durations: &[u64],
+) -> Result<Outlook, AllocError>
+    requires priced { IsPricedNetOf project.now net.now }
+    requires one_each { length durations.now ≡ length project.now.network.arcs }
     ensures outlook { IfOk result (IsOutlook project.now durations.now) }
     ensures top { IfOk result (TellsTop project.now durations.now) }
 {
-    let costs = costs_at(alloc, project, durations)?;
+    let costs = costs_in(alloc, net, durations)?;
     let (tree, places) = (project.tree(), project.places());
     let entries = project.book().entries();
     Outlook::build(alloc, tree, places, &costs, project.accounts(), entries)

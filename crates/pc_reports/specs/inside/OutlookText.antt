@@ -9,6 +9,12 @@ use Rattle.pc_project.specs.Project.{Project}
 use Rattle.pc_rollup.specs.figures.Outlook.{Outlook, IsWholeOutlook, amounts_at}
 use Rattle.pc_reports.specs.OutlookText.{cost_at, IsOutlook}
 
+-- the network is that of the project, with its terms and pieces
+pub record IsPricedNetOf (project : Project) (net : PricedNetwork) : Type 0 where
+  pub network : net.network ≡ project.network
+  pub terms : net.terms ≡ project.terms
+  pub pieces : net.pieces ≡ project.pieces
+
 -- the costs are those of the first n activities at their durations
 pub record AreCostsAt (project : Project) (durations : List ℕ) (n : ℕ) (costs : List ℕ) : Type 0 where
   pub one_each : length costs ≡ n
