@@ -22,7 +22,7 @@ mod view;
 
 pub use check::write_check;
 pub use outlook_report::OutlookReport;
-pub use schedule::{Schedule, put_plan, put_schedule, write_schedule, write_schedule_on};
+pub use schedule::{Schedule, put_plan, write_schedule, write_schedule_on};
 pub use summary_report::SummaryReport;
 pub use times::end_to_meet;
 pub use times_report::{TimesReport, write_times, write_times_on};

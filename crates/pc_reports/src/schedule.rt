@@ -102,7 +102,7 @@ pub fn write_schedule_on<O: Sink>(
 }
 
 /// Puts the lines of a schedule on a page. More can follow there.
-pub fn put_schedule<O: Sink>(page: &mut Page, sink: &mut O, schedule: &Schedule<'_>)
+pub(crate) fn put_schedule<O: Sink>(page: &mut Page, sink: &mut O, schedule: &Schedule<'_>)
     requires { IsWhole schedule.now }
     ensures { Puts O.taken O.faults page.old sink.old page.new sink.new (text_of schedule.now) }
 {

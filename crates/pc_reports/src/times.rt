@@ -17,7 +17,7 @@ use std::marker::Model;
 ///
 /// Times are in sixths of a day from the project's start.
 #[derive(Drop)]
-pub struct Times {
+pub(crate) struct Times {
     longest: Longest,
     late: Vec<i64>,
 }
@@ -40,7 +40,7 @@ impl Times {
     /// # Errors
     ///
     /// Returns `AllocError` if memory runs out.
-    pub fn build(alloc: Global, project: &Project) -> Result<Times, AllocError>
+    pub(crate) fn build(alloc: Global, project: &Project) -> Result<Times, AllocError>
         ensures times { IfOk result (IsTimes project.now) }
         ensures small { IfOk result AreSmall }
     {
@@ -50,7 +50,7 @@ impl Times {
     }
 
     /// Returns the earliest time of an event.
-    pub fn early(&self, e: u32) -> u64
+    pub(crate) fn early(&self, e: u32) -> u64
         requires { e < length self.now.early }
         ensures time { result ≡ slice_index self.now.early e }
         ensures limit { result ≤ MAX_TIME }
@@ -59,7 +59,7 @@ impl Times {
     }
 
     /// Returns the latest time of an event.
-    pub fn late(&self, e: u32) -> i64
+    pub(crate) fn late(&self, e: u32) -> i64
         requires { e < length self.now.late }
         ensures time { result ≡ slice_index_or self.now.late e (pos 0) }
         ensures limit { unsigned_abs result ≤ MAX_TIME }
@@ -68,7 +68,7 @@ impl Times {
     }
 
     /// Returns the activities of the critical path, from the start event to the end event.
-    pub fn path(&self) -> &[u32]
+    pub(crate) fn path(&self) -> &[u32]
         ensures path { result.now ≡ self.now.path }
         ensures short { length result.now ≤ MAX_EVENTS }
     {

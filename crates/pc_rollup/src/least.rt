@@ -13,7 +13,7 @@ use std::alloc::{AllocError, Global};
 /// # Errors
 ///
 /// Returns `AllocError` if memory runs out.
-pub fn least_of(
+pub(crate) fn least_of(
     alloc: Global,
     tree: &Tree,
     placed: &[Placed],

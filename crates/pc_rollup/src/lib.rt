@@ -6,6 +6,5 @@ mod least;
 mod levels;
 mod totals;
 
-pub use least::least_of;
 pub use levels::{LevelLine, each_leaf_has_one_line, level_lines};
 pub use totals::{Placed, rollup, totals_of};

@@ -6,7 +6,8 @@ ghost use Rattle.pc_times.specs.declared.TheConstants.{MAX_TIME};
 ghost use Rattle.pc_rollup.specs.figures.Slacks.{AreLeastSlacks, slack_at};
 ghost use Rattle.pc_rollup.specs.inside.figures.Slacks.{ArePlacedSlacks};
 
-use crate::{Placed, least_of};
+use crate::Placed;
+use crate::least::least_of;
 use pc_net::Net;
 use pc_times::{Forecast, slack};
 use pc_wbs::Tree;
