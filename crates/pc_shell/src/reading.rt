@@ -52,7 +52,7 @@ pub fn read_deck<S: Source>(alloc: Global, source: &mut S) -> Result<Vec<u8>, No
 /// # Errors
 ///
 /// `Refused` with the first fault of the deck, `ReadFault` if the source fails, `OutOfMemory`.
-pub fn read_project<S: Source>(alloc: Global, source: &mut S) -> Result<Project, NoProject>
+pub(crate) fn read_project<S: Source>(alloc: Global, source: &mut S) -> Result<Project, NoProject>
     ensures project { IfOk result (HasProject (side S.left S.faults source.old source.new)) }
     ensures none { IfErr result (HasNoProject (side S.left S.faults source.old source.new)) }
     ensures stops { IsReadWithin longest_deck STREAM_ROOM S.left S.pulls source.old source.new }
