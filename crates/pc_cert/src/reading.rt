@@ -10,7 +10,7 @@ use pc_text::{Code, field, run_len};
 
 /// Reads a line from its bytes. Returns `None` if they are no line.
 #[tactic(auto, unfolding(crate::specs::inside::Reading::line_of))]
-pub fn line_of(bytes: &[u8]) -> Option<CertLine>
+pub(crate) fn line_of(bytes: &[u8]) -> Option<CertLine>
     ensures { result ≡ line_of bytes.now }
 {
     let end = run_len(bytes, b' ');
