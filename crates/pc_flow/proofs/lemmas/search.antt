@@ -10,6 +10,7 @@ pub mod KeptLaws
 pub mod LabelLaws
 pub mod RaiseLaws
 pub mod RaisedLaws
+pub mod SeekLaws
 pub mod StandLaws
 pub mod StateLaws
 pub mod StepLaws

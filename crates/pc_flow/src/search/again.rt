@@ -49,6 +49,7 @@ impl<'n> Search<'n> {
     {
         for i in 0..gone {
             let e = self.board.lost(i);
+            // Only its own search gives an event its label, so none has one yet. The test spares the proof of that.
             if self.board.rank(e) == 0 {
                 self.seek(e, steps);
             }

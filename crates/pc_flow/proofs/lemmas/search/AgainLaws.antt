@@ -25,34 +25,11 @@ use Rattle.pc_flow.proofs.lemmas.board.AfterPruning.{
   pruned-for,
 }
 use Rattle.pc_flow.specs.inside.search.Searches.{stair_at, gap_at, next_at, last_at, IsSearch, IsOnStairs, AreLed, IsSettled, grown_as}
-use Rattle.pc_flow.specs.inside.search.Growing.{IsAt, IsAtLost, degree, IsReached, IsScanned, IsMet, AreSettled, GoesOn, relabelled, HasLookedAgain}
+use Rattle.pc_flow.specs.inside.search.Growing.{IsAtLost, degree, IsReached, IsScanned, IsMet, AreSettled, GoesOn, relabelled, HasLookedAgain}
 use Rattle.pc_flow.proofs.lemmas.search.KeptLaws.{with_list, waiting-kept}
-use Rattle.pc_flow.proofs.lemmas.search.GrowingLaws.{goes_on-joins, goes_on-labelled, met-was, met-reached, settled-grows}
+use Rattle.pc_flow.proofs.lemmas.search.GrowingLaws.{met-was, met-reached, settled-grows}
 use Rattle.pc_flow.proofs.lemmas.search.GrowLaws.{headed, search-headed, room-headed}
 use Rattle.pc_flow.proofs.lemmas.search.DegreeLaws.{degrees-few}
-
--- an activity at one of the first i + 1 lost events is at one of the first i, or at the next
-lost-split : (net : PricedNetwork) (s : Sheet) (i e : ℕ) → e ≡ lost_of s i
-    → (a : ℕ) → a < length net.network.arcs → IsAtLost net s (i + 1) a → IsAtLost net s i a ⊎ IsAt net e a
-lost-split net s i e same a known lost =
-    elim (cases_lt lost.0 i) [
-      | inl early ↦ inl (lost.0, early, lost.2)
-      | inr late ↦
-          let here : lost_of s lost.0 ≡ e = (let is : lost.0 ≡ i = omega (arith, lost.1) in ap (lost_of s) is ∙ sym same) in
-          inr (subst (λ f. IsAt net f a) here lost.2)
-    ]
-
--- a label is sought for one lost event more
-pub lost-goes_on : (net : PricedNetwork) (s t u : Sheet) (i e : ℕ) → e ≡ lost_of s i → GoesOn net (IsAtLost net s i) s t → GoesOn net (IsAt net e) t u
-    → GoesOn net (IsAtLost net s (i + 1)) s u
-lost-goes_on net s t u i e same before next =
-    goes_on-joins net (IsAtLost net s i) (IsAt net e) (IsAtLost net s (i + 1)) s t u (lost-split net s i e same) before next
-
--- one lost event more has a label already
-pub lost-labelled : (net : PricedNetwork) (s t : Sheet) (i e : ℕ) → e ≡ lost_of s i → rank_of s (lost_of s i) ≡ 0 → 0 < rank_of t e
-    → GoesOn net (IsAtLost net s i) s t → GoesOn net (IsAtLost net s (i + 1)) s t
-lost-labelled net s t i e same none labelled on =
-    goes_on-labelled net (IsAtLost net s i) (IsAtLost net s (i + 1)) s t e (lost-split net s i e same) (ap (rank_of s) same ∙ none) labelled on
 
 module _ (net : PricedNetwork) (s u : Sheet) (gone : ℕ) (search : IsSearch net s) (pruned : IsPruned s u gone) where
   abbrev sorted : IsSorted s u s.count u.count gone u.head

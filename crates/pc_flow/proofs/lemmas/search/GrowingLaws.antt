@@ -1,6 +1,6 @@
 -- What a search that goes on keeps, and what it has settled.
-use Rattle.std.proofs.Common.{◌≡◌, ℕ, Bool, true, false, ◌+◌, ◌-◌, ◌<◌, ◌≤◌, ◌⊎◌, List, length, sym, ◌∙◌, ap, subst, inl, inr, arith}
-use Rattle.std.specs.Prelude.{◌↔◌, IsTrue, slice_index}
+use Rattle.std.proofs.Common.{◌≡◌, ℕ, ◌+◌, ◌-◌, ◌<◌, ◌≤◌, ◌⊎◌, List, length, sym, ◌∙◌, ap, subst, inl, inr, arith}
+use Rattle.std.specs.Prelude.{slice_index}
 use Rattle.std.proofs.lemmas.Bool.{cases_lt}
 use Rattle.pc_model.specs.Greatest.{StandsBelow}
 use Rattle.pc_model.specs.Walk.{from_of, to_of}
@@ -11,8 +11,8 @@ use Rattle.pc_flow.specs.board.Sheets.{Sheet, time_of, rank_of, flow_of}
 use Rattle.pc_flow.specs.inside.board.Sheets.{queue_of, waiting_of, slot_of, due_of}
 use Rattle.pc_flow.specs.inside.board.Labelling.{HaveRoom, IsRanked}
 use Rattle.pc_flow.specs.inside.search.Searches.{stair_at, next_at, last_at, gap_at, IsSearch, MayGoAlong, MayGoAgainst, IsSettled, grown_as, Grows, IsVisited}
-use Rattle.pc_flow.proofs.lemmas.search.VisitLaws.{grows-none, settled-both}
-use Rattle.pc_flow.specs.inside.search.Growing.{IsAt, IsReached, IsScanned, IsMet, WaitsAlong, WaitsAgainst, AreListed, GoesOn, HasSettled}
+use Rattle.pc_flow.proofs.lemmas.search.VisitLaws.{grows-none}
+use Rattle.pc_flow.specs.inside.search.Growing.{IsReached, IsScanned, IsMet, WaitsAlong, WaitsAgainst, AreListed, GoesOn, HasSettled}
 
 -- Going on from board to board
 
@@ -179,32 +179,6 @@ goes_on-waits net i a s t before at late = record {
     | inr here ↦ absurd (omega (arith, this.1, ap (due_of s) here, late))
   ];
 }
-
--- all at an event that had no label and has got one are settled: where the other end had a label, both have one
-pub goes_on-labelled : (net : PricedNetwork) (these all : ℕ → Type 0) (s t : Sheet) (e : ℕ)
-    → ((a : ℕ) → a < length net.network.arcs → all a → these a ⊎ IsAt net e a) → rank_of s e ≡ 0 → 0 < rank_of t e → GoesOn net these s t → GoesOn net all s t
-goes_on-labelled net these all s t e split none labelled on = record {
-  grows = on.grows;
-  search = on.search;
-  room = on.room;
-  settled = λ a known this reached. elim (split a known this) [
-    | inl early ↦ on.settled a known early reached
-    | inr at ↦ settled-both net t a (both a at reached).0 (both a at reached).1
-  ];
-} where
-  both : (a : ℕ) → IsAt net e a → IsReached net s a → (0 < rank_of t (from_of net.network.arcs a)) × (0 < rank_of t (to_of net.network.arcs a))
-  both a (inl from) (inl reached) = absurd (omega (arith, ap (rank_of s) from, none, reached))
-  both a (inl from) (inr reached) = (omega (arith, ap (rank_of t) from, labelled), grows-labelled s t on.grows (to_of net.network.arcs a) reached)
-  both a (inr to) (inl reached) = (grows-labelled s t on.grows (from_of net.network.arcs a) reached, omega (arith, ap (rank_of t) to, labelled))
-  both a (inr to) (inr reached) = absurd (omega (arith, ap (rank_of s) to, none, reached))
-
--- an event without a label of which a visit says that it has none yet
-pub unlabelled-still : (found : Bool) (t : Sheet) (e : ℕ) → (IsTrue found ↔ (0 < rank_of t e)) → found ≡ false → rank_of t e ≡ 0
-unlabelled-still found t e is not_found =
-    elim (cases_lt 0 (rank_of t e)) [
-      | inl some ↦ absurd (let yes : found ≡ true = is.1 some in cc)
-      | inr none ↦ omega arith
-    ]
 
 -- Where none counts as scanned that was not
 

@@ -1,9 +1,8 @@
 -- What a visit leaves: nothing changed, an activity more that waits, or an event more with a label.
 use Rattle.std.proofs.Common.{◌≡◌, ◌≢◌, ℕ, ◌+◌, ◌-◌, ◌<◌, refl, sym, ◌∙◌, ap, subst, inl, inr, arith}
 use Rattle.std.proofs.lemmas.Bool.{cases_eq, cases_lt}
-use Rattle.pc_model.specs.Walk.{from_of, to_of}
 use Rattle.pc_crash.specs.Priced.{PricedNetwork}
-use Rattle.pc_flow.specs.board.Sheets.{Sheet, rank_of}
+use Rattle.pc_flow.specs.board.Sheets.{Sheet}
 use Rattle.pc_flow.specs.inside.board.Sheets.{waiting_of, slot_of}
 use Rattle.pc_flow.specs.inside.board.Moves.{WaitsOnce}
 use Rattle.pc_flow.specs.inside.board.Labelling.{HaveRoom}
@@ -29,12 +28,6 @@ visited-still net s a search room settled = record { grows = grows-none s; searc
 
 pub settled-quiet : (net : PricedNetwork) (s : Sheet) (a : ℕ) → IsQuiet net s a → IsSettled net s a
 settled-quiet net s a quiet = record { along = λ may. absurd (quiet.along may); against = λ may. absurd (quiet.against may) }
-
--- an activity with a label at both ends
-pub settled-both : (net : PricedNetwork) (s : Sheet) (a : ℕ) → 0 < rank_of s (from_of net.network.arcs a) → 0 < rank_of s (to_of net.network.arcs a)
-    → IsSettled net s a
-settled-both net s a from to =
-    record { along = λ may. absurd (omega (arith, may.to, to)); against = λ may. absurd (omega (arith, may.from, from)) }
 
 -- the list has room for an activity that does not wait
 pub waiting-room : (s : Sheet) (a : ℕ) → IsWaiting s → a < s.activities → slot_of s a ≡ 0 → s.len < s.activities

@@ -5,7 +5,8 @@ use Rattle.pc_model.specs.Network.{Network}
 use Rattle.pc_model.specs.Walk.{from_of, to_of}
 use Rattle.pc_crash.specs.Priced.{PricedNetwork}
 use Rattle.pc_flow.specs.inside.search.Growing.{GoesOn, IsAt}
-use Rattle.pc_flow.proofs.lemmas.search.GrowingLaws.{goes_on-joins, goes_on-labelled}
+use Rattle.pc_flow.proofs.lemmas.search.GrowingLaws.{goes_on-joins}
+use Rattle.pc_flow.proofs.lemmas.search.SeekLaws.{goes_on-labelled}
 use Rattle.pc_flow.proofs.search.search.Search.seek.Goals as goal
 
 pub returns-then-rank-eq0-clause-goes_on : goal.returns-then-rank-eq0-clause-goes_on

@@ -4,7 +4,8 @@ use Rattle.pc_model.specs.Greatest.{StandsBelow}
 use Rattle.pc_model.specs.Walk.{to_of}
 use Rattle.pc_flow.specs.inside.search.Searches.{IsVisited}
 use Rattle.pc_flow.specs.inside.search.Growing.{GoesOn}
-use Rattle.pc_flow.proofs.lemmas.search.GrowingLaws.{goes_on-begins, goes_on-visits, goes_on-labelled, unlabelled-still}
+use Rattle.pc_flow.proofs.lemmas.search.GrowingLaws.{goes_on-begins, goes_on-visits}
+use Rattle.pc_flow.proofs.lemmas.search.SeekLaws.{goes_on-labelled, unlabelled-still}
 use Rattle.pc_flow.proofs.search.search.Search.seek_ended.Goals as goal
 
 pub loop-a-init : goal.loop-a-init

@@ -4,7 +4,7 @@ use Rattle.pc_flow.specs.board.Sheets.{Sheet}
 use Rattle.pc_flow.specs.inside.board.Sheets.{lost_of}
 use Rattle.pc_flow.specs.inside.search.Growing.{degree, GoesOn, IsAt, IsAtLost}
 use Rattle.pc_flow.proofs.lemmas.search.GrowingLaws.{goes_on-begins}
-use Rattle.pc_flow.proofs.lemmas.search.AgainLaws.{lost-goes_on, lost-labelled}
+use Rattle.pc_flow.proofs.lemmas.search.SeekLaws.{lost-goes_on, lost-labelled}
 use Rattle.pc_flow.proofs.search.search.Search.seek_lost.Goals as goal
 use Rattle.pc_flow.proofs.search.search.Search.seek_lost.Goals.{then-rank-eq0, else-rank-eq0}
 
