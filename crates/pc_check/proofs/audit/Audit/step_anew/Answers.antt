@@ -78,7 +78,8 @@ returns-in-None c =
           record {
             lines = before.lines;
             read = subst (λ ls. StandsFor c.feed_known.new.self ls (text ++ take c.in-Ok.used c.args.piece.now)) (append-nil before.lines)
-                (subst (λ l. StandsFor c.feed_known.new.self (before.lines ++ option_to_list l) (text ++ take c.in-Ok.used c.args.piece.now)) none (c.in-Ok.ensures.stands before.lines text before.read));
+                (subst (λ l. StandsFor c.feed_known.new.self (before.lines ++ option_to_list l) (text ++ take c.in-Ok.used c.args.piece.now)) none
+                (c.in-Ok.ensures.stands before.lines text before.read));
             checked = before.checked;
           };
       going = record { well_formed = c.in-Ok.ensures.kept; no_fail = going.no_fail; few = going.few; short = c.feed_known.ensures.short };
@@ -101,7 +102,8 @@ returns-in-None-take_known c =
           let before : HasRead text old = subst (λ a. HasRead text a) (sym c.self.view_is) h in
           record {
             lines = before.lines ++ c.in-Some.line.now ∷ [];
-            read = subst (λ l. StandsFor c.feed_known.new.self (before.lines ++ option_to_list l) (text ++ take c.in-Ok.used c.args.piece.now)) line (c.in-Ok.ensures.stands before.lines text before.read);
+            read = subst (λ l. StandsFor c.feed_known.new.self (before.lines ++ option_to_list l) (text ++ take c.in-Ok.used c.args.piece.now)) line
+                (c.in-Ok.ensures.stands before.lines text before.read);
             checked = c.take_known.ensures.stands before.lines before.checked;
           };
       going = record {
