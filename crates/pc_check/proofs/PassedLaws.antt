@@ -12,15 +12,16 @@ use Rattle.pc_crash.specs.inside.KneeLists.{AreKneesOf}
 use Rattle.pc_crash.specs.Priced.{PricedNetwork, knees_in}
 use Rattle.pc_cert.specs.declared.line.CertLine.TheVariants.{Act}
 use Rattle.pc_cert.specs.inside.Known.{HasText, IsTextOf}
-use Rattle.pc_check.specs.Conditions.{conditions, has_act_code, has_duration, has_room, is_slack_in, keeps_rises}
+use Rattle.pc_check.specs.Conditions.{conditions, has_act_code, has_duration, has_room, is_slack, is_slack_in, keeps_rises}
 use Rattle.pc_check.specs.inside.Crossings.{IsStill}
 use Rattle.pc_check.specs.Failures.{first_failing}
 use Rattle.pc_check.specs.Known.{Known, each_below, frame}
 use Rattle.pc_check.specs.KneeTests.{is_slack_at_knee}
 use Rattle.pc_check.specs.inside.KneeTests.{is_slack_over}
-use Rattle.pc_check.specs.inside.Passed.{IsWithin, FitsWithin, HasPassed, IsPassed, passed_at, flow_of, cost_of, ArePassed, IsNothing, ComesAgain}
+use Rattle.pc_check.specs.inside.Passed.{IsWithin, FitsWithin, HasPassed, IsPassed, passed_at, flow_of, cost_of, ArePassed, IsNothing, ComesAgain, PassesAcross}
 use Rattle.pc_check.specs.inside.Kept.{stretch_of}
-use Rattle.pc_check.specs.inside.Safe.{IsRenewed, IsSafe, AddsAct}
+use Rattle.pc_check.specs.inside.Safe.{IsRenewed, IsSafe, AddsAct, IsCutOf}
+use Rattle.pc_check.specs.declared.adding.Cut.{Cut}
 use Rattle.pc_check.specs.declared.kept.Tally.{Tally}
 use Rattle.pc_check.specs.declared.passed.Passed.{Passed}
 use Rattle.pc_check.proofs.BelowLaws.{and_parts, passes_behind}
@@ -95,7 +96,7 @@ passed_with {net} {rows} a row are known has = record {
 -- what is read of the rows
 pub row_read : {net : PricedNetwork} {rows : List Passed} (a : ℕ) (row : Passed) → ArePassed net rows → a < length net.network.arcs → row ≡ slice_index_or rows a row → row ≡ passed_at rows a
 row_read {net} {rows} a row are known is =
-    let default : Passed = record { text = record { cells = []; len = 0 }; duration = 0; flows = []; flow = 0; cost = 0; low = 0; high = 0 } in
+    let default : Passed = record { text = record { cells = []; len = 0 }; duration = 0; flows = []; flow = 0; cost = 0; least = 0; most = 0; low = 0; high = 0 } in
     is ∙ get_or_default rows a row default (omega (arith, known, are.one_each))
 
 pub read_passed : {net : PricedNetwork} {rows : List Passed} (a : ℕ) (row : Passed) → ArePassed net rows → a < length net.network.arcs → row ≡ slice_index_or rows a row → IsPassed net a row
@@ -144,6 +145,51 @@ adds_again {net} {old} {new} still has rest =
       backward = ap (λ t. t.backward) rest ∙ quiet _ old.backward _ parts.1;
       stops = ap (λ t. t.stops) rest ∙ goes_on old.stops _ (no_stop_in net (stretch_of old) old.acts still);
     }
+
+-- ---- what an activity adds, wherever it leads
+
+pub adds_across : {net : PricedNetwork} {old new : Tally} {more : Cut} → IsCutOf net (stretch_of old) old.acts more
+    → HasPassed net old.acts (passed_at old.rows.items old.acts)
+    → new ≡ record old { acts = old.acts + 1; forward = old.forward + more.forward; backward = old.backward + more.backward; stops = old.stops || more.stops }
+    → AddsAct net old (passed_at old.rows.items old.acts).duration (passed_at old.rows.items old.acts).flows new
+adds_across {net} {old} {new} {more} adds has rest =
+    let rows : new.rows.items ≡ old.rows.items = ap (λ t. t.rows.items) rest in record {
+      rest = rest ∙ rw (
+        ap (λ t. t.rows) rest,
+        ap (λ t. t.inflow) rest,
+        ap (λ t. t.outflow) rest,
+        ap (λ t. t.spent) rest,
+        ap (λ t. t.forward) rest,
+        ap (λ t. t.backward) rest,
+        ap (λ t. t.stops) rest,
+      ) refl;
+      row = record {
+        flow = ap (λ r. flow_of r old.acts) rows ∙ has.flow;
+        cost = ap (λ r. cost_of r old.acts) rows ∙ has.cost;
+        others = λ b other. ap (λ r. passed_at r b) rows;
+      };
+      forward = ap (λ t. t.forward) rest ∙ ap (λ n. old.forward + n) adds.forward;
+      backward = ap (λ t. t.backward) rest ∙ ap (λ n. old.backward + n) adds.backward;
+      stops = ap (λ t. t.stops) rest ∙ ap (λ b. old.stops || b) adds.stops;
+    }
+
+-- the sums of the cut have grown, and one more has come
+pub safe_across : {net : PricedNetwork} {old : Tally} {more : Cut} → IsSafe net old → old.acts < length net.network.arcs
+    → IsCutOf net (stretch_of old) old.acts more
+    → IsSafe net (record old { acts = old.acts + 1; forward = old.forward + more.forward; backward = old.backward + more.backward; stops = old.stops || more.stops })
+safe_across {net} {old} {more} safe known adds = record {
+  times = safe.times;
+  moves = safe.moves;
+  entering = safe.entering;
+  leaving = safe.leaving;
+  acts = omega (arith, known);
+  rows = safe.rows;
+  inflow = safe.inflow;
+  outflow = safe.outflow;
+  spent = safe.spent;
+  forward = omega (arith, safe.forward, adds.small_forward);
+  backward = omega (arith, safe.backward, adds.small_backward);
+}
 
 -- the sums stay, and one more has come
 pub safe_again : {net : PricedNetwork} {old : Tally} → IsSafe net old → old.acts < length net.network.arcs → IsSafe net (record old { acts = old.acts + 1 })
@@ -203,3 +249,25 @@ again_passes {net} {known} {passed} code has_code again has =
     let e : passed.duration ≡ lesser_of net.network net.terms known.time a = has.lasts (known.time (to_of arcs a)) (known.time (from_of arcs a)) again.within in
     let lasts : has_duration net known a passed.duration ≡ true = rw (eq-eqb passed.duration (lesser_of net.network net.terms known.time a) e, again.later) refl in
     rw (has_code, room, lasts, has.rises, slack, again.long) refl
+
+pub across_passes : {net : PricedNetwork} {known : Known} {passed : Passed} (code : List ℕ) →
+    has_act_code net known.acts code passed.flows ≡ true → PassesAcross net known passed → HasPassed net known.acts passed
+    → first_failing (conditions net known (Act code passed.duration passed.flows)) ≡ None
+across_passes {net} {known} {passed} code has_code across has =
+    let a = known.acts in
+    let seg = frame known in
+    let arcs = net.network.arcs in
+    let at_upper : has_room net seg 0 a ≡ true = le-leb (tail_at arcs seg 0 a + crash_of net.terms a) (head_at arcs seg 0 a) (omega (arith, across.upper.above, has.room)) in
+    let at_lower : has_room net seg (span seg) a ≡ true =
+    le-leb (tail_at arcs seg (span seg) a + crash_of net.terms a) (head_at arcs seg (span seg) a) (omega (arith, across.lower.above, has.bare)) in
+    let slack_upper : is_slack net seg 0 a passed.flows ≡ true = has.slack (head_at arcs seg 0 a) (tail_at arcs seg 0 a) across.upper in
+    let slack_lower : is_slack net seg (span seg) a passed.flows ≡ true = has.fits (head_at arcs seg (span seg) a) (tail_at arcs seg (span seg) a) across.lower in
+    let head_is : head_at arcs seg 0 a ≡ known.time (to_of arcs a) = head_before arcs seg a in
+    let tail_is : tail_at arcs seg 0 a ≡ known.time (from_of arcs a) = tail_before arcs seg a in
+    let within : IsWithin passed.low passed.high (known.time (to_of arcs a)) (known.time (from_of arcs a)) = record {
+      above = omega (arith, across.upper.above, head_is, tail_is);
+      below = omega (arith, across.upper.below, head_is, tail_is);
+    } in
+    let e : passed.duration ≡ lesser_of net.network net.terms known.time a = has.lasts (known.time (to_of arcs a)) (known.time (from_of arcs a)) within in
+    let lasts : has_duration net known a passed.duration ≡ true = rw (eq-eqb passed.duration (lesser_of net.network net.terms known.time a) e, across.later) refl in
+    rw (has_code, at_upper, at_lower, lasts, has.rises, slack_upper, slack_lower, across.long) refl

@@ -5,7 +5,7 @@ ghost use Rattle.pc_crash.specs.Priced.{knees_in};
 ghost use Rattle.pc_check.specs.inside.Kept.{stretch_of};
 ghost use Rattle.pc_check.specs.inside.KneeTests.{rises_over};
 ghost use Rattle.pc_check.specs.inside.Crossings.{IsCrossing};
-ghost use Rattle.pc_check.specs.inside.Safe.{IsSafe, IsBegun, IsExchanged, IsRenewed, AddsAct};
+ghost use Rattle.pc_check.specs.inside.Safe.{IsSafe, IsBegun, IsExchanged, IsRenewed, AddsAct, joined};
 ghost use Rattle.pc_check.specs.inside.Passed.{HasPassed};
 ghost use Rattle.pc_check.specs.Segments.{stops_in};
 
@@ -100,17 +100,30 @@ fn renew(net: &CrashNet<'_>, tally: &mut Tally, passed: Passed)
     tally.rows[a as usize] = passed;
 }
 
-/// What an activity adds to the cut.
+/// The sums and the stop of the cut, or what an activity adds to them.
 #[derive(Clone, Copy)]
-struct Cut {
-    forward: u128,
-    backward: u128,
-    stops: bool,
+pub(crate) struct Cut {
+    pub(crate) forward: u128,
+    pub(crate) backward: u128,
+    pub(crate) stops: bool,
+}
+
+impl Cut {
+    /// Adds what an activity adds to the cut.
+    pub(crate) fn add(&mut self, more: &Cut)
+        requires forward { self.old.forward + more.now.forward < 2 ^ 128 }
+        requires backward { self.old.backward + more.now.backward < 2 ^ 128 }
+        ensures { self.new ≡ joined self.old more.now }
+    {
+        self.forward += more.forward;
+        self.backward += more.backward;
+        self.stops = self.stops || more.stops;
+    }
 }
 
 /// What an activity adds to the cut: the rises of its knees above its gap, at the lower end where it is forward and at
 /// the upper end where it is backward, and whether it stops at the lower end.
-fn cut_of(net: &CrashNet<'_>, tally: &Tally, a: u32, crossing: &Crossing) -> Cut
+pub(crate) fn cut_of(net: &CrashNet<'_>, tally: &Tally, a: u32, crossing: &Crossing) -> Cut
     requires known { a < length net.now.network.arcs }
     requires crossing { IsCrossing net.now.network.arcs (stretch_of tally.now) a crossing.now }
     ensures forward { result.forward ≡ (if is_forward net.now.network.arcs (stretch_of tally.now).moves a

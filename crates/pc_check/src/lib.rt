@@ -3,6 +3,7 @@
 //! that write certificates.
 #![tactic(auto)]
 
+mod across;
 mod acts;
 mod adding;
 mod advancing;

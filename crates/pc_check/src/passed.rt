@@ -1,13 +1,15 @@
 //! What passed last of each activity, so that a line that comes again is not asked everything anew.
-ghost use Rattle.std.specs.Prelude.{◌≡◌, ◌≢◌, ℕ, ◌+◌, ◌<◌, ◌≤◌, min, true, IsTrue, IfOk, length};
+ghost use Rattle.std.specs.Prelude.{◌≡◌, ◌≢◌, ℕ, ◌+◌, ◌^◌, ◌<◌, ◌≤◌, min, true, IsTrue, IfOk, length};
 ghost use Rattle.pc_crash.specs.Priced.{knees_in};
 ghost use Rattle.pc_model.specs.Schedule.{normal_of};
 ghost use Rattle.pc_check.specs.Conditions.{keeps_rises};
-ghost use Rattle.pc_check.specs.inside.Again.{acts_at};
+ghost use Rattle.pc_check.specs.inside.Again.{across_at};
 ghost use Rattle.pc_check.specs.inside.Kept.{known_by};
 ghost use Rattle.pc_check.specs.inside.Passed.{IsLineOf, HasPassed, ArePassed, IsNothing, FitsWithin, IsWithin, ComesAgain};
 
 use crate::acts::flow_sum;
+use crate::adding::Cut;
+use crate::gaps::Gap;
 use crate::kept::{Kept, known_bit, known_number};
 use pc_cert::{Flows, KnownLine, LineText};
 use pc_crash::CrashNet;
@@ -17,18 +19,21 @@ use std::alloc::{AllocError, Global};
 /// What passed last of an activity: the bytes of its line, which are not kept where nothing has passed, its duration
 /// and its flows.
 ///
-/// The line passes again behind the first segment wherever the activity does not cross the cut and its gap is from
-/// `low` to `high`.
+/// After the first segment the line passes again if the gap at the upper end is from `low` to `high` and the gap at the
+/// lower end is from `least` to `most`. If the activity does not cross the cut, its two gaps are the same, and the
+/// first test is enough.
 #[derive(Clone, Copy)]
 pub struct Passed {
     pub(crate) text: LineText,
     pub(crate) duration: u64,
     pub(crate) flows: Flows,
-    /// the sum of the flows, and what the activity costs at that duration
-    pub(crate) flow: u128,
+    /// what the activity costs at that duration, and the sum of the flows
     pub(crate) cost: u64,
-    /// the least and the greatest gap at which conditions 6 and 11 hold with these flows, and the activity lasts so
-    /// long
+    pub(crate) flow: u128,
+    /// the least and the greatest gap at which conditions 6 and 11 hold with these flows
+    pub(crate) least: u64,
+    pub(crate) most: u64,
+    /// those of them at which the activity lasts so long
     pub(crate) low: u64,
     pub(crate) high: u64,
 }
@@ -51,6 +56,8 @@ pub(crate) fn none_passed(alloc: Global, net: &CrashNet<'_>) -> Result<Vec<Passe
         flows: Flows::new(),
         flow: 0,
         cost: 0,
+        least: 0,
+        most: 0,
         low: 0,
         high: 0,
     };
@@ -78,14 +85,16 @@ pub(crate) fn passed_of(
     ensures flows { result.flows ≡ flows.now }
 {
     let list = net.knees(a);
-    let gaps = gaps_of(net.term(a).crash, list.as_slice(), flows.as_slice());
-    let gaps = lasting(gaps, net.term(a).normal, duration);
+    let fitting = gaps_of(net.term(a).crash, list.as_slice(), flows.as_slice());
+    let gaps = lasting(fitting, net.term(a).normal, duration);
     Passed {
         text: line.text(),
         duration,
         flows: *flows,
         flow: flow_sum(flows.as_slice()),
         cost: net.activity_cost(a, duration),
+        least: fitting.low,
+        most: fitting.high,
         low: gaps.low,
         high: gaps.high,
     }
@@ -158,7 +167,7 @@ pub(crate) fn passes_again(net: &CrashNet<'_>, kept: &Kept, a: u32, passed: &Pas
     requires moves { net.now.network.events ≤ length kept.now.tally.moves.items }
     requires later { kept.now.parts ≢ 0 }
     requires long { kept.now.tally.lower ≢ kept.now.tally.upper }
-    ensures { IsTrue result → ComesAgain net.now (known_by (acts_at kept.now a)) passed.now }
+    ensures { (cut : Cut) → IsTrue result → ComesAgain net.now (known_by (across_at kept.now a cut)) passed.now }
 {
     let tally = &kept.tally;
     let from = net.net().from(a);
@@ -169,6 +178,14 @@ pub(crate) fn passes_again(net: &CrashNet<'_>, kept: &Kept, a: u32, passed: &Pas
             known_number(&tally.times, from),
             passed,
         )
+}
+
+/// Whether the gap is from the least to the greatest.
+pub(crate) fn has_gap(gap: Gap, low: u64, high: u64) -> bool
+    requires { gap.tail < 2 ^ 65 }
+    ensures { IsTrue result → IsWithin low high gap.head gap.tail }
+{
+    gap.tail + u128::from(low) <= gap.head && gap.head <= gap.tail + u128::from(high)
 }
 
 /// Whether the gap between two times is from the least to the greatest.

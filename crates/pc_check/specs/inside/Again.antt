@@ -6,6 +6,7 @@ use Rattle.pc_cert.specs.Grammar.{next}
 use Rattle.pc_cert.specs.inside.Grammar.{IsRow}
 use Rattle.pc_cert.specs.inside.Known.{IsAgain}
 use Rattle.pc_crash.specs.Priced.{PricedNetwork}
+use Rattle.pc_check.specs.declared.adding.Cut.{Cut}
 use Rattle.pc_check.specs.declared.again.EndEvents.{EndEvents}
 use Rattle.pc_check.specs.declared.kept.Kept.{Kept}
 use Rattle.pc_check.specs.inside.Advances.{Adds}
@@ -27,6 +28,10 @@ pub record AddsLine (net : PricedNetwork) (piece : List ℕ) (count : ℕ) (befo
 -- what is kept where so many activities have come
 abbrev pub acts_at : Kept → ℕ → Kept
 acts_at kept a = record kept { tally = record kept.tally { acts = a } }
+
+-- what is kept where so many activities have come, with these sums and this stop of the cut
+abbrev pub across_at : Kept → ℕ → Cut → Kept
+across_at kept a cut = record kept { tally = record kept.tally { acts = a; forward = cut.forward; backward = cut.backward; stops = cut.stops } }
 
 -- a checker that keeps this and has found no failure
 abbrev pub going : PricedNetwork → Kept → Checking

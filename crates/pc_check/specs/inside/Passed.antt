@@ -5,6 +5,7 @@ use Rattle.pc_model.specs.inside.Pieces.{knee_at}
 use Rattle.pc_model.specs.Cost.{activity_cost}
 use Rattle.pc_model.specs.Schedule.{normal_of, crash_of}
 use Rattle.pc_model.specs.Walk.{from_of, to_of}
+use Rattle.pc_laws.specs.Segment.{head_at, span, tail_at}
 use Rattle.pc_crash.specs.Priced.{PricedNetwork, knees_in}
 use Rattle.pc_crash.specs.declared.costing.TheConstants.{MAX_ACTIVITY_COST}
 use Rattle.pc_check.specs.inside.Crossings.{IsStill}
@@ -13,7 +14,7 @@ use Rattle.pc_cert.specs.declared.line.CertLine.{CertLine}
 use Rattle.pc_cert.specs.declared.line.CertLine.TheVariants.{Act}
 use Rattle.pc_cert.specs.inside.Known.{HasText, IsTextOf}
 use Rattle.pc_check.specs.Conditions.{has_act_code, is_first, is_one_length, is_slack_in, keeps_rises}
-use Rattle.pc_check.specs.Known.{Known}
+use Rattle.pc_check.specs.Known.{Known, frame}
 use Rattle.pc_check.specs.inside.KneeTests.{flow_sum}
 
 -- the gap is from `low` to `high`
@@ -36,13 +37,15 @@ pub record IsLineOf (net : PricedNetwork) (a duration : ℕ) (flows : List ℕ) 
   pub says : line ≡ Some (Act code duration flows)
 
 -- this has passed of activity a: its line was the one of the bytes, no flow is above its rise, conditions 6 and 11 hold at all gaps from
--- the least to the greatest, at each of which the activity lasts so long, and the flow and the cost are those of the flows and the
--- duration
+-- `least` to `most`, and at all gaps from `low` to `high`, at each of which the activity also lasts so long; and the flow and the cost are those of
+-- the flows and the duration
 pub record HasPassed (net : PricedNetwork) (a : ℕ) (passed : Passed) : Type 0 where
   pub line : Option CertLine
   pub own : IsLineOf net a passed.duration passed.flows line
   pub text : IsTextOf line passed.text
   pub rises : keeps_rises net a passed.flows ≡ true
+  pub bare : crash_of net.terms a ≤ passed.least
+  pub fits : (head tail : ℕ) → IsWithin passed.least passed.most head tail → is_slack_in net head tail a passed.flows ≡ true
   pub room : crash_of net.terms a ≤ passed.low
   pub slack : (head tail : ℕ) → IsWithin passed.low passed.high head tail → is_slack_in net head tail a passed.flows ≡ true
   pub lasts : (head tail : ℕ) → IsWithin passed.low passed.high head tail → passed.duration ≡ min (normal_of net.terms a) (head - tail)
@@ -60,7 +63,7 @@ pub record IsPassed (net : PricedNetwork) (a : ℕ) (passed : Passed) : Type 0 w
 
 -- what has passed of activity a
 abbrev pub passed_at : List Passed → ℕ → Passed
-passed_at rows a = slice_index_or rows a (record { text = record { cells = []; len = 0 }; duration = 0; flows = []; flow = 0; cost = 0; low = 0; high = 0 })
+passed_at rows a = slice_index_or rows a (record { text = record { cells = []; len = 0 }; duration = 0; flows = []; flow = 0; cost = 0; least = 0; most = 0; low = 0; high = 0 })
 
 -- what flows along activity a, and what it costs, as its line said that passed last
 abbrev pub flow_of : List Passed → ℕ → ℕ
@@ -84,5 +87,14 @@ pub record IsNothing (net : PricedNetwork) (rows : List Passed) : Type 0 where
 pub record ComesAgain (net : PricedNetwork) (known : Known) (passed : Passed) : Type 0 where
   pub still : IsStill net.network.arcs known.moves known.acts
   pub within : IsWithin passed.low passed.high (known.time (to_of net.network.arcs known.acts)) (known.time (from_of net.network.arcs known.acts))
+  pub later : is_first known ≡ false
+  pub long : is_one_length known ≡ false
+
+-- the same wherever the activity leads: its gap at the upper end is within those at which it passed, and its gap at the lower end is within those
+-- that its flows fit
+pub record PassesAcross (net : PricedNetwork) (known : Known) (passed : Passed) : Type 0 where
+  pub upper : IsWithin passed.low passed.high (head_at net.network.arcs (frame known) 0 known.acts) (tail_at net.network.arcs (frame known) 0 known.acts)
+  pub lower : IsWithin passed.least passed.most
+      (head_at net.network.arcs (frame known) (span (frame known)) known.acts) (tail_at net.network.arcs (frame known) (span (frame known)) known.acts)
   pub later : is_first known ≡ false
   pub long : is_one_length known ≡ false

@@ -3,8 +3,9 @@ use Rattle.std.specs.Prelude.{◌≡◌, ℕ, ◌+◌, ◌*◌, ◌^◌, ◌<◌
 use Rattle.pc_model.specs.Cost.{activity_cost}
 use Rattle.pc_model.specs.Sums.{sum_to, at_event}
 use Rattle.pc_model.specs.Walk.{from_of, to_of}
-use Rattle.pc_laws.specs.Segment.{span, is_forward, is_backward, rises_above}
+use Rattle.pc_laws.specs.Segment.{Segment, span, is_forward, is_backward, rises_above}
 use Rattle.pc_crash.specs.Priced.{PricedNetwork, knees_in}
+use Rattle.pc_check.specs.declared.adding.Cut.{Cut}
 use Rattle.pc_check.specs.declared.kept.Tally.{Tally}
 use Rattle.pc_check.specs.declared.passed.Passed.{Passed}
 use Rattle.pc_check.specs.inside.Kept.{stretch_of}
@@ -65,3 +66,20 @@ pub record AddsAct (net : PricedNetwork) (old : Tally) (duration : ℕ) (flows :
       then rises_above net.network (knees_in net) (stretch_of old) (span (stretch_of old)) old.acts else 0)
   pub backward : new.backward ≡ old.backward + (if is_backward net.network.arcs (stretch_of old).moves old.acts then rises_above net.network (knees_in net) (stretch_of old) 0 old.acts else 0)
   pub stops : new.stops ≡ (old.stops || stops_in net (stretch_of old) old.acts)
+
+-- what activity a adds to the cut: the rises of its knees above its gap, at the lower end where it is forward and at the upper end where it is
+-- backward, and whether it stops at the lower end
+pub record IsCutOf (net : PricedNetwork) (seg : Segment) (a : ℕ) (cut : Cut) : Type 0 where
+  pub forward : cut.forward ≡ (if is_forward net.network.arcs seg.moves a then rises_above net.network (knees_in net) seg (span seg) a else 0)
+  pub backward : cut.backward ≡ (if is_backward net.network.arcs seg.moves a then rises_above net.network (knees_in net) seg 0 a else 0)
+  pub stops : cut.stops ≡ stops_in net seg a
+  pub small_forward : cut.forward < 2 ^ 67
+  pub small_backward : cut.backward < 2 ^ 67
+
+-- the sums and the stop of the cut with what an activity adds
+abbrev pub joined : Cut → Cut → Cut
+joined cut more = record { forward = cut.forward + more.forward; backward = cut.backward + more.backward; stops = cut.stops || more.stops }
+
+-- the sums and the stop of the cut that are kept
+abbrev pub cut_in : Tally → Cut
+cut_in tally = record { forward = tally.forward; backward = tally.backward; stops = tally.stops }

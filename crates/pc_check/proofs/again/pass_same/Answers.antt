@@ -3,8 +3,9 @@ use Rattle.pc_cert.specs.declared.line.CertLine.TheVariants.{Act}
 use Rattle.pc_cert.specs.inside.Known.{IsTextOf}
 use Rattle.pc_check.specs.declared.passed.Passed.{Passed}
 use Rattle.pc_check.specs.inside.Again.{acts_at}
-use Rattle.pc_check.specs.inside.Passed.{HasPassed, IsPassed, passed_at}
-use Rattle.pc_check.specs.inside.Safe.{AddsAct}
+use Rattle.pc_check.specs.inside.Kept.{known_by}
+use Rattle.pc_check.specs.inside.Passed.{ComesAgain, HasPassed, IsPassed, passed_at}
+use Rattle.pc_check.specs.inside.Safe.{AddsAct, cut_in}
 use Rattle.pc_check.proofs.PassedLaws.{adds_again, again_passes, read_passed, row_read}
 use Rattle.pc_check.proofs.again.pass_same.Goals as goal
 
@@ -26,7 +27,7 @@ returns-clause-adds c = λ some.
     let it : IsPassed net a row = read_passed a row c.requires.rows known c.index-last.ensures in
     let has : HasPassed net a row = it.has (c.pass_act.ensures.kept some) in
     let own = has.own in
-    let again = c.passes_again.ensures c.if-not-passes_again.false in
+    let again : ComesAgain net (known_by (acts_at kept a)) row = c.passes_again.ensures (cut_in kept.tally) c.if-not-passes_again.false in
     let same = row_read a row c.requires.rows known c.index-last.ensures in
     let added : AddsAct net (acts_at kept a).tally (passed_at kept.tally.rows.items a).duration (passed_at kept.tally.rows.items a).flows (acts_at kept (a + 1)).tally =
     adds_again again.still (subst (HasPassed net a) same has) refl in

@@ -1,0 +1,188 @@
+//! Going on by lines that come again, also where their activities cross the cut.
+ghost use Rattle.std.specs.Prelude.{◌≡◌, ◌≢◌, ◌+◌, ◌^◌, ◌<◌, ◌≤◌, None, IfSome, length};
+ghost use Rattle.pc_check.specs.inside.Again.{AddsLine, across_at, going};
+ghost use Rattle.pc_check.specs.inside.Along.{TakesAlong};
+ghost use Rattle.pc_check.specs.inside.Bounds.{IsBounded};
+ghost use Rattle.pc_check.specs.inside.Fronts.{AreFronts};
+ghost use Rattle.pc_check.specs.inside.Kept.{known_by, stretch_of};
+ghost use Rattle.pc_check.specs.inside.Passed.{PassesAcross};
+ghost use Rattle.pc_check.specs.inside.Safe.{IsCutOf, IsSafe, cut_in};
+
+use crate::adding::{Cut, cut_of};
+use crate::again::advance_acts;
+use crate::gaps::crossing_of;
+use crate::kept::Kept;
+use crate::passed::{Passed, has_gap, passes_again};
+use pc_cert::{CertReader, EventFront, Place, WIDTH};
+use pc_crash::CrashNet;
+
+/// Takes lines at the front of the piece as `advance_acts` does, or if there is none, as `advance_across` does.
+#[inline(always)]
+pub(crate) fn advance_same(
+    net: &CrashNet<'_>,
+    kept: &mut Kept,
+    fronts: &[EventFront],
+    reader: &mut CertReader,
+    piece: &[u8],
+) -> usize
+    requires safe { IsSafe net.now kept.old.tally }
+    requires fronts { AreFronts net.now fronts.now }
+    requires bounded { IsBounded net.now kept.old }
+    requires place { reader.old.place ≡ kept.old.place }
+    requires going { reader.old.malformed ≡ None }
+    requires alike { reader.old.lines ≡ kept.old.lines }
+    requires few { kept.old.lines < 2 ^ 63 }
+    ensures same_kept { result ≡ 0 → kept.new ≡ kept.old }
+    ensures same_reader { result ≡ 0 → reader.new ≡ reader.old }
+    ensures takes { 0 < result → TakesAlong piece.now result reader.old reader.new (going net.now kept.old)
+        (going net.now kept.new) }
+    ensures bounded { IsBounded net.now kept.new }
+    ensures safe { IsSafe net.now kept.new.tally }
+{
+    let used = advance_acts(net, kept, fronts, reader, piece);
+    if 0 < used {
+        return used;
+    }
+    advance_across(net, kept, fronts, reader, piece)
+}
+
+/// Takes lines at the front of the piece as `advance_acts` does, also where their activities cross the cut: the answer
+/// is how many bytes they are with their ends. If there is none, nothing changes, and the answer is 0.
+///
+/// What the activities add to the cut is counted beside the loop too. `advance_acts` does not count it, and has the
+/// shorter loop: in most networks few activities cross the cut.
+#[inline(never)]
+fn advance_across(
+    net: &CrashNet<'_>,
+    kept: &mut Kept,
+    fronts: &[EventFront],
+    reader: &mut CertReader,
+    piece: &[u8],
+) -> usize
+    requires safe { IsSafe net.now kept.old.tally }
+    requires fronts { AreFronts net.now fronts.now }
+    requires bounded { IsBounded net.now kept.old }
+    requires place { reader.old.place ≡ kept.old.place }
+    requires going { reader.old.malformed ≡ None }
+    requires alike { reader.old.lines ≡ kept.old.lines }
+    requires few { kept.old.lines < 2 ^ 63 }
+    ensures same_kept { result ≡ 0 → kept.new ≡ kept.old }
+    ensures same_reader { result ≡ 0 → reader.new ≡ reader.old }
+    ensures takes { 0 < result → TakesAlong piece.now result reader.old reader.new (going net.now kept.old)
+        (going net.now kept.new) }
+    ensures bounded { IsBounded net.now kept.new }
+    ensures safe { IsSafe net.now kept.new.tally }
+{
+    let _events = net.net().events();
+    let activities = net.net().activities();
+    let mut place = reader.place();
+    if !reader.is_between()
+        || !matches!(place, Place::InSegment { events: 0, .. })
+        || kept.tally.times.len() < fronts.len()
+        || kept.parts == 0
+        || kept.tally.upper == kept.tally.lower
+    {
+        return 0;
+    }
+    let mut count = 0;
+    let mut a = kept.tally.acts;
+    let mut cut = cut_so_far(kept);
+    let mut rest = piece;
+    loop {
+        let used = pass_across(net, kept, a, activities, &mut place, &mut cut, rest);
+        if used == 0 {
+            break;
+        }
+        rest = &rest[used..];
+        count += 1;
+        a += 1;
+    }
+    reader.go_on(place, count);
+    kept.place = place;
+    kept.lines += count;
+    kept.tally.acts = a;
+    kept.tally.forward = cut.forward;
+    kept.tally.backward = cut.backward;
+    kept.tally.stops = cut.stops;
+    piece.len() - rest.len()
+}
+
+/// The sums and the stop of the cut that are kept.
+fn cut_so_far(kept: &Kept) -> Cut
+    ensures { result ≡ cut_in kept.now.tally }
+{
+    Cut {
+        forward: kept.tally.forward,
+        backward: kept.tally.backward,
+        stops: kept.tally.stops,
+    }
+}
+
+/// Goes on behind the line at the front of the piece, where it is that of this activity as it passed last, and passes
+/// again: the answer is how many bytes it is with its end. Else nothing changes, and the answer is 0.
+#[inline(always)]
+fn pass_across(
+    net: &CrashNet<'_>,
+    kept: &Kept,
+    a: u32,
+    activities: u32,
+    place: &mut Place,
+    cut: &mut Cut,
+    piece: &[u8],
+) -> usize
+    requires count { activities ≡ length net.now.network.arcs }
+    requires safe { IsSafe net.now (across_at kept.now a cut.old).tally }
+    requires times { net.now.network.events ≤ length kept.now.tally.times.items }
+    requires moves { net.now.network.events ≤ length kept.now.tally.moves.items }
+    requires later { kept.now.parts ≢ 0 }
+    requires long { kept.now.tally.lower ≢ kept.now.tally.upper }
+    ensures known { 0 < result → a < length net.now.network.arcs }
+    ensures same_place { result ≡ 0 → place.new ≡ place.old }
+    ensures same_cut { result ≡ 0 → cut.new ≡ cut.old }
+    ensures adds { 0 < result → AddsLine net.now piece.now result place.old place.new
+        (across_at kept.now a cut.old) (across_at kept.now (a + 1) cut.new) }
+    ensures safe { 0 < result → IsSafe net.now (across_at kept.now (a + 1) cut.new).tally }
+{
+    // As in `advance_acts`, the last bytes of a piece are read one line at a time.
+    if activities <= a || piece.len() < WIDTH {
+        return 0;
+    }
+    let last = &kept.tally.rows[a as usize];
+    if passes_again(net, kept, a, last) {
+        return place.pass_act(piece, &last.text, &last.flows);
+    }
+    // The bytes before the gaps: of most lines that do not pass here they differ.
+    if last.text.again(piece) == 0 {
+        return 0;
+    }
+    let Some(more) = crossed(net, kept, a, last) else {
+        return 0;
+    };
+    let used = place.pass_act(piece, &last.text, &last.flows);
+    if used == 0 {
+        return 0;
+    }
+    cut.add(&more);
+    used
+}
+
+/// Returns what an activity adds to the cut if what passed last of it passes again behind the first segment, in one
+/// with two ends: its gap at the upper end is one that the flows and the duration fit, and its gap at the lower end one
+/// that the flows fit.
+#[inline(never)]
+fn crossed(net: &CrashNet<'_>, kept: &Kept, a: u32, passed: &Passed) -> Option<Cut>
+    requires known { a < length net.now.network.arcs }
+    requires later { kept.now.parts ≢ 0 }
+    requires long { kept.now.tally.lower ≢ kept.now.tally.upper }
+    ensures passes { IfSome result (λ more. (cut : Cut) → PassesAcross net.now
+        (known_by (across_at kept.now a cut)) passed.now) }
+    ensures adds { IfSome result (λ more. IsCutOf net.now (stretch_of kept.now.tally) a more) }
+{
+    let crossing = crossing_of(net, &kept.tally, a);
+    let passes = has_gap(crossing.upper, passed.low, passed.high)
+        && has_gap(crossing.lower, passed.least, passed.most);
+    if !passes {
+        return None;
+    }
+    Some(cut_of(net, &kept.tally, a, &crossing))
+}
