@@ -94,7 +94,7 @@ impl Table {
     }
 
     /// Returns how many periods there are.
-    pub fn periods(&self) -> u32
+    pub(crate) fn periods(&self) -> u32
         ensures count { result ≡ self.now.periods }
         ensures limit { result ≤ MAX_PERIODS }
     {
