@@ -98,7 +98,7 @@ impl<'n> Checker<'n> {
     }
 
     /// Takes one more line as `take` does, by reference, for a caller that knows the place of the next line.
-    pub fn take_before(&mut self, line: &CertLine, behind: Place) -> Option<Fail>
+    pub(crate) fn take_before(&mut self, line: &CertLine, behind: Place) -> Option<Fail>
         requires { IfNone self.old.fail (next self.old.kept.place line.now ≡ Some behind) }
         ensures stands { (lines : List CertLine) → StandsFor self.old lines →
             StandsFor self.new (lines ++ line.now ∷ []) }
