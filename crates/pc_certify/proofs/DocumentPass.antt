@@ -47,10 +47,11 @@ head_passes net normal crash =
 
 -- ---- the first line of a segment
 
-first_ends_hold : (net : PricedNetwork) (known : Known) (upper lower cost slope : ℕ) → known.parts ≡ 0 → is_through net.network upper known.normal ≡ true → lower ≤ upper → (lower ≡ upper → slope ≡ 0)
+first_ends_hold : (net : PricedNetwork) (known : Known) (upper lower cost slope : ℕ) → known.segments ≡ 0 → is_through net.network upper known.normal ≡ true → lower ≤ upper
+    → (lower ≡ upper → slope ≡ 0)
     → first_failing (conditions net known (SegmentLine upper lower cost slope)) ≡ None
 first_ends_hold net known upper lower cost slope none through ordered flat =
-    let first : (known.parts == 0) ≡ true = eq-eqb known.parts 0 none in
+    let first : (known.segments == 0) ≡ true = eq-eqb known.segments 0 none in
     let ends : (nat_lt lower upper || (lower == upper && slope == 0)) ≡ true = elim (cases_eq lower upper) [
       | inl same ↦ right (nat_lt lower upper) (lower == upper && slope == 0) (both (eq-eqb lower upper same) (eq-eqb slope 0 (flat same)))
       | inr other ↦ left (nat_lt lower upper) (lower == upper && slope == 0) (lt-ltb lower upper (omega arith))
@@ -59,10 +60,10 @@ first_ends_hold net known upper lower cost slope none through ordered flat =
     (holds_on (has_joined_ends known upper lower slope) None 15
     (cond-true (is_first known) (nat_lt lower upper || (lower == upper && slope == 0)) (upper == known.lower && (nat_lt known.lower known.upper && nat_lt lower upper)) first ∙ ends) refl)
 
-not_first : (known : Known) → 0 < known.parts → is_first known ≡ false
-not_first known some = ne_eqb known.parts 0 (λ none. absurd (omega arith))
+not_first : (known : Known) → 0 < known.segments → is_first known ≡ false
+not_first known some = ne_eqb known.segments 0 (λ none. absurd (omega arith))
 
-later_ends_hold : (net : PricedNetwork) (known : Known) (upper lower cost slope : ℕ) → 0 < known.parts → upper ≡ known.lower → known.lower < known.upper → lower < upper
+later_ends_hold : (net : PricedNetwork) (known : Known) (upper lower cost slope : ℕ) → 0 < known.segments → upper ≡ known.lower → known.lower < known.upper → lower < upper
     → first_failing (conditions net known (SegmentLine upper lower cost slope)) ≡ None
 later_ends_hold net known upper lower cost slope some joined long below =
     let later = not_first known some in
@@ -94,7 +95,8 @@ module _ (net : PricedNetwork) (priced : IsPriced net.network net.terms (knees_i
       → (0 < length rest → ByRecursion IsLong (last ∷ rest)) → ByRecursion (IsSegment net.network net.terms (knees_in net)) rest → IsThrough net.network (crashes net.terms) crash low
       → PassTo net (in_body (codes_of net normal) (codes_of net crash) done (part_of net last)) (flat_map (segment_lines net) rest ++ end_lines) (done ++ map (part_of net) rest)
   rest_pass done last [] high low some joined long each through =
-      subst (λ parts. PassTo net (in_body (codes_of net normal) (codes_of net crash) done (part_of net last)) end_lines parts) (sym (append-nil done)) (end_passes done last low (joined.1) through)
+      subst (λ segments. PassTo net (in_body (codes_of net normal) (codes_of net crash) done (part_of net last)) end_lines segments) (sym (append-nil done))
+      (end_passes done last low (joined.1) through)
   rest_pass done last (next ∷ rest) high low some joined long each through =
       let draft = in_body (codes_of net normal) (codes_of net crash) done (part_of net last) in
       let all = long (omega arith) in
@@ -104,7 +106,7 @@ module _ (net : PricedNetwork) (priced : IsPriced net.network net.terms (knees_i
       let here = segment_passes net priced (codes_of net normal) (codes_of net crash) done next (each.0) later (part_of net last) first in
       let behind = rest_pass (done ++ part_of net next ∷ []) next rest last.lower low (omega (arith, some, length-append done (part_of net next ∷ []))) (joined.1) (λ more. all.1) (each.1) through in
       subst (λ lines. PassTo net draft lines (done ++ map (part_of net) (next ∷ rest))) (sym (append_assoc (segment_lines net next) (flat_map (segment_lines net) rest) end_lines))
-      (subst (λ parts. PassTo net draft (segment_lines net next ++ (flat_map (segment_lines net) rest ++ end_lines)) parts) (append_assoc done (part_of net next ∷ []) (map (part_of net) rest))
+      (subst (λ segments. PassTo net draft (segment_lines net next ++ (flat_map (segment_lines net) rest ++ end_lines)) segments) (append_assoc done (part_of net next ∷ []) (map (part_of net) rest))
       (PassTo-then (segment_lines net next) (flat_map (segment_lines net) rest ++ end_lines) here behind))
 
   all_pass : (segments : List Segment) (high low : ℕ) → IsFront net.network net.terms (knees_in net) segments high low
@@ -131,7 +133,7 @@ module _ (net : PricedNetwork) (priced : IsPriced net.network net.terms (knees_i
 -- none of the lines fails, and they say the segments that were written
 pub document_passes : (net : PricedNetwork) (normal crash : List ℕ) (segments : List Segment) →
     IsPriced net.network net.terms (knees_in net) → AreNames (length net.network.arcs) net.activities → IsComplete net normal crash segments
-    → (failure_of net (document_lines net normal crash segments) ≡ None) × ((draft_of (document_lines net normal crash segments)).parts ≡ map (part_of net) segments)
+    → (failure_of net (document_lines net normal crash segments) ≡ None) × ((draft_of (document_lines net normal crash segments)).segments ≡ map (part_of net) segments)
 document_passes net normal crash segments priced names complete =
     let passes = all_pass net priced names normal crash segments complete.high complete.low complete.front complete.normal_walk complete.crash_walk in
     (passes.none 1, passes.says)

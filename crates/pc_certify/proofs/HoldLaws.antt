@@ -88,7 +88,7 @@ slack_holds net head tail a flows h = both
 
 -- an activity whose row is right
 pub act_holds : (net : PricedNetwork) (known : Known) (duration : ℕ) (flows : List ℕ) → known.acts < length net.network.arcs → length flows ≡ (knees_in net).count known.acts + 1
-    → IsRightAct net (known.parts == 0) (frame known) known.acts (record { code = text_at net.activities known.acts; duration = duration; flows = flows })
+    → IsRightAct net (known.segments == 0) (frame known) known.acts (record { code = text_at net.activities known.acts; duration = duration; flows = flows })
     → first_failing (conditions net known (Act (text_at net.activities known.acts) duration flows)) ≡ None
 act_holds net known duration flows lt long h =
     let a = known.acts in
@@ -101,7 +101,7 @@ act_holds net known duration flows lt long h =
     (le-leb (tail_at arcs seg (span seg) a + crash_of net.terms a) (head_at arcs seg (span seg) a) h.room_lower))
     (holds_on (has_duration net known a duration) _ 7 (both
     (eq-eqb duration (lesser_of net.network net.terms known.time a) h.duration)
-    (when (known.parts == 0) (duration == normal_of net.terms a) (λ first. eq-eqb duration (normal_of net.terms a) (h.normal first))))
+    (when (known.segments == 0) (duration == normal_of net.terms a) (λ first. eq-eqb duration (normal_of net.terms a) (h.normal first))))
     (holds_on (keeps_rises net a flows) _ 8
     (each_below-all ((knees_in net).count a) (λ k. nat_le (slice_index flows k) ((knees_in net).rise a k))
     (λ k within. le-leb (slice_index flows k) ((knees_in net).rise a k) (h.capacity k within)))

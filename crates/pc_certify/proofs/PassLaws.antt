@@ -59,16 +59,16 @@ Pass-then {net} {draft} {middle} {behind} lines others h later = record {
   says = says_then draft lines others ∙ ap (λ d. fold with_line d others) h.says ∙ later.says;
 }
 
--- none of the lines fails, and behind them these parts are whole
-pub record PassTo (net : PricedNetwork) (draft : Draft) (lines : List CertLine) (parts : List Part) : Type 0 where
+-- none of the lines fails, and behind them these segments are whole
+pub record PassTo (net : PricedNetwork) (draft : Draft) (lines : List CertLine) (segments : List Part) : Type 0 where
   pub none : (number : ℕ) → failure_after net draft number lines ≡ None
-  pub says : (fold with_line draft lines).parts ≡ parts
+  pub says : (fold with_line draft lines).segments ≡ segments
 
-pub PassTo-then : {net : PricedNetwork} {draft middle : Draft} {parts : List Part} (lines others : List CertLine) →
-    Pass net draft lines middle → PassTo net middle others parts → PassTo net draft (lines ++ others) parts
-PassTo-then {net} {draft} {middle} {parts} lines others h later = record {
+pub PassTo-then : {net : PricedNetwork} {draft middle : Draft} {segments : List Part} (lines others : List CertLine) →
+    Pass net draft lines middle → PassTo net middle others segments → PassTo net draft (lines ++ others) segments
+PassTo-then {net} {draft} {middle} {segments} lines others h later = record {
   none = λ number. none_then net draft number lines others (h.none number) (λ m. subst (λ d. failure_after net d m others ≡ None) (sym h.says) (later.none m));
-  says = ap (λ (d : Draft). d.parts) (says_then draft lines others ∙ ap (λ d. fold with_line d others) h.says) ∙ later.says;
+  says = ap (λ (d : Draft). d.segments) (says_then draft lines others ∙ ap (λ d. fold with_line d others) h.says) ∙ later.says;
 }
 
 -- the first condition holds, and so do the others

@@ -22,9 +22,9 @@ use Rattle.pc_certify.proofs.HoldLaws.{event_holds, act_holds, close_holds}
 use Rattle.pc_certify.proofs.SameLaws.{MoveSame}
 use Rattle.pc_certify.proofs.CloseLaws.{ends}
 
--- what is said among the segments: the two walks, the parts that are whole, and the last one that has begun
+-- what is said among the segments: the two walks, the segments that are whole, and the last one that has begun
 abbrev pub in_body : List (List ℕ) → List (List ℕ) → List Part → Part → Draft
-in_body normal crash parts part = record { normal = normal; crash = crash; crash_walk_started = true; parts = parts; part = part }
+in_body normal crash segments part = record { normal = normal; crash = crash; crash_walk_started = true; segments = segments; part = part }
 
 -- the part of a segment of which so many events have come, and no activity
 abbrev pub events_part : PricedNetwork → Segment → ℕ → Part
@@ -34,28 +34,28 @@ events_part net seg j = record (begun_part seg.upper seg.lower seg.cost seg.slop
 abbrev pub acts_part : PricedNetwork → Segment → ℕ → Part
 acts_part net seg j = record (part_of net seg) { acts = listed j (act_row net seg) }
 
-module _ (net : PricedNetwork) (priced : IsPriced net.network net.terms (knees_in net)) (normal crash : List (List ℕ)) (parts : List Part)
+module _ (net : PricedNetwork) (priced : IsPriced net.network net.terms (knees_in net)) (normal crash : List (List ℕ)) (segments : List Part)
     (seg : Segment) (whole : IsSegment net.network net.terms (knees_in net) seg) where
-  event_passes : (j : ℕ) → j < net.network.events → reason_at net (in_body normal crash parts (events_part net seg j)) (event_line net seg j) ≡ None
+  event_passes : (j : ℕ) → j < net.network.events → reason_at net (in_body normal crash segments (events_part net seg j)) (event_line net seg j) ≡ None
   event_passes j lt =
-      let known = said net (in_body normal crash parts (events_part net seg j)) in
+      let known = said net (in_body normal crash segments (events_part net seg j)) in
       let at : j ≡ known.events = sym (length-listed j (event_row net seg)) in
       let come : known.events < net.network.events = omega arith in
       subst (λ e. first_failing (conditions net known (Event (text_at net.events e) (seg.time e) (seg.moves e))) ≡ None) (sym at)
       (event_holds net known (seg.time known.events) (seg.moves known.events) come whole.right.proper.ordered (right_event net seg whole.right known.events come))
 
   pub events_pass : (j : ℕ) → j ≤ net.network.events →
-      Pass net (in_body normal crash parts (events_part net seg 0)) (listed j (event_line net seg))
-      (in_body normal crash parts (events_part net seg j))
-  events_pass zero some = Pass-nil net (in_body normal crash parts (events_part net seg 0))
+      Pass net (in_body normal crash segments (events_part net seg 0)) (listed j (event_line net seg))
+      (in_body normal crash segments (events_part net seg j))
+  events_pass zero some = Pass-nil net (in_body normal crash segments (events_part net seg 0))
   events_pass (suc j) some =
       Pass-then (listed j (event_line net seg)) (event_line net seg j ∷ []) (events_pass j (omega arith))
-      (Pass-one net (in_body normal crash parts (events_part net seg j)) (event_line net seg j) (event_passes j (omega arith)))
+      (Pass-one net (in_body normal crash segments (events_part net seg j)) (event_line net seg j) (event_passes j (omega arith)))
 
-  module _ (first : (length parts == 0) ≡ true → (a : ℕ) → a < length net.network.arcs → seg.duration a ≡ normal_of net.terms a) where
-    act_passes : (j : ℕ) → j < length net.network.arcs → reason_at net (in_body normal crash parts (acts_part net seg j)) (act_line net seg j) ≡ None
+  module _ (first : (length segments == 0) ≡ true → (a : ℕ) → a < length net.network.arcs → seg.duration a ≡ normal_of net.terms a) where
+    act_passes : (j : ℕ) → j < length net.network.arcs → reason_at net (in_body normal crash segments (acts_part net seg j)) (act_line net seg j) ≡ None
     act_passes j lt =
-        let known = said net (in_body normal crash parts (acts_part net seg j)) in
+        let known = said net (in_body normal crash segments (acts_part net seg j)) in
         let at : j ≡ known.acts = sym (length-listed j (act_row net seg)) in
         let come : known.acts < length net.network.arcs = omega arith in
         let same : MoveSame net seg (frame known) =
@@ -67,22 +67,23 @@ module _ (net : PricedNetwork) (priced : IsPriced net.network net.terms (knees_i
         } in
         subst (λ a. first_failing (conditions net known (Act (text_at net.activities a) (seg.duration a) (flows_along net seg a))) ≡ None) (sym at)
         (act_holds net known (seg.duration known.acts) (flows_along net seg known.acts) come (flows_long net seg known.acts)
-        (right_act net seg whole.right known.acts come priced.range (known.parts == 0) (frame known) same (λ is. first is known.acts come)))
+        (right_act net seg whole.right known.acts come priced.range (known.segments == 0) (frame known) same (λ is. first is known.acts come)))
 
-    acts_pass : (j : ℕ) → j ≤ length net.network.arcs → Pass net (in_body normal crash parts (acts_part net seg 0)) (listed j (act_line net seg)) (in_body normal crash parts (acts_part net seg j))
-    acts_pass zero some = Pass-nil net (in_body normal crash parts (acts_part net seg 0))
+    acts_pass : (j : ℕ) → j ≤ length net.network.arcs →
+        Pass net (in_body normal crash segments (acts_part net seg 0)) (listed j (act_line net seg)) (in_body normal crash segments (acts_part net seg j))
+    acts_pass zero some = Pass-nil net (in_body normal crash segments (acts_part net seg 0))
     acts_pass (suc j) some =
         Pass-then (listed j (act_line net seg)) (act_line net seg j ∷ []) (acts_pass j (omega arith))
-        (Pass-one net (in_body normal crash parts (acts_part net seg j)) (act_line net seg j) (act_passes j (omega arith)))
+        (Pass-one net (in_body normal crash segments (acts_part net seg j)) (act_line net seg j) (act_passes j (omega arith)))
 
-    close_passes : reason_at net (in_body normal crash parts (part_of net seg)) Close ≡ None
-    close_passes = close_holds net (said net (in_body normal crash parts (part_of net seg))) (ends net priced seg (in_body normal crash parts (part_of net seg)) refl whole)
+    close_passes : reason_at net (in_body normal crash segments (part_of net seg)) Close ≡ None
+    close_passes = close_holds net (said net (in_body normal crash segments (part_of net seg))) (ends net priced seg (in_body normal crash segments (part_of net seg)) refl whole)
 
     -- the lines of the segment, where its first one passes
-    pub segment_passes : (before : Part) → reason_at net (in_body normal crash parts before) (ends_line seg) ≡ None
-        → Pass net (in_body normal crash parts before) (segment_lines net seg) (in_body normal crash (parts ++ part_of net seg ∷ []) (part_of net seg))
+    pub segment_passes : (before : Part) → reason_at net (in_body normal crash segments before) (ends_line seg) ≡ None
+        → Pass net (in_body normal crash segments before) (segment_lines net seg) (in_body normal crash (segments ++ part_of net seg ∷ []) (part_of net seg))
     segment_passes before passes =
         Pass-cons (ends_line seg) _ passes
         (Pass-then (listed net.network.events (event_line net seg)) _ (events_pass net.network.events (omega arith))
         (Pass-then (listed (length net.network.arcs) (act_line net seg)) (Close ∷ []) (acts_pass (length net.network.arcs) (omega arith))
-        (Pass-one net (in_body normal crash parts (part_of net seg)) Close close_passes)))
+        (Pass-one net (in_body normal crash segments (part_of net seg)) Close close_passes)))

@@ -60,10 +60,10 @@ module _ (net : PricedNetwork) (names : AreNames (length net.network.arcs) net.a
 
 -- what is said while the normal walk comes, and while the crash walk does
 abbrev pub in_normal : List (List ℕ) → Draft
-in_normal normal = record { normal = normal; crash = []; crash_walk_started = false; parts = []; part = begun_part 0 0 0 0 }
+in_normal normal = record { normal = normal; crash = []; crash_walk_started = false; segments = []; part = begun_part 0 0 0 0 }
 
 abbrev pub in_crash : List (List ℕ) → List (List ℕ) → Draft
-in_crash normal crash = record { normal = normal; crash = crash; crash_walk_started = true; parts = []; part = begun_part 0 0 0 0 }
+in_crash normal crash = record { normal = normal; crash = crash; crash_walk_started = true; segments = []; part = begun_part 0 0 0 0 }
 
 pub normal_steps : (net : PricedNetwork) (before : List (List ℕ)) (walk : List ℕ) → Pass net (in_normal before) (steps net walk) (in_normal (before ++ codes_of net walk))
 normal_steps net before [] = Pass-as (in_normal (before ++ [])) (ap in_normal (sym (append-nil before))) (Pass-nil net (in_normal before))

@@ -59,7 +59,7 @@ through_sum net sum None h = absurd cc
 through_sum net sum (Some at) h = eqb-true _ _ ((and_parts _ _ h).1)
 
 -- the normal walk comes through to the upper end of the first segment
-pub first_walk : (net : PricedNetwork) (known : Known) (upper lower cost slope : ℕ) → known.parts ≡ 0 →
+pub first_walk : (net : PricedNetwork) (known : Known) (upper lower cost slope : ℕ) → known.segments ≡ 0 →
     first_failing (conditions net known (Segment upper lower cost slope)) ≡ None → is_through net.network upper known.normal ≡ true
 first_walk net known upper lower cost slope none h = elim (or_parts _ _ ((holds_first _ _ _ h).0)) [
   | inl later ↦ absurd (eqb-false _ _ (not_true _ later) none)
@@ -67,7 +67,7 @@ first_walk net known upper lower cost slope none h = elim (or_parts _ _ ((holds_
 ]
 
 -- its lower end is not above its upper one, and where they are equal its slope is 0
-pub first_ends : (net : PricedNetwork) (known : Known) (upper lower cost slope : ℕ) → known.parts ≡ 0 →
+pub first_ends : (net : PricedNetwork) (known : Known) (upper lower cost slope : ℕ) → known.segments ≡ 0 →
     first_failing (conditions net known (Segment upper lower cost slope)) ≡ None → (lower ≤ upper) × (upper ≡ lower → slope ≡ 0)
 first_ends net known upper lower cost slope none h =
     let joined = (holds_first _ _ _ ((holds_first _ _ _ h).1)).0 in
@@ -78,7 +78,7 @@ first_ends net known upper lower cost slope none h =
     ]
 
 -- a later segment joins the one before, which is not one of one length, and has its own lower end below
-pub later_ends : (net : PricedNetwork) (known : Known) (upper lower cost slope : ℕ) → 0 < known.parts →
+pub later_ends : (net : PricedNetwork) (known : Known) (upper lower cost slope : ℕ) → 0 < known.segments →
     first_failing (conditions net known (Segment upper lower cost slope)) ≡ None →
     (upper ≡ known.lower) × (known.lower < known.upper) × (lower < upper)
 later_ends net known upper lower cost slope some h =
@@ -88,13 +88,14 @@ later_ends net known upper lower cost slope some h =
     (eqb-true upper known.lower ((and_parts _ _ ends).0), ltb-true known.lower known.upper (rest.0), ltb-true lower upper (rest.1))
 
 -- the upper end of the first segment is the sum of the normal walk, and its lower end is not above it
-first_passes : (net : PricedNetwork) (known : Known) (upper lower cost slope : ℕ) → known.parts ≡ 0 →
+first_passes : (net : PricedNetwork) (known : Known) (upper lower cost slope : ℕ) → known.segments ≡ 0 →
     first_failing (conditions net known (Segment upper lower cost slope)) ≡ None → (sum_of known.normal ≡ upper) × (lower ≤ upper)
 first_passes net known upper lower cost slope none h =
     (through_sum net upper known.normal (first_walk net known upper lower cost slope none h), (first_ends net known upper lower cost slope none h).0)
 
 -- a later segment has its lower end below the lower end before it
-later_passes : (net : PricedNetwork) (known : Known) (upper lower cost slope : ℕ) → 0 < known.parts → first_failing (conditions net known (Segment upper lower cost slope)) ≡ None → lower < known.lower
+later_passes : (net : PricedNetwork) (known : Known) (upper lower cost slope : ℕ) → 0 < known.segments → first_failing (conditions net known (Segment upper lower cost slope)) ≡ None →
+    lower < known.lower
 later_passes net known upper lower cost slope some h =
     let ends = later_ends net known upper lower cost slope some h in omega (arith, ends.0, ends.2)
 
@@ -145,14 +146,15 @@ moved n m kept to count Ended h = h
 -- a walk has gone one step on, before any segment: its sum is at most one duration more, and that of the other walk is not more
 record HasStepped (is_crash : Bool) (old new : Kept) : Type 0 where
   normal : new.crash_walk_started ≡ is_crash
-  none : new.parts ≡ 0
+  none : new.segments ≡ 0
   short_normal : sum_of new.normal ≤ sum_of old.normal + cond is_crash 0 MAX_DURATION
   short_crash : sum_of new.crash ≤ sum_of old.crash + cond is_crash MAX_DURATION 0
 
-has_stepped : (is_crash : Bool) (net : PricedNetwork) (code : List ℕ) (old new : Kept) → Adds net (Step code) old new → old.crash_walk_started ≡ is_crash → old.parts ≡ 0 → HasStepped is_crash old new
+has_stepped : (is_crash : Bool) (net : PricedNetwork) (code : List ℕ) (old new : Kept) → Adds net (Step code) old new → old.crash_walk_started ≡ is_crash → old.segments ≡ 0 →
+    HasStepped is_crash old new
 has_stepped is_crash net code old new added is none = record {
   normal = ap (λ k. k.crash_walk_started) added.rest ∙ is;
-  none = ap (λ k. k.parts) added.rest ∙ none;
+  none = ap (λ k. k.segments) added.rest ∙ none;
   short_normal = subst (λ b. sum_of new.normal ≤ sum_of old.normal + cond b 0 MAX_DURATION) is added.short_normal;
   short_crash = subst (λ b. sum_of new.crash ≤ sum_of old.crash + cond b MAX_DURATION 0) is added.short_crash;
 }
@@ -313,16 +315,16 @@ all_few n m few_events few_acts =
     let unit : n + m + 2 ≤ 30002 = omega arith in
     omega (arith, mul-le-mul_right (n + m + 2) long, mul-le-mul_left 1000000001 unit)
 
-parts_kept : (net : PricedNetwork) (line : CertLine) (old new : Kept) → Adds net line old new → (new.parts ≤ old.parts + 1) × (new.lines ≡ old.lines)
-parts_kept net (Head version project events activities) old new added = (omega (arith, ap (λ k. k.parts) added), ap (λ k. k.lines) added)
-parts_kept net Normal old new added = (omega (arith, ap (λ k. k.parts) added), ap (λ k. k.lines) added)
-parts_kept net (Step code) old new added = (omega (arith, ap (λ k. k.parts) added.rest), ap (λ k. k.lines) added.rest)
-parts_kept net Crash old new added = (omega (arith, ap (λ k. k.parts) added), ap (λ k. k.lines) added)
-parts_kept net (Segment upper lower cost slope) old new added = (omega (arith, ap (λ k. k.parts) (added.0)), ap (λ k. k.lines) (added.0))
-parts_kept net (Event code time moves) old new added = (omega (arith, ap (λ k. k.parts) (added.0)), ap (λ k. k.lines) (added.0))
-parts_kept net (Act code duration flows) old new added = (omega (arith, ap (λ k. k.parts) (added.0)), ap (λ k. k.lines) (added.0))
-parts_kept net Close old new added = (omega (arith, ap (λ k. k.parts) added), ap (λ k. k.lines) added)
-parts_kept net End old new added = (omega (arith, ap (λ k. k.parts) added), ap (λ k. k.lines) added)
+segments_kept : (net : PricedNetwork) (line : CertLine) (old new : Kept) → Adds net line old new → (new.segments ≤ old.segments + 1) × (new.lines ≡ old.lines)
+segments_kept net (Head version project events activities) old new added = (omega (arith, ap (λ k. k.segments) added), ap (λ k. k.lines) added)
+segments_kept net Normal old new added = (omega (arith, ap (λ k. k.segments) added), ap (λ k. k.lines) added)
+segments_kept net (Step code) old new added = (omega (arith, ap (λ k. k.segments) added.rest), ap (λ k. k.lines) added.rest)
+segments_kept net Crash old new added = (omega (arith, ap (λ k. k.segments) added), ap (λ k. k.lines) added)
+segments_kept net (Segment upper lower cost slope) old new added = (omega (arith, ap (λ k. k.segments) (added.0)), ap (λ k. k.lines) (added.0))
+segments_kept net (Event code time moves) old new added = (omega (arith, ap (λ k. k.segments) (added.0)), ap (λ k. k.lines) (added.0))
+segments_kept net (Act code duration flows) old new added = (omega (arith, ap (λ k. k.segments) (added.0)), ap (λ k. k.lines) (added.0))
+segments_kept net Close old new added = (omega (arith, ap (λ k. k.segments) added), ap (λ k. k.lines) added)
+segments_kept net End old new added = (omega (arith, ap (λ k. k.segments) added), ap (λ k. k.lines) added)
 
 moves_kept : (net : PricedNetwork) (line : CertLine) (old new : Kept) → Adds net line old new →
     length old.tally.moves.items ≡ length old.tally.times.items → length new.tally.moves.items ≡ length new.tally.times.items
@@ -350,11 +352,11 @@ pub bounded_behind : {net : PricedNetwork} {line : CertLine} {old : Kept} {behin
     Passes net line old behind → Adds net line old between → IsBounded net (moved_on between behind)
 bounded_behind {net} {line} {old} {behind} between h p added =
     let fewer = fewer_lines net old.place line behind old between h.place p.goes p.passes added in
-    let kept = parts_kept net line old between added in
+    let kept = segments_kept net line old between added in
     record {
       place = moved net.network.events (length net.network.arcs) between behind (between.lines + 1) behind (at_place net old.place line behind old between h.place p.goes p.passes added);
       lines = omega (arith, fewer, kept.1, h.lines);
-      parts = omega (arith, kept.0, kept.1, h.parts);
+      segments = omega (arith, kept.0, kept.1, h.segments);
       moves = moves_kept net line old between added h.moves;
     }
 
@@ -385,7 +387,7 @@ may_be_added net (Event code time moves) old behind h p few_events few_acts =
     let room = event_passes net (known_by old) code time moves p.passes in
     (room, omega (arith, room, h.moves))
 may_be_added net (Act code duration flows) old behind h p few_events few_acts = act_passes net (known_by old) code duration flows p.passes
-may_be_added net Close old behind h p few_events few_acts = omega (arith, h.parts, lines_few h few_events few_acts)
+may_be_added net Close old behind h p few_events few_acts = omega (arith, h.segments, lines_few h few_events few_acts)
 may_be_added net (Head version project events activities) old behind h p few_events few_acts = tt
 may_be_added net Normal old behind h p few_events few_acts = tt
 may_be_added net Crash old behind h p few_events few_acts = tt
@@ -420,4 +422,4 @@ all_come net Ended behind old h goes = absurd (nowhere behind goes)
 
 -- a line is counted once
 pub lines_kept : (net : PricedNetwork) (line : CertLine) (old new : Kept) → Adds net line old new → new.lines ≡ old.lines
-lines_kept net line old new added = (parts_kept net line old new added).1
+lines_kept net line old new added = (segments_kept net line old new added).1

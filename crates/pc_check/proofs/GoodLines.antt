@@ -40,13 +40,13 @@ use Rattle.pc_check.proofs.GoodSegments.{HasOrderedEnds, HasRightRows, IsWhole, 
 -- the segments before the present one: there are none, and the normal walk has its upper end as its sum, or they come down
 -- to it
 record IsFirstPart (net : PricedNetwork) (draft : Draft) : Type 0 where
-  none : draft.parts ≡ []
+  none : draft.segments ≡ []
   walk : IsSumOfWalk net.network.arcs (normals net.terms) net.network.start net.network.end draft.part.upper
 
 record IsLaterPart (net : PricedNetwork) (draft : Draft) : Type 0 where
-  some : 0 < length draft.parts
+  some : 0 < length draft.segments
   high : ℕ
-  front : IsFront net.network net.terms (knees_in net) (map (segment_in net) draft.parts) high draft.part.upper
+  front : IsFront net.network net.terms (knees_in net) (map (segment_in net) draft.segments) high draft.part.upper
   below : draft.part.upper < high
   long : draft.part.lower < draft.part.upper
 
@@ -55,26 +55,26 @@ record IsInGood (net : PricedNetwork) (events activities : ℕ) (draft : Draft) 
   events_come : length draft.part.events + events ≡ net.network.events
   acts_come : length draft.part.acts + activities ≡ length net.network.arcs
   events_first : 0 < events → length draft.part.acts ≡ 0
-  rows : HasRightRows net (length draft.parts == 0) draft.part
+  rows : HasRightRows net (length draft.segments == 0) draft.part
   before : IsFirstPart net draft ⊎ IsLaterPart net draft
 
 -- behind a segment
 record IsBehindGood (net : PricedNetwork) (draft : Draft) : Type 0 where
-  some : 0 < length draft.parts
+  some : 0 < length draft.segments
   high : ℕ
-  front : IsFront net.network net.terms (knees_in net) (map (segment_in net) draft.parts) high draft.part.lower
+  front : IsFront net.network net.terms (knees_in net) (map (segment_in net) draft.segments) high draft.part.lower
   top : draft.part.upper ≤ high
 
 -- at the end
 record IsAllGood (net : PricedNetwork) (draft : Draft) : Type 0 where
   high : ℕ
-  covering : IsCovering net.network net.terms (knees_in net) (map (segment_in net) draft.parts) high draft.part.lower
+  covering : IsCovering net.network net.terms (knees_in net) (map (segment_in net) draft.segments) high draft.part.lower
 
 abbrev IsGood : PricedNetwork → Place → Draft → Type 0
-IsGood net Start draft = draft.parts ≡ []
-IsGood net (AfterHead shape) draft = IsShaped net.network.events (length net.network.arcs) shape × (draft.parts ≡ [])
-IsGood net (NormalWalk shape steps) draft = IsShaped net.network.events (length net.network.arcs) shape × (draft.parts ≡ [])
-IsGood net (CrashWalk shape steps) draft = IsShaped net.network.events (length net.network.arcs) shape × (draft.parts ≡ [])
+IsGood net Start draft = draft.segments ≡ []
+IsGood net (AfterHead shape) draft = IsShaped net.network.events (length net.network.arcs) shape × (draft.segments ≡ [])
+IsGood net (NormalWalk shape steps) draft = IsShaped net.network.events (length net.network.arcs) shape × (draft.segments ≡ [])
+IsGood net (CrashWalk shape steps) draft = IsShaped net.network.events (length net.network.arcs) shape × (draft.segments ≡ [])
 IsGood net (InSegment shape events activities) draft = IsShaped net.network.events (length net.network.arcs) shape × IsInGood net events activities draft
 IsGood net (Between shape) draft = IsShaped net.network.events (length net.network.arcs) shape × IsBehindGood net draft
 IsGood net Ended draft = IsAllGood net draft
@@ -90,9 +90,9 @@ nowhere behind e = absurd cc
 carry : (net : PricedNetwork) (draft : Draft) {place behind : Place} → IsGood net place draft → Some place ≡ Some behind → IsGood net behind draft
 carry net draft {place} {behind} h same = let at : place ≡ behind = cc in subst (λ p. IsGood net p draft) at h
 
-pub parts_step : (draft : Draft) (code : List ℕ) (b : Bool) → (with_step draft code b).parts ≡ draft.parts
-parts_step draft code true = refl
-parts_step draft code false = refl
+pub segments_step : (draft : Draft) (code : List ℕ) (b : Bool) → (with_step draft code b).segments ≡ draft.segments
+segments_step draft code true = refl
+segments_step draft code false = refl
 
 -- a segment begins
 begun_rows : (net : PricedNetwork) (first : Bool) (upper lower cost slope : ℕ) → HasOrderedEnds (begun_part upper lower cost slope) → HasRightRows net first (begun_part upper lower cost slope)
@@ -106,7 +106,7 @@ begun net shape draft upper lower cost slope shaped ends before = record {
   events_come = omega (arith, shaped.events);
   acts_come = omega (arith, shaped.activities);
   events_first = λ some. refl;
-  rows = begun_rows net (length draft.parts == 0) upper lower cost slope ends;
+  rows = begun_rows net (length draft.segments == 0) upper lower cost slope ends;
   before = before;
 }
 
@@ -122,7 +122,7 @@ first_in net draft part upper lower (inl h) =
 first_in net draft part upper lower (inr h) = inr (record {
   some = h.some;
   high = h.high;
-  front = subst (λ u. IsFront net.network net.terms (knees_in net) (map (segment_in net) draft.parts) h.high u) (sym upper) h.front;
+  front = subst (λ u. IsFront net.network net.terms (knees_in net) (map (segment_in net) draft.segments) h.high u) (sym upper) h.front;
   below = omega (arith, h.below, upper);
   long = omega (arith, h.long, upper, lower);
 })
@@ -158,27 +158,27 @@ act_comes net first part row rows right = record {
 }
 
 -- a segment ends
-front_after : (net : PricedNetwork) (draft : Draft) → IsKnown net → HasRightRows net (length draft.parts == 0) draft.part →
+front_after : (net : PricedNetwork) (draft : Draft) → IsKnown net → HasRightRows net (length draft.segments == 0) draft.part →
     IsWhole net draft.part → IsSegment net.network net.terms (knees_in net) (segment_in net draft.part) →
-    (IsFirstPart net draft ⊎ IsLaterPart net draft) → IsBehindGood net (record draft { parts = draft.parts ++ draft.part ∷ [] })
+    (IsFirstPart net draft ⊎ IsLaterPart net draft) → IsBehindGood net (record draft { segments = draft.segments ++ draft.part ∷ [] })
 front_after net draft known rows whole segment (inl h) =
     let normal : (a : ℕ) → a < length net.network.arcs →
     (segment_in net draft.part).duration a
     ≡ normal_of net.terms a = λ a lt. (rows.acts a (omega (arith, lt, whole.all_acts))).normal
-    (eq-eqb (length draft.parts) 0 (ap length h.none)) in
+    (eq-eqb (length draft.segments) 0 (ap length h.none)) in
     let front = front_begins net.network net.terms (knees_in net) (segment_in net draft.part) segment normal h.walk in
     record {
-      some = omega (arith, length-append draft.parts (draft.part ∷ []));
+      some = omega (arith, length-append draft.segments (draft.part ∷ []));
       high = draft.part.upper;
       front = subst (λ ps. IsFront net.network net.terms (knees_in net) (map (segment_in net) (ps ++ draft.part ∷ [])) draft.part.upper draft.part.lower) (sym h.none) front;
       top = omega arith;
     }
 front_after net draft known rows whole segment (inr h) =
-    let front = front_grows net.network net.terms (knees_in net) (map (segment_in net) draft.parts) (segment_in net draft.part) h.high draft.part.upper h.front h.below segment refl h.long in
+    let front = front_grows net.network net.terms (knees_in net) (map (segment_in net) draft.segments) (segment_in net draft.part) h.high draft.part.upper h.front h.below segment refl h.long in
     record {
-      some = omega (arith, length-append draft.parts (draft.part ∷ []));
+      some = omega (arith, length-append draft.segments (draft.part ∷ []));
       high = h.high;
-      front = subst (λ ss. IsFront net.network net.terms (knees_in net) ss h.high draft.part.lower) (sym (map-append (segment_in net) draft.parts (draft.part ∷ []))) front;
+      front = subst (λ ss. IsFront net.network net.terms (knees_in net) ss h.high draft.part.lower) (sym (map-append (segment_in net) draft.segments (draft.part ∷ []))) front;
       top = omega (arith, h.below);
     }
 
@@ -191,12 +191,12 @@ good_line net Start (Head version project events activities) behind draft known 
     carry net draft (record { events = is.0; activities = is.1 }, h) goes
 good_line net (AfterHead shape) Normal behind draft known h goes passes = carry net draft h goes
 good_line net (NormalWalk shape steps) (Step code) behind draft known h goes passes =
-    carry net (with_step draft code draft.crash_walk_started) (h.0, parts_step draft code draft.crash_walk_started ∙ h.1) (ap Some ((cond_some _ _ _ goes).1))
+    carry net (with_step draft code draft.crash_walk_started) (h.0, segments_step draft code draft.crash_walk_started ∙ h.1) (ap Some ((cond_some _ _ _ goes).1))
 good_line net (NormalWalk shape steps) Crash behind draft known h goes passes = carry net (record draft { crash_walk_started = true }) h goes
 good_line net (CrashWalk shape steps) (Step code) behind draft known h goes passes =
-    carry net (with_step draft code draft.crash_walk_started) (h.0, parts_step draft code draft.crash_walk_started ∙ h.1) (ap Some ((cond_some _ _ _ goes).1))
+    carry net (with_step draft code draft.crash_walk_started) (h.0, segments_step draft code draft.crash_walk_started ∙ h.1) (ap Some ((cond_some _ _ _ goes).1))
 good_line net (CrashWalk shape steps) (SegmentLine upper lower cost slope) behind draft known h goes passes =
-    let none : length draft.parts ≡ 0 = ap length (h.1) in
+    let none : length draft.segments ≡ 0 = ap length (h.1) in
     let walk = normal_walk net draft.normal upper known.named (first_walk net (said net draft) upper lower cost slope none passes) in
     let ends = first_ends net (said net draft) upper lower cost slope none passes in
     carry net (record draft { part = begun_part upper lower cost slope }) (
@@ -214,7 +214,7 @@ good_line net (Between shape) (SegmentLine upper lower cost slope) behind draft 
       begun net shape draft upper lower cost slope (h.0) (record { ordered = omega (arith, below); flat = λ same. absurd (omega (arith, below, same)) }) (inr (record {
         some = h.1.some;
         high = h.1.high;
-        front = subst (λ u. IsFront net.network net.terms (knees_in net) (map (segment_in net) draft.parts) h.1.high u) (sym joins) h.1.front;
+        front = subst (λ u. IsFront net.network net.terms (knees_in net) (map (segment_in net) draft.segments) h.1.high u) (sym joins) h.1.front;
         below = omega (arith, joins, long, h.1.top);
         long = below;
       })),
@@ -233,7 +233,7 @@ good_line net (InSegment shape events activities) (Event code time moves) behind
         events_come = omega (arith, h.1.events_come, some, length-append draft.part.events (row ∷ []));
         acts_come = h.1.acts_come;
         events_first = λ more. none;
-        rows = event_comes net (length draft.parts == 0) draft.part row none h.1.rows (right_event net (said net draft) code time moves passes);
+        rows = event_comes net (length draft.segments == 0) draft.part row none h.1.rows (right_event net (said net draft) code time moves passes);
         before = first_in net draft (with_event draft.part row) refl refl h.1.before;
       },
     ) (ap Some (step.1))
@@ -248,7 +248,7 @@ good_line net (InSegment shape events activities) (Act code duration flows) behi
         events_come = h.1.events_come;
         acts_come = omega (arith, h.1.acts_come, some, length-append draft.part.acts (row ∷ []));
         events_first = λ more. absurd (omega (arith, none, more));
-        rows = act_comes net (length draft.parts == 0) draft.part row h.1.rows (right_act net (said net draft) code duration flows passes);
+        rows = act_comes net (length draft.segments == 0) draft.part row h.1.rows (right_act net (said net draft) code duration flows passes);
         before = first_in net draft (with_act draft.part row) refl refl h.1.before;
       },
     ) (ap Some (step.1))
@@ -257,8 +257,8 @@ good_line net (InSegment shape events activities) Close behind draft known h goe
     let no_events : events ≡ 0 = eqb-true events 0 ((and_parts _ _ (step.0)).0) in
     let no_acts : activities ≡ 0 = eqb-true activities 0 ((and_parts _ _ (step.0)).1) in
     let whole : IsWhole net draft.part = record { all_events = omega (arith, h.1.events_come, no_events); all_acts = omega (arith, h.1.acts_come, no_acts) } in
-    let segment = whole_segment net (length draft.parts == 0) draft known.priced h.1.rows whole passes in
-    carry net (record draft { parts = draft.parts ++ draft.part ∷ [] }) (h.0, front_after net draft known h.1.rows whole segment h.1.before) (ap Some (step.1))
+    let segment = whole_segment net (length draft.segments == 0) draft known.priced h.1.rows whole passes in
+    carry net (record draft { segments = draft.segments ++ draft.part ∷ [] }) (h.0, front_after net draft known h.1.rows whole segment h.1.before) (ap Some (step.1))
 good_line net place line behind draft known h goes passes = absurd (nowhere behind goes)
 
 -- ---- all lines

@@ -95,7 +95,7 @@ slack_from net head tail a flows h =
 -- what the conditions at an ACT line show
 pub right_act : (net : PricedNetwork) (known : Known) (code : List ℕ) (duration : ℕ) (flows : List ℕ) →
     first_failing (conditions net known (Act code duration flows)) ≡ None →
-    IsRightAct net (known.parts == 0) (frame known) known.acts (record { code = code; duration = duration; flows = flows })
+    IsRightAct net (known.segments == 0) (frame known) known.acts (record { code = code; duration = duration; flows = flows })
 right_act net known code duration flows h =
     let four = holds_first _ _ _ h in
     let six = holds_first _ _ _ (four.1) in
@@ -112,7 +112,7 @@ right_act net known code duration flows h =
       room_upper = leb-true (tail_at net.network.arcs seg 0 a + crash_of net.terms a) (head_at net.network.arcs seg 0 a) (room.0);
       room_lower = leb-true (tail_at net.network.arcs seg (span seg) a + crash_of net.terms a) (head_at net.network.arcs seg (span seg) a) (room.1);
       duration = eqb-true duration (lesser_of net.network net.terms known.time a) (lasts.0);
-      normal = λ first. eqb-true duration (normal_of net.terms a) (unless (known.parts == 0) (duration == normal_of net.terms a) (lasts.1) first);
+      normal = λ first. eqb-true duration (normal_of net.terms a) (unless (known.segments == 0) (duration == normal_of net.terms a) (lasts.1) first);
       capacity = λ k lt. leb-true (slice_index flows k) ((knees_in net).rise a k) (each_below-at ((knees_in net).count a) (λ k. nat_le (slice_index flows k) ((knees_in net).rise a k)) k (eight.0) lt);
       slack_upper = slack_from net (head_at net.network.arcs seg 0 a) (tail_at net.network.arcs seg 0 a) a flows (slack.0);
       slack_lower = slack_from net (head_at net.network.arcs seg (span seg) a) (tail_at net.network.arcs seg (span seg) a) a flows (slack.1);

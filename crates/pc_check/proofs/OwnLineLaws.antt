@@ -19,7 +19,7 @@ use Rattle.pc_check.specs.Said.{said}
 use Rattle.pc_check.specs.OwnLines.{lines_before, first_upper_in_lines, most_segment_lines, AreFew}
 use Rattle.pc_check.proofs.BelowLaws.{and_parts}
 use Rattle.pc_check.proofs.BoundLaws.{head_passes, first_ends, later_ends}
-use Rattle.pc_check.proofs.GoodLines.{none_parts, parts_step}
+use Rattle.pc_check.proofs.GoodLines.{none_parts, segments_step}
 
 nowhere : (behind : Place) → None ≡ Some behind → ⊥
 nowhere behind e = absurd cc
@@ -52,7 +52,7 @@ lines_behind unit other part = 0
 -- the place stands behind the first SEGMENT line
 abbrev IsBehind : ℕ → ℕ → Place → Draft → Type 0
 IsBehind n m (InSegment shape events activities) draft = IsShaped n m shape
-IsBehind n m (Between shape) draft = IsShaped n m shape × (0 < length draft.parts)
+IsBehind n m (Between shape) draft = IsShaped n m shape × (0 < length draft.segments)
 IsBehind n m Ended draft = Unit {0}
 IsBehind n m other draft = ⊥
 
@@ -78,7 +78,7 @@ goes_behind net (InSegment shape events activities) (Act code duration flows) be
     to net.network.events (length net.network.arcs) (record { at = h; fewer = omega (arith, some) }) (ap Some (step.1))
 goes_behind net (InSegment shape events activities) Close behind draft h goes passes =
     let step = cond_some _ _ _ goes in
-    to net.network.events (length net.network.arcs) (record { at = (h, omega (arith, length-append draft.parts (draft.part ∷ []))); fewer = omega arith }) (ap Some (step.1))
+    to net.network.events (length net.network.arcs) (record { at = (h, omega (arith, length-append draft.segments (draft.part ∷ []))); fewer = omega arith }) (ap Some (step.1))
 goes_behind net (Between shape) (Segment upper lower cost slope) behind draft h goes passes =
     let n = net.network.events in
     let m = length net.network.arcs in
@@ -122,10 +122,10 @@ before_left n other = 0
 
 -- the place stands before the first SEGMENT line
 abbrev IsBefore : ℕ → ℕ → Place → Draft → Type 0
-IsBefore n m Start draft = draft.parts ≡ []
-IsBefore n m (AfterHead shape) draft = IsShaped n m shape × (draft.parts ≡ [])
-IsBefore n m (NormalWalk shape steps) draft = IsShaped n m shape × (draft.parts ≡ [])
-IsBefore n m (CrashWalk shape steps) draft = IsShaped n m shape × (draft.parts ≡ [])
+IsBefore n m Start draft = draft.segments ≡ []
+IsBefore n m (AfterHead shape) draft = IsShaped n m shape × (draft.segments ≡ [])
+IsBefore n m (NormalWalk shape steps) draft = IsShaped n m shape × (draft.segments ≡ [])
+IsBefore n m (CrashWalk shape steps) draft = IsShaped n m shape × (draft.segments ≡ [])
 IsBefore n m other draft = ⊥
 
 -- lines from a place on are few
@@ -190,7 +190,7 @@ comes net (NormalWalk shape steps) (Step code) behind draft h goes passes =
     let step = cond_some _ _ _ goes in
     let some : 0 < steps = ltb-true 0 steps (step.0) in
     inl (arrives net.network.events (length net.network.arcs) (record {
-      at = (h.0, parts_step draft code draft.crash_walk_started ∙ h.1);
+      at = (h.0, segments_step draft code draft.crash_walk_started ∙ h.1);
       fewer = omega (arith, some);
       counts = λ lines. refl;
       same = λ lines. refl;
@@ -201,7 +201,7 @@ comes net (CrashWalk shape steps) (Step code) behind draft h goes passes =
     let step = cond_some _ _ _ goes in
     let some : 0 < steps = ltb-true 0 steps (step.0) in
     inl (arrives net.network.events (length net.network.arcs) (record {
-      at = (h.0, parts_step draft code draft.crash_walk_started ∙ h.1);
+      at = (h.0, segments_step draft code draft.crash_walk_started ∙ h.1);
       fewer = omega (arith, some);
       counts = λ lines. refl;
       same = λ lines. refl;

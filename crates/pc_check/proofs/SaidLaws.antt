@@ -93,7 +93,7 @@ known_is_said net draft kept inflow outflow spent inflow_is outflow_is spent_is 
       normal = k.normal i;
       crash = k.crash i;
       crash_walk_started = k.crash_walk_started i;
-      parts = k.parts i;
+      segments = k.segments i;
       upper = k.tally.upper i;
       lower = k.tally.lower i;
       cost = k.tally.cost i;
@@ -162,7 +162,7 @@ kept_step net draft code false old new is k added =
           ∙ sym (walked-append net (length_in net false) (at_start net.network) draft.normal code);
       crash = added.crash ∙ ap (λ b. cond b (stepped net (length_in net true) old.crash code) old.crash) (sym is) ∙ k.crash;
       crash_walk_started = ap (λ k. k.crash_walk_started) rest ∙ k.crash_walk_started;
-      parts = ap (λ k. k.parts) rest ∙ k.parts;
+      segments = ap (λ k. k.segments) rest ∙ k.segments;
       tally = subst (λ t. IsTallied net draft.part t) (ap (λ k. k.tally) (sym rest)) k.tally;
     }
 kept_step net draft code true old new is k added =
@@ -173,7 +173,7 @@ kept_step net draft code true old new is k added =
           ∙ ap (λ at. stepped net (length_in net true) at code) k.crash
           ∙ sym (walked-append net (length_in net true) (at_start net.network) draft.crash code);
       crash_walk_started = ap (λ k. k.crash_walk_started) rest ∙ k.crash_walk_started;
-      parts = ap (λ k. k.parts) rest ∙ k.parts;
+      segments = ap (λ k. k.segments) rest ∙ k.segments;
       tally = subst (λ t. IsTallied net draft.part t) (ap (λ k. k.tally) (sym rest)) k.tally;
     }
 
@@ -333,7 +333,7 @@ in_part net draft part old new rest k tally = record {
   normal = ap (λ k. k.normal) rest ∙ k.normal;
   crash = ap (λ k. k.crash) rest ∙ k.crash;
   crash_walk_started = ap (λ k. k.crash_walk_started) rest ∙ k.crash_walk_started;
-  parts = ap (λ k. k.parts) rest ∙ k.parts;
+  segments = ap (λ k. k.segments) rest ∙ k.segments;
   tally = tally;
 }
 
@@ -351,7 +351,7 @@ kept_more net draft Crash old new ready k added = record {
   normal = ap (λ k. k.normal) added ∙ k.normal;
   crash = ap (λ k. k.crash) added ∙ k.crash;
   crash_walk_started = ap (λ k. k.crash_walk_started) added;
-  parts = ap (λ k. k.parts) added ∙ k.parts;
+  segments = ap (λ k. k.segments) added ∙ k.segments;
   tally = subst (λ t. IsTallied net draft.part t) (ap (λ k. k.tally) (sym added)) k.tally;
 }
 kept_more net draft (SegmentLine upper lower cost slope) old new ready k added =
@@ -367,7 +367,7 @@ kept_more net draft Close old new ready k added = record {
   normal = ap (λ k. k.normal) added ∙ k.normal;
   crash = ap (λ k. k.crash) added ∙ k.crash;
   crash_walk_started = ap (λ k. k.crash_walk_started) added ∙ k.crash_walk_started;
-  parts = ap (λ k. k.parts) added ∙ ap (λ n. n + 1) k.parts ∙ sym (length-append draft.parts (draft.part ∷ []));
+  segments = ap (λ k. k.segments) added ∙ ap (λ n. n + 1) k.segments ∙ sym (length-append draft.segments (draft.part ∷ []));
   tally = subst (λ t. IsTallied net draft.part t) (ap (λ k. k.tally) (sym added)) k.tally;
 }
 kept_more net draft End old new ready k added = kept_same net draft old new added k

@@ -41,7 +41,7 @@ ready net draft Close kept behind h k p = tt
 ready net draft End kept behind h k p = tt
 
 kept_moved : (net : PricedNetwork) (draft : Draft) (between : Kept) (place : Place) → IsKept net draft between → IsKept net draft (moved_on between place)
-kept_moved net draft between place k = record { normal = k.normal; crash = k.crash; crash_walk_started = k.crash_walk_started; parts = k.parts; tally = k.tally }
+kept_moved net draft between place k = record { normal = k.normal; crash = k.crash; crash_walk_started = k.crash_walk_started; segments = k.segments; tally = k.tally }
 
 ran_more : (line : CertLine) (place behind : Place) → next place line ≡ Some behind → ran place (line ∷ []) ≡ Some behind
 ran_more line place behind goes = ap (λ found. found >>= (λ b. ran b [])) goes

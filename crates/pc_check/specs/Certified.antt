@@ -8,4 +8,4 @@ use Rattle.pc_check.specs.Segments.{segment_in}
 
 -- the segments that lines say
 abbrev pub segments_of : PricedNetwork → List CertLine → List Segment
-segments_of net lines = map (segment_in net) (draft_of lines).parts
+segments_of net lines = map (segment_in net) (draft_of lines).segments

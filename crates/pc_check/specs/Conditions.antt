@@ -25,7 +25,7 @@ is_one_length known = known.upper == known.lower
 
 -- whether no segment is whole yet
 abbrev pub is_first : Known → Bool
-is_first known = known.parts == 0
+is_first known = known.segments == 0
 
 -- ---- the first line
 

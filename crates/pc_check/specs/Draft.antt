@@ -31,7 +31,7 @@ pub record Draft : Type 0 where
   pub normal : List (List ℕ)
   pub crash : List (List ℕ)
   pub crash_walk_started : Bool
-  pub parts : List Part
+  pub segments : List Part
   pub part : Part
 
 -- no line has come
@@ -40,7 +40,7 @@ empty_draft = record {
   normal = [];
   crash = [];
   crash_walk_started = false;
-  parts = [];
+  segments = [];
   part = record { upper = 0; lower = 0; cost = 0; slope = 0; events = []; acts = [] };
 }
 
@@ -57,7 +57,7 @@ with_line draft (Event code time moves) =
     record draft { part = record draft.part { events = draft.part.events ++ record { code = code; time = time; moves = moves } ∷ [] } }
 with_line draft (Act code duration flows) =
     record draft { part = record draft.part { acts = draft.part.acts ++ record { code = code; duration = duration; flows = flows } ∷ [] } }
-with_line draft Close = record draft { parts = draft.parts ++ draft.part ∷ [] }
+with_line draft Close = record draft { segments = draft.segments ++ draft.part ∷ [] }
 with_line draft End = draft
 
 -- what lines say, one after the other

@@ -20,7 +20,7 @@ pub record Known : Type 0 where
   pub crash : Option Reached
   pub crash_walk_started : Bool
   -- how many segments are whole
-  pub parts : ℕ
+  pub segments : ℕ
   -- the ends, the cost and the slope of the last segment that has begun
   pub upper : ℕ
   pub lower : ℕ

@@ -136,7 +136,7 @@ fn add(net: &CrashNet<'_>, kept: &mut Kept, line: &CertLine)
             moves,
         } => add_event(net, &mut kept.tally, *time, *moves),
         CertLine::Act { .. } => unreachable!(),
-        CertLine::Close => kept.parts += 1,
+        CertLine::Close => kept.segments += 1,
         _ => {}
     }
 }

@@ -150,7 +150,7 @@ pub(crate) fn advance_acts(
     if !reader.is_between()
         || !matches!(place, Place::InSegment { events: 0, .. })
         || kept.tally.times.len() < fronts.len()
-        || kept.parts == 0
+        || kept.segments == 0
         || kept.tally.upper == kept.tally.lower
     {
         return 0;
@@ -189,7 +189,7 @@ fn pass_same(
     requires rows { ArePassed net.now kept.now.tally.rows.items }
     requires times { net.now.network.events ≤ length kept.now.tally.times.items }
     requires moves { net.now.network.events ≤ length kept.now.tally.moves.items }
-    requires later { kept.now.parts ≢ 0 }
+    requires later { kept.now.segments ≢ 0 }
     requires long { kept.now.tally.lower ≢ kept.now.tally.upper }
     ensures known { 0 < result → a < length net.now.network.arcs }
     ensures same_place { result ≡ 0 → place.new ≡ place.old }

@@ -182,7 +182,7 @@ impl<'n> Checker<'n> {
                 reason: fail.reason,
             },
             None => Verdict::Yes {
-                segments: self.kept.parts,
+                segments: self.kept.segments,
             },
         }
     }

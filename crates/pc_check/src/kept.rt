@@ -23,7 +23,7 @@ pub struct Kept {
     pub(crate) crash: Option<Reached>,
     pub(crate) crash_walk_started: bool,
     /// how many segments are whole
-    pub(crate) parts: u64,
+    pub(crate) segments: u64,
     pub(crate) tally: Tally,
 }
 
@@ -92,7 +92,7 @@ pub(crate) fn kept_of(alloc: Global, net: &CrashNet<'_>) -> Result<Kept, AllocEr
         normal: Some(begin),
         crash: Some(begin),
         crash_walk_started: false,
-        parts: 0,
+        segments: 0,
         tally: tally_of(alloc, net)?,
     })
 }

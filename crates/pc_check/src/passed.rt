@@ -165,7 +165,7 @@ pub(crate) fn passes_again(net: &CrashNet<'_>, kept: &Kept, a: u32, passed: &Pas
     requires known { a < length net.now.network.arcs }
     requires times { net.now.network.events ≤ length kept.now.tally.times.items }
     requires moves { net.now.network.events ≤ length kept.now.tally.moves.items }
-    requires later { kept.now.parts ≢ 0 }
+    requires later { kept.now.segments ≢ 0 }
     requires long { kept.now.tally.lower ≢ kept.now.tally.upper }
     ensures { (cut : Cut) → IsTrue result → ComesAgain net.now (known_by (across_at kept.now a cut)) passed.now }
 {

@@ -78,7 +78,7 @@ fn reason_at_segment(
 ) -> Option<u8>
     ensures { result ≡ first_failing (conditions net.now (known_by kept.now) (Segment upper lower 0 slope)) }
 {
-    if kept.parts == 0 && !is_through(net, upper, kept.normal) {
+    if kept.segments == 0 && !is_through(net, upper, kept.normal) {
         return Some(2);
     }
     if !has_joined_ends(kept, upper, lower, slope) {
@@ -92,7 +92,7 @@ fn has_joined_ends(kept: &Kept, upper: u64, lower: u64, slope: u64) -> bool
     ensures { result ≡ has_joined_ends (known_by kept.now) upper lower slope }
 {
     let before = &kept.tally;
-    if kept.parts == 0 {
+    if kept.segments == 0 {
         lower < upper || (lower == upper && slope == 0)
     } else {
         upper == before.lower && before.lower < before.upper && lower < upper
@@ -232,5 +232,5 @@ pub(crate) fn has_duration(net: &CrashNet<'_>, kept: &Kept, a: u32, duration: u6
     let begins = number_at(&kept.tally.times, net.net().from(a));
     let ends = number_at(&kept.tally.times, net.net().to(a));
     let normal = net.term(a).normal;
-    duration == normal.min(ends.saturating_sub(begins)) && (kept.parts != 0 || duration == normal)
+    duration == normal.min(ends.saturating_sub(begins)) && (kept.segments != 0 || duration == normal)
 }

@@ -17,5 +17,5 @@ abbrev pub MayBeAdded : PricedNetwork → CertLine → Kept → Type 0
 MayBeAdded net (Step code) kept = (sum_of kept.normal + MAX_DURATION < 2 ^ 64) × (sum_of kept.crash + MAX_DURATION < 2 ^ 64)
 MayBeAdded net (Event code time moves) kept = (length kept.tally.times.items < net.network.events) × (length kept.tally.moves.items < net.network.events)
 MayBeAdded net (Act code duration flows) kept = kept.tally.acts < length net.network.arcs
-MayBeAdded net Close kept = kept.parts + 1 < 2 ^ 64
+MayBeAdded net Close kept = kept.segments + 1 < 2 ^ 64
 MayBeAdded net other kept = Unit {0}

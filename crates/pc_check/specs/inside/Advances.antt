@@ -37,7 +37,7 @@ Adds net Crash old new = new ≡ record old { crash_walk_started = true }
 Adds net (Segment upper lower cost slope) old new = KeepsAllBut old new × IsBegun upper lower cost slope new.tally
 Adds net (Event code time moves) old new = KeepsAllBut old new × AddsEvent time moves old.tally new.tally
 Adds net (Act code duration flows) old new = KeepsAllBut old new × AddsAct net old.tally duration flows new.tally
-Adds net Close old new = new ≡ record old { parts = old.parts + 1 }
+Adds net Close old new = new ≡ record old { segments = old.segments + 1 }
 Adds net other old new = new ≡ old
 
 -- what is kept behind the line, where the next one stands there

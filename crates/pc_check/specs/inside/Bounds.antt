@@ -22,14 +22,14 @@ pub record IsShaped (n m : ℕ) (shape : Shape) : Type 0 where
 -- no segment has come, and the normal walk has come so far
 pub record IsInNormal (n steps : ℕ) (kept : Kept) : Type 0 where
   pub normal : kept.crash_walk_started ≡ false
-  pub none : kept.parts ≡ 0
+  pub none : kept.segments ≡ 0
   pub short : sum_of kept.normal + steps * MAX_DURATION ≤ longest_walk n
   pub nothing : sum_of kept.crash ≡ 0
 
 -- no segment has come, the normal walk is whole, and the crash walk has come so far
 pub record IsInCrash (n steps : ℕ) (kept : Kept) : Type 0 where
   pub normal : kept.crash_walk_started ≡ true
-  pub none : kept.parts ≡ 0
+  pub none : kept.segments ≡ 0
   pub whole : sum_of kept.normal ≤ longest_walk n
   pub short : sum_of kept.crash + steps * MAX_DURATION ≤ longest_walk n
 
@@ -47,12 +47,12 @@ IsAtPlace n m (AfterHead shape) kept = IsShaped n m shape × IsInNormal n n kept
 IsAtPlace n m (NormalWalk shape steps) kept = IsShaped n m shape × IsInNormal n steps kept
 IsAtPlace n m (CrashWalk shape steps) kept = IsShaped n m shape × IsInCrash n steps kept
 IsAtPlace n m (InSegment shape events activities) kept = IsShaped n m shape × IsInPart n m events activities kept
-IsAtPlace n m (Between shape) kept = IsShaped n m shape × IsInPart n m 0 0 kept × (0 < kept.parts)
-IsAtPlace n m Ended kept = 0 < kept.parts
+IsAtPlace n m (Between shape) kept = IsShaped n m shape × IsInPart n m 0 0 kept × (0 < kept.segments)
+IsAtPlace n m Ended kept = 0 < kept.segments
 
 -- what a checker that has found no failure keeps to
 pub record IsBounded (net : PricedNetwork) (kept : Kept) : Type 0 where
   pub place : IsAtPlace net.network.events (length net.network.arcs) kept.place kept
   pub lines : kept.lines + lines_left net kept ≤ lines_of_all net.network.events (length net.network.arcs)
-  pub parts : kept.parts ≤ kept.lines
+  pub segments : kept.segments ≤ kept.lines
   pub moves : length kept.tally.moves.items ≡ length kept.tally.times.items

@@ -42,7 +42,7 @@ pub record IsKept (net : PricedNetwork) (draft : Draft) (kept : Kept) : Type 0 w
   pub normal : kept.normal ≡ (said net draft).normal
   pub crash : kept.crash ≡ (said net draft).crash
   pub crash_walk_started : kept.crash_walk_started ≡ draft.crash_walk_started
-  pub parts : kept.parts ≡ length draft.parts
+  pub segments : kept.segments ≡ length draft.segments
   pub tally : IsTallied net draft.part kept.tally
 
 -- lines of which none fails, in the order in which they may come, and what is kept of them
