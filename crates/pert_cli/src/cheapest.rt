@@ -8,8 +8,8 @@ ghost use Rattle.pert_cli.specs.Point.{IsCheapest, IsCheapestFor, IsOutside};
 ghost use Rattle.pert_cli.specs.inside.Point.{HasNoSchedule};
 
 use crate::printed::PrintedSchedule;
-use crate::solving::{SolverTask, solve};
-use pc_crash::Steps;
+use crate::solving::{SolverTask, priced_net, solve_priced};
+use pc_crash::{CrashNet, Steps};
 use pc_curve::point_at;
 use pc_faults::Fault;
 use pc_flow::Solver;
@@ -49,7 +49,26 @@ pub(crate) fn cheapest_schedule(
     ensures cheapest { IfOk result (IsCheapestFor (priced_in project.now) limit) }
     ensures none { IfErr result (HasNoSchedule (priced_in project.now) limit) }
 {
-    solve(alloc, project, &Cheapest { limit }, &mut ())?
+    let net = priced_net(alloc, project)?;
+    cheapest_priced(alloc, project, &net, limit)
+}
+
+/// Returns what `cheapest_schedule` does, for a caller that has the project's priced network.
+///
+/// # Errors
+///
+/// `Outside` if the length is outside the project's range.
+pub(crate) fn cheapest_priced(
+    alloc: Global,
+    project: &Project,
+    net: &CrashNet<'_>,
+    limit: u64,
+) -> Result<PrintedSchedule, NoSchedule>
+    requires { net.now ≡ priced_in project.now }
+    ensures cheapest { IfOk result (IsCheapestFor (priced_in project.now) limit) }
+    ensures none { IfErr result (HasNoSchedule (priced_in project.now) limit) }
+{
+    solve_priced(alloc, project, net, &Cheapest { limit }, &mut ())?
 }
 
 /// The task of finding a schedule of least cost.

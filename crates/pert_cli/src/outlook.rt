@@ -1,17 +1,19 @@
 //! `outlook L`: a schedule of least cost for the length L, and what each item costs by it.
-ghost use Rattle.std.specs.Prelude.{◌++◌};
-ghost use Rattle.pc_reports.specs.OutlookText.{outlook_text};
-ghost use Rattle.pc_reports.specs.inside.OutlookText.{IsOutlookFor};
+ghost use Rattle.std.specs.Prelude.{◌++◌, IfErr, IfOk};
+ghost use Rattle.pc_reports.specs.OutlookText.{IsOutlook, outlook_text};
+ghost use Rattle.pc_reports.specs.inside.OutlookText.{IsOutlookFor, TellsTop};
 ghost use Rattle.pc_shell.specs.Priced.{priced_in};
 ghost use Rattle.pert_cli.specs.inside.Handing.{Replies};
 ghost use Rattle.pert_cli.specs.Normal.{printed_text};
-ghost use Rattle.pert_cli.specs.Point.{IsCheapest};
+ghost use Rattle.pert_cli.specs.Point.{IsCheapest, IsCheapestFor};
+ghost use Rattle.pert_cli.specs.inside.Point.{HasNoSchedule};
 ghost use Rattle.pc_shell.specs.Sides.{side};
 ghost use Rattle.pert_cli.specs.declared.forms.Form.TheVariants.{Outlook};
 
 use crate::answer::{Answer, hand};
-use crate::cheapest::{NoSchedule, cheapest_schedule};
+use crate::cheapest::{NoSchedule, cheapest_priced};
 use crate::printed::PrintedSchedule;
+use crate::solving::priced_net;
 use pc_edges::{Failed, Sink};
 use pc_project::Project;
 use pc_reports::OutlookReport;
@@ -32,15 +34,11 @@ pub(crate) fn answer<O: Sink, E: Sink>(
     ensures { Replies (Outlook limit) project.now (side O.taken O.faults out.old out.new)
         (side E.taken E.faults err.old err.new) result }
 {
-    let schedule = match cheapest_schedule(alloc, project, limit) {
-        Ok(schedule) => schedule,
-        Err(NoSchedule::Outside(fault)) => return refuse(alloc, &fault, err),
-        Err(NoSchedule::OutOfMemory) => return Status::OutOfMemory,
-    };
-    let Ok(report) = OutlookReport::build(alloc, project, schedule.durations()) else {
-        return Status::OutOfMemory;
-    };
-    hand(OutlookAnswer { schedule, report }, project, out)
+    match outlook_for(alloc, project, limit) {
+        Ok(answer) => hand(answer, project, out),
+        Err(NoSchedule::Outside(fault)) => refuse(alloc, &fault, err),
+        Err(NoSchedule::OutOfMemory) => Status::OutOfMemory,
+    }
 }
 
 /// A cheapest schedule for a length, and what each item costs by it.
@@ -60,4 +58,21 @@ impl Answer for OutlookAnswer {
         let schedule = self.schedule.with_codes(project);
         self.report.write_after(&schedule, project, out)
     }
+}
+
+/// Returns a schedule of least cost for a length, with what each item costs by it. Both read the same priced network.
+///
+/// # Errors
+///
+/// `Outside` if the length is outside the project's range.
+fn outlook_for(alloc: Global, project: &Project, limit: u64) -> Result<OutlookAnswer, NoSchedule>
+    ensures cheapest { IfOk result (λ answer. IsCheapestFor (priced_in project.now) limit answer.schedule) }
+    ensures outlook { IfOk result (λ answer. IsOutlook project.now answer.schedule.durations answer.report) }
+    ensures top { IfOk result (λ answer. TellsTop project.now answer.schedule.durations answer.report) }
+    ensures none { IfErr result (HasNoSchedule (priced_in project.now) limit) }
+{
+    let net = priced_net(alloc, project)?;
+    let schedule = cheapest_priced(alloc, project, &net, limit)?;
+    let report = OutlookReport::build_priced(alloc, project, &net, schedule.durations())?;
+    Ok(OutlookAnswer { schedule, report })
 }

@@ -3,10 +3,11 @@ ghost use Rattle.std.specs.Prelude.{◌≡◌, ◌+◌, ◌*◌, ◌≤◌, leng
 ghost use Rattle.pc_cells.specs.inside.Spans.{free_of};
 ghost use Rattle.pc_crash.specs.inside.Steps.{IsBlankOf};
 ghost use Rattle.pc_project.specs.Project.{Project as TheProject};
+ghost use Rattle.pc_shell.specs.Priced.{priced_in};
 ghost use Rattle.pert_cli.specs.inside.Solving.{IsAtStart};
 
 use pc_cells::Region;
-use pc_crash::Steps;
+use pc_crash::{CrashNet, Steps};
 use pc_flow::{Solver, cells_needed};
 use pc_project::Project;
 use std::alloc::{AllocError, Global};
@@ -44,10 +45,33 @@ pub(crate) fn solve<T, J: SolverTask<T>>(
     ensures found { IfOk result (J.HasFound task.now project.now on.old on.new) }
     ensures none { OnErr result (on.new ≡ on.old) }
 {
-    let net = project.priced(alloc)?;
-    let mut solver = Solver::begin(solver_region(alloc, project)?, &net);
+    let net = priced_net(alloc, project)?;
+    solve_priced(alloc, project, &net, task, on)
+}
+
+/// Does a task as `solve` does, for a caller that has the project's priced network.
+pub(crate) fn solve_priced<T, J: SolverTask<T>>(
+    alloc: Global,
+    project: &Project,
+    net: &CrashNet<'_>,
+    task: &J,
+    on: &mut T,
+) -> Result<J::Found, AllocError>
+    requires { net.now ≡ priced_in project.now }
+    ensures found { IfOk result (J.HasFound task.now project.now on.old on.new) }
+    ensures none { OnErr result (on.new ≡ on.old) }
+{
+    let mut solver = Solver::begin(solver_region(alloc, project)?, net);
     let blank = Blank::new(1);
     Ok(run_counted::<T, J, Brand>(alloc, project, task, &mut solver, on, blank))
+}
+
+/// Returns the project's network with what its activities may last and cost. Linear in events, activities and pieces.
+pub(crate) fn priced_net(alloc: Global, project: &Project) -> Result<CrashNet<'_>, AllocError>
+    ensures { IfOk result (λ net. net ≡ priced_in project.now) }
+{
+    let net = project.priced(alloc)?;
+    Ok(net)
 }
 
 /// Does a task. The steps of the solver are counted in a ledger of their own.

@@ -1,6 +1,5 @@
-use Rattle.std.proofs.Common.{◌≡◌, ℕ, List, ◌++◌, refl, subst}
-use Rattle.pc_reports.specs.OutlookText.{IsOutlook, outlook_text}
-use Rattle.pc_reports.specs.inside.OutlookText.{TellsTop}
+use Rattle.std.proofs.Common.{◌≡◌, ℕ, List, ◌++◌, refl}
+use Rattle.pc_reports.specs.OutlookText.{outlook_text}
 use Rattle.pert_cli.specs.declared.forms.Form.TheVariants.{Outlook}
 use Rattle.pert_cli.specs.Handing.{IsReply}
 use Rattle.pert_cli.specs.inside.Handing.{answers}
@@ -10,17 +9,15 @@ use Rattle.pert_cli.proofs.HandingLaws.{Answers-weaker, Replies-denial}
 use Rattle.pert_cli.proofs.PointLaws.{outlook_reply}
 use Rattle.pert_cli.proofs.outlook.answer.Goals as goal
 
-pub returns : goal.returns
-returns g c =
+pub returns-in-Ok : goal.returns-in-Ok
+returns-in-Ok g c =
     let project = c.args.project.now in
-    let schedule = c.in-Ok.schedule in
-    let report = c.in-Ok-build.report in
-    let at = subst (λ (durations : List ℕ). IsOutlook project durations report) c.durations.ensures c.in-Ok-build.ensures.outlook in
-    let top = subst (λ (durations : List ℕ). TellsTop project durations report) c.durations.ensures c.in-Ok-build.ensures.top in
+    let answer = c.in-Ok.answer in
+    let has = c.in-Ok.ensures in
     answers
-    (Answers-weaker (λ (text : List ℕ). text ≡ printed_text project schedule ++ outlook_text project report)
+    (Answers-weaker (λ (text : List ℕ). text ≡ printed_text project answer.schedule ++ outlook_text project answer.report)
     (IsReply (Outlook c.args.limit) project) (side g.O.Sink.taken g.O.Sink.faults c.args.out.now c.hand.new.out) c.hand.result
-    (λ text same. outlook_reply project c.args.limit schedule report text c.in-Ok.ensures.cheapest at top same) c.hand.ensures)
+    (λ text same. outlook_reply project c.args.limit answer.schedule answer.report text has.cheapest has.outlook has.top same) c.hand.ensures)
     refl
 
 pub returns-in-Err-Outside : goal.returns-in-Err-Outside

@@ -1,20 +1,16 @@
-use Rattle.std.proofs.Common.{◌∙◌, subst, sym}
+use Rattle.std.proofs.Common.{ap, ◌∙◌, subst, sym}
 use Rattle.pc_crash.specs.Priced.{PricedNetwork}
 use Rattle.pc_curve.specs.Range.{IsRange}
-use Rattle.pc_shell.proofs.PricedLaws.{priced_is}
-use Rattle.pert_cli.proofs.solving.solve.Goals as goal
+use Rattle.pert_cli.proofs.solving.solve_priced.Goals as goal
 
 pub begin-solver-requires : goal.begin-solver-requires
-begin-solver-requires g c =
-    let has = c.in_ok-net.ensures in
-    rw (has.network, has.pieces) c.in_ok-solver_region.ensures
+begin-solver-requires g c = rw c.requires c.in_ok-solver_region.ensures
 
 pub run_counted-requires-clause-start : goal.run_counted-requires-clause-start
 run_counted-requires-clause-start g c =
-    let has = c.in_ok-net.ensures in
     let begun = c.begin-solver.ensures in
     record {
-      net = begun.net ∙ priced_is c.in_ok-net.net c.args.project.now has.network has.terms has.pieces has.project has.events has.activities;
+      net = begun.net ∙ c.requires;
       before = begun.given;
       range = subst (λ (net : PricedNetwork). IsRange net c.begin-solver.result.shortest c.begin-solver.result.longest) (sym begun.net)
           (record { all_crash = begun.shortest; all_normal = begun.longest });
