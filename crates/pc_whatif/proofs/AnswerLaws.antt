@@ -23,7 +23,7 @@ use Rattle.pc_whatif.specs.edits.Refusal.{edit_refusal, undo_refusal, trial_refu
 use Rattle.pc_edges.specs.inside.lines.Talk.{Answered}
 use Rattle.pc_edges.specs.inside.lines.Reading.{kept}
 use Rattle.pc_curve.specs.Range.{IsLengthInRange}
-use Rattle.pc_whatif.specs.inside.trials.Reserved.{Reserved}
+use Rattle.pc_whatif.specs.inside.trials.SessionRegion.{SessionRegion}
 use Rattle.pc_whatif.specs.Planning.{IsLineAnswer, IsTrialText, outside, costs, AreAnswers, editing_after, net_tried}
 use Rattle.pc_whatif.specs.inside.Planning.{Planning, IsAnswered, IsRenewed, Says}
 use Rattle.pc_whatif.specs.Texts.{ok_text, refused_text, cost_text, outcome_text}
@@ -32,42 +32,42 @@ use Rattle.pc_whatif.proofs.LineLaws.{ask_of-kept}
 -- ---- one line
 
 -- the standing times of a session, whatever it is called
-pub standing_as : (p old : Planning) → p ≡ old → IsRenewed p.project p.editing p.reserved → IsRenewed old.project old.editing old.reserved
-standing_as p old same standing = subst (λ (q : Planning). IsRenewed q.project q.editing q.reserved) same standing
+pub standing_as : (p old : Planning) → p ≡ old → IsRenewed p.project p.editing p.region → IsRenewed old.project old.editing old.region
+standing_as p old same standing = subst (λ (q : Planning). IsRenewed q.project q.editing q.region) same standing
 
 -- a session of these parts
-abbrev planning_of : Project → Editing → Reserved → Planning
-planning_of project editing reserved = record { project = project; editing = editing; reserved = reserved }
+abbrev planning_of : Project → Editing → SessionRegion → Planning
+planning_of project editing region = record { project = project; editing = editing; region = region }
 
 -- the session stays as it is
-pub stays : (old : Planning) (asked : Option Ask) (text : List ℕ) → IsRenewed old.project old.editing old.reserved → IsLineAnswer old.project old.editing asked text
+pub stays : (old : Planning) (asked : Option Ask) (text : List ℕ) → IsRenewed old.project old.editing old.region → IsLineAnswer old.project old.editing asked text
     → old.editing ≡ editing_after old.editing asked → IsAnswered old asked text old
 stays old asked text standing is same = record { answer = is; project = refl; editing = same; standing = standing; lists = λ other. refl; cells = refl }
 
 -- the same, where the session is the one that it was
-pub stays_as : (old new : Planning) (asked : Option Ask) (text : List ℕ) → new ≡ old → IsRenewed new.project new.editing new.reserved → IsLineAnswer new.project new.editing asked text
+pub stays_as : (old new : Planning) (asked : Option Ask) (text : List ℕ) → new ≡ old → IsRenewed new.project new.editing new.region → IsLineAnswer new.project new.editing asked text
     → new.editing ≡ editing_after new.editing asked
     → IsAnswered old asked text new
 stays_as old new asked text same standing is kept = subst (λ (p : Planning). IsAnswered p asked text new) same (stays new asked text standing is kept)
 
 -- a trial that is answered, and after which the session is the one that it was
-pub tried_out : (old : Planning) (project : Project) (editing editing_left : Editing) (reserved reserved_left : Reserved) (trial : Trial) (text : List ℕ)
-    → editing_left ≡ editing → reserved_left ≡ reserved → IsRenewed project editing reserved → planning_of project editing reserved ≡ old → IsTrialText editing trial text
-    → IsAnswered old (Some (ask.Try trial)) text (planning_of project editing_left reserved_left)
-tried_out old project editing editing_left reserved reserved_left trial text edits kept standing same answers =
-    stays_as old (planning_of project editing_left reserved_left) (Some (ask.Try trial)) text
-    (ap (λ (e : Editing). planning_of project e reserved_left) edits ∙ ap (planning_of project editing) kept ∙ same)
-    (subst (λ (e : Editing). IsRenewed project e reserved_left) (sym edits) (subst (IsRenewed project editing) (sym kept) standing))
+pub tried_out : (old : Planning) (project : Project) (editing editing_left : Editing) (region region_left : SessionRegion) (trial : Trial) (text : List ℕ)
+    → editing_left ≡ editing → region_left ≡ region → IsRenewed project editing region → planning_of project editing region ≡ old → IsTrialText editing trial text
+    → IsAnswered old (Some (ask.Try trial)) text (planning_of project editing_left region_left)
+tried_out old project editing editing_left region region_left trial text edits kept standing same answers =
+    stays_as old (planning_of project editing_left region_left) (Some (ask.Try trial)) text
+    (ap (λ (e : Editing). planning_of project e region_left) edits ∙ ap (planning_of project editing) kept ∙ same)
+    (subst (λ (e : Editing). IsRenewed project e region_left) (sym edits) (subst (IsRenewed project editing) (sym kept) standing))
     (subst (λ (e : Editing). IsTrialText e trial text) (sym edits) answers) refl
 
-pub edit_refused : (old : Planning) (edit : Edit) (reason : Reason) → IsRenewed old.project old.editing old.reserved → edit_refusal old.editing.net old.editing.estimates edit ≡ Some reason
+pub edit_refused : (old : Planning) (edit : Edit) (reason : Reason) → IsRenewed old.project old.editing old.region → edit_refusal old.editing.net old.editing.estimates edit ≡ Some reason
     → IsAnswered old (Some (ask.Edit edit)) (refused_text reason) old
 edit_refused old edit reason standing why =
     stays old (Some (ask.Edit edit)) (refused_text reason) standing (sym (ap outcome_text why))
     (sym (ap (λ (r : Option Reason). option_map_or (λ (reason : Reason). old.editing) r (edited old.editing edit)) why))
 
 pub edit_accepted : (old new : Planning) (edit : Edit) → edit_refusal old.editing.net old.editing.estimates edit ≡ None → new.project ≡ old.project
-    → new.editing ≡ edited old.editing edit → IsRenewed new.project new.editing new.reserved → new.reserved.free ≡ old.reserved.free → IsAnswered old (Some (ask.Edit edit)) ok_text new
+    → new.editing ≡ edited old.editing edit → IsRenewed new.project new.editing new.region → new.region.free ≡ old.region.free → IsAnswered old (Some (ask.Edit edit)) ok_text new
 edit_accepted old new edit none project editing standing cells = record {
   answer = sym (ap outcome_text none);
   project = project;
@@ -89,12 +89,12 @@ pub undone_same : (editing : Editing) (reason : Reason) → undo_refusal editing
 undone_same editing reason why =
     nothing_undone editing (nil_from_length editing.kept (eqb-true (length editing.kept) 0 (none_kept (length editing.kept == 0) reason why)))
 
-pub undo_refused : (old : Planning) (reason : Reason) → IsRenewed old.project old.editing old.reserved → undo_refusal old.editing ≡ Some reason
+pub undo_refused : (old : Planning) (reason : Reason) → IsRenewed old.project old.editing old.region → undo_refusal old.editing ≡ Some reason
     → IsAnswered old (Some ask.Undo) (refused_text reason) old
 undo_refused old reason standing why = stays old (Some ask.Undo) (refused_text reason) standing (sym (ap outcome_text why)) (sym (undone_same old.editing reason why))
 
 pub undo_accepted : (old new : Planning) → undo_refusal old.editing ≡ None → new.project ≡ old.project → new.editing ≡ undone old.editing
-    → IsRenewed new.project new.editing new.reserved → new.reserved.free ≡ old.reserved.free → IsAnswered old (Some ask.Undo) ok_text new
+    → IsRenewed new.project new.editing new.region → new.region.free ≡ old.region.free → IsAnswered old (Some ask.Undo) ok_text new
 undo_accepted old new none project editing standing cells = record {
   answer = sym (ap outcome_text none);
   project = project;

@@ -10,7 +10,7 @@ use Rattle.pc_project.specs.Project.{Project, expected_of, variance_in}
 use Rattle.pc_whatif.specs.edits.Editing.{Editing, begun}
 use Rattle.pc_whatif.specs.inside.edits.Editing.{ChangesOnly}
 use Rattle.pc_whatif.specs.edits.Plans.{estimates_at, estimates_in, expected_times, variances}
-use Rattle.pc_whatif.specs.inside.trials.Reserved.{Reserved, IsFor, IsStandingOf, IsChangedTo, expected_by, variance_by}
+use Rattle.pc_whatif.specs.inside.trials.SessionRegion.{SessionRegion, IsFor, IsStandingOf, IsChangedTo, expected_by, variance_by}
 use Rattle.pc_whatif.specs.inside.trials.Trials.{HasRoom, trial_cells}
 use Rattle.pc_whatif.specs.Planning.{project_as}
 use Rattle.pc_whatif.specs.inside.Planning.{IsChangedAt, IsEditionOf, IsRenewed}
@@ -31,8 +31,8 @@ variances_fused deck (act ∷ acts) = ap (λ (rest : List ℕ). variance_in deck
 pub begun_edition : (project : Project) → IsEditionOf project (begun project)
 begun_edition project = record { network = refl; pieces = refl; unit_days = refl }
 
-module _ (project : Project) (planned : IsPlanned project) (reserved : Reserved) where
-  pub begun_renewed : IsFor project.network reserved → IsStandingOf project reserved → IsRenewed project (begun project) reserved
+module _ (project : Project) (planned : IsPlanned project) (region : SessionRegion) where
+  pub begun_renewed : IsFor project.network region → IsStandingOf project region → IsRenewed project (begun project) region
   begun_renewed fits standing =
       let lists = planned.own.is.lists in
       let unit = ap (λ (p : Project). p.heading.unit_days) lists in
@@ -55,8 +55,8 @@ module _ (project : Project) (old new : Editing) (a : ℕ) (change : ChangesOnly
     unit_days = change.unit_days ∙ is.unit_days;
   }
 
-  pub changed_at : (reserved : Reserved) → IsEditionOf project old → IsRenewed project old reserved → IsChangedAt project new a reserved
-  changed_at reserved is renewed =
+  pub changed_at : (region : SessionRegion) → IsEditionOf project old → IsRenewed project old region → IsChangedAt project new a region
+  changed_at region is renewed =
       let e = estimates_at new.estimates a in
       record {
         fits = renewed.fits;
@@ -66,20 +66,20 @@ module _ (project : Project) (old new : Editing) (a : ℕ) (change : ChangesOnly
             ∙ ap (expected_times old.unit_days) change.estimates
             ∙ map-set (expected_by old.unit_days) old.estimates a e
             ∙ ap (λ l. slice_set l a (expected_by old.unit_days e)) (sym renewed.expected)
-            ∙ ap (λ u. slice_set reserved.expected a (expected_by u e)) (sym change.unit_days);
+            ∙ ap (λ u. slice_set region.expected a (expected_by u e)) (sym change.unit_days);
         variances_are =
             ap (λ u. variances u new.estimates) change.unit_days
             ∙ ap (variances old.unit_days) change.estimates
             ∙ map-set (variance_by old.unit_days) old.estimates a e
             ∙ ap (λ l. slice_set l a (variance_by old.unit_days e)) (sym renewed.variances_are)
-            ∙ ap (λ u. slice_set reserved.variances a (variance_by u e)) (sym change.unit_days);
+            ∙ ap (λ u. slice_set region.variances a (variance_by u e)) (sym change.unit_days);
       }
 
 -- ---- what is asked
 
 -- the project as it is edited is the one whose times stand
-pub changed_to : (project : Project) (editing : Editing) (reserved : Reserved) → IsRenewed project editing reserved → IsChangedTo project reserved (project_as project editing)
-changed_to project editing reserved renewed = record {
+pub changed_to : (project : Project) (editing : Editing) (region : SessionRegion) → IsRenewed project editing region → IsChangedTo project region (project_as project editing)
+changed_to project editing region renewed = record {
   heading = refl;
   network = refl;
   events = refl;
@@ -89,7 +89,7 @@ changed_to project editing reserved renewed = record {
 }
 
 -- there is room for a trial of a network with the network and the pieces of the project
-pub has_room : (project : Project) (net : PricedNetwork) (reserved : Reserved) → net.network ≡ project.network → net.pieces ≡ project.pieces
-    → trial_cells project.network.events (length project.network.arcs) (length project.pieces) ≤ reserved.free → HasRoom net reserved
-has_room project net reserved network pieces room =
+pub has_room : (project : Project) (net : PricedNetwork) (region : SessionRegion) → net.network ≡ project.network → net.pieces ≡ project.pieces
+    → trial_cells project.network.events (length project.network.arcs) (length project.pieces) ≤ region.free → HasRoom net region
+has_room project net region network pieces room =
     omega (arith, room, ap (λ n. n.events) network, ap (λ n. length n.arcs) network, ap length pieces)

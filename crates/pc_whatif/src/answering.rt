@@ -61,7 +61,7 @@ impl Session<'_> {
         let _ = &self.page;
         match self.edits.apply(edit) {
             Ok(a) => {
-                renew(&mut self.reservation, &self.edits, a, self.project);
+                renew(&mut self.region, &self.edits, a, self.project);
                 accept(out)
             }
             Err(reason) => refuse(reason, out),
@@ -77,7 +77,7 @@ impl Session<'_> {
         let _ = &self.page;
         match self.edits.undo() {
             Ok(a) => {
-                renew(&mut self.reservation, &self.edits, a, self.project);
+                renew(&mut self.region, &self.edits, a, self.project);
                 accept(out)
             }
             Err(reason) => refuse(reason, out),
@@ -89,8 +89,7 @@ impl Session<'_> {
         ensures { (text : List ℕ) × IsAnswered self.old (Some asks.Times) text self.new
             × Writes result (O.taken out.old) (O.taken out.new) (O.faults out.old) (O.faults out.new) text }
     {
-        self.reservation
-            .write_times(&mut self.page, out, self.project)
+        self.region.write_times(&mut self.page, out, self.project)
     }
 
     /// Writes the breakpoints of the curve.
@@ -99,7 +98,7 @@ impl Session<'_> {
             × Writes result (O.taken out.old) (O.taken out.new) (O.faults out.old) (O.faults out.new) text }
         ensures counted { LooksOver self.old.editing.net steps.old steps.new }
     {
-        self.reservation
+        self.region
             .write_curve(&mut self.page, out, self.edits.net(), steps)
     }
 
@@ -120,7 +119,7 @@ impl Session<'_> {
         };
         self.edits.begin_trial(&tried);
         let cost = self
-            .reservation
+            .region
             .least_cost(self.edits.net(), trial.length, steps);
         self.edits.end_trial();
         let Some(cost) = cost else {

@@ -5,7 +5,7 @@ ghost use Rattle.pc_whatif.specs.inside.trials.Trials.{trial_cells};
 ghost use Rattle.pc_whatif.specs.inside.Planning.{IsRenewed};
 
 use crate::edits::Edits;
-use crate::trials::Reservation;
+use crate::trials::SessionRegion;
 use pc_edges::page::{PAGE_ROOM, Page};
 use pc_project::Project;
 use std::alloc::{AllocError, Global};
@@ -17,7 +17,7 @@ use std::marker::Model;
 pub struct Session<'p> {
     pub(crate) project: &'p Project,
     pub(crate) edits: Edits<'p>,
-    pub(crate) reservation: Reservation,
+    pub(crate) region: SessionRegion,
     pub(crate) page: Page,
 }
 
@@ -27,7 +27,7 @@ impl<'p> Drop for Session<'p> {
         let Session {
             project: _project,
             edits: _edits,
-            reservation: _reservation,
+            region: _region,
             page: _page,
         } = self;
     }
@@ -56,8 +56,8 @@ impl<'p> Session<'p> {
     pub fn begin(alloc: Global, project: &'p Project) -> Result<Session<'p>, AllocError>
         ensures project { IfOk result (λ session. session.project ≡ project.now) }
         ensures editing { IfOk result (λ session. session.editing ≡ begun project.now) }
-        ensures standing { IfOk result (λ session. IsRenewed session.project session.editing session.reserved) }
-        ensures cells { IfOk result (λ session. session.reserved.free ≡
+        ensures standing { IfOk result (λ session. IsRenewed session.project session.editing session.region) }
+        ensures cells { IfOk result (λ session. session.region.free ≡
             trial_cells project.now.network.events (length project.now.network.arcs) (length project.now.pieces)) }
     {
         // For what a project keeps to: its numbers are those of a sound plan.
@@ -65,15 +65,15 @@ impl<'p> Session<'p> {
         Ok(Session {
             project,
             page: Page::with_capacity(alloc, PAGE_ROOM)?,
-            reservation: Reservation::build(alloc, project)?,
+            region: SessionRegion::build(alloc, project)?,
             edits: Edits::build(alloc, project)?,
         })
     }
 
     /// Returns the number of free cells of the session's region. No line changes it.
     pub fn cells(&self) -> usize
-        ensures { result ≡ self.now.reserved.free }
+        ensures { result ≡ self.now.region.free }
     {
-        self.reservation.cells()
+        self.region.cells()
     }
 }

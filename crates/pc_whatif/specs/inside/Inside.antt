@@ -6,12 +6,12 @@ use Rattle.pc_whatif.specs.declared.session.Session.TheInside.{Inside}
 use Rattle.pc_whatif.specs.inside.Planning.{Planning, IsEditionOf, IsRenewed}
 
 abbrev pub planning_of : Inside → Planning
-planning_of a = record { project = a.project.now; editing = a.edits.editing; reserved = a.reservation }
+planning_of a = record { project = a.project.now; editing = a.edits.editing; region = a.region }
 
 -- nothing is on trial, the times are those of the project as it is edited, a trial has its cells, and no text was begun
 pub record IsWholeInside (a : Inside) : Type 0 where
   pub at_rest : a.edits.trial ≡ None
   pub edition : IsEditionOf a.project.now a.edits.editing
-  pub renewed : IsRenewed a.project.now a.edits.editing a.reservation
-  pub room : trial_cells a.project.now.network.events (length a.project.now.network.arcs) (length a.project.now.pieces) ≤ a.reservation.free
+  pub renewed : IsRenewed a.project.now a.edits.editing a.region
+  pub room : trial_cells a.project.now.network.events (length a.project.now.network.arcs) (length a.project.now.pieces) ≤ a.region.free
   pub page : a.page ≡ fresh

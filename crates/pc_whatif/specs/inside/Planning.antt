@@ -11,7 +11,7 @@ use Rattle.pc_whatif.specs.edits.Editing.{Editing, activity_named}
 use Rattle.pc_whatif.specs.edits.Plans.{estimates_at, expected_times, variances}
 use Rattle.pc_whatif.specs.edits.Reading.{ask_of}
 use Rattle.pc_whatif.specs.edits.Refusal.{trial_refusal}
-use Rattle.pc_whatif.specs.inside.trials.Reserved.{Reserved, IsFor, IsStanding, expected_by, variance_by}
+use Rattle.pc_whatif.specs.inside.trials.SessionRegion.{SessionRegion, IsFor, IsStanding, expected_by, variance_by}
 use Rattle.pc_curve.specs.Range.{IsRange}
 use Rattle.pc_whatif.specs.inside.trials.Trials.{looks_over}
 use Rattle.pc_whatif.specs.Texts.{ok_text}
@@ -21,17 +21,17 @@ use Rattle.pc_whatif.specs.Planning.{net_tried, IsLineAnswer, editing_after}
 pub record Planning : Type 0 where
   pub project : Project
   pub editing : Editing
-  pub reserved : Reserved
+  pub region : SessionRegion
 
 -- ---- what a line leaves
 
 -- the standing times are those of the project as it is edited, from scratch: its expected times and variances, the greatest sums of these to
 -- each event and from it to the end, and the critical path
-pub record IsRenewed (project : Project) (editing : Editing) (reserved : Reserved) : Type 0 where
-  pub fits : IsFor project.network reserved
-  pub standing : IsStanding project.network reserved
-  pub expected : reserved.expected ≡ expected_times editing.unit_days editing.estimates
-  pub variances_are : reserved.variances ≡ variances editing.unit_days editing.estimates
+pub record IsRenewed (project : Project) (editing : Editing) (region : SessionRegion) : Type 0 where
+  pub fits : IsFor project.network region
+  pub standing : IsStanding project.network region
+  pub expected : region.expected ≡ expected_times editing.unit_days editing.estimates
+  pub variances_are : region.variances ≡ variances editing.unit_days editing.estimates
 
 -- the line was answered with the text, and the session is as after it: its standing times are those of the project as it is now, of its
 -- spans only an accepted edit or UNDO changes the lists, and no line changes how many cells are free
@@ -39,9 +39,9 @@ pub record IsAnswered (old : Planning) (asked : Option Ask) (text : List ℕ) (n
   pub answer : IsLineAnswer old.project old.editing asked text
   pub project : new.project ≡ old.project
   pub editing : new.editing ≡ editing_after old.editing asked
-  pub standing : IsRenewed new.project new.editing new.reserved
+  pub standing : IsRenewed new.project new.editing new.region
   pub lists : (text ≡ ok_text → ⊥) → new ≡ old
-  pub cells : new.reserved.free ≡ old.reserved.free
+  pub cells : new.region.free ≡ old.region.free
 
 abbrev pub Says : Planning → List ℕ → List ℕ → Planning → Type 0
 Says old line text new = IsAnswered old (ask_of line) text new
@@ -76,8 +76,8 @@ pub record IsEditionOf (project : Project) (editing : Editing) : Type 0 where
   pub unit_days : editing.unit_days ≡ project.heading.unit_days
 
 -- the expected times and the variances that stand are those of the project as it is edited, but for those of activity a
-pub record IsChangedAt (project : Project) (editing : Editing) (a : ℕ) (reserved : Reserved) : Type 0 where
-  pub fits : IsFor project.network reserved
+pub record IsChangedAt (project : Project) (editing : Editing) (a : ℕ) (region : SessionRegion) : Type 0 where
+  pub fits : IsFor project.network region
   pub activity : a < length project.network.arcs
-  pub expected : expected_times editing.unit_days editing.estimates ≡ slice_set reserved.expected a (expected_by editing.unit_days (estimates_at editing.estimates a))
-  pub variances_are : variances editing.unit_days editing.estimates ≡ slice_set reserved.variances a (variance_by editing.unit_days (estimates_at editing.estimates a))
+  pub expected : expected_times editing.unit_days editing.estimates ≡ slice_set region.expected a (expected_by editing.unit_days (estimates_at editing.estimates a))
+  pub variances_are : variances editing.unit_days editing.estimates ≡ slice_set region.variances a (variance_by editing.unit_days (estimates_at editing.estimates a))

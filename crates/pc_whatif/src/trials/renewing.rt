@@ -33,7 +33,7 @@ pub(in crate::trials) fn renew_times(
     let expected = region.list(spans.expected);
     let early = region.list(spans.early);
     let tails = region.list(spans.tails);
-    let steps = critical_path_into(net, expected, early, tails, room);
+    let path_len = critical_path_into(net, expected, early, tails, room);
     region.write(spans.places, room);
-    steps
+    path_len
 }

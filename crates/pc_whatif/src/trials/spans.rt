@@ -1,4 +1,4 @@
-//! The spans of a reservation.
+//! The spans of a session's region.
 ghost use Rattle.std.specs.Prelude.{◌≡◌, ◌+◌, ◌*◌, ◌<◌, ◌≤◌, []};
 ghost use Rattle.pc_whatif.specs.inside.trials.Laid.{AreSpansTaken};
 

@@ -4,7 +4,8 @@ use pc_reports::TimesView;
 use pc_times::so_long_before;
 use std::marker::Model;
 
-/// The lists of a reservation, and when the end event must be reached, in sixths of a day. Contracts see what it shows.
+/// The lists of a session's region, and when the end event must be reached, in sixths of a day. Contracts see what it
+/// shows.
 #[derive(Drop)]
 pub(in crate::trials) struct StandingTimes<'a> {
     pub(in crate::trials) expected: &'a [u64],

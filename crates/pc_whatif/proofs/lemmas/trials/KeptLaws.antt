@@ -1,4 +1,4 @@
--- What a reservation keeps, when numbers in its spans change.
+-- What a session's region keeps when numbers in its spans change.
 use Rattle.std.proofs.Common.{◌≡◌, ℕ, ◌-◌, ◌*◌, ◌^◌, ◌<◌, ◌≤◌, List, length, set, sym, ◌∙◌, ap, subst, arith}
 use Rattle.std.specs.Prelude.{Option, Some, unwrap_or}
 use Rattle.std.proofs.Math.Nat.{mul-le-mul, pow-le-pow_left}
@@ -8,14 +8,14 @@ use Rattle.pc_cells.specs.inside.Spans.{free_of, with_span}
 use Rattle.pc_model.specs.Network.{Network}
 use Rattle.pc_model.specs.declared.limits.TheConstants.{MAX_DURATION, MAX_UNIT_DAYS, MAX_VARIANCE}
 use Rattle.pc_times.specs.declared.TheConstants.{MAX_LENGTH}
-use Rattle.pc_whatif.specs.declared.trials.reservation.Reservation.TheInside.{Inside}
+use Rattle.pc_whatif.specs.declared.trials.region.SessionRegion.TheInside.{Inside}
 use Rattle.pc_whatif.specs.declared.trials.spans.Spans.{Spans}
-use Rattle.pc_whatif.specs.inside.trials.Reserved.{Reserved}
+use Rattle.pc_whatif.specs.inside.trials.SessionRegion.{SessionRegion}
 use Rattle.pc_whatif.specs.inside.trials.Laid.{AreAtMost, AreRenewed, IsLaidIn, IsWhole, kept_in, list_of, region_of, no_region}
 use Rattle.pc_whatif.proofs.lemmas.trials.LaidLaws.{IsPut, put, small-set}
 
 -- two numbers are set
-abbrev pub with_numbers : Reserved → ℕ → ℕ → ℕ → Reserved
+abbrev pub with_numbers : SessionRegion → ℕ → ℕ → ℕ → SessionRegion
 with_numbers r a x v = record r { expected = set r.expected a x; variances = set r.variances a v }
 
 -- the region that was taken out of the fields is theirs
@@ -23,13 +23,13 @@ pub region-taken : (r : Inside) (taken : Option Cells) (region : Cells) → take
 region-taken r taken region same is = ap (λ o. unwrap_or o no_region) (sym same ∙ is)
 
 -- the times are renewed
-pub renewed-whole : (net : Network) (spans : Spans) (old new : Cells) (before steps : ℕ) → IsWhole (kept_in old before) → AreRenewed net spans old new steps
-    → IsWhole (kept_in new steps)
-renewed-whole net spans old new before steps whole renewed = record {
+pub renewed-whole : (net : Network) (spans : Spans) (old new : Cells) (before path_len : ℕ) → IsWhole (kept_in old before) → AreRenewed net spans old new path_len
+    → IsWhole (kept_in new path_len)
+renewed-whole net spans old new before path_len whole renewed = record {
   variances = ap length renewed.variances ∙ whole.variances ∙ sym (ap length renewed.expected);
   tails = renewed.tails.one_each ∙ sym renewed.early.one_each;
   places = renewed.places ∙ sym renewed.early.one_each;
-  steps = omega (arith, renewed.short, renewed.places);
+  path_len = omega (arith, renewed.short, renewed.places);
   small_expected = subst (AreAtMost MAX_LENGTH) (sym renewed.expected) whole.small_expected;
   small_variances = subst (AreAtMost MAX_VARIANCE) (sym renewed.variances) whole.small_variances;
   small_early = renewed.small_early;
@@ -79,36 +79,36 @@ module _ (spans : Spans) (r0 r1 r2 : Cells) (a x v : ℕ) (are : AreSet spans r0
   places : list_of r2 4 ≡ list_of r0 4
   places = second.off 4 (λ e. omega (arith, e)) ∙ begun.off 4 (λ e. omega (arith, e))
 
-  abbrev made : List ℕ → List ℕ → List ℕ → List ℕ → List ℕ → ℕ → ℕ → Reserved
-  made e f t u p n free = record { expected = e; variances = f; early = t; tails = u; places = p; steps = n; free = free }
+  abbrev made : List ℕ → List ℕ → List ℕ → List ℕ → List ℕ → ℕ → ℕ → SessionRegion
+  made e f t u p n free = record { expected = e; variances = f; early = t; tails = u; places = p; path_len = n; free = free }
 
   -- nothing else changes
-  pub kept-both : (steps : ℕ) → kept_in r2 steps ≡ with_numbers (kept_in r0 steps) a x v
-  kept-both steps =
-      ap (λ e. made e (list_of r2 1) (list_of r2 2) (list_of r2 3) (list_of r2 4) steps (free_of r2)) expected
-      ∙ ap (λ f. made (set (list_of r0 0) a x) f (list_of r2 2) (list_of r2 3) (list_of r2 4) steps (free_of r2)) variances
-      ∙ ap (λ t. made (set (list_of r0 0) a x) (set (list_of r0 1) a v) t (list_of r2 3) (list_of r2 4) steps (free_of r2)) early
-      ∙ ap (λ u. made (set (list_of r0 0) a x) (set (list_of r0 1) a v) (list_of r0 2) u (list_of r2 4) steps (free_of r2)) tails
-      ∙ ap (λ p. made (set (list_of r0 0) a x) (set (list_of r0 1) a v) (list_of r0 2) (list_of r0 3) p steps (free_of r2)) places
-      ∙ ap (λ free. made (set (list_of r0 0) a x) (set (list_of r0 1) a v) (list_of r0 2) (list_of r0 3) (list_of r0 4) steps free) (second.free ∙ begun.free)
+  pub kept-both : (path_len : ℕ) → kept_in r2 path_len ≡ with_numbers (kept_in r0 path_len) a x v
+  kept-both path_len =
+      ap (λ e. made e (list_of r2 1) (list_of r2 2) (list_of r2 3) (list_of r2 4) path_len (free_of r2)) expected
+      ∙ ap (λ f. made (set (list_of r0 0) a x) f (list_of r2 2) (list_of r2 3) (list_of r2 4) path_len (free_of r2)) variances
+      ∙ ap (λ t. made (set (list_of r0 0) a x) (set (list_of r0 1) a v) t (list_of r2 3) (list_of r2 4) path_len (free_of r2)) early
+      ∙ ap (λ u. made (set (list_of r0 0) a x) (set (list_of r0 1) a v) (list_of r0 2) u (list_of r2 4) path_len (free_of r2)) tails
+      ∙ ap (λ p. made (set (list_of r0 0) a x) (set (list_of r0 1) a v) (list_of r0 2) (list_of r0 3) p path_len (free_of r2)) places
+      ∙ ap (λ free. made (set (list_of r0 0) a x) (set (list_of r0 1) a v) (list_of r0 2) (list_of r0 3) (list_of r0 4) path_len free) (second.free ∙ begun.free)
 
   pub early-both : length (list_of r2 2) ≡ length (list_of r0 2)
   early-both = ap length early
 
   -- it is whole, where neither number is too great
-  pub whole-both : (steps : ℕ) → IsWhole (kept_in r0 steps) → a < length (list_of r0 0) → x ≤ MAX_LENGTH → v ≤ MAX_VARIANCE → IsWhole (kept_in r2 steps)
-  whole-both steps whole known small gentle =
-      let same : IsWhole (with_numbers (kept_in r0 steps) a x v) = record {
+  pub whole-both : (path_len : ℕ) → IsWhole (kept_in r0 path_len) → a < length (list_of r0 0) → x ≤ MAX_LENGTH → v ≤ MAX_VARIANCE → IsWhole (kept_in r2 path_len)
+  whole-both path_len whole known small gentle =
+      let same : IsWhole (with_numbers (kept_in r0 path_len) a x v) = record {
         variances = length-set (list_of r0 1) a v ∙ whole.variances ∙ sym (length-set (list_of r0 0) a x);
         tails = whole.tails;
         places = whole.places;
-        steps = whole.steps;
+        path_len = whole.path_len;
         small_expected = small-set MAX_LENGTH (list_of r0 0) a x known small whole.small_expected;
         small_variances = small-set MAX_VARIANCE (list_of r0 1) a v (omega (arith, known, whole.variances)) gentle whole.small_variances;
         small_early = whole.small_early;
         small_tails = whole.small_tails;
       } in
-      subst IsWhole (sym (kept-both steps)) same
+      subst IsWhole (sym (kept-both path_len)) same
 
 -- a variance is no greater than that of the widest estimates in the longest unit
 pub variance-small : (opt pess unit : ℕ) → pess ≤ MAX_DURATION → unit ≤ MAX_UNIT_DAYS → (pess - opt) ^ 2 * unit ^ 2 ≤ MAX_VARIANCE

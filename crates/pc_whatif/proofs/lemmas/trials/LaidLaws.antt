@@ -1,4 +1,4 @@
--- What stands in the spans of a reservation, and what one write changes.
+-- What is in the spans of a session's region, and what one write changes.
 use Rattle.std.proofs.Common.{◌≡◌, ◌≢◌, ℕ, zero, suc, ◌+◌, ◌-◌, ◌<◌, ◌≤◌, List, [], ◌∷◌, length, set, refl, sym, ◌∙◌, ap, subst, inl, inr, arith}
 use Rattle.std.specs.Prelude.{sum_by, slice_index}
 use Rattle.std.proofs.lemmas.List.{length-set, get_or-set_same, get_or-set_other}

@@ -1,4 +1,4 @@
--- A reservation at its opening: spans of zeros, and the first two of them written.
+-- A session's region at its opening: spans of zeros, and the first two of them written.
 use Rattle.std.proofs.Common.{◌≡◌, ℕ, ◌+◌, ◌-◌, ◌*◌, List, [], ◌∷◌, length, replicate, refl, sym, ◌∙◌, ap, subst, arith}
 use Rattle.std.specs.Prelude.{sum_by}
 use Rattle.std.proofs.lemmas.List.{get_or-replicate, length-replicate}
@@ -8,7 +8,7 @@ use Rattle.pc_cells.specs.inside.Spans.{free_of, with_span}
 use Rattle.pc_model.specs.declared.limits.TheConstants.{MAX_VARIANCE}
 use Rattle.pc_times.specs.declared.TheConstants.{MAX_LENGTH}
 use Rattle.pc_whatif.specs.declared.trials.spans.Spans.{Spans}
-use Rattle.pc_whatif.specs.inside.trials.Reserved.{Reserved}
+use Rattle.pc_whatif.specs.inside.trials.SessionRegion.{SessionRegion}
 use Rattle.pc_whatif.specs.inside.trials.Laid.{AreAtMost, AreSpansTaken, IsLaidIn, IsWhole, kept_in, list_of}
 use Rattle.pc_whatif.proofs.lemmas.trials.LaidLaws.{IsPut, put}
 
@@ -30,14 +30,14 @@ zeros-small n most i below =
     omega (arith, get_or-replicate {A = ℕ} n i 0 0 (omega (arith, below, size)))
 
 -- these expected times and variances, zeros for each event, and so many free cells
-abbrev pub opened : ℕ → List ℕ → List ℕ → ℕ → Reserved
+abbrev pub opened : ℕ → List ℕ → List ℕ → ℕ → SessionRegion
 opened events times squares cells = record {
   expected = times;
   variances = squares;
   early = replicate events 0;
   tails = replicate events 0;
   places = replicate events 0;
-  steps = 0;
+  path_len = 0;
   free = cells;
 }
 
@@ -86,8 +86,8 @@ module _ (events activities : ℕ) (spans : Spans) (r0 r1 r2 : Cells) (expected 
         ∙ ap (λ k. r0.capacity - (2 * k + 3 * length n)) (length-replicate activities 0)
         ∙ ap (λ k. r0.capacity - (2 * activities + 3 * k)) (length-replicate events 0)
 
-    abbrev made : List ℕ → List ℕ → List ℕ → List ℕ → List ℕ → ℕ → Reserved
-    made e f t u p cells = record { expected = e; variances = f; early = t; tails = u; places = p; steps = 0; free = cells }
+    abbrev made : List ℕ → List ℕ → List ℕ → List ℕ → List ℕ → ℕ → SessionRegion
+    made e f t u p cells = record { expected = e; variances = f; early = t; tails = u; places = p; path_len = 0; free = cells }
 
     expected-3 : list_of r3 0 ≡ expected
     expected-3 = second.off 0 (λ e. omega (arith, e)) ∙ first.at
@@ -120,7 +120,7 @@ module _ (events activities : ℕ) (spans : Spans) (r0 r1 r2 : Cells) (expected 
           variances = also_each ∙ sym one_each;
           tails = refl;
           places = refl;
-          steps = omega arith;
+          path_len = omega arith;
           small_expected = small;
           small_variances = gentle;
           small_early = zeros-small events _;

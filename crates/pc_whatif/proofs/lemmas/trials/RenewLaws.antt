@@ -60,15 +60,15 @@ module _ (net : Network) (spans : Spans) (r0 r1 : Cells) (early : List ℕ) (lai
       tails-3 : list_of r3 3 ≡ tails
       tails-3 = third.off 3 (λ e. omega (arith, e)) ∙ has-tails.tails
 
-      pub renewed : (steps : ℕ) → AreEarly net (list_of r0 0) early → AreTails net (list_of r0 0) tails → IsPickedWalk net (list_of r0 0) (take steps places)
-          → steps < net.events → AreAtMost MAX_TIME early → AreAtMost MAX_TIME tails → AreRenewed net spans r0 r3 steps
-      renewed steps are_early are_tails picked short small_early small_tails = record {
+      pub renewed : (path_len : ℕ) → AreEarly net (list_of r0 0) early → AreTails net (list_of r0 0) tails → IsPickedWalk net (list_of r0 0) (take path_len places)
+          → path_len < net.events → AreAtMost MAX_TIME early → AreAtMost MAX_TIME tails → AreRenewed net spans r0 r3 path_len
+      renewed path_len are_early are_tails picked short small_early small_tails = record {
         laid = third.laid spans has-tails.laid;
         expected = third.off 0 (λ e. omega (arith, e)) ∙ has-tails.expected;
         variances = third.off 1 (λ e. omega (arith, e)) ∙ second.off 1 (λ e. omega (arith, e)) ∙ first.off 1 (λ e. omega (arith, e));
         early = subst (AreEarly net (list_of r0 0)) (sym early-3) are_early;
         tails = subst (AreTails net (list_of r0 0)) (sym tails-3) are_tails;
-        path = subst (λ ys. IsPickedWalk net (list_of r0 0) (take steps ys)) (sym third.at) picked;
+        path = subst (λ ys. IsPickedWalk net (list_of r0 0) (take path_len ys)) (sym third.at) picked;
         places = ap length third.at ∙ one_place;
         short = short;
         free = third.free ∙ second.free ∙ first.free;

@@ -1,4 +1,4 @@
--- The report of event times, written from what stands in a reservation.
+-- The report of event times, written from what is in a session's region.
 use Rattle.std.proofs.Common.{◌≡◌, ℕ, zero, suc, ◌^◌, ◌<◌, ◌≤◌, List, [], ◌∷◌, length, to_z, of_z, w64, refl, sym, ◌∙◌, ap, arith}
 use Rattle.std.specs.Prelude.{ℤ, pos, ◌-ℤ◌, ◌≤ℤ◌, unsigned_abs, slice_index, slice_index_or}
 use Rattle.std.proofs.lemmas.Int.{ints, to_z-of_z}
@@ -12,7 +12,7 @@ use Rattle.pc_project.specs.Project.{Project, Heading}
 use Rattle.pc_reports.specs.Times.{Times, IsTimes, end_to_meet}
 use Rattle.pc_reports.specs.TimesText.{times_text}
 use Rattle.pc_reports.specs.inside.View.{Shown, IsShownOf, as_shown}
-use Rattle.pc_whatif.specs.inside.trials.Reserved.{Reserved, IsChangedTo, IsFor, IsStanding, path_in}
+use Rattle.pc_whatif.specs.inside.trials.SessionRegion.{SessionRegion, IsChangedTo, IsFor, IsStanding, path_in}
 use Rattle.pc_whatif.specs.inside.trials.Laid.{AreAtMost}
 use Rattle.pc_whatif.specs.inside.trials.Shown.{late_by}
 
@@ -24,11 +24,11 @@ picked_from-known net lengths e (a ∷ walk) (suc i) picked below =
     picked_from-known net lengths (to_of net.arcs a) walk i picked.1 (omega (arith, below))
 
 -- those of the path that stands there
-pub path-known : (net : Network) (r : Reserved) (k : ℕ) → IsStanding net r → k < length (path_in r) → slice_index (path_in r) k < length net.arcs
+pub path-known : (net : Network) (r : SessionRegion) (k : ℕ) → IsStanding net r → k < length (path_in r) → slice_index (path_in r) k < length net.arcs
 path-known net r k standing below = picked_from-known net r.expected net.start (path_in r) k standing.path below
 
 -- what is shown where the end is to be met at that time
-abbrev pub shown_by : Reserved → ℤ → Shown
+abbrev pub shown_by : SessionRegion → ℤ → Shown
 shown_by r by = record {
   expected = r.expected;
   variances = r.variances;
@@ -44,7 +44,7 @@ shown_from expected variances early tails path by = record {
 }
 
 -- it is fit to be told of the project
-pub shown-fits : (project : Project) (r : Reserved) (by : ℤ) → IsFor project.network r → IsStanding project.network r
+pub shown-fits : (project : Project) (r : SessionRegion) (by : ℤ) → IsFor project.network r → IsStanding project.network r
     → AreAtMost MAX_LENGTH r.expected → AreAtMost MAX_VARIANCE r.variances → AreAtMost MAX_TIME r.early → AreAtMost MAX_TIME r.tails
     → project.network.events ≤ MAX_EVENTS → (pos 0 ≤ℤ by) × (by ≤ℤ pos MAX_TIME) → IsShownOf project (shown_by r by)
 shown-fits project r by fits standing small_expected small_variances small_early small_tails few within = record {
@@ -57,7 +57,7 @@ shown-fits project r by fits standing small_expected small_variances small_early
   early = λ e known. omega (arith, small_early e (omega (arith, known, fits.early)));
   late = late;
   known = λ k below. path-known project.network r k standing below;
-  few = omega (arith, length-take r.steps r.places, fits.places, few);
+  few = omega (arith, length-take r.path_len r.places, fits.places, few);
 } where
   late : (e : ℕ) → e < project.network.events → unsigned_abs (slice_index_or (late_by by r.tails) e (pos 0)) < 2 ^ 40
   late e known =
@@ -65,7 +65,7 @@ shown-fits project r by fits standing small_expected small_variances small_early
       grind (arith, ints, get_or-map (λ tail. by -ℤ pos tail) r.tails e 0 (pos 0) below, small_tails e below, within.0, within.1)
 
 -- its times are those of a project with these expected times
-pub times-are : (project changed : Project) (r : Reserved) (by : ℤ) → IsFor project.network r → IsStanding project.network r → IsChangedTo project r changed
+pub times-are : (project changed : Project) (r : SessionRegion) (by : ℤ) → IsFor project.network r → IsStanding project.network r → IsChangedTo project r changed
     → by ≡ end_to_meet project.heading.directed (slice_index r.early project.network.end) → IsTimes changed (shown_by r by).times
 times-are project changed r by fits standing is by_is = record {
   early = rw (is.network, is.expected) standing.early;
@@ -92,7 +92,7 @@ unfolding times_text
 told-is base p times = refl
 
 -- what is told from there is the report of the project with these expected times
-pub text-same : (project changed : Project) (r : Reserved) (by : ℤ) → IsChangedTo project r changed
+pub text-same : (project changed : Project) (r : SessionRegion) (by : ℤ) → IsChangedTo project r changed
     → times_text (as_shown project (shown_by r by)) (shown_by r by).times ≡ times_text changed (shown_by r by).times
 text-same project changed r by is =
     let times = (shown_by r by).times in
@@ -105,8 +105,8 @@ text-same project changed r by is =
     ∙ ap (λ x. told project changed.heading changed.network changed.events changed.activities changed.expected x times) (sym is.variances)
     ∙ sym (told-is project changed times)
 
--- lists that are those of the reservation show the same
-pub shown-is : (r : Reserved) (expected variances early tails path : List ℕ) (by to : ℤ) → expected ≡ r.expected → variances ≡ r.variances → early ≡ r.early
+-- lists that are those of the region show the same
+pub shown-is : (r : SessionRegion) (expected variances early tails path : List ℕ) (by to : ℤ) → expected ≡ r.expected → variances ≡ r.variances → early ≡ r.early
     → tails ≡ r.tails → path ≡ path_in r → by ≡ to → shown_from expected variances early tails path by ≡ shown_by r to
 shown-is r expected variances early tails path by to e v t u p b =
     ap (λ x. shown_from x variances early tails path by) e

@@ -1,4 +1,4 @@
--- Where a reservation keeps what it keeps.
+-- Where a session's region keeps what it keeps.
 use Rattle.std.specs.Prelude.{◌≡◌, ℕ, ◌<◌, ◌≤◌, List, [], ◌∷◌, length, replicate, take, Some, unwrap_or, slice_index}
 use Rattle.pc_cells.specs.Spans.{Cells}
 use Rattle.pc_cells.specs.inside.Spans.{free_of, span_at, IsSpan}
@@ -8,9 +8,9 @@ use Rattle.pc_times.specs.Picked.{IsPickedWalk}
 use Rattle.pc_times.specs.Times.{AreEarly}
 use Rattle.pc_times.specs.inside.Times.{AreTails}
 use Rattle.pc_times.specs.declared.TheConstants.{MAX_LENGTH, MAX_TIME}
-use Rattle.pc_whatif.specs.declared.trials.reservation.Reservation.TheInside.{Inside}
+use Rattle.pc_whatif.specs.declared.trials.region.SessionRegion.TheInside.{Inside}
 use Rattle.pc_whatif.specs.declared.trials.spans.Spans.{Spans}
-use Rattle.pc_whatif.specs.inside.trials.Reserved.{Reserved}
+use Rattle.pc_whatif.specs.inside.trials.SessionRegion.{SessionRegion}
 
 -- the spans are the first five of a region
 pub record AreSpans (lists : List (List ℕ)) (s : Spans) : Type 0 where
@@ -30,7 +30,7 @@ pub record AreSpansTaken (old new : Cells) (events activities : ℕ) (s : Spans)
   }
   pub spans : AreSpans new.spans s
 
--- The fields of a reservation
+-- The fields of a session's region
 
 -- a region without cells
 abbrev pub no_region : Cells
@@ -45,31 +45,31 @@ abbrev pub list_of : Cells → ℕ → List ℕ
 list_of region n = span_at region.spans n
 
 -- what a region keeps
-abbrev pub kept_in : Cells → ℕ → Reserved
-kept_in region steps = record {
+abbrev pub kept_in : Cells → ℕ → SessionRegion
+kept_in region path_len = record {
   expected = list_of region 0;
   variances = list_of region 1;
   early = list_of region 2;
   tails = list_of region 3;
   places = list_of region 4;
-  steps = steps;
+  path_len = path_len;
   free = free_of region;
 }
 
 -- what the fields keep
-abbrev pub reserved_of : Inside → Reserved
-reserved_of r = kept_in (region_of r) r.steps
+abbrev pub session_region_of : Inside → SessionRegion
+session_region_of r = kept_in (region_of r) r.path_len
 
 -- no number of the list is greater
 abbrev pub AreAtMost : ℕ → List ℕ → Type 0
 AreAtMost most xs = (i : ℕ) → i < length xs → slice_index xs i ≤ most
 
 -- the lists fit together, and no number is too great
-pub record IsWhole (r : Reserved) : Type 0 where
+pub record IsWhole (r : SessionRegion) : Type 0 where
   pub variances : length r.variances ≡ length r.expected
   pub tails : length r.tails ≡ length r.early
   pub places : length r.places ≡ length r.early
-  pub steps : r.steps ≤ length r.places
+  pub path_len : r.path_len ≤ length r.places
   pub small_expected : AreAtMost MAX_LENGTH r.expected
   pub small_variances : AreAtMost MAX_VARIANCE r.variances
   pub small_early : AreAtMost MAX_TIME r.early
@@ -84,21 +84,21 @@ pub record IsLaidIn (region : Cells) (spans : Spans) : Type 0 where
 pub record IsLaid (r : Inside) : Type 0 where
   pub here : r.region ≡ Some (region_of r)
   pub laid : IsLaidIn (region_of r) r.spans
-  pub whole : IsWhole (reserved_of r)
+  pub whole : IsWhole (session_region_of r)
   pub room : length r.room.items ≡ length (list_of (region_of r) 2)
 
 -- Renewing
 
 -- the times in the new region are those of the expected times, and all else is as it was
-pub record AreRenewed (net : Network) (spans : Spans) (old new : Cells) (steps : ℕ) : Type 0 where
+pub record AreRenewed (net : Network) (spans : Spans) (old new : Cells) (path_len : ℕ) : Type 0 where
   pub laid : IsLaidIn new spans
   pub expected : list_of new 0 ≡ list_of old 0
   pub variances : list_of new 1 ≡ list_of old 1
   pub early : AreEarly net (list_of old 0) (list_of new 2)
   pub tails : AreTails net (list_of old 0) (list_of new 3)
-  pub path : IsPickedWalk net (list_of old 0) (take steps (list_of new 4))
+  pub path : IsPickedWalk net (list_of old 0) (take path_len (list_of new 4))
   pub places : length (list_of new 4) ≡ net.events
-  pub short : steps < net.events
+  pub short : path_len < net.events
   pub free : free_of new ≡ free_of old
   pub small_early : AreAtMost MAX_TIME (list_of new 2)
   pub small_tails : AreAtMost MAX_TIME (list_of new 3)

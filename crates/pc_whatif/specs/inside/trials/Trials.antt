@@ -4,7 +4,7 @@ use Rattle.pc_cells.specs.Spans.{Cells}
 use Rattle.pc_cells.specs.inside.Spans.{free_of}
 use Rattle.pc_crash.specs.Priced.{PricedNetwork}
 use Rattle.pc_flow.specs.search.Labelling.{slopes_in}
-use Rattle.pc_whatif.specs.inside.trials.Reserved.{Reserved}
+use Rattle.pc_whatif.specs.inside.trials.SessionRegion.{SessionRegion}
 
 -- how many cells a trial works in
 abbrev pub trial_cells : ℕ → ℕ → ℕ → ℕ
@@ -14,8 +14,8 @@ trial_cells events activities pieces = 8 * events + 6 * activities + 2 * pieces 
 abbrev pub HasCells : PricedNetwork → Cells → Type 0
 HasCells net region = trial_cells net.network.events (length net.network.arcs) (length net.pieces) ≤ free_of region
 
--- the same, in the region of a reservation
-abbrev pub HasRoom : PricedNetwork → Reserved → Type 0
+-- the same, in the region of a session
+abbrev pub HasRoom : PricedNetwork → SessionRegion → Type 0
 HasRoom net r = trial_cells net.network.events (length net.network.arcs) (length net.pieces) ≤ r.free
 
 -- how many looks a trial may take at most: four at each activity for each unit by which the slope can rise and the length come

@@ -4,4 +4,4 @@ use Rattle.pc_whatif.proofs.session.Session.undo.Goals as goal
 pub renew-requires-clause-changed : goal.renew-requires-clause-changed
 renew-requires-clause-changed g c =
     changed_at c.self.inside.project.now c.self.inside.edits.editing c.undo.new.self.editing c.in-Ok.a c.in-Ok.ensures.touched
-    c.self.inside.reservation c.self.invariant.edition c.self.invariant.renewed
+    c.self.inside.region c.self.invariant.edition c.self.invariant.renewed

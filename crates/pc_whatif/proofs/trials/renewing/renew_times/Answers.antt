@@ -46,25 +46,25 @@ list-tails-requires c =
     let there = tails_there at.After-write-2 (early_there at.After-write) in
     (3, there.laid.live.tails)
 
-pub critical_path_into-steps-requires-clause-lengths : goal.critical_path_into-steps-requires-clause-lengths
-critical_path_into-steps-requires-clause-lengths c =
-    let at = goal.at.critical_path_into-steps-requires-clause-lengths c in
+pub critical_path_into-path_len-requires-clause-lengths : goal.critical_path_into-path_len-requires-clause-lengths
+critical_path_into-path_len-requires-clause-lengths c =
+    let at = goal.at.critical_path_into-path_len-requires-clause-lengths c in
     let there = tails_there at.After-write-2 (early_there at.After-write) in
     subst (AreLengths c.args.net.now) (sym (c.list-expected.ensures 0 there.laid.live.expected ∙ there.expected)) c.requires.lengths
 
-pub critical_path_into-steps-requires-clause-times : goal.critical_path_into-steps-requires-clause-times
-critical_path_into-steps-requires-clause-times c =
+pub critical_path_into-path_len-requires-clause-times : goal.critical_path_into-path_len-requires-clause-times
+critical_path_into-path_len-requires-clause-times c =
     let net = c.args.net.now in
-    let at = goal.at.critical_path_into-steps-requires-clause-times c in
+    let at = goal.at.critical_path_into-path_len-requires-clause-times c in
     let there = tails_there at.After-write-2 (early_there at.After-write) in
     subst (λ xs. AreEarly net xs c.list-early.result.now)
     (c.list.ensures 0 c.requires.laid.live.expected ∙ sym (c.list-expected.ensures 0 there.laid.live.expected ∙ there.expected))
     (subst (AreEarly net c.list.result.now) (sym (c.list-early.ensures 2 there.laid.live.early ∙ there.early)) c.early_into.ensures.times)
 
-pub critical_path_into-steps-requires-clause-tails : goal.critical_path_into-steps-requires-clause-tails
-critical_path_into-steps-requires-clause-tails c =
+pub critical_path_into-path_len-requires-clause-tails : goal.critical_path_into-path_len-requires-clause-tails
+critical_path_into-path_len-requires-clause-tails c =
     let net = c.args.net.now in
-    let at = goal.at.critical_path_into-steps-requires-clause-tails c in
+    let at = goal.at.critical_path_into-path_len-requires-clause-tails c in
     let here = early_there at.After-write in
     let there = tails_there at.After-write-2 here in
     subst (λ xs. AreTails net xs c.list-tails.result.now)
@@ -89,12 +89,12 @@ returns-clause-renewed c =
     renewed net c.args.spans.now c.args.region.now c.write.new.self early c.requires.laid c.requires.early
     c.early_into.ensures.times.one_each (c.write.ensures 2 c.requires.laid.live.early)
     c.write-2.new.self tails c.requires.tails one_tail (c.write-2.ensures 3 here.laid.live.tails)
-    c.write-3.new.self c.critical_path_into-steps.new.path c.requires.places (c.critical_path_into-steps.auto.path ∙ one_tail) (c.write-3.ensures 4 there.laid.live.places)
-    c.critical_path_into-steps.result
+    c.write-3.new.self c.critical_path_into-path_len.new.path c.requires.places (c.critical_path_into-path_len.auto.path ∙ one_tail) (c.write-3.ensures 4 there.laid.live.places)
+    c.critical_path_into-path_len.result
     (subst (λ xs. AreEarly net xs early) (c.list.ensures 0 c.requires.laid.live.expected) c.early_into.ensures.times)
     (subst (λ xs. AreTails net xs tails) (c.list-2.ensures 0 here.laid.live.expected ∙ here.expected) c.tails_into.ensures.tails)
-    (subst (λ xs. IsPickedWalk net xs (take c.critical_path_into-steps.result c.critical_path_into-steps.new.path)) (c.list-expected.ensures 0 there.laid.live.expected ∙ there.expected)
-    c.critical_path_into-steps.ensures.picked)
-    c.critical_path_into-steps.ensures.short
+    (subst (λ xs. IsPickedWalk net xs (take c.critical_path_into-path_len.result c.critical_path_into-path_len.new.path)) (c.list-expected.ensures 0 there.laid.live.expected ∙ there.expected)
+    c.critical_path_into-path_len.ensures.picked)
+    c.critical_path_into-path_len.ensures.short
     (λ i below. c.early_into.ensures.limit i 0 below)
     (λ i below. c.tails_into.ensures.limit i 0 below)

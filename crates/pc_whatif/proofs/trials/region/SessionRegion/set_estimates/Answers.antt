@@ -1,9 +1,9 @@
 use Rattle.std.proofs.Common.{◌≡◌, length, refl, sym, ap, subst, ◌∙◌, arith}
 use Rattle.pc_whatif.specs.inside.trials.Laid.{IsLaidIn, IsWhole, kept_in, list_of, region_of}
-use Rattle.pc_whatif.specs.inside.trials.Reserved.{Reserved, expected_by}
+use Rattle.pc_whatif.specs.inside.trials.SessionRegion.{SessionRegion, expected_by}
 use Rattle.pc_whatif.proofs.lemmas.trials.KeptLaws.{with_numbers, AreSet, region-taken, laid-set, laid-both, kept-both, early-both, whole-both, variance-small}
-use Rattle.pc_whatif.proofs.trials.reservation.Reservation.set_estimates.Goals as goal
-use Rattle.pc_whatif.proofs.trials.reservation.Reservation.set_estimates.Goals.{Joined-self}
+use Rattle.pc_whatif.proofs.trials.region.SessionRegion.set_estimates.Goals as goal
+use Rattle.pc_whatif.proofs.trials.region.SessionRegion.set_estimates.Goals.{Joined-self}
 
 pub set-requires-2-clause-live : goal.set-requires-2-clause-live
 set-requires-2-clause-live c =
@@ -34,11 +34,11 @@ invariant_of-self c =
     let x = c.expected_sixths-expected.result in
     let v = c.variance_36-variance.result in
     let same = taken c in
-    let whole = subst (λ region. IsWhole (kept_in region c.self.inside.steps)) same c.self.invariant.whole in
+    let whole = subst (λ region. IsWhole (kept_in region c.self.inside.path_len)) same c.self.invariant.whole in
     record {
       here = refl;
       laid = laid-both c.self.inside.spans r0 c.set.new.self r2 c.args.a x v (are_set c);
-      whole = whole-both c.self.inside.spans r0 c.set.new.self r2 c.args.a x v (are_set c) c.self.inside.steps whole
+      whole = whole-both c.self.inside.spans r0 c.set.new.self r2 c.args.a x v (are_set c) c.self.inside.path_len whole
           (omega (arith, c.requires.activity, ap (λ r. length r.expected) c.self.view_is, ap (λ region. length (list_of region 0)) same))
           c.expected_sixths-expected.ensures.limit
           (omega (arith, c.variance_36-variance.ensures, variance-small c.args.estimates.now.optimistic c.args.estimates.now.pessimistic c.args.unit_days c.requires.limit c.requires.unit));
@@ -48,10 +48,10 @@ invariant_of-self c =
 
 pub returns : goal.returns
 returns c =
-    let steps = c.self.inside.steps in
+    let path_len = c.self.inside.path_len in
     let x = c.expected_sixths-expected.result in
     let v = c.variance_36-variance.result in
-    kept-both c.self.inside.spans c.unwrap-region.result c.set.new.self c.set-2.new.self c.args.a x v (are_set c) steps
-    ∙ ap (λ (r : Reserved). with_numbers r c.args.a x v) (sym (ap (λ region. kept_in region steps) (taken c)) ∙ c.self.view_is)
+    kept-both c.self.inside.spans c.unwrap-region.result c.set.new.self c.set-2.new.self c.args.a x v (are_set c) path_len
+    ∙ ap (λ (r : SessionRegion). with_numbers r c.args.a x v) (sym (ap (λ region. kept_in region path_len) (taken c)) ∙ c.self.view_is)
     ∙ ap (λ n. with_numbers c.args.self.now c.args.a n v) c.expected_sixths-expected.ensures.value
     ∙ ap (λ n. with_numbers c.args.self.now c.args.a (expected_by c.args.unit_days c.args.estimates.now) n) c.variance_36-variance.ensures

@@ -2,7 +2,7 @@ use Rattle.std.proofs.Common.{length, refl, ap, subst, arith}
 use Rattle.std.specs.Vec.{with_items}
 use Rattle.pc_whatif.specs.inside.trials.Laid.{IsWhole, kept_in}
 use Rattle.pc_whatif.proofs.lemmas.trials.KeptLaws.{region-taken, renewed-whole}
-use Rattle.pc_whatif.proofs.trials.reservation.Reservation.renew.Goals as goal
+use Rattle.pc_whatif.proofs.trials.region.SessionRegion.renew.Goals as goal
 
 pub invariant_of-self : goal.invariant_of-self
 invariant_of-self c =
@@ -13,8 +13,8 @@ invariant_of-self c =
     record {
       here = refl;
       laid = renewed.laid;
-      whole = renewed-whole c.args.net.now c.self.inside.spans old new c.self.inside.steps c.renew_times-self-inside.result
-          (subst (λ region. IsWhole (kept_in region c.self.inside.steps)) same c.self.invariant.whole) renewed;
+      whole = renewed-whole c.args.net.now c.self.inside.spans old new c.self.inside.path_len c.renew_times-self-inside.result
+          (subst (λ region. IsWhole (kept_in region c.self.inside.path_len)) same c.self.invariant.whole) renewed;
       room = omega (
         arith,
         (with_items c.self.inside.room c.renew_times-self-inside.new.room).ok.0,

@@ -10,23 +10,23 @@ use Rattle.pc_project.specs.Project.{Project}
 
 -- a list for each span that was taken at the opening: for each activity its expected time, in sixths of a day, and the variance
 -- of it, in thirty-sixths of a square day; for each event its earliest time and the greatest sum of expected times over the
--- walks from it to the end; and as many places as there are events, the first `steps` of them with the activities of the
+-- walks from it to the end; and as many places as there are events, the first `path_len` of them with the activities of the
 -- critical path. And how many cells of the region are in none of its spans
-pub record Reserved : Type 0 where
+pub record SessionRegion : Type 0 where
   pub expected : List ℕ
   pub variances : List ℕ
   pub early : List ℕ
   pub tails : List ℕ
   pub places : List ℕ
-  pub steps : ℕ
+  pub path_len : ℕ
   pub free : ℕ
 
 -- the activities of the critical path
-abbrev pub path_in : Reserved → List ℕ
-path_in r = take r.steps r.places
+abbrev pub path_in : SessionRegion → List ℕ
+path_in r = take r.path_len r.places
 
 -- there is a place for each activity and event of the network
-pub record IsFor (net : Network) (r : Reserved) : Type 0 where
+pub record IsFor (net : Network) (r : SessionRegion) : Type 0 where
   pub expected : length r.expected ≡ length net.arcs
   pub variances : length r.variances ≡ length net.arcs
   pub early : length r.early ≡ net.events
@@ -34,13 +34,13 @@ pub record IsFor (net : Network) (r : Reserved) : Type 0 where
   pub places : length r.places ≡ net.events
 
 -- the times are those of the expected times that stand beside them
-pub record IsStanding (net : Network) (r : Reserved) : Type 0 where
+pub record IsStanding (net : Network) (r : SessionRegion) : Type 0 where
   pub early : AreEarly net r.expected r.early
   pub tails : AreTails net r.expected r.tails
   pub path : IsPickedWalk net r.expected (path_in r)
 
 -- the same, and they are those of a project
-pub record IsStandingOf (project : Project) (r : Reserved) : Type 0 where
+pub record IsStandingOf (project : Project) (r : SessionRegion) : Type 0 where
   pub expected : r.expected ≡ project.expected
   pub variances : r.variances ≡ project.variances
   pub standing : IsStanding project.network r
@@ -53,19 +53,19 @@ abbrev pub variance_by : ℕ → Estimates → ℕ
 variance_by unit_days e = variance_of e.optimistic e.pessimistic unit_days
 
 -- one activity has other estimates; the times stay as they are
-abbrev pub with_estimates : Reserved → ℕ → Estimates → ℕ → Reserved
+abbrev pub with_estimates : SessionRegion → ℕ → Estimates → ℕ → SessionRegion
 with_estimates r a e unit_days = record r {
   expected = slice_set r.expected a (expected_by unit_days e);
   variances = slice_set r.variances a (variance_by unit_days e);
 }
 
 -- the times, and the path, are others
-abbrev pub with_times : Reserved → List ℕ → List ℕ → List ℕ → ℕ → Reserved
-with_times r early tails places steps = record r { early = early; tails = tails; places = places; steps = steps }
+abbrev pub with_times : SessionRegion → List ℕ → List ℕ → List ℕ → ℕ → SessionRegion
+with_times r early tails places path_len = record r { early = early; tails = tails; places = places; path_len = path_len }
 
 -- the second project is called as the first is and has its network, and its expected times and variances are those that stand
--- in the reservation
-pub record IsChangedTo (project : Project) (r : Reserved) (changed : Project) : Type 0 where
+-- in the region
+pub record IsChangedTo (project : Project) (r : SessionRegion) (changed : Project) : Type 0 where
   pub heading : changed.heading ≡ project.heading
   pub network : changed.network ≡ project.network
   pub events : changed.events ≡ project.events

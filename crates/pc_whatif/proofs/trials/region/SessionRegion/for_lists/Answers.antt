@@ -2,12 +2,12 @@ use Rattle.std.proofs.Common.{◌≡◌, ℕ, length, replicate, refl, sym, ◌�
 use Rattle.std.proofs.lemmas.List.{length-replicate}
 use Rattle.pc_cells.specs.Spans.{Cells}
 use Rattle.pc_cells.specs.inside.Spans.{span_at}
-use Rattle.pc_whatif.specs.inside.trials.Reserved.{IsFor}
+use Rattle.pc_whatif.specs.inside.trials.SessionRegion.{IsFor}
 use Rattle.pc_whatif.specs.inside.trials.Laid.{IsLaidIn}
 use Rattle.pc_whatif.proofs.lemmas.trials.OpenLaws.{IsOpened, laid-2, is-opened}
 use Rattle.pc_flow.proofs.OpeningLaws.{some-activities}
-use Rattle.pc_whatif.proofs.trials.reservation.Reservation.for_lists.Goals.{After-write, After-write-2}
-use Rattle.pc_whatif.proofs.trials.reservation.Reservation.for_lists.Goals as goal
+use Rattle.pc_whatif.proofs.trials.region.SessionRegion.for_lists.Goals.{After-write, After-write-2}
+use Rattle.pc_whatif.proofs.trials.region.SessionRegion.for_lists.Goals as goal
 
 laid_there : (c : After-write) → IsLaidIn c.write.new.self c.take_spans-spans.result
 laid_there c =
@@ -36,9 +36,9 @@ write-requires-2-clause-live c =
     let next = laid_there (goal.at.write-requires-2-clause-live c).After-write in
     (1, next.live.variances)
 
-pub invariant_of-reservation : goal.invariant_of-reservation
-invariant_of-reservation c =
-    let at = goal.at.invariant_of-reservation c in
+pub invariant_of-taken : goal.invariant_of-taken
+invariant_of-taken c =
+    let at = goal.at.invariant_of-taken c in
     let is = opened_there at.After-write-2 (laid_there at.After-write) in
     record {
       here = refl;

@@ -1,4 +1,4 @@
-//! The reservation of a session.
+//! The region of a session, with the standing times in it.
 ghost use Rattle.std.specs.Prelude.{◌≡◌, ◌+◌, ◌-◌, ◌*◌, ◌<◌, ◌≤◌, ◌↔◌, ℕ, List, length, Some, IfOk, IfSome, IsSome};
 ghost use Rattle.pc_curve.specs.CurveText.{IsCurveText};
 ghost use Rattle.pc_curve.specs.Points.{curve_in};
@@ -10,7 +10,7 @@ ghost use Rattle.pc_reports.specs.TimesText.{IsTimesText};
 ghost use Rattle.pc_times.specs.Times.{AreLengths};
 ghost use Rattle.pc_times.specs.declared.TheConstants.{MAX_LENGTH, MAX_TIME};
 ghost use Rattle.pc_whatif.specs.inside.trials.Laid.{AreAtMost};
-ghost use Rattle.pc_whatif.specs.inside.trials.Reserved.{IsChangedTo, IsFor, IsStanding, IsStandingOf, path_in, with_estimates, with_times};
+ghost use Rattle.pc_whatif.specs.inside.trials.SessionRegion.{IsChangedTo, IsFor, IsStanding, IsStandingOf, path_in, with_estimates, with_times};
 ghost use Rattle.pc_curve.specs.Range.{IsRange, IsLengthInRange};
 ghost use Rattle.pc_whatif.specs.inside.trials.Trials.{HasRoom, looks_over, trial_cells};
 
@@ -36,24 +36,24 @@ use std::sync::ledger::Ledger;
 /// The spans hold for each activity its expected time, in sixths of a day, and its variance; for each event its
 /// earliest time and the greatest sum of expected times over the walks from it to the end; and the critical path.
 #[derive(Drop)]
-pub(crate) struct Reservation {
+pub(crate) struct SessionRegion {
     /// `None` only while a call has taken it.
     region: Option<Region>,
     spans: Spans,
     /// The number of activities on the critical path.
-    steps: usize,
+    path_len: usize,
     /// A place for each event, which the passes over the network write into.
     room: Vec<u64>,
 }
 
-impl Model for Reservation {
-    ghost use Rattle.pc_whatif.specs.inside.trials.Reserved.{Reserved};
+impl Model for SessionRegion {
+    ghost use Rattle.pc_whatif.specs.inside.trials.SessionRegion.{SessionRegion};
 
-    ghost Value = { Reserved };
+    ghost Value = { SessionRegion };
 
-    ghost use Rattle.pc_whatif.specs.inside.trials.Laid.{IsLaid, reserved_of};
+    ghost use Rattle.pc_whatif.specs.inside.trials.Laid.{IsLaid, session_region_of};
 
-    ghost view = { reserved_of };
+    ghost view = { session_region_of };
 
     ghost invariant = { IsLaid };
 }
@@ -69,18 +69,18 @@ fn cells_needed(events: usize, activities: usize, pieces: usize) -> usize
     2 * activities + 3 * events + pc_flow::cells_needed(events, activities, pieces)
 }
 
-impl Reservation {
-    /// Returns the reservation for a project, with its times. No other call takes memory.
+impl SessionRegion {
+    /// Returns the region for a project, with its times in it. No other call takes memory.
     ///
     /// Linear in events, activities and pieces.
-    pub(crate) fn build(alloc: Global, project: &Project) -> Result<Reservation, AllocError>
+    pub(crate) fn build(alloc: Global, project: &Project) -> Result<SessionRegion, AllocError>
         ensures fits { IfOk result (IsFor project.now.network) }
         ensures standing { IfOk result (IsStandingOf project.now) }
         ensures free { IfOk result (λ r. r.free ≡
             trial_cells project.now.network.events (length project.now.network.arcs) (length project.now.pieces)) }
     {
         let pieces = project.pieces().len();
-        Reservation::for_lists(
+        SessionRegion::for_lists(
             alloc,
             project.net(),
             pieces,
@@ -89,14 +89,14 @@ impl Reservation {
         )
     }
 
-    // Returns the reservation for a network with so many pieces, with these expected times and variances.
+    // Returns the region for a network with so many pieces, with these expected times and variances.
     fn for_lists(
         alloc: Global,
         net: &Net,
         pieces: usize,
         expected: &[u64],
         variances: &[u64],
-    ) -> Result<Reservation, AllocError>
+    ) -> Result<SessionRegion, AllocError>
         requires lengths { AreLengths net.now expected.now }
         requires variance_each { length variances.now ≡ length net.now.arcs }
         requires variances { AreAtMost MAX_VARIANCE variances.now }
@@ -114,14 +114,14 @@ impl Reservation {
         let spans = take_spans(&mut region, events, activities);
         region.write(spans.expected, expected);
         region.write(spans.variances, variances);
-        let mut reservation = Reservation {
+        let mut taken = SessionRegion {
             region: Some(region),
             spans,
-            steps: 0,
+            path_len: 0,
             room,
         };
-        reservation.renew(net);
-        Ok(reservation)
+        taken.renew(net);
+        Ok(taken)
     }
 
     /// Returns the number of free cells.
@@ -168,7 +168,7 @@ impl Reservation {
         ensures path { result.now ≡ path_in self.now }
         ensures short { length result.now ≤ length self.now.places }
     {
-        &present(&self.region).list(self.spans.places)[..self.steps]
+        &present(&self.region).list(self.spans.places)[..self.path_len]
     }
 
     /// Sets the expected time and the variance of an activity from these estimates, in units of so many days.
@@ -197,15 +197,15 @@ impl Reservation {
         requires { IsFor net.now self.old }
         ensures standing { IsStanding net.now self.new }
         ensures fits { IsFor net.now self.new }
-        ensures rest { self.new ≡ with_times self.old self.new.early self.new.tails self.new.places self.new.steps }
+        ensures rest { self.new ≡ with_times self.old self.new.early self.new.tails self.new.places self.new.path_len }
     {
         let mut region = self.region.take().unwrap();
-        self.steps = renew_times(&mut region, &self.spans, net, &mut self.room);
+        self.path_len = renew_times(&mut region, &self.spans, net, &mut self.room);
         self.region = Some(region);
     }
 
     /// Writes the report of event times and flushes the sink: that of the deck's project, with the expected times and
-    /// variances of this reservation. Linear in events and activities.
+    /// variances of this region. Linear in events and activities.
     pub(crate) fn write_times<O: Sink>(
         &self,
         page: &mut Page,
