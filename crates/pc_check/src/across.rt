@@ -79,7 +79,7 @@ fn advance_across(
     if !reader.is_between()
         || !matches!(place, Place::InSegment { events: 0, .. })
         || kept.tally.times.len() < fronts.len()
-        || kept.parts == 0
+        || kept.segments == 0
         || kept.tally.upper == kept.tally.lower
     {
         return 0;
@@ -134,7 +134,7 @@ fn pass_across(
     requires safe { IsSafe net.now (across_at kept.now a cut.old).tally }
     requires times { net.now.network.events ≤ length kept.now.tally.times.items }
     requires moves { net.now.network.events ≤ length kept.now.tally.moves.items }
-    requires later { kept.now.parts ≢ 0 }
+    requires later { kept.now.segments ≢ 0 }
     requires long { kept.now.tally.lower ≢ kept.now.tally.upper }
     ensures known { 0 < result → a < length net.now.network.arcs }
     ensures same_place { result ≡ 0 → place.new ≡ place.old }
@@ -172,7 +172,7 @@ fn pass_across(
 #[inline(never)]
 fn crossed(net: &CrashNet<'_>, kept: &Kept, a: u32, passed: &Passed) -> Option<Cut>
     requires known { a < length net.now.network.arcs }
-    requires later { kept.now.parts ≢ 0 }
+    requires later { kept.now.segments ≢ 0 }
     requires long { kept.now.tally.lower ≢ kept.now.tally.upper }
     ensures passes { IfSome result (λ more. (cut : Cut) → PassesAcross net.now
         (known_by (across_at kept.now a cut)) passed.now) }
