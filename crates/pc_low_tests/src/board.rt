@@ -5,6 +5,7 @@ use std::alloc::AllocError;
 use std::rt::HostRuntime;
 
 // Two events and one activity, with the start labelled first, then the other event by a step along the activity.
+// When the activity begins to wait, nothing is kept of it; at a place of the list it waits for 3 units more.
 #[test]
 fn an_event_enters(rt: HostRuntime) -> Result<(), AllocError> {
     let region = Region::with_cells(rt.alloc(), 20)?;
@@ -23,10 +24,12 @@ fn an_event_enters(rt: HostRuntime) -> Result<(), AllocError> {
     let labelled = (board.time(1), board.near(1), board.room(1));
     let scanned = (board.next_to_scan(), board.head());
     board.wait(0);
-    let waiting = (board.len(), board.waiting(0));
+    let waiting = (board.len(), board.waiting(0), board.is_due(0));
+    board.wait_at(0, 0, 3);
+    let waits_on = !board.is_due(0);
     let free = board.close().free();
     assert_eq!(rt; times, [0, 5, 0, 5]);
     assert!(rt; entered == (2, 1, 2) && labelled == (5, 0, 3));
-    assert!(rt; scanned == (0, 1) && waiting == (1, 0) && free == 20);
+    assert!(rt; scanned == (0, 1) && waiting == (1, 0, true) && waits_on && free == 20);
     Ok(())
 }
