@@ -37,7 +37,7 @@ use std::sync::ledger::Ledger;
 /// earliest time and the greatest sum of expected times over the walks from it to the end; and the critical path.
 #[derive(Drop)]
 pub(crate) struct SessionRegion {
-    /// `None` only while a call has taken it.
+    /// `None` only while a trial has it.
     region: Option<Region>,
     spans: Spans,
     /// The number of activities on the critical path.
@@ -186,10 +186,11 @@ impl SessionRegion {
         let pess = estimates.pessimistic;
         let expected = expected_sixths(opt, estimates.likely, pess, unit_days);
         let variance = variance_36(opt, pess, unit_days);
-        let mut region = self.region.take().unwrap();
+        let Some(region) = &mut self.region else {
+            unreachable!()
+        };
         region.set(self.spans.expected, a as usize, expected);
         region.set(self.spans.variances, a as usize, variance);
-        self.region = Some(region);
     }
 
     /// Computes the times of events and the critical path from the expected times. Takes a few passes over the network.
@@ -199,9 +200,10 @@ impl SessionRegion {
         ensures fits { IsFor net.now self.new }
         ensures rest { self.new ≡ with_times self.old self.new.early self.new.tails self.new.places self.new.path_len }
     {
-        let mut region = self.region.take().unwrap();
-        self.path_len = renew_times(&mut region, &self.spans, net, &mut self.room);
-        self.region = Some(region);
+        let Some(region) = &mut self.region else {
+            unreachable!()
+        };
+        self.path_len = renew_times(region, &self.spans, net, &mut self.room);
     }
 
     /// Writes the report of event times and flushes the sink: that of the deck's project, with the expected times and

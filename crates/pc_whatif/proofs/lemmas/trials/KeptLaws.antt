@@ -1,6 +1,6 @@
 -- What a session's region keeps when numbers in its spans change.
 use Rattle.std.proofs.Common.{◌≡◌, ℕ, ◌-◌, ◌*◌, ◌^◌, ◌<◌, ◌≤◌, List, length, set, sym, ◌∙◌, ap, subst, arith}
-use Rattle.std.specs.Prelude.{Option, Some, unwrap_or}
+use Rattle.std.specs.Prelude.{Some, unwrap_or}
 use Rattle.std.proofs.Math.Nat.{mul-le-mul, pow-le-pow_left}
 use Rattle.std.proofs.lemmas.List.{length-set}
 use Rattle.pc_cells.specs.Spans.{Cells}
@@ -18,9 +18,9 @@ use Rattle.pc_whatif.proofs.lemmas.trials.LaidLaws.{IsPut, put, small-set}
 abbrev pub with_numbers : SessionRegion → ℕ → ℕ → ℕ → SessionRegion
 with_numbers r a x v = record r { expected = set r.expected a x; variances = set r.variances a v }
 
--- the region that was taken out of the fields is theirs
-pub region-taken : (r : Inside) (taken : Option Cells) (region : Cells) → taken ≡ r.region → taken ≡ Some region → region_of r ≡ region
-region-taken r taken region same is = ap (λ o. unwrap_or o no_region) (sym same ∙ is)
+-- the region that was found in the fields is theirs
+pub region-found : (r : Inside) (region : Cells) → r.region ≡ Some region → region_of r ≡ region
+region-found r region is = ap (λ o. unwrap_or o no_region) is
 
 -- the times are renewed
 pub renewed-whole : (net : Network) (spans : Spans) (old new : Cells) (before path_len : ℕ) → IsWhole (kept_in old before) → AreRenewed net spans old new path_len

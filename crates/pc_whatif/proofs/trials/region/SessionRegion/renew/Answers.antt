@@ -1,15 +1,15 @@
 use Rattle.std.proofs.Common.{length, refl, ap, subst, arith}
 use Rattle.std.specs.Vec.{with_items}
 use Rattle.pc_whatif.specs.inside.trials.Laid.{IsWhole, kept_in}
-use Rattle.pc_whatif.proofs.lemmas.trials.KeptLaws.{region-taken, renewed-whole}
+use Rattle.pc_whatif.proofs.lemmas.trials.KeptLaws.{region-found, renewed-whole}
 use Rattle.pc_whatif.proofs.trials.region.SessionRegion.renew.Goals as goal
 
 pub invariant_of-self : goal.invariant_of-self
 invariant_of-self c =
-    let old = c.unwrap-region.result in
+    let old = c.in-Some.region in
     let new = c.renew_times-self-inside.new.region in
     let renewed = c.renew_times-self-inside.ensures.renewed in
-    let same = region-taken c.self.inside c.take.result old c.take.ensures.value c.unwrap-region.ensures in
+    let same = region-found c.self.inside old c.in-Some.is in
     record {
       here = refl;
       laid = renewed.laid;

@@ -1,39 +1,30 @@
 use Rattle.std.proofs.Common.{◌≡◌, length, refl, sym, ap, subst, ◌∙◌, arith}
 use Rattle.pc_whatif.specs.inside.trials.Laid.{IsLaidIn, IsWhole, kept_in, list_of, region_of}
 use Rattle.pc_whatif.specs.inside.trials.SessionRegion.{SessionRegion, expected_by}
-use Rattle.pc_whatif.proofs.lemmas.trials.KeptLaws.{with_numbers, AreSet, region-taken, laid-set, laid-both, kept-both, early-both, whole-both, variance-small}
+use Rattle.pc_whatif.proofs.lemmas.trials.KeptLaws.{with_numbers, AreSet, region-found, laid-set, laid-both, kept-both, early-both, whole-both, variance-small}
 use Rattle.pc_whatif.proofs.trials.region.SessionRegion.set_estimates.Goals as goal
-use Rattle.pc_whatif.proofs.trials.region.SessionRegion.set_estimates.Goals.{Joined-self}
+use Rattle.pc_whatif.proofs.trials.region.SessionRegion.set_estimates.Goals.{After-set-2}
 
-pub set-requires-2-clause-live : goal.set-requires-2-clause-live
-set-requires-2-clause-live c =
-    let spans = c.self.inside.spans in
-    let r0 = c.unwrap-region.result in
-    let same = region-taken c.self.inside c.take.result r0 c.take.ensures.value c.unwrap-region.ensures in
-    let laid = subst (λ region. IsLaidIn region spans) same c.self.invariant.laid in
-    let next = laid-set spans r0 c.set.new.self c.args.a c.expected_sixths-expected.result laid (c.set.ensures 0 laid.live.expected) in
-    (1, next.live.variances)
+-- the region of the fields, in which two numbers were set
+found : (c : After-set-2) → region_of c.self.inside ≡ c.in-Some.region
+found c = region-found c.self.inside c.in-Some.region c.in-Some.is
 
--- the region that was taken, in which two numbers were set
-taken : (c : Joined-self) → region_of c.self.inside ≡ c.unwrap-region.result
-taken c = region-taken c.self.inside c.take.result c.unwrap-region.result c.take.ensures.value c.unwrap-region.ensures
-
-are_set : (c : Joined-self)
-    → AreSet c.self.inside.spans c.unwrap-region.result c.set.new.self c.set-2.new.self c.args.a c.expected_sixths-expected.result c.variance_36-variance.result
+are_set : (c : After-set-2)
+    → AreSet c.self.inside.spans c.in-Some.region c.set.new.self c.set-2.new.self c.args.a c.expected_sixths-expected.result c.variance_36-variance.result
 are_set c =
     let spans = c.self.inside.spans in
-    let laid = subst (λ region. IsLaidIn region spans) (taken c) c.self.invariant.laid in
+    let laid = subst (λ region. IsLaidIn region spans) (found c) c.self.invariant.laid in
     let expected = c.set.ensures 0 laid.live.expected in
-    let next = laid-set spans c.unwrap-region.result c.set.new.self c.args.a c.expected_sixths-expected.result laid expected in
+    let next = laid-set spans c.in-Some.region c.set.new.self c.args.a c.expected_sixths-expected.result laid expected in
     record { laid = laid; expected = expected; variance = c.set-2.ensures 1 next.live.variances }
 
 pub invariant_of-self : goal.invariant_of-self
 invariant_of-self c =
-    let r0 = c.unwrap-region.result in
+    let r0 = c.in-Some.region in
     let r2 = c.set-2.new.self in
     let x = c.expected_sixths-expected.result in
     let v = c.variance_36-variance.result in
-    let same = taken c in
+    let same = found c in
     let whole = subst (λ region. IsWhole (kept_in region c.self.inside.path_len)) same c.self.invariant.whole in
     record {
       here = refl;
@@ -51,7 +42,7 @@ returns c =
     let path_len = c.self.inside.path_len in
     let x = c.expected_sixths-expected.result in
     let v = c.variance_36-variance.result in
-    kept-both c.self.inside.spans c.unwrap-region.result c.set.new.self c.set-2.new.self c.args.a x v (are_set c) path_len
-    ∙ ap (λ (r : SessionRegion). with_numbers r c.args.a x v) (sym (ap (λ region. kept_in region path_len) (taken c)) ∙ c.self.view_is)
+    kept-both c.self.inside.spans c.in-Some.region c.set.new.self c.set-2.new.self c.args.a x v (are_set c) path_len
+    ∙ ap (λ (r : SessionRegion). with_numbers r c.args.a x v) (sym (ap (λ region. kept_in region path_len) (found c)) ∙ c.self.view_is)
     ∙ ap (λ n. with_numbers c.args.self.now c.args.a n v) c.expected_sixths-expected.ensures.value
     ∙ ap (λ n. with_numbers c.args.self.now c.args.a (expected_by c.args.unit_days c.args.estimates.now) n) c.variance_36-variance.ensures
