@@ -1,5 +1,5 @@
 //! A book and its packages on two accounts.
-ghost use Rattle.std.specs.Prelude.{◌≡◌, ◌≤◌, length, IfOk, IfSome};
+ghost use Rattle.std.specs.Prelude.{◌≡◌, ◌<◌, ◌≤◌, length, IfOk, IfSome};
 ghost use Rattle.pc_accounts.specs.Amounts.{AreMoney};
 
 use pc_accounts::{AcctRow, Book, BookError, MoneyRow, Uneven, WorkRow, reconcile};
@@ -7,7 +7,6 @@ use pc_days::{Day, read_day};
 use pc_model::MAX_COST;
 use pc_wbs::{ItemRow, Tree};
 use std::alloc::{AllocError, Global};
-use std::test::Fail;
 
 const ACCOUNTS: [AcctRow; 2] = [
     AcctRow {
@@ -39,62 +38,96 @@ fn rows(alloc: Global, amounts: &[(u32, Day, u64)]) -> Result<Vec<MoneyRow>, All
     Ok(rows)
 }
 
-#[test]
-fn books_what_counts(rt: HostRuntime) -> Result<(), Fail> {
-    let (early, due, late) = (
-        read_day(b"2024-01-03")?,
-        read_day(b"2024-01-08")?,
-        read_day(b"2024-01-09")?,
-    );
-    let charges = rows(rt.alloc(), &[(0, early, 10), (0, late, 99)])?;
-    let togos = rows(rt.alloc(), &[(0, due, 30), (0, early, 7), (0, late, 1)])?;
-    let book = Book::build(rt.alloc(), &ACCOUNTS, &charges, &togos, due)?;
-    assert_eq!(rt; book.entries().len(), 2);
-    let of_first = (book.actual(0), book.to_go(0), book.latest(0));
-    assert_eq!(rt; of_first, (10, 30, 40));
-    let of_second = (book.actual(1), book.to_go(1), book.latest(1));
-    assert_eq!(rt; of_second, (0, 20, 20));
-    // 250 / 40, rounded down
-    assert_eq!(rt; (book.value(0, false), book.value(0, true)), (6, 25));
-    assert_eq!(rt; (book.value(1, false), book.value(1, true)), (0, 20));
-    Ok(())
+/// The book of the two accounts with these charges and amounts to go.
+fn book_of(
+    alloc: Global,
+    charges: &[(u32, Day, u64)],
+    togos: &[(u32, Day, u64)],
+    as_of: Day,
+) -> Result<Book, BookError>
+    requires charges { length charges.now ≤ 1000 }
+    requires togos { length togos.now ≤ 1000 }
+    ensures { IfOk result (λ book. length book ≡ 2) }
+{
+    let charges = rows(alloc, charges)?;
+    let togos = rows(alloc, togos)?;
+    Book::build(alloc, &ACCOUNTS, &charges, &togos, as_of)
+}
+
+/// What an account has spent, what is to go, its latest estimate, and its value before and after it is finished.
+fn figures(book: &Book, account: u32) -> [u64; 5]
+    requires { account < length book.now }
+{
+    [
+        book.actual(account),
+        book.to_go(account),
+        book.latest(account),
+        book.value(account, false),
+        book.value(account, true),
+    ]
+}
+
+// The value of the first account before it is finished is 250 / 40, rounded down.
+fn is_booked(book: &Book) -> bool
+    requires { length book.now ≡ 2 }
+{
+    (book.entries().len() == 2)
+        & (figures(book, 0) == [10, 30, 40, 6, 25])
+        & (figures(book, 1) == [0, 20, 20, 0, 20])
+}
+
+fn books_what_is_due(alloc: Global) -> Option<bool> {
+    let (early, due) = (read_day(b"2024-01-03").ok()?, read_day(b"2024-01-08").ok()?);
+    let late = read_day(b"2024-01-09").ok()?;
+    let charges = [(0, early, 10), (0, late, 99)];
+    let togos = [(0, due, 30), (0, early, 7), (0, late, 1)];
+    let book = book_of(alloc, &charges, &togos, due).ok()?;
+    Some(is_booked(&book))
 }
 
 #[test]
-fn sums_every_charge(rt: HostRuntime) -> Result<(), Fail> {
-    let day = read_day(b"2024-01-03")?;
-    let charges = rows(
-        rt.alloc(),
-        vec![in rt.alloc(); (1, day, MAX_COST); 1000]?.as_slice(),
-    )?;
-    let book = Book::build(rt.alloc(), &ACCOUNTS, &charges, &[], day)?;
-    assert_eq!(rt; book.actual(1), 1000 * MAX_COST);
-    assert_eq!(rt; (book.to_go(1), book.value(1, false)), (0, 20));
-    Ok(())
+fn books_what_counts(rt: HostRuntime) {
+    assert!(rt; books_what_is_due(rt.alloc()) == Some(true));
+}
+
+/// Whether so many of the largest charges add up.
+fn is_summed(book: &Book) -> bool
+    requires { length book.now ≡ 2 }
+{
+    (book.actual(1) == 1000 * MAX_COST) & (book.to_go(1) == 0) & (book.value(1, false) == 20)
+}
+
+fn sums_largest(alloc: Global) -> Option<bool> {
+    let day = read_day(b"2024-01-03").ok()?;
+    let charges = vec![in alloc; (1, day, MAX_COST); 1000].ok()?;
+    let book = book_of(alloc, &charges, &[], day).ok()?;
+    Some(is_summed(&book))
 }
 
 #[test]
-fn refuses_two_amounts_to_go_on_one_day(rt: HostRuntime) -> Result<(), Fail> {
-    let (one, two) = (read_day(b"2024-01-08")?, read_day(b"2024-01-09")?);
-    let amounts = [
+fn sums_every_charge(rt: HostRuntime) {
+    assert!(rt; sums_largest(rt.alloc()) == Some(true));
+}
+
+/// The places of the first amount to go that has the account and the day of an earlier one, and of that one.
+fn second_to_go(alloc: Global) -> Option<[u32; 2]> {
+    let (one, two) = (read_day(b"2024-01-08").ok()?, read_day(b"2024-01-09").ok()?);
+    let togos = [
         (1, one, 5),
         (0, one, 5),
         (0, two, 5),
         (0, one, 6),
         (1, one, 7),
     ];
-    let togos = rows(rt.alloc(), &amounts)?;
-    let twice = Book::build(rt.alloc(), &ACCOUNTS, &[], &togos, one);
-    assert!(rt;
-        matches!(
-            twice,
-            Err(BookError::SecondToGo {
-                first: 1,
-                second: 3
-            })
-        )
-    );
-    Ok(())
+    match book_of(alloc, &[], &togos, one) {
+        Err(BookError::SecondToGo { first, second }) => Some([first, second]),
+        _ => None,
+    }
+}
+
+#[test]
+fn refuses_two_amounts_to_go_on_one_day(rt: HostRuntime) {
+    assert!(rt; second_to_go(rt.alloc()) == Some([1, 3]));
 }
 
 /// A top item with two packages.
@@ -109,18 +142,29 @@ fn packages(alloc: Global) -> Result<Option<Tree>, AllocError>
     Ok(Tree::build(alloc, &rows).ok())
 }
 
-#[test]
-fn reconciles_packages_with_work(rt: HostRuntime) -> Result<(), Fail> {
-    let tree = packages(rt.alloc())?.ok_or("no tree")?;
-    let even = [WorkRow { item: 1, cost: 10 }, WorkRow { item: 1, cost: 15 }];
-    assert_eq!(rt; reconcile(rt.alloc(), &tree, &ACCOUNTS, &even), Ok(()));
-    let uneven = [WorkRow { item: 2, cost: 19 }, WorkRow { item: 1, cost: 25 }];
-    let found = reconcile(rt.alloc(), &tree, &ACCOUNTS, &uneven);
+const EVEN: [WorkRow; 2] = [WorkRow { item: 1, cost: 10 }, WorkRow { item: 1, cost: 15 }];
+
+const UNEVEN: [WorkRow; 2] = [WorkRow { item: 2, cost: 19 }, WorkRow { item: 1, cost: 25 }];
+
+/// Whether even work is accepted, and the item of uneven work is named with its sums.
+fn is_reconciled(alloc: Global, tree: &Tree) -> bool
+    requires { length tree.now ≡ 3 }
+{
     let second = Uneven::Item {
         item: 2,
         budgets: 20,
         costs: 19,
     };
-    assert_eq!(rt; found, Err(second));
-    Ok(())
+    (reconcile(alloc, tree, &ACCOUNTS, &EVEN) == Ok(()))
+        & (reconcile(alloc, tree, &ACCOUNTS, &UNEVEN) == Err(second))
+}
+
+fn reconciles(alloc: Global) -> Option<bool> {
+    let tree = packages(alloc).ok()??;
+    Some(is_reconciled(alloc, &tree))
+}
+
+#[test]
+fn reconciles_packages_with_work(rt: HostRuntime) {
+    assert!(rt; reconciles(rt.alloc()) == Some(true));
 }

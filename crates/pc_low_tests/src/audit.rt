@@ -7,7 +7,7 @@ use pc_edges::MemSource;
 use pc_model::Arc;
 use pc_net::Net;
 use pc_text::Code;
-use std::test::Fail;
+use std::alloc::Global;
 
 const RIGHT: &[u8] = b"CERT 1 A 2 1\nNORMAL\nSTEP A\nCRASH\nSTEP A\nSEGMENT 3 3 7 0\n\
 EVENT A 0 0\nEVENT B 3 0\nACT A 3 0 0\nCLOSE\nEND\n";
@@ -21,12 +21,9 @@ const CUT: &[u8] = b"CERT 1 A 2 1\nNORMAL\nSTEP A\nCRASH\nSTEP A\nSEGMENT 3 3 7 
 EVENT A 0 0\nEVENT B 3 0\nACT A 3 0 0\nCLOSE\n";
 
 // What the text is found to be off a source that gives at most seven bytes a pull.
-fn found(rt: HostRuntime, net: &CrashNet<'_>, text: &[u8]) -> Result<Option<Verdict>, Fail> {
-    let mut source = MemSource::new(rt.alloc(), text, 7, &[])?;
-    match audit_source(rt.alloc(), net, &mut source) {
-        Ok(verdict) => Ok(Some(verdict)),
-        Err(_) => Ok(None),
-    }
+fn found(alloc: Global, net: &CrashNet<'_>, text: &[u8]) -> Option<Verdict> {
+    let mut source = MemSource::new(alloc, text, 7, &[]).ok()?;
+    audit_source(alloc, net, &mut source).ok()
 }
 
 // The verdict of a failing point.
@@ -38,53 +35,64 @@ fn failing(at: FailingPoint) -> Verdict {
 }
 
 // What the text is found to be in two pieces.
-fn in_pieces(rt: HostRuntime, net: &CrashNet<'_>, text: &[u8], cut: usize) -> Result<Verdict, Fail>
+fn in_pieces(alloc: Global, net: &CrashNet<'_>, text: &[u8], cut: usize) -> Option<Verdict>
     requires { cut ≤ length text.now }
 {
-    let mut audit = Audit::build(rt.alloc(), net)?;
+    let mut audit = Audit::build(alloc, net).ok()?;
     if let Some(at) = audit.feed(&text[..cut]) {
-        return Ok(failing(at));
+        return Some(failing(at));
     }
     if let Some(at) = audit.feed(&text[cut..]) {
-        return Ok(failing(at));
+        return Some(failing(at));
     }
-    Ok(audit.finish())
+    Some(audit.finish())
+}
+
+const VERDICTS: &[(&[u8], Verdict)] = &[
+    (RIGHT, Verdict::Yes { segments: 1 }),
+    (
+        WRONG,
+        Verdict::No {
+            line: 10,
+            reason: 12,
+        },
+    ),
+    (
+        CUT,
+        Verdict::No {
+            line: 11,
+            reason: 0,
+        },
+    ),
+];
+
+// The first of these texts of which something else is found, or none.
+fn first_wrong(alloc: Global, net: &CrashNet<'_>) -> Option<usize> {
+    for (i, &(text, verdict)) in VERDICTS.iter().enumerate() {
+        let is_found = found(alloc, net, text) == Some(verdict);
+        let is_found_in_pieces = in_pieces(alloc, net, text, text.len() / 2) == Some(verdict);
+        if !(is_found & is_found_in_pieces) {
+            return Some(i);
+        }
+    }
+    None
+}
+
+const TERMS: [Term; 1] = [Term {
+    normal: 3,
+    crash: 3,
+    cost: 7,
+    slope: 2,
+}];
+
+fn is_audited(alloc: Global) -> Option<bool> {
+    let (a, b) = (Code::read(b"A")?, Code::read(b"B")?);
+    let net = Net::build(alloc, 2, 0, 1, &[Arc { from: 0, to: 1 }]).ok()?;
+    let priced = CrashNet::build(alloc, &net, &TERMS, &[], a, &[a, b], &[a]).ok()?;
+    Some(first_wrong(alloc, &priced).is_none())
 }
 
 #[test]
-fn a_certificate_is_audited(rt: HostRuntime) -> Result<(), Fail> {
-    let net = Net::build(rt.alloc(), 2, 0, 1, &[Arc { from: 0, to: 1 }])?;
-    let terms = [Term {
-        normal: 3,
-        crash: 3,
-        cost: 7,
-        slope: 2,
-    }];
-    if let (Some(a), Some(b)) = (Code::read(b"A"), Code::read(b"B")) {
-        let priced = CrashNet::build(rt.alloc(), &net, &terms, &[], a, &[a, b], &[a])?;
-        let verdicts = [
-            (RIGHT, Verdict::Yes { segments: 1 }),
-            (
-                WRONG,
-                Verdict::No {
-                    line: 10,
-                    reason: 12,
-                },
-            ),
-            (
-                CUT,
-                Verdict::No {
-                    line: 11,
-                    reason: 0,
-                },
-            ),
-        ];
-        for (text, verdict) in verdicts {
-            let seen = found(rt, &priced, text)?;
-            assert_eq!(rt; seen, Some(verdict));
-            let pieces = in_pieces(rt, &priced, text, text.len() / 2)?;
-            assert_eq!(rt; pieces, verdict);
-        }
-    }
-    Ok(())
+fn a_certificate_is_audited(rt: HostRuntime) {
+    assert!(rt; is_audited(rt.alloc()) == Some(true));
 }

@@ -1,4 +1,5 @@
 //! Lines as they are spelled, and the order in which they come.
+use crate::cases::expect_none;
 use pc_cert::{CertLine, Place, line_len};
 
 /// The numbers that a line says, in order, and 0 where it says fewer than six; a bit is 0 or 1.
@@ -77,7 +78,7 @@ fn first_misread() -> Option<usize> {
 
 #[test]
 fn lines_are_read(rt: HostRuntime) {
-    assert_eq!(rt; first_misread(), None);
+    expect_none(&rt, first_misread());
 }
 
 // Texts, and whether each is a line.
@@ -116,7 +117,7 @@ fn first_mistaken() -> Option<usize> {
 
 #[test]
 fn nothing_else_is_a_line(rt: HostRuntime) {
-    assert_eq!(rt; first_mistaken(), None);
+    expect_none(&rt, first_mistaken());
 }
 
 // Where the first line ends of a hundred bytes of which none ends a line, then the last one, the thirty-sixth and the
@@ -134,7 +135,7 @@ fn ends() -> [usize; 5] {
 
 #[test]
 fn a_line_ends_at_its_first_end(rt: HostRuntime) {
-    assert_eq!(rt; ends(), [100, 99, 35, 0, 0]);
+    assert!(rt; ends() == [100, 99, 35, 0, 0]);
 }
 
 // A line behind those before it, and whether it may stand there.
@@ -179,9 +180,17 @@ fn first_wrong(place: &mut Place, lines: &[(&[u8], bool)]) -> Option<usize> {
     None
 }
 
+// The same of all these lines, and their number where the place behind them is not the last.
+fn first_wrong_of_all() -> Option<usize> {
+    let mut place = Place::Start;
+    let wrong = first_wrong(&mut place, LINES);
+    match place {
+        Place::Ended => wrong,
+        _ => Some(LINES.len()),
+    }
+}
+
 #[test]
 fn lines_come_in_order(rt: HostRuntime) {
-    let mut place = Place::Start;
-    assert_eq!(rt; first_wrong(&mut place, LINES), None);
-    assert!(rt; matches!(place, Place::Ended));
+    expect_none(&rt, first_wrong_of_all());
 }

@@ -1,6 +1,7 @@
 //! The certificate of three activities, cut into pieces in several ways, and others that are malformed.
 ghost use Rattle.std.specs.Prelude.{◌≤◌};
 
+use crate::cases::expect_ok_none;
 use pc_cert::{CertLine, CertReader, Fed, KnownLine, KnownLines, LineText, Place};
 use std::alloc::{AllocError, Global};
 
@@ -90,55 +91,64 @@ fn first_misread(alloc: Global, pull: usize) -> Result<Option<usize>, AllocError
 }
 
 #[test]
-fn texts_come_in_pulls(rt: HostRuntime) -> Result<(), AllocError> {
-    let found = [
-        first_misread(rt.alloc(), 1)?,
-        first_misread(rt.alloc(), 2)?,
-        first_misread(rt.alloc(), 7)?,
-        first_misread(rt.alloc(), 4096)?,
-    ];
-    assert_eq!(rt; found, [None; 4]);
-    Ok(())
+fn texts_come_in_pulls(rt: HostRuntime) {
+    expect_ok_none(&rt, first_misread(rt.alloc(), 1));
+    expect_ok_none(&rt, first_misread(rt.alloc(), 2));
+    expect_ok_none(&rt, first_misread(rt.alloc(), 7));
+    expect_ok_none(&rt, first_misread(rt.alloc(), 4096));
 }
 
-#[test]
-fn a_known_line_is_read_again(rt: HostRuntime) {
+// Whether each of these lines is read, where the same comes twice.
+fn read_again() -> [bool; 5] {
     let mut known = KnownLine::new();
-    let found = [
+    [
         known.read(b"CLOSE").is_some(),
         known.read(b"CLOSE").is_some(),
         known.read(b"CLOSF").is_some(),
         known.read(b"CLOSF").is_some(),
         known.read(b"END").is_some(),
-    ];
-    assert_eq!(rt; found, [true, true, false, false, true]);
+    ]
+}
+
+#[test]
+fn a_known_line_is_read_again(rt: HostRuntime) {
+    assert!(rt; read_again() == [true, true, false, false, true]);
+}
+
+// How many bytes of two texts are a known line again, and of one where none is known; none where the line is not read.
+fn told_again() -> Option<[usize; 3]> {
+    let mut known = KnownLine::new();
+    if known.read(b"ACT A 4 3 0").is_none() {
+        return None;
+    }
+    let text = known.text();
+    Some([
+        text.again(b"ACT A 4 3 0\nACT B 5 3 0\n"),
+        text.again(b"ACT A 4 3 01\nACT B 5 3 0\n"),
+        LineText::new().again(b"CLOSE\n"),
+    ])
 }
 
 #[test]
 fn a_line_is_told_by_its_bytes(rt: HostRuntime) {
-    let mut known = KnownLine::new();
-    assert!(rt; known.read(b"ACT A 4 3 0").is_some());
-    let text = known.text();
-    let told = [
-        text.again(b"ACT A 4 3 0\nACT B 5 3 0\n"),
-        text.again(b"ACT A 4 3 01\nACT B 5 3 0\n"),
-        LineText::new().again(b"CLOSE\n"),
-    ];
-    assert_eq!(rt; told, [12, 0, 0]);
+    assert!(rt; told_again() == Some([12, 0, 0]));
+}
+
+// Whether the first line of a text is read, and the reader is behind it then.
+fn is_fed() -> bool {
+    let mut reader = CertReader::begin();
+    let fed = reader.feed(b"CERT 1 E1 3 3\nNORMAL\n");
+    let is_head = matches!(
+        fed,
+        Ok(Fed {
+            used: 14,
+            line: Some(CertLine::Head { version: 1, .. })
+        })
+    );
+    is_head & matches!(reader.place(), Place::AfterHead(_))
 }
 
 #[test]
 fn a_reader_is_fed(rt: HostRuntime) {
-    let mut reader = CertReader::begin();
-    let fed = reader.feed(b"CERT 1 E1 3 3\nNORMAL\n");
-    assert!(rt;
-        matches!(
-            fed,
-            Ok(Fed {
-                used: 14,
-                line: Some(CertLine::Head { version: 1, .. })
-            })
-        )
-    );
-    assert!(rt; matches!(reader.place(), Place::AfterHead(_)));
+    assert!(rt; is_fed());
 }

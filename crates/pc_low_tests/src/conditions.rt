@@ -2,6 +2,7 @@
 //! rise of 3, and at 2, of a rise of 5.
 ghost use Rattle.std.specs.Prelude.{◌≡◌, length, IfSome};
 
+use crate::cases::expect_none;
 use crate::cert_reader::joined;
 use pc_check::{Verdict, audit_source};
 use pc_crash::{CrashNet, PieceRow, Term};
@@ -116,7 +117,7 @@ fn first_wrong_flows(alloc: Global) -> Option<(usize, usize)> {
 
 #[test]
 fn flows_of_an_activity(rt: HostRuntime) {
-    assert_eq!(rt; first_wrong_flows(rt.alloc()), None);
+    assert!(rt; first_wrong_flows(rt.alloc()).is_none());
 }
 
 // The lines up to the first segment, and that of an only length.
@@ -220,5 +221,5 @@ fn first_wrong_text(alloc: Global) -> Option<usize> {
 
 #[test]
 fn gaps_of_an_activity(rt: HostRuntime) {
-    assert_eq!(rt; first_wrong_text(rt.alloc()), None);
+    expect_none(&rt, first_wrong_text(rt.alloc()));
 }

@@ -1,4 +1,5 @@
 //! The dates of a deck as day numbers, and what is no date.
+use crate::cases::expect_none;
 use pc_days::{DayError, date_of_sixths, day_text, days_between, read_day};
 
 /// Whether the day of this date is spelled so.
@@ -36,7 +37,7 @@ fn first_wrong_span() -> Option<usize> {
 fn reads_the_days_of_a_deck(rt: HostRuntime) {
     assert!(rt; is_spelled(b"2024-02-29") == Some(true));
     assert!(rt; is_spelled(b"2199-12-31") == Some(true));
-    assert_eq!(rt; first_wrong_span(), None);
+    expect_none(&rt, first_wrong_span());
 }
 
 // Fields that are no date.
@@ -66,8 +67,8 @@ fn first_other(fields: &[&[u8]], error: DayError) -> Option<usize> {
 
 #[test]
 fn refuses_other_fields(rt: HostRuntime) {
-    assert_eq!(rt; first_other(MISSHAPEN, DayError::Shape), None);
-    assert_eq!(rt; first_other(OUTSIDE, DayError::Years), None);
+    expect_none(&rt, first_other(MISSHAPEN, DayError::Shape));
+    expect_none(&rt, first_other(OUTSIDE, DayError::Years));
 }
 
 /// How many days behind its start a date is at so many sixths, or none where it is out of print.
@@ -104,5 +105,5 @@ fn first_wrong_sixths() -> Option<usize> {
 
 #[test]
 fn rounds_sixths_up_to_days(rt: HostRuntime) {
-    assert_eq!(rt; first_wrong_sixths(), None);
+    expect_none(&rt, first_wrong_sixths());
 }

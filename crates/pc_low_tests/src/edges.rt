@@ -1,6 +1,7 @@
 //! Sources and sinks, what no clause says: that the calls succeed, on their happy paths and with a fault at each place.
 ghost use Rattle.std.specs.Prelude.{◌≤◌, IfOk};
 
+use crate::cases::expect_ok_none;
 use pc_edges::{
     Failed, FileSource, LoadError, MemSink, MemSource, ReadSource, Sink, Source, SureSink,
     SureSource, WriteSink, load, push_all,
@@ -63,9 +64,8 @@ fn first_wrong_pulls(alloc: Global) -> Result<Option<usize>, AllocError> {
 }
 
 #[test]
-fn mem_source_pulls(rt: HostRuntime) -> Result<(), Fail> {
-    assert_eq!(rt; first_wrong_pulls(rt.alloc())?, None);
-    Ok(())
+fn mem_source_pulls(rt: HostRuntime) {
+    expect_ok_none(&rt, first_wrong_pulls(rt.alloc()));
 }
 
 /// Which calls fail, the most that a push takes, what the pushes of what is left and a flush after the second
@@ -108,9 +108,8 @@ fn first_wrong_pushes(alloc: Global) -> Result<Option<usize>, AllocError> {
 }
 
 #[test]
-fn mem_sink_pushes(rt: HostRuntime) -> Result<(), Fail> {
-    assert_eq!(rt; first_wrong_pushes(rt.alloc())?, None);
-    Ok(())
+fn mem_sink_pushes(rt: HostRuntime) {
+    expect_ok_none(&rt, first_wrong_pushes(rt.alloc()));
 }
 
 /// Which pulls fail, the limit, and how a load ends. Four bytes at a pull: the fourth pull finds the end.
@@ -146,12 +145,16 @@ fn first_wrong_load(alloc: Global) -> Result<Option<usize>, AllocError> {
     Ok(None)
 }
 
+/// Whether an empty text is loaded where the limit is 0.
+fn is_nothing_loaded(alloc: Global) -> Option<bool> {
+    let mut nothing = MemSource::new(alloc, &[], 4, &[]).ok()?;
+    loaded(alloc, &mut nothing, 0, &[]).ok()
+}
+
 #[test]
-fn load_reads_to_the_end(rt: HostRuntime) -> Result<(), Fail> {
-    assert_eq!(rt; first_wrong_load(rt.alloc())?, None);
-    let mut nothing = MemSource::new(rt.alloc(), &[], 4, &[])?;
-    assert!(rt; loaded(rt.alloc(), &mut nothing, 0, &[]) == Ok(true));
-    Ok(())
+fn load_reads_to_the_end(rt: HostRuntime) {
+    expect_ok_none(&rt, first_wrong_load(rt.alloc()));
+    assert!(rt; is_nothing_loaded(rt.alloc()) == Some(true));
 }
 
 /// Which pushes fail, the room of the sink, how a push of the whole text ends, and what the sink took. Four bytes at a
@@ -178,9 +181,8 @@ fn first_wrong_whole_push(alloc: Global) -> Result<Option<usize>, AllocError> {
 }
 
 #[test]
-fn push_all_pushes_each_byte(rt: HostRuntime) -> Result<(), Fail> {
-    assert_eq!(rt; first_wrong_whole_push(rt.alloc())?, None);
-    Ok(())
+fn push_all_pushes_each_byte(rt: HostRuntime) {
+    expect_ok_none(&rt, first_wrong_whole_push(rt.alloc()));
 }
 
 /// A stream that takes or gives a byte at its first turn, fails at its second, and takes or gives nothing then.
@@ -237,12 +239,22 @@ fn four_pulls<S: Source>(source: &mut S) -> [Result<usize, Failed>; 4] {
     ]
 }
 
+/// Whether a stream is loaded.
+fn is_stream_loaded(alloc: Global) -> bool {
+    let mut source = ReadSource::new(TEXT);
+    loaded(alloc, &mut source, 10, TEXT) == Ok(true)
+}
+
+/// Whether four pulls off a stream whose second turn fails give these answers.
+fn is_faulty_read() -> bool {
+    let answers = four_pulls(&mut ReadSource::new(FailingStream { turn: 0 }));
+    answers == [Ok(0), Ok(1), Err(Failed), Ok(0)]
+}
+
 #[test]
 fn read_source_reads(rt: HostRuntime) {
-    let mut source = ReadSource::new(TEXT);
-    assert!(rt; loaded(rt.alloc(), &mut source, 10, TEXT) == Ok(true));
-    let answers = four_pulls(&mut ReadSource::new(FailingStream { turn: 0 }));
-    assert!(rt; answers == [Ok(0), Ok(1), Err(Failed), Ok(0)]);
+    assert!(rt; is_stream_loaded(rt.alloc()));
+    assert!(rt; is_faulty_read());
 }
 
 /// Whether a sink takes a whole text and its flush.
@@ -311,10 +323,15 @@ fn pulled_surely(
     (nothing, four, is_front, is_rest, source.pull(&mut buffer))
 }
 
+/// Whether a sink takes the whole text and counts its bytes.
+fn is_counted() -> bool {
+    let mut sink = SureSink::new();
+    takes_all(&mut sink, TEXT) & (sink.count() == 10)
+}
+
 /// Pulls fill their buffers, and pushes take their pieces whole.
 #[test]
 fn sure_edges_never_fail(rt: HostRuntime) {
     assert!(rt; pulled_surely(rt.alloc()) == (Ok(0), Ok(4), true, true, Ok(0)));
-    let mut sink = SureSink::new();
-    assert!(rt; takes_all(&mut sink, TEXT) && sink.count() == 10);
+    assert!(rt; is_counted());
 }

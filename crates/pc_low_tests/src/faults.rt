@@ -471,10 +471,7 @@ fn all_told(alloc: Global) -> Option<([bool; 12], [bool; 15], [bool; 19])> {
 
 #[test]
 fn lines_of_faults(rt: HostRuntime) {
-    assert_eq!(rt;
-        all_told(rt.alloc()),
-        Some(([true; 12], [true; 15], [true; 19]))
-    );
+    assert!(rt; all_told(rt.alloc()) == Some(([true; 12], [true; 15], [true; 19])));
 }
 
 /// The number of a fault, which is let go.
@@ -565,5 +562,5 @@ fn are_numbered(alloc: Global) -> Option<[bool; 3]> {
 
 #[test]
 fn numbers(rt: HostRuntime) {
-    assert_eq!(rt; are_numbered(rt.alloc()), Some([true; 3]));
+    assert!(rt; are_numbered(rt.alloc()) == Some([true; 3]));
 }

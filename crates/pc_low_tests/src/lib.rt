@@ -9,6 +9,8 @@ mod audit;
 #[cfg(test)]
 mod board;
 #[cfg(test)]
+mod cases;
+#[cfg(test)]
 mod cells;
 #[cfg(test)]
 mod cert_lines;

@@ -1,8 +1,9 @@
 //! Pages: each public function once, and which calls of a sink a page makes, which no clause counts.
 
+use crate::cases::expect_ok_none;
 use pc_edges::page::{PAGE_ROOM, Page, Rows, put_rows};
 use pc_edges::{MemSink, Sink};
-use std::test::Fail;
+use std::alloc::{AllocError, Global};
 
 /// The numbers below a number, a line each.
 #[derive(Clone, Copy)]
@@ -29,45 +30,68 @@ impl Rows for NumberLines {
     }
 }
 
-/// Twelve bytes on a page of eight, to a sink whose `failing`-th call fails: two pushes and a flush. The page is used
-/// twice, and forgets the first text's failure.
-#[test]
-fn few_pushes_and_a_flush(rt: HostRuntime) -> Result<(), Fail> {
-    let mut page = Page::with_capacity(rt.alloc(), 8)?;
-    let cases: [(u64, &[u8]); 4] = [
-        (1, b""),
-        (2, b"abcdefgh"),
-        (3, b"abcdefghijkl"),
-        (4, b"abcdefghijkl"),
-    ];
-    for (failing, taken) in cases {
-        let mut sink = MemSink::new(rt.alloc(), 64, 64, &[failing])?;
-        page.put(&mut sink, b"abcd");
-        page.put(&mut sink, b"efgh");
-        page.put(&mut sink, b"ijkl");
-        assert_eq!(rt; page.finish(&mut sink).is_ok(), failing == 4);
-        assert_eq!(rt; sink.bytes(), taken);
+/// Which call of the sink fails, and what the sink takes of twelve bytes on a page of eight: two pushes and a flush.
+const FAILING: &[(u64, &[u8])] = &[
+    (1, b""),
+    (2, b"abcdefgh"),
+    (3, b"abcdefghijkl"),
+    (4, b"abcdefghijkl"),
+];
+
+/// Whether the page is finished without a failure.
+fn is_finished(page: &mut Page, sink: &mut MemSink) -> bool {
+    page.put(sink, b"abcd");
+    page.put(sink, b"efgh");
+    page.put(sink, b"ijkl");
+    page.finish(sink).is_ok()
+}
+
+/// The first of these cases that ends otherwise, or none. The page is used again for each, and forgets the failure
+/// before.
+fn first_wrong(alloc: Global, page: &mut Page) -> Result<Option<usize>, AllocError> {
+    for (i, &(failing, taken)) in FAILING.iter().enumerate() {
+        let mut sink = MemSink::new(alloc, 64, 64, &[failing])?;
+        let is_finished = is_finished(page, &mut sink);
+        if (is_finished != (failing == 4)) | (sink.bytes() != taken) {
+            return Ok(Some(i));
+        }
     }
-    Ok(())
+    Ok(None)
+}
+
+fn first_wrong_on_a_page(alloc: Global) -> Result<Option<usize>, AllocError> {
+    let mut page = Page::with_capacity(alloc, 8)?;
+    first_wrong(alloc, &mut page)
 }
 
 #[test]
-fn pieces_of_every_kind(rt: HostRuntime) -> Result<(), Fail> {
-    let mut page = Page::with_capacity(rt.alloc(), 10)?;
-    let mut sink = MemSink::new(rt.alloc(), PAGE_ROOM, 7, &[])?;
-    page.put_left(&mut sink, 4, b"AB");
-    page.put_right(&mut sink, 3, b"C");
-    page.put_left(&mut sink, 2, b"DEFG");
-    page.put(&mut sink, b"longer than the page");
-    page.put_number_right(&mut sink, 4, 17);
-    page.put_signed_right(&mut sink, 4, -6);
-    page.put_signed(&mut sink, -37);
-    page.put(&mut sink, b"\n");
-    put_rows(&mut page, &mut sink, &NumberLines { below: 3 });
-    assert!(rt; page.finish(&mut sink).is_ok());
-    assert_eq!(rt;
-        sink.bytes(),
-        b"AB    CDEFGlonger than the page  17  -6-37\n0\n1\n2\n".as_slice()
-    );
-    Ok(())
+fn few_pushes_and_a_flush(rt: HostRuntime) {
+    expect_ok_none(&rt, first_wrong_on_a_page(rt.alloc()));
+}
+
+/// Whether each kind of piece is put.
+fn are_put(page: &mut Page, sink: &mut MemSink) -> bool {
+    page.put_left(sink, 4, b"AB");
+    page.put_right(sink, 3, b"C");
+    page.put_left(sink, 2, b"DEFG");
+    page.put(sink, b"longer than the page");
+    page.put_number_right(sink, 4, 17);
+    page.put_signed_right(sink, 4, -6);
+    page.put_signed(sink, -37);
+    page.put(sink, b"\n");
+    put_rows(page, sink, &NumberLines { below: 3 });
+    page.finish(sink).is_ok()
+}
+
+const PIECES: &[u8] = b"AB    CDEFGlonger than the page  17  -6-37\n0\n1\n2\n";
+
+fn puts_pieces(alloc: Global) -> Result<bool, AllocError> {
+    let mut page = Page::with_capacity(alloc, 10)?;
+    let mut sink = MemSink::new(alloc, PAGE_ROOM, 7, &[])?;
+    Ok(are_put(&mut page, &mut sink) & (sink.bytes() == PIECES))
+}
+
+#[test]
+fn pieces_of_every_kind(rt: HostRuntime) {
+    assert!(rt; matches!(puts_pieces(rt.alloc()), Ok(true)));
 }

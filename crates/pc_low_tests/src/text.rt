@@ -1,4 +1,7 @@
 //! Codes, titles, numbers and lines: each public function once, on values worked out by hand.
+ghost use Rattle.std.specs.Prelude.{◌≡◌, []};
+
+use crate::cases::expect_none;
 use pc_text::{
     Code, Codes, Line, Title, digits, is_code, is_title_shape, read_number, signed, wide,
 };
@@ -22,30 +25,27 @@ fn are_listed(alloc: Global, codes: &[Code]) -> Result<bool, AllocError> {
     Ok(Codes::of(alloc, codes)?.as_slice() == codes)
 }
 
-/// Whether each of two codes is new to a set, and whether the first is in it then.
-fn are_kept(alloc: Global, first: Code, second: Code) -> Result<[bool; 3], AllocError> {
+/// Whether each of two codes is new to a set, and the first is in it then.
+fn are_kept(alloc: Global, first: Code, second: Code) -> Result<bool, AllocError> {
     let mut seen = HashSet::new(alloc);
-    Ok([
-        seen.insert(first)?,
-        seen.insert(second)?,
-        seen.contains(&first),
-    ])
+    Ok(seen.insert(first)? & seen.insert(second)? & seen.contains(&first))
 }
 
-/// The two codes, listed with the later one first, and kept in a set.
-fn codes_together(alloc: Global) -> Option<(bool, [bool; 3])> {
+/// Whether two codes are listed with the later one first, and kept in a set.
+fn are_together(alloc: Global, code: Code, later: Code) -> Result<bool, AllocError> {
+    Ok(are_listed(alloc, &[later, code])? & are_kept(alloc, code, later)?)
+}
+
+fn codes_together(alloc: Global) -> Option<bool> {
     let (code, later) = (Code::read(b"A.9_z-")?, Code::read(b"A.9_z-0")?);
-    Some((
-        are_listed(alloc, &[later, code]).ok()?,
-        are_kept(alloc, code, later).ok()?,
-    ))
+    are_together(alloc, code, later).ok()
 }
 
 #[test]
 fn codes(rt: HostRuntime) {
     // 65 and 66 are the bytes
     assert!(rt; two_codes() == Some((true, true, true, 65 + 66 * 256)));
-    assert!(rt; codes_together(rt.alloc()) == Some((true, [true; 3])));
+    assert!(rt; codes_together(rt.alloc()) == Some(true));
 }
 
 /// Fields, and whether each is a code.
@@ -70,7 +70,7 @@ fn first_wrong_code() -> Option<usize> {
 
 #[test]
 fn fields_of_codes(rt: HostRuntime) {
-    assert_eq!(rt; first_wrong_code(), None);
+    expect_none(&rt, first_wrong_code());
 }
 
 /// Fields, whether each is a title, and whether it has a title's shape.
@@ -103,7 +103,7 @@ fn first_wrong_title() -> Option<usize> {
 
 #[test]
 fn titles(rt: HostRuntime) {
-    assert_eq!(rt; first_wrong_title(), None);
+    expect_none(&rt, first_wrong_title());
 }
 
 const NUMBERS: &[(&[u8], Option<u64>)] = &[
@@ -146,44 +146,72 @@ fn first_wrong_sign() -> Option<usize> {
     None
 }
 
+/// Whether the least and the greatest number are written as they must be.
+fn are_digits() -> bool {
+    (digits(0).bytes() == b"0".as_slice())
+        & (digits(u64::MAX).bytes() == b"18446744073709551615".as_slice())
+}
+
 #[test]
 fn numbers(rt: HostRuntime) {
-    assert_eq!(rt; first_wrong_number(), None);
-    assert_eq!(rt; first_wrong_sign(), None);
-    assert!(rt; digits(0).bytes() == b"0".as_slice());
-    assert!(rt; digits(u64::MAX).bytes() == b"18446744073709551615".as_slice());
+    expect_none(&rt, first_wrong_number());
+    expect_none(&rt, first_wrong_sign());
+    assert!(rt; are_digits());
+}
+
+const WIDE: &[(u128, &[u8])] = &[
+    (0, b"0"),
+    (1_000_000_000_000_000_000_000, b"1000000000000000000000"),
+    (u128::MAX, b"340282366920938463463374607431768211455"),
+];
+
+/// The first wide number that is written otherwise, or none.
+fn first_wrong_wide() -> Option<usize> {
+    for (i, &(number, text)) in WIDE.iter().enumerate() {
+        if wide(number).bytes() != text {
+            return Some(i);
+        }
+    }
+    None
 }
 
 #[test]
 fn wide_numbers(rt: HostRuntime) {
-    assert!(rt; wide(0).bytes() == b"0".as_slice());
-    assert!(rt;
-        wide(1_000_000_000_000_000_000_000).bytes() == b"1000000000000000000000".as_slice()
-    );
-    assert!(rt; wide(u128::MAX).bytes() == b"340282366920938463463374607431768211455".as_slice());
+    expect_none(&rt, first_wrong_wide());
 }
 
-/// Two pieces on a line, how much room is left behind them and, without them, at first; and four cells.
-fn lines_written(alloc: Global) -> Option<(bool, usize, usize, bool)> {
-    let mut line = Line::with_room(alloc, 16).ok()?;
+/// Whether two pieces are on a line, with this much room behind them and, without them, at first.
+fn takes_pieces(line: &mut Line) -> bool
+    requires bytes { line.old.bytes ≡ [] }
+    requires room { line.old.room ≡ 16 }
+    ensures bytes { line.new.bytes ≡ [] }
+    ensures room { line.new.room ≡ 16 }
+{
     line.text(b"ACT ");
     line.text(b"A");
-    let (pieces, left) = (line.bytes() == b"ACT A".as_slice(), line.room_left());
+    let (is_put, left) = (line.bytes() == b"ACT A".as_slice(), line.room_left());
     line.clear();
-    let room = line.room_left();
+    is_put & (left == 11) & (line.room_left() == 16)
+}
+
+/// Whether four cells are on a line.
+fn takes_cells(line: &mut Line) -> bool
+    requires bytes { line.old.bytes ≡ [] }
+    requires room { line.old.room ≡ 16 }
+{
     line.cell_left(b"AB", 4);
     line.cell_right(b"C", 3);
     line.cell_left(b"DEFG", 2);
     line.cell_right(b"HI", 1);
-    Some((
-        pieces,
-        left,
-        room,
-        line.bytes() == b"AB    CDEFGHI".as_slice(),
-    ))
+    line.bytes() == b"AB    CDEFGHI".as_slice()
+}
+
+fn lines_written(alloc: Global) -> Option<bool> {
+    let mut line = Line::with_room(alloc, 16).ok()?;
+    Some(takes_pieces(&mut line) & takes_cells(&mut line))
 }
 
 #[test]
 fn lines(rt: HostRuntime) {
-    assert!(rt; lines_written(rt.alloc()) == Some((true, 11, 16, true)));
+    assert!(rt; lines_written(rt.alloc()) == Some(true));
 }

@@ -4,7 +4,6 @@ ghost use Rattle.pc_wbs.specs.Climb.{AreInRange};
 
 use pc_wbs::{ItemRow, Tree, TreeError};
 use std::alloc::{AllocError, Global};
-use std::test::Fail;
 
 fn within(parent: Option<u32>, count: u32) -> Option<u32>
     ensures { IfSome result (λ p. p < count) }
@@ -37,63 +36,90 @@ fn built(alloc: Global, parents: &[Option<u32>]) -> Result<Tree, TreeError>
     Tree::build(alloc, &rows)
 }
 
-#[test]
-fn builds_a_tree(rt: HostRuntime) -> Result<(), Fail> {
-    // 2 is the top, 0 and 4 are its children, 1 and 3 those of 4.
-    let parents = [Some(2), Some(4), None, Some(4), Some(2)];
-    let Ok(tree) = built(rt.alloc(), &parents) else {
-        return Err(Fail::from("refused"));
-    };
-    assert_eq!(rt; tree.preorder(), [2, 0, 4, 1, 3].as_slice());
-    assert_eq!(rt; tree.len(), 5);
-    assert_eq!(rt; tree.depth(), 3);
-    assert_eq!(rt; tree.parent(3), Some(4));
-    assert_eq!(rt; tree.parent(2), None);
-    assert_eq!(rt; tree.level(3), 3);
-    assert_eq!(rt; tree.level(2), 1);
-    assert!(rt; tree.is_leaf(0) && !tree.is_leaf(4));
-    assert_eq!(rt; tree.ancestor_at(3, 1), 2);
-    assert_eq!(rt; tree.ancestor_at(3, 2), 4);
-    assert_eq!(rt; tree.ancestor_at(0, 3), 0);
-    Ok(())
+// 2 is the top, 0 and 4 are its children, 1 and 3 those of 4.
+const PARENTS: &[Option<u32>] = &[Some(2), Some(4), None, Some(4), Some(2)];
+
+fn is_as_built(tree: &Tree) -> bool {
+    if tree.len() != 5 {
+        return false;
+    }
+    let is_shaped = (tree.depth() == 3) & (tree.preorder() == [2, 0, 4, 1, 3].as_slice());
+    let has_parents = (tree.parent(3) == Some(4)) & tree.parent(2).is_none();
+    let has_levels = (tree.level(3) == 3) & (tree.level(2) == 1);
+    let has_leaves = tree.is_leaf(0) & !tree.is_leaf(4);
+    let above = [
+        tree.ancestor_at(3, 1),
+        tree.ancestor_at(3, 2),
+        tree.ancestor_at(0, 3),
+    ];
+    is_shaped & has_parents & has_levels & has_leaves & (above == [2, 4, 0])
 }
 
-#[test]
-fn refuses_what_is_no_tree(rt: HostRuntime) {
-    let alloc = rt.alloc();
-    assert!(rt; matches!(built(alloc, &[]), Err(TreeError::NoTop)));
-    assert!(rt; matches!(built(alloc, &[Some(1), Some(0)]), Err(TreeError::NoTop)));
-    let two_tops = built(alloc, &[None, Some(0), None, None]);
-    assert!(rt; matches!(two_tops, Err(TreeError::SecondTop { item: 2 })));
-    // 3, 5 and 4 are a loop, 6 is one of its own, and 2 leads into the first.
-    let looped = [None, Some(0), Some(5), Some(5), Some(3), Some(4), Some(6)];
-    match built(alloc, &looped) {
-        Err(TreeError::Loop(rows)) => {
-            assert_eq!(rt; rows.as_slice(), [3, 5, 4].as_slice());
-        }
-        _ => panic!(&rt; "no loop"),
+fn is_built(alloc: Global) -> bool {
+    match built(alloc, PARENTS) {
+        Ok(tree) => is_as_built(&tree),
+        Err(_) => false,
     }
 }
 
 #[test]
-fn refuses_the_seventeenth_level(rt: HostRuntime) -> Result<(), Fail> {
+fn builds_a_tree(rt: HostRuntime) {
+    assert!(rt; is_built(rt.alloc()));
+}
+
+/// Why rows are no tree, with the item and its level, or the depth of their tree.
+#[derive(Clone, Copy, PartialEq)]
+enum TreeFound {
+    Depth(u32),
+    NoTop,
+    SecondTop(u32),
+    TooDeep(u32, u32),
+    Other,
+}
+
+fn found_of(alloc: Global, parents: &[Option<u32>]) -> TreeFound
+    requires { length parents.now ≤ 100 }
+{
+    match built(alloc, parents) {
+        Ok(tree) => TreeFound::Depth(tree.depth()),
+        Err(TreeError::NoTop) => TreeFound::NoTop,
+        Err(TreeError::SecondTop { item }) => TreeFound::SecondTop(item),
+        Err(TreeError::TooDeep { item, level }) => TreeFound::TooDeep(item, level),
+        Err(_) => TreeFound::Other,
+    }
+}
+
+/// Whether the rows are refused for a loop of these.
+fn has_loop(alloc: Global, parents: &[Option<u32>], rows: &[u32]) -> bool
+    requires { length parents.now ≤ 100 }
+{
+    match built(alloc, parents) {
+        Err(TreeError::Loop(found)) => found.as_slice() == rows,
+        _ => false,
+    }
+}
+
+// 3, 5 and 4 are a loop, 6 is one of its own, and 2 leads into the first.
+const LOOPED: &[Option<u32>] = &[None, Some(0), Some(5), Some(5), Some(3), Some(4), Some(6)];
+
+#[test]
+fn refuses_what_is_no_tree(rt: HostRuntime) {
+    assert!(rt; found_of(rt.alloc(), &[]) == TreeFound::NoTop);
+    assert!(rt; found_of(rt.alloc(), &[Some(1), Some(0)]) == TreeFound::NoTop);
+    assert!(rt; found_of(rt.alloc(), &[None, Some(0), None, None]) == TreeFound::SecondTop(2));
+    assert!(rt; has_loop(rt.alloc(), LOOPED, &[3, 5, 4]));
+}
+
+/// What is found of a chain of 16 rows, and of one of 18.
+fn of_chains(alloc: Global) -> [TreeFound; 2] {
     let mut parents = [None; 18];
     for item in 1..18 {
         parents[item] = Some(item as u32 - 1);
     }
-    let Ok(tree) = built(rt.alloc(), &parents[..16]) else {
-        return Err(Fail::from("refused"));
-    };
-    assert_eq!(rt; tree.depth(), 16);
-    let deep = built(rt.alloc(), &parents);
-    assert!(rt;
-        matches!(
-            deep,
-            Err(TreeError::TooDeep {
-                item: 16,
-                level: 17
-            })
-        )
-    );
-    Ok(())
+    [found_of(alloc, &parents[..16]), found_of(alloc, &parents)]
+}
+
+#[test]
+fn refuses_the_seventeenth_level(rt: HostRuntime) {
+    assert!(rt; of_chains(rt.alloc()) == [TreeFound::Depth(16), TreeFound::TooDeep(16, 17)]);
 }
