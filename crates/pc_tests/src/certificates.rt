@@ -70,5 +70,5 @@ fn small_is_certified_by(alloc: Global, text: &[u8]) -> Option<bool> {
 
 #[test]
 fn certificate_of_three(rt: HostRuntime) {
-    assert_eq!(rt; small_is_certified_by(rt.alloc(), TEXT), Some(true));
+    assert!(rt; small_is_certified_by(rt.alloc(), TEXT) == Some(true));
 }

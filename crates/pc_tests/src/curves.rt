@@ -66,7 +66,7 @@ fn segments_of_pieces(rt: HostRuntime) {
         [6, 5, 60, 8],
         [0; 4],
     ];
-    assert_eq!(rt; small_curve(rt.alloc()), Some(rows));
+    assert!(rt; small_curve(rt.alloc()) == Some(rows));
 }
 
 /// The range of a curve; of its first segment the time and moving bit of event 1, the duration of activity 0, its flows
@@ -103,7 +103,7 @@ fn small_first(alloc: Global) -> Option<[u64; 9]> {
 
 #[test]
 fn first_segment_of_pieces(rt: HostRuntime) {
-    assert_eq!(rt; small_first(rt.alloc()), Some([9, 5, 4, 1, 4, 3, 0, 3, 60]));
+    assert!(rt; small_first(rt.alloc()) == Some([9, 5, 4, 1, 4, 3, 0, 3, 60]));
 }
 
 /// Two activities run to event 1, of which the first is shortened for nothing, and from there one that cannot be
@@ -176,7 +176,7 @@ fn parallel_curve(alloc: Global) -> Option<[[u64; 4]; 5]> {
 #[test]
 fn segments_of_parallel_activities(rt: HostRuntime) {
     let rows = [[7, 6, 22, 2], [0; 4], [0; 4], [0; 4], [0; 4]];
-    assert_eq!(rt; parallel_curve(rt.alloc()), Some(rows));
+    assert!(rt; parallel_curve(rt.alloc()) == Some(rows));
 }
 
 /// One activity that cannot be shortened.
@@ -211,5 +211,5 @@ fn single_curve(alloc: Global) -> Option<[[u64; 4]; 5]> {
 #[test]
 fn one_length(rt: HostRuntime) {
     let rows = [[3, 3, 7, 0], [0; 4], [0; 4], [0; 4], [0; 4]];
-    assert_eq!(rt; single_curve(rt.alloc()), Some(rows));
+    assert!(rt; single_curve(rt.alloc()) == Some(rows));
 }

@@ -37,7 +37,7 @@ fn time_costs(rt: HostRuntime) {
         time_cost(&TERMS, 5),
         time_cost(&dear, 2),
     ];
-    assert_eq!(rt; costs, [66, 24, 18, -38]);
+    assert!(rt; costs == [66, 24, 18, -38]);
 }
 
 /// The optimum for these terms.
@@ -74,7 +74,7 @@ const BEST: Best = Best {
 
 #[test]
 fn optimum_of_pieces(rt: HostRuntime) {
-    assert_eq!(rt; small_optimum(rt.alloc()), Some(BEST));
+    assert!(rt; small_optimum(rt.alloc()) == Some(BEST));
 }
 
 /// Whether just this text is put of an optimum.

@@ -84,5 +84,5 @@ fn small_is_put_in_parts(alloc: Global, text: &[u8]) -> Option<bool> {
 
 #[test]
 fn parts_of_a_certificate(rt: HostRuntime) {
-    assert_eq!(rt; small_is_put_in_parts(rt.alloc(), TEXT), Some(true));
+    assert!(rt; small_is_put_in_parts(rt.alloc(), TEXT) == Some(true));
 }

@@ -1,7 +1,8 @@
 //! What the small network says of its prices, and what durations cost.
-ghost use Rattle.std.specs.Prelude.{◌<◌, length};
+ghost use Rattle.std.specs.Prelude.{◌≡◌, ◌<◌, length};
 ghost use Rattle.pc_crash.specs.inside.Steps.{IsBlankOf};
 
+use crate::cases::expect_all;
 use crate::small::{small_net, small_priced};
 use pc_crash::{CrashNet, Knee, Steps, Term};
 use pc_text::Code;
@@ -9,81 +10,93 @@ use std::alloc::Global;
 use std::marker::Brand;
 use std::sync::ledger::{Blank, Ledger};
 
-/// The term of activity 1, how many events and activities there are, and whether there are pieces.
-fn shape(alloc: Global) -> Option<(Term, u32, u32, bool)> {
-    let net = small_net(alloc)?;
-    let priced = small_priced(alloc, &net)?;
+const TERM: Term = Term {
+    normal: 5,
+    crash: 3,
+    cost: 20,
+    slope: 5,
+};
+
+/// Whether activity 1 has its term, and the network its shape and pieces.
+fn is_shaped(priced: &CrashNet<'_>) -> bool
+    requires { 1 < length priced.now.network.arcs }
+{
     let shape = priced.net();
-    Some((
-        priced.term(1),
-        shape.events(),
-        shape.activities(),
-        priced.has_pieces(),
-    ))
+    (priced.term(1) == TERM)
+        & (shape.events() == 3)
+        & (shape.activities() == 3)
+        & priced.has_pieces()
 }
 
-#[test]
-fn terms_and_pieces(rt: HostRuntime) {
-    let term = Term {
-        normal: 5,
-        crash: 3,
-        cost: 20,
-        slope: 5,
-    };
-    assert_eq!(rt; shape(rt.alloc()), Some((term, 3, 3, true)));
+/// Whether the project, event 1 and activity 2 have these codes.
+fn has_codes(priced: &CrashNet<'_>, codes: [Code; 3]) -> bool
+    requires event { 1 < priced.now.network.events }
+    requires activity { 2 < length priced.now.network.arcs }
+{
+    let [a, b, c] = codes;
+    (priced.project() == a) & (priced.event_code(1) == b) & (priced.activity_code(2) == c)
 }
 
-/// The codes of the project, of event 1 and of activity 2.
-fn codes(alloc: Global) -> Option<[Code; 3]> {
+const KNEES: &[Knee] = &[Knee { at: 4, rise: 3 }, Knee { at: 3, rise: 3 }];
+
+/// Whether these are the knees of activity 0, and its first one is told alone.
+fn has_knees(priced: &CrashNet<'_>) -> bool
+    requires { 0 < length priced.now.network.arcs }
+{
+    let knees = priced.knees(0);
+    if knees.len() != 2 {
+        return false;
+    }
+    (knees.as_slice() == KNEES) & (knees.knee(0) == 4) & (knees.rise(0) == 3)
+}
+
+/// Whether activity 0 has these gaps at two times of the three events.
+fn has_gaps(priced: &CrashNet<'_>) -> bool
+    requires events { priced.now.network.events ≡ 3 }
+    requires activity { 0 < length priced.now.network.arcs }
+{
+    (priced.gap(&[0, 4, 9], 0) == 4) & (priced.gap(&[3, 1, 0], 0) == -2)
+}
+
+/// Whether durations are a schedule where the events are at 0, 4 and 9: these are for a length of 9, but not for 8; nor
+/// are those of which one does not fit, or is below its crash duration.
+fn has_schedules(priced: &CrashNet<'_>) -> [bool; 4]
+    requires events { priced.now.network.events ≡ 3 }
+    requires activities { length priced.now.network.arcs ≡ 3 }
+{
+    [
+        priced.is_schedule(&[4, 5, 7], &[0, 4, 9], 9),
+        !priced.is_schedule(&[4, 5, 7], &[0, 4, 9], 8),
+        !priced.is_schedule(&[4, 5, 8], &[0, 4, 9], 9),
+        !priced.is_schedule(&[3, 5, 4], &[0, 4, 9], 9),
+    ]
+}
+
+/// Whether the shape, the codes, the names of two activities, the knees and the gaps of the small network are as they
+/// must be, and what is a schedule of it.
+fn are_told(alloc: Global) -> Option<[bool; 10]> {
+    let (a, b, c) = (Code::read(b"A")?, Code::read(b"B")?, Code::read(b"C")?);
+    let d = Code::read(b"D")?;
     let net = small_net(alloc)?;
     let priced = small_priced(alloc, &net)?;
+    let [first, second, third, fourth] = has_schedules(&priced);
     Some([
-        priced.project(),
-        priced.event_code(1),
-        priced.activity_code(2),
+        is_shaped(&priced),
+        has_codes(&priced, [a, b, c]),
+        priced.activity_named(&c) == Some(2),
+        priced.activity_named(&d).is_none(),
+        has_knees(&priced),
+        has_gaps(&priced),
+        first,
+        second,
+        third,
+        fourth,
     ])
 }
 
-/// Which activity has a name.
-fn named(alloc: Global, code: &Code) -> Option<Option<u32>> {
-    let net = small_net(alloc)?;
-    let priced = small_priced(alloc, &net)?;
-    Some(priced.activity_named(code))
-}
-
-/// Whether the codes are A, B and C, and which activities have the names C and D.
-fn names_found(alloc: Global) -> Option<(bool, Option<u32>, Option<u32>)> {
-    let (a, b, c) = (Code::read(b"A")?, Code::read(b"B")?, Code::read(b"C")?);
-    let d = Code::read(b"D")?;
-    Some((
-        codes(alloc)? == [a, b, c],
-        named(alloc, &c)?,
-        named(alloc, &d)?,
-    ))
-}
-
 #[test]
-fn names(rt: HostRuntime) {
-    assert_eq!(rt; names_found(rt.alloc()), Some((true, Some(2), None)));
-}
-
-/// How many knees activity 0 has, where its first one is and by how much the cost of a unit rises there, and whether
-/// these are all.
-fn knees(alloc: Global, all: &[Knee]) -> Option<(u32, u64, u64, bool)> {
-    let net = small_net(alloc)?;
-    let priced = small_priced(alloc, &net)?;
-    let knees = priced.knees(0);
-    if knees.len() == 0 {
-        return None;
-    }
-    let is_all = knees.as_slice() == all;
-    Some((knees.len(), knees.knee(0), knees.rise(0), is_all))
-}
-
-#[test]
-fn knees_of_pieces(rt: HostRuntime) {
-    let all = [Knee { at: 4, rise: 3 }, Knee { at: 3, rise: 3 }];
-    assert_eq!(rt; knees(rt.alloc(), &all), Some((2, 4, 3, true)));
+fn prices_of_a_network(rt: HostRuntime) {
+    expect_all(&rt, &are_told(rt.alloc()).unwrap_or([false; 10]));
 }
 
 /// What a look at activity 1 tells.
@@ -111,7 +124,7 @@ fn small_look(alloc: Global) -> Option<[u64; 6]> {
 
 #[test]
 fn looks(rt: HostRuntime) {
-    assert_eq!(rt; small_look(rt.alloc()), Some([1, 2, 5, 3, 5, 1]));
+    assert!(rt; small_look(rt.alloc()) == Some([1, 2, 5, 3, 5, 1]));
 }
 
 /// What the activities cost at their normal durations and at their crash durations, and activity 0 at 3 units.
@@ -127,36 +140,5 @@ fn costs(alloc: Global) -> Option<[u64; 3]> {
 
 #[test]
 fn costs_of_durations(rt: HostRuntime) {
-    assert_eq!(rt; costs(rt.alloc()), Some([45, 68, 13]));
-}
-
-/// The gap of activity 0 at these times of the three events.
-fn gap(alloc: Global, [s, m, t]: [u8; 3]) -> Option<i64> {
-    let net = small_net(alloc)?;
-    let priced = small_priced(alloc, &net)?;
-    Some(priced.gap(&[s as u64, m as u64, t as u64], 0))
-}
-
-#[test]
-fn gaps(rt: HostRuntime) {
-    let found = [gap(rt.alloc(), [0, 4, 9]), gap(rt.alloc(), [3, 1, 0])];
-    assert_eq!(rt; found, [Some(4), Some(-2)]);
-}
-
-/// Whether these durations are a schedule for a length where the events are at 0, 4 and 9.
-fn is_schedule(alloc: Global, durations: &[u64; 3], limit: u64) -> Option<bool> {
-    let net = small_net(alloc)?;
-    let priced = small_priced(alloc, &net)?;
-    Some(priced.is_schedule(durations, &[0, 4, 9], limit))
-}
-
-#[test]
-fn schedules(rt: HostRuntime) {
-    let found = [
-        is_schedule(rt.alloc(), &[4, 5, 7], 9),
-        is_schedule(rt.alloc(), &[4, 5, 7], 8),
-        is_schedule(rt.alloc(), &[4, 5, 8], 9),
-        is_schedule(rt.alloc(), &[3, 5, 4], 9),
-    ];
-    assert_eq!(rt; found, [Some(true), Some(false), Some(false), Some(false)]);
+    assert!(rt; costs(rt.alloc()) == Some([45, 68, 13]));
 }

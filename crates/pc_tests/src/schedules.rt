@@ -1,4 +1,5 @@
 //! A schedule as it is printed, and what a sink that is full or fails leaves of it.
+use crate::cases::expect_none;
 use pc_edges::page::Page;
 use pc_edges::{Failed, MemSink};
 use pc_reports::{Schedule, write_schedule_on};
@@ -60,5 +61,5 @@ fn first_wrong(alloc: Global) -> Option<usize> {
 
 #[test]
 fn schedule_is_written(rt: HostRuntime) {
-    assert_eq!(rt; first_wrong(rt.alloc()), None);
+    expect_none(&rt, first_wrong(rt.alloc()));
 }

@@ -29,12 +29,12 @@ fn are_drawn_as(alloc: Global, deck: &[u8], text: &[u8]) -> Option<bool>
 
 #[test]
 fn draws_two_tasks(rt: HostRuntime) {
-    assert_eq!(rt; are_drawn_as(rt.alloc(), TASKS, ARROWS), Some(true));
+    assert!(rt; are_drawn_as(rt.alloc(), TASKS, ARROWS) == Some(true));
 }
 
 #[test]
 fn refuses_tasks_in_a_circle(rt: HostRuntime) {
     let deck = b"PROJECT,K1,S,T,2024-01-01,1,,\nWBS,1,,\nWBS,1.1,1,\nTASK,A,1.1,4,4,4,4,2,10,3,\n\
 TASK,B,1.1,5,5,5,5,3,20,5,\nAFTER,B,A\nAFTER,A,B\nEND\n";
-    assert_eq!(rt; are_drawn_as(rt.alloc(), deck, ARROWS), None);
+    assert!(rt; are_drawn_as(rt.alloc(), deck, ARROWS).is_none());
 }

@@ -1,11 +1,11 @@
 //! What a small project says that no text of a report needs: titles, the code of an account, and an activity.
 ghost use Rattle.std.specs.Prelude.{◌≤◌, length};
 
+use crate::cases::expect_all;
 use pc_deck::read_cards;
 use pc_project::{Project, project_of};
 use pc_text::{Code, Title};
 use std::alloc::Global;
-use std::test::Fail;
 
 // Titles, and a resource without one.
 const DECK: &[u8] =
@@ -71,15 +71,30 @@ fn told_of(alloc: Global, deck: &[u8]) -> Option<ProjectFacts>
     Some(told)
 }
 
-#[test]
-fn titles_and_an_activity_of_a_project(rt: HostRuntime) -> Result<(), Fail> {
-    let told = told_of(rt.alloc(), DECK).ok_or("no project")?;
-    let (titles, code) = told.titles.ok_or("no titles")?;
-    let wanted: [&[u8]; 5] = [b"Example, one", b"The \"end\"", b"Dig", b"Account", b""];
-    for (title, bytes) in titles.iter().zip(wanted) {
-        assert_eq!(rt; title.bytes(), bytes);
+const TITLES: [&[u8]; 5] = [b"Example, one", b"The \"end\"", b"Dig", b"Account", b""];
+
+/// Whether these are the titles of the deck's project.
+fn are_titles(titles: &[Title; 5]) -> bool {
+    for (title, bytes) in titles.iter().zip(TITLES) {
+        if title.bytes() != bytes {
+            return false;
+        }
     }
-    assert_eq!(rt; code.bytes(), b"X1".as_slice());
-    assert_eq!(rt; told.activity, Some([0, 1, 0, 24, 4, 4, 2, 10, 3]));
-    Ok(())
+    true
+}
+
+/// Whether the titles, the code and the activity of the deck's project are as they must be.
+fn are_told(alloc: Global) -> Option<[bool; 3]> {
+    let told = told_of(alloc, DECK)?;
+    let (titles, code) = told.titles?;
+    Some([
+        are_titles(&titles),
+        code.bytes() == b"X1".as_slice(),
+        told.activity? == [0, 1, 0, 24, 4, 4, 2, 10, 3],
+    ])
+}
+
+#[test]
+fn titles_and_an_activity_of_a_project(rt: HostRuntime) {
+    expect_all(&rt, &are_told(rt.alloc()).unwrap_or([false; 3]));
 }
