@@ -2,9 +2,10 @@
 //! 7.
 
 use crate::testing::{
-    AT_WORK, CERTIFICATE, Edge, TASKS, WHOLE, check_of, first_wrong_pull, first_wrong_push, run_of,
+    AT_WORK, CERTIFICATE, Edge, TASKS, WHOLE, check_of, expect_ok_none, first_wrong_pull,
+    first_wrong_push, run_of,
 };
-use std::test::Fail;
+use std::alloc::{AllocError, Global};
 
 // Words, a deck, and how many pulls read it: the last of them finds its end. The words ask for each form, for lengths
 // that the deck does not have, and for nothing; the last deck is none.
@@ -38,23 +39,35 @@ pub(crate) const RUNS: &[(&[&str], &str, u64)] = &[
     (&["arrows"], "END\n", 2),
 ];
 
-#[test]
-fn each_pull_of_a_run_fails(rt: HostRuntime) -> Result<(), Fail> {
-    for &(words, deck, pulls) in RUNS {
+/// The first of these runs of which a pull that fails leaves another thing than it must, or none.
+fn first_wrong_run_by_pull(alloc: Global) -> Result<Option<usize>, AllocError> {
+    for (i, &(words, deck, pulls)) in RUNS.iter().enumerate() {
         let task = run_of(words, deck);
-        let wrong = first_wrong_pull(rt.alloc(), &task, Edge::Deck, pulls)?;
-        assert_eq!(rt; wrong, None, "{words:?}");
+        if first_wrong_pull(alloc, &task, Edge::Deck, pulls)?.is_some() {
+            return Ok(Some(i));
+        }
     }
-    Ok(())
+    Ok(None)
 }
 
 #[test]
-fn each_push_of_a_run_fails(rt: HostRuntime) -> Result<(), Fail> {
-    for &(words, deck, _) in RUNS {
-        let wrong = first_wrong_push(rt.alloc(), &run_of(words, deck))?;
-        assert_eq!(rt; wrong, None, "{words:?}");
+fn each_pull_of_a_run_fails(rt: HostRuntime) {
+    expect_ok_none(&rt, first_wrong_run_by_pull(rt.alloc()));
+}
+
+/// The first of these runs of which a push that fails leaves another thing than it must, or none.
+fn first_wrong_run_by_push(alloc: Global) -> Result<Option<usize>, AllocError> {
+    for (i, &(words, deck, _)) in RUNS.iter().enumerate() {
+        if first_wrong_push(alloc, &run_of(words, deck))?.is_some() {
+            return Ok(Some(i));
+        }
     }
-    Ok(())
+    Ok(None)
+}
+
+#[test]
+fn each_push_of_a_run_fails(rt: HostRuntime) {
+    expect_ok_none(&rt, first_wrong_run_by_push(rt.alloc()));
 }
 
 // The words of a check, a deck and a certificate, and how many pulls read each.
@@ -65,24 +78,37 @@ const CHECKS: &[(&[&str], &str, u64, &str, u64)] = &[
     (&[], WHOLE, 0, CERTIFICATE, 0),
 ];
 
-#[test]
-fn each_pull_of_a_check_fails(rt: HostRuntime) -> Result<(), Fail> {
-    for &(words, deck, of_deck, cert, of_cert) in CHECKS {
+/// The same of these checks, whose pulls of the deck and of the certificate fail.
+fn first_wrong_check_by_pull(alloc: Global) -> Result<Option<usize>, AllocError> {
+    for (i, &(words, deck, of_deck, cert, of_cert)) in CHECKS.iter().enumerate() {
         let task = check_of(words, deck, cert.as_bytes());
-        let wrong = first_wrong_pull(rt.alloc(), &task, Edge::Deck, of_deck)?;
-        assert_eq!(rt; wrong, None, "the deck, {of_deck} pulls");
-        let wrong = first_wrong_pull(rt.alloc(), &task, Edge::Second, of_cert)?;
-        assert_eq!(rt; wrong, None, "the certificate, {of_cert} pulls");
+        if first_wrong_pull(alloc, &task, Edge::Deck, of_deck)?.is_some() {
+            return Ok(Some(i));
+        }
+        if first_wrong_pull(alloc, &task, Edge::Second, of_cert)?.is_some() {
+            return Ok(Some(i));
+        }
     }
-    Ok(())
+    Ok(None)
 }
 
 #[test]
-fn each_push_of_a_check_fails(rt: HostRuntime) -> Result<(), Fail> {
-    for &(words, deck, of_deck, cert, of_cert) in CHECKS {
+fn each_pull_of_a_check_fails(rt: HostRuntime) {
+    expect_ok_none(&rt, first_wrong_check_by_pull(rt.alloc()));
+}
+
+/// The same of these checks, whose pushes fail.
+fn first_wrong_check_by_push(alloc: Global) -> Result<Option<usize>, AllocError> {
+    for (i, &(words, deck, _, cert, _)) in CHECKS.iter().enumerate() {
         let task = check_of(words, deck, cert.as_bytes());
-        let wrong = first_wrong_push(rt.alloc(), &task)?;
-        assert_eq!(rt; wrong, None, "{of_deck} pulls and {of_cert}");
+        if first_wrong_push(alloc, &task)?.is_some() {
+            return Ok(Some(i));
+        }
     }
-    Ok(())
+    Ok(None)
+}
+
+#[test]
+fn each_push_of_a_check_fails(rt: HostRuntime) {
+    expect_ok_none(&rt, first_wrong_check_by_push(rt.alloc()));
 }

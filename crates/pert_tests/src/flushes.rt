@@ -6,7 +6,6 @@ use pc_edges::{Failed, Sink, Source, SureSink, SureSource};
 use pc_whatif::session_run;
 use std::alloc::{AllocError, Global};
 use std::cell::Cell;
-use std::test::Fail;
 
 /// A source that gives the lines of a session, one a pull, as somebody does who writes a line when the answer to the
 /// one before is seen.
@@ -85,7 +84,6 @@ fn waited(alloc: Global) -> Result<(u8, usize, u64, bool), AllocError> {
 }
 
 #[test]
-fn each_answer_is_flushed_before_the_next_pull(rt: HostRuntime) -> Result<(), Fail> {
-    assert_eq!(rt; waited(rt.alloc())?, (0, 9, 0, true));
-    Ok(())
+fn each_answer_is_flushed_before_the_next_pull(rt: HostRuntime) {
+    assert!(rt; waited(rt.alloc()).ok() == Some((0, 9, 0, true)));
 }

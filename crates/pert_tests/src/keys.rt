@@ -4,11 +4,11 @@
 use crate::edges::RUNS;
 use crate::sessions::LINES;
 use crate::testing::{
-    CERTIFICATE, Left, SMALL, Task, WHOLE, check_of, left_by, owned, run_of, session_of, status_of,
+    CERTIFICATE, Left, SMALL, Task, WHOLE, check_of, expect_ok_none, left_by, owned, run_of,
+    session_of, status_of,
 };
 use pc_edges::{MemSink, MemSource, ReadSource};
 use std::alloc::{AllocError, Global};
-use std::test::Fail;
 
 /// What a task leaves behind if its deck is read with this key.
 fn left_with(alloc: Global, task: &Task<'_>, key: Option<u128>) -> Result<Left, AllocError> {
@@ -41,16 +41,37 @@ fn is_same_with_two_keys(alloc: Global, task: &Task<'_>) -> Result<bool, AllocEr
     Ok(low.is(fixed.status, &fixed.out, &fixed.err) & high.is(fixed.status, &fixed.out, &fixed.err))
 }
 
-#[test]
-fn no_answer_depends_on_the_key(rt: HostRuntime) -> Result<(), Fail> {
-    for &(words, deck, _) in RUNS {
-        assert!(rt; is_same_with_two_keys(rt.alloc(), &run_of(words, deck))?);
+/// The first of the runs that depends on the key, or none.
+fn first_run_by_key(alloc: Global) -> Result<Option<usize>, AllocError> {
+    for (i, &(words, deck, _)) in RUNS.iter().enumerate() {
+        if !is_same_with_two_keys(alloc, &run_of(words, deck))? {
+            return Ok(Some(i));
+        }
     }
+    Ok(None)
+}
+
+/// Whether a session is the same with two keys.
+fn is_session_the_same(alloc: Global) -> Result<bool, AllocError> {
+    let lines = LINES.concat(alloc)?;
+    is_same_with_two_keys(alloc, &session_of(&["deck"], WHOLE, &lines))
+}
+
+#[test]
+fn no_answer_depends_on_the_key(rt: HostRuntime) {
+    expect_ok_none(&rt, first_run_by_key(rt.alloc()));
     let check = check_of(&["deck"], WHOLE, CERTIFICATE.as_bytes());
-    assert!(rt; is_same_with_two_keys(rt.alloc(), &check)?);
-    let lines = LINES.concat(rt.alloc())?;
-    let session = session_of(&["deck"], WHOLE, &lines);
-    assert!(rt; is_same_with_two_keys(rt.alloc(), &session)?);
-    assert!(rt; left_with(rt.alloc(), &check, None)?.is(4, b"", b""));
-    Ok(())
+    assert!(rt; matches!(is_same_with_two_keys(rt.alloc(), &check), Ok(true)));
+    assert!(rt; matches!(is_session_the_same(rt.alloc()), Ok(true)));
+}
+
+/// Whether a check without a key leaves a read fault.
+fn is_unread_without_key(alloc: Global) -> Result<bool, AllocError> {
+    let check = check_of(&["deck"], WHOLE, CERTIFICATE.as_bytes());
+    Ok(left_with(alloc, &check, None)?.is(4, b"", b""))
+}
+
+#[test]
+fn no_deck_is_read_without_a_key(rt: HostRuntime) {
+    assert!(rt; matches!(is_unread_without_key(rt.alloc()), Ok(true)));
 }

@@ -1,9 +1,10 @@
 //! Runs over sources and sinks in memory: what each status leaves behind.
 
 use crate::testing::{
-    AT_WORK, CERTIFICATE, Edges, MIGRATED, SMALL, Task, USAGE, WHOLE, left_by, run_of,
+    AT_WORK, CERTIFICATE, Edges, MIGRATED, SMALL, Task, USAGE, WHOLE, expect_ok_none,
+    first_wrong_run, left_by, run_of,
 };
-use std::test::Fail;
+use std::alloc::{AllocError, Global};
 
 // Activities of an item that no card has.
 const NO_ITEMS: &str = "PROJECT,E0,S,T,2024-01-01,1,,Example\n\
@@ -134,13 +135,8 @@ const RUNS: &[(&[&str], &str, u8, &str, &str)] = &[
 ];
 
 #[test]
-fn answers_or_refuses_decks(rt: HostRuntime) -> Result<(), Fail> {
-    for &(words, deck, status, out, err) in RUNS {
-        let left = left_by(rt.alloc(), &run_of(words, deck), SMALL)?;
-        let (out, err) = (out.as_bytes(), err.as_bytes());
-        assert!(rt; left.is(status, out, err), "{words:?}");
-    }
-    Ok(())
+fn answers_or_refuses_decks(rt: HostRuntime) {
+    expect_ok_none(&rt, first_wrong_run(rt.alloc(), RUNS));
 }
 
 // Words that ask for no form: nothing is read.
@@ -162,30 +158,38 @@ const WORDS: &[&[&str]] = &[
     &["CURVE"],
 ];
 
-#[test]
-fn refuses_words(rt: HostRuntime) -> Result<(), Fail> {
+/// The first of these words that leave anything but the usage line, or none. The deck has a fault at once.
+fn first_wrong_words(alloc: Global) -> Result<Option<usize>, AllocError> {
     let edges = Edges {
         failing_deck: 1,
         ..SMALL
     };
-    for &words in WORDS {
-        let left = left_by(rt.alloc(), &run_of(words, WHOLE), edges)?;
-        assert!(rt; left.is(2, b"", USAGE), "{words:?}");
+    for (i, &words) in WORDS.iter().enumerate() {
+        if !left_by(alloc, &run_of(words, WHOLE), edges)?.is(2, b"", USAGE) {
+            return Ok(Some(i));
+        }
     }
-    Ok(())
+    Ok(None)
 }
 
 #[test]
-fn an_output_may_be_full(rt: HostRuntime) -> Result<(), Fail> {
+fn refuses_words(rt: HostRuntime) {
+    expect_ok_none(&rt, first_wrong_words(rt.alloc()));
+}
+
+fn is_cut(alloc: Global) -> Result<bool, AllocError> {
     let edges = Edges { room: 5, ..SMALL };
-    let left = left_by(rt.alloc(), &run_of(&["curve"], WHOLE), edges)?;
-    assert!(rt; left.is(5, b"9 45 ", b""));
-    Ok(())
+    let left = left_by(alloc, &run_of(&["curve"], WHOLE), edges)?;
+    Ok(left.is(5, b"9 45 ", b""))
 }
 
 #[test]
-fn a_deck_may_be_too_long(rt: HostRuntime) -> Result<(), Fail> {
-    let deck = vec![in rt.alloc(); b'\n'; 67_108_865]?;
+fn an_output_may_be_full(rt: HostRuntime) {
+    assert!(rt; matches!(is_cut(rt.alloc()), Ok(true)));
+}
+
+fn is_refused(alloc: Global) -> Result<bool, AllocError> {
+    let deck = vec![in alloc; b'\n'; 67_108_865]?;
     let edges = Edges {
         pulled: 1_000_000,
         ..SMALL
@@ -194,7 +198,11 @@ fn a_deck_may_be_too_long(rt: HostRuntime) -> Result<(), Fail> {
         deck: &deck,
         ..run_of(&["normal"], "")
     };
-    let left = left_by(rt.alloc(), &task, edges)?;
-    assert!(rt; left.is(1, b"", b"F1 record 0: more than 67108864 bytes\n"));
-    Ok(())
+    let left = left_by(alloc, &task, edges)?;
+    Ok(left.is(1, b"", b"F1 record 0: more than 67108864 bytes\n"))
+}
+
+#[test]
+fn a_deck_may_be_too_long(rt: HostRuntime) {
+    assert!(rt; matches!(is_refused(rt.alloc()), Ok(true)));
 }

@@ -2,11 +2,10 @@
 //! in turn.
 
 use crate::testing::{
-    Edge, Edges, SMALL, Task, WHOLE, first_wrong_pull, first_wrong_push, leaves_all, left_by,
-    session_of,
+    Edge, Edges, SMALL, Task, WHOLE, expect_ok_none, first_wrong_pull, first_wrong_push,
+    leaves_all, left_by, session_of,
 };
 use std::alloc::{AllocError, Global};
-use std::test::Fail;
 
 /// The lines of a session on the small deck. Some of them are refused.
 pub(crate) const LINES: &[&[u8]] = &[
@@ -34,16 +33,20 @@ pub(crate) const ANSWERS: &[&[u8]] = &[
     b"9 45 3\n7 51 7\n5 65 -\n",
 ];
 
+/// Whether the lines are answered in pulls of so many bytes.
+fn are_answered(alloc: Global, pulled: usize) -> Result<bool, AllocError> {
+    let lines = LINES.concat(alloc)?;
+    let answers = ANSWERS.concat(alloc)?;
+    let edges = Edges { pulled, ..SMALL };
+    let left = left_by(alloc, &session_of(&["deck"], WHOLE, &lines), edges)?;
+    Ok(left.is(0, &answers, b""))
+}
+
 #[test]
-fn lines_come_in_pieces(rt: HostRuntime) -> Result<(), Fail> {
-    let lines = LINES.concat(rt.alloc())?;
-    let answers = ANSWERS.concat(rt.alloc())?;
+fn lines_come_in_pieces(rt: HostRuntime) {
     for pulled in [1, 2, 7, 4096] {
-        let edges = Edges { pulled, ..SMALL };
-        let left = left_by(rt.alloc(), &session_of(&["deck"], WHOLE, &lines), edges)?;
-        assert!(rt; left.is(0, &answers, b""), "{pulled} bytes a pull");
+        assert!(rt; matches!(are_answered(rt.alloc(), pulled), Ok(true)));
     }
-    Ok(())
 }
 
 const USAGE: &[u8] = b"usage: pert_whatif DECK\n";
@@ -58,28 +61,44 @@ const REFUSED: &[(&[&str], &str, u64, u8, &[u8])] = &[
     (&["deck"], "END\n", 0, 1, NO_PROJECT),
 ];
 
-#[test]
-fn no_line_is_read_without_a_project(rt: HostRuntime) -> Result<(), Fail> {
-    for &(words, deck, failing_deck, status, err) in REFUSED {
+/// The first of these that leaves another thing than it must, or none.
+fn first_wrong_refusal(alloc: Global) -> Result<Option<usize>, AllocError> {
+    for (i, &(words, deck, failing_deck, status, err)) in REFUSED.iter().enumerate() {
         let edges = Edges {
             failing_deck,
             failing_second: 1,
             ..SMALL
         };
-        let left = left_by(rt.alloc(), &session_of(words, deck, b"CURVE\n"), edges)?;
-        assert!(rt; left.is(status, b"", err), "{words:?}");
+        let left = left_by(alloc, &session_of(words, deck, b"CURVE\n"), edges)?;
+        if !left.is(status, b"", err) {
+            return Ok(Some(i));
+        }
     }
-    Ok(())
+    Ok(None)
 }
 
 #[test]
-fn each_pull_of_the_deck_fails(rt: HostRuntime) -> Result<(), Fail> {
-    for (deck, pulls) in [(WHOLE, 4), ("END\n", 2)] {
+fn no_line_is_read_without_a_project(rt: HostRuntime) {
+    expect_ok_none(&rt, first_wrong_refusal(rt.alloc()));
+}
+
+// Decks, and how many pulls read each.
+const DECKS: &[(&str, u64)] = &[(WHOLE, 4), ("END\n", 2)];
+
+/// The first of these decks of which a pull that fails leaves another thing than it must, or none.
+fn first_wrong_deck(alloc: Global) -> Result<Option<usize>, AllocError> {
+    for (i, &(deck, pulls)) in DECKS.iter().enumerate() {
         let task = session_of(&["deck"], deck, b"CURVE\n");
-        let wrong = first_wrong_pull(rt.alloc(), &task, Edge::Deck, pulls)?;
-        assert_eq!(rt; wrong, None, "{pulls} pulls");
+        if first_wrong_pull(alloc, &task, Edge::Deck, pulls)?.is_some() {
+            return Ok(Some(i));
+        }
     }
-    Ok(())
+    Ok(None)
+}
+
+#[test]
+fn each_pull_of_the_deck_fails(rt: HostRuntime) {
+    expect_ok_none(&rt, first_wrong_deck(rt.alloc()));
 }
 
 /// How many lines end in the bytes.
@@ -124,11 +143,14 @@ fn first_wrong_line(alloc: Global, lines: &[u8]) -> Result<Option<u64>, AllocErr
     leaves_all(alloc, &task, failing_at(behind), behind as u64)
 }
 
+fn first_wrong_line_of_all(alloc: Global) -> Result<Option<u64>, AllocError> {
+    let lines = LINES.concat(alloc)?;
+    first_wrong_line(alloc, &lines)
+}
+
 #[test]
-fn each_pull_of_the_lines_fails(rt: HostRuntime) -> Result<(), Fail> {
-    let lines = LINES.concat(rt.alloc())?;
-    assert_eq!(rt; first_wrong_line(rt.alloc(), &lines)?, None);
-    Ok(())
+fn each_pull_of_the_lines_fails(rt: HostRuntime) {
+    assert!(rt; matches!(first_wrong_line_of_all(rt.alloc()), Ok(None)));
 }
 
 /// How many bytes of the answers were taken before each push and each flush.
@@ -168,19 +190,27 @@ fn first_wrong_answer(alloc: Global, task: &Task<'_>) -> Result<Option<u64>, All
     leaves_all(alloc, task, failing_call(call), call)
 }
 
-#[test]
-fn each_push_and_flush_of_the_answers_fails(rt: HostRuntime) -> Result<(), Fail> {
-    let lines = LINES.concat(rt.alloc())?;
-    let task = session_of(&["deck"], WHOLE, &lines);
-    assert_eq!(rt; first_wrong_answer(rt.alloc(), &task)?, None);
-    Ok(())
+fn first_wrong_answer_of_all(alloc: Global) -> Result<Option<u64>, AllocError> {
+    let lines = LINES.concat(alloc)?;
+    first_wrong_answer(alloc, &session_of(&["deck"], WHOLE, &lines))
 }
 
 #[test]
-fn each_push_of_a_refusal_fails(rt: HostRuntime) -> Result<(), Fail> {
-    for &(words, deck, _, _, _) in REFUSED {
-        let wrong = first_wrong_push(rt.alloc(), &session_of(words, deck, b"CURVE\n"))?;
-        assert_eq!(rt; wrong, None, "{words:?}");
+fn each_push_and_flush_of_the_answers_fails(rt: HostRuntime) {
+    assert!(rt; matches!(first_wrong_answer_of_all(rt.alloc()), Ok(None)));
+}
+
+/// The first of the refusals of which a push that fails leaves another thing than it must, or none.
+fn first_wrong_refusal_by_push(alloc: Global) -> Result<Option<usize>, AllocError> {
+    for (i, &(words, deck, _, _, _)) in REFUSED.iter().enumerate() {
+        if first_wrong_push(alloc, &session_of(words, deck, b"CURVE\n"))?.is_some() {
+            return Ok(Some(i));
+        }
     }
-    Ok(())
+    Ok(None)
+}
+
+#[test]
+fn each_push_of_a_refusal_fails(rt: HostRuntime) {
+    expect_ok_none(&rt, first_wrong_refusal_by_push(rt.alloc()));
 }

@@ -1,7 +1,6 @@
 //! Runs on a deck of tasks and on the plan that is drawn of it.
 
-use crate::testing::{SMALL, TASKS, WHOLE, left_by, run_of};
-use std::test::Fail;
+use crate::testing::{TASKS, WHOLE, expect_ok_none, first_wrong_run};
 
 const DRAWN: &str = "PROJECT,K1,S,T,2024-01-01,1,,Tasks,2\n\
 ASOF,2024-01-01\n\
@@ -48,11 +47,6 @@ const RUNS: &[(&[&str], &str, u8, &str, &str)] = &[
 ];
 
 #[test]
-fn draws_or_refuses_decks(rt: HostRuntime) -> Result<(), Fail> {
-    for &(words, deck, status, out, err) in RUNS {
-        let left = left_by(rt.alloc(), &run_of(words, deck), SMALL)?;
-        let (out, err) = (out.as_bytes(), err.as_bytes());
-        assert!(rt; left.is(status, out, err), "{words:?}");
-    }
-    Ok(())
+fn draws_or_refuses_decks(rt: HostRuntime) {
+    expect_ok_none(&rt, first_wrong_run(rt.alloc(), RUNS));
 }

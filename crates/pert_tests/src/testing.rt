@@ -6,6 +6,7 @@ use pc_edges::{MemSink, MemSource, Source};
 use pc_whatif::session_run;
 use pert_cli::run;
 use std::alloc::{AllocError, Global};
+use std::process::Abort;
 
 /// A deck of three activities: these first cards, its items, events, activities and accounts, and these last cards.
 macro_rules! deck_of_three {
@@ -305,4 +306,29 @@ pub(crate) fn leaves_all(
         return Ok(None);
     }
     Ok(Some(call))
+}
+
+/// The first of these runs that leaves another thing than it must, or none. A run has its words, a deck, the status,
+/// the output and the error output.
+pub(crate) fn first_wrong_run(
+    alloc: Global,
+    runs: &[(&[&str], &str, u8, &str, &str)],
+) -> Result<Option<usize>, AllocError> {
+    for (i, &(words, deck, status, out, err)) in runs.iter().enumerate() {
+        let left = left_by(alloc, &run_of(words, deck), SMALL)?;
+        if !left.is(status, out.as_bytes(), err.as_bytes()) {
+            return Ok(Some(i));
+        }
+    }
+    Ok(None)
+}
+
+/// Fails the test with the number of the first wrong case, if there is one, or if memory runs out. The prover follows
+/// each way out of an assertion, and what it prints: so the tests of tables ask here, where that is proved once.
+pub(crate) fn expect_ok_none(rt: &impl Abort, wrong: Result<Option<usize>, AllocError>) {
+    match wrong {
+        Ok(None) => {}
+        Ok(Some(i)) => panic!(rt; "case {i}"),
+        Err(_) => panic!(rt; "out of memory"),
+    }
 }
