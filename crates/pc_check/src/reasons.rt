@@ -232,5 +232,6 @@ pub(crate) fn has_duration(net: &CrashNet<'_>, kept: &Kept, a: u32, duration: u6
     let begins = number_at(&kept.tally.times, net.net().from(a));
     let ends = number_at(&kept.tally.times, net.net().to(a));
     let normal = net.term(a).normal;
-    duration == normal.min(ends.saturating_sub(begins)) && (kept.segments != 0 || duration == normal)
+    duration == normal.min(ends.saturating_sub(begins))
+        && (kept.segments != 0 || duration == normal)
 }
