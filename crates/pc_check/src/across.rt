@@ -46,11 +46,11 @@ pub(crate) fn advance_same(
     advance_across(net, kept, fronts, reader, piece)
 }
 
-/// Takes lines at the front of the piece as `advance_acts` does, also where their activities cross the cut: the answer
-/// is how many bytes they are with their ends. If there is none, nothing changes, and the answer is 0.
+/// Takes lines at the front of the piece as `advance_acts` does, where each is of an activity that crosses the cut: the
+/// answer is how many bytes they are with their ends. If there is none, nothing changes, and the answer is 0.
 ///
 /// What the activities add to the cut is counted beside the loop too. `advance_acts` does not count it, and has the
-/// shorter loop: in most networks few activities cross the cut.
+/// shorter loop: in most networks few activities cross the cut. So this loop ends at the first that does not.
 #[inline(never)]
 fn advance_across(
     net: &CrashNet<'_>,
@@ -119,7 +119,7 @@ fn cut_so_far(kept: &Kept) -> Cut
 }
 
 /// Goes on behind the line at the front of the piece, where it is that of this activity as it passed last, and passes
-/// again: the answer is how many bytes it is with its end. Else nothing changes, and the answer is 0.
+/// again across the cut: the answer is how many bytes it is with its end. Else nothing changes, and the answer is 0.
 #[inline(always)]
 fn pass_across(
     net: &CrashNet<'_>,
@@ -148,8 +148,9 @@ fn pass_across(
         return 0;
     }
     let last = &kept.tally.rows[a as usize];
+    // A line that does not cross the cut is for the shorter loop.
     if passes_again(net, kept, a, last) {
-        return place.pass_act(piece, &last.text, &last.flows);
+        return 0;
     }
     // The bytes before the gaps: of most lines that do not pass here they differ.
     if last.text.again(piece) == 0 {

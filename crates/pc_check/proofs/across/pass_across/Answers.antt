@@ -4,9 +4,9 @@ use Rattle.pc_cert.specs.inside.Known.{IsTextOf}
 use Rattle.pc_check.specs.declared.passed.Passed.{Passed}
 use Rattle.pc_check.specs.inside.Again.{across_at}
 use Rattle.pc_check.specs.inside.Kept.{known_by}
-use Rattle.pc_check.specs.inside.Passed.{ComesAgain, HasPassed, IsPassed, PassesAcross, passed_at}
+use Rattle.pc_check.specs.inside.Passed.{HasPassed, IsPassed, PassesAcross, passed_at}
 use Rattle.pc_check.specs.inside.Safe.{AddsAct, IsSafe}
-use Rattle.pc_check.proofs.PassedLaws.{across_passes, adds_across, adds_again, again_passes, read_passed, row_read, safe_across, safe_again}
+use Rattle.pc_check.proofs.PassedLaws.{across_passes, adds_across, read_passed, row_read, safe_across}
 use Rattle.pc_check.proofs.across.pass_across.Goals as goal
 
 pub again-requires : goal.again-requires
@@ -17,14 +17,6 @@ again-requires c =
     let it : IsPassed c.args.net.now a row = read_passed a row c.requires.safe.rows known c.index-last.ensures in
     it.text
 
-pub pass_act-requires : goal.pass_act-requires
-pass_act-requires c =
-    let a = c.args.a in
-    let row = c.index-last.result.now in
-    let known : a < length c.args.net.now.network.arcs = omega (arith, c.if-activities-a.false, c.requires.count) in
-    let it : IsPassed c.args.net.now a row = read_passed a row c.requires.safe.rows known c.index-last.ensures in
-    record { text = it.text }
-
 pub pass_act-used-requires : goal.pass_act-used-requires
 pass_act-used-requires c =
     let a = c.args.a in
@@ -32,33 +24,6 @@ pass_act-used-requires c =
     let known : a < length c.args.net.now.network.arcs = omega (arith, c.if-activities-a.false, c.requires.count) in
     let it : IsPassed c.args.net.now a row = read_passed a row c.requires.safe.rows known c.index-last.ensures in
     record { text = it.text }
-
-pub returns-then-passes_again-clause-adds : goal.returns-then-passes_again-clause-adds
-returns-then-passes_again-clause-adds c = λ some.
-    let net = c.args.net.now in
-    let a = c.args.a in
-    let kept = c.args.kept.now in
-    let cut = c.args.cut.now in
-    let row = c.index-last.result.now in
-    let known : a < length net.network.arcs = omega (arith, c.if-activities-a.false, c.requires.count) in
-    let it : IsPassed net a row = read_passed a row c.requires.safe.rows known c.index-last.ensures in
-    let has : HasPassed net a row = it.has (c.pass_act.ensures.kept some) in
-    let own = has.own in
-    let again : ComesAgain net (known_by (across_at kept a cut)) row = c.passes_again.ensures cut c.if-passes_again.true in
-    let same = row_read a row c.requires.safe.rows known c.index-last.ensures in
-    let added : AddsAct net (across_at kept a cut).tally (passed_at kept.tally.rows.items a).duration (passed_at kept.tally.rows.items a).flows (across_at kept (a + 1) cut).tally =
-    adds_again again.still (subst (HasPassed net a) same has) refl in
-    record {
-      line = Act own.code row.duration row.flows;
-      row = tt;
-      again = c.pass_act.ensures.again (Some (Act own.code row.duration row.flows)) some (subst (λ line. IsTextOf line row.text) own.says has.text);
-      goes = c.pass_act.ensures.goes own.code row.duration some;
-      none = again_passes own.code own.named again has;
-      adds = (refl, subst (λ (r : Passed). AddsAct net (across_at kept a cut).tally r.duration r.flows (across_at kept (a + 1) cut).tally) (sym same) added);
-    }
-
-pub returns-then-passes_again-clause-safe : goal.returns-then-passes_again-clause-safe
-returns-then-passes_again-clause-safe c = λ some. safe_again c.requires.safe (omega (arith, c.if-activities-a.false, c.requires.count))
 
 pub returns-clause-adds : goal.returns-clause-adds
 returns-clause-adds c = λ some.
